@@ -1,0 +1,5 @@
+pub mod Numbers
+pub mod Days
+pub mod Timestamps
+pub mod Moments
+pub mod Names

@@ -1,0 +1,234 @@
+//! Moments: seconds since 1970-01-01T00:00:00Z, up to the end of the year 9999.
+//! A contract sees a moment as that number of seconds, and a word as its bytes.
+ghost use Rattle.std.specs.Prelude.{◌≡◌, ◌≤◌, ◌+◌, ◌↔◌, ℕ, List, IsSome, IfSome, IfOk, Ok};
+ghost use Rattle.ele_moment.specs.Spelled.{last_moment, SpellsMoment, SpellsTimestamp, IsTimestamp, IsWorth};
+
+use crate::calendar::{date_of, day_number};
+use crate::number::read_number;
+use crate::timestamp::{Fields, read_fields, text_of};
+use std::marker::Model;
+use thiserror::Error;
+
+const SECONDS_PER_DAY: u64 = 86400;
+
+/// The word spells no moment.
+#[derive(Clone, Copy, Debug, PartialEq, Eq, Hash, Error)]
+#[error("not a moment")]
+pub struct BadMoment;
+
+/// A whole number of seconds since 1970-01-01T00:00:00Z, from 0 to 253402300799, which is
+/// 9999-12-31T23:59:59Z.
+#[derive(Clone, Copy, Debug, PartialEq, Eq, PartialOrd, Ord, Hash)]
+pub struct Moment {
+    seconds: u64,
+}
+
+impl Model for Moment {
+    ghost use Rattle.std.specs.Prelude.{ℕ, ◌≤◌};
+    ghost use Rattle.ele_moment.specs.Last.{last_moment};
+
+    ghost Value = { ℕ };
+
+    ghost view = { λ moment. moment.seconds };
+
+    ghost invariant = { λ moment. moment.seconds ≤ last_moment };
+
+    ghost inverse = { λ n. record { seconds = n } };
+}
+
+impl Moment {
+    /// 1970-01-01T00:00:00Z, where every clock starts.
+    pub const START: Moment = Moment { seconds: 0 };
+
+    const LAST: u64 = 253402300799;
+
+    /// The moment of that many seconds. None past the last moment.
+    pub fn new(seconds: u64) -> Option<Moment>
+        ensures some { IsSome result ↔ (seconds ≤ last_moment) }
+        ensures value { IfSome result (λ m. m ≡ seconds) }
+    {
+        if seconds <= Self::LAST {
+            Some(Moment { seconds })
+        } else {
+            None
+        }
+    }
+
+    /// The seconds since 1970-01-01T00:00:00Z.
+    pub fn seconds(self) -> u64
+        ensures value { result ≡ self }
+        ensures bound { result ≤ last_moment }
+    {
+        self.seconds
+    }
+
+    /// The moment that many seconds later. None past the last moment.
+    pub fn plus(self, seconds: u64) -> Option<Moment>
+        ensures some { IsSome result ↔ (self + seconds ≤ last_moment) }
+        ensures value { IfSome result (λ m. m ≡ self + seconds) }
+    {
+        Moment::new(self.seconds.checked_add(seconds)?)
+    }
+
+    /// The moment that a word spells: its seconds in decimal digits with no zero in front, or
+    /// `YYYY-MM-DDTHH:MM:SSZ` with a date of the calendar from 1970 to 9999. `BadMoment` for every
+    /// other word. It takes no memory.
+    pub fn read(word: &[u8]) -> Result<Moment, BadMoment>
+        ensures found { IfOk result (SpellsMoment word.now) }
+        ensures only { (m : ℕ) → SpellsMoment word.now m → result ≡ Ok m }
+    {
+        if word.len() == 20 {
+            return read_timestamp(word).ok_or(BadMoment);
+        }
+        match read_number(word) {
+            Some(seconds) => Moment::new(seconds).ok_or(BadMoment),
+            None => Err(BadMoment),
+        }
+    }
+
+    /// The moment in the form `YYYY-MM-DDTHH:MM:SSZ`. It takes no memory.
+    pub fn text(self) -> [u8; 20]
+        ensures spells { SpellsTimestamp result self }
+        ensures only { (word : List ℕ) → SpellsTimestamp word self → word ≡ result }
+        ensures reads { SpellsMoment result self }
+    {
+        let (year, month, day) = date_of((self.seconds / SECONDS_PER_DAY) as u32);
+        let second = self.seconds % SECONDS_PER_DAY;
+        text_of(Fields {
+            year,
+            month,
+            day,
+            hour: (second / 3600) as u8,
+            minute: (second / 60 % 60) as u8,
+            second: (second % 60) as u8,
+        })
+    }
+
+    /// What reading the text of a moment gives. It is a law more than a call: always the moment.
+    pub fn read_back(self) -> Result<Moment, BadMoment>
+        ensures { result ≡ Ok self }
+    {
+        Moment::read(&self.text())
+    }
+}
+
+// The moment that a word of the form `YYYY-MM-DDTHH:MM:SSZ` spells.
+fn read_timestamp(word: &[u8]) -> Option<Moment>
+    ensures found { IfSome result (SpellsTimestamp word.now) }
+    ensures only { (m : ℕ) → SpellsTimestamp word.now m → result ≡ Some m }
+{
+    moment_of(read_fields(word)?)
+}
+
+// The moment of a date and time, if the calendar and the clock have them.
+fn moment_of(fields: Fields) -> Option<Moment>
+    ensures found { IfSome result (IsWorth fields) }
+    ensures valid { IsSome result → IsTimestamp fields }
+    ensures only { IsTimestamp fields → IsSome result }
+{
+    if fields.hour > 23 || fields.minute > 59 || fields.second > 59 {
+        return None;
+    }
+    let day = day_number(fields.year, fields.month, fields.day)?;
+    let second = 3600 * fields.hour as u64 + 60 * fields.minute as u64 + fields.second as u64;
+    Some(Moment {
+        seconds: SECONDS_PER_DAY * day as u64 + second,
+    })
+}
+
+#[cfg(test)]
+mod tests {
+    use super::*;
+    use std::test::Fail;
+
+    const WORKED: [(u64, &[u8; 20]); 11] = [
+        (0, b"1970-01-01T00:00:00Z"),
+        (5, b"1970-01-01T00:00:05Z"),
+        (91, b"1970-01-01T00:01:31Z"),
+        (86399, b"1970-01-01T23:59:59Z"),
+        (86400, b"1970-01-02T00:00:00Z"),
+        (951782400, b"2000-02-29T00:00:00Z"),
+        (1709251199, b"2024-02-29T23:59:59Z"),
+        (1709251200, b"2024-03-01T00:00:00Z"),
+        (4107542399, b"2100-02-28T23:59:59Z"),
+        (4107542400, b"2100-03-01T00:00:00Z"),
+        (253402300799, b"9999-12-31T23:59:59Z"),
+    ];
+
+    #[test]
+    fn the_last_moment_ends_the_year_9999(rt: HostRuntime) -> Result<(), Fail> {
+        let last = Moment::new(253402300799).ok_or("the last moment")?;
+        assert_eq!(rt; Moment::new(253402300800), None);
+        assert_eq!(rt; Moment::START.plus(253402300799), Some(last));
+        assert_eq!(rt; last.plus(0), Some(last));
+        assert_eq!(rt; last.plus(1), None);
+        assert_eq!(rt; last.plus(u64::MAX), None);
+        Ok(())
+    }
+
+    #[test]
+    fn time_starts_at_0(rt: HostRuntime) {
+        assert_eq!(rt; Moment::START.seconds(), 0);
+        assert!(rt; Some(Moment::START) < Moment::new(1));
+    }
+
+    #[test]
+    fn a_moment_has_one_date_and_time(rt: HostRuntime) -> Result<(), Fail> {
+        for (seconds, text) in WORKED {
+            let moment = Moment::new(seconds).ok_or("a moment")?;
+            assert_eq!(rt; moment.text(), *text);
+            assert_eq!(rt; Moment::read(text), Ok(moment), "{seconds}");
+            assert_eq!(rt; moment.read_back(), Ok(moment));
+        }
+        Ok(())
+    }
+
+    #[test]
+    fn a_number_of_seconds_is_a_moment(rt: HostRuntime) {
+        assert_eq!(rt; Moment::read(b"0"), Ok(Moment::START));
+        assert_eq!(rt; Moment::read(b"86399").ok(), Moment::new(86399));
+        assert_eq!(rt;
+            Moment::read(b"253402300799").ok(),
+            Moment::new(253402300799)
+        );
+    }
+
+    #[test]
+    fn other_words_spell_no_moment(rt: HostRuntime) {
+        let refused: [&[u8]; 21] = [
+            b"",
+            b"01",
+            b"+5",
+            b"-1",
+            b"253402300800",
+            b"18446744073709551616",
+            b"00000000000000000005",
+            b"1970-01-01",
+            b"1970-01-01T00:00:00",
+            b"1970-01-01t00:00:00Z",
+            b"1970-01-01T00:00:00z",
+            b"1970-01-01 00:00:00Z",
+            b"1970-01-01T00:00:00.0Z",
+            b"1970-01-01T24:00:00Z",
+            b"1970-01-01T00:60:00Z",
+            b"1970-01-01T00:00:60Z",
+            b"1970-00-01T00:00:00Z",
+            b"1970-13-01T00:00:00Z",
+            b"1970-02-30T00:00:00Z",
+            b"2100-02-29T00:00:00Z",
+            b"1900-01-01T00:00:00Z",
+        ];
+        for word in refused {
+            assert_eq!(rt; Moment::read(word), Err(BadMoment), "{word:?}");
+        }
+    }
+
+    #[test]
+    fn the_fault_has_a_text(rt: HostRuntime) -> Result<(), Fail> {
+        assert_eq!(rt;
+            format!(in rt.alloc(); "{}", BadMoment)?.as_str(),
+            "not a moment"
+        );
+        Ok(())
+    }
+}

@@ -1,0 +1,40 @@
+//! The policies of files, and their kinds.
+//! A contract sees both as plain data.
+ghost use Rattle.std.specs.Prelude.{◌≡◌};
+ghost use Rattle.ele_policy.specs.Policy.{kind_of};
+
+use crate::interval::Interval;
+
+/// The four kinds of policy, in the order in which usage is told.
+#[derive(Clone, Copy, Debug, PartialEq, Eq, Hash)]
+pub enum Kind {
+    /// Keep the current version alone.
+    One,
+    /// Keep every version.
+    All,
+    /// Keep a version for some time after its end.
+    Safe,
+    /// Keep fewer of the versions the longer ago they ended.
+    Landmarks,
+}
+
+/// Which versions of a file that have ended are due, and from when on.
+#[derive(Clone, Copy, Debug, PartialEq, Eq, Hash)]
+pub enum Policy {
+    /// Each is due as soon as it has ended.
+    One,
+    /// Each is due once it has been ended for the interval.
+    Safe(Interval),
+}
+
+impl Policy {
+    /// The kind of the policy.
+    pub fn kind(&self) -> Kind
+        ensures { result ≡ kind_of self.now }
+    {
+        match self {
+            Policy::One => Kind::One,
+            Policy::Safe(_) => Kind::Safe,
+        }
+    }
+}

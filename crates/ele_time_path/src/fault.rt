@@ -1,0 +1,28 @@
+//! Why a word is no path. A contract sees a fault as the fault.
+ghost use Rattle.std.specs.Prelude.{◌≡◌};
+ghost use Rattle.ele_time_path.specs.declared.fault.PathFault.TheVariants.{NoMemory};
+
+use std::alloc::AllocFailed;
+use thiserror::Error;
+
+/// Why a word was not read as a path.
+#[derive(Clone, Copy, Debug, PartialEq, Eq, Error)]
+pub enum PathFault {
+    /// A piece between the slashes is no name.
+    #[error("not a name")]
+    BadName,
+    /// The word does not begin with a slash, has an empty piece, or has more than 32 pieces.
+    #[error("not a path")]
+    BadPath,
+    /// There was no memory for the names.
+    #[error("no memory")]
+    NoMemory,
+}
+
+impl<T: Drop> From<AllocFailed<T>> for PathFault {
+    ghost from_gives = { λ _ fault. fault ≡ NoMemory };
+
+    fn from(_refused: AllocFailed<T>) -> PathFault {
+        PathFault::NoMemory
+    }
+}

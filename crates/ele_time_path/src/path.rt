@@ -1,0 +1,152 @@
+//! Names behind one another, from the root. A contract sees a path as the list of its names.
+ghost use Rattle.std.specs.Prelude.{◌≡◌, ◌≤◌, ◌⊎◌, ℕ, List, All, length, nat_eq, slice_get, Some, Ok, Err, IfOk, IfErr, OnOk, ◌<◌};
+ghost use Rattle.std.specs.Cmp.{on_per, on_equiv, partial_equiv_from_equiv};
+ghost use Rattle.std.specs.Cmp.Lexicographic.{pointwise, lists_per, lists_equiv, nat_list_eq_equiv};
+ghost use Rattle.ele_moment.specs.Name.{IsName};
+ghost use Rattle.ele_time_path.specs.Path.{IsPath, SpellsPath, pieces_of};
+ghost use Rattle.ele_time_path.specs.FirstFault.{piece_fault, piece_faults, path_fault};
+
+use crate::fault::PathFault;
+use ele_moment::Name;
+use std::alloc::Global;
+use std::marker::Model;
+
+/// A way from the root: at most 32 names, and none for the root itself.
+#[derive(Debug, Drop)]
+pub struct Path {
+    names: Vec<Name>,
+}
+
+impl Model for Path {
+    ghost use Rattle.std.specs.Prelude.{List, ℕ};
+    ghost use Rattle.ele_time_path.specs.Path.{IsPath};
+
+    ghost Value = { List (List ℕ) };
+
+    ghost view = { λ path. path.names.items };
+
+    ghost invariant = { λ path. IsPath path.names.items };
+}
+
+impl Path {
+    /// The most names of a path.
+    const MOST_NAMES: usize = 32;
+
+    /// The path that a word spells: `/`, or names with a slash in front of each.
+    ///
+    /// The word is read from the left. It is `BadPath` where it does not begin with a slash, where a
+    /// piece between slashes is empty, and at the 33rd piece, whatever that is; `BadName` where a
+    /// piece is no name. `NoMemory` may come in place of any other answer.
+    pub fn read(alloc: Global, word: &[u8]) -> Result<Path, PathFault>
+        ensures found { IfOk result (SpellsPath word.now) }
+        ensures only { (names : List (List ℕ)) → SpellsPath word.now names
+            → (result ≡ Ok names) ⊎ (result ≡ Err PathFault.NoMemory) }
+        ensures fault { IfErr result
+            (λ fault. (fault ≡ PathFault.NoMemory) ⊎ (path_fault word.now ≡ Some fault)) }
+    {
+        match word {
+            [b'/'] => Ok(Path {
+                names: Vec::new(alloc),
+            }),
+            [b'/', text @ ..] => Ok(Path {
+                names: read_names(alloc, text)?,
+            }),
+            _ => Err(PathFault::BadPath),
+        }
+    }
+
+    /// The names, from the root on.
+    pub fn names(&self) -> &[Name]
+        ensures names { result.now ≡ self.now }
+        ensures short { length self.now ≤ 32 }
+        ensures named { All IsName self.now }
+    {
+        &self.names
+    }
+}
+
+/// The names that a text has between its slashes.
+fn read_names(alloc: Global, text: &[u8]) -> Result<Vec<Name>, PathFault>
+    ensures found { IfOk result (λ names. names.items ≡ pieces_of text.now) }
+    ensures are { IfOk result (λ names. IsPath names.items) }
+    ensures fault { IfErr result (λ fault. (fault ≡ PathFault.NoMemory)
+        ⊎ (slice_get (piece_faults (pieces_of text.now)) 0 ≡ Some fault)) }
+{
+    let mut names = Vec::new(alloc);
+    for piece in text.split(|byte| *byte == b'/') {
+        let name = read_piece(names.len(), piece)?;
+        names.push(name)?;
+    }
+    Ok(names)
+}
+
+/// The name that a piece is, behind so many others.
+fn read_piece(before: usize, piece: &[u8]) -> Result<Name, PathFault>
+    ensures found { IfOk result (λ name. name ≡ piece.now) }
+    ensures is { OnOk result (IsName piece.now) }
+    ensures few { OnOk result (before < 32) }
+    ensures fault { IfErr result (λ fault. piece_fault before piece.now ≡ Some fault) }
+{
+    if piece.is_empty() || before >= Path::MOST_NAMES {
+        return Err(PathFault::BadPath);
+    }
+    Name::new(piece).map_err(|_| PathFault::BadName)
+}
+
+impl PartialEq for Path {
+    ghost eq = { pointwise (pointwise nat_eq) };
+
+    ghost laws = { on_per (λ path. path) (lists_per (partial_equiv_from_equiv nat_list_eq_equiv)) };
+
+    fn eq(&self, other: &Self) -> bool {
+        self.names() == other.names()
+    }
+}
+
+impl Eq for Path {
+    ghost laws = { on_equiv (λ path. path) (lists_equiv nat_list_eq_equiv) };
+}
+
+#[cfg(test)]
+mod tests {
+    use super::*;
+    use std::test::Fail;
+
+    #[test]
+    fn a_path_is_its_names_from_the_root(rt: HostRuntime) -> Result<(), Fail> {
+        let path = Path::read(rt.alloc(), b"/a/b")?;
+        assert_eq!(rt; path.names().len(), 2);
+        assert_eq!(rt; path.names()[0].bytes(), b"a".as_slice());
+        assert_eq!(rt; path.names()[1].bytes(), b"b".as_slice());
+        assert!(rt; path == Path::read(rt.alloc(), b"/a/b")?);
+        assert!(rt; path != Path::read(rt.alloc(), b"/a/c")?);
+        let root = Path::read(rt.alloc(), b"/")?;
+        assert_eq!(rt; root.names().len(), 0);
+        Ok(())
+    }
+
+    #[test]
+    fn the_first_fault_from_the_left_is_told(rt: HostRuntime) {
+        let words: [(&[u8], PathFault); 8] = [
+            (b"", PathFault::BadPath),
+            (b"a", PathFault::BadPath),
+            (b"/a/", PathFault::BadPath),
+            (b"//a", PathFault::BadPath),
+            (b"/..", PathFault::BadName),
+            (b"/a/./b", PathFault::BadName),
+            (b"/a@b//c", PathFault::BadName),
+            (b"/a//b#c", PathFault::BadPath),
+        ];
+        for (word, fault) in words {
+            assert_eq!(rt; Path::read(rt.alloc(), word), Err(fault), "at {word:?}");
+        }
+    }
+
+    #[test]
+    fn a_path_has_32_names_and_no_33rd(rt: HostRuntime) -> Result<(), Fail> {
+        let word = b"/a/a/a/a/a/a/a/a/a/a/a/a/a/a/a/a/a/a/a/a/a/a/a/a/a/a/a/a/a/a/a/a/..";
+        assert_eq!(rt; Path::read(rt.alloc(), &word[..64])?.names().len(), 32);
+        assert_eq!(rt; Path::read(rt.alloc(), word), Err(PathFault::BadPath));
+        Ok(())
+    }
+}

@@ -1,0 +1,73 @@
+-- The first key of the scan is that of a due row.
+use Rattle.std.proofs.Common.{◌≡◌, ℕ, ◌+◌, ◌<◌, ◌≤◌, Bool, true, false, cond, ◌&&◌, not, List, [], ◌∷◌, ◌++◌, Option, Some, None, refl, ap, sym, ◌∙◌, arith}
+use Rattle.std.specs.Prelude.{find, is_none, slice_get, fold}
+use Rattle.std.specs.declared.cmp.Ordering.{Ordering}
+use Rattle.std.specs.declared.cmp.Ordering.TheVariants.{Less, Equal, Greater}
+use Rattle.std.specs.BTreeSet.{insert_key}
+use Rattle.std.specs.List.{AllByRecursion, filter_map}
+use Rattle.std.specs.Option.{option_map, option_map_or}
+use Rattle.std.proofs.lemmas.Bool.{false≢true}
+use Rattle.ele_policy.specs.Ripe.{is_due_by}
+use Rattle.ele_policy.specs.declared.policy.Policy.{Policy}
+use Rattle.ele_world.specs.declared.key.Key.{Key}
+use Rattle.ele_world.specs.declared.rows.VersionRow.{VersionRow}
+use Rattle.ele_world.specs.Due.{is_due_at, ripe_of, is_protected}
+use Rattle.ele_world.specs.Scan.{key_cmp, key_of, due_key, in_order, scan, first_due}
+use Rattle.ele_world.specs.WellFormed.{AllLater, ArePlaced}
+use Rattle.ele_world.specs.World.{World, is_version, policy_of}
+use Rattle.ele_world.proofs.Edits.{all-weaker}
+use Rattle.ele_world.proofs.Versions.{IsFound, all_found}
+
+-- the key is that of a held row that is due
+pub record IsDueKey (w : World) (key : Key) : Type 0 where
+  pub row : VersionRow
+  pub found : find (is_version key.file key.number) w.versions ≡ Some row
+  pub due : is_due_at w row w.now ≡ true
+
+all-filter_map : {X Y : Type 0} (P : X → Type 0) (Q : Y → Type 0) (h : X → Option Y) → ((x : X) (y : Y) → P x → h x ≡ Some y → Q y) → (xs : List X) → AllByRecursion P xs → AllByRecursion Q (filter_map h xs)
+all-filter_map P Q h gives [] all = tt
+all-filter_map {X} {Y} P Q h gives (x ∷ xs) all = by (h x) refl (all-filter_map P Q h gives xs all.1) where
+  by : (o : Option Y) → h x ≡ o → AllByRecursion Q (filter_map h xs) → AllByRecursion Q (filter_map h (x ∷ xs))
+  by None e rest = rw e rest
+  by (Some y) e rest = rw e (gives x y all.0 e, rest)
+
+all-insert_key : (Q : Key → Type 0) (keys : List Key) (key : Key) → Q key → AllByRecursion Q keys → AllByRecursion Q (insert_key key_cmp keys key)
+all-insert_key Q [] key one all = (one, tt)
+all-insert_key Q (x ∷ xs) key one all = by (key_cmp key x) refl (all-insert_key Q xs key one all.1) where
+  by : (o : Ordering) → key_cmp key x ≡ o → AllByRecursion Q (insert_key key_cmp xs key) → AllByRecursion Q (insert_key key_cmp (x ∷ xs) key)
+  by Less e rest = rw e (one, all)
+  by Equal e rest = rw e all
+  by Greater e rest = rw e (all.0, rest)
+
+all-in_order : (Q : Key → Type 0) (sorted keys : List Key) → AllByRecursion Q sorted → AllByRecursion Q keys → AllByRecursion Q (fold (insert_key key_cmp) sorted keys)
+all-in_order Q sorted [] before all = before
+all-in_order Q sorted (x ∷ xs) before all = all-in_order Q (insert_key key_cmp sorted x) xs (all-insert_key Q sorted x all.0 before) all.1
+
+key_due : (w : World) (row : VersionRow) (key : Key) → IsFound w.versions row → due_key w row ≡ Some key → IsDueKey w key
+unfolding due_key
+key_due w row key found h = by (is_due_at w row w.now) refl (ripe_of w row) refl h where
+  by : (b : Bool) → is_due_at w row w.now ≡ b → (o : Option ℕ) → ripe_of w row ≡ o → cond b (option_map (key_of row) o) None ≡ Some key → IsDueKey w key
+  by true due None r h = absurd cc
+  by true due (Some ripe) r h = let file : row.file ≡ key.file = cc in let number : row.number ≡ key.number = cc in record { row = row; found = rw (← file, ← number) found; due = due }
+  by false due o r h = absurd cc
+
+-- the keys of the scan
+pub scan_due : (w : World) → AllLater ArePlaced w.versions → AllByRecursion (IsDueKey w) (scan w)
+unfolding scan
+scan_due w placed = all-in_order (IsDueKey w) [] (filter_map (due_key w) w.versions) tt (all-filter_map (IsFound w.versions) (IsDueKey w) (due_key w) (key_due w) w.versions (all_found w.versions placed))
+
+first_of : (Q : Key → Type 0) (keys : List Key) (key : Key) → slice_get keys 0 ≡ Some key → AllByRecursion Q keys → Q key
+first_of Q [] key h all = absurd cc
+first_of Q (x ∷ xs) key h all = let same : x ≡ key = cc in rw (← same) all.0
+
+pub first_is_due : (w : World) (key : Key) → AllLater ArePlaced w.versions → first_due w ≡ Some key → IsDueKey w key
+first_is_due w key placed h = first_of (IsDueKey w) (scan w) key h (scan_due w placed)
+
+-- what is due has ended
+pub due_has_ended : (w : World) (row : VersionRow) (at : ℕ) → is_due_at w row at ≡ true → is_none row.ended ≡ false
+unfolding is_due_at
+due_has_ended w row at h = by (policy_of w.files row.file) row.ended h where
+  by : (p : Option Policy) (o : Option ℕ) → option_map_or (λ policy. option_map_or (λ ended. is_due_by policy ended at) o false) p false ≡ true → is_none o ≡ false
+  by None o h = absurd (false≢true h)
+  by (Some policy) None h = absurd (false≢true h)
+  by (Some policy) (Some ended) h = refl

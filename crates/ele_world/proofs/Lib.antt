@@ -1,0 +1,12 @@
+pub mod Edits
+pub mod Files
+pub mod Contents
+pub mod Versions
+pub mod Walks
+pub mod KeptNames
+pub mod KeptDrafts
+pub mod KeptVersions
+pub mod DueRows
+pub mod StepKeeps
+pub mod Stays
+pub mod Passes

@@ -1,0 +1,64 @@
+-- Version rows apart and in their order.
+use Rattle.std.proofs.Common.{◌≡◌, ◌≢◌, ℕ, ◌+◌, ◌-◌, ◌<◌, ◌≤◌, Bool, true, false, cond, ◌&&◌, ◌||◌, List, [], ◌∷◌, ◌++◌, length, Option, Some, None, IfSome, refl, ap, sym, subst, ◌∙◌, arith, eqb, ltb}
+use Rattle.std.specs.Prelude.{find, unwrap_or}
+use Rattle.std.specs.List.{AllByRecursion, list_any}
+use Rattle.std.proofs.lemmas.Bool.{false≢true}
+use Rattle.std.proofs.lemmas.Bool.Decides.{nat_tests}
+use Rattle.ele_world.specs.declared.rows.FileRow.{FileRow}
+use Rattle.ele_world.specs.declared.rows.VersionRow.{VersionRow}
+use Rattle.ele_world.specs.Lists.{update_first, remove_first, insert_before}
+use Rattle.ele_world.specs.Step.{ended_at}
+use Rattle.ele_world.specs.WellFormed.{AllLater, IsVersion, ArePlaced}
+use Rattle.ele_world.specs.World.{is_version, is_version_after, next_of}
+use Rattle.ele_world.proofs.Edits.{all-weaker, all-both, all-any}
+
+-- a later row isn't the earlier one
+pub apart : (x y : VersionRow) → ArePlaced x y → is_version y.file y.number x ≡ false
+apart x y placed = let after = placed.after in grind (arith, nat_tests)
+
+pub is_itself : (x : VersionRow) → is_version x.file x.number x ≡ true
+is_itself x = grind (arith, nat_tests)
+
+abbrev pub IsFound : List VersionRow → VersionRow → Type 0
+IsFound rows row = find (is_version row.file row.number) rows ≡ Some row
+
+-- each row is the one that is found by its file and number
+pub all_found : (rows : List VersionRow) → AllLater ArePlaced rows → AllByRecursion (IsFound rows) rows
+all_found [] placed = tt
+all_found (x ∷ xs) placed = (rw (is_itself x) refl, all-weaker (λ y. ArePlaced x y × IsFound xs y) (IsFound (x ∷ xs)) xs (λ y h. rw (apart x y h.0) (h.1)) (all-both (ArePlaced x) (IsFound xs) xs placed.0 (all_found xs placed.1)))
+
+-- the row has ended by then
+pub record IsEndedBy (now : ℕ) (row : VersionRow) : Type 0 where
+  pub ended : ℕ
+  pub is : row.ended ≡ Some ended
+  pub by_now : ended ≤ now
+
+pub ends : (now : ℕ) (row : VersionRow) → IfSome row.ended (λ ended. (row.closed ≤ ended) × (ended ≤ now)) → IsEndedBy now (ended_at now row)
+ends now row h = record { ended = unwrap_or row.ended now; is = refl; by_now = by row.ended h } where
+  by : (o : Option ℕ) → IfSome o (λ ended. (row.closed ≤ ended) × (ended ≤ now)) → unwrap_or o now ≤ now
+  by None h = omega arith
+  by (Some e) h = h.1
+
+-- of a file's rows all but the last have ended
+other_ended : (files : List FileRow) (now : ℕ) (row : VersionRow) → IsVersion files now row → (row.number + 1 ≡ next_of files row.file → ⊥) → IsEndedBy now row
+other_ended files now row h not_last = by row.ended refl where
+  by : (o : Option ℕ) → row.ended ≡ o → IsEndedBy now row
+  by None e = absurd (not_last (h.open_end e))
+  by (Some at) e = record { ended = at; is = e; by_now = (let bound = rw e at h.ended in bound.1) }
+
+-- once the last has ended all of the file have
+pub file_ended : (files : List FileRow) (now file : ℕ) (rows : List VersionRow) → AllLater ArePlaced rows → AllByRecursion (IsVersion files now) rows → AllByRecursion (λ row. row.file ≡ file → IsEndedBy now row) (update_first (is_version file (next_of files file - 1)) (ended_at now) rows)
+file_ended files now file [] placed all = tt
+file_ended files now file (x ∷ xs) placed all = elim (is_version file (next_of files file - 1) x) as (λ b. is_version file (next_of files file - 1) x ≡ b → AllByRecursion (λ row. row.file ≡ file → IsEndedBy now row) (cond b (ended_at now x ∷ xs) (x ∷ update_first (is_version file (next_of files file - 1)) (ended_at now) xs))) [
+    | true ↦ λ e. ((λ _. ends now x all.0.ended), all-weaker (λ y. ArePlaced x y × IsVersion files now y) (λ row. row.file ≡ file → IsEndedBy now row) xs (λ y h same. absurd (no_later x y e h.0 h.1 same)) (all-both (ArePlaced x) (IsVersion files now) xs placed.0 all.1))
+    | false ↦ λ e. ((λ same. other_ended files now x all.0 (λ last. not_that x e same last)), file_ended files now file xs placed.1 all.1)
+  ] refl where
+  no_later : (x y : VersionRow) → is_version file (next_of files file - 1) x ≡ true → ArePlaced x y → IsVersion files now y → y.file ≡ file → ⊥
+  no_later x y e placed is same =
+    let after = placed.after in
+    let numbered : y.number < next_of files file = subst (λ f. y.number < next_of files f) same is.numbered in
+    grind (arith, nat_tests)
+  not_that : (x : VersionRow) → is_version file (next_of files file - 1) x ≡ false → x.file ≡ file → x.number + 1 ≡ next_of files x.file → ⊥
+  not_that x e same last =
+    let last' : x.number + 1 ≡ next_of files file = subst (λ f. x.number + 1 ≡ next_of files f) same last in
+    grind (arith, nat_tests)

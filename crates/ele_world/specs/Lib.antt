@@ -1,0 +1,16 @@
+pub mod Bounds
+pub mod Limits
+pub mod Answers
+pub mod Lists
+pub mod World
+pub mod Walk
+pub mod Content
+pub mod Due
+pub mod Scan
+pub mod Step
+pub mod WellFormed
+pub mod Run
+pub mod AlwaysWellFormed
+pub mod OnlyDueLeave
+pub mod HeldStays
+pub mod PassLeavesKept

@@ -1,0 +1,40 @@
+-- Runs, passes and histories.
+use Rattle.std.specs.Prelude.{◌≡◌, ℕ, suc, zero, ◌<◌, ◌≤◌, List, [], ◌∷◌, None, IsSome}
+use Rattle.ele_moment.specs.Last.{last_moment}
+use Rattle.ele_world.specs.declared.event.Event.{Event}
+use Rattle.ele_world.specs.declared.event.Event.TheVariants.{Clock, Create, OpenWrite, Write, Close, CleanOne, Due}
+use Rattle.ele_world.specs.declared.reply.Reply.{Reply}
+use Rattle.ele_world.specs.Scan.{first_due}
+use Rattle.ele_world.specs.Step.{step, clean_step}
+use Rattle.ele_world.specs.World.{World}
+
+-- the world after the events that were answered; an event that was stopped leaves the world, so it stands in no run
+abbrev pub run_of : World → List Event → World
+run_of w [] = w
+run_of w (event ∷ events) = run_of ((step w event).1) events
+
+-- what the types of an event say of it
+abbrev pub IsEvent : Event → Type 0
+IsEvent (Clock to) = to ≤ last_moment
+IsEvent (Create path) = Unit {0}
+IsEvent (OpenWrite path) = Unit {0}
+IsEvent (Write handle offset bytes) = Unit {0}
+IsEvent (Close handle) = Unit {0}
+IsEvent CleanOne = Unit {0}
+IsEvent Due = Unit {0}
+
+-- each reply is the step's, from the world on
+abbrev pub IsLegal : World → List (Event × Reply) → Type 0
+IsLegal w [] = Unit {0}
+IsLegal w (entry ∷ entries) = (entry.1 ≡ (step w entry.0).0) × IsLegal ((step w entry.0).1) entries
+
+-- the world after so many clean events
+abbrev pub cleaned : ℕ → World → World
+cleaned zero w = w
+cleaned (suc n) w = cleaned n ((clean_step w).1)
+
+-- a pass: clean events in a row until the reply that nothing is due
+pub record IsPass (w : World) (removed : ℕ) (after : World) : Type 0 where
+  pub each : (k : ℕ) → k < removed → IsSome (first_due (cleaned k w))
+  pub after_is : after ≡ cleaned removed w
+  pub last : first_due after ≡ None

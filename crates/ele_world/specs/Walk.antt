@@ -1,0 +1,48 @@
+-- Where a path leads, name by name from the root.
+use Rattle.std.specs.Prelude.{ℕ, ◌-◌, ◌==◌, ◌&&◌, Bool, List, [], ◌∷◌, length, take, slice_get, is_none, Option, Some, None, find, Result, Ok, Err}
+use Rattle.std.specs.Option.{option_map, option_map_or}
+use Rattle.std.specs.Str.{bytes_eq}
+use Rattle.ele_world.specs.declared.refusal.Refusal.{Refusal}
+use Rattle.ele_world.specs.declared.refusal.Refusal.TheVariants.{NoEntry, NotDirectory, IsDirectory, IsRoot}
+use Rattle.ele_world.specs.declared.rows.NameRow.{NameRow}
+use Rattle.ele_world.specs.declared.rows.Target.{Target}
+use Rattle.ele_world.specs.declared.rows.Target.TheVariants.{File, Directory}
+use Rattle.ele_world.specs.World.{root}
+
+-- a live name in the directory
+abbrev pub is_live_name : ℕ → List ℕ → NameRow → Bool
+is_live_name directory name row = (row.directory == directory) && (bytes_eq row.name name && is_none row.death)
+
+-- what the live name in the directory stands for
+abbrev pub live_target : List NameRow → ℕ → List ℕ → Option Target
+live_target rows directory name = option_map (λ row. row.target) (find (is_live_name directory name) rows)
+
+-- from a place along the names: a name that isn't there is NoEntry, one behind a file NotDirectory
+abbrev pub walk : List NameRow → Target → List (List ℕ) → Result Target Refusal
+walk rows at [] = Ok at
+walk rows (File file) (name ∷ names) = Err NotDirectory
+walk rows (Directory directory) (name ∷ names) =
+  option_map_or (λ target. walk rows target names) (live_target rows directory name) (Err NoEntry)
+
+-- from the root
+abbrev pub walk_now : List NameRow → List (List ℕ) → Result Target Refusal
+walk_now rows path = walk rows (Directory root) path
+
+abbrev pub file_at : Result Target Refusal → Result ℕ Refusal
+file_at (Ok (File file)) = Ok file
+file_at (Ok (Directory directory)) = Err IsDirectory
+file_at (Err refusal) = Err refusal
+
+-- the file that the path names
+abbrev pub file_now : List NameRow → List (List ℕ) → Result ℕ Refusal
+file_now rows path = file_at (walk_now rows path)
+
+abbrev pub directory_at : List ℕ → Result Target Refusal → Result (ℕ × List ℕ) Refusal
+directory_at name (Ok (Directory directory)) = Ok (directory, name)
+directory_at name (Ok (File file)) = Err NotDirectory
+directory_at name (Err refusal) = Err refusal
+
+-- the directory that the path's last name stands in, and that name; the root stands in none
+abbrev pub parent_now : List NameRow → List (List ℕ) → Result (ℕ × List ℕ) Refusal
+parent_now rows path =
+  option_map_or (λ name. directory_at name (walk_now rows (take (length path - 1) path))) (slice_get path (length path - 1)) (Err IsRoot)

@@ -1,0 +1,25 @@
+//! The definitions: events, replies, the world that they change, and what is true of every run. All of it is plain data, and
+//! a contract sees the world as the flat rows of `Flat`.
+#![tactic(auto)]
+
+mod event;
+mod flat;
+mod key;
+pub mod laws;
+mod limits;
+mod list;
+mod refusal;
+mod reply;
+mod rows;
+
+pub use ele_moment::{DirId, FileId, Handle, Moment, Name, NoMemory, VersionNo};
+pub use ele_policy::{Kind, Policy};
+pub use ele_time_path::Path;
+pub use event::Event;
+pub use flat::Flat;
+pub use key::Key;
+pub use limits::{Counts, Limits};
+pub use list::{ByteList, KeyList, ListOf};
+pub use refusal::{Refusal, Stop, Which};
+pub use reply::Reply;
+pub use rows::{Cell, DirectoryRow, DraftRow, FileRow, HandleRow, NameRow, Target, VersionRow};

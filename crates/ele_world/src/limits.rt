@@ -1,0 +1,124 @@
+//! How much may ever be made.
+ghost use Rattle.std.specs.Prelude.{◌≡◌, ◌≤◌, ◌↔◌, IsSome, IfSome};
+ghost use Rattle.ele_world.specs.Bounds.{Bounds, AreBounds, bounds_of, largest_bounds};
+
+use std::marker::Model;
+
+/// How much may ever be made, each limit at most its largest.
+#[derive(Clone, Copy, Debug, PartialEq, Eq)]
+pub struct Limits {
+    events: u64,
+    files: u64,
+    directories: u64,
+    names: u64,
+    versions: u64,
+    handles: u64,
+    groups: u64,
+    members: u64,
+    marks: u64,
+}
+
+impl Model for Limits {
+    ghost use Rattle.ele_world.specs.Bounds.{Bounds, AreBounds};
+
+    ghost Value = { Bounds };
+
+    ghost use Rattle.ele_world.specs.Limits.{view_of, fields_of};
+
+    ghost view = { view_of };
+
+    ghost invariant = { λ l. AreBounds (view_of l) };
+
+    ghost inverse = { fields_of };
+}
+
+/// How much was ever made.
+#[derive(Clone, Copy, Debug, PartialEq, Eq)]
+pub struct Counts {
+    pub files: u64,
+    pub names: u64,
+    pub versions: u64,
+    pub handles: u64,
+}
+
+impl Limits {
+    /// The limits of events, files, directories, names, versions, handles, groups, members and marks, in this order; none
+    /// where one is above its largest: 1,000,000,000 events, 100,000 files, 10,000 directories, 200,000 names, 1,000,000
+    /// versions, 1,000,000 handles, 1,000 groups, 100,000 members and 10,000 marks.
+    pub fn new(numbers: [u64; 9]) -> Option<Limits>
+        ensures valid { IsSome result ↔ AreBounds (bounds_of numbers) }
+        ensures value { IfSome result (λ limits. limits ≡ bounds_of numbers) }
+    {
+        let [events, files, directories, names, versions, handles, groups, members, marks] = numbers;
+        let is_within = events <= 1_000_000_000
+            && files <= 100_000
+            && directories <= 10_000
+            && names <= 200_000
+            && versions <= 1_000_000
+            && handles <= 1_000_000
+            && groups <= 1_000
+            && members <= 100_000
+            && marks <= 10_000;
+        if !is_within {
+            return None;
+        }
+        Some(Limits { events, files, directories, names, versions, handles, groups, members, marks })
+    }
+
+    /// The largest limits.
+    pub fn largest() -> Limits
+        ensures { result ≡ largest_bounds }
+    {
+        Limits {
+            events: 1_000_000_000,
+            files: 100_000,
+            directories: 10_000,
+            names: 200_000,
+            versions: 1_000_000,
+            handles: 1_000_000,
+            groups: 1_000,
+            members: 100_000,
+            marks: 10_000,
+        }
+    }
+
+    /// How many replies may ever be given.
+    pub fn events(&self) -> u64
+        ensures value { result ≡ self.now.events }
+        ensures valid { AreBounds self.now }
+    {
+        self.events
+    }
+
+    /// How many files may ever be made.
+    pub fn files(&self) -> u64
+        ensures value { result ≡ self.now.files }
+        ensures valid { AreBounds self.now }
+    {
+        self.files
+    }
+
+    /// How many name rows may ever be made.
+    pub fn names(&self) -> u64
+        ensures value { result ≡ self.now.names }
+        ensures valid { AreBounds self.now }
+    {
+        self.names
+    }
+
+    /// How many versions may ever be made, with the drafts that are open.
+    pub fn versions(&self) -> u64
+        ensures value { result ≡ self.now.versions }
+        ensures valid { AreBounds self.now }
+    {
+        self.versions
+    }
+
+    /// How many handles may ever be opened.
+    pub fn handles(&self) -> u64
+        ensures value { result ≡ self.now.handles }
+        ensures valid { AreBounds self.now }
+    {
+        self.handles
+    }
+}

@@ -1,0 +1,22 @@
+//! Replies: what a command answers.
+use crate::key::Key;
+use crate::list::KeyList;
+use crate::refusal::Refusal;
+use ele_moment::{FileId, Handle, Moment, VersionNo};
+
+/// The answer to a command.
+#[derive(Debug, Drop, PartialEq, Eq)]
+pub enum Reply {
+    Done,
+    /// Nothing was due.
+    Nothing,
+    Now(Moment),
+    File(FileId),
+    Handle(Handle),
+    /// The handle is closed, and the version that it made, if it made one.
+    Closed(Option<VersionNo>),
+    Removed(Key),
+    DueList(KeyList),
+    /// The command was refused, and changed nothing.
+    Refused(Refusal),
+}

@@ -1,0 +1,70 @@
+//! The rows of a world: what stands in it of each file, name, version, draft and handle.
+use crate::list::{ByteList, ListOf};
+use ele_moment::{DirId, FileId, Handle, Moment, Name, VersionNo};
+use ele_policy::Policy;
+
+/// A file: its policy, and the number that its next version gets.
+#[derive(Clone, Copy, Debug, PartialEq, Eq)]
+pub struct FileRow {
+    pub id: FileId,
+    pub policy: Policy,
+    pub next: VersionNo,
+}
+
+/// A directory, and the policy that files get that are made in it.
+#[derive(Clone, Copy, Debug, PartialEq, Eq)]
+pub struct DirectoryRow {
+    pub id: DirId,
+    pub default: Policy,
+}
+
+/// What a name stands for.
+#[derive(Clone, Copy, Debug, PartialEq, Eq)]
+pub enum Target {
+    File(FileId),
+    Directory(DirId),
+}
+
+/// A name in a directory, from its birth on until its death; without a death it is live.
+#[derive(Clone, Copy, Debug, PartialEq, Eq)]
+pub struct NameRow {
+    pub directory: DirId,
+    pub name: Name,
+    pub target: Target,
+    pub birth: Moment,
+    pub death: Option<Moment>,
+}
+
+/// What one slot of 512 bytes holds, the last slot maybe fewer, and the version whose session last wrote it.
+#[derive(Debug, Drop, PartialEq, Eq)]
+pub struct Cell {
+    pub writer: VersionNo,
+    pub bytes: ByteList,
+}
+
+/// A held version of a file: when its session opened it, when it closed, and when it ended, if it has.
+#[derive(Debug, Drop, PartialEq, Eq)]
+pub struct VersionRow {
+    pub file: FileId,
+    pub number: VersionNo,
+    pub opened: Moment,
+    pub closed: Moment,
+    pub ended: Option<Moment>,
+    pub cells: ListOf<Cell>,
+}
+
+/// The version that the writers of a file are making.
+#[derive(Debug, Drop, PartialEq, Eq)]
+pub struct DraftRow {
+    pub file: FileId,
+    pub opened: Moment,
+    pub cells: ListOf<Cell>,
+    pub changed: bool,
+}
+
+/// A handle by which the file's draft is written.
+#[derive(Clone, Copy, Debug, PartialEq, Eq)]
+pub struct HandleRow {
+    pub number: Handle,
+    pub file: FileId,
+}
