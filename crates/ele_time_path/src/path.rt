@@ -34,8 +34,8 @@ impl Path {
 
     /// The path that a word spells: `/`, or names with a slash in front of each.
     ///
-    /// The word is read from the left. It is `BadPath` where it does not begin with a slash, where a
-    /// piece between slashes is empty, and at the 33rd piece, whatever that is; `BadName` where a
+    /// The word is read from the left. It is `BadPath` where it does not begin with a slash, where
+    /// a piece between slashes is empty, and at the 33rd piece, whatever that is; `BadName` where a
     /// piece is no name. `NoMemory` may come in place of any other answer.
     pub fn read(alloc: Global, word: &[u8]) -> Result<Path, PathFault>
         ensures found { IfOk result (SpellsPath word.now) }

@@ -1,5 +1,5 @@
 -- The first key of the scan is that of a due row.
-use Rattle.std.proofs.Common.{◌≡◌, ℕ, ◌+◌, ◌<◌, ◌≤◌, Bool, true, false, cond, ◌&&◌, not, List, [], ◌∷◌, ◌++◌, Option, Some, None, refl, ap, sym, ◌∙◌, arith}
+use Rattle.std.proofs.Common.{◌≡◌, ℕ, Bool, true, false, cond, List, [], ◌∷◌, Option, Some, None, refl}
 use Rattle.std.specs.Prelude.{find, is_none, slice_get, fold}
 use Rattle.std.specs.declared.cmp.Ordering.{Ordering}
 use Rattle.std.specs.declared.cmp.Ordering.TheVariants.{Less, Equal, Greater}
@@ -11,11 +11,10 @@ use Rattle.ele_policy.specs.Ripe.{is_due_by}
 use Rattle.ele_policy.specs.declared.policy.Policy.{Policy}
 use Rattle.ele_world.specs.declared.key.Key.{Key}
 use Rattle.ele_world.specs.declared.rows.VersionRow.{VersionRow}
-use Rattle.ele_world.specs.Due.{is_due_at, ripe_of, is_protected}
-use Rattle.ele_world.specs.Scan.{key_cmp, key_of, due_key, in_order, scan, first_due}
+use Rattle.ele_world.specs.Due.{is_due_at, ripe_of}
+use Rattle.ele_world.specs.Scan.{key_cmp, key_of, due_key, scan, first_due}
 use Rattle.ele_world.specs.WellFormed.{AllLater, ArePlaced}
 use Rattle.ele_world.specs.World.{World, is_version, policy_of}
-use Rattle.ele_world.proofs.Edits.{all-weaker}
 use Rattle.ele_world.proofs.Versions.{IsFound, all_found}
 
 -- the key is that of a held row that is due

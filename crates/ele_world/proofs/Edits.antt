@@ -1,5 +1,5 @@
 -- What holds of all elements, or between them, after a change of a list.
-use Rattle.std.proofs.Common.{◌≡◌, ℕ, ◌+◌, ◌<◌, ◌≤◌, Bool, true, false, cond, ◌||◌, List, [], ◌∷◌, ◌++◌, length, Option, Some, None, refl, ap, sym, ◌∙◌, arith, ◌⊎◌, inl, inr}
+use Rattle.std.proofs.Common.{◌≡◌, ◌+◌, ◌≤◌, Bool, true, false, cond, ◌||◌, List, [], ◌∷◌, ◌++◌, length, Some, None, refl, ap, sym, ◌∙◌, arith, ◌⊎◌, inl, inr}
 use Rattle.std.specs.Prelude.{find}
 use Rattle.std.specs.List.{list_any, AllByRecursion}
 use Rattle.std.proofs.lemmas.Bool.{false≢true}
@@ -32,45 +32,45 @@ module _ {X : Type 0} (p : X → Bool) where
   pub all-update_first : (P Q : X → Type 0) (f : X → X) (xs : List X) → ((x : X) → P x → Q (f x)) → ((x : X) → P x → Q x) → AllByRecursion P xs → AllByRecursion Q (update_first p f xs)
   all-update_first P Q f [] changes keeps all = tt
   all-update_first P Q f (x ∷ xs) changes keeps all = elim (p x) as (λ b. AllByRecursion Q (cond b (f x ∷ xs) (x ∷ update_first p f xs))) [
-      | true ↦ (changes x all.0, all-weaker P Q xs keeps all.1)
-      | false ↦ (keeps x all.0, all-update_first P Q f xs changes keeps all.1)
-    ]
+    | true ↦ (changes x all.0, all-weaker P Q xs keeps all.1)
+    | false ↦ (keeps x all.0, all-update_first P Q f xs changes keeps all.1)
+  ]
 
   pub all-remove_first : (P : X → Type 0) (xs : List X) → AllByRecursion P xs → AllByRecursion P (remove_first p xs)
   all-remove_first P [] all = tt
   all-remove_first P (x ∷ xs) all = elim (p x) as (λ b. AllByRecursion P (cond b xs (x ∷ remove_first p xs))) [
-      | true ↦ all.1
-      | false ↦ (all.0, all-remove_first P xs all.1)
-    ]
+    | true ↦ all.1
+    | false ↦ (all.0, all-remove_first P xs all.1)
+  ]
 
   pub all-insert_before : (P : X → Type 0) (y : X) (xs : List X) → P y → AllByRecursion P xs → AllByRecursion P (insert_before p y xs)
   all-insert_before P y [] one all = (one, tt)
   all-insert_before P y (x ∷ xs) one all = elim (p x) as (λ b. AllByRecursion P (cond b (y ∷ x ∷ xs) (x ∷ insert_before p y xs))) [
-      | true ↦ (one, all)
-      | false ↦ (all.0, all-insert_before P y xs one all.1)
-    ]
+    | true ↦ (one, all)
+    | false ↦ (all.0, all-insert_before P y xs one all.1)
+  ]
 
   pub later-update_first : (R : X → X → Type 0) (f : X → X) (xs : List X) → ((x y : X) → R x y → R (f x) y) → ((x y : X) → R x y → R x (f y)) → AllLater R xs → AllLater R (update_first p f xs)
   later-update_first R f [] first second later = tt
   later-update_first R f (x ∷ xs) first second later = elim (p x) as (λ b. AllLater R (cond b (f x ∷ xs) (x ∷ update_first p f xs))) [
-      | true ↦ (all-weaker (R x) (R (f x)) xs (first x) later.0, later.1)
-      | false ↦ (all-update_first (R x) (R x) f xs (second x) (λ y h. h) later.0, later-update_first R f xs first second later.1)
-    ]
+    | true ↦ (all-weaker (R x) (R (f x)) xs (first x) later.0, later.1)
+    | false ↦ (all-update_first (R x) (R x) f xs (second x) (λ y h. h) later.0, later-update_first R f xs first second later.1)
+  ]
 
   pub later-remove_first : (R : X → X → Type 0) (xs : List X) → AllLater R xs → AllLater R (remove_first p xs)
   later-remove_first R [] later = tt
   later-remove_first R (x ∷ xs) later = elim (p x) as (λ b. AllLater R (cond b xs (x ∷ remove_first p xs))) [
-      | true ↦ later.1
-      | false ↦ (all-remove_first (R x) xs later.0, later-remove_first R xs later.1)
-    ]
+    | true ↦ later.1
+    | false ↦ (all-remove_first (R x) xs later.0, later-remove_first R xs later.1)
+  ]
 
   -- an element at its place: each that fails the test stands before it, and each that passes behind, as all behind that do
   pub later-insert_before : (R : X → X → Type 0) (P : X → Type 0) (y : X) (xs : List X) → ((x : X) → P x → p x ≡ false → R x y) → ((x : X) → P x → p x ≡ true → R y x) → ((x z : X) → p x ≡ true → R x z → p z ≡ true) → AllByRecursion P xs → AllLater R xs → AllLater R (insert_before p y xs)
   later-insert_before R P y [] before behind on all later = (tt, tt)
   later-insert_before R P y (x ∷ xs) before behind on all later = elim (p x) as (λ b. p x ≡ b → AllLater R (cond b (y ∷ x ∷ xs) (x ∷ insert_before p y xs))) [
-      | true ↦ λ e. ((behind x all.0 e, rest xs all.1 (all-weaker (R x) (λ z. p z ≡ true) xs (λ z r. on x z e r) later.0)), later)
-      | false ↦ λ e. (all-insert_before (R x) y xs (before x all.0 e) later.0, later-insert_before R P y xs before behind on all.1 later.1)
-    ] refl where
+    | true ↦ λ e. ((behind x all.0 e, rest xs all.1 (all-weaker (R x) (λ z. p z ≡ true) xs (λ z r. on x z e r) later.0)), later)
+    | false ↦ λ e. (all-insert_before (R x) y xs (before x all.0 e) later.0, later-insert_before R P y xs before behind on all.1 later.1)
+  ] refl where
     rest : (zs : List X) → AllByRecursion P zs → AllByRecursion (λ z. p z ≡ true) zs → AllByRecursion (R y) zs
     rest [] all passes = tt
     rest (z ∷ zs) all passes = (behind z all.0 passes.0, rest zs all.1 passes.1)
@@ -78,60 +78,60 @@ module _ {X : Type 0} (p : X → Bool) where
   pub length-update_first : (f : X → X) (xs : List X) → length (update_first p f xs) ≡ length xs
   length-update_first f [] = refl
   length-update_first f (x ∷ xs) = elim (p x) as (λ b. length (cond b (f x ∷ xs) (x ∷ update_first p f xs)) ≡ length (x ∷ xs)) [
-      | true ↦ refl
-      | false ↦ omega (arith, length-update_first f xs)
-    ]
+    | true ↦ refl
+    | false ↦ omega (arith, length-update_first f xs)
+  ]
 
   pub length-insert_before : (y : X) (xs : List X) → length (insert_before p y xs) ≡ length xs + 1
   length-insert_before y [] = omega arith
   length-insert_before y (x ∷ xs) = elim (p x) as (λ b. length (cond b (y ∷ x ∷ xs) (x ∷ insert_before p y xs)) ≡ length (x ∷ xs) + 1) [
-      | true ↦ omega arith
-      | false ↦ omega (arith, length-insert_before y xs)
-    ]
+    | true ↦ omega arith
+    | false ↦ omega (arith, length-insert_before y xs)
+  ]
 
   pub length-remove_first-le : (xs : List X) → length (remove_first p xs) ≤ length xs
   length-remove_first-le [] = omega arith
   length-remove_first-le (x ∷ xs) = elim (p x) as (λ b. length (cond b xs (x ∷ remove_first p xs)) ≤ length (x ∷ xs)) [
-      | true ↦ omega arith
-      | false ↦ omega (arith, length-remove_first-le xs)
-    ]
+    | true ↦ omega arith
+    | false ↦ omega (arith, length-remove_first-le xs)
+  ]
 
   pub length-remove_first : (xs : List X) (x : X) → find p xs ≡ Some x → length (remove_first p xs) + 1 ≡ length xs
   length-remove_first [] x h = cc
   length-remove_first (x ∷ xs) y h = elim (p x) as (λ b. p x ≡ b → length (remove_first p (x ∷ xs)) + 1 ≡ length (x ∷ xs)) [
-      | true ↦ λ e. rw e (omega arith)
-      | false ↦ λ e. rw e (let more = length-remove_first xs y (rw e at h) in omega arith)
-    ] refl
+    | true ↦ λ e. rw e (omega arith)
+    | false ↦ λ e. rw e (let more = length-remove_first xs y (rw e at h) in omega arith)
+  ] refl
 
   -- what is found passes, and has what all have
   pub found_passes : (xs : List X) (x : X) → find p xs ≡ Some x → p x ≡ true
   found_passes [] x h = cc
   found_passes (x ∷ xs) y h = elim (p x) as (λ b. p x ≡ b → p y ≡ true) [
-      | true ↦ λ e. let h' = rw e at h in let same : x ≡ y = cc in rw (← same) e
-      | false ↦ λ e. found_passes xs y (rw e at h)
-    ] refl
+    | true ↦ λ e. let h' = rw e at h in let same : x ≡ y = cc in rw (← same) e
+    | false ↦ λ e. found_passes xs y (rw e at h)
+  ] refl
 
   pub all-found : (P : X → Type 0) (xs : List X) (x : X) → find p xs ≡ Some x → AllByRecursion P xs → P x
   all-found P [] x h all = absurd cc
   all-found P (x ∷ xs) y h all = elim (p x) as (λ b. p x ≡ b → P y) [
-      | true ↦ λ e. let h' = rw e at h in let same : x ≡ y = cc in rw (← same) all.0
-      | false ↦ λ e. all-found P xs y (rw e at h) all.1
-    ] refl
+    | true ↦ λ e. let h' = rw e at h in let same : x ≡ y = cc in rw (← same) all.0
+    | false ↦ λ e. all-found P xs y (rw e at h) all.1
+  ] refl
 
   -- nothing passes
   pub all-none : (xs : List X) → list_any p xs ≡ false → AllByRecursion (λ x. p x ≡ false) xs
   all-none [] h = tt
   all-none (x ∷ xs) h = elim (p x) as (λ b. p x ≡ b → AllByRecursion (λ x. p x ≡ false) (x ∷ xs)) [
-      | true ↦ λ e. absurd (false≢true (sym (rw e at h)))
-      | false ↦ λ e. (e, all-none xs (rw e at h))
-    ] refl
+    | true ↦ λ e. absurd (false≢true (sym (rw e at h)))
+    | false ↦ λ e. (e, all-none xs (rw e at h))
+  ] refl
 
   pub all-not_found : (xs : List X) → find p xs ≡ None → AllByRecursion (λ x. p x ≡ false) xs
   all-not_found [] h = tt
   all-not_found (x ∷ xs) h = elim (p x) as (λ b. p x ≡ b → AllByRecursion (λ x. p x ≡ false) (x ∷ xs)) [
-      | true ↦ λ e. absurd (let h' = rw e at h in cc)
-      | false ↦ λ e. (e, all-not_found xs (rw e at h))
-    ] refl
+    | true ↦ λ e. absurd (let h' = rw e at h in cc)
+    | false ↦ λ e. (e, all-not_found xs (rw e at h))
+  ] refl
 
   pub not_found : (xs : List X) → AllByRecursion (λ x. p x ≡ false) xs → find p xs ≡ None
   not_found [] all = refl
@@ -142,16 +142,16 @@ module _ {X : Type 0} (p t : X → Bool) where
   pub list_any-update_first : (f : X → X) (xs : List X) → ((x : X) → p x ≡ true → t (f x) ≡ t x) → list_any t (update_first p f xs) ≡ list_any t xs
   list_any-update_first f [] same = refl
   list_any-update_first f (x ∷ xs) same = elim (p x) as (λ b. p x ≡ b → list_any t (cond b (f x ∷ xs) (x ∷ update_first p f xs)) ≡ list_any t (x ∷ xs)) [
-      | true ↦ λ e. ap (λ b. b || list_any t xs) (same x e)
-      | false ↦ λ e. ap (λ b. t x || b) (list_any-update_first f xs same)
-    ] refl
+    | true ↦ λ e. ap (λ b. b || list_any t xs) (same x e)
+    | false ↦ λ e. ap (λ b. t x || b) (list_any-update_first f xs same)
+  ] refl
 
   pub list_any-insert_before : (y : X) (xs : List X) → list_any t (insert_before p y xs) ≡ (t y || list_any t xs)
   list_any-insert_before y [] = refl
   list_any-insert_before y (x ∷ xs) = elim (p x) as (λ b. list_any t (cond b (y ∷ x ∷ xs) (x ∷ insert_before p y xs)) ≡ (t y || (t x || list_any t xs))) [
-      | true ↦ refl
-      | false ↦ ap (λ b. t x || b) (list_any-insert_before y xs) ∙ swapped (t x) (t y) (list_any t xs)
-    ] where
+    | true ↦ refl
+    | false ↦ ap (λ b. t x || b) (list_any-insert_before y xs) ∙ swapped (t x) (t y) (list_any t xs)
+  ] where
     swapped : (a b c : Bool) → (a || (b || c)) ≡ (b || (a || c))
     swapped true true c = refl
     swapped true false c = refl
@@ -161,41 +161,41 @@ module _ {X : Type 0} (p t : X → Bool) where
   pub list_any-remove_first : (xs : List X) → ((x : X) → find p xs ≡ Some x → t x ≡ false) → list_any t (remove_first p xs) ≡ list_any t xs
   list_any-remove_first [] fails = refl
   list_any-remove_first (x ∷ xs) fails = elim (p x) as (λ b. p x ≡ b → list_any t (cond b xs (x ∷ remove_first p xs)) ≡ list_any t (x ∷ xs)) [
-      | true ↦ λ e. sym (ap (λ b. b || list_any t xs) (fails x (rw e refl)))
-      | false ↦ λ e. ap (λ b. t x || b) (list_any-remove_first xs (λ y h. fails y (rw e h)))
-    ] refl
+    | true ↦ λ e. sym (ap (λ b. b || list_any t xs) (fails x (rw e refl)))
+    | false ↦ λ e. ap (λ b. t x || b) (list_any-remove_first xs (λ y h. fails y (rw e h)))
+  ] refl
 
   pub find-insert_before : (y : X) (xs : List X) → t y ≡ false → find t (insert_before p y xs) ≡ find t xs
   find-insert_before y [] fails = rw fails refl
   find-insert_before y (x ∷ xs) fails = elim (p x) as (λ b. find t (cond b (y ∷ x ∷ xs) (x ∷ insert_before p y xs)) ≡ find t (x ∷ xs)) [
-      | true ↦ rw fails refl
-      | false ↦ elim (t x) as (λ b. cond b (Some x) (find t (insert_before p y xs)) ≡ cond b (Some x) (find t xs)) [
-        | true ↦ refl
-        | false ↦ find-insert_before y xs fails
-      ]
+    | true ↦ rw fails refl
+    | false ↦ elim (t x) as (λ b. cond b (Some x) (find t (insert_before p y xs)) ≡ cond b (Some x) (find t xs)) [
+      | true ↦ refl
+      | false ↦ find-insert_before y xs fails
     ]
+  ]
 
   -- no element that passes p passes t
   pub find-remove_first : (xs : List X) → ((x : X) → p x ≡ true → t x ≡ false) → find t (remove_first p xs) ≡ find t xs
   find-remove_first [] apart = refl
   find-remove_first (x ∷ xs) apart = elim (p x) as (λ b. p x ≡ b → find t (cond b xs (x ∷ remove_first p xs)) ≡ find t (x ∷ xs)) [
-      | true ↦ λ e. rw (apart x e) refl
-      | false ↦ λ e. elim (t x) as (λ b. cond b (Some x) (find t (remove_first p xs)) ≡ cond b (Some x) (find t xs)) [
-        | true ↦ refl
-        | false ↦ find-remove_first xs apart
-      ]
-    ] refl
+    | true ↦ λ e. rw (apart x e) refl
+    | false ↦ λ e. elim (t x) as (λ b. cond b (Some x) (find t (remove_first p xs)) ≡ cond b (Some x) (find t xs)) [
+      | true ↦ refl
+      | false ↦ find-remove_first xs apart
+    ]
+  ] refl
 
   -- the same element is found, changed or not
   pub find-update_first : (f : X → X) (xs : List X) (x : X) → ((x : X) → t (f x) ≡ t x) → find t xs ≡ Some x → (find t (update_first p f xs) ≡ Some x) ⊎ (find t (update_first p f xs) ≡ Some (f x))
   find-update_first f [] x same h = absurd cc
   find-update_first f (x ∷ xs) y same h = elim (p x) as (λ b. (find t (cond b (f x ∷ xs) (x ∷ update_first p f xs)) ≡ Some y) ⊎ (find t (cond b (f x ∷ xs) (x ∷ update_first p f xs)) ≡ Some (f y))) [
-      | true ↦ elim (t x) as (λ b. t x ≡ b → (find t (f x ∷ xs) ≡ Some y) ⊎ (find t (f x ∷ xs) ≡ Some (f y))) [
-        | true ↦ λ e. let h' = rw e at h in let is : x ≡ y = cc in inr (rw (same x, e) (ap (λ z. Some (f z)) is))
-        | false ↦ λ e. inl (rw (same x, e) (rw e at h))
-      ] refl
-      | false ↦ elim (t x) as (λ b. t x ≡ b → (find t (x ∷ update_first p f xs) ≡ Some y) ⊎ (find t (x ∷ update_first p f xs) ≡ Some (f y))) [
-        | true ↦ λ e. inl (rw e (rw e at h))
-        | false ↦ λ e. let more = find-update_first f xs y same (rw e at h) in rw e more
-      ] refl
-    ]
+    | true ↦ elim (t x) as (λ b. t x ≡ b → (find t (f x ∷ xs) ≡ Some y) ⊎ (find t (f x ∷ xs) ≡ Some (f y))) [
+      | true ↦ λ e. let h' = rw e at h in let is : x ≡ y = cc in inr (rw (same x, e) (ap (λ z. Some (f z)) is))
+      | false ↦ λ e. inl (rw (same x, e) (rw e at h))
+    ] refl
+    | false ↦ elim (t x) as (λ b. t x ≡ b → (find t (x ∷ update_first p f xs) ≡ Some y) ⊎ (find t (x ∷ update_first p f xs) ≡ Some (f y))) [
+      | true ↦ λ e. inl (rw e (rw e at h))
+      | false ↦ λ e. let more = find-update_first f xs y same (rw e at h) in rw e more
+    ] refl
+  ]

@@ -1,11 +1,9 @@
 -- The next number of a file, after changes of the file rows.
-use Rattle.std.proofs.Common.{◌≡◌, ◌≢◌, ℕ, ◌+◌, ◌<◌, ◌≤◌, Bool, true, false, cond, List, [], ◌∷◌, ◌++◌, Option, Some, None, refl, ap, sym, ◌∙◌, arith, eqb}
-use Rattle.std.specs.Prelude.{find, nat_eq}
+use Rattle.std.proofs.Common.{◌≡◌, ◌≢◌, ℕ, ◌+◌, ◌<◌, ◌≤◌, true, false, cond, List, [], ◌∷◌, ◌++◌, Some, refl, arith}
+use Rattle.std.specs.Prelude.{find}
 use Rattle.std.specs.List.{AllByRecursion}
 use Rattle.std.specs.Option.{option_map_or}
-use Rattle.std.proofs.lemmas.Bool.{false≢true}
 use Rattle.std.proofs.lemmas.Bool.Decides.{nat_tests}
-use Rattle.ele_policy.specs.declared.policy.Policy.{Policy}
 use Rattle.ele_world.specs.declared.limits.Counts.{Counts}
 use Rattle.ele_world.specs.declared.rows.FileRow.{FileRow}
 use Rattle.ele_world.specs.declared.rows.Target.{Target}
@@ -19,66 +17,66 @@ use Rattle.ele_world.specs.World.{is_file, next_of}
 pub next_of-push : (files : List FileRow) (row : FileRow) (file : ℕ) → 0 < next_of files file → next_of (files ++ row ∷ []) file ≡ next_of files file
 next_of-push [] row file h = absurd (omega arith)
 next_of-push (x ∷ xs) row file h = elim (is_file file x) as (λ b. is_file file x ≡ b → next_of (x ∷ (xs ++ row ∷ [])) file ≡ next_of (x ∷ xs) file) [
-    | true ↦ λ e. rw e refl
-    | false ↦ λ e. rw e (next_of-push xs row file (rw e at h))
-  ] refl
+  | true ↦ λ e. rw e refl
+  | false ↦ λ e. rw e (next_of-push xs row file (rw e at h))
+] refl
 
 -- and so does each other file than the one added
 pub next_of-push_other : (files : List FileRow) (row : FileRow) (file : ℕ) → is_file file row ≡ false → next_of (files ++ row ∷ []) file ≡ next_of files file
 next_of-push_other [] row file h = rw h refl
 next_of-push_other (x ∷ xs) row file h = elim (is_file file x) as (λ b. is_file file x ≡ b → next_of (x ∷ (xs ++ row ∷ [])) file ≡ next_of (x ∷ xs) file) [
-    | true ↦ λ e. rw e refl
-    | false ↦ λ e. rw e (next_of-push_other xs row file h)
-  ] refl
+  | true ↦ λ e. rw e refl
+  | false ↦ λ e. rw e (next_of-push_other xs row file h)
+] refl
 
 -- a file that is there has a number that was given
 pub next_of-given : (made : Counts) (files : List FileRow) (file : ℕ) → AllByRecursion (IsFile made) files → 0 < next_of files file → file ≤ made.files
 next_of-given made [] file all h = absurd (omega arith)
 next_of-given made (x ∷ xs) file all h = elim (is_file file x) as (λ b. is_file file x ≡ b → file ≤ made.files) [
-    | true ↦ λ e. let given = all.0.given in grind (arith, nat_tests)
-    | false ↦ λ e. next_of-given made xs file all.1 (rw e at h)
-  ] refl
+  | true ↦ λ e. let given = all.0.given in grind (arith, nat_tests)
+  | false ↦ λ e. next_of-given made xs file all.1 (rw e at h)
+] refl
 
 -- a number not given yet is no file's
 pub next_of-new : (made : Counts) (files : List FileRow) (row : FileRow) → AllByRecursion (IsFile made) files → made.files < row.id → next_of (files ++ row ∷ []) row.id ≡ row.next
 next_of-new made [] row all h = let e : is_file row.id row ≡ true = grind (arith, nat_tests) in rw e refl
 next_of-new made (x ∷ xs) row all h =
-  let given = all.0.given in
-  let e : is_file row.id x ≡ false = grind (arith, nat_tests) in
-  rw e (next_of-new made xs row all.1 h)
+    let given = all.0.given in
+    let e : is_file row.id x ≡ false = grind (arith, nat_tests) in
+    rw e (next_of-new made xs row all.1 h)
 
 -- the file's number rises
 pub next_of-numbered_on : (files : List FileRow) (file : ℕ) → 0 < next_of files file → next_of (update_first (is_file file) numbered_on files) file ≡ next_of files file + 1
 next_of-numbered_on [] file h = absurd (omega arith)
 next_of-numbered_on (x ∷ xs) file h = elim (is_file file x) as (λ b. is_file file x ≡ b → next_of (cond b (numbered_on x ∷ xs) (x ∷ update_first (is_file file) numbered_on xs)) file ≡ next_of (x ∷ xs) file + 1) [
-    | true ↦ λ e. rw e refl
-    | false ↦ λ e. rw e (next_of-numbered_on xs file (rw e at h))
-  ] refl
+  | true ↦ λ e. rw e refl
+  | false ↦ λ e. rw e (next_of-numbered_on xs file (rw e at h))
+] refl
 
 -- and no other's
 pub next_of-numbered_other : (files : List FileRow) (file other : ℕ) → other ≢ file → next_of (update_first (is_file file) numbered_on files) other ≡ next_of files other
 next_of-numbered_other [] file other ne = refl
 next_of-numbered_other (x ∷ xs) file other ne = elim (is_file file x) as (λ b. is_file file x ≡ b → next_of (cond b (numbered_on x ∷ xs) (x ∷ update_first (is_file file) numbered_on xs)) other ≡ next_of (x ∷ xs) other) [
-    | true ↦ λ e. let no : is_file other x ≡ false = grind (arith, nat_tests) in rw no refl
-    | false ↦ λ e. elim (is_file other x) as (λ b. option_map_or (λ (row : FileRow). row.next) (cond b (Some x) (find (is_file other) (update_first (is_file file) numbered_on xs))) 0 ≡ option_map_or (λ (row : FileRow). row.next) (cond b (Some x) (find (is_file other) xs)) 0) [
-      | true ↦ refl
-      | false ↦ next_of-numbered_other xs file other ne
-    ]
-  ] refl
+  | true ↦ λ e. let no : is_file other x ≡ false = grind (arith, nat_tests) in rw no refl
+  | false ↦ λ e. elim (is_file other x) as (λ b. option_map_or (λ (row : FileRow). row.next) (cond b (Some x) (find (is_file other) (update_first (is_file file) numbered_on xs))) 0 ≡ option_map_or (λ (row : FileRow). row.next) (cond b (Some x) (find (is_file other) xs)) 0) [
+    | true ↦ refl
+    | false ↦ next_of-numbered_other xs file other ne
+  ]
+] refl
 
 -- so none falls
 pub next_of-numbered_le : (files : List FileRow) (file other : ℕ) → next_of files other ≤ next_of (update_first (is_file file) numbered_on files) other
 next_of-numbered_le [] file other = omega arith
 next_of-numbered_le (x ∷ xs) file other = elim (is_file file x) as (λ b. next_of (x ∷ xs) other ≤ next_of (cond b (numbered_on x ∷ xs) (x ∷ update_first (is_file file) numbered_on xs)) other) [
-    | true ↦ elim (is_file other x) as (λ b. option_map_or (λ (row : FileRow). row.next) (cond b (Some x) (find (is_file other) xs)) 0 ≤ option_map_or (λ (row : FileRow). row.next) (cond b (Some (numbered_on x)) (find (is_file other) xs)) 0) [
-      | true ↦ omega arith
-      | false ↦ omega arith
-    ]
-    | false ↦ elim (is_file other x) as (λ b. option_map_or (λ (row : FileRow). row.next) (cond b (Some x) (find (is_file other) xs)) 0 ≤ option_map_or (λ (row : FileRow). row.next) (cond b (Some x) (find (is_file other) (update_first (is_file file) numbered_on xs))) 0) [
-      | true ↦ omega arith
-      | false ↦ next_of-numbered_le xs file other
-    ]
+  | true ↦ elim (is_file other x) as (λ b. option_map_or (λ (row : FileRow). row.next) (cond b (Some x) (find (is_file other) xs)) 0 ≤ option_map_or (λ (row : FileRow). row.next) (cond b (Some (numbered_on x)) (find (is_file other) xs)) 0) [
+    | true ↦ omega arith
+    | false ↦ omega arith
   ]
+  | false ↦ elim (is_file other x) as (λ b. option_map_or (λ (row : FileRow). row.next) (cond b (Some x) (find (is_file other) xs)) 0 ≤ option_map_or (λ (row : FileRow). row.next) (cond b (Some x) (find (is_file other) (update_first (is_file file) numbered_on xs))) 0) [
+    | true ↦ omega arith
+    | false ↦ next_of-numbered_le xs file other
+  ]
+]
 
 -- a target stays there
 pub there-push : (files : List FileRow) (row : FileRow) (target : Target) → IsThere files target → IsThere (files ++ row ∷ []) target

@@ -1,5 +1,5 @@
 -- Changes of drafts and handles keep a world well formed.
-use Rattle.std.proofs.Common.{◌≡◌, ◌≢◌, ℕ, ◌+◌, ◌-◌, ◌<◌, ◌≤◌, Bool, true, false, cond, List, [], ◌∷◌, ◌++◌, length, length-append, Option, Some, None, refl, ap, sym, ◌∙◌, arith, eqb, ltb}
+use Rattle.std.proofs.Common.{◌≡◌, ℕ, ◌+◌, ◌-◌, ◌<◌, ◌≤◌, Bool, true, false, cond, List, [], length, Option, Some, None, refl, arith}
 use Rattle.std.specs.Prelude.{find}
 use Rattle.std.specs.List.{AllByRecursion, list_any}
 use Rattle.std.specs.Option.{option_map_or}
@@ -13,17 +13,24 @@ use Rattle.ele_world.specs.Step.{new_draft, with_draft, opened, changed_by, curr
 use Rattle.ele_world.specs.WellFormed.{AllLater, IsVersion, IsDraft, IsWellFormed}
 use Rattle.ele_world.specs.World.{World, next_of, is_version, is_draft, is_draft_after, is_handle}
 use Rattle.ele_world.proofs.Contents.{written_short}
-use Rattle.ele_world.proofs.Edits.{all-push, all-weaker, all-both, later-push, all-update_first, all-remove_first, all-insert_before, later-update_first, later-remove_first, later-insert_before, length-update_first, length-insert_before, length-remove_first-le, all-found, all-none}
+use Rattle.ele_world.proofs.Edits.{all-push, all-weaker, later-push, all-update_first, all-remove_first, all-insert_before, later-update_first, later-remove_first, later-insert_before, length-update_first, length-insert_before, length-remove_first-le, all-found, all-none}
 
 -- a world whose drafts alone change
 pub drafts_keep : (w : World) (drafts : List DraftRow) → w.made.versions + length drafts ≤ w.limits.versions → AllByRecursion (IsDraft w.files w.now) drafts → AllLater (λ earlier later. earlier.file < later.file) drafts → IsWellFormed w → IsWellFormed (record w { drafts = drafts })
 drafts_keep w drafts room all placed k = record {
   now = k.now;
   counts = record { files = k.counts.files; names = k.counts.names; versions = room; handles = k.counts.handles; file_rows = k.counts.file_rows; name_rows = k.counts.name_rows; version_rows = k.counts.version_rows };
-  files = k.files; files_placed = k.files_placed; names = k.names; lives = k.lives;
-  versions = k.versions; versions_placed = k.versions_placed;
-  drafts = all; drafts_placed = placed;
-  handles = k.handles; handles_placed = k.handles_placed; current = k.current
+  files = k.files;
+  files_placed = k.files_placed;
+  names = k.names;
+  lives = k.lives;
+  versions = k.versions;
+  versions_placed = k.versions_placed;
+  drafts = all;
+  drafts_placed = placed;
+  handles = k.handles;
+  handles_placed = k.handles_placed;
+  current = k.current;
 }
 
 -- a handle goes
@@ -31,18 +38,23 @@ pub handle_keeps : (w : World) (number : ℕ) → IsWellFormed w → IsWellForme
 handle_keeps w number k = record {
   now = k.now;
   counts = record { files = k.counts.files; names = k.counts.names; versions = k.counts.versions; handles = k.counts.handles; file_rows = k.counts.file_rows; name_rows = k.counts.name_rows; version_rows = k.counts.version_rows };
-  files = k.files; files_placed = k.files_placed; names = k.names; lives = k.lives;
-  versions = k.versions; versions_placed = k.versions_placed;
-  drafts = k.drafts; drafts_placed = k.drafts_placed;
+  files = k.files;
+  files_placed = k.files_placed;
+  names = k.names;
+  lives = k.lives;
+  versions = k.versions;
+  versions_placed = k.versions_placed;
+  drafts = k.drafts;
+  drafts_placed = k.drafts_placed;
   handles = all-remove_first (is_handle number) (λ row. row.number ≤ w.made.handles) w.handles k.handles;
   handles_placed = later-remove_first (is_handle number) (λ earlier later. earlier.number < later.number) w.handles k.handles_placed;
-  current = k.current
+  current = k.current;
 }
 
 -- a draft goes
 pub draft_keeps : (w : World) (file : ℕ) → IsWellFormed w → IsWellFormed (record w { drafts = remove_first (is_draft file) w.drafts })
 draft_keeps w file k =
-  drafts_keep w (remove_first (is_draft file) w.drafts)
+    drafts_keep w (remove_first (is_draft file) w.drafts)
     (omega (arith, k.counts.versions, length-remove_first-le (is_draft file) w.drafts))
     (all-remove_first (is_draft file) (IsDraft w.files w.now) w.drafts k.drafts)
     (later-remove_first (is_draft file) (λ earlier later. earlier.file < later.file) w.drafts k.drafts_placed) k
@@ -50,10 +62,10 @@ draft_keeps w file k =
 -- a draft is written
 pub write_keeps : (w : World) (file number offset : ℕ) (bytes : List ℕ) → offset + length bytes ≤ longest_content → IsWellFormed w → IsWellFormed (record w { drafts = update_first (is_draft file) (changed_by number offset bytes) w.drafts })
 write_keeps w file number offset bytes fits k =
-  drafts_keep w (update_first (is_draft file) (changed_by number offset bytes) w.drafts)
+    drafts_keep w (update_first (is_draft file) (changed_by number offset bytes) w.drafts)
     (omega (arith, k.counts.versions, length-update_first (is_draft file) (changed_by number offset bytes) w.drafts))
     (all-update_first (is_draft file) (IsDraft w.files w.now) (IsDraft w.files w.now) (changed_by number offset bytes) w.drafts
-      (λ row h. record { there = h.there; opened = h.opened; short = written_short number offset bytes row.cells h.short fits }) (λ row h. h) k.drafts)
+    (λ row h. record { there = h.there; opened = h.opened; short = written_short number offset bytes row.cells h.short fits }) (λ row h. h) k.drafts)
     (later-update_first (is_draft file) (λ earlier later. earlier.file < later.file) (changed_by number offset bytes) w.drafts (λ x y h. h) (λ x y h. h) k.drafts_placed) k
 
 current_short : (w : World) (file : ℕ) → IsWellFormed w → length (content_of (current_cells w file)) ≤ longest_content
@@ -68,9 +80,9 @@ with_draft_keeps w file there room k = by (list_any (is_draft file) w.drafts) re
   by : (b : Bool) → list_any (is_draft file) w.drafts ≡ b → IsWellFormed (record w { drafts = cond b w.drafts (insert_before (is_draft_after file) (new_draft w file) w.drafts) })
   by true e = drafts_keep w w.drafts k.counts.versions k.drafts k.drafts_placed k
   by false e = drafts_keep w (insert_before (is_draft_after file) (new_draft w file) w.drafts)
-    (omega (arith, room e, length-insert_before (is_draft_after file) (new_draft w file) w.drafts))
-    (all-insert_before (is_draft_after file) (IsDraft w.files w.now) (new_draft w file) w.drafts (record { there = there; opened = omega arith; short = current_short w file k }) k.drafts)
-    (later-insert_before (is_draft_after file) (λ earlier later. earlier.file < later.file) (λ row. is_draft file row ≡ false) (new_draft w file) w.drafts
+      (omega (arith, room e, length-insert_before (is_draft_after file) (new_draft w file) w.drafts))
+      (all-insert_before (is_draft_after file) (IsDraft w.files w.now) (new_draft w file) w.drafts (record { there = there; opened = omega arith; short = current_short w file k }) k.drafts)
+      (later-insert_before (is_draft_after file) (λ earlier later. earlier.file < later.file) (λ row. is_draft file row ≡ false) (new_draft w file) w.drafts
       (λ row other not_after. grind (arith, nat_tests))
       (λ row other after. grind (arith, nat_tests))
       (λ row later after lt. grind (arith, nat_tests))
@@ -79,17 +91,21 @@ with_draft_keeps w file there room k = by (list_any (is_draft file) w.drafts) re
 -- a handle is opened
 pub opened_keeps : (w : World) (file : ℕ) → 0 < next_of w.files file → w.made.handles < w.limits.handles → (list_any (is_draft file) w.drafts ≡ false → w.made.versions + length w.drafts < w.limits.versions) → IsWellFormed w → IsWellFormed (opened w file (w.made.handles + 1))
 opened_keeps w file there handles_room room k =
-  let number = w.made.handles + 1 in
-  let handle : HandleRow = record { number = number; file = file } in
-  let d = with_draft_keeps w file there room k in
-  record {
-    now = d.now;
-    counts = record { files = k.counts.files; names = k.counts.names; versions = d.counts.versions; handles = omega arith; file_rows = k.counts.file_rows; name_rows = k.counts.name_rows; version_rows = k.counts.version_rows };
-    files = all-weaker _ _ w.files (λ row h. record { given = h.given; first = h.first; next = h.next }) k.files;
-    files_placed = k.files_placed; names = k.names; lives = k.lives;
-    versions = k.versions; versions_placed = k.versions_placed;
-    drafts = d.drafts; drafts_placed = d.drafts_placed;
-    handles = all-push (λ row. row.number ≤ number) w.handles handle (all-weaker (λ row. row.number ≤ w.made.handles) (λ row. row.number ≤ number) w.handles (λ row h. omega (arith, h)) k.handles) (omega arith);
-    handles_placed = later-push (λ earlier later. earlier.number < later.number) w.handles handle k.handles_placed (all-weaker (λ row. row.number ≤ w.made.handles) (λ row. row.number < number) w.handles (λ row h. omega (arith, h)) k.handles);
-    current = k.current
-  }
+    let number = w.made.handles + 1 in
+    let handle : HandleRow = record { number = number; file = file } in
+    let d = with_draft_keeps w file there room k in
+    record {
+      now = d.now;
+      counts = record { files = k.counts.files; names = k.counts.names; versions = d.counts.versions; handles = omega arith; file_rows = k.counts.file_rows; name_rows = k.counts.name_rows; version_rows = k.counts.version_rows };
+      files = all-weaker _ _ w.files (λ row h. record { given = h.given; first = h.first; next = h.next }) k.files;
+      files_placed = k.files_placed;
+      names = k.names;
+      lives = k.lives;
+      versions = k.versions;
+      versions_placed = k.versions_placed;
+      drafts = d.drafts;
+      drafts_placed = d.drafts_placed;
+      handles = all-push (λ row. row.number ≤ number) w.handles handle (all-weaker (λ row. row.number ≤ w.made.handles) (λ row. row.number ≤ number) w.handles (λ row h. omega (arith, h)) k.handles) (omega arith);
+      handles_placed = later-push (λ earlier later. earlier.number < later.number) w.handles handle k.handles_placed (all-weaker (λ row. row.number ≤ w.made.handles) (λ row. row.number < number) w.handles (λ row h. omega (arith, h)) k.handles);
+      current = k.current;
+    }

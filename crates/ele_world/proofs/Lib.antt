@@ -10,3 +10,5 @@ pub mod DueRows
 pub mod StepKeeps
 pub mod Stays
 pub mod Passes
+pub mod DueKeys
+pub mod Places

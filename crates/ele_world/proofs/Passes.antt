@@ -1,6 +1,6 @@
 -- A pass that nothing disturbs removes the due versions, and no others.
-use Rattle.std.proofs.Common.{◌≡◌, ℕ, suc, zero, ◌+◌, ◌-◌, ◌<◌, ◌≤◌, Bool, true, false, cond, ◌&&◌, not, List, [], ◌∷◌, ◌++◌, Option, Some, None, refl, ap, sym, subst, ◌∙◌, arith, leb}
-use Rattle.std.specs.Prelude.{find, filter, slice_get, fold, is_some, IsSome}
+use Rattle.std.proofs.Common.{◌≡◌, ℕ, suc, zero, ◌+◌, ◌-◌, ◌≤◌, Bool, true, false, cond, ◌&&◌, not, List, [], ◌∷◌, Option, Some, None, refl, ap, sym, subst, ◌∙◌, arith, leb}
+use Rattle.std.specs.Prelude.{find, filter, slice_get, fold, is_some}
 use Rattle.std.specs.declared.cmp.Ordering.{Ordering}
 use Rattle.std.specs.declared.cmp.Ordering.TheVariants.{Less, Equal, Greater}
 use Rattle.std.specs.BTreeSet.{insert_key}
@@ -11,14 +11,14 @@ use Rattle.std.proofs.lemmas.Bool.Decides.{nat_tests}
 use Rattle.ele_moment.specs.Last.{last_moment}
 use Rattle.ele_policy.specs.declared.policy.Policy.{Policy}
 use Rattle.ele_policy.specs.declared.policy.Policy.TheVariants.{One, Safe}
-use Rattle.ele_policy.specs.Ripe.{lets_go, is_due_by, candidates}
+use Rattle.ele_policy.specs.Ripe.{is_due_by, candidates}
 use Rattle.ele_world.specs.declared.event.Event.TheVariants.{CleanOne}
 use Rattle.ele_world.specs.declared.key.Key.{Key}
 use Rattle.ele_world.specs.declared.rows.VersionRow.{VersionRow}
-use Rattle.ele_world.specs.Due.{is_due_at, ripe_of, is_protected, kept}
+use Rattle.ele_world.specs.Due.{is_due_at, ripe_of, kept}
 use Rattle.ele_world.specs.Lists.{remove_first}
 use Rattle.ele_world.specs.Run.{cleaned, IsPass}
-use Rattle.ele_world.specs.Scan.{key_cmp, key_of, due_key, in_order, scan, first_due}
+use Rattle.ele_world.specs.Scan.{key_cmp, key_of, due_key, scan, first_due}
 use Rattle.ele_world.specs.Step.{clean_of, clean_step}
 use Rattle.ele_world.specs.WellFormed.{IsWellFormed}
 use Rattle.ele_world.specs.World.{World, is_version, policy_of}
@@ -32,9 +32,9 @@ filter-remove_first {X} keep p (x ∷ xs) goes = by (p x) refl (filter-remove_fi
   by : (b : Bool) → p x ≡ b → (((y : X) → find p xs ≡ Some y → keep y ≡ false) → filter keep (remove_first p xs) ≡ filter keep xs) → ((y : X) → cond b (Some x) (find p xs) ≡ Some y → keep y ≡ false) → filter keep (cond b xs (x ∷ remove_first p xs)) ≡ filter keep (x ∷ xs)
   by true e rest goes = rw (goes x refl) refl
   by false e rest goes = elim (keep x) as (λ b. cond b (x ∷ filter keep (remove_first p xs)) (filter keep (remove_first p xs)) ≡ cond b (x ∷ filter keep xs) (filter keep xs)) [
-      | true ↦ ap (λ ys. x ∷ ys) (rest goes)
-      | false ↦ rest goes
-    ]
+    | true ↦ ap (λ ys. x ∷ ys) (rest goes)
+    | false ↦ rest goes
+  ]
 
 -- a clean leaves what is kept
 clean_keeps_kept : (w : World) → IsWellFormed w → kept ((clean_step w).1) ≡ kept w
@@ -43,15 +43,15 @@ clean_keeps_kept w k = by (first_due w) refl where
   by : (o : Option Key) → first_due w ≡ o → kept ((clean_of w o).1) ≡ kept w
   by None e = refl
   by (Some key) e = filter-remove_first (λ row. not (is_due_at w row w.now)) (is_version key.file key.number) w.versions (λ row found.
-    let due = first_is_due w key k.versions_placed e in
-    let same : due.row ≡ row = let was = due.found in cc in
-    ap not (subst (λ r. is_due_at w r w.now ≡ true) same due.due))
+      let due = first_is_due w key k.versions_placed e in
+      let same : due.row ≡ row = let was = due.found in cc in
+      ap not (subst (λ r. is_due_at w r w.now ≡ true) same due.due))
 
 cleaned_keeps_kept : (n : ℕ) (w : World) → IsWellFormed w → (kept (cleaned n w) ≡ kept w) × IsWellFormed (cleaned n w)
 cleaned_keeps_kept zero w k = (refl, k)
 cleaned_keeps_kept (suc n) w k =
-  let rest = cleaned_keeps_kept n ((clean_step w).1) (step_keeps w CleanOne tt k) in
-  (rest.0 ∙ clean_keeps_kept w k, rest.1)
+    let rest = cleaned_keeps_kept n ((clean_step w).1) (step_keeps w CleanOne tt k) in
+    (rest.0 ∙ clean_keeps_kept w k, rest.1)
 
 -- ---- where the scan is empty nothing is due
 
@@ -59,7 +59,7 @@ cleaned_keeps_kept (suc n) w k =
 due_by_ripe : (policy : Policy) (ended now : ℕ) → now ≤ last_moment → is_due_by policy ended now ≡ true → is_some (find (λ at. leb at last_moment && is_due_by policy ended at) (candidates policy ended)) ≡ true
 due_by_ripe One ended now fits due = let test : (leb ended last_moment && (leb ended ended && true)) ≡ true = grind (arith, nat_tests) in rw test refl
 due_by_ripe (Safe interval) ended now fits due =
-  let test : (leb (ended + interval) last_moment && (leb ended (ended + interval) && leb interval (ended + interval - ended))) ≡ true = grind (arith, nat_tests) in rw test refl
+    let test : (leb (ended + interval) last_moment && (leb ended (ended + interval) && leb interval (ended + interval - ended))) ≡ true = grind (arith, nat_tests) in rw test refl
 
 due_is_ripe : (w : World) (row : VersionRow) → w.now ≤ last_moment → is_due_at w row w.now ≡ true → is_some (ripe_of w row) ≡ true
 unfolding is_due_at ripe_of
@@ -111,12 +111,12 @@ all-kept w (x ∷ xs) fits all = (ap not (no_key w x fits all.0), all-kept w xs 
 nothing_due : (w : World) → w.now ≤ last_moment → first_due w ≡ None → kept w ≡ w.versions
 unfolding scan
 nothing_due w fits h =
-  let keys = in_order-nil [] (filter_map (due_key w) w.versions) (first-nil (scan w) h) in
-  filter-all (λ row. not (is_due_at w row w.now)) w.versions (all-kept w w.versions fits (filter_map-nil (due_key w) w.versions keys.1))
+    let keys = in_order-nil [] (filter_map (due_key w) w.versions) (first-nil (scan w) h) in
+    filter-all (λ row. not (is_due_at w row w.now)) w.versions (all-kept w w.versions fits (filter_map-nil (due_key w) w.versions keys.1))
 
 -- what a pass leaves
 pub pass_leaves_kept : (w : World) (removed : ℕ) (after : World) → IsWellFormed w → IsPass w removed after → after.versions ≡ kept w
 pass_leaves_kept w removed after k pass =
-  let there = cleaned_keeps_kept removed w k in
-  let none = rw pass.after_is at pass.last in
-  ap (λ (u : World). u.versions) pass.after_is ∙ sym (nothing_due (cleaned removed w) there.1.now none) ∙ there.0
+    let there = cleaned_keeps_kept removed w k in
+    let none = rw pass.after_is at pass.last in
+    ap (λ (u : World). u.versions) pass.after_is ∙ sym (nothing_due (cleaned removed w) there.1.now none) ∙ there.0

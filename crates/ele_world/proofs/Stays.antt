@@ -1,5 +1,5 @@
 -- What each step does to the versions that are held before it.
-use Rattle.std.proofs.Common.{◌≡◌, ◌≢◌, ℕ, ◌+◌, ◌-◌, ◌<◌, ◌≤◌, Bool, true, false, cond, ◌&&◌, ◌||◌, not, List, [], ◌∷◌, ◌++◌, length, Option, Some, None, Result, Ok, Err, IfSome, refl, ap, sym, subst, ◌∙◌, arith, eqb, ltb, inl, inr, ◌⊎◌}
+use Rattle.std.proofs.Common.{◌≡◌, ℕ, ◌+◌, ◌-◌, ◌<◌, Bool, true, false, cond, ◌||◌, List, [], ◌∷◌, ◌++◌, length, Option, Some, None, Result, Ok, Err, refl, ap, sym, subst, ◌∙◌, arith, eqb, ltb, inl, inr, ◌⊎◌}
 use Rattle.std.specs.Prelude.{find, unwrap_or}
 use Rattle.std.specs.List.{list_any, AllByRecursion}
 use Rattle.std.proofs.lemmas.Bool.{false≢true}
@@ -9,21 +9,19 @@ use Rattle.ele_world.specs.declared.event.Event.{Event}
 use Rattle.ele_world.specs.declared.event.Event.TheVariants.{Clock, Create, OpenWrite, Write, Close, CleanOne, Due}
 use Rattle.ele_world.specs.declared.key.Key.{Key}
 use Rattle.ele_world.specs.declared.refusal.Refusal.{Refusal}
-use Rattle.ele_world.specs.declared.refusal.Refusal.TheVariants.{ClockBack, TooBig}
 use Rattle.ele_world.specs.declared.reply.Reply.{Reply}
-use Rattle.ele_world.specs.declared.reply.Reply.TheVariants as reply
 use Rattle.ele_world.specs.declared.rows.DraftRow.{DraftRow}
 use Rattle.ele_world.specs.declared.rows.VersionRow.{VersionRow}
 use Rattle.ele_world.specs.Content.{longest_content}
 use Rattle.ele_world.specs.Due.{is_due_at}
 use Rattle.ele_world.specs.HeldStays.{IsSameVersion, StaysSame}
-use Rattle.ele_world.specs.Lists.{update_first, remove_first, insert_before}
+use Rattle.ele_world.specs.Lists.{update_first, remove_first}
 use Rattle.ele_world.specs.OnlyDueLeave.{StaysOrWasDue}
 use Rattle.ele_world.specs.Scan.{first_due}
-use Rattle.ele_world.specs.Step.{refuse, unless, clock_step, create_refusal, created, create_in, create_step, open_refusal, opened, open_of, open_write_step, changed_by, write_of, write_step, ended_at, version_of, draft_closed, finished, writer_closed, close_of, close_step, clean_of, clean_step, step}
+use Rattle.ele_world.specs.Step.{unless, clock_step, create_refusal, create_in, create_step, open_refusal, open_of, open_write_step, write_of, write_step, ended_at, version_of, draft_closed, finished, close_of, close_step, clean_of, clean_step, step}
 use Rattle.ele_world.specs.Walk.{file_now, parent_now}
 use Rattle.ele_world.specs.WellFormed.{AllLater, ArePlaced, IsVersion, IsWellFormed}
-use Rattle.ele_world.specs.World.{World, next_of, is_version, is_version_after, is_draft, is_handle, is_writer, handle_file, is_held}
+use Rattle.ele_world.specs.World.{World, next_of, is_version, is_version_after, is_draft, is_handle, is_writer, handle_file}
 use Rattle.ele_world.proofs.DueRows.{first_is_due}
 use Rattle.ele_world.proofs.Edits.{all-weaker, all-both, not_found, find-insert_before, find-remove_first, find-update_first}
 use Rattle.ele_world.proofs.Versions.{IsFound, all_found}
@@ -53,20 +51,20 @@ ends_once row now = record { opened = refl; closed = refl; cells = refl; ended =
 -- a draft that becomes a version
 still_finished : (w : World) (draft : DraftRow) (row : VersionRow) → IsVersion w.files w.now row → IsFound w.versions row → IsStill row (finished w draft).versions
 still_finished w draft row is found =
-  let next = next_of w.files draft.file in
-  let t = is_version row.file row.number in
-  let other : t (version_of w draft) ≡ false = by (eqb row.file draft.file) refl in
-  let stays = find-insert_before (is_version_after draft.file next) t (version_of w draft) (update_first (is_version draft.file (next - 1)) (ended_at w.now) w.versions) other in
-  elim (find-update_first (is_version draft.file (next - 1)) t (ended_at w.now) w.versions row (λ x. refl) found) [
-    | inl same ↦ record { after = row; found = stays ∙ same; same = unchanged row }
-    | inr ended ↦ record { after = ended_at w.now row; found = stays ∙ ended; same = ends_once row w.now }
-  ] where
-  by : (b : Bool) → eqb row.file draft.file ≡ b → is_version row.file row.number (version_of w draft) ≡ false
-  by true e =
-    let same : row.file ≡ draft.file = grind (arith, nat_tests) in
-    let numbered : row.number < next_of w.files draft.file = subst (λ f. row.number < next_of w.files f) same is.numbered in
-    grind (arith, nat_tests)
-  by false e = grind (arith, nat_tests)
+    let next = next_of w.files draft.file in
+    let t = is_version row.file row.number in
+    let other : t (version_of w draft) ≡ false = by (eqb row.file draft.file) refl in
+    let stays = find-insert_before (is_version_after draft.file next) t (version_of w draft) (update_first (is_version draft.file (next - 1)) (ended_at w.now) w.versions) other in
+    elim (find-update_first (is_version draft.file (next - 1)) t (ended_at w.now) w.versions row (λ x. refl) found) [
+      | inl same ↦ record { after = row; found = stays ∙ same; same = unchanged row }
+      | inr ended ↦ record { after = ended_at w.now row; found = stays ∙ ended; same = ends_once row w.now }
+    ] where
+      by : (b : Bool) → eqb row.file draft.file ≡ b → is_version row.file row.number (version_of w draft) ≡ false
+      by true e =
+          let same : row.file ≡ draft.file = grind (arith, nat_tests) in
+          let numbered : row.number < next_of w.files draft.file = subst (λ f. row.number < next_of w.files f) same is.numbered in
+          grind (arith, nat_tests)
+      by false e = grind (arith, nat_tests)
 
 -- a version that is removed is there once
 removed_gone : (file number : ℕ) (rows : List VersionRow) → AllLater ArePlaced rows → find (is_version file number) (remove_first (is_version file number) rows) ≡ None
@@ -81,15 +79,15 @@ still_removed : (w : World) (key : Key) (row : VersionRow) → IsWellFormed w �
 still_removed w key row k first found = by (is_version key.file key.number row) refl where
   by : (b : Bool) → is_version key.file key.number row ≡ b → StillOrDue w row true (remove_first (is_version key.file key.number) w.versions)
   by true e =
-    let file : row.file ≡ key.file = grind (arith, nat_tests) in
-    let number : row.number ≡ key.number = grind (arith, nat_tests) in
-    let due = first_is_due w key k.versions_placed first in
-    let taken : find (is_version key.file key.number) w.versions ≡ Some row = subst (λ f. find (is_version f key.number) w.versions ≡ Some row) file (subst (λ n. find (is_version row.file n) w.versions ≡ Some row) number found) in
-    let same : due.row ≡ row = let was = due.found in cc in
-    let gone = removed_gone key.file key.number w.versions k.versions_placed in
-    let gone' : find (is_version row.file row.number) (remove_first (is_version key.file key.number) w.versions) ≡ None =
+      let file : row.file ≡ key.file = grind (arith, nat_tests) in
+      let number : row.number ≡ key.number = grind (arith, nat_tests) in
+      let due = first_is_due w key k.versions_placed first in
+      let taken : find (is_version key.file key.number) w.versions ≡ Some row = subst (λ f. find (is_version f key.number) w.versions ≡ Some row) file (subst (λ n. find (is_version row.file n) w.versions ≡ Some row) number found) in
+      let same : due.row ≡ row = let was = due.found in cc in
+      let gone = removed_gone key.file key.number w.versions k.versions_placed in
+      let gone' : find (is_version row.file row.number) (remove_first (is_version key.file key.number) w.versions) ≡ None =
       subst (λ f. find (is_version f row.number) (remove_first (is_version key.file key.number) w.versions) ≡ None) (sym file) (subst (λ n. find (is_version key.file n) (remove_first (is_version key.file key.number) w.versions) ≡ None) (sym number) gone) in
-    inr (refl, subst (λ r. is_due_at w r w.now ≡ true) same due.due, gone')
+      inr (refl, subst (λ r. is_due_at w r w.now ≡ true) same due.due, gone')
   by false e = inl (record { after = row; found = find-remove_first (is_version key.file key.number) (is_version row.file row.number) w.versions (λ x passes. grind (arith, nat_tests)) ∙ found; same = unchanged row })
 
 -- ---- each step, for one row
@@ -123,8 +121,8 @@ still_draft w (Some draft) row is found = still_either row draft.changed _ _ (st
 still_close : (w : World) (handle : ℕ) (o : Option ℕ) (row : VersionRow) → IsVersion w.files w.now row → IsFound w.versions row → IsStill row ((close_of w handle o).1).versions
 still_close w handle None row is found = still row w.versions found
 still_close w handle (Some file) row is found =
-  let left = record w { handles = remove_first (is_handle handle) w.handles } in
-  still_either row (list_any (is_writer file) left.handles) _ _ (still row w.versions found) (still_draft left (find (is_draft file) w.drafts) row is found)
+    let left = record w { handles = remove_first (is_handle handle) w.handles } in
+    still_either row (list_any (is_writer file) left.handles) _ _ (still row w.versions found) (still_draft left (find (is_draft file) w.drafts) row is found)
 
 abbrev is_clean : Event → Bool
 is_clean CleanOne = true

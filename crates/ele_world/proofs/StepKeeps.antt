@@ -1,6 +1,6 @@
 -- Each step, and so each run, keeps a world well formed.
-use Rattle.std.proofs.Common.{◌≡◌, ℕ, ◌+◌, ◌<◌, ◌≤◌, Bool, true, false, cond, List, [], ◌∷◌, ◌++◌, length, Option, Some, None, Result, Ok, Err, refl, ap, sym, subst, ◌∙◌, arith, leb, ltb}
-use Rattle.std.specs.Prelude.{find, is_some, is_none}
+use Rattle.std.proofs.Common.{◌≡◌, ℕ, ◌+◌, ◌<◌, ◌≤◌, Bool, true, false, cond, List, [], ◌∷◌, length, Option, Some, None, Result, Ok, Err, refl, sym, subst, arith, ltb}
+use Rattle.std.specs.Prelude.{find, is_some}
 use Rattle.std.specs.List.{list_any, AllByRecursion}
 use Rattle.std.proofs.lemmas.Bool.Decides.{nat_tests}
 use Rattle.ele_moment.specs.Last.{last_moment}
@@ -12,16 +12,15 @@ use Rattle.ele_world.specs.declared.refusal.Refusal.TheVariants.{ClockBack, TooB
 use Rattle.ele_world.specs.declared.reply.Reply.{Reply}
 use Rattle.ele_world.specs.declared.reply.Reply.TheVariants as reply
 use Rattle.ele_world.specs.declared.rows.DraftRow.{DraftRow}
-use Rattle.ele_world.specs.declared.rows.VersionRow.{VersionRow}
 use Rattle.ele_world.specs.Bounds.{Bounds}
 use Rattle.ele_world.specs.Content.{longest_content}
 use Rattle.ele_world.specs.Lists.{update_first, remove_first}
 use Rattle.ele_world.specs.Run.{run_of, IsEvent}
 use Rattle.ele_world.specs.Scan.{first_due}
-use Rattle.ele_world.specs.Step.{refuse, unless, clock_step, versions_made, create_refusal, created, create_in, create_step, open_refusal, opened, open_of, open_write_step, changed_by, write_of, write_step, draft_closed, finished, writer_closed, close_of, close_step, clean_of, clean_step, step}
+use Rattle.ele_world.specs.Step.{refuse, unless, clock_step, create_refusal, create_in, create_step, open_refusal, open_of, open_write_step, changed_by, write_of, write_step, draft_closed, writer_closed, close_of, close_step, clean_of, clean_step, step}
 use Rattle.ele_world.specs.Walk.{live_target, file_now, parent_now}
 use Rattle.ele_world.specs.WellFormed.{IsWellFormed}
-use Rattle.ele_world.specs.World.{World, fresh_world, next_of, is_version, is_draft, is_handle, is_writer, handle_file}
+use Rattle.ele_world.specs.World.{World, fresh_world, next_of, is_draft, is_handle, is_writer, handle_file}
 use Rattle.ele_world.proofs.DueRows.{first_is_due, due_has_ended}
 use Rattle.ele_world.proofs.Edits.{found_passes}
 use Rattle.ele_world.proofs.KeptDrafts.{handle_keeps, draft_keeps, write_keeps, opened_keeps}
@@ -78,9 +77,9 @@ if_keeps false x y k l = l
 draft_closed_keeps : (w : World) (file : ℕ) (o : Option DraftRow) → find (is_draft file) w.drafts ≡ o → IsWellFormed w → IsWellFormed ((draft_closed w o).1)
 draft_closed_keeps w file None found k = k
 draft_closed_keeps w file (Some draft) found k =
-  let passes = found_passes (is_draft file) w.drafts draft found in
-  let of_file : draft.file ≡ file = grind (arith, nat_tests) in
-  if_keeps draft.changed _ _ (finished_keeps w draft (subst (λ f. find (is_draft f) w.drafts ≡ Some draft) (sym of_file) found) k) (draft_keeps w draft.file k)
+    let passes = found_passes (is_draft file) w.drafts draft found in
+    let of_file : draft.file ≡ file = grind (arith, nat_tests) in
+    if_keeps draft.changed _ _ (finished_keeps w draft (subst (λ f. find (is_draft f) w.drafts ≡ Some draft) (sym of_file) found) k) (draft_keeps w draft.file k)
 
 writer_closed_keeps : (w : World) (file : ℕ) → IsWellFormed w → IsWellFormed ((writer_closed w file).1)
 writer_closed_keeps w file k = if_keeps (list_any (is_writer file) w.handles) _ _ k (draft_closed_keeps w file (find (is_draft file) w.drafts) refl k)
@@ -92,9 +91,9 @@ close_of_keeps w handle (Some file) k = writer_closed_keeps (record w { handles 
 clean_of_keeps : (w : World) (o : Option Key) → first_due w ≡ o → IsWellFormed w → IsWellFormed ((clean_of w o).1)
 clean_of_keeps w None first k = k
 clean_of_keeps w (Some key) first k = removed_keeps w key.file key.number (λ row found.
-  let due = first_is_due w key k.versions_placed first in
-  let same : due.row ≡ row = let was = due.found in cc in
-  rw (← same) (due_has_ended w due.row w.now due.due)) k
+    let due = first_is_due w key k.versions_placed first in
+    let same : due.row ≡ row = let was = due.found in cc in
+    rw (← same) (due_has_ended w due.row w.now due.due)) k
 
 -- the law of one step
 pub step_keeps : (w : World) (event : Event) → IsEvent event → IsWellFormed w → IsWellFormed ((step w event).1)
@@ -111,8 +110,17 @@ pub fresh_is : (limits : Bounds) → IsWellFormed (fresh_world limits)
 fresh_is limits = record {
   now = omega arith;
   counts = record { files = omega arith; names = omega arith; versions = omega arith; handles = omega arith; file_rows = omega arith; name_rows = omega arith; version_rows = omega arith };
-  files = tt; files_placed = tt; names = tt; lives = tt; versions = tt; versions_placed = tt; drafts = tt; drafts_placed = tt; handles = tt; handles_placed = tt;
-  current = λ file live. absurd (let no : false ≡ true = live in cc)
+  files = tt;
+  files_placed = tt;
+  names = tt;
+  lives = tt;
+  versions = tt;
+  versions_placed = tt;
+  drafts = tt;
+  drafts_placed = tt;
+  handles = tt;
+  handles_placed = tt;
+  current = λ file live. absurd (let no : false ≡ true = live in cc);
 }
 
 -- and of a run

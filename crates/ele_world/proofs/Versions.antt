@@ -1,16 +1,15 @@
 -- Version rows apart and in their order.
-use Rattle.std.proofs.Common.{◌≡◌, ◌≢◌, ℕ, ◌+◌, ◌-◌, ◌<◌, ◌≤◌, Bool, true, false, cond, ◌&&◌, ◌||◌, List, [], ◌∷◌, ◌++◌, length, Option, Some, None, IfSome, refl, ap, sym, subst, ◌∙◌, arith, eqb, ltb}
+use Rattle.std.proofs.Common.{◌≡◌, ℕ, ◌+◌, ◌-◌, ◌<◌, ◌≤◌, true, false, cond, List, [], ◌∷◌, Option, Some, None, IfSome, refl, subst, arith}
 use Rattle.std.specs.Prelude.{find, unwrap_or}
-use Rattle.std.specs.List.{AllByRecursion, list_any}
-use Rattle.std.proofs.lemmas.Bool.{false≢true}
+use Rattle.std.specs.List.{AllByRecursion}
 use Rattle.std.proofs.lemmas.Bool.Decides.{nat_tests}
 use Rattle.ele_world.specs.declared.rows.FileRow.{FileRow}
 use Rattle.ele_world.specs.declared.rows.VersionRow.{VersionRow}
-use Rattle.ele_world.specs.Lists.{update_first, remove_first, insert_before}
+use Rattle.ele_world.specs.Lists.{update_first}
 use Rattle.ele_world.specs.Step.{ended_at}
 use Rattle.ele_world.specs.WellFormed.{AllLater, IsVersion, ArePlaced}
-use Rattle.ele_world.specs.World.{is_version, is_version_after, next_of}
-use Rattle.ele_world.proofs.Edits.{all-weaker, all-both, all-any}
+use Rattle.ele_world.specs.World.{is_version, next_of}
+use Rattle.ele_world.proofs.Edits.{all-weaker, all-both}
 
 -- a later row isn't the earlier one
 pub apart : (x y : VersionRow) → ArePlaced x y → is_version y.file y.number x ≡ false
@@ -50,15 +49,16 @@ other_ended files now row h not_last = by row.ended refl where
 pub file_ended : (files : List FileRow) (now file : ℕ) (rows : List VersionRow) → AllLater ArePlaced rows → AllByRecursion (IsVersion files now) rows → AllByRecursion (λ row. row.file ≡ file → IsEndedBy now row) (update_first (is_version file (next_of files file - 1)) (ended_at now) rows)
 file_ended files now file [] placed all = tt
 file_ended files now file (x ∷ xs) placed all = elim (is_version file (next_of files file - 1) x) as (λ b. is_version file (next_of files file - 1) x ≡ b → AllByRecursion (λ row. row.file ≡ file → IsEndedBy now row) (cond b (ended_at now x ∷ xs) (x ∷ update_first (is_version file (next_of files file - 1)) (ended_at now) xs))) [
-    | true ↦ λ e. ((λ _. ends now x all.0.ended), all-weaker (λ y. ArePlaced x y × IsVersion files now y) (λ row. row.file ≡ file → IsEndedBy now row) xs (λ y h same. absurd (no_later x y e h.0 h.1 same)) (all-both (ArePlaced x) (IsVersion files now) xs placed.0 all.1))
-    | false ↦ λ e. ((λ same. other_ended files now x all.0 (λ last. not_that x e same last)), file_ended files now file xs placed.1 all.1)
-  ] refl where
+  | true ↦ λ e. ((λ _. ends now x all.0.ended), all-weaker (λ y. ArePlaced x y × IsVersion files now y) (λ row. row.file ≡ file → IsEndedBy now row) xs (λ y h same. absurd (no_later x y e h.0 h.1 same)) (all-both (ArePlaced x) (IsVersion files now) xs placed.0 all.1))
+  | false ↦ λ e. ((λ same. other_ended files now x all.0 (λ last. not_that x e same last)), file_ended files now file xs placed.1 all.1)
+] refl where
   no_later : (x y : VersionRow) → is_version file (next_of files file - 1) x ≡ true → ArePlaced x y → IsVersion files now y → y.file ≡ file → ⊥
   no_later x y e placed is same =
-    let after = placed.after in
-    let numbered : y.number < next_of files file = subst (λ f. y.number < next_of files f) same is.numbered in
-    grind (arith, nat_tests)
+      let after = placed.after in
+      let numbered : y.number < next_of files file = subst (λ f. y.number < next_of files f) same is.numbered in
+      grind (arith, nat_tests)
+
   not_that : (x : VersionRow) → is_version file (next_of files file - 1) x ≡ false → x.file ≡ file → x.number + 1 ≡ next_of files x.file → ⊥
   not_that x e same last =
-    let last' : x.number + 1 ≡ next_of files file = subst (λ f. x.number + 1 ≡ next_of files f) same last in
-    grind (arith, nat_tests)
+      let last' : x.number + 1 ≡ next_of files file = subst (λ f. x.number + 1 ≡ next_of files f) same last in
+      grind (arith, nat_tests)

@@ -1,5 +1,5 @@
 -- What a path leads to is there.
-use Rattle.std.proofs.Common.{◌≡◌, ℕ, ◌<◌, Bool, true, false, cond, List, [], ◌∷◌, Option, Some, None, Result, Ok, Err, refl, ap, sym, ◌∙◌}
+use Rattle.std.proofs.Common.{◌≡◌, ℕ, ◌<◌, List, [], ◌∷◌, Option, Some, None, Result, Ok, Err, refl, ap}
 use Rattle.std.specs.Prelude.{find}
 use Rattle.std.specs.List.{AllByRecursion}
 use Rattle.std.specs.Option.{option_map, option_map_or}
@@ -21,17 +21,17 @@ target_there files (Some row) target each h = let same : row.target ≡ target =
 
 live_there : (files : List FileRow) (now : ℕ) (rows : List NameRow) (directory : ℕ) (name : List ℕ) (target : Target) → AllByRecursion (IsName files now) rows → live_target rows directory name ≡ Some target → IsThere files target
 live_there files now rows directory name target all h =
-  target_there files (find (is_live_name directory name) rows) target (λ row found. let is : IsName files now row = all-found (is_live_name directory name) (IsName files now) rows row found all in is.there) h
+    target_there files (find (is_live_name directory name) rows) target (λ row found. let is : IsName files now row = all-found (is_live_name directory name) (IsName files now) rows row found all in is.there) h
 
 -- the place that a walk ends at
 walk_there : (files : List FileRow) (now : ℕ) (rows : List NameRow) (at target : Target) (names : List (List ℕ)) → AllByRecursion (IsName files now) rows → IsThere files at → walk rows at names ≡ Ok target → IsThere files target
 walk_there files now rows at target [] all there h = let same : at ≡ target = cc in rw (← same) there
 walk_there files now rows (File file) target (name ∷ names) all there h = absurd cc
 walk_there files now rows (Directory directory) target (name ∷ names) all there h =
-  go (λ next there. walk_there files now rows next target names all there) (live_target rows directory name) refl h where
-  go : ((next : Target) → IsThere files next → walk rows next names ≡ Ok target → IsThere files target) → (o : Option Target) → live_target rows directory name ≡ o → option_map_or (λ target. walk rows target names) o (Err NoEntry) ≡ Ok target → IsThere files target
-  go onward None e h = absurd cc
-  go onward (Some next) e h = onward next (live_there files now rows directory name next all e) h
+    go (λ next there. walk_there files now rows next target names all there) (live_target rows directory name) refl h where
+      go : ((next : Target) → IsThere files next → walk rows next names ≡ Ok target → IsThere files target) → (o : Option Target) → live_target rows directory name ≡ o → option_map_or (λ target. walk rows target names) o (Err NoEntry) ≡ Ok target → IsThere files target
+      go onward None e h = absurd cc
+      go onward (Some next) e h = onward next (live_there files now rows directory name next all e) h
 
 file_of : (r : Result Target Refusal) (file : ℕ) → file_at r ≡ Ok file → r ≡ Ok (File file)
 file_of (Ok (File other)) file h = let same : other ≡ file = cc in ap (λ f. Ok (File f)) same

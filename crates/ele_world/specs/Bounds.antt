@@ -23,7 +23,7 @@ largest_bounds = record {
   handles = 1000000;
   groups = 1000;
   members = 100000;
-  marks = 10000
+  marks = 10000;
 }
 
 -- no limit is above its largest
@@ -49,5 +49,5 @@ bounds_of ns = record {
   handles = slice_index ns 5;
   groups = slice_index ns 6;
   members = slice_index ns 7;
-  marks = slice_index ns 8
+  marks = slice_index ns 8;
 }

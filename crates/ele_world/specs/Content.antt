@@ -1,5 +1,5 @@
 -- The content of cells, and what a write makes of it.
-use Rattle.std.specs.Prelude.{ℕ, ◌+◌, ◌-◌, ◌*◌, ◌/◌, nat_lt, min, Bool, ◌&&◌, List, [], ◌∷◌, ◌++◌, length, take, drop, map, replicate, slice_get, if◌then◌else◌}
+use Rattle.std.specs.Prelude.{ℕ, ◌+◌, ◌-◌, ◌*◌, ◌/◌, nat_lt, min, Bool, ◌&&◌, List, ◌++◌, length, take, drop, map, replicate, slice_get, if◌then◌else◌}
 use Rattle.std.specs.List.{flat_map, range_with_len}
 use Rattle.std.specs.Option.{option_map_or}
 use Rattle.ele_world.specs.declared.rows.Cell.{Cell}
@@ -15,7 +15,7 @@ longest_content = 1048576
 -- the content with the bytes over it from the offset on; before that zeros fill it up to the offset
 abbrev pub spliced : List ℕ → ℕ → List ℕ → List ℕ
 spliced content offset bytes =
-  take offset content ++ replicate (offset - length content) 0 ++ bytes ++ drop (offset + length bytes) content
+    take offset content ++ replicate (offset - length content) 0 ++ bytes ++ drop (offset + length bytes) content
 
 -- slot s has the bytes from 512 * s up to 512 * s + 511, the last slot maybe fewer
 abbrev pub slot_bytes : List ℕ → ℕ → List ℕ
@@ -35,10 +35,10 @@ meets from to slot = nat_lt (512 * slot) to && nat_lt from (512 * slot + 512)
 -- the cells after a write: the new content by slots, where each slot that meets what was filled or written has the writer
 unfoldable pub written : ℕ → ℕ → List ℕ → List Cell → List Cell
 written writer offset bytes cells =
-  let old = content_of cells in
-  let new = spliced old offset bytes in
-  let from = min offset (length old) in
-  map (λ slot. record {
-    writer = if meets from (offset + length bytes) slot then writer else writer_at cells slot;
-    bytes = slot_bytes new slot
-  }) (range_with_len 0 (slot_count (length new)))
+    let old = content_of cells in
+    let new = spliced old offset bytes in
+    let from = min offset (length old) in
+    map (λ slot. record {
+      writer = if meets from (offset + length bytes) slot then writer else writer_at cells slot;
+      bytes = slot_bytes new slot;
+    }) (range_with_len 0 (slot_count (length new)))

@@ -18,9 +18,9 @@ pub record IsSameVersion (before after : VersionRow) : Type 0 where
 -- where the version is held after the event too, it is the same
 abbrev pub StaysSame : World → Event → VersionRow → Type 0
 StaysSame w event row =
-  (after : VersionRow) → find (is_version row.file row.number) ((step w event).1).versions ≡ Some after → IsSameVersion row after
+    (after : VersionRow) → find (is_version row.file row.number) ((step w event).1).versions ≡ Some after → IsSameVersion row after
 
 abbrev pub HeldStays : Type 0
 HeldStays =
-  (limits : Bounds) (events : List Event) (event : Event) → AllByRecursion IsEvent events → IsEvent event
-  → let w = run_of (fresh_world limits) events in AllByRecursion (StaysSame w event) w.versions
+    (limits : Bounds) (events : List Event) (event : Event) → AllByRecursion IsEvent events → IsEvent event
+    → let w = run_of (fresh_world limits) events in AllByRecursion (StaysSame w event) w.versions

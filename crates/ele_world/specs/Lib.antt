@@ -14,3 +14,4 @@ pub mod AlwaysWellFormed
 pub mod OnlyDueLeave
 pub mod HeldStays
 pub mod PassLeavesKept
+pub mod Seen

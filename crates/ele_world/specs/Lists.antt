@@ -1,5 +1,5 @@
 -- Changes of lists at the first element that passes a test.
-use Rattle.std.specs.Prelude.{Bool, List, [], ◌∷◌, if◌then◌else◌, Option}
+use Rattle.std.specs.Prelude.{Bool, List, [], ◌∷◌, if◌then◌else◌}
 
 -- with f of the first element that passes in its place
 abbrev pub update_first : {X : Type 0} → (X → Bool) → (X → X) → List X → List X

@@ -13,9 +13,9 @@ use Rattle.ele_world.specs.World.{World, fresh_world, is_held}
 -- after the event the version is still held, or the event was a clean and the version due
 abbrev pub StaysOrWasDue : World → Event → VersionRow → Type 0
 StaysOrWasDue w event row =
-  (is_held ((step w event).1) row.file row.number ≡ true) ⊎ ((event ≡ CleanOne) × (is_due_at w row w.now ≡ true))
+    (is_held ((step w event).1) row.file row.number ≡ true) ⊎ ((event ≡ CleanOne) × (is_due_at w row w.now ≡ true))
 
 abbrev pub OnlyDueLeave : Type 0
 OnlyDueLeave =
-  (limits : Bounds) (events : List Event) (event : Event) → AllByRecursion IsEvent events → IsEvent event
-  → let w = run_of (fresh_world limits) events in AllByRecursion (StaysOrWasDue w event) w.versions
+    (limits : Bounds) (events : List Event) (event : Event) → AllByRecursion IsEvent events → IsEvent event
+    → let w = run_of (fresh_world limits) events in AllByRecursion (StaysOrWasDue w event) w.versions

@@ -9,5 +9,5 @@ use Rattle.ele_world.specs.World.{World, fresh_world}
 
 abbrev pub PassLeavesKept : Type 0
 PassLeavesKept =
-  (limits : Bounds) (events : List Event) (removed : ℕ) (after : World) → AllByRecursion IsEvent events
-  → let w = run_of (fresh_world limits) events in IsPass w removed after → after.versions ≡ kept w
+    (limits : Bounds) (events : List Event) (removed : ℕ) (after : World) → AllByRecursion IsEvent events
+    → let w = run_of (fresh_world limits) events in IsPass w removed after → after.versions ≡ kept w

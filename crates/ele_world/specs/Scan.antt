@@ -1,5 +1,5 @@
 -- The scan: the keys of all versions that are due, in order.
-use Rattle.std.specs.Prelude.{ℕ, List, [], Option, Some, None, fold, slice_get, if◌then◌else◌}
+use Rattle.std.specs.Prelude.{ℕ, List, [], Option, None, fold, slice_get, if◌then◌else◌}
 use Rattle.std.specs.declared.cmp.Ordering.{Ordering}
 use Rattle.std.specs.List.{filter_map}
 use Rattle.std.specs.Option.{option_map}

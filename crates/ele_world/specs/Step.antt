@@ -1,5 +1,5 @@
 -- What each event answers, and the world that it leaves.
-use Rattle.std.specs.Prelude.{ℕ, ◌+◌, ◌-◌, nat_lt, nat_le, Bool, true, false, List, [], ◌∷◌, ◌++◌, length, Option, Some, None, is_some, find, unwrap_or, Result, Ok, Err, if◌then◌else◌}
+use Rattle.std.specs.Prelude.{ℕ, ◌+◌, ◌-◌, nat_lt, nat_le, true, false, List, [], ◌∷◌, ◌++◌, length, Option, Some, None, is_some, find, unwrap_or, Result, Ok, Err, if◌then◌else◌}
 use Rattle.std.specs.List.{list_any}
 use Rattle.std.specs.Option.{option_map_or}
 use Rattle.ele_world.specs.declared.event.Event.{Event}
@@ -41,15 +41,15 @@ versions_made w = w.made.versions + length w.drafts
 -- a version that closes now, without an end
 abbrev pub new_version : World → ℕ → ℕ → ℕ → List Cell → VersionRow
 new_version w file number opened cells =
-  record { file = file; number = number; opened = opened; closed = w.now; ended = None; cells = cells }
+    record { file = file; number = number; opened = opened; closed = w.now; ended = None; cells = cells }
 
 -- `create P`, once the parent is found: Exists; Full files; Full names; Full versions
 unfoldable pub create_refusal : World → ℕ → List ℕ → Option Refusal
 create_refusal w directory name =
-  if is_some (live_target w.names directory name) then Some Exists else
-  (if nat_le w.limits.files w.made.files then Some (Full Files) else
-  (if nat_le w.limits.names w.made.names then Some (Full Names) else
-  (if nat_le w.limits.versions (versions_made w) then Some (Full Versions) else None)))
+    if is_some (live_target w.names directory name) then Some Exists else
+    (if nat_le w.limits.files w.made.files then Some (Full Files) else
+    (if nat_le w.limits.names w.made.names then Some (Full Names) else
+    (if nat_le w.limits.versions (versions_made w) then Some (Full Versions) else None)))
 
 -- a file with the directory's policy, its name, and its first version, which is empty
 abbrev pub created : World → ℕ → List ℕ → ℕ → World
@@ -57,13 +57,13 @@ created w directory name id = record w {
   files = w.files ++ record { id = id; policy = default_of w.directories directory; next = 2 } ∷ [];
   names = w.names ++ record { directory = directory; name = name; target = File id; birth = w.now; death = None } ∷ [];
   versions = w.versions ++ new_version w id 1 w.now [] ∷ [];
-  made = record w.made { files = w.made.files + 1; names = w.made.names + 1; versions = w.made.versions + 1 }
+  made = record w.made { files = w.made.files + 1; names = w.made.names + 1; versions = w.made.versions + 1 };
 }
 
 abbrev pub create_in : World → Result (ℕ × List ℕ) Refusal → Reply × World
 create_in w (Err refusal) = refuse w refusal
 create_in w (Ok at) =
-  let id = w.made.files + 1 in unless (create_refusal w at.0 at.1) w (reply.File id, created w at.0 at.1 id)
+    let id = w.made.files + 1 in unless (create_refusal w at.0 at.1) w (reply.File id, created w at.0 at.1 id)
 
 unfoldable pub create_step : World → List (List ℕ) → Reply × World
 create_step w path = create_in w (parent_now w.names path)
@@ -83,21 +83,21 @@ with_draft w file = if list_any (is_draft file) w.drafts then w.drafts else inse
 -- `open write P`, once the file is found: Full handles; Full versions if no draft is there
 unfoldable pub open_refusal : World → ℕ → Option Refusal
 open_refusal w file =
-  if nat_le w.limits.handles w.made.handles then Some (Full Handles) else
-  (if list_any (is_draft file) w.drafts then None else
-  (if nat_le w.limits.versions (versions_made w) then Some (Full Versions) else None))
+    if nat_le w.limits.handles w.made.handles then Some (Full Handles) else
+    (if list_any (is_draft file) w.drafts then None else
+    (if nat_le w.limits.versions (versions_made w) then Some (Full Versions) else None))
 
 abbrev pub opened : World → ℕ → ℕ → World
 opened w file number = record w {
   drafts = with_draft w file;
   handles = w.handles ++ record { number = number; file = file } ∷ [];
-  made = record w.made { handles = w.made.handles + 1 }
+  made = record w.made { handles = w.made.handles + 1 };
 }
 
 abbrev pub open_of : World → Result ℕ Refusal → Reply × World
 open_of w (Err refusal) = refuse w refusal
 open_of w (Ok file) =
-  let number = w.made.handles + 1 in unless (open_refusal w file) w (reply.Handle number, opened w file number)
+    let number = w.made.handles + 1 in unless (open_refusal w file) w (reply.Handle number, opened w file number)
 
 unfoldable pub open_write_step : World → List (List ℕ) → Reply × World
 open_write_step w path = open_of w (file_now w.names path)
@@ -111,8 +111,8 @@ abbrev pub write_of : World → ℕ → List ℕ → Option ℕ → Reply × Wor
 write_of w offset bytes None = refuse w NoHandle
 write_of w offset [] (Some file) = (reply.Done, w)
 write_of w offset (byte ∷ bytes) (Some file) =
-  if nat_lt longest_content (offset + length (byte ∷ bytes)) then refuse w TooBig
-  else (reply.Done, record w { drafts = update_first (is_draft file) (changed_by (next_of w.files file) offset (byte ∷ bytes)) w.drafts })
+    if nat_lt longest_content (offset + length (byte ∷ bytes)) then refuse w TooBig
+    else (reply.Done, record w { drafts = update_first (is_draft file) (changed_by (next_of w.files file) offset (byte ∷ bytes)) w.drafts })
 
 unfoldable pub write_step : World → ℕ → ℕ → List ℕ → Reply × World
 write_step w handle offset bytes = write_of w offset bytes (handle_file w.handles handle)
@@ -127,32 +127,32 @@ ended_at at row = record row { ended = Some (unwrap_or row.ended at) }
 -- the version that a draft becomes; on a file that isn't live it ends at once
 abbrev pub version_of : World → DraftRow → VersionRow
 version_of w draft = record (new_version w draft.file (next_of w.files draft.file) draft.opened draft.cells) {
-  ended = if is_live w draft.file then None else Some w.now
+  ended = if is_live w draft.file then None else Some w.now;
 }
 
 -- the draft becomes the file's next version, at its place, and the version before it ends
 abbrev pub finished : World → DraftRow → World
 finished w draft =
-  let file = draft.file in
-  let next = next_of w.files file in
-  record w {
-    files = update_first (is_file file) numbered_on w.files;
-    versions = insert_before (is_version_after file next) (version_of w draft) (update_first (is_version file (next - 1)) (ended_at w.now) w.versions);
-    drafts = remove_first (is_draft file) w.drafts;
-    made = record w.made { versions = w.made.versions + 1 }
-  }
+    let file = draft.file in
+    let next = next_of w.files file in
+    record w {
+      files = update_first (is_file file) numbered_on w.files;
+      versions = insert_before (is_version_after file next) (version_of w draft) (update_first (is_version file (next - 1)) (ended_at w.now) w.versions);
+      drafts = remove_first (is_draft file) w.drafts;
+      made = record w.made { versions = w.made.versions + 1 };
+    }
 
 -- the last writer has closed: a draft that was changed becomes a version, and any other vanishes
 abbrev pub draft_closed : World → Option DraftRow → Reply × World
 draft_closed w None = (reply.Closed None, w)
 draft_closed w (Some draft) =
-  if draft.changed then (reply.Closed (Some (next_of w.files draft.file)), finished w draft)
-  else (reply.Closed None, record w { drafts = remove_first (is_draft draft.file) w.drafts })
+    if draft.changed then (reply.Closed (Some (next_of w.files draft.file)), finished w draft)
+    else (reply.Closed None, record w { drafts = remove_first (is_draft draft.file) w.drafts })
 
 -- a handle of the file has gone
 abbrev pub writer_closed : World → ℕ → Reply × World
 writer_closed w file =
-  if list_any (is_writer file) w.handles then (reply.Closed None, w) else draft_closed w (find (is_draft file) w.drafts)
+    if list_any (is_writer file) w.handles then (reply.Closed None, w) else draft_closed w (find (is_draft file) w.drafts)
 
 -- `close H`: NoHandle
 abbrev pub close_of : World → ℕ → Option ℕ → Reply × World

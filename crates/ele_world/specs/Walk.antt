@@ -1,5 +1,5 @@
 -- Where a path leads, name by name from the root.
-use Rattle.std.specs.Prelude.{ℕ, ◌-◌, ◌==◌, ◌&&◌, Bool, List, [], ◌∷◌, length, take, slice_get, is_none, Option, Some, None, find, Result, Ok, Err}
+use Rattle.std.specs.Prelude.{ℕ, ◌-◌, ◌==◌, ◌&&◌, Bool, List, [], ◌∷◌, length, take, slice_get, is_none, Option, find, Result, Ok, Err}
 use Rattle.std.specs.Option.{option_map, option_map_or}
 use Rattle.std.specs.Str.{bytes_eq}
 use Rattle.ele_world.specs.declared.refusal.Refusal.{Refusal}
@@ -22,7 +22,7 @@ abbrev pub walk : List NameRow → Target → List (List ℕ) → Result Target 
 walk rows at [] = Ok at
 walk rows (File file) (name ∷ names) = Err NotDirectory
 walk rows (Directory directory) (name ∷ names) =
-  option_map_or (λ target. walk rows target names) (live_target rows directory name) (Err NoEntry)
+    option_map_or (λ target. walk rows target names) (live_target rows directory name) (Err NoEntry)
 
 -- from the root
 abbrev pub walk_now : List NameRow → List (List ℕ) → Result Target Refusal
@@ -45,4 +45,4 @@ directory_at name (Err refusal) = Err refusal
 -- the directory that the path's last name stands in, and that name; the root stands in none
 abbrev pub parent_now : List NameRow → List (List ℕ) → Result (ℕ × List ℕ) Refusal
 parent_now rows path =
-  option_map_or (λ name. directory_at name (walk_now rows (take (length path - 1) path))) (slice_get path (length path - 1)) (Err IsRoot)
+    option_map_or (λ name. directory_at name (walk_now rows (take (length path - 1) path))) (slice_get path (length path - 1)) (Err IsRoot)

@@ -4,7 +4,6 @@ use Rattle.std.specs.List.{list_any, AllByRecursion}
 use Rattle.ele_moment.specs.Last.{last_moment}
 use Rattle.ele_world.specs.declared.limits.Counts.{Counts}
 use Rattle.ele_world.specs.declared.rows.FileRow.{FileRow}
-use Rattle.ele_world.specs.declared.rows.HandleRow.{HandleRow}
 use Rattle.ele_world.specs.declared.rows.NameRow.{NameRow}
 use Rattle.ele_world.specs.declared.rows.Target.{Target}
 use Rattle.ele_world.specs.declared.rows.Target.TheVariants.{File, Directory}
@@ -48,7 +47,7 @@ pub record IsName (files : List FileRow) (now : ℕ) (row : NameRow) : Type 0 wh
 -- of two rows of one directory and name the earlier is dead by the birth of the later
 abbrev pub AreApart : NameRow → NameRow → Type 0
 AreApart earlier later =
-  earlier.directory ≡ later.directory → earlier.name ≡ later.name → (death : ℕ) × (earlier.death ≡ Some death) × (death ≤ later.birth)
+    earlier.directory ≡ later.directory → earlier.name ≡ later.name → (death : ℕ) × (earlier.death ≡ Some death) × (death ≤ later.birth)
 
 -- a held version's file is there and numbers on behind it; it closed by now, and if it has ended it ended by now and not
 -- before it closed; only the version before the next one may have no end

@@ -1,5 +1,5 @@
 -- The world, and how its rows are found.
-use Rattle.std.specs.Prelude.{◌≡◌, ℕ, ◌+◌, ◌-◌, ◌==◌, nat_lt, Bool, true, false, not, ◌&&◌, ◌||◌, List, [], ◌∷◌, Option, Some, None, is_some, is_none, find}
+use Rattle.std.specs.Prelude.{ℕ, ◌-◌, ◌==◌, nat_lt, Bool, false, ◌&&◌, ◌||◌, List, [], ◌∷◌, Option, is_none, find}
 use Rattle.std.specs.List.{list_any}
 use Rattle.std.specs.Option.{option_map, option_map_or}
 use Rattle.ele_policy.specs.declared.policy.Policy.{Policy}
@@ -34,7 +34,7 @@ fresh_world limits = record {
   drafts = [];
   handles = [];
   made = record { files = 0; names = 0; versions = 0; handles = 0 };
-  limits = limits
+  limits = limits;
 }
 
 abbrev pub is_directory : ℕ → DirectoryRow → Bool

@@ -11,6 +11,7 @@ mod list;
 mod refusal;
 mod reply;
 mod rows;
+mod scan;
 
 pub use ele_moment::{DirId, FileId, Handle, Moment, Name, NoMemory, VersionNo};
 pub use ele_policy::{Kind, Policy};
@@ -23,3 +24,4 @@ pub use list::{ByteList, KeyList, ListOf};
 pub use refusal::{Refusal, Stop, Which};
 pub use reply::Reply;
 pub use rows::{Cell, DirectoryRow, DraftRow, FileRow, HandleRow, NameRow, Target, VersionRow};
+pub use scan::{due_first, due_keys, is_due};

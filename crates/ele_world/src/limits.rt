@@ -49,7 +49,17 @@ impl Limits {
         ensures valid { IsSome result ↔ AreBounds (bounds_of numbers) }
         ensures value { IfSome result (λ limits. limits ≡ bounds_of numbers) }
     {
-        let [events, files, directories, names, versions, handles, groups, members, marks] = numbers;
+        let [
+            events,
+            files,
+            directories,
+            names,
+            versions,
+            handles,
+            groups,
+            members,
+            marks,
+        ] = numbers;
         let is_within = events <= 1_000_000_000
             && files <= 100_000
             && directories <= 10_000
@@ -62,7 +72,17 @@ impl Limits {
         if !is_within {
             return None;
         }
-        Some(Limits { events, files, directories, names, versions, handles, groups, members, marks })
+        Some(Limits {
+            events,
+            files,
+            directories,
+            names,
+            versions,
+            handles,
+            groups,
+            members,
+            marks,
+        })
     }
 
     /// The largest limits.

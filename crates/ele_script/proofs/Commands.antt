@@ -1,0 +1,123 @@
+-- The command in front of words.
+use Rattle.std.proofs.Common.{◌≡◌, ℕ, Bool, true, false, cond, List, [], ◌∷◌, ◌++◌, length, refl, sym, ap, ◌∙◌, Option, Some, None, IfSome, Result, Ok, Err, ◌⊎◌, inl, inr, subst}
+use Rattle.std.specs.Prelude.{codes, IfOk, IfErr}
+use Rattle.std.specs.Str.{bytes_eq}
+use Rattle.std.specs.Cmp.Lexicographic.{bytes_decides}
+use Rattle.ele_script.specs.declared.command.Command.{Command}
+use Rattle.ele_script.specs.declared.command.Command.TheVariants.{Clock, Create, OpenWrite, Write, Close, Clean, Due}
+use Rattle.ele_script.specs.declared.fault.LineFault.{LineFault}
+use Rattle.ele_script.specs.declared.fault.LineFault.TheVariants.{Syntax, NoMemory}
+use Rattle.ele_world.specs.declared.event.Event.{Event}
+use Rattle.ele_script.specs.Spells.{SpellsBehind, SpellsWords}
+use Rattle.ele_script.specs.Command.{command_words, kinds_behind}
+use Rattle.ele_script.specs.CommandOf.{command_of, one_word_command, open_command, second_of, before}
+use Rattle.ele_script.specs.FirstFault.{FitsCommand, IsFaultBehind, miscounted, bad_word, IsFaultOfWords, no_command, of_word}
+
+-- a command's words, and what stands behind them
+command_of-words : (command : Command) (arguments : List (List ℕ)) → command_of (command_words command ++ arguments) ≡ Some (command, arguments)
+unfolding command_of one_word_command open_command
+command_of-words Clock arguments = refl
+command_of-words Create arguments = refl
+command_of-words OpenWrite arguments = refl
+command_of-words Write arguments = refl
+command_of-words Close arguments = refl
+command_of-words Clean arguments = refl
+command_of-words Due arguments = refl
+
+-- a fact of the value that a test chooses, or of what follows
+chain : {A : Type 0} (P : A → Type 0) (test : Bool) (x : A) (rest : Option A) → (test ≡ true → P x) → IfSome rest P → IfSome (cond test (Some x) rest) P
+chain P true x rest here there = here refl
+chain P false x rest here there = there
+
+same : (word text : List ℕ) → bytes_eq word text ≡ true → text ∷ [] ≡ word ∷ []
+same word text test = ap (λ w. w ∷ []) (sym ((bytes_decides word text).0 test))
+
+-- a command of one word is named by it
+one_word_is : (word : List ℕ) → IfSome (one_word_command word) (λ command. command_words command ≡ word ∷ [])
+unfolding one_word_command
+one_word_is word =
+    let P : Command → Type 0 = λ command. command_words command ≡ word ∷ [] in
+    chain P _ Clock _ (same word (codes "clock"))
+    (chain P _ Create _ (same word (codes "create"))
+    (chain P _ Write _ (same word (codes "write"))
+    (chain P _ Close _ (same word (codes "close"))
+    (chain P _ Clean _ (same word (codes "clean")) (chain P _ Due None (same word (codes "due")) tt)))))
+
+open_is : (word : List ℕ) → IfSome (open_command word) (λ command. command_words command ≡ codes "open" ∷ word ∷ [])
+unfolding open_command
+open_is word =
+    chain (λ command. command_words command ≡ codes "open" ∷ word ∷ []) _ OpenWrite None (λ test. ap (λ words. codes "open" ∷ words) (same word (codes "write") test)) tt
+
+behind : (words front rest : List (List ℕ)) (r : Option Command) → words ≡ front ++ rest → IfSome r (λ command. command_words command ≡ front) → IfSome (before rest r) (λ x. words ≡ command_words x.0 ++ x.1)
+behind words front rest None are is = tt
+behind words front rest (Some command) are is = are ∙ ap (λ (words : List (List ℕ)). words ++ rest) (sym is)
+
+second_is : (first : List ℕ) (words : List (List ℕ)) → first ≡ codes "open" → IfSome (second_of open_command words) (λ x. first ∷ words ≡ command_words x.0 ++ x.1)
+second_is first [] is = tt
+second_is first (word ∷ rest) is =
+    behind (first ∷ word ∷ rest) (codes "open" ∷ word ∷ []) rest (open_command word) (ap (λ w. w ∷ word ∷ rest) is) (open_is word)
+
+choose : (test : Bool) (P : Command × List (List ℕ) → Type 0) (a b : Option (Command × List (List ℕ))) → (test ≡ true → IfSome a P) → IfSome b P → IfSome (cond test a b) P
+choose true P a b here there = here refl
+choose false P a b here there = there
+
+-- what was found in front of the words is there
+words_are : (words : List (List ℕ)) → IfSome (command_of words) (λ x. words ≡ command_words x.0 ++ x.1)
+unfolding command_of
+words_are [] = tt
+words_are (word ∷ rest) =
+    choose _ (λ x. word ∷ rest ≡ command_words x.0 ++ x.1) _ _ (λ test. second_is word rest ((bytes_decides word (codes "open")).0 test)) (behind (word ∷ rest) (word ∷ []) rest (one_word_command word) refl (one_word_is word))
+
+some_is : {A : Type 0} {x y : A} → ◌≡◌ {A = Option A} (Some x) (Some y) → x ≡ y
+some_is h = cc
+
+-- what words fit is what is found in front of them
+fits_found : (words : List (List ℕ)) (command : Command) (arguments : List (List ℕ)) → FitsCommand words command arguments → command_of words ≡ Some (command, arguments)
+fits_found words command arguments fits = ap command_of fits.are ∙ command_of-words command arguments
+
+-- words in front of which no command is found fit none
+no_command_fits : (words : List (List ℕ)) → command_of words ≡ None → (command : Command) (arguments : List (List ℕ)) → FitsCommand words command arguments → ⊥
+no_command_fits words none command arguments fits = let some = fits_found words command arguments fits in cc
+
+-- the faults behind the command are those of the words
+fault_of_words : (words : List (List ℕ)) (command : Command) (arguments : List (List ℕ)) (fault : LineFault) → command_of words ≡ Some (command, arguments) → words ≡ command_words command ++ arguments → IsFaultBehind command arguments fault → IsFaultOfWords words fault
+fault_of_words words command arguments fault found are (miscounted number is) =
+    let no : (c : Command) (xs : List (List ℕ)) → FitsCommand words c xs → ⊥ = λ c xs fits.
+    let p : Command × List (List ℕ) = (command, arguments) in
+    let q : Command × List (List ℕ) = (c, xs) in
+    let pair : p ≡ q = some_is (sym found ∙ fits_found words c xs fits) in
+    number (ap (λ (p : Command × List (List ℕ)). length p.1) pair ∙ fits.count ∙ ap (λ (p : Command × List (List ℕ)). length (kinds_behind p.0)) (sym pair)) in
+    no_command no is
+fault_of_words words command arguments fault found are (bad_word count first) =
+    of_word command arguments (record { are = are; count = count }) first
+
+-- words in front of which no command is found are at fault
+pub unfit_words : (words : List (List ℕ)) → command_of words ≡ None → IsFaultOfWords words Syntax
+unfit_words words none = no_command (no_command_fits words none) refl
+
+are : (words : List (List ℕ)) (command : Command) (arguments : List (List ℕ)) → command_of words ≡ Some (command, arguments) → words ≡ command_words command ++ arguments
+are words command arguments found = subst (λ o. IfSome o (λ x. words ≡ command_words x.0 ++ x.1)) found (words_are words)
+
+-- what the words behind the command spell, the words spell
+pub spelled_words : (words : List (List ℕ)) (command : Command) (arguments : List (List ℕ)) (r : Result Event LineFault) → command_of words ≡ Some (command, arguments) → IfOk r (SpellsBehind command arguments) → IfOk r (SpellsWords words)
+spelled_words words command arguments (Ok event) found h = record {
+  arguments = arguments;
+  are = are words command arguments found ∙ ap (λ (c : Command). command_words c ++ arguments) (sym h.command_is);
+  values = h.values;
+}
+spelled_words words command arguments (Err fault) found h = tt
+
+-- and what is wrong with these is wrong with the words
+pub faults_of_words : (words : List (List ℕ)) (command : Command) (arguments : List (List ℕ)) (r : Result Event LineFault) → command_of words ≡ Some (command, arguments) → IfErr r (λ fault. (fault ≡ NoMemory) ⊎ IsFaultBehind command arguments fault) → IfErr r (λ fault. (fault ≡ NoMemory) ⊎ IsFaultOfWords words fault)
+faults_of_words words command arguments (Ok event) found h = tt
+faults_of_words words command arguments (Err fault) found (inl memory) = inl memory
+faults_of_words words command arguments (Err fault) found (inr bad) =
+    inr (fault_of_words words command arguments fault found (are words command arguments found) bad)
+
+-- words are one command's, with one rest behind it
+pub one_fit : (words : List (List ℕ)) (c d : Command) (xs ys : List (List ℕ)) → words ≡ command_words c ++ xs → words ≡ command_words d ++ ys → (c ≡ d) × (xs ≡ ys)
+one_fit words c d xs ys a b =
+    let p : Command × List (List ℕ) = (c, xs) in
+    let q : Command × List (List ℕ) = (d, ys) in
+    let same : p ≡ q = some_is (sym (command_of-words c xs) ∙ ap command_of (sym a ∙ b) ∙ command_of-words d ys) in
+    (ap (λ (r : Command × List (List ℕ)). r.0) same, ap (λ (r : Command × List (List ℕ)). r.1) same)

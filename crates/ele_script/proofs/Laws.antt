@@ -1,0 +1,182 @@
+-- What is true of lines: each spells one event, or has a first fault, and not both.
+use Rattle.std.proofs.Common.{◌≡◌, ℕ, ◌≤◌, true, true≢false, List, [], ◌∷◌, length, refl, sym, ap, subst, ◌∙◌, arith, ◌⊎◌, inl, inr, Option, Some, None, Result, Ok, Err}
+use Rattle.std.specs.Prelude.{IfOk, IfErr}
+use Rattle.ele_world.specs.declared.event.Event.{Event}
+use Rattle.ele_world.specs.declared.event.Event.TheVariants as event
+use Rattle.ele_script.specs.declared.command.Command.{Command}
+use Rattle.ele_script.specs.declared.command.Command.TheVariants.{Clock, Create, OpenWrite, Write, Close, Clean, Due}
+use Rattle.ele_script.specs.declared.fault.LineFault.{LineFault}
+use Rattle.ele_script.specs.declared.fault.LineFault.TheVariants.{NoMemory}
+use Rattle.ele_script.specs.Value.{Kind, Value, Number, Moment, Path, Bytes, kind_of}
+use Rattle.ele_script.specs.Command.{kinds_behind}
+use Rattle.ele_script.specs.Words.{words_of, is_worded}
+use Rattle.ele_script.specs.Spells.{parts_of, SpellsValues, SpellsWords, Spells}
+use Rattle.ele_script.specs.FirstFault.{IsFirstWordFault, IsFaultOfWords, no_command, of_word, IsFirstFault, too_long, not_worded, of_words}
+use Rattle.ele_script.proofs.Commands.{one_fit}
+use Rattle.ele_script.proofs.Values.{one_value, faultless_word, one_word_fault}
+
+-- the kinds of values
+abbrev kinds_of : List Value → List Kind
+kinds_of [] = []
+kinds_of (value ∷ values) = kind_of value ∷ kinds_of values
+
+-- an event's values are of the kinds that its command wants
+kinds_fit : (event : Event) → kinds_of (parts_of event).1 ≡ kinds_behind (parts_of event).0
+kinds_fit (event.Clock moment) = refl
+kinds_fit (event.Create path) = refl
+kinds_fit (event.OpenWrite path) = refl
+kinds_fit (event.Write handle offset bytes) = refl
+kinds_fit (event.Close handle) = refl
+kinds_fit event.CleanOne = refl
+kinds_fit event.Due = refl
+
+-- the event of a command and values, if they are of its kinds
+abbrev event_of : Command × List Value → Option Event
+event_of (Clock, Moment moment ∷ []) = Some (event.Clock moment)
+event_of (Create, Path path ∷ []) = Some (event.Create path)
+event_of (OpenWrite, Path path ∷ []) = Some (event.OpenWrite path)
+event_of (Write, Number handle ∷ Number offset ∷ Bytes bytes ∷ []) = Some (event.Write handle offset bytes)
+event_of (Close, Number handle ∷ []) = Some (event.Close handle)
+event_of (Clean, []) = Some event.CleanOne
+event_of (Due, []) = Some event.Due
+event_of _ = None
+
+-- so an event's parts give it back
+parts_back : (event : Event) → event_of (parts_of event) ≡ Some event
+parts_back (event.Clock moment) = refl
+parts_back (event.Create path) = refl
+parts_back (event.OpenWrite path) = refl
+parts_back (event.Write handle offset bytes) = refl
+parts_back (event.Close handle) = refl
+parts_back event.CleanOne = refl
+parts_back event.Due = refl
+
+some_is : {A : Type 0} {x y : A} → ◌≡◌ {A = Option A} (Some x) (Some y) → x ≡ y
+some_is h = cc
+
+heads : {A : Type 0} {x y : A} {xs ys : List A} → x ∷ xs ≡ y ∷ ys → x ≡ y
+heads h = cc
+
+tails : {A : Type 0} {x y : A} {xs ys : List A} → x ∷ xs ≡ y ∷ ys → xs ≡ ys
+tails h = cc
+
+-- words stand for one list of values of their kinds
+one_list : (words : List (List ℕ)) (vs us : List Value) → kinds_of vs ≡ kinds_of us → SpellsValues words vs → SpellsValues words us → vs ≡ us
+one_list [] [] [] k a b = refl
+one_list [] (v ∷ vs) us k a b = absurd a
+one_list [] [] (u ∷ us) k a b = absurd b
+one_list (word ∷ words) [] us k a b = absurd a
+one_list (word ∷ words) (v ∷ vs) [] k a b = absurd b
+one_list (word ∷ words) (v ∷ vs) (u ∷ us) k a b =
+    let first = one_value word v u (heads k) a.0 b.0 in
+    let rest = one_list words vs us (tails k) a.1 b.1 in
+    ap (λ x. x ∷ vs) first ∙ ap (λ xs. u ∷ xs) rest
+
+parts_is : (c d : Command) (vs us : List Value) → c ≡ d → vs ≡ us → let p : Command × List Value = (c, vs) in let q : Command × List Value = (d, us) in p ≡ q
+parts_is c d vs us p q =
+    let P : Type 0 = Command × List Value in
+    ap (λ (e : Command). let r : P = (e, vs) in r) p ∙ ap (λ (ws : List Value). let r : P = (d, ws) in r) q
+
+-- a line spells one event
+pub one_event : (line : List ℕ) (a b : Event) → Spells line a → Spells line b → a ≡ b
+one_event line a b h k =
+    let c = (parts_of a).0 in
+    let d = (parts_of b).0 in
+    let fit = one_fit (words_of line) c d h.words.arguments k.words.arguments h.words.are k.words.are in
+    let kinds : kinds_of (parts_of a).1 ≡ kinds_of (parts_of b).1 = kinds_fit a ∙ ap kinds_behind fit.0 ∙ sym (kinds_fit b) in
+    let values : (parts_of a).1 ≡ (parts_of b).1 = one_list k.words.arguments (parts_of a).1 (parts_of b).1 kinds (subst (λ xs. SpellsValues xs (parts_of a).1) fit.1 h.words.values) k.words.values in
+    let parts : parts_of a ≡ parts_of b = parts_is c d (parts_of a).1 (parts_of b).1 fit.0 values in
+    some_is (sym (parts_back a) ∙ ap event_of parts ∙ parts_back b)
+
+as_many : (words : List (List ℕ)) (values : List Value) → SpellsValues words values → length words ≡ length (kinds_of values)
+as_many [] [] h = refl
+as_many [] (v ∷ vs) h = absurd h
+as_many (word ∷ words) [] h = absurd h
+as_many (word ∷ words) (v ∷ vs) h = let more = as_many words vs h.1 in omega (arith, more)
+
+-- words that stand for values of their kinds have no fault
+no_first : (words : List (List ℕ)) (values : List Value) (fault : LineFault) → SpellsValues words values → IsFirstWordFault (kinds_of values) words fault → ⊥
+no_first [] [] fault h bad = bad
+no_first [] (v ∷ vs) fault h bad = absurd h
+no_first (word ∷ words) [] fault h bad = bad
+no_first (word ∷ words) (v ∷ vs) fault h (inl bad) = faultless_word (kind_of v) word fault (v, refl, h.0) bad
+no_first (word ∷ words) (v ∷ vs) fault h (inr bad) = no_first words vs fault h.1 bad.1
+
+moved : (fault : LineFault) {c d : Command} {xs ys : List (List ℕ)} → c ≡ d → xs ≡ ys → IsFirstWordFault (kinds_behind c) xs fault → IsFirstWordFault (kinds_behind d) ys fault
+moved fault {c} {d} {xs} {ys} p q h =
+    subst (λ (zs : List (List ℕ)). IsFirstWordFault (kinds_behind d) zs fault) q (subst (λ (e : Command). IsFirstWordFault (kinds_behind e) xs fault) p h)
+
+no_words : (words : List (List ℕ)) (event : Event) (fault : LineFault) → SpellsWords words event → IsFaultOfWords words fault → ⊥
+no_words words event fault h (no_command unfit is) =
+    unfit (parts_of event).0 h.arguments (record { are = h.are; count = as_many h.arguments (parts_of event).1 h.values ∙ ap length (kinds_fit event) })
+no_words words event fault h (of_word command arguments fits bad) =
+    let c = (parts_of event).0 in
+    let fit = one_fit words command c arguments h.arguments fits.are h.are in
+    let there : IsFirstWordFault (kinds_behind c) h.arguments fault = moved fault fit.0 fit.1 bad in
+    no_first h.arguments (parts_of event).1 fault h.values (subst (λ kinds. IsFirstWordFault kinds h.arguments fault) (sym (kinds_fit event)) there)
+
+-- a line that spells an event has no fault
+pub spelled_faultless : (line : List ℕ) (event : Event) (fault : LineFault) → Spells line event → IsFirstFault line fault → ⊥
+spelled_faultless line event fault h (too_long long is) = omega (arith, long, h.short)
+spelled_faultless line event fault h (not_worded short broken is) = true≢false (sym h.worded ∙ broken)
+spelled_faultless line event fault h (of_words short worded bad) = no_words (words_of line) event fault h.words bad
+
+one_first : (kinds : List Kind) (words : List (List ℕ)) (a b : LineFault) → IsFirstWordFault kinds words a → IsFirstWordFault kinds words b → a ≡ b
+one_first [] words a b x y = absurd x
+one_first (kind ∷ kinds) [] a b x y = absurd x
+one_first (kind ∷ kinds) (word ∷ words) a b (inl x) (inl y) = one_word_fault kind word a b x y
+one_first (kind ∷ kinds) (word ∷ words) a b (inl x) (inr y) = absurd (faultless_word kind word a y.0 x)
+one_first (kind ∷ kinds) (word ∷ words) a b (inr x) (inl y) = absurd (faultless_word kind word b x.0 y)
+one_first (kind ∷ kinds) (word ∷ words) a b (inr x) (inr y) = one_first kinds words a b x.1 y.1
+
+one_of_words : (words : List (List ℕ)) (a b : LineFault) → IsFaultOfWords words a → IsFaultOfWords words b → a ≡ b
+one_of_words words a b (no_command unfit x) (no_command also y) = x ∙ sym y
+one_of_words words a b (no_command unfit x) (of_word c xs fits bad) = absurd (unfit c xs fits)
+one_of_words words a b (of_word c xs fits bad) (no_command unfit y) = absurd (unfit c xs fits)
+one_of_words words a b (of_word c xs fits x) (of_word d ys other y) =
+    let fit = one_fit words c d xs ys fits.are other.are in
+    one_first (kinds_behind d) ys a b (moved a fit.0 fit.1 x) y
+
+-- a line has one first fault
+pub one_fault : (line : List ℕ) (a b : LineFault) → IsFirstFault line a → IsFirstFault line b → a ≡ b
+one_fault line a b (too_long long x) (too_long other y) = x ∙ sym y
+one_fault line a b (too_long long x) (not_worded short broken y) = absurd (omega (arith, long, short))
+one_fault line a b (too_long long x) (of_words short whole y) = absurd (omega (arith, long, short))
+one_fault line a b (not_worded short broken x) (too_long long y) = absurd (omega (arith, long, short))
+one_fault line a b (not_worded short broken x) (not_worded also other y) = x ∙ sym y
+one_fault line a b (not_worded short broken x) (of_words also whole y) = absurd (true≢false (sym whole ∙ broken))
+one_fault line a b (of_words short whole x) (too_long long y) = absurd (omega (arith, long, short))
+one_fault line a b (of_words short whole x) (not_worded also broken y) = absurd (true≢false (sym whole ∙ broken))
+one_fault line a b (of_words short whole x) (of_words also other y) = one_of_words (words_of line) a b x y
+
+-- what was read of a line is all that it spells
+pub only_event : (line : List ℕ) (r : Result Event LineFault) → IfOk r (Spells line) → IfErr r (λ fault. (fault ≡ NoMemory) ⊎ IsFirstFault line fault) → (event : Event) → Spells line event → (r ≡ Ok event) ⊎ (r ≡ Err NoMemory)
+only_event line (Ok other) found fault event h = inl (ap Ok (one_event line other event found h))
+only_event line (Err other) found (inl memory) event h = inr (ap Err memory)
+only_event line (Err other) found (inr bad) event h = absurd (spelled_faultless line event other h bad)
+
+-- and what it was refused with is its first fault
+pub only_fault : (line : List ℕ) (r : Result Event LineFault) → IfOk r (Spells line) → IfErr r (λ fault. (fault ≡ NoMemory) ⊎ IsFirstFault line fault) → (fault : LineFault) → IsFirstFault line fault → (r ≡ Err fault) ⊎ (r ≡ Err NoMemory)
+only_fault line (Ok event) found is fault bad = absurd (spelled_faultless line event fault found bad)
+only_fault line (Err other) found (inl memory) fault bad = inr (ap Err memory)
+only_fault line (Err other) found (inr is) fault bad = inl (ap Err (one_fault line other fault is bad))
+
+-- the faults of the words of a line are the line's
+pub fault_of_line : (line : List ℕ) (words : List (List ℕ)) (r : Result Event LineFault) → length line ≤ 8192 → is_worded line ≡ true → words ≡ words_of line → IfErr r (λ fault. (fault ≡ NoMemory) ⊎ IsFaultOfWords words fault) → IfErr r (λ fault. (fault ≡ NoMemory) ⊎ IsFirstFault line fault)
+fault_of_line line words (Ok event) short worded are h = tt
+fault_of_line line words (Err fault) short worded are (inl memory) = inl memory
+fault_of_line line words (Err fault) short worded are (inr bad) =
+    inr (of_words short worded (subst (λ ws. IsFaultOfWords ws fault) are bad))
+
+-- of one outcome, what the other says is void
+pub only_err : {event : Event} (fault : LineFault) → ◌≡◌ {A = Result Event LineFault} (Err fault) (Ok event) ⊎ ◌≡◌ {A = Result Event LineFault} (Err fault) (Err NoMemory) → fault ≡ NoMemory
+only_err fault (inl h) = cc
+only_err fault (inr h) = cc
+
+pub only_ok : {event : Event} (other : Event) → ◌≡◌ {A = Result Event LineFault} (Ok other) (Ok event) ⊎ ◌≡◌ {A = Result Event LineFault} (Ok other) (Err NoMemory) → other ≡ event
+only_ok other (inl h) = cc
+only_ok other (inr h) = cc
+
+pub no_err : (event : Event) (fault : LineFault) → ◌≡◌ {A = Result Event LineFault} (Ok event) (Err fault) ⊎ ◌≡◌ {A = Result Event LineFault} (Ok event) (Err NoMemory) → ⊥
+no_err event fault (inl h) = cc
+no_err event fault (inr h) = cc

@@ -1,0 +1,113 @@
+-- Words and what they stand for: each one value of a kind.
+use Rattle.std.proofs.Common.{◌≡◌, ℕ, ◌<◌, ◌≤◌, List, length, refl, sym, ap, subst, ◌∙◌, arith, inl, inr, Option, Some, None, Ok, Err, Result, pos}
+use Rattle.std.specs.Prelude.{codes, IfErr}
+use Rattle.std.specs.Option.{ok_or}
+use Rattle.std.specs.Result.{result_ok}
+use Rattle.std.proofs.lemmas.Fmt.{decimal_injective}
+use Rattle.std.proofs.lemmas.Int.{ints}
+use Rattle.ele_moment.specs.declared.timestamp.Fields.{Fields}
+use Rattle.ele_moment.specs.Number.{SpellsNumber}
+use Rattle.ele_moment.specs.Spelled.{SpellsMoment, SpellsTimestamp, IsTimestamp, IsWorth, timestamp_text, last_moment}
+use Rattle.ele_moment.proofs.Timestamps.{fields_again}
+use Rattle.ele_moment.proofs.Moments.{short_number}
+use Rattle.std.proofs.lemmas.Bool.Decides.{nat_tests}
+use Rattle.hex.specs.Hex.{decode_of}
+use Rattle.std.specs.Option.{option_map}
+use Rattle.ele_moment.specs.ReadFields.{fields_of}
+use Rattle.ele_time_path.proofs.Spelled.{one_path, spelled_faultless}
+use Rattle.ele_script.specs.declared.fault.LineFault.{LineFault}
+use Rattle.ele_script.specs.declared.fault.LineFault.TheVariants.{BadMoment}
+use Rattle.ele_script.specs.Value.{Kind, NumberWord, MomentWord, PathWord, BytesWord, Value, Number, Moment, Path, Bytes, kind_of, SpellsBytes, SpellsValue}
+use Rattle.ele_script.specs.LineFault.{fault_of_path}
+use Rattle.ele_script.specs.FirstFault.{IsOfKind, IsWordFault}
+
+-- a word stands for one number
+one_number : (word : List ℕ) (m n : ℕ) → SpellsNumber word m → SpellsNumber word n → m ≡ n
+one_number word m n a b = decimal_injective m n a.fits b.fits (sym a.digits ∙ b.digits)
+
+-- a date and time is worth one moment
+one_worth : (f : Fields) (m n : ℕ) → IsWorth f m → IsWorth f n → m ≡ n
+one_worth f m n a b =
+    let day : pos a.0 ≡ pos b.0 = sym a.1 ∙ b.1 in
+    let same : a.0 ≡ b.0 = omega (arith, ints) in
+    omega (arith, same, a.2, b.2)
+
+some_is : {A : Type 0} {x y : A} → ◌≡◌ {A = Option A} (Some x) (Some y) → x ≡ y
+some_is h = cc
+
+fields_of-text : (f : Fields) → IsTimestamp f → fields_of (timestamp_text f) ≡ Some f
+fields_of-text f is =
+    let most = is.date.day_in.1 in
+    let day : f.day < 100 = grind (arith, nat_tests) in
+    fields_again f (omega (arith, is.date.year_in.1)) (omega (arith, is.date.month_in.1)) day (omega (arith, is.hour)) (omega (arith, is.minute)) (omega (arith, is.second))
+
+one_timestamp : (word : List ℕ) (m n : ℕ) → SpellsTimestamp word m → SpellsTimestamp word n → m ≡ n
+one_timestamp word m n a b =
+    let same : a.fields ≡ b.fields = some_is (sym (fields_of-text a.fields a.is) ∙ ap fields_of (sym a.text ∙ b.text) ∙ fields_of-text b.fields b.is) in
+    one_worth a.fields m n a.worth (subst (λ f. IsWorth f n) (sym same) b.worth)
+
+no_both : {P : Type 0} (word : List ℕ) (m n : ℕ) → m ≤ last_moment → SpellsNumber word m → SpellsTimestamp word n → P
+no_both word m n le a b =
+    let short = short_number word m le a in
+    let long : length word ≡ 20 = ap length b.text in
+    absurd (omega (arith, short, long))
+
+one_moment : (word : List ℕ) (m n : ℕ) → SpellsMoment word m → SpellsMoment word n → m ≡ n
+one_moment word m n a b =
+    elim a.form [
+      | inl number ↦ elim b.form [ inl other ↦ one_number word m n number other | inr stamp ↦ no_both word m n a.in_range number stamp ]
+      | inr stamp ↦ elim b.form [ inl number ↦ no_both word n m b.in_range number stamp | inr other ↦ one_timestamp word m n stamp other ]
+    ]
+
+ok_is : {A E : Type 0} {x y : A} → ◌≡◌ {A = Result A E} (Ok x) (Ok y) → x ≡ y
+ok_is h = cc
+
+absurd_ok : {A E : Type 0} {x : A} {e : E} → ◌≡◌ {A = Result A E} (Err e) (Ok x) → ⊥
+absurd_ok h = cc
+
+-- a dash is no digit
+no_dash : (word bytes : List ℕ) → word ≡ codes "-" → decode_of word ≡ Ok bytes → ⊥
+no_dash word bytes dash digits = absurd_ok (sym (ap decode_of dash) ∙ digits)
+
+one_bytes : (word : List ℕ) (a b : List ℕ) → SpellsBytes word a → SpellsBytes word b → a ≡ b
+one_bytes word a b (inl x) (inl y) = x.1 ∙ sym y.1
+one_bytes word a b (inl x) (inr y) = absurd (no_dash word b x.0 y.1)
+one_bytes word a b (inr x) (inl y) = absurd (no_dash word a y.0 x.1)
+one_bytes word a b (inr x) (inr y) = ok_is (sym x.1 ∙ y.1)
+
+-- a word stands for one value of a kind
+pub one_value : (word : List ℕ) (a b : Value) → kind_of a ≡ kind_of b → SpellsValue word a → SpellsValue word b → a ≡ b
+one_value word (Number m) (Number n) k a b = ap Number (one_number word m n a b)
+one_value word (Moment m) (Moment n) k a b = ap Moment (one_moment word m n a b)
+one_value word (Path m) (Path n) k a b = ap Path (one_path word m n a b)
+one_value word (Bytes m) (Bytes n) k a b = ap Bytes (one_bytes word m n a b)
+one_value word _ _ k a b = absurd cc
+
+none_is : {A : Type 0} {x : A} → ◌≡◌ {A = Option A} None (Some x) → ⊥
+none_is h = cc
+
+-- a word that stands for a value of its kind has no fault
+pub faultless_word : (kind : Kind) (word : List ℕ) (fault : LineFault) → IsOfKind kind word → IsWordFault kind word fault → ⊥
+faultless_word NumberWord word fault is bad = bad.1 is
+faultless_word MomentWord word fault is bad = bad.1 is
+faultless_word PathWord word fault (Path names, k, is) bad = none_is (ap (λ o. option_map fault_of_path o) (sym (spelled_faultless word names is)) ∙ bad)
+faultless_word PathWord word fault (value, k, is) bad = absurd cc
+faultless_word BytesWord word fault is bad = bad.1 is
+
+-- a word has one fault of its kind
+pub one_word_fault : (kind : Kind) (word : List ℕ) (a b : LineFault) → IsWordFault kind word a → IsWordFault kind word b → a ≡ b
+one_word_fault NumberWord word a b x y = x.0 ∙ sym y.0
+one_word_fault MomentWord word a b x y = x.0 ∙ sym y.0
+one_word_fault PathWord word a b x y = some_is (sym x ∙ y)
+one_word_fault BytesWord word a b x y = x.0 ∙ sym y.0
+
+moment_of : (word : List ℕ) → IsOfKind MomentWord word → (m : ℕ) × SpellsMoment word m
+moment_of word (Moment m, k, is) = (m, is)
+moment_of word (value, k, is) = absurd cc
+
+-- what is said where no moment was read
+pub moment_fault : {E : Type 0} (word : List ℕ) (read : Result ℕ E) (r : Result ℕ LineFault) → ((m : ℕ) → SpellsMoment word m → read ≡ Ok m) → r ≡ ok_or (result_ok read) BadMoment → IfErr r (IsWordFault MomentWord word)
+moment_fault word (Ok m) r only is = subst (λ r. IfErr r (IsWordFault MomentWord word)) (sym is) tt
+moment_fault word (Err e) r only is =
+    let no : IsOfKind MomentWord word → ⊥ = λ h. let m = moment_of word h in absurd_ok (only m.0 m.1) in
+    subst (λ r. IfErr r (IsWordFault MomentWord word)) (sym is) (refl, no)

@@ -1,0 +1,7 @@
+use Rattle.std.proofs.Common.{◌≡◌, ℕ, List, ◌++◌}
+use Rattle.std.specs.Io.KnownBytes.{Appends}
+use Rattle.ele_script.proofs.output.put.Given as goal
+
+-- a part is written, and the rest is left
+abbrev pub invariant-parts : goal.invariant-parts
+invariant-parts g l = (sent : List ℕ) × (l.bytes ≡ sent ++ l.rest) × Appends (g.W.Write.contents l.fn.writer) (g.W.Write.contents l.writer) sent

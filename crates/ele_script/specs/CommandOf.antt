@@ -1,0 +1,36 @@
+-- The command that words begin with, in the order in which it is looked for. No public clause cites this module.
+use Rattle.std.specs.Prelude.{ℕ, List, [], ◌∷◌, Option, Some, None, codes, if◌then◌else◌}
+use Rattle.std.specs.Option.{option_map}
+use Rattle.std.specs.Str.{bytes_eq}
+use Rattle.ele_script.specs.declared.command.Command.{Command}
+use Rattle.ele_script.specs.declared.command.Command.TheVariants.{Clock, Create, OpenWrite, Write, Close, Clean, Due}
+
+-- the command of one word
+unfoldable pub one_word_command : List ℕ → Option Command
+one_word_command word =
+    if bytes_eq word (codes "clock") then Some Clock else
+    if bytes_eq word (codes "create") then Some Create else
+    if bytes_eq word (codes "write") then Some Write else
+    if bytes_eq word (codes "close") then Some Close else
+    if bytes_eq word (codes "clean") then Some Clean else
+    if bytes_eq word (codes "due") then Some Due else
+    None
+
+-- the command of two words whose first is `open`
+unfoldable pub open_command : List ℕ → Option Command
+open_command word = if bytes_eq word (codes "write") then Some OpenWrite else None
+
+-- a command, and the words behind it
+abbrev pub before : List (List ℕ) → Option Command → Option (Command × List (List ℕ))
+before rest command = option_map (λ c. (c, rest)) command
+
+-- the command of two words, behind the first of them
+abbrev pub second_of : (List ℕ → Option Command) → List (List ℕ) → Option (Command × List (List ℕ))
+second_of command [] = None
+second_of command (word ∷ rest) = before rest (command word)
+
+-- the command in front of the words, and the words behind it
+unfoldable pub command_of : List (List ℕ) → Option (Command × List (List ℕ))
+command_of [] = None
+command_of (word ∷ rest) =
+    if bytes_eq word (codes "open") then second_of open_command rest else before rest (one_word_command word)

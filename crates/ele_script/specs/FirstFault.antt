@@ -1,0 +1,49 @@
+-- The first fault of a line that spells no event.
+use Rattle.std.specs.Prelude.{◌≡◌, ◌≢◌, ℕ, ◌<◌, ◌≤◌, List, ◌∷◌, ◌++◌, length, Some, true, false, ◌⊎◌}
+use Rattle.std.specs.Option.{option_map}
+use Rattle.ele_time_path.specs.FirstFault.{path_fault}
+use Rattle.ele_script.specs.declared.command.Command.{Command}
+use Rattle.ele_script.specs.declared.fault.LineFault.{LineFault}
+use Rattle.ele_script.specs.declared.fault.LineFault.TheVariants.{BadMoment, Syntax, LineTooLong}
+use Rattle.ele_script.specs.LineFault.{fault_of_path}
+use Rattle.ele_script.specs.Value.{Kind, NumberWord, MomentWord, PathWord, BytesWord, Value, kind_of, SpellsValue}
+use Rattle.ele_script.specs.Command.{command_words, kinds_behind}
+use Rattle.ele_script.specs.Words.{words_of, is_worded}
+
+-- the word stands for some value of the kind
+abbrev pub IsOfKind : Kind → List ℕ → Type 0
+IsOfKind kind word = (value : Value) × (kind_of value ≡ kind) × SpellsValue word value
+
+-- the fault of a word that stands for no value of its kind
+abbrev pub IsWordFault : Kind → List ℕ → LineFault → Type 0
+IsWordFault NumberWord word fault = (fault ≡ Syntax) × ¬ IsOfKind NumberWord word
+IsWordFault MomentWord word fault = (fault ≡ BadMoment) × ¬ IsOfKind MomentWord word
+IsWordFault PathWord word fault = option_map fault_of_path (path_fault word) ≡ Some fault
+IsWordFault BytesWord word fault = (fault ≡ Syntax) × ¬ IsOfKind BytesWord word
+
+-- the fault of the first bad word, from the left
+abbrev pub IsFirstWordFault : List Kind → List (List ℕ) → LineFault → Type 0
+IsFirstWordFault (kind ∷ kinds) (word ∷ words) fault =
+    IsWordFault kind word fault ⊎ (IsOfKind kind word × IsFirstWordFault kinds words fault)
+IsFirstWordFault kinds words fault = ⊥
+
+-- the words are the command, and as many words behind it as it wants
+pub record FitsCommand (words : List (List ℕ)) (command : Command) (arguments : List (List ℕ)) : Type 0 where
+  pub are : words ≡ command_words command ++ arguments
+  pub count : length arguments ≡ length (kinds_behind command)
+
+-- the fault of the words behind a command: their number, or the first bad one
+pub data IsFaultBehind (command : Command) (arguments : List (List ℕ)) (fault : LineFault) : Type 0 where
+  miscounted : length arguments ≢ length (kinds_behind command) → fault ≡ Syntax → IsFaultBehind command arguments fault
+  bad_word : length arguments ≡ length (kinds_behind command) → IsFirstWordFault (kinds_behind command) arguments fault → IsFaultBehind command arguments fault
+
+-- the fault of plain words: they fit no command, or the first bad one
+pub data IsFaultOfWords (words : List (List ℕ)) (fault : LineFault) : Type 0 where
+  no_command : ((command : Command) (arguments : List (List ℕ)) → ¬ FitsCommand words command arguments) → fault ≡ Syntax → IsFaultOfWords words fault
+  of_word : (command : Command) (arguments : List (List ℕ)) → FitsCommand words command arguments → IsFirstWordFault (kinds_behind command) arguments fault → IsFaultOfWords words fault
+
+-- the first fault of a line: its length, its bytes and spaces, its command and number of words, its first bad word
+pub data IsFirstFault (line : List ℕ) (fault : LineFault) : Type 0 where
+  too_long : 8192 < length line → fault ≡ LineTooLong → IsFirstFault line fault
+  not_worded : length line ≤ 8192 → is_worded line ≡ false → fault ≡ Syntax → IsFirstFault line fault
+  of_words : length line ≤ 8192 → is_worded line ≡ true → IsFaultOfWords (words_of line) fault → IsFirstFault line fault

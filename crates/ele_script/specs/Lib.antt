@@ -1,0 +1,9 @@
+pub mod Value
+pub mod Command
+pub mod CommandOf
+pub mod Words
+pub mod Spells
+pub mod LineFault
+pub mod FirstFault
+pub mod Front
+pub mod Printed

@@ -1,0 +1,87 @@
+-- Replies in text.
+use Rattle.std.specs.Prelude.{◌≡◌, ℕ, List, [], ◌∷◌, ◌++◌, length, codes, Option, Some, None, Result, Ok, Err}
+use Rattle.std.specs.Fmt.{decimal}
+use Rattle.std.specs.List.{flat_map, join_with_byte}
+use Rattle.std.specs.Io.KnownBytes.{Appends}
+use Rattle.ele_moment.specs.Spelled.{SpellsTimestamp}
+use Rattle.ele_world.specs.Answers.{refusal_number, refusal_name, stop_number, stop_name, which_word}
+use Rattle.ele_world.specs.declared.key.Key.{Key}
+use Rattle.ele_world.specs.declared.refusal.Refusal.{Refusal}
+use Rattle.ele_world.specs.declared.refusal.Refusal.TheVariants as refusal
+use Rattle.ele_world.specs.declared.refusal.Stop.{Stop}
+use Rattle.ele_world.specs.declared.reply.Reply.{Reply}
+use Rattle.ele_world.specs.declared.reply.Reply.TheVariants.{Done, Nothing, Now, File, Handle, Closed, Removed, DueList, Refused}
+use Rattle.ele_script.specs.Front.{AppendsFront}
+use Rattle.ele_script.specs.LineFault.{fault_number, fault_name}
+use Rattle.ele_script.specs.declared.fault.LineFault.{LineFault}
+
+-- words with a space between each two, and a line feed
+abbrev pub line_text : List (List ℕ) → List ℕ
+line_text words = join_with_byte 32 words ++ 10 ∷ []
+
+-- the words of a key: its moment, its file and its number
+abbrev pub key_words : Key → List (List ℕ)
+key_words key = decimal key.ripe ∷ decimal key.file ∷ decimal key.number ∷ []
+
+-- what follows the name of a refusal
+abbrev pub refusal_details : Refusal → List (List ℕ)
+refusal_details (refusal.Forgotten (Some before)) = decimal before ∷ []
+refusal_details (refusal.Forgotten None) = codes "-" ∷ []
+refusal_details (refusal.Full which) = which_word which ∷ []
+refusal_details other = []
+
+-- the text of a refusal: its number, its name, and what follows
+abbrev pub refusal_text : Refusal → List ℕ
+refusal_text why =
+    line_text (codes "no" ∷ decimal (refusal_number why) ∷ refusal_name why ∷ refusal_details why)
+
+-- the text of a closing, with the version that it made, if it made one
+abbrev pub closed_text : Option ℕ → List ℕ
+closed_text None = line_text (codes "ok closed" ∷ [])
+closed_text (Some number) = line_text (codes "ok closed version" ∷ decimal number ∷ [])
+
+-- the line of a key that is due
+abbrev pub due_line : Key → List ℕ
+due_line key = line_text (codes "-" ∷ key_words key)
+
+-- the text of keys: how many, and a line for each
+abbrev pub due_text : List Key → List ℕ
+due_text keys = line_text (codes "ok due" ∷ decimal (length keys) ∷ []) ++ flat_map due_line keys
+
+-- the text is the reply's; of a moment it has the seconds, and the date and time
+abbrev pub IsReplyText : Reply → List ℕ → Type 0
+IsReplyText Done text = text ≡ line_text (codes "ok done" ∷ [])
+IsReplyText Nothing text = text ≡ line_text (codes "ok nothing" ∷ [])
+IsReplyText (Now moment) text =
+    (stamp : List ℕ) × SpellsTimestamp stamp moment × (text ≡ line_text (codes "ok now" ∷ decimal moment ∷ stamp ∷ []))
+IsReplyText (File file) text = text ≡ line_text (codes "ok file" ∷ decimal file ∷ [])
+IsReplyText (Handle handle) text = text ≡ line_text (codes "ok handle" ∷ decimal handle ∷ [])
+IsReplyText (Closed made) text = text ≡ closed_text made
+IsReplyText (Removed key) text = text ≡ line_text (codes "ok removed" ∷ key_words key)
+IsReplyText (DueList keys) text = text ≡ due_text keys
+IsReplyText (Refused why) text = text ≡ refusal_text why
+
+-- the text of a stop: its number and its name
+abbrev pub stop_text : Stop → List ℕ
+stop_text stop = line_text (codes "stop" ∷ decimal (stop_number stop) ∷ stop_name stop ∷ [])
+
+-- the text is that of a reply, or of the stop in its place
+abbrev pub IsAnswerText : Result Reply Stop → List ℕ → Type 0
+IsAnswerText (Ok reply) text = IsReplyText reply text
+IsAnswerText (Err stop) text = text ≡ stop_text stop
+
+-- the text of a bad line: the number and the name of its fault
+abbrev pub bad_text : LineFault → List ℕ
+bad_text fault = line_text (codes "bad" ∷ decimal (fault_number fault) ∷ fault_name fault ∷ [])
+
+-- the known bytes grew by the answer's text
+pub record WritesAnswer (answer : Result Reply Stop) (old new : Option (List ℕ)) : Type 0 where
+  pub text : List ℕ
+  pub is : IsAnswerText answer text
+  pub written : Appends old new text
+
+-- the known bytes grew by a front of the answer's text
+pub record WritesAnswerFront (answer : Result Reply Stop) (old new : Option (List ℕ)) : Type 0 where
+  pub text : List ℕ
+  pub is : IsAnswerText answer text
+  pub written : AppendsFront old new text

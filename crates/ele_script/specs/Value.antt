@@ -1,0 +1,38 @@
+-- What a word of a line may stand for.
+use Rattle.std.specs.Prelude.{◌≡◌, ℕ, ◌<◌, List, [], length, codes, ◌⊎◌, Ok}
+use Rattle.hex.specs.Hex.{decode_of}
+use Rattle.ele_moment.specs.Number.{SpellsNumber}
+use Rattle.ele_moment.specs.Spelled.{SpellsMoment}
+use Rattle.ele_time_path.specs.Path.{SpellsPath}
+
+-- the kinds of words behind a command
+pub data Kind : Type 0 where
+  NumberWord : Kind
+  MomentWord : Kind
+  PathWord : Kind
+  BytesWord : Kind
+
+-- what a word stands for
+pub data Value : Type 0 where
+  Number : ℕ → Value
+  Moment : ℕ → Value
+  Path : List (List ℕ) → Value
+  Bytes : List ℕ → Value
+
+-- the kind of words that stand for such a value
+abbrev pub kind_of : Value → Kind
+kind_of (Number n) = NumberWord
+kind_of (Moment m) = MomentWord
+kind_of (Path names) = PathWord
+kind_of (Bytes bytes) = BytesWord
+
+-- `-` for no bytes, else an even number of hexadecimal digits, each two a byte
+abbrev pub SpellsBytes : List ℕ → List ℕ → Type 0
+SpellsBytes word bytes = ((word ≡ codes "-") × (bytes ≡ [])) ⊎ ((0 < length word) × (decode_of word ≡ Ok bytes))
+
+-- the word stands for the value
+abbrev pub SpellsValue : List ℕ → Value → Type 0
+SpellsValue word (Number n) = SpellsNumber word n
+SpellsValue word (Moment m) = SpellsMoment word m
+SpellsValue word (Path names) = SpellsPath word names
+SpellsValue word (Bytes bytes) = SpellsBytes word bytes

@@ -1,0 +1,15 @@
+-- The words of a line.
+use Rattle.std.specs.Prelude.{ℕ, ◌==◌, ◌&&◌, nat_le, nat_lt, Bool, List, length}
+use Rattle.std.specs.List.{slice_split, list_all}
+
+-- what stands between the spaces of a line
+abbrev pub words_of : List ℕ → List (List ℕ)
+words_of line = slice_split (λ byte. byte == 32) line
+
+-- from the space to the tilde
+abbrev pub is_plain : ℕ → Bool
+is_plain byte = nat_le 32 byte && nat_le byte 126
+
+-- plain bytes, one space between each two words, and none in front or behind
+abbrev pub is_worded : List ℕ → Bool
+is_worded line = list_all is_plain line && list_all (λ word. nat_lt 0 (length word)) (words_of line)

@@ -1,0 +1,67 @@
+//! The commands of the script. A contract sees a command as itself.
+ghost use Rattle.std.specs.Prelude.{◌≡◌, map};
+ghost use Rattle.std.specs.Option.{option_map};
+ghost use Rattle.ele_script.specs.CommandOf.{command_of, one_word_command, open_command};
+
+/// What a line tells a world to do; its first word, or its first two, name it.
+#[derive(Clone, Copy, Debug, PartialEq, Eq)]
+pub(crate) enum Command {
+    Clock,
+    Create,
+    OpenWrite,
+    Write,
+    Close,
+    Clean,
+    Due,
+}
+
+/// The command in front of the words, and the words behind it.
+#[tactic(auto, unfolding(crate::specs::CommandOf::command_of))]
+pub(crate) fn read_command<'w, 'l>(words: &'w [&'l [u8]]) -> Option<(Command, &'w [&'l [u8]])>
+    ensures { option_map (λ x. (x.0, map (λ word. word.now) x.1.now)) result
+        ≡ command_of (map (λ word. word.now) words.now) }
+{
+    let (first, rest) = words.split_first()?;
+    if *first == b"open".as_slice() {
+        let (second, rest) = rest.split_first()?;
+        return Some((read_open(second)?, rest));
+    }
+    Some((read_one(first)?, rest))
+}
+
+/// The command of one word.
+#[tactic(auto, unfolding(crate::specs::CommandOf::one_word_command))]
+fn read_one(word: &[u8]) -> Option<Command>
+    ensures { result ≡ one_word_command word.now }
+{
+    if word == b"clock".as_slice() {
+        return Some(Command::Clock);
+    }
+    if word == b"create".as_slice() {
+        return Some(Command::Create);
+    }
+    if word == b"write".as_slice() {
+        return Some(Command::Write);
+    }
+    if word == b"close".as_slice() {
+        return Some(Command::Close);
+    }
+    if word == b"clean".as_slice() {
+        return Some(Command::Clean);
+    }
+    if word == b"due".as_slice() {
+        return Some(Command::Due);
+    }
+    None
+}
+
+/// The command of two words whose first is `open`.
+#[tactic(auto, unfolding(crate::specs::CommandOf::open_command))]
+fn read_open(word: &[u8]) -> Option<Command>
+    ensures { result ≡ open_command word.now }
+{
+    if word == b"write".as_slice() {
+        return Some(Command::OpenWrite);
+    }
+    None
+}

@@ -1,0 +1,15 @@
+//! The script's language: a line spells an event or has a first fault, and a reply is one line or
+//! more. A contract sees lines and replies as bytes.
+#![tactic(auto)]
+
+mod command;
+mod fault;
+mod output;
+mod reading;
+mod word;
+mod writing;
+
+pub use fault::{LineFault, WriteFault};
+pub use output::{put, put_line};
+pub use reading::{Line, read_event, read_line};
+pub use writing::{write_fault, write_reply};

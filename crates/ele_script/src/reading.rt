@@ -1,0 +1,225 @@
+//! Reading lines. A contract sees a line as its bytes, and an event as itself.
+ghost use Rattle.std.specs.Prelude.{◌≡◌, ◌∷◌, [], ◌⊎◌, ℕ, map, length, nat_lt, IfOk, IfErr, Ok, Err};
+ghost use Rattle.std.specs.List.{list_all};
+ghost use Rattle.ele_script.specs.Words.{words_of, is_plain, is_worded};
+ghost use Rattle.ele_script.specs.Spells.{Spells, SpellsLine, SpellsWords, SpellsBehind};
+ghost use Rattle.ele_script.specs.FirstFault.{IsFirstFault, IsFaultOfWords, IsFaultBehind};
+
+use crate::command::{Command, read_command};
+use crate::fault::LineFault;
+use crate::word;
+use ele_world::{Event, Handle};
+use std::alloc::{AllocError, Global};
+
+/// What a line of a script asks for.
+#[derive(Debug, Drop, PartialEq, Eq)]
+pub enum Line {
+    /// To run an event.
+    Event(Event),
+}
+
+/// The most bytes of a line.
+const MOST_BYTES: usize = 8192;
+
+/// What a line asks for, without its line feed.
+///
+/// A line that asks for nothing is answered with its first fault: its length, its bytes and spaces,
+/// its command and number of words, and then the first bad word from the left. `NoMemory` may come
+/// in place of any other answer.
+pub fn read_line(alloc: Global, line: &[u8]) -> Result<Line, LineFault>
+    ensures found { IfOk result (SpellsLine line.now) }
+    ensures only { (event : Event) → Spells line.now event
+        → (result ≡ Ok (Line.Event event)) ⊎ (result ≡ Err LineFault.NoMemory) }
+    ensures fault { IfErr result
+        (λ fault. (fault ≡ LineFault.NoMemory) ⊎ IsFirstFault line.now fault) }
+    ensures refused { (fault : LineFault) → IsFirstFault line.now fault
+        → (result ≡ Err fault) ⊎ (result ≡ Err LineFault.NoMemory) }
+{
+    Ok(Line::Event(read_event(alloc, line)?))
+}
+
+/// The event that a line spells, without its line feed. It is refused as `read_line` refuses it.
+pub fn read_event(alloc: Global, line: &[u8]) -> Result<Event, LineFault>
+    ensures found { IfOk result (Spells line.now) }
+    ensures only { (event : Event) → Spells line.now event
+        → (result ≡ Ok event) ⊎ (result ≡ Err LineFault.NoMemory) }
+    ensures fault { IfErr result
+        (λ fault. (fault ≡ LineFault.NoMemory) ⊎ IsFirstFault line.now fault) }
+    ensures refused { (fault : LineFault) → IsFirstFault line.now fault
+        → (result ≡ Err fault) ⊎ (result ≡ Err LineFault.NoMemory) }
+{
+    if line.len() > MOST_BYTES {
+        return Err(LineFault::LineTooLong);
+    }
+    if !has_words(line) {
+        return Err(LineFault::Syntax);
+    }
+    let words = split_words(alloc, line)?;
+    event_of(alloc, words.as_slice())
+}
+
+/// Whether a line is plain words with one space between each two.
+fn has_words(line: &[u8]) -> bool
+    ensures { result ≡ is_worded line.now }
+{
+    is_all_plain(line) && is_spaced(line)
+}
+
+/// Whether all bytes are from the space to the tilde.
+fn is_all_plain(line: &[u8]) -> bool
+    ensures { result ≡ list_all is_plain line.now }
+{
+    line.iter().all(|byte| *byte >= b' ' && *byte <= b'~')
+}
+
+/// Whether no word is empty.
+fn is_spaced(line: &[u8]) -> bool
+    ensures { result ≡ list_all (λ word. nat_lt 0 (length word)) (words_of line.now) }
+{
+    line.split(|byte| *byte == b' ')
+        .all(|word| !word.is_empty())
+}
+
+/// The words of a line.
+fn split_words(alloc: Global, line: &[u8]) -> Result<Vec<&[u8]>, AllocError>
+    ensures { IfOk result (λ words. map (λ word. word.now) words.items ≡ words_of line.now) }
+{
+    line.split(|byte| *byte == b' ').collect(alloc)
+}
+
+/// The event that words spell.
+fn event_of(alloc: Global, words: &[&[u8]]) -> Result<Event, LineFault>
+    ensures found { IfOk result (SpellsWords (map (λ word. word.now) words.now)) }
+    ensures fault { IfErr result
+        (λ fault. (fault ≡ LineFault.NoMemory)
+        ⊎ IsFaultOfWords (map (λ word. word.now) words.now) fault) }
+{
+    let Some((command, arguments)) = read_command(words) else {
+        return Err(LineFault::Syntax);
+    };
+    event_behind(alloc, command, arguments)
+}
+
+/// The event that the words behind a command make of it.
+fn event_behind(alloc: Global, command: Command, arguments: &[&[u8]]) -> Result<Event, LineFault>
+    ensures found { IfOk result
+        (SpellsBehind command (map (λ word. word.now) arguments.now)) }
+    ensures fault { IfErr result (λ fault. (fault ≡ LineFault.NoMemory)
+        ⊎ IsFaultBehind command (map (λ word. word.now) arguments.now) fault) }
+{
+    match command {
+        Command::Clock => clock(arguments),
+        Command::Create => create(alloc, arguments),
+        Command::OpenWrite => open_write(alloc, arguments),
+        Command::Write => write(alloc, arguments),
+        Command::Close => close(arguments),
+        Command::Clean => clean(arguments),
+        Command::Due => due(arguments),
+    }
+}
+
+/// `clock M`, of which the command is read.
+fn clock(arguments: &[&[u8]]) -> Result<Event, LineFault>
+    ensures found { IfOk result
+        (SpellsBehind Command.Clock (map (λ word. word.now) arguments.now)) }
+    ensures fault { IfErr result (λ fault. (fault ≡ LineFault.NoMemory)
+        ⊎ IsFaultBehind Command.Clock (map (λ word. word.now) arguments.now) fault) }
+{
+    let [moment] = arguments else {
+        return Err(LineFault::Syntax);
+    };
+    Ok(Event::Clock(word::moment(moment)?))
+}
+
+/// `create P`, of which the command is read.
+fn create(alloc: Global, arguments: &[&[u8]]) -> Result<Event, LineFault>
+    ensures found { IfOk result
+        (SpellsBehind Command.Create (map (λ word. word.now) arguments.now)) }
+    ensures fault { IfErr result (λ fault. (fault ≡ LineFault.NoMemory)
+        ⊎ IsFaultBehind Command.Create (map (λ word. word.now) arguments.now) fault) }
+{
+    let [path] = arguments else {
+        return Err(LineFault::Syntax);
+    };
+    Ok(Event::Create(word::path(alloc, path)?))
+}
+
+/// `open write P`, of which the command is read.
+fn open_write(alloc: Global, arguments: &[&[u8]]) -> Result<Event, LineFault>
+    ensures found { IfOk result
+        (SpellsBehind Command.OpenWrite (map (λ word. word.now) arguments.now)) }
+    ensures fault { IfErr result (λ fault. (fault ≡ LineFault.NoMemory)
+        ⊎ IsFaultBehind Command.OpenWrite (map (λ word. word.now) arguments.now) fault) }
+{
+    let [path] = arguments else {
+        return Err(LineFault::Syntax);
+    };
+    Ok(Event::OpenWrite(word::path(alloc, path)?))
+}
+
+/// `write H N X`, of which the command is read.
+fn write(alloc: Global, arguments: &[&[u8]]) -> Result<Event, LineFault>
+    ensures found { IfOk result
+        (SpellsBehind Command.Write (map (λ word. word.now) arguments.now)) }
+    ensures fault { IfErr result (λ fault. (fault ≡ LineFault.NoMemory)
+        ⊎ IsFaultBehind Command.Write (map (λ word. word.now) arguments.now) fault) }
+{
+    match arguments {
+        [handle, offset, bytes] => write_of(alloc, handle, offset, bytes),
+        _ => Err(LineFault::Syntax),
+    }
+}
+
+/// `write H N X`, of which the command is read and the words are counted.
+fn write_of(alloc: Global, handle: &[u8], offset: &[u8], bytes: &[u8]) -> Result<Event, LineFault>
+    ensures found { IfOk result
+        (SpellsBehind Command.Write (handle.now ∷ offset.now ∷ bytes.now ∷ [])) }
+    ensures fault { IfErr result (λ fault. (fault ≡ LineFault.NoMemory)
+        ⊎ IsFaultBehind Command.Write (handle.now ∷ offset.now ∷ bytes.now ∷ []) fault) }
+{
+    let handle = Handle(word::number(handle)?);
+    let offset = word::number(offset)?;
+    Ok(Event::Write(handle, offset, word::bytes(alloc, bytes)?))
+}
+
+/// `close H`, of which the command is read.
+fn close(arguments: &[&[u8]]) -> Result<Event, LineFault>
+    ensures found { IfOk result
+        (SpellsBehind Command.Close (map (λ word. word.now) arguments.now)) }
+    ensures fault { IfErr result (λ fault. (fault ≡ LineFault.NoMemory)
+        ⊎ IsFaultBehind Command.Close (map (λ word. word.now) arguments.now) fault) }
+{
+    let [handle] = arguments else {
+        return Err(LineFault::Syntax);
+    };
+    Ok(Event::Close(Handle(word::number(handle)?)))
+}
+
+/// `clean`, of which the command is read.
+fn clean(arguments: &[&[u8]]) -> Result<Event, LineFault>
+    ensures found { IfOk result
+        (SpellsBehind Command.Clean (map (λ word. word.now) arguments.now)) }
+    ensures fault { IfErr result (λ fault. (fault ≡ LineFault.NoMemory)
+        ⊎ IsFaultBehind Command.Clean (map (λ word. word.now) arguments.now) fault) }
+{
+    if !arguments.is_empty() {
+        return Err(LineFault::Syntax);
+    }
+    Ok(Event::CleanOne)
+}
+
+/// `due`, of which the command is read.
+fn due(arguments: &[&[u8]]) -> Result<Event, LineFault>
+    ensures found { IfOk result
+        (SpellsBehind Command.Due (map (λ word. word.now) arguments.now)) }
+    ensures fault { IfErr result (λ fault. (fault ≡ LineFault.NoMemory)
+        ⊎ IsFaultBehind Command.Due (map (λ word. word.now) arguments.now) fault) }
+{
+    if !arguments.is_empty() {
+        return Err(LineFault::Syntax);
+    }
+    Ok(Event::Due)
+}
+
+#[cfg(test)]
+mod tests;

@@ -1,0 +1,57 @@
+//! The words behind a command. A contract sees a word as its bytes, and what it spells as itself.
+ghost use Rattle.std.specs.Prelude.{◌≡◌, ◌⊎◌, IfOk, IfErr};
+ghost use Rattle.ele_moment.specs.Number.{SpellsNumber};
+ghost use Rattle.ele_moment.specs.Spelled.{SpellsMoment};
+ghost use Rattle.ele_time_path.specs.Path.{SpellsPath};
+ghost use Rattle.ele_script.specs.Value.{NumberWord, MomentWord, PathWord, BytesWord, SpellsBytes};
+ghost use Rattle.ele_script.specs.FirstFault.{IsWordFault};
+
+use crate::fault::LineFault;
+use ele_moment::{Moment, read_number};
+use ele_time_path::Path;
+use ele_world::ByteList;
+use std::alloc::Global;
+
+/// A number.
+pub(crate) fn number(word: &[u8]) -> Result<u64, LineFault>
+    ensures found { IfOk result (SpellsNumber word.now) }
+    ensures fault { IfErr result (IsWordFault NumberWord word.now) }
+{
+    read_number(word).ok_or(LineFault::Syntax)
+}
+
+/// A moment.
+pub(crate) fn moment(word: &[u8]) -> Result<Moment, LineFault>
+    ensures found { IfOk result (SpellsMoment word.now) }
+    ensures fault { IfErr result (IsWordFault MomentWord word.now) }
+{
+    Moment::read(word).ok().ok_or(LineFault::BadMoment)
+}
+
+/// A path.
+pub(crate) fn path(alloc: Global, word: &[u8]) -> Result<Path, LineFault>
+    ensures found { IfOk result (SpellsPath word.now) }
+    ensures fault { IfErr result
+        (λ fault. (fault ≡ LineFault.NoMemory) ⊎ IsWordFault PathWord word.now fault) }
+{
+    Ok(Path::read(alloc, word)?)
+}
+
+/// Bytes: `-` for none, or hexadecimal digits.
+pub(crate) fn bytes(alloc: Global, word: &[u8]) -> Result<ByteList, LineFault>
+    ensures found { IfOk result (SpellsBytes word.now) }
+    ensures fault { IfErr result
+        (λ fault. (fault ≡ LineFault.NoMemory) ⊎ IsWordFault BytesWord word.now fault) }
+{
+    if word == b"-".as_slice() {
+        return Ok(ByteList::new(alloc));
+    }
+    if word.is_empty() {
+        return Err(LineFault::Syntax);
+    }
+    match hex::decode(alloc, word) {
+        Ok(bytes) => Ok(ByteList::from_vec(bytes)),
+        Err(hex::FromHexError::OutOfMemory) => Err(LineFault::NoMemory),
+        Err(_) => Err(LineFault::Syntax),
+    }
+}

@@ -1,0 +1,5 @@
+pub mod Ends
+pub mod EveryInput
+pub mod Fronts
+pub mod Ran
+pub mod TakenLines

@@ -1,0 +1,50 @@
+-- The block of one line: what is written for it.
+use Rattle.std.specs.Prelude.{◌≡◌, ℕ, ◌+◌, ◌<◌, List, [], ◌∷◌, Option, Some, None, Result, Ok, Err}
+use Rattle.ele_world.specs.declared.event.Event.{Event}
+use Rattle.ele_world.specs.declared.reply.Reply.{Reply}
+use Rattle.ele_world.specs.declared.refusal.Stop.{Stop}
+use Rattle.ele_world.specs.declared.refusal.Stop.TheVariants.{NoMemory, HistoryFull}
+use Rattle.ele_world.specs.Step.{step}
+use Rattle.ele_script.specs.declared.fault.LineFault.TheVariants.{Syntax, LineTooLong}
+use Rattle.ele_script.specs.FirstFault.{IsFirstFault}
+use Rattle.ele_script.specs.Printed.{IsAnswerText, bad_text}
+use Rattle.ele_script.specs.Spells.{Spells}
+use Rattle.ele_shell.specs.declared.answer.Answer.{Answer}
+use Rattle.ele_shell.specs.declared.answer.Answer.TheVariants as answer
+use Rattle.ele_shell.specs.State.{State}
+
+-- an event is answered as the world's step answers it, while fewer replies were given than may be; where as many were
+-- given it is stopped, and want of memory may stop it anywhere
+abbrev pub MayReply : State → Event → Result Reply Stop → State → Type 0
+MayReply before event (Ok reply) after =
+    (before.replies < before.most) × ((reply, after.world) ≡ step before.world event)
+    × (after.replies ≡ before.replies + 1) × (after.most ≡ before.most)
+MayReply before event (Err HistoryFull) after = (before.replies ≡ before.most) × (after ≡ before)
+MayReply before event (Err NoMemory) after = after ≡ before
+
+-- a line is answered its first fault, or what the event is answered that it spells; want of memory may stop it
+abbrev pub MayAnswer : State → List ℕ → Answer → State → Type 0
+MayAnswer before line (answer.Bad fault) after = IsFirstFault line fault × (after ≡ before)
+MayAnswer before line (answer.Reply (Ok reply)) after =
+    (event : Event) × Spells line event × MayReply before event (Ok reply) after
+MayAnswer before line (answer.Reply (Err HistoryFull)) after =
+    (event : Event) × Spells line event × MayReply before event (Err HistoryFull) after
+MayAnswer before line (answer.Reply (Err NoMemory)) after = after ≡ before
+
+-- the text is that of the bad line, or of the reply or the stop
+abbrev pub IsText : Answer → List ℕ → Type 0
+IsText (answer.Bad fault) text = text ≡ bad_text fault
+IsText (answer.Reply reply) text = IsAnswerText reply text
+
+-- the block of a line as it is kept: an empty line has none, and one that is too long only says so
+abbrev pub IsBlock : State → Option (List ℕ) → List ℕ → State → Type 0
+IsBlock before None block after = (block ≡ bad_text LineTooLong) × (after ≡ before)
+IsBlock before (Some []) block after = (block ≡ []) × (after ≡ before)
+IsBlock before (Some (byte ∷ bytes)) block after =
+    (said : Answer) × MayAnswer before (byte ∷ bytes) said after × IsText said block
+
+-- the block of a last line without its line feed, which is never run
+abbrev pub cut_block : Option (List ℕ) → List ℕ
+cut_block None = bad_text LineTooLong
+cut_block (Some []) = []
+cut_block (Some (byte ∷ bytes)) = bad_text Syntax

@@ -1,0 +1,10 @@
+pub mod Block
+pub mod Bounds
+pub mod Fault
+pub mod Kept
+pub mod Lines
+pub mod Output
+pub mod Running
+pub mod State
+pub mod Taken
+pub mod Written

@@ -1,0 +1,13 @@
+//! Running of scripts: bytes in, text out.
+//! A contract sees the bytes that the reader gives and those that the writer takes, where these are known.
+#![tactic(auto)]
+
+mod answer;
+mod fault;
+mod keeper;
+mod line_buffer;
+mod reading;
+mod script;
+
+pub use fault::ShellFault;
+pub use script::run;

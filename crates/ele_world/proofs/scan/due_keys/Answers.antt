@@ -1,0 +1,10 @@
+use Rattle.std.proofs.Common.{arith}
+use Rattle.std.proofs.lemmas.Grind.{common_steps}
+use Rattle.ele_world.proofs.DueKeys.{in_order_more, in_order_all}
+use Rattle.ele_world.proofs.scan.due_keys.Goals as goal
+
+pub loop-row-preserved : goal.loop-row-preserved
+loop-row-preserved c = grind (arith, common_steps, in_order_more)
+
+pub returns : goal.returns
+returns c = grind (arith, common_steps, in_order_all)

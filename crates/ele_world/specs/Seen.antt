@@ -1,0 +1,10 @@
+-- A world of which only some rows are told. No definition but those of the scan is used of it.
+use Rattle.std.specs.Prelude.{ℕ, List}
+use Rattle.ele_world.specs.Bounds.{largest_bounds}
+use Rattle.ele_world.specs.declared.rows.FileRow.{FileRow}
+use Rattle.ele_world.specs.declared.rows.VersionRow.{VersionRow}
+use Rattle.ele_world.specs.World.{World, fresh_world}
+
+-- the world with these files and versions at that moment, and nothing else
+abbrev pub seen : ℕ → List FileRow → List VersionRow → World
+seen now files versions = record (fresh_world largest_bounds) { now = now; files = files; versions = versions }

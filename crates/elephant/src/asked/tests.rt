@@ -1,0 +1,88 @@
+//! The program's words and statuses.
+use super::*;
+use std::test::Fail;
+
+fn asked_by(alloc: Global, texts: &[&str]) -> Result<Asked, Fail> {
+    let mut given = Vec::new(alloc);
+    for text in texts {
+        given.push(String::from_str(alloc, text)?)?;
+    }
+    Ok(words(alloc, given.as_slice()))
+}
+
+/// The limit of events of a run that the words ask for.
+fn events_of(alloc: Global, texts: &[&str]) -> Result<Option<u64>, Fail> {
+    match asked_by(alloc, texts)? {
+        Asked::Run(events) => Ok(Some(events)),
+        _ => Ok(None),
+    }
+}
+
+#[test]
+fn a_run_has_a_limit_of_events(rt: HostRuntime) -> Result<(), Fail> {
+    let alloc = rt.alloc();
+    assert_eq!(rt; events_of(alloc, &["elephant", "run"])?, Some(1_000_000));
+    assert_eq!(rt;
+        events_of(alloc, &["elephant", "run", "--events", "1"])?,
+        Some(1)
+    );
+    assert_eq!(rt;
+        events_of(alloc, &["elephant", "run", "--events=5"])?,
+        Some(5)
+    );
+    assert_eq!(rt;
+        events_of(alloc, &["elephant", "run", "--events", "1000000000"])?,
+        Some(1_000_000_000)
+    );
+    Ok(())
+}
+
+#[test]
+fn other_words_are_not_understood(rt: HostRuntime) -> Result<(), Fail> {
+    let wrong: [&[&str]; 10] = [
+        &["elephant"],
+        &["elephant", "storm"],
+        &["elephant", "run", "script"],
+        &["elephant", "run", "--events"],
+        &["elephant", "run", "--events", "0"],
+        &["elephant", "run", "--events", "1000000001"],
+        &["elephant", "run", "--events", "05"],
+        &["elephant", "run", "--events", "+5"],
+        &["elephant", "run", "--events="],
+        &["elephant", "run", "--rounds", "5"],
+    ];
+    for texts in wrong {
+        match asked_by(rt.alloc(), texts)? {
+            Asked::NotUnderstood(text) => assert!(rt; !text.is_empty(), "{texts:?}"),
+            _ => assert!(rt; false, "{texts:?}"),
+        }
+    }
+    Ok(())
+}
+
+#[test]
+fn help_is_given_to_those_who_ask(rt: HostRuntime) -> Result<(), Fail> {
+    let asking: [&[&str]; 3] = [
+        &["elephant", "--help"],
+        &["elephant", "help"],
+        &["elephant", "run", "--help"],
+    ];
+    for texts in asking {
+        match asked_by(rt.alloc(), texts)? {
+            Asked::Help(text) => assert!(rt;
+                text.as_str().contains("Usage: elephant"),
+                "{texts:?}"
+            ),
+            _ => assert!(rt; false, "{texts:?}"),
+        }
+    }
+    Ok(())
+}
+
+#[test]
+fn a_fault_ends_with_its_status(rt: HostRuntime) {
+    assert_eq!(rt; status(ShellFault::ReadFault), 1);
+    assert_eq!(rt; status(ShellFault::WriteFault), 1);
+    assert_eq!(rt; status(ShellFault::TooManyLines), 1);
+    assert_eq!(rt; status(ShellFault::NoMemory), 3);
+}
