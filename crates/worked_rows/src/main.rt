@@ -25,7 +25,12 @@ const ROWS: [&str; 11] = [
 fn printed(rt: &HostRuntime, name: &str) -> Result<String> {
     let script = fs::read(rt, format!(in rt.alloc(); "{name}.script")?)?;
     let mut text = Vec::new(rt.alloc());
-    match run(rt.alloc(), &mut script.as_slice(), &mut text, Limits::largest()) {
+    match run(
+        rt.alloc(),
+        &mut script.as_slice(),
+        &mut text,
+        Limits::largest(),
+    ) {
         Ok(_lines) => Ok(String::from_utf8(text)?),
         Err(fault) => Err(anyhow!("{name}: {fault}")),
     }
