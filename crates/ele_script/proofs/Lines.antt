@@ -2,7 +2,7 @@
 use Rattle.std.proofs.Common.{◌≡◌, ℕ, ◌+◌, ◌<◌, ◌≤◌, List, [], ◌∷◌, ◌++◌, length, map, drop, get_or, refl, sym, ap, ◌∙◌, append_assoc}
 use Rattle.std.proofs.lemmas.List.{drop_more, drop_all}
 use Rattle.std.specs.List.{join_with_byte, flat_map}
-use Rattle.ele_world.specs.declared.key.Key.{Key}
+use Rattle.ele_due.specs.declared.key.Key.{Key}
 use Rattle.ele_script.specs.Printed.{line_text, due_line}
 
 -- what follows a word of a line

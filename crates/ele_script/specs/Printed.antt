@@ -5,7 +5,7 @@ use Rattle.std.specs.List.{flat_map, join_with_byte}
 use Rattle.std.specs.Io.KnownBytes.{Appends}
 use Rattle.ele_moment.specs.Spelled.{SpellsTimestamp}
 use Rattle.ele_world.specs.Answers.{refusal_number, refusal_name, stop_number, stop_name, which_word}
-use Rattle.ele_world.specs.declared.key.Key.{Key}
+use Rattle.ele_due.specs.declared.key.Key.{Key}
 use Rattle.ele_world.specs.declared.refusal.Refusal.{Refusal}
 use Rattle.ele_world.specs.declared.refusal.Refusal.TheVariants as refusal
 use Rattle.ele_world.specs.declared.refusal.Stop.{Stop}

@@ -15,7 +15,7 @@ use Rattle.ele_policy.specs.declared.policy.Policy.{Policy}
 use Rattle.ele_policy.specs.Ripe.{is_due_by, ripe_by}
 use Rattle.ele_world.specs.declared.rows.VersionRow.{VersionRow}
 use Rattle.ele_world.specs.declared.rows.FileRow.{FileRow}
-use Rattle.ele_world.specs.declared.key.Key.{Key}
+use Rattle.ele_due.specs.declared.key.Key.{Key}
 use Rattle.ele_world.specs.Due.{is_due, is_due_at, ripe_of}
 use Rattle.ele_world.specs.Scan.{in_order, key_cmp, due_key, key_of, scan}
 use Rattle.ele_world.specs.Seen.{seen}

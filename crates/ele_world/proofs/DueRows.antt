@@ -9,7 +9,7 @@ use Rattle.std.specs.Option.{option_map, option_map_or}
 use Rattle.std.proofs.lemmas.Bool.{false≢true}
 use Rattle.ele_policy.specs.Ripe.{is_due_by}
 use Rattle.ele_policy.specs.declared.policy.Policy.{Policy}
-use Rattle.ele_world.specs.declared.key.Key.{Key}
+use Rattle.ele_due.specs.declared.key.Key.{Key}
 use Rattle.ele_world.specs.declared.rows.VersionRow.{VersionRow}
 use Rattle.ele_world.specs.Due.{is_due_at, ripe_of}
 use Rattle.ele_world.specs.Scan.{key_cmp, key_of, due_key, scan, first_due}

@@ -1,18 +1,13 @@
 -- The scan: the keys of all versions that are due, in order.
-use Rattle.std.specs.Prelude.{ℕ, List, [], Option, None, fold, slice_get, if◌then◌else◌}
-use Rattle.std.specs.declared.cmp.Ordering.{Ordering}
+use Rattle.std.specs.Prelude.{ℕ, List, Option, None, slice_get, if◌then◌else◌}
 use Rattle.std.specs.List.{filter_map}
 use Rattle.std.specs.Option.{option_map}
-use Rattle.std.specs.Ordering.{nat_cmp, ordering_then}
-use Rattle.std.specs.BTreeSet.{insert_key}
-use Rattle.ele_world.specs.declared.key.Key.{Key}
+use Rattle.ele_due.specs.declared.key.Key.{Key}
+pub use Rattle.ele_due.specs.Key.{key_cmp}
+pub use Rattle.ele_due.specs.InOrder.{in_order}
 use Rattle.ele_world.specs.declared.rows.VersionRow.{VersionRow}
 use Rattle.ele_world.specs.World.{World}
 use Rattle.ele_world.specs.Due.{is_due_at, ripe_of}
-
--- by the moment, then by the file, then by the number
-abbrev pub key_cmp : Key → Key → Ordering
-key_cmp a b = ordering_then (nat_cmp a.ripe b.ripe) (ordering_then (nat_cmp a.file b.file) (nat_cmp a.number b.number))
 
 abbrev pub key_of : VersionRow → ℕ → Key
 key_of row ripe = record { ripe = ripe; file = row.file; number = row.number }
@@ -20,10 +15,6 @@ key_of row ripe = record { ripe = ripe; file = row.file; number = row.number }
 -- the key of the row, if it is due
 unfoldable pub due_key : World → VersionRow → Option Key
 due_key w row = if is_due_at w row w.now then option_map (key_of row) (ripe_of w row) else None
-
--- each key at its place in the order
-abbrev pub in_order : List Key → List Key
-in_order keys = fold (insert_key key_cmp) [] keys
 
 -- the keys of the rows that are due now
 unfoldable pub scan : World → List Key

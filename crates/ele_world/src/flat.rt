@@ -41,7 +41,7 @@ impl Flat {
 #[cfg(test)]
 mod tests {
     use super::*;
-    use crate::key::Key;
+    use ele_due::Key;
     use ele_moment::{FileId, VersionNo};
     use ele_policy::{Interval, Policy};
     use std::alloc::Global;

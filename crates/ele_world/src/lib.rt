@@ -4,7 +4,6 @@
 
 mod event;
 mod flat;
-mod key;
 pub mod laws;
 mod limits;
 mod list;
@@ -13,12 +12,12 @@ mod reply;
 mod rows;
 mod scan;
 
+pub use ele_due::Key;
 pub use ele_moment::{DirId, FileId, Handle, Moment, Name, NoMemory, VersionNo};
 pub use ele_policy::{Kind, Policy};
 pub use ele_time_path::Path;
 pub use event::Event;
 pub use flat::Flat;
-pub use key::Key;
 pub use limits::{Counts, Limits};
 pub use list::{ByteList, KeyList, ListOf};
 pub use refusal::{Refusal, Stop, Which};

@@ -3,7 +3,7 @@ ghost use Rattle.std.specs.Prelude.{◌≡◌, []};
 ghost use Rattle.std.specs.Cmp.Lexicographic.{pointwise, lists_per, lists_equiv};
 ghost use Rattle.std.specs.Cmp.{on_per, on_equiv};
 
-use crate::key::Key;
+use ele_due::Key;
 use std::alloc::Global;
 use std::marker::Model;
 

@@ -1,7 +1,7 @@
 //! Replies: what a command answers.
-use crate::key::Key;
 use crate::list::KeyList;
 use crate::refusal::Refusal;
+use ele_due::Key;
 use ele_moment::{FileId, Handle, Moment, VersionNo};
 
 /// The answer to a command.

@@ -4,15 +4,15 @@ ghost use Rattle.std.specs.Prelude.{◌≡◌, IfOk, OnOk, OnErr, find, fold, sl
 ghost use Rattle.std.specs.List.{cons_option};
 ghost use Rattle.std.specs.Option.{option_copied};
 ghost use Rattle.std.specs.BTreeSet.{insert_key};
-ghost use Rattle.ele_world.specs.declared.key.Key.{Key};
+ghost use Rattle.ele_due.specs.declared.key.Key.{Key};
 ghost use Rattle.ele_world.specs.Due.{is_due, is_due_at};
 ghost use Rattle.ele_world.specs.Scan.{key_cmp, due_key, scan, first_due};
 ghost use Rattle.ele_world.specs.Seen.{seen};
 ghost use Rattle.ele_world.specs.World.{is_file, is_version, policy_of};
 
-use crate::key::Key;
 use crate::list::{KeyList, ListOf};
 use crate::rows::{FileRow, VersionRow};
+use ele_due::Key;
 use ele_moment::{FileId, Moment, NoMemory, VersionNo};
 use ele_policy::{Policy, ripe};
 use std::alloc::Global;

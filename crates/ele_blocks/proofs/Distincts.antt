@@ -1,0 +1,93 @@
+-- The blocks of a store are as many as its maps name.
+use Rattle.std.proofs.Common.{◌≡◌, ℕ, ◌+◌, ◌<◌, Bool, true, false, ◌||◌, cond, List, [], ◌∷◌, map, Option, Some, None, is_some, refl, ap, sym, ◌∙◌, arith, eqb, ltb, zero, suc, inl, inr}
+use Rattle.std.specs.Prelude.{IfSome}
+use Rattle.std.proofs.Math.ListN.{set}
+use Rattle.std.specs.List.{list_any, count_by}
+use Rattle.std.proofs.lemmas.List.Sums.{sum_by-cons}
+use Rattle.std.proofs.lemmas.Bool.Decides.{nat_tests}
+use Rattle.ele_blocks.specs.declared.shared.Counted.{Counted}
+use Rattle.ele_blocks.specs.Shared.{times, place_at, owners_of, Owned}
+use Rattle.ele_blocks.specs.Store.{Store}
+use Rattle.ele_blocks.specs.Layout.{Layout, ids_of}
+use Rattle.ele_blocks.specs.Owes.{named, Owes}
+use Rattle.ele_blocks.specs.Distinct.{different, blocks_of, Place, is_place, Named, IsIn, AreOneToOne}
+use Rattle.ele_blocks.proofs.Trades.{times-append}
+
+self_eq : (x : ℕ) → eqb x x ≡ true
+self_eq x = grind (arith, nat_tests)
+
+-- how many places of the store hold something
+abbrev standing : Store → ℕ
+standing [] = 0
+standing (x ∷ xs) = cond (is_some x) 1 0 + standing xs
+
+count_standing : (s : Store) → count_by is_some s ≡ standing s
+count_standing [] = refl
+count_standing (x ∷ xs) = sum_by-cons (λ y. cond (is_some y) 1 0) x xs ∙ ap (λ n. cond (is_some x) 1 0 + n) (count_standing xs)
+
+taken_out : (s : Store) (id : ℕ) → is_some (place_at s id) ≡ true → standing (set s id None) + 1 ≡ standing s
+taken_out [] id h = cc
+taken_out (x ∷ xs) zero h = rw h (omega arith)
+taken_out (x ∷ xs) (suc id) h = omega (arith, taken_out xs id h)
+
+nothing : (t : Bool) → (let none : Option (Counted (List ℕ)) = None in none) ≡ cond t None None
+nothing true = refl
+nothing false = refl
+
+place_at_set : (s : Store) (id q : ℕ) → place_at (set s id None) q ≡ cond (eqb id q) None (place_at s q)
+place_at_set [] id q = nothing (eqb id q)
+place_at_set (x ∷ xs) zero zero = refl
+place_at_set (x ∷ xs) zero (suc q) = let e : eqb 0 (suc q) ≡ false = grind (arith, nat_tests) in rw e refl
+place_at_set (x ∷ xs) (suc id) zero = let e : eqb (suc id) 0 ≡ false = grind (arith, nat_tests) in rw e refl
+place_at_set (x ∷ xs) (suc id) (suc q) = let e : eqb (suc id) (suc q) ≡ eqb id q = grind (arith, nat_tests) in rw e (place_at_set xs id q)
+
+none_stand : (s : Store) → ((q : ℕ) → is_some (place_at s q) ≡ false) → standing s ≡ 0
+none_stand [] h = refl
+none_stand (x ∷ xs) h = let first = h 0 in rw first (omega (arith, none_stand xs (λ q. h (suc q))))
+
+-- where exactly the numbers of a list stand, as many stand as the list has different ones
+standing_different : (ids : List ℕ) (s : Store) → ((q : ℕ) → is_some (place_at s q) ≡ list_any (λ (y : ℕ). eqb y q) ids) → standing s ≡ different eqb ids
+standing_different [] s h = none_stand s h
+standing_different (x ∷ xs) s h = elim (list_any (λ (y : ℕ). eqb y x) xs) as (λ t. list_any (λ (y : ℕ). eqb y x) xs ≡ t → standing s ≡ cond t 0 1 + different eqb xs) [
+  | true ↦ λ e. standing_different xs s (λ q. elim (eqb x q) as (λ t. eqb x q ≡ t → is_some (place_at s q) ≡ list_any (λ (y : ℕ). eqb y q) xs) [
+    | true ↦ λ same. let is : q ≡ x = grind (arith, nat_tests) in rw is (let here = rw (is, self_eq x) at (h q) in here ∙ sym e)
+    | false ↦ λ other. rw other at (h q)
+  ] refl) ∙ (omega arith)
+  | false ↦ λ e.
+      let there : is_some (place_at s x) ≡ true = rw (self_eq x) at (h x) in
+      let rest = standing_different xs (set s x None) (λ q. rw (place_at_set s x q) (elim (eqb x q) as (λ t. eqb x q ≡ t → is_some (cond t None (place_at s q)) ≡ list_any (λ (y : ℕ). eqb y q) xs) [
+        | true ↦ λ same. let is : q ≡ x = grind (arith, nat_tests) in rw is (sym e)
+        | false ↦ λ other. rw other at (h q)
+      ] refl)) in
+      omega (arith, rest, taken_out s x there)
+] refl
+
+-- a block stands where it is owned
+some_owned : (b : Option (Counted (List ℕ))) → IfSome b (λ place. 0 < place.owners) → is_some b ≡ ltb 0 (owners_of b)
+some_owned None h = refl
+some_owned (Some b) h = sym (grind (arith, nat_tests))
+
+any_times : (q : ℕ) (xs : List ℕ) → list_any (λ (y : ℕ). eqb y q) xs ≡ ltb 0 (times q xs)
+any_times q [] = refl
+any_times q (x ∷ xs) = elim (eqb x q) as (λ t. (t || list_any (λ (y : ℕ). eqb y q) xs) ≡ ltb 0 (cond t 1 0 + times q xs)) [
+  | true ↦ sym (grind (arith, nat_tests))
+  | false ↦ any_times q xs ∙ ap (ltb 0) (let e : times q xs ≡ 0 + times q xs = omega arith in e)
+]
+
+times_named : (s : Store) (q : ℕ) (ms : List Layout) → times q (blocks_of s ms) ≡ named s q ms
+times_named s q [] = refl
+times_named s q (m ∷ ms) = omega (arith, times-append q (ids_of m.slots) (blocks_of s ms), times_named s q ms)
+
+pub distinct_named : (s : Store) (maps : List Layout) → Owned s → Owes s maps → count_by is_some s ≡ different eqb (blocks_of s maps)
+distinct_named s maps owned owes =
+    count_standing s ∙ standing_different (blocks_of s maps) s (λ q.
+    some_owned (place_at s q) (owned q) ∙ (ap (ltb 0) (owes.counted q ∙ sym (times_named s q maps)) ∙ sym (any_times q (blocks_of s maps))))
+
+-- one to one, there are as many places as blocks
+any_same : (n : Named) (ns : List Named) → ((q : Named) → IsIn q ns → is_place q.place n.place ≡ eqb q.block n.block) → list_any (λ (y : Place). is_place y n.place) (map (λ (m : Named). m.place) ns) ≡ list_any (λ (y : ℕ). eqb y n.block) (map (λ (m : Named). m.block) ns)
+any_same n [] h = refl
+any_same n (x ∷ xs) h = rw (h x (inl refl), any_same n xs (λ q i. h q (inr i))) refl
+
+pub as_many : (ns : List Named) → AreOneToOne ns → different is_place (map (λ (m : Named). m.place) ns) ≡ different eqb (map (λ (m : Named). m.block) ns)
+as_many [] h = refl
+as_many (x ∷ xs) h = rw (any_same x xs (λ q i. h q x (inr i) (inl refl)), as_many xs (λ p q i j. h p q (inr i) (inr j))) refl

@@ -1,0 +1,17 @@
+pub mod Trades
+pub mod SlotTrades
+pub mod Sizes
+pub mod Pieces
+pub mod LaidOvers
+pub mod Splices
+pub mod Moves
+pub mod Changes
+pub mod Places
+pub mod Replaces
+pub mod Written
+pub mod Writes
+pub mod Truncates
+pub mod Cuts
+pub mod Owed
+pub mod Distincts
+pub mod OneToOnes

@@ -1,0 +1,15 @@
+use Rattle.std.proofs.Common.{ap, length, arith}
+use Rattle.ele_blocks.proofs.Trades.{puts_more}
+use Rattle.ele_blocks.proofs.shared.put_each.Goals as goal
+
+pub loop-value-preserved : goal.loop-value-preserved
+loop-value-preserved g c =
+    let step = c.in-Some.ensures.steps in
+    let size = ap length step.0 in
+    let was = rw step.0 at c.loop-value.invariant.puts in
+    record {
+      puts = rw c.put.ensures.items (puts_more _ _ _ _ _ _ _ _ was c.put_one.ensures.vacant c.put_one.ensures.sets c.put_one.ensures.owned);
+      left = omega (arith, step, size);
+      room = c.put_one.ensures.room _ (omega (arith, step));
+      room_ids = omega (arith, step);
+    }

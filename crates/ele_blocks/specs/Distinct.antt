@@ -1,0 +1,56 @@
+-- How many blocks the maps of a store name.
+use Rattle.std.specs.Prelude.{◌≡◌, ◌⊎◌, ℕ, ◌+◌, ◌<◌, ◌==◌, ◌&&◌, Bool, List, [], ◌∷◌, if◌then◌else◌}
+use Rattle.std.specs.List.{list_any, flat_map}
+use Rattle.ele_blocks.specs.declared.slot.Slot.{Slot}
+use Rattle.ele_blocks.specs.Shared.{owners}
+use Rattle.ele_blocks.specs.Store.{Store}
+use Rattle.ele_blocks.specs.Layout.{Layout, slots_of, ids_of}
+
+-- how many items the list has that are different by the test
+abbrev pub different : {X : Type 0} → (X → X → Bool) → List X → ℕ
+different same [] = 0
+different same (x ∷ xs) = (if list_any (λ y. same y x) xs then 0 else 1) + different same xs
+
+-- the blocks that the slots of the maps name, each as often as they name it
+abbrev pub blocks_of : Store → List Layout → List ℕ
+blocks_of s ms = flat_map (λ m. ids_of (slots_of s m)) ms
+
+-- a slot of a file as a version wrote it
+pub record Place : Type 0 where
+  pub file : ℕ
+  pub slot : ℕ
+  pub writer : ℕ
+
+abbrev pub is_place : Place → Place → Bool
+is_place p q = (p.file == q.file) && ((p.slot == q.slot) && (p.writer == q.writer))
+
+-- a place, and the block that a map names there
+pub record Named : Type 0 where
+  pub place : Place
+  pub block : ℕ
+
+-- the name is in the list
+abbrev pub IsIn : Named → List Named → Type 0
+IsIn n [] = ⊥
+IsIn n (x ∷ xs) = (n ≡ x) ⊎ IsIn n xs
+
+-- the same place is the same block, and the same block is the same place
+abbrev pub AreOneToOne : List Named → Type 0
+AreOneToOne ns = (m n : Named) → IsIn m ns → IsIn n ns → is_place m.place n.place ≡ (m.block == n.block)
+
+-- the names of a file's slots, where the first of these slots has this number
+abbrev pub names_from : ℕ → ℕ → List Slot → List Named
+names_from file first [] = []
+names_from file first (x ∷ xs) = record { place = record { file = file; slot = first; writer = x.writer }; block = x.block } ∷ names_from file (first + 1) xs
+
+-- the names of a map of the file
+abbrev pub names_of : Store → ℕ → Layout → List Named
+names_of s file m = names_from file 0 (slots_of s m)
+
+-- no name is of this writer of the file
+abbrev pub NoneBy : ℕ → ℕ → List Named → Type 0
+NoneBy file writer ns = (n : Named) → IsIn n ns → n.place.file ≡ file → n.place.writer ≡ writer → ⊥
+
+-- each named block is owned
+abbrev pub AreOwnedNames : Store → List Named → Type 0
+AreOwnedNames s ns = (n : Named) → IsIn n ns → 0 < owners s n.block

@@ -1,0 +1,13 @@
+pub mod Shared
+pub mod SharedInside
+pub mod Store
+pub mod Cell
+pub mod Content
+pub mod Layout
+pub mod LayoutInside
+pub mod LivesIn
+pub mod Owes
+pub mod Renews
+pub mod Pieces
+pub mod LaidOver
+pub mod Distinct

@@ -1,0 +1,21 @@
+-- That a map lives in a store.
+use Rattle.std.specs.Prelude.{◌≡◌, ℕ, ◌-◌, ◌==◌, ◌&&◌, Bool, true, List, [], ◌∷◌, length, min, nat_lt, nat_le}
+use Rattle.ele_blocks.specs.Cell.{Cell}
+use Rattle.ele_blocks.specs.Content.{longest_content}
+use Rattle.ele_blocks.specs.Store.{Store}
+use Rattle.ele_blocks.specs.Shared.{Covers}
+use Rattle.ele_blocks.specs.Layout.{Layout, slots_of, ids_of, shown}
+
+-- the cells hold so many bytes, 512 each, and the last one 1 to 512
+abbrev pub fill_slots : ℕ → List Cell → Bool
+fill_slots n [] = n == 0
+fill_slots n (cell ∷ cells) = (length cell.bytes == min n 512) && (nat_lt 0 n && fill_slots (n - 512) cells)
+
+-- each slot of the map has as many bytes as belong there, and the content isn't too long
+abbrev pub is_whole : Store → Layout → Bool
+is_whole s m = nat_le m.size longest_content && fill_slots m.size (shown s m)
+
+-- the map's blocks stand in the store, each with the bytes of its slot, and count the map among their owners
+pub record LivesIn (s : Store) (m : Layout) : Type 0 where
+  pub owned : Covers s (ids_of (slots_of s m))
+  pub whole : is_whole s m ≡ true

@@ -1,0 +1,63 @@
+-- What stands under each number of a store, and how owners change hands.
+use Rattle.std.specs.Prelude.{◌≡◌, ◌≢◌, ℕ, ◌+◌, ◌-◌, ◌<◌, ◌≤◌, ◌==◌, nat_lt, List, [], ◌∷◌, Option, Some, None, IfSome, slice_index_or, if◌then◌else◌}
+use Rattle.ele_blocks.specs.declared.shared.Counted.{Counted}
+
+-- how often the number stands in the list
+abbrev pub times : ℕ → List ℕ → ℕ
+times id [] = 0
+times id (x ∷ xs) = (if x == id then 1 else 0) + times id xs
+
+module _ {X : Type 0} where
+  -- what stands under the number
+  abbrev pub place_at : List (Option (Counted X)) → ℕ → Option (Counted X)
+  place_at s id = slice_index_or s id None
+
+  abbrev pub owners_of : Option (Counted X) → ℕ
+  owners_of None = 0
+  owners_of (Some place) = place.owners
+
+  abbrev pub value_of : Option (Counted X) → Option X
+  value_of None = None
+  value_of (Some place) = Some place.value
+
+  -- how many own what stands under the number
+  abbrev pub owners : List (Option (Counted X)) → ℕ → ℕ
+  owners s id = owners_of (place_at s id)
+
+  abbrev pub value_at : List (Option (Counted X)) → ℕ → Option X
+  value_at s id = value_of (place_at s id)
+
+  -- the place with one owner more
+  abbrev pub shared : Option (Counted X) → Option (Counted X)
+  shared None = None
+  shared (Some place) = Some (record place { owners = place.owners + 1 })
+
+  -- the place with one owner fewer, and nothing after the last
+  abbrev pub released : Option (Counted X) → Option (Counted X)
+  released None = None
+  released (Some place) = if nat_lt 1 place.owners then Some (record place { owners = place.owners - 1 }) else None
+
+  -- the new store has this under the number, and all else as before
+  pub record Sets (old new : List (Option (Counted X))) (id : ℕ) (place : Option (Counted X)) : Type 0 where
+    pub changed : place_at new id ≡ place
+    pub others : (other : ℕ) → other ≢ id → place_at new other ≡ place_at old other
+
+  -- the owners that the first list names have gone and those that the second names have come, and
+  -- what has another owner beside the first keeps its value
+  pub record Trades (old new : List (Option (Counted X))) (was now : List ℕ) : Type 0 where
+    pub owed : (id : ℕ) → owners new id + times id was ≡ owners old id + times id now
+    pub kept : (id : ℕ) → times id was < owners old id → value_at new id ≡ value_at old id
+
+  -- each of these numbers stood for nothing before, is in the list once, and has one owner now
+  pub record Adds (old new : List (Option (Counted X))) (ids : List ℕ) : Type 0 where
+    pub trades : Trades old new [] ids
+    pub fresh : (id : ℕ) → 0 < owners old id → times id ids ≡ 0
+    pub once : (id : ℕ) → times id ids ≤ 1
+
+  -- each is owned as often as it stands in the list, or more often
+  pub record Covers (s : List (Option (Counted X))) (ids : List ℕ) : Type 0 where
+    pub owned : (id : ℕ) → times id ids ≤ owners s id
+
+  -- whatever stands has an owner
+  abbrev pub Owned : List (Option (Counted X)) → Type 0
+  Owned s = (id : ℕ) → IfSome (place_at s id) (λ place. 0 < place.owners)

@@ -1,0 +1,184 @@
+//! The queue of keys, in a search tree.
+//! A contract sees it as the list of its keys, each key once, in order.
+ghost use Rattle.std.specs.Prelude.{◌≡◌, ◌<◌, ◌^◌, ◌↔◌, ◌||◌, ◌&&◌, [], not, length, filter, slice_get, take_while, IsOk, IfOk, OnOk, OnErr, IsTrue, List};
+ghost use Rattle.std.specs.BTreeSet.{insert_key};
+ghost use Rattle.std.specs.Set.{remove_key};
+ghost use Rattle.ele_due.specs.declared.key.Key.{Key};
+ghost use Rattle.ele_due.specs.Key.{key_cmp, is_key, is_ripe_by};
+ghost use Rattle.ele_due.specs.InOrder.{IsInOrder, in_order};
+ghost use Rattle.ele_due.specs.HasKey.{has_key};
+
+use crate::key::Key;
+use ele_moment::{Moment, NoMemory};
+use std::alloc::{AllocError, Global};
+use std::collections::BTreeSet;
+use std::marker::Model;
+
+/// A queue of keys, each at most once, first to be removed first.
+#[derive(Drop)]
+pub struct DueQueue {
+    keys: BTreeSet<Key>,
+    alloc: Global,
+}
+
+impl Model for DueQueue {
+    ghost use Rattle.std.specs.Prelude.{List};
+    ghost use Rattle.ele_due.specs.declared.key.Key.{Key};
+    ghost use Rattle.ele_due.specs.InOrder.{IsInOrder};
+
+    ghost Value = { List Key };
+
+    ghost view = { λ queue. queue.keys.keys };
+
+    ghost invariant = { λ queue. IsInOrder queue.keys.keys };
+}
+
+impl DueQueue {
+    /// A queue of no keys. It takes no memory; later calls take theirs from `alloc`.
+    pub fn new(alloc: Global) -> DueQueue
+        ensures { result ≡ [] }
+    {
+        DueQueue {
+            keys: BTreeSet::new(alloc),
+            alloc,
+        }
+    }
+
+    /// How many keys the queue has.
+    pub fn len(&self) -> usize
+        ensures value { result ≡ length self.now }
+        ensures bound { result < 2 ^ 63 }
+        ensures ordered { IsInOrder self.now }
+    {
+        self.keys.len()
+    }
+
+    /// Whether the queue has no key.
+    pub fn is_empty(&self) -> bool
+        ensures { IsTrue result ↔ (self.now ≡ []) }
+    {
+        self.keys.is_empty()
+    }
+
+    /// Puts the key at its place. Where the queue has it already, nothing changes and the answer is
+    /// `Ok`. `NoMemory` where there is no room for a new key; the queue is then as it was.
+    pub fn insert(&mut self, key: Key) -> Result<(), NoMemory>
+        ensures ok { OnOk result (self.new ≡ insert_key key_cmp self.old key) }
+        ensures members { OnOk result
+            ((k : Key) → has_key k self.new ≡ (is_key k key || has_key k self.old)) }
+        ensures again { IsTrue (has_key key self.old) → IsOk result × (self.new ≡ self.old) }
+        ensures err { OnErr result (self.new ≡ self.old) }
+        ensures ordered { IsInOrder self.new }
+    {
+        let _new = self.keys.insert(key)?;
+        Ok(())
+    }
+
+    /// Removes the key, and answers whether it was there. It takes no memory.
+    pub fn remove(&mut self, key: &Key) -> bool
+        ensures was { result ≡ has_key key.now self.old }
+        ensures rest { self.new ≡ remove_key (is_key key.now) self.old }
+        ensures members { (k : Key)
+            → has_key k self.new ≡ (not (is_key k key.now) && has_key k self.old) }
+        ensures ordered { IsInOrder self.new }
+    {
+        self.keys.remove(key)
+    }
+
+    /// Whether the queue has the key.
+    pub fn holds(&self, key: &Key) -> bool
+        ensures { result ≡ has_key key.now self.now }
+    {
+        self.keys.contains(key)
+    }
+
+    /// The first key in order. None where the queue is empty.
+    pub fn first(&self) -> Option<Key>
+        ensures value { result ≡ slice_get self.now 0 }
+        ensures ordered { IsInOrder self.now }
+    {
+        self.keys.first().copied()
+    }
+
+    /// The keys of the versions that are due at the moment, in order: those that are ripe then or
+    /// were before. `NoMemory` where there is no room for the answer.
+    pub fn until(&self, moment: Moment) -> Result<Vec<Key>, NoMemory>
+        ensures keys { IfOk result
+            (λ keys. keys.items ≡ filter (is_ripe_by moment) self.now) }
+        // Any list that has just the ripe keys is the answer, once in order.
+        ensures only { IfOk result (λ keys. (ripe : List Key)
+            → ((k : Key) → has_key k ripe ≡ (is_ripe_by moment k && has_key k self.now))
+            → keys.items ≡ in_order ripe) }
+        ensures ordered { IsInOrder self.now }
+    {
+        Ok(ripe_keys(&self.keys, moment, self.alloc)?)
+    }
+}
+
+// The keys up to the first that is not ripe.
+fn ripe_keys(keys: &BTreeSet<Key>, moment: Moment, alloc: Global) -> Result<Vec<Key>, AllocError>
+    ensures { IfOk result
+        (λ ripe. ripe.items ≡ take_while (is_ripe_by moment) keys.now.keys) }
+{
+    keys.iter()
+        .copied()
+        .take_while(|key| key.ripe <= moment)
+        .collect(alloc)
+}
+
+#[cfg(test)]
+mod tests {
+    use super::*;
+    use ele_moment::{FileId, VersionNo};
+    use std::test::Fail;
+
+    // The key of that version, ripe that many seconds after the start.
+    fn key(ripe: u64, file: u64, number: u64) -> Result<Key, Fail> {
+        Ok(Key {
+            ripe: Moment::new(ripe).ok_or("a moment")?,
+            file: FileId(file),
+            number: VersionNo(number),
+        })
+    }
+
+    #[test]
+    fn a_key_is_due_from_its_moment_on(rt: HostRuntime) -> Result<(), Fail> {
+        let mut queue = DueQueue::new(rt.alloc());
+        let five = key(5, 1, 1)?;
+        assert_eq!(rt; queue.insert(five), Ok(()));
+        assert_eq!(rt; queue.until(key(4, 0, 0)?.ripe)?.len(), 0);
+        assert_eq!(rt;
+            queue.until(key(5, 0, 0)?.ripe)?.as_slice(),
+            [five].as_slice()
+        );
+        Ok(())
+    }
+
+    #[test]
+    fn versions_are_removed_by_moment_then_file_then_number(rt: HostRuntime) -> Result<(), Fail> {
+        let in_order = [
+            key(3, 9, 9)?,
+            key(5, 1, 2)?,
+            key(5, 1, 10)?,
+            key(5, 2, 1)?,
+            key(253402300799, 1, 1)?,
+        ];
+        let mut queue = DueQueue::new(rt.alloc());
+        for at in [3, 0, 4, 2, 1, 2] {
+            queue.insert(in_order[at])?;
+        }
+        assert_eq!(rt; queue.len(), 5);
+        assert_eq!(rt; queue.until(in_order[4].ripe)?.as_slice(), &in_order[..]);
+        assert_eq!(rt; queue.until(in_order[1].ripe)?.as_slice(), &in_order[..4]);
+        for first in in_order {
+            assert_eq!(rt; queue.first(), Some(first));
+            assert!(rt; queue.holds(&first));
+            assert!(rt; queue.remove(&first));
+            assert!(rt; !queue.remove(&first));
+            assert!(rt; !queue.holds(&first));
+        }
+        assert!(rt; queue.is_empty());
+        assert_eq!(rt; queue.first(), None);
+        Ok(())
+    }
+}

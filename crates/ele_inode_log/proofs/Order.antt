@@ -1,0 +1,102 @@
+-- Rows in order, after each change, and which of them lives at a moment.
+use Rattle.std.proofs.Common.{◌≡◌, ℕ, ◌≤◌, Bool, true, false, cond, ◌&&◌, List, [], ◌∷◌, ◌++◌, reverse, Option, Some, None, refl, ap, ◌∙◌, arith}
+use Rattle.std.specs.Prelude.{find, filter, nat_lt, IfSome, IsSomeAnd}
+use Rattle.std.specs.Option.{option_and_then, option_or, option_map_or, ForSome}
+use Rattle.std.specs.List.{AllByRecursion}
+use Rattle.std.proofs.lemmas.Bool.Decides.{nat_tests}
+use Rattle.ele_inode_log.specs.declared.row.VersionRow.{VersionRow}
+use Rattle.ele_inode_log.specs.Rows.{AllLater, AreInOrder, Precedes, EndsInTime, CanEndAt, last_of, update_last, ended_at, has_closed_by, ends_after, lives_at}
+use Rattle.ele_inode_log.specs.LogInside.{unless_ended}
+use Rattle.ele_inode_log.proofs.Lists.{all-reverse, all-found, all-append, all-weaker, all-both, all-filter, later-push, later-filter, later-update_last, find_last-cons, found_passes}
+
+pub closes_first : (earlier later : VersionRow) → EndsInTime earlier → Precedes earlier later → earlier.closed ≤ later.closed
+closes_first earlier later ends precedes = between earlier.ended ends precedes.ended where
+  between : (o : Option ℕ) → IfSome o (λ ended. earlier.closed ≤ ended) → IsSomeAnd o (λ ended. ended ≤ later.closed) → earlier.closed ≤ later.closed
+  between None a b = absurd b
+  between (Some ended) a b = omega arith
+
+precedes_through : (a b c : VersionRow) → Precedes a b → EndsInTime b → Precedes b c → Precedes a c
+precedes_through a b c first ends second = record { number = let m = first.number in let n = second.number in omega arith; ended = at a.ended first.ended } where
+  at : (o : Option ℕ) → IsSomeAnd o (λ ended. ended ≤ b.closed) → IsSomeAnd o (λ ended. ended ≤ c.closed)
+  at None h = absurd h
+  at (Some ended) h = let more = closes_first b c ends second in omega arith
+
+-- what the last row precedes, all rows precede
+pub all_precede : (rows : List VersionRow) (row : VersionRow) → AllByRecursion EndsInTime rows → AllLater Precedes rows → ForSome (last_of rows) (λ last. Precedes last row) → AllByRecursion (λ held. Precedes held row) rows
+all_precede [] row ends order last = tt
+all_precede (one ∷ []) row ends order last = (last one refl, tt)
+all_precede (one ∷ two ∷ rows) row ends order last =
+    let others = all_precede (two ∷ rows) row ends.1 order.1 last in
+    (precedes_through one two row order.0.0 ends.1.0 others.0, others)
+
+pub in_order-push : (rows : List VersionRow) (row : VersionRow) → AreInOrder rows → ForSome (last_of rows) (λ last. Precedes last row) → EndsInTime row → AreInOrder (rows ++ row ∷ [])
+in_order-push rows row order last ends = record {
+  ends = all-append EndsInTime rows (row ∷ []) order.ends (ends, tt);
+  order = later-push Precedes rows row order.order (all_precede rows row order.ends order.order last);
+}
+
+pub in_order-filter : (p : VersionRow → Bool) (rows : List VersionRow) → AreInOrder rows → AreInOrder (filter p rows)
+in_order-filter p rows order = record {
+  ends = all-filter EndsInTime p rows order.ends;
+  order = later-filter Precedes p rows order.order;
+}
+
+ends-update_last : (moment : ℕ) (rows : List VersionRow) → IsSomeAnd (last_of rows) (CanEndAt moment) → AllByRecursion EndsInTime rows → AllByRecursion EndsInTime (update_last (ended_at moment) rows)
+ends-update_last moment [] can ends = tt
+ends-update_last moment (row ∷ []) can ends = (can.closed, tt)
+ends-update_last moment (row ∷ next ∷ rows) can ends = (ends.0, ends-update_last moment (next ∷ rows) can ends.1)
+
+pub in_order-ended : (moment : ℕ) (rows : List VersionRow) → IsSomeAnd (last_of rows) (CanEndAt moment) → AreInOrder rows → AreInOrder (update_last (ended_at moment) rows)
+in_order-ended moment rows can order = record {
+  ends = ends-update_last moment rows can order.ends;
+  order = later-update_last Precedes (ended_at moment) rows (λ earlier later h. record { number = h.number; ended = h.ended }) order.order;
+}
+
+-- a row that ended when a later one closed doesn't live where that one had closed
+ended_by : (moment : ℕ) (row later : VersionRow) → Precedes row later → has_closed_by moment later ≡ true → ends_after moment row ≡ false
+ended_by moment row later precedes closed = at row.ended precedes.ended where
+  at : (o : Option ℕ) → IsSomeAnd o (λ ended. ended ≤ later.closed) → option_map_or (λ ended. nat_lt moment ended) o true ≡ false
+  at None h = absurd h
+  at (Some ended) h = grind (arith, nat_tests, closed, h)
+
+-- if a version lives at the moment, it is the last that had closed by then
+pub lives-is_last : (moment : ℕ) (rows : List VersionRow) → AllLater Precedes rows → find (lives_at moment) rows ≡ option_and_then (unless_ended moment) (find (has_closed_by moment) (reverse rows))
+lives-is_last moment [] order = refl
+lives-is_last moment (row ∷ rows) order =
+    rw (find_last-cons (has_closed_by moment) row rows) (at (lives-is_last moment rows order.1) (find (has_closed_by moment) (reverse rows)) refl)
+  where
+    at : find (lives_at moment) rows ≡ option_and_then (unless_ended moment) (find (has_closed_by moment) (reverse rows)) → (o : Option VersionRow) → find (has_closed_by moment) (reverse rows) ≡ o → find (lives_at moment) (row ∷ rows) ≡ option_and_then (unless_ended moment) (option_or o (cond (has_closed_by moment row) (Some row) None))
+    at rest (Some last) is =
+        let precedes : Precedes row last = all-found (Precedes row) (has_closed_by moment) (reverse rows) (all-reverse (Precedes row) rows order.0) last is in
+        let over : ends_after moment row ≡ false = ended_by moment row last precedes (found_passes (has_closed_by moment) (reverse rows) last is) in
+        rw over (elim (has_closed_by moment row) as (λ b. cond (b && false) (Some row) (find (lives_at moment) rows) ≡ unless_ended moment last) [
+          | true ↦ rest ∙ ap (option_and_then (unless_ended moment)) is
+          | false ↦ rest ∙ ap (option_and_then (unless_ended moment)) is
+        ])
+    at rest None is =
+        let none : find (lives_at moment) rows ≡ None = rest ∙ ap (option_and_then (unless_ended moment)) is in
+        elim (has_closed_by moment row) as (λ b. cond (b && ends_after moment row) (Some row) (find (lives_at moment) rows) ≡ option_and_then (unless_ended moment) (cond b (Some row) None)) [
+          | true ↦ ap (cond (ends_after moment row) (Some row)) none
+          | false ↦ none
+        ]
+
+and_left : (a b : Bool) → (a && b) ≡ true → a ≡ true
+and_left true b h = refl
+and_left false b h = h
+
+and_false : (a : Bool) → (a && false) ≡ false
+and_false true = refl
+and_false false = refl
+
+-- a row that ended when a later one closed isn't the one that lives where the later one does
+pub lives_alone : (moment : ℕ) (rows : List VersionRow) → AllLater Precedes rows → AllByRecursion (λ row. lives_at moment row ≡ true → find (lives_at moment) rows ≡ Some row) rows
+lives_alone moment [] order = tt
+lives_alone moment (row ∷ rows) order =
+    ((λ lives. rw lives refl), all-weaker _ _ rows (λ later both lives. at later both.0 lives (both.1 lives)) (all-both _ _ rows order.0 (lives_alone moment rows order.1)))
+  where
+    at : (later : VersionRow) → Precedes row later → lives_at moment later ≡ true → find (lives_at moment) rows ≡ Some later → find (lives_at moment) (row ∷ rows) ≡ Some later
+    at later precedes lives found =
+        let closed : has_closed_by moment later ≡ true = and_left (has_closed_by moment later) (ends_after moment later) lives in
+        let over : ends_after moment row ≡ false = ended_by moment row later precedes closed in
+        let fails : lives_at moment row ≡ false = ap (λ b. has_closed_by moment row && b) over ∙ and_false (has_closed_by moment row) in
+        rw fails found

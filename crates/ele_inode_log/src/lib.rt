@@ -1,0 +1,19 @@
+//! The held versions of one file, read by number and by moment, with a count of the rows read.
+//! A contract sees them as the list of their rows by number, with the room for more beside it.
+#![tactic(auto)]
+
+mod chunk;
+mod chunks;
+mod entry;
+mod log;
+mod meter;
+mod numbers;
+mod room;
+mod row;
+
+pub use log::InodeLog;
+pub use meter::Meter;
+pub use row::VersionRow;
+
+#[cfg(test)]
+mod tests;

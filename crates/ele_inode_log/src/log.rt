@@ -1,0 +1,193 @@
+//! The held versions of one file.
+//! A contract sees the list of their rows by number, and for how many more there is memory.
+ghost use Rattle.std.specs.Prelude.{◌≡◌, ◌<◌, ◌≤◌, ◌+◌, ◌==◌, ◌^◌, [], ◌∷◌, ◌++◌, OnOk, OnErr, IfErr, IsOk, IsTrue, ◌↔◌, All, IsSomeAnd, IfSome, find, filter, reverse, length, is_some, if◌then◌else◌};
+ghost use Rattle.std.specs.Option.{ForSome, option_copied, option_map, option_and_then};
+ghost use Rattle.std.specs.List.{list_any};
+ghost use Rattle.ele_inode_log.specs.Rows.{HeldRows, AreInOrder, Precedes, EndsInTime, CanEndAt, last_of, update_last, is_numbered, is_other, is_after, is_before, has_closed_by, lives_at, ended_at};
+ghost use Rattle.ele_inode_log.specs.LogInside.{row_at, IsStanding, unless_ended};
+
+use crate::entry::{Cut, Entry};
+use crate::meter::Meter;
+use crate::numbers::Numbers;
+use crate::row::VersionRow;
+use ele_moment::{Moment, NoMemory, VersionNo};
+use slab::Slab;
+use std::alloc::Global;
+use std::marker::Model;
+
+/// The held versions of one file. Numbers rise, a version has ended when the next one closes, and only
+/// the last may have no end. Each row that a call reads or removes adds one to the call's meter, and
+/// no call reads a row without one.
+#[derive(Debug, Drop)]
+pub struct InodeLog {
+    rows: Slab<VersionRow>,
+    numbers: Numbers,
+}
+
+impl Model for InodeLog {
+    ghost use Rattle.ele_inode_log.specs.Rows.{HeldRows};
+
+    ghost Value = { HeldRows };
+
+    ghost use Rattle.ele_inode_log.specs.LogInside.{held_rows, IsKept};
+
+    ghost view = { held_rows };
+
+    ghost invariant = { IsKept };
+}
+
+impl InodeLog {
+    /// A log without rows; this takes no memory.
+    pub fn new(alloc: Global) -> InodeLog
+        ensures { result.rows ≡ [] }
+    {
+        InodeLog {
+            rows: Slab::new(alloc),
+            numbers: Numbers::new(alloc),
+        }
+    }
+
+    /// How many rows are held.
+    pub fn len(&self) -> usize
+        ensures count { result ≡ length self.now.rows }
+        ensures order { AreInOrder self.now.rows }
+    {
+        self.rows.len()
+    }
+
+    /// Whether no row is held.
+    pub fn is_empty(&self) -> bool
+        ensures { IsTrue result ↔ (self.now.rows ≡ []) }
+    {
+        self.len() == 0
+    }
+
+    /// Takes the memory for one more row at least, if it isn't there. Where memory is refused, the
+    /// rows stay.
+    pub fn reserve(&mut self) -> Result<(), NoMemory>
+        ensures ok { OnOk result (1 ≤ self.new.spare) }
+        ensures ready { 1 ≤ self.old.spare → IsOk result }
+        ensures rows { self.new.rows ≡ self.old.rows }
+    {
+        self.rows.reserve(1)?;
+        self.numbers.reserve()?;
+        Ok(())
+    }
+
+    /// Adds a row behind all others. Where memory is refused, which it isn't after `reserve`, the row
+    /// comes back and the rows stay.
+    pub fn append(&mut self, row: VersionRow) -> Result<(), (VersionRow, NoMemory)>
+        requires last { ForSome (last_of self.old.rows) (λ last. Precedes last row) }
+        requires ends { EndsInTime row }
+        ensures ok { OnOk result (self.new.rows ≡ self.old.rows ++ row ∷ []) }
+        ensures ready { 1 ≤ self.old.spare → IsOk result }
+        ensures back { IfErr result (λ refused. refused.0 ≡ row) }
+        ensures err { OnErr result (self.new.rows ≡ self.old.rows) }
+    {
+        if self.reserve().is_err() {
+            return Err((row, NoMemory));
+        }
+        let (number, closed) = (row.number, row.closed);
+        let place = self.rows.insert_reserved(row);
+        self.numbers.push(Entry {
+            number,
+            closed,
+            place,
+        });
+        Ok(())
+    }
+
+    /// Ends the last version at the moment.
+    pub fn end_last(&mut self, moment: Moment)
+        requires { IsSomeAnd (last_of self.old.rows) (CanEndAt moment) }
+        ensures ended { self.new.rows ≡ update_last (ended_at moment) self.old.rows }
+        ensures spare { self.new.spare ≡ self.old.spare }
+    {
+        if let Some(last) = self.numbers.last() {
+            self.rows[last.place].ended = Some(moment);
+        }
+    }
+
+    /// The row of that number.
+    pub fn get(&self, number: VersionNo, meter: &mut Meter) -> Option<&VersionRow>
+        requires { meter.old < 2 ^ 63 }
+        ensures row { option_copied result ≡ find (is_numbered number) self.now.rows }
+        ensures read { meter.new ≡ meter.old + (if is_some result then 1 else 0) }
+    {
+        read(&self.rows, self.numbers.get(number), meter)
+    }
+
+    /// The first row with a greater number.
+    pub fn next_held(&self, number: VersionNo, meter: &mut Meter) -> Option<&VersionRow>
+        requires { meter.old < 2 ^ 63 }
+        ensures row { option_copied result ≡ find (is_after number) self.now.rows }
+        ensures read { meter.new ≡ meter.old + (if is_some result then 1 else 0) }
+    {
+        let next = self.numbers.first_behind(Cut::BehindNumber(number));
+        read(&self.rows, next, meter)
+    }
+
+    /// The last row with a lesser number.
+    pub fn prev_held(&self, number: VersionNo, meter: &mut Meter) -> Option<&VersionRow>
+        requires { meter.old < 2 ^ 63 }
+        ensures row { option_copied result ≡ find (is_before number) (reverse self.now.rows) }
+        ensures read { meter.new ≡ meter.old + (if is_some result then 1 else 0) }
+    {
+        let previous = self.numbers.last_before(Cut::AtNumber(number));
+        read(&self.rows, previous, meter)
+    }
+
+    /// Takes out the row of that number.
+    pub fn remove(&mut self, number: VersionNo, meter: &mut Meter) -> Option<VersionRow>
+        requires { meter.old < 2 ^ 63 }
+        ensures row { result ≡ find (is_numbered number) self.old.rows }
+        ensures rows { self.new.rows ≡ filter (is_other number) self.old.rows }
+        ensures room { 1 ≤ self.old.spare → 1 ≤ self.new.spare }
+        ensures read { meter.new ≡ meter.old + (if is_some result then 1 else 0) }
+    {
+        let entry = self.numbers.remove(number)?;
+        meter.count();
+        self.rows.try_remove(entry.place)
+    }
+
+    /// The number of the version in whose life the moment lies: it had closed by then, and ended after
+    /// that or not at all. No two versions live at one moment. A row is read where one had closed.
+    pub fn at(&self, moment: Moment, meter: &mut Meter) -> Option<VersionNo>
+        requires { meter.old < 2 ^ 63 }
+        ensures number { result ≡ option_map (λ row. row.number) (find (lives_at moment) self.now.rows) }
+        ensures only { All (λ row. IsTrue (lives_at moment row) → result ≡ Some row.number) self.now.rows }
+        ensures read { meter.new ≡ meter.old
+            + (if list_any (has_closed_by moment) self.now.rows then 1 else 0) }
+    {
+        let last = self.numbers.last_before(Cut::BehindMoment(moment));
+        number_at(read(&self.rows, last, meter), moment)
+    }
+}
+
+/// The number of the row, if the moment is before its end.
+fn number_at(row: Option<&VersionRow>, moment: Moment) -> Option<VersionNo>
+    ensures { result ≡ option_map (λ row. row.number)
+        (option_and_then (unless_ended moment) (option_copied row.entry)) }
+{
+    let row = row?;
+    match row.ended {
+        Some(ended) if ended <= moment => None,
+        _ => Some(row.number),
+    }
+}
+
+/// The row of an entry, if there is an entry, counted as read.
+fn read<'a>(
+    rows: &'a Slab<VersionRow>,
+    entry: Option<Entry>,
+    meter: &mut Meter,
+) -> Option<&'a VersionRow>
+    requires stands { ForSome entry (IsStanding rows.now) }
+    requires few { meter.old < 2 ^ 63 }
+    ensures row { option_copied result ≡ option_and_then (row_at rows.now) entry }
+    ensures read { meter.new ≡ meter.old + (if is_some result then 1 else 0) }
+{
+    let entry = entry?;
+    meter.count();
+    Some(&rows[entry.place])
+}

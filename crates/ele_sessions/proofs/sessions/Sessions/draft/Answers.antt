@@ -1,0 +1,19 @@
+use Rattle.std.proofs.Common.{◌≡◌, refl, sym}
+use Rattle.ele_sessions.specs.Inside.{IsAt, IsGap, file_in, writers_in}
+use Rattle.ele_sessions.proofs.Found.{found_draft, missing_draft}
+use Rattle.ele_sessions.proofs.Keepings.{file_of}
+use Rattle.ele_sessions.proofs.Places.{rises-map}
+use Rattle.ele_sessions.proofs.sessions.Sessions.draft.Goals as goal
+
+pub place_of-requires : goal.place_of-requires
+place_of-requires c = rw c.deref.ensures.value (rises-map writers_in file_of c.self.inside.drafts.items c.self.invariant.files_rise)
+
+pub returns-in_default : goal.returns-in_default
+returns-in_default c =
+    let gap : IsGap file_in c.args.file c.self.inside.drafts.items c.in_default.field-0 = rw c.deref.ensures.value at c.in_default.ensures.gap in
+    rw (← c.self.view_is, missing_draft _ _ _ gap) refl
+
+pub returns : goal.returns
+returns c =
+    let at : IsAt file_in c.args.file c.self.inside.drafts.items c.in-Ok.at = rw c.deref.ensures.value at c.in-Ok.ensures.found in
+    rw (← c.self.view_is, found_draft _ _ _ _ at c.index-entry.ensures, c.deref-draft.ensures) refl

@@ -1,0 +1,14 @@
+use Rattle.std.proofs.Common.{◌≡◌, refl, sym, Some}
+use Rattle.ele_sessions.specs.Inside.{writers_in}
+use Rattle.ele_sessions.specs.Sessions.{handle_file}
+use Rattle.ele_sessions.proofs.Keepings.{file_drafted, file_of}
+use Rattle.ele_sessions.proofs.Places.{rises-map}
+use Rattle.ele_sessions.proofs.sessions.Sessions.truncate.Goals as goal
+
+pub truncate_draft-requires-clause-rise : goal.truncate_draft-requires-clause-rise
+truncate_draft-requires-clause-rise c = rises-map writers_in file_of c.self.inside.drafts.items c.self.invariant.files_rise
+
+pub truncate_draft-requires-clause-there : goal.truncate_draft-requires-clause-there
+truncate_draft-requires-clause-there c =
+    let is : handle_file c.self.inside.handles.items c.args.handle ≡ Some c.in-Some.file = cc in
+    file_drafted _ _ _ c.self.invariant c.args.handle c.in-Some.file is

@@ -1,0 +1,14 @@
+use Rattle.std.proofs.Common.{◌≡◌, refl, sym, Some}
+use Rattle.ele_sessions.specs.Inside.{writers_in}
+use Rattle.ele_sessions.specs.Sessions.{handle_file}
+use Rattle.ele_sessions.proofs.Keepings.{file_drafted, file_of}
+use Rattle.ele_sessions.proofs.Places.{rises-map}
+use Rattle.ele_sessions.proofs.sessions.Sessions.write.Goals as goal
+
+pub write_draft-requires-clause-rise : goal.write_draft-requires-clause-rise
+write_draft-requires-clause-rise c = rises-map writers_in file_of c.self.inside.drafts.items c.self.invariant.files_rise
+
+pub write_draft-requires-clause-there : goal.write_draft-requires-clause-there
+write_draft-requires-clause-there c =
+    let is : handle_file c.self.inside.handles.items c.args.handle ≡ Some c.in-Some.file = cc in
+    file_drafted _ _ _ c.self.invariant c.args.handle c.in-Some.file is

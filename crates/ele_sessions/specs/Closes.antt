@@ -1,0 +1,49 @@
+-- What the closing of a handle answers, and what it makes of the drafts and handles.
+use Rattle.std.specs.Prelude.{ℕ, Bool, List, Option, Some, None, find, if◌then◌else◌}
+use Rattle.std.specs.List.{list_any}
+use Rattle.ele_blocks.specs.Layout.{Layout}
+use Rattle.ele_sessions.specs.declared.closing.Closing.{Closing}
+use Rattle.ele_sessions.specs.declared.closing.Closing.TheVariants.{StillOpen, Clean, Changed}
+use Rattle.ele_sessions.specs.declared.entries.OpenHandle.{OpenHandle}
+use Rattle.ele_sessions.specs.Lists.{remove_first}
+use Rattle.ele_sessions.specs.Sessions.{Draft, AllSessions, is_draft, is_handle, is_writer, handle_file}
+
+-- the handles that are left
+abbrev pub left_handles : AllSessions → ℕ → List OpenHandle
+left_handles s handle = remove_first (is_handle handle) s.handles
+
+-- what a draft comes to when its last writer closes, and its map
+abbrev pub ending : Draft → Closing × Option Layout
+ending draft =
+    (if draft.changed then Changed draft.file draft.opened else Clean draft.file, Some draft.layout)
+
+abbrev pub ending_of : Option Draft → Closing × Option Layout
+ending_of None = (StillOpen, None)
+ending_of (Some draft) = ending draft
+
+-- while others write the file its draft stays, and when none does it goes
+abbrev pub file_closing : Bool → Option Draft → Closing × Option Layout
+file_closing stays draft = if stays then (StillOpen, None) else ending_of draft
+
+abbrev pub closing_of : AllSessions → ℕ → Option ℕ → Option (Closing × Option Layout)
+closing_of s handle None = None
+closing_of s handle (Some file) =
+    Some (file_closing (list_any (is_writer file) (left_handles s handle)) (find (is_draft file) s.drafts))
+
+-- what closing the handle answers; none where there is no such handle
+abbrev pub closing : AllSessions → ℕ → Option (Closing × Option Layout)
+closing s handle = closing_of s handle (handle_file s.handles handle)
+
+abbrev pub left_drafts : Bool → ℕ → List Draft → List Draft
+left_drafts stays file drafts = if stays then drafts else remove_first (is_draft file) drafts
+
+abbrev pub closed_of : AllSessions → ℕ → Option ℕ → AllSessions
+closed_of s handle None = s
+closed_of s handle (Some file) = record s {
+  drafts = left_drafts (list_any (is_writer file) (left_handles s handle)) file s.drafts;
+  handles = left_handles s handle;
+}
+
+-- all that is left when the handle is closed
+abbrev pub closed : AllSessions → ℕ → AllSessions
+closed s handle = closed_of s handle (handle_file s.handles handle)

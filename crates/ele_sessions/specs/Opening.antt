@@ -1,0 +1,30 @@
+-- What the opening of a handle makes of the drafts and handles.
+use Rattle.std.specs.Prelude.{◌≡◌, ℕ, ◌+◌, false, MatchBool, List, [], ◌∷◌, ◌++◌, if◌then◌else◌}
+use Rattle.std.specs.List.{list_any}
+use Rattle.ele_blocks.specs.Layout.{Layout}
+use Rattle.ele_blocks.specs.Owes.{Moves}
+use Rattle.ele_blocks.specs.Store.{Store}
+use Rattle.ele_sessions.specs.Lists.{insert_before}
+use Rattle.ele_sessions.specs.Sessions.{Draft, AllSessions, is_draft, is_draft_after}
+
+-- a draft that is opened now, with that map's content
+abbrev pub new_draft : ℕ → ℕ → ℕ → Layout → Draft
+new_draft file number at layout =
+    record { file = file; number = number; opened = at; layout = layout; changed = false }
+
+-- the drafts with one of the file: that which is there, or else the new one
+abbrev pub with_draft : Draft → List Draft → List Draft
+with_draft new drafts =
+    if list_any (is_draft new.file) drafts then drafts else insert_before (is_draft_after new.file) new drafts
+
+-- one more handle, by which the file of the draft is written
+abbrev pub opened_by : AllSessions → Draft → AllSessions
+opened_by s new = record {
+  drafts = with_draft new s.drafts;
+  handles = s.handles ++ record { number = s.opened + 1; file = new.file } ∷ [];
+  opened = s.opened + 1;
+}
+
+-- a draft that starts owns a copy of the map, and where one is there, the store is as it was
+abbrev pub Opens : Store → Store → List Draft → ℕ → Layout → Type 0
+Opens s t drafts file layout = MatchBool (list_any (is_draft file) drafts) (t ≡ s) (Moves s t [] (layout ∷ []))

@@ -1,0 +1,49 @@
+-- The drafts and handles of all files, and how they are found.
+use Rattle.std.specs.Prelude.{ℕ, ◌==◌, nat_lt, Bool, List, Option, Some, None, find}
+use Rattle.std.specs.Option.{option_map}
+use Rattle.ele_blocks.specs.Layout.{Layout}
+use Rattle.ele_sessions.specs.declared.entries.OpenHandle.{OpenHandle}
+
+-- a file's coming version: its number, when the draft was opened, the map of its content, and whether
+-- it was changed
+pub record Draft : Type 0 where
+  pub file : ℕ
+  pub number : ℕ
+  pub opened : ℕ
+  pub layout : Layout
+  pub changed : Bool
+
+-- the drafts by file id, the open handles by number, and how many handles were ever opened
+pub record AllSessions : Type 0 where
+  pub drafts : List Draft
+  pub handles : List OpenHandle
+  pub opened : ℕ
+
+abbrev pub is_draft : ℕ → Draft → Bool
+is_draft file draft = draft.file == file
+
+-- the draft's file has a greater id
+abbrev pub is_draft_after : ℕ → Draft → Bool
+is_draft_after file draft = nat_lt file draft.file
+
+abbrev pub is_handle : ℕ → OpenHandle → Bool
+is_handle number handle = handle.number == number
+
+abbrev pub is_writer : ℕ → OpenHandle → Bool
+is_writer file handle = handle.file == file
+
+-- the file that is written through the handle
+abbrev pub handle_file : List OpenHandle → ℕ → Option ℕ
+handle_file handles number = option_map (λ handle. handle.file) (find (is_handle number) handles)
+
+-- the draft of the file
+abbrev pub draft_of : AllSessions → ℕ → Option Draft
+draft_of s file = find (is_draft file) s.drafts
+
+abbrev pub draft_for : AllSessions → Option ℕ → Option Draft
+draft_for s None = None
+draft_for s (Some file) = draft_of s file
+
+-- the draft that is written through the handle
+abbrev pub draft_by : AllSessions → ℕ → Option Draft
+draft_by s number = draft_for s (handle_file s.handles number)

@@ -1,0 +1,22 @@
+//! The handles that are open, and the drafts that they write: one for each file that is written.
+//! A contract sees the drafts by file id, the handles by number, and how many were ever opened.
+#![tactic(auto)]
+
+mod changing;
+mod closing;
+mod draft;
+mod entries;
+mod fault;
+mod leaving;
+mod opening;
+mod reads;
+mod room;
+mod sessions;
+
+pub use closing::Closing;
+pub use fault::SessionFault;
+pub use reads::Reads;
+pub use sessions::Sessions;
+
+#[cfg(test)]
+mod tests;

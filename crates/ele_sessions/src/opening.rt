@@ -1,0 +1,105 @@
+//! One more writer of a file, who starts its draft or joins it.
+//! A contract sees the list of drafts, and how many write each file.
+ghost use Rattle.std.specs.Prelude.{◌≡◌, ◌<◌, ◌^◌, ◌+◌, [], ◌∷◌, true, OnOk, OnErr};
+ghost use Rattle.std.specs.List.{AllByRecursion, list_any};
+ghost use Rattle.ele_blocks.specs.LivesIn.{LivesIn};
+ghost use Rattle.ele_blocks.specs.Owes.{Moves, IsUncrowded};
+ghost use Rattle.ele_sessions.specs.Inside.{IsGap, drafts_of, writers_of, file_in, is_of, is_after, joined};
+ghost use Rattle.ele_sessions.specs.Lists.{insert_before};
+ghost use Rattle.ele_sessions.specs.Opening.{new_draft, with_draft, Opens};
+ghost use Rattle.ele_sessions.specs.Order.{Rises};
+ghost use Rattle.ele_sessions.specs.Sessions.{is_draft_after};
+
+use crate::draft::Draft;
+use crate::entries::{Entry, place_of};
+use crate::room::put_at;
+use ele_blocks::{BlockMap, BlockStore};
+use ele_moment::{FileId, Moment, NoMemory, VersionNo};
+use std::alloc::Global;
+
+/// The version that a draft is to be, and when the draft is opened.
+#[derive(Clone, Copy, Debug)]
+pub struct Coming {
+    pub file: FileId,
+    pub number: VersionNo,
+    pub opened: Moment,
+}
+
+/// A draft with a copy of the map, at its place. All memory is had before the copy is made, so that
+/// no blocks are lost where some is refused: then drafts and store are as they were.
+fn start(
+    alloc: Global,
+    drafts: &mut Vec<Entry>,
+    store: &mut BlockStore,
+    at: usize,
+    coming: Coming,
+    map: &BlockMap,
+) -> Result<(), NoMemory>
+    requires gap { IsGap file_in coming.file drafts.old.items at }
+    requires lives { LivesIn store.old map.now }
+    requires few { IsUncrowded store.old }
+    ensures drafts { OnOk result (drafts_of drafts.new.items
+        ≡ insert_before (is_draft_after coming.file)
+        (new_draft coming.file coming.number coming.opened map.now) (drafts_of drafts.old.items)) }
+    ensures writers { OnOk result (writers_of drafts.new.items
+        ≡ insert_before (is_after coming.file) (record { file = coming.file; writers = 1 })
+        (writers_of drafts.old.items)) }
+    ensures moves { OnOk result (Moves store.old store.new [] (map.now ∷ [])) }
+    ensures err { OnErr result (drafts.new.items ≡ drafts.old.items) }
+    ensures err_store { OnErr result (store.new ≡ store.old) }
+{
+    drafts.reserve(1)?;
+    let mut draft = Box::new(
+        alloc,
+        Draft {
+            number: coming.number,
+            opened: coming.opened,
+            map: BlockMap::new(alloc),
+            changed: false,
+        },
+    )?;
+    draft.map = map.copy(store)?;
+    put_at(
+        drafts,
+        at,
+        Entry {
+            file: coming.file,
+            writers: 1,
+            draft,
+        },
+    );
+    Ok(())
+}
+
+/// One more writes the file: its draft, or else a new one with a copy of the map.
+/// Where memory is refused, drafts and store are as they were.
+pub fn join(
+    alloc: Global,
+    drafts: &mut Vec<Entry>,
+    store: &mut BlockStore,
+    coming: Coming,
+    map: &BlockMap,
+) -> Result<(), NoMemory>
+    requires rise { Rises file_in drafts.old.items }
+    requires room { AllByRecursion (λ w. w.writers < 2 ^ 63) (writers_of drafts.old.items) }
+    requires lives { LivesIn store.old map.now }
+    requires few { IsUncrowded store.old }
+    ensures drafts { OnOk result (drafts_of drafts.new.items
+        ≡ with_draft (new_draft coming.file coming.number coming.opened map.now)
+        (drafts_of drafts.old.items)) }
+    ensures writers { OnOk result
+        (writers_of drafts.new.items ≡ joined coming.file (writers_of drafts.old.items)) }
+    ensures opens { OnOk result
+        (Opens store.old store.new (drafts_of drafts.old.items) coming.file map.now) }
+    ensures err { OnErr result (drafts.new.items ≡ drafts.old.items) }
+    ensures err_store { OnErr result (store.new ≡ store.old) }
+{
+    match place_of(drafts, coming.file) {
+        Ok(at) => {
+            let entry = &mut drafts[at];
+            entry.writers += 1;
+        }
+        Err(at) => start(alloc, drafts, store, at, coming, map)?,
+    }
+    Ok(())
+}

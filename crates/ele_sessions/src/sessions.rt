@@ -1,0 +1,184 @@
+//! The sessions of all files.
+//! A contract sees them as drafts, handles and the count of handles ever opened.
+ghost use Rattle.std.specs.Prelude.{◌≡◌, ◌<◌, ◌≤◌, ◌+◌, ◌^◌, [], ◌∷◌, OnOk, OnErr, IfOk, IfErr, IfNone, IsOkUnless, IsErrOf, IsOk, IsSome, IsTrue, length, not, nat_lt, true};
+ghost use Rattle.std.specs.Option.{ForSome};
+ghost use Rattle.ele_blocks.specs.Content.{longest_content};
+ghost use Rattle.ele_blocks.specs.LivesIn.{LivesIn};
+ghost use Rattle.ele_blocks.specs.Owes.{IsUncrowded};
+ghost use Rattle.ele_sessions.specs.Changes.{write_refusal, truncate_refusal, Writes, Truncates, Stays, has_length};
+ghost use Rattle.ele_sessions.specs.Closes.{closing, closed};
+ghost use Rattle.ele_sessions.specs.Opening.{new_draft, opened_by, Opens};
+ghost use Rattle.ele_sessions.specs.Sessions.{handle_file, draft_by};
+
+mod asking;
+
+use crate::changing::{truncate_draft, write_draft};
+use crate::closing::Closing;
+use crate::entries::{Entry, OpenHandle, file_by, handle_place};
+use crate::fault::SessionFault;
+use crate::leaving::leave;
+use crate::opening::{Coming, join};
+use crate::room::put;
+use ele_blocks::{BlockMap, BlockStore};
+use ele_moment::{FileId, Handle, Moment, NoMemory, VersionNo};
+use std::alloc::Global;
+use std::marker::Model;
+
+/// How many bytes a content may have.
+const LONGEST: u64 = 1_048_576;
+
+/// Whether a content may end so many bytes behind the offset.
+fn fits(offset: u64, len: usize) -> bool
+    ensures { result ≡ not (nat_lt longest_content (offset + len)) }
+{
+    offset <= LONGEST && len as u64 <= LONGEST - offset
+}
+
+/// Drafts and handles of all files. Whoever ends them closes each handle and keeps or gives up the map
+/// that comes out, or its blocks stay in the store.
+#[derive(Debug, Drop)]
+pub struct Sessions {
+    drafts: Vec<Entry>,
+    handles: Vec<OpenHandle>,
+    opened: u64,
+    alloc: Global,
+}
+
+impl Model for Sessions {
+    ghost use Rattle.ele_sessions.specs.Sessions.{AllSessions};
+
+    ghost Value = { AllSessions };
+
+    ghost use Rattle.ele_sessions.specs.Kept.{sessions_of, IsKept};
+
+    ghost view = { sessions_of };
+
+    ghost invariant = { IsKept };
+}
+
+impl Sessions {
+    /// No drafts and no handles; this takes no memory.
+    pub fn new(alloc: Global) -> Sessions
+        ensures { result ≡ record { drafts = []; handles = []; opened = 0 } }
+    {
+        Sessions {
+            drafts: Vec::new(alloc),
+            handles: Vec::new(alloc),
+            opened: 0,
+            alloc,
+        }
+    }
+
+    /// A handle that writes the file. It joins the file's draft, or where there is none it starts one,
+    /// which is to be the version of that number, is opened at that moment, and has a copy of the map.
+    /// Where memory is refused, sessions and store are as they were.
+    pub fn open_write(
+        &mut self,
+        store: &mut BlockStore,
+        file: FileId,
+        number: VersionNo,
+        opened: Moment,
+        map: &BlockMap,
+    ) -> Result<Handle, NoMemory>
+        requires lives { LivesIn store.old map.now }
+        requires few { IsUncrowded store.old }
+        requires room { self.old.opened < 2 ^ 63 }
+        ensures handle { IfOk result (λ handle. handle ≡ self.old.opened + 1) }
+        ensures sessions { OnOk result
+            (self.new ≡ opened_by self.old (new_draft file number opened map.now)) }
+        ensures opens { OnOk result (Opens store.old store.new self.old.drafts file map.now) }
+        ensures err { OnErr result (self.new ≡ self.old) }
+        ensures err_store { OnErr result (store.new ≡ store.old) }
+    {
+        self.handles.reserve(1)?;
+        let coming = Coming {
+            file,
+            number,
+            opened,
+        };
+        join(self.alloc, &mut self.drafts, store, coming, map)?;
+        self.opened += 1;
+        let number = Handle(self.opened);
+        put(&mut self.handles, OpenHandle { number, file });
+        Ok(number)
+    }
+
+    /// Writes the bytes from the offset on into the draft under the handle; zeros fill it up to the
+    /// offset where it ends before. Even equal bytes mark the draft changed. No bytes change nothing,
+    /// whatever the offset. Faults, in this order: `NoHandle` where no open handle has that number,
+    /// `TooBig` where the bytes would end past 1,048,576, `NoMemory`. A fault leaves all as it was.
+    pub fn write(
+        &mut self,
+        store: &mut BlockStore,
+        handle: Handle,
+        offset: u64,
+        bytes: &[u8],
+    ) -> Result<(), SessionFault>
+        requires { ForSome (draft_by self.old handle) (λ draft. LivesIn store.old draft.layout) }
+        ensures refused { ForSome (write_refusal self.old handle offset bytes.now)
+            (λ fault. IsErrOf result fault) }
+        ensures otherwise { IfNone (write_refusal self.old handle offset bytes.now)
+            (IsOkUnless result SessionFault.NoMemory) }
+        ensures idle { IsSome (handle_file self.old.handles handle)
+            → bytes.now ≡ [] → IsOk result }
+        ensures writes { OnOk result
+            (Writes store.old store.new self.old self.new handle offset bytes.now) }
+        ensures err { OnErr result (Stays store.old store.new self.old self.new) }
+    {
+        let Some(file) = file_by(&self.handles, handle) else {
+            return Err(SessionFault::NoHandle);
+        };
+        if bytes.is_empty() {
+            return Ok(());
+        }
+        if !fits(offset, bytes.len()) {
+            return Err(SessionFault::TooBig);
+        }
+        write_draft(&mut self.drafts, store, file, offset, bytes)?;
+        Ok(())
+    }
+
+    /// Makes the content of the draft under the handle so many bytes long, and marks it changed;
+    /// where it has that length, nothing is changed. Faults, in this order: `NoHandle` where no open
+    /// handle has that number, `TooBig` for more than 1,048,576 bytes, `NoMemory`. A fault leaves all
+    /// as it was.
+    pub fn truncate(
+        &mut self,
+        store: &mut BlockStore,
+        handle: Handle,
+        size: u64,
+    ) -> Result<(), SessionFault>
+        requires { ForSome (draft_by self.old handle) (λ draft. LivesIn store.old draft.layout) }
+        ensures refused { ForSome (truncate_refusal self.old handle size)
+            (λ fault. IsErrOf result fault) }
+        ensures otherwise { IfNone (truncate_refusal self.old handle size)
+            (IsOkUnless result SessionFault.NoMemory) }
+        ensures idle { IsTrue (has_length size (draft_by self.old handle))
+            → size ≤ longest_content → IsOk result }
+        ensures truncates { OnOk result
+            (Truncates store.old store.new self.old self.new handle size) }
+        ensures err { OnErr result (Stays store.old store.new self.old self.new) }
+    {
+        let Some(file) = file_by(&self.handles, handle) else {
+            return Err(SessionFault::NoHandle);
+        };
+        if size > LONGEST {
+            return Err(SessionFault::TooBig);
+        }
+        truncate_draft(&mut self.drafts, store, file, size)?;
+        Ok(())
+    }
+
+    /// Closes the handle; none where no open handle has that number. With the last handle of a file
+    /// its draft goes, and its map comes out: whoever takes it gives it up or keeps it.
+    pub fn close(&mut self, handle: Handle) -> Option<(Closing, Option<BlockMap>)>
+        ensures answer { result ≡ closing self.old handle }
+        ensures sessions { self.new ≡ closed self.old handle }
+    {
+        let Ok(at) = handle_place(&self.handles, handle) else {
+            return None;
+        };
+        let file = self.handles.remove(at).file;
+        Some(leave(&mut self.drafts, file))
+    }
+}

@@ -1,0 +1,82 @@
+//! What is asked of the sessions.
+//! A contract sees each answer as a look-up in drafts or handles.
+ghost use Rattle.std.specs.Prelude.{◌≡◌, length, slice_get};
+ghost use Rattle.std.specs.Option.{option_map, option_copied};
+ghost use Rattle.ele_sessions.specs.Closes.{closing};
+ghost use Rattle.ele_sessions.specs.declared.reads.Reads.TheVariants as reads;
+ghost use Rattle.ele_sessions.specs.Sessions.{handle_file, draft_of};
+
+use crate::closing::Closing;
+use crate::draft::Draft;
+use crate::entries::{file_by, place_of};
+use crate::leaving::peek;
+use crate::reads::Reads;
+use crate::sessions::Sessions;
+use ele_blocks::BlockMap;
+use ele_moment::{FileId, Handle, Moment};
+
+impl Sessions {
+    /// How many handles were ever opened.
+    pub fn handles_opened(&self) -> u64
+        ensures { result ≡ self.now.opened }
+    {
+        self.opened
+    }
+
+    /// How many drafts are open.
+    pub fn drafts_open(&self) -> usize
+        ensures { result ≡ length self.now.drafts }
+    {
+        self.drafts.len()
+    }
+
+    /// What closing the handle would answer; none where no open handle has that number.
+    pub fn peek_close(&self, handle: Handle) -> Option<Closing>
+        ensures { result ≡ option_map (λ answer. answer.0) (closing self.now handle) }
+    {
+        let file = file_by(&self.handles, handle)?;
+        Some(peek(&self.drafts, file))
+    }
+
+    /// What is read through the handle; none where no open handle has that number.
+    pub fn read(&self, handle: Handle) -> Option<Reads>
+        ensures { result
+            ≡ option_map (λ file. reads.Draft file) (handle_file self.now.handles handle) }
+    {
+        let file = file_by(&self.handles, handle)?;
+        Some(Reads::Draft(file))
+    }
+
+    /// The map of the file's draft; none where no handle writes the file.
+    pub fn draft(&self, file: FileId) -> Option<&BlockMap>
+        ensures { option_copied result
+            ≡ option_map (λ draft. draft.layout) (draft_of self.now file) }
+    {
+        let Ok(at) = place_of(&self.drafts, file) else {
+            return None;
+        };
+        let entry = &self.drafts[at];
+        let draft: &Draft = &entry.draft;
+        Some(&draft.map)
+    }
+
+    /// The file of a draft, when the draft was opened, and whether it was changed, by the file's place
+    /// among those with drafts; none past the last one.
+    pub fn draft_at(&self, place: usize) -> Option<(FileId, Moment, bool)>
+        ensures { result ≡ option_map (λ draft. (draft.file, draft.opened, draft.changed))
+            (slice_get self.now.drafts place) }
+    {
+        let entry = self.drafts.get(place)?;
+        Some((entry.file, entry.draft.opened, entry.draft.changed))
+    }
+
+    /// A handle's number and what is read through it, by its place among the open handles; none past
+    /// the last one.
+    pub fn handle_at(&self, place: usize) -> Option<(Handle, Reads)>
+        ensures { result ≡ option_map (λ handle. (handle.number, reads.Draft handle.file))
+            (slice_get self.now.handles place) }
+    {
+        let handle = self.handles.get(place)?;
+        Some((handle.number, Reads::Draft(handle.file)))
+    }
+}

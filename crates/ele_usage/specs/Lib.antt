@@ -1,0 +1,4 @@
+pub mod Book
+pub mod OnlyAt
+pub mod Shown
+pub mod Sums
