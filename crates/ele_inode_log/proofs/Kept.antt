@@ -1,5 +1,5 @@
 -- What a log keeps, after each change.
-use Rattle.std.proofs.Common.{◌≡◌, ◌≢◌, ℕ, true, false, List, [], ◌∷◌, ◌++◌, Some, None, refl, sym}
+use Rattle.std.proofs.Common.{◌∙◌, refl, ◌≡◌, ◌≢◌, ℕ, true, false, List, [], ◌∷◌, ◌++◌, Some, None, sym}
 use Rattle.std.specs.Prelude.{find, filter, IsSomeAnd}
 use Rattle.std.specs.Option.{ForSome}
 use Rattle.std.specs.List.{AllByRecursion}
@@ -44,7 +44,7 @@ kept-filter log number kept =
     }
 
 -- the entries of other numbers name other places
-pub others_away : (number : ℕ) (e : Entry) (es : List Entry) → AllLater AreApart es → find (is_entry_of number) es ≡ Some e → AllByRecursion (λ one. one.place ≢ e.place) (filter (is_other_entry number) es)
+others_away : (number : ℕ) (e : Entry) (es : List Entry) → AllLater AreApart es → find (is_entry_of number) es ≡ Some e → AllByRecursion (λ one. one.place ≢ e.place) (filter (is_other_entry number) es)
 others_away number e [] apart found = tt
 others_away number e (one ∷ es) apart found = elim (is_entry_of number one) as (λ b. is_entry_of number one ≡ b → AllByRecursion (λ one. one.place ≢ e.place) (filter (is_other_entry number) (one ∷ es))) [
   | true ↦ λ is. let found' = rw is at found in let same : one ≡ e = cc in
@@ -75,3 +75,10 @@ kept-ended log t moment e row kept can last is updates =
       apart = kept.apart;
       order = rw (rows-ended s t moment e row is updates es kept.standing kept.apart last) (in_order-ended moment (rows_of s es) can kept.order);
     }
+
+-- the rows that a removal leaves
+pub rows-removed : (log : Inside) (t : Slab VersionRow) (number : ℕ) (e : Entry) → IsKept log → find (is_entry_of number) log.numbers.entries ≡ Some e → Updates log.rows t e.place None → rows_of t (filter (is_other_entry number) log.numbers.entries) ≡ filter (is_other number) (rows_of log.rows log.numbers.entries)
+rows-removed log t number e kept found updates =
+    let es = log.numbers.entries in
+    rows-elsewhere log.rows t e.place (filter (is_other_entry number) es) updates.others (others_away number e es kept.apart found)
+    ∙ sym (filter-rows log.rows (is_other_entry number) (is_other number) (same_other number) es kept.standing)

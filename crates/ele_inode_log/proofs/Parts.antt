@@ -1,5 +1,5 @@
 -- A list that a search cuts in two: where a sorted list may be cut, and what stands at the cut.
-use Rattle.std.proofs.Common.{◌≡◌, ◌≢◌, ℕ, eq-eqb, zero, suc, ◌-◌, ◌<◌, ◌≤◌, Bool, true, false, cond, List, [], ◌∷◌, ◌++◌, reverse, length, take, drop, get_or, Option, Some, None, refl, ap, ◌∙◌, arith}
+use Rattle.std.proofs.Common.{◌≡◌, ◌≢◌, ℕ, eq-eqb, zero, suc, ◌-◌, ◌<◌, ◌≤◌, Bool, true, false, cond, List, [], ◌∷◌, ◌++◌, reverse, length, take, drop, get_or, Option, Some, None, refl, ap, arith}
 use Rattle.std.specs.Prelude.{find, not, filter, slice_get}
 use Rattle.std.specs.Option.{option_or}
 use Rattle.std.specs.List.{AllByRecursion, AllWithin}
@@ -10,7 +10,7 @@ use Rattle.ele_inode_log.specs.declared.entry.Entry.{Entry}
 use Rattle.ele_inode_log.specs.declared.entry.Cut.{Cut}
 use Rattle.ele_inode_log.specs.declared.entry.Cut.TheVariants.{AtNumber, BehindNumber, BehindMoment}
 use Rattle.ele_inode_log.specs.Rows.{AllLater, last_of}
-use Rattle.ele_inode_log.specs.Entries.{Rises, IsParted, comes_before, comes_behind, is_entry_of, is_other_entry}
+use Rattle.ele_inode_log.specs.Entries.{Rises, IsParted, comes_before, Lacks, is_entry_of, is_other_entry}
 use Rattle.ele_inode_log.proofs.Lists.{all-append, all-weaker, all-reverse, find-append, find-all, find_last-cons, later-right}
 
 module _ {X : Type 0} where
@@ -95,11 +95,6 @@ module _ {X : Type 0} where
 pub negated : (p : Entry → Bool) (es : List Entry) (b : Bool) → AllByRecursion (λ e. p e ≡ b) es → AllByRecursion (λ e. not (p e) ≡ not b) es
 negated p es b all = all-weaker (λ e. p e ≡ b) (λ e. not (p e) ≡ not b) es (λ e h. ap not h) all
 
--- no entry has the number
-pub record Lacks (number : ℕ) (es : List Entry) : Type 0 where
-  pub found : find (is_entry_of number) es ≡ None
-  pub rest : filter (is_other_entry number) es ≡ es
-
 pub lacks : (number : ℕ) (es : List Entry) → AllByRecursion (λ e. is_entry_of number e ≡ false) es → Lacks number es
 lacks number es all = record {
   found = find-all (is_entry_of number) es all;
@@ -139,31 +134,3 @@ lacks_at number before behind rising parted other =
         let unlike : e.number ≢ number = other e refl in
         let le : number ≤ e.number = let h = fails.0 in grind (arith, nat_tests, h) in
         (grind (arith, nat_tests, unlike), greater number e es le rising.0)
-
--- the entry of a number is the first whose number isn't lesser, if that has it
-pub found_number : (number : ℕ) (es : List Entry) (e : Entry) → find (comes_behind (AtNumber number)) es ≡ Some e → e.number ≡ number → find (is_entry_of number) es ≡ Some e
-found_number number [] e first is = absurd cc
-found_number number (d ∷ es) e first is = at (λ h. found_number number es e h is) (comes_before (AtNumber number) d) refl where
-  at : (find (comes_behind (AtNumber number)) es ≡ Some e → find (is_entry_of number) es ≡ Some e) → (b : Bool) → comes_before (AtNumber number) d ≡ b → find (is_entry_of number) (d ∷ es) ≡ Some e
-  at later true h =
-      let first' = rw h at first in
-      let unlike : is_entry_of number d ≡ false = grind (arith, nat_tests, h) in
-      rw unlike (later first')
-  at later false h =
-      let first' = rw h at first in
-      let same : d ≡ e = cc in
-      let here : is_entry_of number d ≡ true = eq-eqb d.number number (ap (λ (x : Entry). x.number) same ∙ is) in
-      rw here (ap Some same)
-
-pub missing_number : (number : ℕ) (es : List Entry) → AllLater Rises es → ((e : Entry) → find (comes_behind (AtNumber number)) es ≡ Some e → e.number ≢ number) → find (is_entry_of number) es ≡ None
-missing_number number [] rising other = refl
-missing_number number (d ∷ es) rising other = at (λ h. missing_number number es rising.1 h) (comes_before (AtNumber number) d) refl where
-  at : (((e : Entry) → find (comes_behind (AtNumber number)) es ≡ Some e → e.number ≢ number) → find (is_entry_of number) es ≡ None) → (b : Bool) → comes_before (AtNumber number) d ≡ b → find (is_entry_of number) (d ∷ es) ≡ None
-  at later true h =
-      let unlike : is_entry_of number d ≡ false = grind (arith, nat_tests, h) in
-      rw unlike (later (λ e is. other e (rw h is)))
-  at later false h =
-      let differs : d.number ≢ number = other d (rw h refl) in
-      let le : number ≤ d.number = grind (arith, nat_tests, h) in
-      let unlike : is_entry_of number d ≡ false = grind (arith, nat_tests, differs) in
-      rw unlike (find-all (is_entry_of number) es (greater number d es le rising.0))

@@ -1,26 +1,21 @@
 -- What a search for a number finds, and what stays without it.
-use Rattle.std.proofs.Common.{◌≡◌, ◌≢◌, ℕ, suc, ◌+◌, List, [], ◌∷◌, ◌++◌, length, Option, Some, None, ap, sym, ◌∙◌, arith, length-append}
-use Rattle.std.specs.Prelude.{find, filter, slice_get, not, false, ◌==◌, ◌<◌, ◌≤◌, IfSome}
+use Rattle.std.proofs.Common.{◌≡◌, ◌≢◌, ℕ, suc, List, [], ◌∷◌, ◌++◌, length, Option, Some, None, ap, sym, ◌∙◌, arith, length-append}
+use Rattle.std.specs.Prelude.{slice_get, false, ◌==◌, ◌<◌, ◌≤◌, IfSome}
 use Rattle.std.specs.Option.{option_or, ForSome}
+use Rattle.std.proofs.lemmas.Option.{slice_get_within}
 use Rattle.std.proofs.lemmas.Bool.Decides.{nat_tests}
 use Rattle.ele_inode_log.specs.NumbersInside.{IsFresh}
 use Rattle.ele_inode_log.specs.declared.entry.Entry.{Entry}
 use Rattle.ele_inode_log.specs.declared.entry.Cut.TheVariants.{AtNumber}
 use Rattle.ele_inode_log.specs.Sorted.{Sorted}
 use Rattle.ele_inode_log.specs.Rows.{AllLater}
-use Rattle.ele_inode_log.specs.Entries.{Rises, IsParted, comes_before, is_entry_of, is_other_entry}
-use Rattle.ele_inode_log.specs.Chunks.{flat, entries_at, before_place, behind_place}
-use Rattle.ele_inode_log.proofs.Parts.{Lacks, lacks_at, has}
+use Rattle.ele_inode_log.specs.Entries.{Rises, IsParted, Lacks, comes_before}
+use Rattle.ele_inode_log.specs.Chunks.{flat, entries_at, before_place, behind_place, IsPlaceOf}
+use Rattle.ele_inode_log.proofs.Parts.{lacks_at, has}
 use Rattle.ele_inode_log.proofs.Flat.{place_split, first_behind_lem, behind_more}
 
--- the entry has the number, and without it the others stay
-pub record IsFound (number : ℕ) (e : Entry) (es others : List Entry) : Type 0 where
-  pub found : find (is_entry_of number) es ≡ Some e
-  pub rest : filter (is_other_entry number) es ≡ others
-  pub shorter : length others + 1 ≡ length es
-
 module _ (number : ℕ) (cs : List Sorted) (i j : ℕ) (rising : AllLater Rises (flat cs)) (parted : IsParted (comes_before (AtNumber number)) (before_place cs i j) (behind_place cs i j)) where
-  pub found_at : (e : Entry) → slice_get (entries_at cs i) j ≡ Some e → e.number ≡ number → IsFound number e (flat cs) (before_place cs i j ++ behind_place cs i (suc j))
+  pub found_at : (e : Entry) → slice_get (entries_at cs i) j ≡ Some e → e.number ≡ number → IsPlaceOf number cs i j
   found_at e is same =
       let before = before_place cs i j in
       let behind = behind_place cs i (suc j) in
@@ -29,7 +24,8 @@ module _ (number : ℕ) (cs : List Sorted) (i j : ℕ) (rising : AllLater Rises 
       let cut : IsParted (comes_before (AtNumber number)) before (e ∷ behind) = rw (← more) parted in
       let one = has number e before behind same (rw (← whole) rising) cut in
       record {
-        found = rw whole one.found;
+        within = slice_get_within (entries_at cs i) j e is;
+        found = rw whole one.found ∙ sym is;
         rest = rw whole one.rest;
         shorter = rw whole (simp length-append (omega arith));
       }
@@ -40,8 +36,8 @@ module _ (number : ℕ) (cs : List Sorted) (i j : ℕ) (rising : AllLater Rises 
       rw whole (lacks_at number (before_place cs i j) (behind_place cs i j) (rw (← whole) rising) parted (λ e is. other e (sym (first_behind_lem cs i j within) ∙ is)))
 
 -- what a test of numbers says
-pub number_from_test : (a b : ℕ) → not (a == b) ≡ false → a ≡ b
-number_from_test a b h = grind (arith, nat_tests, h)
+pub other_number : (a b : ℕ) → (a == b) ≡ false → a ≢ b
+other_number a b h = grind (arith, nat_tests, h)
 
 -- the emptied chunk is kept, or the one that was
 pub fresh_or : (emptied fresh : Option Sorted) → IfSome emptied (λ chunk. chunk.entries ≡ []) → IfSome emptied (λ chunk. 1 ≤ chunk.spare) → ForSome fresh IsFresh → ForSome (option_or emptied fresh) IsFresh

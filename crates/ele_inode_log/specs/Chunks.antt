@@ -1,12 +1,12 @@
 -- Chunks as one list of entries. No public clause cites this module.
-use Rattle.std.specs.Prelude.{◌≡◌, ℕ, ◌<◌, ◌≤◌, Bool, false, suc, List, [], ◌++◌, length, take, drop, slice_get, Vec, vec_len}
+use Rattle.std.specs.Prelude.{◌≡◌, ℕ, ◌<◌, ◌≤◌, Bool, false, suc, List, [], ◌++◌, length, take, drop, slice_get, find, filter, ◌+◌, Vec, vec_len}
 use Rattle.std.specs.declared.alloc.Global.{Global}
 use Rattle.std.specs.Option.{option_map_or}
 use Rattle.std.specs.List.{flat_map, AllByRecursion}
 use Rattle.ele_inode_log.specs.declared.entry.Entry.{Entry}
 use Rattle.ele_inode_log.specs.declared.entry.Cut.{Cut}
 use Rattle.ele_inode_log.specs.Rows.{last_of}
-use Rattle.ele_inode_log.specs.Entries.{comes_before}
+use Rattle.ele_inode_log.specs.Entries.{comes_before, is_entry_of, is_other_entry}
 use Rattle.ele_inode_log.specs.Sorted.{Sorted}
 
 -- the entries of all chunks
@@ -28,6 +28,13 @@ before_place chunks i j = flat (take i chunks) ++ take j (entries_at chunks i)
 -- and those from there on
 abbrev pub behind_place : List Sorted → ℕ → ℕ → List Entry
 behind_place chunks i j = drop j (entries_at chunks i) ++ flat (drop (suc i) chunks)
+
+-- the number's entry stands there, and all others before and behind it
+pub record IsPlaceOf (number : ℕ) (chunks : List Sorted) (i j : ℕ) : Type 0 where
+  pub within : j < length (entries_at chunks i)
+  pub found : find (is_entry_of number) (flat chunks) ≡ slice_get (entries_at chunks i) j
+  pub rest : filter (is_other_entry number) (flat chunks) ≡ before_place chunks i j ++ behind_place chunks i (suc j)
+  pub shorter : length (before_place chunks i j ++ behind_place chunks i (suc j)) + 1 ≡ length (flat chunks)
 
 -- for how many more entries the last chunk has room
 abbrev pub last_room : List Sorted → ℕ

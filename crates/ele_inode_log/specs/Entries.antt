@@ -1,5 +1,5 @@
 -- What stands in the list of numbers. No public clause cites this module.
-use Rattle.std.specs.Prelude.{◌≡◌, ℕ, ◌<◌, ◌≤◌, ◌==◌, Bool, true, false, List, nat_lt, nat_le, not}
+use Rattle.std.specs.Prelude.{◌≡◌, ℕ, ◌<◌, ◌≤◌, ◌==◌, Bool, true, false, List, nat_lt, nat_le, not, None, find, filter}
 use Rattle.std.specs.List.{AllByRecursion}
 use Rattle.ele_inode_log.specs.declared.entry.Entry.{Entry}
 use Rattle.ele_inode_log.specs.declared.entry.Cut.{Cut}
@@ -32,3 +32,8 @@ pub record Rises (earlier later : Entry) : Type 0 where
 pub record IsParted (p : Entry → Bool) (before behind : List Entry) : Type 0 where
   pub passes : AllByRecursion (λ entry. p entry ≡ true) before
   pub fails : AllByRecursion (λ entry. p entry ≡ false) behind
+
+-- no entry has the number
+pub record Lacks (number : ℕ) (entries : List Entry) : Type 0 where
+  pub found : find (is_entry_of number) entries ≡ None
+  pub rest : filter (is_other_entry number) entries ≡ entries

@@ -1,12 +1,13 @@
 //! Chunks that follow one another, each with entries, as one list of entries.
 //! A contract sees that list, and a place in it as the number of a chunk and a place in the chunk.
-ghost use Rattle.std.specs.Prelude.{◌≡◌, ◌<◌, ◌≤◌, ◌+◌, ◌++◌, IsTrue, OnSome, IfNone, IfSome, [], ◌∷◌, ◌↔◌, length, vec_len, vec_capacity, suc, drop, slice_get};
+ghost use Rattle.std.specs.Prelude.{◌≡◌, ◌<◌, ◌≤◌, ◌+◌, ◌++◌, IsTrue, OnSome, IfNone, IfSome, [], ◌∷◌, ◌↔◌, length, vec_len, vec_capacity, suc, slice_get};
 ghost use Rattle.ele_inode_log.specs.Rows.{AllLater, last_of};
-ghost use Rattle.ele_inode_log.specs.Entries.{Rises, comes_before, IsParted};
-ghost use Rattle.ele_inode_log.specs.Chunks.{flat, AreFilled, entries_at, before_place, behind_place, last_room, ends_before, KeepsRoom};
+ghost use Rattle.ele_inode_log.specs.Entries.{Rises, comes_before, IsParted, Lacks};
+ghost use Rattle.ele_inode_log.specs.Chunks.{flat, AreFilled, entries_at, before_place, behind_place, last_room, ends_before, IsPlaceOf, KeepsRoom};
 
 use crate::chunk::Chunk;
 use crate::entry::{Cut, Entry};
+use ele_moment::VersionNo;
 
 /// Whether the last chunk has room for one entry more.
 pub fn last_has_room(chunks: &[Chunk]) -> bool
@@ -68,8 +69,8 @@ fn ends_before(chunk: &Chunk, cut: Cut) -> bool
     }
 }
 
-/// The place of the first entry behind the cut: its chunk, and its place there. If there is none, it
-/// is the start of the chunk that would come next.
+/// The place of the first entry behind the cut: its chunk, and its place there. If there is none,
+/// it is the start of the chunk that would come next.
 pub fn seek(chunks: &[Chunk], cut: Cut) -> (usize, usize)
     requires filled { AreFilled chunks.now }
     requires rising { AllLater Rises (flat chunks.now) }
@@ -84,6 +85,22 @@ pub fn seek(chunks: &[Chunk], cut: Cut) -> (usize, usize)
     match chunks.get(chunk) {
         Some(here) => (chunk, here.place_of(cut)),
         None => (chunk, 0),
+    }
+}
+
+/// The place of the number's entry: its chunk, and its place there.
+pub fn find_number(chunks: &[Chunk], number: VersionNo) -> Option<(usize, usize)>
+    requires filled { AreFilled chunks.now }
+    requires rising { AllLater Rises (flat chunks.now) }
+    ensures found { IfSome result (λ place. IsPlaceOf number chunks.now place.0 place.1) }
+    ensures missing { IfNone result (Lacks number (flat chunks.now)) }
+{
+    let (chunk, place) = seek(chunks, Cut::AtNumber(number));
+    let entry = entry_at(chunks, chunk, place)?;
+    if entry.number == number {
+        Some((chunk, place))
+    } else {
+        None
     }
 }
 

@@ -1,6 +1,6 @@
 //! The held versions of one file.
 //! A contract sees the list of their rows by number, and for how many more there is memory.
-ghost use Rattle.std.specs.Prelude.{◌≡◌, ◌<◌, ◌≤◌, ◌+◌, ◌==◌, ◌^◌, [], ◌∷◌, ◌++◌, OnOk, OnErr, IfErr, IsOk, IsTrue, ◌↔◌, All, IsSomeAnd, IfSome, find, filter, reverse, length, is_some, if◌then◌else◌};
+ghost use Rattle.std.specs.Prelude.{◌≡◌, ◌<◌, ◌≤◌, ◌+◌, ◌==◌, ◌^◌, [], ◌∷◌, ◌++◌, OnOk, OnErr, IfErr, IsOk, IsTrue, ◌↔◌, All, IsSomeAnd, find, filter, reverse, length, is_some, if◌then◌else◌};
 ghost use Rattle.std.specs.Option.{ForSome, option_copied, option_map, option_and_then};
 ghost use Rattle.std.specs.List.{list_any};
 ghost use Rattle.ele_inode_log.specs.Rows.{HeldRows, AreInOrder, Precedes, EndsInTime, CanEndAt, last_of, update_last, is_numbered, is_other, is_after, is_before, has_closed_by, lives_at, ended_at};
@@ -15,9 +15,9 @@ use slab::Slab;
 use std::alloc::Global;
 use std::marker::Model;
 
-/// The held versions of one file. Numbers rise, a version has ended when the next one closes, and only
-/// the last may have no end. Each row that a call reads or removes adds one to the call's meter, and
-/// no call reads a row without one.
+/// The held versions of one file. Numbers rise, a version has ended when the next one closes, and
+/// only the last may have no end. Each row that a call reads or removes adds one to the call's
+/// meter, and no call reads a row without one.
 #[derive(Debug, Drop)]
 pub struct InodeLog {
     rows: Slab<VersionRow>,
@@ -74,8 +74,8 @@ impl InodeLog {
         Ok(())
     }
 
-    /// Adds a row behind all others. Where memory is refused, which it isn't after `reserve`, the row
-    /// comes back and the rows stay.
+    /// Adds a row behind all others. Where memory is refused, which it isn't after `reserve`, the
+    /// row comes back and the rows stay.
     pub fn append(&mut self, row: VersionRow) -> Result<(), (VersionRow, NoMemory)>
         requires last { ForSome (last_of self.old.rows) (λ last. Precedes last row) }
         requires ends { EndsInTime row }
@@ -147,15 +147,19 @@ impl InodeLog {
     {
         let entry = self.numbers.remove(number)?;
         meter.count();
-        self.rows.try_remove(entry.place)
+        let row = self.rows.remove(entry.place);
+        Some(row)
     }
 
-    /// The number of the version in whose life the moment lies: it had closed by then, and ended after
-    /// that or not at all. No two versions live at one moment. A row is read where one had closed.
+    /// The number of the version in whose life the moment lies: it had closed by then, and ended
+    /// after that or not at all. No two versions live at one moment. A row is read where one had
+    /// closed.
     pub fn at(&self, moment: Moment, meter: &mut Meter) -> Option<VersionNo>
         requires { meter.old < 2 ^ 63 }
-        ensures number { result ≡ option_map (λ row. row.number) (find (lives_at moment) self.now.rows) }
-        ensures only { All (λ row. IsTrue (lives_at moment row) → result ≡ Some row.number) self.now.rows }
+        ensures number { result ≡ option_map (λ row. row.number)
+            (find (lives_at moment) self.now.rows) }
+        ensures only { All (λ row. IsTrue (lives_at moment row) → result ≡ Some row.number)
+            self.now.rows }
         ensures read { meter.new ≡ meter.old
             + (if list_any (has_closed_by moment) self.now.rows then 1 else 0) }
     {

@@ -6,15 +6,17 @@ ghost use Rattle.ele_inode_log.specs.Rows.{last_of};
 ghost use Rattle.ele_inode_log.specs.Entries.{Rises, comes_before, comes_behind, is_entry_of, is_other_entry};
 
 use crate::chunk::Chunk;
-use crate::chunks::{entry_at, entry_before, last_entry, last_has_room, push_last, seek, take_out};
+use crate::chunks::{
+    entry_at, entry_before, find_number, last_entry, last_has_room, push_last, seek, take_out,
+};
 use crate::entry::{Cut, Entry};
 use crate::room::put;
 use ele_moment::{NoMemory, VersionNo};
 use std::alloc::Global;
 use std::marker::Model;
 
-/// Entries whose numbers rise, and whose closings don't fall. They stand in chunks, so that a removal
-/// moves the entries of one chunk, and a chunk without entries beside them for the next one.
+/// Entries whose numbers rise, and whose closings don't fall. They stand in chunks, so that a
+/// removal moves the entries of one chunk, with a chunk without entries beside them for the next.
 #[derive(Debug, Drop)]
 pub struct Numbers {
     chunks: Vec<Chunk>,
@@ -89,13 +91,8 @@ impl Numbers {
     pub fn get(&self, number: VersionNo) -> Option<Entry>
         ensures { result ≡ find (is_entry_of number) self.now.entries }
     {
-        let _ = &self.chunks;
-        let entry = self.first_behind(Cut::AtNumber(number))?;
-        if entry.number == number {
-            Some(entry)
-        } else {
-            None
-        }
+        let (chunk, place) = find_number(&self.chunks, number)?;
+        entry_at(&self.chunks, chunk, place)
     }
 
     /// The first entry behind the cut.
@@ -121,13 +118,10 @@ impl Numbers {
         ensures shorter { OnSome result (length self.new.entries + 1 ≡ length self.old.entries) }
         ensures room { 1 ≤ self.old.spare → 1 ≤ self.new.spare }
     {
-        let (chunk, place) = seek(&self.chunks, Cut::AtNumber(number));
-        let entry = entry_at(&self.chunks, chunk, place)?;
-        if entry.number != number {
-            return None;
-        }
+        let (chunk, place) = find_number(&self.chunks, number)?;
+        let entry = entry_at(&self.chunks, chunk, place);
         let emptied = take_out(&mut self.chunks, chunk, place);
         self.fresh = emptied.or(self.fresh.take());
-        Some(entry)
+        entry
     }
 }

@@ -1,12 +1,11 @@
-use Rattle.std.proofs.Common.{◌+◌, cond, length, ap, sym, ◌∙◌, arith}
-use Rattle.std.specs.Prelude.{filter, is_some}
+use Rattle.std.proofs.Common.{refl, length, ap, sym, ◌∙◌, arith}
 use Rattle.std.specs.Option.{option_and_then}
 use Rattle.ele_inode_log.specs.Entries.{is_entry_of, is_other_entry}
 use Rattle.ele_inode_log.specs.Rows.{is_numbered, is_other}
 use Rattle.ele_inode_log.specs.LogInside.{IsStanding, row_at}
 use Rattle.ele_inode_log.proofs.Lists.{all-found}
-use Rattle.ele_inode_log.proofs.Standing.{stands, filter-missing, OnSome-at, find-rows, filter-rows, same_number, same_other, rows-elsewhere}
-use Rattle.ele_inode_log.proofs.Kept.{kept-filter, kept-remove, others_away}
+use Rattle.ele_inode_log.proofs.Standing.{stands, filter-missing, OnSome-at, find-rows, filter-rows, same_number, same_other}
+use Rattle.ele_inode_log.proofs.Kept.{kept-filter, kept-remove, rows-removed}
 use Rattle.ele_inode_log.proofs.log.InodeLog.remove.Goals as goal
 
 pub invariant_of-self : goal.invariant_of-self
@@ -31,37 +30,31 @@ returns-in_err-entry-clause-rows c =
     rw (c.remove.ensures.entries, ← c.self.view_is)
     (sym (filter-rows s (is_other_entry c.args.number) (is_other c.args.number) (same_other c.args.number) c.self.inside.numbers.entries c.self.invariant.standing))
 
+pub remove-row-requires : goal.remove-row-requires
+remove-row-requires c =
+    let s = c.self.inside.rows in
+    let found = sym c.remove.ensures.value ∙ c.in_ok-entry.was in
+    let here = stands s c.in_ok-entry.entry (all-found (IsStanding s) (is_entry_of c.args.number) c.self.inside.numbers.entries c.self.invariant.standing c.in_ok-entry.entry found) in
+    rw here.is refl
+
 pub invariant_of-self-2 : goal.invariant_of-self-2
 invariant_of-self-2 c =
     let found = sym c.remove.ensures.value ∙ c.in_ok-entry.was in
-    let kept = kept-remove c.self.inside c.try_remove.new.self c.args.number c.in_ok-entry.entry c.self.invariant found c.try_remove.ensures.updates in
+    let kept = kept-remove c.self.inside c.remove-row.new.self c.args.number c.in_ok-entry.entry c.self.invariant found c.remove-row.ensures.updates in
     let same = c.remove.ensures.entries in
-    let here = stands c.self.inside.rows c.in_ok-entry.entry (all-found (IsStanding c.self.inside.rows) (is_entry_of c.args.number) c.self.inside.numbers.entries c.self.invariant.standing c.in_ok-entry.entry found) in
-    let less = OnSome-at c.try_remove.result here.row _ (c.try_remove.ensures.value ∙ here.is) c.try_remove.ensures.len in
     let shorter = OnSome-at c.remove.result c.in_ok-entry.entry _ c.in_ok-entry.was c.remove.ensures.shorter in
-    record { count = let k = c.self.invariant.count in omega arith; standing = rw same kept.standing; apart = rw same kept.apart; order = rw same kept.order }
+    record { count = let k = c.self.invariant.count in let h = c.remove-row.ensures.len in omega arith; standing = rw same kept.standing; apart = rw same kept.apart; order = rw same kept.order }
 
 pub returns-clause-row : goal.returns-clause-row
 returns-clause-row c =
     let s = c.self.inside.rows in
     rw (← c.self.view_is)
-    (c.try_remove.ensures.value
+    (sym c.remove-row.ensures.value
     ∙ ap (option_and_then (row_at s)) (sym (sym c.remove.ensures.value ∙ c.in_ok-entry.was))
     ∙ sym (find-rows s (is_entry_of c.args.number) (is_numbered c.args.number) (same_number c.args.number) c.self.inside.numbers.entries c.self.invariant.standing))
 
 pub returns-clause-rows : goal.returns-clause-rows
 returns-clause-rows c =
-    let s = c.self.inside.rows in
     let es = c.self.inside.numbers.entries in
-    let found = sym c.remove.ensures.value ∙ c.in_ok-entry.was in
-    rw (c.remove.ensures.entries, ← c.self.view_is)
-    (rows-elsewhere s c.try_remove.new.self c.in_ok-entry.entry.place (filter (is_other_entry c.args.number) es) c.try_remove.ensures.updates.others (others_away c.args.number c.in_ok-entry.entry es c.self.invariant.apart found)
-    ∙ sym (filter-rows s (is_other_entry c.args.number) (is_other c.args.number) (same_other c.args.number) es c.self.invariant.standing))
-
-pub returns-clause-read : goal.returns-clause-read
-returns-clause-read c =
-    let s = c.self.inside.rows in
-    let es = c.self.inside.numbers.entries in
-    let found = sym c.remove.ensures.value ∙ c.in_ok-entry.was in
-    let here = stands s c.in_ok-entry.entry (all-found (IsStanding s) (is_entry_of c.args.number) es c.self.invariant.standing c.in_ok-entry.entry found) in
-    c.count.ensures ∙ ap (λ b. c.args.meter.now + cond b 1 0) (sym (ap is_some (c.try_remove.ensures.value ∙ here.is)))
+    let left = rows-removed c.self.inside c.remove-row.new.self c.args.number c.in_ok-entry.entry c.self.invariant (sym c.remove.ensures.value ∙ c.in_ok-entry.was) c.remove-row.ensures.updates in
+    rw (c.remove.ensures.entries, ← c.self.view_is) left
