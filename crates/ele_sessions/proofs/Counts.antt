@@ -1,5 +1,5 @@
 -- How many handles write a file, before and after a handle comes or goes.
-use Rattle.std.proofs.Common.{◌≡◌, ℕ, ◌+◌, ◌<◌, ◌≤◌, Bool, true, false, cond, eqb, nat_lt, ◌||◌, List, [], ◌∷◌, ◌++◌, length, Some, refl, sym, ap, ◌∙◌, arith}
+use Rattle.std.proofs.Common.{◌≡◌, ℕ, ◌+◌, ◌<◌, ◌≤◌, Bool, true, false, cond, eqb, ◌||◌, List, [], ◌∷◌, ◌++◌, length, Some, refl, sym, ◌∙◌, arith}
 use Rattle.std.specs.List.{AllByRecursion, list_any, find}
 use Rattle.std.proofs.lemmas.Bool.{false≢true}
 use Rattle.std.proofs.lemmas.Bool.Decides.{nat_tests}
@@ -9,7 +9,6 @@ use Rattle.ele_sessions.specs.Kept.{writing, IsCounted}
 use Rattle.ele_sessions.specs.Lists.{update_first, remove_first}
 use Rattle.ele_sessions.specs.Order.{Rises}
 use Rattle.ele_sessions.specs.Sessions.{is_handle, is_writer}
-use Rattle.ele_sessions.proofs.Edits.{all-weaker}
 
 pub writing-push : (file : ℕ) (hs : List OpenHandle) (h : OpenHandle) → writing file (hs ++ h ∷ []) ≡ writing file hs + cond (eqb h.file file) 1 0
 writing-push file [] h = omega arith

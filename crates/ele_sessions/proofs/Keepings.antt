@@ -1,5 +1,5 @@
 -- That the fields keep their order and counts when a handle comes or goes.
-use Rattle.std.proofs.Common.{◌≡◌, ℕ, ◌+◌, ◌-◌, ◌<◌, ◌≤◌, ◌^◌, Bool, true, false, cond, eqb, nat_lt, ◌||◌, List, [], ◌∷◌, ◌++◌, length, Option, Some, None, refl, sym, ap, ◌∙◌, arith}
+use Rattle.std.proofs.Common.{◌≡◌, ℕ, ◌+◌, ◌<◌, ◌≤◌, ◌^◌, Bool, true, false, cond, eqb, nat_lt, ◌||◌, List, [], ◌∷◌, ◌++◌, length, Option, Some, None, refl, sym, ◌∙◌, arith}
 use Rattle.std.specs.List.{AllByRecursion, list_any, find}
 use Rattle.std.proofs.lemmas.List.{length-append}
 use Rattle.std.proofs.lemmas.Bool.Decides.{nat_tests}
@@ -11,7 +11,7 @@ use Rattle.ele_sessions.specs.Kept.{Keeps, writing, IsCounted}
 use Rattle.ele_sessions.specs.Lists.{update_first, remove_first, insert_before}
 use Rattle.ele_sessions.specs.Order.{Rises}
 use Rattle.ele_sessions.specs.Sessions.{AllSessions, is_handle, is_writer, is_draft, handle_file}
-use Rattle.ele_sessions.proofs.Edits.{all-push, all-weaker, all-both, all-any, all-none, all-insert_before, all-remove_first, all-found, found_passes, any_found, later-push, later-update_first, later-remove_first, later-insert_before, list_any-update_first, list_any-insert_before, list_any-remove_first, length-remove_first-le}
+use Rattle.ele_sessions.proofs.Edits.{all-push, all-weaker, all-both, all-none, all-insert_before, all-remove_first, all-found, found_passes, any_found, later-push, later-update_first, later-remove_first, later-insert_before, list_any-update_first, list_any-insert_before, list_any-remove_first, length-remove_first-le}
 use Rattle.ele_sessions.proofs.Counts.{writing-push, writing-remove, writing-none, writing-some, writing-le, writing-undrafted, all-others, counted-update, counted-remove}
 
 abbrev pub file_of : Writers → ℕ

@@ -4,3 +4,4 @@ pub mod Found
 pub mod Edits
 pub mod Counts
 pub mod Keepings
+pub mod Order

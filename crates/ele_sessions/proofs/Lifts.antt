@@ -1,5 +1,5 @@
 -- Changes of a list at a place that a search found, seen through a view of the elements.
-use Rattle.std.proofs.Common.{◌≡◌, ℕ, ◌+◌, ◌<◌, ◌≤◌, Bool, true, false, cond, ltb, eqb, List, [], ◌∷◌, ◌++◌, length, map, get_or, Option, Some, None, refl, sym, ap, ◌∙◌, arith, zero, suc}
+use Rattle.std.proofs.Common.{◌≡◌, ℕ, ◌<◌, Bool, true, false, ltb, eqb, List, [], ◌∷◌, map, get_or, Some, None, refl, sym, ap, ◌∙◌, arith, zero, suc}
 use Rattle.std.proofs.Math.ListN.{set}
 use Rattle.std.specs.List.{find, insert, remove, list_any}
 use Rattle.std.proofs.lemmas.Bool.Decides.{nat_tests}

@@ -1,5 +1,5 @@
 -- Where a binary search of rising keys ends, and what stands there.
-use Rattle.std.proofs.Common.{◌≡◌, ℕ, ◌+◌, ◌<◌, ◌≤◌, Bool, true, false, ltb, eqb, List, [], ◌∷◌, length, map, get_or, refl, sym, arith, zero, suc}
+use Rattle.std.proofs.Common.{◌≡◌, ℕ, ◌<◌, ◌≤◌, Bool, true, false, ltb, eqb, List, [], ◌∷◌, length, map, get_or, refl, arith, zero, suc}
 use Rattle.std.specs.List.{AllByRecursion}
 use Rattle.std.specs.List.Sorted.{IsPartitionedBy, IsPartitionPoint, IsNonDecreasingBy}
 use Rattle.std.proofs.lemmas.List.Sorted.{IsPartitionedBy-ltb}

@@ -1,4 +1,4 @@
--- What holds between the elements of a list. No public clause cites this module.
+-- What holds between the elements of a list.
 use Rattle.std.specs.Prelude.{ℕ, ◌<◌, List, [], ◌∷◌}
 use Rattle.std.specs.List.{AllByRecursion}
 

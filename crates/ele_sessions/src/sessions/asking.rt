@@ -4,6 +4,7 @@ ghost use Rattle.std.specs.Prelude.{◌≡◌, length, slice_get};
 ghost use Rattle.std.specs.Option.{option_map, option_copied};
 ghost use Rattle.ele_sessions.specs.Closes.{closing};
 ghost use Rattle.ele_sessions.specs.declared.reads.Reads.TheVariants as reads;
+ghost use Rattle.ele_sessions.specs.Orderly.{AreOrderly};
 ghost use Rattle.ele_sessions.specs.Sessions.{handle_file, draft_of};
 
 use crate::closing::Closing;
@@ -18,7 +19,8 @@ use ele_moment::{FileId, Handle, Moment};
 impl Sessions {
     /// How many handles were ever opened.
     pub fn handles_opened(&self) -> u64
-        ensures { result ≡ self.now.opened }
+        ensures value { result ≡ self.now.opened }
+        ensures orderly { AreOrderly self.now }
     {
         self.opened
     }

@@ -1,7 +1,7 @@
-use Rattle.std.proofs.Common.{◌≡◌, refl, Some}
+use Rattle.std.proofs.Common.{refl}
 use Rattle.ele_sessions.specs.Inside.{IsAt, IsGap, file_in, draft_in}
 use Rattle.ele_sessions.specs.Changes.{IsWritten}
-use Rattle.ele_sessions.proofs.Found.{not_missing, found_draft, its_file, writers_stay, drafts_stay, rewrites, on_err}
+use Rattle.ele_sessions.proofs.Found.{not_missing, found_draft, writers_stay, drafts_stay, rewrites, on_err}
 use Rattle.ele_sessions.proofs.changing.write_draft.Goals as goal
 
 pub unreachable-requires : goal.unreachable-requires

@@ -1,4 +1,4 @@
-use Rattle.std.proofs.Common.{◌≡◌, sym}
+use Rattle.std.proofs.Common.{sym}
 use Rattle.ele_sessions.proofs.Found.{found_file, no_file}
 use Rattle.ele_sessions.proofs.entries.file_by.Goals as goal
 

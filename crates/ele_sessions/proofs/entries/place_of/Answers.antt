@@ -1,4 +1,4 @@
-use Rattle.std.proofs.Common.{◌≡◌, ltb, refl, sym, ◌∙◌, rules, arith}
+use Rattle.std.proofs.Common.{ltb, sym, ◌∙◌, rules}
 use Rattle.std.proofs.lemmas.List.Sorted.{IsPartitionPoint-from_clause}
 use Rattle.ele_sessions.specs.Inside.{file_in}
 use Rattle.ele_sessions.proofs.Places.{rises-parted, cut_at, cut_end, cut_gap}

@@ -1,7 +1,6 @@
-use Rattle.std.proofs.Common.{◌≡◌, refl, nat_lt, true, false, arith, sym, ◌∙◌, ap, Some}
+use Rattle.std.proofs.Common.{◌≡◌, refl, nat_lt, true, false, arith, sym}
 use Rattle.std.proofs.lemmas.Bool.Decides.{nat_tests}
-use Rattle.ele_sessions.specs.Inside.{IsAt, IsGap, file_in, draft_in}
-use Rattle.ele_sessions.specs.Closes.{ending}
+use Rattle.ele_sessions.specs.Inside.{IsAt, IsGap, file_in}
 use Rattle.ele_sessions.proofs.Found.{not_missing, stays_open, drafts_kept, writers_fewer, goes, drafts_gone, writers_gone, same_set, same_read}
 use Rattle.ele_sessions.proofs.leaving.leave.Goals as goal
 

@@ -1,6 +1,5 @@
-use Rattle.std.proofs.Common.{◌≡◌, refl, nat_lt, true, false, arith, sym, ◌∙◌, ap}
+use Rattle.std.proofs.Common.{◌≡◌, refl, nat_lt, true, false, arith, sym, ap}
 use Rattle.std.proofs.lemmas.Bool.Decides.{nat_tests}
-use Rattle.ele_sessions.specs.Inside.{IsAt, IsGap, file_in, draft_in}
 use Rattle.ele_sessions.proofs.Found.{not_missing, stays_open, goes}
 use Rattle.ele_sessions.proofs.leaving.peek.Goals as goal
 

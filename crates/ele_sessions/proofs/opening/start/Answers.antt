@@ -1,4 +1,4 @@
-use Rattle.std.proofs.Common.{◌≡◌, refl}
+use Rattle.std.proofs.Common.{refl}
 use Rattle.ele_sessions.proofs.Found.{drafts_insert, writers_insert}
 use Rattle.ele_sessions.proofs.opening.start.Goals as goal
 

@@ -1,4 +1,4 @@
-use Rattle.std.proofs.Common.{◌≡◌, refl, sym, Some, ap}
+use Rattle.std.proofs.Common.{sym}
 use Rattle.ele_sessions.specs.Inside.{IsAt, IsGap, number_in, writers_in, writers_of, stays}
 use Rattle.ele_sessions.specs.Kept.{sessions_of}
 use Rattle.ele_sessions.proofs.Found.{found_handle, removed_handle, no_handle, closes, closed_is, closes_none, closed_none}

@@ -1,4 +1,4 @@
-use Rattle.std.proofs.Common.{◌≡◌, refl, sym}
+use Rattle.std.proofs.Common.{refl}
 use Rattle.ele_sessions.specs.Inside.{IsAt, IsGap, file_in, writers_in}
 use Rattle.ele_sessions.proofs.Found.{found_draft, missing_draft}
 use Rattle.ele_sessions.proofs.Keepings.{file_of}

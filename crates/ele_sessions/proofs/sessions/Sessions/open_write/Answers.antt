@@ -1,4 +1,3 @@
-use Rattle.std.proofs.Common.{◌≡◌, refl}
 use Rattle.ele_sessions.specs.Inside.{writers_in}
 use Rattle.ele_sessions.proofs.Keepings.{few_writers, joined_keeps, file_of}
 use Rattle.ele_sessions.proofs.Places.{rises-map}

@@ -1,5 +1,5 @@
-use Rattle.std.proofs.Common.{◌≡◌, refl, sym, Some}
-use Rattle.ele_sessions.specs.Inside.{writers_in, writers_of, stays}
+use Rattle.std.proofs.Common.{◌≡◌, sym, Some}
+use Rattle.ele_sessions.specs.Inside.{writers_in, writers_of}
 use Rattle.ele_sessions.specs.Kept.{sessions_of}
 use Rattle.ele_sessions.specs.Sessions.{handle_file}
 use Rattle.ele_sessions.proofs.Keepings.{file_drafted, file_of, peeked}

@@ -1,4 +1,4 @@
-use Rattle.std.proofs.Common.{◌≡◌, refl, sym, Some}
+use Rattle.std.proofs.Common.{◌≡◌, Some}
 use Rattle.ele_sessions.specs.Inside.{writers_in}
 use Rattle.ele_sessions.specs.Sessions.{handle_file}
 use Rattle.ele_sessions.proofs.Keepings.{file_drafted, file_of}
