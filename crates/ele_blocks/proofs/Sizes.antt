@@ -4,7 +4,7 @@ use Rattle.std.specs.List.{concat}
 use Rattle.std.proofs.lemmas.List.{length-map}
 use Rattle.std.proofs.lemmas.Bool.Decides.{nat_tests}
 use Rattle.std.proofs.lemmas.Bool.{false≢true}
-use Rattle.ele_blocks.specs.Cell.{Cell}
+use Rattle.ele_blocks.specs.declared.cell.Cell.{Cell}
 use Rattle.ele_blocks.specs.Content.{content_of, longest_content}
 use Rattle.ele_blocks.specs.Store.{Store}
 use Rattle.ele_blocks.specs.Layout.{Layout, shown, cell_of}

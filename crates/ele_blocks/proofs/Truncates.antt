@@ -3,7 +3,7 @@ use Rattle.std.proofs.Common.{◌≡◌, ℕ, ◌+◌, ◌-◌, ◌<◌, ◌≤�
 use Rattle.std.proofs.lemmas.Bool.{false≢true}
 use Rattle.std.proofs.lemmas.Bool.Decides.{nat_tests}
 use Rattle.std.proofs.lemmas.List.{append-nil, length-append, length-replicate, length-take, take_all, drop_all}
-use Rattle.ele_blocks.specs.Cell.{Cell}
+use Rattle.ele_blocks.specs.declared.cell.Cell.{Cell}
 use Rattle.ele_blocks.specs.Store.{Store}
 use Rattle.ele_blocks.specs.Content.{content_of, spliced, resized, meets, refits, writer_at, written, truncated}
 use Rattle.ele_blocks.specs.Layout.{Layout, shown}

@@ -2,7 +2,7 @@
 use Rattle.std.specs.Prelude.{ℕ, ◌+◌, ◌-◌, ◌*◌, ◌/◌, nat_lt, min, Bool, ◌&&◌, List, ◌++◌, length, take, drop, map, replicate, slice_get, if◌then◌else◌}
 use Rattle.std.specs.List.{flat_map, range_with_len}
 use Rattle.std.specs.Option.{option_map_or}
-use Rattle.ele_blocks.specs.Cell.{Cell}
+use Rattle.ele_blocks.specs.declared.cell.Cell.{Cell}
 
 -- the bytes of the cells, one cell after another
 abbrev pub content_of : List Cell → List ℕ

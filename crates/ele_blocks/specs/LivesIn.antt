@@ -1,6 +1,6 @@
 -- That a map lives in a store.
 use Rattle.std.specs.Prelude.{◌≡◌, ℕ, ◌-◌, ◌==◌, ◌&&◌, Bool, true, List, [], ◌∷◌, length, min, nat_lt, nat_le}
-use Rattle.ele_blocks.specs.Cell.{Cell}
+use Rattle.ele_blocks.specs.declared.cell.Cell.{Cell}
 use Rattle.ele_blocks.specs.Content.{longest_content}
 use Rattle.ele_blocks.specs.Store.{Store}
 use Rattle.ele_blocks.specs.Shared.{Covers}

@@ -3,6 +3,7 @@
 #![tactic(auto)]
 
 mod bytes;
+mod cell;
 pub mod laws;
 mod map;
 mod patch;
@@ -11,6 +12,7 @@ mod shared;
 mod slot;
 mod store;
 
+pub use cell::Cell;
 pub use map::BlockMap;
 pub use store::{BlockId, BlockStore};
 

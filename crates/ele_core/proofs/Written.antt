@@ -2,7 +2,7 @@
 use Rattle.std.proofs.Common.{◌≡◌, ℕ, ◌+◌, [], ◌∷◌, ◌++◌, map, arith}
 use Rattle.std.specs.List.{range_with_len}
 use Rattle.std.proofs.lemmas.List.FromFn.{map-range_with_len_more}
-use Rattle.ele_world.specs.declared.rows.Cell.{Cell}
+use Rattle.ele_blocks.specs.declared.cell.Cell.{Cell}
 
 -- one more slot
 pub one_more : (f : ℕ → Cell) (slot : ℕ) → map f (range_with_len 0 (slot + 1)) ≡ map f (range_with_len 0 slot) ++ f slot ∷ []

@@ -1,10 +1,10 @@
 -- What the events of writers say of drafts. No public clause cites this module.
 use Rattle.std.specs.Prelude.{ℕ, ◌≤◌, List, length, false, if◌then◌else◌}
 use Rattle.std.specs.List.{list_any, AllByRecursion}
-use Rattle.ele_world.specs.declared.rows.Cell.{Cell}
+use Rattle.ele_blocks.specs.declared.cell.Cell.{Cell}
 use Rattle.ele_world.specs.declared.rows.DraftRow.{DraftRow}
-use Rattle.ele_world.specs.Content.{content_of, longest_content}
-use Rattle.ele_world.specs.Lists.{insert_before}
+use Rattle.ele_blocks.specs.Content.{content_of, longest_content}
+use Rattle.ele_moment.specs.Lists.{insert_before}
 use Rattle.ele_world.specs.World.{is_draft, is_draft_after}
 
 -- a draft that no one has written yet

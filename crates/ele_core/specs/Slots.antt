@@ -1,7 +1,7 @@
 -- A slot once its file was written. No public clause cites this module.
 use Rattle.std.specs.Prelude.{ℕ, List, if◌then◌else◌}
-use Rattle.ele_world.specs.declared.rows.Cell.{Cell}
-use Rattle.ele_world.specs.Content.{meets, writer_at, slot_bytes}
+use Rattle.ele_blocks.specs.declared.cell.Cell.{Cell}
+use Rattle.ele_blocks.specs.Content.{meets, writer_at, slot_bytes}
 
 -- the slot's cell in the new content: its writer is the one who wrote the range, if the slot meets that
 abbrev pub cell_at : ℕ → ℕ → ℕ → List ℕ → List Cell → ℕ → Cell

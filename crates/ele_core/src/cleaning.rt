@@ -1,6 +1,6 @@
 //! The events that clean, and what they ask.
 ghost use Rattle.std.specs.Prelude.{◌≡◌, IfOk};
-ghost use Rattle.ele_world.specs.Lists.{remove_first};
+ghost use Rattle.ele_moment.specs.Lists.{remove_first};
 ghost use Rattle.ele_world.specs.Due.{is_due};
 ghost use Rattle.ele_world.specs.Scan.{scan, first_due};
 ghost use Rattle.ele_world.specs.Step.{clean_step};

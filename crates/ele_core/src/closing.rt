@@ -2,7 +2,7 @@
 ghost use Rattle.std.specs.Prelude.{◌≡◌, ◌<◌, ◌≤◌, ◌+◌, ◌-◌, ◌^◌, IfSome, IfNone, IfOk, OnErr, Some, None, find, if◌then◌else◌, vec_len, vec_capacity};
 ghost use Rattle.std.specs.List.{AllByRecursion};
 ghost use Rattle.ele_world.specs.declared.reply.Reply.TheVariants.{Closed};
-ghost use Rattle.ele_world.specs.Lists.{update_first, remove_first, insert_before};
+ghost use Rattle.ele_moment.specs.Lists.{update_first, remove_first, insert_before};
 ghost use Rattle.ele_world.specs.Step.{close_step, writer_closed, draft_closed, finished, numbered_on, ended_at};
 ghost use Rattle.ele_world.specs.WellFormed.{IsWellFormed};
 ghost use Rattle.ele_world.specs.World.{is_draft, is_live, next_of, is_file, is_handle, is_version, is_version_after};

@@ -1,7 +1,7 @@
 //! What a write makes of cells: the new content, cut into slots again.
 ghost use Rattle.std.specs.Prelude.{◌≡◌, ◌<◌, ◌≤◌, ◌+◌, ◌*◌, ℕ, IfOk, length, map, if◌then◌else◌};
 ghost use Rattle.std.specs.List.{range_with_len};
-ghost use Rattle.ele_world.specs.Content.{content_of, longest_content, spliced, slot_bytes, slot_count, writer_at, meets, written};
+ghost use Rattle.ele_blocks.specs.Content.{content_of, longest_content, spliced, slot_bytes, slot_count, writer_at, meets, written};
 
 use ele_world::{Cell, ListOf, NoMemory, VersionNo};
 use std::alloc::Global;
@@ -71,7 +71,7 @@ fn meets(from: usize, to: usize, slot: usize) -> bool
 
 /// The cells after a write: the new content by slots, where each slot that meets what was filled or written has the
 /// writer.
-#[tactic(auto, using(crate::proofs::Written::one_more), unfolding(ele_world::specs::Content::written))]
+#[tactic(auto, using(crate::proofs::Written::one_more), unfolding(ele_blocks::specs::Content::written))]
 pub fn written(
     alloc: Global,
     writer: VersionNo,

@@ -4,7 +4,7 @@ ghost use Rattle.std.specs.List.{list_any};
 ghost use Rattle.ele_world.specs.Bounds.{largest_bounds};
 ghost use Rattle.ele_world.specs.Step.{open_refusal, open_write_step, opened, current_cells};
 ghost use Rattle.ele_world.specs.Seen.{seen};
-ghost use Rattle.ele_world.specs.Lists.{insert_before};
+ghost use Rattle.ele_moment.specs.Lists.{insert_before};
 ghost use Rattle.ele_world.specs.World.{is_draft_after};
 ghost use Rattle.ele_world.specs.WellFormed.{IsWellFormed};
 ghost use Rattle.ele_core.specs.Drafts.{with_one};

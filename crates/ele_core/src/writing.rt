@@ -1,7 +1,7 @@
 //! The event that writes into a draft.
 ghost use Rattle.std.specs.Prelude.{◌≡◌, ◌≤◌, ◌+◌, ◌↔◌, IfOk, OnErr, OnOk, IsTrue, length};
-ghost use Rattle.ele_world.specs.Content.{longest_content};
-ghost use Rattle.ele_world.specs.Lists.{update_first};
+ghost use Rattle.ele_blocks.specs.Content.{longest_content};
+ghost use Rattle.ele_moment.specs.Lists.{update_first};
 ghost use Rattle.ele_world.specs.Step.{write_step, changed_by};
 ghost use Rattle.ele_world.specs.WellFormed.{IsWellFormed};
 ghost use Rattle.ele_world.specs.World.{is_draft};

@@ -3,6 +3,7 @@ use Rattle.std.specs.Prelude.{◌≡◌, ℕ, ◌<◌, ◌≤◌, ◌==◌, ◌&
 use Rattle.std.specs.Option.{option_map_or}
 use Rattle.std.specs.List.{AllByRecursion}
 use Rattle.ele_inode_log.specs.declared.row.VersionRow.{VersionRow}
+pub use Rattle.ele_moment.specs.Lists.{AllLater}
 
 -- the rows by number, and for how many more there is memory
 pub record HeldRows : Type 0 where
@@ -54,11 +55,6 @@ EndsInTime row = IfSome row.ended (λ ended. row.closed ≤ ended)
 pub record Precedes (earlier later : VersionRow) : Type 0 where
   pub number : earlier.number < later.number
   pub ended : IsSomeAnd earlier.ended (λ ended. ended ≤ later.closed)
-
--- each element stands to each later one as R says
-abbrev pub AllLater : {X : Type 0} → (X → X → Type 0) → List X → Type 0
-AllLater R [] = Unit {0}
-AllLater R (x ∷ xs) = AllByRecursion (R x) xs × AllLater R xs
 
 -- each row ended in time, and precedes the later ones
 pub record AreInOrder (rows : List VersionRow) : Type 0 where

@@ -1,4 +1,5 @@
 -- The kind of a policy.
+use Rattle.std.specs.Prelude.{Bool, true, false}
 use Rattle.ele_policy.specs.declared.policy.Kind.{Kind}
 use Rattle.ele_policy.specs.declared.policy.Kind.TheVariants as kind
 use Rattle.ele_policy.specs.declared.policy.Policy.{Policy}
@@ -8,3 +9,11 @@ use Rattle.ele_policy.specs.declared.policy.Policy.TheVariants.{One, Safe}
 abbrev pub kind_of : Policy → Kind
 kind_of One = kind.One
 kind_of (Safe interval) = kind.Safe
+
+-- whether the two are one kind
+abbrev pub is_kind : Kind → Kind → Bool
+is_kind kind.One kind.One = true
+is_kind kind.All kind.All = true
+is_kind kind.Safe kind.Safe = true
+is_kind kind.Landmarks kind.Landmarks = true
+is_kind _ _ = false

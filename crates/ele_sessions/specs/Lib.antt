@@ -1,4 +1,3 @@
-pub mod Lists
 pub mod Sessions
 pub mod Changes
 pub mod Opening

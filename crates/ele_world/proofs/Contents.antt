@@ -1,12 +1,12 @@
--- The content that a write leaves.
+-- The content that a write or a truncate leaves.
 use Rattle.std.proofs.Common.{◌≡◌, ℕ, suc, zero, ◌+◌, ◌*◌, ◌≤◌, List, ◌++◌, length, take, drop, map, ap, sym, ◌∙◌, arith, length-append, length-drop, cond}
 use Rattle.std.specs.Prelude.{min}
 use Rattle.std.specs.List.{range_with_len}
 use Rattle.std.proofs.Math.Seq.{take-add}
 use Rattle.std.proofs.lemmas.List.{length-take, length-replicate, drop-drop, take_all}
 use Rattle.std.proofs.lemmas.List.Concat.{flat_map-cons}
-use Rattle.ele_world.specs.declared.rows.Cell.{Cell}
-use Rattle.ele_world.specs.Content.{content_of, longest_content, spliced, slot_bytes, slot_count, written, writer_at, meets}
+use Rattle.ele_blocks.specs.declared.cell.Cell.{Cell}
+use Rattle.ele_blocks.specs.Content.{content_of, longest_content, spliced, slot_bytes, slot_count, written, writer_at, meets, resized, refits, truncated}
 
 abbrev slot_cell : (ℕ → ℕ) → List ℕ → ℕ → Cell
 slot_cell writer content slot = record { writer = writer slot; bytes = slot_bytes content slot }
@@ -38,3 +38,18 @@ length-spliced content offset most bytes short fits =
 
 pub written_short : (writer offset : ℕ) (bytes : List ℕ) (cells : List Cell) → length (content_of cells) ≤ longest_content → offset + length bytes ≤ longest_content → length (content_of (written writer offset bytes cells)) ≤ longest_content
 written_short writer offset bytes cells short fits = rw content_of-written (length-spliced (content_of cells) offset longest_content bytes short fits)
+
+-- a content that is made so long is so long
+length-resized : (content : List ℕ) (size : ℕ) → length (resized content size) ≡ size
+length-resized content size = simp (length-append, length-take, length-replicate) (omega arith)
+
+pub content_of-truncated : (writer size : ℕ) (cells : List Cell) → content_of (truncated writer size cells) ≡ resized (content_of cells) size
+unfolding truncated
+content_of-truncated writer size cells =
+    let old = content_of cells in
+    let new : List ℕ = resized old size in
+    slots_join (λ slot. cond (refits (length old) size slot) writer (writer_at cells slot)) new 0 (slot_count size)
+    ∙ take_all (512 * slot_count size) new (omega (arith, length-resized old size))
+
+pub truncated_short : (writer size : ℕ) (cells : List Cell) → size ≤ longest_content → length (content_of (truncated writer size cells)) ≤ longest_content
+truncated_short writer size cells fits = rw (content_of-truncated, length-resized) fits

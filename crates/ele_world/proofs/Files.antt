@@ -8,7 +8,7 @@ use Rattle.ele_world.specs.declared.limits.Counts.{Counts}
 use Rattle.ele_world.specs.declared.rows.FileRow.{FileRow}
 use Rattle.ele_world.specs.declared.rows.Target.{Target}
 use Rattle.ele_world.specs.declared.rows.Target.TheVariants.{File, Directory}
-use Rattle.ele_world.specs.Lists.{update_first}
+use Rattle.ele_moment.specs.Lists.{update_first}
 use Rattle.ele_world.specs.Step.{numbered_on}
 use Rattle.ele_world.specs.WellFormed.{IsFile, IsThere}
 use Rattle.ele_world.specs.World.{is_file, next_of}

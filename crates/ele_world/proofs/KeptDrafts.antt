@@ -1,19 +1,20 @@
 -- Changes of drafts and handles keep a world well formed.
-use Rattle.std.proofs.Common.{◌≡◌, ℕ, ◌+◌, ◌-◌, ◌<◌, ◌≤◌, Bool, true, false, cond, List, [], length, Option, Some, None, refl, arith}
+use Rattle.std.proofs.Common.{◌≡◌, ℕ, ◌+◌, ◌-◌, ◌<◌, ◌≤◌, Bool, true, false, cond, eqb, List, [], length, Option, Some, None, refl, arith}
 use Rattle.std.specs.Prelude.{find}
 use Rattle.std.specs.List.{AllByRecursion, list_any}
 use Rattle.std.specs.Option.{option_map_or}
 use Rattle.std.proofs.lemmas.Bool.Decides.{nat_tests}
 use Rattle.ele_world.specs.declared.rows.DraftRow.{DraftRow}
+use Rattle.ele_world.specs.declared.rows.FileRow.{FileRow}
 use Rattle.ele_world.specs.declared.rows.HandleRow.{HandleRow}
 use Rattle.ele_world.specs.declared.rows.VersionRow.{VersionRow}
-use Rattle.ele_world.specs.Content.{content_of, longest_content}
-use Rattle.ele_world.specs.Lists.{update_first, remove_first, insert_before}
-use Rattle.ele_world.specs.Step.{new_draft, with_draft, opened, changed_by, current_cells}
+use Rattle.ele_blocks.specs.Content.{content_of, longest_content, truncated}
+use Rattle.ele_moment.specs.Lists.{update_first, remove_first, insert_before}
+use Rattle.ele_world.specs.Step.{new_draft, with_draft, opened, changed_by, fitted_by, current_cells}
 use Rattle.ele_world.specs.WellFormed.{AllLater, IsVersion, IsDraft, IsWellFormed}
 use Rattle.ele_world.specs.World.{World, next_of, is_version, is_draft, is_draft_after, is_handle}
-use Rattle.ele_world.proofs.Contents.{written_short}
-use Rattle.ele_world.proofs.Edits.{all-push, all-weaker, later-push, all-update_first, all-remove_first, all-insert_before, later-update_first, later-remove_first, later-insert_before, length-update_first, length-insert_before, length-remove_first-le, all-found, all-none}
+use Rattle.ele_world.proofs.Contents.{written_short, truncated_short}
+use Rattle.ele_moment.proofs.Edits.{all-push, all-weaker, later-push, all-update_first, all-remove_first, all-insert_before, later-update_first, later-remove_first, later-insert_before, length-update_first, length-insert_before, length-remove_first-le, all-found, all-none}
 
 -- a world whose drafts alone change
 pub drafts_keep : (w : World) (drafts : List DraftRow) → w.made.versions + length drafts ≤ w.limits.versions → AllByRecursion (IsDraft w.files w.now) drafts → AllLater (λ earlier later. earlier.file < later.file) drafts → IsWellFormed w → IsWellFormed (record w { drafts = drafts })
@@ -67,6 +68,27 @@ write_keeps w file number offset bytes fits k =
     (all-update_first (is_draft file) (IsDraft w.files w.now) (IsDraft w.files w.now) (changed_by number offset bytes) w.drafts
     (λ row h. record { there = h.there; opened = h.opened; short = written_short number offset bytes row.cells h.short fits }) (λ row h. h) k.drafts)
     (later-update_first (is_draft file) (λ earlier later. earlier.file < later.file) (changed_by number offset bytes) w.drafts (λ x y h. h) (λ x y h. h) k.drafts_placed) k
+
+fitted_is : (files : List FileRow) (now number size : ℕ) (row : DraftRow) → size ≤ longest_content → IsDraft files now row → IsDraft files now (fitted_by number size row)
+fitted_is files now number size row fits h = elim (eqb (length (content_of row.cells)) size) as (λ b. IsDraft files now (cond b row (record row { cells = truncated number size row.cells; changed = true }))) [
+  | true ↦ h
+  | false ↦ record { there = h.there; opened = h.opened; short = truncated_short number size row.cells fits }
+]
+
+same_file : (number size : ℕ) (row : DraftRow) → (fitted_by number size row).file ≡ row.file
+same_file number size row = elim (eqb (length (content_of row.cells)) size) as (λ b. (cond b row (record row { cells = truncated number size row.cells; changed = true })).file ≡ row.file) [
+  | true ↦ refl
+  | false ↦ refl
+]
+
+-- a draft gets another length
+pub fit_keeps : (w : World) (file number size : ℕ) → size ≤ longest_content → IsWellFormed w → IsWellFormed (record w { drafts = update_first (is_draft file) (fitted_by number size) w.drafts })
+fit_keeps w file number size fits k =
+    drafts_keep w (update_first (is_draft file) (fitted_by number size) w.drafts)
+    (omega (arith, k.counts.versions, length-update_first (is_draft file) (fitted_by number size) w.drafts))
+    (all-update_first (is_draft file) (IsDraft w.files w.now) (IsDraft w.files w.now) (fitted_by number size) w.drafts
+    (λ row h. fitted_is w.files w.now number size row fits h) (λ row h. h) k.drafts)
+    (later-update_first (is_draft file) (λ earlier later. earlier.file < later.file) (fitted_by number size) w.drafts (λ x y h. rw (same_file number size x) h) (λ x y h. rw (same_file number size y) h) k.drafts_placed) k
 
 current_short : (w : World) (file : ℕ) → IsWellFormed w → length (content_of (current_cells w file)) ≤ longest_content
 current_short w file k = by (find (is_version file (next_of w.files file - 1)) w.versions) refl where

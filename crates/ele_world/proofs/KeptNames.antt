@@ -9,6 +9,7 @@ use Rattle.std.proofs.lemmas.Bool.Decides.{nat_tests}
 use Rattle.std.proofs.lemmas.List.Folds.{list_any-append}
 use Rattle.std.proofs.lemmas.Slice.Eq.{bytes_eq-Decides}
 use Rattle.ele_moment.specs.Last.{last_moment}
+use Rattle.ele_world.specs.declared.rows.DirectoryRow.{DirectoryRow}
 use Rattle.ele_world.specs.declared.rows.FileRow.{FileRow}
 use Rattle.ele_world.specs.declared.rows.NameRow.{NameRow}
 use Rattle.ele_world.specs.declared.rows.Target.TheVariants.{File}
@@ -18,7 +19,7 @@ use Rattle.ele_world.specs.Step.{created, new_version}
 use Rattle.ele_world.specs.Walk.{live_target, is_live_name}
 use Rattle.ele_world.specs.WellFormed.{IsFile, IsName, AreApart, IsVersion, ArePlaced, IsDraft, is_current, HaveCurrent, IsWellFormed}
 use Rattle.ele_world.specs.World.{World, next_of, is_live, is_live_name_of, is_target_file, default_of}
-use Rattle.ele_world.proofs.Edits.{all-push, all-weaker, all-both, later-push, all-not_found}
+use Rattle.ele_moment.proofs.Edits.{all-push, all-weaker, all-both, later-push, all-not_found}
 use Rattle.ele_world.proofs.Files.{next_of-push, next_of-push_other, next_of-given, next_of-new, there-push}
 
 -- ---- the clock
@@ -49,6 +50,24 @@ moved_keeps w to fits le k = record {
   versions = all-weaker (IsVersion w.files w.now) (IsVersion w.files to) w.versions (λ row h. version_later w.files w.now to row le h) k.versions;
   versions_placed = k.versions_placed;
   drafts = all-weaker (IsDraft w.files w.now) (IsDraft w.files to) w.drafts (λ row h. draft_later w.files w.now to row le h) k.drafts;
+  drafts_placed = k.drafts_placed;
+  handles = k.handles;
+  handles_placed = k.handles_placed;
+  current = k.current;
+}
+
+-- directories have another policy
+pub governed_keeps : (w : World) (directories : List DirectoryRow) → IsWellFormed w → IsWellFormed (record w { directories = directories })
+governed_keeps w directories k = record {
+  now = k.now;
+  counts = record { files = k.counts.files; names = k.counts.names; versions = k.counts.versions; handles = k.counts.handles; file_rows = k.counts.file_rows; name_rows = k.counts.name_rows; version_rows = k.counts.version_rows };
+  files = k.files;
+  files_placed = k.files_placed;
+  names = k.names;
+  lives = k.lives;
+  versions = k.versions;
+  versions_placed = k.versions_placed;
+  drafts = k.drafts;
   drafts_placed = k.drafts_placed;
   handles = k.handles;
   handles_placed = k.handles_placed;

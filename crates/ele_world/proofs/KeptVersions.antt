@@ -7,11 +7,11 @@ use Rattle.std.proofs.lemmas.Bool.Decides.{nat_tests}
 use Rattle.ele_world.specs.declared.rows.FileRow.{FileRow}
 use Rattle.ele_world.specs.declared.rows.VersionRow.{VersionRow}
 use Rattle.ele_world.specs.declared.rows.DraftRow.{DraftRow}
-use Rattle.ele_world.specs.Lists.{update_first, remove_first}
+use Rattle.ele_moment.specs.Lists.{update_first, remove_first}
 use Rattle.ele_world.specs.Step.{numbered_on, ended_at, version_of, finished}
 use Rattle.ele_world.specs.WellFormed.{IsFile, IsName, IsVersion, ArePlaced, IsDraft, is_current, HaveCurrent, IsWellFormed}
 use Rattle.ele_world.specs.World.{World, next_of, is_file, is_live, is_version, is_version_after, is_draft}
-use Rattle.ele_world.proofs.Edits.{all-weaker, all-both, all-update_first, all-remove_first, all-insert_before, later-update_first, later-remove_first, later-insert_before, length-update_first, length-insert_before, length-remove_first, length-remove_first-le, all-found, list_any-update_first, list_any-insert_before, list_any-remove_first}
+use Rattle.ele_moment.proofs.Edits.{all-weaker, all-both, all-update_first, all-remove_first, all-insert_before, later-update_first, later-remove_first, later-insert_before, length-update_first, length-insert_before, length-remove_first, length-remove_first-le, all-found, list_any-update_first, list_any-insert_before, list_any-remove_first}
 use Rattle.ele_world.proofs.Files.{next_of-numbered_on, next_of-numbered_other, next_of-numbered_le, there-numbered_on}
 use Rattle.ele_world.proofs.Versions.{IsEndedBy, file_ended}
 

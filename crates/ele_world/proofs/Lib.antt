@@ -1,4 +1,3 @@
-pub mod Edits
 pub mod Files
 pub mod Contents
 pub mod Versions

@@ -16,7 +16,7 @@ use Rattle.ele_world.specs.declared.event.Event.TheVariants.{CleanOne}
 use Rattle.ele_due.specs.declared.key.Key.{Key}
 use Rattle.ele_world.specs.declared.rows.VersionRow.{VersionRow}
 use Rattle.ele_world.specs.Due.{is_due_at, ripe_of, kept}
-use Rattle.ele_world.specs.Lists.{remove_first}
+use Rattle.ele_moment.specs.Lists.{remove_first}
 use Rattle.ele_world.specs.Run.{cleaned, IsPass}
 use Rattle.ele_world.specs.Scan.{key_cmp, key_of, due_key, scan, first_due}
 use Rattle.ele_world.specs.Step.{clean_of, clean_step}

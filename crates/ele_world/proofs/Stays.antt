@@ -6,24 +6,30 @@ use Rattle.std.proofs.lemmas.Bool.{false≢true}
 use Rattle.std.proofs.lemmas.Bool.Decides.{nat_tests}
 use Rattle.std.proofs.lemmas.List.Folds.{find-append}
 use Rattle.ele_world.specs.declared.event.Event.{Event}
-use Rattle.ele_world.specs.declared.event.Event.TheVariants.{Clock, Create, OpenWrite, Write, Close, CleanOne, Due}
+use Rattle.ele_world.specs.declared.event.Event.TheVariants.{Clock, Tick, Create, OpenWrite, Write, Truncate, Close, SetDefault, CleanOne, Read, Due, UsageAll}
+use Rattle.ele_world.specs.declared.event.Source.{Source}
+use Rattle.ele_world.specs.declared.event.Source.TheVariants.{Of}
 use Rattle.ele_due.specs.declared.key.Key.{Key}
 use Rattle.ele_world.specs.declared.refusal.Refusal.{Refusal}
 use Rattle.ele_world.specs.declared.reply.Reply.{Reply}
+use Rattle.ele_policy.specs.declared.policy.Policy.{Policy}
 use Rattle.ele_world.specs.declared.rows.DraftRow.{DraftRow}
+use Rattle.ele_world.specs.declared.rows.Target.{Target}
+use Rattle.ele_world.specs.declared.rows.Target.TheVariants.{File, Directory}
 use Rattle.ele_world.specs.declared.rows.VersionRow.{VersionRow}
-use Rattle.ele_world.specs.Content.{longest_content}
+use Rattle.ele_blocks.specs.Content.{longest_content}
 use Rattle.ele_world.specs.Due.{is_due_at}
 use Rattle.ele_world.specs.HeldStays.{IsSameVersion, StaysSame}
-use Rattle.ele_world.specs.Lists.{update_first, remove_first}
+use Rattle.ele_moment.specs.Last.{last_moment}
+use Rattle.ele_moment.specs.Lists.{update_first, remove_first}
 use Rattle.ele_world.specs.OnlyDueLeave.{StaysOrWasDue}
 use Rattle.ele_world.specs.Scan.{first_due}
-use Rattle.ele_world.specs.Step.{unless, clock_step, create_refusal, create_in, create_step, open_refusal, open_of, open_write_step, write_of, write_step, ended_at, version_of, draft_closed, finished, close_of, close_step, clean_of, clean_step, step}
-use Rattle.ele_world.specs.Walk.{file_now, parent_now}
+use Rattle.ele_world.specs.Step.{unless, clock_step, tick_step, truncate_of, truncate_step, set_default_of, set_default_step, read_of, read_step, create_refusal, create_in, create_step, open_refusal, open_of, open_write_step, write_of, write_step, ended_at, version_of, draft_closed, finished, close_of, close_step, clean_of, clean_step, step}
+use Rattle.ele_world.specs.Walk.{walk_now, file_now, parent_now}
 use Rattle.ele_world.specs.WellFormed.{AllLater, ArePlaced, IsVersion, IsWellFormed}
 use Rattle.ele_world.specs.World.{World, next_of, is_version, is_version_after, is_draft, is_handle, is_writer, handle_file}
 use Rattle.ele_world.proofs.DueRows.{first_is_due}
-use Rattle.ele_world.proofs.Edits.{all-weaker, all-both, not_found, find-insert_before, find-remove_first, find-update_first}
+use Rattle.ele_moment.proofs.Edits.{all-weaker, all-both, not_found, find-insert_before, find-remove_first, find-update_first}
 use Rattle.ele_world.proofs.Versions.{IsFound, all_found}
 
 -- a row of that file and number is found, and is the same version
@@ -114,6 +120,22 @@ module _ (w : World) (row : VersionRow) (is : IsVersion w.files w.now row) (foun
   still_write offset [] (Some file) = still row w.versions found
   still_write offset (byte ∷ bytes) (Some file) = still_either row (ltb longest_content (offset + length (byte ∷ bytes))) _ _ (still row w.versions found) (still row w.versions found)
 
+  still_truncate : (size : ℕ) (o : Option ℕ) → IsStill row ((truncate_of w size o).1).versions
+  still_truncate size None = still row w.versions found
+  still_truncate size (Some file) = still_either row (ltb longest_content size) _ _ (still row w.versions found) (still row w.versions found)
+
+  still_default : (policy : Policy) (r : Result Target Refusal) → IsStill row ((set_default_of w policy r).1).versions
+  still_default policy (Err refusal) = still row w.versions found
+  still_default policy (Ok (File file)) = still row w.versions found
+  still_default policy (Ok (Directory directory)) = still row w.versions found
+
+  still_read : (source : Source) → IsStill row ((read_step w source).1).versions
+  unfolding read_step
+  still_read (Of handle) = elim (handle_file w.handles handle) as (λ o. IsStill row ((read_of w o).1).versions) [
+    | None ↦ still row w.versions found
+    | Some file ↦ still row w.versions found
+  ]
+
 still_draft : (w : World) (o : Option DraftRow) (row : VersionRow) → IsVersion w.files w.now row → IsFound w.versions row → IsStill row ((draft_closed w o).1).versions
 still_draft w None row is found = still row w.versions found
 still_draft w (Some draft) row is found = still_either row draft.changed _ _ (still_finished w draft row is found) (still row w.versions found)
@@ -134,23 +156,33 @@ still_clean w (Some key) row first k found = still_removed w key row k first fou
 
 -- each step leaves the row, or removes it where it was due
 row_stays : (w : World) (event : Event) (row : VersionRow) → IsWellFormed w → IsVersion w.files w.now row → IsFound w.versions row → StillOrDue w row (is_clean event) ((step w event).1).versions
-unfolding clock_step create_step open_write_step write_step close_step clean_step
+unfolding clock_step tick_step create_step open_write_step write_step truncate_step close_step set_default_step clean_step
 row_stays w (Clock to) row k is found = inl (still_either row (ltb to w.now) _ _ (still row w.versions found) (still row w.versions found))
+row_stays w (Tick seconds) row k is found = inl (still_either row (ltb last_moment (w.now + seconds)) _ _ (still row w.versions found) (still row w.versions found))
 row_stays w (Create path) row k is found = inl (still_create w row is found (parent_now w.names path))
 row_stays w (OpenWrite path) row k is found = inl (still_open w row is found (file_now w.names path))
 row_stays w (Write handle offset bytes) row k is found = inl (still_write w row is found offset bytes (handle_file w.handles handle))
+row_stays w (Truncate handle size) row k is found = inl (still_truncate w row is found size (handle_file w.handles handle))
 row_stays w (Close handle) row k is found = inl (still_close w handle (handle_file w.handles handle) row is found)
+row_stays w (SetDefault path policy) row k is found = inl (still_default w row is found policy (walk_now w.names path))
 row_stays w CleanOne row k is found = still_clean w (first_due w) row refl k found
+row_stays w (Read source) row k is found = inl (still_read w row is found source)
 row_stays w Due row k is found = inl (still row w.versions found)
+row_stays w UsageAll row k is found = inl (still row w.versions found)
 
 clean_is : (event : Event) → is_clean event ≡ true → event ≡ CleanOne
 clean_is (Clock to) e = absurd (false≢true e)
+clean_is (Tick seconds) e = absurd (false≢true e)
 clean_is (Create path) e = absurd (false≢true e)
 clean_is (OpenWrite path) e = absurd (false≢true e)
 clean_is (Write handle offset bytes) e = absurd (false≢true e)
+clean_is (Truncate handle size) e = absurd (false≢true e)
 clean_is (Close handle) e = absurd (false≢true e)
+clean_is (SetDefault path policy) e = absurd (false≢true e)
 clean_is CleanOne e = refl
+clean_is (Read source) e = absurd (false≢true e)
 clean_is Due e = absurd (false≢true e)
+clean_is UsageAll e = absurd (false≢true e)
 
 held_if_found : (file number : ℕ) (rows : List VersionRow) (row : VersionRow) → find (is_version file number) rows ≡ Some row → list_any (is_version file number) rows ≡ true
 held_if_found file number [] row h = absurd cc

@@ -5,26 +5,31 @@ use Rattle.std.specs.List.{list_any, AllByRecursion}
 use Rattle.std.proofs.lemmas.Bool.Decides.{nat_tests}
 use Rattle.ele_moment.specs.Last.{last_moment}
 use Rattle.ele_world.specs.declared.event.Event.{Event}
-use Rattle.ele_world.specs.declared.event.Event.TheVariants.{Clock, Create, OpenWrite, Write, Close, CleanOne, Due}
+use Rattle.ele_world.specs.declared.event.Event.TheVariants.{Clock, Tick, Create, OpenWrite, Write, Truncate, Close, SetDefault, CleanOne, Read, Due, UsageAll}
+use Rattle.ele_world.specs.declared.event.Source.{Source}
+use Rattle.ele_world.specs.declared.event.Source.TheVariants.{Of}
 use Rattle.ele_due.specs.declared.key.Key.{Key}
 use Rattle.ele_world.specs.declared.refusal.Refusal.{Refusal}
-use Rattle.ele_world.specs.declared.refusal.Refusal.TheVariants.{ClockBack, TooBig}
+use Rattle.ele_world.specs.declared.refusal.Refusal.TheVariants.{ClockBack, ClockEnd, TooBig}
 use Rattle.ele_world.specs.declared.reply.Reply.{Reply}
 use Rattle.ele_world.specs.declared.reply.Reply.TheVariants as reply
+use Rattle.ele_policy.specs.declared.policy.Policy.{Policy}
 use Rattle.ele_world.specs.declared.rows.DraftRow.{DraftRow}
+use Rattle.ele_world.specs.declared.rows.Target.{Target}
+use Rattle.ele_world.specs.declared.rows.Target.TheVariants.{File, Directory}
 use Rattle.ele_world.specs.Bounds.{Bounds}
-use Rattle.ele_world.specs.Content.{longest_content}
-use Rattle.ele_world.specs.Lists.{update_first, remove_first}
+use Rattle.ele_blocks.specs.Content.{longest_content}
+use Rattle.ele_moment.specs.Lists.{update_first, remove_first}
 use Rattle.ele_world.specs.Run.{run_of, IsEvent}
 use Rattle.ele_world.specs.Scan.{first_due}
-use Rattle.ele_world.specs.Step.{refuse, unless, clock_step, create_refusal, create_in, create_step, open_refusal, open_of, open_write_step, changed_by, write_of, write_step, draft_closed, writer_closed, close_of, close_step, clean_of, clean_step, step}
-use Rattle.ele_world.specs.Walk.{live_target, file_now, parent_now}
+use Rattle.ele_world.specs.Step.{refuse, unless, clock_step, tick_step, fitted_by, truncate_of, truncate_step, set_default_of, set_default_step, read_of, read_step, create_refusal, create_in, create_step, open_refusal, open_of, open_write_step, changed_by, write_of, write_step, draft_closed, writer_closed, close_of, close_step, clean_of, clean_step, step}
+use Rattle.ele_world.specs.Walk.{live_target, walk_now, file_now, parent_now}
 use Rattle.ele_world.specs.WellFormed.{IsWellFormed}
 use Rattle.ele_world.specs.World.{World, fresh_world, next_of, is_draft, is_handle, is_writer, handle_file}
 use Rattle.ele_world.proofs.DueRows.{first_is_due, due_has_ended}
-use Rattle.ele_world.proofs.Edits.{found_passes}
-use Rattle.ele_world.proofs.KeptDrafts.{handle_keeps, draft_keeps, write_keeps, opened_keeps}
-use Rattle.ele_world.proofs.KeptNames.{moved_keeps, created_keeps}
+use Rattle.ele_moment.proofs.Edits.{found_passes}
+use Rattle.ele_world.proofs.KeptDrafts.{handle_keeps, draft_keeps, write_keeps, fit_keeps, opened_keeps}
+use Rattle.ele_world.proofs.KeptNames.{moved_keeps, governed_keeps, created_keeps}
 use Rattle.ele_world.proofs.KeptVersions.{finished_keeps, removed_keeps}
 use Rattle.ele_world.proofs.Walks.{file_there}
 
@@ -39,6 +44,13 @@ clock_keeps w to fits k = by (ltb to w.now) refl where
   by : (b : Bool) → ltb to w.now ≡ b → IsWellFormed ((cond b (refuse w ClockBack) (reply.Now to, record w { now = to })).1)
   by true e = k
   by false e = moved_keeps w to fits (grind (arith, nat_tests)) k
+
+tick_keeps : (w : World) (seconds : ℕ) → IsWellFormed w → IsWellFormed ((tick_step w seconds).1)
+unfolding tick_step
+tick_keeps w seconds k = by (ltb last_moment (w.now + seconds)) refl where
+  by : (b : Bool) → ltb last_moment (w.now + seconds) ≡ b → IsWellFormed ((cond b (refuse w ClockEnd) (reply.Now (w.now + seconds), record w { now = w.now + seconds })).1)
+  by true e = k
+  by false e = moved_keeps w (w.now + seconds) (grind (arith, nat_tests)) (omega arith) k
 
 record HasRoom (w : World) (directory : ℕ) (name : List ℕ) : Type 0 where
   files : w.made.files < w.limits.files
@@ -70,6 +82,25 @@ write_of_keeps w offset (byte ∷ bytes) (Some file) k = by (ltb longest_content
   by true e = k
   by false e = write_keeps w file (next_of w.files file) offset (byte ∷ bytes) (grind (arith, nat_tests)) k
 
+truncate_of_keeps : (w : World) (size : ℕ) (o : Option ℕ) → IsWellFormed w → IsWellFormed ((truncate_of w size o).1)
+truncate_of_keeps w size None k = k
+truncate_of_keeps w size (Some file) k = by (ltb longest_content size) refl where
+  by : (b : Bool) → ltb longest_content size ≡ b → IsWellFormed ((cond b (refuse w TooBig) (reply.Done, record w { drafts = update_first (is_draft file) (fitted_by (next_of w.files file) size) w.drafts })).1)
+  by true e = k
+  by false e = fit_keeps w file (next_of w.files file) size (grind (arith, nat_tests)) k
+
+set_default_of_keeps : (w : World) (policy : Policy) (r : Result Target Refusal) → IsWellFormed w → IsWellFormed ((set_default_of w policy r).1)
+set_default_of_keeps w policy (Err refusal) k = k
+set_default_of_keeps w policy (Ok (File file)) k = k
+set_default_of_keeps w policy (Ok (Directory directory)) k = governed_keeps w _ k
+
+read_keeps : (w : World) (source : Source) → IsWellFormed w → IsWellFormed ((read_step w source).1)
+unfolding read_step
+read_keeps w (Of handle) k = elim (handle_file w.handles handle) as (λ o. IsWellFormed ((read_of w o).1)) [
+  | None ↦ k
+  | Some file ↦ k
+]
+
 if_keeps : (b : Bool) (x y : Reply × World) → IsWellFormed (x.1) → IsWellFormed (y.1) → IsWellFormed ((cond b x y).1)
 if_keeps true x y k l = k
 if_keeps false x y k l = l
@@ -97,14 +128,19 @@ clean_of_keeps w (Some key) first k = removed_keeps w key.file key.number (λ ro
 
 -- the law of one step
 pub step_keeps : (w : World) (event : Event) → IsEvent event → IsWellFormed w → IsWellFormed ((step w event).1)
-unfolding create_step open_write_step write_step close_step clean_step
+unfolding create_step open_write_step write_step truncate_step close_step set_default_step clean_step
 step_keeps w (Clock to) fits k = clock_keeps w to fits k
+step_keeps w (Tick seconds) fits k = tick_keeps w seconds k
 step_keeps w (Create path) fits k = create_in_keeps w (parent_now w.names path) k
 step_keeps w (OpenWrite path) fits k = open_of_keeps w (file_now w.names path) (λ file e. file_there w.files w.now w.names path file k.names e) k
 step_keeps w (Write handle offset bytes) fits k = write_of_keeps w offset bytes (handle_file w.handles handle) k
+step_keeps w (Truncate handle size) fits k = truncate_of_keeps w size (handle_file w.handles handle) k
 step_keeps w (Close handle) fits k = close_of_keeps w handle (handle_file w.handles handle) k
+step_keeps w (SetDefault path policy) fits k = set_default_of_keeps w policy (walk_now w.names path) k
 step_keeps w CleanOne fits k = clean_of_keeps w (first_due w) refl k
+step_keeps w (Read source) fits k = read_keeps w source k
 step_keeps w Due fits k = k
+step_keeps w UsageAll fits k = k
 
 pub fresh_is : (limits : Bounds) → IsWellFormed (fresh_world limits)
 fresh_is limits = record {

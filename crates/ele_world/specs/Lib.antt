@@ -1,12 +1,11 @@
 pub mod Bounds
 pub mod Limits
 pub mod Answers
-pub mod Lists
 pub mod World
 pub mod Walk
-pub mod Content
 pub mod Due
 pub mod Scan
+pub mod Usage
 pub mod Step
 pub mod WellFormed
 pub mod Run

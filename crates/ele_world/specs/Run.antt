@@ -2,7 +2,7 @@
 use Rattle.std.specs.Prelude.{◌≡◌, ℕ, suc, zero, ◌<◌, ◌≤◌, List, [], ◌∷◌, None, IsSome}
 use Rattle.ele_moment.specs.Last.{last_moment}
 use Rattle.ele_world.specs.declared.event.Event.{Event}
-use Rattle.ele_world.specs.declared.event.Event.TheVariants.{Clock, Create, OpenWrite, Write, Close, CleanOne, Due}
+use Rattle.ele_world.specs.declared.event.Event.TheVariants.{Clock, Tick, Create, OpenWrite, Write, Truncate, Close, SetDefault, CleanOne, Read, Due, UsageAll}
 use Rattle.ele_world.specs.declared.reply.Reply.{Reply}
 use Rattle.ele_world.specs.Scan.{first_due}
 use Rattle.ele_world.specs.Step.{step, clean_step}
@@ -16,12 +16,17 @@ run_of w (event ∷ events) = run_of ((step w event).1) events
 -- what the types of an event say of it
 abbrev pub IsEvent : Event → Type 0
 IsEvent (Clock to) = to ≤ last_moment
+IsEvent (Tick seconds) = Unit {0}
 IsEvent (Create path) = Unit {0}
 IsEvent (OpenWrite path) = Unit {0}
 IsEvent (Write handle offset bytes) = Unit {0}
+IsEvent (Truncate handle size) = Unit {0}
 IsEvent (Close handle) = Unit {0}
+IsEvent (SetDefault path policy) = Unit {0}
 IsEvent CleanOne = Unit {0}
+IsEvent (Read source) = Unit {0}
 IsEvent Due = Unit {0}
+IsEvent UsageAll = Unit {0}
 
 -- each reply is the step's, from the world on
 abbrev pub IsLegal : World → List (Event × Reply) → Type 0

@@ -1,25 +1,32 @@
 -- What each event answers, and the world that it leaves.
-use Rattle.std.specs.Prelude.{ℕ, ◌+◌, ◌-◌, nat_lt, nat_le, true, false, List, [], ◌∷◌, ◌++◌, length, Option, Some, None, is_some, find, unwrap_or, Result, Ok, Err, if◌then◌else◌}
+use Rattle.std.specs.Prelude.{ℕ, ◌+◌, ◌-◌, ◌==◌, nat_lt, nat_le, true, false, List, [], ◌∷◌, ◌++◌, length, Option, Some, None, is_some, find, unwrap_or, Result, Ok, Err, if◌then◌else◌}
 use Rattle.std.specs.List.{list_any}
 use Rattle.std.specs.Option.{option_map_or}
 use Rattle.ele_world.specs.declared.event.Event.{Event}
-use Rattle.ele_world.specs.declared.event.Event.TheVariants.{Clock, Create, OpenWrite, Write, Close, CleanOne, Due}
+use Rattle.ele_world.specs.declared.event.Event.TheVariants.{Clock, Tick, Create, OpenWrite, Write, Truncate, Close, SetDefault, CleanOne, Read, Due, UsageAll}
+use Rattle.ele_world.specs.declared.event.Source.{Source}
+use Rattle.ele_world.specs.declared.event.Source.TheVariants.{Of}
 use Rattle.ele_due.specs.declared.key.Key.{Key}
 use Rattle.ele_world.specs.declared.refusal.Refusal.{Refusal}
-use Rattle.ele_world.specs.declared.refusal.Refusal.TheVariants.{ClockBack, Exists, NoHandle, TooBig, Full}
+use Rattle.ele_world.specs.declared.refusal.Refusal.TheVariants.{ClockBack, ClockEnd, NotDirectory, Exists, NoHandle, TooBig, Full}
 use Rattle.ele_world.specs.declared.refusal.Which.TheVariants.{Files, Names, Versions, Handles}
 use Rattle.ele_world.specs.declared.reply.Reply.{Reply}
 use Rattle.ele_world.specs.declared.reply.Reply.TheVariants as reply
-use Rattle.ele_world.specs.declared.rows.Cell.{Cell}
+use Rattle.ele_blocks.specs.declared.cell.Cell.{Cell}
+use Rattle.ele_world.specs.declared.rows.DirectoryRow.{DirectoryRow}
 use Rattle.ele_world.specs.declared.rows.DraftRow.{DraftRow}
 use Rattle.ele_world.specs.declared.rows.FileRow.{FileRow}
-use Rattle.ele_world.specs.declared.rows.Target.TheVariants.{File}
+use Rattle.ele_world.specs.declared.rows.Target.{Target}
+use Rattle.ele_world.specs.declared.rows.Target.TheVariants.{File, Directory}
 use Rattle.ele_world.specs.declared.rows.VersionRow.{VersionRow}
-use Rattle.ele_world.specs.Content.{longest_content, written}
-use Rattle.ele_world.specs.Lists.{update_first, remove_first, insert_before}
+use Rattle.ele_moment.specs.Last.{last_moment}
+use Rattle.ele_policy.specs.declared.policy.Policy.{Policy}
+use Rattle.ele_blocks.specs.Content.{content_of, longest_content, written, truncated}
+use Rattle.ele_moment.specs.Lists.{update_first, remove_first, insert_before}
 use Rattle.ele_world.specs.Scan.{scan, first_due}
-use Rattle.ele_world.specs.Walk.{live_target, file_now, parent_now}
-use Rattle.ele_world.specs.World.{World, default_of, is_file, next_of, is_version, is_live, current_of, is_draft, is_draft_after, is_handle, is_writer, handle_file, is_version_after}
+use Rattle.ele_world.specs.Usage.{usages}
+use Rattle.ele_world.specs.Walk.{live_target, walk_now, file_now, parent_now}
+use Rattle.ele_world.specs.World.{World, is_directory, default_of, is_file, next_of, is_version, is_live, current_of, is_draft, is_draft_after, is_handle, is_writer, handle_file, is_version_after}
 
 -- refused: that is the reply, and the world stays
 abbrev pub refuse : World → Refusal → Reply × World
@@ -33,6 +40,11 @@ unless None w change = change
 -- `clock M`: ClockBack if the moment is earlier than now
 unfoldable pub clock_step : World → ℕ → Reply × World
 clock_step w to = if nat_lt to w.now then refuse w ClockBack else (reply.Now to, record w { now = to })
+
+-- `tick N`: ClockEnd if that is past the last moment
+unfoldable pub tick_step : World → ℕ → Reply × World
+tick_step w seconds =
+    let to = w.now + seconds in if nat_lt last_moment to then refuse w ClockEnd else (reply.Now to, record w { now = to })
 
 -- versions ever made, and drafts open now
 abbrev pub versions_made : World → ℕ
@@ -117,6 +129,22 @@ write_of w offset (byte ∷ bytes) (Some file) =
 unfoldable pub write_step : World → ℕ → ℕ → List ℕ → Reply × World
 write_step w handle offset bytes = write_of w offset bytes (handle_file w.handles handle)
 
+-- the draft with so many bytes, by the version that it is to be; one that has so many stays
+abbrev pub fitted_by : ℕ → ℕ → DraftRow → DraftRow
+fitted_by number size draft =
+    if length (content_of draft.cells) == size then draft
+    else record draft { cells = truncated number size draft.cells; changed = true }
+
+-- `truncate H N`: NoHandle; TooBig if it is longer than the longest content
+abbrev pub truncate_of : World → ℕ → Option ℕ → Reply × World
+truncate_of w size None = refuse w NoHandle
+truncate_of w size (Some file) =
+    if nat_lt longest_content size then refuse w TooBig
+    else (reply.Done, record w { drafts = update_first (is_draft file) (fitted_by (next_of w.files file) size) w.drafts })
+
+unfoldable pub truncate_step : World → ℕ → ℕ → Reply × World
+truncate_step w handle size = truncate_of w size (handle_file w.handles handle)
+
 abbrev pub numbered_on : FileRow → FileRow
 numbered_on row = record row { next = row.next + 1 }
 
@@ -162,6 +190,19 @@ close_of w handle (Some file) = writer_closed (record w { handles = remove_first
 unfoldable pub close_step : World → ℕ → Reply × World
 close_step w handle = close_of w handle (handle_file w.handles handle)
 
+abbrev pub governed_by : Policy → DirectoryRow → DirectoryRow
+governed_by policy row = record row { default = policy }
+
+-- `default P POL`, once the path is walked: NotDirectory if it leads to a file
+abbrev pub set_default_of : World → Policy → Result Target Refusal → Reply × World
+set_default_of w policy (Err refusal) = refuse w refusal
+set_default_of w policy (Ok (File file)) = refuse w NotDirectory
+set_default_of w policy (Ok (Directory directory)) =
+    (reply.Done, record w { directories = update_first (is_directory directory) (governed_by policy) w.directories })
+
+unfoldable pub set_default_step : World → List (List ℕ) → Policy → Reply × World
+set_default_step w path policy = set_default_of w policy (walk_now w.names path)
+
 -- `clean`: the first version of the scan is removed
 abbrev pub clean_of : World → Option Key → Reply × World
 clean_of w None = (reply.Nothing, w)
@@ -170,12 +211,29 @@ clean_of w (Some key) = (reply.Removed key, record w { versions = remove_first (
 unfoldable pub clean_step : World → Reply × World
 clean_step w = clean_of w (first_due w)
 
--- the reply to an event, and the world after it; `due` lists the scan
+-- the cells of the file's draft
+abbrev pub draft_cells : World → ℕ → List Cell
+draft_cells w file = option_map_or (λ row. row.cells) (find (is_draft file) w.drafts) []
+
+-- `read H`: NoHandle; a handle that writes reads the draft
+abbrev pub read_of : World → Option ℕ → Reply × World
+read_of w None = refuse w NoHandle
+read_of w (Some file) = (reply.Bytes (content_of (draft_cells w file)), w)
+
+unfoldable pub read_step : World → Source → Reply × World
+read_step w (Of handle) = read_of w (handle_file w.handles handle)
+
+-- the reply to an event, and the world after it; `due` lists the scan, and `usage` what each kind uses
 abbrev pub step : World → Event → Reply × World
 step w (Clock to) = clock_step w to
+step w (Tick seconds) = tick_step w seconds
 step w (Create path) = create_step w path
 step w (OpenWrite path) = open_write_step w path
 step w (Write handle offset bytes) = write_step w handle offset bytes
+step w (Truncate handle size) = truncate_step w handle size
 step w (Close handle) = close_step w handle
+step w (SetDefault path policy) = set_default_step w path policy
 step w CleanOne = clean_step w
+step w (Read source) = read_step w source
 step w Due = (reply.DueList (scan w), w)
+step w UsageAll = (reply.UsageList (usages w), w)

@@ -9,13 +9,9 @@ use Rattle.ele_world.specs.declared.rows.Target.{Target}
 use Rattle.ele_world.specs.declared.rows.Target.TheVariants.{File, Directory}
 use Rattle.ele_world.specs.declared.rows.VersionRow.{VersionRow}
 use Rattle.ele_world.specs.declared.rows.DraftRow.{DraftRow}
-use Rattle.ele_world.specs.Content.{content_of, longest_content}
+use Rattle.ele_blocks.specs.Content.{content_of, longest_content}
 use Rattle.ele_world.specs.World.{World, next_of, is_live, is_version_after}
-
--- each element stands to each later one as R says
-abbrev pub AllLater : {X : Type 0} → (X → X → Type 0) → List X → Type 0
-AllLater R [] = Unit {0}
-AllLater R (x ∷ xs) = AllByRecursion (R x) xs × AllLater R xs
+pub use Rattle.ele_moment.specs.Lists.{AllLater}
 
 -- no count is above its limit, and each row and draft was counted
 pub record AreCounted (w : World) : Type 0 where

@@ -1,23 +1,40 @@
 //! Events: the commands that a world takes.
-use crate::list::ByteList;
-use ele_moment::{Handle, Moment};
+use ele_moment::{ByteList, Handle, Moment};
+use ele_policy::Policy;
 use ele_time_path::Path;
+
+/// What is read.
+#[derive(Clone, Copy, Debug, PartialEq, Eq)]
+pub enum Source {
+    /// What the handle reads: one that writes reads its file's draft.
+    Of(Handle),
+}
 
 /// A command.
 #[derive(Debug, Drop, PartialEq, Eq)]
 pub enum Event {
     /// The clock goes to the moment.
     Clock(Moment),
+    /// The clock goes on by so many seconds.
+    Tick(u64),
     /// A file is made at the path, with an empty first version.
     Create(Path),
     /// A handle is opened by which the file at the path is written.
     OpenWrite(Path),
     /// The bytes are written through the handle, from that offset on.
     Write(Handle, u64, ByteList),
+    /// The draft under the handle gets so many bytes.
+    Truncate(Handle, u64),
     /// The handle is closed; the last one of a changed draft makes it a version.
     Close(Handle),
+    /// Files that are made in the directory at the path from now on get that policy.
+    SetDefault(Path, Policy),
     /// The first due version is removed.
     CleanOne,
+    /// Asks for bytes.
+    Read(Source),
     /// Asks which versions are due.
     Due,
+    /// Asks what the files of each kind of policy use.
+    UsageAll,
 }

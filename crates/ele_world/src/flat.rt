@@ -3,10 +3,10 @@ ghost use Rattle.std.specs.Prelude.{◌≡◌, IfOk};
 ghost use Rattle.ele_world.specs.Scan.{scan};
 
 use crate::limits::{Counts, Limits};
-use crate::list::{KeyList, ListOf};
+use crate::list::KeyList;
 use crate::rows::{DirectoryRow, DraftRow, FileRow, HandleRow, NameRow, VersionRow};
 use crate::scan::due_keys;
-use ele_moment::{Moment, NoMemory};
+use ele_moment::{ListOf, Moment, NoMemory};
 
 /// All rows and counts of a world. Directories and files stand by id, names in order of making, versions by file and
 /// then by number, drafts by file, handles by number.

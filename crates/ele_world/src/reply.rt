@@ -2,7 +2,8 @@
 use crate::list::KeyList;
 use crate::refusal::Refusal;
 use ele_due::Key;
-use ele_moment::{FileId, Handle, Moment, VersionNo};
+use ele_moment::{ByteList, FileId, Handle, Moment, VersionNo};
+use ele_usage::Usage;
 
 /// The answer to a command.
 #[derive(Debug, Drop, PartialEq, Eq)]
@@ -16,7 +17,10 @@ pub enum Reply {
     /// The handle is closed, and the version that it made, if it made one.
     Closed(Option<VersionNo>),
     Removed(Key),
+    Bytes(ByteList),
     DueList(KeyList),
+    /// What the files of each kind of policy use, in the order of `Kind`.
+    UsageList([Usage; 4]),
     /// The command was refused, and changed nothing.
     Refused(Refusal),
 }

@@ -1,6 +1,6 @@
 //! The rows of a world: what stands in it of each file, name, version, draft and handle.
-use crate::list::{ByteList, ListOf};
-use ele_moment::{DirId, FileId, Handle, Moment, Name, VersionNo};
+use ele_blocks::Cell;
+use ele_moment::{DirId, FileId, Handle, ListOf, Moment, Name, VersionNo};
 use ele_policy::Policy;
 
 /// A file: its policy, and the number that its next version gets.
@@ -33,13 +33,6 @@ pub struct NameRow {
     pub target: Target,
     pub birth: Moment,
     pub death: Option<Moment>,
-}
-
-/// What one slot of 512 bytes holds, the last slot maybe fewer, and the version whose session last wrote it.
-#[derive(Debug, Drop, PartialEq, Eq)]
-pub struct Cell {
-    pub writer: VersionNo,
-    pub bytes: ByteList,
 }
 
 /// A held version of a file: when its session opened it, when it closed, and when it ended, if it has.

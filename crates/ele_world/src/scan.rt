@@ -10,10 +10,10 @@ ghost use Rattle.ele_world.specs.Scan.{key_cmp, due_key, scan, first_due};
 ghost use Rattle.ele_world.specs.Seen.{seen};
 ghost use Rattle.ele_world.specs.World.{is_file, is_version, policy_of};
 
-use crate::list::{KeyList, ListOf};
+use crate::list::KeyList;
 use crate::rows::{FileRow, VersionRow};
 use ele_due::Key;
-use ele_moment::{FileId, Moment, NoMemory, VersionNo};
+use ele_moment::{FileId, ListOf, Moment, NoMemory, VersionNo};
 use ele_policy::{Policy, ripe};
 use std::alloc::Global;
 use std::collections::BTreeSet;

@@ -1,5 +1,5 @@
 use Rattle.std.proofs.Common.{◌≡◌, take}
-use Rattle.ele_world.specs.Content.{content_of}
+use Rattle.ele_blocks.specs.Content.{content_of}
 use Rattle.ele_core.proofs.content.content.Given as goal
 
 abbrev pub invariant-loop-cell : goal.invariant-loop-cell

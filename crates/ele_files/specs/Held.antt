@@ -1,0 +1,79 @@
+-- The rows of all files, and how they change.
+use Rattle.std.specs.Prelude.{ℕ, ◌+◌, ◌-◌, Bool, true, false, List, [], ◌∷◌, ◌++◌, length, Option, Some, None, find, if◌then◌else◌}
+use Rattle.std.specs.List.{list_any}
+use Rattle.std.specs.Option.{option_map, option_map_or}
+use Rattle.ele_policy.specs.declared.policy.Policy.{Policy}
+use Rattle.ele_blocks.specs.declared.cell.Cell.{Cell}
+use Rattle.ele_moment.specs.Lists.{update_first, remove_first, insert_before}
+use Rattle.ele_world.specs.declared.rows.FileRow.{FileRow}
+use Rattle.ele_world.specs.declared.rows.VersionRow.{VersionRow}
+use Rattle.ele_world.specs.declared.rows.DraftRow.{DraftRow}
+use Rattle.ele_world.specs.declared.rows.HandleRow.{HandleRow}
+use Rattle.ele_world.specs.Step.{changed_by, fitted_by, numbered_on, ended_at}
+use Rattle.ele_world.specs.World.{is_file, next_of, is_version, is_version_after, is_draft, is_draft_after, is_handle, is_writer, handle_file}
+
+-- files by id, versions by file and number, drafts by file, handles by number, and how many handles were ever opened
+pub record Held : Type 0 where
+  pub files : List FileRow
+  pub versions : List VersionRow
+  pub drafts : List DraftRow
+  pub handles : List HandleRow
+  pub opened : ℕ
+
+abbrev pub version_row : ℕ → ℕ → ℕ → ℕ → Option ℕ → List Cell → VersionRow
+version_row file number opened closed ended cells =
+    record { file = file; number = number; opened = opened; closed = closed; ended = ended; cells = cells }
+
+-- with a new file, and its first version, which is empty
+abbrev pub with_file : Held → ℕ → Policy → ℕ → Held
+with_file h id policy now = record h {
+  files = h.files ++ record { id = id; policy = policy; next = 2 } ∷ [];
+  versions = h.versions ++ version_row id 1 now now None [] ∷ [];
+}
+
+-- the cells that a new draft of the file begins with: those of the version before the next one
+abbrev pub first_cells : Held → ℕ → List Cell
+first_cells h file = option_map_or (λ row. row.cells) (find (is_version file (next_of h.files file - 1)) h.versions) []
+
+abbrev pub first_draft : Held → ℕ → ℕ → DraftRow
+first_draft h file now = record { file = file; opened = now; cells = first_cells h file; changed = false }
+
+-- the drafts with one of the file: that which is there, or else a new one
+abbrev pub drafts_with : Held → ℕ → ℕ → List DraftRow
+drafts_with h file now =
+    if list_any (is_draft file) h.drafts then h.drafts else insert_before (is_draft_after file) (first_draft h file now) h.drafts
+
+-- with one handle more, which writes the file
+abbrev pub opened_by : Held → ℕ → ℕ → Held
+opened_by h file now = record h {
+  drafts = drafts_with h file now;
+  handles = h.handles ++ record { number = h.opened + 1; file = file } ∷ [];
+  opened = h.opened + 1;
+}
+
+-- with the bytes written through a handle of the file; no bytes change nothing
+abbrev pub written_of : Held → Option ℕ → ℕ → List ℕ → Held
+written_of h None offset bytes = h
+written_of h (Some file) offset [] = h
+written_of h (Some file) offset (byte ∷ bytes) =
+    record h { drafts = update_first (is_draft file) (changed_by (next_of h.files file) offset (byte ∷ bytes)) h.drafts }
+
+abbrev pub written_by : Held → ℕ → ℕ → List ℕ → Held
+written_by h handle offset bytes = written_of h (handle_file h.handles handle) offset bytes
+
+-- with so many bytes in the draft under a handle of the file
+abbrev pub fitted_of : Held → Option ℕ → ℕ → Held
+fitted_of h None size = h
+fitted_of h (Some file) size =
+    record h { drafts = update_first (is_draft file) (fitted_by (next_of h.files file) size) h.drafts }
+
+abbrev pub fitted : Held → ℕ → ℕ → Held
+fitted h handle size = fitted_of h (handle_file h.handles handle) size
+
+-- the cells of the file's draft
+abbrev pub cells_of_draft : Held → ℕ → List Cell
+cells_of_draft h file = option_map_or (λ row. row.cells) (find (is_draft file) h.drafts) []
+
+-- without the version
+abbrev pub without : Held → ℕ → ℕ → Held
+without h file number = record h { versions = remove_first (is_version file number) h.versions }

@@ -1,0 +1,4 @@
+pub mod Held
+pub mod Closing
+pub mod Asked
+pub mod Inside

@@ -1,0 +1,13 @@
+//! The files of one world: their held versions, and the drafts and handles by which they are written.
+//! A contract sees the flat rows of all files.
+#![tactic(auto)]
+
+mod file;
+mod files;
+mod room;
+mod stamps;
+
+pub use ele_inode_log::Meter;
+pub use ele_sessions::{Closing, SessionFault};
+pub use files::Files;
+pub use stamps::Stamps;
