@@ -1,0 +1,161 @@
+//! The files of one world, with their drafts and handles.
+//! A contract sees the flat rows of all of them.
+ghost use Rattle.std.specs.Prelude.{◌≡◌, ◌<◌, ◌≤◌, ◌+◌, ◌^◌, [], All, OnOk, OnErr, IfOk, IfNone, IsOkUnless, IsErrOf, length, find, is_some, position, if◌then◌else◌};
+ghost use Rattle.std.specs.List.{AllByRecursion, list_any};
+ghost use Rattle.std.specs.Option.{ForSome, option_map};
+ghost use Rattle.ele_blocks.specs.Content.{content_of};
+ghost use Rattle.ele_blocks.specs.Distinct.{different, is_place};
+ghost use Rattle.ele_files.specs.Asked.{stamps_of};
+ghost use Rattle.ele_files.specs.Closing.{closing, closed, number_by, IsPast};
+ghost use Rattle.ele_files.specs.Held.{Held, with_file, opened_by, written_by, fitted, cells_of_draft, without};
+ghost use Rattle.ele_files.specs.Inside.{is_id};
+ghost use Rattle.ele_moment.specs.Lists.{AllLater};
+ghost use Rattle.ele_sessions.specs.Changes.{write_refusal_of, truncate_refusal_of};
+ghost use Rattle.ele_world.specs.Usage.{places};
+ghost use Rattle.ele_world.specs.World.{policy_of, next_of, is_version, is_draft, handle_file};
+
+mod asking;
+mod closing;
+mod copies;
+mod writing;
+
+use crate::file::File;
+use crate::room::put;
+use ele_blocks::{BlockMap, BlockStore};
+use ele_inode_log::{InodeLog, Meter, VersionRow};
+use ele_moment::{FileId, Handle, Moment, NoMemory, VersionNo};
+use ele_policy::Policy;
+use ele_sessions::Sessions;
+use std::alloc::Global;
+use std::marker::Model;
+
+/// Files by id, each with its held versions; drafts and handles; and the store of all their blocks.
+#[derive(Drop)]
+pub struct Files {
+    files: Vec<File>,
+    sessions: Sessions,
+    store: BlockStore,
+    alloc: Global,
+}
+
+impl Model for Files {
+    ghost use Rattle.ele_files.specs.Held.{Held};
+
+    ghost Value = { Held };
+
+    ghost use Rattle.ele_files.specs.Inside.{held_of, IsKept};
+
+    ghost view = { held_of };
+
+    ghost invariant = { IsKept };
+}
+
+/// The place of the file of that number.
+fn place_of(files: &[File], id: FileId) -> Option<usize>
+    requires { AllLater (λ x y. x.id < y.id) files.now }
+    ensures { result ≡ position (is_id id) files.now }
+{
+    let at = files.partition_point(|file| file.id.0 < id.0);
+    match files.get(at) {
+        Some(file) if file.id == id => Some(at),
+        _ => None,
+    }
+}
+
+impl Files {
+    /// No files; this takes no memory.
+    pub fn new(alloc: Global) -> Files
+        ensures { result ≡ record { files = []; versions = []; drafts = []; handles = []; opened = 0 } }
+    {
+        Files {
+            files: Vec::new(alloc),
+            sessions: Sessions::new(alloc),
+            store: BlockStore::new(alloc),
+            alloc,
+        }
+    }
+
+    /// A file of that number and policy, with an empty first version that opens and closes now. The
+    /// number is greater than those before. Where memory is refused, all is as it was.
+    pub fn add(&mut self, id: FileId, policy: Policy, now: Moment) -> Result<(), NoMemory>
+        requires { AllByRecursion (λ row. row.id < id) self.old.files }
+        ensures ok { OnOk result (self.new ≡ with_file self.old id policy now) }
+        ensures err { OnErr result (self.new ≡ self.old) }
+    {
+        self.files.reserve(1)?;
+        let mut log = InodeLog::new(self.alloc);
+        let first = VersionRow {
+            number: VersionNo(1),
+            opened: now,
+            closed: now,
+            ended: None,
+            cells: BlockMap::new(self.alloc),
+        };
+        if let Err((_row, refused)) = log.append(first) {
+            return Err(refused);
+        }
+        put(
+            &mut self.files,
+            File {
+                id,
+                policy,
+                next: VersionNo(2),
+                log,
+            },
+        );
+        Ok(())
+    }
+
+    /// A handle that writes the file. It joins the file's draft, or where there is none it starts one
+    /// with the content of the version before the next. Where memory is refused, all is as it was.
+    pub fn open_write(
+        &mut self,
+        file: FileId,
+        now: Moment,
+        meter: &mut Meter,
+    ) -> Result<Handle, NoMemory>
+        requires there { 0 < next_of self.old.files file }
+        requires few { length self.old.versions + length self.old.drafts ≤ 2 ^ 50 }
+        requires room { self.old.opened < 2 ^ 63 }
+        requires meter { meter.old < 2 ^ 62 }
+        ensures handle { IfOk result (λ handle. handle ≡ self.old.opened + 1) }
+        ensures ok { OnOk result (self.new ≡ opened_by self.old file now) }
+        ensures err { OnErr result (self.new ≡ self.old) }
+        ensures read { meter.new ≤ meter.old + 1 }
+    {
+        let Some(at) = place_of(&self.files, file) else {
+            unreachable!()
+        };
+        let held = &self.files[at];
+        let empty = BlockMap::new(self.alloc);
+        let map = match held.log.get(held.next.before(), meter) {
+            Some(row) => &row.cells,
+            None => &empty,
+        };
+        self.sessions
+            .open_write(&mut self.store, file, held.next, now, map)
+    }
+
+    /// Takes out the version, and answers how many bytes it had; none where it isn't held.
+    pub fn remove(&mut self, file: FileId, number: VersionNo, meter: &mut Meter) -> Option<u64>
+        requires { meter.old < 2 ^ 62 }
+        ensures value { result ≡ option_map (λ row. length (content_of row.cells))
+            (find (is_version file number) self.old.versions) }
+        ensures rows { self.new ≡ without self.old file number }
+        ensures read { meter.new ≡ meter.old + (if is_some result then 1 else 0) }
+    {
+        let at = place_of(&self.files, file)?;
+        let row = self.files[at].log.remove(number, meter)?;
+        let length = row.cells.length();
+        row.cells.give_up(&mut self.store);
+        Some(length)
+    }
+
+    /// How many different blocks the versions and drafts have: a slot that several have from one
+    /// writer is one block.
+    pub fn blocks(&self) -> u64
+        ensures { result ≡ different is_place (places self.now.versions self.now.drafts) }
+    {
+        self.store.distinct()
+    }
+}

@@ -1,0 +1,102 @@
+//! What is asked of files, versions, drafts and handles.
+//! A contract sees each answer as a look at the rows.
+ghost use Rattle.std.specs.Prelude.{◌≡◌, ◌<◌, ◌+◌, ◌^◌, IfOk, length, find, is_some, if◌then◌else◌};
+ghost use Rattle.std.specs.List.{list_any};
+ghost use Rattle.std.specs.Option.{option_map};
+ghost use Rattle.ele_blocks.specs.Content.{content_of};
+ghost use Rattle.ele_files.specs.Asked.{stamps_of};
+ghost use Rattle.ele_files.specs.Held.{cells_of_draft};
+ghost use Rattle.ele_world.specs.World.{policy_of, next_of, is_version, is_draft, handle_file};
+
+use crate::files::{Files, place_of};
+use crate::stamps::Stamps;
+use ele_inode_log::Meter;
+use ele_moment::{ByteList, FileId, Handle, ListOf, NoMemory, VersionNo};
+use ele_policy::Policy;
+use ele_sessions::Reads;
+
+impl Files {
+    /// The file's policy; none where there is no such file.
+    pub fn policy_of(&self, file: FileId) -> Option<Policy>
+        ensures { result ≡ policy_of self.now.files file }
+    {
+        let at = place_of(&self.files, file)?;
+        Some(self.files[at].policy)
+    }
+
+    /// The number that the file's next version gets; 0 where there is no such file.
+    pub fn next_of(&self, file: FileId) -> VersionNo
+        ensures { result ≡ next_of self.now.files file }
+    {
+        match place_of(&self.files, file) {
+            Some(at) => self.files[at].next,
+            None => VersionNo(0),
+        }
+    }
+
+    /// The version's moments and its length; none where it isn't held.
+    pub fn stamps(&self, file: FileId, number: VersionNo, meter: &mut Meter) -> Option<Stamps>
+        requires { meter.old < 2 ^ 62 }
+        ensures value { result
+            ≡ option_map stamps_of (find (is_version file number) self.now.versions) }
+        ensures read { meter.new ≡ meter.old + (if is_some result then 1 else 0) }
+    {
+        let at = place_of(&self.files, file)?;
+        let row = self.files[at].log.get(number, meter)?;
+        Some(Stamps {
+            opened: row.opened,
+            closed: row.closed,
+            ended: row.ended,
+            length: row.cells.length(),
+        })
+    }
+
+    /// The file that is written through the handle; none where no open handle has that number.
+    pub fn handle_file(&self, handle: Handle) -> Option<FileId>
+        ensures { result ≡ handle_file self.now.handles handle }
+    {
+        let Reads::Draft(file) = self.sessions.read(handle)?;
+        Some(file)
+    }
+
+    /// How many handles were ever opened.
+    pub fn handles_opened(&self) -> u64
+        ensures { result ≡ self.now.opened }
+    {
+        self.sessions.handles_opened()
+    }
+
+    /// How many drafts are open.
+    pub fn drafts_open(&self) -> usize
+        ensures { result ≡ length self.now.drafts }
+    {
+        self.sessions.drafts_open()
+    }
+
+    /// Whether the file has a draft.
+    pub fn has_draft(&self, file: FileId) -> bool
+        ensures { result ≡ list_any (is_draft file) self.now.drafts }
+    {
+        self.sessions.draft(file).is_some()
+    }
+
+    /// How many bytes the file's draft has; 0 where it has none.
+    pub fn draft_length(&self, file: FileId) -> u64
+        ensures { result ≡ length (content_of (cells_of_draft self.now file)) }
+    {
+        match self.sessions.draft(file) {
+            Some(map) => map.length(),
+            None => 0,
+        }
+    }
+
+    /// The bytes of the file's draft; none where it has no draft.
+    pub fn draft_content(&self, file: FileId) -> Result<ByteList, NoMemory>
+        ensures { IfOk result (λ bytes. bytes ≡ content_of (cells_of_draft self.now file)) }
+    {
+        match self.sessions.draft(file) {
+            Some(map) => Ok(ListOf::from_vec(map.content(&self.store)?)),
+            None => Ok(ListOf::new(self.alloc)),
+        }
+    }
+}

@@ -1,0 +1,52 @@
+//! Changes of drafts.
+//! A contract sees the list of drafts, in which one has other cells.
+ghost use Rattle.std.specs.Prelude.{◌≡◌, OnOk, OnErr, IfNone, IsOkUnless, IsErrOf};
+ghost use Rattle.std.specs.Option.{ForSome};
+ghost use Rattle.ele_files.specs.Held.{written_by, fitted};
+ghost use Rattle.ele_sessions.specs.Changes.{write_refusal_of, truncate_refusal_of};
+ghost use Rattle.ele_sessions.specs.declared.fault.SessionFault.TheVariants as SessionFault;
+ghost use Rattle.ele_world.specs.World.{handle_file};
+
+use crate::files::Files;
+use ele_moment::Handle;
+use ele_sessions::SessionFault;
+
+impl Files {
+    /// Writes the bytes from the offset on into the draft under the handle; zeros fill it up to the
+    /// offset where it ends before. No bytes change nothing. Faults, in this order: `NoHandle`,
+    /// `TooBig` where the bytes would end past 1,048,576, `NoMemory`; a fault leaves all as it was.
+    pub fn write(&mut self, handle: Handle, offset: u64, bytes: &[u8]) -> Result<(), SessionFault>
+        ensures refused { ForSome
+            (write_refusal_of (handle_file self.old.handles handle) offset bytes.now)
+            (λ fault. IsErrOf result fault) }
+        ensures otherwise { IfNone
+            (write_refusal_of (handle_file self.old.handles handle) offset bytes.now)
+            (IsOkUnless result SessionFault.NoMemory) }
+        ensures ok { OnOk result (self.new ≡ written_by self.old handle offset bytes.now) }
+        ensures err { OnErr result (self.new ≡ self.old) }
+    {
+        // Told for the proof: a file has one draft.
+        let _opened = self.sessions.handles_opened();
+        self.sessions.write(&mut self.store, handle, offset, bytes)?;
+        Ok(())
+    }
+
+    /// Makes the draft under the handle so many bytes long; one of that length stays. Faults, in
+    /// this order: `NoHandle`, `TooBig` for more than 1,048,576 bytes, `NoMemory`; a fault leaves
+    /// all as it was.
+    pub fn truncate(&mut self, handle: Handle, size: u64) -> Result<(), SessionFault>
+        ensures refused { ForSome
+            (truncate_refusal_of (handle_file self.old.handles handle) size)
+            (λ fault. IsErrOf result fault) }
+        ensures otherwise { IfNone
+            (truncate_refusal_of (handle_file self.old.handles handle) size)
+            (IsOkUnless result SessionFault.NoMemory) }
+        ensures ok { OnOk result (self.new ≡ fitted self.old handle size) }
+        ensures err { OnErr result (self.new ≡ self.old) }
+    {
+        // Told for the proof: a file has one draft.
+        let _opened = self.sessions.handles_opened();
+        self.sessions.truncate(&mut self.store, handle, size)?;
+        Ok(())
+    }
+}
