@@ -1,2 +1,9 @@
-pub mod Written
+pub mod Keyed
+pub mod Ripening
+pub mod Booked
+pub mod Asked
+pub mod Made
 pub mod Kept
+pub mod Fresh
+pub mod Removed
+pub mod Passing

@@ -1,16 +1,33 @@
--- The world behind a core's rows. No public clause cites this module.
-use Rattle.ele_world.specs.World.{World}
+-- The world behind a core's rows, and what the rows keep. No public clause cites this module.
 use Rattle.ele_core.specs.declared.rows.Rows.{Rows}
+use Rattle.ele_core.specs.State.{State}
+use Rattle.ele_core.specs.Tracked.{IsQueued, IsBooked}
+use Rattle.ele_world.specs.Bounds.{AreBounds}
+use Rattle.ele_world.specs.WellFormed.{IsWellFormed}
+use Rattle.ele_world.specs.World.{World}
 
 abbrev pub world_of : Rows → World
 world_of rows = record {
   now = rows.moment;
   directories = rows.directories.items;
-  files = rows.files.items;
+  files = rows.files.files;
   names = rows.names.items;
-  versions = rows.versions.items;
-  drafts = rows.drafts.items;
-  handles = rows.handles.items;
-  made = rows.made;
+  versions = rows.files.versions;
+  drafts = rows.files.drafts;
+  handles = rows.files.handles;
+  made = record { files = rows.made.files; names = rows.made.names; versions = rows.made.versions; handles = rows.files.opened };
   limits = rows.limits;
 }
+
+abbrev pub state_of : Rows → State
+state_of rows = record { world = world_of rows; rows_read = rows.meter }
+
+-- the queue and the book follow the files, and the limits are limits
+pub record IsTracked (rows : Rows) : Type 0 where
+  pub queue : IsQueued rows.files rows.queue
+  pub book : IsBooked rows.files rows.book
+  pub bounds : AreBounds rows.limits
+
+pub record IsSound (rows : Rows) : Type 0 where
+  pub formed : IsWellFormed (world_of rows)
+  pub tracked : IsTracked rows

@@ -1,3 +1,6 @@
+pub mod State
+pub mod Reads
+pub mod Tracked
 pub mod Inside
-pub mod Drafts
-pub mod Slots
+pub mod Closings
+pub mod Faults

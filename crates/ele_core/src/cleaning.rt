@@ -1,58 +1,136 @@
 //! The events that clean, and what they ask.
-ghost use Rattle.std.specs.Prelude.{◌≡◌, IfOk};
+ghost use Rattle.std.specs.Prelude.{◌≡◌, IfOk, Some, is_some};
 ghost use Rattle.ele_moment.specs.Lists.{remove_first};
+ghost use Rattle.ele_due.specs.Key.{is_ripe_by};
 ghost use Rattle.ele_world.specs.Due.{is_due};
+ghost use Rattle.ele_world.specs.Pass.{EndsPass};
 ghost use Rattle.ele_world.specs.Scan.{scan, first_due};
 ghost use Rattle.ele_world.specs.Step.{clean_step};
+ghost use Rattle.ele_core.specs.Inside.{world_of, IsTracked, IsSound};
+ghost use Rattle.ele_core.specs.Reads.{CleanReads};
+ghost use Rattle.ele_core.specs.Tracked.{version_key};
 ghost use Rattle.ele_world.specs.World.{is_version};
-ghost use Rattle.ele_core.specs.Inside.{world_of};
 
-use crate::lookups::version_at;
+use crate::book::{blocks, follow_blocks, take_version};
+use crate::keys::key_at;
 use crate::rows::Rows;
-use ele_world::{FileId, Key, KeyList, NoMemory, Reply, VersionNo, VersionRow};
+use ele_files::Meter;
+use ele_world::{FileId, Key, KeyList, ListOf, Moment, NoMemory, PassEnd, Reply, VersionNo};
 
 /// Whether the version is held and due now.
-#[tactic(auto, using(ele_world::proofs::DueKeys::is_due_seen))]
+#[tactic(auto, using(crate::proofs::Asked::due_is, crate::proofs::Asked::key_held))]
 pub fn is_due(rows: &Rows, file: FileId, number: VersionNo) -> bool
+    requires { IsSound rows.now }
     ensures { result ≡ is_due (world_of rows.now) file number }
 {
-    ele_world::is_due(rows.moment, &rows.files, &rows.versions, file, number)
+    match version_key(rows, file, number) {
+        Some(key) => is_ripe(&key, rows.moment) && rows.queue.holds(&key),
+        None => false,
+    }
+}
+
+/// The key that the version has; none where it isn't held, or never due.
+#[tactic(auto, using(crate::proofs::Asked::version_key_is))]
+fn version_key(rows: &Rows, file: FileId, number: VersionNo) -> Option<Key>
+    requires { IsSound rows.now }
+    ensures { result ≡ version_key rows.now.files file number }
+{
+    let mut meter = Meter::new();
+    let stamps = rows.files.stamps(file, number, &mut meter)?;
+    let policy = rows.files.policy_of(file)?;
+    key_at(file, number, &policy, stamps.closed, stamps.ended?, None)
 }
 
 /// The keys of the versions that are due now, in order.
-#[tactic(auto, using(ele_world::proofs::DueKeys::scan_seen))]
 pub fn due(rows: &Rows) -> Result<KeyList, NoMemory>
+    requires { IsTracked rows.now }
     ensures { IfOk result (λ keys. keys ≡ scan (world_of rows.now)) }
 {
-    ele_world::due_keys(rows.alloc, rows.moment, &rows.files, &rows.versions)
+    Ok(ListOf::from_vec(rows.queue.until(rows.moment)?))
 }
 
 /// The first of those keys.
-#[tactic(auto, using(ele_world::proofs::DueKeys::scan_seen))]
 pub fn due_first(rows: &Rows) -> Option<Key>
+    requires { IsTracked rows.now }
     ensures { result ≡ first_due (world_of rows.now) }
 {
-    ele_world::due_first(rows.moment, &rows.files, &rows.versions)
+    let Some(key) = rows.queue.first() else {
+        return None;
+    };
+    if is_ripe(&key, rows.moment) {
+        Some(key)
+    } else {
+        None
+    }
 }
 
-/// The version's row is taken out, if it is there.
-#[tactic(auto, using(ele_world::proofs::Places::first_places))]
-fn remove_version(versions: &mut Vec<VersionRow>, file: FileId, number: VersionNo)
-    ensures { versions.new.items ≡ remove_first (is_version file number) versions.old.items }
+/// Whether the key's version is due at the moment.
+fn is_ripe(key: &Key, now: Moment) -> bool
+    ensures { result ≡ is_ripe_by now key.now }
 {
-    if let Some(at) = version_at(versions, file, number) {
-        let _row = versions.remove(at);
-    }
+    key.ripe <= now
 }
 
 /// The first due version is removed.
 #[tactic(auto, unfolding(ele_world::specs::Step::clean_step))]
 pub fn clean_one(rows: &mut Rows) -> Reply
-    ensures { (result, world_of rows.new) ≡ clean_step (world_of rows.old) }
+    requires sound { IsSound rows.old }
+    requires meter { rows.old.meter ≡ 0 }
+    ensures step { (result, world_of rows.new) ≡ clean_step (world_of rows.old) }
+    ensures tracked { IsTracked rows.new }
+    ensures read { CleanReads result rows.new.meter }
 {
     let Some(key) = due_first(rows) else {
         return Reply::Nothing;
     };
-    remove_version(&mut rows.versions, key.file, key.number);
+    remove(rows, &key);
     Reply::Removed(key)
+}
+
+/// The version of the key, which is the first due one, is removed.
+fn remove(rows: &mut Rows, key: &Key)
+    requires sound { IsSound rows.old }
+    requires meter { rows.old.meter ≡ 0 }
+    requires first { first_due (world_of rows.old) ≡ Some key.now }
+    ensures world { world_of rows.new ≡ record (world_of rows.old) { versions =
+        remove_first (is_version key.now.file key.now.number) rows.old.files.versions } }
+    ensures tracked { IsTracked rows.new }
+    ensures read { rows.new.meter ≡ 1 }
+{
+    let before = blocks(&rows.files);
+    let Some(bytes) = rows.files.remove(key.file, key.number, &mut rows.meter) else {
+        unreachable!()
+    };
+    let _was = rows.queue.remove(key);
+    take_version(&mut rows.book, &rows.files, key.file, bytes);
+    follow_blocks(&mut rows.book, &rows.files, key.file, before);
+}
+
+/// Clean events again and again, until nothing is due or as many versions are removed as the budget allows.
+pub fn pass(rows: &mut Rows, budget: u64) -> PassEnd
+    requires { IsSound rows.old }
+    ensures end { EndsPass (world_of rows.old) budget result (world_of rows.new) }
+    ensures sound { IsSound rows.new }
+{
+    for removed in 0..budget {
+        if !removes(rows) {
+            return PassEnd::Finished(removed);
+        }
+    }
+    PassEnd::Budget(budget)
+}
+
+/// Whether one clean event removes a version.
+#[tactic(auto, unfolding(ele_world::specs::Step::clean_step))]
+fn removes(rows: &mut Rows) -> bool
+    requires { IsSound rows.old }
+    ensures value { result ≡ is_some (first_due (world_of rows.old)) }
+    ensures world { world_of rows.new ≡ (clean_step (world_of rows.old)).1 }
+    ensures sound { IsSound rows.new }
+{
+    rows.meter = Meter::new();
+    match clean_one(rows) {
+        Reply::Removed(_) => true,
+        _ => false,
+    }
 }

@@ -1,155 +1,139 @@
 //! The event that closes a handle, and may make its draft a version.
-ghost use Rattle.std.specs.Prelude.{◌≡◌, ◌<◌, ◌≤◌, ◌+◌, ◌-◌, ◌^◌, IfSome, IfNone, IfOk, OnErr, Some, None, find, if◌then◌else◌, vec_len, vec_capacity};
-ghost use Rattle.std.specs.List.{AllByRecursion};
-ghost use Rattle.ele_world.specs.declared.reply.Reply.TheVariants.{Closed};
-ghost use Rattle.ele_moment.specs.Lists.{update_first, remove_first, insert_before};
-ghost use Rattle.ele_world.specs.Step.{close_step, writer_closed, draft_closed, finished, numbered_on, ended_at};
-ghost use Rattle.ele_world.specs.WellFormed.{IsWellFormed};
-ghost use Rattle.ele_world.specs.World.{is_draft, is_live, next_of, is_file, is_handle, is_version, is_version_after};
-ghost use Rattle.ele_core.specs.Inside.{world_of};
+ghost use Rattle.std.specs.Prelude.{◌≡◌, ◌≤◌, ◌<◌, ◌-◌, ◌+◌, ◌^◌, true, false, Some, IfOk, OnErr, find};
+ghost use Rattle.std.specs.Option.{ForSome};
+ghost use Rattle.ele_files.specs.Closing.{closing};
+ghost use Rattle.ele_world.specs.Step.{close_step};
+ghost use Rattle.ele_world.specs.World.{next_of, is_version, handle_file};
+ghost use Rattle.ele_core.specs.Inside.{world_of, IsTracked, IsSound};
+ghost use Rattle.ele_core.specs.Tracked.{former_key, own_key};
+ghost use Rattle.ele_core.specs.Closings.{makes_version, is_change};
 
-use crate::lookups::{
-    draft_at, file_at, handle_at, handle_file, has_writer, is_live, later_version_at, next_of,
-    version_at,
-};
-use crate::room::put_at;
+use crate::book::{blocks, follow_blocks, one_version};
+use crate::keys::{NewKeys, key_at};
+use crate::lookups::is_live;
 use crate::rows::Rows;
-use ele_world::{
-    DraftRow, FileId, FileRow, Handle, HandleRow, Moment, NoMemory, Refusal, Reply, VersionNo,
-    VersionRow,
-};
+use ele_files::{Closing, Files, Meter};
+use ele_world::{FileId, Handle, Key, Moment, NoMemory, Refusal, Reply};
 
-/// The handle is taken out, if it is there.
-#[tactic(auto, using(ele_world::proofs::Places::first_places))]
-fn remove_handle(handles: &mut Vec<HandleRow>, handle: Handle)
-    ensures { handles.new.items ≡ remove_first (is_handle handle) handles.old.items }
+/// The key of the version before the file's next one, which ends now; none where it isn't held or has ended.
+fn former_key(files: &Files, file: FileId, now: Moment, meter: &mut Meter) -> Option<Key>
+    requires past { ForSome
+        (find (is_version file (next_of files.now.files file - 1)) files.now.versions)
+        (λ row. row.closed ≤ now) }
+    requires meter { meter.old < 2 ^ 60 }
+    ensures key { result ≡ former_key files.now file now }
+    ensures read { meter.new ≤ meter.old + 1 }
 {
-    if let Some(at) = handle_at(handles, handle) {
-        let _row = handles.remove(at);
-    }
-}
-
-/// The file's draft is taken out, if it has one.
-#[tactic(auto, using(ele_world::proofs::Places::first_places))]
-fn take_draft(drafts: &mut Vec<DraftRow>, file: FileId) -> Option<DraftRow>
-    ensures found { result ≡ find (is_draft file) drafts.old.items }
-    ensures its { IfSome result (λ draft. draft.file ≡ file) }
-    ensures rest { drafts.new.items ≡ remove_first (is_draft file) drafts.old.items }
-    ensures none { IfNone result (drafts.new.items ≡ drafts.old.items) }
-{
-    let at = draft_at(drafts, file)?;
-    Some(drafts.remove(at))
-}
-
-/// The file numbers on.
-#[tactic(auto, using(ele_world::proofs::Places::first_places))]
-fn raise_next(files: &mut Vec<FileRow>, file: FileId)
-    requires { AllByRecursion (λ row. row.next < 2 ^ 62) files.old.items }
-    ensures { files.new.items ≡ update_first (is_file file) numbered_on files.old.items }
-{
-    if let Some(at) = file_at(files, file) {
-        let row = &mut files[at];
-        row.next = row.next.after();
-    }
-}
-
-/// The version ends, if it is there and hasn't ended.
-#[tactic(auto, using(ele_world::proofs::Places::first_places))]
-fn end_version(versions: &mut Vec<VersionRow>, file: FileId, number: VersionNo, now: Moment)
-    ensures items { versions.new.items
-        ≡ update_first (is_version file number) (ended_at now) versions.old.items }
-    ensures len { vec_len versions.new ≡ vec_len versions.old }
-    ensures room { vec_capacity versions.new ≡ vec_capacity versions.old }
-{
-    if let Some(at) = version_at(versions, file, number) {
-        let row = &mut versions[at];
-        row.ended = Some(row.ended.unwrap_or(now));
-    }
-}
-
-/// The version stands among the versions at its place.
-#[tactic(auto, using(ele_world::proofs::Places::first_places))]
-fn add_version(versions: &mut Vec<VersionRow>, row: VersionRow)
-    requires { vec_len versions.old < vec_capacity versions.old }
-    ensures { versions.new.items
-        ≡ insert_before (is_version_after row.file row.number) row versions.old.items }
-{
-    let at = later_version_at(versions, row.file, row.number).unwrap_or(versions.len());
-    put_at(versions, at, row);
-}
-
-/// When a version ends that is made now: at once where its file isn't live.
-fn first_end(rows: &Rows, file: FileId) -> Option<Moment>
-    ensures { result ≡ (if is_live (world_of rows.now) file then None else Some rows.now.moment) }
-{
-    if is_live(&rows.names, file) {
+    let policy = files.policy_of(file)?;
+    let number = files.next_of(file).before();
+    let stamps = files.stamps(file, number, meter)?;
+    if stamps.ended.is_some() {
         return None;
     }
-    Some(rows.moment)
+    key_at(file, number, &policy, stamps.closed, now, Some(now))
 }
 
-/// The draft, which was taken out, becomes its file's next version, and the version before it ends.
-fn finish(rows: &mut Rows, draft: DraftRow) -> VersionNo
-    requires room { vec_len rows.old.versions < vec_capacity rows.old.versions }
-    requires counted { rows.old.made.versions < 2 ^ 62 }
-    requires numbered { AllByRecursion (λ row. row.next < 2 ^ 62) rows.old.files.items }
-    ensures number { result ≡ next_of rows.old.files.items draft.file }
-    ensures after { world_of rows.new
-        ≡ record (finished (world_of rows.old) draft) { drafts = rows.old.drafts.items } }
+/// The key of the file's next version, which closes now; none where it doesn't end at once.
+fn own_key(files: &Files, file: FileId, now: Moment, is_live: bool) -> Option<Key>
+    ensures { result ≡ own_key files.now file now is_live }
 {
-    let file = draft.file;
-    let number = next_of(&rows.files, file);
-    let ended = first_end(rows, file);
-    raise_next(&mut rows.files, file);
-    end_version(&mut rows.versions, file, number.before(), rows.moment);
-    add_version(
-        &mut rows.versions,
-        VersionRow {
-            file,
-            number,
-            opened: draft.opened,
-            closed: rows.moment,
-            ended,
-            cells: draft.cells,
-        },
-    );
+    if is_live {
+        return None;
+    }
+    let policy = files.policy_of(file)?;
+    key_at(file, files.next_of(file), &policy, now, now, None)
+}
+
+/// Whether closing the handle makes a version.
+fn makes_version(files: &Files, handle: Handle) -> bool
+    ensures { result ≡ makes_version (closing files.now handle) }
+{
+    match files.peek_close(handle) {
+        Some(closing) => is_change(closing),
+        None => false,
+    }
+}
+
+/// Whether a changed draft goes.
+fn is_change(closing: Closing) -> bool
+    ensures { result ≡ is_change closing }
+{
+    match closing {
+        Closing::Changed(_, _) => true,
+        Closing::Clean(_) | Closing::StillOpen => false,
+    }
+}
+
+/// The last handle of a changed draft is closed, which becomes the file's next version.
+fn finish(rows: &mut Rows, handle: Handle, file: FileId) -> Result<Reply, NoMemory>
+    requires sound { IsSound rows.old }
+    requires meter { rows.old.meter ≡ 0 }
+    requires file { handle_file rows.old.files.handles handle ≡ Some file }
+    requires makes { makes_version (closing rows.old.files handle) ≡ true }
+    ensures step { IfOk result
+        (λ reply. (reply, world_of rows.new) ≡ close_step (world_of rows.old) handle) }
+    ensures err { OnErr result (world_of rows.new ≡ world_of rows.old) }
+    ensures tracked { IsTracked rows.new }
+{
+    let is_live = is_live(&rows.names, file);
+    let keys = NewKeys {
+        former: former_key(&rows.files, file, rows.moment, &mut rows.meter),
+        own: own_key(&rows.files, file, rows.moment, is_live),
+    };
+    let before = blocks(&rows.files);
+    let bytes = rows.files.draft_length(file);
+    // All keys come before the version does, so that one that is refused is still without trace.
+    let added = keys.insert(&mut rows.queue)?;
+    let closed = rows.files.close(handle, rows.moment, is_live, &mut rows.meter);
+    let number = match closed {
+        Ok(number) => number,
+        Err(refused) => {
+            added.take_back(&mut rows.queue);
+            return Err(refused);
+        }
+    };
+    if let Some(policy) = rows.files.policy_of(file) {
+        rows.book.add(policy.kind(), one_version(bytes));
+    }
+    follow_blocks(&mut rows.book, &rows.files, file, before);
     rows.made.versions += 1;
-    number
+    Ok(Reply::Closed(number))
 }
 
-/// The last writer of the file has closed: its draft, if it was changed, becomes a version, and else vanishes.
-fn close_draft(rows: &mut Rows, file: FileId) -> Option<VersionNo>
-    requires room { vec_len rows.old.versions < vec_capacity rows.old.versions }
-    requires counted { rows.old.made.versions < 2 ^ 62 }
-    requires numbered { AllByRecursion (λ row. row.next < 2 ^ 62) rows.old.files.items }
-    ensures { (Closed result, world_of rows.new)
-        ≡ draft_closed (world_of rows.old) (find (is_draft file) rows.old.drafts.items) }
+/// A handle is closed whose draft stays, or goes without a trace.
+fn leave(rows: &mut Rows, handle: Handle, file: FileId) -> Result<Reply, NoMemory>
+    requires sound { IsSound rows.old }
+    requires meter { rows.old.meter ≡ 0 }
+    requires file { handle_file rows.old.files.handles handle ≡ Some file }
+    requires makes { makes_version (closing rows.old.files handle) ≡ false }
+    ensures step { IfOk result
+        (λ reply. (reply, world_of rows.new) ≡ close_step (world_of rows.old) handle) }
+    ensures err { OnErr result (world_of rows.new ≡ world_of rows.old) }
+    ensures tracked { IsTracked rows.new }
 {
-    let draft = take_draft(&mut rows.drafts, file)?;
-    if !draft.changed {
-        return None;
-    }
-    Some(finish(rows, draft))
+    let before = blocks(&rows.files);
+    rows.files
+        .close(handle, rows.moment, true, &mut rows.meter)?;
+    follow_blocks(&mut rows.book, &rows.files, file, before);
+    Ok(Reply::Closed(None))
 }
 
 /// The handle is closed.
 #[tactic(auto, unfolding(ele_world::specs::Step::close_step))]
 pub fn close(rows: &mut Rows, handle: Handle) -> Result<Reply, NoMemory>
-    requires { IsWellFormed (world_of rows.old) }
+    requires sound { IsSound rows.old }
+    requires meter { rows.old.meter ≡ 0 }
     ensures step { IfOk result
         (λ reply. (reply, world_of rows.new) ≡ close_step (world_of rows.old) handle) }
     ensures err { OnErr result (world_of rows.new ≡ world_of rows.old) }
+    ensures tracked { IsTracked rows.new }
 {
-    // Told for the proof: the limits bound the counts, so none of them overflows.
-    let _most = rows.limits.versions();
-    // Memory can be refused here alone, before anything has changed.
-    rows.versions.reserve(1)?;
-    let Some(file) = handle_file(&rows.handles, handle) else {
+    let Some(file) = rows.files.handle_file(handle) else {
         return Ok(Reply::Refused(Refusal::NoHandle));
     };
-    remove_handle(&mut rows.handles, handle);
-    if has_writer(&rows.handles, file) {
-        return Ok(Reply::Closed(None));
+    if makes_version(&rows.files, handle) {
+        finish(rows, handle, file)
+    } else {
+        leave(rows, handle, file)
     }
-    Ok(Reply::Closed(close_draft(rows, file)))
 }

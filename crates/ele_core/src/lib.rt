@@ -1,20 +1,25 @@
-//! One world, which events change. A contract sees a core as its flat world.
+//! One world, which events change. A contract sees a core as its flat world, with a count of the rows that were read.
 #![tactic(auto)]
 
 ghost use Rattle.std.specs.Prelude.{◌≡◌, IfOk, OnErr};
 ghost use Rattle.ele_world.specs.Due.{is_due};
+ghost use Rattle.ele_world.specs.Pass.{EndsPass};
 ghost use Rattle.ele_world.specs.Run.{IsEvent};
 ghost use Rattle.ele_world.specs.Scan.{scan, first_due};
 ghost use Rattle.ele_world.specs.Step.{step};
+ghost use Rattle.ele_world.specs.Usage.{usages};
 ghost use Rattle.ele_world.specs.WellFormed.{IsWellFormed};
 ghost use Rattle.ele_world.specs.World.{fresh_world};
-ghost use Rattle.ele_core.specs.Inside.{world_of};
+ghost use Rattle.ele_core.specs.Inside.{world_of, IsTracked, IsSound};
+ghost use Rattle.ele_core.specs.Reads.{IsRead};
 
+mod asking;
+mod book;
 mod cleaning;
 mod clock;
 mod closing;
-mod content;
-mod copies;
+mod defaults;
+mod keys;
 mod lookups;
 mod names;
 mod opening;
@@ -25,19 +30,23 @@ mod tests;
 mod walk;
 mod writing;
 
-use crate::cleaning::{clean_one, due, due_first, is_due};
-use crate::clock::clock;
+use crate::asking::{read, usage};
+use crate::cleaning::{clean_one, due, due_first, is_due, pass};
+use crate::clock::{clock, tick};
 use crate::closing::close;
-use crate::copies::{copy_drafts, copy_list, copy_versions};
+use crate::defaults::set_default;
 use crate::names::create;
 use crate::opening::open_write;
-use crate::rows::{ROOT, Rows};
-use crate::writing::write;
+use crate::rows::{Made, ROOT, Rows};
+use crate::writing::{truncate, write};
+use ele_due::DueQueue;
+use ele_files::{Files, Meter};
 use ele_policy::Interval;
+use ele_usage::UsageBook;
 pub use ele_world::{
     ByteList, Cell, Counts, DirId, DirectoryRow, DraftRow, Event, FileId, FileRow, Flat, Handle,
-    HandleRow, Key, KeyList, Kind, Limits, ListOf, Moment, Name, NameRow, NoMemory, Path, Policy,
-    Refusal, Reply, Stop, Target, VersionNo, VersionRow, Which,
+    HandleRow, Key, KeyList, Kind, Limits, ListOf, Moment, Name, NameRow, NoMemory, PassEnd, Path,
+    Policy, Refusal, Reply, Source, Stop, Target, Usage, VersionNo, VersionRow, Which,
 };
 use std::alloc::Global;
 use std::marker::Model;
@@ -49,33 +58,40 @@ pub struct Core {
 }
 
 impl Model for Core {
-    ghost use Rattle.ele_world.specs.World.{World};
-    ghost use Rattle.ele_world.specs.WellFormed.{IsWellFormed};
-    ghost use Rattle.ele_core.specs.Inside.{world_of};
+    ghost use Rattle.ele_core.specs.State.{State};
+    ghost use Rattle.ele_core.specs.Inside.{state_of, IsSound};
 
-    ghost Value = { World };
+    ghost Value = { State };
 
-    ghost view = { λ core. world_of core.rows };
+    ghost view = { λ core. state_of core.rows };
 
-    ghost invariant = { λ core. IsWellFormed (world_of core.rows) };
+    ghost invariant = { λ core. IsSound core.rows };
 }
 
 /// What the event answers, and the change that it makes.
 fn answer(rows: &mut Rows, event: &Event) -> Result<Reply, NoMemory>
-    requires { IsWellFormed (world_of rows.old) }
+    requires sound { IsSound rows.old }
+    requires meter { rows.old.meter ≡ 0 }
     ensures event { IsEvent event.now }
     ensures step { IfOk result
         (λ reply. (reply, world_of rows.new) ≡ step (world_of rows.old) event.now) }
     ensures err { OnErr result (world_of rows.new ≡ world_of rows.old) }
+    ensures tracked { IsTracked rows.new }
+    ensures read { IfOk result (λ reply. IsRead event.now reply rows.new.meter) }
 {
     match event {
         Event::Clock(to) => Ok(clock(rows, *to)),
+        Event::Tick(seconds) => Ok(tick(rows, *seconds)),
         Event::Create(path) => create(rows, path),
         Event::OpenWrite(path) => open_write(rows, path),
         Event::Write(handle, offset, bytes) => write(rows, *handle, *offset, bytes.as_slice()),
+        Event::Truncate(handle, size) => truncate(rows, *handle, *size),
         Event::Close(handle) => close(rows, *handle),
+        Event::SetDefault(path, policy) => Ok(set_default(rows, path, *policy)),
         Event::CleanOne => Ok(clean_one(rows)),
+        Event::Read(source) => read(rows, *source),
         Event::Due => Ok(Reply::DueList(due(rows)?)),
+        Event::UsageAll => Ok(Reply::UsageList(usage(rows))),
     }
 }
 
@@ -84,8 +100,10 @@ impl Core {
     ///
     /// `NoMemory` where memory is refused.
     pub fn new(alloc: Global, limits: Limits) -> Result<Core, NoMemory>
-        ensures { IfOk result (λ core. core ≡ fresh_world limits) }
+        ensures { IfOk result (λ core. core.world ≡ fresh_world limits) }
     {
+        // Told for the proof: limits are within their bounds.
+        let _events = limits.events();
         let mut directories = Vec::new(alloc);
         directories.push(DirectoryRow {
             id: ROOT,
@@ -93,20 +111,19 @@ impl Core {
         })?;
         Ok(Core {
             rows: Rows {
-                moment: Moment::new(0).unwrap(),
+                moment: Moment::START,
                 directories,
-                files: Vec::new(alloc),
                 names: Vec::new(alloc),
-                versions: Vec::new(alloc),
-                drafts: Vec::new(alloc),
-                handles: Vec::new(alloc),
-                made: Counts {
+                files: Files::new(alloc),
+                queue: DueQueue::new(alloc),
+                book: UsageBook::new(),
+                made: Made {
                     files: 0,
                     names: 0,
                     versions: 0,
-                    handles: 0,
                 },
                 limits,
+                meter: Meter::new(),
                 alloc,
             },
         })
@@ -114,24 +131,41 @@ impl Core {
 
     /// Takes the event: answers it, and makes its change.
     ///
-    /// `NoMemory` where memory is refused, and then nothing has changed.
+    /// `NoMemory` where memory is refused, and then the world is as it was.
     pub fn apply(&mut self, event: &Event) -> Result<Reply, NoMemory>
-        ensures step { IfOk result (λ reply. (reply, self.new) ≡ step self.old event.now) }
-        ensures err { OnErr result (self.new ≡ self.old) }
+        ensures step { IfOk result
+            (λ reply. (reply, self.new.world) ≡ step self.old.world event.now) }
+        ensures err { OnErr result (self.new.world ≡ self.old.world) }
+        ensures read { IfOk result (λ reply. IsRead event.now reply self.new.rows_read) }
     {
+        self.rows.meter = Meter::new();
         answer(&mut self.rows, event)
+    }
+
+    /// The clean event again and again, until nothing is due or as many versions are removed as the budget allows.
+    pub fn clean_pass(&mut self, budget: u64) -> PassEnd
+        ensures { EndsPass self.old.world budget result self.new.world }
+    {
+        pass(&mut self.rows, budget)
     }
 
     /// The moment that it is.
     pub fn now(&self) -> Moment
-        ensures { result ≡ self.now.now }
+        ensures { result ≡ self.now.world.now }
     {
         self.rows.moment
     }
 
+    /// What the files of each kind of policy use, in the order of `Kind`.
+    pub fn usage(&self) -> [Usage; 4]
+        ensures { result ≡ usages self.now.world }
+    {
+        usage(&self.rows)
+    }
+
     /// Whether the version is held and due now.
     pub fn is_due(&self, file: FileId, number: VersionNo) -> bool
-        ensures { result ≡ is_due self.now file number }
+        ensures { result ≡ is_due self.now.world file number }
     {
         is_due(&self.rows, file, number)
     }
@@ -140,35 +174,54 @@ impl Core {
     ///
     /// `NoMemory` where memory is refused.
     pub fn due(&self) -> Result<KeyList, NoMemory>
-        ensures { IfOk result (λ keys. keys ≡ scan self.now) }
+        ensures { IfOk result (λ keys. keys ≡ scan self.now.world) }
     {
         due(&self.rows)
     }
 
     /// The key of the version that is removed next, if one is due now.
     pub fn due_first(&self) -> Option<Key>
-        ensures { result ≡ first_due self.now }
+        ensures { result ≡ first_due self.now.world }
     {
         due_first(&self.rows)
+    }
+
+    /// How many version rows the last event read.
+    pub fn rows_read(&self) -> u64
+        ensures { result ≡ self.now.rows_read }
+    {
+        self.rows.meter.rows()
     }
 
     /// A plain copy of all rows and counts.
     ///
     /// `NoMemory` where memory is refused.
     pub fn flat(&self) -> Result<Flat, NoMemory>
-        ensures { IfOk result (λ flat. flat ≡ self.now) }
+        ensures { IfOk result (λ flat. flat ≡ self.now.world) }
     {
         let rows = &self.rows;
         Ok(Flat {
             now: rows.moment,
             directories: copy_list(rows.alloc, &rows.directories)?,
-            files: copy_list(rows.alloc, &rows.files)?,
+            files: rows.files.file_rows()?,
             names: copy_list(rows.alloc, &rows.names)?,
-            versions: copy_versions(rows.alloc, &rows.versions)?,
-            drafts: copy_drafts(rows.alloc, &rows.drafts)?,
-            handles: copy_list(rows.alloc, &rows.handles)?,
-            made: rows.made,
+            versions: rows.files.version_rows()?,
+            drafts: rows.files.draft_rows()?,
+            handles: rows.files.handle_rows()?,
+            made: Counts {
+                files: rows.made.files,
+                names: rows.made.names,
+                versions: rows.made.versions,
+                handles: rows.files.handles_opened(),
+            },
             limits: rows.limits,
         })
     }
+}
+
+/// A copy of plain items.
+fn copy_list<T: Copy + Drop>(alloc: Global, items: &[T]) -> Result<ListOf<T>, NoMemory>
+    ensures { IfOk result (λ copied. copied ≡ items.now) }
+{
+    Ok(ListOf::from_vec(Vec::from_slice(alloc, items)?))
 }

@@ -1,29 +1,34 @@
 //! The event that makes a file.
-ghost use Rattle.std.specs.Prelude.{◌≡◌, ◌<◌, ◌+◌, IfOk, IfNone, OnErr, length};
+ghost use Rattle.std.specs.Prelude.{◌≡◌, ◌<◌, ◌≤◌, ◌+◌, IfOk, IfNone, OnErr};
 ghost use Rattle.ele_world.specs.Bounds.{largest_bounds};
 ghost use Rattle.ele_world.specs.Step.{create_refusal, create_step, created, versions_made};
-ghost use Rattle.ele_world.specs.WellFormed.{IsWellFormed};
-ghost use Rattle.ele_core.specs.Inside.{world_of};
+ghost use Rattle.ele_core.specs.Inside.{world_of, IsTracked, IsSound};
 
+use crate::book::blocks;
 use crate::lookups::{default_of, live_target};
 use crate::room::put;
 use crate::rows::Rows;
 use crate::walk::parent_now;
-use ele_world::{
-    DirId, FileId, FileRow, ListOf, Name, NameRow, NoMemory, Path, Refusal, Reply, Target,
-    VersionNo, VersionRow, Which,
+use ele_usage::Usage;
+use ele_world::{DirId, FileId, Name, NameRow, NoMemory, Path, Refusal, Reply, Target, Which};
+
+/// What a new file uses.
+const NEW_FILE: Usage = Usage {
+    files: 1,
+    versions: 1,
+    bytes: 0,
+    blocks: 0,
 };
 
 /// Why no file of that name can be made in the directory, if there is a reason.
 #[tactic(auto, unfolding(ele_world::specs::Step::create_refusal))]
 fn create_refusal(rows: &Rows, directory: DirId, name: &Name) -> Option<Refusal>
-    requires { IsWellFormed (world_of rows.now) }
+    requires { IsSound rows.now }
     ensures value { result ≡ create_refusal (world_of rows.now) directory name.now }
-    ensures files { IfNone result (rows.now.made.files < largest_bounds.files) }
-    ensures names { IfNone result (rows.now.made.names < largest_bounds.names) }
-    ensures versions { IfNone result (rows.now.made.versions < largest_bounds.versions) }
+    ensures files { IfNone result (rows.now.made.files < rows.now.limits.files) }
+    ensures names { IfNone result (rows.now.made.names < rows.now.limits.names) }
+    ensures versions { IfNone result (versions_made (world_of rows.now) < rows.now.limits.versions) }
 {
-    let versions = rows.limits.versions();
     if live_target(&rows.names, directory, name).is_some() {
         return Some(Refusal::Exists);
     }
@@ -33,7 +38,7 @@ fn create_refusal(rows: &Rows, directory: DirId, name: &Name) -> Option<Refusal>
     if rows.made.names >= rows.limits.names() {
         return Some(Refusal::Full(Which::Names));
     }
-    if rows.made.versions + rows.drafts.len() as u64 >= versions {
+    if rows.made.versions + rows.files.drafts_open() as u64 >= rows.limits.versions() {
         return Some(Refusal::Full(Which::Versions));
     }
     None
@@ -41,27 +46,23 @@ fn create_refusal(rows: &Rows, directory: DirId, name: &Name) -> Option<Refusal>
 
 /// A file is made in the directory, with an empty first version, once nothing refuses it.
 fn add_file(rows: &mut Rows, directory: DirId, name: Name) -> Result<FileId, NoMemory>
-    requires files { rows.old.made.files < largest_bounds.files }
-    requires names { rows.old.made.names < largest_bounds.names }
-    requires versions { rows.old.made.versions < largest_bounds.versions }
+    requires sound { IsSound rows.old }
+    requires files { rows.old.made.files < rows.old.limits.files }
+    requires names { rows.old.made.names < rows.old.limits.names }
+    requires versions { versions_made (world_of rows.old) < rows.old.limits.versions }
     ensures id { IfOk result (λ id. id ≡ rows.old.made.files + 1) }
     ensures ok { IfOk result
         (λ id. world_of rows.new ≡ created (world_of rows.old) directory name id) }
     ensures err { OnErr result (world_of rows.new ≡ world_of rows.old) }
+    ensures tracked { IsTracked rows.new }
 {
-    rows.files.reserve(1)?;
     rows.names.reserve(1)?;
-    rows.versions.reserve(1)?;
     let id = FileId(rows.made.files + 1);
     let policy = default_of(&rows.directories, directory);
-    put(
-        &mut rows.files,
-        FileRow {
-            id,
-            policy,
-            next: VersionNo(2),
-        },
-    );
+    // Told for the proof: there are fewer than 2 to the power of 64 blocks.
+    let _blocks = blocks(&rows.files);
+    rows.files.add(id, policy, rows.moment)?;
+    rows.book.add(policy.kind(), NEW_FILE);
     put(
         &mut rows.names,
         NameRow {
@@ -70,17 +71,6 @@ fn add_file(rows: &mut Rows, directory: DirId, name: Name) -> Result<FileId, NoM
             target: Target::File(id),
             birth: rows.moment,
             death: None,
-        },
-    );
-    put(
-        &mut rows.versions,
-        VersionRow {
-            file: id,
-            number: VersionNo(1),
-            opened: rows.moment,
-            closed: rows.moment,
-            ended: None,
-            cells: ListOf::new(rows.alloc),
         },
     );
     rows.made.files += 1;
@@ -92,10 +82,11 @@ fn add_file(rows: &mut Rows, directory: DirId, name: Name) -> Result<FileId, NoM
 /// A file is made at the path.
 #[tactic(auto, unfolding(ele_world::specs::Step::create_step))]
 pub fn create(rows: &mut Rows, path: &Path) -> Result<Reply, NoMemory>
-    requires { IsWellFormed (world_of rows.old) }
+    requires { IsSound rows.old }
     ensures step { IfOk result
         (λ reply. (reply, world_of rows.new) ≡ create_step (world_of rows.old) path.now) }
     ensures err { OnErr result (world_of rows.new ≡ world_of rows.old) }
+    ensures tracked { IsTracked rows.new }
 {
     let (directory, name) = match parent_now(&rows.names, path.names()) {
         Ok(at) => at,

@@ -1,23 +1,33 @@
-//! The rows behind a core: plain lists, in the order in which a world has them.
-use ele_world::{
-    Counts, DirId, DirectoryRow, DraftRow, FileRow, HandleRow, Limits, Moment, NameRow, VersionRow,
-};
+//! What stands behind a core: the plain rows of directories and names, the files, and beside them the queue of keys and
+//! the book of usage, which follow each change.
+use ele_due::DueQueue;
+use ele_files::{Files, Meter};
+use ele_usage::UsageBook;
+use ele_world::{DirId, DirectoryRow, Limits, Moment, NameRow};
 use std::alloc::Global;
 
 /// The directory that every path begins in.
 pub const ROOT: DirId = DirId(0);
 
-/// All rows and counts, and the allocator that they grow by.
+/// How much was ever made, but for handles, which the files count.
+#[derive(Clone, Copy, Debug)]
+pub struct Made {
+    pub files: u64,
+    pub names: u64,
+    pub versions: u64,
+}
+
+/// All rows and counts. The meter counts the version rows that the last event read.
 #[derive(Drop)]
 pub struct Rows {
     pub moment: Moment,
     pub directories: Vec<DirectoryRow>,
-    pub files: Vec<FileRow>,
     pub names: Vec<NameRow>,
-    pub versions: Vec<VersionRow>,
-    pub drafts: Vec<DraftRow>,
-    pub handles: Vec<HandleRow>,
-    pub made: Counts,
+    pub files: Files,
+    pub queue: DueQueue,
+    pub book: UsageBook,
+    pub made: Made,
     pub limits: Limits,
+    pub meter: Meter,
     pub alloc: Global,
 }

@@ -1,80 +1,63 @@
-//! The event that writes into a draft.
-ghost use Rattle.std.specs.Prelude.{◌≡◌, ◌≤◌, ◌+◌, ◌↔◌, IfOk, OnErr, OnOk, IsTrue, length};
-ghost use Rattle.ele_blocks.specs.Content.{longest_content};
-ghost use Rattle.ele_moment.specs.Lists.{update_first};
-ghost use Rattle.ele_world.specs.Step.{write_step, changed_by};
-ghost use Rattle.ele_world.specs.WellFormed.{IsWellFormed};
-ghost use Rattle.ele_world.specs.World.{is_draft};
-ghost use Rattle.ele_core.specs.Drafts.{AreShort};
-ghost use Rattle.ele_core.specs.Inside.{world_of};
+//! The events that change a draft.
+ghost use Rattle.std.specs.Prelude.{◌≡◌, IfOk, OnErr};
+ghost use Rattle.ele_world.specs.Step.{write_step, truncate_step};
+ghost use Rattle.ele_core.specs.Faults.{faulted};
+ghost use Rattle.ele_core.specs.Inside.{world_of, IsTracked, IsSound};
 
-use crate::content::written;
-use crate::lookups::{draft_at, handle_file, next_of};
+use crate::book::{blocks, follow_blocks};
 use crate::rows::Rows;
-use ele_world::{DraftRow, FileId, Handle, NoMemory, Refusal, Reply, VersionNo};
-use std::alloc::Global;
+use ele_files::SessionFault;
+use ele_world::{Handle, NoMemory, Refusal, Reply};
 
-/// How many bytes a file may have.
-const LONGEST: u64 = 1_048_576;
-
-/// Whether so many bytes from the offset on would end past the longest content.
-fn is_too_big(offset: u64, len: usize) -> bool
-    ensures { IsTrue result ↔ (longest_content + 1 ≤ offset + len) }
+/// The answer to a change of a draft that met a fault.
+fn faulted(fault: SessionFault) -> Result<Reply, NoMemory>
+    ensures { result ≡ faulted fault }
 {
-    offset > LONGEST || len as u64 > LONGEST - offset
-}
-
-/// The file's draft has the bytes written into it, by the version that it is to be.
-#[tactic(auto, using(ele_world::proofs::Places::first_places))]
-fn change_draft(
-    alloc: Global,
-    drafts: &mut Vec<DraftRow>,
-    file: FileId,
-    number: VersionNo,
-    offset: usize,
-    bytes: &[u8],
-) -> Result<(), NoMemory>
-    requires short { AreShort drafts.old.items }
-    requires fits { offset + length bytes.now ≤ longest_content }
-    ensures ok { OnOk result (drafts.new.items
-        ≡ update_first (is_draft file) (changed_by number offset bytes.now) drafts.old.items) }
-    ensures err { OnErr result (drafts.new.items ≡ drafts.old.items) }
-{
-    let Some(at) = draft_at(drafts, file) else {
-        return Ok(());
-    };
-    let row = &mut drafts[at];
-    row.cells = written(alloc, number, offset, bytes, row.cells.as_slice())?;
-    row.changed = true;
-    Ok(())
+    match fault {
+        SessionFault::NoHandle => Ok(Reply::Refused(Refusal::NoHandle)),
+        SessionFault::NotWriter => Ok(Reply::Refused(Refusal::NotWriter)),
+        SessionFault::TooBig => Ok(Reply::Refused(Refusal::TooBig)),
+        SessionFault::NoMemory => Err(NoMemory),
+    }
 }
 
 /// The bytes are written through the handle, from that offset on.
 #[tactic(auto, unfolding(ele_world::specs::Step::write_step))]
 pub fn write(rows: &mut Rows, handle: Handle, offset: u64, bytes: &[u8]) -> Result<Reply, NoMemory>
-    requires { IsWellFormed (world_of rows.old) }
+    requires { IsSound rows.old }
     ensures step { IfOk result
         (λ reply. (reply, world_of rows.new)
         ≡ write_step (world_of rows.old) handle offset bytes.now) }
     ensures err { OnErr result (world_of rows.new ≡ world_of rows.old) }
+    ensures tracked { IsTracked rows.new }
 {
-    let Some(file) = handle_file(&rows.handles, handle) else {
+    let Some(file) = rows.files.handle_file(handle) else {
         return Ok(Reply::Refused(Refusal::NoHandle));
     };
-    if bytes.is_empty() {
-        return Ok(Reply::Done);
+    let before = blocks(&rows.files);
+    if let Err(fault) = rows.files.write(handle, offset, bytes) {
+        return faulted(fault);
     }
-    if is_too_big(offset, bytes.len()) {
-        return Ok(Reply::Refused(Refusal::TooBig));
+    follow_blocks(&mut rows.book, &rows.files, file, before);
+    Ok(Reply::Done)
+}
+
+/// The draft under the handle gets so many bytes.
+#[tactic(auto, unfolding(ele_world::specs::Step::truncate_step))]
+pub fn truncate(rows: &mut Rows, handle: Handle, size: u64) -> Result<Reply, NoMemory>
+    requires { IsSound rows.old }
+    ensures step { IfOk result
+        (λ reply. (reply, world_of rows.new) ≡ truncate_step (world_of rows.old) handle size) }
+    ensures err { OnErr result (world_of rows.new ≡ world_of rows.old) }
+    ensures tracked { IsTracked rows.new }
+{
+    let Some(file) = rows.files.handle_file(handle) else {
+        return Ok(Reply::Refused(Refusal::NoHandle));
+    };
+    let before = blocks(&rows.files);
+    if let Err(fault) = rows.files.truncate(handle, size) {
+        return faulted(fault);
     }
-    let number = next_of(&rows.files, file);
-    change_draft(
-        rows.alloc,
-        &mut rows.drafts,
-        file,
-        number,
-        offset as usize,
-        bytes,
-    )?;
+    follow_blocks(&mut rows.book, &rows.files, file, before);
     Ok(Reply::Done)
 }

@@ -84,6 +84,7 @@ AreBefore number slots = AllByRecursion (λ slot. slot.writer < number) slots
 
 -- a version's number is before the file's next, and so are its writers; only the last may have no end
 pub record IsRowOf (next : ℕ) (row : log.VersionRow) : Type 0 where
+  pub first : 0 < row.number
   pub number : row.number < next
   pub writers : AreBefore next row.cells.slots
   pub open_end : row.ended ≡ None → row.number + 1 ≡ next

@@ -1,14 +1,15 @@
 //! The files of one world, with their drafts and handles.
 //! A contract sees the flat rows of all of them.
-ghost use Rattle.std.specs.Prelude.{◌≡◌, ◌<◌, ◌≤◌, ◌+◌, ◌^◌, [], All, OnOk, OnErr, IfOk, IfNone, IsOkUnless, IsErrOf, length, find, is_some, position, if◌then◌else◌};
+ghost use Rattle.std.specs.Prelude.{◌≡◌, ◌<◌, ◌≤◌, ◌+◌, ◌-◌, ◌^◌, [], All, OnOk, OnErr, IfOk, IfNone, IsOkUnless, IsErrOf, length, find, is_some, position, if◌then◌else◌};
 ghost use Rattle.std.specs.List.{AllByRecursion, list_any};
-ghost use Rattle.std.specs.Option.{ForSome, option_map};
+ghost use Rattle.std.specs.Option.{ForSome, option_map, option_map_or};
 ghost use Rattle.ele_blocks.specs.Content.{content_of};
 ghost use Rattle.ele_blocks.specs.Distinct.{different, is_place};
 ghost use Rattle.ele_files.specs.Asked.{stamps_of};
 ghost use Rattle.ele_files.specs.Closing.{closing, closed, number_by, IsPast};
 ghost use Rattle.ele_files.specs.Held.{Held, with_file, opened_by, written_by, fitted, cells_of_draft, without};
 ghost use Rattle.ele_files.specs.Inside.{is_id};
+ghost use Rattle.ele_inode_log.specs.Rows.{is_numbered};
 ghost use Rattle.ele_moment.specs.Lists.{AllLater};
 ghost use Rattle.ele_sessions.specs.Changes.{write_refusal_of, truncate_refusal_of};
 ghost use Rattle.ele_world.specs.Usage.{places};
@@ -59,6 +60,20 @@ fn place_of(files: &[File], id: FileId) -> Option<usize>
     match files.get(at) {
         Some(file) if file.id == id => Some(at),
         _ => None,
+    }
+}
+
+/// The map that a new draft of the file begins with: that of the version before the next one, or the
+/// empty one where that version isn't held.
+fn first_map<'a>(file: &'a File, empty: &'a BlockMap, meter: &mut Meter) -> &'a BlockMap
+    requires { meter.old < 2 ^ 63 }
+    ensures map { result.now ≡ option_map_or (λ row. row.cells)
+        (find (is_numbered (file.now.next - 1)) file.now.log.rows) empty.now }
+    ensures read { meter.new ≤ meter.old + 1 }
+{
+    match file.log.get(file.next.before(), meter) {
+        Some(row) => &row.cells,
+        None => empty,
     }
 }
 
@@ -128,10 +143,7 @@ impl Files {
         };
         let held = &self.files[at];
         let empty = BlockMap::new(self.alloc);
-        let map = match held.log.get(held.next.before(), meter) {
-            Some(row) => &row.cells,
-            None => &empty,
-        };
+        let map = first_map(held, &empty, meter);
         self.sessions
             .open_write(&mut self.store, file, held.next, now, map)
     }

@@ -6,6 +6,8 @@ mod file;
 mod files;
 mod room;
 mod stamps;
+#[cfg(test)]
+mod tests;
 
 pub use ele_inode_log::Meter;
 pub use ele_sessions::{Closing, SessionFault};

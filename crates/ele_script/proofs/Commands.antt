@@ -4,25 +4,31 @@ use Rattle.std.specs.Prelude.{codes, IfOk, IfErr}
 use Rattle.std.specs.Str.{bytes_eq}
 use Rattle.std.specs.Cmp.Lexicographic.{bytes_decides}
 use Rattle.ele_script.specs.declared.command.Command.{Command}
-use Rattle.ele_script.specs.declared.command.Command.TheVariants.{Clock, Create, OpenWrite, Write, Close, Clean, Due}
+use Rattle.ele_script.specs.declared.command.Command.TheVariants.{Clock, Tick, Create, OpenWrite, Write, Truncate, Close, Default, Clean, Read, Due, Usage, Pass}
 use Rattle.ele_script.specs.declared.fault.LineFault.{LineFault}
 use Rattle.ele_script.specs.declared.fault.LineFault.TheVariants.{Syntax, NoMemory}
-use Rattle.ele_world.specs.declared.event.Event.{Event}
+use Rattle.ele_script.specs.declared.reading.Line.{Line}
 use Rattle.ele_script.specs.Spells.{SpellsBehind, SpellsWords}
 use Rattle.ele_script.specs.Command.{command_words, kinds_behind}
-use Rattle.ele_script.specs.CommandOf.{command_of, one_word_command, open_command, second_of, before}
+use Rattle.ele_script.specs.CommandOf.{command_of, one_word_command, question_command, open_command, second_of, before}
 use Rattle.ele_script.specs.FirstFault.{FitsCommand, IsFaultBehind, miscounted, bad_word, IsFaultOfWords, no_command, of_word}
 
 -- a command's words, and what stands behind them
 command_of-words : (command : Command) (arguments : List (List ℕ)) → command_of (command_words command ++ arguments) ≡ Some (command, arguments)
-unfolding command_of one_word_command open_command
+unfolding command_of one_word_command question_command open_command
 command_of-words Clock arguments = refl
+command_of-words Tick arguments = refl
 command_of-words Create arguments = refl
 command_of-words OpenWrite arguments = refl
 command_of-words Write arguments = refl
+command_of-words Truncate arguments = refl
 command_of-words Close arguments = refl
+command_of-words Default arguments = refl
 command_of-words Clean arguments = refl
+command_of-words Read arguments = refl
 command_of-words Due arguments = refl
+command_of-words Usage arguments = refl
+command_of-words Pass arguments = refl
 
 -- a fact of the value that a test chooses, or of what follows
 chain : {A : Type 0} (P : A → Type 0) (test : Bool) (x : A) (rest : Option A) → (test ≡ true → P x) → IfSome rest P → IfSome (cond test (Some x) rest) P
@@ -33,15 +39,17 @@ same : (word text : List ℕ) → bytes_eq word text ≡ true → text ∷ [] �
 same word text test = ap (λ w. w ∷ []) (sym ((bytes_decides word text).0 test))
 
 -- a command of one word is named by it
+question_is : (word : List ℕ) → IfSome (question_command word) (λ command. command_words command ≡ word ∷ [])
+unfolding question_command
+question_is word =
+    let P : Command → Type 0 = λ command. command_words command ≡ word ∷ [] in
+    chain P _ Read _ (same word (codes "read")) (chain P _ Due _ (same word (codes "due")) (chain P _ Usage _ (same word (codes "usage")) tt))
+
 one_word_is : (word : List ℕ) → IfSome (one_word_command word) (λ command. command_words command ≡ word ∷ [])
 unfolding one_word_command
 one_word_is word =
     let P : Command → Type 0 = λ command. command_words command ≡ word ∷ [] in
-    chain P _ Clock _ (same word (codes "clock"))
-    (chain P _ Create _ (same word (codes "create"))
-    (chain P _ Write _ (same word (codes "write"))
-    (chain P _ Close _ (same word (codes "close"))
-    (chain P _ Clean _ (same word (codes "clean")) (chain P _ Due None (same word (codes "due")) tt)))))
+    chain P _ Clock _ (same word (codes "clock")) (chain P _ Tick _ (same word (codes "tick")) (chain P _ Create _ (same word (codes "create")) (chain P _ Write _ (same word (codes "write")) (chain P _ Truncate _ (same word (codes "truncate")) (chain P _ Close _ (same word (codes "close")) (chain P _ Default _ (same word (codes "default")) (chain P _ Clean _ (same word (codes "clean")) (chain P _ Pass _ (same word (codes "pass")) (question_is word)))))))))
 
 open_is : (word : List ℕ) → IfSome (open_command word) (λ command. command_words command ≡ codes "open" ∷ word ∷ [])
 unfolding open_command
@@ -99,8 +107,8 @@ are : (words : List (List ℕ)) (command : Command) (arguments : List (List ℕ)
 are words command arguments found = subst (λ o. IfSome o (λ x. words ≡ command_words x.0 ++ x.1)) found (words_are words)
 
 -- what the words behind the command spell, the words spell
-pub spelled_words : (words : List (List ℕ)) (command : Command) (arguments : List (List ℕ)) (r : Result Event LineFault) → command_of words ≡ Some (command, arguments) → IfOk r (SpellsBehind command arguments) → IfOk r (SpellsWords words)
-spelled_words words command arguments (Ok event) found h = record {
+pub spelled_words : (words : List (List ℕ)) (command : Command) (arguments : List (List ℕ)) (r : Result Line LineFault) → command_of words ≡ Some (command, arguments) → IfOk r (SpellsBehind command arguments) → IfOk r (SpellsWords words)
+spelled_words words command arguments (Ok asked) found h = record {
   arguments = arguments;
   are = are words command arguments found ∙ ap (λ (c : Command). command_words c ++ arguments) (sym h.command_is);
   values = h.values;
@@ -108,8 +116,8 @@ spelled_words words command arguments (Ok event) found h = record {
 spelled_words words command arguments (Err fault) found h = tt
 
 -- and what is wrong with these is wrong with the words
-pub faults_of_words : (words : List (List ℕ)) (command : Command) (arguments : List (List ℕ)) (r : Result Event LineFault) → command_of words ≡ Some (command, arguments) → IfErr r (λ fault. (fault ≡ NoMemory) ⊎ IsFaultBehind command arguments fault) → IfErr r (λ fault. (fault ≡ NoMemory) ⊎ IsFaultOfWords words fault)
-faults_of_words words command arguments (Ok event) found h = tt
+pub faults_of_words : (words : List (List ℕ)) (command : Command) (arguments : List (List ℕ)) (r : Result Line LineFault) → command_of words ≡ Some (command, arguments) → IfErr r (λ fault. (fault ≡ NoMemory) ⊎ IsFaultBehind command arguments fault) → IfErr r (λ fault. (fault ≡ NoMemory) ⊎ IsFaultOfWords words fault)
+faults_of_words words command arguments (Ok asked) found h = tt
 faults_of_words words command arguments (Err fault) found (inl memory) = inl memory
 faults_of_words words command arguments (Err fault) found (inr bad) =
     inr (fault_of_words words command arguments fault found (are words command arguments found) bad)

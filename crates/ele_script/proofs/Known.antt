@@ -83,3 +83,15 @@ puts_err a b text (Err e) p = p
 pub puts_err_at : {A E : Type 0} (a b : Option (List ℕ)) (text : List ℕ) (r : Result A E) → IsErr r → AppendsFront a b text → Puts a b text r
 puts_err_at a b text (Ok x) is p = absurd cc
 puts_err_at a b text (Err e) is p = p
+
+pub sent_none : (a : Option (List ℕ)) (whole : List ℕ) → HasSent a a whole whole
+sent_none a whole = record { sent = []; parts = refl; written = appends_nil a }
+
+-- nothing is left
+pub sent_done : (a b : Option (List ℕ)) (whole rest : List ℕ) → HasSent a b whole rest → rest ≡ [] → Appends a b whole
+sent_done a b whole rest s none = rw (s.parts, none, append-nil s.sent) s.written
+
+-- what is left is appended, or a front of it
+pub puts_sent : {A E : Type 0} (a b c : Option (List ℕ)) (whole rest : List ℕ) (r : Result A E) → HasSent a b whole rest → Puts b c rest r → Puts a c whole r
+puts_sent a b c whole rest (Ok x) s p = sent_all a b c whole rest s p
+puts_sent a b c whole rest (Err e) s p = sent_front a b c whole rest rest [] s (sym (append-nil rest)) p

@@ -1,17 +1,21 @@
--- What is true of lines: each spells one event, or has a first fault, and not both.
-use Rattle.std.proofs.Common.{◌≡◌, ℕ, ◌≤◌, true, true≢false, List, [], ◌∷◌, length, refl, sym, ap, subst, ◌∙◌, arith, ◌⊎◌, inl, inr, Option, Some, None, Result, Ok, Err}
+-- What is true of lines: each asks for one thing, or has a first fault, and not both.
+use Rattle.std.proofs.Common.{◌≡◌, ◌≢◌, ℕ, ◌≤◌, true, true≢false, List, [], ◌∷◌, length, refl, sym, ap, subst, ◌∙◌, arith, ◌⊎◌, inl, inr, Option, Some, None, Result, Ok, Err}
 use Rattle.std.specs.Prelude.{IfOk, IfErr}
 use Rattle.ele_world.specs.declared.event.Event.{Event}
 use Rattle.ele_world.specs.declared.event.Event.TheVariants as event
+use Rattle.ele_world.specs.declared.event.Source.TheVariants.{Of}
+use Rattle.ele_script.specs.declared.reading.Line.{Line}
+use Rattle.ele_script.specs.declared.reading.Line.TheVariants as asks
 use Rattle.ele_script.specs.declared.command.Command.{Command}
-use Rattle.ele_script.specs.declared.command.Command.TheVariants.{Clock, Create, OpenWrite, Write, Close, Clean, Due}
+use Rattle.ele_script.specs.declared.command.Command.TheVariants.{Clock, Tick, Create, OpenWrite, Write, Truncate, Close, Default, Clean, Read, Due, Usage, Pass}
 use Rattle.ele_script.specs.declared.fault.LineFault.{LineFault}
 use Rattle.ele_script.specs.declared.fault.LineFault.TheVariants.{NoMemory}
-use Rattle.ele_script.specs.Value.{Kind, Value, Number, Moment, Path, Bytes, kind_of}
+use Rattle.ele_script.specs.Value.{Kind, Value, Number, Moment, Path, Bytes, Policy, kind_of}
 use Rattle.ele_script.specs.Command.{kinds_behind}
 use Rattle.ele_script.specs.Words.{words_of, is_worded}
-use Rattle.ele_script.specs.Spells.{parts_of, SpellsValues, SpellsWords, Spells}
-use Rattle.ele_script.specs.FirstFault.{IsFirstWordFault, IsFaultOfWords, no_command, of_word, IsFirstFault, too_long, not_worded, of_words}
+use Rattle.ele_script.specs.Spells.{line_parts, SpellsValues, SpellsWords, SpellsLine, Spells}
+use Rattle.ele_script.specs.FirstFault.{IsFirstWordFault, IsFaultOfWords, no_command, of_word, IsFirstFault, too_long, not_worded, of_words, IsEventFault, of_line, no_event}
+use Rattle.ele_script.specs.EventOf.{event_of}
 use Rattle.ele_script.proofs.Commands.{one_fit}
 use Rattle.ele_script.proofs.Values.{one_value, faultless_word, one_word_fault}
 
@@ -20,36 +24,54 @@ abbrev kinds_of : List Value → List Kind
 kinds_of [] = []
 kinds_of (value ∷ values) = kind_of value ∷ kinds_of values
 
--- an event's values are of the kinds that its command wants
-kinds_fit : (event : Event) → kinds_of (parts_of event).1 ≡ kinds_behind (parts_of event).0
-kinds_fit (event.Clock moment) = refl
-kinds_fit (event.Create path) = refl
-kinds_fit (event.OpenWrite path) = refl
-kinds_fit (event.Write handle offset bytes) = refl
-kinds_fit (event.Close handle) = refl
-kinds_fit event.CleanOne = refl
-kinds_fit event.Due = refl
+-- the values of what is asked for are of the kinds that its command wants
+kinds_fit : (asked : Line) → kinds_of (line_parts asked).1 ≡ kinds_behind (line_parts asked).0
+kinds_fit (asks.Event (event.Clock moment)) = refl
+kinds_fit (asks.Event (event.Tick seconds)) = refl
+kinds_fit (asks.Event (event.Create path)) = refl
+kinds_fit (asks.Event (event.OpenWrite path)) = refl
+kinds_fit (asks.Event (event.Write handle offset bytes)) = refl
+kinds_fit (asks.Event (event.Truncate handle size)) = refl
+kinds_fit (asks.Event (event.Close handle)) = refl
+kinds_fit (asks.Event (event.SetDefault path policy)) = refl
+kinds_fit (asks.Event event.CleanOne) = refl
+kinds_fit (asks.Event (event.Read (Of handle))) = refl
+kinds_fit (asks.Event event.Due) = refl
+kinds_fit (asks.Event event.UsageAll) = refl
+kinds_fit (asks.Pass budget) = refl
 
--- the event of a command and values, if they are of its kinds
-abbrev event_of : Command × List Value → Option Event
-event_of (Clock, Moment moment ∷ []) = Some (event.Clock moment)
-event_of (Create, Path path ∷ []) = Some (event.Create path)
-event_of (OpenWrite, Path path ∷ []) = Some (event.OpenWrite path)
-event_of (Write, Number handle ∷ Number offset ∷ Bytes bytes ∷ []) = Some (event.Write handle offset bytes)
-event_of (Close, Number handle ∷ []) = Some (event.Close handle)
-event_of (Clean, []) = Some event.CleanOne
-event_of (Due, []) = Some event.Due
-event_of _ = None
+-- what a command and values ask for, if they are of its kinds
+abbrev line_of : Command × List Value → Option Line
+line_of (Clock, Moment moment ∷ []) = Some (asks.Event (event.Clock moment))
+line_of (Tick, Number seconds ∷ []) = Some (asks.Event (event.Tick seconds))
+line_of (Create, Path path ∷ []) = Some (asks.Event (event.Create path))
+line_of (OpenWrite, Path path ∷ []) = Some (asks.Event (event.OpenWrite path))
+line_of (Write, Number handle ∷ Number offset ∷ Bytes bytes ∷ []) = Some (asks.Event (event.Write handle offset bytes))
+line_of (Truncate, Number handle ∷ Number size ∷ []) = Some (asks.Event (event.Truncate handle size))
+line_of (Close, Number handle ∷ []) = Some (asks.Event (event.Close handle))
+line_of (Default, Path path ∷ Policy policy ∷ []) = Some (asks.Event (event.SetDefault path policy))
+line_of (Clean, []) = Some (asks.Event event.CleanOne)
+line_of (Read, Number handle ∷ []) = Some (asks.Event (event.Read (Of handle)))
+line_of (Due, []) = Some (asks.Event event.Due)
+line_of (Usage, []) = Some (asks.Event event.UsageAll)
+line_of (Pass, Number budget ∷ []) = Some (asks.Pass budget)
+line_of _ = None
 
--- so an event's parts give it back
-parts_back : (event : Event) → event_of (parts_of event) ≡ Some event
-parts_back (event.Clock moment) = refl
-parts_back (event.Create path) = refl
-parts_back (event.OpenWrite path) = refl
-parts_back (event.Write handle offset bytes) = refl
-parts_back (event.Close handle) = refl
-parts_back event.CleanOne = refl
-parts_back event.Due = refl
+-- so the parts of what is asked for give it back
+parts_back : (asked : Line) → line_of (line_parts asked) ≡ Some asked
+parts_back (asks.Event (event.Clock moment)) = refl
+parts_back (asks.Event (event.Tick seconds)) = refl
+parts_back (asks.Event (event.Create path)) = refl
+parts_back (asks.Event (event.OpenWrite path)) = refl
+parts_back (asks.Event (event.Write handle offset bytes)) = refl
+parts_back (asks.Event (event.Truncate handle size)) = refl
+parts_back (asks.Event (event.Close handle)) = refl
+parts_back (asks.Event (event.SetDefault path policy)) = refl
+parts_back (asks.Event event.CleanOne) = refl
+parts_back (asks.Event (event.Read (Of handle))) = refl
+parts_back (asks.Event event.Due) = refl
+parts_back (asks.Event event.UsageAll) = refl
+parts_back (asks.Pass budget) = refl
 
 some_is : {A : Type 0} {x y : A} → ◌≡◌ {A = Option A} (Some x) (Some y) → x ≡ y
 some_is h = cc
@@ -77,16 +99,23 @@ parts_is c d vs us p q =
     let P : Type 0 = Command × List Value in
     ap (λ (e : Command). let r : P = (e, vs) in r) p ∙ ap (λ (ws : List Value). let r : P = (d, ws) in r) q
 
--- a line spells one event
-pub one_event : (line : List ℕ) (a b : Event) → Spells line a → Spells line b → a ≡ b
-one_event line a b h k =
-    let c = (parts_of a).0 in
-    let d = (parts_of b).0 in
+-- a line asks for one thing
+pub one_line : (line : List ℕ) (a b : Line) → SpellsLine line a → SpellsLine line b → a ≡ b
+one_line line a b h k =
+    let c = (line_parts a).0 in
+    let d = (line_parts b).0 in
     let fit = one_fit (words_of line) c d h.words.arguments k.words.arguments h.words.are k.words.are in
-    let kinds : kinds_of (parts_of a).1 ≡ kinds_of (parts_of b).1 = kinds_fit a ∙ ap kinds_behind fit.0 ∙ sym (kinds_fit b) in
-    let values : (parts_of a).1 ≡ (parts_of b).1 = one_list k.words.arguments (parts_of a).1 (parts_of b).1 kinds (subst (λ xs. SpellsValues xs (parts_of a).1) fit.1 h.words.values) k.words.values in
-    let parts : parts_of a ≡ parts_of b = parts_is c d (parts_of a).1 (parts_of b).1 fit.0 values in
-    some_is (sym (parts_back a) ∙ ap event_of parts ∙ parts_back b)
+    let kinds : kinds_of (line_parts a).1 ≡ kinds_of (line_parts b).1 = kinds_fit a ∙ ap kinds_behind fit.0 ∙ sym (kinds_fit b) in
+    let values : (line_parts a).1 ≡ (line_parts b).1 = one_list k.words.arguments (line_parts a).1 (line_parts b).1 kinds (subst (λ xs. SpellsValues xs (line_parts a).1) fit.1 h.words.values) k.words.values in
+    let parts : line_parts a ≡ line_parts b = parts_is c d (line_parts a).1 (line_parts b).1 fit.0 values in
+    some_is (sym (parts_back a) ∙ ap line_of parts ∙ parts_back b)
+
+event_is : {a b : Event} → asks.Event a ≡ asks.Event b → a ≡ b
+event_is h = cc
+
+-- so it spells one event
+pub one_event : (line : List ℕ) (a b : Event) → Spells line a → Spells line b → a ≡ b
+one_event line a b h k = event_is (one_line line (asks.Event a) (asks.Event b) h k)
 
 as_many : (words : List (List ℕ)) (values : List Value) → SpellsValues words values → length words ≡ length (kinds_of values)
 as_many [] [] h = refl
@@ -106,20 +135,20 @@ moved : (fault : LineFault) {c d : Command} {xs ys : List (List ℕ)} → c ≡ 
 moved fault {c} {d} {xs} {ys} p q h =
     subst (λ (zs : List (List ℕ)). IsFirstWordFault (kinds_behind d) zs fault) q (subst (λ (e : Command). IsFirstWordFault (kinds_behind e) xs fault) p h)
 
-no_words : (words : List (List ℕ)) (event : Event) (fault : LineFault) → SpellsWords words event → IsFaultOfWords words fault → ⊥
-no_words words event fault h (no_command unfit is) =
-    unfit (parts_of event).0 h.arguments (record { are = h.are; count = as_many h.arguments (parts_of event).1 h.values ∙ ap length (kinds_fit event) })
-no_words words event fault h (of_word command arguments fits bad) =
-    let c = (parts_of event).0 in
+no_words : (words : List (List ℕ)) (asked : Line) (fault : LineFault) → SpellsWords words asked → IsFaultOfWords words fault → ⊥
+no_words words asked fault h (no_command unfit is) =
+    unfit (line_parts asked).0 h.arguments (record { are = h.are; count = as_many h.arguments (line_parts asked).1 h.values ∙ ap length (kinds_fit asked) })
+no_words words asked fault h (of_word command arguments fits bad) =
+    let c = (line_parts asked).0 in
     let fit = one_fit words command c arguments h.arguments fits.are h.are in
     let there : IsFirstWordFault (kinds_behind c) h.arguments fault = moved fault fit.0 fit.1 bad in
-    no_first h.arguments (parts_of event).1 fault h.values (subst (λ kinds. IsFirstWordFault kinds h.arguments fault) (sym (kinds_fit event)) there)
+    no_first h.arguments (line_parts asked).1 fault h.values (subst (λ kinds. IsFirstWordFault kinds h.arguments fault) (sym (kinds_fit asked)) there)
 
--- a line that spells an event has no fault
-pub spelled_faultless : (line : List ℕ) (event : Event) (fault : LineFault) → Spells line event → IsFirstFault line fault → ⊥
-spelled_faultless line event fault h (too_long long is) = omega (arith, long, h.short)
-spelled_faultless line event fault h (not_worded short broken is) = true≢false (sym h.worded ∙ broken)
-spelled_faultless line event fault h (of_words short worded bad) = no_words (words_of line) event fault h.words bad
+-- a line that asks for something has no fault
+pub spelled_faultless : (line : List ℕ) (asked : Line) (fault : LineFault) → SpellsLine line asked → IsFirstFault line fault → ⊥
+spelled_faultless line asked fault h (too_long long is) = omega (arith, long, h.short)
+spelled_faultless line asked fault h (not_worded short broken is) = true≢false (sym h.worded ∙ broken)
+spelled_faultless line asked fault h (of_words short worded bad) = no_words (words_of line) asked fault h.words bad
 
 one_first : (kinds : List Kind) (words : List (List ℕ)) (a b : LineFault) → IsFirstWordFault kinds words a → IsFirstWordFault kinds words b → a ≡ b
 one_first [] words a b x y = absurd x
@@ -149,34 +178,61 @@ one_fault line a b (of_words short whole x) (too_long long y) = absurd (omega (a
 one_fault line a b (of_words short whole x) (not_worded also broken y) = absurd (true≢false (sym whole ∙ broken))
 one_fault line a b (of_words short whole x) (of_words also other y) = one_of_words (words_of line) a b x y
 
--- what was read of a line is all that it spells
-pub only_event : (line : List ℕ) (r : Result Event LineFault) → IfOk r (Spells line) → IfErr r (λ fault. (fault ≡ NoMemory) ⊎ IsFirstFault line fault) → (event : Event) → Spells line event → (r ≡ Ok event) ⊎ (r ≡ Err NoMemory)
-only_event line (Ok other) found fault event h = inl (ap Ok (one_event line other event found h))
-only_event line (Err other) found (inl memory) event h = inr (ap Err memory)
-only_event line (Err other) found (inr bad) event h = absurd (spelled_faultless line event other h bad)
+-- what was read of a line is all that it asks for
+pub only_line : (line : List ℕ) (r : Result Line LineFault) → IfOk r (SpellsLine line) → IfErr r (λ fault. (fault ≡ NoMemory) ⊎ IsFirstFault line fault) → (asked : Line) → SpellsLine line asked → (r ≡ Ok asked) ⊎ (r ≡ Err NoMemory)
+only_line line (Ok other) found fault asked h = inl (ap Ok (one_line line other asked found h))
+only_line line (Err other) found (inl memory) asked h = inr (ap Err memory)
+only_line line (Err other) found (inr bad) asked h = absurd (spelled_faultless line asked other h bad)
 
 -- and what it was refused with is its first fault
-pub only_fault : (line : List ℕ) (r : Result Event LineFault) → IfOk r (Spells line) → IfErr r (λ fault. (fault ≡ NoMemory) ⊎ IsFirstFault line fault) → (fault : LineFault) → IsFirstFault line fault → (r ≡ Err fault) ⊎ (r ≡ Err NoMemory)
-only_fault line (Ok event) found is fault bad = absurd (spelled_faultless line event fault found bad)
+pub only_fault : (line : List ℕ) (r : Result Line LineFault) → IfOk r (SpellsLine line) → IfErr r (λ fault. (fault ≡ NoMemory) ⊎ IsFirstFault line fault) → (fault : LineFault) → IsFirstFault line fault → (r ≡ Err fault) ⊎ (r ≡ Err NoMemory)
+only_fault line (Ok asked) found is fault bad = absurd (spelled_faultless line asked fault found bad)
 only_fault line (Err other) found (inl memory) fault bad = inr (ap Err memory)
 only_fault line (Err other) found (inr is) fault bad = inl (ap Err (one_fault line other fault is bad))
 
 -- the faults of the words of a line are the line's
-pub fault_of_line : (line : List ℕ) (words : List (List ℕ)) (r : Result Event LineFault) → length line ≤ 8192 → is_worded line ≡ true → words ≡ words_of line → IfErr r (λ fault. (fault ≡ NoMemory) ⊎ IsFaultOfWords words fault) → IfErr r (λ fault. (fault ≡ NoMemory) ⊎ IsFirstFault line fault)
-fault_of_line line words (Ok event) short worded are h = tt
+pub fault_of_line : (line : List ℕ) (words : List (List ℕ)) (r : Result Line LineFault) → length line ≤ 8192 → is_worded line ≡ true → words ≡ words_of line → IfErr r (λ fault. (fault ≡ NoMemory) ⊎ IsFaultOfWords words fault) → IfErr r (λ fault. (fault ≡ NoMemory) ⊎ IsFirstFault line fault)
+fault_of_line line words (Ok asked) short worded are h = tt
 fault_of_line line words (Err fault) short worded are (inl memory) = inl memory
 fault_of_line line words (Err fault) short worded are (inr bad) =
     inr (of_words short worded (subst (λ ws. IsFaultOfWords ws fault) are bad))
 
--- of one outcome, what the other says is void
-pub only_err : {event : Event} (fault : LineFault) → ◌≡◌ {A = Result Event LineFault} (Err fault) (Ok event) ⊎ ◌≡◌ {A = Result Event LineFault} (Err fault) (Err NoMemory) → fault ≡ NoMemory
-only_err fault (inl h) = cc
-only_err fault (inr h) = cc
+no_pass : (budget : ℕ) (event : Event) → asks.Pass budget ≢ asks.Event event
+no_pass budget event h = cc
 
-pub only_ok : {event : Event} (other : Event) → ◌≡◌ {A = Result Event LineFault} (Ok other) (Ok event) ⊎ ◌≡◌ {A = Result Event LineFault} (Ok other) (Err NoMemory) → other ≡ event
-only_ok other (inl h) = cc
-only_ok other (inr h) = cc
+-- the event in what was read is the line's
+pub event_found : (line : List ℕ) (r : Result Line LineFault) → IfOk r (SpellsLine line) → IfOk (event_of r) (Spells line)
+event_found line (Ok (asks.Event event)) found = found
+event_found line (Ok (asks.Pass budget)) found = tt
+event_found line (Err fault) found = tt
 
-pub no_err : (event : Event) (fault : LineFault) → ◌≡◌ {A = Result Event LineFault} (Ok event) (Err fault) ⊎ ◌≡◌ {A = Result Event LineFault} (Ok event) (Err NoMemory) → ⊥
-no_err event fault (inl h) = cc
-no_err event fault (inr h) = cc
+-- and why there is none is its fault
+pub event_refused : (line : List ℕ) (r : Result Line LineFault) → IfOk r (SpellsLine line) → IfErr r (λ fault. (fault ≡ NoMemory) ⊎ IsFirstFault line fault) → IfErr (event_of r) (λ fault. (fault ≡ NoMemory) ⊎ IsEventFault line fault)
+event_refused line (Ok (asks.Event event)) found fault = tt
+event_refused line (Ok (asks.Pass budget)) found fault = inr (no_event (asks.Pass budget) found (no_pass budget) refl)
+event_refused line (Err other) found (inl memory) = inl memory
+event_refused line (Err other) found (inr bad) = inr (of_line bad)
+
+-- a line that spells an event has no such fault
+event_faultless : (line : List ℕ) (event : Event) (fault : LineFault) → Spells line event → IsEventFault line fault → ⊥
+event_faultless line event fault h (of_line bad) = spelled_faultless line (asks.Event event) fault h bad
+event_faultless line event fault h (no_event asked is other syntax) = other event (one_line line asked (asks.Event event) is h)
+
+-- a line has one such fault
+one_event_fault : (line : List ℕ) (a b : LineFault) → IsEventFault line a → IsEventFault line b → a ≡ b
+one_event_fault line a b (of_line x) (of_line y) = one_fault line a b x y
+one_event_fault line a b (of_line x) (no_event asked is other y) = absurd (spelled_faultless line asked a is x)
+one_event_fault line a b (no_event asked is other x) (of_line y) = absurd (spelled_faultless line asked b is y)
+one_event_fault line a b (no_event asked is other x) (no_event also has none y) = x ∙ sym y
+
+-- the event that was read of a line is all that it spells
+pub only_event : (line : List ℕ) (r : Result Event LineFault) → IfOk r (Spells line) → IfErr r (λ fault. (fault ≡ NoMemory) ⊎ IsEventFault line fault) → (event : Event) → Spells line event → (r ≡ Ok event) ⊎ (r ≡ Err NoMemory)
+only_event line (Ok other) found fault event h = inl (ap Ok (one_event line other event found h))
+only_event line (Err other) found (inl memory) event h = inr (ap Err memory)
+only_event line (Err other) found (inr bad) event h = absurd (event_faultless line event other h bad)
+
+-- and what it was refused with is its fault
+pub only_event_fault : (line : List ℕ) (r : Result Event LineFault) → IfOk r (Spells line) → IfErr r (λ fault. (fault ≡ NoMemory) ⊎ IsEventFault line fault) → (fault : LineFault) → IsEventFault line fault → (r ≡ Err fault) ⊎ (r ≡ Err NoMemory)
+only_event_fault line (Ok event) found is fault bad = absurd (event_faultless line event fault found bad)
+only_event_fault line (Err other) found (inl memory) fault bad = inr (ap Err memory)
+only_event_fault line (Err other) found (inr is) fault bad = inl (ap Err (one_event_fault line other fault is bad))

@@ -1,9 +1,14 @@
 -- The bytes of a line, word after word.
-use Rattle.std.proofs.Common.{◌≡◌, ℕ, ◌+◌, ◌<◌, ◌≤◌, List, [], ◌∷◌, ◌++◌, length, map, drop, get_or, refl, sym, ap, ◌∙◌, append_assoc}
-use Rattle.std.proofs.lemmas.List.{drop_more, drop_all}
+use Rattle.std.proofs.Common.{arith, ◌==◌, true, ◌≡◌, ℕ, ◌+◌, ◌<◌, ◌≤◌, List, [], ◌∷◌, ◌++◌, length, map, drop, get_or, refl, sym, ap, ◌∙◌, append_assoc}
+use Rattle.std.specs.Prelude.{codes}
+use Rattle.std.proofs.lemmas.Bool.{eqb-true}
+use Rattle.std.proofs.lemmas.Fmt.{decimal_digit}
+use Rattle.std.proofs.lemmas.List.{drop_more, drop_all, append-nil}
+use Rattle.ele_usage.specs.declared.usage.Usage.{Usage}
 use Rattle.std.specs.List.{join_with_byte, flat_map}
 use Rattle.ele_due.specs.declared.key.Key.{Key}
-use Rattle.ele_script.specs.Printed.{line_text, due_line}
+use Rattle.hex.specs.Hex.{encode_with, encode_lower}
+use Rattle.ele_script.specs.Printed.{line_text, due_line, bytes_text, kind_words, usage_line, usage_lines}
 
 -- what follows a word of a line
 abbrev pub behind_word : List (List ℕ) → List ℕ
@@ -27,3 +32,36 @@ behind_end {A} v xs i le = ap (λ (ys : List A). behind_word (map v ys)) (drop_a
 pub keys_here : (keys : List Key) (i : ℕ) (key : Key) → i < length keys → key ≡ get_or keys i key → flat_map due_line (drop i keys) ≡ due_line key ++ flat_map due_line (drop (i + 1) keys)
 keys_here keys i key lt is =
     ap (λ (ys : List Key). flat_map due_line ys) (drop_more keys i key lt ∙ ap (λ y. y ∷ drop (i + 1) keys) (sym is))
+
+one_byte : (byte : ℕ) (bytes : List ℕ) → encode_lower (byte ∷ bytes) ≡ encode_lower (byte ∷ []) ++ encode_lower bytes
+unfolding encode_with
+one_byte byte bytes = refl
+
+-- at a byte, its digits are next
+pub digits_here : (bytes : List ℕ) (i d : ℕ) → i < length bytes → encode_lower (drop i bytes) ≡ encode_lower (get_or bytes i d ∷ []) ++ encode_lower (drop (i + 1) bytes)
+digits_here bytes i d lt =
+    ap encode_lower (drop_more bytes i d lt) ∙ one_byte (get_or bytes i d) (drop (i + 1) bytes)
+
+-- behind the last byte, there are none
+pub digits_end : (bytes : List ℕ) (i : ℕ) → length bytes ≤ i → encode_lower (drop i bytes) ≡ []
+unfolding encode_with
+digits_end bytes i le = ap encode_lower (drop_all i bytes le)
+
+-- the line of bytes in its parts
+pub bytes_line : (n digits : List ℕ) → line_text (codes "ok bytes" ∷ n ∷ digits ∷ []) ≡ codes "ok bytes " ++ (n ++ ((32 ∷ []) ++ (digits ++ 10 ∷ [])))
+bytes_line n digits = line_is (codes "ok bytes") (n ∷ digits ∷ [])
+
+-- the lines of usage in their parts
+pub usages_are : (us : List Usage) (d : Usage) → length us ≡ 4 → usage_lines kind_words us ≡ usage_line (codes "one") (get_or us 0 d) ++ (usage_line (codes "all") (get_or us 1 d) ++ (usage_line (codes "safe") (get_or us 2 d) ++ usage_line (codes "landmarks") (get_or us 3 d)))
+usages_are (a ∷ b ∷ c ∷ e ∷ []) d four =
+    ap (λ (rest : List ℕ). usage_line (codes "one") a ++ (usage_line (codes "all") b ++ (usage_line (codes "safe") c ++ rest))) (append-nil (usage_line (codes "landmarks") e))
+usages_are [] d four = absurd (omega (arith, four))
+usages_are (a ∷ []) d four = absurd (omega (arith, four))
+usages_are (a ∷ b ∷ []) d four = absurd (omega (arith, four))
+usages_are (a ∷ b ∷ c ∷ []) d four = absurd (omega (arith, four))
+usages_are (a ∷ b ∷ c ∷ e ∷ f ∷ us) d four = absurd (omega (arith, four))
+
+-- the line of no bytes
+pub no_bytes : (bytes : List ℕ) → (length bytes == 0) ≡ true → bytes_text bytes ≡ line_text (codes "ok bytes" ∷ codes "0" ∷ codes "-" ∷ [])
+no_bytes [] none = ap (λ (n : List ℕ). line_text (codes "ok bytes" ∷ n ∷ codes "-" ∷ [])) (decimal_digit 0 (omega arith))
+no_bytes (byte ∷ bytes) none = let zero = eqb-true (length (byte ∷ bytes)) 0 none in absurd (omega (arith, zero))

@@ -1,5 +1,7 @@
 -- Words and what they stand for: each one value of a kind.
-use Rattle.std.proofs.Common.{◌≡◌, ℕ, ◌<◌, ◌≤◌, List, length, refl, sym, ap, subst, ◌∙◌, arith, inl, inr, Option, Some, None, Ok, Err, Result, pos}
+use Rattle.std.specs.Str.{bytes_eq}
+use Rattle.std.specs.Cmp.Lexicographic.{bytes_decides}
+use Rattle.std.proofs.Common.{false, true≢false, ◌≡◌, ◌++◌, ℕ, ◌<◌, ◌≤◌, List, length, refl, sym, ap, subst, ◌∙◌, arith, inl, inr, Option, Some, None, Ok, Err, Result, pos}
 use Rattle.std.specs.Prelude.{codes, IfErr}
 use Rattle.std.specs.Option.{ok_or}
 use Rattle.std.specs.Result.{result_ok}
@@ -16,8 +18,12 @@ use Rattle.std.specs.Option.{option_map}
 use Rattle.ele_moment.specs.ReadFields.{fields_of}
 use Rattle.ele_time_path.proofs.Spelled.{one_path, spelled_faultless}
 use Rattle.ele_script.specs.declared.fault.LineFault.{LineFault}
-use Rattle.ele_script.specs.declared.fault.LineFault.TheVariants.{BadMoment}
-use Rattle.ele_script.specs.Value.{Kind, NumberWord, MomentWord, PathWord, BytesWord, Value, Number, Moment, Path, Bytes, kind_of, SpellsBytes, SpellsValue}
+use Rattle.ele_script.specs.declared.fault.LineFault.TheVariants.{BadMoment, Syntax}
+use Rattle.ele_policy.specs.declared.policy.Policy.{Policy as AnyPolicy}
+use Rattle.ele_policy.specs.declared.policy.Policy.TheVariants.{One, Safe}
+use Rattle.ele_policy.specs.Interval.{IsInterval}
+use Rattle.ele_script.specs.PolicyWord.{IsSafeWord, SpellsPolicy, IsPolicyForm, one, safe, IsPolicyFault, formless, no_interval}
+use Rattle.ele_script.specs.Value.{Kind, NumberWord, MomentWord, PathWord, BytesWord, PolicyWord, Value, Number, Moment, Path, Bytes, Policy, kind_of, SpellsBytes, SpellsValue}
 use Rattle.ele_script.specs.LineFault.{fault_of_path}
 use Rattle.ele_script.specs.FirstFault.{IsOfKind, IsWordFault}
 
@@ -75,12 +81,47 @@ one_bytes word a b (inl x) (inr y) = absurd (no_dash word b x.0 y.1)
 one_bytes word a b (inr x) (inl y) = absurd (no_dash word a y.0 x.1)
 one_bytes word a b (inr x) (inr y) = ok_is (sym x.1 ∙ y.1)
 
+behind_safe : (a b : List ℕ) → codes "safe:" ++ a ≡ codes "safe:" ++ b → a ≡ b
+behind_safe a b h = cc
+
+-- `safe:` and a number are one number
+one_safe : (word : List ℕ) (m n : ℕ) → IsSafeWord word m → IsSafeWord word n → m ≡ n
+one_safe word m n a b =
+    let same : a.digits ≡ b.digits = behind_safe a.digits b.digits (sym a.are ∙ b.are) in
+    one_number b.digits m n (subst (λ digits. SpellsNumber digits m) same a.number) b.number
+
+not_both : (digits : List ℕ) → codes "one" ≡ codes "safe:" ++ digits → ⊥
+not_both digits h = cc
+
+one_policy : (word : List ℕ) (a b : AnyPolicy) → SpellsPolicy word a → SpellsPolicy word b → a ≡ b
+one_policy word One One a b = refl
+one_policy word One (Safe n) a b = absurd (not_both b.0.digits (sym a ∙ b.0.are))
+one_policy word (Safe m) One a b = absurd (not_both a.0.digits (sym b ∙ a.0.are))
+one_policy word (Safe m) (Safe n) a b = ap Safe (one_safe word m n a.0 b.0)
+
+-- a policy's word has the form of one
+has_form : (word : List ℕ) (policy : AnyPolicy) → SpellsPolicy word policy → IsPolicyForm word
+has_form word One is = one is
+has_form word (Safe n) is = safe n is.0
+
+faultless_policy : (word : List ℕ) (policy : AnyPolicy) (fault : LineFault) → SpellsPolicy word policy → IsPolicyFault word fault → ⊥
+faultless_policy word policy fault is (formless none syntax) = none (has_form word policy is)
+faultless_policy word One fault is (no_interval n form none ladder) = not_both form.digits (sym is ∙ form.are)
+faultless_policy word (Safe m) fault is (no_interval n form none ladder) = none (subst IsInterval (one_safe word m n is.0 form) is.1)
+
+one_policy_fault : (word : List ℕ) (a b : LineFault) → IsPolicyFault word a → IsPolicyFault word b → a ≡ b
+one_policy_fault word a b (formless none x) (formless also y) = x ∙ sym y
+one_policy_fault word a b (formless none x) (no_interval n form bad y) = absurd (none (safe n form))
+one_policy_fault word a b (no_interval n form bad x) (formless none y) = absurd (none (safe n form))
+one_policy_fault word a b (no_interval n form bad x) (no_interval m other worse y) = x ∙ sym y
+
 -- a word stands for one value of a kind
 pub one_value : (word : List ℕ) (a b : Value) → kind_of a ≡ kind_of b → SpellsValue word a → SpellsValue word b → a ≡ b
 one_value word (Number m) (Number n) k a b = ap Number (one_number word m n a b)
 one_value word (Moment m) (Moment n) k a b = ap Moment (one_moment word m n a b)
 one_value word (Path m) (Path n) k a b = ap Path (one_path word m n a b)
 one_value word (Bytes m) (Bytes n) k a b = ap Bytes (one_bytes word m n a b)
+one_value word (Policy m) (Policy n) k a b = ap Policy (one_policy word m n a b)
 one_value word _ _ k a b = absurd cc
 
 none_is : {A : Type 0} {x : A} → ◌≡◌ {A = Option A} None (Some x) → ⊥
@@ -93,6 +134,8 @@ faultless_word MomentWord word fault is bad = bad.1 is
 faultless_word PathWord word fault (Path names, k, is) bad = none_is (ap (λ o. option_map fault_of_path o) (sym (spelled_faultless word names is)) ∙ bad)
 faultless_word PathWord word fault (value, k, is) bad = absurd cc
 faultless_word BytesWord word fault is bad = bad.1 is
+faultless_word PolicyWord word fault (Policy policy, k, is) bad = faultless_policy word policy fault is bad
+faultless_word PolicyWord word fault (value, k, is) bad = absurd cc
 
 -- a word has one fault of its kind
 pub one_word_fault : (kind : Kind) (word : List ℕ) (a b : LineFault) → IsWordFault kind word a → IsWordFault kind word b → a ≡ b
@@ -100,6 +143,7 @@ one_word_fault NumberWord word a b x y = x.0 ∙ sym y.0
 one_word_fault MomentWord word a b x y = x.0 ∙ sym y.0
 one_word_fault PathWord word a b x y = some_is (sym x ∙ y)
 one_word_fault BytesWord word a b x y = x.0 ∙ sym y.0
+one_word_fault PolicyWord word a b x y = one_policy_fault word a b x y
 
 moment_of : (word : List ℕ) → IsOfKind MomentWord word → (m : ℕ) × SpellsMoment word m
 moment_of word (Moment m, k, is) = (m, is)
@@ -111,3 +155,12 @@ moment_fault word (Ok m) r only is = subst (λ r. IfErr r (IsWordFault MomentWor
 moment_fault word (Err e) r only is =
     let no : IsOfKind MomentWord word → ⊥ = λ h. let m = moment_of word h in absurd_ok (only m.0 m.1) in
     subst (λ r. IfErr r (IsWordFault MomentWord word)) (sym is) (refl, no)
+
+-- what is neither `one` nor `safe:` and a number has no form
+pub formless_word : (word : List ℕ) → bytes_eq word (codes "one") ≡ false → ((seconds : ℕ) → ¬ IsSafeWord word seconds) → IsPolicyFault word Syntax
+formless_word word other none =
+    let no_form : IsPolicyForm word → ⊥ = λ form. elim form [
+      | one is ↦ true≢false (sym ((bytes_decides word (codes "one")).1 is) ∙ other)
+      | safe seconds is ↦ none seconds is
+    ] in
+    formless no_form refl

@@ -3,18 +3,29 @@ use Rattle.std.specs.Prelude.{ℕ, List, [], ◌∷◌, Option, Some, None, code
 use Rattle.std.specs.Option.{option_map}
 use Rattle.std.specs.Str.{bytes_eq}
 use Rattle.ele_script.specs.declared.command.Command.{Command}
-use Rattle.ele_script.specs.declared.command.Command.TheVariants.{Clock, Create, OpenWrite, Write, Close, Clean, Due}
+use Rattle.ele_script.specs.declared.command.Command.TheVariants.{Clock, Tick, Create, OpenWrite, Write, Truncate, Close, Default, Clean, Read, Due, Usage, Pass}
+
+-- the command of one word that asks a question
+unfoldable pub question_command : List ℕ → Option Command
+question_command word =
+    if bytes_eq word (codes "read") then Some Read else
+    if bytes_eq word (codes "due") then Some Due else
+    if bytes_eq word (codes "usage") then Some Usage else
+    None
 
 -- the command of one word
 unfoldable pub one_word_command : List ℕ → Option Command
 one_word_command word =
     if bytes_eq word (codes "clock") then Some Clock else
+    if bytes_eq word (codes "tick") then Some Tick else
     if bytes_eq word (codes "create") then Some Create else
     if bytes_eq word (codes "write") then Some Write else
+    if bytes_eq word (codes "truncate") then Some Truncate else
     if bytes_eq word (codes "close") then Some Close else
+    if bytes_eq word (codes "default") then Some Default else
     if bytes_eq word (codes "clean") then Some Clean else
-    if bytes_eq word (codes "due") then Some Due else
-    None
+    if bytes_eq word (codes "pass") then Some Pass else
+    question_command word
 
 -- the command of two words whose first is `open`
 unfoldable pub open_command : List ℕ → Option Command

@@ -1,4 +1,4 @@
--- The first fault of a line that spells no event.
+-- The first fault of a line that asks for nothing.
 use Rattle.std.specs.Prelude.{◌≡◌, ◌≢◌, ℕ, ◌<◌, ◌≤◌, List, ◌∷◌, ◌++◌, length, Some, true, false, ◌⊎◌}
 use Rattle.std.specs.Option.{option_map}
 use Rattle.ele_time_path.specs.FirstFault.{path_fault}
@@ -6,9 +6,14 @@ use Rattle.ele_script.specs.declared.command.Command.{Command}
 use Rattle.ele_script.specs.declared.fault.LineFault.{LineFault}
 use Rattle.ele_script.specs.declared.fault.LineFault.TheVariants.{BadMoment, Syntax, LineTooLong}
 use Rattle.ele_script.specs.LineFault.{fault_of_path}
-use Rattle.ele_script.specs.Value.{Kind, NumberWord, MomentWord, PathWord, BytesWord, Value, kind_of, SpellsValue}
+use Rattle.ele_script.specs.Value.{Kind, NumberWord, MomentWord, PathWord, BytesWord, PolicyWord, Value, kind_of, SpellsValue}
+use Rattle.ele_script.specs.PolicyWord.{IsPolicyFault}
 use Rattle.ele_script.specs.Command.{command_words, kinds_behind}
 use Rattle.ele_script.specs.Words.{words_of, is_worded}
+use Rattle.ele_script.specs.Spells.{SpellsLine}
+use Rattle.ele_script.specs.declared.reading.Line.{Line}
+use Rattle.ele_script.specs.declared.reading.Line.TheVariants as asks
+use Rattle.ele_world.specs.declared.event.Event.{Event}
 
 -- the word stands for some value of the kind
 abbrev pub IsOfKind : Kind → List ℕ → Type 0
@@ -20,6 +25,7 @@ IsWordFault NumberWord word fault = (fault ≡ Syntax) × ¬ IsOfKind NumberWord
 IsWordFault MomentWord word fault = (fault ≡ BadMoment) × ¬ IsOfKind MomentWord word
 IsWordFault PathWord word fault = option_map fault_of_path (path_fault word) ≡ Some fault
 IsWordFault BytesWord word fault = (fault ≡ Syntax) × ¬ IsOfKind BytesWord word
+IsWordFault PolicyWord word fault = IsPolicyFault word fault
 
 -- the fault of the first bad word, from the left
 abbrev pub IsFirstWordFault : List Kind → List (List ℕ) → LineFault → Type 0
@@ -47,3 +53,8 @@ pub data IsFirstFault (line : List ℕ) (fault : LineFault) : Type 0 where
   too_long : 8192 < length line → fault ≡ LineTooLong → IsFirstFault line fault
   not_worded : length line ≤ 8192 → is_worded line ≡ false → fault ≡ Syntax → IsFirstFault line fault
   of_words : length line ≤ 8192 → is_worded line ≡ true → IsFaultOfWords (words_of line) fault → IsFirstFault line fault
+
+-- why a line is no event: its first fault, or it asks for something else
+pub data IsEventFault (line : List ℕ) (fault : LineFault) : Type 0 where
+  of_line : IsFirstFault line fault → IsEventFault line fault
+  no_event : (asked : Line) → SpellsLine line asked → ((event : Event) → asked ≢ asks.Event event) → fault ≡ Syntax → IsEventFault line fault

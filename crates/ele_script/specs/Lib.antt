@@ -1,9 +1,11 @@
+pub mod PolicyWord
 pub mod Value
 pub mod Command
 pub mod CommandOf
 pub mod Words
 pub mod Spells
 pub mod LineFault
+pub mod EventOf
 pub mod FirstFault
 pub mod Front
 pub mod Printed

@@ -10,7 +10,11 @@ use Rattle.ele_world.specs.declared.refusal.Refusal.{Refusal}
 use Rattle.ele_world.specs.declared.refusal.Refusal.TheVariants as refusal
 use Rattle.ele_world.specs.declared.refusal.Stop.{Stop}
 use Rattle.ele_world.specs.declared.reply.Reply.{Reply}
-use Rattle.ele_world.specs.declared.reply.Reply.TheVariants.{Done, Nothing, Now, File, Handle, Closed, Removed, DueList, Refused}
+use Rattle.ele_world.specs.declared.reply.Reply.TheVariants.{Done, Nothing, Now, File, Handle, Closed, Removed, Bytes, DueList, UsageList, Refused}
+use Rattle.ele_usage.specs.declared.usage.Usage.{Usage}
+use Rattle.ele_world.specs.declared.pass.PassEnd.{PassEnd}
+use Rattle.ele_world.specs.declared.pass.PassEnd.TheVariants.{Finished, Budget, Stopped}
+use Rattle.hex.specs.Hex.{encode_lower}
 use Rattle.ele_script.specs.Front.{AppendsFront}
 use Rattle.ele_script.specs.LineFault.{fault_number, fault_name}
 use Rattle.ele_script.specs.declared.fault.LineFault.{LineFault}
@@ -48,6 +52,33 @@ due_line key = line_text (codes "-" ∷ key_words key)
 abbrev pub due_text : List Key → List ℕ
 due_text keys = line_text (codes "ok due" ∷ decimal (length keys) ∷ []) ++ flat_map due_line keys
 
+-- bytes as a word: `-` for none, else two hexadecimal digits each, in lower case
+abbrev pub bytes_word : List ℕ → List ℕ
+bytes_word [] = codes "-"
+bytes_word (byte ∷ bytes) = encode_lower (byte ∷ bytes)
+
+-- the text of bytes: how many, and these
+abbrev pub bytes_text : List ℕ → List ℕ
+bytes_text bytes = line_text (codes "ok bytes" ∷ decimal (length bytes) ∷ bytes_word bytes ∷ [])
+
+-- the line of what the files of a kind of policy use
+abbrev pub usage_line : List ℕ → Usage → List ℕ
+usage_line kind usage =
+    line_text (codes "-" ∷ kind ∷ decimal usage.files ∷ decimal usage.versions ∷ decimal usage.bytes ∷ decimal usage.blocks ∷ [])
+
+-- a line for each kind
+abbrev pub usage_lines : List (List ℕ) → List Usage → List ℕ
+usage_lines (kind ∷ kinds) (usage ∷ usages) = usage_line kind usage ++ usage_lines kinds usages
+usage_lines kinds usages = []
+
+-- the words of the four kinds, in their order
+abbrev pub kind_words : List (List ℕ)
+kind_words = codes "one" ∷ codes "all" ∷ codes "safe" ∷ codes "landmarks" ∷ []
+
+-- the text of what is used: that four lines follow, and these
+abbrev pub usage_text : List Usage → List ℕ
+usage_text usages = line_text (codes "ok usage" ∷ decimal 4 ∷ []) ++ usage_lines kind_words usages
+
 -- the text is the reply's; of a moment it has the seconds, and the date and time
 abbrev pub IsReplyText : Reply → List ℕ → Type 0
 IsReplyText Done text = text ≡ line_text (codes "ok done" ∷ [])
@@ -58,7 +89,9 @@ IsReplyText (File file) text = text ≡ line_text (codes "ok file" ∷ decimal f
 IsReplyText (Handle handle) text = text ≡ line_text (codes "ok handle" ∷ decimal handle ∷ [])
 IsReplyText (Closed made) text = text ≡ closed_text made
 IsReplyText (Removed key) text = text ≡ line_text (codes "ok removed" ∷ key_words key)
+IsReplyText (Bytes bytes) text = text ≡ bytes_text bytes
 IsReplyText (DueList keys) text = text ≡ due_text keys
+IsReplyText (UsageList usages) text = text ≡ usage_text usages
 IsReplyText (Refused why) text = text ≡ refusal_text why
 
 -- the text of a stop: its number and its name
@@ -69,6 +102,13 @@ stop_text stop = line_text (codes "stop" ∷ decimal (stop_number stop) ∷ stop
 abbrev pub IsAnswerText : Result Reply Stop → List ℕ → Type 0
 IsAnswerText (Ok reply) text = IsReplyText reply text
 IsAnswerText (Err stop) text = text ≡ stop_text stop
+
+-- the text of the end of a pass: how it ended, and how many it removed
+abbrev pub pass_text : PassEnd → List ℕ
+pass_text (Finished removed) = line_text (codes "ok pass finished" ∷ decimal removed ∷ [])
+pass_text (Budget removed) = line_text (codes "ok pass budget" ∷ decimal removed ∷ [])
+pass_text (Stopped stop removed) =
+    line_text (codes "stop" ∷ decimal (stop_number stop) ∷ stop_name stop ∷ codes "removed" ∷ decimal removed ∷ [])
 
 -- the text of a bad line: the number and the name of its fault
 abbrev pub bad_text : LineFault → List ℕ

@@ -3,7 +3,9 @@ use Rattle.std.specs.Prelude.{◌≡◌, ℕ, ◌<◌, List, [], length, codes, 
 use Rattle.hex.specs.Hex.{decode_of}
 use Rattle.ele_moment.specs.Number.{SpellsNumber}
 use Rattle.ele_moment.specs.Spelled.{SpellsMoment}
+use Rattle.ele_policy.specs.declared.policy.Policy.{Policy as AnyPolicy}
 use Rattle.ele_time_path.specs.Path.{SpellsPath}
+use Rattle.ele_script.specs.PolicyWord.{SpellsPolicy}
 
 -- the kinds of words behind a command
 pub data Kind : Type 0 where
@@ -11,6 +13,7 @@ pub data Kind : Type 0 where
   MomentWord : Kind
   PathWord : Kind
   BytesWord : Kind
+  PolicyWord : Kind
 
 -- what a word stands for
 pub data Value : Type 0 where
@@ -18,6 +21,7 @@ pub data Value : Type 0 where
   Moment : ℕ → Value
   Path : List (List ℕ) → Value
   Bytes : List ℕ → Value
+  Policy : AnyPolicy → Value
 
 -- the kind of words that stand for such a value
 abbrev pub kind_of : Value → Kind
@@ -25,6 +29,7 @@ kind_of (Number n) = NumberWord
 kind_of (Moment m) = MomentWord
 kind_of (Path names) = PathWord
 kind_of (Bytes bytes) = BytesWord
+kind_of (Policy policy) = PolicyWord
 
 -- `-` for no bytes, else an even number of hexadecimal digits, each two a byte
 abbrev pub SpellsBytes : List ℕ → List ℕ → Type 0
@@ -36,3 +41,4 @@ SpellsValue word (Number n) = SpellsNumber word n
 SpellsValue word (Moment m) = SpellsMoment word m
 SpellsValue word (Path names) = SpellsPath word names
 SpellsValue word (Bytes bytes) = SpellsBytes word bytes
+SpellsValue word (Policy policy) = SpellsPolicy word policy

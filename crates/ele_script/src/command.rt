@@ -1,18 +1,24 @@
 //! The commands of the script. A contract sees a command as itself.
 ghost use Rattle.std.specs.Prelude.{◌≡◌, map};
 ghost use Rattle.std.specs.Option.{option_map};
-ghost use Rattle.ele_script.specs.CommandOf.{command_of, one_word_command, open_command};
+ghost use Rattle.ele_script.specs.CommandOf.{command_of, one_word_command, question_command, open_command};
 
 /// What a line tells a world to do; its first word, or its first two, name it.
 #[derive(Clone, Copy, Debug, PartialEq, Eq)]
 pub(crate) enum Command {
     Clock,
+    Tick,
     Create,
     OpenWrite,
     Write,
+    Truncate,
     Close,
+    Default,
     Clean,
+    Read,
     Due,
+    Usage,
+    Pass,
 }
 
 /// The command in front of the words, and the words behind it.
@@ -37,20 +43,46 @@ fn read_one(word: &[u8]) -> Option<Command>
     if word == b"clock".as_slice() {
         return Some(Command::Clock);
     }
+    if word == b"tick".as_slice() {
+        return Some(Command::Tick);
+    }
     if word == b"create".as_slice() {
         return Some(Command::Create);
     }
     if word == b"write".as_slice() {
         return Some(Command::Write);
     }
+    if word == b"truncate".as_slice() {
+        return Some(Command::Truncate);
+    }
     if word == b"close".as_slice() {
         return Some(Command::Close);
+    }
+    if word == b"default".as_slice() {
+        return Some(Command::Default);
     }
     if word == b"clean".as_slice() {
         return Some(Command::Clean);
     }
+    if word == b"pass".as_slice() {
+        return Some(Command::Pass);
+    }
+    read_question(word)
+}
+
+/// The command of one word that asks a question.
+#[tactic(auto, unfolding(crate::specs::CommandOf::question_command))]
+fn read_question(word: &[u8]) -> Option<Command>
+    ensures { result ≡ question_command word.now }
+{
+    if word == b"read".as_slice() {
+        return Some(Command::Read);
+    }
     if word == b"due".as_slice() {
         return Some(Command::Due);
+    }
+    if word == b"usage".as_slice() {
+        return Some(Command::Usage);
     }
     None
 }

@@ -12,4 +12,4 @@ mod writing;
 pub use fault::{LineFault, WriteFault};
 pub use output::{put, put_line};
 pub use reading::{Line, read_event, read_line};
-pub use writing::{write_fault, write_reply};
+pub use writing::{write_fault, write_pass, write_reply};

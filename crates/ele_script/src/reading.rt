@@ -3,12 +3,13 @@ ghost use Rattle.std.specs.Prelude.{◌≡◌, ◌∷◌, [], ◌⊎◌, ℕ, ma
 ghost use Rattle.std.specs.List.{list_all};
 ghost use Rattle.ele_script.specs.Words.{words_of, is_plain, is_worded};
 ghost use Rattle.ele_script.specs.Spells.{Spells, SpellsLine, SpellsWords, SpellsBehind};
-ghost use Rattle.ele_script.specs.FirstFault.{IsFirstFault, IsFaultOfWords, IsFaultBehind};
+ghost use Rattle.ele_script.specs.EventOf.{event_of};
+ghost use Rattle.ele_script.specs.FirstFault.{IsFirstFault, IsEventFault, IsFaultOfWords, IsFaultBehind};
 
 use crate::command::{Command, read_command};
 use crate::fault::LineFault;
 use crate::word;
-use ele_world::{Event, Handle};
+use ele_world::{Event, Handle, Source};
 use std::alloc::{AllocError, Global};
 
 /// What a line of a script asks for.
@@ -16,6 +17,8 @@ use std::alloc::{AllocError, Global};
 pub enum Line {
     /// To run an event.
     Event(Event),
+    /// To clean until nothing is due, or so many versions are removed.
+    Pass(u64),
 }
 
 /// The most bytes of a line.
@@ -28,21 +31,8 @@ const MOST_BYTES: usize = 8192;
 /// in place of any other answer.
 pub fn read_line(alloc: Global, line: &[u8]) -> Result<Line, LineFault>
     ensures found { IfOk result (SpellsLine line.now) }
-    ensures only { (event : Event) → Spells line.now event
-        → (result ≡ Ok (Line.Event event)) ⊎ (result ≡ Err LineFault.NoMemory) }
-    ensures fault { IfErr result
-        (λ fault. (fault ≡ LineFault.NoMemory) ⊎ IsFirstFault line.now fault) }
-    ensures refused { (fault : LineFault) → IsFirstFault line.now fault
-        → (result ≡ Err fault) ⊎ (result ≡ Err LineFault.NoMemory) }
-{
-    Ok(Line::Event(read_event(alloc, line)?))
-}
-
-/// The event that a line spells, without its line feed. It is refused as `read_line` refuses it.
-pub fn read_event(alloc: Global, line: &[u8]) -> Result<Event, LineFault>
-    ensures found { IfOk result (Spells line.now) }
-    ensures only { (event : Event) → Spells line.now event
-        → (result ≡ Ok event) ⊎ (result ≡ Err LineFault.NoMemory) }
+    ensures only { (asked : Line) → SpellsLine line.now asked
+        → (result ≡ Ok asked) ⊎ (result ≡ Err LineFault.NoMemory) }
     ensures fault { IfErr result
         (λ fault. (fault ≡ LineFault.NoMemory) ⊎ IsFirstFault line.now fault) }
     ensures refused { (fault : LineFault) → IsFirstFault line.now fault
@@ -55,7 +45,33 @@ pub fn read_event(alloc: Global, line: &[u8]) -> Result<Event, LineFault>
         return Err(LineFault::Syntax);
     }
     let words = split_words(alloc, line)?;
-    event_of(alloc, words.as_slice())
+    line_of(alloc, words.as_slice())
+}
+
+/// The event that a line spells, without its line feed. It is refused as `read_line` refuses it; a
+/// line that asks for something else is `Syntax`.
+pub fn read_event(alloc: Global, line: &[u8]) -> Result<Event, LineFault>
+    ensures found { IfOk result (Spells line.now) }
+    ensures only { (event : Event) → Spells line.now event
+        → (result ≡ Ok event) ⊎ (result ≡ Err LineFault.NoMemory) }
+    ensures fault { IfErr result
+        (λ fault. (fault ≡ LineFault.NoMemory) ⊎ IsEventFault line.now fault) }
+    ensures refused { (fault : LineFault) → IsEventFault line.now fault
+        → (result ≡ Err fault) ⊎ (result ≡ Err LineFault.NoMemory) }
+{
+    let asked = read_line(alloc, line);
+    event_in(asked)
+}
+
+/// The event that was asked for.
+fn event_in(asked: Result<Line, LineFault>) -> Result<Event, LineFault>
+    ensures { result ≡ event_of asked }
+{
+    match asked {
+        Ok(Line::Event(event)) => Ok(event),
+        Ok(Line::Pass(_)) => Err(LineFault::Syntax),
+        Err(fault) => Err(fault),
+    }
 }
 
 /// Whether a line is plain words with one space between each two.
@@ -87,8 +103,8 @@ fn split_words(alloc: Global, line: &[u8]) -> Result<Vec<&[u8]>, AllocError>
     line.split(|byte| *byte == b' ').collect(alloc)
 }
 
-/// The event that words spell.
-fn event_of(alloc: Global, words: &[&[u8]]) -> Result<Event, LineFault>
+/// What words ask for.
+fn line_of(alloc: Global, words: &[&[u8]]) -> Result<Line, LineFault>
     ensures found { IfOk result (SpellsWords (map (λ word. word.now) words.now)) }
     ensures fault { IfErr result
         (λ fault. (fault ≡ LineFault.NoMemory)
@@ -97,11 +113,11 @@ fn event_of(alloc: Global, words: &[&[u8]]) -> Result<Event, LineFault>
     let Some((command, arguments)) = read_command(words) else {
         return Err(LineFault::Syntax);
     };
-    event_behind(alloc, command, arguments)
+    line_behind(alloc, command, arguments)
 }
 
-/// The event that the words behind a command make of it.
-fn event_behind(alloc: Global, command: Command, arguments: &[&[u8]]) -> Result<Event, LineFault>
+/// What the words behind a command make of it.
+fn line_behind(alloc: Global, command: Command, arguments: &[&[u8]]) -> Result<Line, LineFault>
     ensures found { IfOk result
         (SpellsBehind command (map (λ word. word.now) arguments.now)) }
     ensures fault { IfErr result (λ fault. (fault ≡ LineFault.NoMemory)
@@ -109,17 +125,23 @@ fn event_behind(alloc: Global, command: Command, arguments: &[&[u8]]) -> Result<
 {
     match command {
         Command::Clock => clock(arguments),
+        Command::Tick => tick(arguments),
         Command::Create => create(alloc, arguments),
         Command::OpenWrite => open_write(alloc, arguments),
         Command::Write => write(alloc, arguments),
+        Command::Truncate => truncate(arguments),
         Command::Close => close(arguments),
+        Command::Default => set_default(alloc, arguments),
         Command::Clean => clean(arguments),
+        Command::Read => read(arguments),
         Command::Due => due(arguments),
+        Command::Usage => usage(arguments),
+        Command::Pass => pass(arguments),
     }
 }
 
 /// `clock M`, of which the command is read.
-fn clock(arguments: &[&[u8]]) -> Result<Event, LineFault>
+fn clock(arguments: &[&[u8]]) -> Result<Line, LineFault>
     ensures found { IfOk result
         (SpellsBehind Command.Clock (map (λ word. word.now) arguments.now)) }
     ensures fault { IfErr result (λ fault. (fault ≡ LineFault.NoMemory)
@@ -128,11 +150,24 @@ fn clock(arguments: &[&[u8]]) -> Result<Event, LineFault>
     let [moment] = arguments else {
         return Err(LineFault::Syntax);
     };
-    Ok(Event::Clock(word::moment(moment)?))
+    Ok(Line::Event(Event::Clock(word::moment(moment)?)))
+}
+
+/// `tick N`, of which the command is read.
+fn tick(arguments: &[&[u8]]) -> Result<Line, LineFault>
+    ensures found { IfOk result
+        (SpellsBehind Command.Tick (map (λ word. word.now) arguments.now)) }
+    ensures fault { IfErr result (λ fault. (fault ≡ LineFault.NoMemory)
+        ⊎ IsFaultBehind Command.Tick (map (λ word. word.now) arguments.now) fault) }
+{
+    let [seconds] = arguments else {
+        return Err(LineFault::Syntax);
+    };
+    Ok(Line::Event(Event::Tick(word::number(seconds)?)))
 }
 
 /// `create P`, of which the command is read.
-fn create(alloc: Global, arguments: &[&[u8]]) -> Result<Event, LineFault>
+fn create(alloc: Global, arguments: &[&[u8]]) -> Result<Line, LineFault>
     ensures found { IfOk result
         (SpellsBehind Command.Create (map (λ word. word.now) arguments.now)) }
     ensures fault { IfErr result (λ fault. (fault ≡ LineFault.NoMemory)
@@ -141,11 +176,11 @@ fn create(alloc: Global, arguments: &[&[u8]]) -> Result<Event, LineFault>
     let [path] = arguments else {
         return Err(LineFault::Syntax);
     };
-    Ok(Event::Create(word::path(alloc, path)?))
+    Ok(Line::Event(Event::Create(word::path(alloc, path)?)))
 }
 
 /// `open write P`, of which the command is read.
-fn open_write(alloc: Global, arguments: &[&[u8]]) -> Result<Event, LineFault>
+fn open_write(alloc: Global, arguments: &[&[u8]]) -> Result<Line, LineFault>
     ensures found { IfOk result
         (SpellsBehind Command.OpenWrite (map (λ word. word.now) arguments.now)) }
     ensures fault { IfErr result (λ fault. (fault ≡ LineFault.NoMemory)
@@ -154,11 +189,11 @@ fn open_write(alloc: Global, arguments: &[&[u8]]) -> Result<Event, LineFault>
     let [path] = arguments else {
         return Err(LineFault::Syntax);
     };
-    Ok(Event::OpenWrite(word::path(alloc, path)?))
+    Ok(Line::Event(Event::OpenWrite(word::path(alloc, path)?)))
 }
 
 /// `write H N X`, of which the command is read.
-fn write(alloc: Global, arguments: &[&[u8]]) -> Result<Event, LineFault>
+fn write(alloc: Global, arguments: &[&[u8]]) -> Result<Line, LineFault>
     ensures found { IfOk result
         (SpellsBehind Command.Write (map (λ word. word.now) arguments.now)) }
     ensures fault { IfErr result (λ fault. (fault ≡ LineFault.NoMemory)
@@ -171,7 +206,7 @@ fn write(alloc: Global, arguments: &[&[u8]]) -> Result<Event, LineFault>
 }
 
 /// `write H N X`, of which the command is read and the words are counted.
-fn write_of(alloc: Global, handle: &[u8], offset: &[u8], bytes: &[u8]) -> Result<Event, LineFault>
+fn write_of(alloc: Global, handle: &[u8], offset: &[u8], bytes: &[u8]) -> Result<Line, LineFault>
     ensures found { IfOk result
         (SpellsBehind Command.Write (handle.now ∷ offset.now ∷ bytes.now ∷ [])) }
     ensures fault { IfErr result (λ fault. (fault ≡ LineFault.NoMemory)
@@ -179,11 +214,36 @@ fn write_of(alloc: Global, handle: &[u8], offset: &[u8], bytes: &[u8]) -> Result
 {
     let handle = Handle(word::number(handle)?);
     let offset = word::number(offset)?;
-    Ok(Event::Write(handle, offset, word::bytes(alloc, bytes)?))
+    let bytes = word::bytes(alloc, bytes)?;
+    Ok(Line::Event(Event::Write(handle, offset, bytes)))
+}
+
+/// `truncate H N`, of which the command is read.
+fn truncate(arguments: &[&[u8]]) -> Result<Line, LineFault>
+    ensures found { IfOk result
+        (SpellsBehind Command.Truncate (map (λ word. word.now) arguments.now)) }
+    ensures fault { IfErr result (λ fault. (fault ≡ LineFault.NoMemory)
+        ⊎ IsFaultBehind Command.Truncate (map (λ word. word.now) arguments.now) fault) }
+{
+    match arguments {
+        [handle, size] => truncate_of(handle, size),
+        _ => Err(LineFault::Syntax),
+    }
+}
+
+/// `truncate H N`, of which the command is read and the words are counted.
+fn truncate_of(handle: &[u8], size: &[u8]) -> Result<Line, LineFault>
+    ensures found { IfOk result
+        (SpellsBehind Command.Truncate (handle.now ∷ size.now ∷ [])) }
+    ensures fault { IfErr result (λ fault. (fault ≡ LineFault.NoMemory)
+        ⊎ IsFaultBehind Command.Truncate (handle.now ∷ size.now ∷ []) fault) }
+{
+    let handle = Handle(word::number(handle)?);
+    Ok(Line::Event(Event::Truncate(handle, word::number(size)?)))
 }
 
 /// `close H`, of which the command is read.
-fn close(arguments: &[&[u8]]) -> Result<Event, LineFault>
+fn close(arguments: &[&[u8]]) -> Result<Line, LineFault>
     ensures found { IfOk result
         (SpellsBehind Command.Close (map (λ word. word.now) arguments.now)) }
     ensures fault { IfErr result (λ fault. (fault ≡ LineFault.NoMemory)
@@ -192,11 +252,35 @@ fn close(arguments: &[&[u8]]) -> Result<Event, LineFault>
     let [handle] = arguments else {
         return Err(LineFault::Syntax);
     };
-    Ok(Event::Close(Handle(word::number(handle)?)))
+    Ok(Line::Event(Event::Close(Handle(word::number(handle)?))))
+}
+
+/// `default P POL`, of which the command is read.
+fn set_default(alloc: Global, arguments: &[&[u8]]) -> Result<Line, LineFault>
+    ensures found { IfOk result
+        (SpellsBehind Command.Default (map (λ word. word.now) arguments.now)) }
+    ensures fault { IfErr result (λ fault. (fault ≡ LineFault.NoMemory)
+        ⊎ IsFaultBehind Command.Default (map (λ word. word.now) arguments.now) fault) }
+{
+    match arguments {
+        [path, policy] => set_default_of(alloc, path, policy),
+        _ => Err(LineFault::Syntax),
+    }
+}
+
+/// `default P POL`, of which the command is read and the words are counted.
+fn set_default_of(alloc: Global, path: &[u8], policy: &[u8]) -> Result<Line, LineFault>
+    ensures found { IfOk result
+        (SpellsBehind Command.Default (path.now ∷ policy.now ∷ [])) }
+    ensures fault { IfErr result (λ fault. (fault ≡ LineFault.NoMemory)
+        ⊎ IsFaultBehind Command.Default (path.now ∷ policy.now ∷ []) fault) }
+{
+    let path = word::path(alloc, path)?;
+    Ok(Line::Event(Event::SetDefault(path, word::policy(policy)?)))
 }
 
 /// `clean`, of which the command is read.
-fn clean(arguments: &[&[u8]]) -> Result<Event, LineFault>
+fn clean(arguments: &[&[u8]]) -> Result<Line, LineFault>
     ensures found { IfOk result
         (SpellsBehind Command.Clean (map (λ word. word.now) arguments.now)) }
     ensures fault { IfErr result (λ fault. (fault ≡ LineFault.NoMemory)
@@ -205,11 +289,24 @@ fn clean(arguments: &[&[u8]]) -> Result<Event, LineFault>
     if !arguments.is_empty() {
         return Err(LineFault::Syntax);
     }
-    Ok(Event::CleanOne)
+    Ok(Line::Event(Event::CleanOne))
+}
+
+/// `read H`, of which the command is read.
+fn read(arguments: &[&[u8]]) -> Result<Line, LineFault>
+    ensures found { IfOk result
+        (SpellsBehind Command.Read (map (λ word. word.now) arguments.now)) }
+    ensures fault { IfErr result (λ fault. (fault ≡ LineFault.NoMemory)
+        ⊎ IsFaultBehind Command.Read (map (λ word. word.now) arguments.now) fault) }
+{
+    let [handle] = arguments else {
+        return Err(LineFault::Syntax);
+    };
+    Ok(Line::Event(Event::Read(Source::Of(Handle(word::number(handle)?)))))
 }
 
 /// `due`, of which the command is read.
-fn due(arguments: &[&[u8]]) -> Result<Event, LineFault>
+fn due(arguments: &[&[u8]]) -> Result<Line, LineFault>
     ensures found { IfOk result
         (SpellsBehind Command.Due (map (λ word. word.now) arguments.now)) }
     ensures fault { IfErr result (λ fault. (fault ≡ LineFault.NoMemory)
@@ -218,7 +315,33 @@ fn due(arguments: &[&[u8]]) -> Result<Event, LineFault>
     if !arguments.is_empty() {
         return Err(LineFault::Syntax);
     }
-    Ok(Event::Due)
+    Ok(Line::Event(Event::Due))
+}
+
+/// `usage`, of which the command is read.
+fn usage(arguments: &[&[u8]]) -> Result<Line, LineFault>
+    ensures found { IfOk result
+        (SpellsBehind Command.Usage (map (λ word. word.now) arguments.now)) }
+    ensures fault { IfErr result (λ fault. (fault ≡ LineFault.NoMemory)
+        ⊎ IsFaultBehind Command.Usage (map (λ word. word.now) arguments.now) fault) }
+{
+    if !arguments.is_empty() {
+        return Err(LineFault::Syntax);
+    }
+    Ok(Line::Event(Event::UsageAll))
+}
+
+/// `pass N`, of which the command is read.
+fn pass(arguments: &[&[u8]]) -> Result<Line, LineFault>
+    ensures found { IfOk result
+        (SpellsBehind Command.Pass (map (λ word. word.now) arguments.now)) }
+    ensures fault { IfErr result (λ fault. (fault ≡ LineFault.NoMemory)
+        ⊎ IsFaultBehind Command.Pass (map (λ word. word.now) arguments.now) fault) }
+{
+    let [budget] = arguments else {
+        return Err(LineFault::Syntax);
+    };
+    Ok(Line::Pass(word::number(budget)?))
 }
 
 #[cfg(test)]

@@ -1,13 +1,15 @@
 //! The words behind a command. A contract sees a word as its bytes, and what it spells as itself.
-ghost use Rattle.std.specs.Prelude.{◌≡◌, ◌⊎◌, IfOk, IfErr};
+ghost use Rattle.std.specs.Prelude.{◌≡◌, ◌⊎◌, ℕ, IfOk, IfErr, IfSome, IfNone};
 ghost use Rattle.ele_moment.specs.Number.{SpellsNumber};
 ghost use Rattle.ele_moment.specs.Spelled.{SpellsMoment};
 ghost use Rattle.ele_time_path.specs.Path.{SpellsPath};
-ghost use Rattle.ele_script.specs.Value.{NumberWord, MomentWord, PathWord, BytesWord, SpellsBytes};
+ghost use Rattle.ele_script.specs.Value.{NumberWord, MomentWord, PathWord, BytesWord, PolicyWord, SpellsBytes};
+ghost use Rattle.ele_script.specs.PolicyWord.{SpellsPolicy, IsSafeWord};
 ghost use Rattle.ele_script.specs.FirstFault.{IsWordFault};
 
 use crate::fault::LineFault;
 use ele_moment::{Moment, read_number};
+use ele_policy::{Interval, Policy};
 use ele_time_path::Path;
 use ele_world::ByteList;
 use std::alloc::Global;
@@ -54,4 +56,26 @@ pub(crate) fn bytes(alloc: Global, word: &[u8]) -> Result<ByteList, LineFault>
         Err(hex::FromHexError::OutOfMemory) => Err(LineFault::NoMemory),
         Err(_) => Err(LineFault::Syntax),
     }
+}
+
+/// A policy: its form first, and then its numbers.
+pub(crate) fn policy(word: &[u8]) -> Result<Policy, LineFault>
+    ensures found { IfOk result (SpellsPolicy word.now) }
+    ensures fault { IfErr result (IsWordFault PolicyWord word.now) }
+{
+    if word == b"one".as_slice() {
+        return Ok(Policy::One);
+    }
+    let Some(seconds) = safe_number(word) else {
+        return Err(LineFault::Syntax);
+    };
+    Ok(Policy::Safe(Interval::new(seconds)?))
+}
+
+/// The number behind `safe:`.
+fn safe_number(word: &[u8]) -> Option<u64>
+    ensures some { IfSome result (IsSafeWord word.now) }
+    ensures none { IfNone result ((seconds : ℕ) → ¬ IsSafeWord word.now seconds) }
+{
+    read_number(word.strip_prefix(b"safe:")?)
 }

@@ -1,14 +1,15 @@
 //! Writing replies. A contract sees a reply as itself, and a writer as the bytes that it is known
 //! to hold.
-ghost use Rattle.std.specs.Prelude.{◌≡◌, ◌++◌, ◌∷◌, [], Ok, List, ℕ, OnOk, OnErr, decimal, codes};
+ghost use Rattle.std.specs.Prelude.{◌≡◌, ◌++◌, ◌∷◌, [], Ok, List, ℕ, length, OnOk, OnErr, decimal, codes};
 ghost use Rattle.std.specs.Io.KnownBytes.{Appends};
 ghost use Rattle.ele_world.specs.Answers.{refusal_number, refusal_name};
 ghost use Rattle.ele_script.specs.Front.{AppendsFront, Puts};
-ghost use Rattle.ele_script.specs.Printed.{line_text, key_words, refusal_text, closed_text, due_text, stop_text, bad_text, IsReplyText, WritesAnswer, WritesAnswerFront};
+ghost use Rattle.ele_script.specs.Printed.{line_text, key_words, refusal_text, closed_text, due_text, bytes_text, usage_line, usage_text, stop_text, pass_text, bad_text, IsReplyText, WritesAnswer, WritesAnswerFront};
+ghost use Rattle.hex.specs.Hex.{encode_lower};
 
 use crate::fault::{LineFault, WriteFault};
-use crate::output::put_line;
-use ele_world::{Key, Refusal, Reply, Stop, VersionNo};
+use crate::output::{put, put_line};
+use ele_world::{Key, PassEnd, Refusal, Reply, Stop, Usage, VersionNo};
 use itoa::Buffer;
 use std::io::Write;
 
@@ -37,6 +38,21 @@ pub fn write_fault<W: Write>(fault: LineFault, writer: &mut W) -> Result<(), Wri
     write_named(b"bad", fault.number(), fault.name(), writer)
 }
 
+/// Writes the line that tells how a pass ended, and how many versions it removed. At a fault of the
+/// writer it took a front of that line.
+pub fn write_pass<W: Write>(end: &PassEnd, writer: &mut W) -> Result<(), WriteFault>
+    ensures ok { OnOk result
+        (Appends (W.contents writer.old) (W.contents writer.new) (pass_text end.now)) }
+    ensures err { OnErr result
+        (AppendsFront (W.contents writer.old) (W.contents writer.new) (pass_text end.now)) }
+{
+    match *end {
+        PassEnd::Finished(removed) => write_number(b"ok pass finished", removed, writer),
+        PassEnd::Budget(removed) => write_number(b"ok pass budget", removed, writer),
+        PassEnd::Stopped(stop, removed) => write_stopped(stop, removed, writer),
+    }
+}
+
 fn write_answer<W: Write>(reply: &Reply, writer: &mut W) -> Result<(), WriteFault>
     ensures { (text : List ℕ) × IsReplyText reply.now text
         × Puts (W.contents writer.old) (W.contents writer.new) text result }
@@ -49,7 +65,9 @@ fn write_answer<W: Write>(reply: &Reply, writer: &mut W) -> Result<(), WriteFaul
         Reply::Handle(handle) => write_number(b"ok handle", handle.0, writer),
         Reply::Closed(made) => write_closed(*made, writer),
         Reply::Removed(key) => write_key(b"ok removed", *key, writer),
+        Reply::Bytes(bytes) => write_bytes(bytes.as_slice(), writer),
         Reply::DueList(keys) => write_keys(keys.as_slice(), writer),
+        Reply::UsageList(usages) => write_usages(usages, writer),
         Reply::Refused(why) => write_refusal(why, writer),
     }
 }
@@ -104,6 +122,79 @@ fn write_keys<W: Write>(keys: &[Key], writer: &mut W) -> Result<(), WriteFault>
         write_key(b"-", *key, writer)?;
     }
     Ok(())
+}
+
+/// Writes bytes, which stay in the line of the reply however many they are.
+fn write_bytes<W: Write>(bytes: &[u8], writer: &mut W) -> Result<(), WriteFault>
+    ensures { Puts (W.contents writer.old) (W.contents writer.new) (bytes_text bytes.now) result }
+{
+    if bytes.is_empty() {
+        return put_line(writer, b"ok bytes", &[b"0", b"-"]);
+    }
+    write_digits(bytes, writer)
+}
+
+/// Writes some bytes, as their number and their digits.
+fn write_digits<W: Write>(bytes: &[u8], writer: &mut W) -> Result<(), WriteFault>
+    ensures { Puts (W.contents writer.old) (W.contents writer.new)
+        (line_text (codes "ok bytes" ∷ decimal (length bytes.now) ∷ encode_lower bytes.now ∷ []))
+        result }
+{
+    let mut length = Buffer::new();
+    put(writer, b"ok bytes ")?;
+    put(writer, length.format(bytes.len() as u64).as_bytes())?;
+    put(writer, b" ")?;
+    put_digits(writer, bytes)?;
+    put(writer, b"\n")
+}
+
+/// Writes two digits for each byte.
+fn put_digits<W: Write>(writer: &mut W, bytes: &[u8]) -> Result<(), WriteFault>
+    ensures { Puts (W.contents writer.old) (W.contents writer.new)
+        (encode_lower bytes.now) result }
+{
+    for byte in bytes {
+        put(writer, &digits_of(*byte))?;
+    }
+    Ok(())
+}
+
+/// The digits of a byte.
+fn digits_of(byte: u8) -> [u8; 2]
+    ensures { result ≡ encode_lower (byte ∷ []) }
+{
+    let mut digits = [0; 2];
+    match hex::encode_to_slice([byte], &mut digits) {
+        Ok(()) => digits,
+        Err(_) => unreachable!(),
+    }
+}
+
+fn write_usages<W: Write>(usages: &[Usage; 4], writer: &mut W) -> Result<(), WriteFault>
+    ensures { Puts (W.contents writer.old) (W.contents writer.new) (usage_text usages.now) result }
+{
+    let [one, all, safe, landmarks] = *usages;
+    write_number(b"ok usage", 4, writer)?;
+    write_usage(b"one", one, writer)?;
+    write_usage(b"all", all, writer)?;
+    write_usage(b"safe", safe, writer)?;
+    write_usage(b"landmarks", landmarks, writer)
+}
+
+/// Writes the line of what the files of a kind of policy use.
+fn write_usage<W: Write>(kind: &[u8], usage: Usage, writer: &mut W) -> Result<(), WriteFault>
+    ensures { Puts (W.contents writer.old) (W.contents writer.new)
+        (usage_line kind.now usage) result }
+{
+    let mut files = Buffer::new();
+    let mut versions = Buffer::new();
+    let mut bytes = Buffer::new();
+    let mut blocks = Buffer::new();
+    let files = files.format(usage.files).as_bytes();
+    let versions = versions.format(usage.versions).as_bytes();
+    let bytes = bytes.format(usage.bytes).as_bytes();
+    let blocks = blocks.format(usage.blocks).as_bytes();
+    put_line(writer, b"-", &[kind, files, versions, bytes, blocks])
 }
 
 fn write_refusal<W: Write>(why: &Refusal, writer: &mut W) -> Result<(), WriteFault>
@@ -175,6 +266,22 @@ fn write_stop<W: Write>(stop: Stop, writer: &mut W) -> Result<(), WriteFault>
     ensures { Puts (W.contents writer.old) (W.contents writer.new) (stop_text stop) result }
 {
     write_named(b"stop", stop.number(), stop.name(), writer)
+}
+
+/// Writes the line of a pass that a stop ended, with how many versions it removed.
+fn write_stopped<W: Write>(stop: Stop, removed: u64, writer: &mut W) -> Result<(), WriteFault>
+    ensures { Puts (W.contents writer.old) (W.contents writer.new)
+        (pass_text (PassEnd.Stopped stop removed)) result }
+{
+    let mut number = Buffer::new();
+    let mut count = Buffer::new();
+    let number = number.format(stop.number()).as_bytes();
+    let count = count.format(removed).as_bytes();
+    put_line(
+        writer,
+        b"stop",
+        &[number, stop.name().as_bytes(), b"removed", count],
+    )
 }
 
 #[cfg(test)]

@@ -7,10 +7,12 @@ use Rattle.ele_world.specs.declared.refusal.Stop.TheVariants.{NoMemory, HistoryF
 use Rattle.ele_world.specs.Step.{step}
 use Rattle.ele_script.specs.declared.fault.LineFault.TheVariants.{Syntax, LineTooLong}
 use Rattle.ele_script.specs.FirstFault.{IsFirstFault}
-use Rattle.ele_script.specs.Printed.{IsAnswerText, bad_text}
-use Rattle.ele_script.specs.Spells.{Spells}
+use Rattle.ele_script.specs.Printed.{IsAnswerText, bad_text, pass_text}
+use Rattle.ele_script.specs.Spells.{Spells, SpellsLine}
+use Rattle.ele_script.specs.declared.reading.Line.TheVariants as asks
 use Rattle.ele_shell.specs.declared.answer.Answer.{Answer}
 use Rattle.ele_shell.specs.declared.answer.Answer.TheVariants as answer
+use Rattle.ele_shell.specs.Pass.{MayPass}
 use Rattle.ele_shell.specs.State.{State}
 
 -- an event is answered as the world's step answers it, while fewer replies were given than may be; where as many were
@@ -22,7 +24,8 @@ MayReply before event (Ok reply) after =
 MayReply before event (Err HistoryFull) after = (before.replies ≡ before.most) × (after ≡ before)
 MayReply before event (Err NoMemory) after = after ≡ before
 
--- a line is answered its first fault, or what the event is answered that it spells; want of memory may stop it
+-- a line is answered its first fault, what the event is answered that it spells, or how the pass ends that it asks for;
+-- want of memory may stop it
 abbrev pub MayAnswer : State → List ℕ → Answer → State → Type 0
 MayAnswer before line (answer.Bad fault) after = IsFirstFault line fault × (after ≡ before)
 MayAnswer before line (answer.Reply (Ok reply)) after =
@@ -30,11 +33,14 @@ MayAnswer before line (answer.Reply (Ok reply)) after =
 MayAnswer before line (answer.Reply (Err HistoryFull)) after =
     (event : Event) × Spells line event × MayReply before event (Err HistoryFull) after
 MayAnswer before line (answer.Reply (Err NoMemory)) after = after ≡ before
+MayAnswer before line (answer.Pass end) after =
+    (budget : ℕ) × SpellsLine line (asks.Pass budget) × MayPass before budget end after
 
--- the text is that of the bad line, or of the reply or the stop
+-- the text is that of the bad line, of the reply or the stop, or of the end of the pass
 abbrev pub IsText : Answer → List ℕ → Type 0
 IsText (answer.Bad fault) text = text ≡ bad_text fault
 IsText (answer.Reply reply) text = IsAnswerText reply text
+IsText (answer.Pass end) text = text ≡ pass_text end
 
 -- the block of a line as it is kept: an empty line has none, and one that is too long only says so
 abbrev pub IsBlock : State → Option (List ℕ) → List ℕ → State → Type 0

@@ -1,9 +1,11 @@
 pub mod Block
 pub mod Bounds
+pub mod Clean
 pub mod Fault
 pub mod Kept
 pub mod Lines
 pub mod Output
+pub mod Pass
 pub mod Running
 pub mod State
 pub mod Taken

@@ -3,8 +3,8 @@
 ghost use Rattle.std.specs.Prelude.{OnOk, OnErr};
 ghost use Rattle.ele_shell.specs.Written.{WritesText, WritesTextFront};
 
-use ele_script::{LineFault, WriteFault, write_fault, write_reply};
-use ele_world::{Reply, Stop};
+use ele_script::{LineFault, WriteFault, write_fault, write_pass, write_reply};
+use ele_world::{PassEnd, Reply, Stop};
 use std::io::Write;
 
 /// What a line is answered.
@@ -14,6 +14,8 @@ pub(crate) enum Answer {
     Bad(LineFault),
     /// What the command is answered, or why it was not run.
     Reply(Result<Reply, Stop>),
+    /// How the pass ended that it asks for.
+    Pass(PassEnd),
 }
 
 /// Writes an answer. At a fault the writer took a front of its text.
@@ -26,5 +28,6 @@ pub(crate) fn write_answer<W: Write>(answer: &Answer, writer: &mut W) -> Result<
     match answer {
         Answer::Bad(fault) => write_fault(*fault, writer),
         Answer::Reply(reply) => write_reply(reply, writer),
+        Answer::Pass(end) => write_pass(end, writer),
     }
 }

@@ -3,12 +3,14 @@
 ghost use Rattle.std.specs.Prelude.{◌≡◌, IfOk};
 ghost use Rattle.ele_shell.specs.State.{fresh};
 ghost use Rattle.ele_shell.specs.Block.{MayReply, MayAnswer};
+ghost use Rattle.ele_shell.specs.Clean.{is_removed, MayClean};
+ghost use Rattle.ele_shell.specs.Pass.{MayPass};
 
 use crate::answer::Answer;
 use ele_core::Core;
 use ele_moment::NoMemory;
 use ele_script::{Line, LineFault, read_line};
-use ele_world::{Event, Limits, Reply, Stop};
+use ele_world::{Event, Limits, PassEnd, Reply, Stop};
 use std::alloc::Global;
 use std::marker::Model;
 
@@ -27,7 +29,7 @@ impl Model for Keeper {
 
     ghost Value = { State };
 
-    ghost view = { λ k. record { world = k.core; replies = k.replies; most = k.most } };
+    ghost view = { λ k. record { world = k.core.world; replies = k.replies; most = k.most } };
 
     ghost invariant = { λ k. k.replies ≤ k.most };
 }
@@ -53,6 +55,7 @@ impl Keeper {
     {
         match read_line(self.alloc, line) {
             Ok(Line::Event(event)) => Answer::Reply(self.reply_to(&event)),
+            Ok(Line::Pass(budget)) => Answer::Pass(self.pass(budget)),
             Err(fault) => match fault {
                 LineFault::NoMemory => Answer::Reply(Err(Stop::NoMemory)),
                 _ => Answer::Bad(fault),
@@ -73,4 +76,34 @@ impl Keeper {
         self.replies += 1;
         Ok(reply)
     }
+
+    /// Cleans until nothing is due, or so many versions are removed. A stop ends it, and what was
+    /// removed stays removed.
+    fn pass(&mut self, budget: u64) -> PassEnd
+        ensures { MayPass self.old budget result self.new }
+    {
+        for removed in 0..budget {
+            match self.clean() {
+                Ok(true) => {}
+                Ok(false) => return PassEnd::Finished(removed),
+                Err(stop) => return PassEnd::Stopped(stop, removed),
+            }
+        }
+        PassEnd::Budget(budget)
+    }
+
+    /// Answers a clean event with whether it removed a version. A stop leaves the world and the count.
+    fn clean(&mut self) -> Result<bool, Stop>
+        ensures { MayClean self.old result self.new }
+    {
+        let reply = self.reply_to(&Event::CleanOne)?;
+        Ok(is_removed(&reply))
+    }
+}
+
+/// Whether the reply tells of a version that was removed.
+fn is_removed(reply: &Reply) -> bool
+    ensures { result ≡ is_removed reply.now }
+{
+    matches!(reply, Reply::Removed(_))
 }

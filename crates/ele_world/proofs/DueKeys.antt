@@ -37,7 +37,7 @@ unfolding due_key is_due_at
 due_key-unended w row policy filed end = record { key = rw (filed, end) refl; due = rw (filed, end) refl }
 
 -- a row whose file and end are known
-due_key-some : (w : World) (row : VersionRow) (policy : Policy) (ended : ℕ) (due : Bool) (ripe : Option ℕ) → policy_of w.files row.file ≡ Some policy → row.ended ≡ Some ended → is_due_by policy ended w.now ≡ due → ripe_by policy ended ≡ ripe → (due_key w row ≡ cond due (option_map (key_of row) ripe) None) × (is_due_at w row w.now ≡ due)
+pub due_key-some : (w : World) (row : VersionRow) (policy : Policy) (ended : ℕ) (due : Bool) (ripe : Option ℕ) → policy_of w.files row.file ≡ Some policy → row.ended ≡ Some ended → is_due_by policy ended w.now ≡ due → ripe_by policy ended ≡ ripe → (due_key w row ≡ cond due (option_map (key_of row) ripe) None) × (is_due_at w row w.now ≡ due)
 unfolding due_key ripe_of is_due_at ripe_by
 due_key-some w row policy ended due ripe filed end is_due is_ripe = rw (filed, end, ← is_due, ← is_ripe) (refl, refl)
 

@@ -23,14 +23,14 @@ pub record IsDueKey (w : World) (key : Key) : Type 0 where
   pub found : find (is_version key.file key.number) w.versions ≡ Some row
   pub due : is_due_at w row w.now ≡ true
 
-all-filter_map : {X Y : Type 0} (P : X → Type 0) (Q : Y → Type 0) (h : X → Option Y) → ((x : X) (y : Y) → P x → h x ≡ Some y → Q y) → (xs : List X) → AllByRecursion P xs → AllByRecursion Q (filter_map h xs)
+pub all-filter_map : {X Y : Type 0} (P : X → Type 0) (Q : Y → Type 0) (h : X → Option Y) → ((x : X) (y : Y) → P x → h x ≡ Some y → Q y) → (xs : List X) → AllByRecursion P xs → AllByRecursion Q (filter_map h xs)
 all-filter_map P Q h gives [] all = tt
 all-filter_map {X} {Y} P Q h gives (x ∷ xs) all = by (h x) refl (all-filter_map P Q h gives xs all.1) where
   by : (o : Option Y) → h x ≡ o → AllByRecursion Q (filter_map h xs) → AllByRecursion Q (filter_map h (x ∷ xs))
   by None e rest = rw e rest
   by (Some y) e rest = rw e (gives x y all.0 e, rest)
 
-all-insert_key : (Q : Key → Type 0) (keys : List Key) (key : Key) → Q key → AllByRecursion Q keys → AllByRecursion Q (insert_key key_cmp keys key)
+pub all-insert_key : (Q : Key → Type 0) (keys : List Key) (key : Key) → Q key → AllByRecursion Q keys → AllByRecursion Q (insert_key key_cmp keys key)
 all-insert_key Q [] key one all = (one, tt)
 all-insert_key Q (x ∷ xs) key one all = by (key_cmp key x) refl (all-insert_key Q xs key one all.1) where
   by : (o : Ordering) → key_cmp key x ≡ o → AllByRecursion Q (insert_key key_cmp xs key) → AllByRecursion Q (insert_key key_cmp (x ∷ xs) key)
@@ -38,7 +38,7 @@ all-insert_key Q (x ∷ xs) key one all = by (key_cmp key x) refl (all-insert_ke
   by Equal e rest = rw e all
   by Greater e rest = rw e (all.0, rest)
 
-all-in_order : (Q : Key → Type 0) (sorted keys : List Key) → AllByRecursion Q sorted → AllByRecursion Q keys → AllByRecursion Q (fold (insert_key key_cmp) sorted keys)
+pub all-in_order : (Q : Key → Type 0) (sorted keys : List Key) → AllByRecursion Q sorted → AllByRecursion Q keys → AllByRecursion Q (fold (insert_key key_cmp) sorted keys)
 all-in_order Q sorted [] before all = before
 all-in_order Q sorted (x ∷ xs) before all = all-in_order Q (insert_key key_cmp sorted x) xs (all-insert_key Q sorted x all.0 before) all.1
 
@@ -55,7 +55,7 @@ pub scan_due : (w : World) → AllLater ArePlaced w.versions → AllByRecursion 
 unfolding scan
 scan_due w placed = all-in_order (IsDueKey w) [] (filter_map (due_key w) w.versions) tt (all-filter_map (IsFound w.versions) (IsDueKey w) (due_key w) (key_due w) w.versions (all_found w.versions placed))
 
-first_of : (Q : Key → Type 0) (keys : List Key) (key : Key) → slice_get keys 0 ≡ Some key → AllByRecursion Q keys → Q key
+pub first_of : (Q : Key → Type 0) (keys : List Key) (key : Key) → slice_get keys 0 ≡ Some key → AllByRecursion Q keys → Q key
 first_of Q [] key h all = absurd cc
 first_of Q (x ∷ xs) key h all = let same : x ≡ key = cc in rw (← same) all.0
 

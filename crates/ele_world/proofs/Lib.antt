@@ -11,3 +11,9 @@ pub mod Stays
 pub mod Passes
 pub mod DueKeys
 pub mod Places
+pub mod SlotPlaces
+pub mod SumRows
+pub mod Splits
+pub mod Others
+pub mod Usages
+pub mod PassEnds

@@ -26,7 +26,7 @@ use Rattle.ele_world.proofs.DueRows.{first_is_due}
 use Rattle.ele_world.proofs.StepKeeps.{step_keeps}
 
 -- what isn't kept may go
-filter-remove_first : {X : Type 0} (keep p : X → Bool) (xs : List X) → ((x : X) → find p xs ≡ Some x → keep x ≡ false) → filter keep (remove_first p xs) ≡ filter keep xs
+pub filter-remove_first : {X : Type 0} (keep p : X → Bool) (xs : List X) → ((x : X) → find p xs ≡ Some x → keep x ≡ false) → filter keep (remove_first p xs) ≡ filter keep xs
 filter-remove_first keep p [] goes = refl
 filter-remove_first {X} keep p (x ∷ xs) goes = by (p x) refl (filter-remove_first keep p xs) goes where
   by : (b : Bool) → p x ≡ b → (((y : X) → find p xs ≡ Some y → keep y ≡ false) → filter keep (remove_first p xs) ≡ filter keep xs) → ((y : X) → cond b (Some x) (find p xs) ≡ Some y → keep y ≡ false) → filter keep (cond b xs (x ∷ remove_first p xs)) ≡ filter keep (x ∷ xs)
@@ -47,7 +47,7 @@ clean_keeps_kept w k = by (first_due w) refl where
       let same : due.row ≡ row = let was = due.found in cc in
       ap not (subst (λ r. is_due_at w r w.now ≡ true) same due.due))
 
-cleaned_keeps_kept : (n : ℕ) (w : World) → IsWellFormed w → (kept (cleaned n w) ≡ kept w) × IsWellFormed (cleaned n w)
+pub cleaned_keeps_kept : (n : ℕ) (w : World) → IsWellFormed w → (kept (cleaned n w) ≡ kept w) × IsWellFormed (cleaned n w)
 cleaned_keeps_kept zero w k = (refl, k)
 cleaned_keeps_kept (suc n) w k =
     let rest = cleaned_keeps_kept n ((clean_step w).1) (step_keeps w CleanOne tt k) in
@@ -61,7 +61,7 @@ due_by_ripe One ended now fits due = let test : (leb ended last_moment && (leb e
 due_by_ripe (Safe interval) ended now fits due =
     let test : (leb (ended + interval) last_moment && (leb ended (ended + interval) && leb interval (ended + interval - ended))) ≡ true = grind (arith, nat_tests) in rw test refl
 
-due_is_ripe : (w : World) (row : VersionRow) → w.now ≤ last_moment → is_due_at w row w.now ≡ true → is_some (ripe_of w row) ≡ true
+pub due_is_ripe : (w : World) (row : VersionRow) → w.now ≤ last_moment → is_due_at w row w.now ≡ true → is_some (ripe_of w row) ≡ true
 unfolding is_due_at ripe_of
 due_is_ripe w row fits due = by (policy_of w.files row.file) row.ended due where
   by : (p : Option Policy) (e : Option ℕ) → option_map_or (λ policy. option_map_or (λ ended. is_due_by policy ended w.now) e false) p false ≡ true → is_some (option_and_then (λ policy. option_and_then (λ ended. find (λ at. leb at last_moment && option_map_or (λ policy. option_map_or (λ ended. is_due_by policy ended at) e false) p false) (candidates policy ended)) e) p) ≡ true

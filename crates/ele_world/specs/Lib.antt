@@ -14,3 +14,6 @@ pub mod OnlyDueLeave
 pub mod HeldStays
 pub mod PassLeavesKept
 pub mod Seen
+pub mod Pass
+pub mod NewPlaces
+pub mod Whole

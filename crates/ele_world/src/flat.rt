@@ -1,12 +1,17 @@
 //! The world as flat rows, which is what contracts speak of.
 ghost use Rattle.std.specs.Prelude.{◌≡◌, IfOk};
+ghost use Rattle.std.specs.List.{AllByRecursion};
+ghost use Rattle.ele_usage.specs.Sums.{Fits};
 ghost use Rattle.ele_world.specs.Scan.{scan};
+ghost use Rattle.ele_world.specs.Usage.{usages};
 
 use crate::limits::{Counts, Limits};
 use crate::list::KeyList;
 use crate::rows::{DirectoryRow, DraftRow, FileRow, HandleRow, NameRow, VersionRow};
 use crate::scan::due_keys;
+use crate::sums::usages_in;
 use ele_moment::{ListOf, Moment, NoMemory};
+use ele_usage::Usage;
 
 /// All rows and counts of a world. Directories and files stand by id, names in order of making, versions by file and
 /// then by number, drafts by file, handles by number.
@@ -34,6 +39,21 @@ impl Flat {
             self.now,
             self.files.as_slice(),
             self.versions.as_slice(),
+        )
+    }
+
+    /// What the files of each kind of policy use, in the order of `Kind`: how many they are, their versions, the bytes of
+    /// these, and how many different blocks they and the drafts have. The caller knows that each number is within 64
+    /// bits.
+    #[tactic(auto, using(crate::proofs::SumRows::usages_told))]
+    pub fn usage(&self) -> [Usage; 4]
+        requires { AllByRecursion Fits (usages self.now) }
+        ensures { result ≡ usages self.entry.now }
+    {
+        usages_in(
+            self.files.as_slice(),
+            self.versions.as_slice(),
+            self.drafts.as_slice(),
         )
     }
 }

@@ -12,6 +12,9 @@ mod refusal;
 mod reply;
 mod rows;
 mod scan;
+mod sums;
+#[cfg(test)]
+mod tests;
 
 pub use ele_blocks::Cell;
 pub use ele_due::Key;
@@ -28,3 +31,4 @@ pub use refusal::{Refusal, Stop, Which};
 pub use reply::Reply;
 pub use rows::{DirectoryRow, DraftRow, FileRow, HandleRow, NameRow, Target, VersionRow};
 pub use scan::{due_first, due_keys, is_due};
+pub use sums::usages_in;

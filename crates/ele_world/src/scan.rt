@@ -19,7 +19,7 @@ use std::alloc::Global;
 use std::collections::BTreeSet;
 
 /// The file's policy, if it is there.
-fn policy_of(files: &[FileRow], file: FileId) -> Option<Policy>
+pub(crate) fn policy_of(files: &[FileRow], file: FileId) -> Option<Policy>
     ensures { result ≡ policy_of files.now file }
 {
     files

@@ -7,7 +7,7 @@ use ele_world::Limits;
 use std::fs;
 
 /// The scripts, each NAME.script with its NAME.output.
-const ROWS: [&str; 11] = [
+const ROWS: [&str; 17] = [
     "first_run",
     "empty_script",
     "write_of_no_bytes",
@@ -19,6 +19,12 @@ const ROWS: [&str; 11] = [
     "moments",
     "writers_share_a_draft",
     "keys_in_order",
+    "default_keeps_safe_for_10_seconds",
+    "usage_before_and_after_cleaning",
+    "truncate_to_the_longest_content",
+    "a_draft_is_read",
+    "tick_past_the_last_moment",
+    "passes_and_their_budgets",
 ];
 
 /// What the script prints.

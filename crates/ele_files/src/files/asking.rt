@@ -6,6 +6,7 @@ ghost use Rattle.std.specs.Option.{option_map};
 ghost use Rattle.ele_blocks.specs.Content.{content_of};
 ghost use Rattle.ele_files.specs.Asked.{stamps_of};
 ghost use Rattle.ele_files.specs.Held.{cells_of_draft};
+ghost use Rattle.ele_sessions.specs.declared.reads.Reads.TheVariants as read;
 ghost use Rattle.ele_world.specs.World.{policy_of, next_of, is_version, is_draft, handle_file};
 
 use crate::files::{Files, place_of};
@@ -14,6 +15,14 @@ use ele_inode_log::Meter;
 use ele_moment::{ByteList, FileId, Handle, ListOf, NoMemory, VersionNo};
 use ele_policy::Policy;
 use ele_sessions::Reads;
+
+/// The file whose draft is read.
+pub fn draft_file(reads: Reads) -> FileId
+    ensures { reads ≡ read.Draft result }
+{
+    let Reads::Draft(file) = reads;
+    file
+}
 
 impl Files {
     /// The file's policy; none where there is no such file.
@@ -55,8 +64,8 @@ impl Files {
     pub fn handle_file(&self, handle: Handle) -> Option<FileId>
         ensures { result ≡ handle_file self.now.handles handle }
     {
-        let Reads::Draft(file) = self.sessions.read(handle)?;
-        Some(file)
+        let reads = self.sessions.read(handle)?;
+        Some(draft_file(reads))
     }
 
     /// How many handles were ever opened.
@@ -95,7 +104,10 @@ impl Files {
         ensures { IfOk result (λ bytes. bytes ≡ content_of (cells_of_draft self.now file)) }
     {
         match self.sessions.draft(file) {
-            Some(map) => Ok(ListOf::from_vec(map.content(&self.store)?)),
+            Some(map) => {
+                let bytes = map.content(&self.store)?;
+                Ok(ListOf::from_vec(bytes))
+            }
             None => Ok(ListOf::new(self.alloc)),
         }
     }

@@ -1,8 +1,11 @@
 //! The closing of a handle, which may make a version.
 //! A contract sees the rows of all files before and after.
-ghost use Rattle.std.specs.Prelude.{◌≡◌, ◌<◌, ◌≤◌, ◌+◌, ◌^◌, OnOk, OnErr, IfOk};
+ghost use Rattle.std.specs.Prelude.{◌≡◌, ℕ, ◌<◌, ◌≤◌, ◌+◌, ◌^◌, Bool, Some, None, OnOk, OnErr, IfOk};
 ghost use Rattle.std.specs.List.{AllByRecursion};
+ghost use Rattle.std.specs.Option.{option_and_then};
 ghost use Rattle.ele_files.specs.Closing.{closing, closed, number_by, IsPast};
+ghost use Rattle.ele_files.specs.Finishing.{IsRowPast, HasRows, HasClosed, ended_rows, closing_row, changed_of};
+ghost use Rattle.ele_files.specs.Inside.{IsFileKept};
 
 use crate::file::File;
 use crate::files::{Files, place_of};
@@ -12,6 +15,22 @@ use ele_moment::{FileId, Handle, Moment, NoMemory, VersionNo};
 use ele_sessions::Closing;
 
 impl File {
+    /// The version before the next one ends, unless it has ended.
+    fn end_before(&mut self, now: Moment, meter: &mut Meter)
+        requires kept { IsFileKept self.old }
+        requires past { AllByRecursion (IsRowPast now) self.old.log.rows }
+        requires meter { meter.old < 2 ^ 62 }
+        ensures ended { HasRows self.old self.new (ended_rows self.old now) }
+        ensures room { 1 ≤ self.old.log.spare → 1 ≤ self.new.log.spare }
+        ensures read { meter.new ≤ meter.old + 1 }
+    {
+        if let Some(row) = self.log.get(self.next.before(), meter) {
+            if row.ended.is_none() {
+                self.log.end_last(now);
+            }
+        }
+    }
+
     /// The file's next version, which closes now, and ends at once where the file isn't live. The
     /// version before it ends. There is room for it.
     fn close_version(
@@ -21,13 +40,19 @@ impl File {
         is_live: bool,
         cells: BlockMap,
         meter: &mut Meter,
-    ) -> VersionNo {
+    ) -> VersionNo
+        requires kept { IsFileKept self.old }
+        requires past { AllByRecursion (IsRowPast now) self.old.log.rows }
+        requires numbered { self.old.next < 2 ^ 62 }
+        requires room { 1 ≤ self.old.log.spare }
+        requires meter { meter.old < 2 ^ 62 }
+        ensures number { result ≡ self.old.next }
+        ensures closed { HasClosed self.old self.new now
+            (closing_row self.old.next opened now is_live cells) }
+        ensures read { meter.new ≤ meter.old + 1 }
+    {
+        self.end_before(now, meter);
         let number = self.next;
-        if let Some(row) = self.log.get(number.before(), meter) {
-            if row.ended.is_none() {
-                self.log.end_last(now);
-            }
-        }
         let ended = if is_live { None } else { Some(now) };
         let row = VersionRow {
             number,
@@ -42,6 +67,16 @@ impl File {
         }
         self.next = number.after();
         number
+    }
+}
+
+/// The map of a draft that goes.
+fn map_of(closed: Option<(Closing, Option<BlockMap>)>) -> Option<BlockMap>
+    ensures { result ≡ option_and_then (λ answer. answer.1) closed }
+{
+    match closed {
+        Some(answer) => answer.1,
+        None => None,
     }
 }
 
@@ -73,18 +108,39 @@ impl Files {
         ensures err { OnErr result (self.new ≡ self.old) }
         ensures read { meter.new ≤ meter.old + 1 }
     {
-        // Told for the proof: a file has one draft.
-        let _opened = self.sessions.handles_opened();
-        if let Some(Closing::Changed(file, opened)) = self.sessions.peek_close(handle) {
-            return self.finish(handle, file, opened, now, is_live, meter);
+        match self.changed_draft(handle) {
+            Some((file, opened)) => self.finish(handle, file, opened, now, is_live, meter),
+            None => {
+                self.leave(handle);
+                Ok(None)
+            }
         }
-        if let Some((_closing, Some(map))) = self.sessions.close(handle) {
-            map.give_up(&mut self.store);
-        }
-        Ok(None)
     }
 
-    /// The handle is the last of a changed draft, which becomes a version.
+    /// The file and the opening of the draft that becomes a version when the handle closes.
+    fn changed_draft(&self, handle: Handle) -> Option<(FileId, Moment)>
+        ensures { result ≡ changed_of (closing self.now handle) }
+    {
+        match self.peek_close(handle) {
+            Some(closing) => match closing {
+                Closing::Changed(file, opened) => Some((file, opened)),
+                _ => None,
+            },
+            None => None,
+        }
+    }
+
+    /// Closes the handle, by which no version is made.
+    fn leave(&mut self, handle: Handle)
+        requires { changed_of (closing self.old handle) ≡ None }
+        ensures { (now : ℕ) (live : Bool) → self.new ≡ closed self.old handle now live }
+    {
+        if let Some(map) = map_of(self.sessions.close(handle)) {
+            map.give_up(&mut self.store);
+        }
+    }
+
+    /// The handle is the last of a changed draft of the file, opened then, which becomes a version.
     fn finish(
         &mut self,
         handle: Handle,
@@ -93,16 +149,27 @@ impl Files {
         now: Moment,
         is_live: bool,
         meter: &mut Meter,
-    ) -> Result<Option<VersionNo>, NoMemory> {
+    ) -> Result<Option<VersionNo>, NoMemory>
+        requires changed { changed_of (closing self.old handle) ≡ Some (file, opened) }
+        requires numbered { AllByRecursion (λ row. row.next < 2 ^ 62) self.old.files }
+        requires past { AllByRecursion (IsPast now) self.old.versions }
+        requires meter { meter.old < 2 ^ 62 }
+        ensures number { IfOk result
+            (λ number. number ≡ number_by self.old (closing self.old handle)) }
+        ensures ok { OnOk result (self.new ≡ closed self.old handle now is_live) }
+        ensures err { OnErr result (self.new ≡ self.old) }
+        ensures read { meter.new ≤ meter.old + 1 }
+    {
+        // Told for the proof: a file has one draft.
+        let _opened = self.sessions.handles_opened();
         let Some(at) = place_of(&self.files, file) else {
             unreachable!()
         };
         self.files[at].log.reserve()?;
-        let Some((_closing, Some(map))) = self.sessions.close(handle) else {
+        let Some(map) = map_of(self.sessions.close(handle)) else {
             unreachable!()
         };
-        Ok(Some(self.files[at].close_version(
-            opened, now, is_live, map, meter,
-        )))
+        let number = self.files[at].close_version(opened, now, is_live, map, meter);
+        Ok(Some(number))
     }
 }

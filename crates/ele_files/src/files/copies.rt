@@ -1,15 +1,19 @@
 //! Plain copies of the rows.
 //! A contract sees each as the list of the rows.
-ghost use Rattle.std.specs.Prelude.{◌≡◌, IfOk};
+ghost use Rattle.std.specs.Prelude.{◌≡◌, ◌++◌, IfOk, OnOk, find};
+ghost use Rattle.std.specs.List.{AllByRecursion};
+ghost use Rattle.std.specs.Option.{option_copied};
 ghost use Rattle.ele_blocks.specs.Layout.{shown};
 ghost use Rattle.ele_blocks.specs.LivesIn.{LivesIn};
+ghost use Rattle.ele_files.specs.Inside.{IsFileKept, rows_in};
+ghost use Rattle.ele_inode_log.specs.Rows.{is_after};
 
 use crate::file::File;
 use crate::files::Files;
+use crate::files::asking::draft_file;
 use ele_blocks::{BlockMap, BlockStore, Cell};
-use ele_inode_log::Meter;
+use ele_inode_log::{Meter, VersionRow as LogRow};
 use ele_moment::{ListOf, NoMemory, VersionNo};
-use ele_sessions::Reads;
 use ele_world::{DraftRow, FileRow, HandleRow, VersionRow};
 use std::alloc::Global;
 
@@ -45,18 +49,23 @@ impl Files {
         ensures { IfOk result (λ rows. rows ≡ self.now.drafts) }
     {
         let mut rows = Vec::with_capacity(self.alloc, self.sessions.drafts_open())?;
+        // Told for the proof: a file has one draft.
+        let _opened = self.sessions.handles_opened();
         for place in 0..self.sessions.drafts_open() {
-            if let Some((file, opened, changed)) = self.sessions.draft_at(place) {
-                if let Some(map) = self.sessions.draft(file) {
-                    let cells = copy_cells(self.alloc, &self.store, map)?;
-                    rows.push(DraftRow {
-                        file,
-                        opened,
-                        cells,
-                        changed,
-                    })?;
-                }
-            }
+            let Some(draft) = self.sessions.draft_at(place) else {
+                unreachable!()
+            };
+            let (file, opened, changed) = draft;
+            let Some(map) = self.sessions.draft(file) else {
+                unreachable!()
+            };
+            let cells = copy_cells(self.alloc, &self.store, map)?;
+            rows.push(DraftRow {
+                file,
+                opened,
+                cells,
+                changed,
+            })?;
         }
         Ok(ListOf::from_vec(rows))
     }
@@ -66,10 +75,10 @@ impl Files {
         ensures { IfOk result (λ rows. rows ≡ self.now.handles) }
     {
         let mut rows = Vec::new(self.alloc);
-        let mut place = 0;
-        while let Some((number, Reads::Draft(file))) = self.sessions.handle_at(place) {
+        while let Some(handle) = self.sessions.handle_at(rows.len()) {
+            let (number, reads) = handle;
+            let file = draft_file(reads);
             rows.push(HandleRow { number, file })?;
-            place += 1;
         }
         Ok(ListOf::from_vec(rows))
     }
@@ -82,12 +91,22 @@ fn copy_cells(alloc: Global, store: &BlockStore, map: &BlockMap) -> Result<ListO
 {
     let mut cells = Vec::with_capacity(alloc, map.slots())?;
     for slot in 0..map.slots() {
-        if let Some((writer, block)) = map.cell(slot) {
-            let bytes = ListOf::from_vec(Vec::from_slice(alloc, store.get(block))?);
-            cells.push(Cell { writer, bytes })?;
-        }
+        let Some(cell) = map.cell(slot) else {
+            unreachable!()
+        };
+        let (writer, block) = cell;
+        let bytes = ListOf::from_vec(Vec::from_slice(alloc, store.get(block))?);
+        cells.push(Cell { writer, bytes })?;
     }
     Ok(ListOf::from_vec(cells))
+}
+
+/// The file's first row with a greater number.
+fn next_row(file: &File, behind: VersionNo) -> Option<&LogRow>
+    ensures { option_copied result ≡ find (is_after behind) file.now.log.rows }
+{
+    let mut meter = Meter::new();
+    file.log.next_held(behind, &mut meter)
 }
 
 /// Adds copies of the file's rows.
@@ -96,21 +115,22 @@ fn copy_log(
     store: &BlockStore,
     file: &File,
     rows: &mut Vec<VersionRow>,
-) -> Result<(), NoMemory> {
-    let mut meter = Meter::new();
+) -> Result<(), NoMemory>
+    requires kept { IsFileKept file.now }
+    requires lives { AllByRecursion (λ row. LivesIn store.now row.cells) file.now.log.rows }
+    ensures { OnOk result (rows.new.items ≡ rows.old.items ++ rows_in store.now file.now) }
+{
     let mut behind = VersionNo(0);
-    for _ in 0..file.log.len() {
-        let Some(row) = file.log.next_held(behind, &mut meter) else {
-            break;
-        };
+    while let Some(row) = next_row(file, behind) {
         behind = row.number;
+        let cells = copy_cells(alloc, store, &row.cells)?;
         rows.push(VersionRow {
             file: file.id,
             number: row.number,
             opened: row.opened,
             closed: row.closed,
             ended: row.ended,
-            cells: copy_cells(alloc, store, &row.cells)?,
+            cells,
         })?;
     }
     Ok(())

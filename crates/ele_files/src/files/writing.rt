@@ -27,8 +27,7 @@ impl Files {
     {
         // Told for the proof: a file has one draft.
         let _opened = self.sessions.handles_opened();
-        self.sessions.write(&mut self.store, handle, offset, bytes)?;
-        Ok(())
+        self.sessions.write(&mut self.store, handle, offset, bytes)
     }
 
     /// Makes the draft under the handle so many bytes long; one of that length stays. Faults, in
@@ -46,7 +45,6 @@ impl Files {
     {
         // Told for the proof: a file has one draft.
         let _opened = self.sessions.handles_opened();
-        self.sessions.truncate(&mut self.store, handle, size)?;
-        Ok(())
+        self.sessions.truncate(&mut self.store, handle, size)
     }
 }

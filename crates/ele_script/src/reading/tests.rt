@@ -1,6 +1,7 @@
 //! Lines and what is read of them.
 use super::*;
 use ele_moment::Moment;
+use ele_policy::{Interval, Policy};
 use ele_time_path::Path;
 use ele_world::ByteList;
 use std::test::Fail;
@@ -19,9 +20,24 @@ fn every_command_is_read(rt: HostRuntime) -> Result<(), Fail> {
             "open write /a/b",
             Event::OpenWrite(Path::read(rt.alloc(), b"/a/b")?),
         ),
+        ("tick 18446744073709551615", Event::Tick(u64::MAX)),
+        ("truncate 2 0", Event::Truncate(Handle(2), 0)),
         ("close 7", Event::Close(Handle(7))),
+        (
+            "default / one",
+            Event::SetDefault(Path::read(rt.alloc(), b"/")?, Policy::One),
+        ),
+        (
+            "default /a safe:253402300799",
+            Event::SetDefault(
+                Path::read(rt.alloc(), b"/a")?,
+                Policy::Safe(Interval::new(253402300799)?),
+            ),
+        ),
         ("clean", Event::CleanOne),
+        ("read 3", Event::Read(Source::Of(Handle(3)))),
         ("due", Event::Due),
+        ("usage", Event::UsageAll),
     ];
     for (line, event) in events {
         assert_eq!(rt;
@@ -81,7 +97,33 @@ fn a_bad_line_tells_its_first_fault(rt: HostRuntime) {
         ("open  write /f", LineFault::Syntax),
         ("due\n", LineFault::Syntax),
         ("clock 01\t", LineFault::Syntax),
-        ("pass 3", LineFault::Syntax),
+        ("tick", LineFault::Syntax),
+        ("tick 01", LineFault::Syntax),
+        ("tick 18446744073709551616", LineFault::Syntax),
+        ("truncate 1", LineFault::Syntax),
+        ("truncate x 0", LineFault::Syntax),
+        ("truncate 1 -", LineFault::Syntax),
+        ("read", LineFault::Syntax),
+        ("read /f", LineFault::Syntax),
+        ("read x", LineFault::Syntax),
+        ("usage 1", LineFault::Syntax),
+        ("default /", LineFault::Syntax),
+        ("default / safe:0", LineFault::BadLadder),
+        ("default / safe:253402300800", LineFault::BadLadder),
+        ("default / safe:0/x", LineFault::Syntax),
+        ("default / safe:00", LineFault::Syntax),
+        ("default / safe:18446744073709551616", LineFault::Syntax),
+        ("default / safe:", LineFault::Syntax),
+        ("default / safe", LineFault::Syntax),
+        ("default / One", LineFault::Syntax),
+        ("default / all", LineFault::Syntax),
+        ("default / landmarks:1/2", LineFault::Syntax),
+        ("default f one", LineFault::BadPath),
+        ("default f all", LineFault::BadPath),
+        ("default /.. safe:0", LineFault::BadName),
+        ("pass", LineFault::Syntax),
+        ("pass x", LineFault::Syntax),
+        ("pass 3 4", LineFault::Syntax),
     ] {
         let line = line.as_bytes();
         assert_eq!(rt; read_event(rt.alloc(), line), Err(fault), "at {line:?}");
@@ -117,6 +159,8 @@ fn a_line_has_at_most_8192_bytes(rt: HostRuntime) -> Result<(), Fail> {
 }
 
 #[test]
-fn a_line_asks_for_its_event(rt: HostRuntime) {
+fn a_line_asks_for_its_event_or_for_a_pass(rt: HostRuntime) {
     assert_eq!(rt; read_line(rt.alloc(), b"due"), Ok(Line::Event(Event::Due)));
+    assert_eq!(rt; read_line(rt.alloc(), b"pass 3"), Ok(Line::Pass(3)));
+    assert_eq!(rt; read_event(rt.alloc(), b"pass 3"), Err(LineFault::Syntax));
 }

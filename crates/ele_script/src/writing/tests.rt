@@ -1,6 +1,6 @@
 //! Replies and their text.
 use super::*;
-use ele_world::{FileId, Handle, KeyList, Moment, Which};
+use ele_world::{ByteList, FileId, Handle, KeyList, Moment, Which};
 use std::io;
 use std::io::{Error, ErrorKind};
 use std::test::Fail;
@@ -38,10 +38,23 @@ fn key(moment: u64, file: u64, number: u64) -> Result<Key, Fail> {
     })
 }
 
+fn usage(files: u64, versions: u64, bytes: u64, blocks: u64) -> Usage {
+    Usage {
+        files,
+        versions,
+        bytes,
+        blocks,
+    }
+}
+
 #[test]
 fn every_answer_is_printed(rt: HostRuntime) -> Result<(), Fail> {
     let now = Moment::new(1709164799).ok_or("a moment")?;
     let keys = Vec::from_slice(rt.alloc(), &[key(5, 1, 2)?, key(86400, 20, 3)?])?;
+    let bytes = Vec::from_slice(rt.alloc(), &[0, 0xaf, 0xff])?;
+    let none = Usage::default();
+    let some = usage(1, 3, 2000, 4);
+    let full = usage(5, 6, 7, u64::MAX);
     let answers = [
         (Ok(Reply::Done), "ok done\n"),
         (Ok(Reply::Nothing), "ok nothing\n"),
@@ -60,10 +73,23 @@ fn every_answer_is_printed(rt: HostRuntime) -> Result<(), Fail> {
             "ok closed version 3\n",
         ),
         (Ok(Reply::Removed(key(0, 1, 10)?)), "ok removed 0 1 10\n"),
+        (
+            Ok(Reply::Bytes(ByteList::new(rt.alloc()))),
+            "ok bytes 0 -\n",
+        ),
+        (
+            Ok(Reply::Bytes(ByteList::from_vec(bytes))),
+            "ok bytes 3 00afff\n",
+        ),
         (Ok(Reply::DueList(KeyList::new(rt.alloc()))), "ok due 0\n"),
         (
             Ok(Reply::DueList(KeyList::from_vec(keys))),
             "ok due 2\n- 5 1 2\n- 86400 20 3\n",
+        ),
+        (
+            Ok(Reply::UsageList([some, none, full, none])),
+            "ok usage 4\n- one 1 3 2000 4\n- all 0 0 0 0\n\
+             - safe 5 6 7 18446744073709551615\n- landmarks 0 0 0 0\n",
         ),
         (Ok(Reply::Refused(Refusal::ClockBack)), "no 3 ClockBack\n"),
         (
@@ -87,6 +113,26 @@ fn every_answer_is_printed(rt: HostRuntime) -> Result<(), Fail> {
         assert_eq!(rt; written.as_slice(), text.as_bytes(), "at {text}");
     }
     Ok(())
+}
+
+#[test]
+fn every_end_of_a_pass_is_printed(rt: HostRuntime) {
+    for (end, text) in [
+        (PassEnd::Finished(0), "ok pass finished 0\n"),
+        (PassEnd::Budget(12), "ok pass budget 12\n"),
+        (
+            PassEnd::Stopped(Stop::HistoryFull, 3),
+            "stop 2 HistoryFull removed 3\n",
+        ),
+        (
+            PassEnd::Stopped(Stop::NoMemory, u64::MAX),
+            "stop 1 NoMemory removed 18446744073709551615\n",
+        ),
+    ] {
+        let mut written = Vec::new(rt.alloc());
+        assert_eq!(rt; write_pass(&end, &mut written), Ok(()), "at {text}");
+        assert_eq!(rt; written.as_slice(), text.as_bytes(), "at {text}");
+    }
 }
 
 #[test]

@@ -293,6 +293,49 @@ fn a_full_history_stops_events_and_bad_lines_stay_bad(rt: HostRuntime) -> Result
     Ok(())
 }
 
+/// Scripts of passes, each with its limit of events and its output: each clean event of a pass, and the reply that nothing
+/// is due, counts as a reply.
+const PASSES: [(u64, &str, &str); 5] = [
+    (
+        1,
+        "create /f\ncreate /g\npass 3\npass 0\n",
+        "ok file 1\nstop 2 HistoryFull\nstop 2 HistoryFull removed 0\nok pass budget 0\n",
+    ),
+    (
+        6,
+        "default / one\ncreate /f\nopen write /f\nwrite 1 0 61\nclose 1\npass 3\npass 3\n",
+        "ok done\nok file 1\nok handle 1\nok done\nok closed version 2\n\
+         stop 2 HistoryFull removed 1\nstop 2 HistoryFull removed 0\n",
+    ),
+    (
+        6,
+        "default / one\ncreate /f\nopen write /f\nwrite 1 0 61\nclose 1\npass 1\ndue\n",
+        "ok done\nok file 1\nok handle 1\nok done\nok closed version 2\n\
+         ok pass budget 1\nstop 2 HistoryFull\n",
+    ),
+    (
+        7,
+        "default / one\ncreate /f\nopen write /f\nwrite 1 0 61\nclose 1\npass 2\ndue\n",
+        "ok done\nok file 1\nok handle 1\nok done\nok closed version 2\n\
+         ok pass finished 1\nstop 2 HistoryFull\n",
+    ),
+    (
+        9,
+        "pass 18446744073709551615\npass\npass 01\n",
+        "ok pass finished 0\nbad 32 Syntax\nbad 32 Syntax\n",
+    ),
+];
+
+#[test]
+fn a_pass_counts_each_of_its_replies(rt: HostRuntime) -> Result<(), Fail> {
+    for (events, script, said) in &PASSES {
+        let limits = Limits::new([*events, 9, 9, 9, 9, 9, 9, 9, 9]).ok_or("no limits")?;
+        let output = output(rt.alloc(), script.as_bytes(), limits)?;
+        assert_eq!(rt; output.as_str(), *said);
+    }
+    Ok(())
+}
+
 #[test]
 fn a_limit_of_the_world_is_a_refusal(rt: HostRuntime) -> Result<(), Fail> {
     let limits = Limits::new([9, 1, 9, 9, 9, 9, 9, 9, 9]).ok_or("no limits")?;

@@ -1,5 +1,10 @@
 use Rattle.std.proofs.Common.{refl}
+use Rattle.ele_core.specs.Inside.{world_of}
+use Rattle.ele_core.proofs.Booked.{fits, opened_owed}
 use Rattle.ele_core.proofs.opening.add_handle.Goals as goal
 
-pub returns-clause-ok : goal.returns-clause-ok
-returns-clause-ok c = rw (c.put.ensures, c.reserve.ensures.items, c.in_ok-start_draft.ensures.ok, c.current_cells-cells.ensures, c.deref.ensures.value, c.deref-2.ensures.value) refl
+pub follow_blocks-requires-clause-owed : goal.follow_blocks-requires-clause-owed
+follow_blocks-requires-clause-owed c = opened_owed c.args.rows.now c.args.file c.open_write.new.self c.blocks-before.result c.requires.sound.tracked c.blocks-before.ensures.value c.in_ok-number.ensures.ok
+
+pub follow_blocks-requires-clause-fits : goal.follow_blocks-requires-clause-fits
+follow_blocks-requires-clause-fits c = fits c.args.rows.now c.requires.sound

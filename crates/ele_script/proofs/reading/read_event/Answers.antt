@@ -1,13 +1,14 @@
-use Rattle.std.proofs.Common.{◌∙◌, sym, ap, map, rules}
-use Rattle.ele_script.proofs.Laws.{only_event, only_fault, fault_of_line}
+use Rattle.ele_script.proofs.Laws.{only_event, only_event_fault, event_found, event_refused}
 use Rattle.ele_script.proofs.reading.read_event.Goals as goal
 
+pub returns-clause-found : goal.returns-clause-found
+returns-clause-found c = rw c.event_in.ensures (event_found c.args.line.now c.read_line-asked.result c.read_line-asked.ensures.found)
+
 pub returns-clause-fault : goal.returns-clause-fault
-returns-clause-fault c =
-    fault_of_line c.args.line.now (map (λ word. word.now) c.as_slice.result.now) c.event_of.result c.if-line-gt-MOST_BYTES.false (sym c.has_words.ensures ∙ c.if-not-has_words.false) (ap (λ words. map (λ word. word.now) words) c.as_slice.ensures.value ∙ c.in_ok-words.ensures) c.event_of.ensures.fault
+returns-clause-fault c = rw c.event_in.ensures (event_refused c.args.line.now c.read_line-asked.result c.read_line-asked.ensures.found c.read_line-asked.ensures.fault)
 
 pub returns-clause-only : goal.returns-clause-only
-returns-clause-only c = only_event c.args.line.now c.event_of.result (search rules) (returns-clause-fault c)
+returns-clause-only c = only_event c.args.line.now c.event_in.result (returns-clause-found c) (returns-clause-fault c)
 
 pub returns-clause-refused : goal.returns-clause-refused
-returns-clause-refused c = only_fault c.args.line.now c.event_of.result (search rules) (returns-clause-fault c)
+returns-clause-refused c = only_event_fault c.args.line.now c.event_in.result (returns-clause-found c) (returns-clause-fault c)

@@ -1,16 +1,13 @@
-use Rattle.std.proofs.Common.{◌∙◌, ap, inl, inr, Ok, Err}
-use Rattle.std.proofs.lemmas.Result.{err_from_is_err_and}
-use Rattle.ele_script.specs.declared.reading.Line.TheVariants as asks
-use Rattle.ele_script.proofs.Laws.{only_ok, only_err, no_err}
+use Rattle.std.proofs.Common.{◌∙◌, sym, ap, map, rules}
+use Rattle.ele_script.proofs.Laws.{only_line, only_fault, fault_of_line}
 use Rattle.ele_script.proofs.reading.read_line.Goals as goal
 
-pub returns-in_err-read_event-clause-only : goal.returns-in_err-read_event-clause-only
-returns-in_err-read_event-clause-only c = λ event h.
-    let p = err_from_is_err_and c.from_residual.result c.from_residual.ensures.1 in
-    inr (p.1 ∙ ap Err (p.2 ∙ only_err _ (c.in_err-read_event.ensures.only event h)))
+pub returns-clause-fault : goal.returns-clause-fault
+returns-clause-fault c =
+    fault_of_line c.args.line.now (map (λ word. word.now) c.as_slice.result.now) c.line_of.result c.if-line-gt-MOST_BYTES.false (sym c.has_words.ensures ∙ c.if-not-has_words.false) (ap (λ words. map (λ word. word.now) words) c.as_slice.ensures.value ∙ c.in_ok-words.ensures) c.line_of.ensures.fault
 
 pub returns-clause-only : goal.returns-clause-only
-returns-clause-only c = λ event h. inl (ap (λ e. Ok (asks.Event e)) (only_ok _ (c.in_ok-read_event.ensures.only event h)))
+returns-clause-only c = only_line c.args.line.now c.line_of.result (search rules) (returns-clause-fault c)
 
 pub returns-clause-refused : goal.returns-clause-refused
-returns-clause-refused c = λ fault bad. absurd (no_err _ fault (c.in_ok-read_event.ensures.refused fault bad))
+returns-clause-refused c = only_fault c.args.line.now c.line_of.result (search rules) (returns-clause-fault c)

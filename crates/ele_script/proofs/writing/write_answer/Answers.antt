@@ -25,7 +25,13 @@ pub returns-in-Removed : goal.returns-in-Removed
 returns-in-Removed g c = rw c.in-Removed.is (_, refl, c.write_key.ensures)
 
 pub returns-in-DueList : goal.returns-in-DueList
-returns-in-DueList g c = rw c.in-DueList.is (_, refl, rw c.as_slice.ensures at c.write_keys.ensures)
+returns-in-DueList g c = rw c.in-DueList.is (_, refl, rw c.as_slice-in-DueList.ensures at c.write_keys.ensures)
 
 pub returns-in-Refused : goal.returns-in-Refused
 returns-in-Refused g c = rw c.in-Refused.is (_, refl, c.write_refusal.ensures)
+
+pub returns-in-Bytes : goal.returns-in-Bytes
+returns-in-Bytes g c = rw c.in-Bytes.is (_, refl, rw c.as_slice.ensures at c.write_bytes.ensures)
+
+pub returns-in-UsageList : goal.returns-in-UsageList
+returns-in-UsageList g c = rw c.in-UsageList.is (_, refl, c.write_usages.ensures)

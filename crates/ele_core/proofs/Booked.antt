@@ -1,0 +1,186 @@
+-- The book of usage, as the files change.
+use Rattle.std.proofs.Common.{◌≡◌, ℕ, ◌+◌, ◌-◌, ◌<◌, ◌≤◌, ◌^◌, Bool, true, false, cond, eqb, List, [], ◌∷◌, length, Option, Some, None, refl, ap, sym, subst, ◌∙◌, arith}
+use Rattle.ele_core.specs.Inside.{world_of, IsSound, IsTracked}
+use Rattle.ele_core.specs.Tracked.{told_by, blocks_of, only_blocks, of_file, own, IsOwed, IsBooked}
+use Rattle.ele_core.specs.declared.rows.Rows.{Rows}
+use Rattle.ele_blocks.specs.Content.{content_of, truncated}
+use Rattle.ele_files.specs.Held.{Held, with_file, opened_by, written_by, written_of, fitted, fitted_of}
+use Rattle.ele_moment.specs.Lists.{update_first}
+use Rattle.ele_policy.specs.declared.policy.Kind.{Kind}
+use Rattle.ele_policy.specs.declared.policy.Kind.TheVariants as kind
+use Rattle.ele_policy.specs.declared.policy.Policy.{Policy}
+use Rattle.ele_policy.specs.Policy.{kind_of, is_kind}
+use Rattle.ele_usage.specs.declared.usage.Usage.{Usage}
+use Rattle.ele_usage.specs.Book.{Book, sums_of}
+use Rattle.ele_usage.specs.OnlyAt.{only_at}
+use Rattle.ele_usage.specs.Sums.{nothing, plus, Fits}
+use Rattle.ele_world.specs.Usage.{usage_of, is_file_of, bytes_in}
+use Rattle.ele_world.specs.Seen.{told}
+use Rattle.ele_world.specs.Whole.{whole, part, ChangesOnly}
+use Rattle.ele_world.specs.declared.rows.DraftRow.{DraftRow}
+use Rattle.ele_world.specs.Step.{created, opened, changed_by, fitted_by}
+use Rattle.ele_world.specs.World.{World, default_of, policy_of, next_of, is_draft, handle_file}
+use Rattle.ele_world.proofs.Usages.{usage_changes, usage_same, within_files, within_versions, within_bytes, within_blocks, whole_files, whole_versions, whole_bytes, changes_opened, changes_updated, created_usage, only_at_is}
+
+-- what a kind may use, but for its blocks
+pub record IsFew (u : Usage) : Type 0 where
+  pub files : u.files ≤ 100000
+  pub versions : u.versions ≤ 1000000
+  pub bytes : u.bytes ≤ 1048576000000
+
+pub booked : (rows : Rows) → IsTracked rows → (k : Kind) → sums_of rows.book k ≡ usage_of (world_of rows) k
+booked rows tracked k = tracked.book k ∙ usage_same (world_of rows) (told_by rows.files) refl refl refl k
+
+pub few : (rows : Rows) → IsSound rows → (k : Kind) → IsFew (sums_of rows.book k)
+few rows sound k =
+    let w = world_of rows in
+    let formed = sound.formed in
+    let bounds = sound.tracked.bounds in
+    rw (booked rows sound.tracked k) (record {
+      files = omega (arith, within_files w k, whole_files w formed bounds);
+      versions = omega (arith, within_versions w k, whole_versions w formed bounds);
+      bytes = omega (arith, within_bytes w k, whole_bytes w formed bounds);
+    })
+
+pub few_blocks : (rows : Rows) → IsTracked rows → (k : Kind) → (sums_of rows.book k).blocks ≤ blocks_of rows.files
+few_blocks rows tracked k = rw (tracked.book k) (within_blocks (told_by rows.files) k)
+
+pub fits : (rows : Rows) → IsSound rows → (k : Kind) → Fits (record (sums_of rows.book k) { blocks = 0 })
+fits rows sound k =
+    let u = few rows sound k in
+    record { files = omega (arith, u.files); versions = omega (arith, u.versions); bytes = omega (arith, u.bytes); blocks = omega arith }
+
+-- ---- the blocks that are owed after a change of one file
+
+abbrev the_usage : ℕ → ℕ → ℕ → ℕ → Usage
+the_usage files versions bytes blocks = record { files = files; versions = versions; bytes = bytes; blocks = blocks }
+
+abbrev pub some_versions : ℕ → ℕ → Usage
+some_versions versions bytes = record { files = 0; versions = versions; bytes = bytes; blocks = 0 }
+
+same_numbers : (a b c d e f g h : ℕ) → a ≡ e → b ≡ f → c ≡ g → d ≡ h → the_usage a b c d ≡ the_usage e f g h
+same_numbers a b c d e f g h e1 e2 e3 e4 = rw (e1, e2, e3, e4) refl
+
+pub same_usage : (a b : Usage) → a.files ≡ b.files → a.versions ≡ b.versions → a.bytes ≡ b.bytes → a.blocks ≡ b.blocks → a ≡ b
+same_usage a b files versions bytes blocks = same_numbers a.files a.versions a.bytes a.blocks b.files b.versions b.bytes b.blocks files versions bytes blocks
+
+pub retold : (file : ℕ) (w v : World) → ChangesOnly file w v → ChangesOnly file (told w.files w.versions w.drafts) (told v.files v.versions v.drafts)
+retold file w v c = record { kinds = c.kinds; files = c.files; versions = c.versions; drafts = c.drafts }
+
+-- where so many versions and bytes came and went, and the book has them
+pub owed : (file : ℕ) (h now : Held) (book : Book) (came_versions came_bytes gone_versions gone_bytes : ℕ) → ChangesOnly file (told_by h) (told_by now)
+  → length now.versions + gone_versions ≡ length h.versions + came_versions
+  → bytes_in now.versions + gone_bytes ≡ bytes_in h.versions + came_bytes
+  → ((k : Kind) → plus (sums_of book k) (cond (is_file_of now.files k file) (some_versions gone_versions gone_bytes) nothing) ≡ plus (usage_of (told_by h) k) (cond (is_file_of now.files k file) (some_versions came_versions came_bytes) nothing))
+  → IsOwed now book file (blocks_of h)
+owed file h now book cv cb gv gb changes versions bytes known k =
+    let w = told_by h in
+    let v = told_by now in
+    let kinds : is_file_of now.files k file ≡ is_file_of h.files k file = changes.kinds k file in
+    let moved = subst (λ d. plus (usage_of v k) (cond d (whole w) nothing) ≡ plus (usage_of w k) (cond d (whole v) nothing)) (sym kinds) (usage_changes file w v changes k) in
+    by (is_file_of now.files k file) (usage_of v k) (usage_of w k) (sums_of book k) moved (known k) where
+      by : (d : Bool) (x u s : Usage) → plus x (cond d (whole (told_by h)) nothing) ≡ plus u (cond d (whole (told_by now)) nothing) → plus s (cond d (some_versions gv gb) nothing) ≡ plus u (cond d (some_versions cv cb) nothing) → plus x (cond d (only_blocks (blocks_of h)) nothing) ≡ plus s (cond d (only_blocks (blocks_of now)) nothing)
+      by false x u s e f = e ∙ sym f
+      by true x u s e f =
+          let e1 : x.files + 0 ≡ u.files + 0 = ap (λ (t : Usage). t.files) e in
+          let e2 : x.versions + length h.versions ≡ u.versions + length now.versions = ap (λ (t : Usage). t.versions) e in
+          let e3 : x.bytes + bytes_in h.versions ≡ u.bytes + bytes_in now.versions = ap (λ (t : Usage). t.bytes) e in
+          let e4 : x.blocks + blocks_of h ≡ u.blocks + blocks_of now = ap (λ (t : Usage). t.blocks) e in
+          let f1 : s.files + 0 ≡ u.files + 0 = ap (λ (t : Usage). t.files) f in
+          let f2 : s.versions + gv ≡ u.versions + cv = ap (λ (t : Usage). t.versions) f in
+          let f3 : s.bytes + gb ≡ u.bytes + cb = ap (λ (t : Usage). t.bytes) f in
+          let f4 : s.blocks + 0 ≡ u.blocks + 0 = ap (λ (t : Usage). t.blocks) f in
+          same_usage _ _ (omega (arith, e1, f1)) (omega (arith, e2, f2, versions)) (omega (arith, e3, f3, bytes)) (omega (arith, e4, f4))
+
+-- where versions and their bytes are the same
+pub drafts_owed : (rows : Rows) (file : ℕ) (now : Held) (before : ℕ) → IsTracked rows → before ≡ blocks_of rows.files → now.versions ≡ rows.files.versions → ChangesOnly file (told_by rows.files) (told_by now) → IsOwed now rows.book file before
+drafts_owed rows file now before tracked is same changes =
+    subst (IsOwed now rows.book file) (sym is)
+    (owed file rows.files now rows.book 0 0 0 0 changes (ap (λ (rs : List _). length rs + 0) same) (ap (λ (rs : List _). bytes_in rs + 0) same)
+    (λ k. ap (λ (u : Usage). plus u (cond (is_file_of now.files k file) (some_versions 0 0) nothing)) (tracked.book k)))
+
+-- a handle is opened
+pub opened_owed : (rows : Rows) (file : ℕ) (now : Held) (before : ℕ) → IsTracked rows → before ≡ blocks_of rows.files → now ≡ opened_by rows.files file rows.moment → IsOwed now rows.book file before
+opened_owed rows file now before tracked is after =
+    subst (λ (h : Held). IsOwed h rows.book file before) (sym after)
+    (drafts_owed rows file (opened_by rows.files file rows.moment) before tracked is refl (retold file (world_of rows) (opened (world_of rows) file 0) (changes_opened (world_of rows) file 0)))
+
+-- a draft is changed
+pub updated_owed : (rows : Rows) (file : ℕ) (now : Held) (before : ℕ) (f : DraftRow → DraftRow) → ((row : DraftRow) → (f row).file ≡ row.file) → IsTracked rows → before ≡ blocks_of rows.files → now ≡ record rows.files { drafts = update_first (is_draft file) f rows.files.drafts } → IsOwed now rows.book file before
+updated_owed rows file now before f keeps tracked is after =
+    let w = world_of rows in
+    subst (λ (h : Held). IsOwed h rows.book file before) (sym after)
+    (drafts_owed rows file (record rows.files { drafts = update_first (is_draft file) f rows.files.drafts }) before tracked is refl (retold file w (record w { drafts = update_first (is_draft file) f w.drafts }) (changes_updated file w f keeps)))
+
+nothing_owed : (rows : Rows) (file before : ℕ) → IsTracked rows → before ≡ blocks_of rows.files → IsOwed rows.files rows.book file before
+nothing_owed rows file before tracked is = drafts_owed rows file rows.files before tracked is refl (record { kinds = λ k id. refl; files = λ k. refl; versions = refl; drafts = refl })
+
+fitted_file : (number size : ℕ) (row : DraftRow) → (fitted_by number size row).file ≡ row.file
+fitted_file number size row = elim (eqb (length (content_of row.cells)) size) as (λ b. (cond b row (record row { cells = truncated number size row.cells; changed = true })).file ≡ row.file) [
+  | true ↦ refl
+  | false ↦ refl
+]
+
+-- bytes are written
+pub written_owed : (rows : Rows) (handle file offset : ℕ) (bytes : List ℕ) (now : Held) (before : ℕ) → IsTracked rows → Some file ≡ handle_file rows.files.handles handle → before ≡ blocks_of rows.files → now ≡ written_by rows.files handle offset bytes → IsOwed now rows.book file before
+written_owed rows handle file offset bytes now before tracked of is after = by bytes (subst (λ (o : Option ℕ). now ≡ written_of rows.files o offset bytes) (sym of) after) where
+  by : (bytes : List ℕ) → now ≡ written_of rows.files (Some file) offset bytes → IsOwed now rows.book file before
+  by [] e = subst (λ (h : Held). IsOwed h rows.book file before) (sym e) (nothing_owed rows file before tracked is)
+  by (byte ∷ bytes) e = updated_owed rows file now before (changed_by (next_of rows.files.files file) offset (byte ∷ bytes)) (λ row. refl) tracked is e
+
+-- a draft gets another length
+pub fitted_owed : (rows : Rows) (handle file size : ℕ) (now : Held) (before : ℕ) → IsTracked rows → Some file ≡ handle_file rows.files.handles handle → before ≡ blocks_of rows.files → now ≡ fitted rows.files handle size → IsOwed now rows.book file before
+fitted_owed rows handle file size now before tracked of is after =
+    updated_owed rows file now before (fitted_by (next_of rows.files.files file) size) (fitted_file (next_of rows.files.files file) size) tracked is (subst (λ (o : Option ℕ). now ≡ fitted_of rows.files o size) (sym of) after)
+
+-- ---- a file is made
+
+pub made_fits : (rows : Rows) (k : Kind) (before : ℕ) → IsSound rows → before ≡ blocks_of rows.files → before < 2 ^ 64 → Fits (plus (sums_of rows.book k) (record { files = 1; versions = 1; bytes = 0; blocks = 0 }))
+made_fits rows k before sound is bound =
+    let u = few rows sound k in
+    record { files = omega (arith, u.files); versions = omega (arith, u.versions); bytes = omega (arith, u.bytes); blocks = omega (arith, few_blocks rows sound.tracked k, is, bound) }
+
+-- a new file, its name aside, is all that its kind has more
+pub made_book : (rows : Rows) (directory : ℕ) (name : List ℕ) (now : Held) (book : Book) → IsSound rows → now ≡ with_file rows.files (rows.made.files + 1) (default_of rows.directories.items directory) rows.moment → ((k : Kind) → sums_of book k ≡ plus (sums_of rows.book k) (only_at (kind_of (default_of rows.directories.items directory)) (record { files = 1; versions = 1; bytes = 0; blocks = 0 }) k)) → IsBooked now book
+made_book rows directory name now book sound after added k =
+    let w = world_of rows in
+    let kind = kind_of (default_of rows.directories.items directory) in
+    let new : Usage = record { files = 1; versions = 1; bytes = 0; blocks = 0 } in
+    let made = with_file rows.files (rows.made.files + 1) (default_of rows.directories.items directory) rows.moment in
+    added k
+    ∙ ap (λ (u : Usage). plus (sums_of rows.book k) u) (only_at_is k kind new)
+    ∙ ap (λ (u : Usage). plus u (cond (is_kind k kind) new nothing)) (booked rows sound.tracked k)
+    ∙ sym (created_usage w directory name sound.formed k)
+    ∙ usage_same (told_by made) (created w directory name (rows.made.files + 1)) refl refl refl k
+    ∙ ap (λ (h : Held). usage_of (told_by h) k) (sym after)
+
+-- ---- blocks that are shifted
+
+same_kind : (k : Kind) → is_kind k k ≡ true
+same_kind kind.One = refl
+same_kind kind.All = refl
+same_kind kind.Safe = refl
+same_kind kind.Landmarks = refl
+
+pub shift_fits : (files : Held) (book : Book) (file before : ℕ) (policy : Policy) → IsOwed files book file before → policy_of files.files file ≡ Some policy → Fits (record (sums_of book (kind_of policy)) { blocks = 0 }) → before < 2 ^ 64 → blocks_of files < 2 ^ 64 → Fits (plus (sums_of book (kind_of policy)) (only_blocks (blocks_of files - before)))
+shift_fits files book file before policy owed of room few_before few_now =
+    let k = kind_of policy in
+    let is : is_file_of files.files k file ≡ true = rw of (same_kind k) in
+    let e : plus (usage_of (told_by files) k) (only_blocks before) ≡ plus (sums_of book k) (only_blocks (blocks_of files)) = subst (λ b. plus (usage_of (told_by files) k) (cond b (only_blocks before) nothing) ≡ plus (sums_of book k) (cond b (only_blocks (blocks_of files)) nothing)) is (owed k) in
+    let blocks : (usage_of (told_by files) k).blocks + before ≡ (sums_of book k).blocks + blocks_of files = ap (λ (u : Usage). u.blocks) e in
+    let within = within_blocks (told_by files) k in
+    record { files = omega (arith, room.files); versions = omega (arith, room.versions); bytes = omega (arith, room.bytes); blocks = omega (arith, blocks, within, few_before, few_now) }
+
+-- ---- a version that has left
+
+pub of_file_is : (h : Held) (file : ℕ) (policy : Policy) (usage : Usage) (k : Kind) → policy_of h.files file ≡ Some policy → of_file h file usage k ≡ only_at (kind_of policy) usage k
+of_file_is h file policy usage k of = rw of (sym (only_at_is k (kind_of policy) usage))
+
+pub of_no_file : (h : Held) (file : ℕ) (usage : Usage) (k : Kind) → policy_of h.files file ≡ None → of_file h file usage k ≡ nothing
+of_no_file h file usage k of = rw of refl
+
+pub its_kind : (h : Held) (file : ℕ) (policy : Policy) → policy_of h.files file ≡ Some policy → is_file_of h.files (kind_of policy) file ≡ true
+its_kind h file policy of = rw of (same_kind (kind_of policy))
+
+pub and_nothing : (u : Usage) → plus u nothing ≡ u
+and_nothing u = same_usage (plus u nothing) u (omega arith) (omega arith) (omega arith) (omega arith)

@@ -1,0 +1,33 @@
+-- A pass, one clean event after another.
+use Rattle.std.proofs.Common.{◌≡◌, ℕ, Bool, true, false, Option, Some, None, IsSome, is_some, refl, ap, sym, subst, ◌∙◌}
+use Rattle.std.proofs.lemmas.Bool.{false≢true}
+use Rattle.ele_due.specs.declared.key.Key.{Key}
+use Rattle.ele_world.specs.declared.event.Event.TheVariants.{CleanOne}
+use Rattle.ele_world.specs.Scan.{first_due}
+use Rattle.ele_world.specs.Step.{clean_step, clean_of}
+use Rattle.ele_world.specs.WellFormed.{IsWellFormed}
+use Rattle.ele_world.specs.World.{World}
+use Rattle.ele_world.proofs.StepKeeps.{step_keeps}
+
+pub clean_keeps : (w v : World) → v ≡ (clean_step w).1 → IsWellFormed w → IsWellFormed v
+clean_keeps w v is k = subst IsWellFormed (sym is) (step_keeps w CleanOne tt k)
+
+none_if : (o : Option Key) → is_some o ≡ false → o ≡ None
+none_if None e = refl
+none_if (Some key) e = absurd (false≢true (sym e))
+
+-- where nothing is due a clean event leaves the world
+idle : (w : World) → first_due w ≡ None → (clean_step w).1 ≡ w
+unfolding clean_step
+idle w none = rw none refl
+
+pub none_due : (w v : World) (b : Bool) → b ≡ is_some (first_due w) → b ≡ false → v ≡ (clean_step w).1 → (v ≡ w) × (first_due w ≡ None)
+none_due w v b told idles after =
+    let none = none_if (first_due w) (sym told ∙ idles) in
+    (after ∙ idle w none, none)
+
+pub some_due : (w : World) (b : Bool) → b ≡ is_some (first_due w) → b ≡ true → IsSome (first_due w)
+some_due w b told removes = by (first_due w) (sym told ∙ removes) where
+  by : (o : Option Key) → is_some o ≡ true → IsSome o
+  by None e = absurd (false≢true e)
+  by (Some key) e = refl

@@ -1,0 +1,1 @@
+use Rattle.ele_core.proofs.book.take_version.Goals as goal

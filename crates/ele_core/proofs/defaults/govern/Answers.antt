@@ -1,0 +1,10 @@
+use Rattle.std.proofs.Common.{◌≡◌, position, Some, refl}
+use Rattle.ele_world.specs.World.{is_directory}
+use Rattle.ele_world.specs.Step.{governed_by}
+use Rattle.ele_world.proofs.Places.{set-first}
+use Rattle.ele_core.proofs.defaults.govern.Goals as goal
+
+pub returns-in-Some : goal.returns-in-Some
+returns-in-Some c =
+    let found : position (is_directory c.args.directory) c.args.directories.now.items ≡ Some c.in-Some.at = cc in
+    set-first (is_directory c.args.directory) (governed_by c.args.policy) _ _ c.index_mut-row.result.now _ found c.index_mut-row.ensures.value refl

@@ -1,0 +1,9 @@
+use Rattle.std.proofs.Common.{sym, ◌∙◌}
+use Rattle.ele_core.proofs.Booked.{fits, fitted_owed}
+use Rattle.ele_core.proofs.writing.truncate.Goals as goal
+
+pub follow_blocks-requires-clause-owed : goal.follow_blocks-requires-clause-owed
+follow_blocks-requires-clause-owed c = fitted_owed c.args.rows.now c.args.handle c.in-Some.file c.args.size c.truncate.new.self c.blocks-before.result c.requires.tracked (sym c.in-Some.is ∙ c.handle_file.ensures) c.blocks-before.ensures.value c.in_default-truncate.ensures.ok
+
+pub follow_blocks-requires-clause-fits : goal.follow_blocks-requires-clause-fits
+follow_blocks-requires-clause-fits c = fits c.args.rows.now c.requires

@@ -1,0 +1,29 @@
+//! The events that ask for bytes and for usage.
+ghost use Rattle.std.specs.Prelude.{◌≡◌, IfOk};
+ghost use Rattle.ele_world.specs.Step.{read_step};
+ghost use Rattle.ele_world.specs.Usage.{usages};
+ghost use Rattle.ele_core.specs.Inside.{world_of, IsTracked};
+
+use crate::rows::Rows;
+use ele_usage::Usage;
+use ele_world::{NoMemory, Refusal, Reply, Source};
+
+/// The bytes of the draft that the handle writes.
+#[tactic(auto, unfolding(ele_world::specs::Step::read_step))]
+pub fn read(rows: &Rows, source: Source) -> Result<Reply, NoMemory>
+    ensures { IfOk result (λ reply. (reply, world_of rows.now) ≡ read_step (world_of rows.now) source) }
+{
+    let Source::Of(handle) = source;
+    let Some(file) = rows.files.handle_file(handle) else {
+        return Ok(Reply::Refused(Refusal::NoHandle));
+    };
+    Ok(Reply::Bytes(rows.files.draft_content(file)?))
+}
+
+/// What the files of each kind use.
+pub fn usage(rows: &Rows) -> [Usage; 4]
+    requires { IsTracked rows.now }
+    ensures { result ≡ usages (world_of rows.now) }
+{
+    rows.book.all()
+}

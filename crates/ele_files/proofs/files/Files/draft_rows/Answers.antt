@@ -1,0 +1,27 @@
+use Rattle.std.proofs.Common.{◌++◌, ◌∷◌, [], sym, ap, ◌∙◌, arith}
+use Rattle.ele_files.proofs.Asked.{draft-map}
+use Rattle.ele_files.proofs.Copies.{draft-there, draft-next, got-none, taken-all}
+use Rattle.ele_files.proofs.files.Files.draft_rows.Goals as goal
+use Rattle.ele_files.specs.Inside.{draft_in}
+
+pub unreachable-requires-in_default-draft : goal.unreachable-requires-in_default-draft
+unreachable-requires-in_default-draft c =
+    let i = c.self.inside in
+    draft-there i.store i.sessions.drafts c.handles_opened-opened.ensures.orderly.drafts_rise c.loop-place.place c.in-Some.draft c.in-Some.ensures c.in_default-draft.ensures
+
+pub copy_cells-requires : goal.copy_cells-requires
+copy_cells-requires c =
+    let i = c.self.inside in
+    (draft-map i.store i.files.items i.sessions c.in-Some.draft.0 c.self.invariant.owed c.in-Some-draft.map.now c.in-Some-draft.ensures).0
+
+pub loop-place-preserved : goal.loop-place-preserved
+loop-place-preserved c =
+    let i = c.self.inside in
+    let next = draft-next i.store i.sessions.drafts c.handles_opened-opened.ensures.orderly.drafts_rise c.loop-place.place c.in-Some.draft c.in-Some.ensures c.in-Some-draft.map.now c.in_ok-cells.cells c.in-Some-draft.ensures c.in_ok-cells.ensures in
+    c.in_ok-push.ensures.items ∙ (ap (λ rows. rows ++ record { file = c.in-Some.draft.0; opened = c.in-Some.draft.1; cells = c.in_ok-cells.cells; changed = c.in-Some.draft.2 } ∷ []) c.loop-place.invariant ∙ sym next)
+
+pub returns : goal.returns
+returns c =
+    let i = c.self.inside in
+    let all = taken-all (draft_in i.store) i.sessions.drafts c.loop-place.place (got-none i.sessions.drafts c.loop-place.place (omega (arith, c.loop-place-test.false, c.drafts_open-place-end.ensures))) in
+    rw (← c.self.view_is) (c.from_vec.ensures ∙ (c.loop-place.invariant ∙ all))

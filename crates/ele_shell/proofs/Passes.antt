@@ -1,0 +1,88 @@
+-- Clean events in a row.
+use Rattle.std.proofs.Common.{add-one, ◌≡◌, ℕ, suc, zero, ◌+◌, ◌<◌, ◌≤◌, Bool, true, false, Option, Some, None, inl, inr, refl, ap, sym, subst, ◌∙◌, arith, Ok, Err}
+use Rattle.std.specs.Prelude.{is_some, IsSome}
+use Rattle.std.proofs.lemmas.Bool.{cases_lt}
+use Rattle.ele_due.specs.declared.key.Key.{Key}
+use Rattle.ele_world.specs.declared.event.Event.TheVariants.{CleanOne}
+use Rattle.ele_world.specs.declared.reply.Reply.{Reply}
+use Rattle.ele_world.specs.Pass.{IsCleaned}
+use Rattle.ele_world.proofs.PassEnds.{cleaned_none, cleaned_more}
+use Rattle.ele_world.specs.Scan.{first_due}
+use Rattle.ele_world.specs.Step.{step, clean_step, clean_of}
+use Rattle.ele_world.specs.World.{World}
+use Rattle.ele_world.specs.declared.pass.PassEnd.TheVariants.{Stopped}
+use Rattle.ele_world.specs.declared.refusal.Stop.{Stop}
+use Rattle.ele_world.specs.declared.refusal.Stop.TheVariants.{NoMemory, HistoryFull}
+use Rattle.ele_shell.specs.Clean.{is_removed, Cleans, MayClean}
+use Rattle.ele_shell.specs.Pass.{Removes, Finishes, Fills, MayPass}
+use Rattle.ele_shell.specs.State.{State}
+
+is_some_true : (o : Option Key) → is_some o ≡ true → IsSome o
+is_some_true (Some key) h = h
+is_some_true None h = h
+
+is_some_false : (o : Option Key) → is_some o ≡ false → o ≡ None
+is_some_false None h = refl
+is_some_false (Some key) h = absurd cc
+
+pub removes_none : (s : State) → Removes s 0 s
+removes_none s = record {
+  cleaned = cleaned_none s.world;
+  below = λ k lt. absurd (omega (arith, lt));
+  replies = omega arith;
+  most = refl;
+}
+
+-- below one more there is that one, and what was below
+below_more : (P : ℕ → Type 0) (n : ℕ) → ((k : ℕ) → k < n → P k) → P n → (k : ℕ) → k < n + 1 → P k
+below_more P n below here k lt = elim (cases_lt k n) [
+  | inl less ↦ below k less
+  | inr more ↦
+      let same : n ≡ k = omega (arith, lt, more) in
+      subst P same here
+]
+
+-- one more is removed
+pub removes_more : (s t u : State) (n : ℕ) → Removes s n t → Cleans t true u → Removes s (n + 1) u
+removes_more s t u n r c =
+    let one = cleaned_more s.world n t.world r.cleaned (is_some_true (first_due t.world) c.due) in
+    record {
+      cleaned = subst (λ w. IsCleaned s.world (n + 1) w) (sym c.world) one;
+      below = below_more (λ k. s.replies + k < s.most) n r.below (omega (arith, c.below, r.replies, r.most));
+      replies = omega (arith, c.replies, r.replies);
+      most = c.most ∙ r.most;
+    }
+
+nothing_due : (w : World) → first_due w ≡ None → (clean_step w).1 ≡ w
+unfolding clean_step
+nothing_due w none = ap (λ o. (clean_of w o).1) none
+
+-- nothing is due any more
+pub finishes : (s t u : State) (budget n : ℕ) → Removes s n t → n < budget → Cleans t false u → Finishes s budget n u
+finishes s t u budget n r lt c =
+    let none : first_due t.world ≡ None = is_some_false (first_due t.world) c.due in
+    let same : u.world ≡ t.world = c.world ∙ nothing_due t.world none in
+    record {
+      pass = record { each = r.cleaned.each; after_is = same ∙ r.cleaned.after_is; last = ap first_due same ∙ none };
+      within = lt;
+      below = omega (arith, c.below, r.replies, r.most);
+      replies = omega (arith, c.replies, r.replies);
+      most = c.most ∙ r.most;
+    }
+
+-- as many replies were given as may be
+pub fills : (s t u : State) (budget n : ℕ) → Removes s n t → n < budget → (t.replies ≡ t.most) × (u ≡ t) → Fills s budget n u
+fills s t u budget n r lt (full, same) = rw same (record { removes = r; within = lt; full = full })
+
+-- a clean event tells whether it removed a version
+pub clean_tells : (w v : World) (r : Reply) → (r, v) ≡ step w CleanOne → (is_some (first_due w) ≡ is_removed r) × (v ≡ (clean_step w).1)
+unfolding clean_step
+clean_tells w v r is = by (first_due w) is where
+  by : (o : Option Key) → (r, v) ≡ clean_of w o → (is_some o ≡ is_removed r) × (v ≡ (clean_of w o).1)
+  by None h = (ap (λ (p : Reply × World). is_removed p.0) (sym h), ap (λ (p : Reply × World). p.1) h)
+  by (Some key) h = (ap (λ (p : Reply × World). is_removed p.0) (sym h), ap (λ (p : Reply × World). p.1) h)
+
+-- a stop ends the pass
+pub stopped : (s t u : State) (budget n : ℕ) (stop : Stop) → Removes s n t → n < budget → MayClean t (Err stop) u → MayPass s budget (Stopped stop n) u
+stopped s t u budget n HistoryFull r lt c = fills s t u budget n r lt c
+stopped s t u budget n NoMemory r lt c = rw c (lt, r)

@@ -1,0 +1,107 @@
+-- The rows of other files stay where one file's rows change.
+use Rattle.std.proofs.Common.{◌≡◌, ℕ, Bool, true, false, not, ◌&&◌, cond, List, [], ◌∷◌, length, Some, refl, ap, ◌∙◌, arith, eqb}
+use Rattle.std.specs.Prelude.{filter, find}
+use Rattle.std.specs.List.{list_any}
+use Rattle.std.specs.Option.{option_map_or, option_map}
+use Rattle.std.proofs.lemmas.Bool.Decides.{nat_tests}
+use Rattle.ele_moment.specs.Lists.{update_first, remove_first, insert_before}
+use Rattle.ele_moment.proofs.Edits.{found_passes}
+use Rattle.ele_policy.specs.declared.policy.Kind.{Kind}
+use Rattle.ele_policy.specs.declared.policy.Policy.{Policy}
+use Rattle.ele_policy.specs.Policy.{kind_of, is_kind}
+use Rattle.ele_world.specs.declared.rows.DraftRow.{DraftRow}
+use Rattle.ele_world.specs.declared.rows.FileRow.{FileRow}
+use Rattle.ele_world.specs.declared.rows.VersionRow.{VersionRow}
+use Rattle.ele_world.specs.Step.{numbered_on, ended_at, with_draft, new_draft}
+use Rattle.ele_world.specs.Usage.{is_of, is_file_of}
+use Rattle.ele_world.specs.World.{World, is_draft, is_draft_after, is_file, is_version, is_version_after}
+use Rattle.ele_world.proofs.Passes.{filter-remove_first}
+
+-- a row that the filter drops, before its change and after
+filter-update_first : {X : Type 0} (q p : X → Bool) (f : X → X) (xs : List X) → ((x : X) → p x ≡ true → q x ≡ false) → ((x : X) → p x ≡ true → q (f x) ≡ false) → filter q (update_first p f xs) ≡ filter q xs
+filter-update_first q p f [] was is = refl
+filter-update_first q p f (x ∷ xs) was is = elim (p x) as (λ b. p x ≡ b → filter q (cond b (f x ∷ xs) (x ∷ update_first p f xs)) ≡ filter q (x ∷ xs)) [
+  | true ↦ λ e. rw (was x e, is x e) refl
+  | false ↦ λ e. rw (filter-update_first q p f xs was is) refl
+] refl
+
+filter-insert_before : {X : Type 0} (q p : X → Bool) (y : X) (xs : List X) → q y ≡ false → filter q (insert_before p y xs) ≡ filter q xs
+filter-insert_before q p y [] fails = rw fails refl
+filter-insert_before q p y (x ∷ xs) fails = elim (p x) as (λ b. filter q (cond b (y ∷ x ∷ xs) (x ∷ insert_before p y xs)) ≡ filter q (x ∷ xs)) [
+  | true ↦ rw fails refl
+  | false ↦ rw (filter-insert_before q p y xs fails) refl
+]
+
+-- ---- drafts
+
+abbrev pub other_drafts : ℕ → List DraftRow → List DraftRow
+other_drafts file rows = filter (λ row. not (eqb row.file file)) rows
+
+pub drafts-updated : (file : ℕ) (f : DraftRow → DraftRow) (rows : List DraftRow) → ((row : DraftRow) → (f row).file ≡ row.file) → other_drafts file (update_first (is_draft file) f rows) ≡ other_drafts file rows
+drafts-updated file f rows keeps =
+    filter-update_first (λ (row : DraftRow). not (eqb row.file file)) (is_draft file) f rows (λ row e. ap not e) (λ row e. ap (λ id. not (eqb id file)) (keeps row) ∙ ap not e)
+
+pub drafts-removed : (file : ℕ) (rows : List DraftRow) → other_drafts file (remove_first (is_draft file) rows) ≡ other_drafts file rows
+drafts-removed file rows =
+    filter-remove_first (λ (row : DraftRow). not (eqb row.file file)) (is_draft file) rows (λ row found. ap not (found_passes (is_draft file) rows row found))
+
+pub drafts-begun : (row : DraftRow) (rows : List DraftRow) → other_drafts row.file (insert_before (is_draft_after row.file) row rows) ≡ other_drafts row.file rows
+drafts-begun row rows =
+    let same : eqb row.file row.file ≡ true = grind (arith, nat_tests) in
+    filter-insert_before (λ (r : DraftRow). not (eqb r.file row.file)) (is_draft_after row.file) row rows (ap not same)
+
+pub drafts-opened : (w : World) (file : ℕ) → other_drafts file (with_draft w file) ≡ other_drafts file w.drafts
+drafts-opened w file = elim (list_any (is_draft file) w.drafts) as (λ b. other_drafts file (cond b w.drafts (insert_before (is_draft_after file) (new_draft w file) w.drafts)) ≡ other_drafts file w.drafts) [
+  | true ↦ refl
+  | false ↦ drafts-begun (new_draft w file) w.drafts
+]
+
+-- ---- versions
+
+abbrev pub other_versions : ℕ → List VersionRow → List VersionRow
+other_versions file rows = filter (λ row. not (eqb row.file file)) rows
+
+own_version : (file number : ℕ) (row : VersionRow) → is_version file number row ≡ true → not (eqb row.file file) ≡ false
+own_version file number row e = by (eqb row.file file) e where
+  by : (b : Bool) → (b && eqb row.number number) ≡ true → not b ≡ false
+  by true h = refl
+  by false h = absurd cc
+
+pub versions-removed : (file number : ℕ) (rows : List VersionRow) → other_versions file (remove_first (is_version file number) rows) ≡ other_versions file rows
+versions-removed file number rows =
+    filter-remove_first (λ (row : VersionRow). not (eqb row.file file)) (is_version file number) rows (λ row found. own_version file number row (found_passes (is_version file number) rows row found))
+
+pub versions-finished : (file next number now : ℕ) (row : VersionRow) (rows : List VersionRow) → row.file ≡ file → other_versions file (insert_before (is_version_after file next) row (update_first (is_version file number) (ended_at now) rows)) ≡ other_versions file rows
+versions-finished file next number now row rows own =
+    let q = λ (r : VersionRow). not (eqb r.file file) in
+    let same : eqb row.file file ≡ true = grind (arith, nat_tests) in
+    filter-insert_before q (is_version_after file next) row (update_first (is_version file number) (ended_at now) rows) (ap not same)
+    ∙ filter-update_first q (is_version file number) (ended_at now) rows (own_version file number) (own_version file number)
+
+-- ---- files
+
+pub kinds-numbered : (files : List FileRow) (file : ℕ) (k : Kind) (id : ℕ) → is_file_of (update_first (is_file file) numbered_on files) k id ≡ is_file_of files k id
+kinds-numbered [] file k id = refl
+kinds-numbered (x ∷ xs) file k id = elim (is_file file x) as (λ b. is_file_of (cond b (numbered_on x ∷ xs) (x ∷ update_first (is_file file) numbered_on xs)) k id ≡ is_file_of (x ∷ xs) k id) [
+  | true ↦ elim (is_file id x) as (λ b. option_map_or (λ (policy : Policy). is_kind k (kind_of policy)) (option_map (λ (row : FileRow). row.policy) (cond b (Some (numbered_on x)) (find (is_file id) xs))) false ≡ option_map_or (λ (policy : Policy). is_kind k (kind_of policy)) (option_map (λ (row : FileRow). row.policy) (cond b (Some x) (find (is_file id) xs))) false) [
+    | true ↦ refl
+    | false ↦ refl
+  ]
+  | false ↦ elim (is_file id x) as (λ b. option_map_or (λ (policy : Policy). is_kind k (kind_of policy)) (option_map (λ (row : FileRow). row.policy) (cond b (Some x) (find (is_file id) (update_first (is_file file) numbered_on xs)))) false ≡ option_map_or (λ (policy : Policy). is_kind k (kind_of policy)) (option_map (λ (row : FileRow). row.policy) (cond b (Some x) (find (is_file id) xs))) false) [
+    | true ↦ refl
+    | false ↦ kinds-numbered xs file k id
+  ]
+]
+
+pub files-numbered : (files : List FileRow) (file : ℕ) (k : Kind) → length (filter (is_of k) (update_first (is_file file) numbered_on files)) ≡ length (filter (is_of k) files)
+files-numbered [] file k = refl
+files-numbered (x ∷ xs) file k = elim (is_file file x) as (λ b. length (filter (is_of k) (cond b (numbered_on x ∷ xs) (x ∷ update_first (is_file file) numbered_on xs))) ≡ length (filter (is_of k) (x ∷ xs))) [
+  | true ↦ elim (is_of k x) as (λ b. length (cond b (numbered_on x ∷ filter (is_of k) xs) (filter (is_of k) xs)) ≡ length (cond b (x ∷ filter (is_of k) xs) (filter (is_of k) xs))) [
+    | true ↦ refl
+    | false ↦ refl
+  ]
+  | false ↦ elim (is_of k x) as (λ b. length (cond b (x ∷ filter (is_of k) (update_first (is_file file) numbered_on xs)) (filter (is_of k) (update_first (is_file file) numbered_on xs))) ≡ length (cond b (x ∷ filter (is_of k) xs) (filter (is_of k) xs))) [
+    | true ↦ omega (arith, files-numbered xs file k)
+    | false ↦ files-numbered xs file k
+  ]
+]

@@ -1,0 +1,69 @@
+-- A pass, one clean event after another.
+use Rattle.std.proofs.Common.{◌≡◌, ℕ, suc, zero, ◌+◌, ◌<◌, ◌≤◌, List, length, Option, Some, None, refl, ap, sym, subst, ◌∙◌, arith, add-one, ◌⊎◌, inl, inr}
+use Rattle.std.specs.Prelude.{IsSome}
+use Rattle.std.proofs.lemmas.Bool.{cases_lt}
+use Rattle.ele_due.specs.declared.key.Key.{Key}
+use Rattle.ele_moment.proofs.Edits.{length-remove_first}
+use Rattle.ele_world.specs.declared.event.Event.TheVariants.{CleanOne}
+use Rattle.ele_world.specs.declared.rows.VersionRow.{VersionRow}
+use Rattle.ele_world.specs.Due.{is_due_at}
+use Rattle.ele_world.specs.Pass.{IsCleaned, IsFinished}
+use Rattle.ele_world.specs.Run.{cleaned, IsPass}
+use Rattle.ele_world.specs.Scan.{first_due}
+use Rattle.ele_world.specs.Step.{clean_of, clean_step}
+use Rattle.ele_world.specs.WellFormed.{IsWellFormed}
+use Rattle.ele_world.specs.World.{World, is_version}
+use Rattle.ele_world.proofs.DueRows.{first_is_due}
+use Rattle.ele_world.proofs.Passes.{pass_leaves_kept}
+use Rattle.ele_world.proofs.Splits.{split_length}
+use Rattle.ele_world.proofs.StepKeeps.{step_keeps}
+
+-- no clean event yet
+pub cleaned_none : (w : World) → IsCleaned w 0 w
+cleaned_none w = record { each = λ k h. absurd (omega arith); after_is = refl }
+
+cleaned-end : (n : ℕ) (w : World) → cleaned (suc n) w ≡ (clean_step (cleaned n w)).1
+cleaned-end zero w = refl
+cleaned-end (suc n) w = cleaned-end n ((clean_step w).1)
+
+-- one more
+pub cleaned_more : (w : World) (n : ℕ) (v : World) → IsCleaned w n v → IsSome (first_due v) → IsCleaned w (n + 1) ((clean_step v).1)
+cleaned_more w n v so_far some = record {
+  each = λ k h. by k (cases_lt k n) h;
+  after_is = ap (λ (u : World). (clean_step u).1) so_far.after_is ∙ (sym (cleaned-end n w) ∙ ap (λ m. cleaned m w) (sym (add-one n)));
+} where
+  by : (k : ℕ) → ◌⊎◌ (k < n) (n ≤ k) → k < n + 1 → IsSome (first_due (cleaned k w))
+  by k (inl lt) h = so_far.each k lt
+  by k (inr ge) h =
+      let same : n ≡ k = omega arith in
+      subst (λ m. IsSome (first_due (cleaned m w))) same (subst (λ u. IsSome (first_due u)) so_far.after_is some)
+
+-- one version goes
+clean_removes : (w : World) → IsWellFormed w → IsSome (first_due w) → length ((clean_step w).1).versions + 1 ≡ length w.versions
+unfolding clean_step
+clean_removes w keeps some = by (first_due w) refl some where
+  by : (o : Option Key) → first_due w ≡ o → IsSome o → length ((clean_of w o).1).versions + 1 ≡ length w.versions
+  by None e h = absurd cc
+  by (Some key) e h =
+      let due = first_is_due w key keeps.versions_placed e in
+      length-remove_first (is_version key.file key.number) w.versions due.row due.found
+
+-- and so many by so many events
+cleaned_removes : (n : ℕ) (w : World) → IsWellFormed w → ((k : ℕ) → k < n → IsSome (first_due (cleaned k w))) → length (cleaned n w).versions + n ≡ length w.versions
+cleaned_removes zero w keeps each = omega arith
+cleaned_removes (suc n) w keeps each =
+    let first = clean_removes w keeps (each 0 (omega arith)) in
+    let rest = cleaned_removes n ((clean_step w).1) (step_keeps w CleanOne tt keeps) (λ k h. each (suc k) (omega arith)) in
+    omega (arith, first, rest)
+
+-- the end, when nothing is due any more
+pub pass_finishes : (w : World) (n : ℕ) (v : World) (budget : ℕ) → IsWellFormed w → IsCleaned w n v → first_due v ≡ None → n < budget → IsFinished w budget n v
+pass_finishes w n v budget keeps so_far none below =
+    let pass : IsPass w n v = record { each = so_far.each; after_is = so_far.after_is; last = none } in
+    let left = pass_leaves_kept w n v keeps pass in
+    record {
+      pass = pass;
+      below = below;
+      kept = left;
+      count = omega (arith, cleaned_removes n w keeps so_far.each, ap (λ (u : World). length u.versions) so_far.after_is, ap (λ (rows : List VersionRow). length rows) left, split_length (λ row. is_due_at w row w.now) w.versions);
+    }

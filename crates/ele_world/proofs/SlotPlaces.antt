@@ -1,0 +1,162 @@
+-- Which places the rows have, one row after another.
+use Rattle.std.proofs.Common.{◌≡◌, ℕ, ◌+◌, ◌<◌, zero, suc, Bool, true, false, not, ◌&&◌, ◌||◌, cond, List, [], ◌∷◌, ◌++◌, length, refl, ap, sym, ◌∙◌, arith, eqb, append_assoc}
+use Rattle.std.specs.Prelude.{filter}
+use Rattle.std.specs.List.{list_any, flat_map}
+use Rattle.std.proofs.lemmas.Bool.Decides.{nat_tests}
+use Rattle.std.proofs.lemmas.List.Concat.{flat_map-cons}
+use Rattle.std.proofs.lemmas.List.Folds.{list_any-append}
+use Rattle.ele_blocks.specs.declared.cell.Cell.{Cell}
+use Rattle.ele_blocks.specs.Distinct.{Place, is_place, different}
+use Rattle.ele_world.specs.declared.rows.VersionRow.{VersionRow}
+use Rattle.ele_world.specs.declared.rows.DraftRow.{DraftRow}
+use Rattle.ele_world.specs.NewPlaces.{has_slot, is_among, new_places, different_of}
+use Rattle.ele_world.specs.Usage.{places_from, places}
+
+-- ---- lists
+
+list_any-flat_map : {X Y : Type 0} (p : Y → Bool) (g : X → List Y) (xs : List X) → list_any p (flat_map g xs) ≡ list_any (λ x. list_any p (g x)) xs
+list_any-flat_map p g [] = refl
+list_any-flat_map p g (x ∷ xs) =
+    ap (list_any p) (flat_map-cons g x xs) ∙ (list_any-append p (g x) (flat_map g xs) ∙ ap (λ b. list_any p (g x) || b) (list_any-flat_map p g xs))
+
+list_any-same : {X : Type 0} (p q : X → Bool) (xs : List X) → ((x : X) → p x ≡ q x) → list_any p xs ≡ list_any q xs
+list_any-same p q [] same = refl
+list_any-same p q (x ∷ xs) same = rw (same x, list_any-same p q xs same) refl
+
+-- what the filter drops fails the test anyway
+pub list_any-filter : {X : Type 0} (p t : X → Bool) (xs : List X) → ((x : X) → t x ≡ false → p x ≡ false) → list_any p (filter t xs) ≡ list_any p xs
+list_any-filter p t [] fails = refl
+list_any-filter p t (x ∷ xs) fails = elim (t x) as (λ b. t x ≡ b → list_any p (cond b (x ∷ filter t xs) (filter t xs)) ≡ list_any p (x ∷ xs)) [
+  | true ↦ λ e. ap (λ b. p x || b) (list_any-filter p t xs fails)
+  | false ↦ λ e. rw (fails x e) (list_any-filter p t xs fails)
+] refl
+
+or_false : (b : Bool) → (b || false) ≡ b
+or_false true = refl
+or_false false = refl
+
+and_false : (b : Bool) → (b && false) ≡ false
+and_false true = refl
+and_false false = refl
+
+self_eq : (n : ℕ) → eqb n n ≡ true
+self_eq n = grind (arith, nat_tests)
+
+-- ---- a row
+
+-- a slot before the first one
+none_before : (f s : ℕ) (cells : List Cell) (place : Place) → place.slot < s → is_among (places_from f s cells) place ≡ false
+none_before f s [] place lt = refl
+none_before f s (cell ∷ cells) place lt =
+    let e : eqb s place.slot ≡ false = grind (arith, nat_tests) in
+    rw (e, and_false (eqb f place.file)) (none_before f (s + 1) cells place (omega arith))
+
+-- another file's place
+none_other : (f s : ℕ) (cells : List Cell) (place : Place) → eqb f place.file ≡ false → is_among (places_from f s cells) place ≡ false
+none_other f s [] place e = refl
+none_other f s (cell ∷ cells) place e = rw e (none_other f (s + 1) cells place e)
+
+among_from : (f s n : ℕ) (cells : List Cell) (place : Place) → place.slot ≡ s + n → is_among (places_from f s cells) place ≡ (eqb f place.file && has_slot cells n place.writer)
+among_from f s n [] place at = sym (and_false (eqb f place.file))
+among_from f s zero (cell ∷ cells) place at =
+    let e : eqb s place.slot ≡ true = grind (arith, nat_tests) in
+    rw (e, none_before f (s + 1) cells place (omega arith)) (or_false (eqb f place.file && eqb cell.writer place.writer))
+among_from f s (suc n) (cell ∷ cells) place at =
+    let e : eqb s place.slot ≡ false = grind (arith, nat_tests) in
+    rw (e, and_false (eqb f place.file)) (among_from f (s + 1) n cells place (omega arith))
+
+-- a place of all rows is one of some row
+pub among_rows : (versions : List VersionRow) (drafts : List DraftRow) (file slot writer : ℕ) → is_among (places versions drafts) (record { file = file; slot = slot; writer = writer }) ≡ (list_any (λ (row : VersionRow). eqb row.file file && has_slot row.cells slot writer) versions || list_any (λ (row : DraftRow). eqb row.file file && has_slot row.cells slot writer) drafts)
+among_rows versions drafts file slot writer =
+    let place : Place = record { file = file; slot = slot; writer = writer } in
+    let t = λ (p : Place). is_place p place in
+    rw (
+      list_any-append t (flat_map (λ (row : VersionRow). places_from row.file 0 row.cells) versions) (flat_map (λ (row : DraftRow). places_from row.file 0 row.cells) drafts),
+      list_any-flat_map t (λ (row : VersionRow). places_from row.file 0 row.cells) versions,
+      list_any-flat_map t (λ (row : DraftRow). places_from row.file 0 row.cells) drafts,
+      list_any-same (λ (row : VersionRow). list_any t (places_from row.file 0 row.cells)) (λ (row : VersionRow). eqb row.file file && has_slot row.cells slot writer) versions (λ row. among_from row.file 0 slot row.cells place (omega arith)),
+      list_any-same (λ (row : DraftRow). list_any t (places_from row.file 0 row.cells)) (λ (row : DraftRow). eqb row.file file && has_slot row.cells slot writer) drafts (λ row. among_from row.file 0 slot row.cells place (omega arith)),
+    ) refl
+
+-- ---- how many places are new
+
+pub new_places-cons : (others : List Place) (place : Place) (rest : List Place) → new_places others (place ∷ rest) ≡ cond (is_among others place) 0 1 + new_places others rest
+new_places-cons others place rest = elim (is_among others place) as (λ b. length (cond (not b) (place ∷ filter (λ p. not (is_among others p)) rest) (filter (λ p. not (is_among others p)) rest)) ≡ cond b 0 1 + new_places others rest) [
+  | true ↦ omega arith
+  | false ↦ omega arith
+]
+
+-- in front of others a row adds those that are new
+different_row : (f s : ℕ) (cells : List Cell) (others : List Place) → different is_place (places_from f s cells ++ others) ≡ new_places others (places_from f s cells) + different is_place others
+different_row f s [] others = omega arith
+different_row f s (cell ∷ cells) others =
+    let place : Place = record { file = f; slot = s; writer = cell.writer } in
+    let rest = places_from f (s + 1) cells in
+    let more = different_row f (s + 1) cells others in
+    let among : is_among (rest ++ others) place ≡ is_among others place = list_any-append (λ p. is_place p place) rest others ∙ ap (λ b. b || is_among others place) (none_before f (s + 1) cells place (omega arith)) in
+    rw (among, new_places-cons others place rest) (omega arith)
+
+-- the rows of the files that pass
+module _ (t : ℕ → Bool) where
+  among_passing : (versions : List VersionRow) (drafts : List DraftRow) (place : Place) → t place.file ≡ true → is_among (places (filter (λ row. t row.file) versions) (filter (λ row. t row.file) drafts)) place ≡ is_among (places versions drafts) place
+  among_passing versions drafts place passes =
+      let p = λ (q : Place). is_place q place in
+      let vs = λ (row : VersionRow). places_from row.file 0 row.cells in
+      let ds = λ (row : DraftRow). places_from row.file 0 row.cells in
+      let tv = λ (row : VersionRow). t row.file in
+      let td = λ (row : DraftRow). t row.file in
+      list_any-append p (flat_map vs (filter tv versions)) (flat_map ds (filter td drafts))
+      ∙ (rw (
+        list_any-flat_map p vs (filter tv versions),
+        list_any-flat_map p ds (filter td drafts),
+        list_any-filter (λ (row : VersionRow). list_any p (vs row)) tv versions (λ row e. none_other row.file 0 row.cells place (apart row.file e)),
+        list_any-filter (λ (row : DraftRow). list_any p (ds row)) td drafts (λ row e. none_other row.file 0 row.cells place (apart row.file e)),
+        ← list_any-flat_map p vs versions,
+        ← list_any-flat_map p ds drafts,
+      ) refl
+      ∙ sym (list_any-append p (flat_map vs versions) (flat_map ds drafts))) where
+        apart : (file : ℕ) → t file ≡ false → eqb file place.file ≡ false
+        apart file fails = elim (eqb file place.file) as (λ b. eqb file place.file ≡ b → b ≡ false) [
+          | true ↦ λ e. let same : file ≡ place.file = grind (arith, nat_tests) in sym (ap t same ∙ passes) ∙ fails
+          | false ↦ λ e. refl
+        ] refl
+
+  -- of a file that passes, as many are new
+  passing_new : (versions : List VersionRow) (drafts : List DraftRow) (f s : ℕ) (cells : List Cell) → t f ≡ true → new_places (places (filter (λ row. t row.file) versions) (filter (λ row. t row.file) drafts)) (places_from f s cells) ≡ new_places (places versions drafts) (places_from f s cells)
+  passing_new versions drafts f s [] passes = refl
+  passing_new versions drafts f s (cell ∷ cells) passes =
+      let place : Place = record { file = f; slot = s; writer = cell.writer } in
+      let rest = places_from f (s + 1) cells in
+      rw (
+        new_places-cons (places (filter (λ row. t row.file) versions) (filter (λ row. t row.file) drafts)) place rest,
+        new_places-cons (places versions drafts) place rest,
+        among_passing versions drafts place passes,
+        passing_new versions drafts f (s + 1) cells passes,
+      ) refl
+
+  -- one more version in front
+  pub different_version : (row : VersionRow) (versions : List VersionRow) (drafts : List DraftRow) → different_of t (row ∷ versions) drafts ≡ cond (t row.file) (new_places (places versions drafts) (places_from row.file 0 row.cells)) 0 + different_of t versions drafts
+  different_version row versions drafts = elim (t row.file) as (λ b. t row.file ≡ b → different is_place (places (cond b (row ∷ filter (λ r. t r.file) versions) (filter (λ r. t r.file) versions)) (filter (λ r. t r.file) drafts)) ≡ cond b (new_places (places versions drafts) (places_from row.file 0 row.cells)) 0 + different_of t versions drafts) [
+    | true ↦ λ e.
+        let own = places_from row.file 0 row.cells in
+        let vs = λ (r : VersionRow). places_from r.file 0 r.cells in
+        let ds = λ (r : DraftRow). places_from r.file 0 r.cells in
+        let some = filter (λ (r : VersionRow). t r.file) versions in
+        let others = filter (λ (r : DraftRow). t r.file) drafts in
+        ap (different is_place) (ap (λ (ps : List Place). ps ++ flat_map ds others) (flat_map-cons vs row some) ∙ append_assoc own (flat_map vs some) (flat_map ds others))
+        ∙ (different_row row.file 0 row.cells (places some others)
+        ∙ ap (λ n. n + different is_place (places some others)) (passing_new versions drafts row.file 0 row.cells e))
+    | false ↦ λ e. omega arith
+  ] refl
+
+  -- one more draft in front
+  pub different_draft : (row : DraftRow) (drafts : List DraftRow) → different_of t [] (row ∷ drafts) ≡ cond (t row.file) (new_places (places [] drafts) (places_from row.file 0 row.cells)) 0 + different_of t [] drafts
+  different_draft row drafts = elim (t row.file) as (λ b. t row.file ≡ b → different is_place (places [] (cond b (row ∷ filter (λ r. t r.file) drafts) (filter (λ r. t r.file) drafts))) ≡ cond b (new_places (places [] drafts) (places_from row.file 0 row.cells)) 0 + different_of t [] drafts) [
+    | true ↦ λ e.
+        let ds = λ (r : DraftRow). places_from r.file 0 r.cells in
+        let others = filter (λ (r : DraftRow). t r.file) drafts in
+        ap (different is_place) (flat_map-cons ds row others)
+        ∙ (different_row row.file 0 row.cells (places [] others)
+        ∙ ap (λ n. n + different is_place (places [] others)) (passing_new [] drafts row.file 0 row.cells e))
+    | false ↦ λ e. omega arith
+  ] refl

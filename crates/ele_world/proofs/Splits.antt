@@ -1,0 +1,139 @@
+-- Sums over the rows of some files and over those of the others.
+use Rattle.std.proofs.Common.{◌≡◌, ℕ, ◌+◌, Bool, true, false, not, ◌&&◌, cond, List, [], ◌∷◌, ◌++◌, length, map, refl, ap, sym, ◌∙◌, arith, eqb}
+use Rattle.std.specs.Prelude.{filter}
+use Rattle.std.specs.List.{flat_map, AllByRecursion}
+use Rattle.std.proofs.lemmas.Bool.Decides.{nat_tests}
+use Rattle.std.proofs.lemmas.List.Concat.{flat_map-cons}
+use Rattle.std.proofs.lemmas.List.Elements.{filter-append}
+use Rattle.std.proofs.lemmas.List.Sums.{sum_by-cons}
+use Rattle.ele_blocks.specs.declared.cell.Cell.{Cell}
+use Rattle.ele_blocks.specs.Content.{content_of}
+use Rattle.ele_blocks.specs.Distinct.{Place, is_place, different}
+use Rattle.ele_world.specs.declared.rows.VersionRow.{VersionRow}
+use Rattle.ele_world.specs.declared.rows.DraftRow.{DraftRow}
+use Rattle.ele_world.specs.Usage.{places_from, places, bytes_in}
+use Rattle.ele_world.proofs.SlotPlaces.{list_any-filter}
+
+module _ {X : Type 0} where
+  pub filter-same : (p q : X → Bool) (xs : List X) → ((x : X) → p x ≡ q x) → filter p xs ≡ filter q xs
+  filter-same p q [] same = refl
+  filter-same p q (x ∷ xs) same = rw (same x, filter-same p q xs same) refl
+
+  pub filter-same_all : (p q : X → Bool) (xs : List X) → AllByRecursion (λ x. p x ≡ q x) xs → filter p xs ≡ filter q xs
+  filter-same_all p q [] same = refl
+  filter-same_all p q (x ∷ xs) same = rw (same.0, filter-same_all p q xs same.1) refl
+
+  pub filter-both : (p q : X → Bool) (xs : List X) → filter p (filter q xs) ≡ filter (λ x. q x && p x) xs
+  filter-both p q [] = refl
+  filter-both p q (x ∷ xs) = elim (q x) as (λ b. filter p (cond b (x ∷ filter q xs) (filter q xs)) ≡ cond (b && p x) (x ∷ filter (λ y. q y && p y) xs) (filter (λ y. q y && p y) xs)) [
+    | true ↦ rw (filter-both p q xs) refl
+    | false ↦ filter-both p q xs
+  ]
+
+and_swap : (a b : Bool) → (a && b) ≡ (b && a)
+and_swap true true = refl
+and_swap true false = refl
+and_swap false true = refl
+and_swap false false = refl
+
+pub filter-swap : {X : Type 0} (p q : X → Bool) (xs : List X) → filter p (filter q xs) ≡ filter q (filter p xs)
+filter-swap p q xs = filter-both p q xs ∙ (filter-same (λ x. q x && p x) (λ x. p x && q x) xs (λ x. and_swap (q x) (p x)) ∙ sym (filter-both q p xs))
+
+-- ---- sums split
+
+pub split_length : {X : Type 0} (t : X → Bool) (xs : List X) → length xs ≡ length (filter t xs) + length (filter (λ x. not (t x)) xs)
+split_length t [] = omega arith
+split_length t (x ∷ xs) = elim (t x) as (λ b. length (x ∷ xs) ≡ length (cond b (x ∷ filter t xs) (filter t xs)) + length (cond (not b) (x ∷ filter (λ y. not (t y)) xs) (filter (λ y. not (t y)) xs))) [
+  | true ↦ omega (arith, split_length t xs)
+  | false ↦ omega (arith, split_length t xs)
+]
+
+pub bytes_in-cons : (row : VersionRow) (rows : List VersionRow) → bytes_in (row ∷ rows) ≡ length (content_of row.cells) + bytes_in rows
+bytes_in-cons row rows = sum_by-cons (λ (n : ℕ). n) (length (content_of row.cells)) (map (λ (r : VersionRow). length (content_of r.cells)) rows)
+
+split_bytes : (t : VersionRow → Bool) (rows : List VersionRow) → bytes_in rows ≡ bytes_in (filter t rows) + bytes_in (filter (λ r. not (t r)) rows)
+split_bytes t [] = refl
+split_bytes t (row ∷ rows) = elim (t row) as (λ b. bytes_in (row ∷ rows) ≡ bytes_in (cond b (row ∷ filter t rows) (filter t rows)) + bytes_in (cond (not b) (row ∷ filter (λ r. not (t r)) rows) (filter (λ r. not (t r)) rows))) [
+  | true ↦ omega (arith, bytes_in-cons row rows, bytes_in-cons row (filter t rows), split_bytes t rows)
+  | false ↦ omega (arith, bytes_in-cons row rows, bytes_in-cons row (filter (λ r. not (t r)) rows), split_bytes t rows)
+]
+
+-- places that are the same pass alike
+split_different : (t : ℕ → Bool) (ps : List Place) → different is_place ps ≡ different is_place (filter (λ p. t p.file) ps) + different is_place (filter (λ p. not (t p.file)) ps)
+split_different t [] = omega arith
+split_different t (place ∷ ps) = by (t place.file) refl (split_different t ps) where
+  q : Place → Bool
+  q p = is_place p place
+
+  apart : (b : Bool) → t place.file ≡ b → (p : Place) → t p.file ≡ not b → q p ≡ false
+  apart b e p fails = by_same (eqb p.file place.file) refl where
+    by_same : (s : Bool) → eqb p.file place.file ≡ s → (s && (eqb p.slot place.slot && eqb p.writer place.writer)) ≡ false
+    by_same true s = let same : p.file ≡ place.file = grind (arith, nat_tests) in absurd (differ b (sym e ∙ (ap t (sym same) ∙ fails))) where
+      differ : (c : Bool) → c ≡ not c → ⊥
+      differ true h = cc
+      differ false h = cc
+    by_same false s = refl
+
+  by : (b : Bool) → t place.file ≡ b → different is_place ps ≡ different is_place (filter (λ p. t p.file) ps) + different is_place (filter (λ p. not (t p.file)) ps) → different is_place (place ∷ ps) ≡ different is_place (cond b (place ∷ filter (λ p. t p.file) ps) (filter (λ p. t p.file) ps)) + different is_place (cond (not b) (place ∷ filter (λ p. not (t p.file)) ps) (filter (λ p. not (t p.file)) ps))
+  by true e rest = omega (arith, rest, ap {B = ℕ} (λ (s : Bool). cond s 0 1) (list_any-filter q (λ p. t p.file) ps (apart true e)))
+  by false e rest = omega (arith, rest, ap {B = ℕ} (λ (s : Bool). cond s 0 1) (list_any-filter q (λ p. not (t p.file)) ps (λ p fails. apart false e p (not_false (t p.file) fails)))) where
+    not_false : (b : Bool) → not b ≡ false → b ≡ true
+    not_false true h = refl
+    not_false false h = absurd cc
+
+-- the places of the rows that pass are the places that pass
+filter_places : (t : ℕ → Bool) (file slot : ℕ) (cells : List Cell) → filter (λ p. t p.file) (places_from file slot cells) ≡ cond (t file) (places_from file slot cells) []
+filter_places t file slot cells = by (t file) refl cells slot where
+  by : (b : Bool) → t file ≡ b → (cells : List Cell) (slot : ℕ) → filter (λ p. t p.file) (places_from file slot cells) ≡ cond b (places_from file slot cells) []
+  by true e [] slot = refl
+  by true e (cell ∷ cells) slot = rw e (ap (λ ps. (record { file = file; slot = slot; writer = cell.writer }) ∷ ps) (by true e cells (slot + 1)))
+  by false e [] slot = refl
+  by false e (cell ∷ cells) slot = rw e (by false e cells (slot + 1))
+
+module _ {R : Type 0} (file_of : R → ℕ) (cells_of : R → List Cell) where
+  filter_rows : (t : ℕ → Bool) (rows : List R) → filter (λ p. t p.file) (flat_map (λ r. places_from (file_of r) 0 (cells_of r)) rows) ≡ flat_map (λ r. places_from (file_of r) 0 (cells_of r)) (filter (λ r. t (file_of r)) rows)
+  filter_rows t [] = refl
+  filter_rows t (row ∷ rows) =
+      let g = λ (r : R). places_from (file_of r) 0 (cells_of r) in
+      ap (filter (λ p. t p.file)) (flat_map-cons g row rows)
+      ∙ (filter-append (λ p. t p.file) (g row) (flat_map g rows)
+      ∙ (rw (filter_places t (file_of row) 0 (cells_of row), filter_rows t rows) (by (t (file_of row))))) where
+        by : (b : Bool) → (cond b (places_from (file_of row) 0 (cells_of row)) [] ++ flat_map (λ r. places_from (file_of r) 0 (cells_of r)) (filter (λ r. t (file_of r)) rows)) ≡ flat_map (λ r. places_from (file_of r) 0 (cells_of r)) (cond b (row ∷ filter (λ r. t (file_of r)) rows) (filter (λ r. t (file_of r)) rows))
+        by true = sym (flat_map-cons (λ r. places_from (file_of r) 0 (cells_of r)) row (filter (λ r. t (file_of r)) rows))
+        by false = refl
+
+filter_all : (t : ℕ → Bool) (versions : List VersionRow) (drafts : List DraftRow) → filter (λ p. t p.file) (places versions drafts) ≡ places (filter (λ r. t r.file) versions) (filter (λ r. t r.file) drafts)
+filter_all t versions drafts =
+    filter-append (λ p. t p.file) (flat_map (λ r. places_from r.file 0 r.cells) versions) (flat_map (λ r. places_from r.file 0 r.cells) drafts)
+    ∙ rw (filter_rows (λ (r : VersionRow). r.file) (λ r. r.cells) t versions, filter_rows (λ (r : DraftRow). r.file) (λ r. r.cells) t drafts) refl
+
+split_places : (t : ℕ → Bool) (versions : List VersionRow) (drafts : List DraftRow) → different is_place (places versions drafts) ≡ different is_place (places (filter (λ r. t r.file) versions) (filter (λ r. t r.file) drafts)) + different is_place (places (filter (λ r. not (t r.file)) versions) (filter (λ r. not (t r.file)) drafts))
+split_places t versions drafts =
+    split_different t (places versions drafts)
+    ∙ (ap (λ ps. different is_place ps + different is_place (filter (λ p. not (t p.file)) (places versions drafts))) (filter_all t versions drafts)
+    ∙ ap (λ ps. different is_place (places (filter (λ r. t r.file) versions) (filter (λ r. t r.file) drafts)) + different is_place ps) (filter_all (λ file. not (t file)) versions drafts))
+
+-- ---- a sum over rows that splits by files
+
+-- the sum over the rows of the files that pass and that over the others are the whole
+pub record Splits (m : List VersionRow → List DraftRow → ℕ) : Type 0 where
+  pub none : m [] [] ≡ 0
+  pub both : (t : ℕ → Bool) (versions : List VersionRow) (drafts : List DraftRow) → m versions drafts ≡ m (filter (λ r. t r.file) versions) (filter (λ r. t r.file) drafts) + m (filter (λ r. not (t r.file)) versions) (filter (λ r. not (t r.file)) drafts)
+
+abbrev pub count_sum : List VersionRow → List DraftRow → ℕ
+count_sum versions drafts = length versions
+
+abbrev pub bytes_sum : List VersionRow → List DraftRow → ℕ
+bytes_sum versions drafts = bytes_in versions
+
+abbrev pub blocks_sum : List VersionRow → List DraftRow → ℕ
+blocks_sum versions drafts = different is_place (places versions drafts)
+
+pub count_splits : Splits count_sum
+count_splits = record { none = refl; both = λ t versions drafts. split_length (λ (r : VersionRow). t r.file) versions }
+
+pub bytes_splits : Splits bytes_sum
+bytes_splits = record { none = refl; both = λ t versions drafts. split_bytes (λ r. t r.file) versions }
+
+pub blocks_splits : Splits blocks_sum
+blocks_splits = record { none = refl; both = split_places }

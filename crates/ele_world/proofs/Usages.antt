@@ -1,0 +1,314 @@
+-- How changes of the world change usage.
+use Rattle.std.proofs.Common.{◌≡◌, ℕ, ◌+◌, ◌-◌, ◌*◌, ◌^◌, ◌<◌, ◌≤◌, Bool, true, false, not, cond, List, [], ◌∷◌, ◌++◌, length, Some, refl, ap, sym, ◌∙◌, arith, eqb}
+use Rattle.std.specs.Prelude.{filter}
+use Rattle.std.specs.List.{AllByRecursion, flat_map}
+use Rattle.std.proofs.lemmas.Bool.Decides.{nat_tests}
+use Rattle.std.proofs.lemmas.Grind.{flat_map-append}
+use Rattle.std.proofs.lemmas.List.{append-nil, length-append}
+use Rattle.std.proofs.lemmas.List.Concat.{flat_map-cons}
+use Rattle.std.proofs.lemmas.List.Elements.{filter-append}
+use Rattle.ele_policy.specs.declared.policy.Kind.{Kind}
+use Rattle.ele_policy.specs.declared.policy.Kind.TheVariants as kinds
+use Rattle.ele_policy.specs.declared.policy.Policy.{Policy}
+use Rattle.ele_policy.specs.Policy.{kind_of, is_kind}
+use Rattle.ele_usage.specs.declared.usage.Usage.{Usage}
+use Rattle.ele_usage.specs.OnlyAt.{only_at}
+use Rattle.ele_usage.specs.Sums.{nothing, plus, Fits}
+use Rattle.ele_blocks.specs.Distinct.{is_place, different}
+use Rattle.ele_world.specs.declared.rows.VersionRow.{VersionRow}
+use Rattle.ele_world.specs.declared.rows.DraftRow.{DraftRow}
+use Rattle.ele_world.specs.Usage.{is_of, is_file_of, places_from, places, bytes_in, usage_of, usages}
+use Rattle.ele_world.specs.Whole.{whole, part, ChangesOnly}
+use Rattle.ele_world.specs.World.{World, policy_of, is_file, next_of, default_of, is_draft, is_draft_after, is_version}
+use Rattle.ele_world.specs.declared.limits.Counts.{Counts}
+use Rattle.ele_world.specs.declared.rows.FileRow.{FileRow}
+use Rattle.ele_world.specs.Step.{created, new_version, opened, finished, version_of}
+use Rattle.ele_world.specs.WellFormed.{IsFile, IsVersion, IsDraft, IsWellFormed}
+use Rattle.ele_blocks.specs.Content.{content_of, longest_content}
+use Rattle.ele_moment.proofs.Edits.{all-weaker}
+use Rattle.ele_moment.specs.Lists.{update_first, remove_first, insert_before}
+use Rattle.ele_world.specs.Bounds.{AreBounds}
+use Rattle.ele_world.proofs.Others.{other_drafts, drafts-updated, drafts-removed, drafts-begun, drafts-opened, versions-removed, versions-finished, kinds-numbered, files-numbered}
+use Rattle.ele_world.proofs.Splits.{bytes_in-cons, split_length, filter-same, filter-same_all, filter-swap, Splits, count_sum, bytes_sum, blocks_sum, count_splits, bytes_splits, blocks_splits}
+
+-- ---- the rows of some files
+
+module _ {X : Type 0} (file_of : X → ℕ) where
+  -- of the rows that pass, those of a file that passes are its rows, and of another there are none
+  own_passing : (t : ℕ → Bool) (file : ℕ) (xs : List X) → filter (λ x. eqb (file_of x) file) (filter (λ x. t (file_of x)) xs) ≡ cond (t file) (filter (λ x. eqb (file_of x) file) xs) []
+  own_passing t file xs = by (t file) refl xs where
+    by_row : (b : Bool) → t file ≡ b → (x : X) (rest all : List X) → rest ≡ cond b all [] → (e : Bool) → eqb (file_of x) file ≡ e → (c : Bool) → t (file_of x) ≡ c → cond (c) (cond e (x ∷ rest) rest) rest ≡ cond b (cond e (x ∷ all) all) []
+    by_row b is x rest all h true e c passes =
+        let same : file_of x ≡ file = grind (arith, nat_tests) in
+        let both : c ≡ b = sym passes ∙ (ap t same ∙ is) in
+        rw (both, h) (go b) where
+          go : (b : Bool) → cond b (x ∷ cond b all []) (cond b all []) ≡ cond b (x ∷ all) []
+          go true = refl
+          go false = refl
+    by_row b is x rest all h false e true passes = h
+    by_row b is x rest all h false e false passes = h
+
+    push : (x : X) (c : Bool) (rest : List X) → filter (λ x. eqb (file_of x) file) (cond c (x ∷ rest) rest) ≡ cond c (cond (eqb (file_of x) file) (x ∷ filter (λ x. eqb (file_of x) file) rest) (filter (λ x. eqb (file_of x) file) rest)) (filter (λ x. eqb (file_of x) file) rest)
+    push x true rest = refl
+    push x false rest = refl
+
+    by : (b : Bool) → t file ≡ b → (xs : List X) → filter (λ x. eqb (file_of x) file) (filter (λ x. t (file_of x)) xs) ≡ cond b (filter (λ x. eqb (file_of x) file) xs) []
+    by true is [] = refl
+    by false is [] = refl
+    by b is (x ∷ xs) = push x (t (file_of x)) (filter (λ x. t (file_of x)) xs) ∙ by_row b is x (filter (λ x. eqb (file_of x) file) (filter (λ x. t (file_of x)) xs)) (filter (λ x. eqb (file_of x) file) xs) (by b is xs) (eqb (file_of x) file) refl (t (file_of x)) refl
+
+-- ---- a change of one file
+
+-- a sum over the rows of the files that pass, beside the sum over all
+module _ (m : List VersionRow → List DraftRow → ℕ) (s : Splits m) (file : ℕ) (t : ℕ → Bool) where
+  passing_sum : (versions : List VersionRow) (drafts : List DraftRow) → m (filter (λ r. t r.file) versions) (filter (λ r. t r.file) drafts) ≡ cond (t file) (m (filter (λ r. eqb r.file file) versions) (filter (λ r. eqb r.file file) drafts)) 0 + m (filter (λ r. t r.file) (filter (λ r. not (eqb r.file file)) versions)) (filter (λ r. t r.file) (filter (λ r. not (eqb r.file file)) drafts))
+  passing_sum versions drafts =
+      s.both (λ id. eqb id file) (filter (λ r. t r.file) versions) (filter (λ r. t r.file) drafts)
+      ∙ (rw (
+        own_passing (λ (r : VersionRow). r.file) t file versions,
+        own_passing (λ (r : DraftRow). r.file) t file drafts,
+        filter-swap (λ (r : VersionRow). not (eqb r.file file)) (λ r. t r.file) versions,
+        filter-swap (λ (r : DraftRow). not (eqb r.file file)) (λ r. t r.file) drafts,
+      )
+      (by (t file))) where
+        by : (b : Bool) → m (cond b (filter (λ r. eqb r.file file) versions) []) (cond b (filter (λ r. eqb r.file file) drafts) []) + m (filter (λ r. t r.file) (filter (λ r. not (eqb r.file file)) versions)) (filter (λ r. t r.file) (filter (λ r. not (eqb r.file file)) drafts)) ≡ cond b (m (filter (λ r. eqb r.file file) versions) (filter (λ r. eqb r.file file) drafts)) 0 + m (filter (λ r. t r.file) (filter (λ r. not (eqb r.file file)) versions)) (filter (λ r. t r.file) (filter (λ r. not (eqb r.file file)) drafts))
+        by true = refl
+        by false = omega (arith, s.none)
+
+  sum_changes : (versions versions' : List VersionRow) (drafts drafts' : List DraftRow)
+      → filter (λ r. not (eqb r.file file)) versions' ≡ filter (λ r. not (eqb r.file file)) versions
+      → filter (λ r. not (eqb r.file file)) drafts' ≡ filter (λ r. not (eqb r.file file)) drafts
+      → m (filter (λ r. t r.file) versions') (filter (λ r. t r.file) drafts') + cond (t file) (m versions drafts) 0 ≡ m (filter (λ r. t r.file) versions) (filter (λ r. t r.file) drafts) + cond (t file) (m versions' drafts') 0
+  sum_changes versions versions' drafts drafts' sameV sameD =
+      let was = passing_sum versions drafts in
+      let is = rw (sameV, sameD) at (passing_sum versions' drafts') in
+      let all = s.both (λ id. eqb id file) versions drafts in
+      let all' = rw (sameV, sameD) at (s.both (λ id. eqb id file) versions' drafts') in
+      rw (was, is) (by (t file) all all') where
+        by : (b : Bool) → m versions drafts ≡ m (filter (λ r. eqb r.file file) versions) (filter (λ r. eqb r.file file) drafts) + m (filter (λ r. not (eqb r.file file)) versions) (filter (λ r. not (eqb r.file file)) drafts)
+            → m versions' drafts' ≡ m (filter (λ r. eqb r.file file) versions') (filter (λ r. eqb r.file file) drafts') + m (filter (λ r. not (eqb r.file file)) versions) (filter (λ r. not (eqb r.file file)) drafts)
+            → cond b (m (filter (λ r. eqb r.file file) versions') (filter (λ r. eqb r.file file) drafts')) 0 + m (filter (λ r. t r.file) (filter (λ r. not (eqb r.file file)) versions)) (filter (λ r. t r.file) (filter (λ r. not (eqb r.file file)) drafts)) + cond b (m versions drafts) 0
+            ≡ cond b (m (filter (λ r. eqb r.file file) versions) (filter (λ r. eqb r.file file) drafts)) 0 + m (filter (λ r. t r.file) (filter (λ r. not (eqb r.file file)) versions)) (filter (λ r. t r.file) (filter (λ r. not (eqb r.file file)) drafts)) + cond b (m versions' drafts') 0
+        by true all all' = omega (arith, all, all')
+        by false all all' = omega arith
+
+-- the sums over the rows of the files that pass
+abbrev summed : ℕ → (ℕ → Bool) → List VersionRow → List DraftRow → Usage
+summed files t versions drafts =
+    let some = filter (λ (r : VersionRow). t r.file) versions in
+    let others = filter (λ (r : DraftRow). t r.file) drafts in
+    record { files = files; versions = count_sum some others; bytes = bytes_sum some others; blocks = blocks_sum some others }
+
+usage_is : (w : World) (k : Kind) → usage_of w k ≡ summed (length (filter (is_of k) w.files)) (is_file_of w.files k) w.versions w.drafts
+unfolding usage_of
+usage_is w k = refl
+
+summed-same : (files : ℕ) (t t' : ℕ → Bool) (versions : List VersionRow) (drafts : List DraftRow) → ((id : ℕ) → t id ≡ t' id) → summed files t versions drafts ≡ summed files t' versions drafts
+summed-same files t t' versions drafts same =
+    rw (filter-same (λ (r : VersionRow). t r.file) (λ r. t' r.file) versions (λ r. same r.file), filter-same (λ (r : DraftRow). t r.file) (λ r. t' r.file) drafts (λ r. same r.file)) refl
+
+same_usage : (a b : Usage) → a.files ≡ b.files → a.versions ≡ b.versions → a.bytes ≡ b.bytes → a.blocks ≡ b.blocks → a ≡ b
+same_usage a b files versions bytes blocks =
+    ap (λ n. record a { files = n }) files ∙ (ap (λ n. record a { files = b.files; versions = n }) versions ∙ (ap (λ n. record a { files = b.files; versions = b.versions; bytes = n }) bytes ∙ ap (λ n. record b { blocks = n }) blocks))
+
+-- the sums of the kind, as a change of one file leaves them
+pub usage_changes : (file : ℕ) (w v : World) → ChangesOnly file w v → (k : Kind) → plus (usage_of v k) (part w file k w) ≡ plus (usage_of w k) (part w file k v)
+usage_changes file w v only k =
+    let t = is_file_of w.files k in
+    let now : usage_of v k ≡ summed (length (filter (is_of k) w.files)) t v.versions v.drafts =
+    usage_is v k ∙ (summed-same (length (filter (is_of k) v.files)) (is_file_of v.files k) t v.versions v.drafts (only.kinds k) ∙ ap (λ n. summed n t v.versions v.drafts) (only.files k)) in
+    let n = length (filter (is_of k) w.files) in
+    let count = sum_changes count_sum count_splits file t w.versions v.versions w.drafts v.drafts only.versions only.drafts in
+    let bytes = sum_changes bytes_sum bytes_splits file t w.versions v.versions w.drafts v.drafts only.versions only.drafts in
+    let blocks = sum_changes blocks_sum blocks_splits file t w.versions v.versions w.drafts v.drafts only.versions only.drafts in
+    rw (now, usage_is w k) (by (t file) (summed n t v.versions v.drafts) (summed n t w.versions w.drafts) (whole w) (whole v) refl refl count bytes blocks) where
+      by : (b : Bool) (a c x y : Usage) → a.files ≡ c.files → x.files ≡ y.files → a.versions + cond b x.versions 0 ≡ c.versions + cond b y.versions 0 → a.bytes + cond b x.bytes 0 ≡ c.bytes + cond b y.bytes 0 → a.blocks + cond b x.blocks 0 ≡ c.blocks + cond b y.blocks 0 → plus a (cond b x nothing) ≡ plus c (cond b y nothing)
+      by true a c x y files same versions bytes blocks = same_usage (plus a x) (plus c y) (omega arith) versions bytes blocks
+      by false a c x y files same versions bytes blocks = same_usage (plus a nothing) (plus c nothing) (omega arith) versions bytes blocks
+
+-- what counts at its own kind alone
+pub only_at_is : (k kind : Kind) (usage : Usage) → only_at kind usage k ≡ cond (is_kind k kind) usage nothing
+only_at_is k kind usage = ap (λ b. cond b usage nothing) (swapped kind k) where
+  swapped : (a b : Kind) → is_kind a b ≡ is_kind b a
+  swapped kinds.One kinds.One = refl
+  swapped kinds.One kinds.All = refl
+  swapped kinds.One kinds.Safe = refl
+  swapped kinds.One kinds.Landmarks = refl
+  swapped kinds.All kinds.One = refl
+  swapped kinds.All kinds.All = refl
+  swapped kinds.All kinds.Safe = refl
+  swapped kinds.All kinds.Landmarks = refl
+  swapped kinds.Safe kinds.One = refl
+  swapped kinds.Safe kinds.All = refl
+  swapped kinds.Safe kinds.Safe = refl
+  swapped kinds.Safe kinds.Landmarks = refl
+  swapped kinds.Landmarks kinds.One = refl
+  swapped kinds.Landmarks kinds.All = refl
+  swapped kinds.Landmarks kinds.Safe = refl
+  swapped kinds.Landmarks kinds.Landmarks = refl
+
+-- a part by the policy of the file
+pub part_is : (first : World) (file : ℕ) (policy : Policy) (k : Kind) (w : World) → policy_of first.files file ≡ Some policy → part first file k w ≡ only_at (kind_of policy) (whole w) k
+part_is first file policy k w filed = rw filed (sym (only_at_is k (kind_of policy) (whole w)))
+
+-- ---- a new file
+
+-- a file that is there before is found alike once one is added behind
+kind_before : (files : List FileRow) (row : FileRow) (k : Kind) (id : ℕ) → 0 < next_of files id → is_file_of (files ++ row ∷ []) k id ≡ is_file_of files k id
+kind_before [] row k id there = absurd (omega arith)
+kind_before (x ∷ xs) row k id there = elim (is_file id x) as (λ b. is_file id x ≡ b → is_file_of (x ∷ (xs ++ row ∷ [])) k id ≡ is_file_of (x ∷ xs) k id) [
+  | true ↦ λ e. rw e refl
+  | false ↦ λ e. rw e (kind_before xs row k id (rw e at there))
+] refl
+
+-- and the one added by its policy, where its number is new
+kind_added : (made : Counts) (files : List FileRow) (row : FileRow) (k : Kind) → AllByRecursion (IsFile made) files → made.files < row.id → is_file_of (files ++ row ∷ []) k row.id ≡ is_kind k (kind_of row.policy)
+kind_added made [] row k all new = let e : is_file row.id row ≡ true = grind (arith, nat_tests) in rw e refl
+kind_added made (x ∷ xs) row k all new =
+    let given = all.0.given in
+    let e : is_file row.id x ≡ false = grind (arith, nat_tests) in
+    rw e (kind_added made xs row k all.1 new)
+
+-- rows of files that are there pass as before
+rows_before : {R : Type 0} (file_of : R → ℕ) (P : R → Type 0) (files : List FileRow) (row : FileRow) (k : Kind) (rows : List R) → ((r : R) → P r → 0 < next_of files (file_of r)) → AllByRecursion P rows → filter (λ r. is_file_of (files ++ row ∷ []) k (file_of r)) rows ≡ filter (λ r. is_file_of files k (file_of r)) rows
+rows_before file_of P files row k rows there all =
+    filter-same_all (λ r. is_file_of (files ++ row ∷ []) k (file_of r)) (λ r. is_file_of files k (file_of r)) rows
+    (all-weaker P (λ r. is_file_of (files ++ row ∷ []) k (file_of r) ≡ is_file_of files k (file_of r)) rows (λ r h. kind_before files row k (file_of r) (there r h)) all)
+
+-- a version without cells, behind the others
+bytes_more : (rows : List VersionRow) (row : VersionRow) → row.cells ≡ [] → bytes_in (rows ++ row ∷ []) ≡ bytes_in rows
+bytes_more [] row empty = omega (arith, bytes_in-cons row [], ap (λ cells. length (content_of cells)) empty)
+bytes_more (x ∷ xs) row empty = omega (arith, bytes_in-cons x (xs ++ row ∷ []), bytes_in-cons x xs, bytes_more xs row empty)
+
+places_more : (rows : List VersionRow) (row : VersionRow) (drafts : List DraftRow) → row.cells ≡ [] → places (rows ++ row ∷ []) drafts ≡ places rows drafts
+places_more rows row drafts empty =
+    let g = λ (r : VersionRow). places_from r.file 0 r.cells in
+    let none : g row ≡ [] = ap (places_from row.file 0) empty in
+    ap (λ ps. ps ++ flat_map (λ (r : DraftRow). places_from r.file 0 r.cells) drafts)
+    (flat_map-append g rows (row ∷ []) ∙ (ap (λ ps. flat_map g rows ++ ps) (flat_map-cons g row [] ∙ ap (λ ps. ps ++ []) none) ∙ append-nil (flat_map g rows)))
+
+-- the sums with one more file of a kind that passes, or of another
+pushed : (b : Bool) (files : List FileRow) (file : FileRow) (versions : List VersionRow) (version : VersionRow) (drafts : List DraftRow) → version.cells ≡ []
+    → (let usage : Usage = record { files = length (files ++ cond b (file ∷ []) []); versions = length (versions ++ cond b (version ∷ []) []); bytes = bytes_in (versions ++ cond b (version ∷ []) []); blocks = different is_place (places (versions ++ cond b (version ∷ []) []) drafts) } in usage)
+    ≡ plus (record { files = length files; versions = length versions; bytes = bytes_in versions; blocks = different is_place (places versions drafts) }) (cond b (record { files = 1; versions = 1; bytes = 0; blocks = 0 }) nothing)
+pushed true files file versions version drafts empty =
+    same_usage _ _ (length-append files (file ∷ [])) (length-append versions (version ∷ [])) (omega (arith, bytes_more versions version empty)) (omega (arith, ap (different is_place) (places_more versions version drafts empty)))
+pushed false files file versions version drafts empty =
+    rw (append-nil files, append-nil versions) (same_usage _ _ (omega arith) (omega arith) (omega arith) (omega arith))
+
+filter_push : {X : Type 0} (p : X → Bool) (xs : List X) (x : X) → filter p (xs ++ x ∷ []) ≡ filter p xs ++ cond (p x) (x ∷ []) []
+filter_push p xs x = filter-append p xs (x ∷ [])
+
+-- a new file with its first version, which is empty
+pub created_usage : (w : World) (directory : ℕ) (name : List ℕ) → IsWellFormed w → (k : Kind) → usage_of (created w directory name (w.made.files + 1)) k ≡ plus (usage_of w k) (cond (is_kind k (kind_of (default_of w.directories directory))) (record { files = 1; versions = 1; bytes = 0; blocks = 0 }) nothing)
+created_usage w directory name keeps k =
+    let id = w.made.files + 1 in
+    let file : FileRow = record { id = id; policy = default_of w.directories directory; next = 2 } in
+    let version = new_version w id 1 w.now [] in
+    let t = is_file_of w.files k in
+    let t' = is_file_of (w.files ++ file ∷ []) k in
+    let b = is_kind k (kind_of (default_of w.directories directory)) in
+    let own : t' id ≡ b = kind_added w.made w.files file k keeps.files (omega arith) in
+    let versions : filter (λ (r : VersionRow). t' r.file) (w.versions ++ version ∷ []) ≡ filter (λ (r : VersionRow). t r.file) w.versions ++ cond b (version ∷ []) [] =
+    filter_push (λ (r : VersionRow). t' r.file) w.versions version
+    ∙ (ap (λ rows. rows ++ cond (t' id) (version ∷ []) []) (rows_before (λ (r : VersionRow). r.file) (IsVersion w.files w.now) w.files file k w.versions (λ r h. let n = h.numbered in omega arith) keeps.versions)
+    ∙ ap (λ c. filter (λ (r : VersionRow). t r.file) w.versions ++ cond c (version ∷ []) []) own) in
+    let drafts = rows_before (λ (r : DraftRow). r.file) (IsDraft w.files w.now) w.files file k w.drafts (λ r h. h.there) keeps.drafts in
+    usage_is (created w directory name id) k
+    ∙ (rw (versions, drafts, filter_push (is_of k) w.files file) (pushed b (filter (is_of k) w.files) file (filter (λ (r : VersionRow). t r.file) w.versions) version (filter (λ (r : DraftRow). t r.file) w.drafts) refl)
+    ∙ ap (λ u. plus u (cond b (record { files = 1; versions = 1; bytes = 0; blocks = 0 }) nothing)) (sym (usage_is w k)))
+
+-- ---- which changes are of one file
+
+-- a change of nothing that usage reads
+pub usage_same : (w v : World) → v.files ≡ w.files → v.versions ≡ w.versions → v.drafts ≡ w.drafts → (k : Kind) → usage_of v k ≡ usage_of w k
+usage_same w v files versions drafts k = usage_is v k ∙ (rw (files, versions, drafts) refl ∙ sym (usage_is w k))
+
+-- a change of the file's draft alone
+pub changes_drafts : (file : ℕ) (w v : World) → v.files ≡ w.files → v.versions ≡ w.versions → other_drafts file v.drafts ≡ other_drafts file w.drafts → ChangesOnly file w v
+changes_drafts file w v files versions drafts = record {
+  kinds = λ k id. ap (λ rows. is_file_of rows k id) files;
+  files = λ k. ap (λ rows. length (filter (is_of k) rows)) files;
+  versions = ap (filter (λ (row : VersionRow). not (eqb row.file file))) versions;
+  drafts = drafts;
+}
+
+pub changes_updated : (file : ℕ) (w : World) (f : DraftRow → DraftRow) → ((row : DraftRow) → (f row).file ≡ row.file) → ChangesOnly file w (record w { drafts = update_first (is_draft file) f w.drafts })
+changes_updated file w f keeps = changes_drafts file w (record w { drafts = update_first (is_draft file) f w.drafts }) refl refl (drafts-updated file f w.drafts keeps)
+
+pub changes_vanished : (file : ℕ) (w : World) → ChangesOnly file w (record w { drafts = remove_first (is_draft file) w.drafts })
+changes_vanished file w = changes_drafts file w (record w { drafts = remove_first (is_draft file) w.drafts }) refl refl (drafts-removed file w.drafts)
+
+pub changes_begun : (w : World) (row : DraftRow) → ChangesOnly row.file w (record w { drafts = insert_before (is_draft_after row.file) row w.drafts })
+changes_begun w row = changes_drafts row.file w (record w { drafts = insert_before (is_draft_after row.file) row w.drafts }) refl refl (drafts-begun row w.drafts)
+
+pub changes_opened : (w : World) (file number : ℕ) → ChangesOnly file w (opened w file number)
+changes_opened w file number = changes_drafts file w (opened w file number) refl refl (drafts-opened w file)
+
+pub changes_removed : (file number : ℕ) (w : World) → ChangesOnly file w (record w { versions = remove_first (is_version file number) w.versions })
+changes_removed file number w = record { kinds = λ k id. refl; files = λ k. refl; versions = versions-removed file number w.versions; drafts = refl }
+
+pub changes_finished : (w : World) (draft : DraftRow) → ChangesOnly draft.file w (finished w draft)
+changes_finished w draft =
+    let next = next_of w.files draft.file in
+    record {
+      kinds = λ k id. kinds-numbered w.files draft.file k id;
+      files = λ k. files-numbered w.files draft.file k;
+      versions = versions-finished draft.file next (next - 1) w.now (version_of w draft) w.versions refl;
+      drafts = drafts-removed draft.file w.drafts;
+    }
+
+-- ---- bounds
+
+passing_le : (m : List VersionRow → List DraftRow → ℕ) → Splits m → (t : ℕ → Bool) (versions : List VersionRow) (drafts : List DraftRow) → m (filter (λ r. t r.file) versions) (filter (λ r. t r.file) drafts) ≤ m versions drafts
+passing_le m s t versions drafts = omega (arith, s.both t versions drafts)
+
+-- the versions, bytes and blocks of a kind are within the whole
+pub within_versions : (w : World) (k : Kind) → (usage_of w k).versions ≤ (whole w).versions
+unfolding usage_of
+within_versions w k = passing_le count_sum count_splits (is_file_of w.files k) w.versions w.drafts
+
+pub within_bytes : (w : World) (k : Kind) → (usage_of w k).bytes ≤ (whole w).bytes
+unfolding usage_of
+within_bytes w k = passing_le bytes_sum bytes_splits (is_file_of w.files k) w.versions w.drafts
+
+pub within_blocks : (w : World) (k : Kind) → (usage_of w k).blocks ≤ (whole w).blocks
+unfolding usage_of
+within_blocks w k = passing_le blocks_sum blocks_splits (is_file_of w.files k) w.versions w.drafts
+
+pub within_files : (w : World) (k : Kind) → (usage_of w k).files ≤ length w.files
+unfolding usage_of
+within_files w k = omega (arith, split_length (is_of k) w.files)
+
+bytes_short : (files : List FileRow) (now : ℕ) (rows : List VersionRow) → AllByRecursion (IsVersion files now) rows → bytes_in rows ≤ longest_content * length rows
+bytes_short files now [] all = omega arith
+bytes_short files now (x ∷ xs) all = let here = all.0.short in omega (arith, here, bytes_in-cons x xs, bytes_short files now xs all.1)
+
+pub whole_files : (w : World) → IsWellFormed w → AreBounds w.limits → length w.files ≤ 100000
+whole_files w keeps bounds = let most = bounds.files in let rows = keeps.counts.file_rows in let made = keeps.counts.files in omega arith
+
+pub whole_versions : (w : World) → IsWellFormed w → AreBounds w.limits → (whole w).versions ≤ 1000000
+whole_versions w keeps bounds = let most = bounds.versions in let rows = keeps.counts.version_rows in let made = keeps.counts.versions in omega arith
+
+pub whole_bytes : (w : World) → IsWellFormed w → AreBounds w.limits → (whole w).bytes ≤ 1048576000000
+whole_bytes w keeps bounds = omega (arith, bytes_short w.files w.now w.versions keeps.versions, whole_versions w keeps bounds)
+
+-- all of them fit, if the blocks do: a cell may be empty, so no other bound is known of these
+pub whole_fits : (w : World) → IsWellFormed w → AreBounds w.limits → (whole w).blocks < 2 ^ 64 → Fits (whole w)
+whole_fits w keeps bounds blocks = record {
+  files = omega arith;
+  versions = omega (arith, whole_versions w keeps bounds);
+  bytes = omega (arith, whole_bytes w keeps bounds);
+  blocks = blocks;
+}
+
+pub usage_fits : (w : World) → IsWellFormed w → AreBounds w.limits → (whole w).blocks < 2 ^ 64 → (k : Kind) → Fits (usage_of w k)
+usage_fits w keeps bounds blocks k = record {
+  files = omega (arith, within_files w k, whole_files w keeps bounds);
+  versions = omega (arith, within_versions w k, whole_versions w keeps bounds);
+  bytes = omega (arith, within_bytes w k, whole_bytes w keeps bounds);
+  blocks = omega (arith, within_blocks w k, blocks);
+}
+
+pub usages_fit : (w : World) → ((k : Kind) → Fits (usage_of w k)) → AllByRecursion Fits (usages w)
+usages_fit w fits = (fits kinds.One, (fits kinds.All, (fits kinds.Safe, (fits kinds.Landmarks, tt))))

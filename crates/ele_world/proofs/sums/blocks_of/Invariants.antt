@@ -1,0 +1,7 @@
+use Rattle.std.proofs.Common.{◌≡◌, ◌+◌, drop}
+use Rattle.ele_world.specs.Usage.{is_file_of}
+use Rattle.ele_world.specs.NewPlaces.{different_of}
+use Rattle.ele_world.proofs.sums.blocks_of.Given as goal
+
+abbrev pub invariant-loop-i : goal.invariant-loop-i
+invariant-loop-i l = l.blocks + different_of (is_file_of l.files l.kind) (drop l.i l.versions) l.drafts ≡ different_of (is_file_of l.files l.kind) l.versions l.drafts

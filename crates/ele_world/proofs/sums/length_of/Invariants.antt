@@ -1,0 +1,6 @@
+use Rattle.std.proofs.Common.{◌≡◌, ◌+◌, length, drop}
+use Rattle.ele_blocks.specs.Content.{content_of}
+use Rattle.ele_world.proofs.sums.length_of.Given as goal
+
+abbrev pub invariant-loop-cell : goal.invariant-loop-cell
+invariant-loop-cell l = l.bytes + length (content_of (drop l.cell-index l.cells)) ≡ length (content_of l.cells)

@@ -1,0 +1,26 @@
+-- How a pass with a budget ends.
+use Rattle.std.specs.Prelude.{◌≡◌, ℕ, ◌<◌, length, filter, IsSome}
+use Rattle.ele_world.specs.declared.pass.PassEnd.{PassEnd}
+use Rattle.ele_world.specs.declared.pass.PassEnd.TheVariants.{Finished, Budget, Stopped}
+use Rattle.ele_world.specs.Due.{is_due_at, kept}
+use Rattle.ele_world.specs.Run.{cleaned, IsPass}
+use Rattle.ele_world.specs.Scan.{first_due}
+use Rattle.ele_world.specs.World.{World}
+
+-- the world after so many clean events, each of which removed a version
+pub record IsCleaned (w : World) (removed : ℕ) (after : World) : Type 0 where
+  pub each : (k : ℕ) → k < removed → IsSome (first_due (cleaned k w))
+  pub after_is : after ≡ cleaned removed w
+
+-- nothing is due any more, before the budget is used up: what was due is removed, and what wasn't is kept
+pub record IsFinished (w : World) (budget removed : ℕ) (after : World) : Type 0 where
+  pub pass : IsPass w removed after
+  pub below : removed < budget
+  pub kept : after.versions ≡ kept w
+  pub count : removed ≡ length (filter (λ row. is_due_at w row w.now) w.versions)
+
+-- a pass from a world with that budget, how it ended, and the world that it left
+abbrev pub EndsPass : World → ℕ → PassEnd → World → Type 0
+EndsPass w budget (Finished removed) after = IsFinished w budget removed after
+EndsPass w budget (Budget removed) after = (removed ≡ budget) × IsCleaned w removed after
+EndsPass w budget (Stopped stop removed) after = (removed < budget) × IsCleaned w removed after
