@@ -69,10 +69,10 @@ retold file w v c = record { kinds = c.kinds; files = c.files; versions = c.vers
 
 -- where so many versions and bytes came and went, and the book has them
 pub owed : (file : ℕ) (h now : Held) (book : Book) (came_versions came_bytes gone_versions gone_bytes : ℕ) → ChangesOnly file (told_by h) (told_by now)
-  → length now.versions + gone_versions ≡ length h.versions + came_versions
-  → bytes_in now.versions + gone_bytes ≡ bytes_in h.versions + came_bytes
-  → ((k : Kind) → plus (sums_of book k) (cond (is_file_of now.files k file) (some_versions gone_versions gone_bytes) nothing) ≡ plus (usage_of (told_by h) k) (cond (is_file_of now.files k file) (some_versions came_versions came_bytes) nothing))
-  → IsOwed now book file (blocks_of h)
+    → length now.versions + gone_versions ≡ length h.versions + came_versions
+    → bytes_in now.versions + gone_bytes ≡ bytes_in h.versions + came_bytes
+    → ((k : Kind) → plus (sums_of book k) (cond (is_file_of now.files k file) (some_versions gone_versions gone_bytes) nothing) ≡ plus (usage_of (told_by h) k) (cond (is_file_of now.files k file) (some_versions came_versions came_bytes) nothing))
+    → IsOwed now book file (blocks_of h)
 owed file h now book cv cb gv gb changes versions bytes known k =
     let w = told_by h in
     let v = told_by now in

@@ -29,9 +29,9 @@ module _ (h : VersionRow → Option Key) (k : Key) where
   has-insert p y (x ∷ xs) = elim (p x) as (λ b. has_key k (filter_map h (cond b (y ∷ x ∷ xs) (x ∷ insert_before p y xs))) ≡ (has_any k (h y) || has_key k (filter_map h (x ∷ xs)))) [
     | true ↦ has-cons y (x ∷ xs)
     | false ↦ has-cons x (insert_before p y xs)
-      ∙ ap (λ b. has_any k (h x) || b) (has-insert p y xs)
-      ∙ swap_or (has_any k (h x)) (has_any k (h y)) (has_key k (filter_map h xs))
-      ∙ ap (λ b. has_any k (h y) || b) (sym (has-cons x xs))
+        ∙ ap (λ b. has_any k (h x) || b) (has-insert p y xs)
+        ∙ swap_or (has_any k (h x)) (has_any k (h y)) (has_key k (filter_map h xs))
+        ∙ ap (λ b. has_any k (h y) || b) (sym (has-cons x xs))
   ]
 
   -- a row without a key changes
@@ -46,9 +46,9 @@ module _ (h : VersionRow → Option Key) (k : Key) where
         ∙ ap (λ (r : VersionRow). has_any k (h (g r)) || has_key k (filter_map h xs)) same
         ∙ ap (λ b. has_any k (h (g row)) || b) (sym (has-cons x xs ∙ ap (λ (o : Option Key). has_any k o || has_key k (filter_map h xs)) bare))
     by rest false e f = has-cons x (update_first p g xs)
-      ∙ ap (λ b. has_any k (h x) || b) (rest f none)
-      ∙ swap_or (has_any k (h x)) (has_any k (h (g row))) (has_key k (filter_map h xs))
-      ∙ ap (λ b. has_any k (h (g row)) || b) (sym (has-cons x xs))
+        ∙ ap (λ b. has_any k (h x) || b) (rest f none)
+        ∙ swap_or (has_any k (h x)) (has_any k (h (g row))) (has_key k (filter_map h xs))
+        ∙ ap (λ b. has_any k (h (g row)) || b) (sym (has-cons x xs))
 
 -- a row changes, and its key doesn't
 pub same-update : (h : VersionRow → Option Key) (p : VersionRow → Bool) (g : VersionRow → VersionRow) (xs : List VersionRow) (row : VersionRow) → find p xs ≡ Some row → h (g row) ≡ h row → (k : Key) → has_key k (filter_map h (update_first p g xs)) ≡ has_key k (filter_map h xs)

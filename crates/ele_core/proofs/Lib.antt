@@ -7,3 +7,6 @@ pub mod Kept
 pub mod Fresh
 pub mod Removed
 pub mod Passing
+pub mod ClosedSteps
+pub mod ClosedKeys
+pub mod ClosedSums

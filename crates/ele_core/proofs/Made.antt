@@ -44,6 +44,6 @@ made_queue h now queue id at moment policy all after queued k =
     let files : List FileRow = h.files ++ record { id = id; policy = policy; next = 2 } ∷ [] in
     queued k
     ∙ sym (same-keys (key_by files) (key_by h.files) h.versions (all-weaker (IsVersion h.files moment) (λ row. key_by files row ≡ key_by h.files row) h.versions (λ row is.
-        ap (λ (p : Option Policy). option_and_then (λ policy. option_and_then (λ ended. option_map (key_of row) (ripe_by policy ended)) row.ended) p) (same_policy h.files (record { id = id; policy = policy; next = 2 }) row.file (omega (arith, is.numbered)))) all) k)
+    ap (λ (p : Option Policy). option_and_then (λ policy. option_and_then (λ ended. option_map (key_of row) (ripe_by policy ended)) row.ended) p) (same_policy h.files (record { id = id; policy = policy; next = 2 }) row.file (omega (arith, is.numbered)))) all) k)
     ∙ sym (has-push (key_by files) k h.versions (version_row id 1 at at None []) (unended files id 1 at at))
     ∙ ap (λ (x : Held). has_key k (keys_of x)) (sym after)

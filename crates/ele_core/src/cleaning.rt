@@ -92,8 +92,10 @@ fn remove(rows: &mut Rows, key: &Key)
     requires sound { IsSound rows.old }
     requires meter { rows.old.meter ≡ 0 }
     requires first { first_due (world_of rows.old) ≡ Some key.now }
-    ensures world { world_of rows.new ≡ record (world_of rows.old) { versions =
-        remove_first (is_version key.now.file key.now.number) rows.old.files.versions } }
+    ensures world { world_of rows.new ≡ record (world_of rows.old) {
+      versions =
+          remove_first (is_version key.now.file key.now.number) rows.old.files.versions;
+    } }
     ensures tracked { IsTracked rows.new }
     ensures read { rows.new.meter ≡ 1 }
 {

@@ -1,11 +1,15 @@
 //! The event that closes a handle, and may make its draft a version.
-ghost use Rattle.std.specs.Prelude.{◌≡◌, ◌≤◌, ◌<◌, ◌-◌, ◌+◌, ◌^◌, true, false, Some, IfOk, OnErr, find};
+ghost use Rattle.std.specs.Prelude.{◌≡◌, ◌≤◌, ◌<◌, ◌-◌, ◌+◌, ◌^◌, true, false, Some, IfOk, OnErr, find, if◌then◌else◌};
 ghost use Rattle.std.specs.Option.{ForSome};
 ghost use Rattle.ele_files.specs.Closing.{closing};
+ghost use Rattle.ele_policy.specs.declared.policy.Kind.{Kind};
+ghost use Rattle.ele_usage.specs.Book.{sums_of};
+ghost use Rattle.ele_usage.specs.Sums.{nothing, plus, Fits};
 ghost use Rattle.ele_world.specs.Step.{close_step};
+ghost use Rattle.ele_world.specs.Usage.{is_file_of};
 ghost use Rattle.ele_world.specs.World.{next_of, is_version, handle_file};
 ghost use Rattle.ele_core.specs.Inside.{world_of, IsTracked, IsSound};
-ghost use Rattle.ele_core.specs.Tracked.{former_key, own_key};
+ghost use Rattle.ele_core.specs.Tracked.{former_key, own_key, one_version};
 ghost use Rattle.ele_core.specs.Closings.{makes_version, is_change};
 
 use crate::book::{blocks, follow_blocks, one_version};
@@ -13,6 +17,7 @@ use crate::keys::{NewKeys, key_at};
 use crate::lookups::is_live;
 use crate::rows::Rows;
 use ele_files::{Closing, Files, Meter};
+use ele_usage::UsageBook;
 use ele_world::{FileId, Handle, Key, Moment, NoMemory, Refusal, Reply};
 
 /// The key of the version before the file's next one, which ends now; none where it isn't held or has ended.
@@ -64,6 +69,17 @@ fn is_change(closing: Closing) -> bool
     }
 }
 
+/// The book has one version more for the kind of the file, of so many bytes.
+fn add_version(book: &mut UsageBook, files: &Files, file: FileId, bytes: u64)
+    requires { (k : Kind) → Fits (plus (sums_of book.old k) (one_version bytes)) }
+    ensures { (k : Kind) → sums_of book.new k ≡ plus (sums_of book.old k)
+        (if is_file_of files.now.files k file then one_version bytes else nothing) }
+{
+    if let Some(policy) = files.policy_of(file) {
+        book.add(policy.kind(), one_version(bytes));
+    }
+}
+
 /// The last handle of a changed draft is closed, which becomes the file's next version.
 fn finish(rows: &mut Rows, handle: Handle, file: FileId) -> Result<Reply, NoMemory>
     requires sound { IsSound rows.old }
@@ -84,7 +100,9 @@ fn finish(rows: &mut Rows, handle: Handle, file: FileId) -> Result<Reply, NoMemo
     let bytes = rows.files.draft_length(file);
     // All keys come before the version does, so that one that is refused is still without trace.
     let added = keys.insert(&mut rows.queue)?;
-    let closed = rows.files.close(handle, rows.moment, is_live, &mut rows.meter);
+    let closed = rows
+        .files
+        .close(handle, rows.moment, is_live, &mut rows.meter);
     let number = match closed {
         Ok(number) => number,
         Err(refused) => {
@@ -92,9 +110,7 @@ fn finish(rows: &mut Rows, handle: Handle, file: FileId) -> Result<Reply, NoMemo
             return Err(refused);
         }
     };
-    if let Some(policy) = rows.files.policy_of(file) {
-        rows.book.add(policy.kind(), one_version(bytes));
-    }
+    add_version(&mut rows.book, &rows.files, file, bytes);
     follow_blocks(&mut rows.book, &rows.files, file, before);
     rows.made.versions += 1;
     Ok(Reply::Closed(number))
@@ -112,13 +128,16 @@ fn leave(rows: &mut Rows, handle: Handle, file: FileId) -> Result<Reply, NoMemor
     ensures tracked { IsTracked rows.new }
 {
     let before = blocks(&rows.files);
+    // Whether the file is live is told of new versions alone, and none is made here.
     rows.files
         .close(handle, rows.moment, true, &mut rows.meter)?;
     follow_blocks(&mut rows.book, &rows.files, file, before);
     Ok(Reply::Closed(None))
 }
 
-/// The handle is closed.
+/// Closes the handle. With a file's last handle its draft goes: a changed one becomes the file's next version, which ends
+/// at once where the file isn't live, and the version before that ends. Refused: `NoHandle`. Where memory is refused, the
+/// world stays.
 #[tactic(auto, unfolding(ele_world::specs::Step::close_step))]
 pub fn close(rows: &mut Rows, handle: Handle) -> Result<Reply, NoMemory>
     requires sound { IsSound rows.old }

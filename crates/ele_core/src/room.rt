@@ -1,6 +1,5 @@
 //! Growth of a vector into room that it has.
-ghost use Rattle.std.specs.Prelude.{◌≡◌, ◌<◌, ◌≤◌, [], ◌∷◌, ◌++◌, vec_len, vec_capacity};
-ghost use Rattle.std.specs.List.{insert};
+ghost use Rattle.std.specs.Prelude.{◌≡◌, ◌<◌, [], ◌∷◌, ◌++◌, vec_len, vec_capacity};
 
 /// Adds an item at the end, where there is room.
 pub fn put<T>(items: &mut Vec<T>, item: T)
@@ -8,18 +7,6 @@ pub fn put<T>(items: &mut Vec<T>, item: T)
     ensures { items.new.items ≡ items.old.items ++ item ∷ [] }
 {
     match items.push(item) {
-        Ok(()) => {}
-        Err(_back) => unreachable!(),
-    }
-}
-
-/// Adds an item at a place, where there is room.
-pub fn put_at<T>(items: &mut Vec<T>, at: usize, item: T)
-    requires place { at ≤ vec_len items.old }
-    requires room { vec_len items.old < vec_capacity items.old }
-    ensures { items.new.items ≡ insert items.old.items at item }
-{
-    match items.insert(at, item) {
         Ok(()) => {}
         Err(_back) => unreachable!(),
     }

@@ -1,5 +1,5 @@
 -- What is answered of versions, drafts and handles, as the rows show it.
-use Rattle.std.proofs.Common.{◌≡◌, ℕ, ◌<◌, Bool, true, false, cond, ◌||◌, List, [], ◌∷◌, ◌++◌, map, length, Option, Some, None, is_some, refl, sym, ap, ◌∙◌}
+use Rattle.std.proofs.Common.{◌≡◌, ℕ, ◌<◌, Bool, true, false, cond, ◌||◌, List, [], ◌∷◌, map, Option, Some, None, is_some, refl, sym, ap, ◌∙◌}
 use Rattle.std.specs.List.{find, flat_map, list_any}
 use Rattle.std.specs.Option.{option_map, option_copied}
 use Rattle.std.specs.Borrow.{Bor}
@@ -12,7 +12,6 @@ use Rattle.ele_files.specs.Closing as now
 use Rattle.ele_files.specs.Held.{cells_of_draft}
 use Rattle.ele_files.specs.Inside.{is_id, maps_of, rows_in, draft_in, handle_in, held_in}
 use Rattle.ele_files.specs.declared.file.File.{File}
-use Rattle.ele_files.specs.declared.stamps.Stamps.{Stamps}
 use Rattle.ele_files.proofs.Lives.{draft_lives, row_lives, shown-length}
 use Rattle.ele_files.proofs.Rows.{version-of, version-none, draft-found, any-draft, left-shown, handle_file-shown}
 use Rattle.ele_inode_log.specs.declared.row.VersionRow as log

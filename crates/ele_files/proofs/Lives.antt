@@ -1,14 +1,14 @@
 -- Each map of a version or draft lives in the store.
-use Rattle.std.proofs.Common.{◌≡◌, ℕ, ◌+◌, Bool, List, [], ◌∷◌, ◌++◌, map, length, Some, refl, sym, ap, ◌∙◌, arith}
+use Rattle.std.proofs.Common.{◌≡◌, ℕ, Bool, List, [], ◌∷◌, ◌++◌, map, length, Some, arith}
 use Rattle.std.specs.List.{find, flat_map, AllByRecursion}
 use Rattle.ele_blocks.specs.Content.{content_of}
 use Rattle.ele_blocks.specs.Layout.{Layout, shown}
 use Rattle.ele_blocks.specs.LivesIn.{LivesIn}
-use Rattle.ele_blocks.specs.Owes.{tally, SameMaps, Owes}
+use Rattle.ele_blocks.specs.Owes.{Owes}
 use Rattle.ele_blocks.specs.Store.{Store}
 use Rattle.ele_blocks.proofs.Owed.{owes_lives, owes_same, tally-append}
 use Rattle.ele_blocks.proofs.Sizes.{length-content}
-use Rattle.ele_files.specs.Inside.{file_maps, maps_of, is_id}
+use Rattle.ele_files.specs.Inside.{file_maps, maps_of}
 use Rattle.ele_files.specs.declared.file.File.{File}
 use Rattle.ele_inode_log.specs.declared.row.VersionRow as log
 use Rattle.ele_inode_log.proofs.Lists.{all-left, all-right}

@@ -1,9 +1,9 @@
 -- The names of files and drafts, and what all of them have in common.
-use Rattle.std.proofs.Common.{◌≡◌, ◌⊎◌, ℕ, ◌+◌, ◌<◌, List, [], ◌∷◌, ◌++◌, ap, arith, eqb, true, inl, inr, ⊎_elim, map}
+use Rattle.std.proofs.Common.{◌≡◌, ℕ, ◌+◌, ◌<◌, List, [], ◌∷◌, ◌++◌, ap, arith, eqb, true, ⊎_elim, map}
 use Rattle.std.specs.List.{flat_map, AllByRecursion}
 use Rattle.std.proofs.lemmas.Bool.Decides.{nat_tests}
 use Rattle.ele_blocks.specs.declared.slot.Slot.{Slot}
-use Rattle.ele_blocks.specs.Distinct.{Named, IsIn, AreOneToOne, names_from}
+use Rattle.ele_blocks.specs.Distinct.{Named, IsIn, names_from}
 use Rattle.ele_blocks.specs.Layout.{Layout, ids_of}
 use Rattle.ele_blocks.specs.Owes.{named}
 use Rattle.ele_blocks.specs.Shared.{times}

@@ -1,11 +1,10 @@
 -- The names of all maps, as the places that the rows show and the blocks that the maps name.
-use Rattle.std.proofs.Common.{◌≡◌, ℕ, ◌+◌, List, [], ◌∷◌, ◌++◌, map, refl, sym, ap, ◌∙◌, eqb, length}
+use Rattle.std.proofs.Common.{◌≡◌, ℕ, ◌+◌, List, [], ◌∷◌, map, refl, sym, ap, eqb}
 use Rattle.std.specs.List.{flat_map}
 use Rattle.std.proofs.lemmas.List.{map-append}
 use Rattle.std.proofs.lemmas.Grind.{flat_map-append}
 use Rattle.ele_blocks.specs.declared.slot.Slot.{Slot}
-use Rattle.ele_blocks.specs.declared.cell.Cell.{Cell}
-use Rattle.ele_blocks.specs.Distinct.{Place, Named, AreOneToOne, names_from, names_of, blocks_of, different, is_place}
+use Rattle.ele_blocks.specs.Distinct.{Place, Named, AreOneToOne, names_from, blocks_of, different, is_place}
 use Rattle.ele_blocks.specs.Layout.{Layout, cell_of, ids_of}
 use Rattle.ele_blocks.specs.Store.{Store}
 use Rattle.ele_blocks.proofs.Distincts.{as_many}

@@ -43,9 +43,6 @@ module _ (files : List File) (before behind : List Draft) where
   pub maps_with : (d : Draft) → SameMaps (maps_of files (before ++ d ∷ behind)) (d.layout ∷ rest_maps files before behind)
   maps_with d = record { sums = λ f. omega (arith, tally_with f before behind d, tally-append f (flat_map file_maps files) (map draft_map (before ++ d ∷ behind)), tally-append f (flat_map file_maps files) (map draft_map before ++ map draft_map behind), tally-append f (map draft_map before) (map draft_map behind)) }
 
-  pub maps_after : (d : Draft) → SameMaps (d.layout ∷ rest_maps files before behind) (maps_of files (before ++ d ∷ behind))
-  maps_after d = record { sums = λ f. sym ((maps_with d).sums f) }
-
   pub maps_without : SameMaps (maps_of files (before ++ behind)) (rest_maps files before behind)
   maps_without = record { sums = λ f. omega (arith, tally_without f before behind, tally-append f (flat_map file_maps files) (map draft_map (before ++ behind)), tally-append f (flat_map file_maps files) (map draft_map before ++ map draft_map behind), tally-append f (map draft_map before) (map draft_map behind)) }
 

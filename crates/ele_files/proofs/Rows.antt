@@ -1,7 +1,7 @@
 -- What the rows show of the files, drafts and handles behind them.
-use Rattle.std.proofs.Common.{◌≡◌, ◌≢◌, ℕ, ◌<◌, Bool, true, false, cond, eqb, ◌&&◌, ◌||◌, List, [], ◌∷◌, ◌++◌, map, get_or, Option, Some, None, refl, sym, ap, ◌∙◌, arith}
+use Rattle.std.proofs.Common.{◌≡◌, ℕ, ◌<◌, Bool, true, false, cond, eqb, ◌||◌, List, [], ◌∷◌, map, get_or, Option, Some, None, refl, sym, ap, ◌∙◌, arith}
 use Rattle.std.specs.List.{find, position, list_any, flat_map, AllByRecursion}
-use Rattle.std.specs.Option.{option_map, option_and_then, option_or, option_map_or}
+use Rattle.std.specs.Option.{option_map, option_or, option_map_or}
 use Rattle.std.proofs.lemmas.Bool.Decides.{nat_tests}
 use Rattle.ele_files.specs.Inside.{is_id, file_row, row_in, rows_in, draft_in, handle_in}
 use Rattle.ele_files.specs.declared.file.File.{File}

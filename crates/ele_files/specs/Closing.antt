@@ -1,5 +1,5 @@
 -- What the closing of a handle comes to.
-use Rattle.std.specs.Prelude.{◌≡◌, ℕ, ◌-◌, ◌≤◌, Bool, List, Option, Some, None, IfSome, find, if◌then◌else◌}
+use Rattle.std.specs.Prelude.{ℕ, ◌-◌, ◌≤◌, Bool, Option, Some, None, IfSome, find, if◌then◌else◌}
 use Rattle.std.specs.List.{list_any}
 use Rattle.ele_sessions.specs.declared.closing.Closing.{Closing}
 use Rattle.ele_sessions.specs.declared.closing.Closing.TheVariants.{StillOpen, Clean, Changed}

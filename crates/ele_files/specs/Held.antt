@@ -1,7 +1,7 @@
 -- The rows of all files, and how they change.
-use Rattle.std.specs.Prelude.{ℕ, ◌+◌, ◌-◌, Bool, true, false, List, [], ◌∷◌, ◌++◌, length, Option, Some, None, find, if◌then◌else◌}
+use Rattle.std.specs.Prelude.{ℕ, ◌+◌, ◌-◌, false, List, [], ◌∷◌, ◌++◌, Option, Some, None, find, if◌then◌else◌}
 use Rattle.std.specs.List.{list_any}
-use Rattle.std.specs.Option.{option_map, option_map_or}
+use Rattle.std.specs.Option.{option_map_or}
 use Rattle.ele_policy.specs.declared.policy.Policy.{Policy}
 use Rattle.ele_blocks.specs.declared.cell.Cell.{Cell}
 use Rattle.ele_moment.specs.Lists.{update_first, remove_first, insert_before}
@@ -9,8 +9,8 @@ use Rattle.ele_world.specs.declared.rows.FileRow.{FileRow}
 use Rattle.ele_world.specs.declared.rows.VersionRow.{VersionRow}
 use Rattle.ele_world.specs.declared.rows.DraftRow.{DraftRow}
 use Rattle.ele_world.specs.declared.rows.HandleRow.{HandleRow}
-use Rattle.ele_world.specs.Step.{changed_by, fitted_by, numbered_on, ended_at}
-use Rattle.ele_world.specs.World.{is_file, next_of, is_version, is_version_after, is_draft, is_draft_after, is_handle, is_writer, handle_file}
+use Rattle.ele_world.specs.Step.{changed_by, fitted_by}
+use Rattle.ele_world.specs.World.{next_of, is_version, is_draft, is_draft_after, handle_file}
 
 -- files by id, versions by file and number, drafts by file, handles by number, and how many handles were ever opened
 pub record Held : Type 0 where

@@ -1,0 +1,183 @@
+-- What closing a handle leaves, as the step of the world has it.
+use Rattle.std.proofs.Common.{◌≡◌, ◌≤◌, ◌<◌, ◌+◌, ◌^◌, ℕ, Bool, true, false, cond, Option, Some, None, refl, ap, sym, subst, ◌∙◌, arith}
+use Rattle.std.specs.Prelude.{find, IfSome}
+use Rattle.std.specs.List.{list_any, AllByRecursion}
+use Rattle.std.specs.Option.{ForSome}
+use Rattle.std.proofs.lemmas.Bool.Decides.{nat_tests}
+use Rattle.ele_core.specs.Closings.{makes_version}
+use Rattle.ele_core.specs.Inside.{world_of, IsSound}
+use Rattle.ele_core.specs.Tracked.{told_by}
+use Rattle.ele_core.specs.declared.rows.Rows.{Rows}
+use Rattle.ele_files.specs.Closing.{closing, closing_of, closed, closed_of, draft_left, ending, finished_by, left_by, number_by, IsPast}
+use Rattle.ele_files.specs.Held.{Held}
+use Rattle.ele_moment.proofs.Edits.{found_passes, all-found, all-weaker}
+use Rattle.ele_moment.specs.Lists.{remove_first}
+use Rattle.ele_sessions.specs.declared.closing.Closing.TheVariants.{StillOpen}
+use Rattle.ele_world.specs.declared.reply.Reply.{Reply}
+use Rattle.ele_world.specs.declared.reply.Reply.TheVariants.{Closed}
+use Rattle.ele_world.specs.declared.rows.DraftRow.{DraftRow}
+use Rattle.ele_world.specs.declared.rows.VersionRow.{VersionRow}
+use Rattle.ele_world.specs.Step.{close_of, close_step, draft_closed, finished}
+use Rattle.ele_world.specs.WellFormed.{IsFile, IsVersion}
+use Rattle.ele_world.specs.Whole.{ChangesOnly}
+use Rattle.ele_world.proofs.Others.{drafts-removed}
+use Rattle.ele_world.specs.World.{World, handle_file, is_draft, is_handle, is_live, is_writer, next_of}
+
+-- the rows that the files hold of a world
+abbrev pub held_of : World → Held
+held_of w = record { files = w.files; versions = w.versions; drafts = w.drafts; handles = w.handles; opened = w.made.handles }
+
+-- the world with these rows held, and so many versions made
+abbrev pub with_held : World → Held → ℕ → World
+with_held w h versions = record w {
+  files = h.files;
+  versions = h.versions;
+  drafts = h.drafts;
+  handles = h.handles;
+  made = record w.made { versions = versions; handles = h.opened };
+}
+
+-- what is answered, and the world afterwards
+abbrev told_closed : World → ℕ → Option ℕ → Bool → ℕ → Reply × World
+told_closed w handle file live versions =
+    (Closed (number_by (held_of w) (closing_of (held_of w) handle file)), with_held w (closed_of (held_of w) handle file w.now live) versions)
+
+-- the world without the handle
+abbrev unhandled : World → ℕ → World
+unhandled w handle = record w { handles = remove_first (is_handle handle) w.handles }
+
+-- a closing that makes no version, whether the file is live or not
+pub left_step : (w : World) (handle file : ℕ) (live : Bool) → handle_file w.handles handle ≡ Some file → makes_version (closing (held_of w) handle) ≡ false
+    → close_step w handle ≡ (Closed None, with_held w (closed (held_of w) handle w.now live) w.made.versions)
+unfolding close_step
+left_step w handle file live of_file makes =
+    subst (λ o. makes_version (closing_of (held_of w) handle o) ≡ false → close_of w handle o ≡ (Closed None, with_held w (closed_of (held_of w) handle o w.now live) w.made.versions)) (sym of_file)
+    (writer (list_any (is_writer file) (remove_first (is_handle handle) w.handles)) (find (is_draft file) w.drafts)) makes where
+      writer : (b : Bool) (o : Option DraftRow) → makes_version (Some (cond b StillOpen (ending o))) ≡ false
+          → cond b (Closed None, unhandled w handle) (draft_closed (unhandled w handle) o) ≡ (Closed None, with_held w (cond b (left_by (held_of w) handle) (draft_left (left_by (held_of w) handle) o w.now live)) w.made.versions)
+      writer true o m = refl
+      writer false None m = refl
+      writer false (Some draft) m = changed draft draft.changed refl m where
+        changed : (draft : DraftRow) (c : Bool) → draft.changed ≡ c → makes_version (Some (ending (Some draft))) ≡ false → draft_closed (unhandled w handle) (Some draft) ≡ (Closed None, with_held w (draft_left (left_by (held_of w) handle) (Some draft) w.now live) w.made.versions)
+        changed draft true e m = absurd (let n = rw e at m in cc)
+        changed draft false e m = rw e refl
+
+-- the draft that becomes a version
+pub record Becomes (h : Held) (handle file : ℕ) (draft : DraftRow) : Type 0 where
+  pub found : find (is_draft file) h.drafts ≡ Some draft
+  pub own : draft.file ≡ file
+  pub number : number_by h (closing h handle) ≡ Some (next_of h.files draft.file)
+  pub after : (now : ℕ) (live : Bool) → closed h handle now live ≡ finished_by (left_by h handle) draft now live
+
+pub draft_becomes : (h : Held) (handle file : ℕ) → handle_file h.handles handle ≡ Some file → makes_version (closing h handle) ≡ true → (draft : DraftRow) × Becomes h handle file draft
+draft_becomes h handle file of_file makes =
+    writer (list_any (is_writer file) (remove_first (is_handle handle) h.handles)) refl (find (is_draft file) h.drafts) refl (subst (λ o. makes_version (closing_of h handle o) ≡ true) of_file makes) where
+      left : Held
+      left = left_by h handle
+
+      writer : (b : Bool) → list_any (is_writer file) (remove_first (is_handle handle) h.handles) ≡ b → (o : Option DraftRow) → find (is_draft file) h.drafts ≡ o → makes_version (Some (cond b StillOpen (ending o))) ≡ true → (draft : DraftRow) × Becomes h handle file draft
+      writer true e o f m = absurd cc
+      writer false e None f m = absurd cc
+      writer false e (Some draft) f m = changed draft.changed refl m where
+        own : draft.file ≡ file
+        own = let passes = found_passes (is_draft file) h.drafts draft f in grind (arith, nat_tests)
+
+        changed : (c : Bool) → draft.changed ≡ c → makes_version (Some (ending (Some draft))) ≡ true → (d : DraftRow) × Becomes h handle file d
+        changed false c m = absurd (let n = rw c at m in cc)
+        changed true c m = (
+          draft,
+          record {
+            found = f;
+            own = own;
+            number = subst (λ o. number_by h (closing_of h handle o) ≡ Some (next_of h.files draft.file)) (sym of_file)
+                (subst (λ b. number_by h (Some (cond b StillOpen (ending (find (is_draft file) h.drafts)))) ≡ Some (next_of h.files draft.file)) (sym e)
+                (subst (λ o. number_by h (Some (ending o)) ≡ Some (next_of h.files draft.file)) (sym f) (rw c refl)));
+            after = λ now live. subst (λ o. closed_of h handle o now live ≡ finished_by left draft now live) (sym of_file)
+                (subst (λ b. cond b left (draft_left left (find (is_draft file) h.drafts) now live) ≡ finished_by left draft now live) (sym e)
+                (subst (λ o. draft_left left o now live ≡ finished_by left draft now live) (sym f) (rw c refl)));
+          },
+        )
+
+-- a closing that makes a version
+finishes : (w : World) (handle file : ℕ) → handle_file w.handles handle ≡ Some file → makes_version (closing (held_of w) handle) ≡ true
+    → close_step w handle ≡ (Closed (number_by (held_of w) (closing (held_of w) handle)), with_held w (closed (held_of w) handle w.now (is_live w file)) (w.made.versions + 1))
+unfolding close_step
+finishes w handle file of_file makes =
+    subst (λ o. makes_version (closing_of (held_of w) handle o) ≡ true → close_of w handle o ≡ told_closed w handle o (is_live w file) (w.made.versions + 1)) (sym of_file)
+    (writer (list_any (is_writer file) (remove_first (is_handle handle) w.handles)) (find (is_draft file) w.drafts) refl) makes where
+      live : Bool
+      live = is_live w file
+
+      writer : (b : Bool) (o : Option DraftRow) → find (is_draft file) w.drafts ≡ o → makes_version (Some (cond b StillOpen (ending o))) ≡ true
+          → cond b (Closed None, unhandled w handle) (draft_closed (unhandled w handle) o) ≡ (Closed (number_by (held_of w) (Some (cond b StillOpen (ending o)))), with_held w (cond b (left_by (held_of w) handle) (draft_left (left_by (held_of w) handle) o w.now (is_live w file))) (w.made.versions + 1))
+      writer true o f m = absurd cc
+      writer false None f m = absurd cc
+      writer false (Some draft) f m = changed draft.changed refl m where
+        own : draft.file ≡ file
+        own = let passes = found_passes (is_draft file) w.drafts draft f in grind (arith, nat_tests)
+
+        done : finished (unhandled w handle) draft ≡ with_held w (finished_by (left_by (held_of w) handle) draft w.now (is_live w file)) (w.made.versions + 1)
+        done = subst (λ (id : ℕ). finished (unhandled w handle) draft ≡ with_held w (finished_by (left_by (held_of w) handle) draft w.now (is_live w id)) (w.made.versions + 1)) own refl
+
+        changed : (c : Bool) → draft.changed ≡ c → makes_version (Some (ending (Some draft))) ≡ true → draft_closed (unhandled w handle) (Some draft) ≡ (Closed (number_by (held_of w) (Some (ending (Some draft)))), with_held w (draft_left (left_by (held_of w) handle) (Some draft) w.now (is_live w file)) (w.made.versions + 1))
+        changed false c m = absurd (let n = rw c at m in cc)
+        changed true c m = rw c (ap (λ (v : World). (Closed (Some (next_of w.files draft.file)), v)) done)
+
+pub finished_step : (w : World) (handle file : ℕ) (live : Bool) (after : Held) (number : Option ℕ) → live ≡ is_live w file → handle_file w.handles handle ≡ Some file → makes_version (closing (held_of w) handle) ≡ true
+    → after ≡ closed (held_of w) handle w.now live → number ≡ number_by (held_of w) (closing (held_of w) handle)
+    → (Closed number, with_held w after (w.made.versions + 1)) ≡ close_step w handle
+finished_step w handle file live after number lives of_file makes is numbers =
+    ap (λ (h : Held). (Closed number, with_held w h (w.made.versions + 1))) (is ∙ ap (closed (held_of w) handle w.now) lives)
+    ∙ ap (λ (n : Option ℕ). (Closed n, with_held w (closed (held_of w) handle w.now (is_live w file)) (w.made.versions + 1))) numbers
+    ∙ sym (finishes w handle file of_file makes)
+
+-- the closing leaves files and versions, and at most the file's draft goes
+pub record Leaves (h : Held) (file : ℕ) (after : Held) : Type 0 where
+  pub files : after.files ≡ h.files
+  pub versions : after.versions ≡ h.versions
+  pub changes : ChangesOnly file (told_by h) (told_by after)
+
+pub left : (h : Held) (handle file now : ℕ) (live : Bool) (after : Held) → handle_file h.handles handle ≡ Some file → makes_version (closing h handle) ≡ false → after ≡ closed h handle now live → Leaves h file after
+left h handle file now live after of_file makes is =
+    subst (Leaves h file) (sym is)
+    (subst (λ o. makes_version (closing_of h handle o) ≡ false → Leaves h file (closed_of h handle o now live)) (sym of_file)
+    (writer (list_any (is_writer file) (remove_first (is_handle handle) h.handles)) (find (is_draft file) h.drafts) refl) makes) where
+      alone : Leaves h file (left_by h handle)
+      alone = record { files = refl; versions = refl; changes = record { kinds = λ k id. refl; files = λ k. refl; versions = refl; drafts = refl } }
+
+      vanished : (id : ℕ) → ChangesOnly id (told_by h) (told_by (record (left_by h handle) { drafts = remove_first (is_draft id) h.drafts }))
+      vanished id = record { kinds = λ k i. refl; files = λ k. refl; versions = refl; drafts = drafts-removed id h.drafts }
+
+      writer : (b : Bool) (o : Option DraftRow) → find (is_draft file) h.drafts ≡ o → makes_version (Some (cond b StillOpen (ending o))) ≡ false → Leaves h file (cond b (left_by h handle) (draft_left (left_by h handle) o now live))
+      writer true o f m = alone
+      writer false None f m = alone
+      writer false (Some draft) f m = changed draft.changed refl where
+        own : draft.file ≡ file
+        own = let passes = found_passes (is_draft file) h.drafts draft f in grind (arith, nat_tests)
+
+        changed : (c : Bool) → draft.changed ≡ c → Leaves h file (draft_left (left_by h handle) (Some draft) now live)
+        changed true c = absurd (let n = rw c at m in cc)
+        changed false c = rw c (record { files = refl; versions = refl; changes = subst (λ (id : ℕ). ChangesOnly id (told_by h) (told_by (record (left_by h handle) { drafts = remove_first (is_draft draft.file) h.drafts }))) own (vanished draft.file) })
+
+-- ---- what a well-formed world says of the versions that may end
+
+pub past : (rows : Rows) → IsSound rows → AllByRecursion (IsPast rows.moment) rows.files.versions
+past rows sound = all-weaker (IsVersion rows.files.files rows.moment) (IsPast rows.moment) rows.files.versions one sound.formed.versions where
+  ends : (closed now : ℕ) (o : Option ℕ) → IfSome o (λ ended. (closed ≤ ended) × (ended ≤ now)) → IfSome o (λ ended. ended ≤ now)
+  ends closed now None h = h
+  ends closed now (Some ended) h = h.1
+
+  one : (row : VersionRow) → IsVersion rows.files.files rows.moment row → IsPast rows.moment row
+  one row is = record { closed = is.closed; ended = ends row.closed rows.moment row.ended is.ended }
+
+pub numbered : (rows : Rows) → IsSound rows → AllByRecursion (λ row. row.next < 2 ^ 62) rows.files.files
+numbered rows sound =
+    let counts = sound.formed.counts in
+    let bounds = sound.tracked.bounds in
+    let most : rows.made.versions ≤ 1000000 = (let a = counts.versions in let b = bounds.versions in omega arith) in
+    all-weaker (IsFile ((world_of rows).made)) (λ row. row.next < 2 ^ 62) rows.files.files (λ row is. let next = is.next in omega arith) sound.formed.files
+
+-- a version that is found closed by now
+pub former_past : (rows : Rows) → IsSound rows → (p : VersionRow → Bool) → ForSome (find p rows.files.versions) (λ row. row.closed ≤ rows.moment)
+former_past rows sound p row found =
+    let is : IsPast rows.moment row = all-found p (IsPast rows.moment) rows.files.versions row found (past rows sound) in is.closed
