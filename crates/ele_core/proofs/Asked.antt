@@ -1,5 +1,5 @@
 -- What is told of one version.
-use Rattle.std.proofs.Common.{◌≡◌, ℕ, ◌≤◌, Bool, true, false, cond, ◌&&◌, ◌||◌, List, [], ◌∷◌, Option, Some, None, is_some, refl, ap, sym, subst, ◌∙◌, arith, leb, eqb}
+use Rattle.std.proofs.Common.{◌≡◌, ℕ, ◌≤◌, Bool, true, false, cond, ◌||◌, List, [], ◌∷◌, Option, Some, None, is_some, refl, ap, sym, ◌∙◌, arith}
 use Rattle.std.specs.Prelude.{find, option_and_then}
 use Rattle.std.specs.List.{filter_map}
 use Rattle.std.specs.Option.{option_map, option_map_or}

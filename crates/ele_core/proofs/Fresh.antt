@@ -1,5 +1,5 @@
 -- At first there is no key and no usage.
-use Rattle.std.proofs.Common.{◌≡◌, List, [], refl, sym, ◌∙◌}
+use Rattle.std.proofs.Common.{◌≡◌, List, [], refl, sym}
 use Rattle.ele_core.specs.Tracked.{told_by, IsQueued, IsBooked}
 use Rattle.ele_due.specs.declared.key.Key.{Key}
 use Rattle.ele_files.specs.Held.{Held}

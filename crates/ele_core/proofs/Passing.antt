@@ -1,10 +1,10 @@
 -- A pass, one clean event after another.
-use Rattle.std.proofs.Common.{◌≡◌, ℕ, Bool, true, false, Option, Some, None, IsSome, is_some, refl, ap, sym, subst, ◌∙◌}
+use Rattle.std.proofs.Common.{◌≡◌, Bool, true, false, Option, Some, None, IsSome, is_some, refl, sym, subst, ◌∙◌}
 use Rattle.std.proofs.lemmas.Bool.{false≢true}
 use Rattle.ele_due.specs.declared.key.Key.{Key}
 use Rattle.ele_world.specs.declared.event.Event.TheVariants.{CleanOne}
 use Rattle.ele_world.specs.Scan.{first_due}
-use Rattle.ele_world.specs.Step.{clean_step, clean_of}
+use Rattle.ele_world.specs.Step.{clean_step}
 use Rattle.ele_world.specs.WellFormed.{IsWellFormed}
 use Rattle.ele_world.specs.World.{World}
 use Rattle.ele_world.proofs.StepKeeps.{step_keeps}

@@ -1,7 +1,7 @@
 -- A clean event takes the row of the first key, and that key.
-use Rattle.std.proofs.Common.{◌≡◌, ℕ, ◌+◌, ◌<◌, ◌≤◌, Bool, true, false, cond, not, ◌&&◌, List, [], ◌∷◌, length, Option, Some, None, refl, ap, sym, subst, ◌∙◌, arith, map, sum}
+use Rattle.std.proofs.Common.{◌≡◌, ℕ, ◌+◌, Bool, true, false, cond, not, ◌&&◌, List, [], ◌∷◌, length, Option, Some, None, refl, ap, sym, subst, ◌∙◌, arith}
 use Rattle.std.specs.Prelude.{find}
-use Rattle.std.specs.List.{AllByRecursion, filter_map}
+use Rattle.std.specs.List.{filter_map}
 use Rattle.std.specs.Option.{option_map, option_and_then}
 use Rattle.std.proofs.lemmas.Bool.{false≢true}
 use Rattle.std.proofs.lemmas.Bool.Decides.{nat_tests}
@@ -9,7 +9,7 @@ use Rattle.ele_blocks.specs.Content.{content_of}
 use Rattle.ele_core.proofs.Booked.{few, owed, some_versions, and_nothing}
 use Rattle.ele_core.proofs.Keyed.{has-remove}
 use Rattle.ele_core.proofs.Ripening.{ripe_now, due_by_key}
-use Rattle.ele_core.specs.Inside.{world_of, IsSound, IsTracked}
+use Rattle.ele_core.specs.Inside.{world_of, IsSound}
 use Rattle.ele_core.specs.Tracked.{told_by, blocks_of, key_by, keys_of, has_any, one_version, of_file, IsOwed, IsQueued}
 use Rattle.ele_core.specs.declared.rows.Rows.{Rows}
 use Rattle.ele_due.specs.declared.key.Key.{Key}
@@ -29,13 +29,13 @@ use Rattle.ele_world.specs.declared.rows.FileRow.{FileRow}
 use Rattle.ele_world.specs.declared.rows.VersionRow.{VersionRow}
 use Rattle.ele_world.specs.Scan.{due_key, key_of, first_due, scan}
 use Rattle.ele_world.specs.Usage.{is_file_of, bytes_in, usage_of}
-use Rattle.ele_world.specs.WellFormed.{ArePlaced, IsWellFormed}
+use Rattle.ele_world.specs.WellFormed.{ArePlaced}
 use Rattle.ele_world.specs.Whole.{whole, ChangesOnly}
 use Rattle.ele_world.specs.World.{World, is_version, policy_of}
 use Rattle.ele_world.proofs.DueRows.{all-filter_map, all-in_order, first_of}
 use Rattle.ele_world.proofs.Splits.{bytes_in-cons}
 use Rattle.ele_world.proofs.Usages.{usage_changes, changes_removed}
-use Rattle.ele_world.proofs.Versions.{IsFound, all_found, apart}
+use Rattle.ele_world.proofs.Versions.{IsFound, all_found}
 
 -- ---- the row of the first key
 

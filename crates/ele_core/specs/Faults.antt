@@ -1,7 +1,6 @@
 -- What a fault of a draft is answered with. No public clause cites this module.
 use Rattle.std.specs.Prelude.{Result, Ok, Err}
 use Rattle.ele_moment.specs.declared.memory.NoMemory.{NoMemory}
-use Rattle.ele_moment.specs.declared.memory.NoMemory as memory
 use Rattle.ele_sessions.specs.declared.fault.SessionFault.{SessionFault}
 use Rattle.ele_sessions.specs.declared.fault.SessionFault.TheVariants as fault
 use Rattle.ele_world.specs.declared.refusal.Refusal.TheVariants as refusal

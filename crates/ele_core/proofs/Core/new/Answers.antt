@@ -1,8 +1,4 @@
-use Rattle.std.proofs.Common.{◌≡◌, refl, sym, subst}
-use Rattle.ele_core.specs.Inside.{world_of}
 use Rattle.ele_core.proofs.Fresh.{no_usage, no_keys}
-use Rattle.ele_world.specs.WellFormed.{IsWellFormed}
-use Rattle.ele_world.specs.World.{fresh_world}
 use Rattle.ele_world.proofs.StepKeeps.{fresh_is}
 use Rattle.ele_core.proofs.Core.new.Goals as goal
 

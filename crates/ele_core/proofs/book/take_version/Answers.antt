@@ -1,1 +1,0 @@
-use Rattle.ele_core.proofs.book.take_version.Goals as goal

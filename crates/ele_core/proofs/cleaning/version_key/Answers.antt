@@ -1,4 +1,3 @@
-use Rattle.std.proofs.Common.{sym, ◌∙◌}
 use Rattle.ele_core.specs.Inside.{world_of}
 use Rattle.ele_core.proofs.Asked.{told_closed}
 use Rattle.ele_core.proofs.cleaning.version_key.Goals as goal

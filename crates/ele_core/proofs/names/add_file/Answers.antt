@@ -1,4 +1,3 @@
-use Rattle.std.proofs.Common.{◌∙◌}
 use Rattle.ele_core.proofs.Booked.{made_fits, made_book}
 use Rattle.ele_core.proofs.Made.{made_queue}
 use Rattle.ele_core.proofs.names.add_file.Goals as goal

@@ -1,5 +1,3 @@
-use Rattle.std.proofs.Common.{refl}
-use Rattle.ele_core.specs.Inside.{world_of}
 use Rattle.ele_core.proofs.Booked.{fits, opened_owed}
 use Rattle.ele_core.proofs.opening.add_handle.Goals as goal
 
