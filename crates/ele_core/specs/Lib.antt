@@ -1,5 +1,6 @@
 pub mod State
 pub mod Reads
+pub mod Stopped
 pub mod Tracked
 pub mod Inside
 pub mod Closings

@@ -1,5 +1,5 @@
 //! The events that clean, and what they ask.
-ghost use Rattle.std.specs.Prelude.{◌≡◌, IfOk, Some, is_some};
+ghost use Rattle.std.specs.Prelude.{◌≡◌, IfOk, Some, is_some, false};
 ghost use Rattle.ele_moment.specs.Lists.{remove_first};
 ghost use Rattle.ele_due.specs.Key.{is_ripe_by};
 ghost use Rattle.ele_world.specs.Due.{is_due};
@@ -8,6 +8,7 @@ ghost use Rattle.ele_world.specs.Scan.{scan, first_due};
 ghost use Rattle.ele_world.specs.Step.{clean_step};
 ghost use Rattle.ele_core.specs.Inside.{world_of, IsTracked, IsSound};
 ghost use Rattle.ele_core.specs.Reads.{CleanReads};
+ghost use Rattle.ele_core.specs.Stopped.{is_stopped};
 ghost use Rattle.ele_core.specs.Tracked.{version_key};
 ghost use Rattle.ele_world.specs.World.{is_version};
 
@@ -112,6 +113,7 @@ fn remove(rows: &mut Rows, key: &Key)
 pub fn pass(rows: &mut Rows, budget: u64) -> PassEnd
     requires { IsSound rows.old }
     ensures end { EndsPass (world_of rows.old) budget result (world_of rows.new) }
+    ensures unstopped { is_stopped result ≡ false }
     ensures sound { IsSound rows.new }
 {
     for removed in 0..budget {

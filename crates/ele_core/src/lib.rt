@@ -1,7 +1,7 @@
 //! One world, which events change. A contract sees a core as its flat world, with a count of the rows that were read.
 #![tactic(auto)]
 
-ghost use Rattle.std.specs.Prelude.{◌≡◌, IfOk, OnErr};
+ghost use Rattle.std.specs.Prelude.{◌≡◌, IfOk, OnErr, false};
 ghost use Rattle.ele_world.specs.Due.{is_due};
 ghost use Rattle.ele_world.specs.Pass.{EndsPass};
 ghost use Rattle.ele_world.specs.Run.{IsEvent};
@@ -12,6 +12,7 @@ ghost use Rattle.ele_world.specs.WellFormed.{IsWellFormed};
 ghost use Rattle.ele_world.specs.World.{fresh_world};
 ghost use Rattle.ele_core.specs.Inside.{world_of, IsTracked, IsSound};
 ghost use Rattle.ele_core.specs.Reads.{IsRead};
+ghost use Rattle.ele_core.specs.Stopped.{is_stopped};
 
 mod asking;
 mod book;
@@ -142,9 +143,11 @@ impl Core {
         answer(&mut self.rows, event)
     }
 
-    /// The clean event again and again, until nothing is due or as many versions are removed as the budget allows.
+    /// The clean event again and again, until nothing is due or as many versions are removed as the budget allows. It takes
+    /// no memory, so it isn't stopped.
     pub fn clean_pass(&mut self, budget: u64) -> PassEnd
-        ensures { EndsPass self.old.world budget result self.new.world }
+        ensures end { EndsPass self.old.world budget result self.new.world }
+        ensures unstopped { is_stopped result ≡ false }
     {
         pass(&mut self.rows, budget)
     }
