@@ -1,7 +1,7 @@
 -- What a change by a writer makes of a map and its store.
 use Rattle.std.proofs.Common.{◌≡◌, ℕ, Bool, List, [], ◌∷◌}
-use Rattle.ele_blocks.specs.declared.cell.Cell.{Cell}
-use Rattle.ele_blocks.specs.Content.{content_of}
+use Rattle.ele_content.specs.declared.cell.Cell.{Cell}
+use Rattle.ele_content.specs.Content.{content_of}
 use Rattle.ele_blocks.specs.Layout.{Layout, shown}
 use Rattle.ele_blocks.specs.Owes.{Moves}
 use Rattle.ele_blocks.specs.Renews.{Renews}

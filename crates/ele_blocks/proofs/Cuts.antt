@@ -6,10 +6,10 @@ use Rattle.std.proofs.lemmas.Bool.Decides.{nat_tests}
 use Rattle.std.proofs.lemmas.List.{append-nil, length-map, length-append, length-take, take-map, drop-map, take_at, take-append-le, take-append-drop, length-take-le, get_or-take}
 use Rattle.std.proofs.lemmas.List.Folds.{concat-append}
 use Rattle.ele_blocks.specs.declared.slot.Slot.{Slot}
-use Rattle.ele_blocks.specs.declared.cell.Cell.{Cell}
+use Rattle.ele_content.specs.declared.cell.Cell.{Cell}
 use Rattle.ele_blocks.specs.Shared.{times, Trades, Covers}
 use Rattle.ele_blocks.specs.Store.{Store}
-use Rattle.ele_blocks.specs.Content.{content_of, resized, slot_count, refits, writer_at, truncated}
+use Rattle.ele_content.specs.Content.{content_of, resized, slot_count, refits, writer_at, truncated}
 use Rattle.ele_blocks.specs.Layout.{Layout, shown, cell_of, cell_by, ids_of, is_between}
 use Rattle.ele_blocks.specs.Pieces.{pieces}
 use Rattle.ele_blocks.specs.LaidOver.{laid_over}

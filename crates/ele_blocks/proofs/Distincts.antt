@@ -10,7 +10,8 @@ use Rattle.ele_blocks.specs.Shared.{times, place_at, owners_of, Owned}
 use Rattle.ele_blocks.specs.Store.{Store}
 use Rattle.ele_blocks.specs.Layout.{Layout, ids_of}
 use Rattle.ele_blocks.specs.Owes.{named, Owes}
-use Rattle.ele_blocks.specs.Distinct.{different, blocks_of, Place, is_place, Named, IsIn, AreOneToOne}
+use Rattle.ele_content.specs.Place.{different, Place, is_place}
+use Rattle.ele_blocks.specs.Distinct.{blocks_of, Named, IsIn, AreOneToOne}
 use Rattle.ele_blocks.proofs.Trades.{times-append}
 
 self_eq : (x : ℕ) → eqb x x ≡ true

@@ -11,7 +11,8 @@ use Rattle.ele_blocks.specs.Layout.{Layout, ids_of}
 use Rattle.ele_blocks.specs.LivesIn.{LivesIn}
 use Rattle.ele_blocks.specs.Owes.{Moves}
 use Rattle.ele_blocks.specs.Renews.{Renews}
-use Rattle.ele_blocks.specs.Distinct.{Place, is_place, Named, IsIn, AreOneToOne, names_from, names_of, NoneBy, AreOwnedNames}
+use Rattle.ele_content.specs.Place.{Place, is_place}
+use Rattle.ele_blocks.specs.Distinct.{Named, IsIn, AreOneToOne, names_from, names_of, NoneBy, AreOwnedNames}
 
 abbrev name_of : ℕ → ℕ → Slot → Named
 name_of file slot x = record { place = record { file = file; slot = slot; writer = x.writer }; block = x.block }

@@ -8,8 +8,8 @@ use Rattle.std.proofs.lemmas.List.{length-take, length-drop, length-append, map-
 use Rattle.std.proofs.Math.Seq.{take-suc}
 use Rattle.ele_blocks.specs.Store.{Store, bytes_at}
 use Rattle.ele_blocks.specs.declared.slot.Slot.{Slot}
-use Rattle.ele_blocks.specs.declared.cell.Cell.{Cell}
-use Rattle.ele_blocks.specs.Content.{content_of, slot_bytes, slot_count}
+use Rattle.ele_content.specs.declared.cell.Cell.{Cell}
+use Rattle.ele_content.specs.Content.{content_of, slot_bytes, slot_count}
 use Rattle.ele_blocks.specs.Layout.{cell_of}
 use Rattle.ele_blocks.specs.Pieces.{pieces}
 use Rattle.ele_blocks.proofs.Sizes.{AreSized, sized-is, sized-nil, sized-count, sized-length}

@@ -4,11 +4,12 @@ use Rattle.std.specs.List.{concat}
 use Rattle.std.proofs.lemmas.List.{length-map}
 use Rattle.std.proofs.lemmas.Bool.Decides.{nat_tests}
 use Rattle.std.proofs.lemmas.Bool.{false≢true}
-use Rattle.ele_blocks.specs.declared.cell.Cell.{Cell}
-use Rattle.ele_blocks.specs.Content.{content_of, longest_content}
+use Rattle.ele_content.specs.declared.cell.Cell.{Cell}
+use Rattle.ele_content.specs.Content.{content_of, longest_content}
 use Rattle.ele_blocks.specs.Store.{Store}
 use Rattle.ele_blocks.specs.Layout.{Layout, shown, cell_of}
-use Rattle.ele_blocks.specs.LivesIn.{fill_slots, is_whole}
+use Rattle.ele_content.specs.Content.{fill_slots}
+use Rattle.ele_blocks.specs.LivesIn.{is_whole}
 
 -- the bytes of each cell
 abbrev pub bytes_each : List Cell → List (List ℕ)

@@ -4,7 +4,7 @@ use Rattle.std.specs.List.{concat}
 use Rattle.std.proofs.str.Laws.{order}
 use Rattle.std.proofs.lemmas.List.{append-nil, length-replicate, take-append-drop, take-append-le, drop-append-le, drop-drop, drop_all}
 use Rattle.std.proofs.lemmas.List.Folds.{concat-append}
-use Rattle.ele_blocks.specs.Content.{spliced}
+use Rattle.ele_content.specs.Content.{spliced}
 use Rattle.ele_blocks.specs.Pieces.{pieces}
 use Rattle.ele_blocks.specs.LaidOver.{laid_over}
 use Rattle.ele_blocks.proofs.Sizes.{AreSized, sized-is, sized-count, sized-length, sized-take, sized-drop}

@@ -4,7 +4,7 @@ use Rattle.std.proofs.Common.{◌≡◌, ℕ, ◌+◌, ◌-◌, ◌*◌, ◌/◌
 use Rattle.std.proofs.lemmas.List.{length-map, take-map, drop-map}
 use Rattle.ele_blocks.specs.Shared.{Trades}
 use Rattle.ele_blocks.specs.Store.{Store}
-use Rattle.ele_blocks.specs.Content.{content_of, spliced, slot_count, longest_content, meets, written}
+use Rattle.ele_content.specs.Content.{content_of, spliced, slot_count, longest_content, meets, written}
 use Rattle.ele_blocks.specs.Layout.{Layout, shown, cell_of, cell_by, ids_of, is_between}
 use Rattle.ele_blocks.specs.Pieces.{pieces}
 use Rattle.ele_blocks.specs.LaidOver.{laid_over}

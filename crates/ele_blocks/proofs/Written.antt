@@ -5,8 +5,8 @@ use Rattle.std.proofs.str.Laws.{order}
 use Rattle.std.proofs.lemmas.Bool.Decides.{nat_tests}
 use Rattle.std.proofs.lemmas.List.{length-map, take-map, drop-map}
 use Rattle.std.proofs.lemmas.List.FromFn.{fill_by_all}
-use Rattle.ele_blocks.specs.declared.cell.Cell.{Cell}
-use Rattle.ele_blocks.specs.Content.{content_of, spliced, slot_bytes, slot_count, writer_at, meets, written}
+use Rattle.ele_content.specs.declared.cell.Cell.{Cell}
+use Rattle.ele_content.specs.Content.{content_of, spliced, slot_bytes, slot_count, writer_at, meets, written}
 use Rattle.ele_blocks.specs.Layout.{cell_by, is_between}
 use Rattle.ele_blocks.specs.Pieces.{pieces}
 use Rattle.ele_blocks.specs.LaidOver.{laid_over}

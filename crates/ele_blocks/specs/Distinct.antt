@@ -5,24 +5,11 @@ use Rattle.ele_blocks.specs.declared.slot.Slot.{Slot}
 use Rattle.ele_blocks.specs.Shared.{owners}
 use Rattle.ele_blocks.specs.Store.{Store}
 use Rattle.ele_blocks.specs.Layout.{Layout, slots_of, ids_of}
-
--- how many items the list has that are different by the test
-abbrev pub different : {X : Type 0} → (X → X → Bool) → List X → ℕ
-different same [] = 0
-different same (x ∷ xs) = (if list_any (λ y. same y x) xs then 0 else 1) + different same xs
+use Rattle.ele_content.specs.Place.{Place, is_place}
 
 -- the blocks that the slots of the maps name, each as often as they name it
 abbrev pub blocks_of : Store → List Layout → List ℕ
 blocks_of s ms = flat_map (λ m. ids_of (slots_of s m)) ms
-
--- a slot of a file as a version wrote it
-pub record Place : Type 0 where
-  pub file : ℕ
-  pub slot : ℕ
-  pub writer : ℕ
-
-abbrev pub is_place : Place → Place → Bool
-is_place p q = (p.file == q.file) && ((p.slot == q.slot) && (p.writer == q.writer))
 
 -- a place, and the block that a map names there
 pub record Named : Type 0 where

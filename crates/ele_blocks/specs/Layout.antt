@@ -1,7 +1,7 @@
 -- A block map as contracts see it, and what it shows through the store where its blocks stand.
 use Rattle.std.specs.Prelude.{ℕ, Bool, ◌&&◌, nat_le, nat_lt, List, map}
 use Rattle.ele_blocks.specs.declared.slot.Slot.{Slot}
-use Rattle.ele_blocks.specs.declared.cell.Cell.{Cell}
+use Rattle.ele_content.specs.declared.cell.Cell.{Cell}
 use Rattle.ele_blocks.specs.Store.{Store, bytes_at}
 
 -- how many bytes the content has, and for each of its slots the writer and the block

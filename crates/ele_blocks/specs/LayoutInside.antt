@@ -1,6 +1,6 @@
 -- What the fields of a block map keep. No public clause cites this module.
 use Rattle.std.specs.Prelude.{◌≡◌, ◌≤◌, length}
-use Rattle.ele_blocks.specs.Content.{longest_content, slot_count}
+use Rattle.ele_content.specs.Content.{longest_content, slot_count}
 use Rattle.ele_blocks.specs.Layout.{Layout}
 use Rattle.ele_blocks.specs.declared.map.BlockMap.TheInside.{Inside}
 

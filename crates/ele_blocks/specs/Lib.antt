@@ -1,7 +1,6 @@
 pub mod Shared
 pub mod SharedInside
 pub mod Store
-pub mod Content
 pub mod Layout
 pub mod LayoutInside
 pub mod LivesIn

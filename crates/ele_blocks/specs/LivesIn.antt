@@ -1,15 +1,10 @@
 -- That a map lives in a store.
 use Rattle.std.specs.Prelude.{◌≡◌, ℕ, ◌-◌, ◌==◌, ◌&&◌, Bool, true, List, [], ◌∷◌, length, min, nat_lt, nat_le}
-use Rattle.ele_blocks.specs.declared.cell.Cell.{Cell}
-use Rattle.ele_blocks.specs.Content.{longest_content}
+use Rattle.ele_content.specs.declared.cell.Cell.{Cell}
+use Rattle.ele_content.specs.Content.{longest_content, fill_slots}
 use Rattle.ele_blocks.specs.Store.{Store}
 use Rattle.ele_blocks.specs.Shared.{Covers}
 use Rattle.ele_blocks.specs.Layout.{Layout, slots_of, ids_of, shown}
-
--- the cells hold so many bytes, 512 each, and the last one 1 to 512
-abbrev pub fill_slots : ℕ → List Cell → Bool
-fill_slots n [] = n == 0
-fill_slots n (cell ∷ cells) = (length cell.bytes == min n 512) && (nat_lt 0 n && fill_slots (n - 512) cells)
 
 -- each slot of the map has as many bytes as belong there, and the content isn't too long
 abbrev pub is_whole : Store → Layout → Bool

@@ -1,7 +1,8 @@
 //! Laws of what a store is owed, for whoever holds many maps over one store.
 //! A contract sees a law as what these calls ensure; they do nothing.
 ghost use Rattle.std.specs.Prelude.{◌≡◌, ℕ, ◌≤◌, ◌^◌, Bool, List, [], ◌∷◌, ◌++◌, length, map, nat_eq};
-ghost use Rattle.ele_blocks.specs.Distinct.{different, is_place, Named, AreOneToOne, NoneBy, AreOwnedNames, names_of};
+ghost use Rattle.ele_content.specs.Place.{different, is_place};
+ghost use Rattle.ele_blocks.specs.Distinct.{Named, AreOneToOne, NoneBy, AreOwnedNames, names_of};
 ghost use Rattle.ele_blocks.specs.Renews.{Renews};
 ghost use Rattle.ele_blocks.specs.Layout.{Layout, shown};
 ghost use Rattle.ele_blocks.specs.LivesIn.{LivesIn};

@@ -3,7 +3,6 @@
 #![tactic(auto)]
 
 mod bytes;
-mod cell;
 pub mod laws;
 mod map;
 mod patch;
@@ -12,9 +11,5 @@ mod shared;
 mod slot;
 mod store;
 
-pub use cell::Cell;
 pub use map::BlockMap;
 pub use store::{BlockId, BlockStore};
-
-#[cfg(test)]
-mod tests;

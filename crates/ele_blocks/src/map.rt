@@ -2,7 +2,7 @@
 //! A contract sees its length and its slots, and through a store the cells of the content.
 ghost use Rattle.std.specs.Prelude.{◌≡◌, ◌<◌, ◌≤◌, ◌+◌, [], ◌∷◌, OnOk, OnErr, IfOk, vec_len, slice_get};
 ghost use Rattle.std.specs.Option.{option_map};
-ghost use Rattle.ele_blocks.specs.Content.{content_of, slot_count};
+ghost use Rattle.ele_content.specs.Content.{content_of, slot_count};
 ghost use Rattle.ele_blocks.specs.Layout.{Layout, shown};
 ghost use Rattle.ele_blocks.specs.LivesIn.{LivesIn};
 ghost use Rattle.ele_blocks.specs.Owes.{Moves, IsUncrowded};

@@ -1,7 +1,7 @@
 //! The bytes that a change of a content puts into its slots.
 //! A contract sees lists of bytes.
 ghost use Rattle.std.specs.Prelude.{◌≡◌, ◌<◌, ◌+◌, ◌^◌, IfOk, length, map};
-ghost use Rattle.ele_blocks.specs.Content.{content_of, spliced};
+ghost use Rattle.ele_content.specs.Content.{content_of, spliced};
 ghost use Rattle.ele_blocks.specs.Pieces.{pieces};
 ghost use Rattle.ele_blocks.specs.Shared.{Covers};
 ghost use Rattle.ele_blocks.specs.Layout.{ids_of, cell_of};

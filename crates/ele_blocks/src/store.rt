@@ -1,7 +1,8 @@
 //! The blocks that all maps of one core share.
 //! A contract sees what stands under each id: bytes and a count of owners, or nothing.
 ghost use Rattle.std.specs.Prelude.{◌≡◌, ◌<◌, ◌≤◌, ◌+◌, ◌^◌, [], OnErr, IfOk, Some, None, List, length, map, count_by, is_some, nat_eq};
-ghost use Rattle.ele_blocks.specs.Distinct.{different, blocks_of};
+ghost use Rattle.ele_content.specs.Place.{different};
+ghost use Rattle.ele_blocks.specs.Distinct.{blocks_of};
 ghost use Rattle.ele_blocks.specs.Owes.{Owes};
 ghost use Rattle.ele_blocks.specs.Shared.{owners, Sets, Trades, Adds, Covers, shared, released};
 ghost use Rattle.ele_blocks.specs.Layout.{Layout, ids_of};

@@ -1,9 +1,9 @@
 -- The book of usage, as the files change.
 use Rattle.std.proofs.Common.{◌≡◌, ℕ, ◌+◌, ◌-◌, ◌<◌, ◌≤◌, ◌^◌, Bool, true, false, cond, eqb, List, [], ◌∷◌, length, Option, Some, None, refl, ap, sym, subst, ◌∙◌, arith}
 use Rattle.ele_core.specs.Inside.{world_of, IsSound, IsTracked}
-use Rattle.ele_core.specs.Tracked.{told_by, blocks_of, only_blocks, of_file, IsOwed, IsBooked}
+use Rattle.ele_core.specs.Tracked.{told, told_by, blocks_of, only_blocks, of_file, IsOwed, IsBooked}
 use Rattle.ele_core.specs.declared.rows.Rows.{Rows}
-use Rattle.ele_blocks.specs.Content.{content_of, truncated}
+use Rattle.ele_content.specs.Content.{content_of, truncated}
 use Rattle.ele_files.specs.Held.{Held, with_file, opened_by, written_by, written_of, fitted, fitted_of}
 use Rattle.ele_moment.specs.Lists.{update_first}
 use Rattle.ele_policy.specs.declared.policy.Kind.{Kind}
@@ -15,7 +15,6 @@ use Rattle.ele_usage.specs.Book.{Book, sums_of}
 use Rattle.ele_usage.specs.OnlyAt.{only_at}
 use Rattle.ele_usage.specs.Sums.{nothing, plus, Fits}
 use Rattle.ele_world.specs.Usage.{usage_of, is_file_of, bytes_in}
-use Rattle.ele_world.specs.Seen.{told}
 use Rattle.ele_world.specs.Whole.{whole, ChangesOnly}
 use Rattle.ele_world.specs.declared.rows.DraftRow.{DraftRow}
 use Rattle.ele_world.specs.Step.{created, opened, changed_by, fitted_by}

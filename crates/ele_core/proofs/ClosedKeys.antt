@@ -4,7 +4,7 @@ use Rattle.std.specs.Prelude.{find, option_and_then, unwrap_or}
 use Rattle.std.specs.List.{filter_map}
 use Rattle.std.specs.Option.{option_map}
 use Rattle.std.proofs.lemmas.Bool.Decides.{nat_tests}
-use Rattle.ele_blocks.specs.declared.cell.Cell.{Cell}
+use Rattle.ele_content.specs.declared.cell.Cell.{Cell}
 use Rattle.ele_core.proofs.Keyed.{has-insert, has-update, same-update, no-update, same-keys}
 use Rattle.ele_core.proofs.ClosedSteps.{Becomes, draft_becomes, Leaves}
 use Rattle.ele_core.specs.Closings.{makes_version}

@@ -2,7 +2,7 @@
 use Rattle.std.proofs.Common.{◌≡◌, ℕ, ◌+◌, ◌-◌, ◌≤◌, ◌<◌, ◌^◌, Bool, true, false, cond, List, [], ◌∷◌, length, Option, Some, None, refl, ap, sym, subst, ◌∙◌, arith}
 use Rattle.std.specs.Prelude.{find}
 use Rattle.std.specs.Option.{option_map_or}
-use Rattle.ele_blocks.specs.Content.{content_of, longest_content}
+use Rattle.ele_content.specs.Content.{content_of, longest_content}
 use Rattle.ele_core.proofs.Booked.{few, few_blocks, owed, drafts_owed}
 use Rattle.ele_core.proofs.ClosedSteps.{Becomes, draft_becomes, Leaves}
 use Rattle.ele_core.specs.Closings.{makes_version}
@@ -119,7 +119,7 @@ pub draft_short : (rows : Rows) → IsSound rows → (file bytes : ℕ) → byte
 draft_short rows sound file bytes is = rw is (by (find (is_draft file) rows.files.drafts) refl) where
   by : (o : Option DraftRow) → find (is_draft file) rows.files.drafts ≡ o → length (content_of (option_map_or (λ (row : DraftRow). row.cells) o [])) ≤ longest_content
   by None e = omega arith
-  by (Some draft) e = let row : IsDraft rows.files.files rows.moment draft = all-found (is_draft file) (IsDraft rows.files.files rows.moment) rows.files.drafts draft e sound.formed.drafts in row.short
+  by (Some draft) e = let row : IsDraft rows.files.files rows.moment draft = all-found (is_draft file) (IsDraft rows.files.files rows.moment) rows.files.drafts draft e sound.formed.drafts in row.content.short
 
 pub version_fits : (rows : Rows) → IsSound rows → (bytes before : ℕ) → bytes ≤ longest_content → before ≡ blocks_of rows.files → before < 2 ^ 64 → (k : Kind) → Fits (plus (sums_of rows.book k) (one_version bytes))
 version_fits rows sound bytes before short is bound k =

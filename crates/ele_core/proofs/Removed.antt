@@ -5,7 +5,7 @@ use Rattle.std.specs.List.{filter_map}
 use Rattle.std.specs.Option.{option_map, option_and_then}
 use Rattle.std.proofs.lemmas.Bool.{false≢true}
 use Rattle.std.proofs.lemmas.Bool.Decides.{nat_tests}
-use Rattle.ele_blocks.specs.Content.{content_of}
+use Rattle.ele_content.specs.Content.{content_of}
 use Rattle.ele_core.proofs.Booked.{few, owed, some_versions, and_nothing}
 use Rattle.ele_core.proofs.Keyed.{has-remove}
 use Rattle.ele_core.proofs.Ripening.{ripe_now, due_by_key}

@@ -44,9 +44,9 @@ due_ripe row (Safe interval) ended now = ripens row (leb (ended + interval) last
 pub due_by_key : (w : World) (row : VersionRow) → due_key w row ≡ ripe_now w.now (key_by w.files row)
 due_by_key w row = by (policy_of w.files row.file) refl row.ended refl where
   by : (p : Option Policy) → policy_of w.files row.file ≡ p → (e : Option ℕ) → row.ended ≡ e → due_key w row ≡ ripe_now w.now (option_and_then (λ policy. option_and_then (λ ended. option_map (key_of row) (ripe_by policy ended)) e) p)
-  by None filed e end = sym (due_key-unfiled w row filed).key
-  by (Some policy) filed None end = sym (due_key-unended w row policy filed end).key
-  by (Some policy) filed (Some ended) end = (due_key-some w row policy ended (is_due_by policy ended w.now) (ripe_by policy ended) filed end refl refl).0 ∙ due_ripe row policy ended w.now
+  by None filed e end = due_key-unfiled w row filed
+  by (Some policy) filed None end = due_key-unended w row policy filed end
+  by (Some policy) filed (Some ended) end = due_key-some w row policy ended (is_due_by policy ended w.now) (ripe_by policy ended) filed end refl refl ∙ due_ripe row policy ended w.now
 
 has_ripe : (k : Key) (now : ℕ) (o : Option Key) → has_any k (ripe_now now o) ≡ (is_ripe_by now k && has_any k o)
 has_ripe k now None = and_false (is_ripe_by now k) where

@@ -1,5 +1,6 @@
 pub mod State
 pub mod Reads
+pub mod Ready
 pub mod Stopped
 pub mod Tracked
 pub mod Inside

@@ -2,7 +2,7 @@
 use Rattle.std.specs.Prelude.{◌≡◌, ℕ, ◌-◌, Bool, false, List, Option, None, is_some, find, option_and_then, if◌then◌else◌}
 use Rattle.std.specs.List.{filter_map}
 use Rattle.std.specs.Option.{option_map, option_map_or}
-use Rattle.ele_blocks.specs.Distinct.{different, is_place}
+use Rattle.ele_content.specs.Place.{different, is_place}
 use Rattle.ele_due.specs.declared.key.Key.{Key}
 use Rattle.ele_due.specs.HasKey.{has_key}
 use Rattle.ele_due.specs.Key.{is_key}
@@ -16,9 +16,10 @@ use Rattle.ele_world.specs.declared.rows.FileRow.{FileRow}
 use Rattle.ele_world.specs.declared.rows.VersionRow.{VersionRow}
 use Rattle.ele_world.specs.Scan.{key_of}
 use Rattle.ele_world.specs.Step.{ended_at}
-use Rattle.ele_world.specs.Seen.{told}
+use Rattle.ele_world.specs.Bounds.{largest_bounds}
+use Rattle.ele_world.specs.declared.rows.DraftRow.{DraftRow}
 use Rattle.ele_world.specs.Usage.{is_file_of, places, usage_of}
-use Rattle.ele_world.specs.World.{World, policy_of, next_of, is_version}
+use Rattle.ele_world.specs.World.{World, fresh_world, policy_of, next_of, is_version}
 
 -- the key that a version has once it has ended
 abbrev pub key_by : List FileRow → VersionRow → Option Key
@@ -29,6 +30,9 @@ abbrev pub keys_of : Held → List Key
 keys_of h = filter_map (key_by h.files) h.versions
 
 -- the world of these rows alone
+abbrev pub told : List FileRow → List VersionRow → List DraftRow → World
+told files versions drafts = record (fresh_world largest_bounds) { files = files; versions = versions; drafts = drafts }
+
 abbrev pub told_by : Held → World
 told_by h = told h.files h.versions h.drafts
 

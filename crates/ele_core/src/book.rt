@@ -46,6 +46,13 @@ pub fn blocks(files: &Files) -> u64
     files.blocks()
 }
 
+/// Says that the blocks are fewer than 2 to the power of 64, and changes nothing.
+pub fn blocks_fit(files: &Files)
+    ensures { blocks_of files.now < 2 ^ 64 }
+{
+    let _fits = blocks(files);
+}
+
 /// The book follows a change of one file's versions or drafts, which had so many blocks with those of all other files
 /// before: one event changes the blocks of one file, so what came or went is this file's.
 pub fn follow_blocks(book: &mut UsageBook, files: &Files, file: FileId, before: u64)

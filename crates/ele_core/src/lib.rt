@@ -1,7 +1,8 @@
 //! One world, which events change. A contract sees a core as its flat world, with a count of the rows that were read.
 #![tactic(auto)]
 
-ghost use Rattle.std.specs.Prelude.{◌≡◌, IfOk, OnErr, false};
+ghost use Rattle.std.specs.Prelude.{◌≡◌, IfOk, OnErr, IsOk, true, false};
+ghost use Rattle.ele_world.specs.Bounds.{AreBounds};
 ghost use Rattle.ele_world.specs.Due.{is_due};
 ghost use Rattle.ele_world.specs.Pass.{EndsPass};
 ghost use Rattle.ele_world.specs.Run.{IsEvent};
@@ -12,6 +13,7 @@ ghost use Rattle.ele_world.specs.WellFormed.{IsWellFormed};
 ghost use Rattle.ele_world.specs.World.{fresh_world};
 ghost use Rattle.ele_core.specs.Inside.{world_of, IsTracked, IsSound};
 ghost use Rattle.ele_core.specs.Reads.{IsRead};
+ghost use Rattle.ele_core.specs.Ready.{takes_no_memory};
 ghost use Rattle.ele_core.specs.Stopped.{is_stopped};
 
 mod asking;
@@ -26,8 +28,6 @@ mod names;
 mod opening;
 mod room;
 mod rows;
-#[cfg(test)]
-mod tests;
 mod walk;
 mod writing;
 
@@ -77,6 +77,7 @@ fn answer(rows: &mut Rows, event: &Event) -> Result<Reply, NoMemory>
     ensures step { IfOk result
         (λ reply. (reply, world_of rows.new) ≡ step (world_of rows.old) event.now) }
     ensures err { OnErr result (world_of rows.new ≡ world_of rows.old) }
+    ensures ready { takes_no_memory event.now ≡ true → IsOk result }
     ensures tracked { IsTracked rows.new }
     ensures read { IfOk result (λ reply. IsRead event.now reply rows.new.meter) }
 {
@@ -103,8 +104,7 @@ impl Core {
     pub fn new(alloc: Global, limits: Limits) -> Result<Core, NoMemory>
         ensures { IfOk result (λ core. core.world ≡ fresh_world limits) }
     {
-        // Told for the proof: limits are within their bounds.
-        let _events = limits.events();
+        limits.are_within();
         let mut directories = Vec::new(alloc);
         directories.push(DirectoryRow {
             id: ROOT,
@@ -132,11 +132,14 @@ impl Core {
 
     /// Takes the event: answers it, and makes its change.
     ///
-    /// `NoMemory` where memory is refused, and then the world is as it was.
+    /// `NoMemory` where memory is refused, and then the world is as it was. `clock`, `tick`, `default`, `clean` and `usage`
+    /// take none.
     pub fn apply(&mut self, event: &Event) -> Result<Reply, NoMemory>
         ensures step { IfOk result
             (λ reply. (reply, self.new.world) ≡ step self.old.world event.now) }
         ensures err { OnErr result (self.new.world ≡ self.old.world) }
+        ensures ready { takes_no_memory event.now ≡ true → IsOk result }
+        ensures event { IsEvent event.now }
         ensures read { IfOk result (λ reply. IsRead event.now reply self.new.rows_read) }
     {
         self.rows.meter = Meter::new();
@@ -152,9 +155,11 @@ impl Core {
         pass(&mut self.rows, budget)
     }
 
-    /// The moment that it is.
+    /// The moment that it is. The world is well formed and its limits are within theirs, so the laws of `ele_world` hold.
     pub fn now(&self) -> Moment
-        ensures { result ≡ self.now.world.now }
+        ensures value { result ≡ self.now.world.now }
+        ensures formed { IsWellFormed self.now.world }
+        ensures bounds { AreBounds self.now.world.limits }
     {
         self.rows.moment
     }

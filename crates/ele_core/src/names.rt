@@ -4,7 +4,7 @@ ghost use Rattle.ele_world.specs.Bounds.{largest_bounds};
 ghost use Rattle.ele_world.specs.Step.{create_refusal, create_step, created, versions_made};
 ghost use Rattle.ele_core.specs.Inside.{world_of, IsTracked, IsSound};
 
-use crate::book::blocks;
+use crate::book::blocks_fit;
 use crate::lookups::{default_of, live_target};
 use crate::room::put;
 use crate::rows::Rows;
@@ -59,8 +59,7 @@ fn add_file(rows: &mut Rows, directory: DirId, name: Name) -> Result<FileId, NoM
     rows.names.reserve(1)?;
     let id = FileId(rows.made.files + 1);
     let policy = default_of(&rows.directories, directory);
-    // Told for the proof: there are fewer than 2 to the power of 64 blocks.
-    let _blocks = blocks(&rows.files);
+    blocks_fit(&rows.files);
     rows.files.add(id, policy, rows.moment)?;
     rows.book.add(policy.kind(), NEW_FILE);
     put(

@@ -4,7 +4,7 @@ use Rattle.std.specs.List.{find, filter, slice_get, flat_map, AllByRecursion}
 use Rattle.std.proofs.lemmas.List.{append-nil}
 use Rattle.std.specs.Option.{option_map}
 use Rattle.std.proofs.lemmas.Bool.Decides.{nat_tests}
-use Rattle.ele_blocks.specs.declared.cell.Cell.{Cell}
+use Rattle.ele_content.specs.declared.cell.Cell.{Cell}
 use Rattle.ele_blocks.specs.declared.slot.Slot.{Slot}
 use Rattle.ele_blocks.specs.Layout.{Layout, cell_of, cell_by, shown}
 use Rattle.ele_blocks.specs.LivesIn.{LivesIn}

@@ -4,7 +4,8 @@ use Rattle.std.specs.List.{flat_map}
 use Rattle.std.proofs.lemmas.List.{map-append}
 use Rattle.std.proofs.lemmas.Grind.{flat_map-append}
 use Rattle.ele_blocks.specs.declared.slot.Slot.{Slot}
-use Rattle.ele_blocks.specs.Distinct.{Place, Named, AreOneToOne, names_from, blocks_of, different, is_place}
+use Rattle.ele_content.specs.Place.{Place, different, is_place}
+use Rattle.ele_blocks.specs.Distinct.{Named, AreOneToOne, names_from, blocks_of}
 use Rattle.ele_blocks.specs.Layout.{Layout, cell_of, ids_of}
 use Rattle.ele_blocks.specs.Store.{Store}
 use Rattle.ele_blocks.proofs.Distincts.{as_many}

@@ -6,7 +6,7 @@ use Rattle.std.specs.List.{flat_map, position}
 use Rattle.std.specs.Option.{option_map}
 use Rattle.std.proofs.lemmas.Bool.Decides.{nat_tests}
 use Rattle.std.proofs.lemmas.List.Quantifiers.{position-Some}
-use Rattle.ele_blocks.specs.Content.{content_of}
+use Rattle.ele_content.specs.Content.{content_of}
 use Rattle.ele_blocks.specs.LivesIn.{LivesIn}
 use Rattle.ele_blocks.specs.Owes.{tally, Moves}
 use Rattle.ele_blocks.specs.Store.{Store}

@@ -5,7 +5,7 @@ use Rattle.std.specs.List.{AllByRecursion}
 use Rattle.std.specs.Option.{IsSomeAnd}
 use Rattle.std.specs.Result.{OnOk, OnErr}
 use Rattle.std.proofs.lemmas.Bool.Decides.{nat_tests}
-use Rattle.ele_blocks.specs.Content.{content_of}
+use Rattle.ele_content.specs.Content.{content_of}
 use Rattle.ele_blocks.specs.Layout.{Layout, shown}
 use Rattle.ele_blocks.specs.LivesIn.{LivesIn}
 use Rattle.ele_blocks.specs.Owes.{Moves}

@@ -1,6 +1,6 @@
 -- What is told of one version.
 use Rattle.std.specs.Prelude.{length}
-use Rattle.ele_blocks.specs.Content.{content_of}
+use Rattle.ele_content.specs.Content.{content_of}
 use Rattle.ele_files.specs.declared.stamps.Stamps.{Stamps}
 use Rattle.ele_world.specs.declared.rows.VersionRow.{VersionRow}
 

@@ -3,8 +3,8 @@
 ghost use Rattle.std.specs.Prelude.{◌≡◌, ◌<◌, ◌≤◌, ◌+◌, ◌-◌, ◌^◌, [], All, OnOk, OnErr, IfOk, IfNone, IsOkUnless, IsErrOf, length, find, is_some, position, if◌then◌else◌};
 ghost use Rattle.std.specs.List.{AllByRecursion, list_any};
 ghost use Rattle.std.specs.Option.{ForSome, option_map, option_map_or};
-ghost use Rattle.ele_blocks.specs.Content.{content_of};
-ghost use Rattle.ele_blocks.specs.Distinct.{different, is_place};
+ghost use Rattle.ele_content.specs.Content.{content_of};
+ghost use Rattle.ele_content.specs.Place.{different, is_place};
 ghost use Rattle.ele_files.specs.Asked.{stamps_of};
 ghost use Rattle.ele_files.specs.Closing.{closing, closed, number_by, IsPast};
 ghost use Rattle.ele_files.specs.Held.{Held, with_file, opened_by, written_by, fitted, cells_of_draft, without};

@@ -6,8 +6,6 @@ mod file;
 mod files;
 mod room;
 mod stamps;
-#[cfg(test)]
-mod tests;
 
 pub use ele_inode_log::Meter;
 pub use ele_sessions::{Closing, SessionFault};

@@ -14,6 +14,3 @@ mod row;
 pub use log::InodeLog;
 pub use meter::Meter;
 pub use row::VersionRow;
-
-#[cfg(test)]
-mod tests;

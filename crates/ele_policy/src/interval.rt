@@ -55,32 +55,3 @@ impl Interval {
         self.seconds
     }
 }
-
-#[cfg(test)]
-mod tests {
-    use super::*;
-    use std::test::Fail;
-
-    #[test]
-    fn an_interval_has_1_second_or_more_and_fits_in_time(rt: HostRuntime) -> Result<(), Fail> {
-        for seconds in [1, 86400, 253402300799] {
-            assert_eq!(rt; Interval::new(seconds)?.seconds(), seconds);
-        }
-        for seconds in [0, 253402300800, u64::MAX] {
-            assert_eq!(rt; Interval::new(seconds), Err(BadLadder), "{seconds}");
-        }
-        Ok(())
-    }
-
-    #[test]
-    fn a_day_has_86400_seconds(rt: HostRuntime) {
-        assert_eq!(rt; Interval::DAY.seconds(), 86400);
-    }
-
-    #[test]
-    fn the_fault_has_a_text(rt: HostRuntime) -> Result<(), Fail> {
-        let text = format!(in rt.alloc(); "{}", BadLadder)?;
-        assert_eq!(rt; text.as_str(), "not the numbers of a policy");
-        Ok(())
-    }
-}

@@ -343,6 +343,3 @@ fn pass(arguments: &[&[u8]]) -> Result<Line, LineFault>
     };
     Ok(Line::Pass(word::number(budget)?))
 }
-
-#[cfg(test)]
-mod tests;

@@ -283,6 +283,3 @@ fn write_stopped<W: Write>(stop: Stop, removed: u64, writer: &mut W) -> Result<(
         &[number, stop.name().as_bytes(), b"removed", count],
     )
 }
-
-#[cfg(test)]
-mod tests;

@@ -1,7 +1,7 @@
 -- What writes and truncates answer, and what they make of a draft.
 use Rattle.std.specs.Prelude.{◌≡◌, ℕ, ◌+◌, ◌==◌, nat_lt, true, false, Bool, MatchBool, List, [], ◌∷◌, length, min, max, Option, Some, None, find, if◌then◌else◌}
 use Rattle.std.specs.Option.{IsSomeAnd, option_map_or}
-use Rattle.ele_blocks.specs.Content.{longest_content, content_of, spliced, resized, written, truncated, meets, refits}
+use Rattle.ele_content.specs.Content.{longest_content, content_of, spliced, resized, written, truncated, meets, refits}
 use Rattle.ele_blocks.specs.Layout.{Layout, shown}
 use Rattle.ele_blocks.specs.Owes.{Moves}
 use Rattle.ele_blocks.specs.Renews.{Renews}

@@ -3,7 +3,7 @@
 ghost use Rattle.std.specs.Prelude.{◌≡◌, ◌≤◌, ◌+◌, true, OnOk, OnErr, IsOk, IsTrue, length, find};
 ghost use Rattle.std.specs.List.{list_any};
 ghost use Rattle.std.specs.Option.{ForSome};
-ghost use Rattle.ele_blocks.specs.Content.{longest_content};
+ghost use Rattle.ele_content.specs.Content.{longest_content};
 ghost use Rattle.ele_blocks.specs.LivesIn.{LivesIn};
 ghost use Rattle.ele_sessions.specs.Changes.{RewritesDraft, Resizes, IsWritten, has_length};
 ghost use Rattle.ele_sessions.specs.Inside.{drafts_of, writers_of, file_in, is_of};

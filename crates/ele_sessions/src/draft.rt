@@ -1,7 +1,7 @@
 //! A file's draft: the map of its content, and whether it was changed.
 //! A contract sees its fields, with the map as its layout.
 ghost use Rattle.std.specs.Prelude.{◌≡◌, ◌≤◌, ◌+◌, true, OnOk, OnErr, length, ℕ};
-ghost use Rattle.ele_blocks.specs.Content.{longest_content};
+ghost use Rattle.ele_content.specs.Content.{longest_content};
 ghost use Rattle.ele_blocks.specs.LivesIn.{LivesIn};
 ghost use Rattle.ele_sessions.specs.Changes.{IsWritten, IsResized};
 ghost use Rattle.ele_sessions.specs.Inside.{draft_with};

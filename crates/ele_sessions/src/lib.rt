@@ -17,6 +17,3 @@ pub use closing::Closing;
 pub use fault::SessionFault;
 pub use reads::Reads;
 pub use sessions::Sessions;
-
-#[cfg(test)]
-mod tests;

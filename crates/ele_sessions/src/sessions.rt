@@ -2,9 +2,10 @@
 //! A contract sees them as drafts, handles and the count of handles ever opened.
 ghost use Rattle.std.specs.Prelude.{◌≡◌, ◌<◌, ◌≤◌, ◌+◌, ◌^◌, [], ◌∷◌, OnOk, OnErr, IfOk, IfErr, IfNone, IsOkUnless, IsErrOf, IsOk, IsSome, IsTrue, length, not, nat_lt, true};
 ghost use Rattle.std.specs.Option.{ForSome};
-ghost use Rattle.ele_blocks.specs.Content.{longest_content};
+ghost use Rattle.ele_content.specs.Content.{longest_content};
 ghost use Rattle.ele_blocks.specs.LivesIn.{LivesIn};
 ghost use Rattle.ele_blocks.specs.Owes.{IsUncrowded};
+ghost use Rattle.ele_sessions.specs.Orderly.{AreOrderly};
 ghost use Rattle.ele_sessions.specs.Changes.{write_refusal, truncate_refusal, Writes, Truncates, Stays, has_length};
 ghost use Rattle.ele_sessions.specs.Closes.{closing, closed};
 ghost use Rattle.ele_sessions.specs.Opening.{new_draft, opened_by, Opens};
@@ -123,6 +124,7 @@ impl Sessions {
             → bytes.now ≡ [] → IsOk result }
         ensures writes { OnOk result
             (Writes store.old store.new self.old self.new handle offset bytes.now) }
+        ensures orderly { AreOrderly self.old }
         ensures err { OnErr result (Stays store.old store.new self.old self.new) }
     {
         let Some(file) = file_by(&self.handles, handle) else {
@@ -157,6 +159,7 @@ impl Sessions {
             → size ≤ longest_content → IsOk result }
         ensures truncates { OnOk result
             (Truncates store.old store.new self.old self.new handle size) }
+        ensures orderly { AreOrderly self.old }
         ensures err { OnErr result (Stays store.old store.new self.old self.new) }
     {
         let Some(file) = file_by(&self.handles, handle) else {
@@ -174,6 +177,7 @@ impl Sessions {
     pub fn close(&mut self, handle: Handle) -> Option<(Closing, Option<BlockMap>)>
         ensures answer { result ≡ closing self.old handle }
         ensures sessions { self.new ≡ closed self.old handle }
+        ensures orderly { AreOrderly self.old }
     {
         let Ok(at) = handle_place(&self.handles, handle) else {
             return None;

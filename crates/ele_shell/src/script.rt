@@ -120,6 +120,3 @@ pub fn run<R: Read, W: Write>(
     let mut keeper = Keeper::new(alloc, limits)?;
     run_lines(&mut keeper, reader, writer)
 }
-
-#[cfg(test)]
-mod tests;

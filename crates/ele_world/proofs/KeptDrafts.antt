@@ -8,12 +8,12 @@ use Rattle.ele_world.specs.declared.rows.DraftRow.{DraftRow}
 use Rattle.ele_world.specs.declared.rows.FileRow.{FileRow}
 use Rattle.ele_world.specs.declared.rows.HandleRow.{HandleRow}
 use Rattle.ele_world.specs.declared.rows.VersionRow.{VersionRow}
-use Rattle.ele_blocks.specs.Content.{content_of, longest_content, truncated}
+use Rattle.ele_content.specs.Content.{content_of, longest_content, truncated}
 use Rattle.ele_moment.specs.Lists.{update_first, remove_first, insert_before}
 use Rattle.ele_world.specs.Step.{new_draft, with_draft, opened, changed_by, fitted_by, current_cells}
-use Rattle.ele_world.specs.WellFormed.{AllLater, IsVersion, IsDraft, IsWellFormed}
+use Rattle.ele_world.specs.WellFormed.{AllLater, IsContent, IsVersion, IsDraft, IsWellFormed}
 use Rattle.ele_world.specs.World.{World, next_of, is_version, is_draft, is_draft_after, is_handle}
-use Rattle.ele_world.proofs.Contents.{written_short, truncated_short}
+use Rattle.ele_content.proofs.Contents.{written_short, written_fills, truncated_short, truncated_fills}
 use Rattle.ele_moment.proofs.Edits.{all-push, all-weaker, later-push, all-update_first, all-remove_first, all-insert_before, later-update_first, later-remove_first, later-insert_before, length-update_first, length-insert_before, length-remove_first-le, all-found, all-none}
 
 -- a world whose drafts alone change
@@ -66,13 +66,13 @@ write_keeps w file number offset bytes fits k =
     drafts_keep w (update_first (is_draft file) (changed_by number offset bytes) w.drafts)
     (omega (arith, k.counts.versions, length-update_first (is_draft file) (changed_by number offset bytes) w.drafts))
     (all-update_first (is_draft file) (IsDraft w.files w.now) (IsDraft w.files w.now) (changed_by number offset bytes) w.drafts
-    (λ row h. record { there = h.there; opened = h.opened; short = written_short number offset bytes row.cells h.short fits }) (λ row h. h) k.drafts)
+    (λ row h. record { there = h.there; opened = h.opened; content = record { short = written_short number offset bytes row.cells h.content.short fits; slots = written_fills number offset bytes row.cells } }) (λ row h. h) k.drafts)
     (later-update_first (is_draft file) (λ earlier later. earlier.file < later.file) (changed_by number offset bytes) w.drafts (λ x y h. h) (λ x y h. h) k.drafts_placed) k
 
 fitted_is : (files : List FileRow) (now number size : ℕ) (row : DraftRow) → size ≤ longest_content → IsDraft files now row → IsDraft files now (fitted_by number size row)
 fitted_is files now number size row fits h = elim (eqb (length (content_of row.cells)) size) as (λ b. IsDraft files now (cond b row (record row { cells = truncated number size row.cells; changed = true }))) [
   | true ↦ h
-  | false ↦ record { there = h.there; opened = h.opened; short = truncated_short number size row.cells fits }
+  | false ↦ record { there = h.there; opened = h.opened; content = record { short = truncated_short number size row.cells fits; slots = truncated_fills number size row.cells } }
 ]
 
 same_file : (number size : ℕ) (row : DraftRow) → (fitted_by number size row).file ≡ row.file
@@ -90,11 +90,11 @@ fit_keeps w file number size fits k =
     (λ row h. fitted_is w.files w.now number size row fits h) (λ row h. h) k.drafts)
     (later-update_first (is_draft file) (λ earlier later. earlier.file < later.file) (fitted_by number size) w.drafts (λ x y h. rw (same_file number size x) h) (λ x y h. rw (same_file number size y) h) k.drafts_placed) k
 
-current_short : (w : World) (file : ℕ) → IsWellFormed w → length (content_of (current_cells w file)) ≤ longest_content
-current_short w file k = by (find (is_version file (next_of w.files file - 1)) w.versions) refl where
-  by : (o : Option VersionRow) → find (is_version file (next_of w.files file - 1)) w.versions ≡ o → length (content_of (option_map_or (λ (row : VersionRow). row.cells) o [])) ≤ longest_content
-  by None e = omega arith
-  by (Some row) e = let is : IsVersion w.files w.now row = all-found (is_version file (next_of w.files file - 1)) (IsVersion w.files w.now) w.versions row e k.versions in is.short
+current_content : (w : World) (file : ℕ) → IsWellFormed w → IsContent (current_cells w file)
+current_content w file k = by (find (is_version file (next_of w.files file - 1)) w.versions) refl where
+  by : (o : Option VersionRow) → find (is_version file (next_of w.files file - 1)) w.versions ≡ o → IsContent (option_map_or (λ (row : VersionRow). row.cells) o [])
+  by None e = record { short = omega arith; slots = refl }
+  by (Some row) e = let is : IsVersion w.files w.now row = all-found (is_version file (next_of w.files file - 1)) (IsVersion w.files w.now) w.versions row e k.versions in is.content
 
 -- a draft is begun, unless there is one
 with_draft_keeps : (w : World) (file : ℕ) → 0 < next_of w.files file → (list_any (is_draft file) w.drafts ≡ false → w.made.versions + length w.drafts < w.limits.versions) → IsWellFormed w → IsWellFormed (record w { drafts = with_draft w file })
@@ -103,7 +103,7 @@ with_draft_keeps w file there room k = by (list_any (is_draft file) w.drafts) re
   by true e = drafts_keep w w.drafts k.counts.versions k.drafts k.drafts_placed k
   by false e = drafts_keep w (insert_before (is_draft_after file) (new_draft w file) w.drafts)
       (omega (arith, room e, length-insert_before (is_draft_after file) (new_draft w file) w.drafts))
-      (all-insert_before (is_draft_after file) (IsDraft w.files w.now) (new_draft w file) w.drafts (record { there = there; opened = omega arith; short = current_short w file k }) k.drafts)
+      (all-insert_before (is_draft_after file) (IsDraft w.files w.now) (new_draft w file) w.drafts (record { there = there; opened = omega arith; content = current_content w file k }) k.drafts)
       (later-insert_before (is_draft_after file) (λ earlier later. earlier.file < later.file) (λ row. is_draft file row ≡ false) (new_draft w file) w.drafts
       (λ row other not_after. grind (arith, nat_tests))
       (λ row other after. grind (arith, nat_tests))

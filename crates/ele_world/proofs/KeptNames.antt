@@ -31,13 +31,13 @@ name_later files now to row le h = record { there = h.there; born = omega (arith
   by (Some death) h = (h.0, omega (arith, h.1))
 
 version_later : (files : List FileRow) (now to : ℕ) (row : VersionRow) → now ≤ to → IsVersion files now row → IsVersion files to row
-version_later files now to row le h = record { numbered = h.numbered; opened = h.opened; closed = omega (arith, h.closed); ended = by row.ended h.ended; open_end = h.open_end; short = h.short } where
+version_later files now to row le h = record { numbered = h.numbered; opened = h.opened; closed = omega (arith, h.closed); ended = by row.ended h.ended; open_end = h.open_end; content = h.content } where
   by : (o : Option ℕ) → IfSome o (λ ended. (row.closed ≤ ended) × (ended ≤ now)) → IfSome o (λ ended. (row.closed ≤ ended) × (ended ≤ to))
   by None h = tt
   by (Some ended) h = (h.0, omega (arith, h.1))
 
 draft_later : (files : List FileRow) (now to : ℕ) (row : DraftRow) → now ≤ to → IsDraft files now row → IsDraft files to row
-draft_later files now to row le h = record { there = h.there; opened = omega (arith, h.opened); short = h.short }
+draft_later files now to row le h = record { there = h.there; opened = omega (arith, h.opened); content = h.content }
 
 pub moved_keeps : (w : World) (to : ℕ) → to ≤ last_moment → w.now ≤ to → IsWellFormed w → IsWellFormed (record w { now = to })
 moved_keeps w to fits le k = record {
@@ -95,7 +95,7 @@ no_live w directory name h = all-not_found (is_live_name directory name) w.names
 version_push : (files : List FileRow) (new : FileRow) (now : ℕ) (row : VersionRow) → IsVersion files now row → IsVersion (files ++ new ∷ []) now row
 version_push files new now row h =
     let same = next_of-push files new row.file (omega (arith, h.numbered)) in
-    record { numbered = rw same h.numbered; opened = h.opened; closed = h.closed; ended = h.ended; open_end = λ none. h.open_end none ∙ sym same; short = h.short }
+    record { numbered = rw same h.numbered; opened = h.opened; closed = h.closed; ended = h.ended; open_end = λ none. h.open_end none ∙ sym same; content = h.content }
 
 -- the new file has its first version, and each other what it had
 created_current : (w : World) (new : FileRow) (named : NameRow) (version : VersionRow) → next_of (w.files ++ new ∷ []) new.id ≡ version.number + 1 → AllByRecursion (IsFile w.made) w.files → HaveCurrent w → named.target ≡ File new.id → version.file ≡ new.id → version.ended ≡ None → (file : ℕ) → list_any (is_live_name_of file) (w.names ++ named ∷ []) ≡ true → list_any (is_current file (next_of (w.files ++ new ∷ []) file)) (w.versions ++ version ∷ []) ≡ true
@@ -148,12 +148,12 @@ created_keeps w directory name files_room names_room versions_room fresh k =
       lives = later-push AreApart w.names named k.lives (all-weaker (λ row. (is_live_name directory name row ≡ false) × IsName w.files w.now row) (λ row. AreApart row named) w.names (λ row h. dead_name w.files w.now directory name row named h.0 h.1 refl refl refl) (all-both _ _ w.names (no_live w directory name fresh) k.names));
       versions = all-push (IsVersion (w.files ++ new ∷ []) w.now) w.versions version
           (all-weaker (IsVersion w.files w.now) (IsVersion (w.files ++ new ∷ []) w.now) w.versions (version_push w.files new w.now) k.versions)
-          (record { numbered = omega (arith, new_next); opened = omega arith; closed = omega arith; ended = tt; open_end = λ _. omega (arith, new_next); short = omega arith });
+          (record { numbered = omega (arith, new_next); opened = omega arith; closed = omega arith; ended = tt; open_end = λ _. omega (arith, new_next); content = record { short = omega arith; slots = refl } });
       versions_placed = later-push ArePlaced w.versions version k.versions_placed
           (all-weaker (IsVersion w.files w.now) (λ row. ArePlaced row version) w.versions (λ row h.
           let given = next_of-given w.made w.files row.file k.files (omega (arith, h.numbered)) in
           record { after = grind (arith, nat_tests); ended = λ same. absurd (omega (arith, given, same)) }) k.versions);
-      drafts = all-weaker (IsDraft w.files w.now) (IsDraft (w.files ++ new ∷ []) w.now) w.drafts (λ row h. record { there = omega (arith, h.there, next_of-push w.files new row.file h.there); opened = h.opened; short = h.short }) k.drafts;
+      drafts = all-weaker (IsDraft w.files w.now) (IsDraft (w.files ++ new ∷ []) w.now) w.drafts (λ row h. record { there = omega (arith, h.there, next_of-push w.files new row.file h.there); opened = h.opened; content = h.content }) k.drafts;
       drafts_placed = k.drafts_placed;
       handles = k.handles;
       handles_placed = k.handles_placed;

@@ -17,7 +17,7 @@ use Rattle.ele_world.proofs.Versions.{IsEndedBy, file_ended}
 
 -- the version before the new one ends, and stays one
 ended_version : (files : List FileRow) (now : ℕ) (row : VersionRow) → IsVersion files now row → IsVersion files now (ended_at now row)
-ended_version files now row h = record { numbered = h.numbered; opened = h.opened; closed = h.closed; ended = by row.ended h.ended; open_end = λ e. absurd cc; short = h.short } where
+ended_version files now row h = record { numbered = h.numbered; opened = h.opened; closed = h.closed; ended = by row.ended h.ended; open_end = λ e. absurd cc; content = h.content } where
   by : (o : Option ℕ) → IfSome o (λ ended. (row.closed ≤ ended) × (ended ≤ now)) → (row.closed ≤ unwrap_or o now) × (unwrap_or o now ≤ now)
   by None x = (h.closed, omega arith)
   by (Some ended) x = x
@@ -30,7 +30,7 @@ numbered_version files now file row has_ended h = record {
   closed = h.closed;
   ended = h.ended;
   open_end = λ none. by (eqb row.file file) refl none;
-  short = h.short;
+  content = h.content;
 } where
   by : (b : Bool) → eqb row.file file ≡ b → row.ended ≡ None → row.number + 1 ≡ next_of (update_first (is_file file) numbered_on files) row.file
   by true e none = let same : row.file ≡ file = grind (arith, nat_tests) in let ended = has_ended same in let is = ended.is in absurd cc
@@ -79,7 +79,7 @@ new_is w draft files next was = record {
   closed = omega arith;
   ended = by (is_live w draft.file);
   open_end = λ _. sym next;
-  short = was.short;
+  content = was.content;
 } where
   by : (b : Bool) → IfSome (cond b None (Some w.now)) (λ ended. (w.now ≤ ended) × (ended ≤ w.now))
   by true = tt
@@ -137,7 +137,7 @@ finished_keeps w draft found k =
           (behind_old w draft) (before_old w draft) (after_both file next) old
           (later-update_first p ArePlaced (ended_at w.now) w.versions (placed_ended w.now) (placed_before_ended w.now) k.versions_placed);
       drafts = all-weaker (IsDraft w.files w.now) (IsDraft files w.now) (remove_first (is_draft file) w.drafts)
-          (λ row h. record { there = omega (arith, h.there, next_of-numbered_le w.files file row.file); opened = h.opened; short = h.short })
+          (λ row h. record { there = omega (arith, h.there, next_of-numbered_le w.files file row.file); opened = h.opened; content = h.content })
           (all-remove_first (is_draft file) (IsDraft w.files w.now) w.drafts k.drafts);
       drafts_placed = later-remove_first (is_draft file) (λ earlier later. earlier.file < later.file) w.drafts k.drafts_placed;
       handles = k.handles;

@@ -1,5 +1,4 @@
 pub mod Files
-pub mod Contents
 pub mod Versions
 pub mod Walks
 pub mod KeptNames
@@ -8,6 +7,7 @@ pub mod KeptVersions
 pub mod DueRows
 pub mod StepKeeps
 pub mod Stays
+pub mod Refused
 pub mod Passes
 pub mod DueKeys
 pub mod Places

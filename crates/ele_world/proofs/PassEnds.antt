@@ -6,15 +6,15 @@ use Rattle.ele_due.specs.declared.key.Key.{Key}
 use Rattle.ele_moment.proofs.Edits.{length-remove_first}
 use Rattle.ele_world.specs.declared.event.Event.TheVariants.{CleanOne}
 use Rattle.ele_world.specs.declared.rows.VersionRow.{VersionRow}
-use Rattle.ele_world.specs.Due.{is_due_at}
-use Rattle.ele_world.specs.Pass.{IsCleaned, IsFinished}
+use Rattle.ele_world.specs.Due.{is_due_at, kept}
+use Rattle.ele_world.specs.Pass.{IsCleaned, HasRemoved, IsFinished}
 use Rattle.ele_world.specs.Run.{cleaned, IsPass}
 use Rattle.ele_world.specs.Scan.{first_due}
 use Rattle.ele_world.specs.Step.{clean_of, clean_step}
 use Rattle.ele_world.specs.WellFormed.{IsWellFormed}
 use Rattle.ele_world.specs.World.{World, is_version}
 use Rattle.ele_world.proofs.DueRows.{first_is_due}
-use Rattle.ele_world.proofs.Passes.{pass_leaves_kept}
+use Rattle.ele_world.proofs.Passes.{cleaned_keeps_kept, pass_leaves_kept}
 use Rattle.ele_world.proofs.Splits.{split_length}
 use Rattle.ele_world.proofs.StepKeeps.{step_keeps}
 
@@ -55,6 +55,14 @@ cleaned_removes (suc n) w keeps each =
     let first = clean_removes w keeps (each 0 (omega arith)) in
     let rest = cleaned_removes n ((clean_step w).1) (step_keeps w CleanOne tt keeps) (λ k h. each (suc k) (omega arith)) in
     omega (arith, first, rest)
+
+-- the end, when the budget is spent
+pub budget_ends : (w : World) (n : ℕ) (v : World) → IsWellFormed w → IsCleaned w n v → HasRemoved w n v
+budget_ends w n v keeps so_far = record {
+  cleaned = so_far;
+  count = omega (arith, cleaned_removes n w keeps so_far.each, ap (λ (u : World). length u.versions) so_far.after_is);
+  kept = ap kept so_far.after_is ∙ (cleaned_keeps_kept n w keeps).0;
+}
 
 -- the end, when nothing is due any more
 pub pass_finishes : (w : World) (n : ℕ) (v : World) (budget : ℕ) → IsWellFormed w → IsCleaned w n v → first_due v ≡ None → n < budget → IsFinished w budget n v

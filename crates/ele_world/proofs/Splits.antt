@@ -6,9 +6,9 @@ use Rattle.std.proofs.lemmas.Bool.Decides.{nat_tests}
 use Rattle.std.proofs.lemmas.List.Concat.{flat_map-cons}
 use Rattle.std.proofs.lemmas.List.Elements.{filter-append}
 use Rattle.std.proofs.lemmas.List.Sums.{sum_by-cons}
-use Rattle.ele_blocks.specs.declared.cell.Cell.{Cell}
-use Rattle.ele_blocks.specs.Content.{content_of}
-use Rattle.ele_blocks.specs.Distinct.{Place, is_place, different}
+use Rattle.ele_content.specs.declared.cell.Cell.{Cell}
+use Rattle.ele_content.specs.Content.{content_of}
+use Rattle.ele_content.specs.Place.{Place, is_place, different}
 use Rattle.ele_world.specs.declared.rows.VersionRow.{VersionRow}
 use Rattle.ele_world.specs.declared.rows.DraftRow.{DraftRow}
 use Rattle.ele_world.specs.Usage.{places_from, places, bytes_in}

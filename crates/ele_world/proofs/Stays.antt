@@ -17,7 +17,7 @@ use Rattle.ele_world.specs.declared.rows.DraftRow.{DraftRow}
 use Rattle.ele_world.specs.declared.rows.Target.{Target}
 use Rattle.ele_world.specs.declared.rows.Target.TheVariants.{File, Directory}
 use Rattle.ele_world.specs.declared.rows.VersionRow.{VersionRow}
-use Rattle.ele_blocks.specs.Content.{longest_content}
+use Rattle.ele_content.specs.Content.{longest_content}
 use Rattle.ele_world.specs.Due.{is_due_at}
 use Rattle.ele_world.specs.HeldStays.{IsSameVersion, StaysSame}
 use Rattle.ele_moment.specs.Last.{last_moment}

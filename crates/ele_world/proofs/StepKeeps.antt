@@ -18,7 +18,7 @@ use Rattle.ele_world.specs.declared.rows.DraftRow.{DraftRow}
 use Rattle.ele_world.specs.declared.rows.Target.{Target}
 use Rattle.ele_world.specs.declared.rows.Target.TheVariants.{File, Directory}
 use Rattle.ele_world.specs.Bounds.{Bounds}
-use Rattle.ele_blocks.specs.Content.{longest_content}
+use Rattle.ele_content.specs.Content.{longest_content}
 use Rattle.ele_moment.specs.Lists.{update_first, remove_first}
 use Rattle.ele_world.specs.Run.{run_of, IsEvent}
 use Rattle.ele_world.specs.Scan.{first_due}

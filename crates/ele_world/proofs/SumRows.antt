@@ -4,21 +4,14 @@ use Rattle.std.specs.Prelude.{filter}
 use Rattle.std.proofs.lemmas.List.{drop_more, take_all, length-append, length-drop}
 use Rattle.std.proofs.lemmas.List.Concat.{flat_map-cons}
 use Rattle.std.proofs.lemmas.List.Sums.{sum_by-cons}
-use Rattle.ele_blocks.specs.declared.cell.Cell.{Cell}
-use Rattle.ele_blocks.specs.Content.{content_of}
-use Rattle.ele_blocks.specs.Distinct.{Place}
+use Rattle.ele_content.specs.declared.cell.Cell.{Cell}
+use Rattle.ele_content.specs.Content.{content_of}
+use Rattle.ele_content.specs.Place.{Place}
 use Rattle.ele_world.specs.declared.rows.DraftRow.{DraftRow}
 use Rattle.ele_world.specs.declared.rows.VersionRow.{VersionRow}
 use Rattle.ele_world.specs.NewPlaces.{is_among, new_places, different_of}
-use Rattle.ele_world.specs.Seen.{told}
-use Rattle.ele_world.specs.Usage.{places_from, places, bytes_in, usages, usage_of}
-use Rattle.ele_world.specs.World.{World}
+use Rattle.ele_world.specs.Usage.{places_from, places, bytes_in}
 use Rattle.ele_world.proofs.SlotPlaces.{new_places-cons, different_version, different_draft}
-
--- usage reads of a world its files, versions and drafts
-pub usages_told : (w : World) → usages w ≡ usages (told w.files w.versions w.drafts)
-unfolding usage_of
-usages_told w = refl
 
 -- the bytes of what is left of the cells
 pub cell_bytes : (cells : List Cell) (i : ℕ) (cell : Cell) → i < length cells → cell ≡ get_or cells i cell → length (content_of (drop i cells)) ≡ length cell.bytes + length (content_of (drop (i + 1) cells))

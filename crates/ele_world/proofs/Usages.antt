@@ -1,7 +1,7 @@
 -- How changes of the world change usage.
 use Rattle.std.proofs.Common.{◌≡◌, ℕ, ◌+◌, ◌-◌, ◌*◌, ◌^◌, ◌<◌, ◌≤◌, Bool, true, false, not, cond, List, [], ◌∷◌, ◌++◌, length, Some, refl, ap, sym, ◌∙◌, arith, eqb}
 use Rattle.std.specs.Prelude.{filter}
-use Rattle.std.specs.List.{AllByRecursion, flat_map}
+use Rattle.std.specs.List.{AllByRecursion, flat_map, list_any}
 use Rattle.std.proofs.lemmas.Bool.Decides.{nat_tests}
 use Rattle.std.proofs.lemmas.Grind.{flat_map-append}
 use Rattle.std.proofs.lemmas.List.{append-nil, length-append}
@@ -14,7 +14,9 @@ use Rattle.ele_policy.specs.Policy.{kind_of, is_kind}
 use Rattle.ele_usage.specs.declared.usage.Usage.{Usage}
 use Rattle.ele_usage.specs.OnlyAt.{only_at}
 use Rattle.ele_usage.specs.Sums.{nothing, plus, Fits}
-use Rattle.ele_blocks.specs.Distinct.{is_place, different}
+use Rattle.ele_content.specs.declared.cell.Cell.{Cell}
+use Rattle.ele_content.specs.Place.{Place, is_place, different}
+use Rattle.ele_content.proofs.Contents.{slots_few}
 use Rattle.ele_world.specs.declared.rows.VersionRow.{VersionRow}
 use Rattle.ele_world.specs.declared.rows.DraftRow.{DraftRow}
 use Rattle.ele_world.specs.Usage.{is_of, is_file_of, places_from, places, bytes_in, usage_of, usages}
@@ -23,8 +25,8 @@ use Rattle.ele_world.specs.World.{World, policy_of, is_file, next_of, default_of
 use Rattle.ele_world.specs.declared.limits.Counts.{Counts}
 use Rattle.ele_world.specs.declared.rows.FileRow.{FileRow}
 use Rattle.ele_world.specs.Step.{created, new_version, opened, finished, version_of}
-use Rattle.ele_world.specs.WellFormed.{IsFile, IsVersion, IsDraft, IsWellFormed}
-use Rattle.ele_blocks.specs.Content.{content_of, longest_content}
+use Rattle.ele_world.specs.WellFormed.{IsContent, IsFile, IsVersion, IsDraft, IsWellFormed}
+use Rattle.ele_content.specs.Content.{content_of, longest_content}
 use Rattle.ele_moment.proofs.Edits.{all-weaker}
 use Rattle.ele_moment.specs.Lists.{update_first, remove_first, insert_before}
 use Rattle.ele_world.specs.Bounds.{AreBounds}
@@ -282,7 +284,7 @@ within_files w k = omega (arith, split_length (is_of k) w.files)
 
 bytes_short : (files : List FileRow) (now : ℕ) (rows : List VersionRow) → AllByRecursion (IsVersion files now) rows → bytes_in rows ≤ longest_content * length rows
 bytes_short files now [] all = omega arith
-bytes_short files now (x ∷ xs) all = let here = all.0.short in omega (arith, here, bytes_in-cons x xs, bytes_short files now xs all.1)
+bytes_short files now (x ∷ xs) all = let here = all.0.content.short in omega (arith, here, bytes_in-cons x xs, bytes_short files now xs all.1)
 
 pub whole_files : (w : World) → IsWellFormed w → AreBounds w.limits → length w.files ≤ 100000
 whole_files w keeps bounds = let most = bounds.files in let rows = keeps.counts.file_rows in let made = keeps.counts.files in omega arith
@@ -293,7 +295,42 @@ whole_versions w keeps bounds = let most = bounds.versions in let rows = keeps.c
 pub whole_bytes : (w : World) → IsWellFormed w → AreBounds w.limits → (whole w).bytes ≤ 1048576000000
 whole_bytes w keeps bounds = omega (arith, bytes_short w.files w.now w.versions keeps.versions, whole_versions w keeps bounds)
 
--- all of them fit, if the blocks do: a cell may be empty, so no other bound is known of these
+-- ---- the blocks are few
+
+different_few : (xs : List Place) → different is_place xs ≤ length xs
+different_few [] = omega arith
+different_few (x ∷ xs) = by (list_any (λ y. is_place y x) xs) (different_few xs) where
+  by : (b : Bool) → different is_place xs ≤ length xs → cond b 0 1 + different is_place xs ≤ length (x ∷ xs)
+  by true few = omega (arith, few)
+  by false few = omega (arith, few)
+
+length-places_from : (file slot : ℕ) (cells : List Cell) → length (places_from file slot cells) ≡ length cells
+length-places_from file slot [] = refl
+length-places_from file slot (cell ∷ cells) = omega (arith, length-places_from file (slot + 1) cells)
+
+-- a content has at most as many slots as bytes
+content_few : (cells : List Cell) → IsContent cells → length cells ≤ longest_content
+content_few cells is = omega (arith, slots_few (length (content_of cells)) cells is.slots, is.short)
+
+rows_few : {R : Type 0} (file_of : R → ℕ) (cells_of : R → List Cell) (rows : List R) → AllByRecursion (λ row. IsContent (cells_of row)) rows → length (flat_map (λ row. places_from (file_of row) 0 (cells_of row)) rows) ≤ longest_content * length rows
+rows_few file_of cells_of [] all = omega arith
+rows_few file_of cells_of (x ∷ xs) all =
+    let split = flat_map-cons (λ row. places_from (file_of row) 0 (cells_of row)) x xs in
+    let lengths = ap (λ (ps : List Place). length ps) split ∙ length-append (places_from (file_of x) 0 (cells_of x)) (flat_map (λ row. places_from (file_of row) 0 (cells_of row)) xs) in
+    omega (arith, lengths, length-places_from (file_of x) 0 (cells_of x), content_few (cells_of x) all.0, rows_few file_of cells_of xs all.1)
+
+pub whole_blocks : (w : World) → IsWellFormed w → AreBounds w.limits → (whole w).blocks < 2 ^ 64
+whole_blocks w keeps bounds =
+    let versions = rows_few (λ (row : VersionRow). row.file) (λ row. row.cells) w.versions (all-weaker (IsVersion w.files w.now) (λ row. IsContent row.cells) w.versions (λ row h. h.content) keeps.versions) in
+    let drafts = rows_few (λ (row : DraftRow). row.file) (λ row. row.cells) w.drafts (all-weaker (IsDraft w.files w.now) (λ row. IsContent row.cells) w.drafts (λ row h. h.content) keeps.drafts) in
+    let most = bounds.versions in
+    let made = keeps.counts.versions in
+    let rows = keeps.counts.version_rows in
+    let all = length-append (flat_map (λ (row : VersionRow). places_from row.file 0 row.cells) w.versions) (flat_map (λ (row : DraftRow). places_from row.file 0 row.cells) w.drafts) in
+    let few : length (places w.versions w.drafts) ≤ longest_content * 2000000 = omega (arith, all, versions, drafts) in
+    omega (arith, different_few (places w.versions w.drafts), few)
+
+-- all of them fit, where the blocks do
 pub whole_fits : (w : World) → IsWellFormed w → AreBounds w.limits → (whole w).blocks < 2 ^ 64 → Fits (whole w)
 whole_fits w keeps bounds blocks = record {
   files = omega arith;
@@ -310,5 +347,9 @@ usage_fits w keeps bounds blocks k = record {
   blocks = omega (arith, within_blocks w k, blocks);
 }
 
-pub usages_fit : (w : World) → ((k : Kind) → Fits (usage_of w k)) → AllByRecursion Fits (usages w)
-usages_fit w fits = (fits kinds.One, (fits kinds.All, (fits kinds.Safe, (fits kinds.Landmarks, tt))))
+all_fit : (w : World) → ((k : Kind) → Fits (usage_of w k)) → AllByRecursion Fits (usages w)
+all_fit w fits = (fits kinds.One, (fits kinds.All, (fits kinds.Safe, (fits kinds.Landmarks, tt))))
+
+-- the sums of a well-formed world
+pub usages_fit : (w : World) → IsWellFormed w → AreBounds w.limits → AllByRecursion Fits (usages w)
+usages_fit w keeps bounds = all_fit w (usage_fits w keeps bounds (whole_blocks w keeps bounds))

@@ -6,14 +6,14 @@ use Rattle.ele_policy.specs.Ripe.{is_due_by, candidates}
 use Rattle.ele_world.specs.declared.rows.VersionRow.{VersionRow}
 use Rattle.ele_world.specs.World.{World, policy_of, is_version}
 
--- nothing protects a version yet
-abbrev pub is_protected : World → VersionRow → Bool
-is_protected w row = false
+-- nothing protects a version yet, at any moment
+abbrev pub is_protected : World → VersionRow → ℕ → Bool
+is_protected w row at = false
 
 -- the version has ended at that moment or before it, isn't protected, and its file's policy lets it go
 unfoldable pub is_due_at : World → VersionRow → ℕ → Bool
 is_due_at w row at =
-    not (is_protected w row)
+    not (is_protected w row at)
     && option_map_or (λ policy. option_map_or (λ ended. is_due_by policy ended at) row.ended false) (policy_of w.files row.file) false
 
 -- the version is held, and due now

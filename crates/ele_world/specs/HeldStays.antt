@@ -1,4 +1,4 @@
--- In a run a held version's opened, closed and cells never change, and its end is set at most once.
+-- A held version's opened, closed and cells never change, and its end is set at most once.
 use Rattle.std.specs.Prelude.{◌≡◌, ℕ, List, Some, find}
 use Rattle.std.specs.List.{AllByRecursion}
 use Rattle.ele_world.specs.declared.event.Event.{Event}
@@ -6,6 +6,7 @@ use Rattle.ele_world.specs.declared.rows.VersionRow.{VersionRow}
 use Rattle.ele_world.specs.Bounds.{Bounds}
 use Rattle.ele_world.specs.Run.{run_of, IsEvent}
 use Rattle.ele_world.specs.Step.{step}
+use Rattle.ele_world.specs.WellFormed.{IsWellFormed}
 use Rattle.ele_world.specs.World.{World, fresh_world, is_version}
 
 -- the version is what it was; only an end may have come
@@ -21,6 +22,9 @@ StaysSame w event row =
     (after : VersionRow) → find (is_version row.file row.number) ((step w event).1).versions ≡ Some after → IsSameVersion row after
 
 abbrev pub HeldStays : Type 0
-HeldStays =
+HeldStays = (w : World) (event : Event) → IsWellFormed w → AllByRecursion (StaysSame w event) w.versions
+
+abbrev pub HeldStaysInRuns : Type 0
+HeldStaysInRuns =
     (limits : Bounds) (events : List Event) (event : Event) → AllByRecursion IsEvent events → IsEvent event
     → let w = run_of (fresh_world limits) events in AllByRecursion (StaysSame w event) w.versions

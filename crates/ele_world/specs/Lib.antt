@@ -10,10 +10,11 @@ pub mod Step
 pub mod WellFormed
 pub mod Run
 pub mod AlwaysWellFormed
+pub mod NothingChanges
 pub mod OnlyDueLeave
 pub mod HeldStays
 pub mod PassLeavesKept
-pub mod Seen
+pub mod UsageFits
 pub mod Pass
 pub mod NewPlaces
 pub mod Whole

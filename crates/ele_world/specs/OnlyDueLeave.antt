@@ -1,4 +1,4 @@
--- In a run a version leaves only by a clean event in whose world it was due.
+-- A version leaves only by a clean event in whose world it was due.
 use Rattle.std.specs.Prelude.{◌≡◌, ◌⊎◌, true, List}
 use Rattle.std.specs.List.{AllByRecursion}
 use Rattle.ele_world.specs.declared.event.Event.{Event}
@@ -8,6 +8,7 @@ use Rattle.ele_world.specs.Bounds.{Bounds}
 use Rattle.ele_world.specs.Due.{is_due_at}
 use Rattle.ele_world.specs.Run.{run_of, IsEvent}
 use Rattle.ele_world.specs.Step.{step}
+use Rattle.ele_world.specs.WellFormed.{IsWellFormed}
 use Rattle.ele_world.specs.World.{World, fresh_world, is_held}
 
 -- after the event the version is still held, or the event was a clean and the version due
@@ -16,6 +17,9 @@ StaysOrWasDue w event row =
     (is_held ((step w event).1) row.file row.number ≡ true) ⊎ ((event ≡ CleanOne) × (is_due_at w row w.now ≡ true))
 
 abbrev pub OnlyDueLeave : Type 0
-OnlyDueLeave =
+OnlyDueLeave = (w : World) (event : Event) → IsWellFormed w → AllByRecursion (StaysOrWasDue w event) w.versions
+
+abbrev pub OnlyDueLeaveInRuns : Type 0
+OnlyDueLeaveInRuns =
     (limits : Bounds) (events : List Event) (event : Event) → AllByRecursion IsEvent events → IsEvent event
     → let w = run_of (fresh_world limits) events in AllByRecursion (StaysOrWasDue w event) w.versions

@@ -1,5 +1,5 @@
 -- How a pass with a budget ends.
-use Rattle.std.specs.Prelude.{◌≡◌, ℕ, ◌<◌, length, filter, IsSome}
+use Rattle.std.specs.Prelude.{◌≡◌, ℕ, ◌+◌, ◌<◌, length, filter, IsSome}
 use Rattle.ele_world.specs.declared.pass.PassEnd.{PassEnd}
 use Rattle.ele_world.specs.declared.pass.PassEnd.TheVariants.{Finished, Budget, Stopped}
 use Rattle.ele_world.specs.Due.{is_due_at, kept}
@@ -12,6 +12,12 @@ pub record IsCleaned (w : World) (removed : ℕ) (after : World) : Type 0 where
   pub each : (k : ℕ) → k < removed → IsSome (first_due (cleaned k w))
   pub after_is : after ≡ cleaned removed w
 
+-- so many versions have gone, each of which was due as the pass began: those that weren't due are as they were
+pub record HasRemoved (w : World) (removed : ℕ) (after : World) : Type 0 where
+  pub cleaned : IsCleaned w removed after
+  pub count : length after.versions + removed ≡ length w.versions
+  pub kept : kept after ≡ kept w
+
 -- nothing is due any more, before the budget is used up: what was due is removed, and what wasn't is kept
 pub record IsFinished (w : World) (budget removed : ℕ) (after : World) : Type 0 where
   pub pass : IsPass w removed after
@@ -22,5 +28,5 @@ pub record IsFinished (w : World) (budget removed : ℕ) (after : World) : Type 
 -- a pass from a world with that budget, how it ended, and the world that it left
 abbrev pub EndsPass : World → ℕ → PassEnd → World → Type 0
 EndsPass w budget (Finished removed) after = IsFinished w budget removed after
-EndsPass w budget (Budget removed) after = (removed ≡ budget) × IsCleaned w removed after
-EndsPass w budget (Stopped stop removed) after = (removed < budget) × IsCleaned w removed after
+EndsPass w budget (Budget removed) after = (removed ≡ budget) × HasRemoved w removed after
+EndsPass w budget (Stopped stop removed) after = (removed < budget) × HasRemoved w removed after

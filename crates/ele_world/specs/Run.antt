@@ -1,9 +1,8 @@
--- Runs, passes and histories.
+-- Runs and passes.
 use Rattle.std.specs.Prelude.{◌≡◌, ℕ, suc, zero, ◌<◌, ◌≤◌, List, [], ◌∷◌, None, IsSome}
 use Rattle.ele_moment.specs.Last.{last_moment}
 use Rattle.ele_world.specs.declared.event.Event.{Event}
 use Rattle.ele_world.specs.declared.event.Event.TheVariants.{Clock, Tick, Create, OpenWrite, Write, Truncate, Close, SetDefault, CleanOne, Read, Due, UsageAll}
-use Rattle.ele_world.specs.declared.reply.Reply.{Reply}
 use Rattle.ele_world.specs.Scan.{first_due}
 use Rattle.ele_world.specs.Step.{step, clean_step}
 use Rattle.ele_world.specs.World.{World}
@@ -27,11 +26,6 @@ IsEvent CleanOne = Unit {0}
 IsEvent (Read source) = Unit {0}
 IsEvent Due = Unit {0}
 IsEvent UsageAll = Unit {0}
-
--- each reply is the step's, from the world on
-abbrev pub IsLegal : World → List (Event × Reply) → Type 0
-IsLegal w [] = Unit {0}
-IsLegal w (entry ∷ entries) = (entry.1 ≡ (step w entry.0).0) × IsLegal ((step w entry.0).1) entries
 
 -- the world after so many clean events
 abbrev pub cleaned : ℕ → World → World

@@ -12,7 +12,7 @@ use Rattle.ele_world.specs.declared.refusal.Refusal.TheVariants.{ClockBack, Cloc
 use Rattle.ele_world.specs.declared.refusal.Which.TheVariants.{Files, Names, Versions, Handles}
 use Rattle.ele_world.specs.declared.reply.Reply.{Reply}
 use Rattle.ele_world.specs.declared.reply.Reply.TheVariants as reply
-use Rattle.ele_blocks.specs.declared.cell.Cell.{Cell}
+use Rattle.ele_content.specs.declared.cell.Cell.{Cell}
 use Rattle.ele_world.specs.declared.rows.DirectoryRow.{DirectoryRow}
 use Rattle.ele_world.specs.declared.rows.DraftRow.{DraftRow}
 use Rattle.ele_world.specs.declared.rows.FileRow.{FileRow}
@@ -21,7 +21,7 @@ use Rattle.ele_world.specs.declared.rows.Target.TheVariants.{File, Directory}
 use Rattle.ele_world.specs.declared.rows.VersionRow.{VersionRow}
 use Rattle.ele_moment.specs.Last.{last_moment}
 use Rattle.ele_policy.specs.declared.policy.Policy.{Policy}
-use Rattle.ele_blocks.specs.Content.{content_of, longest_content, written, truncated}
+use Rattle.ele_content.specs.Content.{content_of, longest_content, written, truncated}
 use Rattle.ele_moment.specs.Lists.{update_first, remove_first, insert_before}
 use Rattle.ele_world.specs.Scan.{scan, first_due}
 use Rattle.ele_world.specs.Usage.{usages}

@@ -9,7 +9,8 @@ use Rattle.ele_world.specs.declared.rows.Target.{Target}
 use Rattle.ele_world.specs.declared.rows.Target.TheVariants.{File, Directory}
 use Rattle.ele_world.specs.declared.rows.VersionRow.{VersionRow}
 use Rattle.ele_world.specs.declared.rows.DraftRow.{DraftRow}
-use Rattle.ele_blocks.specs.Content.{content_of, longest_content}
+use Rattle.ele_content.specs.declared.cell.Cell.{Cell}
+use Rattle.ele_content.specs.Content.{content_of, longest_content, fill_slots}
 use Rattle.ele_world.specs.World.{World, next_of, is_live, is_version_after}
 pub use Rattle.ele_moment.specs.Lists.{AllLater}
 
@@ -45,6 +46,11 @@ abbrev pub AreApart : NameRow → NameRow → Type 0
 AreApart earlier later =
     earlier.directory ≡ later.directory → earlier.name ≡ later.name → (death : ℕ) × (earlier.death ≡ Some death) × (death ≤ later.birth)
 
+-- the cells are those of a content: its slots in a row, each of 512 bytes but for the last, which has 1 to 512
+pub record IsContent (cells : List Cell) : Type 0 where
+  pub short : length (content_of cells) ≤ longest_content
+  pub slots : fill_slots (length (content_of cells)) cells ≡ true
+
 -- a held version's file is there and numbers on behind it; it closed by now, and if it has ended it ended by now and not
 -- before it closed; only the version before the next one may have no end
 pub record IsVersion (files : List FileRow) (now : ℕ) (row : VersionRow) : Type 0 where
@@ -53,7 +59,7 @@ pub record IsVersion (files : List FileRow) (now : ℕ) (row : VersionRow) : Typ
   pub closed : row.closed ≤ now
   pub ended : IfSome row.ended (λ ended. (row.closed ≤ ended) × (ended ≤ now))
   pub open_end : row.ended ≡ None → row.number + 1 ≡ next_of files row.file
-  pub short : length (content_of row.cells) ≤ longest_content
+  pub content : IsContent row.cells
 
 -- of two held versions the later has the greater file, or the same file and the greater number; then the earlier had ended
 -- when the later closed
@@ -65,7 +71,7 @@ pub record ArePlaced (earlier later : VersionRow) : Type 0 where
 pub record IsDraft (files : List FileRow) (now : ℕ) (row : DraftRow) : Type 0 where
   pub there : 0 < next_of files row.file
   pub opened : row.opened ≤ now
-  pub short : length (content_of row.cells) ≤ longest_content
+  pub content : IsContent row.cells
 
 -- the version before the next one, without an end
 abbrev pub is_current : ℕ → ℕ → VersionRow → Bool

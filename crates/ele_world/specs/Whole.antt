@@ -1,6 +1,6 @@
 -- What all versions and drafts use, and changes of one file's versions and drafts.
 use Rattle.std.specs.Prelude.{◌≡◌, ℕ, ◌==◌, not, length, filter, if◌then◌else◌}
-use Rattle.ele_blocks.specs.Distinct.{is_place, different}
+use Rattle.ele_content.specs.Place.{is_place, different}
 use Rattle.ele_policy.specs.declared.policy.Kind.{Kind}
 use Rattle.ele_usage.specs.declared.usage.Usage.{Usage}
 use Rattle.ele_usage.specs.Sums.{nothing}

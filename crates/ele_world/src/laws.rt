@@ -1,12 +1,35 @@
-//! What is true of every run: each law is the contract of a function that does nothing.
-ghost use Rattle.ele_world.specs.AlwaysWellFormed.{AlwaysWellFormed};
-ghost use Rattle.ele_world.specs.HeldStays.{HeldStays};
-ghost use Rattle.ele_world.specs.OnlyDueLeave.{OnlyDueLeave};
-ghost use Rattle.ele_world.specs.PassLeavesKept.{PassLeavesKept};
+//! What every event does to a well-formed world, and so what is true of every run: each law is the contract of a function that
+//! does nothing.
+ghost use Rattle.ele_world.specs.AlwaysWellFormed.{FreshIsWellFormed, StepKeepsWellFormed, AlwaysWellFormed};
+ghost use Rattle.ele_world.specs.HeldStays.{HeldStays, HeldStaysInRuns};
+ghost use Rattle.ele_world.specs.NothingChanges.{RefusedStays, AskingStays};
+ghost use Rattle.ele_world.specs.OnlyDueLeave.{OnlyDueLeave, OnlyDueLeaveInRuns};
+ghost use Rattle.ele_world.specs.PassLeavesKept.{PassLeavesKept, PassLeavesKeptInRuns};
+ghost use Rattle.ele_world.specs.UsageFits.{UsageFits};
+
+/// The fresh world is well formed.
+pub fn fresh_is_well_formed()
+    ensures { FreshIsWellFormed }
+{}
+
+/// An event leaves a well-formed world well formed.
+pub fn step_keeps_well_formed()
+    ensures { StepKeepsWellFormed }
+{}
 
 /// After any list of events the world is well formed.
 pub fn always_well_formed()
     ensures { AlwaysWellFormed }
+{}
+
+/// An event that is refused changes nothing.
+pub fn refused_stays()
+    ensures { RefusedStays }
+{}
+
+/// An event that only asks changes nothing.
+pub fn asking_stays()
+    ensures { AskingStays }
 {}
 
 /// A version leaves only by a clean event in whose world it was due.
@@ -14,12 +37,32 @@ pub fn only_due_leave()
     ensures { OnlyDueLeave }
 {}
 
+/// The same of every run.
+pub fn only_due_leave_in_runs()
+    ensures { OnlyDueLeaveInRuns }
+{}
+
 /// A held version's opened, closed and cells never change, and its end is set at most once.
 pub fn held_stays()
     ensures { HeldStays }
 {}
 
+/// The same of every run.
+pub fn held_stays_in_runs()
+    ensures { HeldStaysInRuns }
+{}
+
 /// An undisturbed finished pass leaves exactly the versions that the scan at its start kept.
 pub fn pass_leaves_kept()
     ensures { PassLeavesKept }
+{}
+
+/// The same of every run.
+pub fn pass_leaves_kept_in_runs()
+    ensures { PassLeavesKeptInRuns }
+{}
+
+/// What the files of each kind of policy use in a well-formed world fits in 64 bits.
+pub fn usage_fits()
+    ensures { UsageFits }
 {}

@@ -13,10 +13,8 @@ mod reply;
 mod rows;
 mod scan;
 mod sums;
-#[cfg(test)]
-mod tests;
 
-pub use ele_blocks::Cell;
+pub use ele_content::Cell;
 pub use ele_due::Key;
 pub use ele_moment::{ByteList, DirId, FileId, Handle, ListOf, Moment, Name, NoMemory, VersionNo};
 pub use ele_policy::{Interval, Kind, Policy};
@@ -30,5 +28,3 @@ pub use pass::PassEnd;
 pub use refusal::{Refusal, Stop, Which};
 pub use reply::Reply;
 pub use rows::{DirectoryRow, DraftRow, FileRow, HandleRow, NameRow, Target, VersionRow};
-pub use scan::{due_first, due_keys, is_due};
-pub use sums::usages_in;

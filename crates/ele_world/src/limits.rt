@@ -102,6 +102,13 @@ impl Limits {
         }
     }
 
+    /// Says that no limit is above its largest, and changes nothing.
+    pub fn are_within(&self)
+        ensures { AreBounds self.now }
+    {
+        let _events = self.events();
+    }
+
     /// How many replies may ever be given.
     pub fn events(&self) -> u64
         ensures value { result ≡ self.now.events }

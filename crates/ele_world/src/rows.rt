@@ -1,5 +1,5 @@
 //! The rows of a world: what stands in it of each file, name, version, draft and handle.
-use ele_blocks::Cell;
+use ele_content::Cell;
 use ele_moment::{DirId, FileId, Handle, ListOf, Moment, Name, VersionNo};
 use ele_policy::Policy;
 

@@ -1,17 +1,16 @@
-//! What each kind of policy uses, summed by a look at every row. A contract sees the rows as a world in which nothing else
-//! stands.
+//! What each kind of policy uses, summed by a look at every row.
 ghost use Rattle.std.specs.Prelude.{◌≡◌, ◌<◌, ◌^◌, ◌==◌, ◌&&◌, length, filter, []};
-ghost use Rattle.std.specs.List.{AllByRecursion, list_any};
+ghost use Rattle.std.specs.List.{list_any};
 ghost use Rattle.ele_policy.specs.Policy.{is_kind};
 ghost use Rattle.ele_usage.specs.Sums.{Fits};
-ghost use Rattle.ele_blocks.specs.Content.{content_of};
+ghost use Rattle.ele_content.specs.Content.{content_of};
 ghost use Rattle.ele_world.specs.NewPlaces.{has_slot, is_among, new_places, different_of};
-ghost use Rattle.ele_world.specs.Seen.{told};
-ghost use Rattle.ele_world.specs.Usage.{is_of, is_file_of, places_from, places, bytes_in, usage_of, usages};
+ghost use Rattle.ele_world.specs.Usage.{is_of, is_file_of, places_from, places, bytes_in, usage_of};
 
+use crate::flat::Flat;
 use crate::rows::{DraftRow, FileRow, VersionRow};
 use crate::scan::policy_of;
-use ele_blocks::Cell;
+use ele_content::Cell;
 use ele_moment::{FileId, VersionNo};
 use ele_policy::Kind;
 use ele_usage::Usage;
@@ -173,29 +172,17 @@ fn blocks_of(files: &[FileRow], versions: &[VersionRow], drafts: &[DraftRow], ki
 
 /// What the files with a policy of the kind use.
 #[tactic(auto, unfolding(crate::specs::Usage::usage_of))]
-fn usage_of(files: &[FileRow], versions: &[VersionRow], drafts: &[DraftRow], kind: Kind) -> Usage
-    requires { Fits (usage_of (told files.now versions.now drafts.now) kind) }
-    ensures { result ≡ usage_of (told files.now versions.now drafts.now) kind }
+pub fn usage_of(world: &Flat, kind: Kind) -> Usage
+    requires { Fits (usage_of world.now kind) }
+    ensures { result ≡ usage_of world.entry.now kind }
 {
+    let files = world.files.as_slice();
+    let versions = world.versions.as_slice();
+    let drafts = world.drafts.as_slice();
     Usage {
         files: files_of(files, kind),
         versions: versions_of(files, versions, kind),
         bytes: bytes_of(files, versions, kind),
         blocks: blocks_of(files, versions, drafts, kind),
     }
-}
-
-/// What the files of each kind of policy use, in the order of `Kind`: how many they are, their versions, the bytes of
-/// these, and how many different blocks they and the drafts have. The caller knows that each number is within 64 bits. It
-/// takes no memory, and looks at all rows for each slot.
-pub fn usages_in(files: &[FileRow], versions: &[VersionRow], drafts: &[DraftRow]) -> [Usage; 4]
-    requires { AllByRecursion Fits (usages (told files.now versions.now drafts.now)) }
-    ensures { result ≡ usages (told files.now versions.now drafts.now) }
-{
-    [
-        usage_of(files, versions, drafts, Kind::One),
-        usage_of(files, versions, drafts, Kind::All),
-        usage_of(files, versions, drafts, Kind::Safe),
-        usage_of(files, versions, drafts, Kind::Landmarks),
-    ]
 }

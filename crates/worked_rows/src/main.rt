@@ -1,56 +1,87 @@
 //! Runs the worked scripts of `data/`, and compares what each prints with the output that stands beside it.
 #![tactic(auto)]
 
-use anyhow::{Result, anyhow};
+use anyhow::{Context, Result, anyhow};
 use ele_shell::run;
 use ele_world::Limits;
 use std::fs;
 
-/// The scripts, each NAME.script with its NAME.output.
-const ROWS: [&str; 17] = [
+/// The scripts under the largest limits, each NAME.script with its NAME.output.
+const ROWS: [&str; 24] = [
     "first_run",
     "empty_script",
     "write_of_no_bytes",
     "cut_line",
     "long_line",
     "long_cut_line",
+    "lines_of_8192_bytes",
     "bad_lines",
+    "names_and_paths",
     "refusals",
     "moments",
+    "tick_past_the_last_moment",
     "writers_share_a_draft",
     "keys_in_order",
     "default_keeps_safe_for_10_seconds",
+    "keep_safe_to_the_end_of_time",
     "usage_before_and_after_cleaning",
+    "a_cut_draft_shares_whole_blocks",
+    "a_whole_file_is_shared",
+    "zeros_fill_up_to_a_write",
     "truncate_to_the_longest_content",
     "a_draft_is_read",
-    "tick_past_the_last_moment",
+    "many_versions_of_a_file",
     "passes_and_their_budgets",
 ];
 
+/// Scripts under limits of their own: events, files, directories, names, versions, handles, groups, members, marks.
+const LIMITED: [(&str, [u64; 9]); 9] = [
+    ("full_history", [1, 9, 9, 9, 9, 9, 9, 9, 9]),
+    ("pass_fills_the_history", [6, 9, 9, 9, 9, 9, 9, 9, 9]),
+    (
+        "pass_ends_as_the_history_is_full",
+        [7, 9, 9, 9, 9, 9, 9, 9, 9],
+    ),
+    (
+        "pass_of_one_ends_as_the_history_is_full",
+        [6, 9, 9, 9, 9, 9, 9, 9, 9],
+    ),
+    ("pass_of_the_largest_budget", [1, 9, 9, 9, 9, 9, 9, 9, 9]),
+    ("files_limit", [9, 1, 9, 9, 9, 9, 9, 9, 9]),
+    ("names_limit", [9, 9, 9, 1, 9, 9, 9, 9, 9]),
+    ("versions_limit", [99, 9, 9, 9, 2, 9, 9, 9, 9]),
+    ("handles_limit", [9, 9, 9, 9, 9, 1, 9, 9, 9]),
+];
+
 /// What the script prints.
-fn printed(rt: &HostRuntime, name: &str) -> Result<String> {
+fn printed(rt: &HostRuntime, name: &str, limits: Limits) -> Result<String> {
     let script = fs::read(rt, format!(in rt.alloc(); "{name}.script")?)?;
     let mut text = Vec::new(rt.alloc());
-    match run(
-        rt.alloc(),
-        &mut script.as_slice(),
-        &mut text,
-        Limits::largest(),
-    ) {
+    match run(rt.alloc(), &mut script.as_slice(), &mut text, limits) {
         Ok(_lines) => Ok(String::from_utf8(text)?),
         Err(fault) => Err(anyhow!("{name}: {fault}")),
     }
 }
 
+/// Tells whether the script prints what it is to print; prints both where it doesn't.
+fn compare(rt: &HostRuntime, name: &str, limits: Limits) -> Result<()> {
+    let wanted = fs::read_to_string(rt, format!(in rt.alloc(); "{name}.output")?)?;
+    let printed = printed(rt, name, limits)?;
+    if printed.as_str() == wanted.as_str() {
+        println!(rt; "{name}: as worked")?;
+    } else {
+        println!(rt; "{name}: wanted\n{wanted}but printed\n{printed}")?;
+    }
+    Ok(())
+}
+
 fn main(rt: HostRuntime) -> Result<()> {
     for name in ROWS {
-        let wanted = fs::read_to_string(&rt, format!(in rt.alloc(); "{name}.output")?)?;
-        let printed = printed(&rt, name)?;
-        if printed.as_str() == wanted.as_str() {
-            println!(rt; "{name}: as worked")?;
-        } else {
-            println!(rt; "{name}: wanted\n{wanted}but printed\n{printed}")?;
-        }
+        compare(&rt, name, Limits::largest())?;
+    }
+    for (name, numbers) in LIMITED {
+        let limits = Limits::new(numbers).context("no limits")?;
+        compare(&rt, name, limits)?;
     }
     Ok(())
 }

@@ -2,7 +2,7 @@
 //! A contract sees the new cells as a definition over the old ones, and that the owners of blocks
 //! which other maps share stay.
 ghost use Rattle.std.specs.Prelude.{◌≡◌, ◌<◌, ◌≤◌, ◌+◌, ◌-◌, ◌*◌, ◌/◌, [], ◌∷◌, ◌++◌, OnOk, OnErr, max, min, length, map, take, drop, vec_len, vec_capacity};
-ghost use Rattle.ele_blocks.specs.Content.{longest_content, content_of, slot_count, spliced, resized, written, truncated, meets, refits};
+ghost use Rattle.ele_content.specs.Content.{longest_content, content_of, slot_count, spliced, resized, written, truncated, meets, refits};
 ghost use Rattle.ele_blocks.specs.LaidOver.{laid_over};
 ghost use Rattle.ele_blocks.specs.Layout.{Layout, shown, ids_of, slot_by, cell_by, is_between};
 ghost use Rattle.ele_blocks.specs.LivesIn.{LivesIn};

@@ -3,7 +3,7 @@
 ghost use Rattle.std.specs.Prelude.{◌≡◌, ◌<◌, ◌+◌, ◌^◌, IfOk, length, find, is_some, if◌then◌else◌};
 ghost use Rattle.std.specs.List.{list_any};
 ghost use Rattle.std.specs.Option.{option_map};
-ghost use Rattle.ele_blocks.specs.Content.{content_of};
+ghost use Rattle.ele_content.specs.Content.{content_of};
 ghost use Rattle.ele_files.specs.Asked.{stamps_of};
 ghost use Rattle.ele_files.specs.Held.{cells_of_draft};
 ghost use Rattle.ele_sessions.specs.declared.reads.Reads.TheVariants as read;

@@ -160,8 +160,6 @@ impl Files {
         ensures err { OnErr result (self.new ≡ self.old) }
         ensures read { meter.new ≤ meter.old + 1 }
     {
-        // Told for the proof: a file has one draft.
-        let _opened = self.sessions.handles_opened();
         let Some(at) = place_of(&self.files, file) else {
             unreachable!()
         };

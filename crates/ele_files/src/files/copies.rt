@@ -11,10 +11,10 @@ ghost use Rattle.ele_inode_log.specs.Rows.{is_after};
 use crate::file::File;
 use crate::files::Files;
 use crate::files::asking::draft_file;
-use ele_blocks::{BlockMap, BlockStore, Cell};
+use ele_blocks::{BlockMap, BlockStore};
 use ele_inode_log::{Meter, VersionRow as LogRow};
 use ele_moment::{ListOf, NoMemory, VersionNo};
-use ele_world::{DraftRow, FileRow, HandleRow, VersionRow};
+use ele_world::{Cell, DraftRow, FileRow, HandleRow, VersionRow};
 use std::alloc::Global;
 
 impl Files {
@@ -49,8 +49,6 @@ impl Files {
         ensures { IfOk result (λ rows. rows ≡ self.now.drafts) }
     {
         let mut rows = Vec::with_capacity(self.alloc, self.sessions.drafts_open())?;
-        // Told for the proof: a file has one draft.
-        let _opened = self.sessions.handles_opened();
         for place in 0..self.sessions.drafts_open() {
             let Some(draft) = self.sessions.draft_at(place) else {
                 unreachable!()

@@ -25,8 +25,6 @@ impl Files {
         ensures ok { OnOk result (self.new ≡ written_by self.old handle offset bytes.now) }
         ensures err { OnErr result (self.new ≡ self.old) }
     {
-        // Told for the proof: a file has one draft.
-        let _opened = self.sessions.handles_opened();
         self.sessions.write(&mut self.store, handle, offset, bytes)
     }
 
@@ -43,8 +41,6 @@ impl Files {
         ensures ok { OnOk result (self.new ≡ fitted self.old handle size) }
         ensures err { OnErr result (self.new ≡ self.old) }
     {
-        // Told for the proof: a file has one draft.
-        let _opened = self.sessions.handles_opened();
         self.sessions.truncate(&mut self.store, handle, size)
     }
 }

@@ -19,15 +19,15 @@ use ele_moment::{FileId, Handle, Moment};
 impl Sessions {
     /// How many handles were ever opened.
     pub fn handles_opened(&self) -> u64
-        ensures value { result ≡ self.now.opened }
-        ensures orderly { AreOrderly self.now }
+        ensures { result ≡ self.now.opened }
     {
         self.opened
     }
 
     /// How many drafts are open.
     pub fn drafts_open(&self) -> usize
-        ensures { result ≡ length self.now.drafts }
+        ensures value { result ≡ length self.now.drafts }
+        ensures orderly { AreOrderly self.now }
     {
         self.drafts.len()
     }

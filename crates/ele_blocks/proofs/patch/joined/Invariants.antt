@@ -1,5 +1,5 @@
 use Rattle.std.proofs.Common.{◌≡◌, take, map}
-use Rattle.ele_blocks.specs.Content.{content_of}
+use Rattle.ele_content.specs.Content.{content_of}
 use Rattle.ele_blocks.specs.Layout.{cell_of}
 use Rattle.ele_blocks.proofs.patch.joined.Given as goal
 

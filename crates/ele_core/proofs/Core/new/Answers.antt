@@ -8,6 +8,6 @@ invariant_of-result-2 c = record {
   tracked = record {
     queue = no_keys c.new-2.result c.new-3.result c.new-2.ensures c.new-3.ensures;
     book = no_usage c.new-2.result c.new-4.result c.new-2.ensures c.new-4.ensures;
-    bounds = c.events-events.ensures.valid;
+    bounds = c.are_within.ensures;
   };
 }

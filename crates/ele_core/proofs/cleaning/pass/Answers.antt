@@ -2,7 +2,7 @@ use Rattle.std.proofs.Common.{◌+◌, sym, subst, refl, arith}
 use Rattle.ele_core.specs.Inside.{world_of}
 use Rattle.ele_core.proofs.Passing.{none_due, some_due}
 use Rattle.ele_world.specs.Pass.{IsCleaned, IsFinished}
-use Rattle.ele_world.proofs.PassEnds.{cleaned_none, cleaned_more, pass_finishes}
+use Rattle.ele_world.proofs.PassEnds.{cleaned_none, cleaned_more, budget_ends, pass_finishes}
 use Rattle.ele_core.proofs.cleaning.pass.Goals as goal
 
 pub loop-removed-init : goal.loop-removed-init
@@ -22,7 +22,7 @@ loop-removed-preserved c =
     (c.removes.ensures.sound, subst (IsCleaned w (c.loop-removed.removed + 1)) (sym c.removes.ensures.world) (cleaned_more w c.loop-removed.removed v c.loop-removed.invariant.1 (some_due v c.removes.result c.removes.ensures.value c.if-not-removes.false)))
 
 pub returns-clause-end : goal.returns-clause-end
-returns-clause-end c = (refl, subst (λ n. IsCleaned (world_of c.args.rows.now) n (world_of c.loop-removed.rows)) (omega (arith, c.loop-removed-test.false, c.loop-removed.auto.removed-end)) c.loop-removed.invariant.1)
+returns-clause-end c = (refl, budget_ends (world_of c.args.rows.now) c.args.budget (world_of c.loop-removed.rows) c.requires.formed (subst (λ n. IsCleaned (world_of c.args.rows.now) n (world_of c.loop-removed.rows)) (omega (arith, c.loop-removed-test.false, c.loop-removed.auto.removed-end)) c.loop-removed.invariant.1))
 
 pub returns-clause-sound : goal.returns-clause-sound
 returns-clause-sound c = c.loop-removed.invariant.0

@@ -1,5 +1,5 @@
 use Rattle.std.proofs.Common.{◌≡◌, length}
-use Rattle.ele_blocks.specs.Content.{content_of}
+use Rattle.ele_content.specs.Content.{content_of}
 use Rattle.ele_core.specs.Inside.{world_of}
 use Rattle.ele_core.proofs.Removed.{IsKeyed, first_keyed, removed_bytes, removed_within, removed_owed, removed_fits, removed_queue}
 use Rattle.ele_core.proofs.cleaning.remove.Goals as goal

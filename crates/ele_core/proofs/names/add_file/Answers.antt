@@ -1,9 +1,11 @@
+use Rattle.std.proofs.Common.{refl}
+use Rattle.ele_core.specs.Tracked.{blocks_of}
 use Rattle.ele_core.proofs.Booked.{made_fits, made_book}
 use Rattle.ele_core.proofs.Made.{made_queue}
 use Rattle.ele_core.proofs.names.add_file.Goals as goal
 
 pub add-requires-2 : goal.add-requires-2
-add-requires-2 c = made_fits c.args.rows.now c.kind.result c.blocks-blocks.result c.requires.sound c.blocks-blocks.ensures.value c.blocks-blocks.ensures.bound
+add-requires-2 c = made_fits c.args.rows.now c.kind.result (blocks_of c.args.rows.now.files) c.requires.sound refl c.blocks_fit.ensures
 
 pub returns-clause-tracked : goal.returns-clause-tracked
 returns-clause-tracked c =

@@ -1,8 +1,5 @@
-use Rattle.ele_world.specs.Run.{run_of}
-use Rattle.ele_world.specs.World.{fresh_world}
-use Rattle.ele_world.proofs.StepKeeps.{fresh_is, run_keeps}
 use Rattle.ele_world.proofs.Stays.{only_due_leave}
 use Rattle.ele_world.proofs.laws.only_due_leave.Goals as goal
 
 pub returns : goal.returns
-returns c = λ limits events event are is. only_due_leave (run_of (fresh_world limits) events) event (run_keeps (fresh_world limits) events are (fresh_is limits))
+returns c = λ w event k. only_due_leave w event k

@@ -1,6 +1,6 @@
 use Rattle.std.proofs.Common.{◌≡◌, ◌+◌, ◌-◌, ◌*◌, ◌/◌, ap, sym, refl, arith, map, length, take, drop, vec_len}
 use Rattle.std.proofs.lemmas.List.{length-take}
-use Rattle.ele_blocks.specs.Content.{content_of, resized, refits, truncated}
+use Rattle.ele_content.specs.Content.{content_of, resized, refits, truncated}
 use Rattle.ele_blocks.specs.Layout.{Layout, cell_of, shown}
 use Rattle.ele_blocks.specs.Pieces.{pieces}
 use Rattle.ele_blocks.proofs.Changes.{IsChange}

@@ -1,5 +1,5 @@
 use Rattle.std.proofs.Common.{◌≡◌, ◌+◌, ◌-◌, ◌*◌, ◌/◌, arith, map, length, take, drop, min, max, vec_len}
-use Rattle.ele_blocks.specs.Content.{content_of, spliced, meets, written}
+use Rattle.ele_content.specs.Content.{content_of, spliced, meets, written}
 use Rattle.ele_blocks.specs.Layout.{Layout, cell_of, shown}
 use Rattle.ele_blocks.specs.Pieces.{pieces}
 use Rattle.ele_blocks.proofs.Changes.{IsChange}

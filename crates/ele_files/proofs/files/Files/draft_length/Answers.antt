@@ -1,5 +1,5 @@
 use Rattle.std.proofs.Common.{length, sym, ap, ◌∙◌}
-use Rattle.ele_blocks.specs.Content.{content_of}
+use Rattle.ele_content.specs.Content.{content_of}
 use Rattle.ele_files.proofs.Asked.{draft-map, undrafted}
 use Rattle.ele_files.proofs.Lives.{shown-length}
 use Rattle.ele_files.proofs.files.Files.draft_length.Goals as goal

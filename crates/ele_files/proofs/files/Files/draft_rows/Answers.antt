@@ -7,7 +7,7 @@ use Rattle.ele_files.specs.Inside.{draft_in}
 pub unreachable-requires-in_default-draft : goal.unreachable-requires-in_default-draft
 unreachable-requires-in_default-draft c =
     let i = c.self.inside in
-    draft-there i.store i.sessions.drafts c.handles_opened-opened.ensures.orderly.drafts_rise c.loop-place.place c.in-Some.draft c.in-Some.ensures c.in_default-draft.ensures
+    draft-there i.store i.sessions.drafts c.drafts_open.ensures.orderly.drafts_rise c.loop-place.place c.in-Some.draft c.in-Some.ensures c.in_default-draft.ensures
 
 pub copy_cells-requires : goal.copy_cells-requires
 copy_cells-requires c =
@@ -17,11 +17,11 @@ copy_cells-requires c =
 pub loop-place-preserved : goal.loop-place-preserved
 loop-place-preserved c =
     let i = c.self.inside in
-    let next = draft-next i.store i.sessions.drafts c.handles_opened-opened.ensures.orderly.drafts_rise c.loop-place.place c.in-Some.draft c.in-Some.ensures c.in-Some-draft.map.now c.in_ok-cells.cells c.in-Some-draft.ensures c.in_ok-cells.ensures in
+    let next = draft-next i.store i.sessions.drafts c.drafts_open.ensures.orderly.drafts_rise c.loop-place.place c.in-Some.draft c.in-Some.ensures c.in-Some-draft.map.now c.in_ok-cells.cells c.in-Some-draft.ensures c.in_ok-cells.ensures in
     c.in_ok-push.ensures.items ∙ (ap (λ rows. rows ++ record { file = c.in-Some.draft.0; opened = c.in-Some.draft.1; cells = c.in_ok-cells.cells; changed = c.in-Some.draft.2 } ∷ []) c.loop-place.invariant ∙ sym next)
 
 pub returns : goal.returns
 returns c =
     let i = c.self.inside in
-    let all = taken-all (draft_in i.store) i.sessions.drafts c.loop-place.place (got-none i.sessions.drafts c.loop-place.place (omega (arith, c.loop-place-test.false, c.drafts_open-place-end.ensures))) in
+    let all = taken-all (draft_in i.store) i.sessions.drafts c.loop-place.place (got-none i.sessions.drafts c.loop-place.place (omega (arith, c.loop-place-test.false, c.drafts_open-place-end.ensures.value))) in
     rw (← c.self.view_is) (c.from_vec.ensures ∙ (c.loop-place.invariant ∙ all))

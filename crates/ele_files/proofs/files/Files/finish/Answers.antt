@@ -56,7 +56,7 @@ invariant_of-self-2 c =
     let at : IsFound c.self.inside.files.items c.args.file c.in-Some.at c.index_mut.result.now = found c.self.inside.files.items c.args.file c.in-Some.at c.index_mut.result.now place c.index_mut.ensures.value in
     let out : given c.self.inside.sessions c.args.handle ≡ Some c.in-Some-map_of.map = rw c.close.ensures.answer at (sym c.map_of.ensures ∙ c.in-Some-map_of.is) in
     let past = ready_past c.self.inside.store c.self.inside.files.items c.self.inside.sessions c.args.handle c.args.file c.args.opened c.self.invariant ends c.in-Some.at c.index_mut.result.now at (record { id = c.index_mut.result.now.id; policy = c.index_mut.result.now.policy; next = c.index_mut.result.now.next; log = c.reserve.new.self }) (record { id = refl; policy = refl; next = refl }) c.reserve.ensures.rows c.index_mut-2.result.now c.index_mut-2.ensures.value c.args.now (rw (← c.self.view_is) at c.requires.past) in
-    rw c.close.ensures.sessions (concluded_keeps c.self.inside.store c.self.inside.files.items c.self.inside.sessions c.args.handle c.args.file c.args.opened c.self.invariant ends c.in-Some.at c.index_mut.result.now at (record { id = c.index_mut.result.now.id; policy = c.index_mut.result.now.policy; next = c.index_mut.result.now.next; log = c.reserve.new.self }) (record { id = refl; policy = refl; next = refl }) c.reserve.ensures.rows c.index_mut-2.result.now c.index_mut-2.ensures.value c.args.now c.args.is_live c.in-Some-map_of.map out c.close_version-number.new.self c.close_version-number.ensures.closed past c.handles_opened-opened.ensures.orderly.drafts_rise)
+    rw c.close.ensures.sessions (concluded_keeps c.self.inside.store c.self.inside.files.items c.self.inside.sessions c.args.handle c.args.file c.args.opened c.self.invariant ends c.in-Some.at c.index_mut.result.now at (record { id = c.index_mut.result.now.id; policy = c.index_mut.result.now.policy; next = c.index_mut.result.now.next; log = c.reserve.new.self }) (record { id = refl; policy = refl; next = refl }) c.reserve.ensures.rows c.index_mut-2.result.now c.index_mut-2.ensures.value c.args.now c.args.is_live c.in-Some-map_of.map out c.close_version-number.new.self c.close_version-number.ensures.closed past c.close.ensures.orderly.drafts_rise)
 
 pub returns-clause-number : goal.returns-clause-number
 returns-clause-number c =

@@ -4,6 +4,7 @@ use Rattle.ele_sessions.specs.Kept.{sessions_of}
 use Rattle.ele_sessions.proofs.Found.{found_handle, removed_handle, no_handle, closes, closed_is, closes_none, closed_none}
 use Rattle.ele_sessions.proofs.Keepings.{left_keeps, stays_while, is_drafted, file_of}
 use Rattle.ele_sessions.proofs.Places.{rises-map}
+use Rattle.ele_sessions.proofs.Order.{kept_orderly}
 use Rattle.ele_sessions.proofs.sessions.Sessions.close.Goals as goal
 
 pub returns-in_default-clause-answer : goal.returns-in_default-clause-answer
@@ -48,3 +49,9 @@ returns-clause-sessions c =
     let stay = stays_while _ _ _ c.self.invariant c.args.handle c.remove-file.result found in
     let removed = removed_handle _ _ _ at in
     rw (← c.self.view_is, c.leave.ensures.drafts, c.remove-file.ensures.items, removed) (sym (closed_is (sessions_of c.self.inside) c.args.handle c.remove-file.result others found stay))
+
+pub returns-clause-orderly : goal.returns-clause-orderly
+returns-clause-orderly c = rw (← c.self.view_is) (kept_orderly c.self.inside c.self.invariant)
+
+pub returns-in_default-clause-orderly : goal.returns-in_default-clause-orderly
+returns-in_default-clause-orderly c = rw (← c.self.view_is) (kept_orderly c.self.inside c.self.invariant)

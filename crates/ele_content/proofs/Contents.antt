@@ -1,0 +1,97 @@
+-- The content that a write or a truncate leaves.
+use Rattle.std.proofs.Common.{◌≡◌, ℕ, suc, zero, ◌+◌, ◌-◌, ◌*◌, ◌≤◌, ◌==◌, ◌&&◌, true, refl, List, [], ◌∷◌, ◌++◌, length, take, drop, map, ap, sym, ◌∙◌, arith, length-append, length-drop, cond, ltb, ◌<◌, Bool, false}
+use Rattle.std.specs.Prelude.{min}
+use Rattle.std.specs.List.{range_with_len}
+use Rattle.std.proofs.Math.Seq.{take-add}
+use Rattle.std.proofs.lemmas.Bool.{false≢true}
+use Rattle.std.proofs.lemmas.Bool.Decides.{nat_tests}
+use Rattle.std.proofs.lemmas.List.{length-take, length-replicate, drop-drop, take_all}
+use Rattle.std.proofs.lemmas.List.Concat.{flat_map-cons}
+use Rattle.ele_content.specs.declared.cell.Cell.{Cell}
+use Rattle.ele_content.specs.Content.{content_of, longest_content, fill_slots, spliced, slot_bytes, slot_count, written, writer_at, meets, resized, refits, truncated}
+
+abbrev slot_cell : (ℕ → ℕ) → List ℕ → ℕ → Cell
+slot_cell writer content slot = record { writer = writer slot; bytes = slot_bytes content slot }
+
+-- slots side by side are one piece of the content
+slots_join : (writer : ℕ → ℕ) (content : List ℕ) (from count : ℕ) → content_of (map (slot_cell writer content) (range_with_len from count)) ≡ take (512 * count) (drop (512 * from) content)
+slots_join writer content from zero = sym (ap (λ n. take n (drop (512 * from) content)) (let e : 512 * 0 ≡ 0 = omega arith in e))
+slots_join writer content from (suc count) =
+    let rest = slots_join writer content (from + 1) count in
+    let place : 512 * (from + 1) ≡ 512 * from + 512 = omega arith in
+    let size : 512 * suc count ≡ 512 + 512 * count = omega arith in
+    flat_map-cons (λ (cell : Cell). cell.bytes) (slot_cell writer content from) (map (slot_cell writer content) (range_with_len (from + 1) count))
+    ∙ ap (λ (t : List ℕ). take 512 (drop (512 * from) content) ++ t) (rest ∙ ap (λ n. take (512 * count) (drop n content)) place ∙ ap (take (512 * count)) (sym (drop-drop 512 (512 * from) content)))
+    ∙ sym (ap (λ n. take n (drop (512 * from) content)) size ∙ take-add 512 (512 * count) (drop (512 * from) content))
+
+-- what is written and then read is the bytes laid over what was there
+pub content_of-written : (writer offset : ℕ) (bytes : List ℕ) (cells : List Cell) → content_of (written writer offset bytes cells) ≡ spliced (content_of cells) offset bytes
+unfolding written
+content_of-written writer offset bytes cells =
+    let old = content_of cells in
+    let new : List ℕ = spliced old offset bytes in
+    slots_join (λ slot. cond (meets (min offset (length old)) (offset + length bytes) slot) writer (writer_at cells slot)) new 0 (slot_count (length new))
+    ∙ take_all (512 * slot_count (length new)) new (omega arith)
+
+-- it ends where the longer of both ends
+pub length-spliced : (content : List ℕ) (offset most : ℕ) (bytes : List ℕ) → length content ≤ most → offset + length bytes ≤ most → length (spliced content offset bytes) ≤ most
+length-spliced content offset most bytes short fits =
+    simp (length-append, length-take, length-replicate, length-drop) (omega arith)
+
+pub written_short : (writer offset : ℕ) (bytes : List ℕ) (cells : List Cell) → length (content_of cells) ≤ longest_content → offset + length bytes ≤ longest_content → length (content_of (written writer offset bytes cells)) ≤ longest_content
+written_short writer offset bytes cells short fits = rw content_of-written (length-spliced (content_of cells) offset longest_content bytes short fits)
+
+-- a content that is made so long is so long
+length-resized : (content : List ℕ) (size : ℕ) → length (resized content size) ≡ size
+length-resized content size = simp (length-append, length-take, length-replicate) (omega arith)
+
+pub content_of-truncated : (writer size : ℕ) (cells : List Cell) → content_of (truncated writer size cells) ≡ resized (content_of cells) size
+unfolding truncated
+content_of-truncated writer size cells =
+    let old = content_of cells in
+    let new : List ℕ = resized old size in
+    slots_join (λ slot. cond (refits (length old) size slot) writer (writer_at cells slot)) new 0 (slot_count size)
+    ∙ take_all (512 * slot_count size) new (omega (arith, length-resized old size))
+
+pub truncated_short : (writer size : ℕ) (cells : List Cell) → size ≤ longest_content → length (content_of (truncated writer size cells)) ≤ longest_content
+truncated_short writer size cells fits = rw (content_of-truncated, length-resized) fits
+
+-- slots side by side are filled, where they are as many as the rest of the content has
+slots_fill : (writer : ℕ → ℕ) (content : List ℕ) (from count n : ℕ) → n ≡ length content - 512 * from → count ≡ slot_count n → fill_slots n (map (slot_cell writer content) (range_with_len from count)) ≡ true
+slots_fill writer content from zero n is few = let none : n ≡ 0 = omega arith in rw none refl
+slots_fill writer content from (suc count) n is few =
+    let rest = slots_fill writer content (from + 1) count (n - 512) (omega arith) (omega arith) in
+    let here : length (slot_bytes content from) ≡ min n 512 = simp (length-take, length-drop) (omega (arith, is)) in
+    let some : ltb 0 n ≡ true = grind (arith, nat_tests) in
+    rw (here, some, rest) (filled (min n 512)) where
+      filled : (m : ℕ) → ((m == m) && (true && true)) ≡ true
+      filled m = grind (arith, nat_tests)
+
+pub written_fills : (writer offset : ℕ) (bytes : List ℕ) (cells : List Cell) → fill_slots (length (content_of (written writer offset bytes cells))) (written writer offset bytes cells) ≡ true
+unfolding written
+written_fills writer offset bytes cells =
+    let old = content_of cells in
+    let new : List ℕ = spliced old offset bytes in
+    rw content_of-written
+    (slots_fill (λ slot. cond (meets (min offset (length old)) (offset + length bytes) slot) writer (writer_at cells slot)) new 0 (slot_count (length new)) (length new) (omega arith) refl)
+
+pub truncated_fills : (writer size : ℕ) (cells : List Cell) → fill_slots (length (content_of (truncated writer size cells))) (truncated writer size cells) ≡ true
+unfolding truncated
+truncated_fills writer size cells =
+    let old = content_of cells in
+    let new : List ℕ = resized old size in
+    let sized = length-resized old size in
+    rw (content_of-truncated, length-resized)
+    (slots_fill (λ slot. cond (refits (length old) size slot) writer (writer_at cells slot)) new 0 (slot_count size) size (omega (arith, sized)) refl)
+
+-- each slot has a byte at least
+pub slots_few : (n : ℕ) (cells : List Cell) → fill_slots n cells ≡ true → length cells ≤ n
+slots_few n [] fills = omega arith
+slots_few n (cell ∷ cells) fills =
+    let parts = both (length cell.bytes == min n 512) (ltb 0 n && fill_slots (n - 512) cells) fills in
+    let more = both (ltb 0 n) (fill_slots (n - 512) cells) parts.1 in
+    let some : 0 < n = let e = more.0 in grind (arith, nat_tests) in
+    omega (arith, slots_few (n - 512) cells more.1) where
+      both : (a b : Bool) → (a && b) ≡ true → (a ≡ true) × (b ≡ true)
+      both true b h = (refl, h)
+      both false b h = absurd (false≢true h)

@@ -1,0 +1,7 @@
+//! Cells, what a write and a truncate make of them, and when two slots are one block.
+//! A contract sees a content as the list of its cells.
+#![tactic(auto)]
+
+mod cell;
+
+pub use cell::Cell;

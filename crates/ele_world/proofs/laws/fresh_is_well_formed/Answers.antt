@@ -1,0 +1,5 @@
+use Rattle.ele_world.proofs.StepKeeps.{fresh_is}
+use Rattle.ele_world.proofs.laws.fresh_is_well_formed.Goals as goal
+
+pub returns : goal.returns
+returns c = λ limits. fresh_is limits

@@ -1,0 +1,5 @@
+use Rattle.ele_world.proofs.Usages.{usages_fit}
+use Rattle.ele_world.proofs.laws.usage_fits.Goals as goal
+
+pub returns : goal.returns
+returns c = λ w keeps bounds. usages_fit w keeps bounds

@@ -1,0 +1,95 @@
+//! Readers and writers that give and take a byte at a time, and fail.
+use std::alloc::Global;
+use std::io;
+use std::io::{Error, ErrorKind, Read, Write};
+
+/// A reader that gives a byte at a time, is interrupted before each, and ends in a failure where `fails` says so.
+#[derive(Drop)]
+pub struct SlowReader<'a> {
+    rest: &'a [u8],
+    interrupted: bool,
+    fails: bool,
+}
+
+impl<'a> SlowReader<'a> {
+    pub fn new(rest: &'a [u8], fails: bool) -> SlowReader<'a> {
+        SlowReader {
+            rest,
+            interrupted: false,
+            fails,
+        }
+    }
+}
+
+impl Read for SlowReader<'_> {
+    fn read(&mut self, buf: &mut [u8]) -> io::Result<usize> {
+        self.interrupted = !self.interrupted;
+        if self.interrupted {
+            return Err(Error::from(ErrorKind::Interrupted));
+        }
+        let Some((byte, rest)) = self.rest.split_first() else {
+            return if self.fails {
+                Err(Error::from(ErrorKind::Other))
+            } else {
+                Ok(0)
+            };
+        };
+        let Some(slot) = buf.first_mut() else {
+            return Ok(0);
+        };
+        *slot = *byte;
+        self.rest = rest;
+        Ok(1)
+    }
+}
+
+/// What a writer does that has no room left.
+#[derive(Clone, Copy)]
+pub enum Full {
+    Fails,
+    TakesNothing,
+}
+
+/// A writer that takes a byte at a time, is interrupted before each, and has room for so many.
+#[derive(Drop)]
+pub struct SlowWriter {
+    pub taken: Vec<u8>,
+    room: usize,
+    interrupted: bool,
+    full: Full,
+}
+
+impl SlowWriter {
+    pub fn new(alloc: Global, room: usize, full: Full) -> SlowWriter {
+        SlowWriter {
+            taken: Vec::new(alloc),
+            room,
+            interrupted: false,
+            full,
+        }
+    }
+}
+
+impl Write for SlowWriter {
+    fn write(&mut self, buf: &[u8]) -> io::Result<usize> {
+        self.interrupted = !self.interrupted;
+        if self.interrupted {
+            return Err(Error::from(ErrorKind::Interrupted));
+        }
+        let Some(byte) = buf.first() else {
+            return Ok(0);
+        };
+        if self.taken.len() >= self.room {
+            return match self.full {
+                Full::Fails => Err(Error::from(ErrorKind::Other)),
+                Full::TakesNothing => Ok(0),
+            };
+        }
+        self.taken.push(*byte)?;
+        Ok(1)
+    }
+
+    fn flush(&mut self) -> io::Result<()> {
+        Ok(())
+    }
+}

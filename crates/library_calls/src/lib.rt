@@ -1,0 +1,14 @@
+//! Tests of what only a call from Rattle shows: that ample memory refuses nothing, and that a run's faults come where an end
+//! fails. It gives out nothing.
+#![tactic(auto)]
+
+#[cfg(test)]
+mod cores;
+#[cfg(test)]
+mod ends;
+#[cfg(test)]
+mod lines;
+#[cfg(test)]
+mod rooms;
+#[cfg(test)]
+mod runs;

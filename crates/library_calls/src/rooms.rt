@@ -1,0 +1,89 @@
+//! The rooms under the core, each called with ample memory. Their other calls that take memory are reached by the stored
+//! scripts.
+ghost use Rattle.std.specs.Prelude.{◌≡◌, None, IfOk};
+
+use ele_blocks::{BlockMap, BlockStore};
+use ele_due::{DueQueue, Key};
+use ele_inode_log::{InodeLog, Meter, VersionRow};
+use ele_moment::{FileId, Handle, Moment, VersionNo};
+use ele_sessions::{Closing, Sessions};
+use std::alloc::Global;
+use std::test::Fail;
+
+fn moment(seconds: u64) -> Result<Moment, Fail>
+    ensures { IfOk result (λ moment. moment ≡ seconds) }
+{
+    Ok(Moment::new(seconds).ok_or("past the last moment")?)
+}
+
+#[test]
+fn a_block_goes_with_its_last_owner(rt: HostRuntime) -> Result<(), Fail> {
+    let mut store = BlockStore::new(rt.alloc());
+    let first = store.put(b"a")?;
+    let second = store.put(b"a")?;
+    assert!(rt; first != second);
+    store.share(first);
+    store.release(first);
+    assert_eq!(rt; store.distinct(), 2);
+    store.release(first);
+    assert_eq!(rt; store.distinct(), 1);
+    Ok(())
+}
+
+/// A version of no bytes that closed as it opened.
+fn version(alloc: Global, number: u64, closed: Moment) -> VersionRow
+    ensures number { result.number ≡ number }
+    ensures closed { result.closed ≡ closed }
+    ensures ended { result.ended ≡ None }
+{
+    VersionRow {
+        number: VersionNo(number),
+        opened: closed,
+        closed,
+        ended: None,
+        cells: BlockMap::new(alloc),
+    }
+}
+
+#[test]
+fn a_version_is_found_while_it_is_held(rt: HostRuntime) -> Result<(), Fail> {
+    let mut log = InodeLog::new(rt.alloc());
+    let mut meter = Meter::new();
+    log.reserve()?;
+    assert!(rt; log.append(version(rt.alloc(), 1, moment(3)?)).is_ok());
+    assert_eq!(rt; log.at(moment(3)?, &mut meter), Some(VersionNo(1)));
+    let row = log.remove(VersionNo(1), &mut meter);
+    assert_eq!(rt; row.map(|row| row.number), Some(VersionNo(1)));
+    assert_eq!(rt; log.at(moment(3)?, &mut meter), None);
+    Ok(())
+}
+
+#[test]
+fn a_draft_that_was_written_and_cut_is_changed(rt: HostRuntime) -> Result<(), Fail> {
+    let mut store = BlockStore::new(rt.alloc());
+    let map = BlockMap::new(rt.alloc());
+    let mut sessions = Sessions::new(rt.alloc());
+    let handle = sessions.open_write(&mut store, FileId(1), VersionNo(2), Moment::START, &map)?;
+    assert_eq!(rt; handle, Handle(1));
+    sessions.write(&mut store, handle, 0, b"a")?;
+    sessions.truncate(&mut store, handle, 0)?;
+    assert_eq!(rt;
+        sessions.peek_close(handle),
+        Some(Closing::Changed(FileId(1), Moment::START))
+    );
+    Ok(())
+}
+
+#[test]
+fn a_key_is_ripe_from_its_moment_on(rt: HostRuntime) -> Result<(), Fail> {
+    let mut queue = DueQueue::new(rt.alloc());
+    let key = Key {
+        ripe: moment(5)?,
+        file: FileId(1),
+        number: VersionNo(1),
+    };
+    queue.insert(key)?;
+    assert_eq!(rt; queue.until(moment(4)?)?.len(), 0);
+    assert_eq!(rt; queue.until(moment(5)?)?.as_slice(), [key].as_slice());
+    Ok(())
+}

@@ -1,0 +1,124 @@
+//! Runs of scripts over readers and writers that fail.
+use crate::ends::{Full, SlowReader, SlowWriter};
+use ele_shell::{ShellFault, run};
+use ele_world::Limits;
+use std::alloc::Global;
+use std::io;
+use std::io::Read;
+use std::test::Fail;
+
+/// Lines of a script, each with its block.
+const LINES: [(&str, &str); 11] = [
+    ("create /f", "ok file 1\n"),
+    ("", ""),
+    ("open write /f", "ok handle 1\n"),
+    ("hello", "bad 32 Syntax\n"),
+    ("write 1 0 68656c6c6f", "ok done\n"),
+    ("close 1", "ok closed version 2\n"),
+    ("create /f", "no 8 Exists\n"),
+    ("", ""),
+    ("clock 86400", "ok now 86400 1970-01-02T00:00:00Z\n"),
+    ("due", "ok due 1\n- 86400 1 1\n"),
+    ("clean", "ok removed 86400 1 1\n"),
+];
+
+/// The bytes of all lines.
+fn script(alloc: Global) -> Result<Vec<u8>, Fail> {
+    let mut bytes = Vec::new(alloc);
+    for (line, _) in &LINES {
+        bytes.extend_from_slice(line.as_bytes())?;
+        bytes.push(b'\n')?;
+    }
+    Ok(bytes)
+}
+
+/// How many lines so many bytes are, the blocks of the whole ones, and whether the last one is cut.
+fn within(alloc: Global, bytes: usize) -> Result<(u64, Vec<u8>, bool), Fail> {
+    let mut left = bytes;
+    let mut blocks = Vec::new(alloc);
+    for (whole, (line, block)) in LINES.iter().enumerate() {
+        if left <= line.len() {
+            let is_cut = left > 0;
+            return Ok((whole as u64 + u64::from(is_cut), blocks, is_cut));
+        }
+        left -= line.len() + 1;
+        blocks.extend_from_slice(block.as_bytes())?;
+    }
+    Ok((LINES.len() as u64, blocks, false))
+}
+
+#[test]
+fn a_reader_that_fails_leaves_the_replies_to_the_whole_lines(rt: HostRuntime) -> Result<(), Fail> {
+    let script = script(rt.alloc())?;
+    for bytes in 0..=script.len() {
+        let mut reader = SlowReader::new(&script[..bytes], true);
+        let mut output = Vec::new(rt.alloc());
+        let end = run(rt.alloc(), &mut reader, &mut output, Limits::largest());
+        let (_, blocks, _) = within(rt.alloc(), bytes)?;
+        assert_eq!(rt; end, Err(ShellFault::ReadFault), "behind {bytes} bytes");
+        assert_eq!(rt;
+            output.as_slice(),
+            blocks.as_slice(),
+            "behind {bytes} bytes"
+        );
+    }
+    Ok(())
+}
+
+#[test]
+fn a_cut_script_does_the_whole_lines_and_calls_the_last_one_bad(
+    rt: HostRuntime,
+) -> Result<(), Fail> {
+    let script = script(rt.alloc())?;
+    for bytes in 0..=script.len() {
+        let mut reader = SlowReader::new(&script[..bytes], false);
+        let mut output = Vec::new(rt.alloc());
+        let end = run(rt.alloc(), &mut reader, &mut output, Limits::largest());
+        let (lines, mut blocks, is_cut) = within(rt.alloc(), bytes)?;
+        if is_cut {
+            blocks.extend_from_slice(b"bad 32 Syntax\n")?;
+        }
+        assert_eq!(rt; end, Ok(lines), "behind {bytes} bytes");
+        assert_eq!(rt;
+            output.as_slice(),
+            blocks.as_slice(),
+            "behind {bytes} bytes"
+        );
+    }
+    Ok(())
+}
+
+#[test]
+fn a_writer_that_fails_holds_a_front_of_the_output(rt: HostRuntime) -> Result<(), Fail> {
+    let script = script(rt.alloc())?;
+    let (_, blocks, _) = within(rt.alloc(), script.len())?;
+    for room in 0..blocks.len() {
+        for full in [Full::Fails, Full::TakesNothing] {
+            let mut writer = SlowWriter::new(rt.alloc(), room, full);
+            let mut rest = script.as_slice();
+            let end = run(rt.alloc(), &mut rest, &mut writer, Limits::largest());
+            assert_eq!(rt; end, Err(ShellFault::WriteFault), "room for {room} bytes");
+            assert_eq!(rt;
+                writer.taken.as_slice(),
+                &blocks[..room],
+                "room for {room} bytes"
+            );
+        }
+    }
+    Ok(())
+}
+
+#[test]
+fn a_script_has_at_most_a_million_lines(rt: HostRuntime) -> Result<(), Fail> {
+    for (left, end) in [
+        (1_000_000, Ok(1_000_000)),
+        (1_000_001, Err(ShellFault::TooManyLines)),
+    ] {
+        let mut reader = io::repeat(b'\n').take(left);
+        let mut output = Vec::<u8>::new(rt.alloc());
+        let ended = run(rt.alloc(), &mut reader, &mut output, Limits::largest());
+        assert_eq!(rt; ended, end);
+        assert!(rt; output.is_empty());
+    }
+    Ok(())
+}
