@@ -1,13 +1,13 @@
 -- The bytes of a line, word after word.
-use Rattle.std.proofs.Common.{arith, ◌==◌, true, ◌≡◌, ℕ, ◌+◌, ◌<◌, ◌≤◌, List, [], ◌∷◌, ◌++◌, length, map, drop, get_or, refl, sym, ap, ◌∙◌, append_assoc}
+use Rattle.std.proofs.Common.{arith, ◌==◌, true, ◌≡◌, ℕ, ◌+◌, ◌<◌, ◌≤◌, List, [], ◌∷◌, ◌++◌, length, map, take, drop, get_or, ◌/◌, ◌%◌, refl, sym, ap, ◌∙◌, append_assoc}
 use Rattle.std.specs.Prelude.{codes}
 use Rattle.std.proofs.lemmas.Bool.{eqb-true}
 use Rattle.std.proofs.lemmas.Fmt.{decimal_digit}
-use Rattle.std.proofs.lemmas.List.{drop_more, drop_all, append-nil}
+use Rattle.std.proofs.lemmas.List.{drop_more, drop_all, append-nil, take-append-drop}
 use Rattle.ele_usage.specs.declared.usage.Usage.{Usage}
 use Rattle.std.specs.List.{join_with_byte, flat_map}
 use Rattle.ele_due.specs.declared.key.Key.{Key}
-use Rattle.hex.specs.Hex.{encode_with, encode_lower}
+use Rattle.hex.specs.Hex.{encode_with, encode_lower, lower_digits}
 use Rattle.ele_script.specs.Printed.{line_text, due_line, bytes_text, kind_words, usage_line, usage_lines}
 
 -- what follows a word of a line
@@ -33,19 +33,20 @@ pub keys_here : (keys : List Key) (i : ℕ) (key : Key) → i < length keys → 
 keys_here keys i key lt is =
     ap (λ (ys : List Key). flat_map due_line ys) (drop_more keys i key lt ∙ ap (λ y. y ∷ drop (i + 1) keys) (sym is))
 
-one_byte : (byte : ℕ) (bytes : List ℕ) → encode_lower (byte ∷ bytes) ≡ encode_lower (byte ∷ []) ++ encode_lower bytes
+digits_append : (xs ys : List ℕ) → encode_lower (xs ++ ys) ≡ encode_lower xs ++ encode_lower ys
 unfolding encode_with
-one_byte byte bytes = refl
+digits_append [] ys = refl
+digits_append (x ∷ xs) ys = ap (λ (w : List ℕ). get_or lower_digits (x / 16) 0 ∷ get_or lower_digits (x % 16) 0 ∷ w) (digits_append xs ys)
 
--- at a byte, its digits are next
-pub digits_here : (bytes : List ℕ) (i d : ℕ) → i < length bytes → encode_lower (drop i bytes) ≡ encode_lower (get_or bytes i d ∷ []) ++ encode_lower (drop (i + 1) bytes)
-digits_here bytes i d lt =
-    ap encode_lower (drop_more bytes i d lt) ∙ one_byte (get_or bytes i d) (drop (i + 1) bytes)
+-- the digits of the first bytes, and then of the others
+pub digits_split : (bytes piece behind : List ℕ) (n : ℕ) → piece ≡ take n bytes → behind ≡ drop n bytes → encode_lower bytes ≡ encode_lower piece ++ encode_lower behind
+digits_split bytes piece behind n e f = rw (e, f) (ap encode_lower (sym (take-append-drop n bytes)) ∙ digits_append (take n bytes) (drop n bytes))
 
--- behind the last byte, there are none
-pub digits_end : (bytes : List ℕ) (i : ℕ) → length bytes ≤ i → encode_lower (drop i bytes) ≡ []
+-- no bytes have no digits
+pub digits_none : (bytes : List ℕ) → (length bytes == 0) ≡ true → encode_lower bytes ≡ []
 unfolding encode_with
-digits_end bytes i le = ap encode_lower (drop_all i bytes le)
+digits_none [] none = refl
+digits_none (byte ∷ bytes) none = let zero = eqb-true (length (byte ∷ bytes)) 0 none in absurd (omega (arith, zero))
 
 -- the line of bytes in its parts
 pub bytes_line : (n digits : List ℕ) → line_text (codes "ok bytes" ∷ n ∷ digits ∷ []) ≡ codes "ok bytes " ++ (n ++ ((32 ∷ []) ++ (digits ++ 10 ∷ [])))

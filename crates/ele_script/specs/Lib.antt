@@ -8,4 +8,5 @@ pub mod LineFault
 pub mod EventOf
 pub mod FirstFault
 pub mod Front
+pub mod Outlet
 pub mod Printed

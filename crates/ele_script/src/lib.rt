@@ -5,11 +5,13 @@
 mod command;
 mod fault;
 mod output;
+mod putting;
 mod reading;
 mod word;
 mod writing;
 
 pub use fault::{LineFault, WriteFault};
-pub use output::{put, put_line};
+pub use output::{Output, put};
+pub use putting::{put_fault, put_pass, put_reply};
 pub use reading::{Line, read_event, read_line};
 pub use writing::{write_fault, write_pass, write_reply};

@@ -1,22 +1,29 @@
 -- How a run ends.
-use Rattle.std.proofs.Common.{◌≡◌, ◌≢◌, ℕ, ◌+◌, ◌≤◌, List, [], ◌∷◌, ◌++◌, length, Option, Some, None, Ok, Err, refl, sym, ap, subst, ◌∙◌, arith, append_assoc, length-append, inl, inr}
-use Rattle.std.proofs.lemmas.List.{append-nil}
+use Rattle.std.proofs.Common.{◌≡◌, ℕ, ◌+◌, ◌≤◌, List, [], ◌∷◌, ◌++◌, length, take, get_or, min, ◌-◌, Option, Some, None, Result, Ok, Err, refl, sym, ap, subst, ◌∙◌, arith, append_assoc, inl, inr}
+use Rattle.std.proofs.lemmas.List.{append-nil, length-take}
+use Rattle.std.proofs.lemmas.List.Concat.{flat_map-append}
+use Rattle.std.proofs.lemmas.Bool.{cases_order}
+use Rattle.std.proofs.lemmas.Bool.Decides.{leb_tells}
+use Rattle.std.specs.Prelude.{IfOk}
+use Rattle.std.specs.List.{AllByRecursion}
 use Rattle.std.specs.Io.KnownBytes.{Consumes, Keeps, Appends, IsAtEnd}
 use Rattle.std.proofs.KnownBytes.{Consumes-trans, Consumes-kept, Appends-trans}
 use Rattle.ele_script.specs.Front.{AppendsFront}
+use Rattle.ele_script.specs.Outlet.{outlet}
+use Rattle.ele_script.proofs.Known.{front_over, front_then as puts_front}
 use Rattle.ele_shell.specs.declared.fault.ShellFault.{ShellFault}
 use Rattle.ele_shell.specs.declared.fault.ShellFault.TheVariants.{ReadFault, WriteFault, TooManyLines, NoMemory}
-use Rattle.ele_shell.specs.Block.{IsBlock, cut_block}
+use Rattle.ele_shell.specs.Block.{cut_block, cut_count}
 use Rattle.ele_shell.specs.Bounds.{most_lines}
-use Rattle.ele_shell.specs.Kept.{kept}
-use Rattle.ele_shell.specs.Lines.{IsUnbroken, AreLines, joined, ended, line_count}
+use Rattle.ele_shell.specs.Kept.{kept, longest_line}
+use Rattle.ele_shell.specs.Lines.{IsUnbroken, ended, joined, line_count}
+use Rattle.ele_shell.specs.Output.{AreBlocks}
+use Rattle.ele_shell.specs.Piece.{AnswersSome}
 use Rattle.ele_shell.specs.Running.{Runs, RanToTheEnd, RanPastABound, RanToAWriteFault}
 use Rattle.ele_shell.specs.State.{State}
-use Rattle.ele_shell.specs.Taken.{TakesByte, TakesLine, TakesPart, TakesWhole}
-use Rattle.ele_shell.specs.Written.{WritesBlockFront}
+use Rattle.ele_shell.specs.Taken.{TakesPiece}
 use Rattle.ele_shell.proofs.EveryInput.{split_all, lines_before, some_blocks, blocks_append}
-use Rattle.ele_shell.proofs.Fronts.{front_then, front_more}
-use Rattle.ele_shell.proofs.Ran.{HasRun, blocks_push, all_push, joined_push}
+use Rattle.ele_shell.proofs.Ran.{HasRun, written_all, few_whole}
 
 -- what was read is all, where nothing is left
 whole_input : (input rest : Option (List ℕ)) (given : List ℕ) → Consumes input rest given → IsAtEnd rest → Keeps input (Some given)
@@ -30,158 +37,177 @@ known_more None rest given taken = ([], tt)
 known_more (Some xs) None given taken = absurd taken
 known_more (Some xs) (Some ys) given taken = (ys, sym taken)
 
-counts_cut : (lines : List (List ℕ)) (last : List ℕ) → last ≢ [] → line_count lines last ≡ length lines + 1
-counts_cut lines [] some = absurd (some refl)
-counts_cut lines (b ∷ bs) some = refl
+-- a front of some bytes is a front of these and more
+front_more : (old new : Option (List ℕ)) (bytes more : List ℕ) → AppendsFront old new bytes → AppendsFront old new (bytes ++ more)
+front_more old new bytes more f =
+    record { front = f.front; back = f.back ++ more; parts = ap (λ (xs : List ℕ). xs ++ more) f.parts ∙ append_assoc f.front f.back more; written = f.written }
 
-module _ {start state : State} {n : ℕ} {room : ℕ} {input mid old so_far : Option (List ℕ)} (ran : HasRun start n state room input mid old so_far) where
-  -- the whole lines, and bytes of one more
-  lines_with : {rest buffer : Option (List ℕ)} {left : ℕ} (part : TakesPart mid rest room left buffer) → AreLines (joined ran.lines ++ part.line) ran.lines part.line
-  lines_with part = record { parts = refl; whole = ran.whole; cut = part.unbroken }
+-- all of some bytes, and then a front of more
+front_then : (old mid new : Option (List ℕ)) (bytes more : List ℕ) → Appends old mid bytes → AppendsFront mid new more → AppendsFront old new (bytes ++ more)
+front_then old mid new bytes more a f =
+    record {
+      front = bytes ++ f.front;
+      back = f.back;
+      parts = ap (λ (xs : List ℕ). bytes ++ xs) f.parts ∙ sym (append_assoc bytes f.front f.back);
+      written = Appends-trans old mid new bytes f.front a f.written;
+    }
 
-  lines_alone : AreLines (joined ran.lines) ran.lines []
-  lines_alone = record { parts = sym (append-nil (joined ran.lines)); whole = ran.whole; cut = tt }
+-- the writer failed in the blocks of these lines, whatever comes behind them
+fails_in : (start state : State) (given part text : List ℕ) (lines : List (List ℕ)) (input rest old new : Option (List ℕ))
+    → given ≡ joined lines ++ part → AllByRecursion IsUnbroken lines → AreBlocks start lines text state → Consumes input rest given
+    → AppendsFront old new text → RanToAWriteFault start input old new
+fails_in start state given part text lines input rest old new e whole blocks taken front =
+    let more = known_more input rest given taken in
+    let s = split_all (part ++ more.0) in
+    let r = some_blocks state s.lines in
+    record {
+      all = given ++ more.0;
+      lines = lines ++ s.lines;
+      last = s.last;
+      text = (text ++ r.0) ++ cut_block (kept s.last);
+      input_is = more.1;
+      are = lines_before (given ++ more.0) (part ++ more.0) lines s.lines s.last
+          (ap (λ (w : List ℕ). w ++ more.0) e ∙ append_assoc (joined lines) part more.0) whole s.are;
+      output = record { blocks = text ++ r.0; state = r.1; are = blocks_append start state r.1 lines s.lines text r.0 blocks r.2; text_is = refl };
+      written = front_more old new (text ++ r.0) (cut_block (kept s.last)) (front_more old new text r.0 front);
+    }
 
-  -- the reader failed, or the bytes are too many
-  pub ends_in_line : (rest buffer : Option (List ℕ)) (left : ℕ) (fault : ShellFault)
-      → TakesLine mid rest room left buffer (Err fault) → Runs start input rest old so_far (Err fault)
-  ends_in_line rest buffer left ReadFault part = record {
-    given = joined ran.lines ++ part.line;
+-- a last line counts as its block does
+counts_cut : (lines : List (List ℕ)) (last : List ℕ) → line_count lines last ≡ length lines + cut_count (kept last)
+counts_cut lines [] = omega arith
+counts_cut lines (b ∷ bs) =
+    elim (leb_tells (length (b ∷ bs)) longest_line) [
+      | inl fits ↦ rw fits.0 refl
+      | inr longer ↦ rw longer.0 refl
+    ]
+
+none_behind : (lines : List (List ℕ)) (part : List ℕ) → length lines ≡ most_lines → line_count lines part ≤ most_lines → part ≡ []
+none_behind lines [] all few = refl
+none_behind lines (b ∷ bs) all few = absurd (omega (arith, all, few))
+
+-- nothing was read, so the input ends
+pub nothing_read : (mid rest : Option (List ℕ)) (most count : ℕ) (piece : List ℕ) → TakesPiece mid rest most piece (Ok count) → count ≡ 0
+    → Consumes mid rest [] × IsAtEnd rest
+nothing_read mid rest most count piece took none = (subst (λ (m : ℕ). Consumes mid rest (take m piece)) none took.1, took.2 none)
+
+pub length_taken : (count : ℕ) (piece : List ℕ) → count ≤ length piece → length (take count piece) ≡ count
+length_taken count piece le = omega (arith, length-take count piece, le)
+
+one_byte : (piece : List ℕ) (count : ℕ) → 1 ≤ length piece → count ≡ 1 → take count piece ≡ get_or piece 0 0 ∷ []
+one_byte [] count some one = absurd (omega (arith, some))
+one_byte (b ∷ bs) count some one = rw one refl
+
+whole_both : (a b : List (List ℕ)) → AllByRecursion IsUnbroken a → AllByRecursion IsUnbroken b → AllByRecursion IsUnbroken (a ++ b)
+whole_both [] b h g = g
+whole_both (x ∷ a) b h g = (h.0, whole_both a b h.1 g)
+
+module _ {start state : State} {n : ℕ} {room : ℕ} {buffer input mid old so_far : Option (List ℕ)} {held : List ℕ} (ran : HasRun start n state room buffer input mid old so_far held) where
+  -- the writer failed as it was handed what is held
+  pub ends_over : (new : Option (List ℕ)) → AppendsFront so_far new held → RanToAWriteFault start input old new
+  ends_over new front =
+      fails_in start state ran.given ran.part ran.text ran.lines input mid old new ran.are.parts ran.are.whole ran.blocks ran.taken
+      (front_over old so_far new held ran.text ran.put front)
+
+  -- the reader failed
+  pub ends_read : (rest : Option (List ℕ)) (most : ℕ) (piece : List ℕ) (fault : ShellFault) → held ≡ [] → TakesPiece mid rest most piece (Err fault)
+      → Runs start input rest old so_far (Err fault)
+  ends_read rest most piece ReadFault none keeps = record {
+    given = ran.given;
     lines = ran.lines;
-    part = part.line;
+    part = ran.part;
     text = ran.text;
     state = state;
-    taken = Consumes-trans input mid rest (joined ran.lines) part.line ran.taken part.taken;
-    are = lines_with part;
-    few_lines = omega (arith, ran.count, ran.few);
-    few_bytes = omega (arith, length-append (joined ran.lines) part.line, ran.size, part.counted);
-    blocks = ran.blocks;
-    written = ran.written;
-  }
-  ends_in_line rest buffer left TooManyLines much = record {
-    given = joined ran.lines ++ much.line;
-    byte = much.byte;
-    lines = ran.lines;
-    part = much.line;
-    text = ran.text;
-    state = state;
-    taken = rw append_assoc (Consumes-trans input mid rest (joined ran.lines) (much.line ++ much.byte ∷ []) ran.taken much.taken);
-    are = record { parts = refl; whole = ran.whole; cut = much.unbroken };
-    few_lines = omega (arith, ran.count, ran.few);
-    few_bytes = omega (arith, length-append (joined ran.lines) much.line, ran.size, much.counted);
-    most = inr (omega (arith, length-append (joined ran.lines) much.line, ran.size, much.counted));
-    blocks = ran.blocks;
-    written = ran.written;
-  }
-  ends_in_line rest buffer left WriteFault h = absurd h
-  ends_in_line rest buffer left NoMemory h = absurd h
-
-  -- the reader failed behind the last line that there may be
-  pub ends_behind : (rest : Option (List ℕ)) (fault : ShellFault) → TakesByte mid rest (Err fault) → Runs start input rest old so_far (Err fault)
-  ends_behind rest ReadFault keeps = record {
-    given = joined ran.lines;
-    lines = ran.lines;
-    part = [];
-    text = ran.text;
-    state = state;
-    taken = Consumes-kept input mid rest (joined ran.lines) ran.taken keeps;
-    are = lines_alone;
-    few_lines = omega (arith, ran.count, ran.few);
+    taken = Consumes-kept input mid rest ran.given ran.taken keeps;
+    are = ran.are;
+    few_lines = few_whole ran.lines ran.part ran.few;
     few_bytes = omega (arith, ran.size);
     blocks = ran.blocks;
-    written = ran.written;
+    written = written_all ran none;
   }
-  ends_behind rest WriteFault h = absurd h
-  ends_behind rest TooManyLines h = absurd h
-  ends_behind rest NoMemory h = absurd h
+  ends_read rest most piece WriteFault none h = absurd h
+  ends_read rest most piece TooManyLines none h = absurd h
+  ends_read rest most piece NoMemory none h = absurd h
 
-  -- there is a byte behind the last line that there may be
-  pub ends_past : {rest : Option (List ℕ)} (byte : ℕ) → n ≡ most_lines → TakesByte mid rest (Ok (Some byte)) → RanPastABound start input rest old so_far
-  ends_past {rest} byte all took = record {
-    given = joined ran.lines;
-    byte = byte;
+  -- a byte stands behind as much as a script may be
+  pub ends_past : (rest : Option (List ℕ)) (piece : List ℕ) (count : ℕ) → held ≡ [] → min room (most_lines - n) ≡ 0 → 1 ≤ length piece → count ≡ 1
+      → Consumes mid rest (take count piece) → RanPastABound start input rest old so_far
+  ends_past rest piece count none full some one took = record {
+    given = ran.given;
+    byte = get_or piece 0 0;
     lines = ran.lines;
-    part = [];
+    part = ran.part;
     text = ran.text;
     state = state;
-    taken = Consumes-trans input mid rest (joined ran.lines) (byte ∷ []) ran.taken took;
-    are = lines_alone;
-    few_lines = omega (arith, ran.count, ran.few);
+    taken = Consumes-trans input mid rest ran.given (get_or piece 0 0 ∷ []) ran.taken (subst (Consumes mid rest) (one_byte piece count some one) took);
+    are = ran.are;
+    few_lines = few_whole ran.lines ran.part ran.few;
     few_bytes = omega (arith, ran.size);
-    most = inl (ran.count ∙ all, refl);
+    most = elim (cases_order room 0) [
+      | inl e ↦ inr (omega (arith, ran.size, e))
+      | inr (inl lt) ↦ absurd (omega (arith, lt))
+      | inr (inr gt) ↦
+          let all : length ran.lines ≡ most_lines = omega (arith, full, gt, ran.count, few_whole ran.lines ran.part ran.few) in
+          inl (all, none_behind ran.lines ran.part all ran.few)
+    ];
     blocks = ran.blocks;
-    written = ran.written;
+    written = written_all ran none;
   }
 
-  -- the input ends behind a whole line
-  pub ends_whole : {rest : Option (List ℕ)} → TakesByte mid rest (Ok None) → RanToTheEnd start n input rest old so_far
-  ends_whole {rest} took = record {
-    given = joined ran.lines;
-    lines = ran.lines;
-    last = [];
-    text = ran.text;
-    taken = Consumes-kept input mid rest (joined ran.lines) ran.taken took.0;
-    at_end = took.1;
-    are = lines_alone;
-    count = sym ran.count;
-    few_lines = ran.few;
-    few_bytes = omega (arith, ran.size);
-    output = record { blocks = ran.text; state = state; are = ran.blocks; text_is = sym (append-nil ran.text) };
-    written = ran.written;
-  }
-
-  -- the input ends in a line
-  pub ends_cut : {rest buffer new : Option (List ℕ)} {left : ℕ} (part : TakesPart mid rest room left buffer)
-      → IsAtEnd rest → buffer ≢ Some [] → n + 1 ≤ most_lines
-      → Appends so_far new (cut_block buffer) → RanToTheEnd start (n + 1) input rest old new
-  ends_cut {rest} {buffer} {new} {left} part at_end some few wrote = record {
-    given = joined ran.lines ++ part.line;
-    lines = ran.lines;
-    last = part.line;
-    text = ran.text ++ cut_block (kept part.line);
-    taken = Consumes-trans input mid rest (joined ran.lines) part.line ran.taken part.taken;
-    at_end = at_end;
-    are = lines_with part;
-    count = ap (λ (m : ℕ). m + 1) (sym ran.count) ∙ sym (counts_cut ran.lines part.line (λ e. some (part.keeps ∙ ap kept e)));
-    few_lines = few;
-    few_bytes = omega (arith, length-append (joined ran.lines) part.line, ran.size, part.counted);
-    output = record { blocks = ran.text; state = state; are = ran.blocks; text_is = refl };
-    written = Appends-trans old so_far new ran.text (cut_block (kept part.line)) ran.written (subst (λ (l : Option (List ℕ)). Appends so_far new (cut_block l)) part.keeps wrote);
-  }
+  -- the input ends
+  pub ends_all : (rest new : Option (List ℕ)) (count : ℕ) → held ≡ [] → Consumes mid rest [] → IsAtEnd rest
+      → (count ≡ n + cut_count buffer) × Appends so_far new (held ++ cut_block buffer) → RanToTheEnd start count input rest old new
+  ends_all rest new count none took at_end done =
+      let counted : count ≡ line_count ran.lines ran.part =
+      done.0 ∙ ap (λ (b : Option (List ℕ)). n + cut_count b) ran.keeps ∙ ap (λ (m : ℕ). m + cut_count (kept ran.part)) (sym ran.count)
+      ∙ sym (counts_cut ran.lines ran.part) in
+      record {
+        given = ran.given;
+        lines = ran.lines;
+        last = ran.part;
+        text = ran.text ++ cut_block (kept ran.part);
+        taken = subst (Consumes input rest) (append-nil ran.given) (Consumes-trans input mid rest ran.given [] ran.taken took);
+        at_end = at_end;
+        are = ran.are;
+        count = counted;
+        few_lines = subst (λ (m : ℕ). m ≤ most_lines) (sym counted) ran.few;
+        few_bytes = omega (arith, ran.size);
+        output = record { blocks = ran.text; state = state; are = ran.blocks; text_is = refl };
+        written = Appends-trans old so_far new ran.text (cut_block (kept ran.part)) (written_all ran none)
+            (subst (Appends so_far new) (cut_is none) done.1);
+      }
+    where
+      cut_is : held ≡ [] → held ++ cut_block buffer ≡ cut_block (kept ran.part)
+      cut_is e = ap (λ (w : List ℕ). w ++ cut_block buffer) e ∙ ap cut_block ran.keeps
 
   -- the writer failed in the block of a last line without its line feed
-  pub ends_in_cut : {rest buffer new : Option (List ℕ)} {left : ℕ} (part : TakesPart mid rest room left buffer)
-      → IsAtEnd rest → AppendsFront so_far new (cut_block buffer) → RanToAWriteFault start input old new
-  ends_in_cut {rest} {buffer} {new} {left} part at_end front = record {
-    all = joined ran.lines ++ part.line;
+  pub ends_in_cut : (rest new : Option (List ℕ)) → held ≡ [] → Consumes mid rest [] → IsAtEnd rest
+      → AppendsFront so_far new (held ++ cut_block buffer) → RanToAWriteFault start input old new
+  ends_in_cut rest new none took at_end front = record {
+    all = ran.given;
     lines = ran.lines;
-    last = part.line;
-    text = ran.text ++ cut_block (kept part.line);
-    input_is = whole_input input rest (joined ran.lines ++ part.line) (Consumes-trans input mid rest (joined ran.lines) part.line ran.taken part.taken) at_end;
-    are = lines_with part;
+    last = ran.part;
+    text = ran.text ++ cut_block (kept ran.part);
+    input_is = whole_input input rest ran.given (subst (Consumes input rest) (append-nil ran.given) (Consumes-trans input mid rest ran.given [] ran.taken took)) at_end;
+    are = ran.are;
     output = record { blocks = ran.text; state = state; are = ran.blocks; text_is = refl };
-    written = front_then old so_far new ran.text (cut_block (kept part.line)) ran.written (subst (λ (l : Option (List ℕ)). AppendsFront so_far new (cut_block l)) part.keeps front);
+    written = front_then old so_far new ran.text (cut_block (kept ran.part)) (written_all ran none)
+        (subst (AppendsFront so_far new) (ap (λ (w : List ℕ). w ++ cut_block buffer) none ∙ ap cut_block ran.keeps) front);
   }
 
-  -- the writer failed in the block of a whole line
-  pub ends_in_block : {after : State} {rest buffer new : Option (List ℕ)} {left : ℕ} (took : TakesWhole mid rest room left buffer)
-      → WritesBlockFront state buffer after so_far new → RanToAWriteFault start input old new
-  ends_in_block {after} {rest} {buffer} {new} {left} took front =
-      let is : IsBlock state (kept took.line) front.block after = subst (λ (l : Option (List ℕ)). IsBlock state l front.block after) took.keeps front.is in
-      let read = ran.lines ++ took.line ∷ [] in
-      let blocks = blocks_push start state after ran.lines took.line ran.text front.block ran.blocks is in
-      let more = known_more input rest (joined read) (rw joined_push (Consumes-trans input mid rest (joined ran.lines) (ended took.line) ran.taken took.taken)) in
-      let s = split_all more.0 in
-      let r = some_blocks after s.lines in
-      let text = ((ran.text ++ front.block) ++ r.0) ++ cut_block (kept s.last) in
-      record {
-        all = joined read ++ more.0;
-        lines = read ++ s.lines;
-        last = s.last;
-        text = text;
-        input_is = more.1;
-        are = lines_before (joined read ++ more.0) more.0 read s.lines s.last refl (all_push IsUnbroken ran.lines took.line ran.whole took.unbroken) s.are;
-        output = record { blocks = (ran.text ++ front.block) ++ r.0; state = r.1; are = blocks_append start after r.1 read s.lines (ran.text ++ front.block) r.0 blocks r.2; text_is = refl };
-        written = rw (append_assoc (ran.text ++ front.block) r.0 (cut_block (kept s.last)), append_assoc ran.text front.block (r.0 ++ cut_block (kept s.last)))
-            (front_then old so_far new ran.text (front.block ++ (r.0 ++ cut_block (kept s.last))) ran.written (front_more so_far new front.block (r.0 ++ cut_block (kept s.last)) front.written));
-      }
+  -- the writer failed in the blocks of the lines of a piece
+  pub ends_in_piece : (after : State) (rest new : Option (List ℕ)) (piece left : List ℕ) → Consumes mid rest piece
+      → AnswersSome state after ran.part piece (outlet so_far held) (outlet new left) → RanToAWriteFault start input old new
+  ends_in_piece after rest new piece left took did =
+      fails_in start after (ran.given ++ piece) did.rest (ran.text ++ did.text) (ran.lines ++ did.lines) input rest old new
+      (ap (λ (w : List ℕ). w ++ piece) ran.are.parts ∙ append_assoc (joined ran.lines) ran.part piece ∙ ap (λ (w : List ℕ). joined ran.lines ++ w) did.parts
+      ∙ sym (append_assoc (joined ran.lines) (joined did.lines) did.rest) ∙ ap (λ (w : List ℕ). w ++ did.rest) (sym (flat_map-append ended ran.lines did.lines)))
+      (whole_both ran.lines did.lines ran.are.whole did.whole)
+      (blocks_append start state after ran.lines did.lines ran.text did.text ran.blocks did.blocks)
+      (Consumes-trans input mid rest ran.given piece ran.taken took)
+      (puts_front (outlet old []) (outlet so_far held) (outlet new left) ran.text did.text ran.put did.put).front
+
+-- what a run has done at each end
+pub ran_to_the_end : (start : State) (input rest old new : Option (List ℕ)) (r : Result ℕ ShellFault) → Runs start input rest old new r
+    → IfOk r (λ n. RanToTheEnd start n input rest old new)
+ran_to_the_end start input rest old new (Ok n) h = h
+ran_to_the_end start input rest old new (Err fault) h = tt

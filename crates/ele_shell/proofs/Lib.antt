@@ -1,7 +1,6 @@
 pub mod Blocks
 pub mod Ends
 pub mod EveryInput
-pub mod Fronts
-pub mod Ran
-pub mod TakenLines
 pub mod Passes
+pub mod Pieces
+pub mod Ran

@@ -1,30 +1,56 @@
 -- A run so far, and how it goes on.
-use Rattle.std.proofs.Common.{◌≡◌, ℕ, ◌+◌, ◌≤◌, List, [], ◌∷◌, ◌++◌, length, Option, refl, sym, ap, subst, ◌∙◌, arith, append_assoc, length-append}
+use Rattle.std.proofs.Common.{◌≡◌, ℕ, ◌+◌, ◌≤◌, ◌⊎◌, List, [], ◌∷◌, ◌++◌, length, Option, Some, refl, sym, ap, subst, ◌∙◌, arith, append_assoc, length-append, inl, inr}
 use Rattle.std.proofs.lemmas.List.{append-nil}
 use Rattle.std.proofs.lemmas.List.Concat.{flat_map-append, flat_map-cons}
 use Rattle.std.specs.List.{AllByRecursion}
 use Rattle.std.specs.Io.KnownBytes.{Consumes, Appends}
-use Rattle.std.proofs.KnownBytes.{Consumes-trans, Appends-trans}
+use Rattle.std.proofs.KnownBytes.{Consumes-nil, Consumes-trans, Appends-nil}
+use Rattle.ele_script.specs.Outlet.{outlet, Takes}
+use Rattle.ele_script.proofs.Known.{takes_nil, takes_then, takes_over}
 use Rattle.ele_shell.specs.Block.{IsBlock}
 use Rattle.ele_shell.specs.Bounds.{most_lines, most_bytes}
 use Rattle.ele_shell.specs.Kept.{kept}
-use Rattle.ele_shell.specs.Lines.{IsUnbroken, ended, joined}
+use Rattle.ele_shell.specs.Lines.{AreLines, ended, joined, line_count}
 use Rattle.ele_shell.specs.Output.{AreBlocks}
+use Rattle.ele_shell.specs.Piece.{AnswersAll}
 use Rattle.ele_shell.specs.State.{State}
-use Rattle.ele_shell.specs.Taken.{TakesWhole}
-use Rattle.ele_shell.specs.Written.{WritesBlock}
+use Rattle.ele_shell.proofs.EveryInput.{lines_before, blocks_append}
 
--- n whole lines were read, and their blocks written, up to this state; there is room for so many bytes more
-pub record HasRun (start : State) (n : ℕ) (state : State) (room : ℕ) (input rest old new : Option (List ℕ)) : Type 0 where
+-- n whole lines were read and a part of one more, and their blocks put, up to this state; there is room for so many bytes more
+pub record HasRun (start : State) (n : ℕ) (state : State) (room : ℕ) (buffer input rest old new : Option (List ℕ)) (held : List ℕ) : Type 0 where
+  pub given : List ℕ
   pub lines : List (List ℕ)
+  pub part : List ℕ
   pub text : List ℕ
+  pub are : AreLines given lines part
   pub count : length lines ≡ n
-  pub few : n ≤ most_lines
-  pub size : length (joined lines) + room ≡ most_bytes
-  pub whole : AllByRecursion IsUnbroken lines
+  pub few : line_count lines part ≤ most_lines
+  pub within : n ≤ most_lines
+  pub size : length given + room ≡ most_bytes
+  pub keeps : buffer ≡ kept part
   pub blocks : AreBlocks start lines text state
-  pub taken : Consumes input rest (joined lines)
-  pub written : Appends old new text
+  pub taken : Consumes input rest given
+  pub put : Takes (outlet old []) (outlet new held) text
+
+-- a run that begins
+pub has_run_none : (start : State) (buffer input old : Option (List ℕ)) (held : List ℕ) → buffer ≡ Some [] → held ≡ []
+    → HasRun start 0 start most_bytes buffer input input old old held
+has_run_none start buffer input old held clear none =
+    record {
+      given = [];
+      lines = [];
+      part = [];
+      text = [];
+      are = record { parts = refl; whole = tt; cut = tt };
+      count = refl;
+      few = omega arith;
+      within = omega arith;
+      size = refl;
+      keeps = clear;
+      blocks = (refl, refl);
+      taken = Consumes-nil input;
+      put = rw none (takes_nil (outlet old []));
+    }
 
 -- the blocks of some lines, and then that of one more
 pub blocks_push : (start between after : State) (lines : List (List ℕ)) (line text block : List ℕ)
@@ -48,20 +74,72 @@ all_push P (first ∷ lines) line all one = (all.0, all_push P lines line all.1 
 pub joined_push : (lines : List (List ℕ)) (line : List ℕ) → joined (lines ++ line ∷ []) ≡ joined lines ++ ended line
 joined_push lines line = flat_map-append ended lines (line ∷ []) ∙ ap (λ (xs : List ℕ). joined lines ++ xs) (flat_map-cons ended line [] ∙ append-nil (ended line))
 
--- one line more is read, and its block is written
-pub has_run_on : {start between after : State} {n room left : ℕ} {input mid rest old so_far new buffer : Option (List ℕ)}
-    → HasRun start n between room input mid old so_far → n + 1 ≤ most_lines → TakesWhole mid rest room left buffer → WritesBlock between buffer after so_far new
-    → HasRun start (n + 1) after left input rest old new
-has_run_on {start} {between} {after} {n} {room} {left} {input} {mid} {rest} {old} {so_far} {new} {buffer} ran few took wrote =
-    let is : IsBlock between (kept took.line) wrote.block after = subst (λ (l : Option (List ℕ)). IsBlock between l wrote.block after) took.keeps wrote.is in
+-- what is held is handed over
+pub has_run_over : {start state : State} {n room : ℕ} {buffer input rest old known new : Option (List ℕ)} {held left : List ℕ}
+    → HasRun start n state room buffer input rest old known held → left ≡ [] → Appends known new held → HasRun start n state room buffer input rest old new left
+has_run_over {start} {state} {n} {room} {buffer} {input} {rest} {old} {known} {new} {held} {left} ran none over =
     record {
-      lines = ran.lines ++ took.line ∷ [];
-      text = ran.text ++ wrote.block;
-      count = omega (arith, ran.count, length-append ran.lines (took.line ∷ []));
+      given = ran.given;
+      lines = ran.lines;
+      part = ran.part;
+      text = ran.text;
+      are = ran.are;
+      count = ran.count;
+      few = ran.few;
+      within = ran.within;
+      size = ran.size;
+      keeps = ran.keeps;
+      blocks = ran.blocks;
+      taken = ran.taken;
+      put = record {
+        sent = ran.text;
+        parts = sym (append-nil ran.text) ∙ ap (λ (w : List ℕ). ran.text ++ w) (sym none);
+        written = takes_over old known new held ran.text ran.put over;
+      };
+    }
+
+-- then all that was put is written
+pub written_all : {start state : State} {n room : ℕ} {buffer input rest old new : Option (List ℕ)} {held : List ℕ}
+    → (ran : HasRun start n state room buffer input rest old new held) → held ≡ [] → Appends old new ran.text
+written_all {start} {state} {n} {room} {buffer} {input} {rest} {old} {new} {held} ran none =
+    takes_over old new new held ran.text ran.put (rw none (Appends-nil new))
+
+-- a line counts at most once
+count_below : (lines : List (List ℕ)) (last : List ℕ) → line_count lines last ≤ length lines + length last
+count_below lines [] = omega arith
+count_below lines (b ∷ bs) = omega arith
+
+count_more : (before after : List (List ℕ)) (last : List ℕ) (most size : ℕ) → length before + size ≤ most → 1 ≤ size
+    → (length after + length last ≤ size) ⊎ (after ≡ []) → line_count (before ++ after) last ≤ most
+count_more before after last most size fits some (inl few) =
+    omega (arith, fits, few, count_below (before ++ after) last, length-append before after)
+count_more before after [] most size fits some (inr none) = rw (none, append-nil before) (omega (arith, fits))
+count_more before after (b ∷ bs) most size fits some (inr none) = rw (none, append-nil before) (omega (arith, fits, some))
+
+pub few_whole : (lines : List (List ℕ)) (part : List ℕ) → line_count lines part ≤ most_lines → length lines ≤ most_lines
+few_whole lines [] few = few
+few_whole lines (b ∷ bs) few = omega (arith, few)
+
+-- a piece more is read and answered
+pub has_run_on : {start between after : State} {n ended room left : ℕ} {buffer buffer' input mid rest old so_far new : Option (List ℕ)} {held held' piece : List ℕ}
+    → (ran : HasRun start n between room buffer input mid old so_far held) → n + length piece ≤ most_lines → 1 ≤ length piece → length piece + left ≡ room
+    → Consumes mid rest piece → AnswersAll between after ran.part piece buffer' n ended (outlet so_far held) (outlet new held')
+    → HasRun start ended after left buffer' input rest old new held'
+has_run_on {start} {between} {after} {n} {ended} {room} {left} {buffer} {buffer'} {input} {mid} {rest} {old} {so_far} {new} {held} {held'} {piece} ran fits some fewer taken did =
+    let few = count_more ran.lines did.lines did.last most_lines (length piece) (omega (arith, fits, ran.count)) some did.few in
+    record {
+      given = ran.given ++ piece;
+      lines = ran.lines ++ did.lines;
+      part = did.last;
+      text = ran.text ++ did.text;
+      are = lines_before (ran.given ++ piece) (ran.part ++ piece) ran.lines did.lines did.last
+          (ap (λ (w : List ℕ). w ++ piece) ran.are.parts ∙ append_assoc (joined ran.lines) ran.part piece) ran.are.whole did.are;
+      count = omega (arith, ran.count, did.counted, length-append ran.lines did.lines);
       few = few;
-      size = omega (arith, ran.size, took.counted, ap length (joined_push ran.lines took.line), length-append (joined ran.lines) (ended took.line), length-append took.line (10 ∷ []));
-      whole = all_push IsUnbroken ran.lines took.line ran.whole took.unbroken;
-      blocks = blocks_push start between after ran.lines took.line ran.text wrote.block ran.blocks is;
-      taken = rw joined_push (Consumes-trans input mid rest (joined ran.lines) (ended took.line) ran.taken took.taken);
-      written = Appends-trans old so_far new ran.text wrote.block ran.written wrote.written;
+      within = omega (arith, few_whole (ran.lines ++ did.lines) did.last few, ran.count, did.counted, length-append ran.lines did.lines);
+      size = omega (arith, ran.size, fewer, length-append ran.given piece);
+      keeps = did.keeps;
+      blocks = blocks_append start between after ran.lines did.lines ran.text did.text ran.blocks did.blocks;
+      taken = Consumes-trans input mid rest ran.given piece ran.taken taken;
+      put = takes_then (outlet old []) (outlet so_far held) (outlet new held') ran.text did.text ran.put did.put;
     }

@@ -54,3 +54,9 @@ abbrev pub cut_block : Option (List ℕ) → List ℕ
 cut_block None = bad_text LineTooLong
 cut_block (Some []) = []
 cut_block (Some (byte ∷ bytes)) = bad_text Syntax
+
+-- it counts unless it is empty
+abbrev pub cut_count : Option (List ℕ) → ℕ
+cut_count None = 1
+cut_count (Some []) = 0
+cut_count (Some (byte ∷ bytes)) = 1

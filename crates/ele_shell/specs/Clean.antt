@@ -1,5 +1,5 @@
 -- One clean event of a pass. No public clause cites this module.
-use Rattle.std.specs.Prelude.{◌≡◌, ℕ, ◌+◌, ◌<◌, Bool, true, false, is_some, Result, Ok, Err}
+use Rattle.std.specs.Prelude.{◌≡◌, ◌+◌, ◌<◌, Bool, true, false, is_some, Result, Ok, Err}
 use Rattle.ele_world.specs.declared.refusal.Stop.{Stop}
 use Rattle.ele_world.specs.declared.refusal.Stop.TheVariants.{NoMemory, HistoryFull}
 use Rattle.ele_world.specs.declared.reply.Reply.{Reply}

@@ -6,6 +6,7 @@ pub mod Kept
 pub mod Lines
 pub mod Output
 pub mod Pass
+pub mod Piece
 pub mod Running
 pub mod State
 pub mod Taken

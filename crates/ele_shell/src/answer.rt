@@ -1,9 +1,9 @@
 //! What a line is answered.
 //! A contract sees an answer as itself, and its text as bytes.
-ghost use Rattle.std.specs.Prelude.{OnOk, OnErr};
-ghost use Rattle.ele_shell.specs.Written.{WritesText, WritesTextFront};
+ghost use Rattle.ele_script.specs.Outlet.{outlet};
+ghost use Rattle.ele_shell.specs.Written.{PutsText};
 
-use ele_script::{LineFault, WriteFault, write_fault, write_pass, write_reply};
+use ele_script::{LineFault, Output, WriteFault, put_fault, put_pass, put_reply};
 use ele_world::{PassEnd, Reply, Stop};
 use std::io::Write;
 
@@ -18,16 +18,18 @@ pub(crate) enum Answer {
     Pass(PassEnd),
 }
 
-/// Writes an answer. At a fault the writer took a front of its text.
-pub(crate) fn write_answer<W: Write>(answer: &Answer, writer: &mut W) -> Result<(), WriteFault>
-    ensures ok { OnOk result
-        (WritesText answer.now (W.contents writer.old) (W.contents writer.new)) }
-    ensures err { OnErr result
-        (WritesTextFront answer.now (W.contents writer.old) (W.contents writer.new)) }
+/// Puts an answer behind the others. At a fault the writer took a front of all.
+pub(crate) fn put_answer<W: Write>(
+    answer: &Answer,
+    output: &mut Output,
+    writer: &mut W,
+) -> Result<(), WriteFault>
+    ensures { PutsText answer.now (outlet (W.contents writer.old) output.old)
+        (outlet (W.contents writer.new) output.new) result }
 {
     match answer {
-        Answer::Bad(fault) => write_fault(*fault, writer),
-        Answer::Reply(reply) => write_reply(reply, writer),
-        Answer::Pass(end) => write_pass(end, writer),
+        Answer::Bad(fault) => put_fault(*fault, output, writer),
+        Answer::Reply(reply) => put_reply(reply, output, writer),
+        Answer::Pass(end) => put_pass(end, output, writer),
     }
 }

@@ -6,6 +6,7 @@ mod answer;
 mod fault;
 mod keeper;
 mod line_buffer;
+mod lines;
 mod reading;
 mod script;
 

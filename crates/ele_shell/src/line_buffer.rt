@@ -1,9 +1,10 @@
-//! The line that is being read.
+//! The line that began in an earlier piece.
 //! A contract sees it as `Some` of its bytes, or as `None` where it is too long to be kept.
-ghost use Rattle.std.specs.Prelude.{◌≡◌, ◌↔◌, ◌∷◌, ◌++◌, [], IsTrue, Some};
+ghost use Rattle.std.specs.Prelude.{◌≡◌, ◌↔◌, ◌++◌, [], IsTrue, Some};
 ghost use Rattle.std.specs.Option.{option_map, option_and_then};
 ghost use Rattle.ele_shell.specs.Kept.{kept};
 
+use arrayvec::ArrayVec;
 use std::marker::Model;
 
 /// A line has at most so many bytes before its line feed.
@@ -12,19 +13,16 @@ const LONGEST_LINE: usize = 8192;
 /// A line without its line feed. Of one that is too long only that is kept.
 #[derive(Drop)]
 pub(crate) struct LineBuffer {
-    bytes: [u8; LONGEST_LINE],
-    count: usize,
+    bytes: ArrayVec<u8, LONGEST_LINE>,
+    is_too_long: bool,
 }
 
 impl Model for LineBuffer {
-    ghost use Rattle.std.specs.Prelude.{ℕ, List, Option, Some, None, ◌≡◌, nat_le, length, take, if◌then◌else◌};
-    ghost use Rattle.ele_shell.specs.Kept.{longest_line};
+    ghost use Rattle.std.specs.Prelude.{ℕ, List, Option, Some, None, if◌then◌else◌};
 
     ghost Value = { Option (List ℕ) };
 
-    ghost view = { λ b. if nat_le b.count longest_line then Some (take b.count b.bytes) else None };
-
-    ghost invariant = { λ b. length b.bytes ≡ longest_line };
+    ghost view = { λ b. if b.is_too_long then None else Some b.bytes.items };
 }
 
 impl LineBuffer {
@@ -33,8 +31,8 @@ impl LineBuffer {
         ensures { result ≡ Some [] }
     {
         LineBuffer {
-            bytes: [0; LONGEST_LINE],
-            count: 0,
+            bytes: ArrayVec::new(),
+            is_too_long: false,
         }
     }
 
@@ -42,18 +40,16 @@ impl LineBuffer {
     pub(crate) fn clear(&mut self)
         ensures { self.new ≡ Some [] }
     {
-        self.count = 0;
+        self.bytes.clear();
+        self.is_too_long = false;
     }
 
-    /// Puts a byte at the end.
-    pub(crate) fn push(&mut self, byte: u8)
-        ensures { self.new ≡ option_and_then (λ line. kept (line ++ byte ∷ [])) self.old }
+    /// Puts bytes at the end.
+    pub(crate) fn extend(&mut self, bytes: &[u8])
+        ensures { self.new ≡ option_and_then (λ line. kept (line ++ bytes.now)) self.old }
     {
-        if self.count < LONGEST_LINE {
-            self.bytes[self.count] = byte;
-            self.count += 1;
-        } else {
-            self.count = LONGEST_LINE + 1;
+        if self.bytes.try_extend_from_slice(bytes).is_err() {
+            self.is_too_long = true;
         }
     }
 
@@ -61,16 +57,26 @@ impl LineBuffer {
     pub(crate) fn is_empty(&self) -> bool
         ensures { IsTrue result ↔ (self.now ≡ Some []) }
     {
-        self.count == 0
+        self.bytes.is_empty() && !self.is_too_long
     }
 
     /// The line, unless it is too long.
     pub(crate) fn line(&self) -> Option<&[u8]>
         ensures { option_map (λ line. line.now) result ≡ self.now }
     {
-        if self.count > LONGEST_LINE {
+        if self.is_too_long {
             return None;
         }
-        Some(&self.bytes[..self.count])
+        Some(self.bytes.as_slice())
     }
+}
+
+/// The line, unless it is too long.
+pub(crate) fn kept_line(line: &[u8]) -> Option<&[u8]>
+    ensures { option_map (λ line. line.now) result ≡ kept line.now }
+{
+    if line.len() > LONGEST_LINE {
+        return None;
+    }
+    Some(line)
 }

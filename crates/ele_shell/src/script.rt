@@ -1,19 +1,15 @@
-//! The run of a script, line by line.
+//! The run of a script, piece by piece.
 //! A contract sees the lines that the reader gives, and their output at the writer.
-ghost use Rattle.std.specs.Prelude.{◌≡◌, OnOk, OnErr, IfOk, IsErrOf};
-ghost use Rattle.std.specs.Io.KnownBytes.{Appends};
-ghost use Rattle.ele_script.specs.Front.{AppendsFront};
-ghost use Rattle.ele_shell.specs.Block.{cut_block};
-ghost use Rattle.ele_shell.specs.Written.{WritesBlock, WritesBlockFront};
+ghost use Rattle.std.specs.Prelude.{◌≡◌, ◌≤◌, ◌-◌, min, IfOk, IsErrOf, length};
 ghost use Rattle.ele_shell.specs.State.{fresh};
 ghost use Rattle.ele_shell.specs.Running.{Runs, RanToTheEnd, RanToAReadFault, RanPastABound, RanToAWriteFault};
 
-use crate::answer::write_answer;
 use crate::fault::ShellFault;
 use crate::keeper::Keeper;
 use crate::line_buffer::LineBuffer;
-use crate::reading::{Ending, next_byte, read_line};
-use ele_script::{LineFault, WriteFault, write_fault};
+use crate::lines::{answer_piece, finish};
+use crate::reading::read_piece;
+use ele_script::Output;
 use ele_world::Limits;
 use std::alloc::Global;
 use std::io::{Read, Write};
@@ -24,70 +20,78 @@ const MOST_LINES: u64 = 1_000_000;
 /// A script has at most so many bytes, with its line feeds.
 const MOST_BYTES: u64 = 8_589_934_592;
 
-/// Answers a whole line, and writes its block.
-fn write_block<W: Write>(
-    keeper: &mut Keeper,
-    writer: &mut W,
-    buffer: &LineBuffer,
-) -> Result<(), WriteFault>
-    ensures ok { OnOk result (WritesBlock keeper.old buffer.now keeper.new
-        (W.contents writer.old) (W.contents writer.new)) }
-    ensures err { OnErr result (WritesBlockFront keeper.old buffer.now keeper.new
-        (W.contents writer.old) (W.contents writer.new)) }
+/// So many bytes are read at a time, at most.
+const PIECE: usize = 65_536;
+
+/// How many bytes may still come, or lines if these are fewer, as each line has a byte at least.
+fn left_of(room: u64, lines: u64) -> u64
+    requires { lines ≤ MOST_LINES }
+    ensures { result ≡ min room (MOST_LINES - lines) }
 {
-    match buffer.line() {
-        None => write_fault(LineFault::LineTooLong, writer),
-        Some([]) => Ok(()),
-        Some(line) => write_answer(&keeper.answer(line), writer),
-    }
+    let left = MOST_LINES - lines;
+    if room < left { room } else { left }
 }
 
-/// Writes the block of a last line without its line feed, which is never run.
-fn write_cut<W: Write>(writer: &mut W, buffer: &LineBuffer) -> Result<(), WriteFault>
-    ensures ok { OnOk result
-        (Appends (W.contents writer.old) (W.contents writer.new) (cut_block buffer.now)) }
-    ensures err { OnErr result
-        (AppendsFront (W.contents writer.old) (W.contents writer.new) (cut_block buffer.now)) }
+/// How many bytes are asked for where so many may come: one, to see whether there is more, where none may.
+fn most_of(left: u64) -> usize
+    ensures some { 1 ≤ result }
+    ensures piece { result ≤ PIECE }
+    ensures few { 1 ≤ left → result ≤ left }
+    ensures one { left ≡ 0 → result ≡ 1 }
 {
-    match buffer.line() {
-        None => write_fault(LineFault::LineTooLong, writer),
-        Some([]) => Ok(()),
-        Some(_) => write_fault(LineFault::Syntax, writer),
+    if left == 0 {
+        return 1;
     }
+    if left < PIECE as u64 {
+        return left as usize;
+    }
+    PIECE
 }
 
-/// Reads and answers lines until the input ends, a bound is passed, or the reader or the writer fails.
-fn run_lines<R: Read, W: Write>(
+/// Reads pieces and answers their lines until the input ends, a bound is passed, or the reader or the writer fails. No piece
+/// is longer than what may still come, so that nothing is read behind the byte that passes a bound.
+fn run_pieces<R: Read, W: Write>(
     keeper: &mut Keeper,
     reader: &mut R,
     writer: &mut W,
+    piece: &mut [u8],
 ) -> Result<u64, ShellFault>
+    requires { length piece.old ≡ PIECE }
     ensures { Runs keeper.old (R.remaining reader.old) (R.remaining reader.new)
         (W.contents writer.old) (W.contents writer.new) result }
 {
+    let mut output = Output::new();
     let mut buffer = LineBuffer::new();
     let mut room = MOST_BYTES;
-    for lines in 0..MOST_LINES {
-        match read_line(reader, &mut room, &mut buffer)? {
-            Ending::LineFeed => write_block(keeper, writer, &buffer)?,
-            Ending::Input => {
-                if buffer.is_empty() {
-                    return Ok(lines);
-                }
-                write_cut(writer, &buffer)?;
-                return Ok(lines + 1);
-            }
+    let mut lines = 0;
+    'pieces: loop {
+        output.hand_over(writer)?;
+        let left = left_of(room, lines);
+        let count = read_piece(reader, piece, most_of(left))?;
+        if count == 0 {
+            return Ok(finish(lines, &buffer, &mut output, writer)?);
         }
-    }
-    match next_byte(reader)? {
-        None => Ok(MOST_LINES),
-        Some(_) => Err(ShellFault::TooManyLines),
+        if left == 0 {
+            return Err(ShellFault::TooManyLines);
+        }
+        lines = answer_piece(
+            &piece[..count],
+            lines,
+            &mut buffer,
+            keeper,
+            &mut output,
+            writer,
+        )?;
+        room -= count as u64;
     }
 }
 
 /// Runs the script that the reader gives: answers each whole line at the writer, and answers how many lines there were, a
 /// last one without its line feed counted. An empty line gets no reply, a line of more than 8,192 bytes only that it is too
-/// long, and a last line without its line feed is never run. The core stands in `alloc`. The writer is not flushed.
+/// long, and a last line without its line feed is never run. The core stands in `alloc`, and the pieces
+/// that are read. The writer is not flushed.
+///
+/// Before it reads on it has handed the answers to all whole lines that it was given to the writer.
 ///
 /// At an error the reader and the writer have got as far as they have:
 /// - NoMemory: there was no memory to begin with, and nothing is read or written. Later want of memory is told in the
@@ -118,5 +122,8 @@ pub fn run<R: Read, W: Write>(
         → (reader.new ≡ reader.old) × (writer.new ≡ writer.old) }
 {
     let mut keeper = Keeper::new(alloc, limits)?;
-    run_lines(&mut keeper, reader, writer)
+    let Ok(mut piece) = vec![in alloc; 0u8; PIECE] else {
+        return Err(ShellFault::NoMemory);
+    };
+    run_pieces(&mut keeper, reader, writer, piece.as_mut_slice())
 }

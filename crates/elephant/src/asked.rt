@@ -1,19 +1,21 @@
-//! What the program's words ask for, and the status that it ends with.
-ghost use Rattle.std.specs.Prelude.{◌≡◌};
-ghost use Rattle.elephant.specs.Status.{status_of};
+//! What the program's words ask for.
+//! A contract sees the limits of a run.
+ghost use Rattle.std.specs.Prelude.{◌≡◌, ◌≤◌, ◌↔◌, IsSome, IfSome};
+ghost use Rattle.ele_world.specs.Bounds.{largest_bounds};
 
 use clap::error::ErrorKind;
 use clap::{Arg, ArgMatches, Command, Error};
 use ele_moment::read_number;
-use ele_shell::ShellFault;
+use ele_world::Limits;
 use std::alloc::{AllocError, Global};
+use std::io;
 
 /// What the words ask for.
 #[derive(Debug, Drop)]
 pub enum Asked {
-    /// A run of the script on standard input, with that limit of events.
-    Run(u64),
-    /// The help, which ends with status 0.
+    /// A run of the script on standard input, under these limits.
+    Run(Limits),
+    /// The help or the version, which end with status 0.
     Help(String),
     /// The words weren't understood, which ends with status 2.
     NotUnderstood(String),
@@ -21,11 +23,19 @@ pub enum Asked {
     NoMemory,
 }
 
-/// The largest limit of events, which the option may lower.
-const MOST_EVENTS: u64 = 1_000_000_000;
-
 const BAD_EVENTS: &str =
     "error: --events takes a number from 1 to 1000000000, without a zero in front\n\nFor more information, try 'elephant run --help'.\n";
+
+const NO_WORDS: &str = "error: the words can't be read as text\n";
+
+const VERSION: &str = "0.1.0, proved with rattle-kit-13b logic dac8208d650f15bf";
+
+const EXAMPLE: &str = "Example: elephant run < script
+
+docs/SCRIPT.md tells the language of scripts.";
+
+const RUN: &str =
+    "Runs the script on standard input. A line is answered as it comes: whatever whole lines have come are answered before more is read";
 
 fn command<'a>(alloc: Global) -> Result<Command<'a>, AllocError> {
     let events = Arg::new(alloc, "events")
@@ -33,14 +43,40 @@ fn command<'a>(alloc: Global) -> Result<Command<'a>, AllocError> {
         .value_name("N")
         .help("How many events may be answered, 1 to 1000000000")
         .default_value("1000000");
-    let run = Command::new(alloc, "run")
-        .about("Runs the script on standard input")
-        .arg(events)?;
+    let run = Command::new(alloc, "run").about(RUN).arg(events)?;
     Command::new(alloc, "elephant")
         .about("A file system's core that keeps earlier versions")
+        .version(VERSION)
+        .after_help(EXAMPLE)
         .subcommand_required(true)
         .arg_required_else_help(true)
         .subcommand(run)
+}
+
+/// The largest limits but for that of events; none where that is above its largest.
+fn limits_of(events: u64) -> Option<Limits>
+    ensures found { IsSome result ↔ (events ≤ 1000000000) }
+    ensures limits { IfSome result (λ limits. limits ≡ record largest_bounds { events = events }) }
+{
+    Limits::new([
+        events, 100_000, 10_000, 200_000, 1_000_000, 1_000_000, 1_000, 100_000, 10_000,
+    ])
+}
+
+/// A refusal of words in these.
+fn not_understood(alloc: Global, text: &str) -> Asked {
+    match String::from_str(alloc, text) {
+        Ok(text) => Asked::NotUnderstood(text),
+        Err(_) => Asked::NoMemory,
+    }
+}
+
+/// What a run asks for with so many events.
+fn run_with(alloc: Global, events: u64) -> Asked {
+    match limits_of(events) {
+        Some(limits) if events > 0 => Asked::Run(limits),
+        _ => not_understood(alloc, BAD_EVENTS),
+    }
 }
 
 /// What words that were understood ask for.
@@ -52,11 +88,8 @@ fn understood(alloc: Global, matches: &ArgMatches) -> Asked {
         return Asked::NoMemory;
     };
     match read_number(events.as_bytes()) {
-        Some(events) if 1 <= events && events <= MOST_EVENTS => Asked::Run(events),
-        _ => match String::from_str(alloc, BAD_EVENTS) {
-            Ok(text) => Asked::NotUnderstood(text),
-            Err(_) => Asked::NoMemory,
-        },
+        Some(events) => run_with(alloc, events),
+        None => not_understood(alloc, BAD_EVENTS),
     }
 }
 
@@ -83,13 +116,11 @@ pub fn words(alloc: Global, words: &[String]) -> Asked {
     }
 }
 
-/// The status that the program ends with after a fault of a run: 3 without memory, else 1.
-pub fn status(fault: ShellFault) -> u8
-    ensures { result ≡ status_of fault }
-{
-    match fault {
-        ShellFault::ReadFault | ShellFault::WriteFault | ShellFault::TooManyLines => 1,
-        ShellFault::NoMemory => 3,
+/// What is asked for where the words can't be had.
+pub fn no_words(alloc: Global, why: io::ErrorKind) -> Asked {
+    match why {
+        io::ErrorKind::OutOfMemory => Asked::NoMemory,
+        _ => not_understood(alloc, NO_WORDS),
     }
 }
 

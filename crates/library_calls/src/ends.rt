@@ -1,13 +1,16 @@
-//! Readers and writers that give and take a byte at a time, and fail.
+//! Readers and writers that give and take a byte at a time, are interrupted often, and fail.
 use std::alloc::Global;
 use std::io;
 use std::io::{Error, ErrorKind, Read, Write};
+
+/// So often in a row an end is interrupted before it gives or takes a byte.
+const INTERRUPTIONS: u8 = 100;
 
 /// A reader that gives a byte at a time, is interrupted before each, and ends in a failure where `fails` says so.
 #[derive(Drop)]
 pub struct SlowReader<'a> {
     rest: &'a [u8],
-    interrupted: bool,
+    interrupted: u8,
     fails: bool,
 }
 
@@ -15,7 +18,7 @@ impl<'a> SlowReader<'a> {
     pub fn new(rest: &'a [u8], fails: bool) -> SlowReader<'a> {
         SlowReader {
             rest,
-            interrupted: false,
+            interrupted: 0,
             fails,
         }
     }
@@ -23,10 +26,11 @@ impl<'a> SlowReader<'a> {
 
 impl Read for SlowReader<'_> {
     fn read(&mut self, buf: &mut [u8]) -> io::Result<usize> {
-        self.interrupted = !self.interrupted;
-        if self.interrupted {
+        if self.interrupted < INTERRUPTIONS {
+            self.interrupted += 1;
             return Err(Error::from(ErrorKind::Interrupted));
         }
+        self.interrupted = 0;
         let Some((byte, rest)) = self.rest.split_first() else {
             return if self.fails {
                 Err(Error::from(ErrorKind::Other))
@@ -55,7 +59,7 @@ pub enum Full {
 pub struct SlowWriter {
     pub taken: Vec<u8>,
     room: usize,
-    interrupted: bool,
+    interrupted: u8,
     full: Full,
 }
 
@@ -64,7 +68,7 @@ impl SlowWriter {
         SlowWriter {
             taken: Vec::new(alloc),
             room,
-            interrupted: false,
+            interrupted: 0,
             full,
         }
     }
@@ -72,10 +76,11 @@ impl SlowWriter {
 
 impl Write for SlowWriter {
     fn write(&mut self, buf: &[u8]) -> io::Result<usize> {
-        self.interrupted = !self.interrupted;
-        if self.interrupted {
+        if self.interrupted < INTERRUPTIONS {
+            self.interrupted += 1;
             return Err(Error::from(ErrorKind::Interrupted));
         }
+        self.interrupted = 0;
         let Some(byte) = buf.first() else {
             return Ok(0);
         };

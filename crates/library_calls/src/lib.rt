@@ -9,6 +9,8 @@ mod ends;
 #[cfg(test)]
 mod lines;
 #[cfg(test)]
+mod pieces;
+#[cfg(test)]
 mod rooms;
 #[cfg(test)]
 mod runs;

@@ -1,10 +1,13 @@
 //! Runs of scripts over readers and writers that fail.
 use crate::ends::{Full, SlowReader, SlowWriter};
+use crate::pieces::{LineReader, SharedWriter};
 use ele_shell::{ShellFault, run};
 use ele_world::Limits;
 use std::alloc::Global;
+use std::cell::RefCell;
 use std::io;
 use std::io::Read;
+use std::rc::Rc;
 use std::test::Fail;
 
 /// Lines of a script, each with its block.
@@ -120,5 +123,59 @@ fn a_script_has_at_most_a_million_lines(rt: HostRuntime) -> Result<(), Fail> {
         assert_eq!(rt; ended, end);
         assert!(rt; output.is_empty());
     }
+    Ok(())
+}
+
+#[test]
+fn each_line_is_answered_before_the_next_is_asked_for(rt: HostRuntime) -> Result<(), Fail> {
+    let written = Rc::new(rt.alloc(), RefCell::new(Vec::new(rt.alloc())))?;
+    let mut writer = SharedWriter(written.clone()?);
+    let mut reader = LineReader {
+        lines: &LINES,
+        written,
+        seen: Vec::new(rt.alloc()),
+    };
+    let end = run(rt.alloc(), &mut reader, &mut writer, Limits::largest());
+    assert_eq!(rt; end, Ok(LINES.len() as u64));
+    let mut answered = Vec::new(rt.alloc());
+    let mut bytes = 0;
+    answered.push(bytes)?;
+    for (_, block) in &LINES {
+        bytes = block.len().saturating_add(bytes);
+        answered.push(bytes)?;
+    }
+    assert_eq!(rt; reader.seen.as_slice(), answered.as_slice());
+    Ok(())
+}
+
+#[test]
+fn a_script_may_be_cut_anywhere(rt: HostRuntime) -> Result<(), Fail> {
+    let script = script(rt.alloc())?;
+    let (lines, blocks, _) = within(rt.alloc(), script.len())?;
+    for cut in 0..=script.len() {
+        let mut reader = (&script[..cut]).chain(&script[cut..]);
+        let mut output = Vec::<u8>::new(rt.alloc());
+        let end = run(rt.alloc(), &mut reader, &mut output, Limits::largest());
+        assert_eq!(rt; end, Ok(lines), "cut behind {cut} bytes");
+        assert_eq!(rt;
+            output.as_slice(),
+            blocks.as_slice(),
+            "cut behind {cut} bytes"
+        );
+    }
+    Ok(())
+}
+
+#[test]
+fn a_line_longer_than_a_piece_is_told_once(rt: HostRuntime) -> Result<(), Fail> {
+    let long = io::repeat(b'a').take(200_000);
+    let mut reader = long.chain(b"\ncreate /f\n".as_slice());
+    let mut output = Vec::<u8>::new(rt.alloc());
+    let end = run(rt.alloc(), &mut reader, &mut output, Limits::largest());
+    assert_eq!(rt; end, Ok(2));
+    assert_eq!(rt;
+        output.as_slice(),
+        b"bad 33 LineTooLong\nok file 1\n".as_slice()
+    );
     Ok(())
 }

@@ -1,4 +1,4 @@
-//! The program's words and statuses.
+//! The program's words.
 use super::*;
 use std::test::Fail;
 
@@ -13,7 +13,7 @@ fn asked_by(alloc: Global, texts: &[&str]) -> Result<Asked, Fail> {
 /// The limit of events of a run that the words ask for.
 fn events_of(alloc: Global, texts: &[&str]) -> Result<Option<u64>, Fail> {
     match asked_by(alloc, texts)? {
-        Asked::Run(events) => Ok(Some(events)),
+        Asked::Run(limits) => Ok(Some(limits.events())),
         _ => Ok(None),
     }
 }
@@ -80,9 +80,21 @@ fn help_is_given_to_those_who_ask(rt: HostRuntime) -> Result<(), Fail> {
 }
 
 #[test]
-fn a_fault_ends_with_its_status(rt: HostRuntime) {
-    assert_eq!(rt; status(ShellFault::ReadFault), 1);
-    assert_eq!(rt; status(ShellFault::WriteFault), 1);
-    assert_eq!(rt; status(ShellFault::TooManyLines), 1);
-    assert_eq!(rt; status(ShellFault::NoMemory), 3);
+fn words_that_cannot_be_had_are_told_as_such(rt: HostRuntime) {
+    let memory = no_words(rt.alloc(), io::ErrorKind::OutOfMemory);
+    assert!(rt; matches!(memory, Asked::NoMemory));
+    let text = no_words(rt.alloc(), io::ErrorKind::InvalidData);
+    assert!(rt; matches!(text, Asked::NotUnderstood(_)));
+}
+
+#[test]
+fn the_version_has_the_kits_line(rt: HostRuntime) -> Result<(), Fail> {
+    match asked_by(rt.alloc(), &["elephant", "--version"])? {
+        Asked::Help(text) => assert!(rt;
+            text.as_str()
+                .contains("rattle-kit-13b logic dac8208d650f15bf")
+        ),
+        _ => assert!(rt; false),
+    }
+    Ok(())
 }

@@ -1,0 +1,37 @@
+use Rattle.std.proofs.Common.{refl}
+use Rattle.ele_script.proofs.Known.{puts}
+use Rattle.ele_script.proofs.putting.put_answer.Goals as goal
+
+pub returns-in-Done : goal.returns-in-Done
+returns-in-Done g c = rw c.in-Done.is (_, refl, c.put_line.ensures)
+
+pub returns-in-Nothing : goal.returns-in-Nothing
+returns-in-Nothing g c =
+    rw c.in-Nothing.is (_, refl, c.put_line-in-Nothing.ensures)
+
+pub returns-in-Now : goal.returns-in-Now
+returns-in-Now g c = rw c.in-Now.is (_, (_, c.text.ensures.spells, refl), rw c.seconds.ensures.value at c.put_now.ensures)
+
+pub returns-in-File : goal.returns-in-File
+returns-in-File g c = rw c.in-File.is (_, refl, rw c.file.view_is at c.put_number.ensures)
+
+pub returns-in-Handle : goal.returns-in-Handle
+returns-in-Handle g c = rw c.in-Handle.is (_, refl, rw c.handle.view_is at c.put_number-in-Handle.ensures)
+
+pub returns-in-Closed : goal.returns-in-Closed
+returns-in-Closed g c = rw c.in-Closed.is (_, refl, c.put_closed.ensures)
+
+pub returns-in-Removed : goal.returns-in-Removed
+returns-in-Removed g c = rw c.in-Removed.is (_, refl, c.put_key.ensures)
+
+pub returns-in-DueList : goal.returns-in-DueList
+returns-in-DueList g c = rw c.in-DueList.is (_, refl, rw c.as_slice-in-DueList.ensures at c.put_keys.ensures)
+
+pub returns-in-Refused : goal.returns-in-Refused
+returns-in-Refused g c = rw c.in-Refused.is (_, refl, c.put_refusal.ensures)
+
+pub returns-in-Bytes : goal.returns-in-Bytes
+returns-in-Bytes g c = rw c.in-Bytes.is (_, refl, rw c.as_slice.ensures at c.put_bytes.ensures)
+
+pub returns-in-UsageList : goal.returns-in-UsageList
+returns-in-UsageList g c = rw c.in-UsageList.is (_, refl, c.put_usages.ensures)

@@ -1,9 +1,0 @@
-use Rattle.std.proofs.Common.{sym, ◌∙◌}
-use Rattle.ele_script.proofs.Known.{puts}
-use Rattle.ele_script.proofs.Lines.{no_bytes}
-use Rattle.ele_script.proofs.writing.write_bytes.Goals as goal
-
-pub returns-then-is_empty : goal.returns-then-is_empty
-returns-then-is_empty g c =
-    let text = no_bytes c.args.bytes.now (sym c.is_empty.ensures ∙ c.if-is_empty.true) in
-    rw text (puts _ _ _ _ c.put_line.ensures.ok c.put_line.ensures.err)

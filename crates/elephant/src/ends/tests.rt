@@ -1,0 +1,98 @@
+//! What the program writes, and how it ends.
+use super::*;
+use std::io;
+use std::io::{Error, ErrorKind};
+use std::test::Fail;
+
+/// A reader that fails behind its bytes.
+#[derive(Drop)]
+struct Broken<'a>(&'a [u8]);
+
+impl Read for Broken<'_> {
+    fn read(&mut self, buf: &mut [u8]) -> io::Result<usize> {
+        if self.0.is_empty() {
+            return Err(Error::from(ErrorKind::Other));
+        }
+        self.0.read(buf)
+    }
+}
+
+/// A writer that keeps what it took until it is flushed, which may fail.
+#[derive(Drop)]
+struct Late {
+    taken: Vec<u8>,
+    flushed: usize,
+    fails: bool,
+}
+
+impl Write for Late {
+    fn write(&mut self, buf: &[u8]) -> io::Result<usize> {
+        self.taken.extend_from_slice(buf)?;
+        Ok(buf.len())
+    }
+
+    fn flush(&mut self) -> io::Result<()> {
+        if self.fails {
+            return Err(Error::from(ErrorKind::Other));
+        }
+        self.flushed = self.taken.len();
+        Ok(())
+    }
+}
+
+fn make_late(alloc: Global, fails: bool) -> Late {
+    Late {
+        taken: Vec::new(alloc),
+        flushed: 0,
+        fails,
+    }
+}
+
+#[test]
+fn a_run_that_ends_early_is_flushed_and_told(rt: HostRuntime) -> Result<(), Fail> {
+    let mut writer = make_late(rt.alloc(), false);
+    let mut errors = Vec::<u8>::new(rt.alloc());
+    let asked = Asked::Run(Limits::largest());
+    let mut reader = Broken(b"create /f\n");
+    let status = answer(rt.alloc(), &asked, &mut reader, &mut writer, &mut errors);
+    assert_eq!(rt; status, 1);
+    assert_eq!(rt; errors.as_slice(), b"elephant: 34 ReadFault\n".as_slice());
+    assert_eq!(rt; writer.flushed, 10);
+    Ok(())
+}
+
+#[test]
+fn a_flush_that_fails_is_told(rt: HostRuntime) -> Result<(), Fail> {
+    let mut writer = make_late(rt.alloc(), true);
+    let mut errors = Vec::<u8>::new(rt.alloc());
+    let asked = Asked::Run(Limits::largest());
+    let mut reader = b"create /f\n".as_slice();
+    let status = answer(rt.alloc(), &asked, &mut reader, &mut writer, &mut errors);
+    assert_eq!(rt; status, 1);
+    assert_eq!(rt; errors.as_slice(), b"elephant: 35 WriteFault\n".as_slice());
+    Ok(())
+}
+
+#[test]
+fn want_of_memory_and_words_are_told_at_the_other_end(rt: HostRuntime) -> Result<(), Fail> {
+    let mut writer = Vec::<u8>::new(rt.alloc());
+    let mut errors = Vec::<u8>::new(rt.alloc());
+    let mut reader = b"".as_slice();
+    let wrong = Asked::NotUnderstood(String::from_str(rt.alloc(), "what?")?);
+    let status = answer(rt.alloc(), &wrong, &mut reader, &mut writer, &mut errors);
+    assert_eq!(rt; status, 2);
+    let none = answer(
+        rt.alloc(),
+        &Asked::NoMemory,
+        &mut reader,
+        &mut writer,
+        &mut errors,
+    );
+    assert_eq!(rt; none, 3);
+    assert_eq!(rt;
+        errors.as_slice(),
+        b"what?elephant: 1 NoMemory\n".as_slice()
+    );
+    assert!(rt; writer.is_empty());
+    Ok(())
+}

@@ -1,0 +1,51 @@
+//! A reader that gives a line at a time, and looks at what was written by then.
+use std::cell::RefCell;
+use std::io;
+use std::io::{Error, ErrorKind, Read, Write};
+use std::rc::Rc;
+
+/// A writer whose bytes others can look at.
+#[derive(Drop)]
+pub struct SharedWriter(pub Rc<RefCell<Vec<u8>>>);
+
+impl Write for SharedWriter {
+    fn write(&mut self, buf: &[u8]) -> io::Result<usize> {
+        let Ok(mut bytes) = self.0.try_borrow_mut() else {
+            return Err(Error::from(ErrorKind::Other));
+        };
+        bytes.extend_from_slice(buf)?;
+        Ok(buf.len())
+    }
+
+    fn flush(&mut self) -> io::Result<()> {
+        Ok(())
+    }
+}
+
+/// A reader that gives a line at a time, and notes how many bytes were written as each was asked for.
+#[derive(Drop)]
+pub struct LineReader<'a> {
+    pub lines: &'a [(&'static str, &'static str)],
+    pub written: Rc<RefCell<Vec<u8>>>,
+    pub seen: Vec<usize>,
+}
+
+impl Read for LineReader<'_> {
+    fn read(&mut self, buf: &mut [u8]) -> io::Result<usize> {
+        let Ok(bytes) = self.written.try_borrow() else {
+            return Err(Error::from(ErrorKind::Other));
+        };
+        self.seen.push(bytes.len())?;
+        let Some(((line, _), rest)) = self.lines.split_first() else {
+            return Ok(0);
+        };
+        self.lines = rest;
+        let size = line.len().saturating_add(1);
+        let Some(room) = buf.get_mut(..size) else {
+            return Err(Error::from(ErrorKind::Other));
+        };
+        let mut both = line.as_bytes().chain(b"\n".as_slice());
+        both.read_exact(room)?;
+        Ok(size)
+    }
+}
