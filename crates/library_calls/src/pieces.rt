@@ -27,6 +27,7 @@ impl Write for SharedWriter {
 pub struct LineReader<'a> {
     pub lines: &'a [(&'static str, &'static str)],
     pub written: Rc<RefCell<Vec<u8>>>,
+    pub next: usize,
     pub seen: Vec<usize>,
 }
 
@@ -36,10 +37,10 @@ impl Read for LineReader<'_> {
             return Err(Error::from(ErrorKind::Other));
         };
         self.seen.push(bytes.len())?;
-        let Some(((line, _), rest)) = self.lines.split_first() else {
+        let Some((line, _)) = self.lines.get(self.next) else {
             return Ok(0);
         };
-        self.lines = rest;
+        self.next = self.next.saturating_add(1);
         let size = line.len().saturating_add(1);
         let Some(room) = buf.get_mut(..size) else {
             return Err(Error::from(ErrorKind::Other));

@@ -133,6 +133,7 @@ fn each_line_is_answered_before_the_next_is_asked_for(rt: HostRuntime) -> Result
     let mut reader = LineReader {
         lines: &LINES,
         written,
+        next: 0,
         seen: Vec::new(rt.alloc()),
     };
     let end = run(rt.alloc(), &mut reader, &mut writer, Limits::largest());
