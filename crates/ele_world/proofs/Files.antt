@@ -4,12 +4,11 @@ use Rattle.std.specs.Prelude.{find}
 use Rattle.std.specs.List.{AllByRecursion}
 use Rattle.std.specs.Option.{option_map_or}
 use Rattle.std.proofs.lemmas.Bool.Decides.{nat_tests}
-use Rattle.ele_world.specs.declared.limits.Counts.{Counts}
 use Rattle.ele_world.specs.declared.rows.FileRow.{FileRow}
 use Rattle.ele_world.specs.declared.rows.Target.{Target}
 use Rattle.ele_world.specs.declared.rows.Target.TheVariants.{File, Directory}
 use Rattle.ele_moment.specs.Lists.{update_first}
-use Rattle.ele_world.specs.Step.{numbered_on}
+use Rattle.ele_world.specs.Change.{numbered_on}
 use Rattle.ele_world.specs.WellFormed.{IsFile, IsThere}
 use Rattle.ele_world.specs.World.{is_file, next_of}
 
@@ -30,20 +29,20 @@ next_of-push_other (x ∷ xs) row file h = elim (is_file file x) as (λ b. is_fi
 ] refl
 
 -- a file that is there has a number that was given
-pub next_of-given : (made : Counts) (files : List FileRow) (file : ℕ) → AllByRecursion (IsFile made) files → 0 < next_of files file → file ≤ made.files
-next_of-given made [] file all h = absurd (omega arith)
-next_of-given made (x ∷ xs) file all h = elim (is_file file x) as (λ b. is_file file x ≡ b → file ≤ made.files) [
-  | true ↦ λ e. let given = all.0.given in grind (arith, nat_tests)
-  | false ↦ λ e. next_of-given made xs file all.1 (rw e at h)
+pub next_of-given : (given versions : ℕ) (files : List FileRow) (file : ℕ) → AllByRecursion (IsFile given versions) files → 0 < next_of files file → file ≤ given
+next_of-given given versions [] file all h = absurd (omega arith)
+next_of-given given versions (x ∷ xs) file all h = elim (is_file file x) as (λ b. is_file file x ≡ b → file ≤ given) [
+  | true ↦ λ e. let of = all.0.given in grind (arith, nat_tests)
+  | false ↦ λ e. next_of-given given versions xs file all.1 (rw e at h)
 ] refl
 
 -- a number not given yet is no file's
-pub next_of-new : (made : Counts) (files : List FileRow) (row : FileRow) → AllByRecursion (IsFile made) files → made.files < row.id → next_of (files ++ row ∷ []) row.id ≡ row.next
-next_of-new made [] row all h = let e : is_file row.id row ≡ true = grind (arith, nat_tests) in rw e refl
-next_of-new made (x ∷ xs) row all h =
-    let given = all.0.given in
+pub next_of-new : (given versions : ℕ) (files : List FileRow) (row : FileRow) → AllByRecursion (IsFile given versions) files → given < row.id → next_of (files ++ row ∷ []) row.id ≡ row.next
+next_of-new given versions [] row all h = let e : is_file row.id row ≡ true = grind (arith, nat_tests) in rw e refl
+next_of-new given versions (x ∷ xs) row all h =
+    let of = all.0.given in
     let e : is_file row.id x ≡ false = grind (arith, nat_tests) in
-    rw e (next_of-new made xs row all.1 h)
+    rw e (next_of-new given versions xs row all.1 h)
 
 -- the file's number rises
 pub next_of-numbered_on : (files : List FileRow) (file : ℕ) → 0 < next_of files file → next_of (update_first (is_file file) numbered_on files) file ≡ next_of files file + 1

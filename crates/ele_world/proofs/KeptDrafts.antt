@@ -1,79 +1,114 @@
 -- Changes of drafts and handles keep a world well formed.
-use Rattle.std.proofs.Common.{◌≡◌, ℕ, ◌+◌, ◌-◌, ◌<◌, ◌≤◌, Bool, true, false, cond, eqb, List, [], length, Option, Some, None, refl, arith}
+use Rattle.std.proofs.Common.{◌≡◌, ◌≢◌, ℕ, ◌+◌, ◌-◌, ◌<◌, ◌≤◌, Bool, true, false, cond, ◌||◌, eqb, List, [], ◌∷◌, ◌++◌, length, Option, Some, None, refl, ap, sym, subst, ◌∙◌, arith}
 use Rattle.std.specs.Prelude.{find}
 use Rattle.std.specs.List.{AllByRecursion, list_any}
 use Rattle.std.specs.Option.{option_map_or}
 use Rattle.std.proofs.lemmas.Bool.Decides.{nat_tests}
+use Rattle.ele_content.specs.declared.cell.Cell.{Cell}
+use Rattle.ele_content.specs.Content.{content_of, longest_content, truncated}
+use Rattle.ele_content.proofs.Contents.{written_short, written_fills, truncated_short, truncated_fills}
+use Rattle.ele_moment.specs.Lists.{update_first, remove_first, insert_before}
+use Rattle.ele_moment.proofs.Edits.{all-push, all-weaker, all-both, later-push, all-remove_first, all-insert_before, later-update_first, later-remove_first, later-insert_before, length-update_first, length-insert_before, length-remove_first-le, all-found, all-none, found_passes, list_any-update_first, list_any-insert_before, list_any-remove_first}
+use Rattle.ele_world.specs.Change.{current_cells, new_draft, changed_by, fitted_by, applied, StartDraft, WriteDraft, TruncateDraft, EndDraft, OpenHandle, ShutHandle}
+use Rattle.ele_world.proofs.May.{HasRoom, MayStart, MayOpen}
+use Rattle.ele_world.specs.WellFormed.{AllLater, IsContent, AreWrittenBy, IsVersion, IsDraft, AreDrafts, IsHandle, AreHandles, Part, Counted, Versions, Drafts, Handles, Holds, IsWellFormed}
+use Rattle.ele_world.specs.World.{World, next_of, is_version, is_draft, is_draft_after, is_handle, is_writer, has_draft}
 use Rattle.ele_world.specs.declared.rows.DraftRow.{DraftRow}
 use Rattle.ele_world.specs.declared.rows.FileRow.{FileRow}
 use Rattle.ele_world.specs.declared.rows.HandleRow.{HandleRow}
 use Rattle.ele_world.specs.declared.rows.VersionRow.{VersionRow}
-use Rattle.ele_content.specs.Content.{content_of, longest_content, truncated}
-use Rattle.ele_moment.specs.Lists.{update_first, remove_first, insert_before}
-use Rattle.ele_world.specs.Step.{new_draft, with_draft, opened, changed_by, fitted_by, current_cells}
-use Rattle.ele_world.specs.WellFormed.{AllLater, IsContent, IsVersion, IsDraft, IsWellFormed}
-use Rattle.ele_world.specs.World.{World, next_of, is_version, is_draft, is_draft_after, is_handle}
-use Rattle.ele_content.proofs.Contents.{written_short, written_fills, truncated_short, truncated_fills}
-use Rattle.ele_moment.proofs.Edits.{all-push, all-weaker, later-push, all-update_first, all-remove_first, all-insert_before, later-update_first, later-remove_first, later-insert_before, length-update_first, length-insert_before, length-remove_first-le, all-found, all-none}
+use Rattle.ele_world.proofs.Writers.{changed_written, fitted_written, written_more}
 
--- a world whose drafts alone change
-pub drafts_keep : (w : World) (drafts : List DraftRow) → w.made.versions + length drafts ≤ w.limits.versions → AllByRecursion (IsDraft w.files w.now) drafts → AllLater (λ earlier later. earlier.file < later.file) drafts → IsWellFormed w → IsWellFormed (record w { drafts = drafts })
-drafts_keep w drafts room all placed k = record {
-  now = k.now;
-  counts = record { files = k.counts.files; names = k.counts.names; versions = room; handles = k.counts.handles; file_rows = k.counts.file_rows; name_rows = k.counts.name_rows; version_rows = k.counts.version_rows };
-  files = k.files;
-  files_placed = k.files_placed;
-  names = k.names;
-  lives = k.lives;
-  versions = k.versions;
-  versions_placed = k.versions_placed;
-  drafts = all;
-  drafts_placed = placed;
-  handles = k.handles;
-  handles_placed = k.handles_placed;
-  current = k.current;
-}
+-- ---- a draft is begun
 
--- a handle goes
-pub handle_keeps : (w : World) (number : ℕ) → IsWellFormed w → IsWellFormed (record w { handles = remove_first (is_handle number) w.handles })
-handle_keeps w number k = record {
-  now = k.now;
-  counts = record { files = k.counts.files; names = k.counts.names; versions = k.counts.versions; handles = k.counts.handles; file_rows = k.counts.file_rows; name_rows = k.counts.name_rows; version_rows = k.counts.version_rows };
-  files = k.files;
-  files_placed = k.files_placed;
-  names = k.names;
-  lives = k.lives;
-  versions = k.versions;
-  versions_placed = k.versions_placed;
-  drafts = k.drafts;
-  drafts_placed = k.drafts_placed;
-  handles = all-remove_first (is_handle number) (λ row. row.number ≤ w.made.handles) w.handles k.handles;
-  handles_placed = later-remove_first (is_handle number) (λ earlier later. earlier.number < later.number) w.handles k.handles_placed;
-  current = k.current;
-}
+current_is : (w : World) (file : ℕ) → IsWellFormed w → IsContent (current_cells w file) × AreWrittenBy (next_of w.files file) (current_cells w file)
+current_is w file k = by (find (is_version file (next_of w.files file - 1)) w.versions) refl where
+  by : (o : Option VersionRow) → find (is_version file (next_of w.files file - 1)) w.versions ≡ o → IsContent (option_map_or (λ (row : VersionRow). row.cells) o []) × AreWrittenBy (next_of w.files file) (option_map_or (λ (row : VersionRow). row.cells) o [])
+  by None e = (record { short = omega arith; slots = refl }, tt)
+  by (Some row) e =
+      let is : IsVersion w.files w.now row = all-found (is_version file (next_of w.files file - 1)) (IsVersion w.files w.now) w.versions row e (k.holds Versions).each in
+      let passes = found_passes (is_version file (next_of w.files file - 1)) w.versions row e in
+      (is.content, written_more row.number (next_of w.files file) row.cells (let number : row.number ≡ next_of w.files file - 1 = grind (arith, nat_tests) in omega (arith, number)) is.written)
 
--- a draft goes
-pub draft_keeps : (w : World) (file : ℕ) → IsWellFormed w → IsWellFormed (record w { drafts = remove_first (is_draft file) w.drafts })
-draft_keeps w file k =
-    drafts_keep w (remove_first (is_draft file) w.drafts)
-    (omega (arith, k.counts.versions, length-remove_first-le (is_draft file) w.drafts))
-    (all-remove_first (is_draft file) (IsDraft w.files w.now) w.drafts k.drafts)
-    (later-remove_first (is_draft file) (λ earlier later. earlier.file < later.file) w.drafts k.drafts_placed) k
+or_true : (b : Bool) → (b || true) ≡ true
+or_true true = refl
+or_true false = refl
 
--- a draft is written
-pub write_keeps : (w : World) (file number offset : ℕ) (bytes : List ℕ) → offset + length bytes ≤ longest_content → IsWellFormed w → IsWellFormed (record w { drafts = update_first (is_draft file) (changed_by number offset bytes) w.drafts })
-write_keeps w file number offset bytes fits k =
-    drafts_keep w (update_first (is_draft file) (changed_by number offset bytes) w.drafts)
-    (omega (arith, k.counts.versions, length-update_first (is_draft file) (changed_by number offset bytes) w.drafts))
-    (all-update_first (is_draft file) (IsDraft w.files w.now) (IsDraft w.files w.now) (changed_by number offset bytes) w.drafts
-    (λ row h. record { there = h.there; opened = h.opened; content = record { short = written_short number offset bytes row.cells h.content.short fits; slots = written_fills number offset bytes row.cells } }) (λ row h. h) k.drafts)
-    (later-update_first (is_draft file) (λ earlier later. earlier.file < later.file) (changed_by number offset bytes) w.drafts (λ x y h. h) (λ x y h. h) k.drafts_placed) k
+pub start_keeps : (w : World) (file : ℕ) → MayStart w file → IsWellFormed w → IsWellFormed (applied w (StartDraft file))
+start_keeps w file may k = record { holds = by } where
+  current : IsContent (current_cells w file) × AreWrittenBy (next_of w.files file) (current_cells w file)
+  current = current_is w file k
 
-fitted_is : (files : List FileRow) (now number size : ℕ) (row : DraftRow) → size ≤ longest_content → IsDraft files now row → IsDraft files now (fitted_by number size row)
-fitted_is files now number size row fits h = elim (eqb (length (content_of row.cells)) size) as (λ b. IsDraft files now (cond b row (record row { cells = truncated number size row.cells; changed = true }))) [
-  | true ↦ h
-  | false ↦ record { there = h.there; opened = h.opened; content = record { short = truncated_short number size row.cells fits; slots = truncated_fills number size row.cells } }
-]
+  by : (part : Part) → Holds (applied w (StartDraft file)) part
+  by Counted = let c = k.holds Counted in record {
+    files_made = c.files_made;
+    names_made = c.names_made;
+    versions_made = omega (arith, may.room, length-insert_before (is_draft_after file) (new_draft w file) w.drafts);
+    handles_made = c.handles_made;
+    file_rows = c.file_rows;
+    name_rows = c.name_rows;
+    version_rows = c.version_rows;
+  }
+  by Drafts = record {
+    each = all-insert_before (is_draft_after file) (IsDraft w.files w.now) (new_draft w file) w.drafts (record { there = may.there; opened = omega arith; content = current.0; written = current.1 }) (k.holds Drafts).each;
+    placed = later-insert_before (is_draft_after file) (λ earlier later. earlier.file < later.file) (λ row. is_draft file row ≡ false) (new_draft w file) w.drafts
+        (λ row other not_after. grind (arith, nat_tests))
+        (λ row other after. grind (arith, nat_tests))
+        (λ row later after lt. grind (arith, nat_tests))
+        (all-none (is_draft file) w.drafts may.none) (k.holds Drafts).placed;
+  }
+  by Handles = record {
+    each = all-weaker (IsHandle w.made.handles w.drafts) (IsHandle w.made.handles (insert_before (is_draft_after file) (new_draft w file) w.drafts)) w.handles
+        (λ row h. record { numbered = h.numbered; given = h.given; drafted = list_any-insert_before (is_draft_after file) (is_draft row.file) (new_draft w file) w.drafts ∙ ap (λ b. is_draft row.file (new_draft w file) || b) h.drafted ∙ or_true (is_draft row.file (new_draft w file)) }) (k.holds Handles).each;
+    placed = (k.holds Handles).placed;
+  }
+  by part = k.holds part
+-- ---- a draft is changed
+
+-- what all elements have, after a change of one that passes
+all-changed : {X : Type 0} (p : X → Bool) (P : X → Type 0) (f : X → X) (xs : List X) → ((x : X) → p x ≡ true → P x → P (f x)) → AllByRecursion P xs → AllByRecursion P (update_first p f xs)
+all-changed p P f [] changes all = tt
+all-changed p P f (x ∷ xs) changes all = elim (p x) as (λ b. p x ≡ b → AllByRecursion P (cond b (f x ∷ xs) (x ∷ update_first p f xs))) [
+  | true ↦ λ e. (changes x e all.0, all.1)
+  | false ↦ λ e. (all.0, all-changed p P f xs changes all.1)
+] refl
+
+-- the file's draft is changed to one of the file
+edit_keeps : (w : World) (file : ℕ) (f : DraftRow → DraftRow) → ((row : DraftRow) → (f row).file ≡ row.file) → ((row : DraftRow) → row.file ≡ file → IsDraft w.files w.now row → IsDraft w.files w.now (f row)) → IsWellFormed w → IsWellFormed (record w { drafts = update_first (is_draft file) f w.drafts })
+edit_keeps w file f same edits k = record { holds = by } where
+  by : (part : Part) → Holds (record w { drafts = update_first (is_draft file) f w.drafts }) part
+  by Counted = let c = k.holds Counted in record {
+    files_made = c.files_made;
+    names_made = c.names_made;
+    versions_made = omega (arith, c.versions_made, length-update_first (is_draft file) f w.drafts);
+    handles_made = c.handles_made;
+    file_rows = c.file_rows;
+    name_rows = c.name_rows;
+    version_rows = c.version_rows;
+  }
+  by Drafts = record {
+    each = all-changed (is_draft file) (IsDraft w.files w.now) f w.drafts (λ row e h. edits row (grind (arith, nat_tests)) h) (k.holds Drafts).each;
+    placed = later-update_first (is_draft file) (λ earlier later. earlier.file < later.file) f w.drafts (λ x y h. rw (same x) h) (λ x y h. rw (same y) h) (k.holds Drafts).placed;
+  }
+  by Handles = record {
+    each = all-weaker (IsHandle w.made.handles w.drafts) (IsHandle w.made.handles (update_first (is_draft file) f w.drafts)) w.handles
+        (λ row h. record { numbered = h.numbered; given = h.given; drafted = list_any-update_first (is_draft file) (is_draft row.file) f w.drafts (λ x e. ap (λ (id : ℕ). eqb id row.file) (same x)) ∙ h.drafted }) (k.holds Handles).each;
+    placed = (k.holds Handles).placed;
+  }
+  by part = k.holds part
+
+pub write_keeps : (w : World) (file offset : ℕ) (bytes : List ℕ) → offset + length bytes ≤ longest_content → IsWellFormed w → IsWellFormed (applied w (WriteDraft file offset bytes))
+write_keeps w file offset bytes fits k = edit_keeps w file (changed_by number offset bytes) (λ row. refl) edited k where
+  number : ℕ
+  number = next_of w.files file
+
+  edited : (row : DraftRow) → row.file ≡ file → IsDraft w.files w.now row → IsDraft w.files w.now (changed_by number offset bytes row)
+  edited row same h = record {
+    there = h.there;
+    opened = h.opened;
+    content = record { short = written_short number offset bytes row.cells h.content.short fits; slots = written_fills number offset bytes row.cells };
+    written = subst (λ f. AreWrittenBy (next_of w.files f) ((changed_by number offset bytes row).cells)) (sym same) (changed_written number offset bytes row (subst (λ f. AreWrittenBy (next_of w.files f) row.cells) same h.written));
+  }
 
 same_file : (number size : ℕ) (row : DraftRow) → (fitted_by number size row).file ≡ row.file
 same_file number size row = elim (eqb (length (content_of row.cells)) size) as (λ b. (cond b row (record row { cells = truncated number size row.cells; changed = true })).file ≡ row.file) [
@@ -81,53 +116,91 @@ same_file number size row = elim (eqb (length (content_of row.cells)) size) as (
   | false ↦ refl
 ]
 
--- a draft gets another length
-pub fit_keeps : (w : World) (file number size : ℕ) → size ≤ longest_content → IsWellFormed w → IsWellFormed (record w { drafts = update_first (is_draft file) (fitted_by number size) w.drafts })
-fit_keeps w file number size fits k =
-    drafts_keep w (update_first (is_draft file) (fitted_by number size) w.drafts)
-    (omega (arith, k.counts.versions, length-update_first (is_draft file) (fitted_by number size) w.drafts))
-    (all-update_first (is_draft file) (IsDraft w.files w.now) (IsDraft w.files w.now) (fitted_by number size) w.drafts
-    (λ row h. fitted_is w.files w.now number size row fits h) (λ row h. h) k.drafts)
-    (later-update_first (is_draft file) (λ earlier later. earlier.file < later.file) (fitted_by number size) w.drafts (λ x y h. rw (same_file number size x) h) (λ x y h. rw (same_file number size y) h) k.drafts_placed) k
+pub truncate_keeps : (w : World) (file size : ℕ) → size ≤ longest_content → IsWellFormed w → IsWellFormed (applied w (TruncateDraft file size))
+truncate_keeps w file size fits k = edit_keeps w file (fitted_by number size) (same_file number size) edited k where
+  number : ℕ
+  number = next_of w.files file
 
-current_content : (w : World) (file : ℕ) → IsWellFormed w → IsContent (current_cells w file)
-current_content w file k = by (find (is_version file (next_of w.files file - 1)) w.versions) refl where
-  by : (o : Option VersionRow) → find (is_version file (next_of w.files file - 1)) w.versions ≡ o → IsContent (option_map_or (λ (row : VersionRow). row.cells) o [])
-  by None e = record { short = omega arith; slots = refl }
-  by (Some row) e = let is : IsVersion w.files w.now row = all-found (is_version file (next_of w.files file - 1)) (IsVersion w.files w.now) w.versions row e k.versions in is.content
+  content : (row : DraftRow) → IsDraft w.files w.now row → IsContent ((fitted_by number size row).cells)
+  content row h = elim (eqb (length (content_of row.cells)) size) as (λ b. IsContent ((cond b row (record row { cells = truncated number size row.cells; changed = true })).cells)) [
+    | true ↦ h.content
+    | false ↦ record { short = truncated_short number size row.cells fits; slots = truncated_fills number size row.cells }
+  ]
 
--- a draft is begun, unless there is one
-with_draft_keeps : (w : World) (file : ℕ) → 0 < next_of w.files file → (list_any (is_draft file) w.drafts ≡ false → w.made.versions + length w.drafts < w.limits.versions) → IsWellFormed w → IsWellFormed (record w { drafts = with_draft w file })
-with_draft_keeps w file there room k = by (list_any (is_draft file) w.drafts) refl where
-  by : (b : Bool) → list_any (is_draft file) w.drafts ≡ b → IsWellFormed (record w { drafts = cond b w.drafts (insert_before (is_draft_after file) (new_draft w file) w.drafts) })
-  by true e = drafts_keep w w.drafts k.counts.versions k.drafts k.drafts_placed k
-  by false e = drafts_keep w (insert_before (is_draft_after file) (new_draft w file) w.drafts)
-      (omega (arith, room e, length-insert_before (is_draft_after file) (new_draft w file) w.drafts))
-      (all-insert_before (is_draft_after file) (IsDraft w.files w.now) (new_draft w file) w.drafts (record { there = there; opened = omega arith; content = current_content w file k }) k.drafts)
-      (later-insert_before (is_draft_after file) (λ earlier later. earlier.file < later.file) (λ row. is_draft file row ≡ false) (new_draft w file) w.drafts
-      (λ row other not_after. grind (arith, nat_tests))
-      (λ row other after. grind (arith, nat_tests))
-      (λ row later after lt. grind (arith, nat_tests))
-      (all-none (is_draft file) w.drafts e) k.drafts_placed) k
+  opened : (row : DraftRow) → (fitted_by number size row).opened ≡ row.opened
+  opened row = elim (eqb (length (content_of row.cells)) size) as (λ b. (cond b row (record row { cells = truncated number size row.cells; changed = true })).opened ≡ row.opened) [
+    | true ↦ refl
+    | false ↦ refl
+  ]
 
--- a handle is opened
-pub opened_keeps : (w : World) (file : ℕ) → 0 < next_of w.files file → w.made.handles < w.limits.handles → (list_any (is_draft file) w.drafts ≡ false → w.made.versions + length w.drafts < w.limits.versions) → IsWellFormed w → IsWellFormed (opened w file (w.made.handles + 1))
-opened_keeps w file there handles_room room k =
-    let number = w.made.handles + 1 in
-    let handle : HandleRow = record { number = number; file = file } in
-    let d = with_draft_keeps w file there room k in
-    record {
-      now = d.now;
-      counts = record { files = k.counts.files; names = k.counts.names; versions = d.counts.versions; handles = omega arith; file_rows = k.counts.file_rows; name_rows = k.counts.name_rows; version_rows = k.counts.version_rows };
-      files = all-weaker _ _ w.files (λ row h. record { given = h.given; first = h.first; next = h.next }) k.files;
-      files_placed = k.files_placed;
-      names = k.names;
-      lives = k.lives;
-      versions = k.versions;
-      versions_placed = k.versions_placed;
-      drafts = d.drafts;
-      drafts_placed = d.drafts_placed;
-      handles = all-push (λ row. row.number ≤ number) w.handles handle (all-weaker (λ row. row.number ≤ w.made.handles) (λ row. row.number ≤ number) w.handles (λ row h. omega (arith, h)) k.handles) (omega arith);
-      handles_placed = later-push (λ earlier later. earlier.number < later.number) w.handles handle k.handles_placed (all-weaker (λ row. row.number ≤ w.made.handles) (λ row. row.number < number) w.handles (λ row h. omega (arith, h)) k.handles);
-      current = k.current;
-    }
+  edited : (row : DraftRow) → row.file ≡ file → IsDraft w.files w.now row → IsDraft w.files w.now (fitted_by number size row)
+  edited row same h = record {
+    there = subst (λ f. 0 < next_of w.files f) (sym (same_file number size row)) h.there;
+    opened = rw (opened row) h.opened;
+    content = content row h;
+    written = subst (λ f. AreWrittenBy (next_of w.files f) ((fitted_by number size row).cells)) (sym (same_file number size row ∙ same)) (fitted_written number size row (subst (λ f. AreWrittenBy (next_of w.files f) row.cells) same h.written));
+  }
+
+-- ---- a draft goes that nobody writes
+
+pub end_keeps : (w : World) (file : ℕ) → list_any (is_writer file) w.handles ≡ false → IsWellFormed w → IsWellFormed (applied w (EndDraft file))
+end_keeps w file unwritten k = record { holds = by } where
+  drafted : (row : HandleRow) → is_writer file row ≡ false → list_any (is_draft row.file) w.drafts ≡ true → list_any (is_draft row.file) (remove_first (is_draft file) w.drafts) ≡ true
+  drafted row other there = list_any-remove_first (is_draft file) (is_draft row.file) w.drafts (λ x found. let passes = found_passes (is_draft file) w.drafts x found in grind (arith, nat_tests)) ∙ there
+
+  by : (part : Part) → Holds (applied w (EndDraft file)) part
+  by Counted = let c = k.holds Counted in record {
+    files_made = c.files_made;
+    names_made = c.names_made;
+    versions_made = omega (arith, c.versions_made, length-remove_first-le (is_draft file) w.drafts);
+    handles_made = c.handles_made;
+    file_rows = c.file_rows;
+    name_rows = c.name_rows;
+    version_rows = c.version_rows;
+  }
+  by Drafts = record {
+    each = all-remove_first (is_draft file) (IsDraft w.files w.now) w.drafts (k.holds Drafts).each;
+    placed = later-remove_first (is_draft file) (λ earlier later. earlier.file < later.file) w.drafts (k.holds Drafts).placed;
+  }
+  by Handles = record {
+    each = all-weaker (λ row. (is_writer file row ≡ false) × IsHandle w.made.handles w.drafts row) (IsHandle w.made.handles (remove_first (is_draft file) w.drafts)) w.handles
+        (λ row h. record { numbered = h.1.numbered; given = h.1.given; drafted = drafted row h.0 h.1.drafted })
+        (all-both (λ row. is_writer file row ≡ false) (IsHandle w.made.handles w.drafts) w.handles (all-none (is_writer file) w.handles unwritten) (k.holds Handles).each);
+    placed = (k.holds Handles).placed;
+  }
+  by part = k.holds part
+
+-- ---- handles
+
+pub open_keeps : (w : World) (number file : ℕ) → MayOpen w number file → IsWellFormed w → IsWellFormed (applied w (OpenHandle number file))
+open_keeps w number file may k = record { holds = by } where
+  handle : HandleRow
+  handle = record { number = number; file = file }
+
+  by : (part : Part) → Holds (applied w (OpenHandle number file)) part
+  by Counted = let c = k.holds Counted in record {
+    files_made = c.files_made;
+    names_made = c.names_made;
+    versions_made = c.versions_made;
+    handles_made = omega (arith, may.next, may.room);
+    file_rows = c.file_rows;
+    name_rows = c.name_rows;
+    version_rows = c.version_rows;
+  }
+  by Handles = record {
+    each = all-push (IsHandle number w.drafts) w.handles handle
+        (all-weaker (IsHandle w.made.handles w.drafts) (IsHandle number w.drafts) w.handles (λ row h. record { numbered = h.numbered; given = omega (arith, h.given, may.next); drafted = h.drafted }) (k.holds Handles).each)
+        (record { numbered = omega (arith, may.next); given = omega arith; drafted = may.drafted });
+    placed = later-push (λ earlier later. earlier.number < later.number) w.handles handle (k.holds Handles).placed
+        (all-weaker (IsHandle w.made.handles w.drafts) (λ row. row.number < number) w.handles (λ row h. omega (arith, h.given, may.next)) (k.holds Handles).each);
+  }
+  by part = k.holds part
+
+pub shut_keeps : (w : World) (number : ℕ) → IsWellFormed w → IsWellFormed (applied w (ShutHandle number))
+shut_keeps w number k = record { holds = by } where
+  by : (part : Part) → Holds (applied w (ShutHandle number)) part
+  by Handles = record {
+    each = all-remove_first (is_handle number) (IsHandle w.made.handles w.drafts) w.handles (k.holds Handles).each;
+    placed = later-remove_first (is_handle number) (λ earlier later. earlier.number < later.number) w.handles (k.holds Handles).placed;
+  }
+  by part = k.holds part

@@ -1,5 +1,5 @@
--- The clock and the making of a file keep a world well formed.
-use Rattle.std.proofs.Common.{◌≡◌, ℕ, ◌+◌, ◌<◌, ◌≤◌, Bool, true, false, ◌&&◌, ◌||◌, List, [], ◌∷◌, ◌++◌, length, length-append, Option, Some, None, IfSome, refl, ap, sym, ◌∙◌, arith, eqb}
+-- The clock, the policies of directories and the making of a file keep a world well formed.
+use Rattle.std.proofs.Common.{◌≡◌, ℕ, ◌+◌, ◌<◌, ◌≤◌, Bool, true, false, ◌&&◌, ◌||◌, List, [], ◌∷◌, ◌++◌, length, length-append, Option, Some, None, IfSome, refl, ap, sym, subst, ◌∙◌, arith, eqb}
 use Rattle.std.specs.Prelude.{find, is_some, is_none}
 use Rattle.std.specs.List.{AllByRecursion, list_any}
 use Rattle.std.specs.Option.{option_map}
@@ -9,18 +9,23 @@ use Rattle.std.proofs.lemmas.Bool.Decides.{nat_tests}
 use Rattle.std.proofs.lemmas.List.Folds.{list_any-append}
 use Rattle.std.proofs.lemmas.Slice.Eq.{bytes_eq-Decides}
 use Rattle.ele_moment.specs.Last.{last_moment}
+use Rattle.ele_moment.specs.Lists.{update_first}
+use Rattle.ele_moment.proofs.Edits.{all-push, all-weaker, all-both, all-update_first, later-push, later-update_first, all-not_found, list_any-update_first}
+use Rattle.ele_policy.specs.declared.policy.Policy.{Policy}
+use Rattle.ele_world.specs.Change.{governed_by, applied, Time, Govern, MakeFile}
+use Rattle.ele_world.specs.Walk.{live_target, is_live_name}
+use Rattle.ele_world.specs.WellFormed.{IsPolicy, IsFile, IsName, AreApart, IsVersion, ArePlaced, IsDraft, is_current, HaveCurrent, Part, Now, Counted, Directories, Files, Names, Versions, Drafts, Current, Holds, IsWellFormed}
+use Rattle.ele_world.specs.World.{World, root, is_directory, next_of, is_live, is_live_name_of, is_target_file}
 use Rattle.ele_world.specs.declared.rows.DirectoryRow.{DirectoryRow}
+use Rattle.ele_world.specs.declared.rows.DraftRow.{DraftRow}
 use Rattle.ele_world.specs.declared.rows.FileRow.{FileRow}
 use Rattle.ele_world.specs.declared.rows.NameRow.{NameRow}
 use Rattle.ele_world.specs.declared.rows.Target.TheVariants.{File}
 use Rattle.ele_world.specs.declared.rows.VersionRow.{VersionRow}
-use Rattle.ele_world.specs.declared.rows.DraftRow.{DraftRow}
-use Rattle.ele_world.specs.Step.{created, new_version}
-use Rattle.ele_world.specs.Walk.{live_target, is_live_name}
-use Rattle.ele_world.specs.WellFormed.{IsFile, IsName, AreApart, IsVersion, ArePlaced, IsDraft, is_current, HaveCurrent, IsWellFormed}
-use Rattle.ele_world.specs.World.{World, next_of, is_live, is_live_name_of, is_target_file, default_of}
-use Rattle.ele_moment.proofs.Edits.{all-push, all-weaker, all-both, later-push, all-not_found}
+use Rattle.ele_world.proofs.Created.{new_file, new_name, first_version, created, made_is}
 use Rattle.ele_world.proofs.Files.{next_of-push, next_of-push_other, next_of-given, next_of-new, there-push}
+use Rattle.ele_world.proofs.May.{MayMake}
+use Rattle.ele_world.proofs.Writers.{written_more}
 
 -- ---- the clock
 
@@ -31,48 +36,33 @@ name_later files now to row le h = record { there = h.there; born = omega (arith
   by (Some death) h = (h.0, omega (arith, h.1))
 
 version_later : (files : List FileRow) (now to : ℕ) (row : VersionRow) → now ≤ to → IsVersion files now row → IsVersion files to row
-version_later files now to row le h = record { numbered = h.numbered; opened = h.opened; closed = omega (arith, h.closed); ended = by row.ended h.ended; open_end = h.open_end; content = h.content } where
+version_later files now to row le h = record { first = h.first; numbered = h.numbered; opened = h.opened; closed = omega (arith, h.closed); ended = by row.ended h.ended; open_end = h.open_end; content = h.content; written = h.written } where
   by : (o : Option ℕ) → IfSome o (λ ended. (row.closed ≤ ended) × (ended ≤ now)) → IfSome o (λ ended. (row.closed ≤ ended) × (ended ≤ to))
   by None h = tt
   by (Some ended) h = (h.0, omega (arith, h.1))
 
 draft_later : (files : List FileRow) (now to : ℕ) (row : DraftRow) → now ≤ to → IsDraft files now row → IsDraft files to row
-draft_later files now to row le h = record { there = h.there; opened = omega (arith, h.opened); content = h.content }
+draft_later files now to row le h = record { there = h.there; opened = omega (arith, h.opened); content = h.content; written = h.written }
 
-pub moved_keeps : (w : World) (to : ℕ) → to ≤ last_moment → w.now ≤ to → IsWellFormed w → IsWellFormed (record w { now = to })
-moved_keeps w to fits le k = record {
-  now = fits;
-  counts = record { files = k.counts.files; names = k.counts.names; versions = k.counts.versions; handles = k.counts.handles; file_rows = k.counts.file_rows; name_rows = k.counts.name_rows; version_rows = k.counts.version_rows };
-  files = k.files;
-  files_placed = k.files_placed;
-  names = all-weaker (IsName w.files w.now) (IsName w.files to) w.names (λ row h. name_later w.files w.now to row le h) k.names;
-  lives = k.lives;
-  versions = all-weaker (IsVersion w.files w.now) (IsVersion w.files to) w.versions (λ row h. version_later w.files w.now to row le h) k.versions;
-  versions_placed = k.versions_placed;
-  drafts = all-weaker (IsDraft w.files w.now) (IsDraft w.files to) w.drafts (λ row h. draft_later w.files w.now to row le h) k.drafts;
-  drafts_placed = k.drafts_placed;
-  handles = k.handles;
-  handles_placed = k.handles_placed;
-  current = k.current;
-}
+pub time_keeps : (w : World) (to : ℕ) → to ≤ last_moment → w.now ≤ to → IsWellFormed w → IsWellFormed (applied w (Time to))
+time_keeps w to fits le k = record { holds = by } where
+  by : (part : Part) → Holds (applied w (Time to)) part
+  by Now = fits
+  by Names = record { each = all-weaker (IsName w.files w.now) (IsName w.files to) w.names (λ row h. name_later w.files w.now to row le h) (k.holds Names).each; lives = (k.holds Names).lives }
+  by Versions = record { each = all-weaker (IsVersion w.files w.now) (IsVersion w.files to) w.versions (λ row h. version_later w.files w.now to row le h) (k.holds Versions).each; placed = (k.holds Versions).placed }
+  by Drafts = record { each = all-weaker (IsDraft w.files w.now) (IsDraft w.files to) w.drafts (λ row h. draft_later w.files w.now to row le h) (k.holds Drafts).each; placed = (k.holds Drafts).placed }
+  by part = k.holds part
 
--- directories have another policy
-pub governed_keeps : (w : World) (directories : List DirectoryRow) → IsWellFormed w → IsWellFormed (record w { directories = directories })
-governed_keeps w directories k = record {
-  now = k.now;
-  counts = record { files = k.counts.files; names = k.counts.names; versions = k.counts.versions; handles = k.counts.handles; file_rows = k.counts.file_rows; name_rows = k.counts.name_rows; version_rows = k.counts.version_rows };
-  files = k.files;
-  files_placed = k.files_placed;
-  names = k.names;
-  lives = k.lives;
-  versions = k.versions;
-  versions_placed = k.versions_placed;
-  drafts = k.drafts;
-  drafts_placed = k.drafts_placed;
-  handles = k.handles;
-  handles_placed = k.handles_placed;
-  current = k.current;
-}
+-- a directory has another policy
+pub govern_keeps : (w : World) (directory : ℕ) (policy : Policy) → IsPolicy policy → IsWellFormed w → IsWellFormed (applied w (Govern directory policy))
+govern_keeps w directory policy is k = record { holds = by } where
+  by : (part : Part) → Holds (applied w (Govern directory policy)) part
+  by Directories = record {
+    rooted = list_any-update_first (is_directory directory) (is_directory root) (governed_by policy) w.directories (λ row e. refl) ∙ (k.holds Directories).rooted;
+    policies = all-update_first (is_directory directory) (λ row. IsPolicy row.default) (λ row. IsPolicy row.default) (governed_by policy) w.directories (λ row h. is) (λ row h. h) (k.holds Directories).policies;
+    placed = later-update_first (is_directory directory) (λ earlier later. earlier.id < later.id) (governed_by policy) w.directories (λ x y h. h) (λ x y h. h) (k.holds Directories).placed;
+  }
+  by part = k.holds part
 
 -- ---- a file is made
 
@@ -95,10 +85,10 @@ no_live w directory name h = all-not_found (is_live_name directory name) w.names
 version_push : (files : List FileRow) (new : FileRow) (now : ℕ) (row : VersionRow) → IsVersion files now row → IsVersion (files ++ new ∷ []) now row
 version_push files new now row h =
     let same = next_of-push files new row.file (omega (arith, h.numbered)) in
-    record { numbered = rw same h.numbered; opened = h.opened; closed = h.closed; ended = h.ended; open_end = λ none. h.open_end none ∙ sym same; content = h.content }
+    record { first = h.first; numbered = rw same h.numbered; opened = h.opened; closed = h.closed; ended = h.ended; open_end = λ none. h.open_end none ∙ sym same; content = h.content; written = h.written }
 
 -- the new file has its first version, and each other what it had
-created_current : (w : World) (new : FileRow) (named : NameRow) (version : VersionRow) → next_of (w.files ++ new ∷ []) new.id ≡ version.number + 1 → AllByRecursion (IsFile w.made) w.files → HaveCurrent w → named.target ≡ File new.id → version.file ≡ new.id → version.ended ≡ None → (file : ℕ) → list_any (is_live_name_of file) (w.names ++ named ∷ []) ≡ true → list_any (is_current file (next_of (w.files ++ new ∷ []) file)) (w.versions ++ version ∷ []) ≡ true
+created_current : (w : World) (new : FileRow) (named : NameRow) (version : VersionRow) → next_of (w.files ++ new ∷ []) new.id ≡ version.number + 1 → AllByRecursion (IsFile w.made.files w.made.versions) w.files → HaveCurrent w → named.target ≡ File new.id → version.file ≡ new.id → version.ended ≡ None → (file : ℕ) → list_any (is_live_name_of file) (w.names ++ named ∷ []) ≡ true → list_any (is_current file (next_of (w.files ++ new ∷ []) file)) (w.versions ++ version ∷ []) ≡ true
 created_current w new named version new_next given current target of_file no_end file live =
     elim (eqb new.id file) as (λ b. eqb new.id file ≡ b → list_any (is_current file (next_of (w.files ++ new ∷ []) file)) (w.versions ++ version ∷ []) ≡ true) [
       | true ↦ λ e.
@@ -120,42 +110,64 @@ created_current w new named version new_next given current target of_file no_end
       or_false true = refl
       or_false false = refl
 
-pub created_keeps : (w : World) (directory : ℕ) (name : List ℕ) → w.made.files < w.limits.files → w.made.names < w.limits.names → w.made.versions + length w.drafts < w.limits.versions → is_some (live_target w.names directory name) ≡ false → IsWellFormed w → IsWellFormed (created w directory name (w.made.files + 1))
-created_keeps w directory name files_room names_room versions_room fresh k =
-    let id = w.made.files + 1 in
-    let new : FileRow = record { id = id; policy = default_of w.directories directory; next = 2 } in
-    let named : NameRow = record { directory = directory; name = name; target = File id; birth = w.now; death = None } in
-    let version = new_version w id 1 w.now [] in
-    let new_next : next_of (w.files ++ new ∷ []) id ≡ 2 = next_of-new w.made w.files new k.files (omega arith) in
-    record {
-      now = k.now;
-      counts = record {
-        files = omega arith;
-        names = omega arith;
-        versions = omega arith;
-        handles = k.counts.handles;
-        file_rows = omega (arith, k.counts.file_rows, length-append w.files (new ∷ []));
-        name_rows = simp length-append (omega (arith, k.counts.name_rows));
-        version_rows = simp length-append (omega (arith, k.counts.version_rows));
-      };
-      files = all-push (IsFile (record w.made { files = w.made.files + 1; names = w.made.names + 1; versions = w.made.versions + 1 })) w.files new
-          (all-weaker (IsFile w.made) (IsFile (record w.made { files = w.made.files + 1; names = w.made.names + 1; versions = w.made.versions + 1 })) w.files (λ row h. record { given = omega (arith, h.given); first = h.first; next = omega (arith, h.next) }) k.files)
-          (record { given = omega arith; first = omega arith; next = omega arith });
-      files_placed = later-push (λ earlier later. earlier.id < later.id) w.files new k.files_placed (all-weaker (IsFile w.made) (λ row. row.id < id) w.files (λ row h. omega (arith, h.given)) k.files);
-      names = all-push (IsName (w.files ++ new ∷ []) w.now) w.names named
-          (all-weaker (IsName w.files w.now) (IsName (w.files ++ new ∷ []) w.now) w.names (λ row h. record { there = there-push w.files new row.target h.there; born = h.born; dead = h.dead }) k.names)
-          (record { there = omega (arith, new_next); born = omega arith; dead = tt });
-      lives = later-push AreApart w.names named k.lives (all-weaker (λ row. (is_live_name directory name row ≡ false) × IsName w.files w.now row) (λ row. AreApart row named) w.names (λ row h. dead_name w.files w.now directory name row named h.0 h.1 refl refl refl) (all-both _ _ w.names (no_live w directory name fresh) k.names));
-      versions = all-push (IsVersion (w.files ++ new ∷ []) w.now) w.versions version
-          (all-weaker (IsVersion w.files w.now) (IsVersion (w.files ++ new ∷ []) w.now) w.versions (version_push w.files new w.now) k.versions)
-          (record { numbered = omega (arith, new_next); opened = omega arith; closed = omega arith; ended = tt; open_end = λ _. omega (arith, new_next); content = record { short = omega arith; slots = refl } });
-      versions_placed = later-push ArePlaced w.versions version k.versions_placed
-          (all-weaker (IsVersion w.files w.now) (λ row. ArePlaced row version) w.versions (λ row h.
-          let given = next_of-given w.made w.files row.file k.files (omega (arith, h.numbered)) in
-          record { after = grind (arith, nat_tests); ended = λ same. absurd (omega (arith, given, same)) }) k.versions);
-      drafts = all-weaker (IsDraft w.files w.now) (IsDraft (w.files ++ new ∷ []) w.now) w.drafts (λ row h. record { there = omega (arith, h.there, next_of-push w.files new row.file h.there); opened = h.opened; content = h.content }) k.drafts;
-      drafts_placed = k.drafts_placed;
-      handles = k.handles;
-      handles_placed = k.handles_placed;
-      current = created_current w new named version (new_next ∙ omega arith) k.files k.current refl refl refl;
+module _ (w : World) (directory : ℕ) (name : List ℕ) (policy : Policy) where
+  abbrev id : ℕ
+  id = w.made.files + 1
+
+  abbrev new : FileRow
+  new = new_file id policy
+
+  abbrev named : NameRow
+  named = new_name w directory name id
+
+  abbrev files : List FileRow
+  files = w.files ++ new ∷ []
+
+  created_keeps : MayMake w directory name id policy → IsWellFormed w → IsWellFormed (created w directory name id policy)
+  created_keeps may k = record { holds = by } where
+    new_next : next_of files id ≡ 2
+    new_next = next_of-new w.made.files w.made.versions w.files new (k.holds Files).each (omega arith)
+
+    by : (part : Part) → Holds (created w directory name id policy) part
+    by Counted = let c = k.holds Counted in record {
+      files_made = omega (arith, may.files);
+      names_made = omega (arith, may.names);
+      versions_made = omega (arith, may.room);
+      handles_made = c.handles_made;
+      file_rows = simp length-append (omega (arith, c.file_rows));
+      name_rows = simp length-append (omega (arith, c.name_rows));
+      version_rows = simp length-append (omega (arith, c.version_rows));
     }
+    by Files = record {
+      each = all-push (IsFile id (w.made.versions + 1)) w.files new
+          (all-weaker (IsFile w.made.files w.made.versions) (IsFile id (w.made.versions + 1)) w.files (λ row h. record { numbered = h.numbered; given = omega (arith, h.given); first = h.first; next = omega (arith, h.next); policy = h.policy }) (k.holds Files).each)
+          (record { numbered = omega arith; given = omega arith; first = omega arith; next = omega arith; policy = may.valid });
+      placed = later-push (λ earlier later. earlier.id < later.id) w.files new (k.holds Files).placed (all-weaker (IsFile w.made.files w.made.versions) (λ row. row.id < id) w.files (λ row h. omega (arith, h.given)) (k.holds Files).each);
+    }
+    by Names = record {
+      each = all-push (IsName files w.now) w.names named
+          (all-weaker (IsName w.files w.now) (IsName files w.now) w.names (λ row h. record { there = there-push w.files new row.target h.there; born = h.born; dead = h.dead }) (k.holds Names).each)
+          (record { there = omega (arith, new_next); born = omega arith; dead = tt });
+      lives = later-push AreApart w.names named (k.holds Names).lives (all-weaker (λ row. (is_live_name directory name row ≡ false) × IsName w.files w.now row) (λ row. AreApart row named) w.names (λ row h. dead_name w.files w.now directory name row named h.0 h.1 refl refl refl) (all-both _ _ w.names (no_live w directory name may.free) (k.holds Names).each));
+    }
+    by Versions = record {
+      each = all-push (IsVersion files w.now) w.versions (first_version w id)
+          (all-weaker (IsVersion w.files w.now) (IsVersion files w.now) w.versions (version_push w.files new w.now) (k.holds Versions).each)
+          (record { first = omega arith; numbered = omega (arith, new_next); opened = omega arith; closed = omega arith; ended = tt; open_end = λ _. omega (arith, new_next); content = record { short = omega arith; slots = refl }; written = tt });
+      placed = later-push ArePlaced w.versions (first_version w id) (k.holds Versions).placed
+          (all-weaker (IsVersion w.files w.now) (λ row. ArePlaced row (first_version w id)) w.versions (λ row h.
+          let given = next_of-given w.made.files w.made.versions w.files row.file (k.holds Files).each (omega (arith, h.numbered)) in
+          record { after = grind (arith, nat_tests); ended = λ same. absurd (omega (arith, given, same)) }) (k.holds Versions).each);
+    }
+    by Drafts = record {
+      each = all-weaker (IsDraft w.files w.now) (IsDraft files w.now) w.drafts
+          (λ row h. let same = next_of-push w.files new row.file h.there in record { there = omega (arith, h.there, same); opened = h.opened; content = h.content; written = written_more (next_of w.files row.file) (next_of files row.file) row.cells (omega (arith, same)) h.written }) (k.holds Drafts).each;
+      placed = (k.holds Drafts).placed;
+    }
+    by Current = created_current w new named (first_version w id) (new_next ∙ omega arith) (k.holds Files).each (k.holds Current) refl refl refl
+    by part = k.holds part
+
+pub make_keeps : (w : World) (directory : ℕ) (name : List ℕ) (id : ℕ) (policy : Policy) → MayMake w directory name id policy → IsWellFormed w → IsWellFormed (applied w (MakeFile directory name id policy))
+make_keeps w directory name id policy may k =
+    subst (λ n. MayMake w directory name n policy → IsWellFormed (applied w (MakeFile directory name n policy))) (sym may.next)
+    (λ m. rw (made_is w directory name policy k) (created_keeps w directory name policy m k)) may

@@ -12,7 +12,8 @@ use Rattle.ele_policy.specs.Policy.{kind_of, is_kind}
 use Rattle.ele_world.specs.declared.rows.DraftRow.{DraftRow}
 use Rattle.ele_world.specs.declared.rows.FileRow.{FileRow}
 use Rattle.ele_world.specs.declared.rows.VersionRow.{VersionRow}
-use Rattle.ele_world.specs.Step.{numbered_on, ended_at, with_draft, new_draft}
+use Rattle.ele_world.specs.Change.{numbered_on, ended_at, new_draft}
+use Rattle.ele_world.proofs.Opened.{with_draft}
 use Rattle.ele_world.specs.Usage.{is_of, is_file_of}
 use Rattle.ele_world.specs.World.{World, is_draft, is_draft_after, is_file, is_version, is_version_after}
 use Rattle.ele_world.proofs.Passes.{filter-remove_first}

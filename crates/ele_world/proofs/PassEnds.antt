@@ -10,8 +10,9 @@ use Rattle.ele_world.specs.Due.{is_due_at, kept}
 use Rattle.ele_world.specs.Pass.{IsCleaned, HasRemoved, IsFinished}
 use Rattle.ele_world.specs.Run.{cleaned, IsPass}
 use Rattle.ele_world.specs.Scan.{first_due}
-use Rattle.ele_world.specs.Step.{clean_of, clean_step}
-use Rattle.ele_world.specs.WellFormed.{IsWellFormed}
+use Rattle.ele_world.specs.Step.{clean_step}
+use Rattle.ele_world.proofs.Cleans.{clean_of}
+use Rattle.ele_world.specs.WellFormed.{Versions, IsWellFormed}
 use Rattle.ele_world.specs.World.{World, is_version}
 use Rattle.ele_world.proofs.DueRows.{first_is_due}
 use Rattle.ele_world.proofs.Passes.{cleaned_keeps_kept, pass_leaves_kept}
@@ -40,12 +41,11 @@ cleaned_more w n v so_far some = record {
 
 -- one version goes
 clean_removes : (w : World) → IsWellFormed w → IsSome (first_due w) → length ((clean_step w).1).versions + 1 ≡ length w.versions
-unfolding clean_step
 clean_removes w keeps some = by (first_due w) refl some where
   by : (o : Option Key) → first_due w ≡ o → IsSome o → length ((clean_of w o).1).versions + 1 ≡ length w.versions
   by None e h = absurd cc
   by (Some key) e h =
-      let due = first_is_due w key keeps.versions_placed e in
+      let due = first_is_due w key (keeps.holds Versions).placed e in
       length-remove_first (is_version key.file key.number) w.versions due.row due.found
 
 -- and so many by so many events

@@ -19,8 +19,9 @@ use Rattle.ele_world.specs.Due.{is_due_at, ripe_of, kept}
 use Rattle.ele_moment.specs.Lists.{remove_first}
 use Rattle.ele_world.specs.Run.{cleaned, IsPass}
 use Rattle.ele_world.specs.Scan.{key_cmp, key_of, due_key, scan, first_due}
-use Rattle.ele_world.specs.Step.{clean_of, clean_step}
-use Rattle.ele_world.specs.WellFormed.{IsWellFormed}
+use Rattle.ele_world.specs.Step.{clean_step}
+use Rattle.ele_world.proofs.Cleans.{clean_of}
+use Rattle.ele_world.specs.WellFormed.{Now, Versions, IsWellFormed}
 use Rattle.ele_world.specs.World.{World, is_version, policy_of}
 use Rattle.ele_world.proofs.DueRows.{first_is_due}
 use Rattle.ele_world.proofs.StepKeeps.{step_keeps}
@@ -38,12 +39,12 @@ filter-remove_first {X} keep p (x ∷ xs) goes = by (p x) refl (filter-remove_fi
 
 -- a clean leaves what is kept
 clean_keeps_kept : (w : World) → IsWellFormed w → kept ((clean_step w).1) ≡ kept w
-unfolding clean_step is_due_at
+unfolding is_due_at
 clean_keeps_kept w k = by (first_due w) refl where
   by : (o : Option Key) → first_due w ≡ o → kept ((clean_of w o).1) ≡ kept w
   by None e = refl
   by (Some key) e = filter-remove_first (λ row. not (is_due_at w row w.now)) (is_version key.file key.number) w.versions (λ row found.
-      let due = first_is_due w key k.versions_placed e in
+      let due = first_is_due w key (k.holds Versions).placed e in
       let same : due.row ≡ row = let was = due.found in cc in
       ap not (subst (λ r. is_due_at w r w.now ≡ true) same due.due))
 
@@ -119,4 +120,4 @@ pub pass_leaves_kept : (w : World) (removed : ℕ) (after : World) → IsWellFor
 pass_leaves_kept w removed after k pass =
     let there = cleaned_keeps_kept removed w k in
     let none = rw pass.after_is at pass.last in
-    ap (λ (u : World). u.versions) pass.after_is ∙ sym (nothing_due (cleaned removed w) there.1.now none) ∙ there.0
+    ap (λ (u : World). u.versions) pass.after_is ∙ sym (nothing_due (cleaned removed w) (there.1.holds Now) none) ∙ there.0

@@ -22,10 +22,10 @@ use Rattle.ele_world.specs.declared.rows.DraftRow.{DraftRow}
 use Rattle.ele_world.specs.Usage.{is_of, is_file_of, places_from, places, bytes_in, usage_of, usages}
 use Rattle.ele_world.specs.Whole.{whole, part, ChangesOnly}
 use Rattle.ele_world.specs.World.{World, policy_of, is_file, next_of, default_of, is_draft, is_draft_after, is_version}
-use Rattle.ele_world.specs.declared.limits.Counts.{Counts}
 use Rattle.ele_world.specs.declared.rows.FileRow.{FileRow}
-use Rattle.ele_world.specs.Step.{created, new_version, opened, finished, version_of}
-use Rattle.ele_world.specs.WellFormed.{IsContent, IsFile, IsVersion, IsDraft, IsWellFormed}
+use Rattle.ele_world.proofs.Created.{new_file, first_version, created}
+use Rattle.ele_world.proofs.Opened.{opened}
+use Rattle.ele_world.specs.WellFormed.{IsContent, IsFile, IsVersion, IsDraft, Counted, Files, Versions, Drafts, IsWellFormed}
 use Rattle.ele_content.specs.Content.{content_of, longest_content}
 use Rattle.ele_moment.proofs.Edits.{all-weaker}
 use Rattle.ele_moment.specs.Lists.{update_first, remove_first, insert_before}
@@ -164,12 +164,12 @@ kind_before (x ∷ xs) row k id there = elim (is_file id x) as (λ b. is_file id
 ] refl
 
 -- and the one added by its policy, where its number is new
-kind_added : (made : Counts) (files : List FileRow) (row : FileRow) (k : Kind) → AllByRecursion (IsFile made) files → made.files < row.id → is_file_of (files ++ row ∷ []) k row.id ≡ is_kind k (kind_of row.policy)
-kind_added made [] row k all new = let e : is_file row.id row ≡ true = grind (arith, nat_tests) in rw e refl
-kind_added made (x ∷ xs) row k all new =
-    let given = all.0.given in
+kind_added : (given versions : ℕ) (files : List FileRow) (row : FileRow) (k : Kind) → AllByRecursion (IsFile given versions) files → given < row.id → is_file_of (files ++ row ∷ []) k row.id ≡ is_kind k (kind_of row.policy)
+kind_added given versions [] row k all new = let e : is_file row.id row ≡ true = grind (arith, nat_tests) in rw e refl
+kind_added given versions (x ∷ xs) row k all new =
+    let of = all.0.given in
     let e : is_file row.id x ≡ false = grind (arith, nat_tests) in
-    rw e (kind_added made xs row k all.1 new)
+    rw e (kind_added given versions xs row k all.1 new)
 
 -- rows of files that are there pass as before
 rows_before : {R : Type 0} (file_of : R → ℕ) (P : R → Type 0) (files : List FileRow) (row : FileRow) (k : Kind) (rows : List R) → ((r : R) → P r → 0 < next_of files (file_of r)) → AllByRecursion P rows → filter (λ r. is_file_of (files ++ row ∷ []) k (file_of r)) rows ≡ filter (λ r. is_file_of files k (file_of r)) rows
@@ -202,21 +202,21 @@ filter_push : {X : Type 0} (p : X → Bool) (xs : List X) (x : X) → filter p (
 filter_push p xs x = filter-append p xs (x ∷ [])
 
 -- a new file with its first version, which is empty
-pub created_usage : (w : World) (directory : ℕ) (name : List ℕ) → IsWellFormed w → (k : Kind) → usage_of (created w directory name (w.made.files + 1)) k ≡ plus (usage_of w k) (cond (is_kind k (kind_of (default_of w.directories directory))) (record { files = 1; versions = 1; bytes = 0; blocks = 0 }) nothing)
-created_usage w directory name keeps k =
+pub created_usage : (w : World) (directory : ℕ) (name : List ℕ) (policy : Policy) → IsWellFormed w → (k : Kind) → usage_of (created w directory name (w.made.files + 1) policy) k ≡ plus (usage_of w k) (cond (is_kind k (kind_of policy)) (record { files = 1; versions = 1; bytes = 0; blocks = 0 }) nothing)
+created_usage w directory name policy keeps k =
     let id = w.made.files + 1 in
-    let file : FileRow = record { id = id; policy = default_of w.directories directory; next = 2 } in
-    let version = new_version w id 1 w.now [] in
+    let file = new_file id policy in
+    let version = first_version w id in
     let t = is_file_of w.files k in
     let t' = is_file_of (w.files ++ file ∷ []) k in
-    let b = is_kind k (kind_of (default_of w.directories directory)) in
-    let own : t' id ≡ b = kind_added w.made w.files file k keeps.files (omega arith) in
+    let b = is_kind k (kind_of policy) in
+    let own : t' id ≡ b = kind_added w.made.files w.made.versions w.files file k (keeps.holds Files).each (omega arith) in
     let versions : filter (λ (r : VersionRow). t' r.file) (w.versions ++ version ∷ []) ≡ filter (λ (r : VersionRow). t r.file) w.versions ++ cond b (version ∷ []) [] =
     filter_push (λ (r : VersionRow). t' r.file) w.versions version
-    ∙ (ap (λ rows. rows ++ cond (t' id) (version ∷ []) []) (rows_before (λ (r : VersionRow). r.file) (IsVersion w.files w.now) w.files file k w.versions (λ r h. let n = h.numbered in omega arith) keeps.versions)
+    ∙ (ap (λ rows. rows ++ cond (t' id) (version ∷ []) []) (rows_before (λ (r : VersionRow). r.file) (IsVersion w.files w.now) w.files file k w.versions (λ r h. let n = h.numbered in omega arith) (keeps.holds Versions).each)
     ∙ ap (λ c. filter (λ (r : VersionRow). t r.file) w.versions ++ cond c (version ∷ []) []) own) in
-    let drafts = rows_before (λ (r : DraftRow). r.file) (IsDraft w.files w.now) w.files file k w.drafts (λ r h. h.there) keeps.drafts in
-    usage_is (created w directory name id) k
+    let drafts = rows_before (λ (r : DraftRow). r.file) (IsDraft w.files w.now) w.files file k w.drafts (λ r h. h.there) (keeps.holds Drafts).each in
+    usage_is (created w directory name id policy) k
     ∙ (rw (versions, drafts, filter_push (is_of k) w.files file) (pushed b (filter (is_of k) w.files) file (filter (λ (r : VersionRow). t r.file) w.versions) version (filter (λ (r : DraftRow). t r.file) w.drafts) refl)
     ∙ ap (λ u. plus u (cond b (record { files = 1; versions = 1; bytes = 0; blocks = 0 }) nothing)) (sym (usage_is w k)))
 
@@ -238,27 +238,11 @@ changes_drafts file w v files versions drafts = record {
 pub changes_updated : (file : ℕ) (w : World) (f : DraftRow → DraftRow) → ((row : DraftRow) → (f row).file ≡ row.file) → ChangesOnly file w (record w { drafts = update_first (is_draft file) f w.drafts })
 changes_updated file w f keeps = changes_drafts file w (record w { drafts = update_first (is_draft file) f w.drafts }) refl refl (drafts-updated file f w.drafts keeps)
 
-pub changes_vanished : (file : ℕ) (w : World) → ChangesOnly file w (record w { drafts = remove_first (is_draft file) w.drafts })
-changes_vanished file w = changes_drafts file w (record w { drafts = remove_first (is_draft file) w.drafts }) refl refl (drafts-removed file w.drafts)
-
-pub changes_begun : (w : World) (row : DraftRow) → ChangesOnly row.file w (record w { drafts = insert_before (is_draft_after row.file) row w.drafts })
-changes_begun w row = changes_drafts row.file w (record w { drafts = insert_before (is_draft_after row.file) row w.drafts }) refl refl (drafts-begun row w.drafts)
-
 pub changes_opened : (w : World) (file number : ℕ) → ChangesOnly file w (opened w file number)
 changes_opened w file number = changes_drafts file w (opened w file number) refl refl (drafts-opened w file)
 
 pub changes_removed : (file number : ℕ) (w : World) → ChangesOnly file w (record w { versions = remove_first (is_version file number) w.versions })
 changes_removed file number w = record { kinds = λ k id. refl; files = λ k. refl; versions = versions-removed file number w.versions; drafts = refl }
-
-pub changes_finished : (w : World) (draft : DraftRow) → ChangesOnly draft.file w (finished w draft)
-changes_finished w draft =
-    let next = next_of w.files draft.file in
-    record {
-      kinds = λ k id. kinds-numbered w.files draft.file k id;
-      files = λ k. files-numbered w.files draft.file k;
-      versions = versions-finished draft.file next (next - 1) w.now (version_of w draft) w.versions refl;
-      drafts = drafts-removed draft.file w.drafts;
-    }
 
 -- ---- bounds
 
@@ -287,13 +271,13 @@ bytes_short files now [] all = omega arith
 bytes_short files now (x ∷ xs) all = let here = all.0.content.short in omega (arith, here, bytes_in-cons x xs, bytes_short files now xs all.1)
 
 pub whole_files : (w : World) → IsWellFormed w → AreBounds w.limits → length w.files ≤ 100000
-whole_files w keeps bounds = let most = bounds.files in let rows = keeps.counts.file_rows in let made = keeps.counts.files in omega arith
+whole_files w keeps bounds = let most = bounds.files in let rows = (keeps.holds Counted).file_rows in let made = (keeps.holds Counted).files_made in omega arith
 
 pub whole_versions : (w : World) → IsWellFormed w → AreBounds w.limits → (whole w).versions ≤ 1000000
-whole_versions w keeps bounds = let most = bounds.versions in let rows = keeps.counts.version_rows in let made = keeps.counts.versions in omega arith
+whole_versions w keeps bounds = let most = bounds.versions in let rows = (keeps.holds Counted).version_rows in let made = (keeps.holds Counted).versions_made in omega arith
 
 pub whole_bytes : (w : World) → IsWellFormed w → AreBounds w.limits → (whole w).bytes ≤ 1048576000000
-whole_bytes w keeps bounds = omega (arith, bytes_short w.files w.now w.versions keeps.versions, whole_versions w keeps bounds)
+whole_bytes w keeps bounds = omega (arith, bytes_short w.files w.now w.versions (keeps.holds Versions).each, whole_versions w keeps bounds)
 
 -- ---- the blocks are few
 
@@ -321,11 +305,11 @@ rows_few file_of cells_of (x ∷ xs) all =
 
 pub whole_blocks : (w : World) → IsWellFormed w → AreBounds w.limits → (whole w).blocks < 2 ^ 64
 whole_blocks w keeps bounds =
-    let versions = rows_few (λ (row : VersionRow). row.file) (λ row. row.cells) w.versions (all-weaker (IsVersion w.files w.now) (λ row. IsContent row.cells) w.versions (λ row h. h.content) keeps.versions) in
-    let drafts = rows_few (λ (row : DraftRow). row.file) (λ row. row.cells) w.drafts (all-weaker (IsDraft w.files w.now) (λ row. IsContent row.cells) w.drafts (λ row h. h.content) keeps.drafts) in
+    let versions = rows_few (λ (row : VersionRow). row.file) (λ row. row.cells) w.versions (all-weaker (IsVersion w.files w.now) (λ row. IsContent row.cells) w.versions (λ row h. h.content) (keeps.holds Versions).each) in
+    let drafts = rows_few (λ (row : DraftRow). row.file) (λ row. row.cells) w.drafts (all-weaker (IsDraft w.files w.now) (λ row. IsContent row.cells) w.drafts (λ row h. h.content) (keeps.holds Drafts).each) in
     let most = bounds.versions in
-    let made = keeps.counts.versions in
-    let rows = keeps.counts.version_rows in
+    let made = (keeps.holds Counted).versions_made in
+    let rows = (keeps.holds Counted).version_rows in
     let all = length-append (flat_map (λ (row : VersionRow). places_from row.file 0 row.cells) w.versions) (flat_map (λ (row : DraftRow). places_from row.file 0 row.cells) w.drafts) in
     let few : length (places w.versions w.drafts) ≤ longest_content * 2000000 = omega (arith, all, versions, drafts) in
     omega (arith, different_few (places w.versions w.drafts), few)

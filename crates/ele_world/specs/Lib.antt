@@ -6,6 +6,8 @@ pub mod Walk
 pub mod Due
 pub mod Scan
 pub mod Usage
+pub mod Change
+pub mod Plan
 pub mod Step
 pub mod WellFormed
 pub mod Run

@@ -37,6 +37,15 @@ file_at (Err refusal) = Err refusal
 abbrev pub file_now : List NameRow → List (List ℕ) → Result ℕ Refusal
 file_now rows path = file_at (walk_now rows path)
 
+abbrev pub directory_in : Result Target Refusal → Result ℕ Refusal
+directory_in (Ok (Directory directory)) = Ok directory
+directory_in (Ok (File file)) = Err NotDirectory
+directory_in (Err refusal) = Err refusal
+
+-- the directory that the path names
+abbrev pub directory_now : List NameRow → List (List ℕ) → Result ℕ Refusal
+directory_now rows path = directory_in (walk_now rows path)
+
 abbrev pub directory_at : List ℕ → Result Target Refusal → Result (ℕ × List ℕ) Refusal
 directory_at name (Ok (Directory directory)) = Ok (directory, name)
 directory_at name (Ok (File file)) = Err NotDirectory

@@ -1,34 +1,57 @@
--- What is true of every world of a run.
+-- What is true of every world of a run, in parts: each takes only what it speaks of.
 use Rattle.std.specs.Prelude.{◌≡◌, ℕ, ◌+◌, ◌==◌, ◌<◌, ◌≤◌, ◌&&◌, Bool, true, List, length, IfSome, Some, None, is_none}
 use Rattle.std.specs.List.{list_any, AllByRecursion}
+use Rattle.ele_content.specs.declared.cell.Cell.{Cell}
+use Rattle.ele_content.specs.Content.{content_of, longest_content, fill_slots}
 use Rattle.ele_moment.specs.Last.{last_moment}
+pub use Rattle.ele_moment.specs.Lists.{AllLater}
+use Rattle.ele_policy.specs.Interval.{IsInterval}
+use Rattle.ele_policy.specs.declared.policy.Policy.{Policy}
+use Rattle.ele_policy.specs.declared.policy.Policy.TheVariants.{One, Safe}
+use Rattle.ele_world.specs.Bounds.{Bounds}
 use Rattle.ele_world.specs.declared.limits.Counts.{Counts}
+use Rattle.ele_world.specs.declared.rows.DirectoryRow.{DirectoryRow}
+use Rattle.ele_world.specs.declared.rows.DraftRow.{DraftRow}
 use Rattle.ele_world.specs.declared.rows.FileRow.{FileRow}
+use Rattle.ele_world.specs.declared.rows.HandleRow.{HandleRow}
 use Rattle.ele_world.specs.declared.rows.NameRow.{NameRow}
 use Rattle.ele_world.specs.declared.rows.Target.{Target}
 use Rattle.ele_world.specs.declared.rows.Target.TheVariants.{File, Directory}
 use Rattle.ele_world.specs.declared.rows.VersionRow.{VersionRow}
-use Rattle.ele_world.specs.declared.rows.DraftRow.{DraftRow}
-use Rattle.ele_content.specs.declared.cell.Cell.{Cell}
-use Rattle.ele_content.specs.Content.{content_of, longest_content, fill_slots}
-use Rattle.ele_world.specs.World.{World, next_of, is_live, is_version_after}
-pub use Rattle.ele_moment.specs.Lists.{AllLater}
+use Rattle.ele_world.specs.World.{World, root, is_directory, next_of, is_live, is_draft, is_version_after}
 
--- no count is above its limit, and each row and draft was counted
-pub record AreCounted (w : World) : Type 0 where
-  pub files : w.made.files ≤ w.limits.files
-  pub names : w.made.names ≤ w.limits.names
-  pub versions : w.made.versions + length w.drafts ≤ w.limits.versions
-  pub handles : w.made.handles ≤ w.limits.handles
-  pub file_rows : length w.files ≤ w.made.files
-  pub name_rows : length w.names ≤ w.made.names
-  pub version_rows : length w.versions ≤ w.made.versions
+-- no count is above its limit, and each of so many rows and drafts was counted
+pub record AreCounted (made : Counts) (limits : Bounds) (files names versions drafts : ℕ) : Type 0 where
+  pub files_made : made.files ≤ limits.files
+  pub names_made : made.names ≤ limits.names
+  pub versions_made : made.versions + drafts ≤ limits.versions
+  pub handles_made : made.handles ≤ limits.handles
+  pub file_rows : files ≤ made.files
+  pub name_rows : names ≤ made.names
+  pub version_rows : versions ≤ made.versions
 
--- the file's number was given, and its next version's isn't past the versions made
-pub record IsFile (made : Counts) (row : FileRow) : Type 0 where
-  pub given : row.id ≤ made.files
+-- the numbers of a policy are such as can be given
+abbrev pub IsPolicy : Policy → Type 0
+IsPolicy One = Unit {0}
+IsPolicy (Safe interval) = IsInterval interval
+
+-- the root is there, and each directory has a policy; their numbers rise
+pub record AreDirectories (rows : List DirectoryRow) : Type 0 where
+  pub rooted : list_any (is_directory root) rows ≡ true
+  pub policies : AllByRecursion (λ row. IsPolicy row.default) rows
+  pub placed : AllLater (λ earlier later. earlier.id < later.id) rows
+
+-- the file's number was given, and its next version's is from 2 on and not past so many versions made
+pub record IsFile (files versions : ℕ) (row : FileRow) : Type 0 where
+  pub numbered : 1 ≤ row.id
+  pub given : row.id ≤ files
   pub first : 2 ≤ row.next
-  pub next : row.next ≤ made.versions + 1
+  pub next : row.next ≤ versions + 1
+  pub policy : IsPolicy row.policy
+
+pub record AreFiles (files versions : ℕ) (rows : List FileRow) : Type 0 where
+  pub each : AllByRecursion (IsFile files versions) rows
+  pub placed : AllLater (λ earlier later. earlier.id < later.id) rows
 
 -- a file that is there
 abbrev pub IsThere : List FileRow → Target → Type 0
@@ -46,20 +69,30 @@ abbrev pub AreApart : NameRow → NameRow → Type 0
 AreApart earlier later =
     earlier.directory ≡ later.directory → earlier.name ≡ later.name → (death : ℕ) × (earlier.death ≡ Some death) × (death ≤ later.birth)
 
+pub record AreNames (files : List FileRow) (now : ℕ) (rows : List NameRow) : Type 0 where
+  pub each : AllByRecursion (IsName files now) rows
+  pub lives : AllLater AreApart rows
+
 -- the cells are those of a content: its slots in a row, each of 512 bytes but for the last, which has 1 to 512
 pub record IsContent (cells : List Cell) : Type 0 where
   pub short : length (content_of cells) ≤ longest_content
   pub slots : fill_slots (length (content_of cells)) cells ≡ true
 
+-- no cell was written by a version with a greater number
+abbrev pub AreWrittenBy : ℕ → List Cell → Type 0
+AreWrittenBy number cells = AllByRecursion (λ cell. cell.writer ≤ number) cells
+
 -- a held version's file is there and numbers on behind it; it closed by now, and if it has ended it ended by now and not
 -- before it closed; only the version before the next one may have no end
 pub record IsVersion (files : List FileRow) (now : ℕ) (row : VersionRow) : Type 0 where
+  pub first : 1 ≤ row.number
   pub numbered : row.number < next_of files row.file
   pub opened : row.opened ≤ row.closed
   pub closed : row.closed ≤ now
   pub ended : IfSome row.ended (λ ended. (row.closed ≤ ended) × (ended ≤ now))
   pub open_end : row.ended ≡ None → row.number + 1 ≡ next_of files row.file
   pub content : IsContent row.cells
+  pub written : AreWrittenBy row.number row.cells
 
 -- of two held versions the later has the greater file, or the same file and the greater number; then the earlier had ended
 -- when the later closed
@@ -67,11 +100,30 @@ pub record ArePlaced (earlier later : VersionRow) : Type 0 where
   pub after : is_version_after earlier.file earlier.number later ≡ true
   pub ended : earlier.file ≡ later.file → (ended : ℕ) × (earlier.ended ≡ Some ended) × (ended ≤ later.closed)
 
--- a draft's file is there, and it was opened by now
+pub record AreVersions (files : List FileRow) (now : ℕ) (rows : List VersionRow) : Type 0 where
+  pub each : AllByRecursion (IsVersion files now) rows
+  pub placed : AllLater ArePlaced rows
+
+-- a draft's file is there, and it was opened by now; it is to be the file's next version
 pub record IsDraft (files : List FileRow) (now : ℕ) (row : DraftRow) : Type 0 where
   pub there : 0 < next_of files row.file
   pub opened : row.opened ≤ now
   pub content : IsContent row.cells
+  pub written : AreWrittenBy (next_of files row.file) row.cells
+
+pub record AreDrafts (files : List FileRow) (now : ℕ) (rows : List DraftRow) : Type 0 where
+  pub each : AllByRecursion (IsDraft files now) rows
+  pub placed : AllLater (λ earlier later. earlier.file < later.file) rows
+
+-- a handle's number was given, and the file that it writes has a draft
+pub record IsHandle (made : ℕ) (drafts : List DraftRow) (row : HandleRow) : Type 0 where
+  pub numbered : 1 ≤ row.number
+  pub given : row.number ≤ made
+  pub drafted : list_any (is_draft row.file) drafts ≡ true
+
+pub record AreHandles (made : ℕ) (drafts : List DraftRow) (rows : List HandleRow) : Type 0 where
+  pub each : AllByRecursion (IsHandle made drafts) rows
+  pub placed : AllLater (λ earlier later. earlier.number < later.number) rows
 
 -- the version before the next one, without an end
 abbrev pub is_current : ℕ → ℕ → VersionRow → Bool
@@ -81,17 +133,28 @@ is_current file next row = (row.file == file) && ((row.number + 1 == next) && is
 abbrev pub HaveCurrent : World → Type 0
 HaveCurrent w = (file : ℕ) → is_live w file ≡ true → list_any (is_current file (next_of w.files file)) w.versions ≡ true
 
+pub data Part : Type 0 where
+  Now : Part
+  Counted : Part
+  Directories : Part
+  Files : Part
+  Names : Part
+  Versions : Part
+  Drafts : Part
+  Handles : Part
+  Current : Part
+
+abbrev pub Holds : World → Part → Type 0
+Holds w Now = w.now ≤ last_moment
+Holds w Counted = AreCounted w.made w.limits (length w.files) (length w.names) (length w.versions) (length w.drafts)
+Holds w Directories = AreDirectories w.directories
+Holds w Files = AreFiles w.made.files w.made.versions w.files
+Holds w Names = AreNames w.files w.now w.names
+Holds w Versions = AreVersions w.files w.now w.versions
+Holds w Drafts = AreDrafts w.files w.now w.drafts
+Holds w Handles = AreHandles w.made.handles w.drafts w.handles
+Holds w Current = HaveCurrent w
+
+-- each part holds
 pub record IsWellFormed (w : World) : Type 0 where
-  pub now : w.now ≤ last_moment
-  pub counts : AreCounted w
-  pub files : AllByRecursion (IsFile w.made) w.files
-  pub files_placed : AllLater (λ earlier later. earlier.id < later.id) w.files
-  pub names : AllByRecursion (IsName w.files w.now) w.names
-  pub lives : AllLater AreApart w.names
-  pub versions : AllByRecursion (IsVersion w.files w.now) w.versions
-  pub versions_placed : AllLater ArePlaced w.versions
-  pub drafts : AllByRecursion (IsDraft w.files w.now) w.drafts
-  pub drafts_placed : AllLater (λ earlier later. earlier.file < later.file) w.drafts
-  pub handles : AllByRecursion (λ row. row.number ≤ w.made.handles) w.handles
-  pub handles_placed : AllLater (λ earlier later. earlier.number < later.number) w.handles
-  pub current : HaveCurrent w
+  pub holds : (part : Part) → Holds w part

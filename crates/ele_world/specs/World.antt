@@ -1,11 +1,13 @@
 -- The world, and how its rows are found.
-use Rattle.std.specs.Prelude.{ℕ, ◌-◌, ◌==◌, nat_lt, Bool, false, ◌&&◌, ◌||◌, List, [], ◌∷◌, Option, is_none, find}
+use Rattle.std.specs.Prelude.{ℕ, ◌-◌, ◌==◌, nat_lt, Bool, false, ◌&&◌, ◌||◌, List, [], ◌∷◌, Option, is_none, find, Result, Ok, Err}
 use Rattle.std.specs.List.{list_any}
 use Rattle.std.specs.Option.{option_map, option_map_or}
 use Rattle.ele_policy.specs.declared.policy.Policy.{Policy}
 use Rattle.ele_policy.specs.declared.policy.Policy.TheVariants.{Safe}
 use Rattle.ele_world.specs.Bounds.{Bounds}
 use Rattle.ele_world.specs.declared.flat.Flat.{Flat}
+use Rattle.ele_world.specs.declared.refusal.Refusal.{Refusal}
+use Rattle.ele_world.specs.declared.refusal.Refusal.TheVariants.{NoHandle}
 use Rattle.ele_world.specs.declared.rows.DirectoryRow.{DirectoryRow}
 use Rattle.ele_world.specs.declared.rows.FileRow.{FileRow}
 use Rattle.ele_world.specs.declared.rows.NameRow.{NameRow}
@@ -80,6 +82,9 @@ current_of w file = find (is_version file (next_of w.files file - 1)) w.versions
 abbrev pub is_draft : ℕ → DraftRow → Bool
 is_draft file row = row.file == file
 
+abbrev pub has_draft : World → ℕ → Bool
+has_draft w file = list_any (is_draft file) w.drafts
+
 abbrev pub is_handle : ℕ → HandleRow → Bool
 is_handle number row = row.number == number
 
@@ -89,6 +94,10 @@ is_writer file row = row.file == file
 -- the file that is written through the handle
 abbrev pub handle_file : List HandleRow → ℕ → Option ℕ
 handle_file rows number = option_map (λ row. row.file) (find (is_handle number) rows)
+
+-- the same, or why there is none
+abbrev pub file_by : List HandleRow → ℕ → Result ℕ Refusal
+file_by rows number = option_map_or (λ file. Ok file) (handle_file rows number) (Err NoHandle)
 
 -- the version stands later: its file's number is greater, or the file is the same and its own number is
 abbrev pub is_version_after : ℕ → ℕ → VersionRow → Bool

@@ -1,0 +1,83 @@
+-- The changes of each event may be made, each in its turn.
+use Rattle.std.proofs.Common.{◌≡◌, ℕ, ◌+◌, ◌-◌, ◌<◌, ◌≤◌, Bool, true, false, ◌||◌, List, [], ◌∷◌, length, Option, Some, None, Result, Ok, refl, sym, subst, ◌∙◌, arith, eqb}
+use Rattle.std.specs.Prelude.{find}
+use Rattle.std.specs.List.{list_any, AllByRecursion}
+use Rattle.std.specs.Option.{option_map_or}
+use Rattle.std.proofs.lemmas.Bool.Decides.{nat_tests}
+use Rattle.ele_due.specs.declared.key.Key.{Key}
+use Rattle.ele_moment.proofs.Edits.{all-found, found_passes, length-remove_first, list_any-insert_before}
+use Rattle.ele_policy.specs.declared.policy.Policy.{Policy}
+use Rattle.ele_policy.specs.declared.policy.Policy.TheVariants.{Safe}
+use Rattle.ele_moment.specs.Lists.{insert_before}
+use Rattle.ele_world.specs.Change.{new_draft, EndDraft, ShutHandle, all_applied}
+use Rattle.ele_world.specs.Scan.{first_due}
+use Rattle.ele_world.specs.Step.{versions_made, has_other_writer, plan}
+use Rattle.ele_world.specs.WellFormed.{IsPolicy, AreWrittenBy, IsDraft, Counted, Directories, Names, Versions, Drafts, IsWellFormed}
+use Rattle.ele_world.specs.World.{World, is_directory, default_of, next_of, is_draft, is_draft_after}
+use Rattle.ele_world.specs.declared.event.Event.{Event}
+use Rattle.ele_world.specs.declared.event.Event.TheVariants.{Clock, Tick, Create, OpenWrite, Write, Truncate, Close, SetDefault, CleanOne, Read, Due, UsageAll}
+use Rattle.ele_world.specs.declared.event.Source.TheVariants.{Of}
+use Rattle.ele_world.specs.declared.rows.DirectoryRow.{DirectoryRow}
+use Rattle.ele_world.specs.declared.rows.DraftRow.{DraftRow}
+use Rattle.ele_world.proofs.DueRows.{first_is_due, due_has_ended}
+use Rattle.ele_world.proofs.May.{HasRoom, MayAppend, MayTake, MayPlan}
+use Rattle.ele_world.proofs.Walks.{file_there}
+
+-- ---- what the checks found
+
+default_is : (rows : List DirectoryRow) (id : ℕ) → AllByRecursion (λ row. IsPolicy row.default) rows → IsPolicy (default_of rows id)
+default_is rows id all = by (find (is_directory id) rows) refl where
+  by : (o : Option DirectoryRow) → find (is_directory id) rows ≡ o → IsPolicy (option_map_or (λ (row : DirectoryRow). row.default) o (Safe 86400))
+  by None e = record { some = omega arith; fits = omega arith }
+  by (Some row) e = all-found (is_directory id) (λ row. IsPolicy row.default) rows row e all
+
+-- the file's new draft is there
+begun : (w : World) (file : ℕ) → list_any (is_draft file) (insert_before (is_draft_after file) (new_draft w file) w.drafts) ≡ true
+begun w file = let own : is_draft file (new_draft w file) ≡ true = grind (arith, nat_tests) in rw (list_any-insert_before (is_draft_after file) (is_draft file) (new_draft w file) w.drafts, own) refl
+
+takes : (w : World) (key : Key) → IsWellFormed w → first_due w ≡ Some key → MayTake CleanOne w w key.file key.number
+takes w key k first =
+    let due = first_is_due w key (k.holds Versions).placed first in
+    record { clean = refl; row = due.row; found = due.found; due = due.due; ended = due_has_ended w due.row w.now due.due; same = refl }
+
+-- the draft becomes a version, once the last handle and the draft have gone
+finishes : (w : World) (handle file : ℕ) (draft : DraftRow) → IsWellFormed w → find (is_draft file) w.drafts ≡ Some draft → MayAppend (all_applied w (ShutHandle handle ∷ EndDraft file ∷ [])) file draft.opened draft.cells
+finishes w handle file draft k found =
+    let is : IsDraft w.files w.now draft = all-found (is_draft file) (IsDraft w.files w.now) w.drafts draft found (k.holds Drafts).each in
+    let own : draft.file ≡ file = (let passes = found_passes (is_draft file) w.drafts draft found in grind (arith, nat_tests)) in
+    record {
+      there = subst (λ f. 0 < next_of w.files f) own is.there;
+      by_now = is.opened;
+      room = omega (arith, (k.holds Counted).versions_made, length-remove_first (is_draft file) w.drafts draft found);
+      content = is.content;
+      written = subst (λ f. AreWrittenBy (next_of w.files f) draft.cells) own is.written;
+    }
+
+-- ---- each event
+
+pub allowed : (w : World) (event : Event) → IsWellFormed w → MayPlan event w (plan w event)
+allowed w (Clock to) k = λ later. ((grind (arith, nat_tests), λ is. is), tt)
+allowed w (Tick seconds) k = λ fits. ((omega arith, λ is. grind (arith, nat_tests)), tt)
+allowed w (Create path) k = λ at found free files names versions.
+    (record { next = refl; files = grind (arith, nat_tests); names = grind (arith, nat_tests); room = grind (arith, nat_tests); free = free; valid = default_is w.directories at.0 (k.holds Directories).policies }, tt)
+allowed w (OpenWrite path) k = λ file found handles. (
+  λ has. (record { next = refl; room = grind (arith, nat_tests); drafted = has }, tt),
+  λ none versions. (
+    record { there = file_there w.files w.now w.names path file (k.holds Names).each found; none = none; room = grind (arith, nat_tests) },
+    (record { next = refl; room = grind (arith, nat_tests); drafted = begun w file }, tt),
+  ),
+)
+allowed w (Write handle offset bytes) k = λ file found. (λ none. tt, λ some fits. (grind (arith, nat_tests), tt))
+allowed w (Truncate handle size) k = λ file found fits. (grind (arith, nat_tests), tt)
+allowed w (Close handle) k = λ file found. (
+  λ other. (tt, tt),
+  λ last. (
+    (tt, tt),
+    λ draft drafted. (λ changed. (tt, (last, (finishes w handle file draft k drafted, tt))), λ same. (tt, (last, tt))),
+  ),
+)
+allowed w (SetDefault path policy) k = λ directory found. (λ is. is, tt)
+allowed w CleanOne k = (tt, λ key first. (takes w key k first, tt))
+allowed w (Read (Of handle)) k = λ file found. tt
+allowed w Due k = tt
+allowed w UsageAll k = tt

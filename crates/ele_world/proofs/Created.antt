@@ -1,0 +1,93 @@
+-- What the making of a file comes to: a row behind the files, the names and the versions.
+use Rattle.std.proofs.Common.{◌≡◌, ℕ, ◌+◌, ◌-◌, ◌<◌, ◌≤◌, Bool, true, false, cond, ◌||◌, List, [], ◌∷◌, ◌++◌, Option, Some, None, refl, ap, sym, ◌∙◌, arith}
+use Rattle.std.specs.List.{list_any, AllByRecursion}
+use Rattle.std.proofs.lemmas.Bool.Decides.{nat_tests}
+use Rattle.std.proofs.lemmas.List.Folds.{list_any-append}
+use Rattle.ele_moment.specs.Lists.{update_first, insert_before}
+use Rattle.ele_moment.proofs.Edits.{all-weaker}
+use Rattle.ele_policy.specs.declared.policy.Policy.{Policy}
+use Rattle.ele_world.specs.Change.{numbered_on, ended_at, next_version, with_end, with_file, with_name, with_version, applied, MakeFile}
+use Rattle.ele_world.specs.WellFormed.{IsFile, IsVersion, Files, Versions, IsWellFormed}
+use Rattle.ele_world.specs.World.{World, next_of, is_file, is_live, is_live_name_of, is_version, is_version_after}
+use Rattle.ele_world.specs.declared.rows.FileRow.{FileRow}
+use Rattle.ele_world.specs.declared.rows.NameRow.{NameRow}
+use Rattle.ele_world.specs.declared.rows.Target.TheVariants.{File}
+use Rattle.ele_world.specs.declared.rows.VersionRow.{VersionRow}
+use Rattle.ele_world.proofs.Files.{next_of-given, next_of-new}
+
+-- ---- a change at the end of a list
+
+module _ {X : Type 0} (p : X → Bool) where
+  update_first-last : (f : X → X) (xs : List X) (y : X) → AllByRecursion (λ x. p x ≡ false) xs → p y ≡ true → update_first p f (xs ++ y ∷ []) ≡ xs ++ f y ∷ []
+  update_first-last f [] y none passes = rw passes refl
+  update_first-last f (x ∷ xs) y none passes = rw (none.0) (ap (λ ys. x ∷ ys) (update_first-last f xs y none.1 passes))
+
+  update_first-none : (f : X → X) (xs : List X) → AllByRecursion (λ x. p x ≡ false) xs → update_first p f xs ≡ xs
+  update_first-none f [] none = refl
+  update_first-none f (x ∷ xs) none = rw (none.0) (ap (λ ys. x ∷ ys) (update_first-none f xs none.1))
+
+  insert_before-last : (xs : List X) (y : X) → AllByRecursion (λ x. p x ≡ false) xs → insert_before p y xs ≡ xs ++ y ∷ []
+  insert_before-last [] y none = refl
+  insert_before-last (x ∷ xs) y none = rw (none.0) (ap (λ ys. x ∷ ys) (insert_before-last xs y none.1))
+
+-- ---- a file is made
+
+abbrev pub new_file : ℕ → Policy → FileRow
+new_file id policy = record { id = id; policy = policy; next = 2 }
+
+abbrev pub new_name : World → ℕ → List ℕ → ℕ → NameRow
+new_name w directory name id = record { directory = directory; name = name; target = File id; birth = w.now; death = None }
+
+abbrev pub first_version : World → ℕ → VersionRow
+first_version w id = record { file = id; number = 1; opened = w.now; closed = w.now; ended = None; cells = [] }
+
+abbrev pub created : World → ℕ → List ℕ → ℕ → Policy → World
+created w directory name id policy = record w {
+  files = w.files ++ new_file id policy ∷ [];
+  names = w.names ++ new_name w directory name id ∷ [];
+  versions = w.versions ++ first_version w id ∷ [];
+  made = record w.made { files = id; names = w.made.names + 1; versions = w.made.versions + 1 };
+}
+
+module _ (w : World) (directory : ℕ) (name : List ℕ) (policy : Policy) (k : IsWellFormed w) where
+  abbrev id : ℕ
+  id = w.made.files + 1
+
+  abbrev begun : World
+  begun = with_name (with_file w id policy) directory name id
+
+  next_is : next_of begun.files id ≡ 1
+  next_is = next_of-new w.made.files w.made.versions w.files (record { id = id; policy = policy; next = 1 }) (k.holds Files).each (omega arith)
+
+  files_are : update_first (is_file id) numbered_on begun.files ≡ w.files ++ new_file id policy ∷ []
+  files_are = update_first-last (is_file id) numbered_on w.files (record { id = id; policy = policy; next = 1 })
+      (all-weaker (IsFile w.made.files w.made.versions) (λ row. is_file id row ≡ false) w.files (λ row h. let given = h.given in grind (arith, nat_tests)) (k.holds Files).each)
+      (grind (arith, nat_tests))
+
+  -- each version is of a file before
+  before : AllByRecursion (λ row. row.file < id) w.versions
+  before = all-weaker (IsVersion w.files w.now) (λ row. row.file < id) w.versions
+      (λ row h. let given = next_of-given w.made.files w.made.versions w.files row.file (k.holds Files).each (omega (arith, h.numbered)) in omega (arith, given)) (k.holds Versions).each
+
+  live : is_live begun id ≡ true
+  live = list_any-append (is_live_name_of id) w.names (new_name w directory name id ∷ []) ∙ by (list_any (is_live_name_of id) w.names) where
+    own : is_live_name_of id (new_name w directory name id) ≡ true
+    own = grind (arith, nat_tests)
+
+    by : (b : Bool) → (b || (is_live_name_of id (new_name w directory name id) || false)) ≡ true
+    by true = refl
+    by false = rw own refl
+
+  version_is : next_version begun id w.now [] ≡ first_version w id
+  version_is = rw (next_is, live) refl
+
+  versions_are : insert_before (is_version_after id (next_of begun.files id)) (next_version begun id w.now []) (with_end begun id) ≡ w.versions ++ first_version w id ∷ []
+  versions_are =
+      ap (insert_before (is_version_after id (next_of begun.files id)) (next_version begun id w.now [])) (update_first-none (is_version id (next_of begun.files id - 1)) (ended_at w.now) w.versions (all-weaker (λ row. row.file < id) (λ row. is_version id (next_of begun.files id - 1) row ≡ false) w.versions (λ row h. grind (arith, nat_tests)) before))
+      ∙ insert_before-last (is_version_after id (next_of begun.files id)) w.versions (next_version begun id w.now []) (all-weaker (λ row. row.file < id) (λ row. is_version_after id (next_of begun.files id) row ≡ false) w.versions (λ row h. grind (arith, nat_tests)) before)
+      ∙ ap (λ (v : VersionRow). w.versions ++ v ∷ []) version_is
+
+  pub made_is : applied w (MakeFile directory name (w.made.files + 1) policy) ≡ created w directory name (w.made.files + 1) policy
+  made_is =
+      ap (λ (files : List FileRow). record (applied w (MakeFile directory name id policy)) { files = files }) files_are
+      ∙ ap (λ (versions : List VersionRow). record (created w directory name id policy) { versions = versions }) versions_are

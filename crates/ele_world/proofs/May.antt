@@ -1,0 +1,82 @@
+-- What each change needs, so that it leaves a well-formed world, and takes only what was due.
+use Rattle.std.specs.Prelude.{◌≡◌, ℕ, ◌+◌, ◌<◌, ◌≤◌, Bool, true, false, List, [], ◌∷◌, length, Option, Some, Result, Ok, is_some, is_none, find}
+use Rattle.std.specs.List.{list_any}
+use Rattle.ele_content.specs.declared.cell.Cell.{Cell}
+use Rattle.ele_content.specs.Content.{longest_content}
+use Rattle.ele_moment.specs.Last.{last_moment}
+use Rattle.ele_policy.specs.declared.policy.Policy.{Policy}
+use Rattle.ele_world.specs.Change.{Change, Time, Govern, MakeFile, Append, Take, StartDraft, WriteDraft, TruncateDraft, EndDraft, OpenHandle, ShutHandle, applied}
+use Rattle.ele_world.specs.Due.{is_due_at}
+use Rattle.ele_world.specs.Plan.{Plan, Tell, Make, Unless, When, Need, IfFound}
+use Rattle.ele_world.specs.Run.{IsEvent}
+use Rattle.ele_world.specs.Walk.{live_target}
+use Rattle.ele_world.specs.WellFormed.{IsContent, AreWrittenBy, IsPolicy}
+use Rattle.ele_world.specs.World.{World, next_of, is_version, is_draft, has_draft, is_writer}
+use Rattle.ele_world.specs.declared.event.Event.{Event}
+use Rattle.ele_world.specs.declared.event.Event.TheVariants.{CleanOne}
+use Rattle.ele_world.specs.declared.rows.VersionRow.{VersionRow}
+
+abbrev pub HasRoom : World → Type 0
+HasRoom w = w.made.versions + length w.drafts < w.limits.versions
+
+pub record MayMake (w : World) (directory : ℕ) (name : List ℕ) (id : ℕ) (policy : Policy) : Type 0 where
+  pub next : id ≡ w.made.files + 1
+  pub files : w.made.files < w.limits.files
+  pub names : w.made.names < w.limits.names
+  pub room : HasRoom w
+  pub free : is_some (live_target w.names directory name) ≡ false
+  pub valid : IsPolicy policy
+
+pub record MayAppend (w : World) (file opened : ℕ) (cells : List Cell) : Type 0 where
+  pub there : 0 < next_of w.files file
+  pub by_now : opened ≤ w.now
+  pub room : HasRoom w
+  pub content : IsContent cells
+  pub written : AreWrittenBy (next_of w.files file) cells
+
+-- a version leaves only by a clean, before whose changes it was due
+pub record MayTake (event : Event) (first w : World) (file number : ℕ) : Type 0 where
+  pub clean : event ≡ CleanOne
+  pub row : VersionRow
+  pub found : find (is_version file number) first.versions ≡ Some row
+  pub due : is_due_at first row first.now ≡ true
+  pub ended : is_none row.ended ≡ false
+  pub same : w.versions ≡ first.versions
+
+pub record MayStart (w : World) (file : ℕ) : Type 0 where
+  pub there : 0 < next_of w.files file
+  pub none : has_draft w file ≡ false
+  pub room : HasRoom w
+
+pub record MayOpen (w : World) (number file : ℕ) : Type 0 where
+  pub next : number ≡ w.made.handles + 1
+  pub room : w.made.handles < w.limits.handles
+  pub drafted : list_any (is_draft file) w.drafts ≡ true
+
+-- the change, by an event and from the world before the event's first change
+abbrev pub May : Event → World → World → Change → Type 0
+May event first w (Time to) = (w.now ≤ to) × (IsEvent event → to ≤ last_moment)
+May event first w (Govern directory policy) = IsEvent event → IsPolicy policy
+May event first w (MakeFile directory name id policy) = MayMake w directory name id policy
+May event first w (Append file opened cells) = MayAppend w file opened cells
+May event first w (Take file number) = MayTake event first w file number
+May event first w (StartDraft file) = MayStart w file
+May event first w (WriteDraft file offset bytes) = offset + length bytes ≤ longest_content
+May event first w (TruncateDraft file size) = size ≤ longest_content
+May event first w (EndDraft file) = list_any (is_writer file) w.handles ≡ false
+May event first w (OpenHandle number file) = MayOpen w number file
+May event first w (ShutHandle number) = Unit {0}
+
+-- each in its turn
+abbrev pub MayAll : Event → World → World → List Change → Type 0
+MayAll event first w [] = Unit {0}
+MayAll event first w (change ∷ changes) = May event first w change × MayAll event first (applied w change) changes
+
+-- where the checks pass, the changes may be made
+abbrev pub MayPlan : Event → World → Plan → Type 0
+MayPlan event w (Tell reply) = Unit {0}
+MayPlan event w (Make reply changes) = MayAll event w w changes
+MayPlan event w (Unless test refusal next) = test ≡ false → MayPlan event w next
+MayPlan event w (When test passing otherwise) = (test ≡ true → MayPlan event w passing) × (test ≡ false → MayPlan event w otherwise)
+MayPlan event w (Need found next) = (x : _) → found ≡ Ok x → MayPlan event w (next x)
+MayPlan event w (IfFound found otherwise next) = MayPlan event w otherwise × ((x : _) → found ≡ Some x → MayPlan event w (next x))

@@ -1,0 +1,24 @@
+-- What opening a handle comes to, whether the file has a draft or not.
+use Rattle.std.proofs.Common.{◌≡◌, ℕ, ◌+◌, Bool, true, false, cond, List, [], ◌∷◌, ◌++◌, refl}
+use Rattle.std.specs.List.{list_any}
+use Rattle.ele_moment.specs.Lists.{insert_before}
+use Rattle.ele_world.specs.Change.{new_draft, StartDraft, OpenHandle, all_applied}
+use Rattle.ele_world.specs.World.{World, has_draft, is_draft, is_draft_after}
+use Rattle.ele_world.specs.declared.rows.DraftRow.{DraftRow}
+
+-- the drafts with one of the file: that which is there, or else a new one
+abbrev pub with_draft : World → ℕ → List DraftRow
+with_draft w file = cond (has_draft w file) w.drafts (insert_before (is_draft_after file) (new_draft w file) w.drafts)
+
+abbrev pub opened : World → ℕ → ℕ → World
+opened w file number = record w {
+  drafts = with_draft w file;
+  handles = w.handles ++ record { number = number; file = file } ∷ [];
+  made = record w.made { handles = number };
+}
+
+pub opened_again : (w : World) (file number : ℕ) → has_draft w file ≡ true → all_applied w (OpenHandle number file ∷ []) ≡ opened w file number
+opened_again w file number has = rw has refl
+
+pub opened_first : (w : World) (file number : ℕ) → has_draft w file ≡ false → all_applied w (StartDraft file ∷ OpenHandle number file ∷ []) ≡ opened w file number
+opened_first w file number none = rw none refl

@@ -1,0 +1,121 @@
+-- The changes that a world can undergo, and what each makes of its rows; each leaves a well-formed world.
+use Rattle.std.specs.Prelude.{ℕ, ◌+◌, ◌-◌, ◌==◌, true, false, List, [], ◌∷◌, ◌++◌, length, Option, Some, None, unwrap_or, if◌then◌else◌}
+use Rattle.std.specs.Option.{option_map_or}
+use Rattle.ele_content.specs.declared.cell.Cell.{Cell}
+use Rattle.ele_content.specs.Content.{content_of, written, truncated}
+use Rattle.ele_moment.specs.Lists.{update_first, remove_first, insert_before}
+use Rattle.ele_policy.specs.declared.policy.Policy.{Policy}
+use Rattle.ele_world.specs.declared.rows.DirectoryRow.{DirectoryRow}
+use Rattle.ele_world.specs.declared.rows.DraftRow.{DraftRow}
+use Rattle.ele_world.specs.declared.rows.FileRow.{FileRow}
+use Rattle.ele_world.specs.declared.rows.Target.TheVariants.{File}
+use Rattle.ele_world.specs.declared.rows.VersionRow.{VersionRow}
+use Rattle.ele_world.specs.World.{World, is_directory, is_file, next_of, is_version, is_version_after, is_live, current_of, is_draft, is_draft_after, is_handle}
+
+pub data Change : Type 0 where
+  Time : (to : ℕ) → Change
+  Govern : (directory : ℕ) → (policy : Policy) → Change
+  MakeFile : (directory : ℕ) → (name : List ℕ) → (id : ℕ) → (policy : Policy) → Change
+  Append : (file opened : ℕ) → (cells : List Cell) → Change
+  Take : (file number : ℕ) → Change
+  StartDraft : (file : ℕ) → Change
+  WriteDraft : (file offset : ℕ) → (bytes : List ℕ) → Change
+  TruncateDraft : (file size : ℕ) → Change
+  EndDraft : (file : ℕ) → Change
+  OpenHandle : (number file : ℕ) → Change
+  ShutHandle : (number : ℕ) → Change
+
+-- ---- directories, files and names
+
+abbrev pub governed_by : Policy → DirectoryRow → DirectoryRow
+governed_by policy row = record row { default = policy }
+
+-- a file, without a version yet
+abbrev pub with_file : World → ℕ → Policy → World
+with_file w id policy = record w {
+  files = w.files ++ record { id = id; policy = policy; next = 1 } ∷ [];
+  made = record w.made { files = id };
+}
+
+-- a name of the file, from now on
+abbrev pub with_name : World → ℕ → List ℕ → ℕ → World
+with_name w directory name file = record w {
+  names = w.names ++ record { directory = directory; name = name; target = File file; birth = w.now; death = None } ∷ [];
+  made = record w.made { names = w.made.names + 1 };
+}
+
+-- ---- versions
+
+-- it ends then, unless it has ended
+abbrev pub ended_at : ℕ → VersionRow → VersionRow
+ended_at at row = record row { ended = Some (unwrap_or row.ended at) }
+
+-- the versions, where the one before the file's next has an end
+abbrev pub with_end : World → ℕ → List VersionRow
+with_end w file = update_first (is_version file (next_of w.files file - 1)) (ended_at w.now) w.versions
+
+abbrev pub numbered_on : FileRow → FileRow
+numbered_on row = record row { next = row.next + 1 }
+
+-- the file's next version, which closes now; without a live name it ends at once
+abbrev pub next_version : World → ℕ → ℕ → List Cell → VersionRow
+next_version w file opened cells = record {
+  file = file;
+  number = next_of w.files file;
+  opened = opened;
+  closed = w.now;
+  ended = if is_live w file then None else Some w.now;
+  cells = cells;
+}
+
+-- the file has it, at its place, and the version before it ends
+abbrev pub with_version : World → ℕ → ℕ → List Cell → World
+with_version w file opened cells = record w {
+  files = update_first (is_file file) numbered_on w.files;
+  versions = insert_before (is_version_after file (next_of w.files file)) (next_version w file opened cells) (with_end w file);
+  made = record w.made { versions = w.made.versions + 1 };
+}
+
+-- ---- drafts
+
+-- the cells of the file's current version
+abbrev pub current_cells : World → ℕ → List Cell
+current_cells w file = option_map_or (λ row. row.cells) (current_of w file) []
+
+-- a draft that is opened now, and begins as the current version
+abbrev pub new_draft : World → ℕ → DraftRow
+new_draft w file = record { file = file; opened = w.now; cells = current_cells w file; changed = false }
+
+-- the draft with the bytes written into it, by the version that it is to be
+abbrev pub changed_by : ℕ → ℕ → List ℕ → DraftRow → DraftRow
+changed_by number offset bytes draft = record draft { cells = written number offset bytes draft.cells; changed = true }
+
+-- the draft with so many bytes, by the version that it is to be; one that has so many stays
+abbrev pub fitted_by : ℕ → ℕ → DraftRow → DraftRow
+fitted_by number size draft =
+    if length (content_of draft.cells) == size then draft
+    else record draft { cells = truncated number size draft.cells; changed = true }
+
+-- ---- each change
+
+abbrev pub applied : World → Change → World
+applied w (Time to) = record w { now = to }
+applied w (Govern directory policy) = record w { directories = update_first (is_directory directory) (governed_by policy) w.directories }
+-- a new file, its name, and its first version, which is empty
+applied w (MakeFile directory name id policy) = with_version (with_name (with_file w id policy) directory name id) id w.now []
+applied w (Append file opened cells) = with_version w file opened cells
+applied w (Take file number) = record w { versions = remove_first (is_version file number) w.versions }
+applied w (StartDraft file) = record w { drafts = insert_before (is_draft_after file) (new_draft w file) w.drafts }
+applied w (WriteDraft file offset bytes) = record w { drafts = update_first (is_draft file) (changed_by (next_of w.files file) offset bytes) w.drafts }
+applied w (TruncateDraft file size) = record w { drafts = update_first (is_draft file) (fitted_by (next_of w.files file) size) w.drafts }
+applied w (EndDraft file) = record w { drafts = remove_first (is_draft file) w.drafts }
+applied w (OpenHandle number file) = record w {
+  handles = w.handles ++ record { number = number; file = file } ∷ [];
+  made = record w.made { handles = number };
+}
+applied w (ShutHandle number) = record w { handles = remove_first (is_handle number) w.handles }
+
+-- one after the other
+abbrev pub all_applied : World → List Change → World
+all_applied w [] = w
+all_applied w (change ∷ changes) = all_applied (applied w change) changes
