@@ -18,7 +18,7 @@ use Rattle.ele_policy.specs.Ripe.{ripe_by}
 use Rattle.ele_world.specs.declared.rows.VersionRow.{VersionRow}
 use Rattle.ele_world.specs.Due.{is_due, is_due_at, ripe_of}
 use Rattle.ele_world.specs.Scan.{due_key, key_of}
-use Rattle.ele_world.specs.WellFormed.{IsVersion, IsWellFormed}
+use Rattle.ele_world.specs.WellFormed.{IsVersion, Versions, IsWellFormed}
 use Rattle.ele_world.specs.World.{World, policy_of, is_version}
 use Rattle.ele_world.proofs.Passes.{due_is_ripe}
 use Rattle.ele_core.specs.Tracked.{key_by, keys_of, has_any, version_key, key_of_version}
@@ -87,7 +87,7 @@ told_closed w file number stamps ended k told end = by (find (is_version file nu
   by : (o : Option VersionRow) → find (is_version file number) w.versions ≡ o → Some stamps ≡ option_map stamps_of o → stamps.closed ≤ ended
   by None found t = absurd cc
   by (Some row) found t =
-      let is : IsVersion w.files w.now row = all-found (is_version file number) (IsVersion w.files w.now) w.versions row found k.versions in
+      let is : IsVersion w.files w.now row = all-found (is_version file number) (IsVersion w.files w.now) w.versions row found (k.holds Versions).each in
       let same : stamps ≡ stamps_of row = cc in
       let ends : row.ended ≡ Some ended = ap (λ (s : Stamps). s.ended) (sym same) ∙ end in
       let in_time = (rw ends at is.ended) in

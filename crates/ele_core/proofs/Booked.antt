@@ -17,7 +17,9 @@ use Rattle.ele_usage.specs.Sums.{nothing, plus, Fits}
 use Rattle.ele_world.specs.Usage.{usage_of, is_file_of, bytes_in}
 use Rattle.ele_world.specs.Whole.{whole, ChangesOnly}
 use Rattle.ele_world.specs.declared.rows.DraftRow.{DraftRow}
-use Rattle.ele_world.specs.Step.{created, opened, changed_by, fitted_by}
+use Rattle.ele_world.specs.Change.{changed_by, fitted_by}
+use Rattle.ele_world.proofs.Created.{created}
+use Rattle.ele_world.proofs.Opened.{opened}
 use Rattle.ele_world.specs.World.{World, default_of, policy_of, next_of, is_draft, handle_file}
 use Rattle.ele_world.proofs.Usages.{usage_changes, usage_same, within_files, within_versions, within_bytes, within_blocks, whole_files, whole_versions, whole_bytes, changes_opened, changes_updated, created_usage, only_at_is}
 
@@ -149,8 +151,8 @@ made_book rows directory name now book sound after added k =
     added k
     ∙ ap (λ (u : Usage). plus (sums_of rows.book k) u) (only_at_is k kind new)
     ∙ ap (λ (u : Usage). plus u (cond (is_kind k kind) new nothing)) (booked rows sound.tracked k)
-    ∙ sym (created_usage w directory name sound.formed k)
-    ∙ usage_same (told_by made) (created w directory name (rows.made.files + 1)) refl refl refl k
+    ∙ sym (created_usage w directory name (default_of rows.directories.items directory) sound.formed k)
+    ∙ usage_same (told_by made) (created w directory name (rows.made.files + 1) (default_of rows.directories.items directory)) refl refl refl k
     ∙ ap (λ (h : Held). usage_of (told_by h) k) (sym after)
 
 -- ---- blocks that are shifted

@@ -23,7 +23,7 @@ use Rattle.ele_world.specs.declared.rows.DraftRow.{DraftRow}
 use Rattle.ele_world.specs.declared.rows.FileRow.{FileRow}
 use Rattle.ele_world.specs.declared.rows.VersionRow.{VersionRow}
 use Rattle.ele_world.specs.Scan.{key_of}
-use Rattle.ele_world.specs.Step.{ended_at, numbered_on}
+use Rattle.ele_world.specs.Change.{ended_at, numbered_on}
 use Rattle.ele_world.specs.World.{handle_file, is_file, is_version, is_version_after, next_of, policy_of}
 
 -- ---- the version before the next one

@@ -1,8 +1,8 @@
 -- What closing a handle leaves, as the step of the world has it.
-use Rattle.std.proofs.Common.{◌≡◌, ◌≤◌, ◌<◌, ◌+◌, ◌^◌, ℕ, Bool, true, false, cond, Option, Some, None, refl, ap, sym, subst, ◌∙◌, arith}
+use Rattle.std.proofs.Common.{◌≡◌, ◌≤◌, ◌<◌, ◌+◌, ◌^◌, ℕ, Bool, true, false, cond, List, [], ◌∷◌, Option, Some, None, Ok, Err, refl, ap, sym, subst, ◌∙◌, arith}
 use Rattle.std.specs.Prelude.{find, IfSome}
 use Rattle.std.specs.List.{list_any, AllByRecursion}
-use Rattle.std.specs.Option.{ForSome}
+use Rattle.std.specs.Option.{ForSome, option_map_or}
 use Rattle.std.proofs.lemmas.Bool.Decides.{nat_tests}
 use Rattle.ele_core.specs.Closings.{makes_version}
 use Rattle.ele_core.specs.Inside.{world_of, IsSound}
@@ -13,12 +13,16 @@ use Rattle.ele_files.specs.Held.{Held}
 use Rattle.ele_moment.proofs.Edits.{found_passes, all-found, all-weaker}
 use Rattle.ele_moment.specs.Lists.{remove_first}
 use Rattle.ele_sessions.specs.declared.closing.Closing.TheVariants.{StillOpen}
+use Rattle.ele_world.specs.declared.event.Event.TheVariants.{Close}
+use Rattle.ele_world.specs.declared.refusal.Refusal.TheVariants.{NoHandle}
 use Rattle.ele_world.specs.declared.reply.Reply.{Reply}
 use Rattle.ele_world.specs.declared.reply.Reply.TheVariants.{Closed}
 use Rattle.ele_world.specs.declared.rows.DraftRow.{DraftRow}
 use Rattle.ele_world.specs.declared.rows.VersionRow.{VersionRow}
-use Rattle.ele_world.specs.Step.{close_of, close_step, draft_closed, finished}
-use Rattle.ele_world.specs.WellFormed.{IsFile, IsVersion}
+use Rattle.ele_world.specs.Change.{EndDraft, ShutHandle, Append, all_applied}
+use Rattle.ele_world.specs.Plan.{on_found}
+use Rattle.ele_world.specs.Step.{has_other_writer, step}
+use Rattle.ele_world.specs.WellFormed.{IsFile, IsVersion, Counted, Files, Versions}
 use Rattle.ele_world.specs.Whole.{ChangesOnly}
 use Rattle.ele_world.proofs.Others.{drafts-removed}
 use Rattle.ele_world.specs.World.{World, handle_file, is_draft, is_handle, is_live, is_writer, next_of}
@@ -46,21 +50,35 @@ told_closed w handle file live versions =
 abbrev unhandled : World → ℕ → World
 unhandled w handle = record w { handles = remove_first (is_handle handle) w.handles }
 
+-- the step, by what the file's draft is
+abbrev draft_step : World → ℕ → ℕ → Option DraftRow → Reply × World
+draft_step w handle file found = option_map_or (λ draft.
+    cond draft.changed
+    (Closed (Some (next_of w.files file)), all_applied w (ShutHandle handle ∷ EndDraft file ∷ Append file draft.opened draft.cells ∷ []))
+    (Closed None, all_applied w (ShutHandle handle ∷ EndDraft file ∷ []))) found (Closed None, unhandled w handle)
+
+-- and by the file that the handle writes
+abbrev close_of : World → ℕ → Option ℕ → Reply × World
+close_of w handle found = on_found w (option_map_or (λ file. Ok file) found (Err NoHandle)) (λ file.
+    cond (has_other_writer w handle file) (Closed None, unhandled w handle) (draft_step w handle file (find (is_draft file) w.drafts)))
+
 -- a closing that makes no version, whether the file is live or not
 pub left_step : (w : World) (handle file : ℕ) (live : Bool) → handle_file w.handles handle ≡ Some file → makes_version (closing (held_of w) handle) ≡ false
-    → close_step w handle ≡ (Closed None, with_held w (closed (held_of w) handle w.now live) w.made.versions)
-unfolding close_step
+    → step w (Close handle) ≡ (Closed None, with_held w (closed (held_of w) handle w.now live) w.made.versions)
 left_step w handle file live of_file makes =
     subst (λ o. makes_version (closing_of (held_of w) handle o) ≡ false → close_of w handle o ≡ (Closed None, with_held w (closed_of (held_of w) handle o w.now live) w.made.versions)) (sym of_file)
-    (writer (list_any (is_writer file) (remove_first (is_handle handle) w.handles)) (find (is_draft file) w.drafts)) makes where
-      writer : (b : Bool) (o : Option DraftRow) → makes_version (Some (cond b StillOpen (ending o))) ≡ false
-          → cond b (Closed None, unhandled w handle) (draft_closed (unhandled w handle) o) ≡ (Closed None, with_held w (cond b (left_by (held_of w) handle) (draft_left (left_by (held_of w) handle) o w.now live)) w.made.versions)
-      writer true o m = refl
-      writer false None m = refl
-      writer false (Some draft) m = changed draft draft.changed refl m where
-        changed : (draft : DraftRow) (c : Bool) → draft.changed ≡ c → makes_version (Some (ending (Some draft))) ≡ false → draft_closed (unhandled w handle) (Some draft) ≡ (Closed None, with_held w (draft_left (left_by (held_of w) handle) (Some draft) w.now live) w.made.versions)
-        changed draft true e m = absurd (let n = rw e at m in cc)
-        changed draft false e m = rw e refl
+    (writer (list_any (is_writer file) (remove_first (is_handle handle) w.handles)) (find (is_draft file) w.drafts) refl) makes where
+      writer : (b : Bool) (o : Option DraftRow) → find (is_draft file) w.drafts ≡ o → makes_version (Some (cond b StillOpen (ending o))) ≡ false
+          → cond b (Closed None, unhandled w handle) (draft_step w handle file o) ≡ (Closed None, with_held w (cond b (left_by (held_of w) handle) (draft_left (left_by (held_of w) handle) o w.now live)) w.made.versions)
+      writer true o f m = refl
+      writer false None f m = refl
+      writer false (Some draft) f m = changed draft.changed refl m where
+        own : draft.file ≡ file
+        own = let passes = found_passes (is_draft file) w.drafts draft f in grind (arith, nat_tests)
+
+        changed : (c : Bool) → draft.changed ≡ c → makes_version (Some (ending (Some draft))) ≡ false → draft_step w handle file (Some draft) ≡ (Closed None, with_held w (draft_left (left_by (held_of w) handle) (Some draft) w.now live) w.made.versions)
+        changed true e m = absurd (let n = rw e at m in cc)
+        changed false e m = rw e (ap (λ (id : ℕ). (Closed None, all_applied w (ShutHandle handle ∷ EndDraft id ∷ []))) (sym own))
 
 -- the draft that becomes a version
 pub record Becomes (h : Held) (handle file : ℕ) (draft : DraftRow) : Type 0 where
@@ -100,32 +118,31 @@ draft_becomes h handle file of_file makes =
 
 -- a closing that makes a version
 finishes : (w : World) (handle file : ℕ) → handle_file w.handles handle ≡ Some file → makes_version (closing (held_of w) handle) ≡ true
-    → close_step w handle ≡ (Closed (number_by (held_of w) (closing (held_of w) handle)), with_held w (closed (held_of w) handle w.now (is_live w file)) (w.made.versions + 1))
-unfolding close_step
+    → step w (Close handle) ≡ (Closed (number_by (held_of w) (closing (held_of w) handle)), with_held w (closed (held_of w) handle w.now (is_live w file)) (w.made.versions + 1))
 finishes w handle file of_file makes =
     subst (λ o. makes_version (closing_of (held_of w) handle o) ≡ true → close_of w handle o ≡ told_closed w handle o (is_live w file) (w.made.versions + 1)) (sym of_file)
     (writer (list_any (is_writer file) (remove_first (is_handle handle) w.handles)) (find (is_draft file) w.drafts) refl) makes where
-      live : Bool
-      live = is_live w file
-
       writer : (b : Bool) (o : Option DraftRow) → find (is_draft file) w.drafts ≡ o → makes_version (Some (cond b StillOpen (ending o))) ≡ true
-          → cond b (Closed None, unhandled w handle) (draft_closed (unhandled w handle) o) ≡ (Closed (number_by (held_of w) (Some (cond b StillOpen (ending o)))), with_held w (cond b (left_by (held_of w) handle) (draft_left (left_by (held_of w) handle) o w.now (is_live w file))) (w.made.versions + 1))
+          → cond b (Closed None, unhandled w handle) (draft_step w handle file o) ≡ (Closed (number_by (held_of w) (Some (cond b StillOpen (ending o)))), with_held w (cond b (left_by (held_of w) handle) (draft_left (left_by (held_of w) handle) o w.now (is_live w file))) (w.made.versions + 1))
       writer true o f m = absurd cc
       writer false None f m = absurd cc
       writer false (Some draft) f m = changed draft.changed refl m where
         own : draft.file ≡ file
         own = let passes = found_passes (is_draft file) w.drafts draft f in grind (arith, nat_tests)
 
-        done : finished (unhandled w handle) draft ≡ with_held w (finished_by (left_by (held_of w) handle) draft w.now (is_live w file)) (w.made.versions + 1)
-        done = subst (λ (id : ℕ). finished (unhandled w handle) draft ≡ with_held w (finished_by (left_by (held_of w) handle) draft w.now (is_live w id)) (w.made.versions + 1)) own refl
+        finished : ℕ → Reply × World
+        finished id = (Closed (Some (next_of w.files id)), all_applied w (ShutHandle handle ∷ EndDraft id ∷ Append id draft.opened draft.cells ∷ []))
 
-        changed : (c : Bool) → draft.changed ≡ c → makes_version (Some (ending (Some draft))) ≡ true → draft_closed (unhandled w handle) (Some draft) ≡ (Closed (number_by (held_of w) (Some (ending (Some draft)))), with_held w (draft_left (left_by (held_of w) handle) (Some draft) w.now (is_live w file)) (w.made.versions + 1))
+        done : finished file ≡ (Closed (Some (next_of w.files draft.file)), with_held w (finished_by (left_by (held_of w) handle) draft w.now (is_live w file)) (w.made.versions + 1))
+        done = subst (λ (id : ℕ). finished id ≡ (Closed (Some (next_of w.files draft.file)), with_held w (finished_by (left_by (held_of w) handle) draft w.now (is_live w id)) (w.made.versions + 1))) own refl
+
+        changed : (c : Bool) → draft.changed ≡ c → makes_version (Some (ending (Some draft))) ≡ true → draft_step w handle file (Some draft) ≡ (Closed (number_by (held_of w) (Some (ending (Some draft)))), with_held w (draft_left (left_by (held_of w) handle) (Some draft) w.now (is_live w file)) (w.made.versions + 1))
         changed false c m = absurd (let n = rw c at m in cc)
-        changed true c m = rw c (ap (λ (v : World). (Closed (Some (next_of w.files draft.file)), v)) done)
+        changed true c m = rw c done
 
 pub finished_step : (w : World) (handle file : ℕ) (live : Bool) (after : Held) (number : Option ℕ) → live ≡ is_live w file → handle_file w.handles handle ≡ Some file → makes_version (closing (held_of w) handle) ≡ true
     → after ≡ closed (held_of w) handle w.now live → number ≡ number_by (held_of w) (closing (held_of w) handle)
-    → (Closed number, with_held w after (w.made.versions + 1)) ≡ close_step w handle
+    → (Closed number, with_held w after (w.made.versions + 1)) ≡ step w (Close handle)
 finished_step w handle file live after number lives of_file makes is numbers =
     ap (λ (h : Held). (Closed number, with_held w h (w.made.versions + 1))) (is ∙ ap (closed (held_of w) handle w.now) lives)
     ∙ ap (λ (n : Option ℕ). (Closed n, with_held w (closed (held_of w) handle w.now (is_live w file)) (w.made.versions + 1))) numbers
@@ -162,7 +179,7 @@ left h handle file now live after of_file makes is =
 -- ---- what a well-formed world says of the versions that may end
 
 pub past : (rows : Rows) → IsSound rows → AllByRecursion (IsPast rows.moment) rows.files.versions
-past rows sound = all-weaker (IsVersion rows.files.files rows.moment) (IsPast rows.moment) rows.files.versions one sound.formed.versions where
+past rows sound = all-weaker (IsVersion rows.files.files rows.moment) (IsPast rows.moment) rows.files.versions one (sound.formed.holds Versions).each where
   ends : (closed now : ℕ) (o : Option ℕ) → IfSome o (λ ended. (closed ≤ ended) × (ended ≤ now)) → IfSome o (λ ended. ended ≤ now)
   ends closed now None h = h
   ends closed now (Some ended) h = h.1
@@ -172,10 +189,10 @@ past rows sound = all-weaker (IsVersion rows.files.files rows.moment) (IsPast ro
 
 pub numbered : (rows : Rows) → IsSound rows → AllByRecursion (λ row. row.next < 2 ^ 62) rows.files.files
 numbered rows sound =
-    let counts = sound.formed.counts in
+    let counts = sound.formed.holds Counted in
     let bounds = sound.tracked.bounds in
-    let most : rows.made.versions ≤ 1000000 = (let a = counts.versions in let b = bounds.versions in omega arith) in
-    all-weaker (IsFile ((world_of rows).made)) (λ row. row.next < 2 ^ 62) rows.files.files (λ row is. let next = is.next in omega arith) sound.formed.files
+    let most : rows.made.versions ≤ 1000000 = (let a = counts.versions_made in let b = bounds.versions in omega arith) in
+    all-weaker (IsFile rows.made.files rows.made.versions) (λ row. row.next < 2 ^ 62) rows.files.files (λ row is. let next = is.next in omega arith) (sound.formed.holds Files).each
 
 -- a version that is found closed by now
 pub former_past : (rows : Rows) → IsSound rows → (p : VersionRow → Bool) → ForSome (find p rows.files.versions) (λ row. row.closed ≤ rows.moment)

@@ -19,9 +19,9 @@ use Rattle.ele_usage.specs.declared.usage.Usage.{Usage}
 use Rattle.ele_usage.specs.Sums.{nothing, plus, Fits}
 use Rattle.ele_world.specs.declared.rows.DraftRow.{DraftRow}
 use Rattle.ele_world.specs.declared.rows.VersionRow.{VersionRow}
-use Rattle.ele_world.specs.Step.{ended_at}
+use Rattle.ele_world.specs.Change.{ended_at}
 use Rattle.ele_world.specs.Usage.{usage_of, is_file_of, bytes_in}
-use Rattle.ele_world.specs.WellFormed.{IsDraft}
+use Rattle.ele_world.specs.WellFormed.{IsDraft, Drafts}
 use Rattle.ele_world.specs.Whole.{ChangesOnly}
 use Rattle.ele_world.specs.World.{handle_file, is_draft, is_version, is_version_after, next_of}
 use Rattle.ele_world.proofs.Others.{drafts-removed, versions-finished, kinds-numbered, files-numbered}
@@ -119,7 +119,7 @@ pub draft_short : (rows : Rows) → IsSound rows → (file bytes : ℕ) → byte
 draft_short rows sound file bytes is = rw is (by (find (is_draft file) rows.files.drafts) refl) where
   by : (o : Option DraftRow) → find (is_draft file) rows.files.drafts ≡ o → length (content_of (option_map_or (λ (row : DraftRow). row.cells) o [])) ≤ longest_content
   by None e = omega arith
-  by (Some draft) e = let row : IsDraft rows.files.files rows.moment draft = all-found (is_draft file) (IsDraft rows.files.files rows.moment) rows.files.drafts draft e sound.formed.drafts in row.content.short
+  by (Some draft) e = let row : IsDraft rows.files.files rows.moment draft = all-found (is_draft file) (IsDraft rows.files.files rows.moment) rows.files.drafts draft e (sound.formed.holds Drafts).each in row.content.short
 
 pub version_fits : (rows : Rows) → IsSound rows → (bytes before : ℕ) → bytes ≤ longest_content → before ≡ blocks_of rows.files → before < 2 ^ 64 → (k : Kind) → Fits (plus (sums_of rows.book k) (one_version bytes))
 version_fits rows sound bytes before short is bound k =

@@ -1,5 +1,6 @@
 pub mod Keyed
 pub mod Ripening
+pub mod Bounded
 pub mod Booked
 pub mod Asked
 pub mod Made

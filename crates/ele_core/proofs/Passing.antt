@@ -18,7 +18,6 @@ none_if (Some key) e = absurd (false≢true (sym e))
 
 -- where nothing is due a clean event leaves the world
 idle : (w : World) → first_due w ≡ None → (clean_step w).1 ≡ w
-unfolding clean_step
 idle w none = rw none refl
 
 pub none_due : (w v : World) (b : Bool) → b ≡ is_some (first_due w) → b ≡ false → v ≡ (clean_step w).1 → (v ≡ w) × (first_due w ≡ None)

@@ -29,7 +29,7 @@ use Rattle.ele_world.specs.declared.rows.FileRow.{FileRow}
 use Rattle.ele_world.specs.declared.rows.VersionRow.{VersionRow}
 use Rattle.ele_world.specs.Scan.{due_key, key_of, first_due, scan}
 use Rattle.ele_world.specs.Usage.{is_file_of, bytes_in, usage_of}
-use Rattle.ele_world.specs.WellFormed.{ArePlaced}
+use Rattle.ele_world.specs.WellFormed.{ArePlaced, Versions}
 use Rattle.ele_world.specs.Whole.{whole, ChangesOnly}
 use Rattle.ele_world.specs.World.{World, is_version, policy_of}
 use Rattle.ele_world.proofs.DueRows.{all-filter_map, all-in_order, first_of}
@@ -100,10 +100,10 @@ placed_once file number (x ∷ xs) placed =
 pub removed_queue : (rows : Rows) (key : Key) (now : Held) (queue : List Key) → IsSound rows → first_due (world_of rows) ≡ Some key → now ≡ without rows.files key.file key.number → ((k : Key) → has_key k queue ≡ (not (is_key k key) && has_key k rows.queue)) → IsQueued now queue
 removed_queue rows key now queue sound first after members k =
     let w = world_of rows in
-    let first_row = first_keyed w key sound.formed.versions_placed first in
+    let first_row = first_keyed w key (sound.formed.holds Versions).placed first in
     members k
     ∙ ap (λ b. not (is_key k key) && b) (sound.tracked.queue k)
-    ∙ sym (has-remove (key_by w.files) (is_version key.file key.number) key (other_key w.files key) k w.versions first_row.row (placed_once key.file key.number w.versions sound.formed.versions_placed) first_row.found first_row.keyed)
+    ∙ sym (has-remove (key_by w.files) (is_version key.file key.number) key (other_key w.files key) k w.versions first_row.row (placed_once key.file key.number w.versions (sound.formed.holds Versions).placed) first_row.found first_row.keyed)
     ∙ ap (λ (h : Held). has_key k (keys_of h)) (sym after)
 
 -- ---- the book

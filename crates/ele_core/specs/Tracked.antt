@@ -15,7 +15,7 @@ use Rattle.ele_usage.specs.Sums.{nothing, plus}
 use Rattle.ele_world.specs.declared.rows.FileRow.{FileRow}
 use Rattle.ele_world.specs.declared.rows.VersionRow.{VersionRow}
 use Rattle.ele_world.specs.Scan.{key_of}
-use Rattle.ele_world.specs.Step.{ended_at}
+use Rattle.ele_world.specs.Change.{ended_at}
 use Rattle.ele_world.specs.Bounds.{largest_bounds}
 use Rattle.ele_world.specs.declared.rows.DraftRow.{DraftRow}
 use Rattle.ele_world.specs.Usage.{is_file_of, places, usage_of}

@@ -1,7 +1,8 @@
 //! The events that ask for bytes and for usage.
 ghost use Rattle.std.specs.Prelude.{◌≡◌, IfOk};
-ghost use Rattle.ele_world.specs.Step.{read_step};
+ghost use Rattle.ele_world.specs.Step.{step};
 ghost use Rattle.ele_world.specs.Usage.{usages};
+ghost use Rattle.ele_world.specs.declared.event.Event.TheVariants as event;
 ghost use Rattle.ele_core.specs.Inside.{world_of, IsTracked};
 
 use crate::rows::Rows;
@@ -9,9 +10,9 @@ use ele_usage::Usage;
 use ele_world::{NoMemory, Refusal, Reply, Source};
 
 /// The bytes of the draft that the handle writes.
-#[tactic(auto, unfolding(ele_world::specs::Step::read_step))]
 pub fn read(rows: &Rows, source: Source) -> Result<Reply, NoMemory>
-    ensures { IfOk result (λ reply. (reply, world_of rows.now) ≡ read_step (world_of rows.now) source) }
+    ensures { IfOk result
+        (λ reply. (reply, world_of rows.now) ≡ step (world_of rows.now) (event.Read source)) }
 {
     let Source::Of(handle) = source;
     let Some(file) = rows.files.handle_file(handle) else {

@@ -73,7 +73,6 @@ fn is_ripe(key: &Key, now: Moment) -> bool
 }
 
 /// The first due version is removed.
-#[tactic(auto, unfolding(ele_world::specs::Step::clean_step))]
 pub fn clean_one(rows: &mut Rows) -> Reply
     requires sound { IsSound rows.old }
     requires meter { rows.old.meter ≡ 0 }
@@ -125,7 +124,6 @@ pub fn pass(rows: &mut Rows, budget: u64) -> PassEnd
 }
 
 /// Whether one clean event removes a version.
-#[tactic(auto, unfolding(ele_world::specs::Step::clean_step))]
 fn removes(rows: &mut Rows) -> bool
     requires { IsSound rows.old }
     ensures value { result ≡ is_some (first_due (world_of rows.old)) }

@@ -5,7 +5,8 @@ ghost use Rattle.ele_files.specs.Closing.{closing};
 ghost use Rattle.ele_policy.specs.declared.policy.Kind.{Kind};
 ghost use Rattle.ele_usage.specs.Book.{sums_of};
 ghost use Rattle.ele_usage.specs.Sums.{nothing, plus, Fits};
-ghost use Rattle.ele_world.specs.Step.{close_step};
+ghost use Rattle.ele_world.specs.Step.{step};
+ghost use Rattle.ele_world.specs.declared.event.Event.TheVariants as event;
 ghost use Rattle.ele_world.specs.Usage.{is_file_of};
 ghost use Rattle.ele_world.specs.World.{next_of, is_version, handle_file};
 ghost use Rattle.ele_core.specs.Inside.{world_of, IsTracked, IsSound};
@@ -87,7 +88,7 @@ fn finish(rows: &mut Rows, handle: Handle, file: FileId) -> Result<Reply, NoMemo
     requires file { handle_file rows.old.files.handles handle ≡ Some file }
     requires makes { makes_version (closing rows.old.files handle) ≡ true }
     ensures step { IfOk result
-        (λ reply. (reply, world_of rows.new) ≡ close_step (world_of rows.old) handle) }
+        (λ reply. (reply, world_of rows.new) ≡ step (world_of rows.old) (event.Close handle)) }
     ensures err { OnErr result (world_of rows.new ≡ world_of rows.old) }
     ensures tracked { IsTracked rows.new }
 {
@@ -123,7 +124,7 @@ fn leave(rows: &mut Rows, handle: Handle, file: FileId) -> Result<Reply, NoMemor
     requires file { handle_file rows.old.files.handles handle ≡ Some file }
     requires makes { makes_version (closing rows.old.files handle) ≡ false }
     ensures step { IfOk result
-        (λ reply. (reply, world_of rows.new) ≡ close_step (world_of rows.old) handle) }
+        (λ reply. (reply, world_of rows.new) ≡ step (world_of rows.old) (event.Close handle)) }
     ensures err { OnErr result (world_of rows.new ≡ world_of rows.old) }
     ensures tracked { IsTracked rows.new }
 {
@@ -138,12 +139,11 @@ fn leave(rows: &mut Rows, handle: Handle, file: FileId) -> Result<Reply, NoMemor
 /// Closes the handle. With a file's last handle its draft goes: a changed one becomes the file's next version, which ends
 /// at once where the file isn't live, and the version before that ends. Refused: `NoHandle`. Where memory is refused, the
 /// world stays.
-#[tactic(auto, unfolding(ele_world::specs::Step::close_step))]
 pub fn close(rows: &mut Rows, handle: Handle) -> Result<Reply, NoMemory>
     requires sound { IsSound rows.old }
     requires meter { rows.old.meter ≡ 0 }
     ensures step { IfOk result
-        (λ reply. (reply, world_of rows.new) ≡ close_step (world_of rows.old) handle) }
+        (λ reply. (reply, world_of rows.new) ≡ step (world_of rows.old) (event.Close handle)) }
     ensures err { OnErr result (world_of rows.new ≡ world_of rows.old) }
     ensures tracked { IsTracked rows.new }
 {

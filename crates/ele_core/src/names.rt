@@ -1,13 +1,15 @@
 //! The event that makes a file.
-ghost use Rattle.std.specs.Prelude.{◌≡◌, ◌<◌, ◌≤◌, ◌+◌, IfOk, IfNone, OnErr};
-ghost use Rattle.ele_world.specs.Bounds.{largest_bounds};
-ghost use Rattle.ele_world.specs.Step.{create_refusal, create_step, created, versions_made};
+ghost use Rattle.std.specs.Prelude.{◌≡◌, ◌<◌, ◌+◌, IfOk, OnErr};
+ghost use Rattle.ele_world.specs.Change.{MakeFile, applied};
+ghost use Rattle.ele_world.specs.Step.{step, versions_made};
+ghost use Rattle.ele_world.specs.World.{default_of};
+ghost use Rattle.ele_world.specs.declared.event.Event.TheVariants as event;
 ghost use Rattle.ele_core.specs.Inside.{world_of, IsTracked, IsSound};
 
 use crate::book::blocks_fit;
 use crate::lookups::{default_of, live_target};
 use crate::room::put;
-use crate::rows::Rows;
+use crate::rows::{Rows, is_full};
 use crate::walk::parent_now;
 use ele_usage::Usage;
 use ele_world::{DirId, FileId, Name, NameRow, NoMemory, Path, Refusal, Reply, Target, Which};
@@ -20,30 +22,6 @@ const NEW_FILE: Usage = Usage {
     blocks: 0,
 };
 
-/// Why no file of that name can be made in the directory, if there is a reason.
-#[tactic(auto, unfolding(ele_world::specs::Step::create_refusal))]
-fn create_refusal(rows: &Rows, directory: DirId, name: &Name) -> Option<Refusal>
-    requires { IsSound rows.now }
-    ensures value { result ≡ create_refusal (world_of rows.now) directory name.now }
-    ensures files { IfNone result (rows.now.made.files < rows.now.limits.files) }
-    ensures names { IfNone result (rows.now.made.names < rows.now.limits.names) }
-    ensures versions { IfNone result (versions_made (world_of rows.now) < rows.now.limits.versions) }
-{
-    if live_target(&rows.names, directory, name).is_some() {
-        return Some(Refusal::Exists);
-    }
-    if rows.made.files >= rows.limits.files() {
-        return Some(Refusal::Full(Which::Files));
-    }
-    if rows.made.names >= rows.limits.names() {
-        return Some(Refusal::Full(Which::Names));
-    }
-    if rows.made.versions + rows.files.drafts_open() as u64 >= rows.limits.versions() {
-        return Some(Refusal::Full(Which::Versions));
-    }
-    None
-}
-
 /// A file is made in the directory, with an empty first version, once nothing refuses it.
 fn add_file(rows: &mut Rows, directory: DirId, name: Name) -> Result<FileId, NoMemory>
     requires sound { IsSound rows.old }
@@ -51,8 +29,9 @@ fn add_file(rows: &mut Rows, directory: DirId, name: Name) -> Result<FileId, NoM
     requires names { rows.old.made.names < rows.old.limits.names }
     requires versions { versions_made (world_of rows.old) < rows.old.limits.versions }
     ensures id { IfOk result (λ id. id ≡ rows.old.made.files + 1) }
-    ensures ok { IfOk result
-        (λ id. world_of rows.new ≡ created (world_of rows.old) directory name id) }
+    ensures ok { IfOk result (λ id. world_of rows.new
+        ≡ applied (world_of rows.old)
+            (MakeFile directory name id (default_of rows.old.directories.items directory))) }
     ensures err { OnErr result (world_of rows.new ≡ world_of rows.old) }
     ensures tracked { IsTracked rows.new }
 {
@@ -79,11 +58,10 @@ fn add_file(rows: &mut Rows, directory: DirId, name: Name) -> Result<FileId, NoM
 }
 
 /// A file is made at the path.
-#[tactic(auto, unfolding(ele_world::specs::Step::create_step))]
 pub fn create(rows: &mut Rows, path: &Path) -> Result<Reply, NoMemory>
     requires { IsSound rows.old }
-    ensures step { IfOk result
-        (λ reply. (reply, world_of rows.new) ≡ create_step (world_of rows.old) path.now) }
+    ensures step { IfOk result (λ reply.
+        (reply, world_of rows.new) ≡ step (world_of rows.old) (event.Create path.now)) }
     ensures err { OnErr result (world_of rows.new ≡ world_of rows.old) }
     ensures tracked { IsTracked rows.new }
 {
@@ -91,8 +69,17 @@ pub fn create(rows: &mut Rows, path: &Path) -> Result<Reply, NoMemory>
         Ok(at) => at,
         Err(refusal) => return Ok(Reply::Refused(refusal)),
     };
-    if let Some(refusal) = create_refusal(rows, directory, &name) {
-        return Ok(Reply::Refused(refusal));
+    if live_target(&rows.names, directory, &name).is_some() {
+        return Ok(Reply::Refused(Refusal::Exists));
+    }
+    if rows.made.files >= rows.limits.files() {
+        return Ok(Reply::Refused(Refusal::Full(Which::Files)));
+    }
+    if rows.made.names >= rows.limits.names() {
+        return Ok(Reply::Refused(Refusal::Full(Which::Names)));
+    }
+    if is_full(rows) {
+        return Ok(Reply::Refused(Refusal::Full(Which::Versions)));
     }
     let id = add_file(rows, directory, name)?;
     Ok(Reply::File(id))

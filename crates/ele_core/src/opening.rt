@@ -1,42 +1,28 @@
 //! The event that opens a handle for writing.
-ghost use Rattle.std.specs.Prelude.{◌≡◌, ◌<◌, ◌≤◌, ◌+◌, IfOk, IfNone, OnErr};
-ghost use Rattle.ele_world.specs.Step.{open_refusal, open_write_step, opened};
-ghost use Rattle.ele_world.specs.World.{next_of};
+ghost use Rattle.std.specs.Prelude.{◌≡◌, ◌<◌, ◌≤◌, ◌+◌, true, false, [], ◌∷◌, IfOk, OnErr};
+ghost use Rattle.ele_world.specs.Change.{StartDraft, OpenHandle, all_applied};
+ghost use Rattle.ele_world.specs.Step.{step};
+ghost use Rattle.ele_world.specs.World.{next_of, has_draft};
+ghost use Rattle.ele_world.specs.declared.event.Event.TheVariants as event;
 ghost use Rattle.ele_core.specs.Inside.{world_of, IsTracked, IsSound};
 
 use crate::book::{blocks, follow_blocks};
-use crate::rows::Rows;
+use crate::rows::{Rows, is_full};
 use crate::walk::file_now;
 use ele_world::{FileId, Handle, NoMemory, Path, Refusal, Reply, Which};
 
-/// Why the file can't be opened for writing, if there is a reason.
-#[tactic(auto, unfolding(ele_world::specs::Step::open_refusal))]
-fn open_refusal(rows: &Rows, file: FileId) -> Option<Refusal>
-    requires { IsSound rows.now }
-    ensures value { result ≡ open_refusal (world_of rows.now) file }
-    ensures handles { IfNone result (rows.now.files.opened < rows.now.limits.handles) }
-{
-    if rows.files.handles_opened() >= rows.limits.handles() {
-        return Some(Refusal::Full(Which::Handles));
-    }
-    if rows.files.has_draft(file) {
-        return None;
-    }
-    if rows.made.versions + rows.files.drafts_open() as u64 >= rows.limits.versions() {
-        return Some(Refusal::Full(Which::Versions));
-    }
-    None
-}
-
-/// A handle is opened by which the file is written, once nothing refuses it.
+/// A handle is opened by which the file is written, once nothing refuses it; a draft is begun where there is none.
 fn add_handle(rows: &mut Rows, file: FileId) -> Result<Handle, NoMemory>
     requires sound { IsSound rows.old }
     requires meter { rows.old.meter ≡ 0 }
     requires there { 0 < next_of rows.old.files.files file }
     requires room { rows.old.files.opened < rows.old.limits.handles }
     ensures number { IfOk result (λ number. number ≡ rows.old.files.opened + 1) }
-    ensures ok { IfOk result
-        (λ number. world_of rows.new ≡ opened (world_of rows.old) file number) }
+    ensures first { has_draft (world_of rows.old) file ≡ false → IfOk result (λ number.
+        world_of rows.new
+        ≡ all_applied (world_of rows.old) (StartDraft file ∷ OpenHandle number file ∷ [])) }
+    ensures more { has_draft (world_of rows.old) file ≡ true → IfOk result (λ number.
+        world_of rows.new ≡ all_applied (world_of rows.old) (OpenHandle number file ∷ [])) }
     ensures err { OnErr result (world_of rows.new ≡ world_of rows.old) }
     ensures tracked { IsTracked rows.new }
 {
@@ -47,12 +33,11 @@ fn add_handle(rows: &mut Rows, file: FileId) -> Result<Handle, NoMemory>
 }
 
 /// A handle is opened by which the file at the path is written.
-#[tactic(auto, unfolding(ele_world::specs::Step::open_write_step))]
 pub fn open_write(rows: &mut Rows, path: &Path) -> Result<Reply, NoMemory>
     requires sound { IsSound rows.old }
     requires meter { rows.old.meter ≡ 0 }
-    ensures step { IfOk result
-        (λ reply. (reply, world_of rows.new) ≡ open_write_step (world_of rows.old) path.now) }
+    ensures step { IfOk result (λ reply.
+        (reply, world_of rows.new) ≡ step (world_of rows.old) (event.OpenWrite path.now)) }
     ensures err { OnErr result (world_of rows.new ≡ world_of rows.old) }
     ensures tracked { IsTracked rows.new }
 {
@@ -60,8 +45,11 @@ pub fn open_write(rows: &mut Rows, path: &Path) -> Result<Reply, NoMemory>
         Ok(file) => file,
         Err(refusal) => return Ok(Reply::Refused(refusal)),
     };
-    if let Some(refusal) = open_refusal(rows, file) {
-        return Ok(Reply::Refused(refusal));
+    if rows.files.handles_opened() >= rows.limits.handles() {
+        return Ok(Reply::Refused(Refusal::Full(Which::Handles)));
+    }
+    if !rows.files.has_draft(file) && is_full(rows) {
+        return Ok(Reply::Refused(Refusal::Full(Which::Versions)));
     }
     let number = add_handle(rows, file)?;
     Ok(Reply::Handle(number))

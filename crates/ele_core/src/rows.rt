@@ -1,5 +1,9 @@
 //! What stands behind a core: the plain rows of directories and names, the files, and beside them the queue of keys and
 //! the book of usage, which follow each change.
+ghost use Rattle.std.specs.Prelude.{◌≡◌, nat_le};
+ghost use Rattle.ele_world.specs.Step.{versions_made};
+ghost use Rattle.ele_core.specs.Inside.{world_of, IsSound};
+
 use ele_due::DueQueue;
 use ele_files::{Files, Meter};
 use ele_usage::UsageBook;
@@ -30,4 +34,12 @@ pub struct Rows {
     pub limits: Limits,
     pub meter: Meter,
     pub alloc: Global,
+}
+
+/// Whether as many versions were made, and drafts are open, as may be.
+pub fn is_full(rows: &Rows) -> bool
+    requires { IsSound rows.now }
+    ensures { result ≡ nat_le rows.now.limits.versions (versions_made (world_of rows.now)) }
+{
+    rows.made.versions + rows.files.drafts_open() as u64 >= rows.limits.versions()
 }

@@ -1,6 +1,6 @@
 //! Where a path leads.
 ghost use Rattle.std.specs.Prelude.{◌≡◌};
-ghost use Rattle.ele_world.specs.Walk.{walk_now, file_now, parent_now};
+ghost use Rattle.ele_world.specs.Walk.{walk_now, file_now, directory_now, parent_now};
 
 use crate::lookups::live_target;
 use crate::rows::ROOT;
@@ -42,6 +42,16 @@ pub fn parent_now(names: &[NameRow], path: &[Name]) -> Result<(DirId, Name), Ref
     };
     match walk(names, &path[..path.len() - 1])? {
         Target::Directory(directory) => Ok((directory, *name)),
+        Target::File(_) => Err(Refusal::NotDirectory),
+    }
+}
+
+/// The directory that the path names.
+pub fn directory_now(names: &[NameRow], path: &[Name]) -> Result<DirId, Refusal>
+    ensures { result ≡ directory_now names.now path.now }
+{
+    match walk(names, path)? {
+        Target::Directory(directory) => Ok(directory),
         Target::File(_) => Err(Refusal::NotDirectory),
     }
 }

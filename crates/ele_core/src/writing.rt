@@ -1,6 +1,7 @@
 //! The events that change a draft.
 ghost use Rattle.std.specs.Prelude.{◌≡◌, IfOk, OnErr};
-ghost use Rattle.ele_world.specs.Step.{write_step, truncate_step};
+ghost use Rattle.ele_world.specs.Step.{step};
+ghost use Rattle.ele_world.specs.declared.event.Event.TheVariants as event;
 ghost use Rattle.ele_core.specs.Faults.{faulted};
 ghost use Rattle.ele_core.specs.Inside.{world_of, IsTracked, IsSound};
 
@@ -22,12 +23,11 @@ fn faulted(fault: SessionFault) -> Result<Reply, NoMemory>
 }
 
 /// The bytes are written through the handle, from that offset on.
-#[tactic(auto, unfolding(ele_world::specs::Step::write_step))]
 pub fn write(rows: &mut Rows, handle: Handle, offset: u64, bytes: &[u8]) -> Result<Reply, NoMemory>
     requires { IsSound rows.old }
     ensures step { IfOk result
         (λ reply. (reply, world_of rows.new)
-        ≡ write_step (world_of rows.old) handle offset bytes.now) }
+        ≡ step (world_of rows.old) (event.Write handle offset bytes.now)) }
     ensures err { OnErr result (world_of rows.new ≡ world_of rows.old) }
     ensures tracked { IsTracked rows.new }
 {
@@ -43,11 +43,11 @@ pub fn write(rows: &mut Rows, handle: Handle, offset: u64, bytes: &[u8]) -> Resu
 }
 
 /// The draft under the handle gets so many bytes.
-#[tactic(auto, unfolding(ele_world::specs::Step::truncate_step))]
 pub fn truncate(rows: &mut Rows, handle: Handle, size: u64) -> Result<Reply, NoMemory>
     requires { IsSound rows.old }
     ensures step { IfOk result
-        (λ reply. (reply, world_of rows.new) ≡ truncate_step (world_of rows.old) handle size) }
+        (λ reply. (reply, world_of rows.new)
+        ≡ step (world_of rows.old) (event.Truncate handle size)) }
     ensures err { OnErr result (world_of rows.new ≡ world_of rows.old) }
     ensures tracked { IsTracked rows.new }
 {

@@ -25,7 +25,7 @@ use Rattle.ele_moment.specs.Lists.{update_first, remove_first, insert_before}
 use Rattle.ele_moment.proofs.Edits.{all-weaker, all-both, all-found, all-remove_first, all-update_first}
 use Rattle.ele_sessions.specs.Order.{Rises}
 use Rattle.ele_sessions.specs.Sessions as plain
-use Rattle.ele_world.specs.Step.{numbered_on, ended_at}
+use Rattle.ele_world.specs.Change.{numbered_on, ended_at}
 use Rattle.ele_world.specs.World as world
 use Rattle.ele_world.specs.declared.rows.FileRow.{FileRow}
 use Rattle.ele_world.specs.declared.rows.VersionRow.{VersionRow}

@@ -24,7 +24,7 @@ use Rattle.ele_sessions.specs.Changes.{RewritesDraft, Rewrites, Writes, Truncate
 use Rattle.ele_sessions.specs.Orderly.{AreOrderly}
 use Rattle.ele_sessions.specs.Sessions.{Draft, AllSessions, is_draft, handle_file, draft_by, draft_for}
 use Rattle.ele_world.specs.declared.rows.DraftRow.{DraftRow}
-use Rattle.ele_world.specs.Step.{changed_by, fitted_by}
+use Rattle.ele_world.specs.Change.{changed_by, fitted_by}
 use Rattle.ele_world.specs.World.{next_of}
 use Rattle.ele_world.specs.World as world
 

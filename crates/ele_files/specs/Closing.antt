@@ -6,7 +6,7 @@ use Rattle.ele_sessions.specs.declared.closing.Closing.TheVariants.{StillOpen, C
 use Rattle.ele_moment.specs.Lists.{update_first, remove_first, insert_before}
 use Rattle.ele_world.specs.declared.rows.VersionRow.{VersionRow}
 use Rattle.ele_world.specs.declared.rows.DraftRow.{DraftRow}
-use Rattle.ele_world.specs.Step.{numbered_on, ended_at}
+use Rattle.ele_world.specs.Change.{numbered_on, ended_at}
 use Rattle.ele_world.specs.World.{is_file, next_of, is_version, is_version_after, is_draft, is_handle, is_writer, handle_file}
 use Rattle.ele_files.specs.Held.{Held, version_row}
 

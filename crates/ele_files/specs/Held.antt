@@ -9,7 +9,7 @@ use Rattle.ele_world.specs.declared.rows.FileRow.{FileRow}
 use Rattle.ele_world.specs.declared.rows.VersionRow.{VersionRow}
 use Rattle.ele_world.specs.declared.rows.DraftRow.{DraftRow}
 use Rattle.ele_world.specs.declared.rows.HandleRow.{HandleRow}
-use Rattle.ele_world.specs.Step.{changed_by, fitted_by}
+use Rattle.ele_world.specs.Change.{changed_by, fitted_by}
 use Rattle.ele_world.specs.World.{next_of, is_version, is_draft, is_draft_after, handle_file}
 
 -- files by id, versions by file and number, drafts by file, handles by number, and how many handles were ever opened

@@ -1,4 +1,4 @@
-use Rattle.std.proofs.Common.{◌≡◌, ◌||◌, ap, ◌∙◌}
+use Rattle.std.proofs.Common.{◌≡◌, ◌||◌, ap, ◌∙◌, arith}
 use Rattle.std.specs.List.{list_any}
 use Rattle.ele_core.proofs.ClosedSteps.{finished_step, past, numbered, former_past}
 use Rattle.ele_core.proofs.ClosedKeys.{finished_queue}
@@ -7,6 +7,7 @@ use Rattle.ele_core.specs.Inside.{world_of}
 use Rattle.ele_core.specs.Tracked.{has_any, own_key}
 use Rattle.ele_due.specs.HasKey.{has_key}
 use Rattle.ele_world.specs.World.{is_live, is_live_name_of}
+use Rattle.ele_core.proofs.Bounded.{versions_few}
 use Rattle.ele_core.proofs.closing.finish.Goals as goal
 
 pub former_key-requires-clause-past : goal.former_key-requires-clause-past
@@ -49,3 +50,6 @@ returns-clause-tracked c = record {
   book = c.follow_blocks.ensures;
   bounds = c.requires.sound.tracked.bounds;
 }
+
+pub overflow_add-rows : goal.overflow_add-rows
+overflow_add-rows c = omega (arith, versions_few c.args.rows.now c.requires.sound)

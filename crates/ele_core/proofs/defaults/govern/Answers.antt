@@ -1,6 +1,6 @@
 use Rattle.std.proofs.Common.{◌≡◌, position, Some, refl}
 use Rattle.ele_world.specs.World.{is_directory}
-use Rattle.ele_world.specs.Step.{governed_by}
+use Rattle.ele_world.specs.Change.{governed_by}
 use Rattle.ele_world.proofs.Places.{set-first}
 use Rattle.ele_core.proofs.defaults.govern.Goals as goal
 

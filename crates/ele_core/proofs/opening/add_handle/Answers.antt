@@ -1,4 +1,6 @@
 use Rattle.ele_core.proofs.Booked.{fits, opened_owed}
+use Rattle.std.proofs.Common.{arith}
+use Rattle.ele_core.proofs.Bounded.{rows_few}
 use Rattle.ele_core.proofs.opening.add_handle.Goals as goal
 
 pub follow_blocks-requires-clause-owed : goal.follow_blocks-requires-clause-owed
@@ -6,3 +8,6 @@ follow_blocks-requires-clause-owed c = opened_owed c.args.rows.now c.args.file c
 
 pub follow_blocks-requires-clause-fits : goal.follow_blocks-requires-clause-fits
 follow_blocks-requires-clause-fits c = fits c.args.rows.now c.requires.sound
+
+pub open_write-requires-clause-few : goal.open_write-requires-clause-few
+open_write-requires-clause-few c = omega (arith, rows_few c.args.rows.now c.requires.sound)

@@ -1,0 +1,17 @@
+-- How many rows a sound core may have.
+use Rattle.std.proofs.Common.{◌≡◌, ℕ, ◌+◌, ◌<◌, ◌≤◌, length, arith}
+use Rattle.std.specs.List.{AllByRecursion}
+use Rattle.ele_core.specs.Inside.{world_of, IsSound}
+use Rattle.ele_core.specs.declared.rows.Rows.{Rows}
+use Rattle.ele_moment.proofs.Edits.{all-weaker}
+use Rattle.ele_world.specs.WellFormed.{IsFile, Counted, Files}
+
+pub versions_few : (rows : Rows) → IsSound rows → rows.made.versions + length rows.files.drafts ≤ 1000000
+versions_few rows sound = let counts = sound.formed.holds Counted in let made = counts.versions_made in let most = sound.tracked.bounds.versions in omega arith
+
+pub rows_few : (rows : Rows) → IsSound rows → length rows.files.versions + length rows.files.drafts ≤ 1000000
+rows_few rows sound = let counts = sound.formed.holds Counted in let held = counts.version_rows in omega (arith, versions_few rows sound, held)
+
+-- the number of the next file is greater than those before
+pub files_before : (rows : Rows) → IsSound rows → AllByRecursion (λ row. row.id < rows.made.files + 1) rows.files.files
+files_before rows sound = all-weaker (IsFile rows.made.files rows.made.versions) (λ row. row.id < rows.made.files + 1) rows.files.files (λ row h. omega (arith, h.given)) (sound.formed.holds Files).each
