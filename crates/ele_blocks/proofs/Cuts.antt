@@ -23,7 +23,7 @@ use Rattle.ele_blocks.proofs.LaidOvers.{laid_over-map, length-laid_over}
 use Rattle.ele_blocks.proofs.Changes.{IsChange}
 use Rattle.ele_blocks.proofs.Moves.{moved_one, cells_stay}
 use Rattle.ele_blocks.proofs.Replaces.{times-ids}
-use Rattle.ele_blocks.proofs.Places.{meets_between, slice_get_at}
+use Rattle.ele_blocks.proofs.Places.{cuts_between, slice_get_at}
 use Rattle.ele_blocks.proofs.Written.{no_cell, cells_by_slots, laid_writer, bytes_of_new}
 
 -- of the pieces: n bytes in all, and a cut after size of them
@@ -130,7 +130,7 @@ module _ (s : Store) (m : Layout) (w size f kept : ℕ) (staged : List (List ℕ
   refits_cut slot =
       let no : ltb m.size size ≡ false = grind (arith, nat_tests) in
       let yes : ltb size m.size ≡ true = grind (arith, nat_tests) in
-      rw (no, yes, is_f, is_kept) (meets_between size size slot)
+      rw (no, yes, is_f, is_kept) (cuts_between size slot)
 
   pub cut_cells : take kept (laid_over f (map (cell_by w) staged) (shown s m)) ≡ truncated w size (shown s m)
   unfolding truncated

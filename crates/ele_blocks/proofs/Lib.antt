@@ -11,6 +11,7 @@ pub mod Replaces
 pub mod Written
 pub mod Writes
 pub mod Truncates
+pub mod Unchanged
 pub mod Cuts
 pub mod Owed
 pub mod Distincts

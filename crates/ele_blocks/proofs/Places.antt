@@ -1,10 +1,10 @@
 -- What stands in a place of a list.
-use Rattle.std.proofs.Common.{◌≡◌, ℕ, ◌+◌, ◌*◌, ◌/◌, ◌<◌, Bool, true, false, ◌&&◌, List, [], ◌∷◌, length, get_or, map, Option, Some, refl, ap, sym, ◌∙◌, arith, zero, suc, eqb, ltb, leb}
+use Rattle.std.proofs.Common.{◌≡◌, ℕ, ◌+◌, ◌*◌, ◌/◌, ◌<◌, ◌≤◌, Bool, true, false, ◌&&◌, List, [], ◌∷◌, length, get_or, map, Option, Some, refl, ap, sym, ◌∙◌, arith, zero, suc, eqb, ltb, leb}
 use Rattle.std.specs.Prelude.{slice_get, unwrap_or}
 use Rattle.std.specs.Option.{option_map_or}
 use Rattle.std.proofs.lemmas.Bool.Decides.{nat_tests}
 use Rattle.ele_content.specs.declared.cell.Cell.{Cell}
-use Rattle.ele_content.specs.Content.{meets, writer_at}
+use Rattle.ele_content.specs.Content.{meets, cuts, writer_at}
 use Rattle.ele_blocks.specs.Layout.{is_between}
 use Rattle.ele_blocks.specs.Shared.{times, value_at}
 use Rattle.ele_blocks.specs.Store.{Store, bytes_at}
@@ -47,8 +47,17 @@ and_comm false true = refl
 and_comm false false = refl
 
 -- the slots that meet a range are those from its first on, up to before the one past its last
-pub meets_between : (from to slot : ℕ) → meets from to slot ≡ is_between (from / 512) ((to + 511) / 512) slot
-meets_between from to slot = rw (lt_past slot to, from_le from slot) (and_comm (ltb slot ((to + 511) / 512)) (leb (from / 512) slot))
+pub meets_between : (from to slot : ℕ) → from < to → meets from to slot ≡ is_between (from / 512) ((to + 511) / 512) slot
+meets_between from to slot lt =
+    let some : ltb from to ≡ true = grind (arith, nat_tests) in
+    rw (some, lt_past slot to, from_le from slot) (and_comm (ltb slot ((to + 511) / 512)) (leb (from / 512) slot))
+
+pub cuts_between : (place slot : ℕ) → cuts place slot ≡ is_between (place / 512) ((place + 511) / 512) slot
+cuts_between place slot = rw (lt_past slot place, from_le place slot) (and_comm (ltb slot ((place + 511) / 512)) (leb (place / 512) slot))
+
+-- a range of no bytes
+pub meets_none : (from to slot : ℕ) → to ≤ from → meets from to slot ≡ false
+meets_none from to slot le = let none : ltb from to ≡ false = grind (arith, nat_tests) in rw none refl
 
 -- values that are there are the bytes
 bytes_of_values : (s : Store) (ids : List ℕ) → map (λ v. unwrap_or v []) (map (value_at s) ids) ≡ map (bytes_at s) ids

@@ -1,6 +1,6 @@
--- What a write lays over a map, and what that makes of the map: f is the first slot that it meets,
--- and l the one past the last of those that stand.
-use Rattle.std.proofs.Common.{◌≡◌, ℕ, ◌+◌, ◌-◌, ◌*◌, ◌/◌, ◌≤◌, true, List, length, take, drop, map, min, max, ap, sym, ◌∙◌, arith}
+-- What a write of some bytes, or past the end, lays over a map, and what that makes of the map: f is
+-- the first slot that it meets, and l the one past the last of those that stand.
+use Rattle.std.proofs.Common.{◌≡◌, ℕ, ◌+◌, ◌-◌, ◌*◌, ◌/◌, ◌<◌, ◌≤◌, true, List, length, take, drop, map, min, max, ap, sym, ◌∙◌, arith}
 use Rattle.std.proofs.lemmas.List.{length-map, take-map, drop-map}
 use Rattle.ele_blocks.specs.Shared.{Trades}
 use Rattle.ele_blocks.specs.Store.{Store}
@@ -38,10 +38,10 @@ module _ (s : Store) (m : Layout) (w o f l : ℕ) (x : List ℕ) (staged : List 
         let after = sized_after w o m.size f l x (shown s m) staged sized is_f last staged_is in
         sized_whole t new short (rw shows (sized-is (max m.size (o + length x)) new.size (bytes_each (laid_over f (map (cell_by w) staged) (shown s m))) (sym size) after))
 
-    pub write_change : Trades s t (ids_of m.slots) (ids_of new.slots) → Renews s t w (is_between f (f + length staged)) m new → IsChange s t w (meets (min o m.size) (o + length x)) (spliced (content_of (shown s m)) o x) (written w o x (shown s m)) m new
-    write_change trades renews = record {
+    pub write_change : min o m.size < o + length x → Trades s t (ids_of m.slots) (ids_of new.slots) → Renews s t w (is_between f (f + length staged)) m new → IsChange s t w (meets (min o m.size) (o + length x)) (spliced (content_of (shown s m)) o x) (written w o x (shown s m)) m new
+    write_change some trades renews = record {
       content = ap content_of shows ∙ content_after w o m.size f l x (shown s m) staged sized is_f last staged_is;
-      cells = shows ∙ after_written w o m.size f l x (shown s m) staged sized is_f last staged_is;
+      cells = shows ∙ after_written w o m.size f l x (shown s m) staged sized is_f last staged_is some;
       moves = moved_one s t m new trades whole;
-      renews = renews_as s t w (is_between f (f + length staged)) (meets (min o m.size) (o + length x)) m new (same_slots w o m.size f l x (shown s m) staged sized is_f last staged_is) renews;
+      renews = renews_as s t w (is_between f (f + length staged)) (meets (min o m.size) (o + length x)) m new (same_slots w o m.size f l x (shown s m) staged sized is_f last staged_is some) renews;
     }

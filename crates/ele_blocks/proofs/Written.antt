@@ -104,10 +104,10 @@ module _ (w o n f l : ℕ) (x : List ℕ) (cells : List Cell) (staged : List (Li
   pub sized_after : AreSized (max n (o + length x)) (bytes_each (laid_over f (map (cell_by w) staged) cells))
   sized_after = rw each_after (sized-is (length (spliced (content_of cells) o x)) (max n (o + length x)) (pieces (spliced (content_of cells) o x)) new_size (pieces_sized (spliced (content_of cells) o x)))
 
-  pub same_slots : (slot : ℕ) → meets (min o n) (o + length x) slot ≡ is_between f (f + length staged) slot
-  same_slots slot = meets_between (min o n) (o + length x) slot ∙ (ap (λ k. is_between k ((o + length x + 511) / 512) slot) (sym is_f) ∙ ap (λ k. is_between f k slot) (sym past))
+  pub same_slots : min o n < o + length x → (slot : ℕ) → meets (min o n) (o + length x) slot ≡ is_between f (f + length staged) slot
+  same_slots some slot = meets_between (min o n) (o + length x) slot some ∙ (ap (λ k. is_between k ((o + length x + 511) / 512) slot) (sym is_f) ∙ ap (λ k. is_between f k slot) (sym past))
 
-  pub after_written : laid_over f (map (cell_by w) staged) cells ≡ written w o x cells
+  pub after_written : min o n < o + length x → laid_over f (map (cell_by w) staged) cells ≡ written w o x cells
   unfolding written
-  after_written = cells_by_slots (laid_over f (map (cell_by w) staged) cells) (spliced (content_of cells) o x) (λ slot. cond (meets (min o (length (content_of cells))) (o + length x) slot) w (writer_at cells slot)) each_after
-      (λ k lt. laid_writer w f staged cells k within lt ∙ ap (λ t. cond t w (writer_at cells k)) (sym (same_slots k) ∙ ap (λ m. meets (min o m) (o + length x) k) (sym content_size)))
+  after_written some = cells_by_slots (laid_over f (map (cell_by w) staged) cells) (spliced (content_of cells) o x) (λ slot. cond (meets (min o (length (content_of cells))) (o + length x) slot) w (writer_at cells slot)) each_after
+      (λ k lt. laid_writer w f staged cells k within lt ∙ ap (λ t. cond t w (writer_at cells k)) (sym (same_slots some k) ∙ ap (λ m. meets (min o m) (o + length x) k) (sym content_size)))

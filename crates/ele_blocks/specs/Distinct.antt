@@ -1,6 +1,6 @@
 -- How many blocks the maps of a store name.
-use Rattle.std.specs.Prelude.{◌≡◌, ◌⊎◌, ℕ, ◌+◌, ◌<◌, ◌==◌, ◌&&◌, Bool, List, [], ◌∷◌, if◌then◌else◌}
-use Rattle.std.specs.List.{list_any, flat_map}
+use Rattle.std.specs.Prelude.{◌≡◌, ◌⊎◌, ℕ, ◌+◌, ◌<◌, ◌==◌, List, [], ◌∷◌}
+use Rattle.std.specs.List.{flat_map}
 use Rattle.ele_blocks.specs.declared.slot.Slot.{Slot}
 use Rattle.ele_blocks.specs.Shared.{owners}
 use Rattle.ele_blocks.specs.Store.{Store}

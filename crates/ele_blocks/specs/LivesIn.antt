@@ -1,6 +1,5 @@
 -- That a map lives in a store.
-use Rattle.std.specs.Prelude.{◌≡◌, ℕ, ◌-◌, ◌==◌, ◌&&◌, Bool, true, List, [], ◌∷◌, length, min, nat_lt, nat_le}
-use Rattle.ele_content.specs.declared.cell.Cell.{Cell}
+use Rattle.std.specs.Prelude.{◌≡◌, ◌&&◌, Bool, true, nat_le}
 use Rattle.ele_content.specs.Content.{longest_content, fill_slots}
 use Rattle.ele_blocks.specs.Store.{Store}
 use Rattle.ele_blocks.specs.Shared.{Covers}

@@ -35,7 +35,7 @@ writer_at cells slot = option_map_or (λ cell. cell.writer) (slice_get cells slo
 
 -- some byte of the slot stands in the range from one place up to before another
 abbrev pub meets : ℕ → ℕ → ℕ → Bool
-meets from to slot = nat_lt (512 * slot) to && nat_lt from (512 * slot + 512)
+meets from to slot = nat_lt from to && (nat_lt (512 * slot) to && nat_lt from (512 * slot + 512))
 
 -- the cells after a write: the new content by slots, where each slot that meets what was filled or written has the writer
 unfoldable pub written : ℕ → ℕ → List ℕ → List Cell → List Cell
@@ -52,9 +52,13 @@ written writer offset bytes cells =
 abbrev pub resized : List ℕ → ℕ → List ℕ
 resized content len = take len content ++ replicate (len - length content) 0
 
+-- the place is between two bytes of the slot
+abbrev pub cuts : ℕ → ℕ → Bool
+cuts place slot = nat_lt (512 * slot) place && nat_lt place (512 * slot + 512)
+
 -- a truncate from one length to another rewrites the slots that it fills, and the slot that it cuts
 abbrev pub refits : ℕ → ℕ → ℕ → Bool
-refits old new slot = if nat_lt old new then meets old new slot else nat_lt new old && meets new new slot
+refits old new slot = if nat_lt old new then meets old new slot else nat_lt new old && cuts new slot
 
 -- the cells after a truncate: the new content by slots, where each slot that was filled or cut has the writer
 unfoldable pub truncated : ℕ → ℕ → List Cell → List Cell

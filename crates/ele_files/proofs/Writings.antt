@@ -1,23 +1,26 @@
 -- What a write or a truncate through a handle leaves.
-use Rattle.std.proofs.Common.{◌≡◌, ℕ, Bool, true, false, cond, eqb, List, [], ◌∷◌, ◌++◌, length, map, Option, Some, None, Result, Ok, Err, refl, sym, ap, ◌∙◌, arith}
+use Rattle.std.proofs.Common.{◌≡◌, ◌≤◌, ℕ, Bool, true, false, cond, eqb, List, [], ◌∷◌, ◌++◌, length, map, Option, Some, None, Result, Ok, Err, refl, sym, ap, ◌∙◌, arith}
 use Rattle.std.specs.Prelude.{find, MatchBool}
 use Rattle.std.specs.List.{AllByRecursion}
-use Rattle.std.specs.Option.{IsSomeAnd}
+use Rattle.std.specs.Option.{IsSomeAnd, option_map, option_map_or}
 use Rattle.std.specs.Result.{OnOk, OnErr}
+use Rattle.std.proofs.lemmas.Bool.{false≢true}
 use Rattle.std.proofs.lemmas.Bool.Decides.{nat_tests}
-use Rattle.ele_content.specs.Content.{content_of}
+use Rattle.ele_content.specs.Content.{content_of, longest_content}
 use Rattle.ele_blocks.specs.Layout.{Layout, shown}
 use Rattle.ele_blocks.specs.LivesIn.{LivesIn}
 use Rattle.ele_blocks.specs.Owes.{Moves}
 use Rattle.ele_blocks.specs.Renews.{Renews}
 use Rattle.ele_blocks.specs.Store.{Store}
+use Rattle.ele_blocks.proofs.Sizes.{whole_short}
 use Rattle.ele_files.specs.declared.file.File.{File}
+use Rattle.ele_files.specs.Held as held
 use Rattle.ele_files.specs.Held.{written_of, written_by, fitted_of, fitted}
 use Rattle.ele_files.specs.Inside.{Keeps, file_row, draft_in, handle_in, held_in}
 use Rattle.ele_files.proofs.Cuts.{IsCut, cut_found, update_cut}
 use Rattle.ele_files.proofs.Lives.{draft_lives, shown-length}
 use Rattle.ele_files.proofs.Rewrites.{was_kept, rewritten_keeps, versions_stay, drafts_seen}
-use Rattle.ele_files.proofs.Rows.{handle_file-shown}
+use Rattle.ele_files.proofs.Rows.{handle_file-shown, draft-found}
 use Rattle.ele_moment.specs.Lists.{update_first}
 use Rattle.ele_moment.proofs.Edits.{all-weaker}
 use Rattle.ele_sessions.specs.Changes.{RewritesDraft, Rewrites, Writes, Truncates, Stays, IsWritten, IsResized, rewritten_by, has_length}
@@ -53,6 +56,21 @@ module _ (s : Store) (files : List File) (a : AllSessions) (kept : Keeps s files
     of_file : (o : Option ℕ) → draft_for a o ≡ Some d → LivesIn s d.layout
     of_file None e = absurd cc
     of_file (Some file) e = draft_lives s files a.drafts kept.owed file d e
+
+  -- a draft that shows that length has a map of that length
+  pub length_seen : (handle size : ℕ) → held.has_length (held_in s files a) handle size ≡ true → (has_length size (draft_by a handle) ≡ true) × (size ≤ longest_content)
+  length_seen handle size has = of_file (handle_file a.handles handle) (rw (handle_file-shown a.handles handle) at has) where
+    of_draft : (file : ℕ) (o : Option Draft) → find (is_draft file) a.drafts ≡ o → option_map_or (λ row. eqb (length (content_of row.cells)) size) (option_map (draft_in s) o) false ≡ true → (has_length size o ≡ true) × (size ≤ longest_content)
+    of_draft file None found e = absurd (false≢true e)
+    of_draft file (Some d) found e =
+        let lives = draft_lives s files a.drafts kept.owed file d found in
+        let long : eqb d.layout.size size ≡ true = rw (shown-length s d.layout lives) at e in
+        let is : d.layout.size ≡ size = grind (arith, nat_tests) in
+        (long, omega (arith, is, whole_short s d.layout lives.whole))
+
+    of_file : (o : Option ℕ) → held.has_length_of (held_in s files a) o size ≡ true → (has_length size (draft_for a o) ≡ true) × (size ≤ longest_content)
+    of_file None e = absurd (false≢true e)
+    of_file (Some file) e = of_draft file (find (is_draft file) a.drafts) refl (rw (draft-found s file a.drafts) at e)
 
   module _ (t : Store) (b : AllSessions) (orderly : AreOrderly a) where
     -- a new map for the file's draft

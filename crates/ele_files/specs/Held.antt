@@ -1,9 +1,10 @@
 -- The rows of all files, and how they change.
-use Rattle.std.specs.Prelude.{ℕ, ◌+◌, ◌-◌, false, List, [], ◌∷◌, ◌++◌, Option, Some, None, find, if◌then◌else◌}
+use Rattle.std.specs.Prelude.{ℕ, ◌+◌, ◌-◌, ◌==◌, Bool, false, List, [], ◌∷◌, ◌++◌, length, Option, Some, None, find, if◌then◌else◌}
 use Rattle.std.specs.List.{list_any}
 use Rattle.std.specs.Option.{option_map_or}
 use Rattle.ele_policy.specs.declared.policy.Policy.{Policy}
 use Rattle.ele_content.specs.declared.cell.Cell.{Cell}
+use Rattle.ele_content.specs.Content.{content_of}
 use Rattle.ele_moment.specs.Lists.{update_first, remove_first, insert_before}
 use Rattle.ele_world.specs.declared.rows.FileRow.{FileRow}
 use Rattle.ele_world.specs.declared.rows.VersionRow.{VersionRow}
@@ -69,6 +70,15 @@ fitted_of h (Some file) size =
 
 abbrev pub fitted : Held → ℕ → ℕ → Held
 fitted h handle size = fitted_of h (handle_file h.handles handle) size
+
+-- whether the draft under a handle of the file has so many bytes
+abbrev pub has_length_of : Held → Option ℕ → ℕ → Bool
+has_length_of h None size = false
+has_length_of h (Some file) size =
+    option_map_or (λ row. length (content_of row.cells) == size) (find (is_draft file) h.drafts) false
+
+abbrev pub has_length : Held → ℕ → ℕ → Bool
+has_length h handle size = has_length_of h (handle_file h.handles handle) size
 
 -- the cells of the file's draft
 abbrev pub cells_of_draft : Held → ℕ → List Cell

@@ -68,7 +68,8 @@ impl BlockMap {
     /// Writes bytes from the offset on; zeros fill the content up to the offset where it ends before.
     /// Each slot that meets what is filled or written gets a new block and the writer; every other
     /// slot stays, and so does every other map, also one that shared the blocks which are replaced.
-    /// Where memory is refused, map and store are as they were.
+    /// No bytes within the content change nothing. Where memory is refused, map and store are as
+    /// they were.
     pub fn write(
         &mut self,
         store: &mut BlockStore,
@@ -89,11 +90,16 @@ impl BlockMap {
         ensures err { OnErr result (self.new ≡ self.old) }
         ensures err_store { OnErr result (store.new ≡ store.old) }
     {
+        let end = offset + bytes.len() as u64;
+        if offset.min(self.length) == end {
+            // No byte is filled or written.
+            return Ok(());
+        }
         let (first, past) = met(self.length, self.slots.len(), offset, bytes.len());
         let window = joined(self.alloc, store, &self.slots[first..past])?;
         let patch = splice(self.alloc, &window, offset as usize - SLOT * first, bytes)?;
         let staged = pieces(self.alloc, &patch)?;
-        let size = self.length.max(offset + bytes.len() as u64);
+        let size = self.length.max(end);
         self.replace(store, writer, first, staged, size)?;
         Ok(())
     }

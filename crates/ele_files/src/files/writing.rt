@@ -1,8 +1,8 @@
 //! Changes of drafts.
 //! A contract sees the list of drafts, in which one has other cells.
-ghost use Rattle.std.specs.Prelude.{◌≡◌, OnOk, OnErr, IfNone, IsOkUnless, IsErrOf};
+ghost use Rattle.std.specs.Prelude.{◌≡◌, [], OnOk, OnErr, IfNone, IsOk, IsOkUnless, IsErrOf, IsSome, IsTrue};
 ghost use Rattle.std.specs.Option.{ForSome};
-ghost use Rattle.ele_files.specs.Held.{written_by, fitted};
+ghost use Rattle.ele_files.specs.Held.{written_by, fitted, has_length};
 ghost use Rattle.ele_sessions.specs.Changes.{write_refusal_of, truncate_refusal_of};
 ghost use Rattle.ele_sessions.specs.declared.fault.SessionFault.TheVariants as SessionFault;
 ghost use Rattle.ele_world.specs.World.{handle_file};
@@ -22,6 +22,8 @@ impl Files {
         ensures otherwise { IfNone
             (write_refusal_of (handle_file self.old.handles handle) offset bytes.now)
             (IsOkUnless result SessionFault.NoMemory) }
+        ensures idle { IsSome (handle_file self.old.handles handle)
+            → bytes.now ≡ [] → IsOk result }
         ensures ok { OnOk result (self.new ≡ written_by self.old handle offset bytes.now) }
         ensures err { OnErr result (self.new ≡ self.old) }
     {
@@ -38,6 +40,7 @@ impl Files {
         ensures otherwise { IfNone
             (truncate_refusal_of (handle_file self.old.handles handle) size)
             (IsOkUnless result SessionFault.NoMemory) }
+        ensures idle { IsTrue (has_length self.old handle size) → IsOk result }
         ensures ok { OnOk result (self.new ≡ fitted self.old handle size) }
         ensures err { OnErr result (self.new ≡ self.old) }
     {

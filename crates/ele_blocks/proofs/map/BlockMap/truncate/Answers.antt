@@ -2,7 +2,8 @@ use Rattle.std.proofs.Common.{◌≡◌, ◌∙◌, ap, arith, refl}
 use Rattle.ele_content.specs.Content.{content_of}
 use Rattle.ele_blocks.specs.Layout.{Layout, shown}
 use Rattle.ele_blocks.proofs.Sizes.{length-content}
-use Rattle.ele_blocks.proofs.Truncates.{grown_content, truncated_grown, same_content, truncated_same}
+use Rattle.ele_blocks.proofs.Truncates.{grown_content, truncated_grown}
+use Rattle.ele_blocks.proofs.Unchanged.{same_content, truncated_same}
 use Rattle.ele_blocks.proofs.map.BlockMap.truncate.Goals as goal
 
 pub returns-in_ok-write-clause-cells : goal.returns-in_ok-write-clause-cells

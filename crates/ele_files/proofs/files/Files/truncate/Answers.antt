@@ -1,5 +1,5 @@
 use Rattle.ele_files.proofs.Rows.{handle_file-shown}
-use Rattle.ele_files.proofs.Writings.{draft_by_lives, cut_keeps, cut_seen}
+use Rattle.ele_files.proofs.Writings.{draft_by_lives, cut_keeps, cut_seen, length_seen}
 use Rattle.ele_files.proofs.files.Files.truncate.Goals as goal
 
 pub truncate-requires : goal.truncate-requires
@@ -16,3 +16,8 @@ returns-clause-otherwise c = rw (← c.self.view_is, handle_file-shown) c.trunca
 
 pub returns-clause-ok : goal.returns-clause-ok
 returns-clause-ok c = rw (← c.self.view_is) (cut_seen _ _ _ c.self.invariant _ _ c.truncate.ensures.orderly _ _ _ c.truncate.ensures.truncates)
+
+pub returns-clause-idle : goal.returns-clause-idle
+returns-clause-idle c = λ has.
+    let seen = length_seen _ _ _ c.self.invariant c.args.handle c.args.size (rw (← c.self.view_is) at has) in
+    c.truncate.ensures.idle seen.0 seen.1

@@ -16,3 +16,6 @@ returns-clause-otherwise c = rw (← c.self.view_is, handle_file-shown) c.write.
 
 pub returns-clause-ok : goal.returns-clause-ok
 returns-clause-ok c = rw (← c.self.view_is) (wrote_seen _ _ _ c.self.invariant _ _ c.write.ensures.orderly _ _ _ _ c.write.ensures.writes)
+
+pub returns-clause-idle : goal.returns-clause-idle
+returns-clause-idle c = rw (← c.self.view_is, handle_file-shown) c.write.ensures.idle

@@ -1,0 +1,75 @@
+-- What changes nothing: a write of no bytes within the content, and a truncate to the same length.
+use Rattle.std.proofs.Common.{◌≡◌, ℕ, ◌+◌, ◌-◌, ◌≤◌, Bool, false, List, [], ◌∷◌, ◌++◌, length, take, drop, min, refl, ap, sym, ◌∙◌, arith, ltb}
+use Rattle.std.proofs.lemmas.Bool.{false≢true}
+use Rattle.std.proofs.lemmas.Bool.Decides.{nat_tests}
+use Rattle.std.proofs.lemmas.List.{append-nil, nil_from_length, take-append-drop, take_all}
+use Rattle.ele_content.specs.Content.{content_of, spliced, resized, meets, refits, writer_at, written, truncated}
+use Rattle.ele_blocks.specs.Layout.{Layout, shown}
+use Rattle.ele_blocks.specs.LivesIn.{LivesIn}
+use Rattle.ele_blocks.specs.Owes.{Moves}
+use Rattle.ele_blocks.specs.Pieces.{pieces}
+use Rattle.ele_blocks.specs.Renews.{Renews}
+use Rattle.ele_blocks.specs.Store.{Store}
+use Rattle.ele_blocks.proofs.Moves.{moved_one}
+use Rattle.ele_blocks.proofs.Pieces.{pieces_joined}
+use Rattle.ele_blocks.proofs.Places.{writer_at_is, meets_none}
+use Rattle.ele_blocks.proofs.Sizes.{bytes_each, content_each, whole_sized, length-content}
+use Rattle.ele_blocks.proofs.Written.{no_cell, cells_by_slots}
+
+module _ (s : Store) (m : Layout) (w : ℕ) (lives : LivesIn s m) where
+  each : bytes_each (shown s m) ≡ pieces (content_of (shown s m))
+  each = sym (ap pieces (content_each (shown s m)) ∙ pieces_joined m.size (bytes_each (shown s m)) (whole_sized s m lives.whole))
+
+  pub moves_same : Moves s s (m ∷ []) (m ∷ [])
+  moves_same = moved_one s s m m (record { owed = λ id. refl; kept = λ id lt. refl }) lives.whole
+
+  renews_none : (p : ℕ → Bool) → ((slot : ℕ) → p slot ≡ false) → Renews s s w p m m
+  renews_none p none = record {
+    fresh = λ slot is. absurd (false≢true (sym (none slot) ∙ is));
+    stays = λ slot is lt. refl;
+    once = λ id zero. omega (arith, zero);
+  }
+
+  -- a truncate to the length that it has
+  pub same_content : resized (content_of (shown s m)) m.size ≡ content_of (shown s m)
+  same_content =
+      let size = length-content s m lives.whole in
+      let none : m.size - length (content_of (shown s m)) ≡ 0 = omega (arith, size) in
+      rw none (append-nil (take m.size (content_of (shown s m))) ∙ take_all m.size (content_of (shown s m)) (omega (arith, size)))
+
+  pub truncated_same : shown s m ≡ truncated w m.size (shown s m)
+  unfolding truncated
+  truncated_same =
+      let size = length-content s m lives.whole in
+      let cells = shown s m in
+      let no : ltb m.size m.size ≡ false = grind (arith, nat_tests) in
+      rw (same_content, size, no) (ap (λ c. c) (cells_by_slots cells (content_of cells) (λ slot. writer_at cells slot) each (λ k lt. sym (writer_at_is cells k no_cell lt)) ∙ rw size refl))
+
+  pub renews_same : Renews s s w (refits m.size m.size) m m
+  renews_same = let no : ltb m.size m.size ≡ false = grind (arith, nat_tests) in renews_none (refits m.size m.size) (λ slot. rw no refl)
+
+  -- a write of no bytes within the content
+  module _ (o : ℕ) (x : List ℕ) (none : o + length x ≤ min o m.size) where
+    empty : x ≡ []
+    empty = nil_from_length x (omega (arith, none))
+
+    pub same_splice : spliced (content_of (shown s m)) o x ≡ content_of (shown s m)
+    same_splice =
+        let content = content_of (shown s m) in
+        let gap : o - length content ≡ 0 = omega (arith, length-content s m lives.whole, none) in
+        let to : o + 0 ≡ o = omega arith in
+        rw (empty, gap, to) (ap (λ l. l ++ drop o content) (append-nil (take o content ++ []) ∙ append-nil (take o content)) ∙ take-append-drop o content)
+
+    nothing : (slot : ℕ) → meets (min o m.size) (o + length x) slot ≡ false
+    nothing slot = meets_none (min o m.size) (o + length x) slot none
+
+    pub written_same : shown s m ≡ written w o x (shown s m)
+    unfolding written
+    written_same =
+        let size = length-content s m lives.whole in
+        let cells = shown s m in
+        let no : ltb (min o m.size) (o + length x) ≡ false = grind (arith, nat_tests, none) in
+        rw (same_splice, size, no) (ap (λ c. c) (cells_by_slots cells (content_of cells) (λ slot. writer_at cells slot) each (λ k lt. sym (writer_at_is cells k no_cell lt)) ∙ rw size refl))
+
+    pub renews_nothing : Renews s s w (meets (min o m.size) (o + length x)) m m
+    renews_nothing = renews_none (meets (min o m.size) (o + length x)) nothing
