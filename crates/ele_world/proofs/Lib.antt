@@ -4,6 +4,11 @@ pub mod Walks
 pub mod KeptNames
 pub mod KeptDrafts
 pub mod KeptVersions
+pub mod Around
+pub mod Views
+pub mod RipeMoments
+pub mod Removal
+pub mod RemovalOrder
 pub mod DueRows
 pub mod StepKeeps
 pub mod Stays
