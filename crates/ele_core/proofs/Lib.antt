@@ -1,4 +1,5 @@
 pub mod Keyed
+pub mod Plain
 pub mod Ripening
 pub mod Bounded
 pub mod Booked

@@ -8,9 +8,10 @@ use Rattle.std.proofs.lemmas.Bool.Decides.{nat_tests}
 use Rattle.ele_content.specs.Content.{content_of}
 use Rattle.ele_core.proofs.Booked.{few, owed, some_versions, and_nothing}
 use Rattle.ele_core.proofs.Keyed.{has-remove}
+use Rattle.ele_core.proofs.Plain.{plain_key, keys_are_plain}
 use Rattle.ele_core.proofs.Ripening.{ripe_now, due_by_key}
 use Rattle.ele_core.specs.Inside.{world_of, IsSound}
-use Rattle.ele_core.specs.Tracked.{told_by, blocks_of, key_by, keys_of, has_any, one_version, of_file, IsOwed, IsQueued}
+use Rattle.ele_core.specs.Tracked.{told_by, blocks_of, has_any, one_version, of_file, IsOwed, IsQueued}
 use Rattle.ele_core.specs.declared.rows.Rows.{Rows}
 use Rattle.ele_due.specs.declared.key.Key.{Key}
 use Rattle.ele_due.specs.HasKey.{has_key}
@@ -22,6 +23,7 @@ use Rattle.ele_moment.proofs.Edits.{all-weaker}
 use Rattle.ele_policy.specs.declared.policy.Kind.{Kind}
 use Rattle.ele_policy.specs.declared.policy.Policy.{Policy}
 use Rattle.ele_policy.specs.Ripe.{ripe_by}
+use Rattle.ele_policy.proofs.Waits.{nothing_beside}
 use Rattle.ele_usage.specs.declared.usage.Usage.{Usage}
 use Rattle.ele_usage.specs.Book.{Book, sums_of}
 use Rattle.ele_usage.specs.Sums.{nothing, plus, Fits, IsWithin}
@@ -42,7 +44,7 @@ use Rattle.ele_world.proofs.Versions.{IsFound, all_found}
 pub record IsKeyed (w : World) (key : Key) : Type 0 where
   pub row : VersionRow
   pub found : find (is_version key.file key.number) w.versions ≡ Some row
-  pub keyed : key_by w.files row ≡ Some key
+  pub keyed : plain_key w.files row ≡ Some key
 
 ripe_some : (now : ℕ) (o : Option Key) (key : Key) → ripe_now now o ≡ Some key → o ≡ Some key
 ripe_some now None key e = absurd cc
@@ -52,20 +54,20 @@ ripe_some now (Some k) key e = by (is_ripe_by now k) e where
   by false h = absurd cc
 
 -- a key is that of its row
-key_is_of : (files : List FileRow) (row : VersionRow) (key : Key) → key_by files row ≡ Some key → (row.file ≡ key.file) × (row.number ≡ key.number)
+key_is_of : (files : List FileRow) (row : VersionRow) (key : Key) → plain_key files row ≡ Some key → (row.file ≡ key.file) × (row.number ≡ key.number)
 key_is_of files row key e = by (policy_of files row.file) row.ended e where
   of_ripe : (o : Option ℕ) → option_map (key_of row) o ≡ Some key → (row.file ≡ key.file) × (row.number ≡ key.number)
   of_ripe None h = absurd cc
   of_ripe (Some m) h = (cc, cc)
 
-  by : (p : Option Policy) (o : Option ℕ) → option_and_then (λ policy. option_and_then (λ ended. option_map (key_of row) (ripe_by policy ended)) o) p ≡ Some key → (row.file ≡ key.file) × (row.number ≡ key.number)
+  by : (p : Option Policy) (o : Option ℕ) → option_and_then (λ policy. option_and_then (λ ended. option_map (key_of row) (ripe_by policy row.closed nothing_beside ended)) o) p ≡ Some key → (row.file ≡ key.file) × (row.number ≡ key.number)
   by None o h = absurd cc
   by (Some policy) None h = absurd cc
-  by (Some policy) (Some ended) h = of_ripe (ripe_by policy ended) h
+  by (Some policy) (Some ended) h = of_ripe (ripe_by policy row.closed nothing_beside ended) h
 
 keyed_row : (w : World) (row : VersionRow) (key : Key) → IsFound w.versions row → due_key w row ≡ Some key → IsKeyed w key
 keyed_row w row key found due =
-    let keyed = ripe_some w.now (key_by w.files row) key (sym (due_by_key w row) ∙ due) in
+    let keyed = ripe_some w.now (plain_key w.files row) key (sym (due_by_key w row) ∙ due) in
     let of = key_is_of w.files row key keyed in
     record { row = row; found = rw (← of.0, ← of.1) found; keyed = keyed }
 
@@ -78,9 +80,9 @@ first_keyed w key placed first =
 
 -- ---- the queue
 
-other_key : (files : List FileRow) (key : Key) (x : VersionRow) → is_version key.file key.number x ≡ false → has_any key (key_by files x) ≡ false
-other_key files key x fails = by (key_by files x) refl where
-  by : (o : Option Key) → key_by files x ≡ o → has_any key o ≡ false
+other_key : (files : List FileRow) (key : Key) (x : VersionRow) → is_version key.file key.number x ≡ false → has_any key (plain_key files x) ≡ false
+other_key files key x fails = by (plain_key files x) refl where
+  by : (o : Option Key) → plain_key files x ≡ o → has_any key o ≡ false
   by None e = refl
   by (Some k) e = test (is_key key k) refl where
     test : (b : Bool) → is_key key k ≡ b → b ≡ false
@@ -102,9 +104,10 @@ removed_queue rows key now queue sound first after members k =
     let w = world_of rows in
     let first_row = first_keyed w key (sound.formed.holds Versions).placed first in
     members k
-    ∙ ap (λ b. not (is_key k key) && b) (sound.tracked.queue k)
-    ∙ sym (has-remove (key_by w.files) (is_version key.file key.number) key (other_key w.files key) k w.versions first_row.row (placed_once key.file key.number w.versions (sound.formed.holds Versions).placed) first_row.found first_row.keyed)
-    ∙ ap (λ (h : Held). has_key k (keys_of h)) (sym after)
+    ∙ ap (λ b. not (is_key k key) && b) (sound.tracked.queue k ∙ keys_are_plain w.files w.versions k)
+    ∙ sym (has-remove (plain_key w.files) (is_version key.file key.number) key (other_key w.files key) k w.versions first_row.row (placed_once key.file key.number w.versions (sound.formed.holds Versions).placed) first_row.found first_row.keyed)
+    ∙ ap (λ (h : Held). has_key k (filter_map (plain_key h.files) h.versions)) (sym after)
+    ∙ sym (keys_are_plain now.files now.versions k)
 
 -- ---- the book
 

@@ -39,6 +39,7 @@ fn version_key(rows: &Rows, file: FileId, number: VersionNo) -> Option<Key>
     let mut meter = Meter::new();
     let stamps = rows.files.stamps(file, number, &mut meter)?;
     let policy = rows.files.policy_of(file)?;
+    // The next version's closing isn't read for this: no policy yet looks at what stands beside a version.
     key_at(file, number, &policy, stamps.closed, stamps.ended?, None)
 }
 

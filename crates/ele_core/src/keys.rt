@@ -3,14 +3,15 @@ ghost use Rattle.std.specs.Prelude.{◌≡◌, ◌≤◌, ◌||◌, ◌&&◌, no
 ghost use Rattle.std.specs.Option.{option_map};
 ghost use Rattle.ele_due.specs.declared.key.Key.{Key};
 ghost use Rattle.ele_due.specs.HasKey.{has_key};
-ghost use Rattle.ele_policy.specs.Ripe.{ripe_by};
+ghost use Rattle.ele_policy.specs.Ripe.{Beside, IsNearest, ripe_by};
 ghost use Rattle.ele_core.specs.Tracked.{has_any, key_of_version};
 
 use ele_due::DueQueue;
 use ele_policy::{Policy, ripe};
 use ele_world::{FileId, Key, Moment, NoMemory, VersionNo};
 
-/// The key of a version that closed and ended at these moments; `next_closed` is the closing of the next held one.
+/// The key of a version that closed and ended at these moments; `next_closed` is the closing of the next held one, whatever
+/// stands behind that.
 pub fn key_at(
     file: FileId,
     number: VersionNo,
@@ -19,9 +20,8 @@ pub fn key_at(
     ended: Moment,
     next_closed: Option<Moment>,
 ) -> Option<Key>
-    requires { closed ≤ ended }
-    ensures { result ≡ option_map (key_of_version file number)
-        (ripe_by policy.now ended) }
+    ensures { (beside : Beside) → IsNearest closed next_closed beside
+        → result ≡ option_map (key_of_version file number) (ripe_by policy.now closed beside ended) }
 {
     let ripe = ripe(policy, closed, ended, next_closed)?;
     Some(Key { ripe, file, number })

@@ -1,3 +1,4 @@
 pub mod Interval
 pub mod Policy
 pub mod Ripe
+pub mod LetsGoFrom

@@ -1,9 +1,15 @@
--- The kind of a policy.
+-- Which policies there are, and their kinds.
 use Rattle.std.specs.Prelude.{Bool, true, false}
 use Rattle.ele_policy.specs.declared.policy.Kind.{Kind}
 use Rattle.ele_policy.specs.declared.policy.Kind.TheVariants as kind
 use Rattle.ele_policy.specs.declared.policy.Policy.{Policy}
 use Rattle.ele_policy.specs.declared.policy.Policy.TheVariants.{One, Safe}
+use Rattle.ele_policy.specs.Interval.{IsInterval}
+
+-- what the types of a policy say of it
+abbrev pub IsPolicy : Policy → Type 0
+IsPolicy One = Unit {0}
+IsPolicy (Safe interval) = IsInterval interval
 
 -- a policy is of the kind of its name
 abbrev pub kind_of : Policy → Kind

@@ -1,24 +1,46 @@
 -- When a policy lets a version go that has ended.
-use Rattle.std.specs.Prelude.{ℕ, ◌+◌, ◌-◌, nat_le, Bool, true, ◌&&◌, List, [], ◌∷◌, Option, find}
+use Rattle.std.specs.Prelude.{◌≡◌, ℕ, ◌+◌, ◌-◌, ◌≤◌, min, nat_le, Bool, true, ◌&&◌, List, [], ◌∷◌, Option, Some, None, slice_get, if◌then◌else◌}
+use Rattle.std.specs.Option.{option_map_or}
 use Rattle.ele_moment.specs.Last.{last_moment}
+use Rattle.ele_moment.specs.Lists.{AllLater}
 use Rattle.ele_policy.specs.declared.policy.Policy.{Policy}
 use Rattle.ele_policy.specs.declared.policy.Policy.TheVariants.{One, Safe}
 
--- whether the policy lets a version go that has been ended for so many seconds
-abbrev pub lets_go : Policy → ℕ → Bool
-lets_go One age = true
-lets_go (Safe interval) age = nat_le interval age
+-- what stands beside a version in its file: when the newer held ones closed, in order, and whether the file is live
+pub record Beside : Type 0 where
+  pub newer : List ℕ
+  pub live : Bool
 
--- whether, by the policy alone, a version that ended then is due at the moment
-abbrev pub is_due_by : Policy → ℕ → ℕ → Bool
-is_due_by policy ended at = nat_le ended at && lets_go policy (at - ended)
+-- whether the policy lets a version go that closed then and has been ended for so many seconds
+abbrev pub lets_go : Policy → ℕ → Beside → ℕ → Bool
+lets_go One closed beside age = true
+lets_go (Safe interval) closed beside age = nat_le interval age
+
+-- whether, by the policy alone, a version that closed and ended then is due at the moment
+abbrev pub is_due_by : Policy → ℕ → Beside → ℕ → ℕ → Bool
+is_due_by policy closed beside ended at = nat_le ended at && lets_go policy closed beside (at - ended)
 
 -- the moments at which it may become due
 abbrev pub candidates : Policy → ℕ → List ℕ
 candidates One ended = ended ∷ []
 candidates (Safe interval) ended = (ended + interval) ∷ []
 
--- the first of them at which it is due, none past the last moment
-unfoldable pub ripe_by : Policy → ℕ → Option ℕ
-ripe_by policy ended =
-    find (λ at. nat_le at last_moment && is_due_by policy ended at) (candidates policy ended)
+-- the earliest of the moments at which the test holds, none past the last moment
+abbrev pub earliest_of : (ℕ → Bool) → List ℕ → Option ℕ
+earliest_of holds [] = None
+earliest_of holds (at ∷ moments) =
+    if nat_le at last_moment && holds at then Some (option_map_or (min at) (earliest_of holds moments) at) else earliest_of holds moments
+
+-- the earliest of its candidates at which the version is due
+unfoldable pub ripe_by : Policy → ℕ → Beside → ℕ → Option ℕ
+ripe_by policy closed beside ended = earliest_of (is_due_by policy closed beside ended) (candidates policy ended)
+
+-- of a version that closed then: the newer closings aren't before its own and stand in order, and this is the first of them
+pub record IsNearest (closed : ℕ) (nearest : Option ℕ) (beside : Beside) : Type 0 where
+  pub in_order : AllLater ◌≤◌ (closed ∷ beside.newer)
+  pub first : slice_get beside.newer 0 ≡ nearest
+
+-- the ripe moment, whatever else stands beside the version behind the nearest newer one
+abbrev pub IsRipe : Policy → ℕ → ℕ → Option ℕ → Option ℕ → Type 0
+IsRipe policy closed ended nearest ripe =
+    (beside : Beside) → IsNearest closed nearest beside → ripe ≡ ripe_by policy closed beside ended

@@ -3,6 +3,7 @@
 #![tactic(auto)]
 
 mod interval;
+pub mod laws;
 mod policy;
 mod ripening;
 

@@ -2,15 +2,15 @@
 //! A contract sees it as seconds, and says at which moments the policy lets the version go.
 ghost use Rattle.std.specs.Prelude.{◌≡◌, ◌≤◌, ℕ, false, nat_le, IfSome, IfNone};
 ghost use Rattle.ele_moment.specs.Last.{last_moment};
-ghost use Rattle.ele_policy.specs.Ripe.{is_due_by, ripe_by};
+ghost use Rattle.ele_policy.specs.Ripe.{Beside, IsNearest, IsRipe, is_due_by};
 
 use crate::policy::Policy;
 use ele_moment::Moment;
 
 /// The first moment at which the policy lets a version go that closed and ended at these moments.
-/// None where that would be past the last moment. The caller's version has closed no later than it
-/// ended. `next_closed` is the closing of the next held version of the file, if there is one;
-/// neither `One` nor `Safe` looks at it, or at the version's own closing.
+/// None where that would be past the last moment. `next_closed` is the closing of the next held
+/// version of the file, if there is one, and so isn't before the version's own; whatever stands
+/// behind that one, the answer is the same. Neither `One` nor `Safe` looks at either closing.
 #[tactic(auto, unfolding(crate::specs::Ripe::ripe_by))]
 pub fn ripe(
     policy: &Policy,
@@ -18,12 +18,13 @@ pub fn ripe(
     ended: Moment,
     next_closed: Option<Moment>,
 ) -> Option<Moment>
-    requires { closed ≤ ended }
-    ensures value { result ≡ ripe_by policy.now ended }
+    ensures value { IsRipe policy.now closed ended next_closed result }
     ensures from_then { IfSome result
-        (λ m. (at : ℕ) → is_due_by policy.now ended at ≡ nat_le m at) }
+        (λ m. (beside : Beside) → IsNearest closed next_closed beside
+        → (at : ℕ) → is_due_by policy.now closed beside ended at ≡ nat_le m at) }
     ensures never { IfNone result
-        ((at : ℕ) → at ≤ last_moment → is_due_by policy.now ended at ≡ false) }
+        ((beside : Beside) → IsNearest closed next_closed beside
+        → (at : ℕ) → at ≤ last_moment → is_due_by policy.now closed beside ended at ≡ false) }
 {
     match policy {
         Policy::One => Some(ended),

@@ -12,7 +12,8 @@ use Rattle.ele_moment.specs.Lists.{insert_before}
 use Rattle.ele_world.specs.Change.{new_draft, EndDraft, ShutHandle, all_applied}
 use Rattle.ele_world.specs.Scan.{first_due}
 use Rattle.ele_world.specs.Step.{versions_made, has_other_writer, plan}
-use Rattle.ele_world.specs.WellFormed.{IsPolicy, AreWrittenBy, IsDraft, Counted, Directories, Names, Versions, Drafts, IsWellFormed}
+use Rattle.ele_policy.specs.Policy.{IsPolicy}
+use Rattle.ele_world.specs.WellFormed.{AreWrittenBy, IsDraft, Counted, Directories, Names, Versions, Drafts, IsWellFormed}
 use Rattle.ele_world.specs.World.{World, is_directory, default_of, next_of, is_draft, is_draft_after}
 use Rattle.ele_world.specs.declared.event.Event.{Event}
 use Rattle.ele_world.specs.declared.event.Event.TheVariants.{Clock, Tick, Create, OpenWrite, Write, Truncate, Close, SetDefault, CleanOne, Read, Due, UsageAll}

@@ -12,6 +12,7 @@ use Rattle.ele_policy.specs.declared.policy.Policy.{Policy}
 use Rattle.ele_due.specs.declared.key.Key.{Key}
 use Rattle.ele_world.specs.declared.rows.VersionRow.{VersionRow}
 use Rattle.ele_world.specs.Due.{is_due_at, ripe_of}
+use Rattle.ele_world.specs.FileView.{view_of, beside}
 use Rattle.ele_world.specs.Scan.{key_cmp, key_of, due_key, scan, first_due}
 use Rattle.ele_world.specs.WellFormed.{AllLater, ArePlaced}
 use Rattle.ele_world.specs.World.{World, is_version, policy_of}
@@ -66,7 +67,7 @@ first_is_due w key placed h = first_of (IsDueKey w) (scan w) key h (scan_due w p
 pub due_has_ended : (w : World) (row : VersionRow) (at : ℕ) → is_due_at w row at ≡ true → is_none row.ended ≡ false
 unfolding is_due_at
 due_has_ended w row at h = by (policy_of w.files row.file) row.ended h where
-  by : (p : Option Policy) (o : Option ℕ) → option_map_or (λ policy. option_map_or (λ ended. is_due_by policy ended at) o false) p false ≡ true → is_none o ≡ false
+  by : (p : Option Policy) (o : Option ℕ) → option_map_or (λ policy. option_map_or (λ ended. is_due_by policy row.closed (beside (view_of w row.file) row) ended at) o false) p false ≡ true → is_none o ≡ false
   by None o h = absurd (false≢true h)
   by (Some policy) None h = absurd (false≢true h)
   by (Some policy) (Some ended) h = refl

@@ -9,6 +9,11 @@ pub mod KeptNames
 pub mod KeptDrafts
 pub mod KeptVersions
 pub mod Keeps
+pub mod Around
+pub mod Views
+pub mod RipeMoments
+pub mod Removal
+pub mod RemovalOrder
 pub mod DueRows
 pub mod Allowed
 pub mod StepKeeps

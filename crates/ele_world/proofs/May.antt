@@ -10,7 +10,8 @@ use Rattle.ele_world.specs.Due.{is_due_at}
 use Rattle.ele_world.specs.Plan.{Plan, Tell, Make, Unless, When, Need, IfFound}
 use Rattle.ele_world.specs.Run.{IsEvent}
 use Rattle.ele_world.specs.Walk.{live_target}
-use Rattle.ele_world.specs.WellFormed.{IsContent, AreWrittenBy, IsPolicy}
+use Rattle.ele_policy.specs.Policy.{IsPolicy}
+use Rattle.ele_world.specs.WellFormed.{IsContent, AreWrittenBy}
 use Rattle.ele_world.specs.World.{World, next_of, is_version, is_draft, has_draft, is_writer}
 use Rattle.ele_world.specs.declared.event.Event.{Event}
 use Rattle.ele_world.specs.declared.event.Event.TheVariants.{CleanOne}

@@ -1,30 +1,32 @@
 -- A pass that nothing disturbs removes the due versions, and no others.
-use Rattle.std.proofs.Common.{◌≡◌, ℕ, suc, zero, ◌+◌, ◌-◌, ◌≤◌, Bool, true, false, cond, ◌&&◌, not, List, [], ◌∷◌, Option, Some, None, refl, ap, sym, subst, ◌∙◌, arith, leb}
-use Rattle.std.specs.Prelude.{find, filter, slice_get, fold, is_some}
+use Rattle.std.proofs.Common.{◌≡◌, ℕ, suc, zero, ◌≤◌, Bool, true, false, cond, not, List, [], ◌∷◌, Option, Some, None, refl, ap, sym, ◌∙◌}
+use Rattle.std.specs.Prelude.{find, filter, nat_le, slice_get, fold, is_some}
 use Rattle.std.specs.declared.cmp.Ordering.{Ordering}
 use Rattle.std.specs.declared.cmp.Ordering.TheVariants.{Less, Equal, Greater}
 use Rattle.std.specs.BTreeSet.{insert_key}
 use Rattle.std.specs.List.{AllByRecursion, filter_map}
-use Rattle.std.specs.Option.{option_map, option_map_or, option_and_then}
+use Rattle.std.specs.Option.{option_map, option_map_or}
 use Rattle.std.proofs.lemmas.Bool.{false≢true}
-use Rattle.std.proofs.lemmas.Bool.Decides.{nat_tests}
 use Rattle.ele_moment.specs.Last.{last_moment}
-use Rattle.ele_policy.specs.declared.policy.Policy.{Policy}
-use Rattle.ele_policy.specs.declared.policy.Policy.TheVariants.{One, Safe}
-use Rattle.ele_policy.specs.Ripe.{is_due_by, candidates}
 use Rattle.ele_world.specs.declared.event.Event.TheVariants.{CleanOne}
 use Rattle.ele_due.specs.declared.key.Key.{Key}
 use Rattle.ele_world.specs.declared.rows.VersionRow.{VersionRow}
 use Rattle.ele_world.specs.Due.{is_due_at, ripe_of, kept}
 use Rattle.ele_moment.specs.Lists.{remove_first}
+use Rattle.ele_moment.proofs.Edits.{all-both, all-weaker}
+use Rattle.ele_world.specs.RipeMoments.{IsDueFromRipe}
 use Rattle.ele_world.specs.Run.{cleaned, IsPass}
 use Rattle.ele_world.specs.Scan.{key_cmp, key_of, due_key, scan, first_due}
 use Rattle.ele_world.specs.Step.{clean_step}
+use Rattle.ele_world.specs.WellFormed.{Now, IsWellFormed}
+use Rattle.ele_world.specs.World.{World, is_version}
+use Rattle.ele_world.proofs.Around.{find-split, remove_first-split, filter-all}
 use Rattle.ele_world.proofs.Cleans.{clean_of}
-use Rattle.ele_world.specs.WellFormed.{Now, Versions, IsWellFormed}
-use Rattle.ele_world.specs.World.{World, is_version, policy_of}
 use Rattle.ele_world.proofs.DueRows.{first_is_due}
+use Rattle.ele_world.proofs.RemovalOrder.{removal_order}
+use Rattle.ele_world.proofs.RipeMoments.{due_from_ripe}
 use Rattle.ele_world.proofs.StepKeeps.{step_keeps}
+use Rattle.ele_world.proofs.Views.{placed_of}
 
 -- what isn't kept may go
 pub filter-remove_first : {X : Type 0} (keep p : X → Bool) (xs : List X) → ((x : X) → find p xs ≡ Some x → keep x ≡ false) → filter keep (remove_first p xs) ≡ filter keep xs
@@ -39,14 +41,15 @@ filter-remove_first {X} keep p (x ∷ xs) goes = by (p x) refl (filter-remove_fi
 
 -- a clean leaves what is kept
 clean_keeps_kept : (w : World) → IsWellFormed w → kept ((clean_step w).1) ≡ kept w
-unfolding is_due_at
 clean_keeps_kept w k = by (first_due w) refl where
   by : (o : Option Key) → first_due w ≡ o → kept ((clean_of w o).1) ≡ kept w
   by None e = refl
-  by (Some key) e = filter-remove_first (λ row. not (is_due_at w row w.now)) (is_version key.file key.number) w.versions (λ row found.
-      let due = first_is_due w key (k.holds Versions).placed e in
-      let same : due.row ≡ row = let was = due.found in cc in
-      ap not (subst (λ r. is_due_at w r w.now ≡ true) same due.due))
+  by (Some key) e =
+      let p = is_version key.file key.number in
+      let due = first_is_due w key (placed_of w k) e in
+      let at = find-split p w.versions due.row due.found in
+      ap (λ (rows : List VersionRow). kept (record w { versions = rows })) (ap (remove_first p) at.whole ∙ remove_first-split p at.before due.row at.behind at.none at.passes)
+      ∙ (removal_order w at.before due.row at.behind k at.whole due.due).kept
 
 pub cleaned_keeps_kept : (n : ℕ) (w : World) → IsWellFormed w → (kept (cleaned n w) ≡ kept w) × IsWellFormed (cleaned n w)
 cleaned_keeps_kept zero w k = (refl, k)
@@ -57,24 +60,17 @@ cleaned_keeps_kept (suc n) w k =
 -- ---- where the scan is empty nothing is due
 
 -- what is due now has a moment at which it is ripe
-due_by_ripe : (policy : Policy) (ended now : ℕ) → now ≤ last_moment → is_due_by policy ended now ≡ true → is_some (find (λ at. leb at last_moment && is_due_by policy ended at) (candidates policy ended)) ≡ true
-due_by_ripe One ended now fits due = let test : (leb ended last_moment && (leb ended ended && true)) ≡ true = grind (arith, nat_tests) in rw test refl
-due_by_ripe (Safe interval) ended now fits due =
-    let test : (leb (ended + interval) last_moment && (leb ended (ended + interval) && leb interval (ended + interval - ended))) ≡ true = grind (arith, nat_tests) in rw test refl
+pub due_is_ripe : (w : World) (row : VersionRow) → w.now ≤ last_moment → IsDueFromRipe w row → is_due_at w row w.now ≡ true → is_some (ripe_of w row) ≡ true
+due_is_ripe w row fits from due = by (ripe_of w row) (sym (from w.now fits) ∙ due) where
+  by : (o : Option ℕ) → option_map_or (λ ripe. nat_le ripe w.now) o false ≡ true → is_some o ≡ true
+  by None h = absurd (false≢true h)
+  by (Some ripe) h = refl
 
-pub due_is_ripe : (w : World) (row : VersionRow) → w.now ≤ last_moment → is_due_at w row w.now ≡ true → is_some (ripe_of w row) ≡ true
-unfolding is_due_at ripe_of
-due_is_ripe w row fits due = by (policy_of w.files row.file) row.ended due where
-  by : (p : Option Policy) (e : Option ℕ) → option_map_or (λ policy. option_map_or (λ ended. is_due_by policy ended w.now) e false) p false ≡ true → is_some (option_and_then (λ policy. option_and_then (λ ended. find (λ at. leb at last_moment && option_map_or (λ policy. option_map_or (λ ended. is_due_by policy ended at) e false) p false) (candidates policy ended)) e) p) ≡ true
-  by None e h = absurd (false≢true h)
-  by (Some policy) None h = absurd (false≢true h)
-  by (Some policy) (Some ended) h = due_by_ripe policy ended w.now fits h
-
-no_key : (w : World) (row : VersionRow) → w.now ≤ last_moment → due_key w row ≡ None → is_due_at w row w.now ≡ false
+no_key : (w : World) (row : VersionRow) → w.now ≤ last_moment → IsDueFromRipe w row → due_key w row ≡ None → is_due_at w row w.now ≡ false
 unfolding due_key
-no_key w row fits h = by (is_due_at w row w.now) refl (ripe_of w row) refl h where
+no_key w row fits from h = by (is_due_at w row w.now) refl (ripe_of w row) refl h where
   by : (b : Bool) → is_due_at w row w.now ≡ b → (o : Option ℕ) → ripe_of w row ≡ o → cond b (option_map (key_of row) o) None ≡ None → b ≡ false
-  by true due None r h = absurd (false≢true (ap is_some (sym r) ∙ due_is_ripe w row fits due))
+  by true due None r h = absurd (false≢true (ap is_some (sym r) ∙ due_is_ripe w row fits from due))
   by true due (Some ripe) r h = absurd cc
   by false due o r h = refl
 
@@ -101,23 +97,19 @@ first-nil : (keys : List Key) → slice_get keys 0 ≡ None → keys ≡ []
 first-nil [] h = refl
 first-nil (x ∷ xs) h = absurd cc
 
-filter-all : {X : Type 0} (keep : X → Bool) (xs : List X) → AllByRecursion (λ x. keep x ≡ true) xs → filter keep xs ≡ xs
-filter-all keep [] all = refl
-filter-all keep (x ∷ xs) all = rw all.0 (ap (λ ys. x ∷ ys) (filter-all keep xs all.1))
-
-all-kept : (w : World) (xs : List VersionRow) → w.now ≤ last_moment → AllByRecursion (λ row. due_key w row ≡ None) xs → AllByRecursion (λ row. not (is_due_at w row w.now) ≡ true) xs
-all-kept w [] fits all = tt
-all-kept w (x ∷ xs) fits all = (ap not (no_key w x fits all.0), all-kept w xs fits all.1)
-
-nothing_due : (w : World) → w.now ≤ last_moment → first_due w ≡ None → kept w ≡ w.versions
+nothing_due : (w : World) → IsWellFormed w → first_due w ≡ None → kept w ≡ w.versions
 unfolding scan
-nothing_due w fits h =
+nothing_due w k h =
     let keys = in_order-nil [] (filter_map (due_key w) w.versions) (first-nil (scan w) h) in
-    filter-all (λ row. not (is_due_at w row w.now)) w.versions (all-kept w w.versions fits (filter_map-nil (due_key w) w.versions keys.1))
+    let none = filter_map-nil (due_key w) w.versions keys.1 in
+    filter-all (λ row. not (is_due_at w row w.now)) w.versions
+    (all-weaker (λ row. IsDueFromRipe w row × (due_key w row ≡ None)) (λ row. not (is_due_at w row w.now) ≡ true) w.versions
+    (λ row both. ap not (no_key w row (k.holds Now) both.0 both.1))
+    (all-both (IsDueFromRipe w) (λ row. due_key w row ≡ None) w.versions (due_from_ripe w k) none))
 
 -- what a pass leaves
 pub pass_leaves_kept : (w : World) (removed : ℕ) (after : World) → IsWellFormed w → IsPass w removed after → after.versions ≡ kept w
 pass_leaves_kept w removed after k pass =
     let there = cleaned_keeps_kept removed w k in
     let none = rw pass.after_is at pass.last in
-    ap (λ (u : World). u.versions) pass.after_is ∙ sym (nothing_due (cleaned removed w) (there.1.holds Now) none) ∙ there.0
+    ap (λ (u : World). u.versions) pass.after_is ∙ sym (nothing_due (cleaned removed w) there.1 none) ∙ there.0

@@ -1,30 +1,25 @@
 -- Which versions are due.
-use Rattle.std.specs.Prelude.{ℕ, Bool, false, not, ◌&&◌, nat_le, List, Option, find, filter, option_and_then}
+use Rattle.std.specs.Prelude.{ℕ, Bool, false, not, List, Option, find, filter}
 use Rattle.std.specs.Option.{option_map_or}
-use Rattle.ele_moment.specs.Last.{last_moment}
-use Rattle.ele_policy.specs.Ripe.{is_due_by, candidates}
 use Rattle.ele_world.specs.declared.rows.VersionRow.{VersionRow}
-use Rattle.ele_world.specs.World.{World, policy_of, is_version}
+use Rattle.ele_world.specs.FileView.{view_of, due_in, ripe_in}
+use Rattle.ele_world.specs.World.{World, is_version}
 
--- nothing protects a version yet, at any moment
-abbrev pub is_protected : World → VersionRow → ℕ → Bool
-is_protected w row at = false
-
--- the version has ended at that moment or before it, isn't protected, and its file's policy lets it go
+-- the version is due at that moment, as its file stands now
 unfoldable pub is_due_at : World → VersionRow → ℕ → Bool
-is_due_at w row at =
-    not (is_protected w row at)
-    && option_map_or (λ policy. option_map_or (λ ended. is_due_by policy ended at) row.ended false) (policy_of w.files row.file) false
+is_due_at w row at = due_in (view_of w row.file) row at
 
 -- the version is held, and due now
 unfoldable pub is_due : World → ℕ → ℕ → Bool
 is_due w file number = option_map_or (λ row. is_due_at w row w.now) (find (is_version file number) w.versions) false
 
--- the first of the moments that the policy names, none past the last one, at which the version is due
+-- the version's ripe moment, as its file stands now
 unfoldable pub ripe_of : World → VersionRow → Option ℕ
-ripe_of w row =
-    option_and_then (λ policy. option_and_then (λ ended.
-    find (λ at. nat_le at last_moment && is_due_at w row at) (candidates policy ended)) row.ended) (policy_of w.files row.file)
+ripe_of w row = ripe_in (view_of w row.file) row
+
+-- the rows that are due
+abbrev pub due_rows : World → List VersionRow
+due_rows w = filter (λ row. is_due_at w row w.now) w.versions
 
 -- the rows that aren't due
 abbrev pub kept : World → List VersionRow

@@ -3,6 +3,7 @@ pub mod Limits
 pub mod Answers
 pub mod World
 pub mod Walk
+pub mod FileView
 pub mod Due
 pub mod Scan
 pub mod Usage
@@ -17,6 +18,8 @@ pub mod OnlyDueLeave
 pub mod HeldStays
 pub mod PassLeavesKept
 pub mod UsageFits
+pub mod RipeMoments
+pub mod RemovalOrder
 pub mod Pass
 pub mod NewPlaces
 pub mod Whole

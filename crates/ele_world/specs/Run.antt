@@ -5,7 +5,7 @@ use Rattle.ele_world.specs.declared.event.Event.{Event}
 use Rattle.ele_world.specs.declared.event.Event.TheVariants.{Clock, Tick, Create, OpenWrite, Write, Truncate, Close, SetDefault, CleanOne, Read, Due, UsageAll}
 use Rattle.ele_world.specs.Scan.{first_due}
 use Rattle.ele_world.specs.Step.{step, clean_step}
-use Rattle.ele_world.specs.WellFormed.{IsPolicy}
+use Rattle.ele_policy.specs.Policy.{IsPolicy}
 use Rattle.ele_world.specs.World.{World}
 
 -- the world after the events that were answered; an event that was stopped leaves the world, so it stands in no run

@@ -5,9 +5,7 @@ use Rattle.ele_content.specs.declared.cell.Cell.{Cell}
 use Rattle.ele_content.specs.Content.{content_of, longest_content, fill_slots}
 use Rattle.ele_moment.specs.Last.{last_moment}
 pub use Rattle.ele_moment.specs.Lists.{AllLater}
-use Rattle.ele_policy.specs.Interval.{IsInterval}
-use Rattle.ele_policy.specs.declared.policy.Policy.{Policy}
-use Rattle.ele_policy.specs.declared.policy.Policy.TheVariants.{One, Safe}
+use Rattle.ele_policy.specs.Policy.{IsPolicy}
 use Rattle.ele_world.specs.Bounds.{Bounds}
 use Rattle.ele_world.specs.declared.limits.Counts.{Counts}
 use Rattle.ele_world.specs.declared.rows.DirectoryRow.{DirectoryRow}
@@ -29,11 +27,6 @@ pub record AreCounted (made : Counts) (limits : Bounds) (files names versions dr
   pub file_rows : files ≤ made.files
   pub name_rows : names ≤ made.names
   pub version_rows : versions ≤ made.versions
-
--- the numbers of a policy are such as can be given
-abbrev pub IsPolicy : Policy → Type 0
-IsPolicy One = Unit {0}
-IsPolicy (Safe interval) = IsInterval interval
 
 -- the root is there, and each directory has a policy; their numbers rise
 pub record AreDirectories (rows : List DirectoryRow) : Type 0 where

@@ -5,6 +5,8 @@ ghost use Rattle.ele_world.specs.HeldStays.{HeldStays, HeldStaysInRuns};
 ghost use Rattle.ele_world.specs.NothingChanges.{RefusedStays, AskingStays};
 ghost use Rattle.ele_world.specs.OnlyDueLeave.{OnlyDueLeave, OnlyDueLeaveInRuns};
 ghost use Rattle.ele_world.specs.PassLeavesKept.{PassLeavesKept, PassLeavesKeptInRuns};
+ghost use Rattle.ele_world.specs.RemovalOrder.{RemovalOrder};
+ghost use Rattle.ele_world.specs.RipeMoments.{DueFromRipe, RipeIsAnswered};
 ghost use Rattle.ele_world.specs.UsageFits.{UsageFits};
 
 /// The fresh world is well formed.
@@ -65,4 +67,20 @@ pub fn pass_leaves_kept_in_runs()
 /// What the files of each kind of policy use in a well-formed world fits in 64 bits.
 pub fn usage_fits()
     ensures { UsageFits }
+{}
+
+/// A held version is due from its ripe moment on, and never where it has none.
+pub fn due_from_ripe()
+    ensures { DueFromRipe }
+{}
+
+/// The ripe moment of a held version that has ended and isn't protected is what `ripe` of `ele_policy` answers of it and of the
+/// closing of the next held version.
+pub fn ripe_is_answered()
+    ensures { RipeIsAnswered }
+{}
+
+/// Whichever due version is removed, the due versions afterwards are those before without it.
+pub fn removal_order()
+    ensures { RemovalOrder }
 {}

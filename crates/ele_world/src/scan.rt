@@ -30,8 +30,8 @@ fn due_key(now: Moment, files: &[FileRow], row: &VersionRow) -> Option<Key>
     let at = now.seconds();
     let policy = policy_of(files, row.file)?;
     let ended = row.ended?;
-    // These policies don't look at the closing; in plain rows, which nobody checked, it may be after the end.
-    let ripe = ripe(&policy, ended, ended, None)?;
+    // In plain rows, which nobody checked, the next one may be any. These policies look at nothing beside a version.
+    let ripe = ripe(&policy, row.closed, ended, None)?;
     if ripe.seconds() > at {
         return None;
     }

@@ -1,4 +1,5 @@
 use Rattle.std.proofs.Common.{◌≡◌, sym, ◌∙◌, ap, arith, None}
+use Rattle.ele_policy.proofs.Waits.{nothing_beside, nothing_is_nearest}
 use Rattle.ele_world.specs.World.{policy_of}
 use Rattle.ele_world.proofs.DueKeys.{due_key-unfiled, due_key-unended, due_key-never, due_key-later, due_key-ripe}
 use Rattle.ele_world.proofs.scan.due_key.Goals as goal
@@ -16,12 +17,12 @@ returns-in_err-ended c = λ w n f.
 pub returns-in_err-ripe : goal.returns-in_err-ripe
 returns-in_err-ripe c = λ w n f.
     let none : c.from_residual-in_err-ripe.result ≡ None = cc in
-    rw none (sym (due_key-never w c.args.row.now c.in_ok-policy.policy c.in_ok-ended.ended (ap (λ files. policy_of files c.args.row.now.file) f ∙ sym c.in_ok-policy.ensures) (cc) (sym c.in_err-ripe.ensures.value) (c.in_err-ripe.ensures.never w.now (omega (arith, n)))))
+    rw none (sym (due_key-never w c.args.row.now c.in_ok-policy.policy c.in_ok-ended.ended (ap (λ files. policy_of files c.args.row.now.file) f ∙ sym c.in_ok-policy.ensures) (cc) (sym (c.in_err-ripe.ensures.value nothing_beside (nothing_is_nearest c.args.row.now.closed))) (c.in_err-ripe.ensures.never nothing_beside (nothing_is_nearest c.args.row.now.closed) w.now (omega (arith, n)))))
 
 pub returns-then-seconds-at : goal.returns-then-seconds-at
 returns-then-seconds-at c = λ w n f.
-    sym (due_key-later w c.args.row.now c.in_ok-policy.policy c.in_ok-ended.ended c.in_ok-ripe.ripe (ap (λ files. policy_of files c.args.row.now.file) f ∙ sym c.in_ok-policy.ensures) (cc) (sym c.in_ok-ripe.ensures.value) (c.in_ok-ripe.ensures.from_then w.now) (omega (arith, n)))
+    sym (due_key-later w c.args.row.now c.in_ok-policy.policy c.in_ok-ended.ended c.in_ok-ripe.ripe (ap (λ files. policy_of files c.args.row.now.file) f ∙ sym c.in_ok-policy.ensures) (cc) (sym (c.in_ok-ripe.ensures.value nothing_beside (nothing_is_nearest c.args.row.now.closed))) (c.in_ok-ripe.ensures.from_then nothing_beside (nothing_is_nearest c.args.row.now.closed) w.now) (omega (arith, n)))
 
 pub returns : goal.returns
 returns c = λ w n f.
-    sym (due_key-ripe w c.args.row.now c.in_ok-policy.policy c.in_ok-ended.ended c.in_ok-ripe.ripe (ap (λ files. policy_of files c.args.row.now.file) f ∙ sym c.in_ok-policy.ensures) (cc) (sym c.in_ok-ripe.ensures.value) (c.in_ok-ripe.ensures.from_then w.now) (omega (arith, n)))
+    sym (due_key-ripe w c.args.row.now c.in_ok-policy.policy c.in_ok-ended.ended c.in_ok-ripe.ripe (ap (λ files. policy_of files c.args.row.now.file) f ∙ sym c.in_ok-policy.ensures) (cc) (sym (c.in_ok-ripe.ensures.value nothing_beside (nothing_is_nearest c.args.row.now.closed))) (c.in_ok-ripe.ensures.from_then nothing_beside (nothing_is_nearest c.args.row.now.closed) w.now) (omega (arith, n)))

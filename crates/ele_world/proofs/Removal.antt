@@ -1,0 +1,71 @@
+-- Whichever due row is taken out of a file, every other row is due as before, at each moment at which the row was due.
+use Rattle.std.proofs.Common.{◌≡◌, ℕ, ◌-◌, ◌≤◌, Bool, true, false, not, ◌&&◌, List, [], ◌∷◌, ◌++◌, Option, Some, None, refl, ap, sym, subst, ◌∙◌, filter, arith, ◌⊎◌, inl, inr}
+use Rattle.std.specs.Prelude.{nat_le}
+use Rattle.std.specs.Option.{option_map_or}
+use Rattle.std.proofs.lemmas.Bool.{false≢true}
+use Rattle.std.proofs.lemmas.Bool.Decides.{nat_tests}
+use Rattle.ele_moment.specs.Lists.{AllLater}
+use Rattle.ele_policy.specs.declared.policy.Policy.{Policy}
+use Rattle.ele_policy.specs.Ripe.{Beside, is_due_by, lets_go}
+use Rattle.ele_policy.proofs.Waits.{lets_go_without}
+use Rattle.ele_world.specs.declared.rows.VersionRow.{VersionRow}
+use Rattle.ele_world.specs.FileView.{FileView, is_newer, closings, is_protected, due_in}
+use Rattle.ele_world.proofs.Views.{IsLife, Precedes, newer_is, newer_before, newer_without, newer_behind}
+
+abbrev pub with_rows : FileView → List VersionRow → FileView
+with_rows v rows = record v { rows = rows }
+
+abbrev newer_at : FileView → List ℕ → Beside
+newer_at v newer = record { newer = newer; live = v.live }
+
+-- due, where these are the newer closings
+abbrev due_beside : FileView → VersionRow → ℕ → List ℕ → Bool
+due_beside v row at newer =
+    not (is_protected v row at)
+    && option_map_or (λ policy. option_map_or (λ ended. is_due_by policy row.closed (newer_at v newer) ended at) row.ended false) v.policy false
+
+both : (a b : Bool) → (a && b) ≡ true → (a ≡ true) × (b ≡ true)
+both true b h = (refl, h)
+both false b h = absurd (false≢true h)
+
+-- what a due row is
+record IsDue (v : FileView) (row : VersionRow) (at : ℕ) (newer : List ℕ) : Type 0 where
+  policy : Policy
+  governed : v.policy ≡ Some policy
+  ended : ℕ
+  is_ended : row.ended ≡ Some ended
+  by_then : ended ≤ at
+  goes : lets_go policy row.closed (newer_at v newer) (at - ended) ≡ true
+
+due_is : (v : FileView) (row : VersionRow) (at : ℕ) (newer : List ℕ) → due_beside v row at newer ≡ true → IsDue v row at newer
+due_is v row at newer h = by v.policy refl row.ended refl (both (not (is_protected v row at)) (option_map_or (λ policy. option_map_or (λ ended. is_due_by policy row.closed (newer_at v newer) ended at) row.ended false) v.policy false) h).1 where
+  by : (p : Option Policy) → v.policy ≡ p → (e : Option ℕ) → row.ended ≡ e → option_map_or (λ policy. option_map_or (λ ended. is_due_by policy row.closed (newer_at v newer) ended at) e false) p false ≡ true → IsDue v row at newer
+  by None governed e ends h = absurd (false≢true h)
+  by (Some policy) governed None ends h = absurd (false≢true h)
+  by (Some policy) governed (Some ended) ends h =
+      let parts = both (nat_le ended at) (lets_go policy row.closed (newer_at v newer) (at - ended)) h in
+      record { policy = policy; governed = governed; ended = ended; is_ended = ends; by_then = (let past = parts.0 in grind (arith, nat_tests)); goes = parts.1 }
+
+closings-append : (xs ys : List VersionRow) → closings (xs ++ ys) ≡ closings xs ++ closings ys
+closings-append [] ys = refl
+closings-append (x ∷ xs) ys = ap (λ t. x.closed ∷ t) (closings-append xs ys)
+
+module _ (v : FileView) (xs : List VersionRow) (row : VersionRow) (ys : List VersionRow) (placed : AllLater Precedes (xs ++ row ∷ ys)) (life : IsLife row) where
+  before_stays : (x : VersionRow) (at : ℕ) → Precedes x row → due_in (with_rows v (xs ++ row ∷ ys)) row at ≡ true → due_in (with_rows v (xs ++ row ∷ ys)) x at ≡ due_in (with_rows v (xs ++ ys)) x at
+  before_stays x at before due =
+      ap (due_beside v x at) (ap closings (newer_before x xs row ys placed before) ∙ closings-append (filter (is_newer x) xs) (row ∷ ys))
+      ∙ without (due_is v row at (closings ys) (subst (λ t. due_beside v row at (closings t) ≡ true) (newer_is xs row ys placed) due))
+      ∙ sym (ap (due_beside v x at) (ap closings (newer_without x xs row ys placed before) ∙ closings-append (filter (is_newer x) xs) ys)) where
+        without : IsDue v row at (closings ys) → due_beside v x at (closings (filter (is_newer x) xs) ++ row.closed ∷ closings ys) ≡ due_beside v x at (closings (filter (is_newer x) xs) ++ closings ys)
+        without own =
+            let lasts = rw own.is_ended at life in
+            let by_then = before.by_then in
+            let longer : at - own.ended ≤ at - before.ended = omega (arith, by_then, lasts) in
+            rw (own.governed, before.is_ended)
+            (ap (λ b. not (is_protected v x at) && (nat_le before.ended at && b))
+            (lets_go_without own.policy v.live (closings (filter (is_newer x) xs)) row.closed (closings ys) x.closed (at - before.ended) (at - own.ended) longer own.goes))
+
+  -- on whichever side of the row it stands
+  pub others_stay : (x : VersionRow) (at : ℕ) → Precedes x row ⊎ Precedes row x → due_in (with_rows v (xs ++ row ∷ ys)) row at ≡ true → due_in (with_rows v (xs ++ row ∷ ys)) x at ≡ due_in (with_rows v (xs ++ ys)) x at
+  others_stay x at (inl before) due = before_stays x at before due
+  others_stay x at (inr after) due = ap (λ t. due_beside v x at (closings t)) (newer_behind x xs row ys after)

@@ -1,0 +1,124 @@
+-- A file's rows in a well-formed world, and which are newer than one of them, by its place.
+use Rattle.std.proofs.Common.{◌≡◌, ℕ, ◌<◌, ◌≤◌, true, false, List, [], ◌∷◌, ◌++◌, Some, refl, ap, sym, subst, ◌∙◌, filter, arith, slice_get}
+use Rattle.std.specs.Prelude.{IfSome}
+use Rattle.std.specs.List.{AllByRecursion}
+use Rattle.std.proofs.lemmas.List.Elements.{filter-append}
+use Rattle.std.proofs.lemmas.Option.{IfSome_then}
+use Rattle.std.proofs.lemmas.Bool.Decides.{nat_tests}
+use Rattle.ele_moment.specs.Lists.{AllLater}
+use Rattle.ele_moment.proofs.Edits.{all-weaker}
+use Rattle.ele_policy.specs.Ripe.{IsNearest}
+use Rattle.ele_world.specs.declared.rows.VersionRow.{VersionRow}
+use Rattle.ele_world.specs.FileView.{FileView, view_of, is_version_of, is_newer, closings, beside}
+use Rattle.ele_world.specs.WellFormed.{IsWellFormed, IsVersion, ArePlaced, Versions}
+use Rattle.ele_world.specs.World.{World}
+use Rattle.ele_world.proofs.Around.{all-filter, later-filter, later-around, filter-all, filter-none}
+
+-- the version didn't end before it closed
+abbrev pub IsLife : VersionRow → Type 0
+IsLife row = IfSome row.ended (λ ended. row.closed ≤ ended)
+
+-- of two rows of one file the earlier has the smaller number, and had ended when the later closed
+pub record Precedes (earlier later : VersionRow) : Type 0 where
+  pub number : earlier.number < later.number
+  pub ended : ℕ
+  pub is_ended : earlier.ended ≡ Some ended
+  pub by_then : ended ≤ later.closed
+
+pub precedes : (x y : VersionRow) → ArePlaced x y → x.file ≡ y.file → Precedes x y
+precedes x y placed same =
+    let after = placed.after in
+    let own = placed.ended same in
+    record { number = grind (arith, nat_tests); ended = own.0; is_ended = own.1; by_then = own.2 }
+
+-- what is true of each file
+pub record IsView (v : FileView) : Type 0 where
+  pub lives : AllByRecursion IsLife v.rows
+  pub placed : AllLater Precedes v.rows
+
+pub lives_of : (w : World) → IsWellFormed w → AllByRecursion IsLife w.versions
+lives_of w k = all-weaker (IsVersion w.files w.now) IsLife w.versions (λ row is. IfSome_then row.ended is.ended (λ ended life. life.0)) (k.holds Versions).each
+
+pub placed_of : (w : World) → IsWellFormed w → AllLater ArePlaced w.versions
+placed_of w k = (k.holds Versions).placed
+
+pub view_is : (w : World) → IsWellFormed w → (file : ℕ) → IsView (view_of w file)
+view_is w k file = record {
+  lives = all-filter (is_version_of file) IsLife w.versions (lives_of w k);
+  placed = later-filter (is_version_of file) ArePlaced Precedes w.versions (λ x y own other placed. precedes x y placed (grind (arith, nat_tests))) (placed_of w k);
+}
+
+-- ---- the newer rows
+
+is_before : (x y : VersionRow) → Precedes x y → is_newer x y ≡ true
+is_before x y h = let less = h.number in grind (arith, nat_tests)
+
+isnt_behind : (x y : VersionRow) → Precedes x y → is_newer y x ≡ false
+isnt_behind x y h = let less = h.number in grind (arith, nat_tests)
+
+-- they are those behind
+pub newer_is : (xs : List VersionRow) (row : VersionRow) (ys : List VersionRow) → AllLater Precedes (xs ++ row ∷ ys) → filter (is_newer row) (xs ++ row ∷ ys) ≡ ys
+newer_is xs row ys placed =
+    let around = later-around Precedes xs row ys placed in
+    let itself : is_newer row row ≡ false = grind (arith, nat_tests) in
+    filter-append (is_newer row) xs (row ∷ ys)
+    ∙ ap (λ t. t ++ filter (is_newer row) (row ∷ ys)) (filter-none (is_newer row) xs (all-weaker (λ x. Precedes x row) (λ x. is_newer row x ≡ false) xs (λ x h. isnt_behind x row h) around.0))
+    ∙ rw itself (filter-all (is_newer row) ys (all-weaker (Precedes row) (λ y. is_newer row y ≡ true) ys (λ y h. is_before row y h) around.1))
+
+all_behind : (x row : VersionRow) (ys : List VersionRow) → Precedes x row → AllByRecursion (Precedes row) ys → filter (is_newer x) ys ≡ ys
+all_behind x row ys before all = filter-all (is_newer x) ys (all-weaker (Precedes row) (λ y. is_newer x y ≡ true) ys (λ y h. let one = before.number in let two = h.number in grind (arith, nat_tests)) all)
+
+-- of one before the row: some before the row, the row, and all behind it
+pub newer_before : (x : VersionRow) (xs : List VersionRow) (row : VersionRow) (ys : List VersionRow) → AllLater Precedes (xs ++ row ∷ ys) → Precedes x row → filter (is_newer x) (xs ++ row ∷ ys) ≡ filter (is_newer x) xs ++ row ∷ ys
+newer_before x xs row ys placed before =
+    filter-append (is_newer x) xs (row ∷ ys)
+    ∙ ap (λ t. filter (is_newer x) xs ++ t) (rw (is_before x row before) (ap (λ t. row ∷ t) (all_behind x row ys before (later-around Precedes xs row ys placed).1)))
+
+-- and without the row the others
+pub newer_without : (x : VersionRow) (xs : List VersionRow) (row : VersionRow) (ys : List VersionRow) → AllLater Precedes (xs ++ row ∷ ys) → Precedes x row → filter (is_newer x) (xs ++ ys) ≡ filter (is_newer x) xs ++ ys
+newer_without x xs row ys placed before =
+    filter-append (is_newer x) xs ys
+    ∙ ap (λ t. filter (is_newer x) xs ++ t) (all_behind x row ys before (later-around Precedes xs row ys placed).1)
+
+-- of one behind the row: the same with it and without
+pub newer_behind : (x : VersionRow) (xs : List VersionRow) (row : VersionRow) (ys : List VersionRow) → Precedes row x → filter (is_newer x) (xs ++ row ∷ ys) ≡ filter (is_newer x) (xs ++ ys)
+newer_behind x xs row ys after =
+    filter-append (is_newer x) xs (row ∷ ys) ∙ rw (isnt_behind row x after) (sym (filter-append (is_newer x) xs ys))
+
+-- ---- their closings
+
+-- they never fall
+closings_rise : (rows : List VersionRow) → AllByRecursion IsLife rows → AllLater Precedes rows → AllLater ◌≤◌ (closings rows)
+closings_rise [] lives placed = tt
+closings_rise (x ∷ xs) lives placed = (each xs placed.0, closings_rise xs lives.1 placed.1) where
+  each : (ys : List VersionRow) → AllByRecursion (Precedes x) ys → AllByRecursion (◌≤◌ x.closed) (closings ys)
+  each [] all = tt
+  each (y ∷ ys) all =
+      let first = all.0 in
+      let by_then = first.by_then in
+      let life = rw first.is_ended at lives.0 in
+      (omega (arith, by_then, life), each ys all.1)
+
+tail_of : (xs rows : List VersionRow) → AllByRecursion IsLife (xs ++ rows) → AllLater Precedes (xs ++ rows) → AllByRecursion IsLife rows × AllLater Precedes rows
+tail_of [] rows lives placed = (lives, placed)
+tail_of (x ∷ xs) rows lives placed = tail_of xs rows lives.1 placed.1
+
+-- so what stands beside a row is as its policy wants it
+pub nearest_is : (v : FileView) → IsView v → (xs : List VersionRow) (row : VersionRow) (ys : List VersionRow) → v.rows ≡ xs ++ row ∷ ys → IsNearest row.closed (slice_get (beside v row).newer 0) (beside v row)
+nearest_is v view xs row ys whole =
+    let placed = subst (AllLater Precedes) whole view.placed in
+    let tail = tail_of xs (row ∷ ys) (subst (AllByRecursion IsLife) whole view.lives) placed in
+    let newer : filter (is_newer row) v.rows ≡ ys = ap (filter (is_newer row)) whole ∙ newer_is xs row ys placed in
+    record { in_order = subst (λ t. AllLater ◌≤◌ (row.closed ∷ closings t)) (sym newer) (closings_rise (row ∷ ys) tail.0 tail.1); first = refl }
+
+-- ---- the rows of a row's own file
+
+pub own_rows : (before : List VersionRow) (row : VersionRow) (behind : List VersionRow) → filter (is_version_of row.file) (before ++ row ∷ behind) ≡ filter (is_version_of row.file) before ++ row ∷ filter (is_version_of row.file) behind
+own_rows before row behind =
+    let own : is_version_of row.file row ≡ true = grind (arith, nat_tests) in
+    filter-append (is_version_of row.file) before (row ∷ behind) ∙ rw own refl
+
+-- of another file
+pub other_rows : (file : ℕ) (before : List VersionRow) (row : VersionRow) (behind : List VersionRow) → is_version_of file row ≡ false → filter (is_version_of file) (before ++ row ∷ behind) ≡ filter (is_version_of file) (before ++ behind)
+other_rows file before row behind other =
+    filter-append (is_version_of file) before (row ∷ behind) ∙ rw other (sym (filter-append (is_version_of file) before behind))

@@ -1,0 +1,44 @@
+-- One file as its policy sees it: all that the fate of its versions depends on.
+use Rattle.std.specs.Prelude.{ℕ, ◌==◌, nat_lt, Bool, false, not, ◌&&◌, List, Option, filter, map, option_and_then}
+use Rattle.std.specs.Option.{option_map_or}
+use Rattle.ele_policy.specs.declared.policy.Policy.{Policy}
+use Rattle.ele_policy.specs.Ripe.{Beside, is_due_by, candidates, earliest_of}
+use Rattle.ele_world.specs.declared.rows.VersionRow.{VersionRow}
+use Rattle.ele_world.specs.World.{World, policy_of, is_live}
+
+-- its policy, if the file is there; its held versions by number; and whether it is live
+pub record FileView : Type 0 where
+  pub policy : Option Policy
+  pub rows : List VersionRow
+  pub live : Bool
+
+abbrev pub is_version_of : ℕ → VersionRow → Bool
+is_version_of file row = row.file == file
+
+abbrev pub view_of : World → ℕ → FileView
+view_of w file = record { policy = policy_of w.files file; rows = filter (is_version_of file) w.versions; live = is_live w file }
+
+abbrev pub is_newer : VersionRow → VersionRow → Bool
+is_newer row other = nat_lt row.number other.number
+
+abbrev pub closings : List VersionRow → List ℕ
+closings rows = map (λ row. row.closed) rows
+
+-- what stands beside a version of the file
+abbrev pub beside : FileView → VersionRow → Beside
+beside v row = record { newer = closings (filter (is_newer row) v.rows); live = v.live }
+
+-- nothing protects a version yet, at any moment
+abbrev pub is_protected : FileView → VersionRow → ℕ → Bool
+is_protected v row at = false
+
+-- the version has ended at that moment or before it, isn't protected then, and the file's policy lets it go
+abbrev pub due_in : FileView → VersionRow → ℕ → Bool
+due_in v row at =
+    not (is_protected v row at)
+    && option_map_or (λ policy. option_map_or (λ ended. is_due_by policy row.closed (beside v row) ended at) row.ended false) v.policy false
+
+-- the earliest of the moments that the policy names, none past the last one, at which the version is due
+abbrev pub ripe_in : FileView → VersionRow → Option ℕ
+ripe_in v row =
+    option_and_then (λ policy. option_and_then (λ ended. earliest_of (due_in v row) (candidates policy ended)) row.ended) v.policy
