@@ -1,6 +1,7 @@
 //! The event that changes the policy of a directory.
 ghost use Rattle.std.specs.Prelude.{◌≡◌};
 ghost use Rattle.ele_moment.specs.Lists.{update_first};
+ghost use Rattle.ele_policy.specs.Policy.{IsPolicy};
 ghost use Rattle.ele_world.specs.Change.{governed_by};
 ghost use Rattle.ele_world.specs.Step.{step};
 ghost use Rattle.ele_world.specs.World.{is_directory};
@@ -29,8 +30,10 @@ fn govern(directories: &mut Vec<DirectoryRow>, directory: DirId, policy: Policy)
 pub fn set_default(rows: &mut Rows, path: &Path, policy: Policy) -> Reply
     ensures step { (result, world_of rows.new)
         ≡ step (world_of rows.old) (event.SetDefault path.now policy) }
+    ensures valid { IsPolicy policy }
     ensures tracked { IsTracked rows.old → IsTracked rows.new }
 {
+    policy.is_given();
     match directory_now(&rows.names, path.names()) {
         Ok(directory) => {
             govern(&mut rows.directories, directory, policy);

@@ -1,7 +1,7 @@
 //! The policies of files, and their kinds.
 //! A contract sees both as plain data.
 ghost use Rattle.std.specs.Prelude.{◌≡◌};
-ghost use Rattle.ele_policy.specs.Policy.{kind_of};
+ghost use Rattle.ele_policy.specs.Policy.{kind_of, IsPolicy};
 
 use crate::interval::Interval;
 
@@ -35,6 +35,18 @@ impl Policy {
         match self {
             Policy::One => Kind::One,
             Policy::Safe(_) => Kind::Safe,
+        }
+    }
+
+    /// Says of the policy that its numbers are such as can be given.
+    pub fn is_given(&self)
+        ensures { IsPolicy self.now }
+    {
+        match self {
+            Policy::One => {}
+            Policy::Safe(interval) => {
+                interval.seconds();
+            }
         }
     }
 }
