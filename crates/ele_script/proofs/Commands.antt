@@ -1,6 +1,7 @@
 -- The command in front of words.
 use Rattle.std.proofs.Common.{◌≡◌, ℕ, Bool, true, false, cond, List, [], ◌∷◌, ◌++◌, length, refl, sym, ap, ◌∙◌, Option, Some, None, IfSome, Result, Ok, Err, ◌⊎◌, inl, inr, subst}
 use Rattle.std.specs.Prelude.{codes, IfOk, IfErr}
+use Rattle.std.specs.List.{list_any}
 use Rattle.std.specs.Str.{bytes_eq}
 use Rattle.std.specs.Cmp.Lexicographic.{bytes_decides}
 use Rattle.ele_script.specs.declared.command.Command.{Command}
@@ -10,6 +11,7 @@ use Rattle.ele_script.specs.declared.fault.LineFault.TheVariants.{Syntax, NoMemo
 use Rattle.ele_script.specs.declared.reading.Line.{Line}
 use Rattle.ele_script.specs.Spells.{SpellsBehind, SpellsWords}
 use Rattle.ele_script.specs.Command.{command_words, kinds_behind}
+use Rattle.ele_script.specs.Memory.{takes_memory, TakesMemory}
 use Rattle.ele_script.specs.CommandOf.{command_of, one_word_command, question_command, open_command, second_of, before}
 use Rattle.ele_script.specs.FirstFault.{FitsCommand, IsFaultBehind, miscounted, bad_word, IsFaultOfWords, no_command, of_word}
 
@@ -114,6 +116,11 @@ spelled_words words command arguments (Ok asked) found h = record {
   values = h.values;
 }
 spelled_words words command arguments (Err fault) found h = tt
+
+-- and memory that reading them wants, the words want
+pub memory_of_words : (words : List (List ℕ)) (command : Command) (arguments : List (List ℕ)) (r : Result Line LineFault) → command_of words ≡ Some (command, arguments) → (r ≡ Err NoMemory → list_any takes_memory (kinds_behind command) ≡ true) → r ≡ Err NoMemory → TakesMemory words
+memory_of_words words command arguments r found takes is =
+    record { command = command; arguments = arguments; are = are words command arguments found; takes = takes is }
 
 -- and what is wrong with these is wrong with the words
 pub faults_of_words : (words : List (List ℕ)) (command : Command) (arguments : List (List ℕ)) (r : Result Line LineFault) → command_of words ≡ Some (command, arguments) → IfErr r (λ fault. (fault ≡ NoMemory) ⊎ IsFaultBehind command arguments fault) → IfErr r (λ fault. (fault ≡ NoMemory) ⊎ IsFaultOfWords words fault)

@@ -213,6 +213,12 @@ event_refused line (Ok (asks.Pass budget)) found fault = inr (no_event (asks.Pas
 event_refused line (Err other) found (inl memory) = inl memory
 event_refused line (Err other) found (inr bad) = inr (of_line bad)
 
+-- and where there was no memory for it, there was none for the line
+pub event_memory : (r : Result Line LineFault) → event_of r ≡ Err NoMemory → r ≡ Err NoMemory
+event_memory (Ok (asks.Event event)) is = absurd cc
+event_memory (Ok (asks.Pass budget)) is = absurd cc
+event_memory (Err fault) is = cc
+
 -- a line that spells an event has no such fault
 event_faultless : (line : List ℕ) (event : Event) (fault : LineFault) → Spells line event → IsEventFault line fault → ⊥
 event_faultless line event fault h (of_line bad) = spelled_faultless line (asks.Event event) fault h bad

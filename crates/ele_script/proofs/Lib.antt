@@ -2,5 +2,6 @@ pub mod Known
 pub mod Lines
 pub mod Commands
 pub mod Behind
+pub mod Words
 pub mod Values
 pub mod Laws

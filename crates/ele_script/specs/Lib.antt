@@ -5,6 +5,7 @@ pub mod CommandOf
 pub mod Words
 pub mod Spells
 pub mod LineFault
+pub mod Memory
 pub mod EventOf
 pub mod FirstFault
 pub mod Front

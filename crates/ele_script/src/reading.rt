@@ -1,6 +1,8 @@
 //! Reading lines. A contract sees a line as its bytes, and an event as itself.
-ghost use Rattle.std.specs.Prelude.{◌≡◌, ◌∷◌, [], ◌⊎◌, ℕ, map, length, nat_lt, IfOk, IfErr, Ok, Err};
-ghost use Rattle.std.specs.List.{list_all};
+ghost use Rattle.std.specs.Prelude.{◌≡◌, ◌==◌, ◌<◌, ◌∷◌, [], ◌⊎◌, ℕ, map, length, nat_lt, true, false, IfOk, IfErr, IfSome, IsSome, None, Ok, Err};
+ghost use Rattle.std.specs.List.{list_all, list_any, position};
+ghost use Rattle.ele_script.specs.Command.{kinds_behind};
+ghost use Rattle.ele_script.specs.Memory.{takes_memory, TakesMemory};
 ghost use Rattle.ele_script.specs.Words.{words_of, is_plain, is_worded};
 ghost use Rattle.ele_script.specs.Spells.{Spells, SpellsLine, SpellsWords, SpellsBehind};
 ghost use Rattle.ele_script.specs.EventOf.{event_of};
@@ -9,8 +11,9 @@ ghost use Rattle.ele_script.specs.FirstFault.{IsFirstFault, IsEventFault, IsFaul
 use crate::command::{Command, read_command};
 use crate::fault::LineFault;
 use crate::word;
+use arrayvec::ArrayVec;
 use ele_world::{Event, Handle, Source};
-use std::alloc::{AllocError, Global};
+use std::alloc::Global;
 
 /// What a line of a script asks for.
 #[derive(Debug, Drop, PartialEq, Eq)]
@@ -24,11 +27,14 @@ pub enum Line {
 /// The most bytes of a line.
 const MOST_BYTES: usize = 8192;
 
+/// The most words of a line that asks for something.
+const MOST_WORDS: usize = 4;
+
 /// What a line asks for, without its line feed.
 ///
 /// A line that asks for nothing is answered with its first fault: its length, its bytes and spaces,
 /// its command and number of words, and then the first bad word from the left. `NoMemory` may come
-/// in place of any other answer.
+/// in place of any other answer where the command takes a path or bytes.
 pub fn read_line(alloc: Global, line: &[u8]) -> Result<Line, LineFault>
     ensures found { IfOk result (SpellsLine line.now) }
     ensures only { (asked : Line) → SpellsLine line.now asked
@@ -37,14 +43,14 @@ pub fn read_line(alloc: Global, line: &[u8]) -> Result<Line, LineFault>
         (λ fault. (fault ≡ LineFault.NoMemory) ⊎ IsFirstFault line.now fault) }
     ensures refused { (fault : LineFault) → IsFirstFault line.now fault
         → (result ≡ Err fault) ⊎ (result ≡ Err LineFault.NoMemory) }
+    ensures memory { result ≡ Err LineFault.NoMemory → TakesMemory (words_of line.now) }
 {
     if line.len() > MOST_BYTES {
         return Err(LineFault::LineTooLong);
     }
-    if !has_words(line) {
+    let Some(words) = words_in(line) else {
         return Err(LineFault::Syntax);
-    }
-    let words = split_words(alloc, line)?;
+    };
     line_of(alloc, words.as_slice())
 }
 
@@ -58,6 +64,7 @@ pub fn read_event(alloc: Global, line: &[u8]) -> Result<Event, LineFault>
         (λ fault. (fault ≡ LineFault.NoMemory) ⊎ IsEventFault line.now fault) }
     ensures refused { (fault : LineFault) → IsEventFault line.now fault
         → (result ≡ Err fault) ⊎ (result ≡ Err LineFault.NoMemory) }
+    ensures memory { result ≡ Err LineFault.NoMemory → TakesMemory (words_of line.now) }
 {
     let asked = read_line(alloc, line);
     event_in(asked)
@@ -74,11 +81,24 @@ fn event_in(asked: Result<Line, LineFault>) -> Result<Event, LineFault>
     }
 }
 
-/// Whether a line is plain words with one space between each two.
-fn has_words(line: &[u8]) -> bool
-    ensures { result ≡ is_worded line.now }
+/// The words of a line, if it is plain words with one space between each two, and no more than a
+/// command may have.
+fn words_in(line: &[u8]) -> Option<ArrayVec<&[u8], MOST_WORDS>>
+    ensures found { IfSome result
+        (λ words. map (λ word. word.now) words.items ≡ words_of line.now) }
+    ensures worded { IsSome result → is_worded line.now ≡ true }
+    ensures none { result ≡ None
+        → (is_worded line.now ≡ false) ⊎ (MOST_WORDS < length (words_of line.now)) }
 {
-    is_all_plain(line) && is_spaced(line)
+    if !is_all_plain(line) {
+        return None;
+    }
+    let words = split_words(line)?;
+    if is_spaced(words.as_slice()) {
+        Some(words)
+    } else {
+        None
+    }
 }
 
 /// Whether all bytes are from the space to the tilde.
@@ -88,19 +108,41 @@ fn is_all_plain(line: &[u8]) -> bool
     line.iter().all(|byte| *byte >= b' ' && *byte <= b'~')
 }
 
-/// Whether no word is empty.
-fn is_spaced(line: &[u8]) -> bool
-    ensures { result ≡ list_all (λ word. nat_lt 0 (length word)) (words_of line.now) }
+/// The words of a line, if they are no more than a command may have.
+fn split_words(line: &[u8]) -> Option<ArrayVec<&[u8], MOST_WORDS>>
+    ensures found { IfSome result
+        (λ words. map (λ word. word.now) words.items ≡ words_of line.now) }
+    ensures none { result ≡ None → MOST_WORDS < length (words_of line.now) }
 {
-    line.split(|byte| *byte == b' ')
-        .all(|word| !word.is_empty())
+    let mut words = ArrayVec::new();
+    let mut rest = line;
+    'words: while let Some(at) = first_space(rest) {
+        if words.is_full() {
+            return None;
+        }
+        let (word, behind) = rest.split_at(at);
+        words.push(word);
+        rest = behind.split_at(1).1;
+    }
+    if words.is_full() {
+        return None;
+    }
+    words.push(rest);
+    Some(words)
 }
 
-/// The words of a line.
-fn split_words(alloc: Global, line: &[u8]) -> Result<Vec<&[u8]>, AllocError>
-    ensures { IfOk result (λ words. map (λ word. word.now) words.items ≡ words_of line.now) }
+/// Where the first space stands.
+fn first_space(text: &[u8]) -> Option<usize>
+    ensures { result ≡ position (λ byte. byte == 32) text.now }
 {
-    line.split(|byte| *byte == b' ').collect(alloc)
+    text.iter().position(|byte| *byte == b' ')
+}
+
+/// Whether no word is empty.
+fn is_spaced(words: &[&[u8]]) -> bool
+    ensures { result ≡ list_all (λ word. nat_lt 0 (length word.now)) words.now }
+{
+    words.iter().all(|word| !word.is_empty())
 }
 
 /// What words ask for.
@@ -109,6 +151,8 @@ fn line_of(alloc: Global, words: &[&[u8]]) -> Result<Line, LineFault>
     ensures fault { IfErr result
         (λ fault. (fault ≡ LineFault.NoMemory)
         ⊎ IsFaultOfWords (map (λ word. word.now) words.now) fault) }
+    ensures memory { result ≡ Err LineFault.NoMemory
+        → TakesMemory (map (λ word. word.now) words.now) }
 {
     let Some((command, arguments)) = read_command(words) else {
         return Err(LineFault::Syntax);
@@ -122,6 +166,8 @@ fn line_behind(alloc: Global, command: Command, arguments: &[&[u8]]) -> Result<L
         (SpellsBehind command (map (λ word. word.now) arguments.now)) }
     ensures fault { IfErr result (λ fault. (fault ≡ LineFault.NoMemory)
         ⊎ IsFaultBehind command (map (λ word. word.now) arguments.now) fault) }
+    ensures memory { result ≡ Err LineFault.NoMemory
+        → list_any takes_memory (kinds_behind command) ≡ true }
 {
     match command {
         Command::Clock => clock(arguments),
@@ -144,8 +190,8 @@ fn line_behind(alloc: Global, command: Command, arguments: &[&[u8]]) -> Result<L
 fn clock(arguments: &[&[u8]]) -> Result<Line, LineFault>
     ensures found { IfOk result
         (SpellsBehind Command.Clock (map (λ word. word.now) arguments.now)) }
-    ensures fault { IfErr result (λ fault. (fault ≡ LineFault.NoMemory)
-        ⊎ IsFaultBehind Command.Clock (map (λ word. word.now) arguments.now) fault) }
+    ensures fault { IfErr result
+        (IsFaultBehind Command.Clock (map (λ word. word.now) arguments.now)) }
 {
     let [moment] = arguments else {
         return Err(LineFault::Syntax);
@@ -157,8 +203,8 @@ fn clock(arguments: &[&[u8]]) -> Result<Line, LineFault>
 fn tick(arguments: &[&[u8]]) -> Result<Line, LineFault>
     ensures found { IfOk result
         (SpellsBehind Command.Tick (map (λ word. word.now) arguments.now)) }
-    ensures fault { IfErr result (λ fault. (fault ≡ LineFault.NoMemory)
-        ⊎ IsFaultBehind Command.Tick (map (λ word. word.now) arguments.now) fault) }
+    ensures fault { IfErr result
+        (IsFaultBehind Command.Tick (map (λ word. word.now) arguments.now)) }
 {
     let [seconds] = arguments else {
         return Err(LineFault::Syntax);
@@ -222,8 +268,8 @@ fn write_of(alloc: Global, handle: &[u8], offset: &[u8], bytes: &[u8]) -> Result
 fn truncate(arguments: &[&[u8]]) -> Result<Line, LineFault>
     ensures found { IfOk result
         (SpellsBehind Command.Truncate (map (λ word. word.now) arguments.now)) }
-    ensures fault { IfErr result (λ fault. (fault ≡ LineFault.NoMemory)
-        ⊎ IsFaultBehind Command.Truncate (map (λ word. word.now) arguments.now) fault) }
+    ensures fault { IfErr result
+        (IsFaultBehind Command.Truncate (map (λ word. word.now) arguments.now)) }
 {
     match arguments {
         [handle, size] => truncate_of(handle, size),
@@ -235,8 +281,8 @@ fn truncate(arguments: &[&[u8]]) -> Result<Line, LineFault>
 fn truncate_of(handle: &[u8], size: &[u8]) -> Result<Line, LineFault>
     ensures found { IfOk result
         (SpellsBehind Command.Truncate (handle.now ∷ size.now ∷ [])) }
-    ensures fault { IfErr result (λ fault. (fault ≡ LineFault.NoMemory)
-        ⊎ IsFaultBehind Command.Truncate (handle.now ∷ size.now ∷ []) fault) }
+    ensures fault { IfErr result
+        (IsFaultBehind Command.Truncate (handle.now ∷ size.now ∷ [])) }
 {
     let handle = Handle(word::number(handle)?);
     Ok(Line::Event(Event::Truncate(handle, word::number(size)?)))
@@ -246,8 +292,8 @@ fn truncate_of(handle: &[u8], size: &[u8]) -> Result<Line, LineFault>
 fn close(arguments: &[&[u8]]) -> Result<Line, LineFault>
     ensures found { IfOk result
         (SpellsBehind Command.Close (map (λ word. word.now) arguments.now)) }
-    ensures fault { IfErr result (λ fault. (fault ≡ LineFault.NoMemory)
-        ⊎ IsFaultBehind Command.Close (map (λ word. word.now) arguments.now) fault) }
+    ensures fault { IfErr result
+        (IsFaultBehind Command.Close (map (λ word. word.now) arguments.now)) }
 {
     let [handle] = arguments else {
         return Err(LineFault::Syntax);
@@ -283,8 +329,8 @@ fn set_default_of(alloc: Global, path: &[u8], policy: &[u8]) -> Result<Line, Lin
 fn clean(arguments: &[&[u8]]) -> Result<Line, LineFault>
     ensures found { IfOk result
         (SpellsBehind Command.Clean (map (λ word. word.now) arguments.now)) }
-    ensures fault { IfErr result (λ fault. (fault ≡ LineFault.NoMemory)
-        ⊎ IsFaultBehind Command.Clean (map (λ word. word.now) arguments.now) fault) }
+    ensures fault { IfErr result
+        (IsFaultBehind Command.Clean (map (λ word. word.now) arguments.now)) }
 {
     if !arguments.is_empty() {
         return Err(LineFault::Syntax);
@@ -296,8 +342,8 @@ fn clean(arguments: &[&[u8]]) -> Result<Line, LineFault>
 fn read(arguments: &[&[u8]]) -> Result<Line, LineFault>
     ensures found { IfOk result
         (SpellsBehind Command.Read (map (λ word. word.now) arguments.now)) }
-    ensures fault { IfErr result (λ fault. (fault ≡ LineFault.NoMemory)
-        ⊎ IsFaultBehind Command.Read (map (λ word. word.now) arguments.now) fault) }
+    ensures fault { IfErr result
+        (IsFaultBehind Command.Read (map (λ word. word.now) arguments.now)) }
 {
     let [handle] = arguments else {
         return Err(LineFault::Syntax);
@@ -309,8 +355,8 @@ fn read(arguments: &[&[u8]]) -> Result<Line, LineFault>
 fn due(arguments: &[&[u8]]) -> Result<Line, LineFault>
     ensures found { IfOk result
         (SpellsBehind Command.Due (map (λ word. word.now) arguments.now)) }
-    ensures fault { IfErr result (λ fault. (fault ≡ LineFault.NoMemory)
-        ⊎ IsFaultBehind Command.Due (map (λ word. word.now) arguments.now) fault) }
+    ensures fault { IfErr result
+        (IsFaultBehind Command.Due (map (λ word. word.now) arguments.now)) }
 {
     if !arguments.is_empty() {
         return Err(LineFault::Syntax);
@@ -322,8 +368,8 @@ fn due(arguments: &[&[u8]]) -> Result<Line, LineFault>
 fn usage(arguments: &[&[u8]]) -> Result<Line, LineFault>
     ensures found { IfOk result
         (SpellsBehind Command.Usage (map (λ word. word.now) arguments.now)) }
-    ensures fault { IfErr result (λ fault. (fault ≡ LineFault.NoMemory)
-        ⊎ IsFaultBehind Command.Usage (map (λ word. word.now) arguments.now) fault) }
+    ensures fault { IfErr result
+        (IsFaultBehind Command.Usage (map (λ word. word.now) arguments.now)) }
 {
     if !arguments.is_empty() {
         return Err(LineFault::Syntax);
@@ -335,8 +381,8 @@ fn usage(arguments: &[&[u8]]) -> Result<Line, LineFault>
 fn pass(arguments: &[&[u8]]) -> Result<Line, LineFault>
     ensures found { IfOk result
         (SpellsBehind Command.Pass (map (λ word. word.now) arguments.now)) }
-    ensures fault { IfErr result (λ fault. (fault ≡ LineFault.NoMemory)
-        ⊎ IsFaultBehind Command.Pass (map (λ word. word.now) arguments.now) fault) }
+    ensures fault { IfErr result
+        (IsFaultBehind Command.Pass (map (λ word. word.now) arguments.now)) }
 {
     let [budget] = arguments else {
         return Err(LineFault::Syntax);

@@ -85,4 +85,4 @@ clean_tells w v r is = by (first_due w) is where
 -- a stop ends the pass
 pub stopped : (s t u : State) (budget n : ℕ) (stop : Stop) → Removes s n t → n < budget → MayClean t (Err stop) u → MayPass s budget (Stopped stop n) u
 stopped s t u budget n HistoryFull r lt c = fills s t u budget n r lt c
-stopped s t u budget n NoMemory r lt c = rw c (lt, r)
+stopped s t u budget n NoMemory r lt c = absurd c

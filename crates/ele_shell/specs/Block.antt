@@ -1,10 +1,11 @@
 -- The block of one line: what is written for it.
-use Rattle.std.specs.Prelude.{◌≡◌, ℕ, ◌+◌, ◌<◌, List, [], ◌∷◌, Option, Some, None, Result, Ok, Err}
+use Rattle.std.specs.Prelude.{◌≡◌, ℕ, ◌+◌, ◌<◌, List, [], ◌∷◌, Option, Some, None, Result, Ok, Err, false}
 use Rattle.ele_world.specs.declared.event.Event.{Event}
 use Rattle.ele_world.specs.declared.reply.Reply.{Reply}
 use Rattle.ele_world.specs.declared.refusal.Stop.{Stop}
 use Rattle.ele_world.specs.declared.refusal.Stop.TheVariants.{NoMemory, HistoryFull}
 use Rattle.ele_world.specs.Step.{step}
+use Rattle.ele_core.specs.Ready.{takes_no_memory}
 use Rattle.ele_script.specs.declared.fault.LineFault.TheVariants.{Syntax, LineTooLong}
 use Rattle.ele_script.specs.FirstFault.{IsFirstFault}
 use Rattle.ele_script.specs.Printed.{IsAnswerText, bad_text, pass_text}
@@ -16,13 +17,13 @@ use Rattle.ele_shell.specs.Pass.{MayPass}
 use Rattle.ele_shell.specs.State.{State}
 
 -- an event is answered as the world's step answers it, while fewer replies were given than may be; where as many were
--- given it is stopped, and want of memory may stop it anywhere
+-- given it is stopped, and want of memory may stop it anywhere if it takes memory
 abbrev pub MayReply : State → Event → Result Reply Stop → State → Type 0
 MayReply before event (Ok reply) after =
     (before.replies < before.most) × ((reply, after.world) ≡ step before.world event)
     × (after.replies ≡ before.replies + 1) × (after.most ≡ before.most)
 MayReply before event (Err HistoryFull) after = (before.replies ≡ before.most) × (after ≡ before)
-MayReply before event (Err NoMemory) after = after ≡ before
+MayReply before event (Err NoMemory) after = (takes_no_memory event ≡ false) × (after ≡ before)
 
 -- a line is answered its first fault, what the event is answered that it spells, or how the pass ends that it asks for;
 -- want of memory may stop it

@@ -21,8 +21,8 @@ pub record Cleans (before : State) (removed : Bool) (after : State) : Type 0 whe
   pub replies : after.replies ≡ before.replies + 1
   pub most : after.most ≡ before.most
 
--- or a stop comes in its place
+-- or a full history stops it; it takes no memory
 abbrev pub MayClean : State → Result Bool Stop → State → Type 0
 MayClean before (Ok removed) after = Cleans before removed after
 MayClean before (Err HistoryFull) after = (before.replies ≡ before.most) × (after ≡ before)
-MayClean before (Err NoMemory) after = after ≡ before
+MayClean before (Err NoMemory) after = ⊥

@@ -28,9 +28,9 @@ pub record Fills (before : State) (budget removed : ℕ) (after : State) : Type 
   pub within : removed < budget
   pub full : after.replies ≡ after.most
 
--- how a pass with a budget may end; want of memory may stop it anywhere, and what was removed stays removed
+-- how a pass with a budget may end; a clean takes no memory, so only a full history stops a pass
 abbrev pub MayPass : State → ℕ → PassEnd → State → Type 0
 MayPass before budget (Finished removed) after = Finishes before budget removed after
 MayPass before budget (Budget removed) after = (removed ≡ budget) × Removes before removed after
 MayPass before budget (Stopped HistoryFull removed) after = Fills before budget removed after
-MayPass before budget (Stopped NoMemory removed) after = (removed < budget) × Removes before removed after
+MayPass before budget (Stopped NoMemory removed) after = ⊥

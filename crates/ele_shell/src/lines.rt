@@ -2,6 +2,7 @@
 //! A contract sees the lines that end in the piece, and what was put for them.
 ghost use Rattle.std.specs.Prelude.{◌≡◌, ◌+◌, ◌^◌, ◌<◌, ◌≤◌, ◌++◌, [], Some, length, OnOk, IfOk};
 ghost use Rattle.std.specs.Option.{option_map, option_and_then};
+ghost use Rattle.memchr.specs.Find.{IsFirstByte, is_byte};
 ghost use Rattle.ele_script.specs.Outlet.{outlet, Puts};
 ghost use Rattle.ele_shell.specs.Block.{cut_block, cut_count};
 ghost use Rattle.ele_shell.specs.Kept.{kept};
@@ -56,6 +57,13 @@ fn put_whole<W: Write>(
     Ok(())
 }
 
+/// Where the first line feed stands.
+fn line_end(bytes: &[u8]) -> Option<usize>
+    ensures { IsFirstByte (is_byte 10) bytes.now result }
+{
+    memchr(b'\n', bytes)
+}
+
 /// Answers the lines that end in the piece, keeps what is behind them, and tells how many lines have ended by then.
 pub(crate) fn answer_piece<W: Write>(
     piece: &[u8],
@@ -72,7 +80,7 @@ pub(crate) fn answer_piece<W: Write>(
 {
     let mut ended = lines;
     let mut rest = piece;
-    'lines: while let Some(at) = memchr(b'\n', rest) {
+    'lines: while let Some(at) = line_end(rest) {
         put_whole(&rest[..at], buffer, keeper, output, writer)?;
         rest = rest.split_at(at + 1).1;
         ended += 1;

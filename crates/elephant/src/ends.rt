@@ -1,7 +1,10 @@
 //! What the program does with what its words ask for, over a reader and two writers.
 //! A contract sees the limits of a run, and what the run read and wrote.
-ghost use Rattle.std.specs.Prelude.{◌≡◌};
-ghost use Rattle.elephant.specs.Status.{status_of};
+ghost use Rattle.std.specs.Prelude.{◌≡◌, ℕ, IfOk, IsErrOf};
+ghost use Rattle.ele_world.specs.Bounds.{Bounds};
+ghost use Rattle.ele_shell.specs.Running.{RanToTheEnd, RanToAReadFault, RanPastABound};
+ghost use Rattle.ele_shell.specs.State.{fresh};
+ghost use Rattle.elephant.specs.Status.{status_of, MayEndWith};
 
 use crate::asked::Asked;
 use ele_shell::{ShellFault, run};
@@ -15,7 +18,17 @@ fn run_script<R: Read, W: Write>(
     limits: Limits,
     reader: &mut R,
     writer: &mut W,
-) -> Result<u64, ShellFault> {
+) -> Result<u64, ShellFault>
+    ensures ok { IfOk result (λ lines. RanToTheEnd (fresh limits) lines
+        (R.remaining reader.old) (R.remaining reader.new)
+        (W.contents writer.old) (W.contents writer.new)) }
+    ensures read_fault { IsErrOf result ShellFault.ReadFault → RanToAReadFault (fresh limits)
+        (R.remaining reader.old) (R.remaining reader.new)
+        (W.contents writer.old) (W.contents writer.new) }
+    ensures too_many_lines { IsErrOf result ShellFault.TooManyLines → RanPastABound (fresh limits)
+        (R.remaining reader.old) (R.remaining reader.new)
+        (W.contents writer.old) (W.contents writer.new) }
+{
     let ran = run(alloc, reader, writer, limits);
     match writer.flush() {
         Ok(()) => ran,
@@ -52,7 +65,13 @@ pub fn answer<R: Read, W: Write, E: Write>(
     reader: &mut R,
     writer: &mut W,
     errors: &mut E,
-) -> u8 {
+) -> u8
+    ensures status { MayEndWith asked.now result }
+    ensures run { (limits : Bounds) → asked.now ≡ Asked.Run limits → result ≡ 0
+        → (lines : ℕ) × RanToTheEnd (fresh limits) lines
+        (R.remaining reader.old) (R.remaining reader.new)
+        (W.contents writer.old) (W.contents writer.new) }
+{
     match asked {
         Asked::Run(limits) => match run_script(alloc, *limits, reader, writer) {
             Ok(_) => 0,

@@ -112,16 +112,18 @@ fn a_writer_that_fails_holds_a_front_of_the_output(rt: HostRuntime) -> Result<()
 }
 
 #[test]
-fn a_script_has_at_most_a_million_lines(rt: HostRuntime) -> Result<(), Fail> {
-    for (left, end) in [
-        (1_000_000, Ok(1_000_000)),
-        (1_000_001, Err(ShellFault::TooManyLines)),
+fn a_script_has_at_most_so_many_lines_and_bytes(rt: HostRuntime) -> Result<(), Fail> {
+    for (byte, left, end, written) in [
+        (b'\n', 1_000_000, Ok(1_000_000), ""),
+        (b'\n', 1_000_001, Err(ShellFault::TooManyLines), ""),
+        (b'a', 8_589_934_592, Ok(1), "bad 33 LineTooLong\n"),
+        (b'a', 8_589_934_593, Err(ShellFault::TooManyLines), ""),
     ] {
-        let mut reader = io::repeat(b'\n').take(left);
+        let mut reader = io::repeat(byte).take(left);
         let mut output = Vec::<u8>::new(rt.alloc());
         let ended = run(rt.alloc(), &mut reader, &mut output, Limits::largest());
-        assert_eq!(rt; ended, end);
-        assert!(rt; output.is_empty());
+        assert_eq!(rt; ended, end, "{left} bytes");
+        assert_eq!(rt; output.as_slice(), written.as_bytes(), "{left} bytes");
     }
     Ok(())
 }

@@ -1,5 +1,5 @@
 use Rattle.std.proofs.Common.{sym, inr}
-use Rattle.ele_script.proofs.Commands.{spelled_words, unfit_words, faults_of_words}
+use Rattle.ele_script.proofs.Commands.{spelled_words, unfit_words, faults_of_words, memory_of_words}
 use Rattle.ele_script.proofs.reading.line_of.Goals as goal
 
 pub returns-in_default-clause-fault : goal.returns-in_default-clause-fault
@@ -10,3 +10,6 @@ returns-clause-found c = spelled_words _ _ _ c.line_behind.result (sym c.in-Some
 
 pub returns-clause-fault : goal.returns-clause-fault
 returns-clause-fault c = faults_of_words _ _ _ c.line_behind.result (sym c.in-Some.ensures) c.line_behind.ensures.fault
+
+pub returns-clause-memory : goal.returns-clause-memory
+returns-clause-memory c = memory_of_words _ _ _ c.line_behind.result (sym c.in-Some.ensures) c.line_behind.ensures.memory

@@ -1,4 +1,5 @@
-use Rattle.ele_script.proofs.Laws.{only_event, only_event_fault, event_found, event_refused}
+use Rattle.std.proofs.Common.{sym, ◌∙◌}
+use Rattle.ele_script.proofs.Laws.{only_event, only_event_fault, event_found, event_refused, event_memory}
 use Rattle.ele_script.proofs.reading.read_event.Goals as goal
 
 pub returns-clause-found : goal.returns-clause-found
@@ -12,3 +13,6 @@ returns-clause-only c = only_event c.args.line.now c.event_in.result (returns-cl
 
 pub returns-clause-refused : goal.returns-clause-refused
 returns-clause-refused c = only_event_fault c.args.line.now c.event_in.result (returns-clause-found c) (returns-clause-fault c)
+
+pub returns-clause-memory : goal.returns-clause-memory
+returns-clause-memory c = λ is. c.read_line-asked.ensures.memory (event_memory _ (sym c.event_in.ensures ∙ is))

@@ -1,13 +1,30 @@
-use Rattle.std.proofs.Common.{◌∙◌, sym, ap, map, rules}
+use Rattle.std.proofs.Common.{◌≡◌, ◌∙◌, ◌⊎◌, List, ℕ, ap, inr, map, refl, rules, subst, Err}
+use Rattle.ele_script.specs.declared.fault.LineFault.TheVariants.{Syntax}
+use Rattle.ele_script.specs.Memory.{TakesMemory}
+use Rattle.ele_script.specs.Words.{words_of}
 use Rattle.ele_script.proofs.Laws.{only_line, only_fault, fault_of_line}
+use Rattle.ele_script.proofs.Words.{unfit_line}
 use Rattle.ele_script.proofs.reading.read_line.Goals as goal
+
+pub returns-in_default-clause-fault : goal.returns-in_default-clause-fault
+returns-in_default-clause-fault c = inr (unfit_line c.args.line.now c.if-line-gt-MOST_BYTES.false (c.in_default.ensures.none refl))
+
+pub returns-in_default-clause-only : goal.returns-in_default-clause-only
+returns-in_default-clause-only c = only_line c.args.line.now (Err Syntax) tt (returns-in_default-clause-fault c)
+
+pub returns-in_default-clause-refused : goal.returns-in_default-clause-refused
+returns-in_default-clause-refused c = only_fault c.args.line.now (Err Syntax) tt (returns-in_default-clause-fault c)
 
 pub returns-clause-fault : goal.returns-clause-fault
 returns-clause-fault c =
-    fault_of_line c.args.line.now (map (λ word. word.now) c.as_slice.result.now) c.line_of.result c.if-line-gt-MOST_BYTES.false (sym c.has_words.ensures ∙ c.if-not-has_words.false) (ap (λ words. map (λ word. word.now) words) c.as_slice.ensures.value ∙ c.in_ok-words.ensures) c.line_of.ensures.fault
+    fault_of_line c.args.line.now (map (λ word. word.now) c.as_slice.result.now) c.line_of.result c.if-line-gt-MOST_BYTES.false (c.in-Some.ensures.worded refl) (ap (λ words. map (λ word. word.now) words) c.as_slice.ensures.value ∙ c.in-Some.ensures.found) c.line_of.ensures.fault
 
 pub returns-clause-only : goal.returns-clause-only
 returns-clause-only c = only_line c.args.line.now c.line_of.result (search rules) (returns-clause-fault c)
 
 pub returns-clause-refused : goal.returns-clause-refused
 returns-clause-refused c = only_fault c.args.line.now c.line_of.result (search rules) (returns-clause-fault c)
+
+pub returns-clause-memory : goal.returns-clause-memory
+returns-clause-memory c = λ is.
+    subst TakesMemory (ap (λ words. map (λ word. word.now) words) c.as_slice.ensures.value ∙ c.in-Some.ensures.found) (c.line_of.ensures.memory is)
