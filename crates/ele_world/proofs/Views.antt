@@ -5,6 +5,7 @@ use Rattle.std.specs.List.{AllByRecursion}
 use Rattle.std.proofs.lemmas.List.Elements.{filter-append}
 use Rattle.std.proofs.lemmas.Option.{IfSome_then}
 use Rattle.std.proofs.lemmas.Bool.Decides.{nat_tests}
+use Rattle.ele_moment.specs.Last.{last_moment}
 use Rattle.ele_moment.specs.Lists.{AllLater}
 use Rattle.ele_moment.proofs.Edits.{all-weaker}
 use Rattle.ele_policy.specs.Ripe.{IsNearest}
@@ -31,10 +32,15 @@ precedes x y placed same =
     let own = placed.ended same in
     record { number = grind (arith, nat_tests); ended = own.0; is_ended = own.1; by_then = own.2 }
 
--- what is true of each file
+-- what is true of each file's rows
 pub record IsView (v : FileView) : Type 0 where
   pub lives : AllByRecursion IsLife v.rows
   pub placed : AllLater Precedes v.rows
+
+-- ---- what a well-formed world says of its rows
+
+pub now_of : (w : World) → IsWellFormed w → w.now ≤ last_moment
+now_of w k = k.now
 
 pub lives_of : (w : World) → IsWellFormed w → AllByRecursion IsLife w.versions
 lives_of w k = all-weaker (IsVersion w.files w.now) IsLife w.versions (λ row is. IfSome_then row.ended is.ended (λ ended life. life.0)) k.versions
