@@ -19,11 +19,12 @@ use Rattle.ele_policy.proofs.Waits.{nothing_beside}
 use Rattle.ele_world.specs.declared.rows.VersionRow.{VersionRow}
 use Rattle.ele_world.specs.Due.{is_due, is_due_at, ripe_of}
 use Rattle.ele_world.specs.Scan.{due_key, key_of}
-use Rattle.ele_world.specs.WellFormed.{Now, IsWellFormed}
+use Rattle.ele_world.specs.WellFormed.{IsWellFormed}
 use Rattle.ele_world.specs.World.{World, policy_of, is_version}
 use Rattle.ele_world.specs.RipeMoments.{IsDueFromRipe}
 use Rattle.ele_world.proofs.Passes.{due_is_ripe}
 use Rattle.ele_world.proofs.RipeMoments.{due_from_ripe}
+use Rattle.ele_world.proofs.Views.{now_of}
 use Rattle.ele_core.specs.Tracked.{key_by, keys_of, has_any, version_key, key_of_version}
 use Rattle.ele_core.proofs.Keyed.{has-cons}
 use Rattle.ele_core.proofs.Plain.{plain_key, key_is_plain}
@@ -53,7 +54,7 @@ due_is w file number k = by (find (is_version file number) w.versions) refl wher
   by : (o : Option VersionRow) → find (is_version file number) w.versions ≡ o → option_map_or (λ row. is_due_at w row w.now) o false ≡ option_map_or (is_ripe_by w.now) (option_and_then (key_by w.files w.versions) o) false
   by None found = refl
   by (Some row) found =
-      due_has_key w row (k.holds Now) (all-found (is_version file number) (IsDueFromRipe w) w.versions row found (due_from_ripe w k))
+      due_has_key w row (now_of w k) (all-found (is_version file number) (IsDueFromRipe w) w.versions row found (due_from_ripe w k))
       ∙ ap (λ (o : Option Key). is_some o) (due_by_key w row)
       ∙ ripe_is w.now (plain_key w.files row)
       ∙ ap (λ (o : Option Key). option_map_or (is_ripe_by w.now) o false) (sym (key_is_plain w.files w.versions row))

@@ -31,13 +31,14 @@ use Rattle.ele_world.specs.declared.rows.FileRow.{FileRow}
 use Rattle.ele_world.specs.declared.rows.VersionRow.{VersionRow}
 use Rattle.ele_world.specs.Scan.{due_key, key_of, first_due, scan}
 use Rattle.ele_world.specs.Usage.{is_file_of, bytes_in, usage_of}
-use Rattle.ele_world.specs.WellFormed.{ArePlaced, Versions}
+use Rattle.ele_world.specs.WellFormed.{ArePlaced, IsWellFormed}
 use Rattle.ele_world.specs.Whole.{whole, ChangesOnly}
 use Rattle.ele_world.specs.World.{World, is_version, policy_of}
 use Rattle.ele_world.proofs.DueRows.{all-filter_map, all-in_order, first_of}
 use Rattle.ele_world.proofs.Splits.{bytes_in-cons}
 use Rattle.ele_world.proofs.Usages.{usage_changes, changes_removed}
 use Rattle.ele_world.proofs.Versions.{IsFound, all_found}
+use Rattle.ele_world.proofs.Views.{placed_of}
 
 -- ---- the row of the first key
 
@@ -71,12 +72,12 @@ keyed_row w row key found due =
     let of = key_is_of w.files row key keyed in
     record { row = row; found = rw (← of.0, ← of.1) found; keyed = keyed }
 
-pub first_keyed : (w : World) (key : Key) → AllLater ArePlaced w.versions → first_due w ≡ Some key → IsKeyed w key
+pub first_keyed : (w : World) (key : Key) → IsWellFormed w → first_due w ≡ Some key → IsKeyed w key
 unfolding scan
-first_keyed w key placed first =
+first_keyed w key formed first =
     first_of (IsKeyed w) (scan w) key first
     (all-in_order (IsKeyed w) [] (filter_map (due_key w) w.versions) tt
-    (all-filter_map (IsFound w.versions) (IsKeyed w) (due_key w) (keyed_row w) w.versions (all_found w.versions placed)))
+    (all-filter_map (IsFound w.versions) (IsKeyed w) (due_key w) (keyed_row w) w.versions (all_found w.versions (placed_of w formed))))
 
 -- ---- the queue
 
@@ -102,10 +103,10 @@ placed_once file number (x ∷ xs) placed =
 pub removed_queue : (rows : Rows) (key : Key) (now : Held) (queue : List Key) → IsSound rows → first_due (world_of rows) ≡ Some key → now ≡ without rows.files key.file key.number → ((k : Key) → has_key k queue ≡ (not (is_key k key) && has_key k rows.queue)) → IsQueued now queue
 removed_queue rows key now queue sound first after members k =
     let w = world_of rows in
-    let first_row = first_keyed w key (sound.formed.holds Versions).placed first in
+    let first_row = first_keyed w key sound.formed first in
     members k
     ∙ ap (λ b. not (is_key k key) && b) (sound.tracked.queue k ∙ keys_are_plain w.files w.versions k)
-    ∙ sym (has-remove (plain_key w.files) (is_version key.file key.number) key (other_key w.files key) k w.versions first_row.row (placed_once key.file key.number w.versions (sound.formed.holds Versions).placed) first_row.found first_row.keyed)
+    ∙ sym (has-remove (plain_key w.files) (is_version key.file key.number) key (other_key w.files key) k w.versions first_row.row (placed_once key.file key.number w.versions (placed_of w sound.formed)) first_row.found first_row.keyed)
     ∙ ap (λ (h : Held). has_key k (filter_map (plain_key h.files) h.versions)) (sym after)
     ∙ sym (keys_are_plain now.files now.versions k)
 

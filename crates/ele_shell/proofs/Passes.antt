@@ -8,7 +8,8 @@ use Rattle.ele_world.specs.declared.reply.Reply.{Reply}
 use Rattle.ele_world.specs.Pass.{IsCleaned}
 use Rattle.ele_world.proofs.PassEnds.{cleaned_none, cleaned_more}
 use Rattle.ele_world.specs.Scan.{first_due}
-use Rattle.ele_world.specs.Step.{step, clean_step, clean_of}
+use Rattle.ele_world.specs.Step.{step, clean_step}
+use Rattle.ele_world.proofs.Cleans.{clean_of}
 use Rattle.ele_world.specs.World.{World}
 use Rattle.ele_world.specs.declared.pass.PassEnd.TheVariants.{Stopped}
 use Rattle.ele_world.specs.declared.refusal.Stop.{Stop}
@@ -54,7 +55,6 @@ removes_more s t u n r c =
     }
 
 nothing_due : (w : World) → first_due w ≡ None → (clean_step w).1 ≡ w
-unfolding clean_step
 nothing_due w none = ap (λ o. (clean_of w o).1) none
 
 -- nothing is due any more
@@ -76,7 +76,6 @@ fills s t u budget n r lt (full, same) = rw same (record { removes = r; within =
 
 -- a clean event tells whether it removed a version
 pub clean_tells : (w v : World) (r : Reply) → (r, v) ≡ step w CleanOne → (is_some (first_due w) ≡ is_removed r) × (v ≡ (clean_step w).1)
-unfolding clean_step
 clean_tells w v r is = by (first_due w) is where
   by : (o : Option Key) → (r, v) ≡ clean_of w o → (is_some o ≡ is_removed r) × (v ≡ (clean_of w o).1)
   by None h = (ap (λ (p : Reply × World). is_removed p.0) (sym h), ap (λ (p : Reply × World). p.1) h)

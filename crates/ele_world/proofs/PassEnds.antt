@@ -12,12 +12,13 @@ use Rattle.ele_world.specs.Run.{cleaned, IsPass}
 use Rattle.ele_world.specs.Scan.{first_due}
 use Rattle.ele_world.specs.Step.{clean_step}
 use Rattle.ele_world.proofs.Cleans.{clean_of}
-use Rattle.ele_world.specs.WellFormed.{Versions, IsWellFormed}
+use Rattle.ele_world.specs.WellFormed.{IsWellFormed}
 use Rattle.ele_world.specs.World.{World, is_version}
 use Rattle.ele_world.proofs.DueRows.{first_is_due}
 use Rattle.ele_world.proofs.Passes.{cleaned_keeps_kept, pass_leaves_kept}
 use Rattle.ele_world.proofs.Splits.{split_length}
 use Rattle.ele_world.proofs.StepKeeps.{step_keeps}
+use Rattle.ele_world.proofs.Views.{placed_of}
 
 -- no clean event yet
 pub cleaned_none : (w : World) → IsCleaned w 0 w
@@ -45,7 +46,7 @@ clean_removes w keeps some = by (first_due w) refl some where
   by : (o : Option Key) → first_due w ≡ o → IsSome o → length ((clean_of w o).1).versions + 1 ≡ length w.versions
   by None e h = absurd cc
   by (Some key) e h =
-      let due = first_is_due w key (keeps.holds Versions).placed e in
+      let due = first_is_due w key (placed_of w keeps) e in
       length-remove_first (is_version key.file key.number) w.versions due.row due.found
 
 -- and so many by so many events

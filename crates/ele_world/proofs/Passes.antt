@@ -18,7 +18,7 @@ use Rattle.ele_world.specs.RipeMoments.{IsDueFromRipe}
 use Rattle.ele_world.specs.Run.{cleaned, IsPass}
 use Rattle.ele_world.specs.Scan.{key_cmp, key_of, due_key, scan, first_due}
 use Rattle.ele_world.specs.Step.{clean_step}
-use Rattle.ele_world.specs.WellFormed.{Now, IsWellFormed}
+use Rattle.ele_world.specs.WellFormed.{IsWellFormed}
 use Rattle.ele_world.specs.World.{World, is_version}
 use Rattle.ele_world.proofs.Around.{find-split, remove_first-split, filter-all}
 use Rattle.ele_world.proofs.Cleans.{clean_of}
@@ -26,7 +26,7 @@ use Rattle.ele_world.proofs.DueRows.{first_is_due}
 use Rattle.ele_world.proofs.RemovalOrder.{removal_order}
 use Rattle.ele_world.proofs.RipeMoments.{due_from_ripe}
 use Rattle.ele_world.proofs.StepKeeps.{step_keeps}
-use Rattle.ele_world.proofs.Views.{placed_of}
+use Rattle.ele_world.proofs.Views.{now_of, placed_of}
 
 -- what isn't kept may go
 pub filter-remove_first : {X : Type 0} (keep p : X → Bool) (xs : List X) → ((x : X) → find p xs ≡ Some x → keep x ≡ false) → filter keep (remove_first p xs) ≡ filter keep xs
@@ -104,7 +104,7 @@ nothing_due w k h =
     let none = filter_map-nil (due_key w) w.versions keys.1 in
     filter-all (λ row. not (is_due_at w row w.now)) w.versions
     (all-weaker (λ row. IsDueFromRipe w row × (due_key w row ≡ None)) (λ row. not (is_due_at w row w.now) ≡ true) w.versions
-    (λ row both. ap not (no_key w row (k.holds Now) both.0 both.1))
+    (λ row both. ap not (no_key w row (now_of w k) both.0 both.1))
     (all-both (IsDueFromRipe w) (λ row. due_key w row ≡ None) w.versions (due_from_ripe w k) none))
 
 -- what a pass leaves

@@ -5,12 +5,13 @@ use Rattle.std.specs.List.{AllByRecursion}
 use Rattle.std.proofs.lemmas.List.Elements.{filter-append}
 use Rattle.std.proofs.lemmas.Option.{IfSome_then}
 use Rattle.std.proofs.lemmas.Bool.Decides.{nat_tests}
+use Rattle.ele_moment.specs.Last.{last_moment}
 use Rattle.ele_moment.specs.Lists.{AllLater}
 use Rattle.ele_moment.proofs.Edits.{all-weaker}
 use Rattle.ele_policy.specs.Ripe.{IsNearest}
 use Rattle.ele_world.specs.declared.rows.VersionRow.{VersionRow}
 use Rattle.ele_world.specs.FileView.{FileView, view_of, is_version_of, is_newer, closings, beside}
-use Rattle.ele_world.specs.WellFormed.{IsWellFormed, IsVersion, ArePlaced, Versions}
+use Rattle.ele_world.specs.WellFormed.{Now, Versions, IsVersion, ArePlaced, IsWellFormed}
 use Rattle.ele_world.specs.World.{World}
 use Rattle.ele_world.proofs.Around.{all-filter, later-filter, later-around, filter-all, filter-none}
 
@@ -31,10 +32,15 @@ precedes x y placed same =
     let own = placed.ended same in
     record { number = grind (arith, nat_tests); ended = own.0; is_ended = own.1; by_then = own.2 }
 
--- what is true of each file
+-- what is true of each file's rows
 pub record IsView (v : FileView) : Type 0 where
   pub lives : AllByRecursion IsLife v.rows
   pub placed : AllLater Precedes v.rows
+
+-- ---- what a well-formed world says of its rows
+
+pub now_of : (w : World) → IsWellFormed w → w.now ≤ last_moment
+now_of w k = k.holds Now
 
 pub lives_of : (w : World) → IsWellFormed w → AllByRecursion IsLife w.versions
 lives_of w k = all-weaker (IsVersion w.files w.now) IsLife w.versions (λ row is. IfSome_then row.ended is.ended (λ ended life. life.0)) (k.holds Versions).each
