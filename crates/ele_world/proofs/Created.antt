@@ -49,6 +49,11 @@ created w directory name id policy = record w {
   made = record w.made { files = id; names = w.made.names + 1; versions = w.made.versions + 1 };
 }
 
+-- each version is of a file before
+pub versions_before : (w : World) → IsWellFormed w → AllByRecursion (λ row. row.file < w.made.files + 1) w.versions
+versions_before w k = all-weaker (IsVersion w.files w.now) (λ row. row.file < w.made.files + 1) w.versions
+    (λ row h. let given = next_of-given w.made.files w.made.versions w.files row.file (k.holds Files).each (omega (arith, h.numbered)) in omega (arith, given)) (k.holds Versions).each
+
 module _ (w : World) (directory : ℕ) (name : List ℕ) (policy : Policy) (k : IsWellFormed w) where
   abbrev id : ℕ
   id = w.made.files + 1
@@ -64,10 +69,8 @@ module _ (w : World) (directory : ℕ) (name : List ℕ) (policy : Policy) (k : 
       (all-weaker (IsFile w.made.files w.made.versions) (λ row. is_file id row ≡ false) w.files (λ row h. let given = h.given in grind (arith, nat_tests)) (k.holds Files).each)
       (grind (arith, nat_tests))
 
-  -- each version is of a file before
   before : AllByRecursion (λ row. row.file < id) w.versions
-  before = all-weaker (IsVersion w.files w.now) (λ row. row.file < id) w.versions
-      (λ row h. let given = next_of-given w.made.files w.made.versions w.files row.file (k.holds Files).each (omega (arith, h.numbered)) in omega (arith, given)) (k.holds Versions).each
+  before = versions_before w k
 
   live : is_live begun id ≡ true
   live = list_any-append (is_live_name_of id) w.names (new_name w directory name id ∷ []) ∙ by (list_any (is_live_name_of id) w.names) where

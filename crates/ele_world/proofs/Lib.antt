@@ -5,6 +5,8 @@ pub mod May
 pub mod Writers
 pub mod Created
 pub mod Opened
+pub mod Outcomes
+pub mod Leads
 pub mod KeptNames
 pub mod KeptDrafts
 pub mod KeptVersions

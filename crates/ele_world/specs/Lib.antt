@@ -14,6 +14,7 @@ pub mod WellFormed
 pub mod Run
 pub mod AlwaysWellFormed
 pub mod NothingChanges
+pub mod CreateLeads
 pub mod OnlyDueLeave
 pub mod HeldStays
 pub mod PassLeavesKept

@@ -1,5 +1,6 @@
 //! What every event does to a well-formed world, and so what is true of every run: each law is the contract of a function that
 //! does nothing.
+ghost use Rattle.ele_world.specs.CreateLeads.{CreateLeads};
 ghost use Rattle.ele_world.specs.AlwaysWellFormed.{FreshIsWellFormed, StepKeepsWellFormed, AlwaysWellFormed};
 ghost use Rattle.ele_world.specs.HeldStays.{HeldStays, HeldStaysInRuns};
 ghost use Rattle.ele_world.specs.NothingChanges.{RefusedStays, AskingStays};
@@ -32,6 +33,11 @@ pub fn refused_stays()
 /// An event that only asks changes nothing.
 pub fn asking_stays()
     ensures { AskingStays }
+{}
+
+/// After a create its path leads to the new file, whose current version is empty.
+pub fn create_leads()
+    ensures { CreateLeads }
 {}
 
 /// A version leaves only by a clean event in whose world it was due.

@@ -1,0 +1,27 @@
+-- What holds of all that a plan may come to holds of what it comes to.
+use Rattle.std.proofs.Common.{◌≡◌, Bool, true, false, Option, Some, None, Result, Ok, Err, refl}
+use Rattle.ele_world.specs.Change.{all_applied}
+use Rattle.ele_world.specs.Plan.{Plan, Tell, Make, Unless, When, Need, IfFound, refused, carried}
+use Rattle.ele_world.specs.World.{World}
+use Rattle.ele_world.specs.declared.refusal.Refusal.{Refusal}
+use Rattle.ele_world.specs.declared.reply.Reply.{Reply}
+
+abbrev pub InAll : World → (Reply × World → Type 0) → Plan → Type 0
+InAll w Q (Tell reply) = Q (reply, w)
+InAll w Q (Make reply changes) = Q (reply, all_applied w changes)
+InAll w Q (Unless test refusal next) = Q (refused w refusal) × (test ≡ false → InAll w Q next)
+InAll w Q (When test passing otherwise) = (test ≡ true → InAll w Q passing) × (test ≡ false → InAll w Q otherwise)
+InAll w Q (Need found next) = ((refusal : Refusal) → Q (refused w refusal)) × ((x : _) → found ≡ Ok x → InAll w Q (next x))
+InAll w Q (IfFound found otherwise next) = InAll w Q otherwise × ((x : _) → found ≡ Some x → InAll w Q (next x))
+
+pub in_all : (w : World) (Q : Reply × World → Type 0) (plan : Plan) → InAll w Q plan → Q (carried w plan)
+in_all w Q (Tell reply) all = all
+in_all w Q (Make reply changes) all = all
+in_all w Q (Unless true refusal next) all = all.0
+in_all w Q (Unless false refusal next) all = in_all w Q next (all.1 refl)
+in_all w Q (When true passing otherwise) all = in_all w Q passing (all.0 refl)
+in_all w Q (When false passing otherwise) all = in_all w Q otherwise (all.1 refl)
+in_all w Q (Need (Err refusal) next) all = all.0 refusal
+in_all w Q (Need (Ok x) next) all = in_all w Q (next x) (all.1 x refl)
+in_all w Q (IfFound None otherwise next) all = in_all w Q otherwise all.0
+in_all w Q (IfFound (Some x) otherwise next) all = in_all w Q (next x) (all.1 x refl)
