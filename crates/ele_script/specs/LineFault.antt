@@ -2,26 +2,25 @@
 use Rattle.std.specs.Prelude.{ℕ, List, codes}
 use Rattle.ele_time_path.specs.declared.fault.PathFault.{PathFault}
 use Rattle.ele_time_path.specs.declared.fault.PathFault.TheVariants as path
+use Rattle.ele_world.specs.Answers.{stop_answer}
+use Rattle.ele_world.specs.declared.refusal.Stop.TheVariants as stop
 use Rattle.ele_script.specs.declared.fault.LineFault.{LineFault}
 use Rattle.ele_script.specs.declared.fault.LineFault.TheVariants.{BadName, BadPath, BadMoment, BadLadder, Syntax, LineTooLong, NoMemory}
 
+abbrev pub fault_answer : LineFault → ℕ × List ℕ
+fault_answer BadName = (28, codes "BadName")
+fault_answer BadPath = (29, codes "BadPath")
+fault_answer BadMoment = (30, codes "BadMoment")
+fault_answer BadLadder = (31, codes "BadLadder")
+fault_answer Syntax = (32, codes "Syntax")
+fault_answer LineTooLong = (33, codes "LineTooLong")
+fault_answer NoMemory = stop_answer stop.NoMemory
+
 abbrev pub fault_number : LineFault → ℕ
-fault_number BadName = 28
-fault_number BadPath = 29
-fault_number BadMoment = 30
-fault_number BadLadder = 31
-fault_number Syntax = 32
-fault_number LineTooLong = 33
-fault_number NoMemory = 1
+fault_number fault = (fault_answer fault).0
 
 abbrev pub fault_name : LineFault → List ℕ
-fault_name BadName = codes "BadName"
-fault_name BadPath = codes "BadPath"
-fault_name BadMoment = codes "BadMoment"
-fault_name BadLadder = codes "BadLadder"
-fault_name Syntax = codes "Syntax"
-fault_name LineTooLong = codes "LineTooLong"
-fault_name NoMemory = codes "NoMemory"
+fault_name fault = (fault_answer fault).1
 
 -- the fault of a line whose path has that fault
 abbrev pub fault_of_path : PathFault → LineFault
@@ -29,8 +28,11 @@ fault_of_path path.BadName = BadName
 fault_of_path path.BadPath = BadPath
 fault_of_path path.NoMemory = NoMemory
 
+abbrev pub write_fault_answer : ℕ × List ℕ
+write_fault_answer = (35, codes "WriteFault")
+
 abbrev pub write_fault_number : ℕ
-write_fault_number = 35
+write_fault_number = write_fault_answer.0
 
 abbrev pub write_fault_name : List ℕ
-write_fault_name = codes "WriteFault"
+write_fault_name = write_fault_answer.1

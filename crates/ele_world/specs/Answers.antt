@@ -7,67 +7,48 @@ use Rattle.ele_world.specs.declared.refusal.Refusal.TheVariants.{ClockBack, Cloc
 use Rattle.ele_world.specs.declared.refusal.Stop.{Stop}
 use Rattle.ele_world.specs.declared.refusal.Stop.TheVariants.{NoMemory, HistoryFull}
 
+abbrev pub stop_answer : Stop → ℕ × List ℕ
+stop_answer NoMemory = (1, codes "NoMemory")
+stop_answer HistoryFull = (2, codes "HistoryFull")
+
+abbrev pub refusal_answer : Refusal → ℕ × List ℕ
+refusal_answer ClockBack = (3, codes "ClockBack")
+refusal_answer ClockEnd = (4, codes "ClockEnd")
+refusal_answer NoEntry = (5, codes "NoEntry")
+refusal_answer NotDirectory = (6, codes "NotDirectory")
+refusal_answer IsDirectory = (7, codes "IsDirectory")
+refusal_answer Exists = (8, codes "Exists")
+refusal_answer NotEmpty = (9, codes "NotEmpty")
+refusal_answer IntoItself = (10, codes "IntoItself")
+refusal_answer IsRoot = (11, codes "IsRoot")
+refusal_answer Future = (12, codes "Future")
+refusal_answer (Forgotten before) = (13, codes "Forgotten")
+refusal_answer NoVersion = (14, codes "NoVersion")
+refusal_answer NoHandle = (15, codes "NoHandle")
+refusal_answer NotWriter = (16, codes "NotWriter")
+refusal_answer TooBig = (17, codes "TooBig")
+refusal_answer Drafting = (18, codes "Drafting")
+refusal_answer NotRestorable = (19, codes "NotRestorable")
+refusal_answer NoGroup = (20, codes "NoGroup")
+refusal_answer GroupExists = (21, codes "GroupExists")
+refusal_answer NoMark = (22, codes "NoMark")
+refusal_answer MarkExists = (23, codes "MarkExists")
+refusal_answer NotPast = (24, codes "NotPast")
+refusal_answer AlreadyMember = (25, codes "AlreadyMember")
+refusal_answer NotMember = (26, codes "NotMember")
+refusal_answer (Full what) = (27, codes "Full")
+
 abbrev pub stop_number : Stop → ℕ
-stop_number NoMemory = 1
-stop_number HistoryFull = 2
+stop_number stop = (stop_answer stop).0
 
 abbrev pub stop_name : Stop → List ℕ
-stop_name NoMemory = codes "NoMemory"
-stop_name HistoryFull = codes "HistoryFull"
+stop_name stop = (stop_answer stop).1
 
 abbrev pub refusal_number : Refusal → ℕ
-refusal_number ClockBack = 3
-refusal_number ClockEnd = 4
-refusal_number NoEntry = 5
-refusal_number NotDirectory = 6
-refusal_number IsDirectory = 7
-refusal_number Exists = 8
-refusal_number NotEmpty = 9
-refusal_number IntoItself = 10
-refusal_number IsRoot = 11
-refusal_number Future = 12
-refusal_number (Forgotten before) = 13
-refusal_number NoVersion = 14
-refusal_number NoHandle = 15
-refusal_number NotWriter = 16
-refusal_number TooBig = 17
-refusal_number Drafting = 18
-refusal_number NotRestorable = 19
-refusal_number NoGroup = 20
-refusal_number GroupExists = 21
-refusal_number NoMark = 22
-refusal_number MarkExists = 23
-refusal_number NotPast = 24
-refusal_number AlreadyMember = 25
-refusal_number NotMember = 26
-refusal_number (Full what) = 27
+refusal_number refusal = (refusal_answer refusal).0
 
 abbrev pub refusal_name : Refusal → List ℕ
-refusal_name ClockBack = codes "ClockBack"
-refusal_name ClockEnd = codes "ClockEnd"
-refusal_name NoEntry = codes "NoEntry"
-refusal_name NotDirectory = codes "NotDirectory"
-refusal_name IsDirectory = codes "IsDirectory"
-refusal_name Exists = codes "Exists"
-refusal_name NotEmpty = codes "NotEmpty"
-refusal_name IntoItself = codes "IntoItself"
-refusal_name IsRoot = codes "IsRoot"
-refusal_name Future = codes "Future"
-refusal_name (Forgotten before) = codes "Forgotten"
-refusal_name NoVersion = codes "NoVersion"
-refusal_name NoHandle = codes "NoHandle"
-refusal_name NotWriter = codes "NotWriter"
-refusal_name TooBig = codes "TooBig"
-refusal_name Drafting = codes "Drafting"
-refusal_name NotRestorable = codes "NotRestorable"
-refusal_name NoGroup = codes "NoGroup"
-refusal_name GroupExists = codes "GroupExists"
-refusal_name NoMark = codes "NoMark"
-refusal_name MarkExists = codes "MarkExists"
-refusal_name NotPast = codes "NotPast"
-refusal_name AlreadyMember = codes "AlreadyMember"
-refusal_name NotMember = codes "NotMember"
-refusal_name (Full what) = codes "Full"
+refusal_name refusal = (refusal_answer refusal).1
 
 -- what a limit counts, as it is printed
 abbrev pub which_word : Which → List ℕ
