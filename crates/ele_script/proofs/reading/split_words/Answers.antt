@@ -1,4 +1,4 @@
-use Rattle.std.proofs.Common.{Bor, List, ℕ, length, drop, refl, ap, sym, ◌∙◌, arith, inl, inr}
+use Rattle.std.proofs.Common.{Bor, List, ℕ, length, drop, ap, sym, ◌∙◌, arith, inl, inr}
 use Rattle.std.proofs.lemmas.Bool.{eqb-true}
 use Rattle.ele_script.proofs.Words.{cut_more, cut_last, cut_some, cut_unplain}
 use Rattle.ele_script.proofs.reading.split_words.Goals as goal
