@@ -1,82 +1,129 @@
 -- The words of a line, cut off one after another.
-use Rattle.std.proofs.Common.{◌≡◌, ℕ, ◌+◌, ◌<◌, ◌≤◌, ◌==◌, not, cond, ◌&&◌, Bool, true, false, List, [], ◌∷◌, ◌++◌, length, take, drop, Option, Some, None, refl, sym, ap, ◌∙◌, arith, append_assoc, length-append, map, lit≤, ◌⊎◌, inl, inr, nat_lt}
-use Rattle.std.specs.List.{list_all, position, position_or_len, onto_first}
-use Rattle.std.proofs.lemmas.Bool.{ltb-true, ltb-false}
-use Rattle.std.proofs.lemmas.List.{map-append, length-map, drop_more}
-use Rattle.std.proofs.lemmas.List.Folds.{list_all-map}
-use Rattle.std.proofs.lemmas.List.Splits.{slice_split_first, length-slice_split}
+use Rattle.std.proofs.Common.{◌≡◌, ◌≢◌, ℕ, zero, suc, ◌+◌, ◌<◌, ◌≤◌, ◌==◌, not, cond, ◌&&◌, Bool, true, false, List, [], ◌∷◌, ◌++◌, length, take, drop, get_or, Some, None, refl, sym, ap, ◌∙◌, arith, append_assoc, length-append, map, lit≤, ◌⊎◌, inl, inr, nat_lt}
+use Rattle.std.specs.List.{list_all, position, position_or_len}
+use Rattle.std.proofs.lemmas.Bool.{ltb-false}
+use Rattle.std.proofs.lemmas.Bool.Decides.{nat_tests}
+use Rattle.std.proofs.lemmas.List.{map-append, length-map, drop_more, take-append-drop}
+use Rattle.std.proofs.lemmas.List.Folds.{list_all-append, list_all-map, list_all_at}
+use Rattle.std.proofs.lemmas.List.Quantifiers.{position-Some}
+use Rattle.std.proofs.lemmas.List.Splits.{length-slice_split}
+use Rattle.std.proofs.lemmas.List.Sums.{prefix_len_passes}
 use Rattle.ele_script.specs.declared.command.Command.{Command}
 use Rattle.ele_script.specs.declared.command.Command.TheVariants.{Clock, Tick, Create, OpenWrite, Write, Truncate, Close, Default, Clean, Read, Due, Usage, Pass}
 use Rattle.ele_script.specs.declared.fault.LineFault.TheVariants.{Syntax}
 use Rattle.ele_script.specs.Command.{command_words, kinds_behind}
 use Rattle.ele_script.specs.FirstFault.{IsFaultOfWords, no_command, IsFirstFault, not_worded, of_words}
-use Rattle.ele_script.specs.Words.{words_of, is_plain, is_worded}
+use Rattle.ele_script.specs.Words.{words_of, is_plain, is_worded, ends_word}
 
 abbrev is_space : ℕ → Bool
 is_space byte = byte == 32
 
-some_at : (b : Bool) (n at : ℕ) → cond b (Some n) None ≡ Some at → (b ≡ true) × (n ≡ at)
-some_at true n at h = (refl, cc)
-some_at false n at h = absurd cc
+-- a byte of a word is plain and no space
+plain_byte : (x : ℕ) → ends_word x ≡ false → is_plain x ≡ true
+plain_byte x word = grind (arith, nat_tests)
+
+no_space : (x : ℕ) → ends_word x ≡ false → is_space x ≡ false
+no_space x word = grind (arith, nat_tests)
+
+-- and one that ends a word is plain only as a space
+unplain_byte : (x : ℕ) → ends_word x ≡ true → x ≢ 32 → is_plain x ≡ false
+unplain_byte x end other = grind (arith, nat_tests)
+
+-- the first n bytes are of words
+abbrev AreOfWords : List ℕ → ℕ → Type 0
+AreOfWords text n = (k : ℕ) → k < n → ends_word (get_or text k 0) ≡ false
+
+later : (x : ℕ) (xs : List ℕ) (n : ℕ) → AreOfWords (x ∷ xs) (suc n) → AreOfWords xs n
+later x xs n h k lt = h (suc k) (omega (arith, lt))
+
+-- behind a word stands a space
+word_before : (n : ℕ) (xs ys : List ℕ) → n ≤ length xs → AreOfWords xs n → words_of (take n xs ++ 32 ∷ ys) ≡ take n xs ∷ words_of ys
+word_before zero xs ys le h = refl
+word_before (suc n) [] ys le h = absurd (omega (arith, le))
+word_before (suc n) (x ∷ xs) ys le h =
+    rw (no_space x (h 0 (omega arith)), word_before n xs ys (omega (arith, le)) (later x xs n h)) refl
+
+plain_before : (n : ℕ) (xs : List ℕ) → n ≤ length xs → AreOfWords xs n → list_all is_plain (take n xs) ≡ true
+plain_before zero xs le h = refl
+plain_before (suc n) [] le h = absurd (omega (arith, le))
+plain_before (suc n) (x ∷ xs) le h = rw (plain_byte x (h 0 (omega arith))) (plain_before n xs (omega (arith, le)) (later x xs n h))
+
+-- what has no end is one plain word
+whole_word : (xs : List ℕ) → AreOfWords xs (length xs) → (words_of xs ≡ xs ∷ []) × (list_all is_plain xs ≡ true)
+whole_word [] h = (refl, refl)
+whole_word (x ∷ xs) h =
+    let rest = whole_word xs (λ k lt. h (suc k) (omega (arith, lt))) in
+    (rw (no_space x (h 0 (omega arith)), rest.0) refl, rw (plain_byte x (h 0 (omega arith))) rest.1)
 
 none_at : (b : Bool) (n : ℕ) → cond b (Some n) None ≡ None → b ≡ false
 none_at true n h = absurd cc
 none_at false n h = refl
 
--- a space stands within the text
-pub space_within : (text : List ℕ) (at : ℕ) → position is_space text ≡ Some at → at < length text
-space_within text at found =
-    let f = some_at _ _ _ found in
-    let lt = ltb-true (position_or_len is_space text) (length text) f.0 in
-    omega (arith, lt, f.1)
+not_true : (b : Bool) → not b ≡ true → b ≡ false
+not_true true h = absurd cc
+not_true false h = refl
 
--- the words that were cut off, and those of what is left
-abbrev pub AreCut : List (List ℕ) → List (List ℕ) → List ℕ → Type 0
-AreCut words front rest = words ≡ front ++ words_of rest
+no_end : (text : List ℕ) → position ends_word text ≡ None → AreOfWords text (length text)
+no_end text none k lt =
+    let all = ltb-false (position_or_len ends_word text) (length text) (none_at _ _ none) in
+    not_true _ (prefix_len_passes (λ x. not (ends_word x)) text k 0 (omega (arith, lt, all)))
+
+-- these words were cut off in front of the rest, and all that was cut off is plain
+pub record AreCut (line : List ℕ) (front : List (List ℕ)) (rest : List ℕ) : Type 0 where
+  pub words : words_of line ≡ front ++ words_of rest
+  pub plain : list_all is_plain line ≡ list_all is_plain rest
 
 map_push : {A : Type 0} (v : A → List ℕ) (front now : List A) (x : A) → now ≡ front ++ x ∷ [] → map v now ≡ map v front ++ v x ∷ []
 map_push {A} v front now x pushed = ap (λ (xs : List A). map v xs) pushed ∙ map-append v front (x ∷ [])
 
 -- a word more is cut off
-pub cut_more : {A : Type 0} (v : A → List ℕ) (words : List (List ℕ)) (front now : List A) (word : A) (rest behind : List ℕ) (at : ℕ) → AreCut words (map v front) rest → position is_space rest ≡ Some at
-    → v word ≡ take at rest → behind ≡ drop 1 (drop at rest) → now ≡ front ++ word ∷ [] → AreCut words (map v now) behind
-cut_more {A} v words front now word rest behind at are found here there pushed =
-    let f = some_at _ _ _ found in
-    let behind_is : behind ≡ drop (at + 1) rest = there ∙ ap (λ (xs : List ℕ). drop 1 xs) (drop_more rest at 0 (space_within rest at found)) in
-    let first = slice_split_first is_space rest 0 (ltb-true _ _ f.0) ∙ ap (λ (n : ℕ). take n rest ∷ words_of (drop (n + 1) rest)) f.1 in
-    let next : words_of rest ≡ v word ∷ words_of behind = first ∙ rw (here, behind_is) refl in
-    are ∙ ap (λ (ws : List (List ℕ)). map v front ++ ws) next ∙ sym (append_assoc (map v front) (v word ∷ []) (words_of behind))
-    ∙ ap (λ (ws : List (List ℕ)). ws ++ words_of behind) (sym (map_push v front now word pushed))
+pub cut_more : {A : Type 0} (v : A → List ℕ) (line : List ℕ) (front now : List A) (word : A) (rest behind : List ℕ) (at : ℕ) → AreCut line (map v front) rest → position ends_word rest ≡ Some at
+    → get_or rest at 0 ≡ 32 → v word ≡ take at rest → behind ≡ drop 1 (drop at rest) → now ≡ front ++ word ∷ [] → AreCut line (map v now) behind
+cut_more {A} v line front now word rest behind at are found space here there pushed =
+    let f = position-Some ends_word rest at 0 found in
+    let next = drop_more rest at 0 f.0 ∙ ap (λ (x : ℕ). x ∷ drop (at + 1) rest) space in
+    let behind_is : behind ≡ drop (at + 1) rest = there ∙ ap (λ (xs : List ℕ). drop 1 xs) next in
+    let parts : rest ≡ take at rest ++ 32 ∷ behind = sym (take-append-drop at rest) ∙ ap (λ (xs : List ℕ). take at rest ++ xs) next ∙ rw behind_is refl in
+    let le : at ≤ length rest = omega (arith, f.0) in
+    let words : words_of rest ≡ v word ∷ words_of behind = ap words_of parts ∙ word_before at rest behind le f.2 ∙ ap (λ (w : List ℕ). w ∷ words_of behind) (sym here) in
+    record {
+      words = are.words ∙ ap (λ (ws : List (List ℕ)). map v front ++ ws) words ∙ sym (append_assoc (map v front) (v word ∷ []) (words_of behind))
+          ∙ ap (λ (ws : List (List ℕ)). ws ++ words_of behind) (sym (map_push v front now word pushed));
+      plain = are.plain ∙ ap (list_all is_plain) parts ∙ list_all-append is_plain (take at rest) (32 ∷ behind)
+          ∙ ap (λ (b : Bool). b && list_all is_plain behind) (plain_before at rest le f.2);
+    }
 
--- what has no space is one word
-one_word : (text : List ℕ) → length text ≤ position_or_len is_space text → words_of text ≡ text ∷ []
-one_word [] none = refl
-one_word (x ∷ xs) none = by (is_space x) none (one_word xs) where
-  by : (b : Bool) → length (x ∷ xs) ≤ cond (not b) (1 + position_or_len is_space xs) 0 → (length xs ≤ position_or_len is_space xs → words_of xs ≡ xs ∷ [])
-      → cond b ([] ∷ words_of xs) (onto_first x (words_of xs)) ≡ (x ∷ xs) ∷ []
-  by true h rest = absurd (omega (arith, h))
-  by false h rest = ap (λ (ws : List (List ℕ)). onto_first x ws) (rest (omega (arith, h)))
+-- a byte that isn't plain ends a word
+pub cut_unplain : (line : List ℕ) (front : List (List ℕ)) (rest : List ℕ) (at : ℕ) → AreCut line front rest → position ends_word rest ≡ Some at → get_or rest at 0 ≢ 32 → list_all is_plain line ≡ false
+cut_unplain line front rest at are found other =
+    let f = position-Some ends_word rest at 0 found in
+    are.plain ∙ list_all_at is_plain rest at 0 f.0 (unplain_byte (get_or rest at 0) f.1 other)
 
 -- what is left is the last word
-pub cut_last : {A : Type 0} (v : A → List ℕ) (words : List (List ℕ)) (front now : List A) (last : A) → AreCut words (map v front) (v last) → position is_space (v last) ≡ None → now ≡ front ++ last ∷ [] → map v now ≡ words
-cut_last {A} v words front now last are none pushed =
-    map_push v front now last pushed ∙ sym (are ∙ ap (λ (ws : List (List ℕ)). map v front ++ ws) (one_word (v last) (ltb-false _ _ (none_at _ _ none))))
+pub cut_last : {A : Type 0} (v : A → List ℕ) (line : List ℕ) (front now : List A) (last : A) → AreCut line (map v front) (v last) → position ends_word (v last) ≡ None → now ≡ front ++ last ∷ []
+    → (map v now ≡ words_of line) × (list_all is_plain line ≡ true)
+cut_last {A} v line front now last are none pushed =
+    let one = whole_word (v last) (no_end (v last) none) in
+    (map_push v front now last pushed ∙ sym (are.words ∙ ap (λ (ws : List (List ℕ)). map v front ++ ws) one.0), are.plain ∙ one.1)
 
 some_word : (text : List ℕ) → 1 ≤ length (words_of text)
 some_word text = omega (arith, length-slice_split is_space text)
 
 -- there are more words than were cut off
-pub cut_some : {A : Type 0} (v : A → List ℕ) (words : List (List ℕ)) (front : List A) (rest : List ℕ) → AreCut words (map v front) rest → length front < length words
-cut_some {A} v words front rest are = omega (arith, ap length are, length-append (map v front) (words_of rest), length-map front v, some_word rest)
+pub cut_some : {A : Type 0} (v : A → List ℕ) (line : List ℕ) (front : List A) (rest : List ℕ) → AreCut line (map v front) rest → length front < length (words_of line)
+cut_some {A} v line front rest are = omega (arith, ap length are.words, length-append (map v front) (words_of rest), length-map front v, some_word rest)
 
 -- plain bytes are worded where no word is empty
-pub worded_as : {A : Type 0} (v : A → List ℕ) (line : List ℕ) (words slice : List A) (plain spaced : Bool) → plain ≡ list_all is_plain line → plain ≡ true
+pub worded_as : {A : Type 0} (v : A → List ℕ) (line : List ℕ) (words slice : List A) (spaced : Bool) → list_all is_plain line ≡ true
     → map v words ≡ words_of line → slice ≡ words → spaced ≡ list_all (λ x. nat_lt 0 (length (v x))) slice → is_worded line ≡ spaced
-worded_as {A} v line words slice plain spaced tells passed are same told =
+worded_as {A} v line words slice spaced plain are same told =
     let each : list_all (λ word. nat_lt 0 (length word)) (words_of line) ≡ spaced =
     ap (λ (ws : List (List ℕ)). list_all (λ word. nat_lt 0 (length word)) ws) (sym are) ∙ list_all-map (λ word. nat_lt 0 (length word)) v words
     ∙ ap (λ (xs : List A). list_all (λ x. nat_lt 0 (length (v x))) xs) (sym same) ∙ sym told in
-    ap (λ b. b && list_all (λ word. nat_lt 0 (length word)) (words_of line)) (sym tells ∙ passed) ∙ each
+    ap (λ b. b && list_all (λ word. nat_lt 0 (length word)) (words_of line)) plain ∙ each
+
+pub unworded : (line : List ℕ) → list_all is_plain line ≡ false → is_worded line ≡ false
+unworded line broken = ap (λ b. b && list_all (λ word. nat_lt 0 (length word)) (words_of line)) broken
 
 most_words : (command : Command) → length (command_words command) + length (kinds_behind command) ≤ 4
 most_words Clock = lit≤ tt

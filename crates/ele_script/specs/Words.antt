@@ -1,5 +1,5 @@
 -- The words of a line.
-use Rattle.std.specs.Prelude.{ℕ, ◌==◌, ◌&&◌, nat_le, nat_lt, Bool, List, length}
+use Rattle.std.specs.Prelude.{ℕ, ◌==◌, ◌&&◌, not, nat_le, nat_lt, Bool, List, length}
 use Rattle.std.specs.List.{slice_split, list_all}
 
 -- what stands between the spaces of a line
@@ -13,3 +13,7 @@ is_plain byte = nat_le 32 byte && nat_le byte 126
 -- plain bytes, one space between each two words, and none in front or behind
 abbrev pub is_worded : List ℕ → Bool
 is_worded line = list_all is_plain line && list_all (λ word. nat_lt 0 (length word)) (words_of line)
+
+-- a byte that stands in no word
+abbrev pub ends_word : ℕ → Bool
+ends_word byte = not (nat_lt 32 byte && nat_le byte 126)

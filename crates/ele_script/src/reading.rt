@@ -1,9 +1,9 @@
 //! Reading lines. A contract sees a line as its bytes, and an event as itself.
-ghost use Rattle.std.specs.Prelude.{◌≡◌, ◌==◌, ◌<◌, ◌∷◌, [], ◌⊎◌, ℕ, map, length, nat_lt, true, false, IfOk, IfErr, IfSome, IsSome, None, Ok, Err};
+ghost use Rattle.std.specs.Prelude.{◌≡◌, ◌<◌, ◌∷◌, [], ◌⊎◌, ℕ, map, length, nat_lt, true, false, IfOk, IfErr, IfSome, IsSome, None, Ok, Err};
 ghost use Rattle.std.specs.List.{list_all, list_any, position};
 ghost use Rattle.ele_script.specs.Command.{kinds_behind};
 ghost use Rattle.ele_script.specs.Memory.{takes_memory, TakesMemory};
-ghost use Rattle.ele_script.specs.Words.{words_of, is_plain, is_worded};
+ghost use Rattle.ele_script.specs.Words.{words_of, is_plain, is_worded, ends_word};
 ghost use Rattle.ele_script.specs.Spells.{Spells, SpellsLine, SpellsWords, SpellsBehind};
 ghost use Rattle.ele_script.specs.EventOf.{event_of};
 ghost use Rattle.ele_script.specs.FirstFault.{IsFirstFault, IsEventFault, IsFaultOfWords, IsFaultBehind};
@@ -90,9 +90,6 @@ fn words_in(line: &[u8]) -> Option<ArrayVec<&[u8], MOST_WORDS>>
     ensures none { result ≡ None
         → (is_worded line.now ≡ false) ⊎ (MOST_WORDS < length (words_of line.now)) }
 {
-    if !is_all_plain(line) {
-        return None;
-    }
     let words = split_words(line)?;
     if is_spaced(words.as_slice()) {
         Some(words)
@@ -101,22 +98,21 @@ fn words_in(line: &[u8]) -> Option<ArrayVec<&[u8], MOST_WORDS>>
     }
 }
 
-/// Whether all bytes are from the space to the tilde.
-fn is_all_plain(line: &[u8]) -> bool
-    ensures { result ≡ list_all is_plain line.now }
-{
-    line.iter().all(|byte| *byte >= b' ' && *byte <= b'~')
-}
-
-/// The words of a line, if they are no more than a command may have.
+/// The words of a line, if it is plain bytes, and no more words than a command may have. Words may
+/// be empty.
 fn split_words(line: &[u8]) -> Option<ArrayVec<&[u8], MOST_WORDS>>
     ensures found { IfSome result
         (λ words. map (λ word. word.now) words.items ≡ words_of line.now) }
-    ensures none { result ≡ None → MOST_WORDS < length (words_of line.now) }
+    ensures plain { IsSome result → list_all is_plain line.now ≡ true }
+    ensures none { result ≡ None
+        → (list_all is_plain line.now ≡ false) ⊎ (MOST_WORDS < length (words_of line.now)) }
 {
     let mut words = ArrayVec::new();
     let mut rest = line;
-    'words: while let Some(at) = first_space(rest) {
+    'words: while let Some(at) = word_end(rest) {
+        if rest[at] != b' ' {
+            return None;
+        }
         if words.is_full() {
             return None;
         }
@@ -131,11 +127,12 @@ fn split_words(line: &[u8]) -> Option<ArrayVec<&[u8], MOST_WORDS>>
     Some(words)
 }
 
-/// Where the first space stands.
-fn first_space(text: &[u8]) -> Option<usize>
-    ensures { result ≡ position (λ byte. byte == 32) text.now }
+/// Where the first byte stands that is in no word.
+fn word_end(text: &[u8]) -> Option<usize>
+    ensures { result ≡ position ends_word text.now }
 {
-    text.iter().position(|byte| *byte == b' ')
+    text.iter()
+        .position(|byte| !(*byte > b' ' && *byte <= b'~'))
 }
 
 /// Whether no word is empty.

@@ -1,4 +1,4 @@
-use Rattle.std.proofs.Common.{[], ◌∷◌, map, arith}
+use Rattle.std.proofs.Common.{map, arith}
 use Rattle.ele_script.proofs.Known.{front_more, puts_err_at, puts_last, sent_none, sent_more, sent_front}
 use Rattle.ele_script.proofs.Lines.{line_is, behind_here, behind_end}
 use Rattle.ele_script.proofs.output.put_line.Goals as goal

@@ -1,6 +1,6 @@
 use Rattle.std.proofs.Common.{◌≡◌, ◌∙◌, length, refl}
 use Rattle.std.specs.Fmt.{decimal}
-use Rattle.ele_script.proofs.Known.{sent_none, sent_more, sent_front, puts, puts_sent, puts_err_at}
+use Rattle.ele_script.proofs.Known.{sent_none, sent_more, sent_front, puts_sent, puts_err_at}
 use Rattle.ele_script.proofs.Lines.{bytes_line}
 use Rattle.ele_script.proofs.putting.put_digits.Goals as goal
 

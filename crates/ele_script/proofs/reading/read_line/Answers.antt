@@ -1,7 +1,6 @@
-use Rattle.std.proofs.Common.{◌≡◌, ◌∙◌, ◌⊎◌, List, ℕ, ap, inr, map, refl, rules, subst, Err}
+use Rattle.std.proofs.Common.{◌∙◌, ap, inr, map, refl, rules, subst, Err}
 use Rattle.ele_script.specs.declared.fault.LineFault.TheVariants.{Syntax}
 use Rattle.ele_script.specs.Memory.{TakesMemory}
-use Rattle.ele_script.specs.Words.{words_of}
 use Rattle.ele_script.proofs.Laws.{only_line, only_fault, fault_of_line}
 use Rattle.ele_script.proofs.Words.{unfit_line}
 use Rattle.ele_script.proofs.reading.read_line.Goals as goal
