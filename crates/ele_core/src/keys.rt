@@ -1,5 +1,5 @@
 //! How the queue of keys follows the files.
-ghost use Rattle.std.specs.Prelude.{◌≡◌, ◌≤◌, ◌||◌, ◌&&◌, not, IfOk, OnOk, OnErr};
+ghost use Rattle.std.specs.Prelude.{◌≡◌, ◌||◌, ◌&&◌, not, IfOk, OnOk, OnErr};
 ghost use Rattle.std.specs.Option.{option_map};
 ghost use Rattle.ele_due.specs.declared.key.Key.{Key};
 ghost use Rattle.ele_due.specs.HasKey.{has_key};
