@@ -1,20 +1,20 @@
 -- What holds of all that a plan may come to holds of what it comes to.
 use Rattle.std.proofs.Common.{◌≡◌, Bool, true, false, Option, Some, None, Result, Ok, Err, refl}
-use Rattle.ele_world.specs.Change.{all_applied}
-use Rattle.ele_world.specs.Plan.{Plan, Tell, Make, Unless, When, Need, IfFound, refused, carried}
+use Rattle.ele_world.specs.Change.{after_changes}
+use Rattle.ele_world.specs.Plan.{Plan, Tell, Make, Unless, When, Need, IfFound, refused, outcome}
 use Rattle.ele_world.specs.World.{World}
 use Rattle.ele_world.specs.declared.refusal.Refusal.{Refusal}
 use Rattle.ele_world.specs.declared.reply.Reply.{Reply}
 
 abbrev pub InAll : World → (Reply × World → Type 0) → Plan → Type 0
 InAll w Q (Tell reply) = Q (reply, w)
-InAll w Q (Make reply changes) = Q (reply, all_applied w changes)
+InAll w Q (Make reply changes) = Q (reply, after_changes w changes)
 InAll w Q (Unless test refusal next) = Q (refused w refusal) × (test ≡ false → InAll w Q next)
 InAll w Q (When test passing otherwise) = (test ≡ true → InAll w Q passing) × (test ≡ false → InAll w Q otherwise)
 InAll w Q (Need found next) = ((refusal : Refusal) → Q (refused w refusal)) × ((x : _) → found ≡ Ok x → InAll w Q (next x))
 InAll w Q (IfFound found otherwise next) = InAll w Q otherwise × ((x : _) → found ≡ Some x → InAll w Q (next x))
 
-pub in_all : (w : World) (Q : Reply × World → Type 0) (plan : Plan) → InAll w Q plan → Q (carried w plan)
+pub in_all : (w : World) (Q : Reply × World → Type 0) (plan : Plan) → InAll w Q plan → Q (outcome w plan)
 in_all w Q (Tell reply) all = all
 in_all w Q (Make reply changes) all = all
 in_all w Q (Unless true refusal next) all = all.0
