@@ -20,8 +20,8 @@ use Rattle.ele_world.specs.declared.reply.Reply.{Reply}
 use Rattle.ele_world.specs.declared.reply.Reply.TheVariants.{Closed}
 use Rattle.ele_world.specs.declared.rows.DraftRow.{DraftRow}
 use Rattle.ele_world.specs.declared.rows.VersionRow.{VersionRow}
-use Rattle.ele_world.specs.Change.{EndDraft, ShutHandle, Append, all_applied}
-use Rattle.ele_world.specs.Plan.{on_found}
+use Rattle.ele_world.specs.Change.{EndDraft, ShutHandle, Append, after_changes}
+use Rattle.ele_world.specs.Plan.{found_outcome}
 use Rattle.ele_world.specs.Step.{has_other_writer, step}
 use Rattle.ele_world.specs.WellFormed.{IsFile, IsVersion, Counted, Files, Versions}
 use Rattle.ele_world.specs.Whole.{ChangesOnly}
@@ -55,12 +55,12 @@ unhandled w handle = record w { handles = remove_first (is_handle handle) w.hand
 abbrev draft_step : World → ℕ → ℕ → Option DraftRow → Reply × World
 draft_step w handle file found = option_map_or (λ draft.
     cond draft.changed
-    (Closed (Some (next_of w.files file)), all_applied w (ShutHandle handle ∷ EndDraft file ∷ Append file draft.opened draft.cells ∷ []))
-    (Closed None, all_applied w (ShutHandle handle ∷ EndDraft file ∷ []))) found (Closed None, unhandled w handle)
+    (Closed (Some (next_of w.files file)), after_changes w (ShutHandle handle ∷ EndDraft file ∷ Append file draft.opened draft.cells ∷ []))
+    (Closed None, after_changes w (ShutHandle handle ∷ EndDraft file ∷ []))) found (Closed None, unhandled w handle)
 
 -- and by the file that the handle writes
 abbrev close_of : World → ℕ → Result ℕ Refusal → Reply × World
-close_of w handle found = on_found w found (λ file.
+close_of w handle found = found_outcome w found (λ file.
     cond (has_other_writer w handle file) (Closed None, unhandled w handle) (draft_step w handle file (find (is_draft file) w.drafts)))
 
 -- a closing that makes no version, whether the file is live or not
@@ -79,7 +79,7 @@ left_step w handle file live of_file makes =
 
         changed : (c : Bool) → draft.changed ≡ c → makes_version (Some (ending (Some draft))) ≡ false → draft_step w handle file (Some draft) ≡ (Closed None, with_held w (draft_left (left_by (held_of w) handle) (Some draft) w.now live) w.made.versions)
         changed true e m = absurd (let n = rw e at m in cc)
-        changed false e m = rw e (ap (λ (id : ℕ). (Closed None, all_applied w (ShutHandle handle ∷ EndDraft id ∷ []))) (sym own))
+        changed false e m = rw e (ap (λ (id : ℕ). (Closed None, after_changes w (ShutHandle handle ∷ EndDraft id ∷ []))) (sym own))
 
 -- the draft that becomes a version
 pub record Becomes (h : Held) (handle file : ℕ) (draft : DraftRow) : Type 0 where
@@ -132,7 +132,7 @@ finishes w handle file of_file makes =
         own = let passes = found_passes (is_draft file) w.drafts draft f in grind (arith, nat_tests)
 
         finished : ℕ → Reply × World
-        finished id = (Closed (Some (next_of w.files id)), all_applied w (ShutHandle handle ∷ EndDraft id ∷ Append id draft.opened draft.cells ∷ []))
+        finished id = (Closed (Some (next_of w.files id)), after_changes w (ShutHandle handle ∷ EndDraft id ∷ Append id draft.opened draft.cells ∷ []))
 
         done : finished file ≡ (Closed (Some (next_of w.files draft.file)), with_held w (finished_by (left_by (held_of w) handle) draft w.now (is_live w file)) (w.made.versions + 1))
         done = subst (λ (id : ℕ). finished id ≡ (Closed (Some (next_of w.files draft.file)), with_held w (finished_by (left_by (held_of w) handle) draft w.now (is_live w id)) (w.made.versions + 1))) own refl

@@ -1,6 +1,6 @@
 //! The event that makes a file.
 ghost use Rattle.std.specs.Prelude.{◌≡◌, ◌<◌, ◌+◌, IfOk, OnErr};
-ghost use Rattle.ele_world.specs.Change.{MakeFile, applied};
+ghost use Rattle.ele_world.specs.Change.{MakeFile, after_change};
 ghost use Rattle.ele_world.specs.Step.{step, versions_made};
 ghost use Rattle.ele_world.specs.World.{default_of};
 ghost use Rattle.ele_world.specs.declared.event.Event.TheVariants as event;
@@ -30,7 +30,7 @@ fn add_file(rows: &mut Rows, directory: DirId, name: Name) -> Result<FileId, NoM
     requires versions { versions_made (world_of rows.old) < rows.old.limits.versions }
     ensures id { IfOk result (λ id. id ≡ rows.old.made.files + 1) }
     ensures ok { IfOk result (λ id. world_of rows.new
-        ≡ applied (world_of rows.old)
+        ≡ after_change (world_of rows.old)
         (MakeFile directory name id (default_of rows.old.directories.items directory))) }
     ensures err { OnErr result (world_of rows.new ≡ world_of rows.old) }
     ensures tracked { IsTracked rows.new }

@@ -1,6 +1,6 @@
 //! The event that opens a handle for writing.
 ghost use Rattle.std.specs.Prelude.{◌≡◌, ◌<◌, ◌≤◌, ◌+◌, true, false, [], ◌∷◌, IfOk, OnErr};
-ghost use Rattle.ele_world.specs.Change.{StartDraft, OpenHandle, all_applied};
+ghost use Rattle.ele_world.specs.Change.{StartDraft, OpenHandle, after_changes};
 ghost use Rattle.ele_world.specs.Step.{step};
 ghost use Rattle.ele_world.specs.World.{next_of, has_draft};
 ghost use Rattle.ele_world.specs.declared.event.Event.TheVariants as event;
@@ -20,9 +20,9 @@ fn add_handle(rows: &mut Rows, file: FileId) -> Result<Handle, NoMemory>
     ensures number { IfOk result (λ number. number ≡ rows.old.files.opened + 1) }
     ensures first { has_draft (world_of rows.old) file ≡ false → IfOk result (λ number.
         world_of rows.new
-        ≡ all_applied (world_of rows.old) (StartDraft file ∷ OpenHandle number file ∷ [])) }
+        ≡ after_changes (world_of rows.old) (StartDraft file ∷ OpenHandle number file ∷ [])) }
     ensures more { has_draft (world_of rows.old) file ≡ true → IfOk result (λ number.
-        world_of rows.new ≡ all_applied (world_of rows.old) (OpenHandle number file ∷ [])) }
+        world_of rows.new ≡ after_changes (world_of rows.old) (OpenHandle number file ∷ [])) }
     ensures err { OnErr result (world_of rows.new ≡ world_of rows.old) }
     ensures tracked { IsTracked rows.new }
 {

@@ -8,7 +8,7 @@ use Rattle.ele_due.specs.declared.key.Key.{Key}
 use Rattle.ele_moment.proofs.Edits.{all-found, found_passes, length-remove_first, list_any-insert_before}
 use Rattle.ele_policy.specs.declared.policy.Policy.TheVariants.{Safe}
 use Rattle.ele_moment.specs.Lists.{insert_before}
-use Rattle.ele_world.specs.Change.{new_draft, EndDraft, ShutHandle, all_applied}
+use Rattle.ele_world.specs.Change.{new_draft, EndDraft, ShutHandle, after_changes}
 use Rattle.ele_world.specs.Scan.{first_due}
 use Rattle.ele_world.specs.Step.{plan}
 use Rattle.ele_policy.specs.Policy.{IsPolicy}
@@ -41,7 +41,7 @@ takes w key k first =
     record { clean = refl; row = due.row; found = due.found; due = due.due; ended = due_has_ended w due.row w.now due.due; same = refl }
 
 -- the draft becomes a version, once the last handle and the draft have gone
-finishes : (w : World) (handle file : ℕ) (draft : DraftRow) → IsWellFormed w → find (is_draft file) w.drafts ≡ Some draft → MayAppend (all_applied w (ShutHandle handle ∷ EndDraft file ∷ [])) file draft.opened draft.cells
+finishes : (w : World) (handle file : ℕ) (draft : DraftRow) → IsWellFormed w → find (is_draft file) w.drafts ≡ Some draft → MayAppend (after_changes w (ShutHandle handle ∷ EndDraft file ∷ [])) file draft.opened draft.cells
 finishes w handle file draft k found =
     let is : IsDraft w.files w.now draft = all-found (is_draft file) (IsDraft w.files w.now) w.drafts draft found (k.holds Drafts).each in
     let own : draft.file ≡ file = (let passes = found_passes (is_draft file) w.drafts draft found in grind (arith, nat_tests)) in

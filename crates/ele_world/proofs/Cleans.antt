@@ -2,10 +2,10 @@
 use Rattle.std.proofs.Common.{List, [], ◌∷◌, Option}
 use Rattle.ele_due.specs.declared.key.Key.{Key}
 use Rattle.ele_world.specs.Change.{Take}
-use Rattle.ele_world.specs.Plan.{Tell, Make, IfFound, carried}
+use Rattle.ele_world.specs.Plan.{Tell, Make, IfFound, outcome}
 use Rattle.ele_world.specs.World.{World}
 use Rattle.ele_world.specs.declared.reply.Reply.{Reply}
 use Rattle.ele_world.specs.declared.reply.Reply.TheVariants.{Nothing, Removed}
 
 abbrev pub clean_of : World → Option Key → Reply × World
-clean_of w found = carried w (IfFound found (Tell Nothing) (λ key. Make (Removed key) (Take key.file key.number ∷ [])))
+clean_of w found = outcome w (IfFound found (Tell Nothing) (λ key. Make (Removed key) (Take key.file key.number ∷ [])))

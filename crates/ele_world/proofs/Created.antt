@@ -6,7 +6,7 @@ use Rattle.std.proofs.lemmas.List.Folds.{list_any-append}
 use Rattle.ele_moment.specs.Lists.{update_first, insert_before}
 use Rattle.ele_moment.proofs.Edits.{all-weaker}
 use Rattle.ele_policy.specs.declared.policy.Policy.{Policy}
-use Rattle.ele_world.specs.Change.{numbered_on, ended_at, next_version, with_end, with_file, with_name, with_version, applied, MakeFile}
+use Rattle.ele_world.specs.Change.{numbered_on, ended_at, next_version, with_end, with_file, with_name, with_version, after_change, MakeFile}
 use Rattle.ele_world.specs.WellFormed.{IsFile, IsVersion, Files, Versions, IsWellFormed}
 use Rattle.ele_world.specs.World.{World, next_of, is_file, is_live, is_live_name_of, is_version, is_version_after}
 use Rattle.ele_world.specs.declared.rows.FileRow.{FileRow}
@@ -87,7 +87,7 @@ module _ (w : World) (directory : ℕ) (name : List ℕ) (policy : Policy) (k : 
       ∙ insert_before-last (is_version_after id (next_of begun.files id)) w.versions (next_version begun id w.now []) (all-weaker (λ row. row.file < id) (λ row. is_version_after id (next_of begun.files id) row ≡ false) w.versions (λ row h. grind (arith, nat_tests)) before)
       ∙ ap (λ (v : VersionRow). w.versions ++ v ∷ []) version_is
 
-  pub made_is : applied w (MakeFile directory name (w.made.files + 1) policy) ≡ created w directory name (w.made.files + 1) policy
+  pub made_is : after_change w (MakeFile directory name (w.made.files + 1) policy) ≡ created w directory name (w.made.files + 1) policy
   made_is =
-      ap (λ (files : List FileRow). record (applied w (MakeFile directory name id policy)) { files = files }) files_are
+      ap (λ (files : List FileRow). record (after_change w (MakeFile directory name id policy)) { files = files }) files_are
       ∙ ap (λ (versions : List VersionRow). record (created w directory name id policy) { versions = versions }) versions_are

@@ -1,8 +1,8 @@
 -- Each change that may be made keeps a world well formed, and so do all changes of a plan.
 use Rattle.std.proofs.Common.{◌≡◌, ℕ, Bool, true, false, List, [], ◌∷◌, Option, Some, None, Result, Ok, Err, refl, ap, sym, ◌∙◌, is_none}
 use Rattle.std.specs.Prelude.{find}
-use Rattle.ele_world.specs.Change.{Change, Time, Govern, MakeFile, Append, Take, StartDraft, WriteDraft, TruncateDraft, EndDraft, OpenHandle, ShutHandle, applied, all_applied}
-use Rattle.ele_world.specs.Plan.{Plan, Tell, Make, Unless, When, Need, IfFound, carried}
+use Rattle.ele_world.specs.Change.{Change, Time, Govern, MakeFile, Append, Take, StartDraft, WriteDraft, TruncateDraft, EndDraft, OpenHandle, ShutHandle, after_change, after_changes}
+use Rattle.ele_world.specs.Plan.{Plan, Tell, Make, Unless, When, Need, IfFound, outcome}
 use Rattle.ele_world.specs.Run.{IsEvent}
 use Rattle.ele_world.specs.WellFormed.{IsWellFormed}
 use Rattle.ele_world.specs.World.{World, is_version}
@@ -19,7 +19,7 @@ taken_ended event first w file number may row found =
     let same : may.row ≡ row = (let was = may.found in let is = rw may.same at found in cc) in
     rw (← same) may.ended
 
-pub change_keeps : (event : Event) (first w : World) (change : Change) → IsEvent event → May event first w change → IsWellFormed w → IsWellFormed (applied w change)
+pub change_keeps : (event : Event) (first w : World) (change : Change) → IsEvent event → May event first w change → IsWellFormed w → IsWellFormed (after_change w change)
 change_keeps event first w (Time to) is may k = time_keeps w to (may.1 is) may.0 k
 change_keeps event first w (Govern directory policy) is may k = govern_keeps w directory policy (may is) k
 change_keeps event first w (MakeFile directory name id policy) is may k = make_keeps w directory name id policy may k
@@ -32,20 +32,20 @@ change_keeps event first w (EndDraft file) is may k = end_keeps w file may k
 change_keeps event first w (OpenHandle number file) is may k = open_keeps w number file may k
 change_keeps event first w (ShutHandle number) is may k = shut_keeps w number k
 
-pub all_keep : (event : Event) (first w : World) (changes : List Change) → IsEvent event → MayAll event first w changes → IsWellFormed w → IsWellFormed (all_applied w changes)
+pub all_keep : (event : Event) (first w : World) (changes : List Change) → IsEvent event → MayAll event first w changes → IsWellFormed w → IsWellFormed (after_changes w changes)
 all_keep event first w [] is may k = k
-all_keep event first w (change ∷ changes) is may k = all_keep event first (applied w change) changes is may.1 (change_keeps event first w change is may.0 k)
+all_keep event first w (change ∷ changes) is may k = all_keep event first (after_change w change) changes is may.1 (change_keeps event first w change is may.0 k)
 
 -- the world after is reached by changes that may be made
 pub record IsReached (event : Event) (w after : World) : Type 0 where
   pub changes : List Change
   pub may : MayAll event w w changes
-  pub is : after ≡ all_applied w changes
+  pub is : after ≡ after_changes w changes
 
 left : (event : Event) (w : World) → IsReached event w w
 left event w = record { changes = []; may = tt; is = refl }
 
-pub reached : (event : Event) (w : World) (plan : Plan) → MayPlan event w plan → IsReached event w ((carried w plan).1)
+pub reached : (event : Event) (w : World) (plan : Plan) → MayPlan event w plan → IsReached event w ((outcome w plan).1)
 reached event w (Tell reply) may = left event w
 reached event w (Make reply changes) may = record { changes = changes; may = may; is = refl }
 reached event w (Unless true refusal next) may = left event w

@@ -8,7 +8,7 @@ use Rattle.ele_content.specs.Content.{content_of, longest_content, truncated}
 use Rattle.ele_content.proofs.Contents.{written_short, written_fills, truncated_short, truncated_fills}
 use Rattle.ele_moment.specs.Lists.{update_first, remove_first, insert_before}
 use Rattle.ele_moment.proofs.Edits.{all-push, all-weaker, all-both, later-push, all-remove_first, all-insert_before, later-update_first, later-remove_first, later-insert_before, length-update_first, length-insert_before, length-remove_first-le, all-found, all-none, found_passes, list_any-update_first, list_any-insert_before, list_any-remove_first}
-use Rattle.ele_world.specs.Change.{current_cells, new_draft, changed_by, fitted_by, applied, StartDraft, WriteDraft, TruncateDraft, EndDraft, OpenHandle, ShutHandle}
+use Rattle.ele_world.specs.Change.{current_cells, new_draft, changed_by, fitted_by, after_change, StartDraft, WriteDraft, TruncateDraft, EndDraft, OpenHandle, ShutHandle}
 use Rattle.ele_world.proofs.May.{MayStart, MayOpen}
 use Rattle.ele_world.specs.WellFormed.{IsContent, AreWrittenBy, IsVersion, IsDraft, IsReadable, IsHandle, Part, Counted, Versions, Drafts, Handles, Holds, IsWellFormed}
 use Rattle.ele_world.specs.World.{World, next_of, is_version, is_draft, is_draft_after, is_handle, writes, is_writer}
@@ -34,7 +34,7 @@ or_true : (b : Bool) → (b || true) ≡ true
 or_true true = refl
 or_true false = refl
 
-pub start_keeps : (w : World) (file : ℕ) → MayStart w file → IsWellFormed w → IsWellFormed (applied w (StartDraft file))
+pub start_keeps : (w : World) (file : ℕ) → MayStart w file → IsWellFormed w → IsWellFormed (after_change w (StartDraft file))
 start_keeps w file may k = record { holds = by } where
   current : IsContent (current_cells w file) × AreWrittenBy (next_of w.files file) (current_cells w file)
   current = current_is w file k
@@ -42,7 +42,7 @@ start_keeps w file may k = record { holds = by } where
   readable : (reads : Reads) → IsReadable w.drafts reads → IsReadable (insert_before (is_draft_after file) (new_draft w file) w.drafts) reads
   readable (Draft id) there = list_any-insert_before (is_draft_after file) (is_draft id) (new_draft w file) w.drafts ∙ ap (λ b. is_draft id (new_draft w file) || b) there ∙ or_true (is_draft id (new_draft w file))
 
-  by : (part : Part) → Holds (applied w (StartDraft file)) part
+  by : (part : Part) → Holds (after_change w (StartDraft file)) part
   by Counted = let c = k.holds Counted in record {
     files_made = c.files_made;
     names_made = c.names_made;
@@ -104,7 +104,7 @@ edit_keeps w file f same edits k = record { holds = by } where
   }
   by part = k.holds part
 
-pub write_keeps : (w : World) (file offset : ℕ) (bytes : List ℕ) → offset + length bytes ≤ longest_content → IsWellFormed w → IsWellFormed (applied w (WriteDraft file offset bytes))
+pub write_keeps : (w : World) (file offset : ℕ) (bytes : List ℕ) → offset + length bytes ≤ longest_content → IsWellFormed w → IsWellFormed (after_change w (WriteDraft file offset bytes))
 write_keeps w file offset bytes fits k = edit_keeps w file (changed_by number offset bytes) (λ row. refl) edited k where
   number : ℕ
   number = next_of w.files file
@@ -123,7 +123,7 @@ same_file number size row = elim (eqb (length (content_of row.cells)) size) as (
   | false ↦ refl
 ]
 
-pub truncate_keeps : (w : World) (file size : ℕ) → size ≤ longest_content → IsWellFormed w → IsWellFormed (applied w (TruncateDraft file size))
+pub truncate_keeps : (w : World) (file size : ℕ) → size ≤ longest_content → IsWellFormed w → IsWellFormed (after_change w (TruncateDraft file size))
 truncate_keeps w file size fits k = edit_keeps w file (fitted_by number size) (same_file number size) edited k where
   number : ℕ
   number = next_of w.files file
@@ -150,12 +150,12 @@ truncate_keeps w file size fits k = edit_keeps w file (fitted_by number size) (s
 
 -- ---- a draft goes that nobody writes
 
-pub end_keeps : (w : World) (file : ℕ) → list_any (is_writer file) w.handles ≡ false → IsWellFormed w → IsWellFormed (applied w (EndDraft file))
+pub end_keeps : (w : World) (file : ℕ) → list_any (is_writer file) w.handles ≡ false → IsWellFormed w → IsWellFormed (after_change w (EndDraft file))
 end_keeps w file unwritten k = record { holds = by } where
   readable : (reads : Reads) → writes file reads ≡ false → IsReadable w.drafts reads → IsReadable (remove_first (is_draft file) w.drafts) reads
   readable (Draft id) other there = list_any-remove_first (is_draft file) (is_draft id) w.drafts (λ x found. let passes = found_passes (is_draft file) w.drafts x found in grind (arith, nat_tests)) ∙ there
 
-  by : (part : Part) → Holds (applied w (EndDraft file)) part
+  by : (part : Part) → Holds (after_change w (EndDraft file)) part
   by Counted = let c = k.holds Counted in record {
     files_made = c.files_made;
     names_made = c.names_made;
@@ -179,12 +179,12 @@ end_keeps w file unwritten k = record { holds = by } where
 
 -- ---- handles
 
-pub open_keeps : (w : World) (number file : ℕ) → MayOpen w number file → IsWellFormed w → IsWellFormed (applied w (OpenHandle number file))
+pub open_keeps : (w : World) (number file : ℕ) → MayOpen w number file → IsWellFormed w → IsWellFormed (after_change w (OpenHandle number file))
 open_keeps w number file may k = record { holds = by } where
   handle : HandleRow
   handle = record { number = number; reads = Draft file }
 
-  by : (part : Part) → Holds (applied w (OpenHandle number file)) part
+  by : (part : Part) → Holds (after_change w (OpenHandle number file)) part
   by Counted = let c = k.holds Counted in record {
     files_made = c.files_made;
     names_made = c.names_made;
@@ -203,9 +203,9 @@ open_keeps w number file may k = record { holds = by } where
   }
   by part = k.holds part
 
-pub shut_keeps : (w : World) (number : ℕ) → IsWellFormed w → IsWellFormed (applied w (ShutHandle number))
+pub shut_keeps : (w : World) (number : ℕ) → IsWellFormed w → IsWellFormed (after_change w (ShutHandle number))
 shut_keeps w number k = record { holds = by } where
-  by : (part : Part) → Holds (applied w (ShutHandle number)) part
+  by : (part : Part) → Holds (after_change w (ShutHandle number)) part
   by Handles = record {
     each = all-remove_first (is_handle number) (IsHandle w.made.handles w.drafts) w.handles (k.holds Handles).each;
     placed = later-remove_first (is_handle number) (λ earlier later. earlier.number < later.number) w.handles (k.holds Handles).placed;

@@ -12,7 +12,7 @@ use Rattle.ele_moment.specs.Last.{last_moment}
 use Rattle.ele_moment.specs.Lists.{update_first}
 use Rattle.ele_moment.proofs.Edits.{all-push, all-weaker, all-both, all-update_first, later-push, later-update_first, all-not_found, list_any-update_first}
 use Rattle.ele_policy.specs.declared.policy.Policy.{Policy}
-use Rattle.ele_world.specs.Change.{governed_by, applied, Time, Govern, MakeFile}
+use Rattle.ele_world.specs.Change.{governed_by, after_change, Time, Govern, MakeFile}
 use Rattle.ele_world.specs.Walk.{live_target, is_live_name}
 use Rattle.ele_policy.specs.Policy.{IsPolicy}
 use Rattle.ele_world.specs.WellFormed.{IsFile, IsName, AreApart, IsVersion, ArePlaced, IsDraft, is_current, HaveCurrent, Part, Now, Counted, Directories, Files, Names, Versions, Drafts, Current, Holds, IsWellFormed}
@@ -45,9 +45,9 @@ version_later files now to row le h = record { first = h.first; numbered = h.num
 draft_later : (files : List FileRow) (now to : ℕ) (row : DraftRow) → now ≤ to → IsDraft files now row → IsDraft files to row
 draft_later files now to row le h = record { there = h.there; opened = omega (arith, h.opened); content = h.content; written = h.written }
 
-pub time_keeps : (w : World) (to : ℕ) → to ≤ last_moment → w.now ≤ to → IsWellFormed w → IsWellFormed (applied w (Time to))
+pub time_keeps : (w : World) (to : ℕ) → to ≤ last_moment → w.now ≤ to → IsWellFormed w → IsWellFormed (after_change w (Time to))
 time_keeps w to fits le k = record { holds = by } where
-  by : (part : Part) → Holds (applied w (Time to)) part
+  by : (part : Part) → Holds (after_change w (Time to)) part
   by Now = fits
   by Names = record { each = all-weaker (IsName w.files w.now) (IsName w.files to) w.names (λ row h. name_later w.files w.now to row le h) (k.holds Names).each; lives = (k.holds Names).lives }
   by Versions = record { each = all-weaker (IsVersion w.files w.now) (IsVersion w.files to) w.versions (λ row h. version_later w.files w.now to row le h) (k.holds Versions).each; placed = (k.holds Versions).placed }
@@ -55,9 +55,9 @@ time_keeps w to fits le k = record { holds = by } where
   by part = k.holds part
 
 -- a directory has another policy
-pub govern_keeps : (w : World) (directory : ℕ) (policy : Policy) → IsPolicy policy → IsWellFormed w → IsWellFormed (applied w (Govern directory policy))
+pub govern_keeps : (w : World) (directory : ℕ) (policy : Policy) → IsPolicy policy → IsWellFormed w → IsWellFormed (after_change w (Govern directory policy))
 govern_keeps w directory policy is k = record { holds = by } where
-  by : (part : Part) → Holds (applied w (Govern directory policy)) part
+  by : (part : Part) → Holds (after_change w (Govern directory policy)) part
   by Directories = record {
     rooted = list_any-update_first (is_directory directory) (is_directory root) (governed_by policy) w.directories (λ row e. refl) ∙ (k.holds Directories).rooted;
     policies = all-update_first (is_directory directory) (λ row. IsPolicy row.default) (λ row. IsPolicy row.default) (governed_by policy) w.directories (λ row h. is) (λ row h. h) (k.holds Directories).policies;
@@ -168,7 +168,7 @@ module _ (w : World) (directory : ℕ) (name : List ℕ) (policy : Policy) where
     by Current = created_current w new named (first_version w id) (new_next ∙ omega arith) (k.holds Files).each (k.holds Current) refl refl refl
     by part = k.holds part
 
-pub make_keeps : (w : World) (directory : ℕ) (name : List ℕ) (id : ℕ) (policy : Policy) → MayMake w directory name id policy → IsWellFormed w → IsWellFormed (applied w (MakeFile directory name id policy))
+pub make_keeps : (w : World) (directory : ℕ) (name : List ℕ) (id : ℕ) (policy : Policy) → MayMake w directory name id policy → IsWellFormed w → IsWellFormed (after_change w (MakeFile directory name id policy))
 make_keeps w directory name id policy may k =
-    subst (λ n. MayMake w directory name n policy → IsWellFormed (applied w (MakeFile directory name n policy))) (sym may.next)
+    subst (λ n. MayMake w directory name n policy → IsWellFormed (after_change w (MakeFile directory name n policy))) (sym may.next)
     (λ m. rw (made_is w directory name policy k) (created_keeps w directory name policy m k)) may

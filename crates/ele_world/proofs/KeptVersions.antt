@@ -7,7 +7,7 @@ use Rattle.std.proofs.lemmas.Bool.Decides.{nat_tests}
 use Rattle.ele_content.specs.declared.cell.Cell.{Cell}
 use Rattle.ele_moment.specs.Lists.{update_first, remove_first}
 use Rattle.ele_moment.proofs.Edits.{all-weaker, all-both, all-update_first, all-remove_first, all-insert_before, later-update_first, later-remove_first, later-insert_before, length-update_first, length-insert_before, length-remove_first-le, all-found, list_any-update_first, list_any-insert_before, list_any-remove_first}
-use Rattle.ele_world.specs.Change.{numbered_on, ended_at, next_version, with_end, with_version, applied, Append, Take}
+use Rattle.ele_world.specs.Change.{numbered_on, ended_at, next_version, with_end, with_version, after_change, Append, Take}
 use Rattle.ele_world.specs.WellFormed.{IsFile, IsName, IsVersion, ArePlaced, IsDraft, is_current, HaveCurrent, Part, Counted, Files, Names, Versions, Drafts, Current, Holds, IsWellFormed}
 use Rattle.ele_world.specs.World.{World, next_of, is_file, is_live, is_version, is_version_after}
 use Rattle.ele_world.specs.declared.rows.FileRow.{FileRow}
@@ -168,12 +168,12 @@ module _ (w : World) (file opened : ℕ) (cells : List Cell) (may : MayAppend w 
 
 -- ---- a version that has ended goes
 
-pub take_keeps : (w : World) (file number : ℕ) → ((row : VersionRow) → find (is_version file number) w.versions ≡ Some row → is_none row.ended ≡ false) → IsWellFormed w → IsWellFormed (applied w (Take file number))
+pub take_keeps : (w : World) (file number : ℕ) → ((row : VersionRow) → find (is_version file number) w.versions ≡ Some row → is_none row.ended ≡ false) → IsWellFormed w → IsWellFormed (after_change w (Take file number))
 take_keeps w file number ended k = record { holds = by } where
   not_current : (other : ℕ) (row : VersionRow) → is_none row.ended ≡ false → is_current other (next_of w.files other) row ≡ false
   not_current other row e = rw e (grind (arith, nat_tests))
 
-  by : (part : Part) → Holds (applied w (Take file number)) part
+  by : (part : Part) → Holds (after_change w (Take file number)) part
   by Counted = let c = k.holds Counted in record {
     files_made = c.files_made;
     names_made = c.names_made;

@@ -5,7 +5,7 @@ use Rattle.ele_content.specs.declared.cell.Cell.{Cell}
 use Rattle.ele_content.specs.Content.{longest_content}
 use Rattle.ele_moment.specs.Last.{last_moment}
 use Rattle.ele_policy.specs.declared.policy.Policy.{Policy}
-use Rattle.ele_world.specs.Change.{Change, Time, Govern, MakeFile, Append, Take, StartDraft, WriteDraft, TruncateDraft, EndDraft, OpenHandle, ShutHandle, applied}
+use Rattle.ele_world.specs.Change.{Change, Time, Govern, MakeFile, Append, Take, StartDraft, WriteDraft, TruncateDraft, EndDraft, OpenHandle, ShutHandle, after_change}
 use Rattle.ele_world.specs.Due.{is_due_at}
 use Rattle.ele_world.specs.Plan.{Plan, Tell, Make, Unless, When, Need, IfFound}
 use Rattle.ele_world.specs.Run.{IsEvent}
@@ -71,7 +71,7 @@ May event first w (ShutHandle number) = Unit {0}
 -- each in its turn
 abbrev pub MayAll : Event → World → World → List Change → Type 0
 MayAll event first w [] = Unit {0}
-MayAll event first w (change ∷ changes) = May event first w change × MayAll event first (applied w change) changes
+MayAll event first w (change ∷ changes) = May event first w change × MayAll event first (after_change w change) changes
 
 -- where the checks pass, the changes may be made
 abbrev pub MayPlan : Event → World → Plan → Type 0

@@ -6,7 +6,7 @@ use Rattle.std.proofs.lemmas.Bool.Decides.{nat_tests}
 use Rattle.ele_content.specs.declared.cell.Cell.{Cell}
 use Rattle.ele_moment.specs.Lists.{update_first, remove_first}
 use Rattle.ele_moment.proofs.Edits.{all-weaker, not_found, find-insert_before, find-remove_first}
-use Rattle.ele_world.specs.Change.{Change, MakeFile, Append, Take, applied, ended_at, next_version, with_end, with_file, with_name, with_version}
+use Rattle.ele_world.specs.Change.{Change, MakeFile, Append, Take, after_change, ended_at, next_version, with_end, with_file, with_name, with_version}
 use Rattle.ele_world.specs.WellFormed.{AllLater, ArePlaced}
 use Rattle.ele_world.specs.World.{World, next_of, is_version, is_version_after}
 use Rattle.ele_world.specs.declared.event.Event.{Event}
@@ -21,7 +21,7 @@ pub record IsPast (w : World) (file number : ℕ) : Type 0 where
   pub given : file ≤ w.made.files
   pub past : number < next_of w.files file
 
-pub change_past : (event : Event) (first w : World) (change : Change) (file number : ℕ) → May event first w change → IsPast w file number → IsPast (applied w change) file number
+pub change_past : (event : Event) (first w : World) (change : Change) (file number : ℕ) → May event first w change → IsPast w file number → IsPast (after_change w change) file number
 change_past event first w (MakeFile directory name id policy) file number may is =
     let new : FileRow = record { id = id; policy = policy; next = 1 } in
     let same = next_of-push w.files new file (omega (arith, is.past)) in
@@ -74,7 +74,7 @@ module _ (event : Event) (first : World) (file number : ℕ) where
   appends : (w : World) (of opened : ℕ) (cells : List Cell) → is_version file number (next_version w of opened cells) ≡ false → MovesTo w (with_version w of opened cells).versions
   appends w of opened cells other = subst (λ o. Moves event first file number (row_of w file number) o) (sym (find-insert_before (is_version_after of (next_of w.files of)) (is_version file number) (next_version w of opened cells) (with_end w of) other)) (ends w of)
 
-  pub change_moves : (w : World) (change : Change) → AllLater ArePlaced first.versions → May event first w change → IsPast w file number → MovesTo w (applied w change).versions
+  pub change_moves : (w : World) (change : Change) → AllLater ArePlaced first.versions → May event first w change → IsPast w file number → MovesTo w (after_change w change).versions
   change_moves w (MakeFile directory name id policy) placed may is =
       appends (with_name (with_file w id policy) directory name id) id w.now [] (let given = is.given in let next = may.next in grind (arith, nat_tests))
   change_moves w (Append of opened cells) placed may is = appends w of opened cells (by (eqb of file) refl) where

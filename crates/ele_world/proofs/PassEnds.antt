@@ -6,9 +6,9 @@ use Rattle.ele_due.specs.declared.key.Key.{Key}
 use Rattle.ele_moment.proofs.Edits.{length-remove_first}
 use Rattle.ele_world.specs.declared.event.Event.TheVariants.{CleanOne}
 use Rattle.ele_world.specs.declared.rows.VersionRow.{VersionRow}
-use Rattle.ele_world.specs.Due.{is_due_at, kept}
+use Rattle.ele_world.specs.Due.{is_due_at, kept_rows}
 use Rattle.ele_world.specs.Pass.{IsCleaned, HasRemoved, IsFinished}
-use Rattle.ele_world.specs.Run.{cleaned, IsPass}
+use Rattle.ele_world.specs.Run.{after_cleans, IsPass}
 use Rattle.ele_world.specs.Scan.{first_due}
 use Rattle.ele_world.specs.Step.{clean_step}
 use Rattle.ele_world.proofs.Cleans.{clean_of}
@@ -24,21 +24,21 @@ use Rattle.ele_world.proofs.Views.{placed_of}
 pub cleaned_none : (w : World) → IsCleaned w 0 w
 cleaned_none w = record { each = λ k h. absurd (omega arith); after_is = refl }
 
-cleaned-end : (n : ℕ) (w : World) → cleaned (suc n) w ≡ (clean_step (cleaned n w)).1
-cleaned-end zero w = refl
-cleaned-end (suc n) w = cleaned-end n ((clean_step w).1)
+after_cleans-end : (n : ℕ) (w : World) → after_cleans (suc n) w ≡ (clean_step (after_cleans n w)).1
+after_cleans-end zero w = refl
+after_cleans-end (suc n) w = after_cleans-end n ((clean_step w).1)
 
 -- one more
 pub cleaned_more : (w : World) (n : ℕ) (v : World) → IsCleaned w n v → IsSome (first_due v) → IsCleaned w (n + 1) ((clean_step v).1)
 cleaned_more w n v so_far some = record {
   each = λ k h. by k (cases_lt k n) h;
-  after_is = ap (λ (u : World). (clean_step u).1) so_far.after_is ∙ (sym (cleaned-end n w) ∙ ap (λ m. cleaned m w) (sym (add-one n)));
+  after_is = ap (λ (u : World). (clean_step u).1) so_far.after_is ∙ (sym (after_cleans-end n w) ∙ ap (λ m. after_cleans m w) (sym (add-one n)));
 } where
-  by : (k : ℕ) → ◌⊎◌ (k < n) (n ≤ k) → k < n + 1 → IsSome (first_due (cleaned k w))
+  by : (k : ℕ) → ◌⊎◌ (k < n) (n ≤ k) → k < n + 1 → IsSome (first_due (after_cleans k w))
   by k (inl lt) h = so_far.each k lt
   by k (inr ge) h =
       let same : n ≡ k = omega arith in
-      subst (λ m. IsSome (first_due (cleaned m w))) same (subst (λ u. IsSome (first_due u)) so_far.after_is some)
+      subst (λ m. IsSome (first_due (after_cleans m w))) same (subst (λ u. IsSome (first_due u)) so_far.after_is some)
 
 -- one version goes
 clean_removes : (w : World) → IsWellFormed w → IsSome (first_due w) → length ((clean_step w).1).versions + 1 ≡ length w.versions
@@ -50,7 +50,7 @@ clean_removes w keeps some = by (first_due w) refl some where
       length-remove_first (is_version key.file key.number) w.versions due.row due.found
 
 -- and so many by so many events
-cleaned_removes : (n : ℕ) (w : World) → IsWellFormed w → ((k : ℕ) → k < n → IsSome (first_due (cleaned k w))) → length (cleaned n w).versions + n ≡ length w.versions
+cleaned_removes : (n : ℕ) (w : World) → IsWellFormed w → ((k : ℕ) → k < n → IsSome (first_due (after_cleans k w))) → length (after_cleans n w).versions + n ≡ length w.versions
 cleaned_removes zero w keeps each = omega arith
 cleaned_removes (suc n) w keeps each =
     let first = clean_removes w keeps (each 0 (omega arith)) in
@@ -62,7 +62,7 @@ pub budget_ends : (w : World) (n : ℕ) (v : World) → IsWellFormed w → IsCle
 budget_ends w n v keeps so_far = record {
   cleaned = so_far;
   count = omega (arith, cleaned_removes n w keeps so_far.each, ap (λ (u : World). length u.versions) so_far.after_is);
-  kept = ap kept so_far.after_is ∙ (cleaned_keeps_kept n w keeps).0;
+  kept = ap kept_rows so_far.after_is ∙ (cleaned_keeps_kept n w keeps).0;
 }
 
 -- the end, when nothing is due any more

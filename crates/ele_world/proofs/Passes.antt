@@ -11,11 +11,11 @@ use Rattle.ele_moment.specs.Last.{last_moment}
 use Rattle.ele_world.specs.declared.event.Event.TheVariants.{CleanOne}
 use Rattle.ele_due.specs.declared.key.Key.{Key}
 use Rattle.ele_world.specs.declared.rows.VersionRow.{VersionRow}
-use Rattle.ele_world.specs.Due.{is_due_at, ripe_of, kept}
+use Rattle.ele_world.specs.Due.{is_due_at, ripe_of, kept_rows}
 use Rattle.ele_moment.specs.Lists.{remove_first}
 use Rattle.ele_moment.proofs.Edits.{all-both, all-weaker}
 use Rattle.ele_world.specs.RipeMoments.{IsDueFromRipe}
-use Rattle.ele_world.specs.Run.{cleaned, IsPass}
+use Rattle.ele_world.specs.Run.{after_cleans, IsPass}
 use Rattle.ele_world.specs.Scan.{key_cmp, key_of, due_key, scan, first_due}
 use Rattle.ele_world.specs.Step.{clean_step}
 use Rattle.ele_world.specs.WellFormed.{IsWellFormed}
@@ -40,18 +40,18 @@ filter-remove_first {X} keep p (x ∷ xs) goes = by (p x) refl (filter-remove_fi
   ]
 
 -- a clean leaves what is kept
-clean_keeps_kept : (w : World) → IsWellFormed w → kept ((clean_step w).1) ≡ kept w
+clean_keeps_kept : (w : World) → IsWellFormed w → kept_rows ((clean_step w).1) ≡ kept_rows w
 clean_keeps_kept w k = by (first_due w) refl where
-  by : (o : Option Key) → first_due w ≡ o → kept ((clean_of w o).1) ≡ kept w
+  by : (o : Option Key) → first_due w ≡ o → kept_rows ((clean_of w o).1) ≡ kept_rows w
   by None e = refl
   by (Some key) e =
       let p = is_version key.file key.number in
       let due = first_is_due w key (placed_of w k) e in
       let at = find-split p w.versions due.row due.found in
-      ap (λ (rows : List VersionRow). kept (record w { versions = rows })) (ap (remove_first p) at.whole ∙ remove_first-split p at.before due.row at.behind at.none at.passes)
+      ap (λ (rows : List VersionRow). kept_rows (record w { versions = rows })) (ap (remove_first p) at.whole ∙ remove_first-split p at.before due.row at.behind at.none at.passes)
       ∙ (removal_order w at.before due.row at.behind k at.whole due.due).kept
 
-pub cleaned_keeps_kept : (n : ℕ) (w : World) → IsWellFormed w → (kept (cleaned n w) ≡ kept w) × IsWellFormed (cleaned n w)
+pub cleaned_keeps_kept : (n : ℕ) (w : World) → IsWellFormed w → (kept_rows (after_cleans n w) ≡ kept_rows w) × IsWellFormed (after_cleans n w)
 cleaned_keeps_kept zero w k = (refl, k)
 cleaned_keeps_kept (suc n) w k =
     let rest = cleaned_keeps_kept n ((clean_step w).1) (step_keeps w CleanOne tt k) in
@@ -97,7 +97,7 @@ first-nil : (keys : List Key) → slice_get keys 0 ≡ None → keys ≡ []
 first-nil [] h = refl
 first-nil (x ∷ xs) h = absurd cc
 
-nothing_due : (w : World) → IsWellFormed w → first_due w ≡ None → kept w ≡ w.versions
+nothing_due : (w : World) → IsWellFormed w → first_due w ≡ None → kept_rows w ≡ w.versions
 unfolding scan
 nothing_due w k h =
     let keys = in_order-nil [] (filter_map (due_key w) w.versions) (first-nil (scan w) h) in
@@ -108,8 +108,8 @@ nothing_due w k h =
     (all-both (IsDueFromRipe w) (λ row. due_key w row ≡ None) w.versions (due_from_ripe w k) none))
 
 -- what a pass leaves
-pub pass_leaves_kept : (w : World) (removed : ℕ) (after : World) → IsWellFormed w → IsPass w removed after → after.versions ≡ kept w
+pub pass_leaves_kept : (w : World) (removed : ℕ) (after : World) → IsWellFormed w → IsPass w removed after → after.versions ≡ kept_rows w
 pass_leaves_kept w removed after k pass =
     let there = cleaned_keeps_kept removed w k in
     let none = rw pass.after_is at pass.last in
-    ap (λ (u : World). u.versions) pass.after_is ∙ sym (nothing_due (cleaned removed w) there.1 none) ∙ there.0
+    ap (λ (u : World). u.versions) pass.after_is ∙ sym (nothing_due (after_cleans removed w) there.1 none) ∙ there.0

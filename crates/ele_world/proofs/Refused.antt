@@ -2,7 +2,7 @@
 use Rattle.std.proofs.Common.{◌≡◌, Bool, true, false, List, Option, Some, None, Result, Ok, Err, refl, ap, sym, ◌∙◌}
 use Rattle.std.proofs.lemmas.Bool.{false≢true}
 use Rattle.ele_world.specs.NothingChanges.{asks}
-use Rattle.ele_world.specs.Plan.{Plan, Tell, Make, Unless, When, Need, IfFound, carried}
+use Rattle.ele_world.specs.Plan.{Plan, Tell, Make, Unless, When, Need, IfFound, outcome}
 use Rattle.ele_world.specs.Step.{plan, step}
 use Rattle.ele_world.specs.World.{World}
 use Rattle.ele_world.specs.declared.event.Event.{Event}
@@ -39,7 +39,7 @@ fair w (Read (Of handle)) = λ file. tt
 fair w Due = tt
 fair w UsageAll = tt
 
-refusal_stays : (w : World) (event : Event) (plan : Plan) → IsFair event plan → (refusal : Refusal) → (carried w plan).0 ≡ Refused refusal → (carried w plan).1 ≡ w
+refusal_stays : (w : World) (event : Event) (plan : Plan) → IsFair event plan → (refusal : Refusal) → (outcome w plan).0 ≡ Refused refusal → (outcome w plan).1 ≡ w
 refusal_stays w event (Tell reply) is refusal e = refl
 refusal_stays w event (Make reply changes) is refusal e = absurd (false≢true (sym is.0 ∙ ap is_refusal e))
 refusal_stays w event (Unless true why next) is refusal e = refl
@@ -51,7 +51,7 @@ refusal_stays w event (Need (Ok x) next) is refusal e = refusal_stays w event (n
 refusal_stays w event (IfFound None otherwise next) is refusal e = refusal_stays w event otherwise is.0 refusal e
 refusal_stays w event (IfFound (Some x) otherwise next) is refusal e = refusal_stays w event (next x) (is.1 x) refusal e
 
-asked_stays : (w : World) (event : Event) (plan : Plan) → IsFair event plan → asks event ≡ true → (carried w plan).1 ≡ w
+asked_stays : (w : World) (event : Event) (plan : Plan) → IsFair event plan → asks event ≡ true → (outcome w plan).1 ≡ w
 asked_stays w event (Tell reply) is e = refl
 asked_stays w event (Make reply changes) is e = absurd (false≢true (sym is.1 ∙ e))
 asked_stays w event (Unless true why next) is e = refl

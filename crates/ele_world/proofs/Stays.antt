@@ -4,7 +4,7 @@ use Rattle.std.specs.Prelude.{find, unwrap_or}
 use Rattle.std.specs.List.{list_any, AllByRecursion}
 use Rattle.std.specs.Option.{option_map}
 use Rattle.ele_moment.proofs.Edits.{all-weaker, all-both}
-use Rattle.ele_world.specs.Change.{Change, applied, all_applied, ended_at}
+use Rattle.ele_world.specs.Change.{Change, after_change, after_changes, ended_at}
 use Rattle.ele_world.specs.Due.{is_due_at}
 use Rattle.ele_world.specs.HeldStays.{IsSameVersion, StaysSame}
 use Rattle.ele_world.specs.OnlyDueLeave.{StaysOrWasDue}
@@ -45,9 +45,9 @@ moved event first row before after found was (Taken w may none) =
     let one : may.row ≡ row = cc in
     inr (may.clean, subst (λ r. is_due_at first r first.now ≡ true) one may.due, none)
 
-follow : (event : Event) (first w : World) (row : VersionRow) (changes : List Change) → IsFound first.versions row → AllLater ArePlaced first.versions → MayAll event first w changes → IsPast w row.file row.number → StillOrDue event first row (find (is_version row.file row.number) w.versions) → StillOrDue event first row (find (is_version row.file row.number) (all_applied w changes).versions)
+follow : (event : Event) (first w : World) (row : VersionRow) (changes : List Change) → IsFound first.versions row → AllLater ArePlaced first.versions → MayAll event first w changes → IsPast w row.file row.number → StillOrDue event first row (find (is_version row.file row.number) w.versions) → StillOrDue event first row (find (is_version row.file row.number) (after_changes w changes).versions)
 follow event first w row [] found placed may past was = was
-follow event first w row (change ∷ changes) found placed may past was = follow event first (applied w change) row changes found placed may.1
+follow event first w row (change ∷ changes) found placed may past was = follow event first (after_change w change) row changes found placed may.1
     (change_past event first w change row.file row.number may.0 past)
     (moved event first row _ _ found was (change_moves event first row.file row.number w change placed may.0 past))
 

@@ -99,24 +99,24 @@ fitted_by number size draft =
 
 -- ---- each change
 
-abbrev pub applied : World → Change → World
-applied w (Time to) = record w { now = to }
-applied w (Govern directory policy) = record w { directories = update_first (is_directory directory) (governed_by policy) w.directories }
+abbrev pub after_change : World → Change → World
+after_change w (Time to) = record w { now = to }
+after_change w (Govern directory policy) = record w { directories = update_first (is_directory directory) (governed_by policy) w.directories }
 -- a new file, its name, and its first version, which is empty
-applied w (MakeFile directory name id policy) = with_version (with_name (with_file w id policy) directory name id) id w.now []
-applied w (Append file opened cells) = with_version w file opened cells
-applied w (Take file number) = record w { versions = remove_first (is_version file number) w.versions }
-applied w (StartDraft file) = record w { drafts = insert_before (is_draft_after file) (new_draft w file) w.drafts }
-applied w (WriteDraft file offset bytes) = record w { drafts = update_first (is_draft file) (changed_by (next_of w.files file) offset bytes) w.drafts }
-applied w (TruncateDraft file size) = record w { drafts = update_first (is_draft file) (fitted_by (next_of w.files file) size) w.drafts }
-applied w (EndDraft file) = record w { drafts = remove_first (is_draft file) w.drafts }
-applied w (OpenHandle number file) = record w {
+after_change w (MakeFile directory name id policy) = with_version (with_name (with_file w id policy) directory name id) id w.now []
+after_change w (Append file opened cells) = with_version w file opened cells
+after_change w (Take file number) = record w { versions = remove_first (is_version file number) w.versions }
+after_change w (StartDraft file) = record w { drafts = insert_before (is_draft_after file) (new_draft w file) w.drafts }
+after_change w (WriteDraft file offset bytes) = record w { drafts = update_first (is_draft file) (changed_by (next_of w.files file) offset bytes) w.drafts }
+after_change w (TruncateDraft file size) = record w { drafts = update_first (is_draft file) (fitted_by (next_of w.files file) size) w.drafts }
+after_change w (EndDraft file) = record w { drafts = remove_first (is_draft file) w.drafts }
+after_change w (OpenHandle number file) = record w {
   handles = w.handles ++ record { number = number; reads = Draft file } ∷ [];
   made = record w.made { handles = number };
 }
-applied w (ShutHandle number) = record w { handles = remove_first (is_handle number) w.handles }
+after_change w (ShutHandle number) = record w { handles = remove_first (is_handle number) w.handles }
 
 -- one after the other
-abbrev pub all_applied : World → List Change → World
-all_applied w [] = w
-all_applied w (change ∷ changes) = all_applied (applied w change) changes
+abbrev pub after_changes : World → List Change → World
+after_changes w [] = w
+after_changes w (change ∷ changes) = after_changes (after_change w change) changes

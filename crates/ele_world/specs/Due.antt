@@ -22,5 +22,5 @@ abbrev pub due_rows : World → List VersionRow
 due_rows w = filter (λ row. is_due_at w row w.now) w.versions
 
 -- the rows that aren't due
-abbrev pub kept : World → List VersionRow
-kept w = filter (λ row. not (is_due_at w row w.now)) w.versions
+abbrev pub kept_rows : World → List VersionRow
+kept_rows w = filter (λ row. not (is_due_at w row w.now)) w.versions

@@ -2,27 +2,27 @@
 use Rattle.std.specs.Prelude.{◌≡◌, ℕ, ◌+◌, ◌<◌, length, filter, IsSome}
 use Rattle.ele_world.specs.declared.pass.PassEnd.{PassEnd}
 use Rattle.ele_world.specs.declared.pass.PassEnd.TheVariants.{Finished, Budget, Stopped}
-use Rattle.ele_world.specs.Due.{is_due_at, kept}
-use Rattle.ele_world.specs.Run.{cleaned, IsPass}
+use Rattle.ele_world.specs.Due.{is_due_at, kept_rows}
+use Rattle.ele_world.specs.Run.{after_cleans, IsPass}
 use Rattle.ele_world.specs.Scan.{first_due}
 use Rattle.ele_world.specs.World.{World}
 
 -- the world after so many clean events, each of which removed a version
 pub record IsCleaned (w : World) (removed : ℕ) (after : World) : Type 0 where
-  pub each : (k : ℕ) → k < removed → IsSome (first_due (cleaned k w))
-  pub after_is : after ≡ cleaned removed w
+  pub each : (k : ℕ) → k < removed → IsSome (first_due (after_cleans k w))
+  pub after_is : after ≡ after_cleans removed w
 
 -- so many versions have gone, each of which was due as the pass began: those that weren't due are as they were
 pub record HasRemoved (w : World) (removed : ℕ) (after : World) : Type 0 where
   pub cleaned : IsCleaned w removed after
   pub count : length after.versions + removed ≡ length w.versions
-  pub kept : kept after ≡ kept w
+  pub kept : kept_rows after ≡ kept_rows w
 
 -- nothing is due any more, before the budget is used up: what was due is removed, and what wasn't is kept
 pub record IsFinished (w : World) (budget removed : ℕ) (after : World) : Type 0 where
   pub pass : IsPass w removed after
   pub below : removed < budget
-  pub kept : after.versions ≡ kept w
+  pub kept : after.versions ≡ kept_rows w
   pub count : removed ≡ length (filter (λ row. is_due_at w row w.now) w.versions)
 
 -- a pass from a world with that budget, how it ended, and the world that it left

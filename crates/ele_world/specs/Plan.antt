@@ -4,7 +4,7 @@ use Rattle.std.specs.Option.{option_map_or}
 use Rattle.ele_world.specs.declared.refusal.Refusal.{Refusal}
 use Rattle.ele_world.specs.declared.reply.Reply.{Reply}
 use Rattle.ele_world.specs.declared.reply.Reply.TheVariants.{Refused}
-use Rattle.ele_world.specs.Change.{Change, all_applied}
+use Rattle.ele_world.specs.Change.{Change, after_changes}
 use Rattle.ele_world.specs.World.{World}
 
 pub data Plan : Type 1 where
@@ -25,15 +25,15 @@ pub data Plan : Type 1 where
 abbrev pub refused : World → Refusal → Reply × World
 refused w refusal = (Refused refusal, w)
 
-abbrev pub on_found : {X : Type 0} → World → Result X Refusal → (X → Reply × World) → Reply × World
-on_found w (Err refusal) go = refused w refusal
-on_found w (Ok x) go = go x
+abbrev pub found_outcome : {X : Type 0} → World → Result X Refusal → (X → Reply × World) → Reply × World
+found_outcome w (Err refusal) go = refused w refusal
+found_outcome w (Ok x) go = go x
 
 -- what is replied, and the world after it
-abbrev pub carried : World → Plan → Reply × World
-carried w (Tell reply) = (reply, w)
-carried w (Make reply changes) = (reply, all_applied w changes)
-carried w (Unless test refusal next) = if test then refused w refusal else carried w next
-carried w (When test passing otherwise) = if test then carried w passing else carried w otherwise
-carried w (Need found next) = on_found w found (λ x. carried w (next x))
-carried w (IfFound found otherwise next) = option_map_or (λ x. carried w (next x)) found (carried w otherwise)
+abbrev pub outcome : World → Plan → Reply × World
+outcome w (Tell reply) = (reply, w)
+outcome w (Make reply changes) = (reply, after_changes w changes)
+outcome w (Unless test refusal next) = if test then refused w refusal else outcome w next
+outcome w (When test passing otherwise) = if test then outcome w passing else outcome w otherwise
+outcome w (Need found next) = found_outcome w found (λ x. outcome w (next x))
+outcome w (IfFound found otherwise next) = option_map_or (λ x. outcome w (next x)) found (outcome w otherwise)

@@ -1,7 +1,7 @@
 -- In whichever order due versions are removed: to remove one of them leaves the others due, and makes no other due.
 use Rattle.std.specs.Prelude.{◌≡◌, true, List, ◌∷◌, ◌++◌}
 use Rattle.ele_world.specs.declared.rows.VersionRow.{VersionRow}
-use Rattle.ele_world.specs.Due.{is_due_at, due_rows, kept}
+use Rattle.ele_world.specs.Due.{is_due_at, due_rows, kept_rows}
 use Rattle.ele_world.specs.WellFormed.{IsWellFormed}
 use Rattle.ele_world.specs.World.{World}
 
@@ -15,7 +15,7 @@ pub record IsWithout (row : VersionRow) (all rest : List VersionRow) : Type 0 wh
 -- after a due row has gone, the due rows are those before without it, and the kept rows those before
 pub record LeavesDue (w : World) (row : VersionRow) (after : World) : Type 0 where
   pub due : IsWithout row (due_rows w) (due_rows after)
-  pub kept : kept after ≡ kept w
+  pub kept : kept_rows after ≡ kept_rows w
 
 abbrev pub RemovalOrder : Type 0
 RemovalOrder =

@@ -29,12 +29,12 @@ IsEvent Due = Unit {0}
 IsEvent UsageAll = Unit {0}
 
 -- the world after so many clean events
-abbrev pub cleaned : ℕ → World → World
-cleaned zero w = w
-cleaned (suc n) w = cleaned n ((clean_step w).1)
+abbrev pub after_cleans : ℕ → World → World
+after_cleans zero w = w
+after_cleans (suc n) w = after_cleans n ((clean_step w).1)
 
 -- a pass: clean events in a row until the reply that nothing is due
 pub record IsPass (w : World) (removed : ℕ) (after : World) : Type 0 where
-  pub each : (k : ℕ) → k < removed → IsSome (first_due (cleaned k w))
-  pub after_is : after ≡ cleaned removed w
+  pub each : (k : ℕ) → k < removed → IsSome (first_due (after_cleans k w))
+  pub after_is : after ≡ after_cleans removed w
   pub last : first_due after ≡ None

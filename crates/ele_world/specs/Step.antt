@@ -16,7 +16,7 @@ use Rattle.ele_world.specs.declared.reply.Reply.TheVariants.{Done, Nothing, Now,
 use Rattle.ele_world.specs.declared.rows.Reads.{Reads}
 use Rattle.ele_world.specs.declared.rows.Reads.TheVariants.{Draft}
 use Rattle.ele_world.specs.Change.{Time, Govern, MakeFile, Append, Take, StartDraft, WriteDraft, TruncateDraft, EndDraft, OpenHandle, ShutHandle}
-use Rattle.ele_world.specs.Plan.{Plan, Tell, Make, Unless, When, Need, IfFound, carried}
+use Rattle.ele_world.specs.Plan.{Plan, Tell, Make, Unless, When, Need, IfFound, outcome}
 use Rattle.ele_world.specs.Scan.{scan, first_due}
 use Rattle.ele_world.specs.Usage.{usages}
 use Rattle.ele_world.specs.Walk.{live_target, file_now, directory_now, parent_now}
@@ -93,7 +93,7 @@ plan w UsageAll = Tell (UsageList (usages w))
 
 -- the reply to an event, and the world after it
 abbrev pub step : World → Event → Reply × World
-step w event = carried w (plan w event)
+step w event = outcome w (plan w event)
 
 abbrev pub clean_step : World → Reply × World
 clean_step w = step w CleanOne
