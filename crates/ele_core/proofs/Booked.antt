@@ -1,5 +1,6 @@
 -- The book of usage, as the files change.
-use Rattle.std.proofs.Common.{◌≡◌, ℕ, ◌+◌, ◌-◌, ◌<◌, ◌≤◌, ◌^◌, Bool, true, false, cond, eqb, List, [], ◌∷◌, length, Option, Some, None, refl, ap, sym, subst, ◌∙◌, arith}
+use Rattle.std.proofs.Common.{◌≡◌, ℕ, ◌+◌, ◌-◌, ◌<◌, ◌≤◌, ◌^◌, Bool, true, false, cond, eqb, List, [], ◌∷◌, length, Some, None, Result, Ok, refl, ap, sym, subst, ◌∙◌, arith}
+use Rattle.std.specs.Result.{result_ok}
 use Rattle.ele_core.specs.Inside.{world_of, IsSound, IsTracked}
 use Rattle.ele_core.specs.Tracked.{told, told_by, blocks_of, only_blocks, of_file, IsOwed, IsBooked}
 use Rattle.ele_core.specs.declared.rows.Rows.{Rows}
@@ -20,7 +21,8 @@ use Rattle.ele_world.specs.declared.rows.DraftRow.{DraftRow}
 use Rattle.ele_world.specs.Change.{changed_by, fitted_by}
 use Rattle.ele_world.proofs.Created.{created}
 use Rattle.ele_world.proofs.Opened.{opened}
-use Rattle.ele_world.specs.World.{World, default_of, policy_of, next_of, is_draft, handle_file}
+use Rattle.ele_world.specs.declared.refusal.Refusal.{Refusal}
+use Rattle.ele_world.specs.World.{World, default_of, policy_of, next_of, is_draft, file_by}
 use Rattle.ele_world.proofs.Usages.{usage_changes, usage_same, within_files, within_versions, within_bytes, within_blocks, whole_files, whole_versions, whole_bytes, changes_opened, changes_updated, created_usage, only_at_is}
 
 -- what a kind may use, but for its blocks
@@ -123,16 +125,16 @@ fitted_file number size row = elim (eqb (length (content_of row.cells)) size) as
 ]
 
 -- bytes are written
-pub written_owed : (rows : Rows) (handle file offset : ℕ) (bytes : List ℕ) (now : Held) (before : ℕ) → IsTracked rows → Some file ≡ handle_file rows.files.handles handle → before ≡ blocks_of rows.files → now ≡ written_by rows.files handle offset bytes → IsOwed now rows.book file before
-written_owed rows handle file offset bytes now before tracked of is after = by bytes (subst (λ (o : Option ℕ). now ≡ written_of rows.files o offset bytes) (sym of) after) where
+pub written_owed : (rows : Rows) (handle file offset : ℕ) (bytes : List ℕ) (now : Held) (before : ℕ) → IsTracked rows → Ok file ≡ file_by rows.files.handles handle → before ≡ blocks_of rows.files → now ≡ written_by rows.files handle offset bytes → IsOwed now rows.book file before
+written_owed rows handle file offset bytes now before tracked of is after = by bytes (subst (λ (r : Result ℕ Refusal). now ≡ written_of rows.files (result_ok r) offset bytes) (sym of) after) where
   by : (bytes : List ℕ) → now ≡ written_of rows.files (Some file) offset bytes → IsOwed now rows.book file before
   by [] e = subst (λ (h : Held). IsOwed h rows.book file before) (sym e) (nothing_owed rows file before tracked is)
   by (byte ∷ bytes) e = updated_owed rows file now before (changed_by (next_of rows.files.files file) offset (byte ∷ bytes)) (λ row. refl) tracked is e
 
 -- a draft gets another length
-pub fitted_owed : (rows : Rows) (handle file size : ℕ) (now : Held) (before : ℕ) → IsTracked rows → Some file ≡ handle_file rows.files.handles handle → before ≡ blocks_of rows.files → now ≡ fitted rows.files handle size → IsOwed now rows.book file before
+pub fitted_owed : (rows : Rows) (handle file size : ℕ) (now : Held) (before : ℕ) → IsTracked rows → Ok file ≡ file_by rows.files.handles handle → before ≡ blocks_of rows.files → now ≡ fitted rows.files handle size → IsOwed now rows.book file before
 fitted_owed rows handle file size now before tracked of is after =
-    updated_owed rows file now before (fitted_by (next_of rows.files.files file) size) (fitted_file (next_of rows.files.files file) size) tracked is (subst (λ (o : Option ℕ). now ≡ fitted_of rows.files o size) (sym of) after)
+    updated_owed rows file now before (fitted_by (next_of rows.files.files file) size) (fitted_file (next_of rows.files.files file) size) tracked is (subst (λ (r : Result ℕ Refusal). now ≡ fitted_of rows.files (result_ok r) size) (sym of) after)
 
 -- ---- a file is made
 

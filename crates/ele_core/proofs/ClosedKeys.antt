@@ -1,5 +1,5 @@
 -- Which keys the versions have, once a draft has become one.
-use Rattle.std.proofs.Common.{◌≡◌, ℕ, ◌-◌, ◌≤◌, Bool, true, false, cond, ◌||◌, ◌&&◌, List, [], ◌∷◌, Option, Some, None, is_some, refl, ap, sym, subst, ◌∙◌, arith, eqb}
+use Rattle.std.proofs.Common.{◌≡◌, ℕ, ◌-◌, ◌≤◌, Bool, true, false, cond, ◌||◌, ◌&&◌, List, [], ◌∷◌, Option, Some, None, Ok, is_some, refl, ap, sym, subst, ◌∙◌, arith, eqb}
 use Rattle.std.specs.Prelude.{find, option_and_then, unwrap_or}
 use Rattle.std.specs.List.{filter_map}
 use Rattle.std.specs.Option.{option_map, ForSome}
@@ -26,7 +26,7 @@ use Rattle.ele_world.specs.declared.rows.FileRow.{FileRow}
 use Rattle.ele_world.specs.declared.rows.VersionRow.{VersionRow}
 use Rattle.ele_world.specs.Scan.{key_of}
 use Rattle.ele_world.specs.Change.{ended_at, numbered_on}
-use Rattle.ele_world.specs.World.{handle_file, is_file, is_version, is_version_after, next_of, policy_of}
+use Rattle.ele_world.specs.World.{file_by, is_file, is_version, is_version_after, next_of, policy_of}
 
 -- ---- the version before the next one
 
@@ -151,7 +151,7 @@ module _ (h : Held) (file now : ℕ) where
       ∙ ap (λ b. has_any k (own_key h file now live) || b) (ended_keys k)
 
 -- the queue with the new keys has those of all versions
-pub finished_queue : (h : Held) (handle file now : ℕ) (live : Bool) (after : Held) (before queue : List Key) → handle_file h.handles handle ≡ Some file → makes_version (closing h handle) ≡ true → after ≡ closed h handle now live → IsQueued h before
+pub finished_queue : (h : Held) (handle file now : ℕ) (live : Bool) (after : Held) (before queue : List Key) → file_by h.handles handle ≡ Ok file → makes_version (closing h handle) ≡ true → after ≡ closed h handle now live → IsQueued h before
     → ((k : Key) → has_key k queue ≡ (has_any k (own_key h file now live) || (has_any k (former_key h file now) || has_key k before)))
     → IsQueued after queue
 finished_queue h handle file now live after before queue of_file makes is queued has =

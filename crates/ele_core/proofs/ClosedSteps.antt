@@ -1,11 +1,12 @@
 -- What closing a handle leaves, as the step of the world has it.
-use Rattle.std.proofs.Common.{◌≡◌, ◌≤◌, ◌<◌, ◌+◌, ◌^◌, ℕ, Bool, true, false, cond, List, [], ◌∷◌, Option, Some, None, Ok, Err, refl, ap, sym, subst, ◌∙◌, arith}
+use Rattle.std.proofs.Common.{◌≡◌, ◌≤◌, ◌<◌, ◌+◌, ◌^◌, ℕ, Bool, true, false, cond, [], ◌∷◌, Option, Some, None, Result, Ok, refl, ap, sym, subst, ◌∙◌, arith}
 use Rattle.std.specs.Prelude.{find, IfSome}
 use Rattle.std.specs.List.{list_any, AllByRecursion}
 use Rattle.std.specs.Option.{ForSome, option_map_or}
+use Rattle.std.specs.Result.{result_ok}
 use Rattle.std.proofs.lemmas.Bool.Decides.{nat_tests}
 use Rattle.ele_core.specs.Closings.{makes_version}
-use Rattle.ele_core.specs.Inside.{world_of, IsSound}
+use Rattle.ele_core.specs.Inside.{IsSound}
 use Rattle.ele_core.specs.Tracked.{told_by}
 use Rattle.ele_core.specs.declared.rows.Rows.{Rows}
 use Rattle.ele_files.specs.Closing.{closing, closing_of, closed, closed_of, draft_left, ending, finished_by, left_by, number_by, IsPast}
@@ -14,7 +15,7 @@ use Rattle.ele_moment.proofs.Edits.{found_passes, all-found, all-weaker}
 use Rattle.ele_moment.specs.Lists.{remove_first}
 use Rattle.ele_sessions.specs.declared.closing.Closing.TheVariants.{StillOpen}
 use Rattle.ele_world.specs.declared.event.Event.TheVariants.{Close}
-use Rattle.ele_world.specs.declared.refusal.Refusal.TheVariants.{NoHandle}
+use Rattle.ele_world.specs.declared.refusal.Refusal.{Refusal}
 use Rattle.ele_world.specs.declared.reply.Reply.{Reply}
 use Rattle.ele_world.specs.declared.reply.Reply.TheVariants.{Closed}
 use Rattle.ele_world.specs.declared.rows.DraftRow.{DraftRow}
@@ -25,7 +26,7 @@ use Rattle.ele_world.specs.Step.{has_other_writer, step}
 use Rattle.ele_world.specs.WellFormed.{IsFile, IsVersion, Counted, Files, Versions}
 use Rattle.ele_world.specs.Whole.{ChangesOnly}
 use Rattle.ele_world.proofs.Others.{drafts-removed}
-use Rattle.ele_world.specs.World.{World, handle_file, is_draft, is_handle, is_live, is_writer, next_of}
+use Rattle.ele_world.specs.World.{World, file_by, is_draft, is_handle, is_live, is_writer, next_of}
 
 -- the rows that the files hold of a world
 abbrev pub held_of : World → Held
@@ -42,9 +43,9 @@ with_held w h versions = record w {
 }
 
 -- what is answered, and the world afterwards
-abbrev told_closed : World → ℕ → Option ℕ → Bool → ℕ → Reply × World
+abbrev told_closed : World → ℕ → Result ℕ Refusal → Bool → ℕ → Reply × World
 told_closed w handle file live versions =
-    (Closed (number_by (held_of w) (closing_of (held_of w) handle file)), with_held w (closed_of (held_of w) handle file w.now live) versions)
+    (Closed (number_by (held_of w) (closing_of (held_of w) handle (result_ok file))), with_held w (closed_of (held_of w) handle (result_ok file) w.now live) versions)
 
 -- the world without the handle
 abbrev unhandled : World → ℕ → World
@@ -58,15 +59,15 @@ draft_step w handle file found = option_map_or (λ draft.
     (Closed None, after_changes w (ShutHandle handle ∷ EndDraft file ∷ []))) found (Closed None, unhandled w handle)
 
 -- and by the file that the handle writes
-abbrev close_of : World → ℕ → Option ℕ → Reply × World
-close_of w handle found = found_outcome w (option_map_or (λ file. Ok file) found (Err NoHandle)) (λ file.
+abbrev close_of : World → ℕ → Result ℕ Refusal → Reply × World
+close_of w handle found = found_outcome w found (λ file.
     cond (has_other_writer w handle file) (Closed None, unhandled w handle) (draft_step w handle file (find (is_draft file) w.drafts)))
 
 -- a closing that makes no version, whether the file is live or not
-pub left_step : (w : World) (handle file : ℕ) (live : Bool) → handle_file w.handles handle ≡ Some file → makes_version (closing (held_of w) handle) ≡ false
+pub left_step : (w : World) (handle file : ℕ) (live : Bool) → file_by w.handles handle ≡ Ok file → makes_version (closing (held_of w) handle) ≡ false
     → step w (Close handle) ≡ (Closed None, with_held w (closed (held_of w) handle w.now live) w.made.versions)
 left_step w handle file live of_file makes =
-    subst (λ o. makes_version (closing_of (held_of w) handle o) ≡ false → close_of w handle o ≡ (Closed None, with_held w (closed_of (held_of w) handle o w.now live) w.made.versions)) (sym of_file)
+    subst (λ r. makes_version (closing_of (held_of w) handle (result_ok r)) ≡ false → close_of w handle r ≡ (Closed None, with_held w (closed_of (held_of w) handle (result_ok r) w.now live) w.made.versions)) (sym of_file)
     (writer (list_any (is_writer file) (remove_first (is_handle handle) w.handles)) (find (is_draft file) w.drafts) refl) makes where
       writer : (b : Bool) (o : Option DraftRow) → find (is_draft file) w.drafts ≡ o → makes_version (Some (cond b StillOpen (ending o))) ≡ false
           → cond b (Closed None, unhandled w handle) (draft_step w handle file o) ≡ (Closed None, with_held w (cond b (left_by (held_of w) handle) (draft_left (left_by (held_of w) handle) o w.now live)) w.made.versions)
@@ -87,9 +88,9 @@ pub record Becomes (h : Held) (handle file : ℕ) (draft : DraftRow) : Type 0 wh
   pub number : number_by h (closing h handle) ≡ Some (next_of h.files draft.file)
   pub after : (now : ℕ) (live : Bool) → closed h handle now live ≡ finished_by (left_by h handle) draft now live
 
-pub draft_becomes : (h : Held) (handle file : ℕ) → handle_file h.handles handle ≡ Some file → makes_version (closing h handle) ≡ true → (draft : DraftRow) × Becomes h handle file draft
+pub draft_becomes : (h : Held) (handle file : ℕ) → file_by h.handles handle ≡ Ok file → makes_version (closing h handle) ≡ true → (draft : DraftRow) × Becomes h handle file draft
 draft_becomes h handle file of_file makes =
-    writer (list_any (is_writer file) (remove_first (is_handle handle) h.handles)) refl (find (is_draft file) h.drafts) refl (subst (λ o. makes_version (closing_of h handle o) ≡ true) of_file makes) where
+    writer (list_any (is_writer file) (remove_first (is_handle handle) h.handles)) refl (find (is_draft file) h.drafts) refl (subst (λ r. makes_version (closing_of h handle (result_ok r)) ≡ true) of_file makes) where
       left : Held
       left = left_by h handle
 
@@ -107,20 +108,20 @@ draft_becomes h handle file of_file makes =
           record {
             found = f;
             own = own;
-            number = subst (λ o. number_by h (closing_of h handle o) ≡ Some (next_of h.files draft.file)) (sym of_file)
+            number = subst (λ r. number_by h (closing_of h handle (result_ok r)) ≡ Some (next_of h.files draft.file)) (sym of_file)
                 (subst (λ b. number_by h (Some (cond b StillOpen (ending (find (is_draft file) h.drafts)))) ≡ Some (next_of h.files draft.file)) (sym e)
                 (subst (λ o. number_by h (Some (ending o)) ≡ Some (next_of h.files draft.file)) (sym f) (rw c refl)));
-            after = λ now live. subst (λ o. closed_of h handle o now live ≡ finished_by left draft now live) (sym of_file)
+            after = λ now live. subst (λ r. closed_of h handle (result_ok r) now live ≡ finished_by left draft now live) (sym of_file)
                 (subst (λ b. cond b left (draft_left left (find (is_draft file) h.drafts) now live) ≡ finished_by left draft now live) (sym e)
                 (subst (λ o. draft_left left o now live ≡ finished_by left draft now live) (sym f) (rw c refl)));
           },
         )
 
 -- a closing that makes a version
-finishes : (w : World) (handle file : ℕ) → handle_file w.handles handle ≡ Some file → makes_version (closing (held_of w) handle) ≡ true
+finishes : (w : World) (handle file : ℕ) → file_by w.handles handle ≡ Ok file → makes_version (closing (held_of w) handle) ≡ true
     → step w (Close handle) ≡ (Closed (number_by (held_of w) (closing (held_of w) handle)), with_held w (closed (held_of w) handle w.now (is_live w file)) (w.made.versions + 1))
 finishes w handle file of_file makes =
-    subst (λ o. makes_version (closing_of (held_of w) handle o) ≡ true → close_of w handle o ≡ told_closed w handle o (is_live w file) (w.made.versions + 1)) (sym of_file)
+    subst (λ r. makes_version (closing_of (held_of w) handle (result_ok r)) ≡ true → close_of w handle r ≡ told_closed w handle r (is_live w file) (w.made.versions + 1)) (sym of_file)
     (writer (list_any (is_writer file) (remove_first (is_handle handle) w.handles)) (find (is_draft file) w.drafts) refl) makes where
       writer : (b : Bool) (o : Option DraftRow) → find (is_draft file) w.drafts ≡ o → makes_version (Some (cond b StillOpen (ending o))) ≡ true
           → cond b (Closed None, unhandled w handle) (draft_step w handle file o) ≡ (Closed (number_by (held_of w) (Some (cond b StillOpen (ending o)))), with_held w (cond b (left_by (held_of w) handle) (draft_left (left_by (held_of w) handle) o w.now (is_live w file))) (w.made.versions + 1))
@@ -140,7 +141,7 @@ finishes w handle file of_file makes =
         changed false c m = absurd (let n = rw c at m in cc)
         changed true c m = rw c done
 
-pub finished_step : (w : World) (handle file : ℕ) (live : Bool) (after : Held) (number : Option ℕ) → live ≡ is_live w file → handle_file w.handles handle ≡ Some file → makes_version (closing (held_of w) handle) ≡ true
+pub finished_step : (w : World) (handle file : ℕ) (live : Bool) (after : Held) (number : Option ℕ) → live ≡ is_live w file → file_by w.handles handle ≡ Ok file → makes_version (closing (held_of w) handle) ≡ true
     → after ≡ closed (held_of w) handle w.now live → number ≡ number_by (held_of w) (closing (held_of w) handle)
     → (Closed number, with_held w after (w.made.versions + 1)) ≡ step w (Close handle)
 finished_step w handle file live after number lives of_file makes is numbers =
@@ -154,10 +155,10 @@ pub record Leaves (h : Held) (file : ℕ) (after : Held) : Type 0 where
   pub versions : after.versions ≡ h.versions
   pub changes : ChangesOnly file (told_by h) (told_by after)
 
-pub left : (h : Held) (handle file now : ℕ) (live : Bool) (after : Held) → handle_file h.handles handle ≡ Some file → makes_version (closing h handle) ≡ false → after ≡ closed h handle now live → Leaves h file after
+pub left : (h : Held) (handle file now : ℕ) (live : Bool) (after : Held) → file_by h.handles handle ≡ Ok file → makes_version (closing h handle) ≡ false → after ≡ closed h handle now live → Leaves h file after
 left h handle file now live after of_file makes is =
     subst (Leaves h file) (sym is)
-    (subst (λ o. makes_version (closing_of h handle o) ≡ false → Leaves h file (closed_of h handle o now live)) (sym of_file)
+    (subst (λ r. makes_version (closing_of h handle (result_ok r)) ≡ false → Leaves h file (closed_of h handle (result_ok r) now live)) (sym of_file)
     (writer (list_any (is_writer file) (remove_first (is_handle handle) h.handles)) (find (is_draft file) h.drafts) refl) makes) where
       alone : Leaves h file (left_by h handle)
       alone = record { files = refl; versions = refl; changes = record { kinds = λ k id. refl; files = λ k. refl; versions = refl; drafts = refl } }

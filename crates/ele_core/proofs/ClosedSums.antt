@@ -1,5 +1,5 @@
 -- What the book of usage has, once a handle is closed.
-use Rattle.std.proofs.Common.{◌≡◌, ℕ, ◌+◌, ◌-◌, ◌≤◌, ◌<◌, ◌^◌, Bool, true, false, cond, List, [], ◌∷◌, length, Option, Some, None, refl, ap, sym, subst, ◌∙◌, arith}
+use Rattle.std.proofs.Common.{◌≡◌, ℕ, ◌+◌, ◌-◌, ◌≤◌, ◌<◌, ◌^◌, Bool, true, false, cond, List, [], ◌∷◌, length, Option, Some, None, Ok, refl, ap, sym, subst, ◌∙◌, arith}
 use Rattle.std.specs.Prelude.{find}
 use Rattle.std.specs.Option.{option_map_or}
 use Rattle.ele_content.specs.Content.{content_of, longest_content}
@@ -23,7 +23,7 @@ use Rattle.ele_world.specs.Change.{ended_at}
 use Rattle.ele_world.specs.Usage.{usage_of, is_file_of, bytes_in}
 use Rattle.ele_world.specs.WellFormed.{IsDraft, Drafts}
 use Rattle.ele_world.specs.Whole.{ChangesOnly}
-use Rattle.ele_world.specs.World.{handle_file, is_draft, is_version, is_version_after, next_of}
+use Rattle.ele_world.specs.World.{file_by, is_draft, is_version, is_version_after, next_of}
 use Rattle.ele_world.proofs.Others.{drafts-removed, versions-finished, kinds-numbered, files-numbered}
 use Rattle.ele_world.proofs.Splits.{bytes_in-cons}
 
@@ -97,7 +97,7 @@ drafted_owed rows handle file draft now live book tracked is added =
 
 -- the blocks of the file are owed once the book has the new version
 pub finished_owed : (rows : Rows) (handle file now : ℕ) (live : Bool) (after : Held) (book : Book) (bytes before : ℕ) → IsTracked rows
-    → handle_file rows.files.handles handle ≡ Some file → makes_version (closing rows.files handle) ≡ true → after ≡ closed rows.files handle now live
+    → file_by rows.files.handles handle ≡ Ok file → makes_version (closing rows.files handle) ≡ true → after ≡ closed rows.files handle now live
     → bytes ≡ length (content_of (cells_of_draft rows.files file)) → before ≡ blocks_of rows.files → HasAdded after file rows.book book bytes → IsOwed after book file before
 finished_owed rows handle file now live after book bytes before tracked of_file makes is long same added = by (draft_becomes rows.files handle file of_file makes) where
   by : (draft : DraftRow) × Becomes rows.files handle file draft → IsOwed after book file before

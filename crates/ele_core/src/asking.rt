@@ -7,17 +7,19 @@ ghost use Rattle.ele_core.specs.Inside.{world_of, IsTracked};
 
 use crate::rows::Rows;
 use ele_usage::Usage;
-use ele_world::{NoMemory, Refusal, Reply, Source};
+use ele_world::{NoMemory, Reads, Reply, Source};
 
-/// The bytes of the draft that the handle writes.
+/// The bytes of what the handle reads.
 pub fn read(rows: &Rows, source: Source) -> Result<Reply, NoMemory>
     ensures { IfOk result
         (λ reply. (reply, world_of rows.now) ≡ step (world_of rows.now) (event.Read source)) }
 {
     let Source::Of(handle) = source;
-    let Some(file) = rows.files.handle_file(handle) else {
-        return Ok(Reply::Refused(Refusal::NoHandle));
+    let reads = match rows.files.reads_by(handle) {
+        Ok(reads) => reads,
+        Err(refusal) => return Ok(Reply::Refused(refusal)),
     };
+    let Reads::Draft(file) = reads;
     Ok(Reply::Bytes(rows.files.draft_content(file)?))
 }
 

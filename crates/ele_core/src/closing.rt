@@ -1,5 +1,5 @@
 //! The event that closes a handle, and may make its draft a version.
-ghost use Rattle.std.specs.Prelude.{◌≡◌, ◌≤◌, ◌<◌, ◌-◌, ◌+◌, ◌^◌, true, false, Some, IfOk, OnErr, find, if◌then◌else◌};
+ghost use Rattle.std.specs.Prelude.{◌≡◌, ◌≤◌, ◌<◌, ◌-◌, ◌+◌, ◌^◌, true, false, Ok, IfOk, OnErr, find, if◌then◌else◌};
 ghost use Rattle.std.specs.Option.{ForSome};
 ghost use Rattle.ele_files.specs.Closing.{closing};
 ghost use Rattle.ele_policy.specs.declared.policy.Kind.{Kind};
@@ -8,7 +8,7 @@ ghost use Rattle.ele_usage.specs.Sums.{nothing, plus, Fits};
 ghost use Rattle.ele_world.specs.Step.{step};
 ghost use Rattle.ele_world.specs.declared.event.Event.TheVariants as event;
 ghost use Rattle.ele_world.specs.Usage.{is_file_of};
-ghost use Rattle.ele_world.specs.World.{next_of, is_version, handle_file};
+ghost use Rattle.ele_world.specs.World.{next_of, is_version, file_by};
 ghost use Rattle.ele_core.specs.Inside.{world_of, IsTracked, IsSound};
 ghost use Rattle.ele_core.specs.Tracked.{former_key, own_key, one_version};
 ghost use Rattle.ele_core.specs.Closings.{makes_version, is_change};
@@ -19,7 +19,7 @@ use crate::lookups::is_live;
 use crate::rows::Rows;
 use ele_files::{Closing, Files, Meter};
 use ele_usage::UsageBook;
-use ele_world::{FileId, Handle, Key, Moment, NoMemory, Refusal, Reply};
+use ele_world::{FileId, Handle, Key, Moment, NoMemory, Reply};
 
 /// The key of the version before the file's next one, which ends now; none where it isn't held or has ended.
 fn former_key(files: &Files, file: FileId, now: Moment, meter: &mut Meter) -> Option<Key>
@@ -85,7 +85,7 @@ fn add_version(book: &mut UsageBook, files: &Files, file: FileId, bytes: u64)
 fn finish(rows: &mut Rows, handle: Handle, file: FileId) -> Result<Reply, NoMemory>
     requires sound { IsSound rows.old }
     requires meter { rows.old.meter ≡ 0 }
-    requires file { handle_file rows.old.files.handles handle ≡ Some file }
+    requires file { file_by rows.old.files.handles handle ≡ Ok file }
     requires makes { makes_version (closing rows.old.files handle) ≡ true }
     ensures step { IfOk result
         (λ reply. (reply, world_of rows.new) ≡ step (world_of rows.old) (event.Close handle)) }
@@ -121,7 +121,7 @@ fn finish(rows: &mut Rows, handle: Handle, file: FileId) -> Result<Reply, NoMemo
 fn leave(rows: &mut Rows, handle: Handle, file: FileId) -> Result<Reply, NoMemory>
     requires sound { IsSound rows.old }
     requires meter { rows.old.meter ≡ 0 }
-    requires file { handle_file rows.old.files.handles handle ≡ Some file }
+    requires file { file_by rows.old.files.handles handle ≡ Ok file }
     requires makes { makes_version (closing rows.old.files handle) ≡ false }
     ensures step { IfOk result
         (λ reply. (reply, world_of rows.new) ≡ step (world_of rows.old) (event.Close handle)) }
@@ -147,8 +147,9 @@ pub fn close(rows: &mut Rows, handle: Handle) -> Result<Reply, NoMemory>
     ensures err { OnErr result (world_of rows.new ≡ world_of rows.old) }
     ensures tracked { IsTracked rows.new }
 {
-    let Some(file) = rows.files.handle_file(handle) else {
-        return Ok(Reply::Refused(Refusal::NoHandle));
+    let file = match rows.files.file_by(handle) {
+        Ok(file) => file,
+        Err(refusal) => return Ok(Reply::Refused(refusal)),
     };
     if makes_version(&rows.files, handle) {
         finish(rows, handle, file)

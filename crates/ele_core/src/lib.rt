@@ -47,7 +47,7 @@ use ele_usage::UsageBook;
 pub use ele_world::{
     ByteList, Cell, Counts, DirId, DirectoryRow, DraftRow, Event, FileId, FileRow, Flat, Handle,
     HandleRow, Key, KeyList, Kind, Limits, ListOf, Moment, Name, NameRow, NoMemory, PassEnd, Path,
-    Policy, Refusal, Reply, Source, Stop, Target, Usage, VersionNo, VersionRow, Which,
+    Policy, Reads, Refusal, Reply, Source, Stop, Target, Usage, VersionNo, VersionRow, Which,
 };
 use std::alloc::Global;
 use std::marker::Model;

@@ -31,7 +31,7 @@ fn add_file(rows: &mut Rows, directory: DirId, name: Name) -> Result<FileId, NoM
     ensures id { IfOk result (λ id. id ≡ rows.old.made.files + 1) }
     ensures ok { IfOk result (λ id. world_of rows.new
         ≡ after_change (world_of rows.old)
-            (MakeFile directory name id (default_of rows.old.directories.items directory))) }
+        (MakeFile directory name id (default_of rows.old.directories.items directory))) }
     ensures err { OnErr result (world_of rows.new ≡ world_of rows.old) }
     ensures tracked { IsTracked rows.new }
 {

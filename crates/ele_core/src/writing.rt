@@ -31,8 +31,9 @@ pub fn write(rows: &mut Rows, handle: Handle, offset: u64, bytes: &[u8]) -> Resu
     ensures err { OnErr result (world_of rows.new ≡ world_of rows.old) }
     ensures tracked { IsTracked rows.new }
 {
-    let Some(file) = rows.files.handle_file(handle) else {
-        return Ok(Reply::Refused(Refusal::NoHandle));
+    let file = match rows.files.file_by(handle) {
+        Ok(file) => file,
+        Err(refusal) => return Ok(Reply::Refused(refusal)),
     };
     let before = blocks(&rows.files);
     if let Err(fault) = rows.files.write(handle, offset, bytes) {
@@ -51,8 +52,9 @@ pub fn truncate(rows: &mut Rows, handle: Handle, size: u64) -> Result<Reply, NoM
     ensures err { OnErr result (world_of rows.new ≡ world_of rows.old) }
     ensures tracked { IsTracked rows.new }
 {
-    let Some(file) = rows.files.handle_file(handle) else {
-        return Ok(Reply::Refused(Refusal::NoHandle));
+    let file = match rows.files.file_by(handle) {
+        Ok(file) => file,
+        Err(refusal) => return Ok(Reply::Refused(refusal)),
     };
     let before = blocks(&rows.files);
     if let Err(fault) = rows.files.truncate(handle, size) {

@@ -10,7 +10,7 @@ use Rattle.ele_blocks.specs.Store.{Store}
 use Rattle.ele_files.specs.Asked.{stamps_of}
 use Rattle.ele_files.specs.Closing as now
 use Rattle.ele_files.specs.Held.{cells_of_draft}
-use Rattle.ele_files.specs.Inside.{is_id, maps_of, rows_in, draft_in, handle_in, held_in}
+use Rattle.ele_files.specs.Inside.{is_id, maps_of, rows_in, draft_in, held_in}
 use Rattle.ele_files.specs.declared.file.File.{File}
 use Rattle.ele_files.proofs.Lives.{draft_lives, row_lives, shown-length}
 use Rattle.ele_files.proofs.Rows.{version-of, version-none, draft-found, any-draft, left-shown, handle_file-shown}
@@ -23,9 +23,7 @@ use Rattle.ele_sessions.specs.Sessions as sessions
 use Rattle.ele_sessions.specs.Sessions.{Draft, AllSessions}
 use Rattle.ele_sessions.specs.declared.closing.Closing.{Closing}
 use Rattle.ele_sessions.specs.declared.closing.Closing.TheVariants.{StillOpen}
-use Rattle.ele_sessions.specs.declared.entries.OpenHandle.{OpenHandle}
-use Rattle.ele_sessions.specs.declared.reads.Reads.TheVariants as reads
-use Rattle.ele_world.specs.World.{is_version, is_draft, handle_file}
+use Rattle.ele_world.specs.World.{is_version, is_draft}
 
 -- a test passes somewhere if something is found
 pub any-found : {X : Type 0} (p : X → Bool) (xs : List X) → is_some (find p xs) ≡ list_any p xs
@@ -84,17 +82,3 @@ closing-shown s files ss handle = rw (handle_file-shown ss.handles handle) (by (
   by : (o : Option ℕ) → option_map (λ (answer : Closing × Option Layout). answer.0) (closes.closing_of ss handle o) ≡ now.closing_of (held_in s files ss) handle o
   by None = refl
   by (Some file) = rw (left-shown ss.handles handle file, draft-found s file ss.drafts) (ap (λ (a : Closing). Some a) (same (list_any (sessions.is_writer file) (remove_first (sessions.is_handle handle) ss.handles)) (find (sessions.is_draft file) ss.drafts)))
-
--- the file that is read through a handle
-module _ (hs : List OpenHandle) (handle : ℕ) where
-  pub no-handle : None ≡ option_map reads.Draft (sessions.handle_file hs handle) → handle_file (map handle_in hs) handle ≡ None
-  no-handle none = rw (handle_file-shown hs handle) (by (sessions.handle_file hs handle) none) where
-    by : (o : Option ℕ) → None ≡ option_map reads.Draft o → o ≡ None
-    by None h = refl
-    by (Some x) h = absurd cc
-
-  pub some-handle : (file : ℕ) → Some (reads.Draft file) ≡ option_map reads.Draft (sessions.handle_file hs handle) → handle_file (map handle_in hs) handle ≡ Some file
-  some-handle file some = rw (handle_file-shown hs handle) (by (sessions.handle_file hs handle) some) where
-    by : (o : Option ℕ) → Some (reads.Draft file) ≡ option_map reads.Draft o → o ≡ Some file
-    by None h = absurd cc
-    by (Some x) h = cc

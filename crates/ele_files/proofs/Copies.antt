@@ -12,7 +12,7 @@ use Rattle.ele_blocks.specs.Shared.{owners}
 use Rattle.ele_blocks.specs.Store.{Store, bytes_at}
 use Rattle.ele_blocks.proofs.SlotTrades.{slot_covered}
 use Rattle.ele_inode_log.specs.declared.row.VersionRow.{VersionRow}
-use Rattle.ele_files.specs.Inside.{IsFileKept, IsRowOf, row_in, draft_in, handle_in}
+use Rattle.ele_files.specs.Inside.{IsFileKept, IsRowOf, row_in, draft_in, reads_in, handle_in}
 use Rattle.ele_files.specs.declared.file.File.{File}
 use Rattle.ele_inode_log.specs.Rows.{is_after, Precedes}
 use Rattle.ele_inode_log.specs.declared.row.VersionRow as log
@@ -20,10 +20,11 @@ use Rattle.ele_inode_log.proofs.Lists.{later-weaker, all-weaker}
 use Rattle.ele_sessions.specs.Sessions as sessions
 use Rattle.ele_sessions.specs.Sessions.{Draft}
 use Rattle.ele_sessions.specs.declared.entries.OpenHandle.{OpenHandle}
-use Rattle.ele_sessions.specs.declared.reads.Reads.{Reads}
-use Rattle.ele_sessions.specs.declared.reads.Reads.TheVariants as reads
+use Rattle.ele_sessions.specs.declared.reads.Reads as session
+use Rattle.ele_sessions.specs.declared.reads.Reads.TheVariants as session_reads
 use Rattle.ele_world.specs.declared.rows.DraftRow.{DraftRow}
 use Rattle.ele_world.specs.declared.rows.HandleRow.{HandleRow}
+use Rattle.ele_world.specs.declared.rows.Reads.{Reads}
 use Rattle.ele_world.specs.declared.rows.VersionRow as world
 use Rattle.ele_moment.specs.Lists.{AllLater}
 use Rattle.ele_moment.proofs.Edits.{found_passes}
@@ -207,21 +208,17 @@ module _ (s : Store) (drafts : List Draft) (rise : AllLater (λ (x y : Draft). x
       next ∙ ap (λ (row : DraftRow). map (draft_in s) (take k drafts) ++ row ∷ []) made
 
 -- the rows of handles
-abbrev handle_from : ℕ → ℕ → HandleRow
-handle_from number file = record { number = number; file = file }
+abbrev handle_from : ℕ × session.Reads → HandleRow
+handle_from t = record { number = t.0; reads = reads_in t.1 }
 
-module _ (hs : List OpenHandle) (k : ℕ) (t : ℕ × Reads) (got : Some t ≡ option_map (λ (h : OpenHandle). (h.number, reads.Draft h.file)) (slice_get hs k)) where
-  handle : (h : OpenHandle) × (slice_get hs k ≡ Some h) × ((h.number, reads.Draft h.file) ≡ t)
-  handle = shown-some (λ (h : OpenHandle). (h.number, reads.Draft h.file)) (slice_get hs k) t got
+module _ (hs : List OpenHandle) (k : ℕ) (t : ℕ × session.Reads) (got : Some t ≡ option_map (λ (h : OpenHandle). (h.number, session_reads.Draft h.file)) (slice_get hs k)) where
+  handle : (h : OpenHandle) × (slice_get hs k ≡ Some h) × ((h.number, session_reads.Draft h.file) ≡ t)
+  handle = shown-some (λ (h : OpenHandle). (h.number, session_reads.Draft h.file)) (slice_get hs k) t got
 
   pub handle-within : k < length hs
   handle-within = (got-is hs k handle.0 handle.1).0
 
-  pub handle-next : (file : ℕ) → t.1 ≡ reads.Draft file → map handle_in (take (k + 1) hs) ≡ map handle_in (take k hs) ++ record { number = t.0; file = file } ∷ []
-  handle-next file is =
-      let next = taken-next handle_in hs k handle.0 handle.1 in
-      let number : handle.0.number ≡ t.0 = ap (λ (u : ℕ × Reads). u.0) handle.2 in
-      let read : reads.Draft handle.0.file ≡ reads.Draft file = ap (λ (u : ℕ × Reads). u.1) handle.2 ∙ is in
-      let same : handle.0.file ≡ file = cc in
-      let made : handle_in handle.0 ≡ handle_from t.0 file = ap (λ (n : ℕ). handle_from n handle.0.file) number ∙ ap (handle_from t.0) same in
-      next ∙ ap (λ (row : HandleRow). map handle_in (take k hs) ++ row ∷ []) made
+  pub handle-next : (shows : Reads) → shows ≡ reads_in t.1 → map handle_in (take (k + 1) hs) ≡ map handle_in (take k hs) ++ record { number = t.0; reads = shows } ∷ []
+  handle-next shows is =
+      let made : handle_in handle.0 ≡ record { number = t.0; reads = shows } = ap handle_from handle.2 ∙ ap (λ (r : Reads). record { number = t.0; reads = r }) (sym is) in
+      taken-next handle_in hs k handle.0 handle.1 ∙ ap (λ (row : HandleRow). map handle_in (take k hs) ++ row ∷ []) made

@@ -6,7 +6,7 @@ use Rattle.std.specs.Option.{option_map}
 use Rattle.std.proofs.lemmas.Bool.Decides.{nat_tests}
 use Rattle.ele_blocks.specs.Store.{Store}
 use Rattle.ele_files.specs.Closing as rows
-use Rattle.ele_files.specs.Held.{Held}
+use Rattle.ele_files.specs.Held.{Held, handle_file}
 use Rattle.ele_files.specs.Inside.{draft_in, handle_in, held_in}
 use Rattle.ele_files.specs.declared.file.File.{File}
 use Rattle.ele_files.proofs.Asked.{closing-shown}
@@ -93,7 +93,7 @@ module _ (s : Store) (files : List File) (ss : plain.AllSessions) (handle : ℕ)
   abbrev shown : Held
   shown = held_in s files ss
 
-  shown_file : (o : Option ℕ) → plain.handle_file ss.handles handle ≡ o → world.handle_file shown.handles handle ≡ o
+  shown_file : (o : Option ℕ) → plain.handle_file ss.handles handle ≡ o → handle_file shown.handles handle ≡ o
   shown_file o is = handle_file-shown ss.handles handle ∙ is
 
   shown_left : rows.left_by shown handle ≡ held_in s files (left ss handle)

@@ -33,6 +33,7 @@ use Rattle.ele_sessions.specs.Opening as opening
 use Rattle.ele_sessions.specs.Sessions.{Draft, AllSessions, is_draft, is_draft_after}
 use Rattle.ele_world.specs.World.{next_of, is_version}
 use Rattle.ele_world.specs.World as world
+use Rattle.ele_world.specs.declared.rows.Reads.TheVariants as reads
 
 -- the map of the version before the next one, or that of no bytes
 abbrev pub cells_of : Option VersionRow → Layout
@@ -158,7 +159,7 @@ module _ (s : Store) (files : List File) (a : AllSessions) (kept : Keeps s files
       drafts_on = insert_before-map (draft_in t) (world.is_draft_after file) new a.drafts ∙ rw (new_seen, drafts_same s t a.drafts (all-right (ShowsSame s t) (flat_map file_maps files) _ shows)) refl
 
     module _ (is : b ≡ opening.opened_by a new) where
-      handles_on : map handle_in b.handles ≡ map handle_in a.handles ++ record { number = a.opened + 1; file = file } ∷ []
+      handles_on : map handle_in b.handles ≡ map handle_in a.handles ++ record { number = a.opened + 1; reads = reads.Draft file } ∷ []
       handles_on = ap (λ (x : AllSessions). map handle_in x.handles) is ∙ map-append handle_in a.handles _
 
       opened_on : b.opened ≡ a.opened + 1

@@ -1,9 +1,11 @@
 -- What the rows show of the files, drafts and handles behind them.
-use Rattle.std.proofs.Common.{◌≡◌, ℕ, ◌<◌, Bool, true, false, cond, eqb, ◌||◌, List, [], ◌∷◌, map, get_or, Option, Some, None, refl, sym, ap, ◌∙◌, arith}
+use Rattle.std.proofs.Common.{◌≡◌, ℕ, ◌<◌, Bool, true, false, cond, eqb, ◌||◌, List, [], ◌∷◌, map, get_or, Option, Some, None, Result, Ok, Err, refl, sym, ap, ◌∙◌, arith}
 use Rattle.std.specs.List.{find, position, list_any, flat_map, AllByRecursion}
-use Rattle.std.specs.Option.{option_map, option_or, option_map_or}
+use Rattle.std.specs.Option.{option_map, option_or, option_map_or, ok_or}
+use Rattle.std.specs.Result.{result_ok}
 use Rattle.std.proofs.lemmas.Bool.Decides.{nat_tests}
-use Rattle.ele_files.specs.Inside.{is_id, file_row, row_in, rows_in, draft_in, handle_in}
+use Rattle.ele_files.specs.Held.{handle_file}
+use Rattle.ele_files.specs.Inside.{is_id, file_row, row_in, rows_in, draft_in, reads_in, handle_in}
 use Rattle.ele_files.specs.declared.file.File.{File}
 use Rattle.ele_files.proofs.Splits.{remove_first-map}
 use Rattle.ele_blocks.specs.Store.{Store}
@@ -14,9 +16,15 @@ use Rattle.ele_moment.specs.Lists.{remove_first, AllLater}
 use Rattle.ele_sessions.specs.Sessions as sessions
 use Rattle.ele_sessions.specs.Sessions.{Draft}
 use Rattle.ele_sessions.specs.declared.entries.OpenHandle.{OpenHandle}
+use Rattle.ele_sessions.specs.declared.reads.Reads as session
+use Rattle.ele_sessions.specs.declared.reads.Reads.TheVariants as session_reads
 use Rattle.ele_world.proofs.Places.{find-position, find-none}
+use Rattle.ele_world.specs.declared.refusal.Refusal.{Refusal}
+use Rattle.ele_world.specs.declared.refusal.Refusal.TheVariants.{NoHandle}
+use Rattle.ele_world.specs.declared.rows.HandleRow.{HandleRow}
+use Rattle.ele_world.specs.declared.rows.Reads.{Reads}
 use Rattle.ele_world.specs.declared.rows.VersionRow.{VersionRow}
-use Rattle.ele_world.specs.World.{is_file, is_version, is_draft, is_handle, is_writer, handle_file, policy_of, next_of}
+use Rattle.ele_world.specs.World.{is_file, is_version, is_draft, is_handle, is_writer, file_written, reads_by, policy_of, next_of}
 
 -- a test of what a view shows
 module _ {X Y : Type 0} (g : X → Y) (p : Y → Bool) where
@@ -105,11 +113,21 @@ draft-found s file ds = find-map (draft_in s) (is_draft file) ds
 pub any-draft : (s : Store) (file : ℕ) (ds : List Draft) → list_any (is_draft file) (map (draft_in s) ds) ≡ list_any (sessions.is_draft file) ds
 any-draft s file ds = any-map (draft_in s) (is_draft file) ds
 
-pub handle_file-shown : (hs : List OpenHandle) (number : ℕ) → handle_file (map handle_in hs) number ≡ sessions.handle_file hs number
-handle_file-shown hs number = ap (option_map (λ row. row.file)) (find-map handle_in (is_handle number) hs) ∙ by (find (sessions.is_handle number) hs) where
-  by : (o : Option OpenHandle) → option_map (λ row. row.file) (option_map handle_in o) ≡ option_map (λ (h : OpenHandle). h.file) o
+-- what the sessions answer of a handle, as the rows say it
+abbrev pub reads_of : Option session.Reads → Result Reads Refusal
+reads_of o = ok_or (option_map reads_in o) NoHandle
+
+pub reads_by-shown : (hs : List OpenHandle) (number : ℕ) → reads_by (map handle_in hs) number ≡ reads_of (option_map session_reads.Draft (sessions.handle_file hs number))
+reads_by-shown hs number = ap (λ (o : Option HandleRow). option_map_or (λ row. Ok row.reads) o (Err NoHandle)) (find-map handle_in (is_handle number) hs) ∙ by (find (sessions.is_handle number) hs) where
+  by : (o : Option OpenHandle) → option_map_or (λ row. Ok row.reads) (option_map handle_in o) (Err NoHandle) ≡ reads_of (option_map session_reads.Draft (option_map (λ (h : OpenHandle). h.file) o))
   by None = refl
   by (Some h) = refl
+
+pub handle_file-shown : (hs : List OpenHandle) (number : ℕ) → handle_file (map handle_in hs) number ≡ sessions.handle_file hs number
+handle_file-shown hs number = ap (λ r. result_ok (file_written r)) (reads_by-shown hs number) ∙ by (sessions.handle_file hs number) where
+  by : (o : Option ℕ) → result_ok (file_written (reads_of (option_map session_reads.Draft o))) ≡ o
+  by None = refl
+  by (Some file) = refl
 
 pub left-shown : (hs : List OpenHandle) (number file : ℕ) → list_any (is_writer file) (remove_first (is_handle number) (map handle_in hs)) ≡ list_any (sessions.is_writer file) (remove_first (sessions.is_handle number) hs)
 left-shown hs number file = ap (list_any (is_writer file)) (remove_first-map handle_in (is_handle number) (sessions.is_handle number) (λ x. refl) hs) ∙ any-map handle_in (is_writer file) (remove_first (sessions.is_handle number) hs)

@@ -137,7 +137,7 @@ module _ (s : Store) (files : List File) (a : AllSessions) (kept : Keeps s files
       nothing_written (Some file) = refl
 
       pub writes_seen : (bytes : List ℕ) → Writes s t a b handle offset bytes → held_in t files b ≡ written_by (held_in s files a) handle offset bytes
-      writes_seen [] h = stays_seen h ∙ nothing_written (world.handle_file (map handle_in a.handles) handle)
+      writes_seen [] h = stays_seen h ∙ nothing_written (held.handle_file (map handle_in a.handles) handle)
       writes_seen (byte ∷ bytes) h =
           let by = rewritten_by_handle handle (Made (byte ∷ bytes)) h in
           let d = by.draft in

@@ -7,8 +7,8 @@ use Rattle.ele_moment.specs.Lists.{update_first, remove_first, insert_before}
 use Rattle.ele_world.specs.declared.rows.VersionRow.{VersionRow}
 use Rattle.ele_world.specs.declared.rows.DraftRow.{DraftRow}
 use Rattle.ele_world.specs.Change.{numbered_on, ended_at}
-use Rattle.ele_world.specs.World.{is_file, next_of, is_version, is_version_after, is_draft, is_handle, is_writer, handle_file}
-use Rattle.ele_files.specs.Held.{Held, version_row}
+use Rattle.ele_world.specs.World.{is_file, next_of, is_version, is_version_after, is_draft, is_handle, is_writer}
+use Rattle.ele_files.specs.Held.{Held, version_row, handle_file}
 
 -- without the handle
 abbrev pub left_by : Held → ℕ → Held

@@ -2,6 +2,7 @@
 use Rattle.std.specs.Prelude.{ℕ, ◌+◌, ◌-◌, ◌==◌, Bool, false, List, [], ◌∷◌, ◌++◌, length, Option, Some, None, find, if◌then◌else◌}
 use Rattle.std.specs.List.{list_any}
 use Rattle.std.specs.Option.{option_map_or}
+use Rattle.std.specs.Result.{result_ok}
 use Rattle.ele_policy.specs.declared.policy.Policy.{Policy}
 use Rattle.ele_content.specs.declared.cell.Cell.{Cell}
 use Rattle.ele_content.specs.Content.{content_of}
@@ -10,8 +11,9 @@ use Rattle.ele_world.specs.declared.rows.FileRow.{FileRow}
 use Rattle.ele_world.specs.declared.rows.VersionRow.{VersionRow}
 use Rattle.ele_world.specs.declared.rows.DraftRow.{DraftRow}
 use Rattle.ele_world.specs.declared.rows.HandleRow.{HandleRow}
+use Rattle.ele_world.specs.declared.rows.Reads.TheVariants.{Draft}
 use Rattle.ele_world.specs.Change.{changed_by, fitted_by}
-use Rattle.ele_world.specs.World.{next_of, is_version, is_draft, is_draft_after, handle_file}
+use Rattle.ele_world.specs.World.{next_of, is_version, is_draft, is_draft_after, file_by}
 
 -- files by id, versions by file and number, drafts by file, handles by number, and how many handles were ever opened
 pub record Held : Type 0 where
@@ -48,9 +50,13 @@ drafts_with h file now =
 abbrev pub opened_by : Held → ℕ → ℕ → Held
 opened_by h file now = record h {
   drafts = drafts_with h file now;
-  handles = h.handles ++ record { number = h.opened + 1; file = file } ∷ [];
+  handles = h.handles ++ record { number = h.opened + 1; reads = Draft file } ∷ [];
   opened = h.opened + 1;
 }
+
+-- the file that is written through the handle, if there is one
+abbrev pub handle_file : List HandleRow → ℕ → Option ℕ
+handle_file rows number = result_ok (file_by rows number)
 
 -- with the bytes written through a handle of the file; no bytes change nothing
 abbrev pub written_of : Held → Option ℕ → ℕ → List ℕ → Held

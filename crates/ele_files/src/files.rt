@@ -13,7 +13,7 @@ ghost use Rattle.ele_inode_log.specs.Rows.{is_numbered};
 ghost use Rattle.ele_moment.specs.Lists.{AllLater};
 ghost use Rattle.ele_sessions.specs.Changes.{write_refusal_of, truncate_refusal_of};
 ghost use Rattle.ele_world.specs.Usage.{places};
-ghost use Rattle.ele_world.specs.World.{policy_of, next_of, is_version, is_draft, handle_file};
+ghost use Rattle.ele_world.specs.World.{policy_of, next_of, is_version, is_draft};
 
 mod asking;
 mod closing;

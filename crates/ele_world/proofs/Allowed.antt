@@ -1,17 +1,16 @@
 -- The changes of each event may be made, each in its turn.
-use Rattle.std.proofs.Common.{◌≡◌, ℕ, ◌+◌, ◌-◌, ◌<◌, ◌≤◌, Bool, true, false, ◌||◌, List, [], ◌∷◌, length, Option, Some, None, Result, Ok, refl, sym, subst, ◌∙◌, arith, eqb}
+use Rattle.std.proofs.Common.{◌≡◌, ℕ, ◌<◌, true, List, [], ◌∷◌, Option, Some, None, refl, subst, arith}
 use Rattle.std.specs.Prelude.{find}
 use Rattle.std.specs.List.{list_any, AllByRecursion}
 use Rattle.std.specs.Option.{option_map_or}
 use Rattle.std.proofs.lemmas.Bool.Decides.{nat_tests}
 use Rattle.ele_due.specs.declared.key.Key.{Key}
 use Rattle.ele_moment.proofs.Edits.{all-found, found_passes, length-remove_first, list_any-insert_before}
-use Rattle.ele_policy.specs.declared.policy.Policy.{Policy}
 use Rattle.ele_policy.specs.declared.policy.Policy.TheVariants.{Safe}
 use Rattle.ele_moment.specs.Lists.{insert_before}
 use Rattle.ele_world.specs.Change.{new_draft, EndDraft, ShutHandle, after_changes}
 use Rattle.ele_world.specs.Scan.{first_due}
-use Rattle.ele_world.specs.Step.{versions_made, has_other_writer, plan}
+use Rattle.ele_world.specs.Step.{plan}
 use Rattle.ele_policy.specs.Policy.{IsPolicy}
 use Rattle.ele_world.specs.WellFormed.{AreWrittenBy, IsDraft, Counted, Directories, Names, Versions, Drafts, IsWellFormed}
 use Rattle.ele_world.specs.World.{World, is_directory, default_of, next_of, is_draft, is_draft_after}
@@ -21,7 +20,7 @@ use Rattle.ele_world.specs.declared.event.Source.TheVariants.{Of}
 use Rattle.ele_world.specs.declared.rows.DirectoryRow.{DirectoryRow}
 use Rattle.ele_world.specs.declared.rows.DraftRow.{DraftRow}
 use Rattle.ele_world.proofs.DueRows.{first_is_due, due_has_ended}
-use Rattle.ele_world.proofs.May.{HasRoom, MayAppend, MayTake, MayPlan}
+use Rattle.ele_world.proofs.May.{MayAppend, MayTake, MayPlan}
 use Rattle.ele_world.proofs.Walks.{file_there}
 
 -- ---- what the checks found
@@ -79,6 +78,6 @@ allowed w (Close handle) k = λ file found. (
 )
 allowed w (SetDefault path policy) k = λ directory found. (λ is. is, tt)
 allowed w CleanOne k = (tt, λ key first. (takes w key k first, tt))
-allowed w (Read (Of handle)) k = λ file found. tt
+allowed w (Read (Of handle)) k = λ reads found. tt
 allowed w Due k = tt
 allowed w UsageAll k = tt

@@ -1,21 +1,21 @@
 -- Changes of drafts and handles keep a world well formed.
-use Rattle.std.proofs.Common.{◌≡◌, ◌≢◌, ℕ, ◌+◌, ◌-◌, ◌<◌, ◌≤◌, Bool, true, false, cond, ◌||◌, eqb, List, [], ◌∷◌, ◌++◌, length, Option, Some, None, refl, ap, sym, subst, ◌∙◌, arith}
+use Rattle.std.proofs.Common.{◌≡◌, ℕ, ◌+◌, ◌-◌, ◌<◌, ◌≤◌, Bool, true, false, cond, ◌||◌, eqb, List, [], ◌∷◌, length, Option, Some, None, refl, ap, sym, subst, ◌∙◌, arith}
 use Rattle.std.specs.Prelude.{find}
 use Rattle.std.specs.List.{AllByRecursion, list_any}
 use Rattle.std.specs.Option.{option_map_or}
 use Rattle.std.proofs.lemmas.Bool.Decides.{nat_tests}
-use Rattle.ele_content.specs.declared.cell.Cell.{Cell}
 use Rattle.ele_content.specs.Content.{content_of, longest_content, truncated}
 use Rattle.ele_content.proofs.Contents.{written_short, written_fills, truncated_short, truncated_fills}
 use Rattle.ele_moment.specs.Lists.{update_first, remove_first, insert_before}
 use Rattle.ele_moment.proofs.Edits.{all-push, all-weaker, all-both, later-push, all-remove_first, all-insert_before, later-update_first, later-remove_first, later-insert_before, length-update_first, length-insert_before, length-remove_first-le, all-found, all-none, found_passes, list_any-update_first, list_any-insert_before, list_any-remove_first}
 use Rattle.ele_world.specs.Change.{current_cells, new_draft, changed_by, fitted_by, after_change, StartDraft, WriteDraft, TruncateDraft, EndDraft, OpenHandle, ShutHandle}
-use Rattle.ele_world.proofs.May.{HasRoom, MayStart, MayOpen}
-use Rattle.ele_world.specs.WellFormed.{AllLater, IsContent, AreWrittenBy, IsVersion, IsDraft, AreDrafts, IsHandle, AreHandles, Part, Counted, Versions, Drafts, Handles, Holds, IsWellFormed}
-use Rattle.ele_world.specs.World.{World, next_of, is_version, is_draft, is_draft_after, is_handle, is_writer, has_draft}
+use Rattle.ele_world.proofs.May.{MayStart, MayOpen}
+use Rattle.ele_world.specs.WellFormed.{IsContent, AreWrittenBy, IsVersion, IsDraft, IsReadable, IsHandle, Part, Counted, Versions, Drafts, Handles, Holds, IsWellFormed}
+use Rattle.ele_world.specs.World.{World, next_of, is_version, is_draft, is_draft_after, is_handle, writes, is_writer}
 use Rattle.ele_world.specs.declared.rows.DraftRow.{DraftRow}
-use Rattle.ele_world.specs.declared.rows.FileRow.{FileRow}
 use Rattle.ele_world.specs.declared.rows.HandleRow.{HandleRow}
+use Rattle.ele_world.specs.declared.rows.Reads.{Reads}
+use Rattle.ele_world.specs.declared.rows.Reads.TheVariants.{Draft}
 use Rattle.ele_world.specs.declared.rows.VersionRow.{VersionRow}
 use Rattle.ele_world.proofs.Writers.{changed_written, fitted_written, written_more}
 
@@ -39,6 +39,9 @@ start_keeps w file may k = record { holds = by } where
   current : IsContent (current_cells w file) × AreWrittenBy (next_of w.files file) (current_cells w file)
   current = current_is w file k
 
+  readable : (reads : Reads) → IsReadable w.drafts reads → IsReadable (insert_before (is_draft_after file) (new_draft w file) w.drafts) reads
+  readable (Draft id) there = list_any-insert_before (is_draft_after file) (is_draft id) (new_draft w file) w.drafts ∙ ap (λ b. is_draft id (new_draft w file) || b) there ∙ or_true (is_draft id (new_draft w file))
+
   by : (part : Part) → Holds (after_change w (StartDraft file)) part
   by Counted = let c = k.holds Counted in record {
     files_made = c.files_made;
@@ -59,10 +62,11 @@ start_keeps w file may k = record { holds = by } where
   }
   by Handles = record {
     each = all-weaker (IsHandle w.made.handles w.drafts) (IsHandle w.made.handles (insert_before (is_draft_after file) (new_draft w file) w.drafts)) w.handles
-        (λ row h. record { numbered = h.numbered; given = h.given; drafted = list_any-insert_before (is_draft_after file) (is_draft row.file) (new_draft w file) w.drafts ∙ ap (λ b. is_draft row.file (new_draft w file) || b) h.drafted ∙ or_true (is_draft row.file (new_draft w file)) }) (k.holds Handles).each;
+        (λ row h. record { numbered = h.numbered; given = h.given; readable = readable row.reads h.readable }) (k.holds Handles).each;
     placed = (k.holds Handles).placed;
   }
   by part = k.holds part
+
 -- ---- a draft is changed
 
 -- what all elements have, after a change of one that passes
@@ -76,6 +80,9 @@ all-changed p P f (x ∷ xs) changes all = elim (p x) as (λ b. p x ≡ b → Al
 -- the file's draft is changed to one of the file
 edit_keeps : (w : World) (file : ℕ) (f : DraftRow → DraftRow) → ((row : DraftRow) → (f row).file ≡ row.file) → ((row : DraftRow) → row.file ≡ file → IsDraft w.files w.now row → IsDraft w.files w.now (f row)) → IsWellFormed w → IsWellFormed (record w { drafts = update_first (is_draft file) f w.drafts })
 edit_keeps w file f same edits k = record { holds = by } where
+  readable : (reads : Reads) → IsReadable w.drafts reads → IsReadable (update_first (is_draft file) f w.drafts) reads
+  readable (Draft id) there = list_any-update_first (is_draft file) (is_draft id) f w.drafts (λ x e. ap (λ (i : ℕ). eqb i id) (same x)) ∙ there
+
   by : (part : Part) → Holds (record w { drafts = update_first (is_draft file) f w.drafts }) part
   by Counted = let c = k.holds Counted in record {
     files_made = c.files_made;
@@ -92,7 +99,7 @@ edit_keeps w file f same edits k = record { holds = by } where
   }
   by Handles = record {
     each = all-weaker (IsHandle w.made.handles w.drafts) (IsHandle w.made.handles (update_first (is_draft file) f w.drafts)) w.handles
-        (λ row h. record { numbered = h.numbered; given = h.given; drafted = list_any-update_first (is_draft file) (is_draft row.file) f w.drafts (λ x e. ap (λ (id : ℕ). eqb id row.file) (same x)) ∙ h.drafted }) (k.holds Handles).each;
+        (λ row h. record { numbered = h.numbered; given = h.given; readable = readable row.reads h.readable }) (k.holds Handles).each;
     placed = (k.holds Handles).placed;
   }
   by part = k.holds part
@@ -145,8 +152,8 @@ truncate_keeps w file size fits k = edit_keeps w file (fitted_by number size) (s
 
 pub end_keeps : (w : World) (file : ℕ) → list_any (is_writer file) w.handles ≡ false → IsWellFormed w → IsWellFormed (after_change w (EndDraft file))
 end_keeps w file unwritten k = record { holds = by } where
-  drafted : (row : HandleRow) → is_writer file row ≡ false → list_any (is_draft row.file) w.drafts ≡ true → list_any (is_draft row.file) (remove_first (is_draft file) w.drafts) ≡ true
-  drafted row other there = list_any-remove_first (is_draft file) (is_draft row.file) w.drafts (λ x found. let passes = found_passes (is_draft file) w.drafts x found in grind (arith, nat_tests)) ∙ there
+  readable : (reads : Reads) → writes file reads ≡ false → IsReadable w.drafts reads → IsReadable (remove_first (is_draft file) w.drafts) reads
+  readable (Draft id) other there = list_any-remove_first (is_draft file) (is_draft id) w.drafts (λ x found. let passes = found_passes (is_draft file) w.drafts x found in grind (arith, nat_tests)) ∙ there
 
   by : (part : Part) → Holds (after_change w (EndDraft file)) part
   by Counted = let c = k.holds Counted in record {
@@ -164,7 +171,7 @@ end_keeps w file unwritten k = record { holds = by } where
   }
   by Handles = record {
     each = all-weaker (λ row. (is_writer file row ≡ false) × IsHandle w.made.handles w.drafts row) (IsHandle w.made.handles (remove_first (is_draft file) w.drafts)) w.handles
-        (λ row h. record { numbered = h.1.numbered; given = h.1.given; drafted = drafted row h.0 h.1.drafted })
+        (λ row h. record { numbered = h.1.numbered; given = h.1.given; readable = readable row.reads h.0 h.1.readable })
         (all-both (λ row. is_writer file row ≡ false) (IsHandle w.made.handles w.drafts) w.handles (all-none (is_writer file) w.handles unwritten) (k.holds Handles).each);
     placed = (k.holds Handles).placed;
   }
@@ -175,7 +182,7 @@ end_keeps w file unwritten k = record { holds = by } where
 pub open_keeps : (w : World) (number file : ℕ) → MayOpen w number file → IsWellFormed w → IsWellFormed (after_change w (OpenHandle number file))
 open_keeps w number file may k = record { holds = by } where
   handle : HandleRow
-  handle = record { number = number; file = file }
+  handle = record { number = number; reads = Draft file }
 
   by : (part : Part) → Holds (after_change w (OpenHandle number file)) part
   by Counted = let c = k.holds Counted in record {
@@ -189,8 +196,8 @@ open_keeps w number file may k = record { holds = by } where
   }
   by Handles = record {
     each = all-push (IsHandle number w.drafts) w.handles handle
-        (all-weaker (IsHandle w.made.handles w.drafts) (IsHandle number w.drafts) w.handles (λ row h. record { numbered = h.numbered; given = omega (arith, h.given, may.next); drafted = h.drafted }) (k.holds Handles).each)
-        (record { numbered = omega (arith, may.next); given = omega arith; drafted = may.drafted });
+        (all-weaker (IsHandle w.made.handles w.drafts) (IsHandle number w.drafts) w.handles (λ row h. record { numbered = h.numbered; given = omega (arith, h.given, may.next); readable = h.readable }) (k.holds Handles).each)
+        (record { numbered = omega (arith, may.next); given = omega arith; readable = may.drafted });
     placed = later-push (λ earlier later. earlier.number < later.number) w.handles handle (k.holds Handles).placed
         (all-weaker (IsHandle w.made.handles w.drafts) (λ row. row.number < number) w.handles (λ row h. omega (arith, h.given, may.next)) (k.holds Handles).each);
   }

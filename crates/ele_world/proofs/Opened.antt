@@ -1,10 +1,10 @@
 -- What opening a handle comes to, whether the file has a draft or not.
-use Rattle.std.proofs.Common.{◌≡◌, ℕ, ◌+◌, Bool, true, false, cond, List, [], ◌∷◌, ◌++◌, refl}
-use Rattle.std.specs.List.{list_any}
+use Rattle.std.proofs.Common.{◌≡◌, ℕ, true, false, cond, List, [], ◌∷◌, ◌++◌, refl}
 use Rattle.ele_moment.specs.Lists.{insert_before}
 use Rattle.ele_world.specs.Change.{new_draft, StartDraft, OpenHandle, after_changes}
-use Rattle.ele_world.specs.World.{World, has_draft, is_draft, is_draft_after}
+use Rattle.ele_world.specs.World.{World, has_draft, is_draft_after}
 use Rattle.ele_world.specs.declared.rows.DraftRow.{DraftRow}
+use Rattle.ele_world.specs.declared.rows.Reads.TheVariants.{Draft}
 
 -- the drafts with one of the file: that which is there, or else a new one
 abbrev pub with_draft : World → ℕ → List DraftRow
@@ -13,7 +13,7 @@ with_draft w file = cond (has_draft w file) w.drafts (insert_before (is_draft_af
 abbrev pub opened : World → ℕ → ℕ → World
 opened w file number = record w {
   drafts = with_draft w file;
-  handles = w.handles ++ record { number = number; file = file } ∷ [];
+  handles = w.handles ++ record { number = number; reads = Draft file } ∷ [];
   made = record w.made { handles = number };
 }
 

@@ -1,5 +1,5 @@
 -- The changes that a world can undergo, and what each makes of its rows; each leaves a well-formed world.
-use Rattle.std.specs.Prelude.{ℕ, ◌+◌, ◌-◌, ◌==◌, true, false, List, [], ◌∷◌, ◌++◌, length, Option, Some, None, unwrap_or, if◌then◌else◌}
+use Rattle.std.specs.Prelude.{ℕ, ◌+◌, ◌-◌, ◌==◌, true, false, List, [], ◌∷◌, ◌++◌, length, Some, None, unwrap_or, if◌then◌else◌}
 use Rattle.std.specs.Option.{option_map_or}
 use Rattle.ele_content.specs.declared.cell.Cell.{Cell}
 use Rattle.ele_content.specs.Content.{content_of, written, truncated}
@@ -8,6 +8,7 @@ use Rattle.ele_policy.specs.declared.policy.Policy.{Policy}
 use Rattle.ele_world.specs.declared.rows.DirectoryRow.{DirectoryRow}
 use Rattle.ele_world.specs.declared.rows.DraftRow.{DraftRow}
 use Rattle.ele_world.specs.declared.rows.FileRow.{FileRow}
+use Rattle.ele_world.specs.declared.rows.Reads.TheVariants.{Draft}
 use Rattle.ele_world.specs.declared.rows.Target.TheVariants.{File}
 use Rattle.ele_world.specs.declared.rows.VersionRow.{VersionRow}
 use Rattle.ele_world.specs.World.{World, is_directory, is_file, next_of, is_version, is_version_after, is_live, current_of, is_draft, is_draft_after, is_handle}
@@ -110,7 +111,7 @@ after_change w (WriteDraft file offset bytes) = record w { drafts = update_first
 after_change w (TruncateDraft file size) = record w { drafts = update_first (is_draft file) (fitted_by (next_of w.files file) size) w.drafts }
 after_change w (EndDraft file) = record w { drafts = remove_first (is_draft file) w.drafts }
 after_change w (OpenHandle number file) = record w {
-  handles = w.handles ++ record { number = number; file = file } ∷ [];
+  handles = w.handles ++ record { number = number; reads = Draft file } ∷ [];
   made = record w.made { handles = number };
 }
 after_change w (ShutHandle number) = record w { handles = remove_first (is_handle number) w.handles }

@@ -13,12 +13,14 @@ use Rattle.ele_world.specs.declared.refusal.Refusal.TheVariants.{ClockBack, Cloc
 use Rattle.ele_world.specs.declared.refusal.Which.TheVariants.{Files, Names, Versions, Handles}
 use Rattle.ele_world.specs.declared.reply.Reply.{Reply}
 use Rattle.ele_world.specs.declared.reply.Reply.TheVariants.{Done, Nothing, Now, File, Handle, Closed, Removed, Bytes, DueList, UsageList}
+use Rattle.ele_world.specs.declared.rows.Reads.{Reads}
+use Rattle.ele_world.specs.declared.rows.Reads.TheVariants.{Draft}
 use Rattle.ele_world.specs.Change.{Time, Govern, MakeFile, Append, Take, StartDraft, WriteDraft, TruncateDraft, EndDraft, OpenHandle, ShutHandle}
 use Rattle.ele_world.specs.Plan.{Plan, Tell, Make, Unless, When, Need, IfFound, outcome}
 use Rattle.ele_world.specs.Scan.{scan, first_due}
 use Rattle.ele_world.specs.Usage.{usages}
 use Rattle.ele_world.specs.Walk.{live_target, file_now, directory_now, parent_now}
-use Rattle.ele_world.specs.World.{World, default_of, next_of, has_draft, is_draft, is_handle, is_writer, file_by}
+use Rattle.ele_world.specs.World.{World, default_of, next_of, has_draft, is_draft, is_handle, is_writer, file_by, reads_by}
 
 -- versions ever made, and drafts open now
 abbrev pub versions_made : World → ℕ
@@ -31,6 +33,10 @@ has_other_writer w handle file = list_any (is_writer file) (remove_first (is_han
 -- the cells of the file's draft
 abbrev pub draft_cells : World → ℕ → List Cell
 draft_cells w file = option_map_or (λ row. row.cells) (find (is_draft file) w.drafts) []
+
+-- the cells of what is read
+abbrev pub cells_read : World → Reads → List Cell
+cells_read w (Draft file) = draft_cells w file
 
 abbrev pub plan : World → Event → Plan
 -- the time goes on to a moment
@@ -80,8 +86,8 @@ plan w (SetDefault path policy) =
 -- the first version of the scan goes
 plan w CleanOne =
     IfFound (first_due w) (Tell Nothing) (λ key. Make (Removed key) (Take key.file key.number ∷ []))
--- a handle that writes reads its file's draft
-plan w (Read (Of handle)) = Need (file_by w.handles handle) (λ file. Tell (Bytes (content_of (draft_cells w file))))
+-- the content of what the handle reads
+plan w (Read (Of handle)) = Need (reads_by w.handles handle) (λ reads. Tell (Bytes (content_of (cells_read w reads))))
 plan w Due = Tell (DueList (scan w))
 plan w UsageAll = Tell (UsageList (usages w))
 

@@ -13,6 +13,8 @@ use Rattle.ele_world.specs.declared.rows.DraftRow.{DraftRow}
 use Rattle.ele_world.specs.declared.rows.FileRow.{FileRow}
 use Rattle.ele_world.specs.declared.rows.HandleRow.{HandleRow}
 use Rattle.ele_world.specs.declared.rows.NameRow.{NameRow}
+use Rattle.ele_world.specs.declared.rows.Reads.{Reads}
+use Rattle.ele_world.specs.declared.rows.Reads.TheVariants.{Draft}
 use Rattle.ele_world.specs.declared.rows.Target.{Target}
 use Rattle.ele_world.specs.declared.rows.Target.TheVariants.{File, Directory}
 use Rattle.ele_world.specs.declared.rows.VersionRow.{VersionRow}
@@ -108,11 +110,15 @@ pub record AreDrafts (files : List FileRow) (now : ℕ) (rows : List DraftRow) :
   pub each : AllByRecursion (IsDraft files now) rows
   pub placed : AllLater (λ earlier later. earlier.file < later.file) rows
 
--- a handle's number was given, and the file that it writes has a draft
+-- what is read is there: a file has the draft
+abbrev pub IsReadable : List DraftRow → Reads → Type 0
+IsReadable drafts (Draft file) = list_any (is_draft file) drafts ≡ true
+
+-- a handle's number was given, and what it reads is there
 pub record IsHandle (made : ℕ) (drafts : List DraftRow) (row : HandleRow) : Type 0 where
   pub numbered : 1 ≤ row.number
   pub given : row.number ≤ made
-  pub drafted : list_any (is_draft row.file) drafts ≡ true
+  pub readable : IsReadable drafts row.reads
 
 pub record AreHandles (made : ℕ) (drafts : List DraftRow) (rows : List HandleRow) : Type 0 where
   pub each : AllByRecursion (IsHandle made drafts) rows

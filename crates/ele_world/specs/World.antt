@@ -16,6 +16,8 @@ use Rattle.ele_world.specs.declared.rows.Target.TheVariants.{File, Directory}
 use Rattle.ele_world.specs.declared.rows.VersionRow.{VersionRow}
 use Rattle.ele_world.specs.declared.rows.DraftRow.{DraftRow}
 use Rattle.ele_world.specs.declared.rows.HandleRow.{HandleRow}
+use Rattle.ele_world.specs.declared.rows.Reads.{Reads}
+use Rattle.ele_world.specs.declared.rows.Reads.TheVariants.{Draft}
 
 -- all rows and counts, seen as plain lists and numbers
 abbrev pub World : Type 0
@@ -88,16 +90,25 @@ has_draft w file = list_any (is_draft file) w.drafts
 abbrev pub is_handle : ℕ → HandleRow → Bool
 is_handle number row = row.number == number
 
+-- a handle that reads this writes the file
+abbrev pub writes : ℕ → Reads → Bool
+writes file (Draft written) = written == file
+
 abbrev pub is_writer : ℕ → HandleRow → Bool
-is_writer file row = row.file == file
+is_writer file row = writes file row.reads
 
--- the file that is written through the handle
-abbrev pub handle_file : List HandleRow → ℕ → Option ℕ
-handle_file rows number = option_map (λ row. row.file) (find (is_handle number) rows)
+-- what is read through the handle, or why nothing is
+abbrev pub reads_by : List HandleRow → ℕ → Result Reads Refusal
+reads_by rows number = option_map_or (λ row. Ok row.reads) (find (is_handle number) rows) (Err NoHandle)
 
--- the same, or why there is none
+-- the file that a handle writes that reads this, or why it writes none
+abbrev pub file_written : Result Reads Refusal → Result ℕ Refusal
+file_written (Err refusal) = Err refusal
+file_written (Ok (Draft file)) = Ok file
+
+-- the file that is written through the handle, or why there is none
 abbrev pub file_by : List HandleRow → ℕ → Result ℕ Refusal
-file_by rows number = option_map_or (λ file. Ok file) (handle_file rows number) (Err NoHandle)
+file_by rows number = file_written (reads_by rows number)
 
 -- the version stands later: its file's number is greater, or the file is the same and its own number is
 abbrev pub is_version_after : ℕ → ℕ → VersionRow → Bool

@@ -27,4 +27,4 @@ pub use list::KeyList;
 pub use pass::PassEnd;
 pub use refusal::{Refusal, Stop, Which};
 pub use reply::Reply;
-pub use rows::{DirectoryRow, DraftRow, FileRow, HandleRow, NameRow, Target, VersionRow};
+pub use rows::{DirectoryRow, DraftRow, FileRow, HandleRow, NameRow, Reads, Target, VersionRow};

@@ -55,9 +55,16 @@ pub struct DraftRow {
     pub changed: bool,
 }
 
-/// A handle by which the file's draft is written.
+/// What is read through a handle.
+#[derive(Clone, Copy, Debug, PartialEq, Eq)]
+pub enum Reads {
+    /// The file's draft, which the handle writes too.
+    Draft(FileId),
+}
+
+/// An open handle, and what is read through it.
 #[derive(Clone, Copy, Debug, PartialEq, Eq)]
 pub struct HandleRow {
     pub number: Handle,
-    pub file: FileId,
+    pub reads: Reads,
 }

@@ -1,27 +1,37 @@
 //! What is asked of files, versions, drafts and handles.
 //! A contract sees each answer as a look at the rows.
-ghost use Rattle.std.specs.Prelude.{◌≡◌, ◌<◌, ◌+◌, ◌^◌, IfOk, length, find, is_some, if◌then◌else◌};
+ghost use Rattle.std.specs.Prelude.{◌≡◌, ◌<◌, ◌+◌, ◌^◌, Ok, IfOk, length, find, is_some, if◌then◌else◌};
 ghost use Rattle.std.specs.List.{list_any};
 ghost use Rattle.std.specs.Option.{option_map};
 ghost use Rattle.ele_content.specs.Content.{content_of};
 ghost use Rattle.ele_files.specs.Asked.{stamps_of};
 ghost use Rattle.ele_files.specs.Held.{cells_of_draft};
-ghost use Rattle.ele_sessions.specs.declared.reads.Reads.TheVariants as read;
-ghost use Rattle.ele_world.specs.World.{policy_of, next_of, is_version, is_draft, handle_file};
+ghost use Rattle.ele_files.specs.Inside.{reads_in};
+ghost use Rattle.ele_world.specs.World.{policy_of, next_of, is_version, is_draft, reads_by, file_written, file_by};
 
 use crate::files::{Files, place_of};
 use crate::stamps::Stamps;
 use ele_inode_log::Meter;
 use ele_moment::{ByteList, FileId, Handle, ListOf, NoMemory, VersionNo};
 use ele_policy::Policy;
-use ele_sessions::Reads;
+use ele_world::{Reads, Refusal};
 
-/// The file whose draft is read.
-pub fn draft_file(reads: Reads) -> FileId
-    ensures { reads ≡ read.Draft result }
+/// What a handle of the sessions reads, as its row says it.
+pub fn reads_in(reads: ele_sessions::Reads) -> Reads
+    ensures { result ≡ reads_in reads }
 {
-    let Reads::Draft(file) = reads;
-    file
+    match reads {
+        ele_sessions::Reads::Draft(file) => Reads::Draft(file),
+    }
+}
+
+/// The file that a handle writes that reads this.
+fn file_written(reads: Reads) -> Result<FileId, Refusal>
+    ensures { result ≡ file_written (Ok reads) }
+{
+    match reads {
+        Reads::Draft(file) => Ok(file),
+    }
 }
 
 impl Files {
@@ -60,12 +70,24 @@ impl Files {
         })
     }
 
-    /// The file that is written through the handle; none where no open handle has that number.
-    pub fn handle_file(&self, handle: Handle) -> Option<FileId>
-        ensures { result ≡ handle_file self.now.handles handle }
+    /// What is read through the handle. Refused: `NoHandle`, where no open handle has that number.
+    pub fn reads_by(&self, handle: Handle) -> Result<Reads, Refusal>
+        ensures { result ≡ reads_by self.now.handles handle }
     {
-        let reads = self.sessions.read(handle)?;
-        Some(draft_file(reads))
+        match self.sessions.read(handle) {
+            Some(reads) => Ok(reads_in(reads)),
+            None => Err(Refusal::NoHandle),
+        }
+    }
+
+    /// The file that is written through the handle. Refused: `NoHandle`.
+    pub fn file_by(&self, handle: Handle) -> Result<FileId, Refusal>
+        ensures { result ≡ file_by self.now.handles handle }
+    {
+        match self.reads_by(handle) {
+            Ok(reads) => file_written(reads),
+            Err(refusal) => Err(refusal),
+        }
     }
 
     /// How many handles were ever opened.

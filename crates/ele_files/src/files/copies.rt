@@ -10,7 +10,7 @@ ghost use Rattle.ele_inode_log.specs.Rows.{is_after};
 
 use crate::file::File;
 use crate::files::Files;
-use crate::files::asking::draft_file;
+use crate::files::asking::reads_in;
 use ele_blocks::{BlockMap, BlockStore};
 use ele_inode_log::{Meter, VersionRow as LogRow};
 use ele_moment::{ListOf, NoMemory, VersionNo};
@@ -75,8 +75,8 @@ impl Files {
         let mut rows = Vec::new(self.alloc);
         while let Some(handle) = self.sessions.handle_at(rows.len()) {
             let (number, reads) = handle;
-            let file = draft_file(reads);
-            rows.push(HandleRow { number, file })?;
+            let reads = reads_in(reads);
+            rows.push(HandleRow { number, reads })?;
         }
         Ok(ListOf::from_vec(rows))
     }

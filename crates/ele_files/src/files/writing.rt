@@ -2,10 +2,9 @@
 //! A contract sees the list of drafts, in which one has other cells.
 ghost use Rattle.std.specs.Prelude.{◌≡◌, [], OnOk, OnErr, IfNone, IsOk, IsOkUnless, IsErrOf, IsSome, IsTrue};
 ghost use Rattle.std.specs.Option.{ForSome};
-ghost use Rattle.ele_files.specs.Held.{written_by, fitted, has_length};
+ghost use Rattle.ele_files.specs.Held.{handle_file, written_by, fitted, has_length};
 ghost use Rattle.ele_sessions.specs.Changes.{write_refusal_of, truncate_refusal_of};
 ghost use Rattle.ele_sessions.specs.declared.fault.SessionFault.TheVariants as SessionFault;
-ghost use Rattle.ele_world.specs.World.{handle_file};
 
 use crate::files::Files;
 use ele_moment::Handle;

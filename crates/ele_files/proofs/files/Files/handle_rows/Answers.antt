@@ -13,9 +13,9 @@ loop-handle-smaller c =
 pub loop-handle-preserved : goal.loop-handle-preserved
 loop-handle-preserved c =
     let hs = c.self.inside.sessions.handles in
-    let next = handle-next hs (vec_len c.loop-handle.rows) c.in-Some.handle (rw c.len.ensures at c.in-Some.ensures) c.draft_file-file.result c.draft_file-file.ensures in
+    let next = handle-next hs (vec_len c.loop-handle.rows) c.in-Some.handle (rw c.len.ensures at c.in-Some.ensures) c.reads_in-reads.result c.reads_in-reads.ensures in
     let more = ap (λ n. map handle_in (take n hs)) c.in_ok-push.ensures.len in
-    c.in_ok-push.ensures.items ∙ (ap (λ rows. rows ++ record { number = c.in-Some.handle.0; file = c.draft_file-file.result } ∷ []) c.loop-handle.invariant ∙ (sym next ∙ sym more))
+    c.in_ok-push.ensures.items ∙ (ap (λ rows. rows ++ record { number = c.in-Some.handle.0; reads = c.reads_in-reads.result } ∷ []) c.loop-handle.invariant ∙ (sym next ∙ sym more))
 
 pub returns : goal.returns
 returns c =
