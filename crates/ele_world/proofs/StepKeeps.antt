@@ -1,10 +1,10 @@
 -- Each step, and so each run, keeps a world well formed.
 use Rattle.std.proofs.Common.{◌≡◌, ℕ, true, false, List, [], ◌∷◌, refl, arith}
 use Rattle.std.specs.List.{AllByRecursion}
-use Rattle.ele_world.specs.Bounds.{Bounds}
+use Rattle.ele_world.specs.Bounds.{Bounds, AreBounds}
 use Rattle.ele_world.specs.Run.{run_of, IsEvent}
 use Rattle.ele_world.specs.Step.{plan, step}
-use Rattle.ele_world.specs.WellFormed.{Part, Now, Counted, Directories, Files, Names, Versions, Drafts, Handles, Current, Holds, IsWellFormed}
+use Rattle.ele_world.specs.WellFormed.{Part, Now, Bounded, Counted, Directories, Files, Names, Versions, Drafts, Handles, Current, Holds, IsWellFormed}
 use Rattle.ele_world.specs.World.{World, fresh_world}
 use Rattle.ele_world.specs.declared.event.Event.{Event}
 use Rattle.ele_world.proofs.Allowed.{allowed}
@@ -14,10 +14,11 @@ use Rattle.ele_world.proofs.Keeps.{all_keep, reached}
 pub step_keeps : (w : World) (event : Event) → IsEvent event → IsWellFormed w → IsWellFormed ((step w event).1)
 step_keeps w event is k = let by = reached event w (plan w event) (allowed w event k) in rw by.is (all_keep event w w by.changes is by.may k)
 
-pub fresh_is : (limits : Bounds) → IsWellFormed (fresh_world limits)
-fresh_is limits = record { holds = by } where
+pub fresh_is : (limits : Bounds) → AreBounds limits → IsWellFormed (fresh_world limits)
+fresh_is limits bounds = record { holds = by } where
   by : (part : Part) → Holds (fresh_world limits) part
   by Now = omega arith
+  by Bounded = bounds
   by Counted = record { files_made = omega arith; names_made = omega arith; versions_made = omega arith; handles_made = omega arith; file_rows = omega arith; name_rows = omega arith; version_rows = omega arith }
   by Directories = record { rooted = refl; policies = (record { some = omega arith; fits = omega arith }, tt); placed = (tt, tt) }
   by Files = record { each = tt; placed = tt }

@@ -2,17 +2,18 @@
 use Rattle.std.specs.Prelude.{List}
 use Rattle.std.specs.List.{AllByRecursion}
 use Rattle.ele_world.specs.declared.event.Event.{Event}
-use Rattle.ele_world.specs.Bounds.{Bounds}
+use Rattle.ele_world.specs.Bounds.{Bounds, AreBounds}
 use Rattle.ele_world.specs.Run.{run_of, IsEvent}
 use Rattle.ele_world.specs.Step.{step}
 use Rattle.ele_world.specs.WellFormed.{IsWellFormed}
 use Rattle.ele_world.specs.World.{World, fresh_world}
 
 abbrev pub FreshIsWellFormed : Type 0
-FreshIsWellFormed = (limits : Bounds) → IsWellFormed (fresh_world limits)
+FreshIsWellFormed = (limits : Bounds) → AreBounds limits → IsWellFormed (fresh_world limits)
 
 abbrev pub StepKeepsWellFormed : Type 0
 StepKeepsWellFormed = (w : World) (event : Event) → IsEvent event → IsWellFormed w → IsWellFormed ((step w event).1)
 
 abbrev pub AlwaysWellFormed : Type 0
-AlwaysWellFormed = (limits : Bounds) (events : List Event) → AllByRecursion IsEvent events → IsWellFormed (run_of (fresh_world limits) events)
+AlwaysWellFormed =
+    (limits : Bounds) (events : List Event) → AreBounds limits → AllByRecursion IsEvent events → IsWellFormed (run_of (fresh_world limits) events)

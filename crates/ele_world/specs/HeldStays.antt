@@ -3,7 +3,7 @@ use Rattle.std.specs.Prelude.{◌≡◌, ℕ, List, Some, find}
 use Rattle.std.specs.List.{AllByRecursion}
 use Rattle.ele_world.specs.declared.event.Event.{Event}
 use Rattle.ele_world.specs.declared.rows.VersionRow.{VersionRow}
-use Rattle.ele_world.specs.Bounds.{Bounds}
+use Rattle.ele_world.specs.Bounds.{Bounds, AreBounds}
 use Rattle.ele_world.specs.Run.{run_of, IsEvent}
 use Rattle.ele_world.specs.Step.{step}
 use Rattle.ele_world.specs.WellFormed.{IsWellFormed}
@@ -26,5 +26,5 @@ HeldStays = (w : World) (event : Event) → IsWellFormed w → AllByRecursion (S
 
 abbrev pub HeldStaysInRuns : Type 0
 HeldStaysInRuns =
-    (limits : Bounds) (events : List Event) (event : Event) → AllByRecursion IsEvent events → IsEvent event
+    (limits : Bounds) (events : List Event) (event : Event) → AreBounds limits → AllByRecursion IsEvent events → IsEvent event
     → let w = run_of (fresh_world limits) events in AllByRecursion (StaysSame w event) w.versions

@@ -4,7 +4,7 @@ use Rattle.std.specs.List.{AllByRecursion}
 use Rattle.ele_world.specs.declared.event.Event.{Event}
 use Rattle.ele_world.specs.declared.event.Event.TheVariants.{CleanOne}
 use Rattle.ele_world.specs.declared.rows.VersionRow.{VersionRow}
-use Rattle.ele_world.specs.Bounds.{Bounds}
+use Rattle.ele_world.specs.Bounds.{Bounds, AreBounds}
 use Rattle.ele_world.specs.Due.{is_due_at}
 use Rattle.ele_world.specs.Run.{run_of, IsEvent}
 use Rattle.ele_world.specs.Step.{step}
@@ -21,5 +21,5 @@ OnlyDueLeave = (w : World) (event : Event) → IsWellFormed w → AllByRecursion
 
 abbrev pub OnlyDueLeaveInRuns : Type 0
 OnlyDueLeaveInRuns =
-    (limits : Bounds) (events : List Event) (event : Event) → AllByRecursion IsEvent events → IsEvent event
+    (limits : Bounds) (events : List Event) (event : Event) → AreBounds limits → AllByRecursion IsEvent events → IsEvent event
     → let w = run_of (fresh_world limits) events in AllByRecursion (StaysOrWasDue w event) w.versions

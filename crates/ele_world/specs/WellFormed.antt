@@ -6,7 +6,7 @@ use Rattle.ele_content.specs.Content.{content_of, longest_content, fill_slots}
 use Rattle.ele_moment.specs.Last.{last_moment}
 pub use Rattle.ele_moment.specs.Lists.{AllLater}
 use Rattle.ele_policy.specs.Policy.{IsPolicy}
-use Rattle.ele_world.specs.Bounds.{Bounds}
+use Rattle.ele_world.specs.Bounds.{Bounds, AreBounds}
 use Rattle.ele_world.specs.declared.limits.Counts.{Counts}
 use Rattle.ele_world.specs.declared.rows.DirectoryRow.{DirectoryRow}
 use Rattle.ele_world.specs.declared.rows.DraftRow.{DraftRow}
@@ -134,6 +134,7 @@ HaveCurrent w = (file : ℕ) → is_live w file ≡ true → list_any (is_curren
 
 pub data Part : Type 0 where
   Now : Part
+  Bounded : Part
   Counted : Part
   Directories : Part
   Files : Part
@@ -145,6 +146,7 @@ pub data Part : Type 0 where
 
 abbrev pub Holds : World → Part → Type 0
 Holds w Now = w.now ≤ last_moment
+Holds w Bounded = AreBounds w.limits
 Holds w Counted = AreCounted w.made w.limits (length w.files) (length w.names) (length w.versions) (length w.drafts)
 Holds w Directories = AreDirectories w.directories
 Holds w Files = AreFiles w.made.files w.made.versions w.files
