@@ -1,7 +1,7 @@
 -- How many rows a sound core may have.
-use Rattle.std.proofs.Common.{◌≡◌, ℕ, ◌+◌, ◌<◌, ◌≤◌, length, arith}
+use Rattle.std.proofs.Common.{◌+◌, ◌<◌, ◌≤◌, length, arith}
 use Rattle.std.specs.List.{AllByRecursion}
-use Rattle.ele_core.specs.Inside.{world_of, IsSound}
+use Rattle.ele_core.specs.Inside.{IsSound}
 use Rattle.ele_core.specs.declared.rows.Rows.{Rows}
 use Rattle.ele_moment.proofs.Edits.{all-weaker}
 use Rattle.ele_world.specs.WellFormed.{IsFile, Counted, Files}

@@ -1,7 +1,6 @@
 -- After a create its path leads to the new file.
-use Rattle.std.proofs.Common.{◌≡◌, ℕ, suc, zero, ◌+◌, ◌-◌, ◌<◌, Bool, true, false, ◌&&◌, List, [], ◌∷◌, ◌++◌, length, take, Option, Some, None, Result, Ok, Err, refl, ap, sym, subst, ◌∙◌, arith, eqb}
+use Rattle.std.proofs.Common.{◌≡◌, ℕ, suc, zero, ◌+◌, ◌-◌, ◌<◌, true, false, List, [], ◌∷◌, ◌++◌, length, take, Option, Some, None, Result, Ok, Err, refl, ap, sym, subst, ◌∙◌, arith, eqb}
 use Rattle.std.specs.Prelude.{find, is_some, slice_get}
-use Rattle.std.specs.List.{AllByRecursion}
 use Rattle.std.specs.Option.{option_map, option_map_or}
 use Rattle.std.specs.Str.{bytes_eq}
 use Rattle.std.proofs.lemmas.Bool.{false≢true}
@@ -18,7 +17,6 @@ use Rattle.ele_world.specs.World.{World, root, default_of, next_of, is_version, 
 use Rattle.ele_world.specs.declared.event.Event.TheVariants.{Create}
 use Rattle.ele_world.specs.declared.refusal.Refusal.{Refusal}
 use Rattle.ele_world.specs.declared.refusal.Refusal.TheVariants.{NoEntry, IsRoot}
-use Rattle.ele_world.specs.declared.reply.Reply.{Reply}
 use Rattle.ele_world.specs.declared.reply.Reply.TheVariants as reply
 use Rattle.ele_world.specs.declared.rows.NameRow.{NameRow}
 use Rattle.ele_world.specs.declared.rows.Target.{Target}
@@ -132,8 +130,20 @@ module _ (w : World) (path : List (List ℕ)) (at : ℕ × List ℕ) (policy : P
 pub create_leads : (w : World) (path : List (List ℕ)) (file : ℕ) → IsWellFormed w → (step w (Create path)).0 ≡ reply.File file → LeadsToNew path file ((step w (Create path)).1)
 create_leads w path file k = in_all w (λ answer. answer.0 ≡ reply.File file → LeadsToNew path file (answer.1)) (plan w (Create path)) (
   λ refusal e. absurd cc,
-  λ at found. (λ e. absurd cc, λ free. (λ e. absurd cc, λ files. (λ e. absurd cc, λ names. (λ e. absurd cc, λ versions. λ e.
-      let same : w.made.files + 1 ≡ file = cc in
-      let policy = default_of w.directories at.0 in
-      rw (made_is w at.0 at.1 policy k) (subst (λ n. LeadsToNew path n (created w at.0 at.1 (w.made.files + 1) policy)) same (leads_to w path at policy k found free)))))),
+  λ at found. (
+    λ e. absurd cc,
+    λ free. (
+      λ e. absurd cc,
+      λ files. (
+        λ e. absurd cc,
+        λ names. (
+          λ e. absurd cc,
+          λ versions. λ e.
+              let same : w.made.files + 1 ≡ file = cc in
+              let policy = default_of w.directories at.0 in
+              rw (made_is w at.0 at.1 policy k) (subst (λ n. LeadsToNew path n (created w at.0 at.1 (w.made.files + 1) policy)) same (leads_to w path at policy k found free)),
+        ),
+      ),
+    ),
+  ),
 )

@@ -1,5 +1,5 @@
 -- How changes of the world change usage.
-use Rattle.std.proofs.Common.{◌≡◌, ℕ, ◌+◌, ◌-◌, ◌*◌, ◌^◌, ◌<◌, ◌≤◌, Bool, true, false, not, cond, List, [], ◌∷◌, ◌++◌, length, Some, refl, ap, sym, ◌∙◌, arith, eqb}
+use Rattle.std.proofs.Common.{◌≡◌, ℕ, ◌+◌, ◌*◌, ◌^◌, ◌<◌, ◌≤◌, Bool, true, false, not, cond, List, [], ◌∷◌, ◌++◌, length, Some, refl, ap, sym, ◌∙◌, arith, eqb}
 use Rattle.std.specs.Prelude.{filter}
 use Rattle.std.specs.List.{AllByRecursion, flat_map, list_any}
 use Rattle.std.proofs.lemmas.Bool.Decides.{nat_tests}
@@ -21,16 +21,16 @@ use Rattle.ele_world.specs.declared.rows.VersionRow.{VersionRow}
 use Rattle.ele_world.specs.declared.rows.DraftRow.{DraftRow}
 use Rattle.ele_world.specs.Usage.{is_of, is_file_of, places_from, places, bytes_in, usage_of, usages}
 use Rattle.ele_world.specs.Whole.{whole, part, ChangesOnly}
-use Rattle.ele_world.specs.World.{World, policy_of, is_file, next_of, default_of, is_draft, is_draft_after, is_version}
+use Rattle.ele_world.specs.World.{World, policy_of, is_file, next_of, is_draft, is_version}
 use Rattle.ele_world.specs.declared.rows.FileRow.{FileRow}
 use Rattle.ele_world.proofs.Created.{new_file, first_version, created}
 use Rattle.ele_world.proofs.Opened.{opened}
 use Rattle.ele_world.specs.WellFormed.{IsContent, IsFile, IsVersion, IsDraft, Counted, Files, Versions, Drafts, IsWellFormed}
 use Rattle.ele_content.specs.Content.{content_of, longest_content}
 use Rattle.ele_moment.proofs.Edits.{all-weaker}
-use Rattle.ele_moment.specs.Lists.{update_first, remove_first, insert_before}
+use Rattle.ele_moment.specs.Lists.{update_first, remove_first}
 use Rattle.ele_world.specs.Bounds.{AreBounds}
-use Rattle.ele_world.proofs.Others.{other_drafts, drafts-updated, drafts-removed, drafts-begun, drafts-opened, versions-removed, versions-finished, kinds-numbered, files-numbered}
+use Rattle.ele_world.proofs.Others.{other_drafts, drafts-updated, drafts-opened, versions-removed}
 use Rattle.ele_world.proofs.Splits.{bytes_in-cons, split_length, filter-same, filter-same_all, filter-swap, Splits, count_sum, bytes_sum, blocks_sum, count_splits, bytes_splits, blocks_splits}
 
 -- ---- the rows of some files

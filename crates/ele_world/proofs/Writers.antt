@@ -1,6 +1,6 @@
 -- Who wrote the cells that a write or a truncate leaves.
-use Rattle.std.proofs.Common.{◌≡◌, ℕ, suc, zero, ◌+◌, ◌≤◌, Bool, true, false, cond, List, [], ◌∷◌, length, map, Option, Some, None, arith, eqb}
-use Rattle.std.specs.Prelude.{min, slice_get}
+use Rattle.std.proofs.Common.{ℕ, suc, zero, ◌+◌, ◌≤◌, Bool, true, false, cond, List, [], ◌∷◌, length, map, arith, eqb}
+use Rattle.std.specs.Prelude.{min}
 use Rattle.std.specs.List.{AllByRecursion, range_with_len}
 use Rattle.ele_content.specs.declared.cell.Cell.{Cell}
 use Rattle.ele_content.specs.Content.{content_of, spliced, resized, slot_bytes, slot_count, writer_at, meets, refits, written, truncated}

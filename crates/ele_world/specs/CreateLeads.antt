@@ -1,5 +1,5 @@
 -- After a create its path leads to the new file, whose current version is empty.
-use Rattle.std.specs.Prelude.{◌≡◌, ℕ, List, [], Option, Some, Ok}
+use Rattle.std.specs.Prelude.{◌≡◌, ℕ, List, [], Some, Ok}
 use Rattle.std.specs.Option.{option_map}
 use Rattle.ele_world.specs.declared.event.Event.TheVariants.{Create}
 use Rattle.ele_world.specs.declared.reply.Reply.TheVariants.{File}
