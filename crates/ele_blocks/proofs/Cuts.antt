@@ -9,7 +9,7 @@ use Rattle.ele_blocks.specs.declared.slot.Slot.{Slot}
 use Rattle.ele_content.specs.declared.cell.Cell.{Cell}
 use Rattle.ele_blocks.specs.Shared.{times, Trades, Covers}
 use Rattle.ele_blocks.specs.Store.{Store}
-use Rattle.ele_content.specs.Content.{content_of, resized, slot_count, refits, writer_at, truncated}
+use Rattle.ele_content.specs.Content.{content_of, content_after_truncate, slot_count, refits, writer_at, cells_after_truncate}
 use Rattle.ele_blocks.specs.Layout.{Layout, shown, cell_of, cell_by, ids_of, is_between}
 use Rattle.ele_blocks.specs.Pieces.{pieces}
 use Rattle.ele_blocks.specs.LaidOver.{laid_over}
@@ -132,12 +132,12 @@ module _ (s : Store) (m : Layout) (w size f kept : ℕ) (staged : List (List ℕ
       let yes : ltb size m.size ≡ true = grind (arith, nat_tests) in
       rw (no, yes, is_f, is_kept) (cuts_between size slot)
 
-  pub cut_cells : take kept (laid_over f (map (cell_by w) staged) (shown s m)) ≡ truncated w size (shown s m)
-  unfolding truncated
+  pub cut_cells : take kept (laid_over f (map (cell_by w) staged) (shown s m)) ≡ cells_after_truncate w size (shown s m)
+  unfolding cells_after_truncate
   cut_cells =
       let laid = laid_over f (map (cell_by w) staged) (shown s m) in
       let none : size - length (content_of (shown s m)) ≡ 0 = omega (arith, length-content s m lives.whole, short) in
-      let content : resized (content_of (shown s m)) size ≡ take size (content_of (shown s m)) = rw none (append-nil (take size (content_of (shown s m)))) in
+      let content : content_after_truncate (content_of (shown s m)) size ≡ take size (content_of (shown s m)) = rw none (append-nil (take size (content_of (shown s m)))) in
       rw (content, length-content s m lives.whole)
       (cells_by_slots (take kept laid) (take size (content_of (shown s m))) (λ slot. cond (refits m.size size slot) w (writer_at (shown s m) slot)) each_after
       (λ k lt.
@@ -173,13 +173,13 @@ module _ (s : Store) (m : Layout) (w size f kept : ℕ) (staged : List (List ℕ
         kept = λ q lt. releases.kept q (omega (arith, trades.owed q, times-mid q)) ∙ trades.kept q lt;
       }
 
-      cut_shown : shown u after ≡ truncated w size (shown s m)
+      cut_shown : shown u after ≡ cells_after_truncate w size (shown s m)
       cut_shown = cut_shows ∙ cut_cells
 
-      cut_content : content_of (shown u after) ≡ resized (content_of (shown s m)) size
+      cut_content : content_of (shown u after) ≡ content_after_truncate (content_of (shown s m)) size
       cut_content =
           let none : size - length (content_of (shown s m)) ≡ 0 = omega (arith, length-content s m lives.whole, short) in
-          let all : resized (content_of (shown s m)) size ≡ take size (content_of (shown s m)) = rw none (append-nil (take size (content_of (shown s m)))) in
+          let all : content_after_truncate (content_of (shown s m)) size ≡ take size (content_of (shown s m)) = rw none (append-nil (take size (content_of (shown s m)))) in
           ap content_of cut_shows ∙ (content_each (take kept (laid_over f (map (cell_by w) staged) (shown s m))) ∙ (ap concat each_after ∙ (pieces_whole (take size (content_of (shown s m))) ∙ sym all)))
 
       cut_moves : Moves s u (m ∷ []) (after ∷ [])
@@ -202,5 +202,5 @@ module _ (s : Store) (m : Layout) (w size f kept : ℕ) (staged : List (List ℕ
             once = λ id zero. omega (arith, renews.once id zero, releases.owed id);
           }
 
-      pub cut_change : IsChange s u w (refits m.size size) (resized (content_of (shown s m)) size) (truncated w size (shown s m)) m after
+      pub cut_change : IsChange s u w (refits m.size size) (content_after_truncate (content_of (shown s m)) size) (cells_after_truncate w size (shown s m)) m after
       cut_change = record { content = cut_content; cells = cut_shown; moves = cut_moves; renews = cut_renews }

@@ -4,7 +4,7 @@ use Rattle.std.specs.List.{concat}
 use Rattle.std.proofs.str.Laws.{order}
 use Rattle.std.proofs.lemmas.List.{append-nil, length-replicate, take-append-drop, take-append-le, drop-append-le, drop-drop, drop_all}
 use Rattle.std.proofs.lemmas.List.Folds.{concat-append}
-use Rattle.ele_content.specs.Content.{spliced}
+use Rattle.ele_content.specs.Content.{content_after_write}
 use Rattle.ele_blocks.specs.Pieces.{pieces}
 use Rattle.ele_blocks.specs.LaidOver.{laid_over}
 use Rattle.ele_blocks.proofs.Sizes.{AreSized, sized-is, sized-count, sized-length, sized-take, sized-drop}
@@ -16,7 +16,7 @@ take_past [] ys a n e = let same : n ≡ a = omega (arith, e) in rw same refl
 take_past (x ∷ xs) ys a zero e = absurd (omega (arith, e))
 take_past (x ∷ xs) ys a (suc n) e = ap (λ zs. x ∷ zs) (take_past xs ys a n (omega (arith, e)))
 
-pub length-spliced : (content : List ℕ) (offset : ℕ) (bytes : List ℕ) → length (spliced content offset bytes) ≡ max (length content) (offset + length bytes)
+pub length-spliced : (content : List ℕ) (offset : ℕ) (bytes : List ℕ) → length (content_after_write content offset bytes) ≡ max (length content) (offset + length bytes)
 length-spliced content offset bytes =
     let t = take offset content in
     let z : List ℕ = replicate (offset - length content) 0 in
@@ -24,7 +24,7 @@ length-spliced content offset bytes =
     omega (arith, length-append (t ++ z ++ bytes) d, length-append (t ++ z) bytes, length-append t z, length-take offset content, length-replicate {A = ℕ} (offset - length content) 0, length-drop (offset + length bytes) content)
 
 -- what stands before the offset stays
-pub spliced-front : (xs ys : List ℕ) (a offset : ℕ) (bytes : List ℕ) → offset ≡ length xs + a → spliced (xs ++ ys) offset bytes ≡ xs ++ spliced ys a bytes
+pub spliced-front : (xs ys : List ℕ) (a offset : ℕ) (bytes : List ℕ) → offset ≡ length xs + a → content_after_write (xs ++ ys) offset bytes ≡ xs ++ content_after_write ys a bytes
 spliced-front xs ys a offset bytes e =
     let t = take a ys in
     let z : List ℕ = replicate (a - length ys) 0 in
@@ -34,7 +34,7 @@ spliced-front xs ys a offset bytes e =
     (ap (λ l. l ++ bytes ++ d) (append_assoc xs t z) ∙ (ap (λ l. l ++ d) (append_assoc xs (t ++ z) bytes) ∙ append_assoc xs (t ++ z ++ bytes) d))
 
 -- what stands behind the bytes stays
-pub spliced-back : (xs ys : List ℕ) (offset : ℕ) (bytes : List ℕ) → offset + length bytes ≤ length xs → spliced (xs ++ ys) offset bytes ≡ spliced xs offset bytes ++ ys
+pub spliced-back : (xs ys : List ℕ) (offset : ℕ) (bytes : List ℕ) → offset + length bytes ≤ length xs → content_after_write (xs ++ ys) offset bytes ≡ content_after_write xs offset bytes ++ ys
 spliced-back xs ys offset bytes fits =
     let gap : offset - length (xs ++ ys) ≡ offset - length xs = omega (arith, length-append xs ys) in
     rw (take-append-le offset xs ys (omega arith), drop-append-le (offset + length bytes) xs ys fits, gap)
@@ -74,7 +74,7 @@ module _ (n f l a : ℕ) (bytes : List ℕ) (each : List (List ℕ)) (sized : Ar
   length-window = sized-length (min (n - 512 * f) (512 * (l - f))) (take (l - f) (drop f each)) (sized-take (l - f) (n - 512 * f) (drop f each) (sized-drop f n each sized))
 
   abbrev pub patch : List ℕ
-  patch = spliced window a bytes
+  patch = content_after_write window a bytes
 
   length-patch : length patch ≡ max (min (n - 512 * f) (512 * (l - f))) (a + length bytes)
   length-patch = rw (length-spliced window a bytes, length-window) refl
@@ -89,13 +89,13 @@ module _ (n f l a : ℕ) (bytes : List ℕ) (each : List (List ℕ)) (sized : Ar
       ∙ (concat-append (take f each) (take (l - f) (drop f each) ++ drop l each)
       ∙ ap (λ ys. front ++ ys) (concat-append (take (l - f) (drop f each)) (drop l each)))
 
-  around : spliced (concat each) (512 * f + a) bytes ≡ front ++ spliced (window ++ concat (drop l each)) a bytes
-  around = ap (λ c. spliced c (512 * f + a) bytes) parts ∙ spliced-front front (window ++ concat (drop l each)) a (512 * f + a) bytes (omega (arith, length-front))
+  around : content_after_write (concat each) (512 * f + a) bytes ≡ front ++ content_after_write (window ++ concat (drop l each)) a bytes
+  around = ap (λ c. content_after_write c (512 * f + a) bytes) parts ∙ spliced-front front (window ++ concat (drop l each)) a (512 * f + a) bytes (omega (arith, length-front))
 
   before : (ys : List ℕ) → pieces (front ++ ys) ≡ take f each ++ pieces ys
   before ys = pieces-append f front ys length-front ∙ ap (λ xs. xs ++ pieces ys) (pieces_joined (512 * f) (take f each) front_sized)
 
-  pub pieces_patched : pieces (spliced (concat each) (512 * f + a) bytes) ≡ laid_over f (pieces patch) each
+  pub pieces_patched : pieces (content_after_write (concat each) (512 * f + a) bytes) ≡ laid_over f (pieces patch) each
   pieces_patched = ⊎_elim
       (λ (inside : l < length each).
       let full : length window ≡ 512 * (l - f) = omega (arith, length-window, inside, count) in
@@ -113,7 +113,7 @@ module _ (n f l a : ℕ) (bytes : List ℕ) (each : List (List ℕ)) (sized : Ar
       let none : drop l each ≡ [] = drop_all l each past in
       let far : length each ≤ f + length (pieces patch) = omega (arith, patched-count, is_l, past) in
       let all : window ++ concat (drop l each) ≡ window = ap (λ ys. window ++ concat ys) none ∙ append-nil window in
-      ap pieces (around ∙ ap (λ c. front ++ spliced c a bytes) all)
+      ap pieces (around ∙ ap (λ c. front ++ content_after_write c a bytes) all)
       ∙ (before patch
       ∙ ap (λ ys. take f each ++ ys) (sym (ap (λ ys. pieces patch ++ ys) (drop_all (f + length (pieces patch)) each far) ∙ append-nil (pieces patch)))))
       (order l (length each))

@@ -3,21 +3,21 @@ use Rattle.std.proofs.Common.{◌≡◌, ℕ, ◌+◌, ◌-◌, ◌<◌, ◌≤�
 use Rattle.std.proofs.lemmas.Bool.Decides.{nat_tests}
 use Rattle.std.proofs.lemmas.List.{append-nil, length-append, length-replicate, length-take, drop_all}
 use Rattle.ele_content.specs.declared.cell.Cell.{Cell}
-use Rattle.ele_content.specs.Content.{content_of, spliced, resized, meets, refits, written, truncated}
+use Rattle.ele_content.specs.Content.{content_of, content_after_write, content_after_truncate, meets, refits, cells_after_write, cells_after_truncate}
 
 -- a content that grows is one that is written with no bytes behind its end
-pub grown_content : (content : List ℕ) (size : ℕ) → length content ≤ size → spliced content size [] ≡ resized content size
+pub grown_content : (content : List ℕ) (size : ℕ) → length content ≤ size → content_after_write content size [] ≡ content_after_truncate content size
 grown_content content size le =
     let none : drop (size + 0) content ≡ [] = drop_all (size + 0) content (omega arith) in
     let zeros : List ℕ = replicate (size - length content) 0 in
     ap (λ l. take size content ++ zeros ++ [] ++ l) none
     ∙ (append-nil (take size content ++ zeros ++ []) ∙ append-nil (take size content ++ zeros))
 
-pub length-resized : (content : List ℕ) (size : ℕ) → length (resized content size) ≡ size
+pub length-resized : (content : List ℕ) (size : ℕ) → length (content_after_truncate content size) ≡ size
 length-resized content size = omega (arith, length-append (take size content) (replicate (size - length content) 0), length-take size content, length-replicate {A = ℕ} (size - length content) 0)
 
-pub truncated_grown : (w size : ℕ) (cells : List Cell) → length (content_of cells) < size → written w size [] cells ≡ truncated w size cells
-unfolding written truncated
+pub truncated_grown : (w size : ℕ) (cells : List Cell) → length (content_of cells) < size → cells_after_write w size [] cells ≡ cells_after_truncate w size cells
+unfolding cells_after_write cells_after_truncate
 truncated_grown w size cells lt =
     let content = content_of cells in
     let new = grown_content content size (omega arith) in

@@ -3,7 +3,7 @@ use Rattle.std.proofs.Common.{◌≡◌, ℕ, ◌+◌, ◌-◌, ◌≤◌, Bool,
 use Rattle.std.proofs.lemmas.Bool.{false≢true}
 use Rattle.std.proofs.lemmas.Bool.Decides.{nat_tests}
 use Rattle.std.proofs.lemmas.List.{append-nil, nil_from_length, take-append-drop, take_all}
-use Rattle.ele_content.specs.Content.{content_of, spliced, resized, meets, refits, writer_at, written, truncated}
+use Rattle.ele_content.specs.Content.{content_of, content_after_write, content_after_truncate, meets, refits, writer_at, cells_after_write, cells_after_truncate}
 use Rattle.ele_blocks.specs.Layout.{Layout, shown}
 use Rattle.ele_blocks.specs.LivesIn.{LivesIn}
 use Rattle.ele_blocks.specs.Owes.{Moves}
@@ -31,14 +31,14 @@ module _ (s : Store) (m : Layout) (w : ℕ) (lives : LivesIn s m) where
   }
 
   -- a truncate to the length that it has
-  pub same_content : resized (content_of (shown s m)) m.size ≡ content_of (shown s m)
+  pub same_content : content_after_truncate (content_of (shown s m)) m.size ≡ content_of (shown s m)
   same_content =
       let size = length-content s m lives.whole in
       let none : m.size - length (content_of (shown s m)) ≡ 0 = omega (arith, size) in
       rw none (append-nil (take m.size (content_of (shown s m))) ∙ take_all m.size (content_of (shown s m)) (omega (arith, size)))
 
-  pub truncated_same : shown s m ≡ truncated w m.size (shown s m)
-  unfolding truncated
+  pub truncated_same : shown s m ≡ cells_after_truncate w m.size (shown s m)
+  unfolding cells_after_truncate
   truncated_same =
       let size = length-content s m lives.whole in
       let cells = shown s m in
@@ -53,7 +53,7 @@ module _ (s : Store) (m : Layout) (w : ℕ) (lives : LivesIn s m) where
     empty : x ≡ []
     empty = nil_from_length x (omega (arith, none))
 
-    pub same_splice : spliced (content_of (shown s m)) o x ≡ content_of (shown s m)
+    pub same_splice : content_after_write (content_of (shown s m)) o x ≡ content_of (shown s m)
     same_splice =
         let content = content_of (shown s m) in
         let gap : o - length content ≡ 0 = omega (arith, length-content s m lives.whole, none) in
@@ -63,8 +63,8 @@ module _ (s : Store) (m : Layout) (w : ℕ) (lives : LivesIn s m) where
     nothing : (slot : ℕ) → meets (min o m.size) (o + length x) slot ≡ false
     nothing slot = meets_none (min o m.size) (o + length x) slot none
 
-    pub written_same : shown s m ≡ written w o x (shown s m)
-    unfolding written
+    pub written_same : shown s m ≡ cells_after_write w o x (shown s m)
+    unfolding cells_after_write
     written_same =
         let size = length-content s m lives.whole in
         let cells = shown s m in

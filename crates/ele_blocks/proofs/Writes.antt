@@ -4,7 +4,7 @@ use Rattle.std.proofs.Common.{◌≡◌, ℕ, ◌+◌, ◌-◌, ◌*◌, ◌/◌
 use Rattle.std.proofs.lemmas.List.{length-map, take-map, drop-map}
 use Rattle.ele_blocks.specs.Shared.{Trades}
 use Rattle.ele_blocks.specs.Store.{Store}
-use Rattle.ele_content.specs.Content.{content_of, spliced, slot_count, longest_content, meets, written}
+use Rattle.ele_content.specs.Content.{content_of, content_after_write, slot_count, longest_content, meets, cells_after_write}
 use Rattle.ele_blocks.specs.Layout.{Layout, shown, cell_of, cell_by, ids_of, is_between}
 use Rattle.ele_blocks.specs.Pieces.{pieces}
 use Rattle.ele_blocks.specs.LaidOver.{laid_over}
@@ -16,15 +16,15 @@ use Rattle.ele_blocks.proofs.Moves.{moved_one}
 use Rattle.ele_blocks.proofs.Replaces.{renews_as}
 use Rattle.ele_blocks.proofs.Written.{after_written, content_after, past, sized_after, same_slots}
 
-module _ (s : Store) (m : Layout) (w o f l : ℕ) (x : List ℕ) (staged : List (List ℕ)) (lives : LivesIn s m) (is_f : f ≡ min o m.size / 512) (is_l : l ≡ min ((o + length x + 511) / 512) (length m.slots)) (is_staged : staged ≡ pieces (spliced (content_of (map (cell_of s) (take (l - f) (drop f m.slots)))) (o - 512 * f) x)) where
+module _ (s : Store) (m : Layout) (w o f l : ℕ) (x : List ℕ) (staged : List (List ℕ)) (lives : LivesIn s m) (is_f : f ≡ min o m.size / 512) (is_l : l ≡ min ((o + length x + 511) / 512) (length m.slots)) (is_staged : staged ≡ pieces (content_after_write (content_of (map (cell_of s) (take (l - f) (drop f m.slots)))) (o - 512 * f) x)) where
   sized : AreSized m.size (bytes_each (shown s m))
   sized = whole_sized s m lives.whole
 
   last : l ≡ min ((o + length x + 511) / 512) (length (shown s m))
   last = omega (arith, is_l, length-map m.slots (cell_of s))
 
-  staged_is : staged ≡ pieces (spliced (content_of (take (l - f) (drop f (shown s m)))) (o - 512 * f) x)
-  staged_is = is_staged ∙ ap (λ cells. pieces (spliced (content_of cells) (o - 512 * f) x)) (sym (ap (take (l - f)) (drop-map (cell_of s) f m.slots) ∙ take-map (cell_of s) (l - f) (drop f m.slots)))
+  staged_is : staged ≡ pieces (content_after_write (content_of (take (l - f) (drop f (shown s m)))) (o - 512 * f) x)
+  staged_is = is_staged ∙ ap (λ cells. pieces (content_after_write (content_of cells) (o - 512 * f) x)) (sym (ap (take (l - f)) (drop-map (cell_of s) f m.slots) ∙ take-map (cell_of s) (l - f) (drop f m.slots)))
 
   reach : f + length staged ≡ (o + length x + 511) / 512
   reach = past w o m.size f l x (shown s m) staged sized is_f last staged_is
@@ -38,7 +38,7 @@ module _ (s : Store) (m : Layout) (w o f l : ℕ) (x : List ℕ) (staged : List 
         let after = sized_after w o m.size f l x (shown s m) staged sized is_f last staged_is in
         sized_whole t new short (rw shows (sized-is (max m.size (o + length x)) new.size (bytes_each (laid_over f (map (cell_by w) staged) (shown s m))) (sym size) after))
 
-    pub write_change : min o m.size < o + length x → Trades s t (ids_of m.slots) (ids_of new.slots) → Renews s t w (is_between f (f + length staged)) m new → IsChange s t w (meets (min o m.size) (o + length x)) (spliced (content_of (shown s m)) o x) (written w o x (shown s m)) m new
+    pub write_change : min o m.size < o + length x → Trades s t (ids_of m.slots) (ids_of new.slots) → Renews s t w (is_between f (f + length staged)) m new → IsChange s t w (meets (min o m.size) (o + length x)) (content_after_write (content_of (shown s m)) o x) (cells_after_write w o x (shown s m)) m new
     write_change some trades renews = record {
       content = ap content_of shows ∙ content_after w o m.size f l x (shown s m) staged sized is_f last staged_is;
       cells = shows ∙ after_written w o m.size f l x (shown s m) staged sized is_f last staged_is some;

@@ -6,7 +6,7 @@ use Rattle.std.proofs.lemmas.Bool.Decides.{nat_tests}
 use Rattle.std.proofs.lemmas.List.{length-map, take-map, drop-map}
 use Rattle.std.proofs.lemmas.List.FromFn.{fill_by_all}
 use Rattle.ele_content.specs.declared.cell.Cell.{Cell}
-use Rattle.ele_content.specs.Content.{content_of, spliced, slot_bytes, slot_count, writer_at, meets, written}
+use Rattle.ele_content.specs.Content.{content_of, content_after_write, slot_bytes, slot_count, writer_at, meets, cells_after_write}
 use Rattle.ele_blocks.specs.Layout.{cell_by, is_between}
 use Rattle.ele_blocks.specs.Pieces.{pieces}
 use Rattle.ele_blocks.specs.LaidOver.{laid_over}
@@ -54,7 +54,7 @@ laid_writer w first staged cells k within lt =
     (order k (first + length staged)))
     (order k first)
 
-module _ (w o n f l : ℕ) (x : List ℕ) (cells : List Cell) (staged : List (List ℕ)) (sized : AreSized n (bytes_each cells)) (is_f : f ≡ min o n / 512) (is_l : l ≡ min ((o + length x + 511) / 512) (length cells)) (is_staged : staged ≡ pieces (spliced (content_of (take (l - f) (drop f cells))) (o - 512 * f) x)) where
+module _ (w o n f l : ℕ) (x : List ℕ) (cells : List Cell) (staged : List (List ℕ)) (sized : AreSized n (bytes_each cells)) (is_f : f ≡ min o n / 512) (is_l : l ≡ min ((o + length x + 511) / 512) (length cells)) (is_staged : staged ≡ pieces (content_after_write (content_of (take (l - f) (drop f cells))) (o - 512 * f) x)) where
   each : List (List ℕ)
   each = bytes_each cells
 
@@ -75,8 +75,8 @@ module _ (w o n f l : ℕ) (x : List ℕ) (cells : List Cell) (staged : List (Li
       let g : Cell → List ℕ = λ cell. cell.bytes in
       content_each (take (l - f) (drop f cells)) ∙ ap concat (sym (ap (take (l - f)) (drop-map g f cells) ∙ take-map g (l - f) (drop f cells)))
 
-  staged_is : staged ≡ pieces (spliced (concat (take (l - f) (drop f (bytes_each cells)))) (o - 512 * f) x)
-  staged_is = is_staged ∙ ap (λ ys. pieces (spliced ys (o - 512 * f) x)) window
+  staged_is : staged ≡ pieces (content_after_write (concat (take (l - f) (drop f (bytes_each cells)))) (o - 512 * f) x)
+  staged_is = is_staged ∙ ap (λ ys. pieces (content_after_write ys (o - 512 * f) x)) window
 
   pub within : f ≤ length cells
   within = omega (arith, start, count, sized-count n (bytes_each cells) sized)
@@ -87,27 +87,27 @@ module _ (w o n f l : ℕ) (x : List ℕ) (cells : List Cell) (staged : List (Li
   pub content_size : length (content_of cells) ≡ n
   content_size = ap length (content_each cells) ∙ sized-length n (bytes_each cells) sized
 
-  pub new_size : length (spliced (content_of cells) o x) ≡ max n (o + length x)
+  pub new_size : length (content_after_write (content_of cells) o x) ≡ max n (o + length x)
   new_size = omega (arith, length-spliced (content_of cells) o x, content_size)
 
-  pub each_after : bytes_each (laid_over f (map (cell_by w) staged) cells) ≡ pieces (spliced (content_of cells) o x)
+  pub each_after : bytes_each (laid_over f (map (cell_by w) staged) cells) ≡ pieces (content_after_write (content_of cells) o x)
   each_after =
       laid_over-map (λ (cell : Cell). cell.bytes) f (map (cell_by w) staged) cells
       ∙ (ap (λ ys. laid_over f ys (bytes_each cells)) (bytes_of_new w staged ∙ staged_is)
       ∙ (sym (pieces_patched n f l (o - 512 * f) x (bytes_each cells) sized start last)
-      ∙ (ap (λ k. pieces (spliced (concat (bytes_each cells)) k x)) place
-      ∙ ap (λ c. pieces (spliced c o x)) (sym (content_each cells)))))
+      ∙ (ap (λ k. pieces (content_after_write (concat (bytes_each cells)) k x)) place
+      ∙ ap (λ c. pieces (content_after_write c o x)) (sym (content_each cells)))))
 
-  pub content_after : content_of (laid_over f (map (cell_by w) staged) cells) ≡ spliced (content_of cells) o x
-  content_after = content_each (laid_over f (map (cell_by w) staged) cells) ∙ (ap concat each_after ∙ pieces_whole (spliced (content_of cells) o x))
+  pub content_after : content_of (laid_over f (map (cell_by w) staged) cells) ≡ content_after_write (content_of cells) o x
+  content_after = content_each (laid_over f (map (cell_by w) staged) cells) ∙ (ap concat each_after ∙ pieces_whole (content_after_write (content_of cells) o x))
 
   pub sized_after : AreSized (max n (o + length x)) (bytes_each (laid_over f (map (cell_by w) staged) cells))
-  sized_after = rw each_after (sized-is (length (spliced (content_of cells) o x)) (max n (o + length x)) (pieces (spliced (content_of cells) o x)) new_size (pieces_sized (spliced (content_of cells) o x)))
+  sized_after = rw each_after (sized-is (length (content_after_write (content_of cells) o x)) (max n (o + length x)) (pieces (content_after_write (content_of cells) o x)) new_size (pieces_sized (content_after_write (content_of cells) o x)))
 
   pub same_slots : min o n < o + length x → (slot : ℕ) → meets (min o n) (o + length x) slot ≡ is_between f (f + length staged) slot
   same_slots some slot = meets_between (min o n) (o + length x) slot some ∙ (ap (λ k. is_between k ((o + length x + 511) / 512) slot) (sym is_f) ∙ ap (λ k. is_between f k slot) (sym past))
 
-  pub after_written : min o n < o + length x → laid_over f (map (cell_by w) staged) cells ≡ written w o x cells
-  unfolding written
-  after_written some = cells_by_slots (laid_over f (map (cell_by w) staged) cells) (spliced (content_of cells) o x) (λ slot. cond (meets (min o (length (content_of cells))) (o + length x) slot) w (writer_at cells slot)) each_after
+  pub after_written : min o n < o + length x → laid_over f (map (cell_by w) staged) cells ≡ cells_after_write w o x cells
+  unfolding cells_after_write
+  after_written some = cells_by_slots (laid_over f (map (cell_by w) staged) cells) (content_after_write (content_of cells) o x) (λ slot. cond (meets (min o (length (content_of cells))) (o + length x) slot) w (writer_at cells slot)) each_after
       (λ k lt. laid_writer w f staged cells k within lt ∙ ap (λ t. cond t w (writer_at cells k)) (sym (same_slots some k) ∙ ap (λ m. meets (min o m) (o + length x) k) (sym content_size)))

@@ -1,7 +1,7 @@
 //! The bytes that a change of a content puts into its slots.
 //! A contract sees lists of bytes.
 ghost use Rattle.std.specs.Prelude.{◌≡◌, ◌<◌, ◌+◌, ◌^◌, IfOk, length, map};
-ghost use Rattle.ele_content.specs.Content.{content_of, spliced};
+ghost use Rattle.ele_content.specs.Content.{content_of, content_after_write};
 ghost use Rattle.ele_blocks.specs.Pieces.{pieces};
 ghost use Rattle.ele_blocks.specs.Shared.{Covers};
 ghost use Rattle.ele_blocks.specs.Layout.{ids_of, cell_of};
@@ -27,7 +27,7 @@ pub fn joined(alloc: Global, store: &BlockStore, slots: &[Slot]) -> Result<Vec<u
 /// The bytes over older ones from the offset on, with zeros before them where the older ones end.
 pub fn spliced(alloc: Global, old: &[u8], offset: usize, bytes: &[u8]) -> Result<Vec<u8>, NoMemory>
     requires { offset + length bytes.now < 2 ^ 64 }
-    ensures { IfOk result (λ new. new.items ≡ spliced old.now offset bytes.now) }
+    ensures { IfOk result (λ new. new.items ≡ content_after_write old.now offset bytes.now) }
 {
     let mut new = Vec::new(alloc);
     new.extend_from_slice(&old[..offset.min(old.len())])?;

@@ -8,7 +8,7 @@ use Rattle.std.proofs.lemmas.Bool.Decides.{nat_tests}
 use Rattle.std.proofs.lemmas.List.{length-take, length-replicate, drop-drop, take_all}
 use Rattle.std.proofs.lemmas.List.Concat.{flat_map-cons}
 use Rattle.ele_content.specs.declared.cell.Cell.{Cell}
-use Rattle.ele_content.specs.Content.{content_of, longest_content, fill_slots, spliced, slot_bytes, slot_count, written, writer_at, meets, resized, refits, truncated}
+use Rattle.ele_content.specs.Content.{content_of, longest_content, fill_slots, content_after_write, slot_bytes, slot_count, cells_after_write, writer_at, meets, content_after_truncate, refits, cells_after_truncate}
 
 abbrev slot_cell : (ℕ → ℕ) → List ℕ → ℕ → Cell
 slot_cell writer content slot = record { writer = writer slot; bytes = slot_bytes content slot }
@@ -25,35 +25,35 @@ slots_join writer content from (suc count) =
     ∙ sym (ap (λ n. take n (drop (512 * from) content)) size ∙ take-add 512 (512 * count) (drop (512 * from) content))
 
 -- what is written and then read is the bytes laid over what was there
-pub content_of-written : (writer offset : ℕ) (bytes : List ℕ) (cells : List Cell) → content_of (written writer offset bytes cells) ≡ spliced (content_of cells) offset bytes
-unfolding written
+pub content_of-written : (writer offset : ℕ) (bytes : List ℕ) (cells : List Cell) → content_of (cells_after_write writer offset bytes cells) ≡ content_after_write (content_of cells) offset bytes
+unfolding cells_after_write
 content_of-written writer offset bytes cells =
     let old = content_of cells in
-    let new : List ℕ = spliced old offset bytes in
+    let new : List ℕ = content_after_write old offset bytes in
     slots_join (λ slot. cond (meets (min offset (length old)) (offset + length bytes) slot) writer (writer_at cells slot)) new 0 (slot_count (length new))
     ∙ take_all (512 * slot_count (length new)) new (omega arith)
 
 -- it ends where the longer of both ends
-pub length-spliced : (content : List ℕ) (offset most : ℕ) (bytes : List ℕ) → length content ≤ most → offset + length bytes ≤ most → length (spliced content offset bytes) ≤ most
+pub length-spliced : (content : List ℕ) (offset most : ℕ) (bytes : List ℕ) → length content ≤ most → offset + length bytes ≤ most → length (content_after_write content offset bytes) ≤ most
 length-spliced content offset most bytes short fits =
     simp (length-append, length-take, length-replicate, length-drop) (omega arith)
 
-pub written_short : (writer offset : ℕ) (bytes : List ℕ) (cells : List Cell) → length (content_of cells) ≤ longest_content → offset + length bytes ≤ longest_content → length (content_of (written writer offset bytes cells)) ≤ longest_content
+pub written_short : (writer offset : ℕ) (bytes : List ℕ) (cells : List Cell) → length (content_of cells) ≤ longest_content → offset + length bytes ≤ longest_content → length (content_of (cells_after_write writer offset bytes cells)) ≤ longest_content
 written_short writer offset bytes cells short fits = rw content_of-written (length-spliced (content_of cells) offset longest_content bytes short fits)
 
 -- a content that is made so long is so long
-length-resized : (content : List ℕ) (size : ℕ) → length (resized content size) ≡ size
+length-resized : (content : List ℕ) (size : ℕ) → length (content_after_truncate content size) ≡ size
 length-resized content size = simp (length-append, length-take, length-replicate) (omega arith)
 
-pub content_of-truncated : (writer size : ℕ) (cells : List Cell) → content_of (truncated writer size cells) ≡ resized (content_of cells) size
-unfolding truncated
+pub content_of-truncated : (writer size : ℕ) (cells : List Cell) → content_of (cells_after_truncate writer size cells) ≡ content_after_truncate (content_of cells) size
+unfolding cells_after_truncate
 content_of-truncated writer size cells =
     let old = content_of cells in
-    let new : List ℕ = resized old size in
+    let new : List ℕ = content_after_truncate old size in
     slots_join (λ slot. cond (refits (length old) size slot) writer (writer_at cells slot)) new 0 (slot_count size)
     ∙ take_all (512 * slot_count size) new (omega (arith, length-resized old size))
 
-pub truncated_short : (writer size : ℕ) (cells : List Cell) → size ≤ longest_content → length (content_of (truncated writer size cells)) ≤ longest_content
+pub truncated_short : (writer size : ℕ) (cells : List Cell) → size ≤ longest_content → length (content_of (cells_after_truncate writer size cells)) ≤ longest_content
 truncated_short writer size cells fits = rw (content_of-truncated, length-resized) fits
 
 -- slots side by side are filled, where they are as many as the rest of the content has
@@ -67,19 +67,19 @@ slots_fill writer content from (suc count) n is few =
       filled : (m : ℕ) → ((m == m) && (true && true)) ≡ true
       filled m = grind (arith, nat_tests)
 
-pub written_fills : (writer offset : ℕ) (bytes : List ℕ) (cells : List Cell) → fill_slots (length (content_of (written writer offset bytes cells))) (written writer offset bytes cells) ≡ true
-unfolding written
+pub written_fills : (writer offset : ℕ) (bytes : List ℕ) (cells : List Cell) → fill_slots (length (content_of (cells_after_write writer offset bytes cells))) (cells_after_write writer offset bytes cells) ≡ true
+unfolding cells_after_write
 written_fills writer offset bytes cells =
     let old = content_of cells in
-    let new : List ℕ = spliced old offset bytes in
+    let new : List ℕ = content_after_write old offset bytes in
     rw content_of-written
     (slots_fill (λ slot. cond (meets (min offset (length old)) (offset + length bytes) slot) writer (writer_at cells slot)) new 0 (slot_count (length new)) (length new) (omega arith) refl)
 
-pub truncated_fills : (writer size : ℕ) (cells : List Cell) → fill_slots (length (content_of (truncated writer size cells))) (truncated writer size cells) ≡ true
-unfolding truncated
+pub truncated_fills : (writer size : ℕ) (cells : List Cell) → fill_slots (length (content_of (cells_after_truncate writer size cells))) (cells_after_truncate writer size cells) ≡ true
+unfolding cells_after_truncate
 truncated_fills writer size cells =
     let old = content_of cells in
-    let new : List ℕ = resized old size in
+    let new : List ℕ = content_after_truncate old size in
     let sized = length-resized old size in
     rw (content_of-truncated, length-resized)
     (slots_fill (λ slot. cond (refits (length old) size slot) writer (writer_at cells slot)) new 0 (slot_count size) size (omega (arith, sized)) refl)

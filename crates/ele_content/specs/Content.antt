@@ -18,8 +18,8 @@ fill_slots n [] = n == 0
 fill_slots n (cell ∷ cells) = (length cell.bytes == min n 512) && (nat_lt 0 n && fill_slots (n - 512) cells)
 
 -- the content with the bytes over it from the offset on; before that zeros fill it up to the offset
-abbrev pub spliced : List ℕ → ℕ → List ℕ → List ℕ
-spliced content offset bytes =
+abbrev pub content_after_write : List ℕ → ℕ → List ℕ → List ℕ
+content_after_write content offset bytes =
     take offset content ++ replicate (offset - length content) 0 ++ bytes ++ drop (offset + length bytes) content
 
 -- slot s has the bytes from 512 * s up to 512 * s + 511, the last slot maybe fewer
@@ -38,10 +38,10 @@ abbrev pub meets : ℕ → ℕ → ℕ → Bool
 meets from to slot = nat_lt from to && (nat_lt (512 * slot) to && nat_lt from (512 * slot + 512))
 
 -- the cells after a write: the new content by slots, where each slot that meets what was filled or written has the writer
-unfoldable pub written : ℕ → ℕ → List ℕ → List Cell → List Cell
-written writer offset bytes cells =
+unfoldable pub cells_after_write : ℕ → ℕ → List ℕ → List Cell → List Cell
+cells_after_write writer offset bytes cells =
     let old = content_of cells in
-    let new = spliced old offset bytes in
+    let new = content_after_write old offset bytes in
     let from = min offset (length old) in
     map (λ slot. record {
       writer = if meets from (offset + length bytes) slot then writer else writer_at cells slot;
@@ -49,8 +49,8 @@ written writer offset bytes cells =
     }) (range_with_len 0 (slot_count (length new)))
 
 -- the content's bytes up to this length, with zeros behind them where it is shorter
-abbrev pub resized : List ℕ → ℕ → List ℕ
-resized content len = take len content ++ replicate (len - length content) 0
+abbrev pub content_after_truncate : List ℕ → ℕ → List ℕ
+content_after_truncate content len = take len content ++ replicate (len - length content) 0
 
 -- the place is between two bytes of the slot
 abbrev pub cuts : ℕ → ℕ → Bool
@@ -61,10 +61,10 @@ abbrev pub refits : ℕ → ℕ → ℕ → Bool
 refits old new slot = if nat_lt old new then meets old new slot else nat_lt new old && cuts new slot
 
 -- the cells after a truncate: the new content by slots, where each slot that was filled or cut has the writer
-unfoldable pub truncated : ℕ → ℕ → List Cell → List Cell
-truncated writer len cells =
+unfoldable pub cells_after_truncate : ℕ → ℕ → List Cell → List Cell
+cells_after_truncate writer len cells =
     let old = content_of cells in
-    let new = resized old len in
+    let new = content_after_truncate old len in
     map (λ slot. record {
       writer = if refits (length old) len slot then writer else writer_at cells slot;
       bytes = slot_bytes new slot;

@@ -4,7 +4,7 @@ use Rattle.std.specs.Result.{result_ok}
 use Rattle.ele_core.specs.Inside.{world_of, IsSound, IsTracked}
 use Rattle.ele_core.specs.Tracked.{told, told_by, blocks_of, only_blocks, of_file, IsOwed, IsBooked}
 use Rattle.ele_core.specs.declared.rows.Rows.{Rows}
-use Rattle.ele_content.specs.Content.{content_of, truncated}
+use Rattle.ele_content.specs.Content.{content_of, cells_after_truncate}
 use Rattle.ele_files.specs.Held.{Held, with_file, opened_by, written_by, written_of, fitted, fitted_of}
 use Rattle.ele_moment.specs.Lists.{update_first}
 use Rattle.ele_policy.specs.declared.policy.Kind.{Kind}
@@ -119,7 +119,7 @@ nothing_owed : (rows : Rows) (file before : ℕ) → IsTracked rows → before �
 nothing_owed rows file before tracked is = drafts_owed rows file rows.files before tracked is refl (record { kinds = λ k id. refl; files = λ k. refl; versions = refl; drafts = refl })
 
 fitted_file : (number size : ℕ) (row : DraftRow) → (fitted_by number size row).file ≡ row.file
-fitted_file number size row = elim (eqb (length (content_of row.cells)) size) as (λ b. (cond b row (record row { cells = truncated number size row.cells; changed = true })).file ≡ row.file) [
+fitted_file number size row = elim (eqb (length (content_of row.cells)) size) as (λ b. (cond b row (record row { cells = cells_after_truncate number size row.cells; changed = true })).file ≡ row.file) [
   | true ↦ refl
   | false ↦ refl
 ]

@@ -1,7 +1,7 @@
 -- What writes and truncates answer, and what they make of a draft.
 use Rattle.std.specs.Prelude.{◌≡◌, ℕ, ◌+◌, ◌==◌, nat_lt, true, false, Bool, MatchBool, List, [], ◌∷◌, length, min, max, Option, Some, None, find, if◌then◌else◌}
 use Rattle.std.specs.Option.{IsSomeAnd, option_map_or}
-use Rattle.ele_content.specs.Content.{longest_content, content_of, spliced, resized, written, truncated, meets, refits}
+use Rattle.ele_content.specs.Content.{longest_content, content_of, content_after_write, content_after_truncate, cells_after_write, cells_after_truncate, meets, refits}
 use Rattle.ele_blocks.specs.Layout.{Layout, shown}
 use Rattle.ele_blocks.specs.Owes.{Moves}
 use Rattle.ele_blocks.specs.Renews.{Renews}
@@ -36,16 +36,16 @@ rewritten_by layout draft = record draft { layout = layout; changed = true }
 -- the bytes stand in the draft's new map from the offset on, and its number at the slots that they meet
 pub record IsWritten (s t : Store) (was : Draft) (offset : ℕ) (bytes : List ℕ) (now : Layout) : Type 0 where
   pub size : now.size ≡ max was.layout.size (offset + length bytes)
-  pub content : content_of (shown t now) ≡ spliced (content_of (shown s was.layout)) offset bytes
-  pub cells : shown t now ≡ written was.number offset bytes (shown s was.layout)
+  pub content : content_of (shown t now) ≡ content_after_write (content_of (shown s was.layout)) offset bytes
+  pub cells : shown t now ≡ cells_after_write was.number offset bytes (shown s was.layout)
   pub moves : Moves s t (was.layout ∷ []) (now ∷ [])
   pub renews : Renews s t was.number (meets (min offset was.layout.size) (offset + length bytes)) was.layout now
 
 -- the draft's new map has so many bytes, and its number at the slots that were filled or cut
 pub record IsResized (s t : Store) (was : Draft) (size : ℕ) (now : Layout) : Type 0 where
   pub size_is : now.size ≡ size
-  pub content : content_of (shown t now) ≡ resized (content_of (shown s was.layout)) size
-  pub cells : shown t now ≡ truncated was.number size (shown s was.layout)
+  pub content : content_of (shown t now) ≡ content_after_truncate (content_of (shown s was.layout)) size
+  pub cells : shown t now ≡ cells_after_truncate was.number size (shown s was.layout)
   pub moves : Moves s t (was.layout ∷ []) (now ∷ [])
   pub renews : Renews s t was.number (refits was.layout.size size) was.layout now
 

@@ -4,7 +4,7 @@ use Rattle.std.specs.Prelude.{find}
 use Rattle.std.specs.List.{AllByRecursion, list_any}
 use Rattle.std.specs.Option.{option_map_or}
 use Rattle.std.proofs.lemmas.Bool.Decides.{nat_tests}
-use Rattle.ele_content.specs.Content.{content_of, longest_content, truncated}
+use Rattle.ele_content.specs.Content.{content_of, longest_content, cells_after_truncate}
 use Rattle.ele_content.proofs.Contents.{written_short, written_fills, truncated_short, truncated_fills}
 use Rattle.ele_moment.specs.Lists.{update_first, remove_first, insert_before}
 use Rattle.ele_moment.proofs.Edits.{all-push, all-weaker, all-both, later-push, all-remove_first, all-insert_before, later-update_first, later-remove_first, later-insert_before, length-update_first, length-insert_before, length-remove_first-le, all-found, all-none, found_passes, list_any-update_first, list_any-insert_before, list_any-remove_first}
@@ -118,7 +118,7 @@ write_keeps w file offset bytes fits k = edit_keeps w file (changed_by number of
   }
 
 same_file : (number size : ℕ) (row : DraftRow) → (fitted_by number size row).file ≡ row.file
-same_file number size row = elim (eqb (length (content_of row.cells)) size) as (λ b. (cond b row (record row { cells = truncated number size row.cells; changed = true })).file ≡ row.file) [
+same_file number size row = elim (eqb (length (content_of row.cells)) size) as (λ b. (cond b row (record row { cells = cells_after_truncate number size row.cells; changed = true })).file ≡ row.file) [
   | true ↦ refl
   | false ↦ refl
 ]
@@ -129,13 +129,13 @@ truncate_keeps w file size fits k = edit_keeps w file (fitted_by number size) (s
   number = next_of w.files file
 
   content : (row : DraftRow) → IsDraft w.files w.now row → IsContent ((fitted_by number size row).cells)
-  content row h = elim (eqb (length (content_of row.cells)) size) as (λ b. IsContent ((cond b row (record row { cells = truncated number size row.cells; changed = true })).cells)) [
+  content row h = elim (eqb (length (content_of row.cells)) size) as (λ b. IsContent ((cond b row (record row { cells = cells_after_truncate number size row.cells; changed = true })).cells)) [
     | true ↦ h.content
     | false ↦ record { short = truncated_short number size row.cells fits; slots = truncated_fills number size row.cells }
   ]
 
   opened : (row : DraftRow) → (fitted_by number size row).opened ≡ row.opened
-  opened row = elim (eqb (length (content_of row.cells)) size) as (λ b. (cond b row (record row { cells = truncated number size row.cells; changed = true })).opened ≡ row.opened) [
+  opened row = elim (eqb (length (content_of row.cells)) size) as (λ b. (cond b row (record row { cells = cells_after_truncate number size row.cells; changed = true })).opened ≡ row.opened) [
     | true ↦ refl
     | false ↦ refl
   ]

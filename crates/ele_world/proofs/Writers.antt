@@ -3,7 +3,7 @@ use Rattle.std.proofs.Common.{ℕ, suc, zero, ◌+◌, ◌≤◌, Bool, true, fa
 use Rattle.std.specs.Prelude.{min}
 use Rattle.std.specs.List.{AllByRecursion, range_with_len}
 use Rattle.ele_content.specs.declared.cell.Cell.{Cell}
-use Rattle.ele_content.specs.Content.{content_of, spliced, resized, slot_bytes, slot_count, writer_at, meets, refits, written, truncated}
+use Rattle.ele_content.specs.Content.{content_of, content_after_write, content_after_truncate, slot_bytes, slot_count, writer_at, meets, refits, cells_after_write, cells_after_truncate}
 use Rattle.ele_moment.proofs.Edits.{all-weaker}
 use Rattle.ele_world.specs.Change.{changed_by, fitted_by}
 use Rattle.ele_world.specs.WellFormed.{AreWrittenBy}
@@ -22,20 +22,20 @@ either-le : (b : Bool) (m n : ℕ) → n ≤ m → cond b m n ≤ m
 either-le true m n h = omega arith
 either-le false m n h = h
 
-written_by : (number offset : ℕ) (bytes : List ℕ) (cells : List Cell) → AreWrittenBy number cells → AreWrittenBy number (written number offset bytes cells)
-unfolding written
+written_by : (number offset : ℕ) (bytes : List ℕ) (cells : List Cell) → AreWrittenBy number cells → AreWrittenBy number (cells_after_write number offset bytes cells)
+unfolding cells_after_write
 written_by number offset bytes cells all =
     let old = content_of cells in
-    let new : List ℕ = spliced old offset bytes in
+    let new : List ℕ = content_after_write old offset bytes in
     let from = min offset (length old) in
     all-map (λ cell. cell.writer ≤ number) (λ slot. record { writer = cond (meets from (offset + length bytes) slot) number (writer_at cells slot); bytes = slot_bytes new slot }) (range_with_len 0 (slot_count (length new)))
     (λ slot. either-le (meets from (offset + length bytes) slot) number (writer_at cells slot) (writer_at-le number cells slot all))
 
-truncated_by : (number size : ℕ) (cells : List Cell) → AreWrittenBy number cells → AreWrittenBy number (truncated number size cells)
-unfolding truncated
+truncated_by : (number size : ℕ) (cells : List Cell) → AreWrittenBy number cells → AreWrittenBy number (cells_after_truncate number size cells)
+unfolding cells_after_truncate
 truncated_by number size cells all =
     let old = content_of cells in
-    let new : List ℕ = resized old size in
+    let new : List ℕ = content_after_truncate old size in
     all-map (λ cell. cell.writer ≤ number) (λ slot. record { writer = cond (refits (length old) size slot) number (writer_at cells slot); bytes = slot_bytes new slot }) (range_with_len 0 (slot_count size))
     (λ slot. either-le (refits (length old) size slot) number (writer_at cells slot) (writer_at-le number cells slot all))
 
@@ -43,7 +43,7 @@ pub changed_written : (number offset : ℕ) (bytes : List ℕ) (row : DraftRow) 
 changed_written number offset bytes row all = written_by number offset bytes row.cells all
 
 pub fitted_written : (number size : ℕ) (row : DraftRow) → AreWrittenBy number row.cells → AreWrittenBy number ((fitted_by number size row).cells)
-fitted_written number size row all = elim (eqb (length (content_of row.cells)) size) as (λ b. AreWrittenBy number ((cond b row (record row { cells = truncated number size row.cells; changed = true })).cells)) [
+fitted_written number size row all = elim (eqb (length (content_of row.cells)) size) as (λ b. AreWrittenBy number ((cond b row (record row { cells = cells_after_truncate number size row.cells; changed = true })).cells)) [
   | true ↦ all
   | false ↦ truncated_by number size row.cells all
 ]

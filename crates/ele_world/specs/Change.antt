@@ -2,7 +2,7 @@
 use Rattle.std.specs.Prelude.{ℕ, ◌+◌, ◌-◌, ◌==◌, true, false, List, [], ◌∷◌, ◌++◌, length, Some, None, unwrap_or, if◌then◌else◌}
 use Rattle.std.specs.Option.{option_map_or}
 use Rattle.ele_content.specs.declared.cell.Cell.{Cell}
-use Rattle.ele_content.specs.Content.{content_of, written, truncated}
+use Rattle.ele_content.specs.Content.{content_of, cells_after_write, cells_after_truncate}
 use Rattle.ele_moment.specs.Lists.{update_first, remove_first, insert_before}
 use Rattle.ele_policy.specs.declared.policy.Policy.{Policy}
 use Rattle.ele_world.specs.declared.rows.DirectoryRow.{DirectoryRow}
@@ -89,13 +89,13 @@ new_draft w file = record { file = file; opened = w.now; cells = current_cells w
 
 -- the draft with the bytes written into it, by the version that it is to be
 abbrev pub changed_by : ℕ → ℕ → List ℕ → DraftRow → DraftRow
-changed_by number offset bytes draft = record draft { cells = written number offset bytes draft.cells; changed = true }
+changed_by number offset bytes draft = record draft { cells = cells_after_write number offset bytes draft.cells; changed = true }
 
 -- the draft with so many bytes, by the version that it is to be; one that has so many stays
 abbrev pub fitted_by : ℕ → ℕ → DraftRow → DraftRow
 fitted_by number size draft =
     if length (content_of draft.cells) == size then draft
-    else record draft { cells = truncated number size draft.cells; changed = true }
+    else record draft { cells = cells_after_truncate number size draft.cells; changed = true }
 
 -- ---- each change
 

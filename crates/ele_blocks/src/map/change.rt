@@ -2,7 +2,7 @@
 //! A contract sees the new cells as a definition over the old ones, and that the owners of blocks
 //! which other maps share stay.
 ghost use Rattle.std.specs.Prelude.{◌≡◌, ◌<◌, ◌≤◌, ◌+◌, ◌-◌, ◌*◌, ◌/◌, [], ◌∷◌, ◌++◌, OnOk, OnErr, max, min, length, map, take, drop, vec_len, vec_capacity};
-ghost use Rattle.ele_content.specs.Content.{longest_content, content_of, slot_count, spliced, resized, written, truncated, meets, refits};
+ghost use Rattle.ele_content.specs.Content.{longest_content, content_of, slot_count, content_after_write, content_after_truncate, cells_after_write, cells_after_truncate, meets, refits};
 ghost use Rattle.ele_blocks.specs.LaidOver.{laid_over};
 ghost use Rattle.ele_blocks.specs.Layout.{Layout, shown, ids_of, slot_by, cell_by, is_between};
 ghost use Rattle.ele_blocks.specs.LivesIn.{LivesIn};
@@ -81,9 +81,9 @@ impl BlockMap {
         requires fits { offset + length bytes.now ≤ longest_content }
         ensures size { OnOk result (self.new.size ≡ max self.old.size (offset + length bytes.now)) }
         ensures content { OnOk result (content_of (shown store.new self.new)
-            ≡ spliced (content_of (shown store.old self.old)) offset bytes.now) }
+            ≡ content_after_write (content_of (shown store.old self.old)) offset bytes.now) }
         ensures cells { OnOk result (shown store.new self.new
-            ≡ written writer offset bytes.now (shown store.old self.old)) }
+            ≡ cells_after_write writer offset bytes.now (shown store.old self.old)) }
         ensures moves { OnOk result (Moves store.old store.new (self.old ∷ []) (self.new ∷ [])) }
         ensures renews { OnOk result (Renews store.old store.new writer
             (meets (min offset self.old.size) (offset + length bytes.now)) self.old self.new) }
@@ -118,9 +118,9 @@ impl BlockMap {
         requires fits { size ≤ longest_content }
         ensures size { OnOk result (self.new.size ≡ size) }
         ensures content { OnOk result (content_of (shown store.new self.new)
-            ≡ resized (content_of (shown store.old self.old)) size) }
+            ≡ content_after_truncate (content_of (shown store.old self.old)) size) }
         ensures cells { OnOk result (shown store.new self.new
-            ≡ truncated writer size (shown store.old self.old)) }
+            ≡ cells_after_truncate writer size (shown store.old self.old)) }
         ensures moves { OnOk result (Moves store.old store.new (self.old ∷ []) (self.new ∷ [])) }
         ensures renews { OnOk result (Renews store.old store.new writer
             (refits self.old.size size) self.old self.new) }
@@ -146,9 +146,9 @@ impl BlockMap {
         requires shorter { size < self.old.size }
         ensures size { OnOk result (self.new.size ≡ size) }
         ensures content { OnOk result (content_of (shown store.new self.new)
-            ≡ resized (content_of (shown store.old self.old)) size) }
+            ≡ content_after_truncate (content_of (shown store.old self.old)) size) }
         ensures cells { OnOk result (shown store.new self.new
-            ≡ truncated writer size (shown store.old self.old)) }
+            ≡ cells_after_truncate writer size (shown store.old self.old)) }
         ensures moves { OnOk result (Moves store.old store.new (self.old ∷ []) (self.new ∷ [])) }
         ensures renews { OnOk result (Renews store.old store.new writer
             (refits self.old.size size) self.old self.new) }

@@ -1,6 +1,6 @@
 use Rattle.std.proofs.Common.{◌≡◌, ◌+◌, ◌-◌, ◌*◌, ◌/◌, ap, sym, refl, arith, map, length, take, drop, vec_len}
 use Rattle.std.proofs.lemmas.List.{length-take}
-use Rattle.ele_content.specs.Content.{content_of, resized, refits, truncated}
+use Rattle.ele_content.specs.Content.{content_of, content_after_truncate, refits, cells_after_truncate}
 use Rattle.ele_blocks.specs.Layout.{Layout, cell_of, shown}
 use Rattle.ele_blocks.specs.Pieces.{pieces}
 use Rattle.ele_blocks.proofs.Changes.{IsChange}
@@ -40,7 +40,7 @@ replace-requires-clause-count c =
     let count = cut_count s m c.args.writer c.args.size f kept c.in_ok-staged.staged.items lives short refl is_kept staged in
     rw (← c.self.view_is) (omega (arith, count, c.in_ok-staged.staged.ok))
 
-change : (c : goal.After-drop-window-2) → IsChange c.args.store.now c.shorten.new.store c.args.writer (refits c.args.self.now.size c.args.size) (resized (content_of (shown c.args.store.now c.args.self.now)) c.args.size) (truncated c.args.writer c.args.size (shown c.args.store.now c.args.self.now)) c.args.self.now c.shorten.new.self
+change : (c : goal.After-drop-window-2) → IsChange c.args.store.now c.shorten.new.store c.args.writer (refits c.args.self.now.size c.args.size) (content_after_truncate (content_of (shown c.args.store.now c.args.self.now)) c.args.size) (cells_after_truncate c.args.writer c.args.size (shown c.args.store.now c.args.self.now)) c.args.self.now c.shorten.new.self
 change c =
     let s = c.args.store.now in
     let m : Layout = record { size = c.self.inside.length; slots = c.self.inside.slots.items } in

@@ -1,5 +1,5 @@
 use Rattle.std.proofs.Common.{◌≡◌, ◌+◌, ◌-◌, ◌*◌, ◌/◌, ◌<◌, ◌≤◌, arith, sym, ap, map, length, take, drop, min, max, vec_len}
-use Rattle.ele_content.specs.Content.{content_of, spliced, meets, written}
+use Rattle.ele_content.specs.Content.{content_of, content_after_write, meets, cells_after_write}
 use Rattle.ele_blocks.specs.Layout.{Layout, cell_of, shown}
 use Rattle.ele_blocks.specs.Pieces.{pieces}
 use Rattle.ele_blocks.proofs.Changes.{IsChange}
@@ -20,11 +20,11 @@ replace-requires-clause-count c =
     let l = c.met-first.result.1 in
     let is_l : l ≡ min ((c.args.offset + length c.args.bytes.now + 511) / 512) (length m.slots) = omega (arith, c.met-first.ensures.past, c.len.ensures, c.self.inside.slots.ok) in
     let window : c.in_ok-window.window.items ≡ content_of (map (cell_of s) (take (l - f) (drop f m.slots))) = rw c.deref.ensures.value at c.in_ok-window.ensures in
-    let staged : c.in_ok-staged.staged.items ≡ pieces (spliced (content_of (map (cell_of s) (take (l - f) (drop f m.slots)))) (c.args.offset - 512 * f) c.args.bytes.now) = cc (c.in_ok-staged.ensures, c.in_ok-patch.ensures, c.deref-2.ensures.value, c.deref-3.ensures.value, window) in
+    let staged : c.in_ok-staged.staged.items ≡ pieces (content_after_write (content_of (map (cell_of s) (take (l - f) (drop f m.slots)))) (c.args.offset - 512 * f) c.args.bytes.now) = cc (c.in_ok-staged.ensures, c.in_ok-patch.ensures, c.deref-2.ensures.value, c.deref-3.ensures.value, window) in
     let count = write_count s m c.args.writer c.args.offset f l c.args.bytes.now c.in_ok-staged.staged.items lives c.met-first.ensures.first is_l staged in
     rw (← c.self.view_is) (omega (arith, count, c.max-size.ensures, c.in_ok-staged.staged.ok))
 
-change : (c : goal.After-drop-window-2) → IsChange c.args.store.now c.replace.new.store c.args.writer (meets (min c.args.offset c.args.self.now.size) (c.args.offset + length c.args.bytes.now)) (spliced (content_of (shown c.args.store.now c.args.self.now)) c.args.offset c.args.bytes.now) (written c.args.writer c.args.offset c.args.bytes.now (shown c.args.store.now c.args.self.now)) c.args.self.now c.replace.new.self
+change : (c : goal.After-drop-window-2) → IsChange c.args.store.now c.replace.new.store c.args.writer (meets (min c.args.offset c.args.self.now.size) (c.args.offset + length c.args.bytes.now)) (content_after_write (content_of (shown c.args.store.now c.args.self.now)) c.args.offset c.args.bytes.now) (cells_after_write c.args.writer c.args.offset c.args.bytes.now (shown c.args.store.now c.args.self.now)) c.args.self.now c.replace.new.self
 change c =
     let count : vec_len c.in_ok-staged.staged ≡ length c.in_ok-staged.staged.items = omega (arith, c.in_ok-staged.staged.ok) in
     let s = c.args.store.now in
@@ -34,7 +34,7 @@ change c =
     let l = c.met-first.result.1 in
     let is_l : l ≡ min ((c.args.offset + length c.args.bytes.now + 511) / 512) (length m.slots) = omega (arith, c.met-first.ensures.past, c.len.ensures, c.self.inside.slots.ok) in
     let window : c.in_ok-window.window.items ≡ content_of (map (cell_of s) (take (l - f) (drop f m.slots))) = rw c.deref.ensures.value at c.in_ok-window.ensures in
-    let staged : c.in_ok-staged.staged.items ≡ pieces (spliced (content_of (map (cell_of s) (take (l - f) (drop f m.slots)))) (c.args.offset - 512 * f) c.args.bytes.now) = cc (c.in_ok-staged.ensures, c.in_ok-patch.ensures, c.deref-2.ensures.value, c.deref-3.ensures.value, window) in
+    let staged : c.in_ok-staged.staged.items ≡ pieces (content_after_write (content_of (map (cell_of s) (take (l - f) (drop f m.slots)))) (c.args.offset - 512 * f) c.args.bytes.now) = cc (c.in_ok-staged.ensures, c.in_ok-patch.ensures, c.deref-2.ensures.value, c.deref-3.ensures.value, window) in
     let shows = rw (← c.self.view_is) at c.in_ok-replace.ensures.cells in
     let size : c.replace.new.self.size ≡ max m.size (c.args.offset + length c.args.bytes.now) = omega (arith, c.in_ok-replace.ensures.size, c.max-size.ensures) in
     let some : min c.args.offset m.size < c.args.offset + length c.args.bytes.now = omega (arith, c.min.ensures, c.if-min-end.false) in
