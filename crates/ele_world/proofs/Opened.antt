@@ -1,7 +1,7 @@
 -- What opening a handle comes to, whether the file has a draft or not.
-use Rattle.std.proofs.Common.{◌≡◌, ℕ, true, false, cond, List, [], ◌∷◌, ◌++◌, refl}
+use Rattle.std.proofs.Common.{ℕ, false, cond, List, [], ◌∷◌, ◌++◌}
 use Rattle.ele_moment.specs.Lists.{insert_before}
-use Rattle.ele_world.specs.Change.{new_draft, StartDraft, OpenHandle, after_changes}
+use Rattle.ele_world.specs.Change.{new_draft}
 use Rattle.ele_world.specs.World.{World, has_draft, is_draft_after}
 use Rattle.ele_world.specs.declared.rows.DraftRow.{DraftRow}
 use Rattle.ele_world.specs.declared.rows.Reads.TheVariants.{Draft}
@@ -16,9 +16,3 @@ opened w file number = record w {
   handles = w.handles ++ record { number = number; reads = Draft file } ∷ [];
   made = record w.made { handles = number };
 }
-
-pub opened_again : (w : World) (file number : ℕ) → has_draft w file ≡ true → after_changes w (OpenHandle number file ∷ []) ≡ opened w file number
-opened_again w file number has = rw has refl
-
-pub opened_first : (w : World) (file number : ℕ) → has_draft w file ≡ false → after_changes w (StartDraft file ∷ OpenHandle number file ∷ []) ≡ opened w file number
-opened_first w file number none = rw none refl
