@@ -13,7 +13,7 @@ use Rattle.ele_files.specs.Asked.{stamps_of}
 use Rattle.ele_files.specs.Held.{Held}
 use Rattle.ele_files.specs.declared.stamps.Stamps.{Stamps}
 use Rattle.ele_moment.specs.Last.{last_moment}
-use Rattle.ele_moment.proofs.Edits.{found_passes, all-found}
+use Rattle.ele_lists.proofs.Edits.{found_passes, all-found}
 use Rattle.ele_policy.specs.Ripe.{ripe_by}
 use Rattle.ele_policy.proofs.Waits.{nothing_beside}
 use Rattle.ele_world.specs.declared.rows.VersionRow.{VersionRow}

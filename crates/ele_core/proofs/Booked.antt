@@ -6,7 +6,7 @@ use Rattle.ele_core.specs.Tracked.{told, told_by, blocks_of, only_blocks, of_fil
 use Rattle.ele_core.specs.declared.rows.Rows.{Rows}
 use Rattle.ele_content.specs.Content.{content_of, cells_after_truncate}
 use Rattle.ele_files.specs.Held.{Held, with_file, opened_by, written_by, written_of, fitted, fitted_of}
-use Rattle.ele_moment.specs.Lists.{update_first}
+use Rattle.ele_lists.specs.Lists.{update_first}
 use Rattle.ele_policy.specs.declared.policy.Kind.{Kind}
 use Rattle.ele_policy.specs.declared.policy.Kind.TheVariants as kind
 use Rattle.ele_policy.specs.declared.policy.Policy.{Policy}

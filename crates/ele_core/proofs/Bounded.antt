@@ -3,7 +3,7 @@ use Rattle.std.proofs.Common.{◌+◌, ◌<◌, ◌≤◌, length, arith}
 use Rattle.std.specs.List.{AllByRecursion}
 use Rattle.ele_core.specs.Inside.{IsSound}
 use Rattle.ele_core.specs.declared.rows.Rows.{Rows}
-use Rattle.ele_moment.proofs.Edits.{all-weaker}
+use Rattle.ele_lists.proofs.Edits.{all-weaker}
 use Rattle.ele_world.specs.WellFormed.{IsFile, Counted, Files}
 
 pub versions_few : (rows : Rows) → IsSound rows → rows.made.versions + length rows.files.drafts ≤ 1000000

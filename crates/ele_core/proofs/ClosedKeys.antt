@@ -16,8 +16,8 @@ use Rattle.ele_files.specs.Closing.{closed, closing, finished_by, left_by}
 use Rattle.ele_files.specs.Asked.{stamps_of}
 use Rattle.ele_files.specs.declared.stamps.Stamps.{Stamps}
 use Rattle.ele_files.specs.Held.{Held, version_row}
-use Rattle.ele_moment.proofs.Edits.{all-any, found_passes}
-use Rattle.ele_moment.specs.Lists.{update_first, insert_before}
+use Rattle.ele_lists.proofs.Edits.{all-any, found_passes}
+use Rattle.ele_lists.specs.Lists.{update_first, insert_before}
 use Rattle.ele_policy.specs.declared.policy.Policy.{Policy}
 use Rattle.ele_policy.specs.Ripe.{Beside, IsNearest, ripe_by}
 use Rattle.ele_policy.proofs.Waits.{nothing_beside}

@@ -11,8 +11,8 @@ use Rattle.ele_core.specs.Tracked.{told_by}
 use Rattle.ele_core.specs.declared.rows.Rows.{Rows}
 use Rattle.ele_files.specs.Closing.{closing, closing_of, closed, closed_of, draft_left, ending, finished_by, left_by, number_by, IsPast}
 use Rattle.ele_files.specs.Held.{Held}
-use Rattle.ele_moment.proofs.Edits.{found_passes, all-found, all-weaker}
-use Rattle.ele_moment.specs.Lists.{remove_first}
+use Rattle.ele_lists.proofs.Edits.{found_passes, all-found, all-weaker}
+use Rattle.ele_lists.specs.Lists.{remove_first}
 use Rattle.ele_sessions.specs.declared.closing.Closing.TheVariants.{StillOpen}
 use Rattle.ele_world.specs.declared.event.Event.TheVariants.{Close}
 use Rattle.ele_world.specs.declared.refusal.Refusal.{Refusal}

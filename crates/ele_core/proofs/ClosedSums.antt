@@ -11,8 +11,8 @@ use Rattle.ele_core.specs.Tracked.{told_by, blocks_of, one_version, IsOwed}
 use Rattle.ele_core.specs.declared.rows.Rows.{Rows}
 use Rattle.ele_files.specs.Closing.{closed, closing, finished_by, left_by}
 use Rattle.ele_files.specs.Held.{Held, cells_of_draft, version_row}
-use Rattle.ele_moment.proofs.Edits.{all-found, length-update_first, length-insert_before}
-use Rattle.ele_moment.specs.Lists.{update_first, insert_before}
+use Rattle.ele_lists.proofs.Edits.{all-found, length-update_first, length-insert_before}
+use Rattle.ele_lists.specs.Lists.{update_first, insert_before}
 use Rattle.ele_policy.specs.declared.policy.Kind.{Kind}
 use Rattle.ele_usage.specs.Book.{Book, sums_of}
 use Rattle.ele_usage.specs.declared.usage.Usage.{Usage}

@@ -6,7 +6,7 @@ use Rattle.ele_due.specs.declared.key.Key.{Key}
 use Rattle.ele_due.specs.HasKey.{has_key}
 use Rattle.ele_due.specs.Key.{is_key}
 use Rattle.ele_due.proofs.Keys.{is_key-same}
-use Rattle.ele_moment.specs.Lists.{update_first, remove_first, insert_before, AllLater}
+use Rattle.ele_lists.specs.Lists.{update_first, remove_first, insert_before, AllLater}
 use Rattle.ele_world.specs.declared.rows.VersionRow.{VersionRow}
 use Rattle.ele_core.specs.Tracked.{has_any}
 

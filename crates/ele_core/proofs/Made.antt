@@ -10,7 +10,7 @@ use Rattle.ele_core.proofs.Plain.{plain_key, keys_are_plain}
 use Rattle.ele_due.specs.declared.key.Key.{Key}
 use Rattle.ele_due.specs.HasKey.{has_key}
 use Rattle.ele_files.specs.Held.{Held, with_file, version_row}
-use Rattle.ele_moment.proofs.Edits.{all-weaker}
+use Rattle.ele_lists.proofs.Edits.{all-weaker}
 use Rattle.ele_policy.specs.declared.policy.Policy.{Policy}
 use Rattle.ele_policy.specs.Ripe.{ripe_by}
 use Rattle.ele_policy.proofs.Waits.{nothing_beside}

@@ -7,7 +7,7 @@ use Rattle.ele_core.proofs.Keyed.{same-keys}
 use Rattle.ele_core.specs.Tracked.{held_view, key_by}
 use Rattle.ele_due.specs.declared.key.Key.{Key}
 use Rattle.ele_due.specs.HasKey.{has_key}
-use Rattle.ele_moment.proofs.Edits.{all-any}
+use Rattle.ele_lists.proofs.Edits.{all-any}
 use Rattle.ele_policy.specs.declared.policy.Policy.{Policy}
 use Rattle.ele_policy.specs.Ripe.{is_due_by, candidates, earliest_of, ripe_by}
 use Rattle.ele_policy.proofs.Waits.{nothing_beside, ripe_alone}

@@ -18,8 +18,8 @@ use Rattle.ele_due.specs.HasKey.{has_key}
 use Rattle.ele_due.specs.Key.{is_key, is_ripe_by}
 use Rattle.ele_due.proofs.Keys.{is_key-same}
 use Rattle.ele_files.specs.Held.{Held, without}
-use Rattle.ele_moment.specs.Lists.{remove_first, AllLater}
-use Rattle.ele_moment.proofs.Edits.{all-weaker}
+use Rattle.ele_lists.specs.Lists.{remove_first, AllLater}
+use Rattle.ele_lists.proofs.Edits.{all-weaker}
 use Rattle.ele_policy.specs.declared.policy.Kind.{Kind}
 use Rattle.ele_policy.specs.declared.policy.Policy.{Policy}
 use Rattle.ele_policy.specs.Ripe.{ripe_by}

@@ -1,6 +1,6 @@
 //! The events that clean, and what they ask.
 ghost use Rattle.std.specs.Prelude.{◌≡◌, IfOk, Some, is_some, false};
-ghost use Rattle.ele_moment.specs.Lists.{remove_first};
+ghost use Rattle.ele_lists.specs.Lists.{remove_first};
 ghost use Rattle.ele_due.specs.Key.{is_ripe_by};
 ghost use Rattle.ele_world.specs.Due.{is_due};
 ghost use Rattle.ele_world.specs.Pass.{EndsPass};

@@ -1,6 +1,6 @@
 //! The event that changes the policy of a directory.
 ghost use Rattle.std.specs.Prelude.{◌≡◌};
-ghost use Rattle.ele_moment.specs.Lists.{update_first};
+ghost use Rattle.ele_lists.specs.Lists.{update_first};
 ghost use Rattle.ele_policy.specs.Policy.{IsPolicy};
 ghost use Rattle.ele_world.specs.Change.{governed_by};
 ghost use Rattle.ele_world.specs.Step.{step};

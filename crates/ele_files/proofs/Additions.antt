@@ -12,7 +12,7 @@ use Rattle.ele_blocks.proofs.Owed.{tally-append, owes_new, owes_same}
 use Rattle.ele_files.specs.declared.file.File.{File}
 use Rattle.ele_files.specs.Inside.{IsFileKept, IsDraftKept, Keeps, file_row, file_maps, file_names, maps_of}
 use Rattle.ele_inode_log.specs.declared.row.VersionRow.{VersionRow}
-use Rattle.ele_moment.proofs.Edits.{all-push, all-weaker, later-push}
+use Rattle.ele_lists.proofs.Edits.{all-push, all-weaker, later-push}
 use Rattle.ele_sessions.specs.Sessions.{Draft, AllSessions}
 use Rattle.ele_world.specs.declared.rows.FileRow.{FileRow}
 use Rattle.ele_world.specs.World.{next_of, is_file}

@@ -18,7 +18,7 @@ use Rattle.ele_files.proofs.Reached.{IsFound, same_keeps, same_shows}
 use Rattle.ele_files.proofs.Removals.{IsSameFile}
 use Rattle.ele_files.proofs.Rows.{no-file, next-found}
 use Rattle.ele_files.proofs.Splits.{all-mid, map-all, flat_map-mid}
-use Rattle.ele_moment.proofs.Edits.{all-weaker, all-found}
+use Rattle.ele_lists.proofs.Edits.{all-weaker, all-found}
 use Rattle.ele_sessions.specs.Closes as went
 use Rattle.ele_sessions.specs.Order.{Rises}
 use Rattle.ele_sessions.specs.Sessions as plain

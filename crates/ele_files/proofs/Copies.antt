@@ -26,8 +26,8 @@ use Rattle.ele_world.specs.declared.rows.DraftRow.{DraftRow}
 use Rattle.ele_world.specs.declared.rows.HandleRow.{HandleRow}
 use Rattle.ele_world.specs.declared.rows.Reads.{Reads}
 use Rattle.ele_world.specs.declared.rows.VersionRow as world
-use Rattle.ele_moment.specs.Lists.{AllLater}
-use Rattle.ele_moment.proofs.Edits.{found_passes}
+use Rattle.ele_lists.specs.Lists.{AllLater}
+use Rattle.ele_lists.proofs.Edits.{found_passes}
 
 module _ {X Y : Type 0} (g : X → Y) where
   -- one element more

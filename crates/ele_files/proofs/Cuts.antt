@@ -2,7 +2,7 @@
 use Rattle.std.proofs.Common.{◌≡◌, ℕ, ◌<◌, Bool, true, false, List, [], ◌∷◌, ◌++◌, Some, refl, ap, arith, length, zero, suc}
 use Rattle.std.specs.Prelude.{find, slice_get}
 use Rattle.std.specs.List.{AllByRecursion}
-use Rattle.ele_moment.specs.Lists.{update_first, insert_before, AllLater}
+use Rattle.ele_lists.specs.Lists.{update_first, insert_before, AllLater}
 
 -- the first element that passes, with what stands before it and behind it
 pub record IsCut {X : Type 0} (p : X → Bool) (xs : List X) (x : X) : Type 0 where

@@ -18,8 +18,8 @@ use Rattle.ele_files.proofs.Looks.{versions_stay, drafts_stay}
 use Rattle.ele_files.proofs.Members.{beside_in, removed_in, fewer_one_to_one}
 use Rattle.ele_files.proofs.Splits.{remove_first-map}
 use Rattle.ele_files.proofs.Sums.{tally-map, tally-remove_first}
-use Rattle.ele_moment.specs.Lists.{remove_first}
-use Rattle.ele_moment.proofs.Edits.{all-remove_first}
+use Rattle.ele_lists.specs.Lists.{remove_first}
+use Rattle.ele_lists.proofs.Edits.{all-remove_first}
 use Rattle.ele_sessions.specs.Closes as went
 use Rattle.ele_sessions.specs.Sessions as plain
 use Rattle.ele_world.specs.World as world

@@ -21,8 +21,8 @@ use Rattle.ele_files.proofs.Splits.{NonePasses, all-mid, all-exchange, all-map, 
 use Rattle.ele_files.proofs.Sums.{total, tally-remove_first, tally-update_first}
 use Rattle.ele_inode_log.specs.declared.row.VersionRow as log
 use Rattle.ele_inode_log.specs.Rows.{is_numbered}
-use Rattle.ele_moment.specs.Lists.{update_first, remove_first, insert_before}
-use Rattle.ele_moment.proofs.Edits.{all-weaker, all-both, all-found, all-remove_first, all-update_first}
+use Rattle.ele_lists.specs.Lists.{update_first, remove_first, insert_before}
+use Rattle.ele_lists.proofs.Edits.{all-weaker, all-both, all-found, all-remove_first, all-update_first}
 use Rattle.ele_sessions.specs.Order.{Rises}
 use Rattle.ele_sessions.specs.Sessions as plain
 use Rattle.ele_world.specs.Change.{numbered_on, ended_at}

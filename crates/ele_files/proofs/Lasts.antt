@@ -12,8 +12,8 @@ use Rattle.ele_files.specs.declared.file.File.{File}
 use Rattle.ele_files.proofs.Asked.{closing-shown}
 use Rattle.ele_files.proofs.Rows.{draft-found, handle_file-shown, left-shown}
 use Rattle.ele_files.proofs.Splits.{remove_first-map, remove_first-none}
-use Rattle.ele_moment.specs.Lists.{remove_first}
-use Rattle.ele_moment.proofs.Edits.{all-not_found, found_passes}
+use Rattle.ele_lists.specs.Lists.{remove_first}
+use Rattle.ele_lists.proofs.Edits.{all-not_found, found_passes}
 use Rattle.ele_sessions.specs.Closes as went
 use Rattle.ele_sessions.specs.Sessions as plain
 use Rattle.ele_sessions.specs.declared.closing.Closing.TheVariants.{StillOpen, Clean, Changed}

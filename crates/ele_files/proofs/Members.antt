@@ -3,7 +3,7 @@ use Rattle.std.proofs.Common.{◌≡◌, ◌⊎◌, Bool, true, false, cond, Lis
 use Rattle.std.specs.Prelude.{find}
 use Rattle.std.specs.List.{flat_map}
 use Rattle.ele_blocks.specs.Distinct.{Named, IsIn, AreOneToOne}
-use Rattle.ele_moment.specs.Lists.{remove_first, update_first}
+use Rattle.ele_lists.specs.Lists.{remove_first, update_first}
 
 -- each name of the first list stands in the second
 abbrev pub AreIn : List Named → List Named → Type 0

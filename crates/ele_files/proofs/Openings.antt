@@ -26,8 +26,8 @@ use Rattle.ele_files.proofs.Looks.{ShowsSame, each_same, versions_same, drafts_s
 use Rattle.ele_inode_log.proofs.Lists.{all-left, all-right, all-append}
 use Rattle.ele_inode_log.specs.declared.row.VersionRow.{VersionRow}
 use Rattle.ele_inode_log.specs.Rows.{is_numbered}
-use Rattle.ele_moment.specs.Lists.{insert_before}
-use Rattle.ele_moment.proofs.Edits.{all-weaker, all-found, found_passes}
+use Rattle.ele_lists.specs.Lists.{insert_before}
+use Rattle.ele_lists.proofs.Edits.{all-weaker, all-found, found_passes}
 use Rattle.ele_sessions.specs.Opening.{new_draft, with_draft, Opens}
 use Rattle.ele_sessions.specs.Opening as opening
 use Rattle.ele_sessions.specs.Sessions.{Draft, AllSessions, is_draft, is_draft_after}

@@ -22,8 +22,8 @@ use Rattle.ele_files.proofs.Splits.{cut_at, all-mid, all-exchange, map-exchange,
 use Rattle.ele_files.proofs.Sums.{total}
 use Rattle.ele_inode_log.specs.declared.row.VersionRow as log
 use Rattle.ele_inode_log.specs.Rows.{is_numbered, is_other}
-use Rattle.ele_moment.specs.Lists.{remove_first}
-use Rattle.ele_moment.proofs.Edits.{all-weaker, all-not_found}
+use Rattle.ele_lists.specs.Lists.{remove_first}
+use Rattle.ele_lists.proofs.Edits.{all-weaker, all-not_found}
 use Rattle.ele_sessions.specs.Sessions.{AllSessions}
 use Rattle.ele_world.specs.declared.rows.VersionRow.{VersionRow}
 use Rattle.ele_world.specs.World.{is_version}

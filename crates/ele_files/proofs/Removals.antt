@@ -15,8 +15,8 @@ use Rattle.ele_files.proofs.Splits.{NonePasses, all-mid, all-exchange, later-mid
 use Rattle.ele_files.proofs.Sums.{total, tally-remove_first}
 use Rattle.ele_inode_log.specs.declared.row.VersionRow as log
 use Rattle.ele_inode_log.specs.Rows.{AllLater, Precedes, EndsInTime, is_numbered, is_other}
-use Rattle.ele_moment.specs.Lists.{remove_first}
-use Rattle.ele_moment.proofs.Edits.{all-remove_first, later-remove_first, all-weaker}
+use Rattle.ele_lists.specs.Lists.{remove_first}
+use Rattle.ele_lists.proofs.Edits.{all-remove_first, later-remove_first, all-weaker}
 use Rattle.ele_sessions.specs.Sessions.{Draft, AllSessions}
 use Rattle.ele_world.specs.World.{is_version}
 

@@ -15,8 +15,8 @@ use Rattle.ele_files.specs.declared.file.File.{File}
 use Rattle.ele_files.specs.Inside.{IsRowOf, IsFileKept, file_row, file_names, row_names, draft_names, file_maps, maps_of, all_names}
 use Rattle.ele_files.proofs.Members.{in_either, in_front, in_back}
 use Rattle.ele_files.proofs.NameLists.{each_of_both, each_of_flat, file_of_name, writer_of_name, named_file, named_draft}
-use Rattle.ele_moment.specs.Lists.{AllLater}
-use Rattle.ele_moment.proofs.Edits.{all-weaker, all-both}
+use Rattle.ele_lists.specs.Lists.{AllLater}
+use Rattle.ele_lists.proofs.Edits.{all-weaker, all-both}
 use Rattle.ele_sessions.specs.Sessions.{Draft}
 use Rattle.ele_world.specs.World.{next_of, is_file}
 

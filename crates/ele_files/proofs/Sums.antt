@@ -7,7 +7,7 @@ use Rattle.ele_blocks.specs.Owes.{tally}
 use Rattle.ele_blocks.proofs.Owed.{tally-append}
 use Rattle.ele_files.specs.Inside.{file_maps, maps_of}
 use Rattle.ele_files.specs.declared.file.File.{File}
-use Rattle.ele_moment.specs.Lists.{remove_first, update_first}
+use Rattle.ele_lists.specs.Lists.{remove_first, update_first}
 use Rattle.ele_sessions.specs.Sessions.{Draft}
 
 module _ {X : Type 0} (f : X → ℕ) where

@@ -21,8 +21,8 @@ use Rattle.ele_files.proofs.Cuts.{IsCut, cut_found, update_cut}
 use Rattle.ele_files.proofs.Lives.{draft_lives, shown-length}
 use Rattle.ele_files.proofs.Rewrites.{was_kept, rewritten_keeps, versions_stay, drafts_seen}
 use Rattle.ele_files.proofs.Rows.{handle_file-shown, draft-found}
-use Rattle.ele_moment.specs.Lists.{update_first}
-use Rattle.ele_moment.proofs.Edits.{all-weaker}
+use Rattle.ele_lists.specs.Lists.{update_first}
+use Rattle.ele_lists.proofs.Edits.{all-weaker}
 use Rattle.ele_sessions.specs.Changes.{RewritesDraft, Rewrites, Writes, Truncates, Stays, IsWritten, IsResized, rewritten_by, has_length}
 use Rattle.ele_sessions.specs.Orderly.{AreOrderly}
 use Rattle.ele_sessions.specs.Sessions.{Draft, AllSessions, is_draft, handle_file, draft_by, draft_for}

@@ -3,7 +3,7 @@ use Rattle.std.specs.Prelude.{ℕ, ◌-◌, ◌≤◌, Bool, Option, Some, None,
 use Rattle.std.specs.List.{list_any}
 use Rattle.ele_sessions.specs.declared.closing.Closing.{Closing}
 use Rattle.ele_sessions.specs.declared.closing.Closing.TheVariants.{StillOpen, Clean, Changed}
-use Rattle.ele_moment.specs.Lists.{update_first, remove_first, insert_before}
+use Rattle.ele_lists.specs.Lists.{update_first, remove_first, insert_before}
 use Rattle.ele_world.specs.declared.rows.VersionRow.{VersionRow}
 use Rattle.ele_world.specs.declared.rows.DraftRow.{DraftRow}
 use Rattle.ele_world.specs.Change.{numbered_on, ended_at}

@@ -4,7 +4,7 @@ use Rattle.ele_blocks.specs.Layout.{Layout}
 use Rattle.ele_files.specs.declared.file.File.{File}
 use Rattle.ele_inode_log.specs.declared.row.VersionRow as log
 use Rattle.ele_inode_log.specs.Rows.{is_numbered}
-use Rattle.ele_moment.specs.Lists.{update_first}
+use Rattle.ele_lists.specs.Lists.{update_first}
 use Rattle.ele_sessions.specs.declared.closing.Closing.{Closing}
 use Rattle.ele_sessions.specs.declared.closing.Closing.TheVariants.{Changed}
 

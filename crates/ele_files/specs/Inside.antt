@@ -11,7 +11,7 @@ use Rattle.ele_files.specs.declared.file.File.{File}
 use Rattle.ele_files.specs.declared.files.Files.TheInside.{Inside}
 use Rattle.ele_inode_log.specs.declared.row.VersionRow as log
 use Rattle.ele_inode_log.specs.Rows.{AreInOrder}
-use Rattle.ele_moment.specs.Lists.{AllLater}
+use Rattle.ele_lists.specs.Lists.{AllLater}
 use Rattle.ele_sessions.specs.Sessions.{Draft, AllSessions}
 use Rattle.ele_sessions.specs.declared.entries.OpenHandle.{OpenHandle}
 use Rattle.ele_sessions.specs.declared.reads.Reads as session

@@ -10,7 +10,7 @@ ghost use Rattle.ele_files.specs.Closing.{closing, closed, number_by, IsPast};
 ghost use Rattle.ele_files.specs.Held.{Held, with_file, opened_by, written_by, fitted, cells_of_draft, without};
 ghost use Rattle.ele_files.specs.Inside.{is_id};
 ghost use Rattle.ele_inode_log.specs.Rows.{is_numbered};
-ghost use Rattle.ele_moment.specs.Lists.{AllLater};
+ghost use Rattle.ele_lists.specs.Lists.{AllLater};
 ghost use Rattle.ele_sessions.specs.Changes.{write_refusal_of, truncate_refusal_of};
 ghost use Rattle.ele_world.specs.Usage.{places};
 ghost use Rattle.ele_world.specs.World.{policy_of, next_of, is_version, is_draft};

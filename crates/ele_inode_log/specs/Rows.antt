@@ -3,7 +3,7 @@ use Rattle.std.specs.Prelude.{◌≡◌, ℕ, ◌<◌, ◌≤◌, ◌==◌, ◌&
 use Rattle.std.specs.Option.{option_map_or}
 use Rattle.std.specs.List.{AllByRecursion}
 use Rattle.ele_inode_log.specs.declared.row.VersionRow.{VersionRow}
-pub use Rattle.ele_moment.specs.Lists.{AllLater}
+pub use Rattle.ele_lists.specs.Lists.{AllLater}
 
 -- the rows by number, and for how many more there is memory
 pub record HeldRows : Type 0 where

@@ -6,7 +6,7 @@ use Rattle.std.proofs.lemmas.Bool.Decides.{nat_tests}
 use Rattle.ele_sessions.specs.declared.entries.OpenHandle.{OpenHandle}
 use Rattle.ele_sessions.specs.Inside.{Writers, is_of}
 use Rattle.ele_sessions.specs.Kept.{writing, IsCounted}
-use Rattle.ele_moment.specs.Lists.{update_first, remove_first}
+use Rattle.ele_lists.specs.Lists.{update_first, remove_first}
 use Rattle.ele_sessions.specs.Order.{Rises}
 use Rattle.ele_sessions.specs.Sessions.{is_handle, is_writer}
 

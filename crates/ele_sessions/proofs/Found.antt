@@ -13,7 +13,7 @@ use Rattle.ele_sessions.specs.Changes.{RewritesDraft, rewritten_by, has_length}
 use Rattle.ele_sessions.specs.Closes.{file_closing, ending, left_drafts, closing, closed}
 use Rattle.ele_sessions.specs.declared.closing.Closing.TheVariants.{StillOpen}
 use Rattle.ele_sessions.specs.Inside.{IsAt, IsGap, Writers, drafts_of, writers_of, draft_in, writers_in, file_in, number_in, is_of, is_after, fewer, stays, left}
-use Rattle.ele_moment.specs.Lists.{update_first, remove_first, insert_before}
+use Rattle.ele_lists.specs.Lists.{update_first, remove_first, insert_before}
 use Rattle.ele_sessions.specs.Sessions.{Draft, AllSessions, is_draft, is_draft_after, is_handle, is_writer, handle_file}
 use Rattle.ele_sessions.proofs.Lifts.{set_found, remove_found, find_found, find_set, find_missing, map_plain, any_found, any_missing, insert_gap, set_same}
 

@@ -8,7 +8,7 @@ use Rattle.ele_sessions.specs.Closes.{closing, file_closing}
 use Rattle.ele_sessions.specs.declared.entries.OpenHandle.{OpenHandle}
 use Rattle.ele_sessions.specs.Inside.{Writers, number_in, is_of, is_after, more, fewer, joined, stays, left}
 use Rattle.ele_sessions.specs.Kept.{Keeps, writing, IsCounted}
-use Rattle.ele_moment.specs.Lists.{update_first, remove_first, insert_before}
+use Rattle.ele_lists.specs.Lists.{update_first, remove_first, insert_before}
 use Rattle.ele_sessions.specs.Order.{Rises}
 use Rattle.ele_sessions.specs.Sessions.{AllSessions, is_handle, is_writer, is_draft, handle_file}
 use Rattle.ele_sessions.proofs.Edits.{all-push, all-weaker, all-both, all-none, all-insert_before, all-remove_first, all-found, found_passes, any_found, later-push, later-update_first, later-remove_first, later-insert_before, list_any-update_first, list_any-insert_before, list_any-remove_first, length-remove_first-le}

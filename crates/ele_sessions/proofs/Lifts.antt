@@ -4,7 +4,7 @@ use Rattle.std.proofs.Math.ListN.{set}
 use Rattle.std.specs.List.{find, insert, remove, list_any}
 use Rattle.std.proofs.lemmas.Bool.Decides.{nat_tests}
 use Rattle.ele_sessions.specs.Inside.{IsAt, IsGap}
-use Rattle.ele_moment.specs.Lists.{update_first, remove_first, insert_before}
+use Rattle.ele_lists.specs.Lists.{update_first, remove_first, insert_before}
 
 module _ {X : Type 0} (key : X → ℕ) (this : ℕ) where
   at_tail : (x : X) (xs : List X) (i : ℕ) → IsAt key this (x ∷ xs) (suc i) → IsAt key this xs i

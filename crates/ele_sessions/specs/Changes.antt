@@ -8,7 +8,7 @@ use Rattle.ele_blocks.specs.Renews.{Renews}
 use Rattle.ele_blocks.specs.Store.{Store}
 use Rattle.ele_sessions.specs.declared.fault.SessionFault.{SessionFault}
 use Rattle.ele_sessions.specs.declared.fault.SessionFault.TheVariants as fault
-use Rattle.ele_moment.specs.Lists.{update_first}
+use Rattle.ele_lists.specs.Lists.{update_first}
 use Rattle.ele_sessions.specs.Sessions.{Draft, AllSessions, is_draft, handle_file, draft_by}
 
 -- why a write is refused, whatever memory there is

@@ -5,7 +5,7 @@ use Rattle.ele_blocks.specs.Layout.{Layout}
 use Rattle.ele_sessions.specs.declared.closing.Closing.{Closing}
 use Rattle.ele_sessions.specs.declared.closing.Closing.TheVariants.{StillOpen, Clean, Changed}
 use Rattle.ele_sessions.specs.declared.entries.OpenHandle.{OpenHandle}
-use Rattle.ele_moment.specs.Lists.{remove_first}
+use Rattle.ele_lists.specs.Lists.{remove_first}
 use Rattle.ele_sessions.specs.Sessions.{Draft, AllSessions, is_draft, is_handle, is_writer, handle_file}
 
 -- the handles that are left

@@ -4,7 +4,7 @@ use Rattle.std.specs.List.{list_any}
 use Rattle.ele_blocks.specs.Layout.{Layout}
 use Rattle.ele_blocks.specs.Owes.{Moves}
 use Rattle.ele_blocks.specs.Store.{Store}
-use Rattle.ele_moment.specs.Lists.{insert_before}
+use Rattle.ele_lists.specs.Lists.{insert_before}
 use Rattle.ele_sessions.specs.Sessions.{Draft, AllSessions, is_draft, is_draft_after}
 
 -- a draft that is opened now, with that map's content

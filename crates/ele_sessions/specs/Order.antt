@@ -1,7 +1,7 @@
 -- What holds between the elements of a list.
 use Rattle.std.specs.Prelude.{ℕ, ◌<◌, List, [], ◌∷◌}
 use Rattle.std.specs.List.{AllByRecursion}
-pub use Rattle.ele_moment.specs.Lists.{AllLater}
+pub use Rattle.ele_lists.specs.Lists.{AllLater}
 
 -- the keys rise along the list
 abbrev pub Rises : {X : Type 0} → (X → ℕ) → List X → Type 0

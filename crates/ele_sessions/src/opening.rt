@@ -5,7 +5,7 @@ ghost use Rattle.std.specs.List.{AllByRecursion, list_any};
 ghost use Rattle.ele_blocks.specs.LivesIn.{LivesIn};
 ghost use Rattle.ele_blocks.specs.Owes.{Moves, IsUncrowded};
 ghost use Rattle.ele_sessions.specs.Inside.{IsGap, drafts_of, writers_of, file_in, is_of, is_after, joined};
-ghost use Rattle.ele_moment.specs.Lists.{insert_before};
+ghost use Rattle.ele_lists.specs.Lists.{insert_before};
 ghost use Rattle.ele_sessions.specs.Opening.{new_draft, with_draft, Opens};
 ghost use Rattle.ele_sessions.specs.Order.{Rises};
 ghost use Rattle.ele_sessions.specs.Sessions.{is_draft_after};

@@ -5,9 +5,9 @@ use Rattle.std.specs.List.{list_any, AllByRecursion}
 use Rattle.std.specs.Option.{option_map_or}
 use Rattle.std.proofs.lemmas.Bool.Decides.{nat_tests}
 use Rattle.ele_due.specs.declared.key.Key.{Key}
-use Rattle.ele_moment.proofs.Edits.{all-found, found_passes, length-remove_first, list_any-insert_before}
+use Rattle.ele_lists.proofs.Edits.{all-found, found_passes, length-remove_first, list_any-insert_before}
 use Rattle.ele_policy.specs.declared.policy.Policy.TheVariants.{Safe}
-use Rattle.ele_moment.specs.Lists.{insert_before}
+use Rattle.ele_lists.specs.Lists.{insert_before}
 use Rattle.ele_world.specs.Change.{new_draft, EndDraft, ShutHandle, after_changes}
 use Rattle.ele_world.specs.Scan.{first_due}
 use Rattle.ele_world.specs.Step.{plan}

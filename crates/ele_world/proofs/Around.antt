@@ -2,7 +2,7 @@
 use Rattle.std.proofs.Common.{◌≡◌, Bool, true, false, cond, List, [], ◌∷◌, ◌++◌, Some, refl, ap, sym, subst, ◌∙◌, filter, append_assoc}
 use Rattle.std.specs.Prelude.{find}
 use Rattle.std.specs.List.{AllByRecursion}
-use Rattle.ele_moment.specs.Lists.{remove_first, AllLater}
+use Rattle.ele_lists.specs.Lists.{remove_first, AllLater}
 
 module _ {X : Type 0} where
   -- what holds of each element, wherever it stands, holds of all

@@ -3,8 +3,8 @@ use Rattle.std.proofs.Common.{◌≡◌, ℕ, ◌+◌, ◌-◌, ◌<◌, Bool, t
 use Rattle.std.specs.List.{list_any, AllByRecursion}
 use Rattle.std.proofs.lemmas.Bool.Decides.{nat_tests}
 use Rattle.std.proofs.lemmas.List.Folds.{list_any-append}
-use Rattle.ele_moment.specs.Lists.{update_first, insert_before}
-use Rattle.ele_moment.proofs.Edits.{all-weaker}
+use Rattle.ele_lists.specs.Lists.{update_first, insert_before}
+use Rattle.ele_lists.proofs.Edits.{all-weaker}
 use Rattle.ele_policy.specs.declared.policy.Policy.{Policy}
 use Rattle.ele_world.specs.Change.{numbered_on, ended_at, next_version, with_end, with_file, with_name, after_change, MakeFile}
 use Rattle.ele_world.specs.WellFormed.{IsFile, IsVersion, Files, Versions, IsWellFormed}

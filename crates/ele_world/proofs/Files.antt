@@ -7,7 +7,7 @@ use Rattle.std.proofs.lemmas.Bool.Decides.{nat_tests}
 use Rattle.ele_world.specs.declared.rows.FileRow.{FileRow}
 use Rattle.ele_world.specs.declared.rows.Target.{Target}
 use Rattle.ele_world.specs.declared.rows.Target.TheVariants.{File, Directory}
-use Rattle.ele_moment.specs.Lists.{update_first}
+use Rattle.ele_lists.specs.Lists.{update_first}
 use Rattle.ele_world.specs.Change.{numbered_on}
 use Rattle.ele_world.specs.WellFormed.{IsFile, IsThere}
 use Rattle.ele_world.specs.World.{is_file, next_of}

@@ -6,8 +6,8 @@ use Rattle.std.specs.Option.{option_map_or}
 use Rattle.std.proofs.lemmas.Bool.Decides.{nat_tests}
 use Rattle.ele_content.specs.Content.{content_of, longest_content, cells_after_truncate}
 use Rattle.ele_content.proofs.Contents.{written_short, written_fills, truncated_short, truncated_fills}
-use Rattle.ele_moment.specs.Lists.{update_first, remove_first, insert_before}
-use Rattle.ele_moment.proofs.Edits.{all-push, all-weaker, all-both, later-push, all-remove_first, all-insert_before, later-update_first, later-remove_first, later-insert_before, length-update_first, length-insert_before, length-remove_first-le, all-found, all-none, found_passes, list_any-update_first, list_any-insert_before, list_any-remove_first}
+use Rattle.ele_lists.specs.Lists.{update_first, remove_first, insert_before}
+use Rattle.ele_lists.proofs.Edits.{all-push, all-weaker, all-both, later-push, all-remove_first, all-insert_before, later-update_first, later-remove_first, later-insert_before, length-update_first, length-insert_before, length-remove_first-le, all-found, all-none, found_passes, list_any-update_first, list_any-insert_before, list_any-remove_first}
 use Rattle.ele_world.specs.Change.{current_cells, new_draft, changed_by, fitted_by, after_change, StartDraft, WriteDraft, TruncateDraft, EndDraft, OpenHandle, ShutHandle}
 use Rattle.ele_world.proofs.May.{MayStart, MayOpen}
 use Rattle.ele_world.specs.WellFormed.{IsContent, AreWrittenBy, IsVersion, IsDraft, IsReadable, IsHandle, Part, Counted, Versions, Drafts, Handles, Holds, IsWellFormed}

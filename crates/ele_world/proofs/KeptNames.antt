@@ -9,7 +9,7 @@ use Rattle.std.proofs.lemmas.Bool.Decides.{nat_tests}
 use Rattle.std.proofs.lemmas.List.Folds.{list_any-append}
 use Rattle.std.proofs.lemmas.Slice.Eq.{bytes_eq-Decides}
 use Rattle.ele_moment.specs.Last.{last_moment}
-use Rattle.ele_moment.proofs.Edits.{all-push, all-weaker, all-both, all-update_first, later-push, later-update_first, all-not_found, list_any-update_first}
+use Rattle.ele_lists.proofs.Edits.{all-push, all-weaker, all-both, all-update_first, later-push, later-update_first, all-not_found, list_any-update_first}
 use Rattle.ele_policy.specs.declared.policy.Policy.{Policy}
 use Rattle.ele_world.specs.Change.{governed_by, after_change, Time, Govern, MakeFile}
 use Rattle.ele_world.specs.Walk.{live_target, is_live_name}

@@ -7,7 +7,7 @@ use Rattle.std.proofs.lemmas.Bool.{false≢true}
 use Rattle.std.proofs.lemmas.Bool.Decides.{nat_tests}
 use Rattle.std.proofs.lemmas.List.Folds.{find-append}
 use Rattle.std.proofs.lemmas.Slice.Eq.{bytes_eq-Decides}
-use Rattle.ele_moment.proofs.Edits.{all-weaker, not_found}
+use Rattle.ele_lists.proofs.Edits.{all-weaker, not_found}
 use Rattle.ele_policy.specs.declared.policy.Policy.{Policy}
 use Rattle.ele_world.specs.CreateLeads.{LeadsToNew}
 use Rattle.ele_world.specs.Step.{plan, step}

@@ -4,8 +4,8 @@ use Rattle.std.specs.Prelude.{find}
 use Rattle.std.specs.Option.{option_map}
 use Rattle.std.proofs.lemmas.Bool.Decides.{nat_tests}
 use Rattle.ele_content.specs.declared.cell.Cell.{Cell}
-use Rattle.ele_moment.specs.Lists.{update_first, remove_first}
-use Rattle.ele_moment.proofs.Edits.{all-weaker, not_found, find-insert_before, find-remove_first}
+use Rattle.ele_lists.specs.Lists.{update_first, remove_first}
+use Rattle.ele_lists.proofs.Edits.{all-weaker, not_found, find-insert_before, find-remove_first}
 use Rattle.ele_world.specs.Change.{Change, MakeFile, Append, Take, after_change, ended_at, next_version, with_end, with_file, with_name, with_version}
 use Rattle.ele_world.specs.WellFormed.{AllLater, ArePlaced}
 use Rattle.ele_world.specs.World.{World, next_of, is_version, is_version_after}

@@ -4,8 +4,8 @@ use Rattle.std.specs.Prelude.{filter, find}
 use Rattle.std.specs.List.{list_any}
 use Rattle.std.specs.Option.{option_map_or, option_map}
 use Rattle.std.proofs.lemmas.Bool.Decides.{nat_tests}
-use Rattle.ele_moment.specs.Lists.{update_first, remove_first, insert_before}
-use Rattle.ele_moment.proofs.Edits.{found_passes}
+use Rattle.ele_lists.specs.Lists.{update_first, remove_first, insert_before}
+use Rattle.ele_lists.proofs.Edits.{found_passes}
 use Rattle.ele_policy.specs.declared.policy.Kind.{Kind}
 use Rattle.ele_policy.specs.declared.policy.Policy.{Policy}
 use Rattle.ele_policy.specs.Policy.{kind_of, is_kind}

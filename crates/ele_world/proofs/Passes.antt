@@ -12,8 +12,8 @@ use Rattle.ele_world.specs.declared.event.Event.TheVariants.{CleanOne}
 use Rattle.ele_due.specs.declared.key.Key.{Key}
 use Rattle.ele_world.specs.declared.rows.VersionRow.{VersionRow}
 use Rattle.ele_world.specs.Due.{is_due_at, ripe_of, kept_rows}
-use Rattle.ele_moment.specs.Lists.{remove_first}
-use Rattle.ele_moment.proofs.Edits.{all-both, all-weaker}
+use Rattle.ele_lists.specs.Lists.{remove_first}
+use Rattle.ele_lists.proofs.Edits.{all-both, all-weaker}
 use Rattle.ele_world.specs.RipeMoments.{IsDueFromRipe}
 use Rattle.ele_world.specs.Run.{after_cleans, IsPass}
 use Rattle.ele_world.specs.Scan.{key_cmp, key_of, due_key, scan, first_due}

@@ -6,7 +6,7 @@ use Rattle.std.proofs.lemmas.List.Quantifiers.{position-Some}
 use Rattle.std.proofs.lemmas.List.Edits.{insert_end}
 use Rattle.std.proofs.lemmas.Bool.{false≢true}
 use Rattle.std.proofs.lemmas.Bool.Decides.{nat_tests}
-use Rattle.ele_moment.specs.Lists.{update_first, remove_first, insert_before}
+use Rattle.ele_lists.specs.Lists.{update_first, remove_first, insert_before}
 
 module _ {X : Type 0} (p : X → Bool) where
   update_at : (f : X → X) (xs : List X) (i : ℕ) (d : X) → i < length xs → p (get_or xs i d) ≡ true → ((k : ℕ) → k < i → p (get_or xs k d) ≡ false) → update_first p f xs ≡ set xs i (f (get_or xs i d))

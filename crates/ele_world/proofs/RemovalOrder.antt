@@ -3,8 +3,8 @@ use Rattle.std.proofs.Common.{◌≡◌, ◌==◌, Bool, true, false, not, List,
 use Rattle.std.specs.List.{AllByRecursion}
 use Rattle.std.proofs.lemmas.List.Elements.{filter-append}
 use Rattle.std.proofs.lemmas.Bool.Decides.{nat_tests}
-use Rattle.ele_moment.specs.Lists.{AllLater}
-use Rattle.ele_moment.proofs.Edits.{all-weaker}
+use Rattle.ele_lists.specs.Lists.{AllLater}
+use Rattle.ele_lists.proofs.Edits.{all-weaker}
 use Rattle.ele_world.specs.declared.rows.VersionRow.{VersionRow}
 use Rattle.ele_world.specs.Due.{is_due_at}
 use Rattle.ele_world.specs.FileView.{view_of, is_version_of, due_in}

@@ -3,7 +3,7 @@ use Rattle.std.proofs.Common.{◌≡◌, ℕ, Bool, true, false, cond, ◌||◌,
 use Rattle.std.specs.Prelude.{find, unwrap_or}
 use Rattle.std.specs.List.{list_any, AllByRecursion}
 use Rattle.std.specs.Option.{option_map}
-use Rattle.ele_moment.proofs.Edits.{all-weaker, all-both}
+use Rattle.ele_lists.proofs.Edits.{all-weaker, all-both}
 use Rattle.ele_world.specs.Change.{Change, after_change, after_changes, ended_at}
 use Rattle.ele_world.specs.Due.{is_due_at}
 use Rattle.ele_world.specs.HeldStays.{IsSameVersion, StaysSame}

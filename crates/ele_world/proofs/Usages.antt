@@ -27,8 +27,8 @@ use Rattle.ele_world.proofs.Created.{new_file, first_version, created}
 use Rattle.ele_world.proofs.Opened.{opened}
 use Rattle.ele_world.specs.WellFormed.{IsContent, IsFile, IsVersion, IsDraft, Counted, Files, Versions, Drafts, IsWellFormed}
 use Rattle.ele_content.specs.Content.{content_of, longest_content}
-use Rattle.ele_moment.proofs.Edits.{all-weaker}
-use Rattle.ele_moment.specs.Lists.{update_first, remove_first}
+use Rattle.ele_lists.proofs.Edits.{all-weaker}
+use Rattle.ele_lists.specs.Lists.{update_first, remove_first}
 use Rattle.ele_world.specs.Bounds.{AreBounds}
 use Rattle.ele_world.proofs.Others.{other_drafts, drafts-updated, drafts-opened, versions-removed}
 use Rattle.ele_world.proofs.Splits.{bytes_in-cons, split_length, filter-same, filter-same_all, filter-swap, Splits, count_sum, bytes_sum, blocks_sum, count_splits, bytes_splits, blocks_splits}

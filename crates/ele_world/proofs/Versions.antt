@@ -5,11 +5,11 @@ use Rattle.std.specs.List.{AllByRecursion}
 use Rattle.std.proofs.lemmas.Bool.Decides.{nat_tests}
 use Rattle.ele_world.specs.declared.rows.FileRow.{FileRow}
 use Rattle.ele_world.specs.declared.rows.VersionRow.{VersionRow}
-use Rattle.ele_moment.specs.Lists.{update_first}
+use Rattle.ele_lists.specs.Lists.{update_first}
 use Rattle.ele_world.specs.Change.{ended_at}
 use Rattle.ele_world.specs.WellFormed.{AllLater, IsVersion, ArePlaced}
 use Rattle.ele_world.specs.World.{is_version, next_of}
-use Rattle.ele_moment.proofs.Edits.{all-weaker, all-both}
+use Rattle.ele_lists.proofs.Edits.{all-weaker, all-both}
 
 -- a later row isn't the earlier one
 pub apart : (x y : VersionRow) → ArePlaced x y → is_version y.file y.number x ≡ false

@@ -6,8 +6,8 @@ use Rattle.std.proofs.lemmas.List.Elements.{filter-append}
 use Rattle.std.proofs.lemmas.Option.{IfSome_then}
 use Rattle.std.proofs.lemmas.Bool.Decides.{nat_tests}
 use Rattle.ele_moment.specs.Last.{last_moment}
-use Rattle.ele_moment.specs.Lists.{AllLater}
-use Rattle.ele_moment.proofs.Edits.{all-weaker}
+use Rattle.ele_lists.specs.Lists.{AllLater}
+use Rattle.ele_lists.proofs.Edits.{all-weaker}
 use Rattle.ele_policy.specs.Ripe.{IsNearest}
 use Rattle.ele_world.specs.declared.rows.VersionRow.{VersionRow}
 use Rattle.ele_world.specs.FileView.{FileView, view_of, is_version_of, is_newer, closings, beside}

@@ -12,7 +12,7 @@ use Rattle.ele_world.specs.declared.rows.Target.TheVariants.{File, Directory}
 use Rattle.ele_world.specs.Walk.{is_live_name, live_target, walk, walk_now, file_at, file_now}
 use Rattle.ele_world.specs.WellFormed.{IsName, IsThere}
 use Rattle.ele_world.specs.World.{next_of, root}
-use Rattle.ele_moment.proofs.Edits.{all-found}
+use Rattle.ele_lists.proofs.Edits.{all-found}
 
 -- what follows for the target of a name that is found
 target_there : (files : List FileRow) (o : Option NameRow) (target : Target) → ((row : NameRow) → o ≡ Some row → IsThere files row.target) → option_map (λ (row : NameRow). row.target) o ≡ Some target → IsThere files target

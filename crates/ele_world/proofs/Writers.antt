@@ -4,7 +4,7 @@ use Rattle.std.specs.Prelude.{min}
 use Rattle.std.specs.List.{AllByRecursion, range_with_len}
 use Rattle.ele_content.specs.declared.cell.Cell.{Cell}
 use Rattle.ele_content.specs.Content.{content_of, content_after_write, content_after_truncate, slot_bytes, slot_count, writer_at, meets, refits, cells_after_write, cells_after_truncate}
-use Rattle.ele_moment.proofs.Edits.{all-weaker}
+use Rattle.ele_lists.proofs.Edits.{all-weaker}
 use Rattle.ele_world.specs.Change.{changed_by, fitted_by}
 use Rattle.ele_world.specs.WellFormed.{AreWrittenBy}
 use Rattle.ele_world.specs.declared.rows.DraftRow.{DraftRow}

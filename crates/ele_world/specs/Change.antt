@@ -3,7 +3,7 @@ use Rattle.std.specs.Prelude.{ℕ, ◌+◌, ◌-◌, ◌==◌, true, false, List
 use Rattle.std.specs.Option.{option_map_or}
 use Rattle.ele_content.specs.declared.cell.Cell.{Cell}
 use Rattle.ele_content.specs.Content.{content_of, cells_after_write, cells_after_truncate}
-use Rattle.ele_moment.specs.Lists.{update_first, remove_first, insert_before}
+use Rattle.ele_lists.specs.Lists.{update_first, remove_first, insert_before}
 use Rattle.ele_policy.specs.declared.policy.Policy.{Policy}
 use Rattle.ele_world.specs.declared.rows.DirectoryRow.{DirectoryRow}
 use Rattle.ele_world.specs.declared.rows.DraftRow.{DraftRow}

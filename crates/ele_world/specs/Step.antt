@@ -5,7 +5,7 @@ use Rattle.std.specs.Option.{option_map_or}
 use Rattle.ele_content.specs.declared.cell.Cell.{Cell}
 use Rattle.ele_content.specs.Content.{content_of, longest_content}
 use Rattle.ele_moment.specs.Last.{last_moment}
-use Rattle.ele_moment.specs.Lists.{remove_first}
+use Rattle.ele_lists.specs.Lists.{remove_first}
 use Rattle.ele_world.specs.declared.event.Event.{Event}
 use Rattle.ele_world.specs.declared.event.Event.TheVariants.{Clock, Tick, Create, OpenWrite, Write, Truncate, Close, SetDefault, CleanOne, Read, Due, UsageAll}
 use Rattle.ele_world.specs.declared.event.Source.TheVariants.{Of}

@@ -4,7 +4,7 @@ use Rattle.std.specs.List.{list_any, AllByRecursion}
 use Rattle.ele_content.specs.declared.cell.Cell.{Cell}
 use Rattle.ele_content.specs.Content.{content_of, longest_content, fill_slots}
 use Rattle.ele_moment.specs.Last.{last_moment}
-pub use Rattle.ele_moment.specs.Lists.{AllLater}
+pub use Rattle.ele_lists.specs.Lists.{AllLater}
 use Rattle.ele_policy.specs.Policy.{IsPolicy}
 use Rattle.ele_world.specs.Bounds.{Bounds, AreBounds}
 use Rattle.ele_world.specs.declared.limits.Counts.{Counts}

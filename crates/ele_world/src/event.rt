@@ -1,5 +1,6 @@
 //! Events: the commands that a world takes.
-use ele_moment::{ByteList, Handle, Moment};
+use ele_lists::ByteList;
+use ele_moment::{Handle, Moment};
 use ele_policy::Policy;
 use ele_time_path::Path;
 

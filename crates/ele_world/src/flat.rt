@@ -9,7 +9,8 @@ use crate::limits::{Counts, Limits};
 use crate::list::KeyList;
 use crate::rows::{DirectoryRow, DraftRow, FileRow, HandleRow, NameRow, VersionRow};
 use crate::{scan, sums};
-use ele_moment::{ListOf, Moment, NoMemory};
+use ele_lists::ListOf;
+use ele_moment::{Moment, NoMemory};
 use ele_policy::Kind;
 use ele_usage::Usage;
 

@@ -16,7 +16,8 @@ mod sums;
 
 pub use ele_content::Cell;
 pub use ele_due::Key;
-pub use ele_moment::{ByteList, DirId, FileId, Handle, ListOf, Moment, Name, NoMemory, VersionNo};
+pub use ele_lists::{ByteList, ListOf};
+pub use ele_moment::{DirId, FileId, Handle, Moment, Name, NoMemory, VersionNo};
 pub use ele_policy::{Interval, Kind, Policy};
 pub use ele_time_path::Path;
 pub use ele_usage::Usage;

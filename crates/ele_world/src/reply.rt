@@ -2,7 +2,8 @@
 use crate::list::KeyList;
 use crate::refusal::Refusal;
 use ele_due::Key;
-use ele_moment::{ByteList, FileId, Handle, Moment, VersionNo};
+use ele_lists::ByteList;
+use ele_moment::{FileId, Handle, Moment, VersionNo};
 use ele_usage::Usage;
 
 /// The answer to a command.

@@ -1,6 +1,7 @@
 //! The rows of a world: what stands in it of each file, name, version, draft and handle.
 use ele_content::Cell;
-use ele_moment::{DirId, FileId, Handle, ListOf, Moment, Name, VersionNo};
+use ele_lists::ListOf;
+use ele_moment::{DirId, FileId, Handle, Moment, Name, VersionNo};
 use ele_policy::Policy;
 
 /// A file: its policy, and the number that its next version gets.

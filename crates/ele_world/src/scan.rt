@@ -9,7 +9,8 @@ use crate::flat::Flat;
 use crate::list::KeyList;
 use crate::rows::{FileRow, VersionRow};
 use ele_due::Key;
-use ele_moment::{FileId, ListOf, Moment, NoMemory};
+use ele_lists::ListOf;
+use ele_moment::{FileId, Moment, NoMemory};
 use ele_policy::{Policy, ripe};
 use std::collections::BTreeSet;
 

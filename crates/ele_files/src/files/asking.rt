@@ -12,7 +12,8 @@ ghost use Rattle.ele_world.specs.World.{policy_of, next_of, is_version, is_draft
 use crate::files::{Files, place_of};
 use crate::stamps::Stamps;
 use ele_inode_log::Meter;
-use ele_moment::{ByteList, FileId, Handle, ListOf, NoMemory, VersionNo};
+use ele_lists::{ByteList, ListOf};
+use ele_moment::{FileId, Handle, NoMemory, VersionNo};
 use ele_policy::Policy;
 use ele_world::{Reads, Refusal};
 

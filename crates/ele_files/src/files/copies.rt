@@ -13,7 +13,8 @@ use crate::files::Files;
 use crate::files::asking::reads_in;
 use ele_blocks::{BlockMap, BlockStore};
 use ele_inode_log::{Meter, VersionRow as LogRow};
-use ele_moment::{ListOf, NoMemory, VersionNo};
+use ele_lists::ListOf;
+use ele_moment::{NoMemory, VersionNo};
 use ele_world::{Cell, DraftRow, FileRow, HandleRow, VersionRow};
 use std::alloc::Global;
 

@@ -5,7 +5,7 @@ use Rattle.ele_files.proofs.Endings.{last_row, can_end, no_end, keeps_end}
 use Rattle.ele_files.proofs.Splits.{update_first-none, update_first-same}
 use Rattle.ele_files.proofs.file.File.end_before.Goals as goal
 use Rattle.ele_inode_log.specs.Rows.{is_numbered}
-use Rattle.ele_moment.proofs.Edits.{all-not_found}
+use Rattle.ele_lists.proofs.Edits.{all-not_found}
 
 pub end_last-requires : goal.end_last-requires
 end_last-requires c =

@@ -7,7 +7,7 @@ use Rattle.ele_files.specs.Inside.{row_in, rows_in}
 use Rattle.ele_inode_log.specs.Rows.{is_after}
 use Rattle.ele_inode_log.specs.declared.row.VersionRow.{VersionRow}
 use Rattle.ele_blocks.specs.LivesIn.{LivesIn}
-use Rattle.ele_moment.proofs.Edits.{all-found}
+use Rattle.ele_lists.proofs.Edits.{all-found}
 
 pub loop-row-init : goal.loop-row-init
 loop-row-init c =
