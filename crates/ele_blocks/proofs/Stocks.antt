@@ -1,8 +1,9 @@
 -- The laws of maps over one store.
 use Rattle.std.proofs.Common.{◌≡◌, ◌⊎◌, ℕ, ◌+◌, ◌<◌, ◌≤◌, Bool, true, false, cond, ◌&&◌, List, [], ◌∷◌, ◌++◌, map, length, Some, refl, ap, sym, ◌∙◌, arith, eqb, ltb, zero, suc, inl, inr, ⊎_elim, subst}
 use Rattle.std.specs.Prelude.{slice_get}
-use Rattle.std.specs.List.{flat_map, list_all, AllByRecursion}
+use Rattle.std.specs.List.{flat_map, list_all, sum_by, AllByRecursion}
 use Rattle.std.proofs.lemmas.List.{length-map, map-append}
+use Rattle.std.proofs.lemmas.List.Sums.{sum_by-cons}
 use Rattle.std.proofs.lemmas.Bool.{false≢true}
 use Rattle.std.proofs.lemmas.Bool.Decides.{nat_tests}
 use Rattle.ele_blocks.specs.declared.slot.Slot.{Slot}
@@ -18,6 +19,13 @@ use Rattle.ele_blocks.proofs.OneToOnes.{in_either, in_front, in_back, place_same
 use Rattle.ele_blocks.proofs.Owed.{tally-append, same_maps, owes_none, owes_same, owes_new, owes_lives, owes_uncrowded, moves_owes, rest_stays}
 use Rattle.ele_blocks.proofs.Sizes.{length-content, whole_short}
 use Rattle.ele_content.specs.Place.{Place, different, is_place}
+
+tally-sum : {X : Type 0} (f : X → ℕ) (xs : List X) → tally f xs ≡ sum_by f xs
+tally-sum f [] = refl
+tally-sum f (x ∷ xs) = omega (arith, sum_by-cons f x xs, tally-sum f xs)
+
+same_tally : (ts us : List Tagged) → SameStock ts us → (f : Tagged → ℕ) → tally f ts ≡ tally f us
+same_tally ts us same f = tally-sum f ts ∙ (same.sums f ∙ sym (tally-sum f us))
 
 -- ---- names in a list, counted
 
@@ -60,7 +68,7 @@ names_count s n [] = refl
 names_count s n (t ∷ ts) = omega (arith, tally-append (λ m. cond (is_named n m) 1 0) (names_of s t.file t.layout) (names_in s ts), names_count s n ts)
 
 same_in : (s : Store) (ts us : List Tagged) → SameStock ts us → (n : Named) → IsIn n (names_in s us) → IsIn n (names_in s ts)
-same_in s ts us same n i = in_counted n (names_in s ts) (omega (arith, counted n (names_in s us) i, names_count s n ts, names_count s n us, same.sums (λ t. count n (names_of s t.file t.layout))))
+same_in s ts us same n i = in_counted n (names_in s ts) (omega (arith, counted n (names_in s us) i, names_count s n ts, names_count s n us, same_tally ts us same (λ t. count n (names_of s t.file t.layout))))
 
 fewer : (ns ms : List Named) → ((n : Named) → IsIn n ns → IsIn n ms) → AreOneToOne ms → AreOneToOne ns
 fewer ns ms are one = λ m n i j. one m n (are m i) (are n j)
@@ -164,25 +172,31 @@ each_shows s t (m ∷ ts) e = (record { same = cc }, each_shows s t ts cc)
 
 in_same : (s : Store) (ts us : List Tagged) → SameStock ts us → IsStocked s ts → IsStocked s us
 in_same s ts us same h = record {
-  owed = owes_same s (layouts_of ts) (layouts_of us) h.owed (record { sums = λ f. tally-layouts f ts ∙ (same.sums (λ t. f t.layout) ∙ sym (tally-layouts f us)) });
+  owed = owes_same s (layouts_of ts) (layouts_of us) h.owed (record { sums = λ f. tally-layouts f ts ∙ (same_tally ts us same (λ t. f t.layout) ∙ sym (tally-layouts f us)) });
   one_to_one = fewer (names_in s us) (names_in s ts) (same_in s ts us same) h.one_to_one;
-  written = sym (same.sums (λ t. cond (is_below s t) 0 1)) ∙ h.written;
+  written = sym (same_tally ts us same (λ t. cond (is_below s t) 0 1)) ∙ h.written;
 }
 
 with_empty : (s : Store) (file below : ℕ) (ts : List Tagged) → IsStocked s ts → IsStocked s (record { file = file; below = below; layout = empty_layout } ∷ ts)
 with_empty s file below ts h = record { owed = owes_new s (layouts_of ts) h.owed; one_to_one = h.one_to_one; written = omega (arith, h.written) }
 
-module _ (s t : Store) (was : Tagged) (rest : List Tagged) (h : IsStocked s (was ∷ rest)) where
+back : (ts us : List Tagged) → SameStock ts us → SameStock us ts
+back ts us same = record { sums = λ f. sym (same.sums f) }
+
+module _ (s t : Store) (ts : List Tagged) (was : Tagged) (rest : List Tagged) (stocked : IsStocked s ts) (apart : SameStock ts (was ∷ rest)) where
   abbrev all : List Layout
   all = was.layout ∷ layouts_of rest
 
+  h : IsStocked s (was ∷ rest)
+  h = in_same s ts (was ∷ rest) apart stocked
+
   all_written : late s rest ≡ 0
-  all_written = omega (arith, h.written)
+  all_written = let e = h.written in omega (arith, e)
 
   was_below : is_below s was ≡ true
   was_below = head_below s was rest h.written
 
-  goes : Moves s t (was.layout ∷ []) [] → Stays s t [] rest
+  goes : Moves s t (was.layout ∷ []) [] → Stays s t rest rest
   goes moves = record {
     stocked = record {
       owed = moves_owes s t (was.layout ∷ []) [] moves all (layouts_of rest) h.owed (same_maps all) (layouts_of rest) (same_maps (layouts_of rest));
@@ -192,27 +206,31 @@ module _ (s t : Store) (was : Tagged) (rest : List Tagged) (h : IsStocked s (was
     shows = each_shows s t rest (rest_stays s t (was.layout ∷ []) [] moves all (layouts_of rest) h.owed (same_maps all));
   }
 
-  copies : (below : ℕ) → was.below ≤ below → Moves s t [] (was.layout ∷ []) → Stays s t (record was { below = below } ∷ []) (was ∷ rest)
-  copies below le moves = record {
-    stocked = record {
-      owed = moves_owes s t [] (was.layout ∷ []) moves all all h.owed (same_maps all) (was.layout ∷ all) (same_maps (was.layout ∷ all));
-      one_to_one = fewer (names_in t (was ∷ was ∷ rest)) (names_in s (was ∷ rest)) (λ n i. ⊎_elim (λ (a : IsIn n (names_of s was.file was.layout)). in_front n (names_of s was.file was.layout) (names_in s rest) a) (λ (b : IsIn n (names_in s (was ∷ rest))). b) (in_either n (names_of s was.file was.layout) (names_in s (was ∷ rest)) i)) h.one_to_one;
-      written = rw (below_more was.below below (slots_of s was.layout) le was_below) (omega (arith, h.written));
-    };
-    shows = each_shows s t (was ∷ rest) (rest_stays s t [] (was.layout ∷ []) moves all all h.owed (same_maps all));
+  -- a name of the map is there
+  was_in : (n : Named) → IsIn n (names_of s was.file was.layout) → IsIn n (names_in s ts)
+  was_in n i = same_in s ts (was ∷ rest) apart n (in_front n (names_of s was.file was.layout) (names_in s rest) i)
+
+  copies : (below : ℕ) (us : List Tagged) → was.below ≤ below → Moves s t [] (was.layout ∷ []) → SameStock us (record was { below = below } ∷ ts) → Stays s t ts us
+  copies below us le moves same = record {
+    stocked = in_same t (record was { below = below } ∷ ts) us (back us (record was { below = below } ∷ ts) same) (record {
+      owed = moves_owes s t [] (was.layout ∷ []) moves (layouts_of ts) (layouts_of ts) stocked.owed (same_maps (layouts_of ts)) (was.layout ∷ layouts_of ts) (same_maps (was.layout ∷ layouts_of ts));
+      one_to_one = fewer (names_in t (was ∷ ts)) (names_in s ts) (λ n i. ⊎_elim (λ (a : IsIn n (names_of s was.file was.layout)). was_in n a) (λ (b : IsIn n (names_in s ts)). b) (in_either n (names_of s was.file was.layout) (names_in s ts) i)) stocked.one_to_one;
+      written = rw (below_more was.below below (slots_of s was.layout) le was_below) (let e = stocked.written in omega (arith, e));
+    });
+    shows = each_shows s t ts (rest_stays s t [] (was.layout ∷ []) moves (layouts_of ts) (layouts_of ts) stocked.owed (same_maps (layouts_of ts)));
   }
 
-  rewrites : (writer : ℕ) (renewed : ℕ → Bool) (now : Layout) → was.below ≡ writer + 1 → AllByRecursion (IsEarlier was.file writer) rest → Moves s t (was.layout ∷ []) (now ∷ []) → Renews s t writer renewed was.layout now → Stays s t (record was { layout = now } ∷ []) rest
-  rewrites writer renewed now is others moves renews = record {
-    stocked = record {
+  rewrites : (writer : ℕ) (renewed : ℕ → Bool) (now : Layout) (us : List Tagged) → was.below ≡ writer + 1 → AllByRecursion (IsEarlier was.file writer) rest → Moves s t (was.layout ∷ []) (now ∷ []) → Renews s t writer renewed was.layout now → SameStock us (record was { layout = now } ∷ rest) → Stays s t rest us
+  rewrites writer renewed now us is others moves renews same = record {
+    stocked = in_same t (record was { layout = now } ∷ rest) us (back us (record was { layout = now } ∷ rest) same) (record {
       owed = moves_owes s t (was.layout ∷ []) (now ∷ []) moves all (layouts_of rest) h.owed (same_maps all) (now ∷ layouts_of rest) (same_maps (now ∷ layouts_of rest));
       one_to_one = stays_one_to_one s t writer was.file renewed was.layout now (names_in s rest) (owes_lives s all was.layout (layouts_of rest) h.owed (same_maps all)) moves renews (none_by s was.file writer rest all_written others) owned h.one_to_one;
       written = rw (below_renewed s t writer was.below renewed was.layout now is renews was_below) (omega (arith, all_written));
-    };
+    });
     shows = each_shows s t rest (rest_stays s t (was.layout ∷ []) (now ∷ []) moves all (layouts_of rest) h.owed (same_maps all));
   } where
     owned : AreOwnedNames s (names_in s rest)
-    owned n i = omega (arith, owned_names s n rest all_written i, h.owed.counted n.block)
+    owned n i = let o = h.owed.counted n.block in omega (arith, owned_names s n rest all_written i, o)
 
 slot-blocks : (file first : ℕ) (slots : List Slot) → map (λ (n : Named). n.block) (names_from file first slots) ≡ ids_of slots
 slot-blocks file first [] = refl
@@ -233,7 +251,7 @@ stock_laws = record {
   short = λ s m lives. whole_short s m lives.whole;
   few = λ s ts h few. owes_uncrowded s (layouts_of ts) h.owed (omega (arith, few, length-map ts (λ (t : Tagged). t.layout)));
   blocks = λ s ts h. rw (← blocks_named s ts) (sym (as_many (names_in s ts) h.one_to_one));
-  gone = λ s t was rest h moves. goes s t was rest h moves;
-  copied = λ s t was rest below le h moves. copies s t was rest h below le moves;
-  rewritten = λ s t was rest writer renewed now is others h moves renews. rewrites s t was rest h writer renewed now is others moves renews;
+  gone = λ s t ts was rest h apart moves. goes s t ts was rest h apart moves;
+  copied = λ s t ts was rest below us h apart le moves same. copies s t ts was rest h apart below us le moves same;
+  rewritten = λ s t ts was rest writer renewed now us h apart is others moves renews same. rewrites s t ts was rest h apart writer renewed now us is others moves renews same;
 }

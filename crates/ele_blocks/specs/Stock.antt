@@ -1,6 +1,6 @@
 -- The maps of many files over one store: what the store is owed, and what each call makes of it. Nothing here looks into a map.
-use Rattle.std.specs.Prelude.{◌≡◌, ℕ, ◌+◌, ◌≤◌, ◌^◌, Bool, nat_lt, nat_eq, List, [], ◌∷◌, ◌++◌, length, map, if◌then◌else◌}
-use Rattle.std.specs.List.{flat_map, list_all, AllByRecursion}
+use Rattle.std.specs.Prelude.{◌≡◌, ℕ, ◌+◌, ◌≤◌, ◌^◌, Bool, nat_lt, nat_eq, List, [], ◌∷◌, length, map, if◌then◌else◌}
+use Rattle.std.specs.List.{flat_map, list_all, sum_by, AllByRecursion}
 use Rattle.ele_blocks.specs.Distinct.{Named, names_of, blocks_of, AreOneToOne}
 use Rattle.ele_blocks.specs.Layout.{Layout, slots_of, shown}
 use Rattle.ele_blocks.specs.LivesIn.{LivesIn}
@@ -22,7 +22,7 @@ empty_layout = record { size = 0; slots = [] }
 
 -- the same maps of the same files, in whatever order: they agree in every sum
 pub record SameStock (ts us : List Tagged) : Type 0 where
-  pub sums : (f : Tagged → ℕ) → tally f ts ≡ tally f us
+  pub sums : (f : Tagged → ℕ) → sum_by f ts ≡ sum_by f us
 
 abbrev pub layouts_of : List Tagged → List Layout
 layouts_of ts = map (λ t. t.layout) ts
@@ -43,10 +43,10 @@ pub record IsStocked (s : Store) (ts : List Tagged) : Type 0 where
 pub record ShowsSame (s t : Store) (m : Tagged) : Type 0 where
   pub same : shown t m.layout ≡ shown s m.layout
 
--- the store is stocked with these maps, and with the rest, which shows what it showed
-pub record Stays (s t : Store) (now rest : List Tagged) : Type 0 where
-  pub stocked : IsStocked t (now ++ rest)
-  pub shows : AllByRecursion (ShowsSame s t) rest
+-- the store is stocked with these maps, and those that stayed show what they showed
+pub record Stays (s t : Store) (stayed now : List Tagged) : Type 0 where
+  pub stocked : IsStocked t now
+  pub shows : AllByRecursion (ShowsSame s t) stayed
 
 -- the other maps of the file are of lesser writers
 pub record IsEarlier (file writer : ℕ) (t : Tagged) : Type 0 where
@@ -67,8 +67,8 @@ pub record StockLaws : Type 0 where
   -- as many blocks as places
   pub blocks : (s : Store) (ts : List Tagged) → IsStocked s ts → different nat_eq (blocks_of s (layouts_of ts)) ≡ different is_place (map (λ n. n.place) (names_in s ts))
   -- a map was given up
-  pub gone : (s t : Store) (was : Tagged) (rest : List Tagged) → IsStocked s (was ∷ rest) → Moves s t (was.layout ∷ []) [] → Stays s t [] rest
+  pub gone : (s t : Store) (ts : List Tagged) (was : Tagged) (rest : List Tagged) → IsStocked s ts → SameStock ts (was ∷ rest) → Moves s t (was.layout ∷ []) [] → Stays s t rest rest
   -- a copy of a map came
-  pub copied : (s t : Store) (was : Tagged) (rest : List Tagged) (below : ℕ) → was.below ≤ below → IsStocked s (was ∷ rest) → Moves s t [] (was.layout ∷ []) → Stays s t (record was { below = below } ∷ []) (was ∷ rest)
+  pub copied : (s t : Store) (ts : List Tagged) (was : Tagged) (rest : List Tagged) (below : ℕ) (us : List Tagged) → IsStocked s ts → SameStock ts (was ∷ rest) → was.below ≤ below → Moves s t [] (was.layout ∷ []) → SameStock us (record was { below = below } ∷ ts) → Stays s t ts us
   -- a map was changed, by a writer that the file has nowhere else
-  pub rewritten : (s t : Store) (was : Tagged) (rest : List Tagged) (writer : ℕ) (renewed : ℕ → Bool) (now : Layout) → was.below ≡ writer + 1 → AllByRecursion (IsEarlier was.file writer) rest → IsStocked s (was ∷ rest) → Moves s t (was.layout ∷ []) (now ∷ []) → Renews s t writer renewed was.layout now → Stays s t (record was { layout = now } ∷ []) rest
+  pub rewritten : (s t : Store) (ts : List Tagged) (was : Tagged) (rest : List Tagged) (writer : ℕ) (renewed : ℕ → Bool) (now : Layout) (us : List Tagged) → IsStocked s ts → SameStock ts (was ∷ rest) → was.below ≡ writer + 1 → AllByRecursion (IsEarlier was.file writer) rest → Moves s t (was.layout ∷ []) (now ∷ []) → Renews s t writer renewed was.layout now → SameStock us (record was { layout = now } ∷ rest) → Stays s t rest us
