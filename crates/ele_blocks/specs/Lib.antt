@@ -10,3 +10,4 @@ pub mod Changes
 pub mod Pieces
 pub mod LaidOver
 pub mod Distinct
+pub mod Stock
