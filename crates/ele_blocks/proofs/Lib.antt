@@ -1,11 +1,17 @@
 pub mod Trades
 pub mod SlotTrades
+pub mod Backing
+pub mod Hands
+pub mod Parts
+pub mod NewLeaves
 pub mod Sizes
 pub mod Pieces
 pub mod LaidOvers
+pub mod Places
+pub mod Distincts
+pub mod Renewals
 pub mod Splices
 pub mod Moves
-pub mod Places
 pub mod Replaces
 pub mod Written
 pub mod Truncates
@@ -14,6 +20,5 @@ pub mod Writes
 pub mod Unchanged
 pub mod Cuts
 pub mod Owed
-pub mod Distincts
 pub mod OneToOnes
 pub mod Stocks

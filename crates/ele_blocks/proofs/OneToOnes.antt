@@ -5,12 +5,13 @@ use Rattle.std.proofs.str.Laws.{order}
 use Rattle.std.proofs.lemmas.Bool.{false≢true}
 use Rattle.std.proofs.lemmas.Bool.Decides.{nat_tests}
 use Rattle.ele_blocks.specs.declared.slot.Slot.{Slot}
-use Rattle.ele_blocks.specs.Shared.{times, owners}
+use Rattle.ele_blocks.specs.Shared.{times}
 use Rattle.ele_blocks.specs.Store.{Store, owners_at}
 use Rattle.ele_blocks.specs.Layout.{Layout, slots_of, ids_of}
 use Rattle.ele_blocks.specs.LivesIn.{LivesIn}
 use Rattle.ele_blocks.specs.Owes.{Moves}
 use Rattle.ele_blocks.specs.Renews.{Renews}
+use Rattle.ele_blocks.proofs.Hands.{backed_there}
 use Rattle.ele_content.specs.Place.{Place, is_place}
 use Rattle.ele_blocks.specs.Distinct.{Named, IsIn, AreOneToOne, names_from, names_of, NoneBy, AreOwnedNames}
 
@@ -107,7 +108,7 @@ not_true false h = refl
 
 -- each block of a map that lives is owned
 pub slot_owned : (s : Store) (m : Layout) → LivesIn s m → (k : ℕ) (x : Slot) → slice_get (slots_of s m) k ≡ Some x → 0 < owners_at s x.block
-slot_owned s m lives k x e = omega (arith, lives.owned.owned x.block, times_got k (slots_of s m) x e)
+slot_owned s m lives k x e = backed_there s m.leaves lives.backed x.block (times_got k (slots_of s m) x e)
 
 -- and so is what its names name
 pub names_owned : (s : Store) (file : ℕ) (m : Layout) → LivesIn s m → AreOwnedNames s (names_of s file m)
@@ -121,18 +122,18 @@ module _ (s t : Store) (w file : ℕ) (p : ℕ → Bool) (was now : Layout) (res
   record IsFresh (n : Named) : Type 0 where
     pub place : ℕ
     pub cell : Slot
-    pub got : slice_get now.slots place ≡ Some cell
+    pub got : slice_get (slots_of t now) place ≡ Some cell
     pub is : n ≡ name_of file place cell
     pub renewed : p place ≡ true
     pub writer : cell.writer ≡ w
-    pub free : owners s cell.block ≡ 0
+    pub free : owners_at s cell.block ≡ 0
 
   record IsOld (n : Named) : Type 0 where
     pub before : IsIn n (names_of s file was ++ rest)
     pub stays : n.place.file ≡ file → n.place.writer ≡ w → p n.place.slot ≡ false
-    pub held : 0 < owners s n.block
+    pub held : 0 < owners_at s n.block
 
-  of_slot : (n : Named) → IsSlot n file 0 now.slots → IsFresh n ⊎ IsOld n
+  of_slot : (n : Named) → IsSlot n file 0 (slots_of t now) → IsFresh n ⊎ IsOld n
   of_slot n h =
       let is : n ≡ name_of file h.place h.cell = h.is ∙ ap (λ k. name_of file k h.cell) (let z : 0 + h.place ≡ h.place = omega arith in z) in
       elim (p h.place) as (λ b. p h.place ≡ b → IsFresh n ⊎ IsOld n) [
@@ -140,8 +141,8 @@ module _ (s t : Store) (w file : ℕ) (p : ℕ → Bool) (was now : Layout) (res
             let new = rw h.got at (renews.fresh h.place e) in
             inl (record { place = h.place; cell = h.cell; got = h.got; is = is; renewed = e; writer = new.0; free = new.1 })
         | false ↦ λ e.
-            let old = sym (renews.stays h.place e (got_within h.place now.slots h.cell h.got)) ∙ h.got in
-            let here = slot_in file 0 h.place was.slots h.cell old in
+            let old = sym (renews.stays h.place e (got_within h.place (slots_of t now) h.cell h.got)) ∙ h.got in
+            let here = slot_in file 0 h.place (slots_of s was) h.cell old in
             let P : Named → Type 0 = λ m. IsIn m (names_of s file was) in
             inr (record {
               before = in_front n (names_of s file was) rest (subst P (sym h.is) here);
@@ -152,7 +153,7 @@ module _ (s t : Store) (w file : ℕ) (p : ℕ → Bool) (was now : Layout) (res
 
   of_name : (n : Named) → IsIn n (names_of t file now ++ rest) → IsFresh n ⊎ IsOld n
   of_name n i = ⊎_elim
-      (λ (a : IsIn n (names_of t file now)). of_slot n (slot_from n file 0 now.slots a))
+      (λ (a : IsIn n (names_of t file now)). of_slot n (slot_from n file 0 (slots_of t now) a))
       (λ (b : IsIn n rest). inr (record { before = in_back n (names_of s file was) rest b; stays = λ f v. absurd (none n b f v); held = owned n b }))
       (in_either n (names_of t file now) rest i)
 
@@ -168,11 +169,11 @@ module _ (s t : Store) (w file : ℕ) (p : ℕ → Bool) (was now : Layout) (res
   apart_block : (m n : Named) → IsFresh m → IsOld n → m.block ≡ n.block → ⊥
   apart_block m n h k e =
       let b : h.cell.block ≡ n.block = sym (ap (λ (q : Named). q.block) h.is) ∙ e in
-      let o = ap (owners s) b in
+      let o = ap (owners_at s) b in
       absurd (omega (arith, h.free, k.held, o))
 
   -- a fresh block is named once
-  once : (m : Named) → (h : IsFresh m) → times h.cell.block (ids_of now.slots) ≤ 1
+  once : (m : Named) → (h : IsFresh m) → times h.cell.block (ids_of (slots_of t now)) ≤ 1
   once m h = renews.once h.cell.block h.free
 
   eqb_no : (a b : ℕ) → (a ≡ b → ⊥) → eqb a b ≡ false
@@ -188,8 +189,8 @@ module _ (s t : Store) (w file : ℕ) (p : ℕ → Bool) (was now : Layout) (res
       let blocks : eqb m.block n.block ≡ false = eqb_no m.block n.block (λ e.
       let b : h.cell.block ≡ k.cell.block = sym (ap (λ (q : Named). q.block) h.is) ∙ (e ∙ ap (λ (q : Named). q.block) k.is) in
       ⊎_elim
-      (λ (lt : h.place < k.place). absurd (omega (arith, times_two h.place k.place now.slots h.cell k.cell lt h.got k.got b, once m h)))
-      (λ (lt : k.place < h.place). absurd (omega (arith, times_two k.place h.place now.slots k.cell h.cell lt k.got h.got (sym b), once n k)))
+      (λ (lt : h.place < k.place). absurd (omega (arith, times_two h.place k.place (slots_of t now) h.cell k.cell lt h.got k.got b, once m h)))
+      (λ (lt : k.place < h.place). absurd (omega (arith, times_two k.place h.place (slots_of t now) k.cell h.cell lt k.got h.got (sym b), once n k)))
       d) in
       places ∙ sym blocks in
       ⊎_elim
@@ -198,7 +199,7 @@ module _ (s t : Store) (w file : ℕ) (p : ℕ → Bool) (was now : Layout) (res
       (λ (lt : k.place < h.place). apart (inr lt))
       (λ (ge : h.place ≤ k.place).
       let z : h.place ≡ k.place = omega (arith, le, ge) in
-      let cells : h.cell ≡ k.cell = let e = sym h.got ∙ (ap (slice_get now.slots) z ∙ k.got) in cc in
+      let cells : h.cell ≡ k.cell = let e = sym h.got ∙ (ap (slice_get (slots_of t now)) z ∙ k.got) in cc in
       let same : m ≡ n = h.is ∙ (ap (λ q. name_of file q h.cell) z ∙ (ap (name_of file k.place) cells ∙ sym k.is)) in
       let self : (x : ℕ) → eqb x x ≡ true = λ x. grind (arith, nat_tests) in
       rw (same, self n.place.file, self n.place.slot, self n.place.writer, self n.block) refl)

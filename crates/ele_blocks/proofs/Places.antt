@@ -1,5 +1,5 @@
 -- What stands in a place of a list.
-use Rattle.std.proofs.Common.{◌≡◌, ℕ, ◌+◌, ◌*◌, ◌/◌, ◌<◌, ◌≤◌, Bool, true, false, ◌&&◌, List, [], ◌∷◌, length, get_or, map, Option, Some, refl, ap, sym, ◌∙◌, arith, zero, suc, eqb, ltb, leb}
+use Rattle.std.proofs.Common.{◌≡◌, ℕ, ◌+◌, ◌*◌, ◌/◌, ◌<◌, ◌≤◌, Bool, true, false, ◌&&◌, List, [], ◌∷◌, length, get_or, map, Option, Some, None, take, drop, refl, ap, sym, ◌∙◌, arith, zero, suc, eqb, ltb, leb}
 use Rattle.std.specs.Prelude.{slice_get, unwrap_or}
 use Rattle.std.specs.Option.{option_map_or}
 use Rattle.std.proofs.lemmas.Bool.Decides.{nat_tests}
@@ -7,7 +7,7 @@ use Rattle.ele_content.specs.declared.cell.Cell.{Cell}
 use Rattle.ele_content.specs.Content.{meets, cuts, writer_at}
 use Rattle.ele_blocks.specs.Layout.{is_between}
 use Rattle.ele_blocks.specs.Shared.{times, value_at}
-use Rattle.ele_blocks.specs.Store.{Store, bytes_at}
+use Rattle.ele_blocks.specs.declared.shared.Counted.{Counted}
 
 pub slice_get_at : {X : Type 0} (xs : List X) (k : ℕ) (d : X) → k < length xs → slice_get xs k ≡ Some (get_or xs k d)
 slice_get_at [] k d lt = absurd (omega (arith, lt))
@@ -59,14 +59,30 @@ cuts_between place slot = rw (lt_past slot place, from_le place slot) (and_comm 
 pub meets_none : (from to slot : ℕ) → to ≤ from → meets from to slot ≡ false
 meets_none from to slot le = let none : ltb from to ≡ false = grind (arith, nat_tests) in rw none refl
 
--- values that are there are the bytes
-bytes_of_values : (s : Store) (ids : List ℕ) → map (λ v. unwrap_or v []) (map (value_at s) ids) ≡ map (bytes_at s) ids
-bytes_of_values s [] = refl
-bytes_of_values s (x ∷ xs) = ap (λ ys. bytes_at s x ∷ ys) (bytes_of_values s xs)
+-- values that are there are the lists
+unwrapped : {X : Type 0} (s : List (Option (Counted (List X)))) (ids : List ℕ) → map (λ v. unwrap_or v []) (map (value_at s) ids) ≡ map (λ id. unwrap_or (value_at s id) []) ids
+unwrapped s [] = refl
+unwrapped s (x ∷ xs) = ap (λ ys. unwrap_or (value_at s x) [] ∷ ys) (unwrapped s xs)
 
-bytes_of_some : (xs : List (List ℕ)) → map (λ v. unwrap_or v []) (map (λ x. Some x) xs) ≡ xs
-bytes_of_some [] = refl
-bytes_of_some (x ∷ xs) = ap (λ ys. x ∷ ys) (bytes_of_some xs)
+of_some : {X : Type 0} (xs : List (List X)) → map (λ v. unwrap_or v []) (map (λ x. Some x) xs) ≡ xs
+of_some [] = refl
+of_some (x ∷ xs) = ap (λ ys. x ∷ ys) (of_some xs)
 
-pub values_bytes : (s : Store) (ids : List ℕ) (xs : List (List ℕ)) → map (value_at s) ids ≡ map (λ x. Some x) xs → map (bytes_at s) ids ≡ xs
-values_bytes s ids xs h = sym (bytes_of_values s ids) ∙ (ap (map (λ v. unwrap_or v [])) h ∙ bytes_of_some xs)
+pub values_are : {X : Type 0} (s : List (Option (Counted (List X)))) (ids : List ℕ) (xs : List (List X)) → map (value_at s) ids ≡ map (λ x. Some x) xs → map (λ id. unwrap_or (value_at s id) []) ids ≡ xs
+values_are s ids xs h = sym (unwrapped s ids) ∙ (ap (map (λ v. unwrap_or v [])) h ∙ of_some xs)
+
+pub slice_get-take : {X : Type 0} (n k : ℕ) (xs : List X) → k < n → slice_get (take n xs) k ≡ slice_get xs k
+slice_get-take zero k xs lt = absurd (omega (arith, lt))
+slice_get-take (suc n) k [] lt = refl
+slice_get-take (suc n) zero (x ∷ xs) lt = refl
+slice_get-take (suc n) (suc k) (x ∷ xs) lt = slice_get-take n k xs (omega (arith, lt))
+
+pub slice_get-drop : {X : Type 0} (n k : ℕ) (xs : List X) → slice_get (drop n xs) k ≡ slice_get xs (n + k)
+slice_get-drop zero k xs = let e : 0 + k ≡ k = omega arith in rw e refl
+slice_get-drop (suc n) k [] = refl
+slice_get-drop (suc n) k (x ∷ xs) = let e : suc n + k ≡ suc (n + k) = omega arith in rw e (slice_get-drop n k xs)
+
+pub slice_get-past : {X : Type 0} (xs : List X) (k : ℕ) → length xs ≤ k → slice_get xs k ≡ None
+slice_get-past [] k le = refl
+slice_get-past (x ∷ xs) zero le = absurd (omega (arith, le))
+slice_get-past (x ∷ xs) (suc k) le = slice_get-past xs k (omega (arith, le))

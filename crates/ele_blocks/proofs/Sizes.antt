@@ -1,15 +1,15 @@
 -- How many bytes cells and pieces hold.
-use Rattle.std.proofs.Common.{◌≡◌, ℕ, ◌+◌, ◌-◌, ◌*◌, ◌/◌, ◌<◌, ◌≤◌, true, false, List, [], ◌∷◌, ◌++◌, length, take, drop, map, min, refl, ap, sym, ◌∙◌, arith, zero, suc, length-append, eqb, ltb, leb}
+use Rattle.std.proofs.Common.{◌≡◌, ℕ, ◌+◌, ◌-◌, ◌*◌, ◌/◌, ◌<◌, ◌≤◌, Bool, true, false, ◌&&◌, List, [], ◌∷◌, ◌++◌, length, take, drop, map, min, refl, ap, sym, ◌∙◌, arith, zero, suc, length-append, eqb, ltb, leb}
 use Rattle.std.specs.List.{concat}
 use Rattle.std.proofs.lemmas.List.{length-map}
 use Rattle.std.proofs.lemmas.Bool.Decides.{nat_tests}
 use Rattle.std.proofs.lemmas.Bool.{false≢true}
 use Rattle.ele_content.specs.declared.cell.Cell.{Cell}
-use Rattle.ele_content.specs.Content.{content_of, longest_content}
-use Rattle.ele_blocks.specs.Store.{Store}
-use Rattle.ele_blocks.specs.Layout.{Layout, shown, cell_of}
+use Rattle.ele_content.specs.Content.{content_of, longest_content, slot_count}
+use Rattle.ele_blocks.specs.Store.{Store, leaf_at}
+use Rattle.ele_blocks.specs.Layout.{Layout, slots_of, shown, cell_of}
 use Rattle.ele_content.specs.Content.{fill_slots}
-use Rattle.ele_blocks.specs.LivesIn.{is_whole}
+use Rattle.ele_blocks.specs.LivesIn.{is_whole, fill_leaves}
 
 -- the bytes of each cell
 abbrev pub bytes_each : List Cell → List (List ℕ)
@@ -34,13 +34,6 @@ fills_sized n (x ∷ xs) h = elim (eqb (length x.bytes) (min n 512)) as (λ a. e
   ] refl
   | false ↦ λ ea. absurd (false≢true (rw ea at h))
 ] refl
-
-pub sized_fills : (n : ℕ) (cells : List Cell) → AreSized n (bytes_each cells) → fill_slots n cells ≡ true
-sized_fills n [] h = grind (arith, nat_tests)
-sized_fills n (x ∷ xs) h =
-    let a : eqb (length x.bytes) (min n 512) ≡ true = let e = h.0 in grind (arith, nat_tests) in
-    let b : ltb 0 n ≡ true = let e = h.1 in grind (arith, nat_tests) in
-    rw (a, b) (sized_fills (n - 512) xs h.2)
 
 pub sized-count : (n : ℕ) (xs : List (List ℕ)) → AreSized n xs → length xs ≡ (n + 511) / 512
 sized-count n [] h = omega arith
@@ -67,27 +60,35 @@ sized-take zero n xs h = omega arith
 sized-take (suc k) n [] h = omega (arith, h)
 sized-take (suc k) n (x ∷ xs) h = (omega (arith, h), omega (arith, h), sized-is (min (n - 512) (512 * k)) (min n (512 * suc k) - 512) (take k xs) (omega arith) (sized-take k (n - 512) xs h.2))
 
--- both tests of a whole map
+and_left : (a b : Bool) → (a && b) ≡ true → a ≡ true
+and_left true b h = refl
+and_left false b h = absurd (false≢true h)
+
+and_right : (a b : Bool) → (a && b) ≡ true → b ≡ true
+and_right true b h = h
+and_right false b h = absurd (false≢true h)
+
+-- the tests of a whole map
 module _ (s : Store) (m : Layout) where
-  pub whole_sized : is_whole s m ≡ true → AreSized m.size (bytes_each (shown s m))
-  whole_sized h = elim (leb m.size longest_content) as (λ a. leb m.size longest_content ≡ a → AreSized m.size (bytes_each (shown s m))) [
-    | true ↦ λ e. fills_sized m.size (shown s m) (rw e at h)
-    | false ↦ λ e. absurd (false≢true (rw e at h))
-  ] refl
-
   pub whole_short : is_whole s m ≡ true → m.size ≤ longest_content
-  whole_short h = elim (leb m.size longest_content) as (λ a. leb m.size longest_content ≡ a → m.size ≤ longest_content) [
-    | true ↦ λ e. grind (arith, nat_tests)
-    | false ↦ λ e. absurd (false≢true (rw e at h))
-  ] refl
+  whole_short h = let e = and_left (leb m.size longest_content) (fill_slots m.size (shown s m) && fill_leaves (slot_count m.size) (map (leaf_at s) m.leaves)) h in grind (arith, nat_tests)
 
-  pub sized_whole : m.size ≤ longest_content → AreSized m.size (bytes_each (shown s m)) → is_whole s m ≡ true
-  sized_whole short h = let e : leb m.size longest_content ≡ true = grind (arith, nat_tests) in rw e (sized_fills m.size (shown s m) h)
+  fills_both : is_whole s m ≡ true → (fill_slots m.size (shown s m) && fill_leaves (slot_count m.size) (map (leaf_at s) m.leaves)) ≡ true
+  fills_both h = and_right (leb m.size longest_content) (fill_slots m.size (shown s m) && fill_leaves (slot_count m.size) (map (leaf_at s) m.leaves)) h
+
+  pub whole_sized : is_whole s m ≡ true → AreSized m.size (bytes_each (shown s m))
+  whole_sized h = fills_sized m.size (shown s m) (and_left (fill_slots m.size (shown s m)) (fill_leaves (slot_count m.size) (map (leaf_at s) m.leaves)) (fills_both h))
+
+  pub whole_leaves : is_whole s m ≡ true → fill_leaves (slot_count m.size) (map (leaf_at s) m.leaves) ≡ true
+  whole_leaves h = and_right (fill_slots m.size (shown s m)) (fill_leaves (slot_count m.size) (map (leaf_at s) m.leaves)) (fills_both h)
+
+  pub all_whole : m.size ≤ longest_content → fill_slots m.size (shown s m) ≡ true → fill_leaves (slot_count m.size) (map (leaf_at s) m.leaves) ≡ true → is_whole s m ≡ true
+  all_whole short slots leaves = let e : leb m.size longest_content ≡ true = grind (arith, nat_tests) in rw (e, slots, leaves) refl
 
   -- the content of a whole map has the map's size
   pub length-content : is_whole s m ≡ true → length (content_of (shown s m)) ≡ m.size
   length-content h = ap length (content_each (shown s m)) ∙ sized-length m.size (bytes_each (shown s m)) (whole_sized h)
 
   -- and the map has as many slots as that fills
-  pub slots-count : is_whole s m ≡ true → length m.slots ≡ (m.size + 511) / 512
-  slots-count h = omega (arith, sized-count m.size (bytes_each (shown s m)) (whole_sized h), length-map (shown s m) (λ (cell : Cell). cell.bytes), length-map m.slots (cell_of s))
+  pub slots-count : is_whole s m ≡ true → length (slots_of s m) ≡ (m.size + 511) / 512
+  slots-count h = omega (arith, sized-count m.size (bytes_each (shown s m)) (whole_sized h), length-map (shown s m) (λ (cell : Cell). cell.bytes), length-map (slots_of s m) (cell_of s))

@@ -9,14 +9,16 @@ use Rattle.std.proofs.lemmas.Bool.Decides.{nat_tests}
 use Rattle.ele_blocks.specs.declared.slot.Slot.{Slot}
 use Rattle.ele_blocks.specs.Distinct.{Named, IsIn, AreOneToOne, NoneBy, AreOwnedNames, names_from, names_of, blocks_of}
 use Rattle.ele_blocks.specs.Layout.{Layout, ids_of, slots_of, shown}
-use Rattle.ele_blocks.specs.Owes.{tally, named, Moves}
+use Rattle.ele_blocks.specs.Owes.{tally, Moves}
 use Rattle.ele_blocks.specs.Renews.{Renews}
 use Rattle.ele_blocks.specs.Shared.{times}
 use Rattle.ele_blocks.specs.Stock.{Tagged, SameStock, IsStocked, ShowsSame, Stays, IsEarlier, StockLaws, layouts_of, names_in, is_below, empty_layout}
 use Rattle.ele_blocks.specs.Store.{Store}
 use Rattle.ele_blocks.proofs.Distincts.{as_many}
 use Rattle.ele_blocks.proofs.OneToOnes.{in_either, in_front, in_back, place_same, stays_one_to_one}
-use Rattle.ele_blocks.proofs.Owed.{tally-append, same_maps, owes_none, owes_same, owes_new, owes_lives, owes_uncrowded, moves_owes, rest_stays}
+use Rattle.ele_blocks.proofs.Owed.{tally-append, same_maps, owes_none, owes_same, owes_new, owes_lives, owes_uncrowded, moves_owes, rest_stays, rest_slots}
+use Rattle.ele_blocks.proofs.Backing.{slots_backed}
+use Rattle.ele_blocks.specs.LivesIn.{backing}
 use Rattle.ele_blocks.proofs.Sizes.{length-content, whole_short}
 use Rattle.ele_content.specs.Place.{Place, different, is_place}
 
@@ -110,11 +112,11 @@ late s ts = tally (λ t. cond (is_below s t) 0 1) ts
 head_below : (s : Store) (t : Tagged) (ts : List Tagged) → late s (t ∷ ts) ≡ 0 → is_below s t ≡ true
 head_below s t ts h = zero_true (is_below s t) (cond (is_below s t) 0 1) refl (omega (arith, h))
 
-owned_names : (s : Store) (n : Named) (ts : List Tagged) → late s ts ≡ 0 → IsIn n (names_in s ts) → 0 < named s n.block (layouts_of ts)
+owned_names : (s : Store) (n : Named) (ts : List Tagged) → late s ts ≡ 0 → IsIn n (names_in s ts) → 0 < backing s.leaves n.block
 owned_names s n [] h i = absurd i
 owned_names s n (t ∷ ts) h i = ⊎_elim
-    (λ (a : IsIn n (names_of s t.file t.layout)). omega (arith, (name_of n t.file t.below 0 (slots_of s t.layout) (head_below s t ts h) a).block))
-    (λ (b : IsIn n (names_in s ts)). omega (arith, owned_names s n ts (omega (arith, h)) b))
+    (λ (a : IsIn n (names_of s t.file t.layout)). slots_backed s t.layout.leaves n.block (name_of n t.file t.below 0 (slots_of s t.layout) (head_below s t ts h) a).block)
+    (λ (b : IsIn n (names_in s ts)). owned_names s n ts (omega (arith, h)) b)
     (in_either n (names_of s t.file t.layout) (names_in s ts) i)
 
 none_by : (s : Store) (file writer : ℕ) (ts : List Tagged) → late s ts ≡ 0 → AllByRecursion (IsEarlier file writer) ts → NoneBy file writer (names_in s ts)
@@ -180,6 +182,14 @@ in_same s ts us same h = record {
 with_empty : (s : Store) (file below : ℕ) (ts : List Tagged) → IsStocked s ts → IsStocked s (record { file = file; below = below; layout = empty_layout } ∷ ts)
 with_empty s file below ts h = record { owed = owes_new s (layouts_of ts) h.owed; one_to_one = h.one_to_one; written = omega (arith, h.written) }
 
+-- maps that name what they named
+same_slots : (s t : Store) (ts : List Tagged) → map (slots_of t) (layouts_of ts) ≡ map (slots_of s) (layouts_of ts) → (names_in t ts ≡ names_in s ts) × (late t ts ≡ late s ts)
+same_slots s t [] e = (refl, refl)
+same_slots s t (x ∷ ts) e =
+    let first : slots_of t x.layout ≡ slots_of s x.layout = cc in
+    let more = same_slots s t ts cc in
+    (rw (first, more.0) refl, rw (first, more.1) refl)
+
 back : (ts us : List Tagged) → SameStock ts us → SameStock us ts
 back ts us same = record { sums = λ f. sym (same.sums f) }
 
@@ -197,11 +207,13 @@ module _ (s t : Store) (ts : List Tagged) (was : Tagged) (rest : List Tagged) (s
   was_below = head_below s was rest h.written
 
   goes : Moves s t (was.layout ∷ []) [] → Stays s t rest rest
-  goes moves = record {
+  goes moves =
+    let stay = same_slots s t rest (rest_slots s t (was.layout ∷ []) [] moves all (layouts_of rest) h.owed (same_maps all)) in
+    record {
     stocked = record {
       owed = moves_owes s t (was.layout ∷ []) [] moves all (layouts_of rest) h.owed (same_maps all) (layouts_of rest) (same_maps (layouts_of rest));
-      one_to_one = fewer (names_in t rest) (names_in s (was ∷ rest)) (λ n i. in_back n (names_of s was.file was.layout) (names_in s rest) i) h.one_to_one;
-      written = all_written;
+      one_to_one = rw stay.0 (fewer (names_in s rest) (names_in s (was ∷ rest)) (λ n i. in_back n (names_of s was.file was.layout) (names_in s rest) i) h.one_to_one);
+      written = stay.1 ∙ all_written;
     };
     shows = each_shows s t rest (rest_stays s t (was.layout ∷ []) [] moves all (layouts_of rest) h.owed (same_maps all));
   }
@@ -211,26 +223,32 @@ module _ (s t : Store) (ts : List Tagged) (was : Tagged) (rest : List Tagged) (s
   was_in n i = same_in s ts (was ∷ rest) apart n (in_front n (names_of s was.file was.layout) (names_in s rest) i)
 
   copies : (below : ℕ) (us : List Tagged) → was.below ≤ below → Moves s t [] (was.layout ∷ []) → SameStock us (record was { below = below } ∷ ts) → Stays s t ts us
-  copies below us le moves same = record {
+  copies below us le moves same =
+    let stay = same_slots s t ts (rest_slots s t [] (was.layout ∷ []) moves (layouts_of ts) (layouts_of ts) stocked.owed (same_maps (layouts_of ts))) in
+    let slots = rest_slots s t [] (was.layout ∷ []) moves all all h.owed (same_maps all) in
+    let mine : slots_of t was.layout ≡ slots_of s was.layout = cc in
+    record {
     stocked = in_same t (record was { below = below } ∷ ts) us (back us (record was { below = below } ∷ ts) same) (record {
       owed = moves_owes s t [] (was.layout ∷ []) moves (layouts_of ts) (layouts_of ts) stocked.owed (same_maps (layouts_of ts)) (was.layout ∷ layouts_of ts) (same_maps (was.layout ∷ layouts_of ts));
-      one_to_one = fewer (names_in t (was ∷ ts)) (names_in s ts) (λ n i. ⊎_elim (λ (a : IsIn n (names_of s was.file was.layout)). was_in n a) (λ (b : IsIn n (names_in s ts)). b) (in_either n (names_of s was.file was.layout) (names_in s ts) i)) stocked.one_to_one;
-      written = rw (below_more was.below below (slots_of s was.layout) le was_below) (let e = stocked.written in omega (arith, e));
+      one_to_one = rw (mine, stay.0) (fewer (names_in s (was ∷ ts)) (names_in s ts) (λ n i. ⊎_elim (λ (a : IsIn n (names_of s was.file was.layout)). was_in n a) (λ (b : IsIn n (names_in s ts)). b) (in_either n (names_of s was.file was.layout) (names_in s ts) i)) stocked.one_to_one);
+      written = rw (mine, stay.1, below_more was.below below (slots_of s was.layout) le was_below) (let e = stocked.written in omega (arith, e));
     });
     shows = each_shows s t ts (rest_stays s t [] (was.layout ∷ []) moves (layouts_of ts) (layouts_of ts) stocked.owed (same_maps (layouts_of ts)));
   }
 
   rewrites : (writer : ℕ) (renewed : ℕ → Bool) (now : Layout) (us : List Tagged) → was.below ≡ writer + 1 → AllByRecursion (IsEarlier was.file writer) rest → Moves s t (was.layout ∷ []) (now ∷ []) → Renews s t writer renewed was.layout now → SameStock us (record was { layout = now } ∷ rest) → Stays s t rest us
-  rewrites writer renewed now us is others moves renews same = record {
+  rewrites writer renewed now us is others moves renews same =
+    let stay = same_slots s t rest (rest_slots s t (was.layout ∷ []) (now ∷ []) moves all (layouts_of rest) h.owed (same_maps all)) in
+    record {
     stocked = in_same t (record was { layout = now } ∷ rest) us (back us (record was { layout = now } ∷ rest) same) (record {
       owed = moves_owes s t (was.layout ∷ []) (now ∷ []) moves all (layouts_of rest) h.owed (same_maps all) (now ∷ layouts_of rest) (same_maps (now ∷ layouts_of rest));
-      one_to_one = stays_one_to_one s t writer was.file renewed was.layout now (names_in s rest) (owes_lives s all was.layout (layouts_of rest) h.owed (same_maps all)) moves renews (none_by s was.file writer rest all_written others) owned h.one_to_one;
-      written = rw (below_renewed s t writer was.below renewed was.layout now is renews was_below) (omega (arith, all_written));
+      one_to_one = rw stay.0 (stays_one_to_one s t writer was.file renewed was.layout now (names_in s rest) (owes_lives s all was.layout (layouts_of rest) h.owed (same_maps all)) moves renews (none_by s was.file writer rest all_written others) owned h.one_to_one);
+      written = rw (below_renewed s t writer was.below renewed was.layout now is renews was_below, stay.1) (omega (arith, all_written));
     });
     shows = each_shows s t rest (rest_stays s t (was.layout ∷ []) (now ∷ []) moves all (layouts_of rest) h.owed (same_maps all));
   } where
     owned : AreOwnedNames s (names_in s rest)
-    owned n i = let o = h.owed.counted n.block in omega (arith, owned_names s n rest all_written i, o)
+    owned n i = let o = h.owed.backed n.block in omega (arith, owned_names s n rest all_written i, o)
 
 slot-blocks : (file first : ℕ) (slots : List Slot) → map (λ (n : Named). n.block) (names_from file first slots) ≡ ids_of slots
 slot-blocks file first [] = refl
@@ -245,7 +263,7 @@ stock_laws = record {
   none = record { owed = owes_none; one_to_one = λ m n i j. absurd i; written = refl };
   same = in_same;
   empty = with_empty;
-  empty_lives = λ s. record { owned = record { owned = λ id. omega arith }; whole = refl };
+  empty_lives = λ s. record { owned = record { owned = λ id. omega arith }; backed = λ id some. absurd (omega (arith, some)); whole = refl };
   lives = λ s t ts h. owes_lives s (layouts_of (t ∷ ts)) t.layout (layouts_of ts) h.owed (same_maps (layouts_of (t ∷ ts)));
   long = λ s m lives. length-content s m lives.whole;
   short = λ s m lives. whole_short s m lives.whole;

@@ -4,7 +4,7 @@ use Rattle.std.proofs.lemmas.Bool.Decides.{nat_tests}
 use Rattle.std.proofs.Math.Seq.{take-suc}
 use Rattle.std.proofs.lemmas.List.{map-append, take-append-drop, length-take-le}
 use Rattle.ele_blocks.specs.declared.shared.Counted.{Counted}
-use Rattle.ele_blocks.specs.Shared.{times, place_at, owners, owners_of, value_of, value_at, shared, released, Sets, Trades, Adds, Covers, Owned}
+use Rattle.ele_blocks.specs.Shared.{times, place_at, owners, owners_of, value_of, value_at, shared, released, leaving, Sets, Trades, Adds, Covers}
 
 pub times-append : (id : ℕ) (xs ys : List ℕ) → times id (xs ++ ys) ≡ times id xs + times id ys
 times-append id [] ys = omega arith
@@ -23,7 +23,7 @@ times-le-length q (x ∷ xs) = elim (eqb x q) as (λ t. cond t 1 0 + times q xs 
 times-take-le : (q : ℕ) (xs : List ℕ) (k : ℕ) → times q (take k xs) ≤ times q xs
 times-take-le q xs k = let whole = ap (times q) (take-append-drop k xs) in omega (arith, times-append q (take k xs) (drop k xs))
 
-take_one : (xs : List ℕ) (k : ℕ) (x : ℕ) → k < length xs → x ≡ get_or xs k x → take (k + 1) xs ≡ take k xs ++ x ∷ []
+pub take_one : (xs : List ℕ) (k : ℕ) (x : ℕ) → k < length xs → x ≡ get_or xs k x → take (k + 1) xs ≡ take k xs ++ x ∷ []
 take_one xs k x lt is = rw add-one (take-suc xs k x lt ∙ ap (λ y. take k xs ++ y ∷ []) (sym is))
 
 module _ {X : Type 0} where
@@ -43,7 +43,7 @@ module _ {X : Type 0} where
     kept = λ q lt. ap value_of (h.others q (λ (same : q ≡ id). let gone : owners old q ≡ 0 = rw (same, vacant) refl in omega arith));
   }
 
-  shared_value : (b : Option (Counted X)) → value_of (shared b) ≡ value_of b
+  pub shared_value : (b : Option (Counted X)) → value_of (shared b) ≡ value_of b
   shared_value None = refl
   shared_value (Some b) = refl
 
@@ -71,7 +71,7 @@ module _ {X : Type 0} where
     | false ↦ λ e. grind (arith, nat_tests)
   ] refl
 
-  released_value : (b : Option (Counted X)) → 1 < owners_of b → value_of (released b) ≡ value_of b
+  pub released_value : (b : Option (Counted X)) → 1 < owners_of b → value_of (released b) ≡ value_of b
   released_value None lt = absurd (omega arith)
   released_value (Some b) lt = let e : ltb 1 b.owners ≡ true = grind (arith, nat_tests) in rw e refl
 
@@ -137,38 +137,56 @@ module _ {X : Type 0} where
   pub record PutsSoFar (s0 s : List (Option (Counted X))) (ids : List ℕ) (rest all : List X) : Type 0 where
     pub adds : Adds s0 s ids
     pub values : map (value_at s) ids ++ map (λ x. Some x) rest ≡ map (λ x. Some x) all
-    pub owned : Owned s
 
-  pub puts_more : (s0 s t : List (Option (Counted X))) (ids : List ℕ) (x : X) (rest all : List X) (id : ℕ) → PutsSoFar s0 s ids (x ∷ rest) all → place_at s id ≡ None → Sets s t id (Some (record { value = x; owners = 1 })) → Owned t → PutsSoFar s0 t (ids ++ id ∷ []) rest all
-  puts_more s0 s t ids x rest all id h vacant sets owned =
+  pub puts_more : (s0 s t : List (Option (Counted X))) (ids : List ℕ) (x : X) (rest all : List X) (id : ℕ) → PutsSoFar s0 s ids (x ∷ rest) all → place_at s id ≡ None → Sets s t id (Some (record { value = x; owners = 1 })) → PutsSoFar s0 t (ids ++ id ∷ []) rest all
+  puts_more s0 s t ids x rest all id h vacant sets =
       let put = trades_put s t id x vacant sets in
       let is : value_at t id ≡ Some x = ap value_of sets.changed in
       record {
         adds = adds_more s0 s t ids id x h.adds vacant sets;
         values = rw (map-append (value_at t) ids (id ∷ []), is, values_stay s t [] (id ∷ []) ids put (λ q. omega (arith, h.adds.trades.owed q)), append_assoc) h.values;
-        owned = owned;
       }
 
-  -- a list so far, and one more
-  module _ (s s0 t : List (Option (Counted X))) (ids : List ℕ) (k id : ℕ) (lt : k < length ids) (is : id ≡ get_or ids k id) (covers : Covers s0 ids) where
-    pub one_more : times id (take k ids) + 1 ≤ owners s0 id
-    one_more =
-        let e = ap (times id) (take_one ids k id lt is) in
-        omega (arith, times-append id (take k ids) (id ∷ []), times-self id, times-take-le id ids (k + 1), covers.owned id, e)
+  -- a place that a last owner leaves
+  pub record IsLast (place : Option (Counted X)) (x : X) : Type 0 where
+    pub owners : owners_of place ≡ 1
+    pub value : value_of place ≡ Some x
+    pub gone : released place ≡ None
 
-    pub release_next : Trades s0 s (take k ids) [] → 0 < owners s id
-    release_next h = omega (arith, one_more, h.owed id)
+  pub leaving_last : (place : Option (Counted X)) (x : X) → 0 < owners_of place → Some x ≡ leaving place → IsLast place x
+  leaving_last None x lt e = absurd (omega (arith, lt))
+  leaving_last (Some p) x lt e = elim (ltb 1 p.owners) as (λ t. ltb 1 p.owners ≡ t → Some x ≡ cond t None (Some p.value) → IsLast (Some p) x) [
+    | true ↦ λ more e. absurd cc
+    | false ↦ λ few e. record { owners = grind (arith, nat_tests); value = sym e; gone = rw few refl }
+  ] refl e
 
-    pub release_more : Trades s0 s (take k ids) [] → Sets s t id (released (place_at s id)) → Trades s0 t (take (k + 1) ids) []
-    release_more h sets = rw (take_one ids k id lt is) (trades_then s0 s t (take k ids) [] (id ∷ []) [] h (trades_release s t id (release_next h) sets))
+  pub leaving_none : (place : Option (Counted X)) → 0 < owners_of place → None ≡ leaving place → 1 < owners_of place
+  leaving_none None lt e = absurd (omega (arith, lt))
+  leaving_none (Some p) lt e = elim (ltb 1 p.owners) as (λ t. ltb 1 p.owners ≡ t → None ≡ cond t None (Some p.value) → 1 < p.owners) [
+    | true ↦ λ more e. grind (arith, nat_tests)
+    | false ↦ λ few e. absurd cc
+  ] refl e
 
-    pub share_next : Trades s0 s [] (take k ids) → 0 < owners s id
-    share_next h = omega (arith, one_more, h.owed id)
+-- a list so far, and one more
+module _ (ids : List ℕ) (k id : ℕ) (lt : k < length ids) (is : id ≡ get_or ids k id) where
+  pub times_next : (q : ℕ) → times q (take (k + 1) ids) ≡ times q (take k ids) + times q (id ∷ [])
+  times_next q = ap (times q) (take_one ids k id lt is) ∙ times-append q (take k ids) (id ∷ [])
+
+  pub one_more : times id (take k ids) + 1 ≤ times id ids
+  one_more = omega (arith, times_next id, times-self id, times-take-le id ids (k + 1))
+
+  module _ {X : Type 0} (s s0 t : List (Option (Counted X))) where
+    pub release_next : Covers s0 ids → Trades s0 s (take k ids) [] → 0 < owners s id
+    release_next covers h = omega (arith, one_more, covers.owned id, h.owed id)
+
+    pub release_more : Covers s0 ids → Trades s0 s (take k ids) [] → Sets s t id (released (place_at s id)) → Trades s0 t (take (k + 1) ids) []
+    release_more covers h sets = rw (take_one ids k id lt is) (trades_then s0 s t (take k ids) [] (id ∷ []) [] h (trades_release s t id (release_next covers h) sets))
+
+    pub share_next : 0 < owners s0 id → Trades s0 s [] (take k ids) → 0 < owners s id
+    share_next there h = omega (arith, there, h.owed id)
 
     pub share_few : Trades s0 s [] (take k ids) → owners s0 id + length ids ≤ 2 ^ 63 → owners s id < 2 ^ 63
-    share_few h few =
-        let e = ap (times id) (take_one ids k id lt is) in
-        omega (arith, h.owed id, times-le-length id (take k ids), length-take-le k ids (omega arith))
+    share_few h few = omega (arith, h.owed id, times-le-length id (take k ids), length-take-le k ids (omega (arith, lt)), lt, few)
 
-    pub share_more : Trades s0 s [] (take k ids) → Sets s t id (shared (place_at s id)) → Trades s0 t [] (take (k + 1) ids)
-    share_more h sets = rw (take_one ids k id lt is) (trades_then s0 s t [] (take k ids) [] (id ∷ []) h (trades_share s t id (share_next h) sets))
+    pub share_more : 0 < owners s0 id → Trades s0 s [] (take k ids) → Sets s t id (shared (place_at s id)) → Trades s0 t [] (take (k + 1) ids)
+    share_more there h sets = rw (take_one ids k id lt is) (trades_then s0 s t [] (take k ids) [] (id ∷ []) h (trades_share s t id (share_next there h) sets))

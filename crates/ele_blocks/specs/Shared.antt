@@ -37,6 +37,11 @@ module _ {X : Type 0} where
   released None = None
   released (Some place) = if nat_lt 1 place.owners then Some (record place { owners = place.owners - 1 }) else None
 
+  -- the value that goes with its last owner
+  abbrev pub leaving : Option (Counted X) → Option X
+  leaving None = None
+  leaving (Some place) = if nat_lt 1 place.owners then None else Some place.value
+
   -- the new store has this under the number, and all else as before
   pub record Sets (old new : List (Option (Counted X))) (id : ℕ) (place : Option (Counted X)) : Type 0 where
     pub changed : place_at new id ≡ place

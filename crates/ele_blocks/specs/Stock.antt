@@ -6,7 +6,7 @@ use Rattle.ele_blocks.specs.Layout.{Layout, slots_of, shown}
 use Rattle.ele_blocks.specs.LivesIn.{LivesIn}
 use Rattle.ele_blocks.specs.Owes.{tally, Owes, Moves, IsUncrowded}
 use Rattle.ele_blocks.specs.Renews.{Renews}
-use Rattle.ele_blocks.specs.Store.{Store}
+use Rattle.ele_blocks.specs.Store.{Store, no_blocks}
 use Rattle.ele_content.specs.Content.{content_of, longest_content}
 use Rattle.ele_content.specs.Place.{different, is_place}
 
@@ -18,7 +18,7 @@ pub record Tagged : Type 0 where
 
 -- the map of no bytes
 abbrev pub empty_layout : Layout
-empty_layout = record { size = 0; slots = [] }
+empty_layout = record { size = 0; leaves = [] }
 
 -- the same maps of the same files, in whatever order: they agree in every sum
 pub record SameStock (ts us : List Tagged) : Type 0 where
@@ -53,7 +53,7 @@ pub record IsEarlier (file writer : ℕ) (t : Tagged) : Type 0 where
   pub earlier : t.file ≡ file → t.below ≤ writer
 
 pub record StockLaws : Type 0 where
-  pub none : IsStocked [] []
+  pub none : IsStocked no_blocks []
   -- in another order
   pub same : (s : Store) (ts us : List Tagged) → SameStock ts us → IsStocked s ts → IsStocked s us
   -- the map of no bytes comes and goes without a change

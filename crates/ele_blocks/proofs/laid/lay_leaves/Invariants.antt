@@ -1,10 +1,10 @@
 use Rattle.std.proofs.Common.{◌≡◌, ◌≤◌, map, take, vec_capacity}
 use Rattle.ele_blocks.specs.Layout.{slot_by}
 use Rattle.ele_blocks.specs.LaidOver.{laid_over}
-use Rattle.ele_blocks.proofs.map.change.lay_over.Given as goal
+use Rattle.ele_blocks.proofs.laid.lay_leaves.Given as goal
 
 abbrev pub invariant-loop-i : goal.invariant-loop-i
 invariant-loop-i l = record {
-  items : l.slots.items ≡ laid_over l.fn.first (map (slot_by l.fn.writer) (take l.i l.ids)) l.initial.slots.items;
-  room : vec_capacity l.initial.slots ≤ vec_capacity l.slots;
+  items : l.leaves.items ≡ laid_over l.fn.first (take l.i l.ids) l.initial.leaves.items;
+  room : vec_capacity l.initial.leaves ≤ vec_capacity l.leaves;
 }

@@ -2,7 +2,7 @@ use Rattle.std.proofs.Common.{◌≡◌, ◌+◌, [], ◌∷◌, arith, map, tak
 use Rattle.std.proofs.lemmas.List.{take_more, map-append, length-map, length-take-le}
 use Rattle.ele_blocks.specs.Layout.{slot_by}
 use Rattle.ele_blocks.proofs.LaidOvers.{laid_more}
-use Rattle.ele_blocks.proofs.map.change.lay_over.Goals as goal
+use Rattle.ele_blocks.proofs.laid.lay_slots.Goals as goal
 
 pub loop-i-preserved : goal.loop-i-preserved
 loop-i-preserved c =

@@ -1,0 +1,8 @@
+use Rattle.std.proofs.Common.{ℕ, ◌<◌, ◌^◌, take}
+use Rattle.ele_blocks.specs.Layout.{ids_of}
+use Rattle.ele_blocks.specs.Shared.{times}
+use Rattle.ele_blocks.specs.Store.{owners_at}
+use Rattle.ele_blocks.proofs.store.BlockStore.can_share.Given as goal
+
+abbrev pub invariant-loop-slot : goal.invariant-loop-slot
+invariant-loop-slot l = (id : ℕ) → 0 < times id (ids_of (take l.slot-index l.slots)) → owners_at l.self id < 2 ^ 62

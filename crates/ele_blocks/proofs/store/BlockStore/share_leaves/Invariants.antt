@@ -1,0 +1,7 @@
+use Rattle.std.proofs.Common.{take}
+use Rattle.ele_blocks.specs.Hands.{Hands}
+use Rattle.ele_blocks.specs.Shared.{times}
+use Rattle.ele_blocks.proofs.store.BlockStore.share_leaves.Given as goal
+
+abbrev pub invariant-loop-leaf : goal.invariant-loop-leaf
+invariant-loop-leaf l = Hands l.initial.self l.self (λ leaf. 0) (λ leaf. times leaf (take l.leaf-index l.leaves))

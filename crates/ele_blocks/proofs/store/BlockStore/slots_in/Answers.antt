@@ -1,0 +1,11 @@
+use Rattle.std.proofs.Common.{◌≡◌, ◌∙◌, ap, sym, arith, get_or, ◌++◌}
+use Rattle.std.proofs.lemmas.List.{get_or_default}
+use Rattle.ele_blocks.specs.Store.{leaf_at}
+use Rattle.ele_blocks.proofs.Hands.{slots_next}
+use Rattle.ele_blocks.proofs.Trades.{one_more}
+use Rattle.ele_blocks.proofs.store.BlockStore.slots_in.Goals as goal
+
+pub leaf-requires : goal.leaf-requires
+leaf-requires c =
+    let leaf = get_or c.args.leaves.now c.loop-leaf.leaf-index 0 in
+    omega (arith, one_more c.args.leaves.now c.loop-leaf.leaf-index leaf c.loop-leaf-test.true (get_or_default c.args.leaves.now c.loop-leaf.leaf-index 0 leaf c.loop-leaf-test.true), c.requires.owned leaf)

@@ -1,0 +1,18 @@
+use Rattle.std.proofs.Common.{◌≡◌, ℕ, ◌+◌, ◌-◌, ◌≤◌, Some, map, length, vec_capacity}
+use Rattle.std.specs.Simd.{first_chunks}
+use Rattle.slab.specs.Slab.{HasRoomFor}
+use Rattle.ele_blocks.specs.Layout.{ids_of}
+use Rattle.ele_blocks.specs.LivesIn.{backing, leaf_count}
+use Rattle.ele_blocks.specs.Renewed.{parts}
+use Rattle.ele_blocks.specs.Shared.{times}
+use Rattle.ele_blocks.proofs.Trades.{PutsSoFar}
+use Rattle.ele_blocks.proofs.store.leaves.put_leaves.Given as goal
+
+abbrev pub invariant-loop : goal.invariant-loop
+invariant-loop l = record {
+  puts : PutsSoFar l.initial.leaves.slots l.leaves.slots l.ids.items (first_chunks 16 (l.end - l.counter) l.rest) (parts l.slots);
+  left : l.end - l.counter ≡ leaf_count (length l.rest);
+  room : HasRoomFor l.leaves (l.end - l.counter);
+  room_ids : length l.ids.items + (l.end - l.counter) ≤ vec_capacity l.ids;
+  backing : (id : ℕ) → backing l.leaves.slots id + times id (ids_of l.rest) ≡ backing l.initial.leaves.slots id + times id (ids_of l.slots);
+}
