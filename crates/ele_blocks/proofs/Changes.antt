@@ -2,26 +2,29 @@
 use Rattle.std.proofs.Common.{◌≡◌, ℕ, ◌+◌, ◌<◌, ◌≤◌, true, List, [], length, min, max, ap, ◌∙◌, arith, leb}
 use Rattle.std.proofs.lemmas.Bool.Decides.{nat_tests}
 use Rattle.ele_content.specs.declared.cell.Cell.{Cell}
-use Rattle.ele_content.specs.Content.{content_of, longest_content, cells_after_write, cells_after_truncate, fill_slots, meets, refits}
+use Rattle.ele_content.specs.Content.{content_of, longest_content, cells_after_write, cells_after_truncate, fill_slots, slot_count, meets, refits}
 use Rattle.ele_content.proofs.Contents.{content_of-written, content_of-truncated, written_fills, truncated_fills}
 use Rattle.ele_blocks.specs.Changes.{IsWritten, IsResized}
-use Rattle.ele_blocks.specs.Layout.{Layout, shown, slots_of, ids_of}
-use Rattle.ele_blocks.specs.LivesIn.{LivesIn, is_whole}
+use Rattle.ele_blocks.specs.Layout.{Layout, shown, slots_of, cell_of}
+use Rattle.ele_blocks.specs.LivesIn.{LivesIn, is_whole, fill_leaves}
 use Rattle.ele_blocks.specs.Renews.{Renews}
-use Rattle.ele_blocks.specs.Shared.{Trades}
-use Rattle.ele_blocks.specs.Store.{Store}
+use Rattle.ele_blocks.specs.Hands.{Hands}
+use Rattle.ele_blocks.specs.Shared.{times}
+use Rattle.ele_blocks.specs.Store.{Store, leaf_at}
 use Rattle.ele_blocks.proofs.Moves.{moved_one}
-use Rattle.ele_blocks.proofs.Sizes.{length-content}
+use Rattle.ele_blocks.proofs.Sizes.{bytes_each, fills_sized, sized-count, all_whole, length-content}
 use Rattle.ele_blocks.proofs.Splices.{length-spliced}
 use Rattle.ele_blocks.proofs.Truncates.{length-resized, grown_content, truncated_grown, refits_grown}
 use Rattle.ele_blocks.proofs.Replaces.{renews_as}
 
-whole_by : (t : Store) (n : Layout) (cells : List Cell) → shown t n ≡ cells → fill_slots (length (content_of cells)) cells ≡ true → n.size ≡ length (content_of cells) → n.size ≤ longest_content → is_whole t n ≡ true
-whole_by t n cells shows fills size short =
-    let e : leb n.size longest_content ≡ true = grind (arith, nat_tests) in
-    rw (e, shows, size) fills
+whole_by : (t : Store) (n : Layout) (cells : List Cell) → shown t n ≡ cells → fill_slots (length (content_of cells)) cells ≡ true → n.size ≡ length (content_of cells) → n.size ≤ longest_content → length (slots_of t n) ≡ slot_count n.size → fill_leaves (length (slots_of t n)) (map (leaf_at t) n.leaves) ≡ true → is_whole t n ≡ true
+whole_by t n cells shows fills size short count leaves = all_whole t n short (rw (shows, size) fills) (rw (← count) leaves)
 
-module _ (s t : Store) (m n : Layout) (w : ℕ) (lives : LivesIn s m) (trades : Trades s t (ids_of (slots_of s m)) (ids_of (slots_of t n))) where
+module _ (s t : Store) (m n : Layout) (w : ℕ) (lives : LivesIn s m) (hands : Hands s t (λ q. times q m.leaves) (λ q. times q n.leaves)) (filled : fill_leaves (length (slots_of t n)) (map (leaf_at t) n.leaves) ≡ true) where
+  -- as many slots as cells
+  its_count : (cells : List Cell) → shown t n ≡ cells → fill_slots n.size cells ≡ true → length (slots_of t n) ≡ slot_count n.size
+  its_count cells shows fills = omega (arith, sized-count n.size (bytes_each cells) (fills_sized n.size cells fills), length-map cells (λ (cell : Cell). cell.bytes), ap length shows, length-map (slots_of t n) (cell_of t))
+
   pub is_written : (o : ℕ) (x : List ℕ) → n.size ≤ longest_content → n.size ≡ max m.size (o + length x) → shown t n ≡ cells_after_write w o x (shown s m) → Renews s t w (meets (min o m.size) (o + length x)) m n → IsWritten s t w o x m n
   is_written o x short size shows renews =
       let content = content_of-written w o x (shown s m) in
@@ -30,7 +33,7 @@ module _ (s t : Store) (m n : Layout) (w : ℕ) (lives : LivesIn s m) (trades : 
         size = size;
         content = ap content_of shows ∙ content;
         cells = shows;
-        moves = moved_one s t m n trades (whole_by t n (cells_after_write w o x (shown s m)) shows (written_fills w o x (shown s m)) long short);
+        moves = moved_one s t m n hands (whole_by t n (cells_after_write w o x (shown s m)) shows (written_fills w o x (shown s m)) long short (its_count (cells_after_write w o x (shown s m)) shows (rw long (written_fills w o x (shown s m)))) filled);
         renews = renews;
       }
 
@@ -42,7 +45,7 @@ module _ (s t : Store) (m n : Layout) (w : ℕ) (lives : LivesIn s m) (trades : 
         size = is;
         content = ap content_of shows ∙ content;
         cells = shows;
-        moves = moved_one s t m n trades (whole_by t n (cells_after_truncate w size (shown s m)) shows (truncated_fills w size (shown s m)) long (omega (arith, is, short)));
+        moves = moved_one s t m n hands (whole_by t n (cells_after_truncate w size (shown s m)) shows (truncated_fills w size (shown s m)) long (omega (arith, is, short)) (its_count (cells_after_truncate w size (shown s m)) shows (rw long (truncated_fills w size (shown s m)))) filled);
         renews = renews;
       }
 

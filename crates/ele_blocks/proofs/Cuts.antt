@@ -3,14 +3,14 @@ use Rattle.std.proofs.Common.{◌≡◌, ℕ, ◌+◌, ◌-◌, ◌*◌, ◌/◌
 use Rattle.std.specs.Prelude.{slice_get}
 use Rattle.std.specs.List.{concat}
 use Rattle.std.proofs.lemmas.Bool.Decides.{nat_tests}
-use Rattle.std.proofs.lemmas.List.{append-nil, length-map, length-append, length-take, take-map, drop-map, take_at, take-append-le, take-append-drop, length-take-le, get_or-take}
+use Rattle.std.proofs.lemmas.List.{append-nil, length-map, length-append, length-take, take-map, drop-map, take_at, take-append-le, take-append-drop, length-take-le, get_or-take, take-take, drop_all}
 use Rattle.std.proofs.lemmas.List.Folds.{concat-append}
 use Rattle.ele_blocks.specs.declared.slot.Slot.{Slot}
 use Rattle.ele_content.specs.declared.cell.Cell.{Cell}
 use Rattle.ele_blocks.specs.Shared.{times, Trades, Covers}
 use Rattle.ele_blocks.specs.Store.{Store}
 use Rattle.ele_content.specs.Content.{content_of, content_after_truncate, slot_count, refits, writer_at, cells_after_truncate}
-use Rattle.ele_blocks.specs.Layout.{Layout, shown, cell_of, cell_by, ids_of, is_between}
+use Rattle.ele_blocks.specs.Layout.{Layout, slots_of, shown, cell_of, cell_by, ids_of, is_between}
 use Rattle.ele_blocks.specs.Pieces.{pieces}
 use Rattle.ele_blocks.specs.LaidOver.{laid_over}
 use Rattle.ele_blocks.specs.LivesIn.{LivesIn}
@@ -21,9 +21,9 @@ use Rattle.ele_blocks.proofs.Splices.{take_past}
 use Rattle.ele_blocks.proofs.LaidOvers.{laid_over-map, length-laid_over}
 use Rattle.ele_blocks.specs.Changes.{IsResized}
 use Rattle.ele_blocks.proofs.Changes.{is_resized}
-use Rattle.ele_blocks.proofs.Moves.{cells_stay}
-use Rattle.ele_blocks.proofs.Replaces.{times-ids}
-use Rattle.ele_blocks.proofs.Places.{cuts_between, slice_get_at}
+use Rattle.ele_blocks.specs.Renewed.{IsReplaced}
+use Rattle.ele_blocks.proofs.Replaces.{renews_as}
+use Rattle.ele_blocks.proofs.Places.{cuts_between}
 use Rattle.ele_blocks.proofs.Written.{no_cell, cells_by_slots, laid_writer, bytes_of_new}
 
 -- of the pieces: n bytes in all, and a cut after size of them
@@ -75,42 +75,35 @@ module _ (n size f kept : ℕ) (each staged : List (List ℕ)) (sized : AreSized
       ∙ (ap (λ ys. take f each ++ ys) (sym is_staged)
       ∙ sym (ap (take kept) (sym (append_assoc (take f each) staged (drop (f + length staged) each))) ∙ take_at (take f each ++ staged) (drop (f + length staged) each) kept head))))
 
-slice_get-take : {X : Type 0} (n k : ℕ) (xs : List X) (d : X) → k < n → n ≤ length xs → slice_get (take n xs) k ≡ slice_get xs k
-slice_get-take n k xs d lt le =
-    slice_get_at (take n xs) k d (omega (arith, length-take-le n xs le, lt)) ∙ (ap (λ x. Some x) (get_or-take n xs k d lt) ∙ sym (slice_get_at xs k d (omega (arith, lt, le))))
-
 -- of the map, while its cut slot is rewritten
-module _ (s : Store) (m : Layout) (w size f kept : ℕ) (staged : List (List ℕ)) (lives : LivesIn s m) (short : size < m.size) (is_f : f ≡ size / 512) (is_kept : kept ≡ (size + 511) / 512) (is_staged : staged ≡ pieces (take (size - 512 * f) (content_of (map (cell_of s) (take (kept - f) (drop f m.slots)))))) where
+module _ (s : Store) (m : Layout) (w size f kept : ℕ) (staged : List (List ℕ)) (lives : LivesIn s m) (short : size < m.size) (is_f : f ≡ size / 512) (is_kept : kept ≡ (size + 511) / 512) (is_staged : staged ≡ pieces (take (size - 512 * f) (content_of (map (cell_of s) (take (kept - f) (drop f (slots_of s m))))))) where
   cells : List Cell
   cells = shown s m
 
   sized : AreSized m.size (bytes_each (shown s m))
   sized = whole_sized s m lives.whole
 
-  window_is : content_of (map (cell_of s) (take (kept - f) (drop f m.slots))) ≡ concat (take (kept - f) (drop f (bytes_each (shown s m))))
+  window_is : content_of (map (cell_of s) (take (kept - f) (drop f (slots_of s m)))) ≡ concat (take (kept - f) (drop f (bytes_each (shown s m))))
   window_is =
       let g : Cell → List ℕ = λ cell. cell.bytes in
-      content_each (map (cell_of s) (take (kept - f) (drop f m.slots)))
-      ∙ ap concat (ap (map g) (sym (ap (take (kept - f)) (drop-map (cell_of s) f m.slots) ∙ take-map (cell_of s) (kept - f) (drop f m.slots)))
+      content_each (map (cell_of s) (take (kept - f) (drop f (slots_of s m))))
+      ∙ ap concat (ap (map g) (sym (ap (take (kept - f)) (drop-map (cell_of s) f (slots_of s m)) ∙ take-map (cell_of s) (kept - f) (drop f (slots_of s m))))
       ∙ sym (ap (take (kept - f)) (drop-map g f (shown s m)) ∙ take-map g (kept - f) (drop f (shown s m))))
 
   staged_is : staged ≡ pieces (take (size - 512 * f) (concat (take (kept - f) (drop f (bytes_each (shown s m))))))
   staged_is = is_staged ∙ ap (λ ys. pieces (take (size - 512 * f) ys)) window_is
 
-  reach : f + length staged ≡ kept
+  pub reach : f + length staged ≡ kept
   reach = staged_count m.size size f kept (bytes_each (shown s m)) staged sized short is_f is_kept staged_is
 
-  pub cut_window : size - 512 * f ≤ length (content_of (map (cell_of s) (take (kept - f) (drop f m.slots))))
+  pub cut_window : size - 512 * f ≤ length (content_of (map (cell_of s) (take (kept - f) (drop f (slots_of s m)))))
   cut_window = omega (arith, ap length window_is, window_long m.size size f kept (bytes_each (shown s m)) staged sized short is_f is_kept staged_is)
 
-  kept_slots : kept ≤ length m.slots
+  kept_slots : kept ≤ length (slots_of s m)
   kept_slots = omega (arith, slots-count s m lives.whole, short, is_kept)
 
-  shown_slots : length (shown s m) ≡ length m.slots
-  shown_slots = length-map m.slots (cell_of s)
-
-  pub cut_count : slot_count m.size ≡ max (length m.slots) (f + length staged)
-  cut_count = omega (arith, reach, slots-count s m lives.whole, kept_slots)
+  shown_slots : length (shown s m) ≡ length (slots_of s m)
+  shown_slots = length-map (slots_of s m) (cell_of s)
 
   each_after : bytes_each (take kept (laid_over f (map (cell_by w) staged) (shown s m))) ≡ pieces (take size (content_of (shown s m)))
   each_after =
@@ -123,7 +116,7 @@ module _ (s : Store) (m : Layout) (w size f kept : ℕ) (staged : List (List ℕ
   fewer : length (take size (content_of (shown s m))) ≡ size
   fewer = omega (arith, length-take size (content_of (shown s m)), length-content s m lives.whole, short)
 
-  laid_long : length m.slots ≤ length (laid_over f (map (cell_by w) staged) (shown s m))
+  laid_long : length (slots_of s m) ≤ length (laid_over f (map (cell_by w) staged) (shown s m))
   laid_long = omega (arith, length-laid_over f (map (cell_by w) staged) (shown s m) (omega (arith, shown_slots, kept_slots, reach)), shown_slots)
 
   refits_cut : (slot : ℕ) → refits m.size size slot ≡ is_between f kept slot
@@ -147,49 +140,18 @@ module _ (s : Store) (m : Layout) (w size f kept : ℕ) (staged : List (List ℕ
       ∙ ap (λ b. cond b w (writer_at (shown s m) k)) (ap (λ past. is_between f past k) reach ∙ sym (refits_cut k))))
       ∙ rw fewer refl)
 
-  -- then the slots behind it are given up
-  module _ (t u : Store) (mid : Layout) (trades : Trades s t (ids_of m.slots) (ids_of mid.slots)) (shows : shown t mid ≡ laid_over f (map (cell_by w) staged) (shown s m)) (renews : Renews s t w (is_between f (f + length staged)) m mid) where
-    slots_after : kept ≤ length mid.slots
-    slots_after = omega (arith, ap length shows, length-map mid.slots (cell_of t), laid_long, kept_slots)
+  laid_cut : laid_over f (map (cell_by w) staged) (take kept (shown s m)) ≡ take kept (laid_over f (map (cell_by w) staged) (shown s m))
+  laid_cut =
+      let by = map (cell_by w) staged in
+      let size : f + length by ≡ kept = omega (arith, length-map staged (cell_by w), reach) in
+      let le : f ≤ kept = omega (arith, size) in
+      let few = length-take kept (shown s m) in
+      let head : length (take f (shown s m) ++ by) ≡ kept = omega (arith, length-append (take f (shown s m)) by, length-take-le f (shown s m) (omega (arith, le, shown_slots, kept_slots)), size) in
+      ap (λ ys. take f (take kept (shown s m)) ++ (by ++ ys)) (drop_all (f + length by) (take kept (shown s m)) (omega (arith, few, size)))
+      ∙ (ap (λ ys. ys ++ (by ++ [])) (take-take f kept (shown s m) le)
+      ∙ (ap (λ ys. take f (shown s m) ++ ys) (append-nil by)
+      ∙ (sym (take_at (take f (shown s m) ++ by) (drop (f + length by) (shown s m)) kept head) ∙ ap (take kept) (append_assoc (take f (shown s m)) by (drop (f + length by) (shown s m))))))
 
-    pub mid_covers : Covers t (ids_of mid.slots)
-    mid_covers = record { owned = λ q. omega (arith, trades.owed q, lives.owned.owned q) }
-
-    times-mid : (q : ℕ) → times q (ids_of mid.slots) ≡ times q (ids_of (take kept mid.slots)) + times q (ids_of (drop kept mid.slots))
-    times-mid q = sym (ap (λ xs. times q (ids_of xs)) (take-append-drop kept mid.slots)) ∙ times-ids q (take kept mid.slots) (drop kept mid.slots)
-
-    module _ (releases : Trades t u (ids_of (drop kept mid.slots)) []) where
-      abbrev pub after : Layout
-      after = record { size = size; slots = take kept mid.slots }
-
-      cut_shows : shown u after ≡ take kept (laid_over f (map (cell_by w) staged) (shown s m))
-      cut_shows =
-          cells_stay t u (ids_of (drop kept mid.slots)) [] (take kept mid.slots) releases (λ q. omega (arith, times-mid q, mid_covers.owned q))
-          ∙ (sym (take-map (cell_of t) kept mid.slots) ∙ ap (take kept) shows)
-
-      cut_trades : Trades s u (ids_of m.slots) (ids_of (take kept mid.slots))
-      cut_trades = record {
-        owed = λ q. omega (arith, trades.owed q, releases.owed q, times-mid q);
-        kept = λ q lt. releases.kept q (omega (arith, trades.owed q, times-mid q)) ∙ trades.kept q lt;
-      }
-
-      cut_shown : shown u after ≡ cells_after_truncate w size (shown s m)
-      cut_shown = cut_shows ∙ cut_cells
-
-      cut_renews : Renews s u w (refits m.size size) m after
-      cut_renews =
-          let none : Slot = record { writer = 0; block = 0 } in
-          let same : (slot : ℕ) → refits m.size size slot ≡ is_between f (f + length staged) slot = λ slot. refits_cut slot ∙ ap (λ past. is_between f past slot) (sym reach) in
-          record {
-            fresh = λ slot is.
-                let between : is_between f kept slot ≡ true = sym (refits_cut slot) ∙ is in
-                let less : slot < kept = grind (arith, nat_tests) in
-                rw (slice_get-take kept slot mid.slots none less slots_after) (renews.fresh slot (sym (same slot) ∙ is));
-            stays = λ slot is lt.
-                let less : slot < kept = omega (arith, length-take kept mid.slots, lt) in
-                slice_get-take kept slot mid.slots none less slots_after ∙ renews.stays slot (sym (same slot) ∙ is) (omega (arith, less, slots_after));
-            once = λ id zero. omega (arith, renews.once id zero, times-mid id);
-          }
-
-      pub cut_change : IsResized s u w size m after
-      cut_change = is_resized s u m after w lives cut_trades size (omega (arith, whole_short s m lives.whole, short)) refl cut_shown cut_renews
+  pub cut_change : (t : Store) (new : Layout) → new.size ≡ size → IsReplaced s t w f kept staged m new → IsResized s t w size m new
+  cut_change t new is h = is_resized s t m new w lives h.hands h.filled size (omega (arith, whole_short s m lives.whole, short)) is (h.cells ∙ (laid_cut ∙ cut_cells))
+      (renews_as s t w (is_between f (f + length staged)) (refits m.size size) m new (λ slot. refits_cut slot ∙ ap (λ past. is_between f past slot) (sym reach)) h.renews)

@@ -1,7 +1,7 @@
 -- The blocks of a store are as many as its maps name.
 use Rattle.std.proofs.Common.{◌≡◌, ℕ, ◌+◌, ◌<◌, ◌≤◌, Bool, true, false, ◌||◌, cond, List, [], ◌∷◌, map, Option, Some, None, is_some, refl, ap, sym, ◌∙◌, arith, eqb, ltb, zero, suc, inl, inr, ⊎_elim}
 use Rattle.std.proofs.str.Laws.{order}
-use Rattle.std.specs.Prelude.{IfSome, IsSome}
+use Rattle.std.specs.Prelude.{IfSome}
 use Rattle.std.proofs.Math.ListN.{set}
 use Rattle.std.specs.List.{list_any, count_by}
 use Rattle.std.proofs.lemmas.List.Sums.{sum_by-cons}
@@ -82,14 +82,10 @@ any_times q (x ∷ xs) = elim (eqb x q) as (λ t. (t || list_any (λ (y : ℕ). 
   | false ↦ any_times q xs ∙ ap (ltb 0) (let e : times q xs ≡ 0 + times q xs = omega arith in e)
 ]
 
--- what stands is owned
-owned_some : {X : Type 0} (place : Option (Counted X)) → IfSome place (λ p. 0 < p.owners) → IsSome place → 0 < owners_of place
-owned_some None h some = absurd some
-owned_some (Some p) h some = h
-
-weighs : (place : Option (Counted (List Slot))) (id : ℕ) → 0 < weight place id → IsSome place
-weighs None id lt = absurd (omega (arith, lt))
-weighs (Some p) id lt = tt
+-- a leaf that names something is owned
+owned_leaf : (place : Option (Counted (List Slot))) (id : ℕ) → IfSome place (λ p. 0 < p.owners) → 0 < weight place id → 0 < owners_of place
+owned_leaf None id h lt = absurd (omega (arith, lt))
+owned_leaf (Some p) id h lt = h
 
 -- a block that a map names is named by a leaf, and a leaf's by a map
 map_backs : (s : Store) (id : ℕ) (ms : List Layout) → 0 < times id (blocks_of s ms) → 0 < backing s.leaves id
@@ -117,7 +113,7 @@ named_owned : (s : Store) (maps : List Layout) → Owned s.leaves → Owes s map
 named_owned s maps owned owes id = same_sign (owners_at s id) (times id (blocks_of s maps))
     (λ lt.
     let by = backing_some s.leaves id (omega (arith, lt, owes.backed id)) in
-    let stands = owned_some (place_at s.leaves by.leaf) (owned by.leaf) (weighs (place_at s.leaves by.leaf) id by.names) in
+    let stands = owned_leaf (place_at s.leaves by.leaf) id (owned by.leaf) by.names in
     omega (arith, by.names, leaf_names s by.leaf id maps (omega (arith, stands, owes.counted by.leaf))))
     (λ lt. omega (arith, map_backs s id maps lt, owes.backed id))
 

@@ -13,6 +13,7 @@ pub mod Renewals
 pub mod Splices
 pub mod Moves
 pub mod Replaces
+pub mod Runs
 pub mod Written
 pub mod Truncates
 pub mod Changes

@@ -1,19 +1,23 @@
 -- Slots in leaves of 16.
 use Rattle.std.proofs.Common.{◌≡◌, ◌⊎◌, ℕ, ◌+◌, ◌-◌, ◌*◌, ◌/◌, ◌<◌, ◌≤◌, true, false, List, [], ◌∷◌, ◌++◌, length, take, drop, map, min, refl, ap, sym, ◌∙◌, arith, append_assoc, zero, suc, eqb, ltb, ⊎_elim}
-use Rattle.std.specs.List.{concat}
+use Rattle.std.specs.List.{flat_map}
 use Rattle.std.specs.Simd.{first_chunks}
 use Rattle.std.proofs.str.Laws.{order}
 use Rattle.std.proofs.Math.Seq.{take-add}
 use Rattle.std.proofs.lemmas.Bool.{false≢true}
 use Rattle.std.proofs.lemmas.Bool.Decides.{nat_tests}
-use Rattle.std.proofs.lemmas.List.{append-nil, nil_from_length, length-take, length-drop, length-append, take_at, drop_at, take_all, take-append-le, drop-append-le, drop-drop, take-map, drop-map, length-map}
+use Rattle.std.proofs.lemmas.List.{append-nil, nil_from_length, length-take, length-drop, length-append, take_at, drop_at, take_all, take-append-le, drop-append-le, drop-drop, take-map, drop-map, length-map, take-take, drop-take}
 use Rattle.ele_blocks.specs.declared.slot.Slot.{Slot}
 use Rattle.ele_blocks.specs.LivesIn.{fill_leaves, leaf_count}
 use Rattle.ele_blocks.specs.Store.{Store, leaf_at, slots_in}
 
+-- the items of the leaves
+abbrev pub joined : {X : Type 0} → List (List X) → List X
+joined leaves = flat_map (λ leaf. leaf) leaves
+
 module _ {X : Type 0} where
-  pub chunks_concat : (k : ℕ) (xs : List X) → concat (first_chunks 16 k xs) ≡ take (16 * k) xs
-  chunks_concat zero xs = let none : 16 * 0 ≡ 0 = omega arith in rw none refl
+  pub chunks_concat : (k : ℕ) (xs : List X) → joined (first_chunks 16 k xs) ≡ take (16 * k) xs
+  chunks_concat zero xs = sym (ap (λ n. take n xs) (let none : 16 * 0 ≡ 0 = omega arith in none))
   chunks_concat (suc k) xs =
       let size : 16 * suc k ≡ 16 + 16 * k = omega arith in
       ap (λ ys. take 16 xs ++ ys) (chunks_concat k (drop 16 xs)) ∙ sym (ap (λ n. take n xs) size ∙ take-add 16 (16 * k) xs)
@@ -24,10 +28,23 @@ module _ {X : Type 0} where
   chunks_take (suc a) (suc k) xs le = ap (λ ys. take 16 xs ∷ ys) (chunks_take a k (drop 16 xs) (omega (arith, le)))
 
   pub chunks_drop : (a j m : ℕ) (xs : List X) → m ≡ a + j → drop a (first_chunks 16 m xs) ≡ first_chunks 16 j (drop (16 * a) xs)
-  chunks_drop zero j m xs e = let same : m ≡ j = omega (arith, e) in let none : 16 * 0 ≡ 0 = omega arith in rw (same, none) refl
+  chunks_drop zero j m xs e = let same : m ≡ j = omega (arith, e) in rw same (ap (first_chunks 16 j) (sym (ap (λ n. drop n xs) (let none : 16 * 0 ≡ 0 = omega arith in none))))
   chunks_drop (suc a) j zero xs e = absurd (omega (arith, e))
   chunks_drop (suc a) j (suc m) xs e =
       chunks_drop a j m (drop 16 xs) (omega (arith, e)) ∙ ap (first_chunks 16 j) (drop-drop (16 * a) 16 xs ∙ ap (λ n. drop n xs) (let z : 16 + 16 * a ≡ 16 * suc a = omega arith in z))
+
+  -- the first leaves are those of the first slots
+  pub chunks_cut : (a : ℕ) (xs : List X) → first_chunks 16 a (take (16 * a) xs) ≡ first_chunks 16 a xs
+  chunks_cut zero xs = refl
+  chunks_cut (suc a) xs =
+      let size : 16 * suc a ≡ 16 + 16 * a = omega arith in
+      let head : take 16 (take (16 * suc a) xs) ≡ take 16 xs = take-take 16 (16 * suc a) xs (omega arith) in
+      let rest : drop 16 (take (16 * suc a) xs) ≡ take (16 * a) (drop 16 xs) = ap (λ n. drop 16 (take n xs)) size ∙ drop-take 16 (16 * a) xs in
+      rw (head, rest) (ap (λ ys. take 16 xs ∷ ys) (chunks_cut a (drop 16 xs)))
+
+  pub length-chunks : (k : ℕ) (xs : List X) → length (first_chunks 16 k xs) ≡ k
+  length-chunks zero xs = refl
+  length-chunks (suc k) xs = omega (arith, length-chunks k (drop 16 xs))
 
   -- whole leaves, and what follows them
   pub chunks_append : (k j m : ℕ) (xs ys : List X) → length xs ≡ 16 * k → m ≡ k + j → first_chunks 16 m (xs ++ ys) ≡ first_chunks 16 k xs ++ first_chunks 16 j ys
@@ -42,8 +59,8 @@ module _ {X : Type 0} where
 
 -- leaves that are filled are the slots in leaves
 pub record IsFilled (n : ℕ) (leaves : List (List Slot)) : Type 0 where
-  pub chunks : leaves ≡ first_chunks 16 (leaf_count n) (concat leaves)
-  pub count : length (concat leaves) ≡ n
+  pub chunks : leaves ≡ first_chunks 16 (leaf_count n) (joined leaves)
+  pub count : length (joined leaves) ≡ n
   pub leaves_count : length leaves ≡ leaf_count n
 
 none_filled : (leaves : List (List Slot)) → fill_leaves 0 leaves ≡ true → leaves ≡ []
@@ -69,13 +86,13 @@ filled n (x ∷ xs) h = elim (eqb (length x) (min n 16)) as (λ a. eqb (length x
           chunks = rw next (⊎_elim
               (λ (full : 16 < n).
               let all : length x ≡ 16 = omega (arith, size, full) in
-              rw (take_at x (concat xs) 16 all, drop_at x (concat xs) 16 all, ← rest.chunks) refl)
+              rw (take_at x (joined xs) 16 all, drop_at x (joined xs) 16 all) (ap (λ ys. x ∷ ys) rest.chunks))
               (λ (last : n ≤ 16).
               let zero_left : n - 16 ≡ 0 = omega (arith, last) in
               let none : xs ≡ [] = none_filled xs (rw zero_left at fills) in
-              rw (none, zero_left, append-nil x, take_all 16 x (omega (arith, size))) refl)
+              rw (none, zero_left) (ap (λ y. y ∷ []) (sym (ap (take 16) (append-nil x) ∙ take_all 16 x (omega (arith, size))))))
               (order 16 n));
-          count = omega (arith, length-append x (concat xs), size, rest.count);
+          count = omega (arith, length-append x (joined xs), size, rest.count);
           leaves_count = omega (arith, next, rest.leaves_count);
         }
   ] refl
@@ -90,7 +107,7 @@ fills n (suc k) xs len e =
 
 -- ---- the slots of a run of leaves
 
-pub slots_concat : (s : Store) (leaves : List ℕ) → slots_in s leaves ≡ concat (map (leaf_at s) leaves)
+pub slots_concat : (s : Store) (leaves : List ℕ) → slots_in s leaves ≡ joined (map (leaf_at s) leaves)
 slots_concat s [] = refl
 slots_concat s (l ∷ ls) = ap (λ ys. leaf_at s l ++ ys) (slots_concat s ls)
 
@@ -113,13 +130,13 @@ module _ (s : Store) (leaves : List ℕ) (n : ℕ) (is : fill_leaves n (map (lea
 
   pub slots_from : (a : ℕ) → a ≤ leaf_count n → slots_in s (drop a leaves) ≡ drop (16 * a) (slots_in s leaves)
   slots_from a le =
-      slots_concat s (drop a leaves) ∙ (ap concat (chunks_from a le) ∙ (chunks_concat (leaf_count n - a) (drop (16 * a) (slots_in s leaves))
+      slots_concat s (drop a leaves) ∙ (ap joined (chunks_from a le) ∙ (chunks_concat (leaf_count n - a) (drop (16 * a) (slots_in s leaves))
       ∙ take_all (16 * (leaf_count n - a)) (drop (16 * a) (slots_in s leaves)) (omega (arith, length-drop (16 * a) (slots_in s leaves), slots_long))))
 
   -- and d of them
   pub slots_between : (a d : ℕ) → a + d ≤ leaf_count n → slots_in s (take d (drop a leaves)) ≡ take (16 * d) (drop (16 * a) (slots_in s leaves))
   slots_between a d le =
-      slots_concat s (take d (drop a leaves)) ∙ (ap concat (sym (take-map (leaf_at s) d (drop a leaves)) ∙ (ap (take d) (chunks_from a (omega (arith, le))) ∙ chunks_take d (leaf_count n - a) (drop (16 * a) (slots_in s leaves)) (omega (arith, le)))) ∙ chunks_concat d (drop (16 * a) (slots_in s leaves)))
+      slots_concat s (take d (drop a leaves)) ∙ (ap joined (sym (take-map (leaf_at s) d (drop a leaves)) ∙ (ap (take d) (chunks_from a (omega (arith, le))) ∙ chunks_take d (leaf_count n - a) (drop (16 * a) (slots_in s leaves)) (omega (arith, le)))) ∙ chunks_concat d (drop (16 * a) (slots_in s leaves)))
 
   pub chunks_front : (a : ℕ) → a ≤ leaf_count n → map (leaf_at s) (take a leaves) ≡ first_chunks 16 a (slots_in s leaves)
   chunks_front a le = sym (take-map (leaf_at s) a leaves) ∙ (ap (take a) chunks ∙ chunks_take a (leaf_count n) (slots_in s leaves) le)

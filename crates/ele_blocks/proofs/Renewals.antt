@@ -2,7 +2,6 @@
 -- old leaves released.
 use Rattle.std.proofs.Common.{◌≡◌, ℕ, ◌+◌, ◌-◌, ◌*◌, ◌<◌, ◌≤◌, ◌^◌, List, [], ◌∷◌, ◌++◌, length, map, take, drop, Some, refl, ap, sym, ◌∙◌, arith}
 use Rattle.std.specs.Prelude.{unwrap_or}
-use Rattle.std.specs.List.{concat}
 use Rattle.std.proofs.lemmas.List.{length-map, length-take-le, take_at, drop_at, take_all, take-append-drop, length-drop}
 use Rattle.ele_blocks.specs.declared.slot.Slot.{Slot}
 use Rattle.ele_blocks.specs.Hands.{Hands, AreThere}
@@ -16,7 +15,7 @@ use Rattle.ele_blocks.proofs.Backing.{Leaves, times-ids, slots_least}
 use Rattle.ele_blocks.proofs.Distincts.{Blocks}
 use Rattle.ele_blocks.proofs.Hands.{cells_each, hands_then, hands_with, stay_in, leaf_there}
 use Rattle.ele_blocks.proofs.LaidOvers.{laid_over-map, drop_past}
-use Rattle.ele_blocks.proofs.Parts.{slots_concat, chunks_concat}
+use Rattle.ele_blocks.proofs.Parts.{joined, slots_concat, chunks_concat}
 use Rattle.ele_blocks.proofs.Places.{values_are}
 use Rattle.ele_blocks.proofs.Trades.{values_stay, times-le-length}
 
@@ -28,10 +27,10 @@ cells_of_fresh : (s : Store) (w : ℕ) (fresh : List ℕ) → map (cell_of s) (m
 cells_of_fresh s w [] = refl
 cells_of_fresh s w (x ∷ xs) = ap (λ ys. cell_by w (bytes_at s x) ∷ ys) (cells_of_fresh s w xs)
 
-times-take : (q n : ℕ) (xs : List Slot) → times q (ids_of (take n xs)) ≤ times q (ids_of xs)
+pub times-take : (q n : ℕ) (xs : List Slot) → times q (ids_of (take n xs)) ≤ times q (ids_of xs)
 times-take q n xs = let all = ap (λ ys. times q (ids_of ys)) (take-append-drop n xs) in omega (arith, all, times-ids q (take n xs) (drop n xs))
 
-times-drop : (q n : ℕ) (xs : List Slot) → times q (ids_of (drop n xs)) ≤ times q (ids_of xs)
+pub times-drop : (q n : ℕ) (xs : List Slot) → times q (ids_of (drop n xs)) ≤ times q (ids_of xs)
 times-drop q n xs = let all = ap (λ ys. times q (ids_of ys)) (take-append-drop n xs) in omega (arith, all, times-ids q (take n xs) (drop n xs))
 
 -- the window with new slots over it
@@ -112,7 +111,7 @@ module _ (window : List Slot) (first w : ℕ) (fresh : List ℕ) (within : first
           now_parts = values_are l4 now (parts laid) values
 
           now_slots : slots_in mid now ≡ laid
-          now_slots = slots_concat mid now ∙ (ap concat now_parts ∙ (chunks_concat (leaf_count (length laid)) laid ∙ take_all (16 * leaf_count (length laid)) laid (omega arith)))
+          now_slots = slots_concat mid now ∙ (ap joined now_parts ∙ (chunks_concat (leaf_count (length laid)) laid ∙ take_all (16 * leaf_count (length laid)) laid (omega arith)))
 
           now_cells : (staged : List (List ℕ)) → map (value_at b1) fresh ≡ map (λ x. Some x) staged → map (cell_of mid) (slots_in mid now) ≡ laid_over first (map (cell_by w) staged) (map (cell_of s) window)
           now_cells staged put =

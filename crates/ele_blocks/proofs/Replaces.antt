@@ -1,124 +1,45 @@
--- New blocks in place of others: k slots from the first on have given way.
-use Rattle.std.proofs.Common.{◌≡◌, ℕ, ◌+◌, ◌-◌, ◌<◌, ◌≤◌, Bool, List, [], ◌∷◌, ◌++◌, length, map, take, drop, get_or, refl, ap, sym, ◌∙◌, arith, Some, ⊎_elim, min}
+-- New slots over the first slots of a map, and new leaves in place of those that they meet.
+use Rattle.std.proofs.Common.{◌≡◌, ◌⊎◌, ℕ, ◌+◌, ◌-◌, ◌*◌, ◌<◌, ◌≤◌, Bool, true, List, [], ◌∷◌, ◌++◌, length, map, take, drop, get_or, refl, ap, sym, ◌∙◌, arith, append_assoc, Some, ⊎_elim, inl, inr, min}
+use Rattle.std.specs.Prelude.{slice_get}
+use Rattle.std.specs.Simd.{first_chunks}
 use Rattle.std.proofs.str.Laws.{order}
+use Rattle.std.proofs.Math.Seq.{take-add}
 use Rattle.std.proofs.lemmas.Bool.Decides.{nat_tests}
-use Rattle.std.proofs.lemmas.List.{map-append, take-append-drop, take-map, drop-map, drop-drop, length-map, length-drop, take_min}
+use Rattle.std.proofs.lemmas.Grind.{flat_map-append}
+use Rattle.std.proofs.lemmas.List.{append-nil, map-append, take-append-drop, take-append-le, drop-append-le, take_at, take_all, drop_all, take-take, take-map, drop-drop, length-map, length-take, length-take-le, length-drop, length-append}
+use Rattle.ele_content.specs.declared.cell.Cell.{Cell}
 use Rattle.ele_blocks.specs.declared.slot.Slot.{Slot}
-use Rattle.ele_blocks.specs.Shared.{times, owners, Trades, Adds, Covers}
-use Rattle.ele_blocks.specs.Store.{Store, bytes_at}
-use Rattle.ele_blocks.specs.Layout.{Layout, ids_of, cell_of, slot_by, cell_by, is_between}
+use Rattle.ele_blocks.specs.Hands.{Hands, AreThere}
 use Rattle.ele_blocks.specs.LaidOver.{laid_over}
+use Rattle.ele_blocks.specs.Layout.{Layout, slots_of, shown, ids_of, cell_of, slot_by, cell_by, is_between}
+use Rattle.ele_blocks.specs.LivesIn.{LivesIn, AreBacked, fill_leaves, leaf_count}
+use Rattle.ele_blocks.specs.Renewed.{IsRenewed, IsReplaced, parts}
 use Rattle.ele_blocks.specs.Renews.{Renews}
+use Rattle.ele_blocks.specs.Shared.{times, owners, Covers}
+use Rattle.ele_blocks.specs.Store.{Store, owners_at, leaf_at, slots_in}
+use Rattle.ele_blocks.proofs.Backing.{times-ids}
+use Rattle.ele_blocks.proofs.Hands.{hands_with, stay_in, leaf_there, backed_there, StayIn}
+use Rattle.ele_blocks.proofs.LaidOvers.{length-laid_over, laid_before, laid_within, laid_after, drop_past}
+use Rattle.ele_blocks.proofs.Parts.{joined, chunks_append, chunks_concat, chunks_front, chunks_from, fills, slots_between, slots_from, slots_long, leaves_long, slots_concat}
+use Rattle.ele_blocks.proofs.Places.{slice_get_at, map_at, times_at, slice_get-take}
+use Rattle.ele_blocks.proofs.Renewals.{times-take, times-drop, times_laid}
+use Rattle.ele_blocks.proofs.Splices.{take_past}
 use Rattle.ele_blocks.proofs.Trades.{times-append, times-self}
-use Rattle.ele_blocks.proofs.Moves.{cells_stay, bytes_kept}
-use Rattle.ele_blocks.proofs.LaidOvers.{length-laid_over, laid_before, laid_within, laid_after}
-use Rattle.ele_blocks.proofs.Places.{slice_get_at, map_at, times_at}
 
--- what is owned beside what goes keeps its bytes
-bytes_stay : (s t : Store) (was now xs : List ℕ) → Trades s t was now → ((id : ℕ) → times id was + times id xs ≤ owners s id) → map (bytes_at t) xs ≡ map (bytes_at s) xs
-bytes_stay s t was now [] h owned = refl
-bytes_stay s t was now (x ∷ xs) h owned =
-    let first : bytes_at t x ≡ bytes_at s x = bytes_kept s t was now x h (let o = owned x in let one = times-self x in omega arith) in
-    let rest = bytes_stay s t was now xs h (λ q. omega (arith, owned q)) in
-    rw (first, rest) refl
-
-ids_of_fresh : (w : ℕ) (fresh : List ℕ) → ids_of (map (slot_by w) fresh) ≡ fresh
-ids_of_fresh w [] = refl
-ids_of_fresh w (x ∷ xs) = ap (λ ys. x ∷ ys) (ids_of_fresh w xs)
-
-cells_of_fresh : (s : Store) (w : ℕ) (fresh : List ℕ) → map (cell_of s) (map (slot_by w) fresh) ≡ map (cell_by w) (map (bytes_at s) fresh)
-cells_of_fresh s w [] = refl
-cells_of_fresh s w (x ∷ xs) = ap (λ ys. cell_by w (bytes_at s x) ∷ ys) (cells_of_fresh s w xs)
-
-pub times-ids : (q : ℕ) (xs ys : List Slot) → times q (ids_of (xs ++ ys)) ≡ times q (ids_of xs) + times q (ids_of ys)
-times-ids q xs ys = ap (times q) (map-append (λ (x : Slot). x.block) xs ys) ∙ times-append q (ids_of xs) (ids_of ys)
-
--- first the fresh blocks are put, then those of the slots are released
-module _ (s t : Store) (slots : List Slot) (fresh : List ℕ) (w first : ℕ) (within : first ≤ length slots) (covers : Covers s (ids_of slots)) (adds : Adds s t fresh) where
-  abbrev pub gone : List Slot
-  gone = take (length fresh) (drop first slots)
-
-  abbrev pub rest : List Slot
-  rest = drop (first + length fresh) slots
-
-  abbrev pub replaced : List Slot
-  replaced = laid_over first (map (slot_by w) fresh) slots
-
-  whole : slots ≡ take first slots ++ (gone ++ rest)
-  whole = sym (ap (λ ys. take first slots ++ (gone ++ ys)) (sym (drop-drop (length fresh) first slots)) ∙ (ap (λ ys. take first slots ++ ys) (take-append-drop (length fresh) (drop first slots)) ∙ take-append-drop first slots))
-
-  parts : replaced ≡ take first slots ++ (map (slot_by w) fresh ++ rest)
-  parts = ap (λ n. take first slots ++ (map (slot_by w) fresh ++ drop (first + n) slots)) (length-map fresh (slot_by w))
-
-  times-slots : (q : ℕ) → times q (ids_of slots) ≡ times q (ids_of (take first slots)) + (times q (ids_of gone) + times q (ids_of rest))
-  times-slots q = omega (arith, ap (λ xs. times q (ids_of xs)) whole, times-ids q (take first slots) (gone ++ rest), times-ids q gone rest)
-
-  times-replaced : (q : ℕ) → times q (ids_of replaced) ≡ times q (ids_of (take first slots)) + (times q fresh + times q (ids_of rest))
-  times-replaced q = omega (arith, ap (λ xs. times q (ids_of xs)) parts, times-ids q (take first slots) (map (slot_by w) fresh ++ rest), times-ids q (map (slot_by w) fresh) rest, ap (times q) (ids_of_fresh w fresh))
-
-  owned : (q : ℕ) → times q (ids_of (take first slots)) + (times q (ids_of gone) + times q (ids_of rest)) ≤ owners s q
-  owned q = omega (arith, times-slots q, covers.owned q)
-
-  pub covers_gone : Covers t (ids_of gone)
-  covers_gone = record { owned = λ q. omega (arith, owned q, adds.trades.owed q) }
-
-  module _ (u : Store) (releases : Trades t u (ids_of gone) []) where
-    swapped : Trades s u (ids_of gone) fresh
-    swapped = record {
-      owed = λ q. omega (arith, adds.trades.owed q, releases.owed q);
-      kept = λ q lt. releases.kept q (omega (arith, adds.trades.owed q)) ∙ adds.trades.kept q (omega arith);
-    }
-
-    pub trades_replaced : Trades s u (ids_of slots) (ids_of replaced)
-    trades_replaced = record {
-      owed = λ q. omega (arith, swapped.owed q, times-slots q, times-replaced q);
-      kept = λ q lt. swapped.kept q (omega (arith, times-slots q));
-    }
-
-    pub cells_replaced : (staged : List (List ℕ)) → map (bytes_at t) fresh ≡ staged → map (cell_of u) replaced ≡ laid_over first (map (cell_by w) staged) (map (cell_of s) slots)
-    cells_replaced staged put =
-        let f = cell_of s in
-        let g = cell_of u in
-        let front = cells_stay s u (ids_of gone) fresh (take first slots) swapped (λ q. omega (arith, owned q)) in
-        let back = cells_stay s u (ids_of gone) fresh rest swapped (λ q. omega (arith, owned q)) in
-        let middle = bytes_stay t u (ids_of gone) [] fresh releases (λ q. omega (arith, owned q, adds.trades.owed q)) in
-        let count : length fresh ≡ length (map (cell_by w) staged) = omega (arith, ap length put, length-map fresh (bytes_at t), length-map staged (cell_by w)) in
-        ap (map g) parts
-        ∙ (map-append g (take first slots) (map (slot_by w) fresh ++ rest)
-        ∙ (ap (λ ys. map g (take first slots) ++ ys) (map-append g (map (slot_by w) fresh) rest)
-        ∙ rw (front, back, cells_of_fresh u w fresh, middle, put, ← take-map f first slots, ← drop-map f (first + length fresh) slots, count) refl))
-
-    length-replaced : length replaced ≡ first + length fresh + (length slots - (first + length fresh))
-    length-replaced = rw (length-laid_over first (map (slot_by w) fresh) slots within, length-map fresh (slot_by w)) refl
-
-    pub renews_replaced : (n m : ℕ) → Renews s u w (is_between first (first + length fresh)) (record { size = n; slots = slots }) (record { size = m; slots = replaced })
-    renews_replaced n m =
-        let none : Slot = record { writer = 0; block = 0 } in
-        let count = length-map fresh (slot_by w) in
-        record {
-          fresh = λ slot is.
-              let from : first ≤ slot = grind (arith, nat_tests) in
-              let to : slot < first + length fresh = grind (arith, nat_tests) in
-              let id = get_or fresh (slot - first) 0 in
-              let here = slice_get_at replaced slot none (omega (arith, length-replaced)) ∙ ap (λ x. Some x) (laid_within first (map (slot_by w) fresh) slots within slot none from (omega (arith, to, count)) ∙ map_at (slot_by w) fresh (slot - first) 0 none (omega arith)) in
-              let new : owners s id ≡ 0 = ⊎_elim (λ (lt : 0 < owners s id). absurd (let o = adds.fresh id lt in let t = times_at fresh (slot - first) (omega arith) in omega arith)) (λ (le : owners s id ≤ 0). let e : owners s id ≡ 0 = omega arith in e) (order 0 (owners s id)) in
-              rw here (refl, new);
-          stays = λ slot is lt.
-              ⊎_elim
-              (λ (before : slot < first).
-              slice_get_at replaced slot none lt ∙ (ap (λ x. Some x) (laid_before first (map (slot_by w) fresh) slots within slot none before) ∙ sym (slice_get_at slots slot none (omega arith))))
-              (λ (from : first ≤ slot).
-              let past : first + length fresh ≤ slot = grind (arith, nat_tests) in
-              slice_get_at replaced slot none lt ∙ (ap (λ x. Some x) (laid_after first (map (slot_by w) fresh) slots within slot none (omega (arith, count, past))) ∙ sym (slice_get_at slots slot none (omega (arith, length-replaced, lt, past)))))
-              (order slot first);
-          once = λ id zero. omega (arith, times-replaced id, owned id, adds.once id, zero);
-        }
-
--- the slots between two ends in a list that has no slot behind its end
-pub gone_at : (slots at : List Slot) (first k past : ℕ) → at ≡ slots → first ≤ length slots → past ≡ min (first + k) (length at) → take (past - first) (drop first at) ≡ take k (drop first slots)
-gone_at slots at first k past same within is =
-    let size : past - first ≡ min k (length (drop first slots)) = omega (arith, is, ap length same, length-drop first slots, within) in
-    rw (same, size) (take_min k (drop first slots))
+-- what is laid over the middle of a list, or over its end
+pub laid_apart : {X : Type 0} (first at : ℕ) (new front middle back : List X) → first ≡ length front + at → at ≤ length middle → (at + length new ≤ length middle) ⊎ (back ≡ []) → laid_over first new (front ++ (middle ++ back)) ≡ front ++ (laid_over at new middle ++ back)
+laid_apart first at new front middle back is within fit =
+    let n = length new in
+    let rest : drop (at + n) (middle ++ back) ≡ drop (at + n) middle ++ back = ⊎_elim
+    (λ (le : at + n ≤ length middle). drop-append-le (at + n) middle back le)
+    (λ (none : back ≡ []). rw none (ap (drop (at + n)) (append-nil middle) ∙ sym (append-nil (drop (at + n) middle))))
+    fit in
+    let head = take_past front (middle ++ back) at first is ∙ ap (λ ys. front ++ ys) (take-append-le at middle back within) in
+    let tail = drop_past front (middle ++ back) (at + n) (first + n) (omega (arith, is)) ∙ rest in
+    ap (λ ys. ys ++ (new ++ drop (first + n) (front ++ (middle ++ back)))) head
+    ∙ (ap (λ ys. (front ++ take at middle) ++ (new ++ ys)) tail
+    ∙ (append_assoc front (take at middle) (new ++ (drop (at + n) middle ++ back))
+    ∙ ap (λ ys. front ++ ys) (ap (λ ys. take at middle ++ ys) (sym (append_assoc new (drop (at + n) middle) back)) ∙ sym (append_assoc (take at middle) (new ++ drop (at + n) middle) back))))
 
 -- renewed by a test that is the same
 pub renews_as : (s t : Store) (w : ℕ) (p q : ℕ → Bool) (was now : Layout) → ((slot : ℕ) → q slot ≡ p slot) → Renews s t w p was now → Renews s t w q was now
@@ -128,6 +49,108 @@ renews_as s t w p q was now same h = record {
   once = h.once;
 }
 
--- what covers the slots covers a part of them
-pub covers_within : (s : Store) (slots : List Slot) (j k : ℕ) → Covers s (ids_of slots) → Covers s (ids_of (take k (drop j slots)))
-covers_within s slots j k covers = record { owned = λ q. omega (arith, covers.owned q, ap (λ xs. times q (ids_of xs)) (take-append-drop j slots), times-ids q (take j slots) (drop j slots), ap (λ xs. times q (ids_of xs)) (take-append-drop k (drop j slots)), times-ids q (take k (drop j slots)) (drop k (drop j slots))) }
+-- new slots by a writer over the first slots of a map: those that stand there are renewed
+module _ (s t : Store) (was now : Layout) (w first kept : ℕ) (fresh : List ℕ) (lives : LivesIn s was) (within : first ≤ length (take kept (slots_of s was))) (new : (id : ℕ) → 0 < owners_at s id → times id fresh ≡ 0) (one : (id : ℕ) → times id fresh ≤ 1) (is : slots_of t now ≡ laid_over first (map (slot_by w) fresh) (take kept (slots_of s was))) where
+  kept_slots : List Slot
+  kept_slots = take kept (slots_of s was)
+
+  long : length (slots_of t now) ≡ first + length fresh + (length (take kept (slots_of s was)) - (first + length fresh))
+  long = ap length is ∙ rw (length-laid_over first (map (slot_by w) fresh) (take kept (slots_of s was)) within, length-map fresh (slot_by w)) refl
+
+  there : AreThere s (slots_of s was)
+  there = backed_there s was.leaves lives.backed
+
+  pub laid_renews : Renews s t w (is_between first (first + length fresh)) was now
+  laid_renews =
+      let none : Slot = record { writer = 0; block = 0 } in
+      let old = take kept (slots_of s was) in
+      let count = length-map fresh (slot_by w) in
+      record {
+        fresh = λ slot yes.
+            let from : first ≤ slot = grind (arith, nat_tests) in
+            let to : slot < first + length fresh = grind (arith, nat_tests) in
+            let id = get_or fresh (slot - first) 0 in
+            let here = ap (λ xs. slice_get xs slot) is ∙ (slice_get_at (laid_over first (map (slot_by w) fresh) old) slot none (omega (arith, ap length is, long, to)) ∙ ap (λ x. Some x) (laid_within first (map (slot_by w) fresh) old within slot none from (omega (arith, to, count)) ∙ map_at (slot_by w) fresh (slot - first) 0 none (omega (arith, from, to)))) in
+            let free : owners_at s id ≡ 0 = ⊎_elim (λ (lt : 0 < owners_at s id). absurd (omega (arith, new id lt, times_at fresh (slot - first) (omega (arith, from, to))))) (λ (le : owners_at s id ≤ 0). let e : owners_at s id ≡ 0 = omega (arith, le) in e) (order 0 (owners_at s id)) in
+            rw here (refl, free);
+        stays = λ slot no lt.
+            let less = length-take kept (slots_of s was) in
+            ⊎_elim
+            (λ (before : slot < first).
+            ap (λ xs. slice_get xs slot) is ∙ (slice_get_at (laid_over first (map (slot_by w) fresh) old) slot none (omega (arith, ap length is, lt)) ∙ (ap (λ x. Some x) (laid_before first (map (slot_by w) fresh) old within slot none before) ∙ (sym (slice_get_at old slot none (omega (arith, before, within))) ∙ slice_get-take kept slot (slots_of s was) (omega (arith, before, within, less))))))
+            (λ (from : first ≤ slot).
+            let past : first + length fresh ≤ slot = grind (arith, nat_tests) in
+            let short : slot < length (take kept (slots_of s was)) = omega (arith, long, lt, past) in
+            ap (λ xs. slice_get xs slot) is ∙ (slice_get_at (laid_over first (map (slot_by w) fresh) old) slot none (omega (arith, ap length is, lt)) ∙ (ap (λ x. Some x) (laid_after first (map (slot_by w) fresh) old within slot none (omega (arith, count, past))) ∙ (sym (slice_get_at old slot none short) ∙ slice_get-take kept slot (slots_of s was) (omega (arith, short, less))))))
+            (order slot first);
+        once = λ id zero.
+            let old_none : times id (ids_of (slots_of s was)) ≤ 0 = ⊎_elim (λ (some : 0 < times id (ids_of (slots_of s was))). absurd (omega (arith, there id some, zero))) (λ (le : times id (ids_of (slots_of s was)) ≤ 0). le) (order 0 (times id (ids_of (slots_of s was)))) in
+            let all = ap (λ xs. times id (ids_of xs)) is in
+            let apart = times_laid old first w fresh within id in
+            let parts_few = times-take id kept (slots_of s was) in
+            let head = times-take id first old in
+            let tail = times-drop id (first + length (map (slot_by w) fresh)) old in
+            omega (arith, all, apart, one id, old_none, parts_few, head, tail);
+      }
+
+-- the leaves of a map in three runs, of which the middle one gives way
+module _ (s t : Store) (m new : Layout) (w first kept n : ℕ) (staged : List (List ℕ)) (front was back now : List ℕ) (window : List Slot) (at : ℕ) (lives : LivesIn s m) (is : m.leaves ≡ front ++ (was ++ back)) (new_is : new.leaves ≡ front ++ (now ++ back)) (cut : take kept (slots_of s m) ≡ slots_in s front ++ (window ++ slots_in s back)) (place : first ≡ length (slots_in s front) + at) (inside : at ≤ length window) (fit : (at + length staged ≤ length window) ⊎ (slots_in s back ≡ [])) (renewed : IsRenewed s t was window at w staged now) where
+  times_old : (q : ℕ) → times q m.leaves ≡ times q was + (times q front + times q back)
+  times_old q = omega (arith, ap (times q) is, times-append q front (was ++ back), times-append q was back)
+
+  pub hands_over : Hands s t (λ q. times q m.leaves) (λ q. times q new.leaves)
+  hands_over = hands_with s t _ _ (λ q. times q m.leaves) (λ q. times q new.leaves) (λ q. times q front + times q back) renewed.hands times_old (λ q. omega (arith, ap (times q) new_is, times-append q front (now ++ back), times-append q now back))
+
+  front_stays : StayIn s t front
+  front_stays = stay_in s t _ _ front renewed.hands (λ q some. omega (arith, some, times_old q, lives.owned.owned q)) (λ q some. leaf_there s m.leaves lives.backed q (omega (arith, some, times_old q)))
+
+  back_stays : StayIn s t back
+  back_stays = stay_in s t _ _ back renewed.hands (λ q some. omega (arith, some, times_old q, lives.owned.owned q)) (λ q some. leaf_there s m.leaves lives.backed q (omega (arith, some, times_old q)))
+
+  fresh_slots : List Slot
+  fresh_slots = map (slot_by w) renewed.blocks
+
+  count : length (map (slot_by w) renewed.blocks) ≡ length staged
+  count = length-map renewed.blocks (slot_by w) ∙ renewed.count
+
+  fit_slots : (at + length (map (slot_by w) renewed.blocks) ≤ length window) ⊎ (slots_in s back ≡ [])
+  fit_slots = ⊎_elim (λ (le : at + length staged ≤ length window). inl (omega (arith, le, count))) (λ (none : slots_in s back ≡ []). inr none) fit
+
+  abbrev laid : List Slot
+  laid = laid_over at (map (slot_by w) renewed.blocks) window
+
+  now_slots : slots_in t now ≡ laid
+  now_slots = slots_concat t now ∙ (ap joined renewed.leaves ∙ (chunks_concat (leaf_count (length laid)) laid ∙ take_all (16 * leaf_count (length laid)) laid (omega arith)))
+
+  new_apart : slots_of t new ≡ slots_in s front ++ (laid ++ slots_in s back)
+  new_apart = ap (slots_in t) new_is ∙ (flat_map-append (leaf_at t) front (now ++ back) ∙ rw (flat_map-append (leaf_at t) now back, front_stays.slots, back_stays.slots, now_slots) refl)
+
+  -- the leaves, and the slots in them
+  pub record AreApart : Type 0 where
+    pub slots : slots_of t new ≡ slots_in s front ++ (laid_over at (map (slot_by w) renewed.blocks) window ++ slots_in s back)
+    pub leaves : map (leaf_at t) new.leaves ≡ map (leaf_at s) front ++ (parts (laid_over at (map (slot_by w) renewed.blocks) window) ++ map (leaf_at s) back)
+
+  pub new_leaves : AreApart
+  new_leaves = record {
+    slots = new_apart;
+    leaves = ap (map (leaf_at t)) new_is ∙ (map-append (leaf_at t) front (now ++ back) ∙ rw (map-append (leaf_at t) now back, front_stays.leaves, back_stays.leaves, renewed.leaves) refl);
+  }
+
+  pub new_slots : slots_of t new ≡ laid_over first (map (slot_by w) renewed.blocks) (take kept (slots_of s m))
+  new_slots = new_apart ∙ sym (ap (laid_over first (map (slot_by w) renewed.blocks)) cut ∙ laid_apart first at (map (slot_by w) renewed.blocks) (slots_in s front) window (slots_in s back) place inside fit_slots)
+
+  abbrev g : Slot → Cell
+  g = cell_of s
+
+  pub new_cells : shown t new ≡ laid_over first (map (cell_by w) staged) (take kept (shown s m))
+  new_cells =
+      let u = cell_of t in
+      let by = map (cell_by w) staged in
+      let size = length-map staged (cell_by w) in
+      let fit_cells : (at + length by ≤ length (map g window)) ⊎ (map g (slots_in s back) ≡ []) = ⊎_elim (λ (le : at + length staged ≤ length window). inl (omega (arith, le, size, length-map window g))) (λ (none : slots_in s back ≡ []). inr (ap (map g) none)) fit in
+      let shown_cut : take kept (shown s m) ≡ map g (slots_in s front) ++ (map g window ++ map g (slots_in s back)) = take-map g kept (slots_of s m) ∙ (ap (map g) cut ∙ (map-append g (slots_in s front) (window ++ slots_in s back) ∙ ap (λ ys. map g (slots_in s front) ++ ys) (map-append g window (slots_in s back)))) in
+      ap (map u) (ap (slots_in t) new_is ∙ (flat_map-append (leaf_at t) front (now ++ back) ∙ ap (λ ys. slots_in t front ++ ys) (flat_map-append (leaf_at t) now back)))
+      ∙ (map-append u (slots_in t front) (slots_in t now ++ slots_in t back)
+      ∙ (ap (λ ys. map u (slots_in t front) ++ ys) (map-append u (slots_in t now) (slots_in t back))
+      ∙ (rw (front_stays.cells, back_stays.cells, renewed.cells) refl
+      ∙ sym (ap (laid_over first by) shown_cut ∙ laid_apart first at by (map g (slots_in s front)) (map g window) (map g (slots_in s back)) (omega (arith, place, length-map (slots_in s front) g)) (omega (arith, inside, length-map window g)) fit_cells))))

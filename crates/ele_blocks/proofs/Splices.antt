@@ -11,7 +11,7 @@ use Rattle.ele_blocks.proofs.Sizes.{AreSized, sized-is, sized-count, sized-lengt
 use Rattle.ele_blocks.proofs.LaidOvers.{drop_past}
 use Rattle.ele_blocks.proofs.Pieces.{pieces_joined, pieces-append, length-pieces}
 
-pub take_past : (xs ys : List ℕ) (a n : ℕ) → n ≡ length xs + a → take n (xs ++ ys) ≡ xs ++ take a ys
+pub take_past : {X : Type 0} (xs ys : List X) (a n : ℕ) → n ≡ length xs + a → take n (xs ++ ys) ≡ xs ++ take a ys
 take_past [] ys a n e = let same : n ≡ a = omega (arith, e) in rw same refl
 take_past (x ∷ xs) ys a zero e = absurd (omega (arith, e))
 take_past (x ∷ xs) ys a (suc n) e = ap (λ zs. x ∷ zs) (take_past xs ys a n (omega (arith, e)))

@@ -1,7 +1,7 @@
 //! The changes of a content: a write, and a truncate.
 //! A contract sees the new cells as a definition over the old ones, and that the owners of leaves
 //! which other maps share stay.
-ghost use Rattle.std.specs.Prelude.{◌≡◌, ◌<◌, ◌≤◌, ◌+◌, ◌*◌, ◌/◌, OnOk, OnErr, max, min, length, vec_len};
+ghost use Rattle.std.specs.Prelude.{◌≡◌, ◌<◌, ◌≤◌, ◌+◌, ◌*◌, ◌/◌, ◌^◌, OnOk, OnErr, max, min, length, vec_len};
 ghost use Rattle.ele_content.specs.Content.{longest_content, slot_count};
 ghost use Rattle.ele_blocks.specs.Changes.{IsWritten, IsResized};
 ghost use Rattle.ele_blocks.specs.Layout.{slots_of};
@@ -40,6 +40,38 @@ fn met(size: u64, slots: usize, offset: u64, count: usize) -> (usize, usize)
     let first = offset.min(size) as usize / SLOT;
     let past = (offset as usize + count).div_ceil(SLOT).min(slots);
     (first, past)
+}
+
+/// A run of leaves that gives way: up to before the second those whose slots are met.
+#[derive(Clone, Copy, Debug)]
+struct Run {
+    from: usize,
+    met: usize,
+    to: usize,
+}
+
+/// The leaves that a change meets from the first slot on, which ends in the leaf before `past`; where
+/// nothing that is kept stands behind them, all leaves behind go too.
+fn run_of(first: usize, past: usize, kept: usize, leaves: usize) -> Run
+    requires order { first ≤ kept }
+    requires within { kept ≤ 16 * leaves }
+    requires behind { first ≤ 16 * past }
+    requires small { leaves < 2 ^ 56 }
+    ensures from { result.from ≡ first / 16 }
+    ensures met { result.met ≡ min past leaves }
+    ensures to_end { kept ≤ 16 * result.met → result.to ≡ leaves }
+    ensures to_met { 16 * result.met < kept → result.to ≡ result.met }
+    ensures starts { result.from ≤ result.met }
+    ensures goes { result.met ≤ result.to }
+    ensures ends { result.to ≤ leaves }
+{
+    let met = past.min(leaves);
+    let to = if kept <= LEAF * met { leaves } else { met };
+    Run {
+        from: first / LEAF,
+        met,
+        to,
+    }
 }
 
 impl BlockMap {
@@ -159,11 +191,10 @@ impl BlockMap {
             first,
             staged,
         } = change;
-        let from = first / LEAF;
         let leaves = self.leaves.len();
         let past = (first + staged.len()).div_ceil(LEAF);
-        let met = past.min(leaves);
-        let to = if kept <= LEAF * met { leaves } else { met };
+        let run = run_of(first, past, kept, leaves);
+        let Run { from, met, to } = run;
         self.leaves.reserve(past.saturating_sub(leaves))?;
         let mut window = store.slots_in(&self.leaves[from..met])?;
         window.truncate(kept - LEAF * from);

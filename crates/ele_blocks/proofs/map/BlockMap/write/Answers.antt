@@ -7,9 +7,6 @@ use Rattle.ele_blocks.proofs.Unchanged.{written_nothing}
 use Rattle.ele_blocks.proofs.Writes.{write_count, write_change}
 use Rattle.ele_blocks.proofs.map.BlockMap.write.Goals as goal
 
-pub joined-requires : goal.joined-requires
-joined-requires c = rw c.deref.ensures.value (covers_within c.args.store.now c.self.inside.slots.items c.met-first.result.0 (c.met-first.result.1 - c.met-first.result.0) (rw (← c.self.view_is) at c.requires.lives.owned))
-
 pub replace-requires-clause-count : goal.replace-requires-clause-count
 replace-requires-clause-count c =
     let s = c.args.store.now in
