@@ -5,9 +5,9 @@ pub mod Hands
 pub mod Parts
 pub mod NewLeaves
 pub mod Sizes
-pub mod Pieces
 pub mod LaidOvers
 pub mod Places
+pub mod Pieces
 pub mod Distincts
 pub mod Renewals
 pub mod Splices

@@ -1,10 +1,13 @@
 -- Bytes in pieces of 512.
 use Rattle.std.proofs.Common.{◌≡◌, ℕ, ◌+◌, ◌-◌, ◌*◌, ◌/◌, ◌<◌, ◌≤◌, List, [], ◌∷◌, ◌++◌, length, take, drop, get_or, map, min, refl, ap, sym, ◌∙◌, arith, append_assoc, add-one, zero, suc}
-use Rattle.std.proofs.Common.{⊎_elim}
+use Rattle.std.proofs.Common.{⊎_elim, Option, Some, None}
+use Rattle.std.specs.Option.{option_map}
+use Rattle.std.specs.Prelude.{slice_get}
+use Rattle.ele_blocks.proofs.Places.{slice_get_at, slice_get-drop, got_within}
 use Rattle.std.specs.List.{concat}
 use Rattle.std.specs.Simd.{first_chunks}
 use Rattle.std.proofs.str.Laws.{order}
-use Rattle.std.proofs.lemmas.List.{length-take, length-drop, length-append, map-append, append-nil, take_min, drop_min, take_at, drop_at, take_all, drop-drop, take-append-le, drop-append-le, take-append-drop, nil_from_length, flat_map_more}
+use Rattle.std.proofs.lemmas.List.{length-take, length-drop, length-append, map-append, append-nil, take_min, drop_min, take_at, drop_at, take_all, drop-drop, take-append-le, drop-append-le, take-append-drop, nil_from_length, flat_map_more, take_more}
 use Rattle.std.proofs.Math.Seq.{take-suc}
 use Rattle.ele_blocks.specs.Store.{Store, bytes_at}
 use Rattle.ele_blocks.specs.declared.slot.Slot.{Slot}
@@ -37,15 +40,29 @@ pieces_at cut new rest front back n left all_left all h one size is_front is_bac
     let turned : n ≡ min 512 (length rest) = omega (arith, size) in
     rw (is, is_front, is_back, turned, take_min 512 rest, drop_min 512 rest) more
 
-take_slot : (slots : List Slot) (k : ℕ) (slot : Slot) → k < length slots → slot ≡ get_or slots k slot → take (k + 1) slots ≡ take k slots ++ slot ∷ []
-take_slot slots k slot lt is = rw add-one (take-suc slots k slot lt ∙ ap (λ y. take k slots ++ y ∷ []) (sym is))
-
 -- the content of one slot more
-pub joined_more : (s : Store) (slots : List Slot) (k : ℕ) (slot : Slot) → k < length slots → slot ≡ get_or slots k slot → content_of (map (cell_of s) (take (k + 1) slots)) ≡ content_of (map (cell_of s) (take k slots)) ++ bytes_at s slot.block
-joined_more s slots k slot lt is =
-    ap (λ xs. content_of (map (cell_of s) xs)) (take_slot slots k slot lt is)
-    ∙ (ap content_of (map-append (cell_of s) (take k slots) (slot ∷ []))
-    ∙ sym (flat_map_more (λ (cell : Cell). cell.bytes) [] (map (cell_of s) (take k slots)) (cell_of s slot)))
+pub joined_more : (s : Store) (slots : List Slot) (first slot : ℕ) (x : Slot) → first ≤ slot → slice_get slots slot ≡ Some x → content_of (map (cell_of s) (take (slot + 1 - first) (drop first slots))) ≡ content_of (map (cell_of s) (take (slot - first) (drop first slots))) ++ bytes_at s x.block
+joined_more s slots first slot x le got =
+    let k = slot - first in
+    let rest = drop first slots in
+    let place : first + k ≡ slot = omega (arith, le) in
+    let here : slice_get rest k ≡ Some x = slice_get-drop first k slots ∙ (ap (slice_get slots) place ∙ got) in
+    let lt : k < length rest = got_within k rest x here in
+    let is : get_or rest k x ≡ x = let at : Some (get_or rest k x) ≡ Some x = sym (slice_get_at rest k x lt) ∙ here in cc in
+    let next : slot + 1 - first ≡ k + 1 = omega (arith, le) in
+    ap (λ n. content_of (map (cell_of s) (take n rest))) next
+    ∙ (ap (λ xs. content_of (map (cell_of s) xs)) (take_more rest k x lt ∙ ap (λ y. take k rest ++ y ∷ []) is)
+    ∙ (ap content_of (map-append (cell_of s) (take k rest) (x ∷ []))
+    ∙ sym (flat_map_more (λ (cell : Cell). cell.bytes) [] (map (cell_of s) (take k rest)) (cell_of s x))))
+
+-- with the cell as a look-up answers it
+pub joined_next : (s : Store) (slots : List Slot) (first slot : ℕ) (cell : ℕ × ℕ) (bytes : List ℕ) → first ≤ slot → Some cell ≡ option_map (λ (x : Slot). (x.writer, x.block)) (slice_get slots slot) → bytes ≡ bytes_at s cell.1 → content_of (map (cell_of s) (take (slot + 1 - first) (drop first slots))) ≡ content_of (map (cell_of s) (take (slot - first) (drop first slots))) ++ bytes
+joined_next s slots first slot cell bytes le got is = of_slot (slice_get slots slot) refl got where
+  of_slot : (o : Option Slot) → slice_get slots slot ≡ o → Some cell ≡ option_map (λ (x : Slot). (x.writer, x.block)) o → content_of (map (cell_of s) (take (slot + 1 - first) (drop first slots))) ≡ content_of (map (cell_of s) (take (slot - first) (drop first slots))) ++ bytes
+  of_slot None e g = absurd cc
+  of_slot (Some x) e g =
+      let block : cell.1 ≡ x.block = let same : cell ≡ (x.writer, x.block) = cc in ap (λ (c : ℕ × ℕ). c.1) same in
+      joined_more s slots first slot x le e ∙ ap (λ ys. content_of (map (cell_of s) (take (slot - first) (drop first slots))) ++ ys) (sym (is ∙ ap (bytes_at s) block))
 
 -- the pieces hold what was cut
 chunks_sized : (k : ℕ) (xs : List ℕ) → k ≡ (length xs + 511) / 512 → AreSized (length xs) (first_chunks 512 k xs)

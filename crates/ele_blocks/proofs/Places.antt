@@ -86,3 +86,8 @@ pub slice_get-past : {X : Type 0} (xs : List X) (k : ℕ) → length xs ≤ k �
 slice_get-past [] k le = refl
 slice_get-past (x ∷ xs) zero le = absurd (omega (arith, le))
 slice_get-past (x ∷ xs) (suc k) le = slice_get-past xs k (omega (arith, le))
+
+pub got_within : {X : Type 0} (k : ℕ) (xs : List X) (x : X) → slice_get xs k ≡ Some x → k < length xs
+got_within k [] x e = absurd cc
+got_within zero (y ∷ ys) x e = omega arith
+got_within (suc k) (y ∷ ys) x e = omega (arith, got_within k ys x e)

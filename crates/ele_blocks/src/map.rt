@@ -73,8 +73,11 @@ impl BlockMap {
             (slice_get (slots_of store.now self.now) slot) }
         ensures owned { IfSome result (λ cell. 0 < owners_at store.now cell.1) }
     {
-        let leaf = self.leaves.get(slot / LEAF)?;
-        let cell = store.leaf(*leaf).get(slot % LEAF)?;
+        if slot >= self.slots() {
+            return None;
+        }
+        let leaf = self.leaves[slot / LEAF];
+        let cell = store.leaf(leaf)[slot % LEAF];
         Some((cell.writer, cell.block))
     }
 

@@ -136,7 +136,7 @@ lay_leaves-requires-clause-room c =
     let size : k ≡ length c.args.change.staged.items = omega (arith, c.len.ensures, c.args.change.staged.ok) in
     let renewed = rw (same2, window_is) at c.in_ok-now.ensures.renewed in
     let room = now_room s m lives n count first kept k run.from run.met run.to fill is_c c.requires.within kept_le behind c.run_of-run.ensures.from met c.run_of-run.ensures.to_end c.run_of-run.ensures.to_met c.renew.new.self c.args.change.writer c.args.change.staged.items size c.in_ok-now.now.items renewed in
-    omega (arith, room, ap length c.deref-3.ensures.value, c.in_ok-reserve.ensures.capacity, c.saturating_sub.ensures, c.div_ceil-past.ensures, c.len-leaves.ensures)
+    omega (arith, room, ap length c.deref-3.ensures.value, c.in_ok-reserve.ensures.ok, c.in_ok-reserve.ensures.len, c.saturating_sub.ensures, c.div_ceil-past.ensures, c.len-leaves.ensures, c.self.inside.leaves.ok)
 
 pub invariant_of-self-2 : goal.invariant_of-self-2
 invariant_of-self-2 c =
