@@ -7,6 +7,7 @@ pub mod NewLeaves
 pub mod Sizes
 pub mod LaidOvers
 pub mod Places
+pub mod Looks
 pub mod Pieces
 pub mod Distincts
 pub mod Renewals

@@ -11,6 +11,7 @@ ghost use Rattle.ele_blocks.specs.Store.{owners_at};
 mod change;
 
 use crate::leaf::LEAF;
+use crate::slot::Slot;
 use crate::store::{BlockId, BlockStore};
 use ele_moment::{NoMemory, VersionNo};
 use std::alloc::Global;
@@ -77,7 +78,7 @@ impl BlockMap {
             return None;
         }
         let leaf = self.leaves[slot / LEAF];
-        let cell = store.leaf(leaf)[slot % LEAF];
+        let cell: &Slot = &store.leaf(leaf)[slot % LEAF];
         Some((cell.writer, cell.block))
     }
 
