@@ -1,5 +1,5 @@
 -- How many slots of leaves name a block, as leaves come and go.
-use Rattle.std.proofs.Common.{◌≡◌, ◌≢◌, ℕ, ◌+◌, ◌<◌, ◌≤◌, List, [], ◌∷◌, ◌++◌, drop, Option, Some, None, refl, ap, sym, ◌∙◌, arith, zero, suc, ⊎_elim, true, false, eqb}
+use Rattle.std.proofs.Common.{◌≡◌, ◌≢◌, ℕ, ◌+◌, ◌<◌, ◌≤◌, List, [], ◌∷◌, ◌++◌, drop, Option, None, refl, ap, sym, ◌∙◌, arith, zero, suc, ⊎_elim, true, false, eqb}
 use Rattle.std.specs.Prelude.{unwrap_or}
 use Rattle.std.proofs.str.Laws.{order}
 use Rattle.std.proofs.lemmas.Bool.Decides.{nat_tests}

@@ -1,6 +1,5 @@
 -- A map that shows the cells of a change is so changed.
-use Rattle.std.proofs.Common.{map, ◌≡◌, ℕ, ◌+◌, ◌<◌, ◌≤◌, true, List, [], length, min, max, ap, ◌∙◌, arith, leb}
-use Rattle.std.proofs.lemmas.Bool.Decides.{nat_tests}
+use Rattle.std.proofs.Common.{map, ◌≡◌, ℕ, ◌+◌, ◌<◌, ◌≤◌, true, List, [], length, min, max, ap, ◌∙◌, arith}
 use Rattle.std.proofs.lemmas.List.{length-map}
 use Rattle.ele_content.specs.declared.cell.Cell.{Cell}
 use Rattle.ele_content.specs.Content.{content_of, longest_content, cells_after_write, cells_after_truncate, fill_slots, slot_count, meets, refits}

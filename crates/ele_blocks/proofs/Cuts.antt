@@ -1,20 +1,16 @@
 -- What a truncate to fewer bytes makes of a map: f slots stay whole, and kept slots stay.
-use Rattle.std.proofs.Common.{◌≡◌, ℕ, ◌+◌, ◌-◌, ◌*◌, ◌/◌, ◌<◌, ◌≤◌, true, false, cond, List, [], ◌++◌, length, take, drop, map, min, max, refl, ap, sym, ◌∙◌, arith, append_assoc, ltb, Some}
-use Rattle.std.specs.Prelude.{slice_get}
+use Rattle.std.proofs.Common.{◌≡◌, ℕ, ◌+◌, ◌-◌, ◌*◌, ◌/◌, ◌<◌, ◌≤◌, true, false, cond, List, [], ◌++◌, length, take, drop, map, min, refl, ap, sym, ◌∙◌, arith, append_assoc, ltb}
 use Rattle.std.specs.List.{concat}
 use Rattle.std.proofs.lemmas.Bool.Decides.{nat_tests}
 use Rattle.std.proofs.lemmas.List.{append-nil, length-map, length-append, length-take, take-map, drop-map, take_at, take-append-le, take-append-drop, length-take-le, get_or-take, take-take, drop_all}
 use Rattle.std.proofs.lemmas.List.Folds.{concat-append}
-use Rattle.ele_blocks.specs.declared.slot.Slot.{Slot}
 use Rattle.ele_content.specs.declared.cell.Cell.{Cell}
-use Rattle.ele_blocks.specs.Shared.{times, Trades, Covers}
 use Rattle.ele_blocks.specs.Store.{Store}
-use Rattle.ele_content.specs.Content.{content_of, content_after_truncate, slot_count, refits, writer_at, cells_after_truncate}
-use Rattle.ele_blocks.specs.Layout.{Layout, slots_of, shown, cell_of, cell_by, ids_of, is_between}
+use Rattle.ele_content.specs.Content.{content_of, content_after_truncate, refits, writer_at, cells_after_truncate}
+use Rattle.ele_blocks.specs.Layout.{Layout, slots_of, shown, cell_of, cell_by, is_between}
 use Rattle.ele_blocks.specs.Pieces.{pieces}
 use Rattle.ele_blocks.specs.LaidOver.{laid_over}
 use Rattle.ele_blocks.specs.LivesIn.{LivesIn}
-use Rattle.ele_blocks.specs.Renews.{Renews}
 use Rattle.ele_blocks.proofs.Sizes.{AreSized, bytes_each, content_each, whole_sized, whole_short, sized-is, sized-count, sized-length, sized-take, sized-drop, slots-count, length-content}
 use Rattle.ele_blocks.proofs.Pieces.{pieces_joined, pieces-append, length-pieces}
 use Rattle.ele_blocks.proofs.Splices.{take_past}

@@ -1,12 +1,12 @@
 -- A slot of a map, in its leaf.
-use Rattle.std.proofs.Common.{◌≡◌, ℕ, ◌+◌, ◌-◌, ◌*◌, ◌/◌, ◌%◌, ◌<◌, ◌≤◌, List, [], ◌∷◌, ◌++◌, length, take, drop, get_or, Some, refl, ap, sym, ◌∙◌, arith, zero, suc}
+use Rattle.std.proofs.Common.{◌≡◌, ℕ, ◌+◌, ◌*◌, ◌/◌, ◌%◌, ◌<◌, List, [], ◌∷◌, length, take, drop, get_or, Some, refl, ap, sym, ◌∙◌, arith, zero, suc}
 use Rattle.std.specs.Prelude.{slice_get}
 use Rattle.std.proofs.lemmas.List.{append-nil, length-take, length-drop}
 use Rattle.ele_content.specs.Content.{slot_count}
 use Rattle.ele_blocks.specs.declared.slot.Slot.{Slot}
 use Rattle.ele_blocks.specs.Layout.{Layout, slots_of}
-use Rattle.ele_blocks.specs.LivesIn.{LivesIn, leaf_count}
-use Rattle.ele_blocks.specs.Shared.{times, owners}
+use Rattle.ele_blocks.specs.LivesIn.{LivesIn}
+use Rattle.ele_blocks.specs.Shared.{owners}
 use Rattle.ele_blocks.specs.Store.{Store, leaf_at, slots_in}
 use Rattle.ele_blocks.proofs.Parts.{slots_between, slots_long, leaves_long}
 use Rattle.ele_blocks.proofs.Places.{slice_get-take, slice_get-drop, slice_get_at}

@@ -1,5 +1,5 @@
 -- What one call moves, by the leaves that change hands.
-use Rattle.std.proofs.Common.{◌≡◌, ℕ, ◌+◌, ◌<◌, ◌≤◌, true, List, [], ◌∷◌, map, refl, ap, arith}
+use Rattle.std.proofs.Common.{◌≡◌, true, [], ◌∷◌, refl, arith}
 use Rattle.ele_blocks.specs.Hands.{Hands}
 use Rattle.ele_blocks.specs.Shared.{times}
 use Rattle.ele_blocks.specs.Store.{Store}

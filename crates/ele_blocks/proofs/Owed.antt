@@ -1,5 +1,5 @@
 -- Laws of what a store is owed.
-use Rattle.std.proofs.Common.{◌≡◌, ℕ, ◌+◌, ◌*◌, ◌<◌, ◌≤◌, ◌^◌, Bool, true, false, cond, List, [], ◌∷◌, ◌++◌, map, length, refl, sym, ◌∙◌, arith}
+use Rattle.std.proofs.Common.{◌≡◌, ℕ, ◌+◌, ◌*◌, ◌≤◌, ◌^◌, Bool, true, false, cond, List, [], ◌∷◌, ◌++◌, map, length, refl, sym, ◌∙◌, arith}
 use Rattle.ele_content.specs.Content.{slot_count}
 use Rattle.ele_blocks.specs.Shared.{times, owners}
 use Rattle.ele_blocks.specs.Store.{Store, no_blocks}

@@ -8,7 +8,6 @@ use Rattle.std.specs.List.{concat}
 use Rattle.std.specs.Simd.{first_chunks}
 use Rattle.std.proofs.str.Laws.{order}
 use Rattle.std.proofs.lemmas.List.{length-take, length-drop, length-append, map-append, append-nil, take_min, drop_min, take_at, drop_at, take_all, drop-drop, take-append-le, drop-append-le, take-append-drop, nil_from_length, flat_map_more, take_more}
-use Rattle.std.proofs.Math.Seq.{take-suc}
 use Rattle.ele_blocks.specs.Store.{Store, bytes_at}
 use Rattle.ele_blocks.specs.declared.slot.Slot.{Slot}
 use Rattle.ele_content.specs.declared.cell.Cell.{Cell}

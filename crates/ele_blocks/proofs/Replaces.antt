@@ -1,30 +1,27 @@
 -- New slots over the first slots of a map, and new leaves in place of those that they meet.
-use Rattle.std.proofs.Common.{◌≡◌, ◌⊎◌, ℕ, ◌+◌, ◌-◌, ◌*◌, ◌<◌, ◌≤◌, Bool, true, List, [], ◌∷◌, ◌++◌, length, map, take, drop, get_or, refl, ap, sym, ◌∙◌, arith, append_assoc, Some, ⊎_elim, inl, inr, min}
+use Rattle.std.proofs.Common.{◌≡◌, ◌⊎◌, ℕ, ◌+◌, ◌-◌, ◌*◌, ◌<◌, ◌≤◌, Bool, List, [], ◌++◌, length, map, take, drop, get_or, refl, ap, sym, ◌∙◌, arith, append_assoc, Some, ⊎_elim, inl, inr}
 use Rattle.std.specs.Prelude.{slice_get}
-use Rattle.std.specs.Simd.{first_chunks}
 use Rattle.std.proofs.str.Laws.{order}
-use Rattle.std.proofs.Math.Seq.{take-add}
 use Rattle.std.proofs.lemmas.Bool.Decides.{nat_tests}
 use Rattle.std.proofs.lemmas.Grind.{flat_map-append}
-use Rattle.std.proofs.lemmas.List.{append-nil, map-append, take-append-drop, take-append-le, drop-append-le, take_at, take_all, drop_all, take-take, take-map, drop-drop, length-map, length-take, length-take-le, length-drop, length-append}
+use Rattle.std.proofs.lemmas.List.{append-nil, map-append, take-append-le, drop-append-le, take_all, take-map, length-map, length-take}
 use Rattle.ele_content.specs.declared.cell.Cell.{Cell}
 use Rattle.ele_blocks.specs.declared.slot.Slot.{Slot}
 use Rattle.ele_blocks.specs.Hands.{Hands, AreThere}
 use Rattle.ele_blocks.specs.LaidOver.{laid_over}
 use Rattle.ele_blocks.specs.Layout.{Layout, slots_of, shown, ids_of, cell_of, slot_by, cell_by, is_between}
-use Rattle.ele_blocks.specs.LivesIn.{LivesIn, AreBacked, fill_leaves, leaf_count}
-use Rattle.ele_blocks.specs.Renewed.{IsRenewed, IsReplaced, parts}
+use Rattle.ele_blocks.specs.LivesIn.{LivesIn, leaf_count}
+use Rattle.ele_blocks.specs.Renewed.{IsRenewed, parts}
 use Rattle.ele_blocks.specs.Renews.{Renews}
-use Rattle.ele_blocks.specs.Shared.{times, owners, Covers}
+use Rattle.ele_blocks.specs.Shared.{times}
 use Rattle.ele_blocks.specs.Store.{Store, owners_at, leaf_at, slots_in}
-use Rattle.ele_blocks.proofs.Backing.{times-ids}
 use Rattle.ele_blocks.proofs.Hands.{hands_with, stay_in, leaf_there, backed_there, StayIn}
 use Rattle.ele_blocks.proofs.LaidOvers.{length-laid_over, laid_before, laid_within, laid_after, drop_past}
-use Rattle.ele_blocks.proofs.Parts.{joined, chunks_append, chunks_concat, chunks_front, chunks_from, fills, slots_between, slots_from, slots_long, leaves_long, slots_concat}
+use Rattle.ele_blocks.proofs.Parts.{joined, chunks_concat, slots_concat}
 use Rattle.ele_blocks.proofs.Places.{slice_get_at, map_at, times_at, slice_get-take}
 use Rattle.ele_blocks.proofs.Renewals.{times-take, times-drop, times_laid}
 use Rattle.ele_blocks.proofs.Splices.{take_past}
-use Rattle.ele_blocks.proofs.Trades.{times-append, times-self}
+use Rattle.ele_blocks.proofs.Trades.{times-append}
 
 -- what is laid over the middle of a list, or over its end
 pub laid_apart : {X : Type 0} (first at : ℕ) (new front middle back : List X) → first ≡ length front + at → at ≤ length middle → (at + length new ≤ length middle) ⊎ (back ≡ []) → laid_over first new (front ++ (middle ++ back)) ≡ front ++ (laid_over at new middle ++ back)

@@ -1,19 +1,18 @@
 -- The run of leaves that a change meets: the slots before it, those in it that are kept, and those behind.
-use Rattle.std.proofs.Common.{◌≡◌, ◌⊎◌, ℕ, ◌+◌, ◌-◌, ◌*◌, ◌/◌, ◌<◌, ◌≤◌, true, List, [], ◌∷◌, ◌++◌, length, map, take, drop, min, refl, ap, sym, ◌∙◌, arith, ⊎_elim, inl, inr}
+use Rattle.std.proofs.Common.{◌≡◌, ◌⊎◌, ℕ, ◌+◌, ◌-◌, ◌*◌, ◌/◌, ◌<◌, ◌≤◌, true, List, [], ◌++◌, length, map, take, drop, min, refl, ap, sym, ◌∙◌, arith, ⊎_elim, inl, inr}
 use Rattle.std.specs.Simd.{first_chunks}
 use Rattle.std.proofs.str.Laws.{order}
 use Rattle.std.proofs.Math.Seq.{take-add}
 use Rattle.std.proofs.lemmas.Grind.{flat_map-append}
-use Rattle.std.proofs.lemmas.List.{append-nil, map-append, take-append-drop, take_all, drop_all, take-take, take_at, drop-drop, append_assoc, length-map, length-take, length-take-le, length-drop, length-append}
+use Rattle.std.proofs.lemmas.List.{append-nil, take-append-drop, take_all, drop_all, take-take, take_at, drop-drop, append_assoc, length-map, length-take, length-take-le, length-drop, length-append}
 use Rattle.ele_blocks.specs.declared.slot.Slot.{Slot}
 use Rattle.ele_blocks.specs.Hands.{AreThere}
 use Rattle.ele_blocks.specs.LaidOver.{laid_over}
 use Rattle.ele_blocks.specs.Layout.{Layout, slots_of, shown, ids_of, cell_of, slot_by, cell_by, is_between}
 use Rattle.ele_blocks.specs.LivesIn.{LivesIn, AreBacked, fill_leaves, leaf_count}
 use Rattle.ele_blocks.specs.Renewed.{IsRenewed, IsReplaced, parts}
-use Rattle.ele_blocks.specs.Renews.{Renews}
-use Rattle.ele_blocks.specs.Shared.{times, owners, Covers}
-use Rattle.ele_blocks.specs.Store.{Store, owners_at, leaf_at, slots_in}
+use Rattle.ele_blocks.specs.Shared.{times, Covers}
+use Rattle.ele_blocks.specs.Store.{Store, leaf_at, slots_in}
 use Rattle.ele_blocks.proofs.Backing.{times-ids}
 use Rattle.ele_blocks.proofs.Hands.{backed_there}
 use Rattle.ele_blocks.proofs.LaidOvers.{length-laid_over}
@@ -119,10 +118,12 @@ module _ (s : Store) (m : Layout) (lives : LivesIn s m) (n c first kept k from m
       backed_there s m.leaves lives.backed id (omega (arith, some, is, times-take id (kept - 16 * from) (take (16 * (met - from)) rest), times-take id (16 * (met - from)) rest, times-drop id (16 * from) (slots_of s m)))
 
   pub met_covered : Covers s.leaves (take (met - from) (drop from m.leaves))
-  met_covered = record { owned = λ q.
-      let a = ap (times q) (take-append-drop from m.leaves) in
-      let b = ap (times q) (take-append-drop (met - from) (drop from m.leaves)) in
-      omega (arith, lives.owned.owned q, a, b, times-append q (take from m.leaves) (drop from m.leaves), times-append q (take (met - from) (drop from m.leaves)) (drop (met - from) (drop from m.leaves))) }
+  met_covered = record {
+    owned = λ q.
+        let a = ap (times q) (take-append-drop from m.leaves) in
+        let b = ap (times q) (take-append-drop (met - from) (drop from m.leaves)) in
+        omega (arith, lives.owned.owned q, a, b, times-append q (take from m.leaves) (drop from m.leaves), times-append q (take (met - from) (drop from m.leaves)) (drop (met - from) (drop from m.leaves)));
+  }
 
   -- the new leaves in their places
   module _ (t : Store) (w : ℕ) (staged : List (List ℕ)) (size : k ≡ length staged) (now : List ℕ) (renewed : IsRenewed s t was window (first - 16 * from) w staged now) where
@@ -199,6 +200,7 @@ module _ (s : Store) (m : Layout) (lives : LivesIn s m) (n c first kept k from m
 -- a map so changed has a leaf for each 16 slots
 pub replaced_long : (s t : Store) (m new : Layout) (w first kept : ℕ) (staged : List (List ℕ)) → IsReplaced s t w first kept staged m new → first ≤ kept → kept ≤ length (slots_of s m) → (length new.leaves ≡ leaf_count (length (slots_of t new))) × (length (slots_of t new) ≡ first + length staged + (kept - (first + length staged)))
 replaced_long s t m new w first kept staged h le within =
-    let old = length-take-le kept (shown s m) (omega (arith, within, length-map (slots_of s m) (cell_of s))) in
-    (leaves_long t new.leaves (length (slots_of t new)) h.filled,
-    omega (arith, length-map (slots_of t new) (cell_of t), ap length h.cells, length-laid_over first (map (cell_by w) staged) (take kept (shown s m)) (omega (arith, old, le)), old, length-map staged (cell_by w)))
+    let old = length-take-le kept (shown s m) (omega (arith, within, length-map (slots_of s m) (cell_of s))) in (
+      leaves_long t new.leaves (length (slots_of t new)) h.filled,
+      omega (arith, length-map (slots_of t new) (cell_of t), ap length h.cells, length-laid_over first (map (cell_by w) staged) (take kept (shown s m)) (omega (arith, old, le)), old, length-map staged (cell_by w)),
+    )

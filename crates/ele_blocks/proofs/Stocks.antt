@@ -1,7 +1,7 @@
 -- The laws of maps over one store.
-use Rattle.std.proofs.Common.{◌≡◌, ◌⊎◌, ℕ, ◌+◌, ◌<◌, ◌≤◌, Bool, true, false, cond, ◌&&◌, List, [], ◌∷◌, ◌++◌, map, length, Some, refl, ap, sym, ◌∙◌, arith, eqb, ltb, zero, suc, inl, inr, ⊎_elim, subst}
+use Rattle.std.proofs.Common.{◌≡◌, ◌⊎◌, ℕ, ◌+◌, ◌<◌, ◌≤◌, Bool, true, false, cond, ◌&&◌, List, [], ◌∷◌, map, length, Some, refl, ap, sym, ◌∙◌, arith, eqb, ltb, zero, suc, inl, inr, ⊎_elim}
 use Rattle.std.specs.Prelude.{slice_get}
-use Rattle.std.specs.List.{flat_map, list_all, sum_by, AllByRecursion}
+use Rattle.std.specs.List.{list_all, sum_by, AllByRecursion}
 use Rattle.std.proofs.lemmas.List.{length-map, map-append}
 use Rattle.std.proofs.lemmas.List.Sums.{sum_by-cons}
 use Rattle.std.proofs.lemmas.Bool.{false≢true}
@@ -20,7 +20,7 @@ use Rattle.ele_blocks.proofs.Owed.{tally-append, same_maps, owes_none, owes_same
 use Rattle.ele_blocks.proofs.Backing.{slots_backed}
 use Rattle.ele_blocks.specs.LivesIn.{backing}
 use Rattle.ele_blocks.proofs.Sizes.{length-content, whole_short}
-use Rattle.ele_content.specs.Place.{Place, different, is_place}
+use Rattle.ele_content.specs.Place.{is_place}
 
 tally-sum : {X : Type 0} (f : X → ℕ) (xs : List X) → tally f xs ≡ sum_by f xs
 tally-sum f [] = refl
@@ -208,15 +208,15 @@ module _ (s t : Store) (ts : List Tagged) (was : Tagged) (rest : List Tagged) (s
 
   goes : Moves s t (was.layout ∷ []) [] → Stays s t rest rest
   goes moves =
-    let stay = same_slots s t rest (rest_slots s t (was.layout ∷ []) [] moves all (layouts_of rest) h.owed (same_maps all)) in
-    record {
-    stocked = record {
-      owed = moves_owes s t (was.layout ∷ []) [] moves all (layouts_of rest) h.owed (same_maps all) (layouts_of rest) (same_maps (layouts_of rest));
-      one_to_one = rw stay.0 (fewer (names_in s rest) (names_in s (was ∷ rest)) (λ n i. in_back n (names_of s was.file was.layout) (names_in s rest) i) h.one_to_one);
-      written = stay.1 ∙ all_written;
-    };
-    shows = each_shows s t rest (rest_stays s t (was.layout ∷ []) [] moves all (layouts_of rest) h.owed (same_maps all));
-  }
+      let stay = same_slots s t rest (rest_slots s t (was.layout ∷ []) [] moves all (layouts_of rest) h.owed (same_maps all)) in
+      record {
+        stocked = record {
+          owed = moves_owes s t (was.layout ∷ []) [] moves all (layouts_of rest) h.owed (same_maps all) (layouts_of rest) (same_maps (layouts_of rest));
+          one_to_one = rw stay.0 (fewer (names_in s rest) (names_in s (was ∷ rest)) (λ n i. in_back n (names_of s was.file was.layout) (names_in s rest) i) h.one_to_one);
+          written = stay.1 ∙ all_written;
+        };
+        shows = each_shows s t rest (rest_stays s t (was.layout ∷ []) [] moves all (layouts_of rest) h.owed (same_maps all));
+      }
 
   -- a name of the map is there
   was_in : (n : Named) → IsIn n (names_of s was.file was.layout) → IsIn n (names_in s ts)
@@ -224,31 +224,31 @@ module _ (s t : Store) (ts : List Tagged) (was : Tagged) (rest : List Tagged) (s
 
   copies : (below : ℕ) (us : List Tagged) → was.below ≤ below → Moves s t [] (was.layout ∷ []) → SameStock us (record was { below = below } ∷ ts) → Stays s t ts us
   copies below us le moves same =
-    let stay = same_slots s t ts (rest_slots s t [] (was.layout ∷ []) moves (layouts_of ts) (layouts_of ts) stocked.owed (same_maps (layouts_of ts))) in
-    let slots = rest_slots s t [] (was.layout ∷ []) moves all all h.owed (same_maps all) in
-    let mine : slots_of t was.layout ≡ slots_of s was.layout = cc in
-    record {
-    stocked = in_same t (record was { below = below } ∷ ts) us (back us (record was { below = below } ∷ ts) same) (record {
-      owed = moves_owes s t [] (was.layout ∷ []) moves (layouts_of ts) (layouts_of ts) stocked.owed (same_maps (layouts_of ts)) (was.layout ∷ layouts_of ts) (same_maps (was.layout ∷ layouts_of ts));
-      one_to_one = rw (mine, stay.0) (fewer (names_in s (was ∷ ts)) (names_in s ts) (λ n i. ⊎_elim (λ (a : IsIn n (names_of s was.file was.layout)). was_in n a) (λ (b : IsIn n (names_in s ts)). b) (in_either n (names_of s was.file was.layout) (names_in s ts) i)) stocked.one_to_one);
-      written = rw (mine, stay.1, below_more was.below below (slots_of s was.layout) le was_below) (let e = stocked.written in omega (arith, e));
-    });
-    shows = each_shows s t ts (rest_stays s t [] (was.layout ∷ []) moves (layouts_of ts) (layouts_of ts) stocked.owed (same_maps (layouts_of ts)));
-  }
+      let stay = same_slots s t ts (rest_slots s t [] (was.layout ∷ []) moves (layouts_of ts) (layouts_of ts) stocked.owed (same_maps (layouts_of ts))) in
+      let slots = rest_slots s t [] (was.layout ∷ []) moves all all h.owed (same_maps all) in
+      let mine : slots_of t was.layout ≡ slots_of s was.layout = cc in
+      record {
+        stocked = in_same t (record was { below = below } ∷ ts) us (back us (record was { below = below } ∷ ts) same) (record {
+          owed = moves_owes s t [] (was.layout ∷ []) moves (layouts_of ts) (layouts_of ts) stocked.owed (same_maps (layouts_of ts)) (was.layout ∷ layouts_of ts) (same_maps (was.layout ∷ layouts_of ts));
+          one_to_one = rw (mine, stay.0) (fewer (names_in s (was ∷ ts)) (names_in s ts) (λ n i. ⊎_elim (λ (a : IsIn n (names_of s was.file was.layout)). was_in n a) (λ (b : IsIn n (names_in s ts)). b) (in_either n (names_of s was.file was.layout) (names_in s ts) i)) stocked.one_to_one);
+          written = rw (mine, stay.1, below_more was.below below (slots_of s was.layout) le was_below) (let e = stocked.written in omega (arith, e));
+        });
+        shows = each_shows s t ts (rest_stays s t [] (was.layout ∷ []) moves (layouts_of ts) (layouts_of ts) stocked.owed (same_maps (layouts_of ts)));
+      }
 
   rewrites : (writer : ℕ) (renewed : ℕ → Bool) (now : Layout) (us : List Tagged) → was.below ≡ writer + 1 → AllByRecursion (IsEarlier was.file writer) rest → Moves s t (was.layout ∷ []) (now ∷ []) → Renews s t writer renewed was.layout now → SameStock us (record was { layout = now } ∷ rest) → Stays s t rest us
   rewrites writer renewed now us is others moves renews same =
-    let stay = same_slots s t rest (rest_slots s t (was.layout ∷ []) (now ∷ []) moves all (layouts_of rest) h.owed (same_maps all)) in
-    record {
-    stocked = in_same t (record was { layout = now } ∷ rest) us (back us (record was { layout = now } ∷ rest) same) (record {
-      owed = moves_owes s t (was.layout ∷ []) (now ∷ []) moves all (layouts_of rest) h.owed (same_maps all) (now ∷ layouts_of rest) (same_maps (now ∷ layouts_of rest));
-      one_to_one = rw stay.0 (stays_one_to_one s t writer was.file renewed was.layout now (names_in s rest) (owes_lives s all was.layout (layouts_of rest) h.owed (same_maps all)) moves renews (none_by s was.file writer rest all_written others) owned h.one_to_one);
-      written = rw (below_renewed s t writer was.below renewed was.layout now is renews was_below, stay.1) (omega (arith, all_written));
-    });
-    shows = each_shows s t rest (rest_stays s t (was.layout ∷ []) (now ∷ []) moves all (layouts_of rest) h.owed (same_maps all));
-  } where
-    owned : AreOwnedNames s (names_in s rest)
-    owned n i = let o = h.owed.backed n.block in omega (arith, owned_names s n rest all_written i, o)
+      let stay = same_slots s t rest (rest_slots s t (was.layout ∷ []) (now ∷ []) moves all (layouts_of rest) h.owed (same_maps all)) in
+      record {
+        stocked = in_same t (record was { layout = now } ∷ rest) us (back us (record was { layout = now } ∷ rest) same) (record {
+          owed = moves_owes s t (was.layout ∷ []) (now ∷ []) moves all (layouts_of rest) h.owed (same_maps all) (now ∷ layouts_of rest) (same_maps (now ∷ layouts_of rest));
+          one_to_one = rw stay.0 (stays_one_to_one s t writer was.file renewed was.layout now (names_in s rest) (owes_lives s all was.layout (layouts_of rest) h.owed (same_maps all)) moves renews (none_by s was.file writer rest all_written others) owned h.one_to_one);
+          written = rw (below_renewed s t writer was.below renewed was.layout now is renews was_below, stay.1) (omega (arith, all_written));
+        });
+        shows = each_shows s t rest (rest_stays s t (was.layout ∷ []) (now ∷ []) moves all (layouts_of rest) h.owed (same_maps all));
+      } where
+        owned : AreOwnedNames s (names_in s rest)
+        owned n i = let o = h.owed.backed n.block in omega (arith, owned_names s n rest all_written i, o)
 
 slot-blocks : (file first : ℕ) (slots : List Slot) → map (λ (n : Named). n.block) (names_from file first slots) ≡ ids_of slots
 slot-blocks file first [] = refl

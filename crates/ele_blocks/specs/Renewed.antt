@@ -1,7 +1,6 @@
 -- New leaves and blocks in place of others. No public clause cites this module.
 use Rattle.std.specs.Prelude.{◌≡◌, ℕ, ◌+◌, ◌<◌, ◌≤◌, true, List, length, map, take}
 use Rattle.std.specs.Simd.{first_chunks}
-use Rattle.ele_content.specs.declared.cell.Cell.{Cell}
 use Rattle.ele_blocks.specs.declared.slot.Slot.{Slot}
 use Rattle.ele_blocks.specs.Hands.{Hands}
 use Rattle.ele_blocks.specs.LaidOver.{laid_over}

@@ -1,4 +1,4 @@
-use Rattle.std.proofs.Common.{◌≡◌, ◌+◌, [], ◌∷◌, arith, take, get_or, length}
+use Rattle.std.proofs.Common.{◌≡◌, ◌+◌, arith, take, get_or, length}
 use Rattle.std.proofs.lemmas.List.{take_more, length-take-le}
 use Rattle.ele_blocks.proofs.LaidOvers.{laid_more}
 use Rattle.ele_blocks.proofs.laid.lay_leaves.Goals as goal

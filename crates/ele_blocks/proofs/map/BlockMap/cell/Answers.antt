@@ -1,5 +1,4 @@
-use Rattle.std.proofs.Common.{◌≡◌, ◌+◌, ◌/◌, ◌<◌, ◌∙◌, Some, ap, sym, arith, length}
-use Rattle.std.specs.Prelude.{slice_get}
+use Rattle.std.proofs.Common.{◌≡◌, ◌<◌, ap, sym, arith, length}
 use Rattle.std.specs.Option.{option_map}
 use Rattle.ele_content.specs.Content.{slot_count}
 use Rattle.ele_blocks.specs.declared.slot.Slot.{Slot}

@@ -1,4 +1,4 @@
-use Rattle.std.proofs.Common.{◌≡◌, ◌-◌, ◌∙◌, arith, ap, length, map, take, drop}
+use Rattle.std.proofs.Common.{◌≡◌, ◌-◌, ◌∙◌, arith, ap, length, map}
 use Rattle.std.proofs.lemmas.List.{take_all}
 use Rattle.ele_content.specs.Content.{content_of}
 use Rattle.ele_blocks.specs.Layout.{slots_of, shown, cell_of}

@@ -1,7 +1,7 @@
-use Rattle.std.proofs.Common.{◌≡◌, ◌+◌, ◌-◌, ◌*◌, ◌/◌, ◌<◌, ap, sym, refl, arith, map, length, take, drop, vec_len}
+use Rattle.std.proofs.Common.{◌≡◌, ◌+◌, ◌-◌, ◌*◌, ◌/◌, ap, refl, arith, map, length, take, drop}
 use Rattle.std.proofs.lemmas.List.{length-take}
 use Rattle.ele_content.specs.Content.{content_of}
-use Rattle.ele_blocks.specs.Layout.{Layout, slots_of, cell_of}
+use Rattle.ele_blocks.specs.Layout.{slots_of, cell_of}
 use Rattle.ele_blocks.specs.Pieces.{pieces}
 use Rattle.ele_blocks.proofs.Sizes.{slots-count}
 use Rattle.ele_blocks.proofs.Cuts.{cut_window, cut_change, reach}

@@ -1,5 +1,4 @@
-use Rattle.std.proofs.Common.{◌≡◌, ◌∙◌, Some, ap, arith}
-use Rattle.std.specs.Prelude.{slice_get}
+use Rattle.std.proofs.Common.{arith}
 use Rattle.ele_blocks.specs.Layout.{slots_of}
 use Rattle.ele_blocks.proofs.Pieces.{joined_next}
 use Rattle.ele_blocks.proofs.map.BlockMap.joined.Goals as goal

@@ -1,4 +1,4 @@
-use Rattle.std.proofs.Common.{◌≡◌, ◌+◌, ◌-◌, ◌*◌, ◌/◌, ◌<◌, arith, ap, map, length, take, drop, min, max, vec_len}
+use Rattle.std.proofs.Common.{◌≡◌, ◌+◌, ◌-◌, ◌*◌, ◌/◌, ◌<◌, arith, ap, map, length, take, drop, min, max}
 use Rattle.ele_content.specs.Content.{content_of, content_after_write}
 use Rattle.ele_blocks.specs.Layout.{Layout, slots_of, cell_of}
 use Rattle.ele_blocks.specs.Pieces.{pieces}

@@ -1,4 +1,4 @@
-use Rattle.std.proofs.Common.{arith, get_or}
+use Rattle.std.proofs.Common.{get_or}
 use Rattle.std.proofs.lemmas.List.{get_or_default}
 use Rattle.ele_blocks.proofs.Hands.{release_leaves_next, release_leaves_backed, release_leaves_more}
 use Rattle.ele_blocks.proofs.store.BlockStore.release_leaves.Goals as goal

@@ -1,5 +1,5 @@
-use Rattle.std.proofs.Common.{arith, get_or, length}
-use Rattle.std.proofs.lemmas.List.{get_or_default, length-take-le}
+use Rattle.std.proofs.Common.{get_or}
+use Rattle.std.proofs.lemmas.List.{get_or_default}
 use Rattle.ele_blocks.proofs.Hands.{share_leaves_next, share_leaves_few, share_leaves_more}
 use Rattle.ele_blocks.proofs.store.BlockStore.share_leaves.Goals as goal
 

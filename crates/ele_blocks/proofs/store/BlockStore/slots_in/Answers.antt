@@ -1,7 +1,5 @@
-use Rattle.std.proofs.Common.{◌≡◌, ◌∙◌, ap, sym, arith, get_or, ◌++◌}
+use Rattle.std.proofs.Common.{arith, get_or}
 use Rattle.std.proofs.lemmas.List.{get_or_default}
-use Rattle.ele_blocks.specs.Store.{leaf_at}
-use Rattle.ele_blocks.proofs.Hands.{slots_next}
 use Rattle.ele_blocks.proofs.Trades.{one_more}
 use Rattle.ele_blocks.proofs.store.BlockStore.slots_in.Goals as goal
 

@@ -1,4 +1,4 @@
-use Rattle.std.proofs.Common.{◌≡◌, ℕ, ◌+◌, ◌-◌, ◌≤◌, Some, map, length, vec_capacity}
+use Rattle.std.proofs.Common.{◌≡◌, ℕ, ◌+◌, ◌-◌, ◌≤◌, length, vec_capacity}
 use Rattle.std.specs.Simd.{first_chunks}
 use Rattle.slab.specs.Slab.{HasRoomFor}
 use Rattle.ele_blocks.specs.Layout.{ids_of}
