@@ -1,5 +1,5 @@
 -- Values in order of their serial numbers.
-use Rattle.std.proofs.Common.{◌≡◌, ℕ, ◌≤◌, ◌<◌, Bool, true, false, List, [], ◌∷◌, ◌++◌, Some, None, refl, sym, ap, subst, ◌∙◌, arith, ◌⊎◌, inl, inr}
+use Rattle.std.proofs.Common.{◌≡◌, ℕ, ◌≤◌, ◌<◌, Bool, true, false, cond, List, [], ◌∷◌, ◌++◌, Some, None, refl, sym, ap, subst, arith, ◌⊎◌, inl, inr}
 use Rattle.std.specs.List.{AllByRecursion}
 use Rattle.std.specs.List.Sorted.{IsStrictlySortedBy}
 use Rattle.std.specs.declared.cmp.Ordering.TheVariants.{Less, Equal, Greater}
@@ -91,13 +91,14 @@ module _ {X : Type 0} where
       | inr behind ↦ rw (is_last es s v (rest_rises e es up) behind.1 passes (λ t w h. last t w (after_head e es t w up h).1)) refl
     ]
 
-  -- the entries up to a serial number and from it on
+  -- the values before and behind that of a serial number, and what a change of it or its removal leaves
   pub record IsCut (es : List (ℕ × X)) (n : ℕ) (v : X) : Type 0 where
-    pub before : List (ℕ × X)
-    pub behind : List (ℕ × X)
-    pub is : es ≡ before ++ (n, v) ∷ behind
-    pub set : (w : X) → insert_entry nat_cmp es n w ≡ before ++ (n, w) ∷ behind
-    pub without : remove_entry (is_at (nat_cmp n)) es ≡ before ++ behind
+    pub before : List X
+    pub behind : List X
+    pub values : values_of es ≡ before ++ v ∷ behind
+    pub set : (w : X) → values_of (insert_entry nat_cmp es n w) ≡ before ++ w ∷ behind
+    pub set_keys : (w : X) → keys_of (insert_entry nat_cmp es n w) ≡ keys_of es
+    pub without : values_of (remove_entry (is_at (nat_cmp n)) es) ≡ before ++ behind
 
   pub cut : (es : List (ℕ × X)) (n : ℕ) (v : X) → IsRising es → value_at es n ≡ Some v → IsCut es n v
   cut [] n v up there = absurd cc
@@ -105,25 +106,33 @@ module _ {X : Type 0} where
     | Less ↦ λ f. let later = (after_head e es n v up (rw f at there)).0 in absurd (omega (arith, less n e.0 f))
     | Equal ↦ λ f.
         let h : Some e.1 ≡ Some v = rw f at there in
-        let key : e.0 ≡ n = sym (exact_unsigned n e.0 f) in
         let value : e.1 ≡ v = cc in
         record {
           before = [];
-          behind = es;
-          is = ap (λ (k : ℕ). (k, e.1) ∷ es) key ∙ ap (λ (x : X). (n, x) ∷ es) value;
-          set = λ w. rw f (ap (λ (k : ℕ). (k, w) ∷ es) key);
+          behind = values_of es;
+          values = ap (λ (x : X). x ∷ values_of es) value;
+          set = λ w. rw f refl;
+          set_keys = λ w. rw f refl;
           without = rw f refl;
         }
     | Greater ↦ λ f.
         let c = cut es n v (rest_rises e es up) (rw f at there) in
         record {
-          before = e ∷ c.before;
+          before = e.1 ∷ c.before;
           behind = c.behind;
-          is = ap (λ (l : List (ℕ × X)). e ∷ l) c.is;
-          set = λ w. rw f (ap (λ (l : List (ℕ × X)). e ∷ l) (c.set w));
-          without = rw f (ap (λ (l : List (ℕ × X)). e ∷ l) c.without);
+          values = ap (λ (l : List X). e.1 ∷ l) c.values;
+          set = λ w. rw f (ap (λ (l : List X). e.1 ∷ l) (c.set w));
+          set_keys = λ w. rw f (ap (λ (l : List ℕ). e.0 ∷ l) (c.set_keys w));
+          without = rw f (ap (λ (l : List X). e.1 ∷ l) c.without);
         }
   ] refl
+
+  pub all_keys_without : (P : ℕ → Type 0) (test : ℕ → Bool) (es : List (ℕ × X)) → AllByRecursion P (keys_of es) → AllByRecursion P (keys_of (remove_entry test es))
+  all_keys_without P test [] all = tt
+  all_keys_without P test (e ∷ es) all = elim (test e.0) as (λ b. AllByRecursion P (keys_of (cond b es (e ∷ remove_entry test es)))) [
+    | true ↦ all.1
+    | false ↦ (all.0, all_keys_without P test es all.1)
+  ]
 
   -- a serial number above all
   pub pushed : (n : ℕ) (v : X) (es : List (ℕ × X)) → AllByRecursion (λ k. k < n) (keys_of es) → insert_entry nat_cmp es n v ≡ es ++ (n, v) ∷ []
@@ -133,3 +142,9 @@ module _ {X : Type 0} where
   pub not_yet : (n : ℕ) (es : List (ℕ × X)) → AllByRecursion (λ k. k < n) (keys_of es) → value_at es n ≡ None
   not_yet n [] below = refl
   not_yet n (e ∷ es) below = rw (above n e.0 below.0) (not_yet n es below.1)
+
+  -- what holds of the value at each serial number holds of all values
+  pub all_from_each : (P : X → Type 0) (es : List (ℕ × X)) → IsRising es → ((s : ℕ) (v : X) → value_at es s ≡ Some v → P v) → AllByRecursion P (values_of es)
+  all_from_each P [] up each = tt
+  all_from_each P (e ∷ es) up each =
+      (each e.0 e.1 (rw (at_itself e.0) refl), all_from_each P es (rest_rises e es up) (λ s v h. each s v (after_head e es s v up h).1))

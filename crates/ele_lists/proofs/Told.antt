@@ -1,5 +1,5 @@
 -- From group to group of an index: what there is to tell about each is told, by group.
-use Rattle.std.proofs.Common.{◌≡◌, Bool, true, false, cond, List, [], ◌∷◌, ◌++◌, Some, None, Option, refl, sym, ap, ◌∙◌}
+use Rattle.std.proofs.Common.{◌≡◌, Bool, true, false, cond, List, [], ◌∷◌, ◌++◌, Some, None, Option, map, refl, sym, ap, ◌∙◌}
 use Rattle.std.specs.Option.{option_map, option_or, option_to_list}
 use Rattle.std.specs.List.{AllByRecursion}
 use Rattle.std.specs.List.Sorted.{IsStrictlySortedBy}
@@ -101,5 +101,24 @@ module _ {G A : Type 0} {cmp : G → G → Ordering} (o : IsTotalOrder cmp) (exa
           let after : y ≡ Less = sym f ∙ o.trans s next q later (o.antisymm next q ∙ rw e refl) in
           rw after refl
 
--- what a walk over groups tells: nothing yet, what one more group adds, and at the end the look-up of each group
-pub ruleset told = (told_none, told_more, told_all)
+-- more items, each as an entry
+pub entries_pushed : {I E : Type 0} (f : I → E) (items : List I) (item : Option I) → map f (items ++ option_to_list item) ≡ map f items ++ option_to_list (option_map f item)
+entries_pushed f items (Some x) = map-append f items (x ∷ [])
+entries_pushed f items None = map-append f items []
+
+-- entries by what stands for their groups, in the same order
+module _ {G K A : Type 0} (cmp : G → G → Ordering) (by : K → K → Ordering) (group : K → G) (same : (a b : K) → cmp (group a) (group b) ≡ by a b) where
+  abbrev pub in_group : K × A → G × A
+  in_group e = (group e.0, e.1)
+
+  pub sorted_through : (es : List (K × A)) → IsStrictlySortedBy cmp (keys_of (map in_group es)) → IsStrictlySortedBy by (keys_of es)
+  unfolding IsStrictlySortedBy
+  sorted_through [] up = tt
+  sorted_through (e ∷ es) up = (each es up.0, sorted_through es up.1) where
+    each : (fs : List (K × A)) → AllByRecursion (λ g. cmp (group e.0) g ≡ Less) (keys_of (map in_group fs)) → AllByRecursion (λ k. by e.0 k ≡ Less) (keys_of fs)
+    each [] all = tt
+    each (f ∷ fs) all = (sym (same e.0 f.0) ∙ all.0, each fs all.1)
+
+  pub lookup_through : (k : K) (es : List (K × A)) → lookup (is_at (by k)) es ≡ lookup (is_at (cmp (group k))) (map in_group es)
+  lookup_through k [] = refl
+  lookup_through k (e ∷ es) = rw (same k e.0) (ap (λ o. cond (is_eq (by k e.0)) (Some e.1) o) (lookup_through k es))

@@ -3,6 +3,7 @@ pub mod Limits
 pub mod Answers
 pub mod World
 pub mod Walk
+pub mod NameRows
 pub mod FileView
 pub mod Due
 pub mod Scan

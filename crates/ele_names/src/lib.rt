@@ -1,0 +1,12 @@
+//! Name rows: which name stood for what in which directory, from when until when.
+//! A contract sees the rows as their list in order of making, and how many were ever made.
+#![tactic(auto)]
+
+mod lives;
+mod names;
+mod places;
+mod spot;
+mod table;
+
+pub use ele_world::{NameRow, Target};
+pub use names::Names;
