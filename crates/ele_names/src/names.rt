@@ -101,17 +101,17 @@ impl Names {
             ≡ update_first (is_live_name directory name.now) (dies moment) self.old.rows }
         ensures made { self.new.made ≡ self.old.made }
     {
-        let Some((serial, row)) = self.table.live(directory, name) else {
+        let Some((serial, live)) = self.table.live(directory, name) else {
             unreachable!()
         };
         let dead = NameRow {
             death: Some(moment),
-            ..row
+            ..live
         };
         if let Err(_refused) = self.table.rows.insert(serial, dead) {
             unreachable!()
         }
-        self.lives.leave(&row);
+        self.lives.leave(&live);
     }
 
     /// Takes out all rows of the file, live ones too. It takes no memory.
