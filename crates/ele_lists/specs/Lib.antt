@@ -1,1 +1,6 @@
 pub mod Lists
+pub mod Tally
+pub mod Index
+pub mod Last
+pub mod Serial
+pub mod Told

@@ -3,6 +3,8 @@ pub mod Limits
 pub mod Answers
 pub mod World
 pub mod Walk
+pub mod NameRows
+pub mod WalkAt
 pub mod FileView
 pub mod Due
 pub mod Scan
