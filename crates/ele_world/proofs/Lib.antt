@@ -7,6 +7,7 @@ pub mod Created
 pub mod Opened
 pub mod Outcomes
 pub mod Leads
+pub mod Closes
 pub mod KeptNames
 pub mod KeptDrafts
 pub mod KeptVersions

@@ -15,6 +15,7 @@ pub mod Run
 pub mod AlwaysWellFormed
 pub mod NothingChanges
 pub mod CreateLeads
+pub mod CloseKeeps
 pub mod OnlyDueLeave
 pub mod HeldStays
 pub mod PassLeavesKept
