@@ -24,6 +24,7 @@ pub mod PassLeavesKept
 pub mod UsageFits
 pub mod RipeMoments
 pub mod RemovalOrder
+pub mod CleanKeepsKeys
 pub mod Pass
 pub mod NewPlaces
 pub mod Whole
