@@ -1,5 +1,5 @@
 //! All name rows.
-//! A contract sees them as their list in order of making, and how many were ever made.
+//! A contract sees them as their list in order of making.
 ghost use Rattle.std.specs.Prelude.{◌≡◌, ℕ, ◌+◌, ◌<◌, ◌^◌, ◌++◌, ◌∷◌, [], List, false, not, map, filter, length, slice_get, IsTrue, IsSome, IfOk, OnOk, OnErr};
 ghost use Rattle.std.specs.BTreeMap.{is_at};
 ghost use Rattle.std.specs.Cmp.Lexicographic.{slice_cmp};
@@ -34,12 +34,13 @@ pub struct Names {
 }
 
 impl Model for Names {
+    ghost use Rattle.std.specs.Prelude.{List};
     ghost use Rattle.ele_names.specs.Kept.{IsKept, rows_of};
-    ghost use Rattle.ele_names.specs.Listed.{Listed};
+    ghost use Rattle.ele_world.specs.declared.rows.NameRow.{NameRow};
 
-    ghost Value = { Listed };
+    ghost Value = { List NameRow };
 
-    ghost view = { λ names. record { rows = rows_of names.table; made = names.made } };
+    ghost view = { λ names. rows_of names.table };
 
     ghost invariant = { λ names. IsKept names.table names.made names.lives };
 }
@@ -47,8 +48,7 @@ impl Model for Names {
 impl Names {
     /// No rows. It takes no memory; later calls take theirs from `alloc`.
     pub fn new(alloc: Global) -> Names
-        ensures rows { result.rows ≡ [] }
-        ensures made { result.made ≡ 0 }
+        ensures { result ≡ [] }
     {
         Names {
             table: Table::new(alloc),
@@ -59,7 +59,8 @@ impl Names {
     }
 
     /// Makes a live name. The caller knows that no name of this kind is live, and that those there
-    /// were are over. `NoMemory` where there is no room for it; the rows are then as they were.
+    /// were are over. `NoMemory` where there is no room for it, or no serial number: 2^64 rows were
+    /// made then. The rows are as they were.
     pub fn add(
         &mut self,
         directory: DirId,
@@ -67,12 +68,10 @@ impl Names {
         target: Target,
         birth: Moment,
     ) -> Result<(), NoMemory>
-        requires fits { self.old.made + 1 < 2 ^ 64 }
-        requires follows { AllByRecursion
-            (λ row. Follows row (born_row directory name target birth)) self.old.rows }
+        requires { AllByRecursion
+            (λ row. Follows row (born_row directory name target birth)) self.old }
         ensures ok { OnOk result
-            (self.new.rows ≡ self.old.rows ++ born_row directory name target birth ∷ []) }
-        ensures made { OnOk result (self.new.made ≡ self.old.made + 1) }
+            (self.new ≡ self.old ++ born_row directory name target birth ∷ []) }
         ensures err { OnErr result (self.new ≡ self.old) }
     {
         let row = NameRow {
@@ -83,6 +82,9 @@ impl Names {
             death: None,
         };
         let serial = self.made;
+        let Some(made) = serial.checked_add(1) else {
+            return Err(NoMemory);
+        };
         self.lives.reserve()?;
         self.table.places.enter(&row, serial)?;
         if let Err(_refused) = self.table.rows.insert(serial, row) {
@@ -90,16 +92,15 @@ impl Names {
             return Err(NoMemory);
         }
         self.lives.enter(&row);
-        self.made += 1;
+        self.made = made;
         Ok(())
     }
 
     /// Ends the live name at the moment. It takes no memory.
     pub fn kill(&mut self, directory: DirId, name: &Name, moment: Moment)
-        requires live { IsSome (live_target self.old.rows directory name.now) }
-        ensures rows { self.new.rows
-            ≡ update_first (is_live_name directory name.now) (dies moment) self.old.rows }
-        ensures made { self.new.made ≡ self.old.made }
+        requires { IsSome (live_target self.old directory name.now) }
+        ensures { self.new
+            ≡ update_first (is_live_name directory name.now) (dies moment) self.old }
     {
         let Some((serial, live)) = self.table.live(directory, name) else {
             unreachable!()
@@ -116,20 +117,18 @@ impl Names {
 
     /// Takes out all rows of the file, live ones too. It takes no memory.
     pub fn drop_file(&mut self, file: FileId)
-        ensures rows { self.new.rows
-            ≡ filter (λ row. not (is_target_file file row.target)) self.old.rows }
-        ensures made { self.new.made ≡ self.old.made }
+        ensures { self.new
+            ≡ filter (λ row. not (is_target_file file row.target)) self.old }
     {
         while self.drop_one(Target::File(file)) {}
     }
 
     // Takes out one row of the target, if there is one, and answers whether there was.
     fn drop_one(&mut self, target: Target) -> bool
-        ensures others { filter (is_other target) self.new.rows
-            ≡ filter (is_other target) self.old.rows }
-        ensures fewer { IsTrue result → length self.new.rows < length self.old.rows }
-        ensures none { result ≡ false → filter (is_other target) self.new.rows ≡ self.new.rows }
-        ensures made { self.new.made ≡ self.old.made }
+        ensures others { filter (is_other target) self.new
+            ≡ filter (is_other target) self.old }
+        ensures fewer { IsTrue result → length self.new < length self.old }
+        ensures none { result ≡ false → filter (is_other target) self.new ≡ self.new }
     {
         let Some((_, serial)) = self.table.places.by_target.last(target, 0) else {
             return false;
@@ -144,14 +143,14 @@ impl Names {
 
     /// What the live name stands for.
     pub fn live(&self, directory: DirId, name: &Name) -> Option<Target>
-        ensures { result ≡ live_target self.now.rows directory name.now }
+        ensures { result ≡ live_target self.now directory name.now }
     {
         target_of(&self.table.live(directory, name))
     }
 
     /// What the newest row of the name stands for, if that row is dead.
     pub fn last_dead(&self, directory: DirId, name: &Name) -> Option<Target>
-        ensures { result ≡ last_dead self.now.rows directory name.now }
+        ensures { result ≡ last_dead self.now directory name.now }
     {
         let (_, row) = self.table.newest(directory, name)?;
         if row.death.is_some() {
@@ -163,7 +162,7 @@ impl Names {
 
     /// What the name stood for at the moment.
     pub fn at(&self, directory: DirId, name: &Name, moment: Moment) -> Option<Target>
-        ensures { result ≡ target_at self.now.rows moment directory name.now }
+        ensures { result ≡ target_at self.now moment directory name.now }
     {
         let (_, row) = self.table.newest_by(directory, name, moment.seconds())?;
         if lives_past(&row, moment) {
@@ -179,7 +178,7 @@ impl Names {
             (λ items. IsStrictlySortedBy (slice_cmp nat_cmp) (keys_of items.items)) }
         ensures found { IfOk result (λ items. (name : List ℕ)
             → lookup (is_at (slice_cmp nat_cmp name)) items.items
-            ≡ target_at self.now.rows moment directory name) }
+            ≡ target_at self.now moment directory name) }
     {
         let mut items = Vec::new(self.alloc);
         let mut spot = Spot {
@@ -196,7 +195,7 @@ impl Names {
     // The name at the spot, and what it stood for at the moment, if it did.
     fn told_at(&self, spot: &Spot, moment: Moment) -> Option<(Name, Target)>
         ensures { option_map (name_at spot.now.directory) result
-            ≡ option_map (λ target. (spot.now, target)) (at_spot self.now.rows moment spot.now) }
+            ≡ option_map (λ target. (spot.now, target)) (at_spot self.now moment spot.now) }
     {
         let name = spot.name?;
         let target = self.at(spot.directory, &name, moment)?;
@@ -209,7 +208,7 @@ impl Names {
             (λ items. IsStrictlySortedBy name_cmp (keys_of (map by_name items.items))) }
         ensures found { IfOk result (λ items. (directory : ℕ) (name : List ℕ)
             → lookup (is_at (name_cmp (directory, name))) (map by_name items.items)
-            ≡ last_dead self.now.rows directory name) }
+            ≡ last_dead self.now directory name) }
     {
         let mut items = Vec::new(self.alloc);
         let mut spot = Spot {
@@ -226,7 +225,7 @@ impl Names {
     // The name at the spot with what it stood for, if its newest row is dead.
     fn dead_at(&self, spot: &Spot) -> Option<(DirId, Name, Target)>
         ensures { option_map entry_at (option_map by_name result)
-            ≡ option_map (λ target. (spot.now, target)) (dead_at_spot self.now.rows spot.now) }
+            ≡ option_map (λ target. (spot.now, target)) (dead_at_spot self.now spot.now) }
     {
         let name = spot.name?;
         let target = self.last_dead(spot.directory, &name)?;
@@ -235,35 +234,35 @@ impl Names {
 
     /// Whether no name in the directory is live.
     pub fn is_empty(&self, directory: DirId) -> bool
-        ensures { result ≡ not (list_any (is_live_in directory) self.now.rows) }
+        ensures { result ≡ not (list_any (is_live_in directory) self.now) }
     {
         self.lives.in_directory.count(directory) == 0
     }
 
     /// Whether the directory has a live name.
     pub fn dir_live(&self, directory: DirId) -> bool
-        ensures { result ≡ list_any (is_live_directory directory) self.now.rows }
+        ensures { result ≡ list_any (is_live_directory directory) self.now }
     {
         self.lives.of_target.count(Target::Directory(directory)) != 0
     }
 
     /// How many live names the file has.
     pub fn names_of(&self, file: FileId) -> u64
-        ensures { result ≡ count_by (is_live_name_of file) self.now.rows }
+        ensures { result ≡ count_by (is_live_name_of file) self.now }
     {
         self.lives.of_target.count(Target::File(file))
     }
 
     /// The row at that place in order of making. It passes over the rows before it.
     pub fn row(&self, place: usize) -> Option<NameRow>
-        ensures { result ≡ slice_get self.now.rows place }
+        ensures { result ≡ slice_get self.now place }
     {
         self.table.rows.values().nth(place).copied()
     }
 
     /// A copy of all rows, in order of making.
     pub fn rows(&self) -> Result<Vec<NameRow>, NoMemory>
-        ensures { IfOk result (λ rows. rows.items ≡ self.now.rows) }
+        ensures { IfOk result (λ rows. rows.items ≡ self.now) }
     {
         Ok(self.table.rows.values().copied().collect(self.alloc)?)
     }

@@ -16,7 +16,7 @@ const ROOT: DirId = DirId(0);
 
 /// What the path names. `NoEntry` where a name isn't there, `NotDirectory` where one is behind a file.
 pub fn resolve_now(names: &Names, path: &Path) -> Result<Target, Refusal>
-    ensures { result ≡ walk_now names.now.rows path.now }
+    ensures { result ≡ walk_now names.now path.now }
 {
     walk(names, path.names())
 }
@@ -28,7 +28,7 @@ pub fn resolve_at(
     moment: Moment,
     now: Moment,
 ) -> Result<Target, Refusal>
-    ensures { result ≡ walk_at names.now.rows moment now path.now }
+    ensures { result ≡ walk_at names.now moment now path.now }
 {
     if moment > now {
         return Err(Refusal::Future);
@@ -39,7 +39,7 @@ pub fn resolve_at(
 /// The directory that the path's last name stands in, and that name. `IsRoot` where the path has no
 /// name, else as `resolve_now` of the names before the last, which may not lead to a file.
 pub fn parent_now(names: &Names, path: &Path) -> Result<(DirId, Name), Refusal>
-    ensures { result ≡ parent_now names.now.rows path.now }
+    ensures { result ≡ parent_now names.now path.now }
 {
     let path = path.names();
     let Some(name) = path.last() else {
@@ -53,7 +53,7 @@ pub fn parent_now(names: &Names, path: &Path) -> Result<(DirId, Name), Refusal>
 
 // Along live names from the root.
 fn walk(names: &Names, path: &[Name]) -> Result<Target, Refusal>
-    ensures { result ≡ walk_now names.now.rows path.now }
+    ensures { result ≡ walk_now names.now path.now }
 {
     let mut at = Target::Directory(ROOT);
     for name in path {
@@ -70,7 +70,7 @@ fn walk(names: &Names, path: &[Name]) -> Result<Target, Refusal>
 
 // Along names that covered the moment, from the root.
 fn walk_back(names: &Names, path: &[Name], moment: Moment) -> Result<Target, Refusal>
-    ensures { result ≡ walk_covering names.now.rows moment (Directory root) path.now }
+    ensures { result ≡ walk_covering names.now moment (Directory root) path.now }
 {
     let mut at = Target::Directory(ROOT);
     for name in path {

@@ -8,7 +8,7 @@ loop-next-init c = rw c.new-items.ensures.items (dead_none c.self.inside c.self.
 pub loop-next-preserved : goal.loop-next-preserved
 loop-next-preserved c = rw c.in_ok-push_some.ensures
     (dead_more c.self.inside c.self.invariant c.loop-next.spot c.loop-next.items.items c.loop-next.invariant
-    c.in-Some.next c.dead_at.result c.in-Some.ensures.some (rw (← ap (λ v. v.rows) c.self.view_is) at c.dead_at.ensures))
+    c.in-Some.next c.dead_at.result c.in-Some.ensures.some (rw (← c.self.view_is) at c.dead_at.ensures))
 
 pub returns-clause-sorted : goal.returns-clause-sorted
 returns-clause-sorted c = dead_sorted c.self.inside c.self.invariant c.loop-next.spot c.loop-next.items.items c.loop-next.invariant

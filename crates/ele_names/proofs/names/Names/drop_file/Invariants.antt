@@ -5,7 +5,7 @@ use Rattle.ele_names.proofs.names.Names.drop_file.Given as goal
 
 abbrev pub invariant-loop-file : goal.invariant-loop-file
 invariant-loop-file l =
-    (filter (is_other (File l.file)) l.self.rows ≡ filter (is_other (File l.file)) l.initial.self.rows) × (l.self.made ≡ l.initial.self.made)
+    filter (is_other (File l.file)) l.self ≡ filter (is_other (File l.file)) l.initial.self
 
 abbrev pub decreases-loop-file : goal.decreases-loop-file
-decreases-loop-file l = length l.self.rows
+decreases-loop-file l = length l.self

@@ -10,6 +10,6 @@ invariant_of-self c =
     kept_dead c.self.inside c.self.invariant c.in-Some.serial c.in-Some.live c.in-Some.ensures.serial c.in-Some.ensures.live.1
     c.args.moment _ _ refl c.in_default-insert.ensures.entries c.insert.ensures.ordered c.in_default-insert.ensures.updates.0 c.leave.ensures
 
-pub returns-clause-rows : goal.returns-clause-rows
-returns-clause-rows c = rw (← c.self.view_is, c.in_default-insert.ensures.entries)
+pub returns : goal.returns
+returns c = rw (← c.self.view_is, c.in_default-insert.ensures.entries)
     (killed c.self.inside c.self.invariant c.in-Some.serial c.in-Some.live c.in-Some.ensures.serial c.in-Some.ensures.live.1 c.args.moment c.args.directory c.args.name.now c.in-Some.ensures.live.0)

@@ -10,7 +10,7 @@ loop-next-preserved c = (
   c.in-Some.ensures.some.0 ∙ c.loop-next.invariant.0,
   rw c.in_ok-push_some.ensures
       (listed_more c.self.inside c.self.invariant c.args.moment c.args.directory c.loop-next.spot c.loop-next.items.items c.loop-next.invariant.0 c.loop-next.invariant.1
-      c.in-Some.next c.told_at.result c.in-Some.ensures.some.0 c.in-Some.ensures.some.1 (rw (← ap (λ v. v.rows) c.self.view_is) at c.told_at.ensures)),
+      c.in-Some.next c.told_at.result c.in-Some.ensures.some.0 c.in-Some.ensures.some.1 (rw (← c.self.view_is) at c.told_at.ensures)),
 )
 
 pub returns-clause-sorted : goal.returns-clause-sorted
