@@ -1,6 +1,6 @@
 //! Counts by key.
 //! A contract sees a tally as the count of each key.
-ghost use Rattle.std.specs.Prelude.{◌≡◌, ◌<◌, ◌+◌, ◌^◌, OnOk, if◌then◌else◌};
+ghost use Rattle.std.specs.Prelude.{◌≡◌, ◌<◌, ◌+◌, ◌-◌, ◌^◌, OnOk, if◌then◌else◌};
 ghost use Rattle.ele_lists.specs.Tally.{counted, room};
 
 use std::alloc::{AllocError, Global};
@@ -53,14 +53,13 @@ impl<K: Eq + Hash + Copy> Tally<K> {
         }
     }
 
-    /// Counts the key once less.
+    /// Counts the key once less; one that isn't counted stays so. It takes no memory.
     pub fn take(&mut self, key: K)
-        requires { 0 < counted K.eq self.old key }
-        ensures { (k : K) → counted K.eq self.new k + (if K.eq key k then 1 else 0)
-            ≡ counted K.eq self.old k }
+        ensures { (k : K) → counted K.eq self.new k
+            ≡ counted K.eq self.old k - (if K.eq key k then 1 else 0) }
     {
         let count = self.count(key);
-        if count == 1 {
+        if count <= 1 {
             let _last = self.counts.remove(&key);
             return;
         }

@@ -9,7 +9,7 @@ use Rattle.ele_world.specs.declared.rows.Target.TheVariants.{File, Directory}
 use Rattle.ele_world.specs.NameRows.{is_live_in, is_target_directory, is_live_directory}
 use Rattle.std.proofs.lemmas.Bool.Decides.{nat_tests}
 use Rattle.ele_names.specs.declared.lives.Lives.{Lives}
-use Rattle.ele_names.specs.Counted.{is_live_of, AreCounted, IsCounted, Leaves}
+use Rattle.ele_names.specs.Counted.{is_live_of, Leaves}
 use Rattle.ele_names.specs.Spots.{target_eq}
 
 -- what a test counts of one row that is live, or dead
@@ -32,20 +32,6 @@ pub leaves_dead : (row dead : NameRow) → is_none dead.death ≡ false → (bef
 leaves_dead row dead died before behind = record {
   in_directory = λ d. omega (arith, count_between (is_live_in d) before row behind, count_between (is_live_in d) before dead behind, dead_one (dead.directory == d) (is_none dead.death) died);
   of_target = λ t. omega (arith, count_between (is_live_of t) before row behind, count_between (is_live_of t) before dead behind, dead_one (target_eq dead.target t) (is_none dead.death) died);
-}
-
-itself : (n : ℕ) → (n == n) ≡ true
-itself n = grind (arith, nat_tests)
-
-same_target : (t : Target) → target_eq t t ≡ true
-same_target (File f) = grind (arith, nat_tests)
-same_target (Directory d) = grind (arith, nat_tests)
-
--- a live row that can leave was counted
-pub is_counted : (row : NameRow) (was now : List NameRow) (lives : Lives) → AreCounted was lives → Leaves row was now → is_none row.death ≡ true → IsCounted row lives
-is_counted row was now lives counts leaves live = record {
-  in_directory = let one : ◌≡◌ {A = ℕ} (cond (is_live_in row.directory row) 1 0) 1 = rw (itself row.directory, live) refl in omega (arith, counts.in_directory row.directory, leaves.in_directory row.directory);
-  of_target = let one : ◌≡◌ {A = ℕ} (cond (is_live_of row.target row) 1 0) 1 = rw (same_target row.target, live) refl in omega (arith, counts.of_target row.target, leaves.of_target row.target);
 }
 
 count_same : {X : Type 0} (p q : X → Bool) → ((x : X) → p x ≡ q x) → (xs : List X) → count_by p xs ≡ count_by q xs

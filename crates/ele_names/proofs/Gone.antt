@@ -23,14 +23,14 @@ use Rattle.ele_world.specs.Walk.{is_live_name}
 use Rattle.ele_names.specs.declared.lives.Lives.{Lives}
 use Rattle.ele_names.specs.declared.names.Names.TheInside.{Inside}
 use Rattle.ele_names.specs.declared.table.Table.{Table}
-use Rattle.ele_names.specs.Counted.{AreCounted, IsCounted, Leaves}
+use Rattle.ele_names.specs.Counted.{AreCounted, Leaves}
 use Rattle.ele_names.specs.Kept.{IsKept, rows_of}
 use Rattle.ele_names.specs.Placed.{ArePlaced}
 use Rattle.ele_names.specs.Rows.{Follows, dies}
 use Rattle.ele_names.specs.Spots.{is_other, target_cmp, target_eq}
 use Rattle.ele_names.proofs.Added.{placed_same}
 use Rattle.ele_names.proofs.Apart.{same_name}
-use Rattle.ele_names.proofs.Counts.{leaves_without, leaves_dead, is_counted}
+use Rattle.ele_names.proofs.Counts.{leaves_without, leaves_dead}
 
 named_live : (d : ℕ) (n : List ℕ) (row : NameRow) → is_named d n row ≡ true → is_none row.death ≡ true → is_live_name d n row ≡ true
 named_live d n row = all (row.directory == d) (bytes_eq row.name n) (is_none row.death) where
@@ -59,10 +59,6 @@ module _ (a : Inside) (kept : IsKept a.table a.made a.lives) where
   module _ (s : ℕ) (row : NameRow) (at : value_at es s ≡ Some row) where
     c : IsCut es s row
     c = cut es s row kept.is_table.rising at
-
-    -- it can leave the counts
-    pub counted : is_none row.death ≡ true → IsCounted row a.lives
-    counted live = is_counted row (rows_of a.table) (c.before ++ c.behind) a.lives kept.counts (rw c.values (leaves_without row c.before c.behind)) live
 
     module _ (live : is_none row.death ≡ true) (moment : ℕ) where
       -- nothing of its name follows a live row

@@ -26,10 +26,6 @@ pub record CanCount (row : NameRow) (lives : Lives) : Type 0 where
   pub in_directory : counted nat_eq lives.in_directory row.directory + 1 < 2 ^ 64
   pub of_target : counted target_eq lives.of_target row.target + 1 < 2 ^ 64
 
-pub record IsCounted (row : NameRow) (lives : Lives) : Type 0 where
-  pub in_directory : 0 < counted nat_eq lives.in_directory row.directory
-  pub of_target : 0 < counted target_eq lives.of_target row.target
-
 -- the second list has the live rows of the first but the row, if that is live
 pub record Leaves (row : NameRow) (was now : List NameRow) : Type 0 where
   pub in_directory : (d : ℕ) → count_by (is_live_in d) now + cond (is_live_in d row) 1 0 ≡ count_by (is_live_in d) was

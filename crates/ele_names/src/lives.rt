@@ -2,7 +2,7 @@
 //! A contract sees what the counts are of: a list of rows.
 ghost use Rattle.std.specs.Prelude.{◌≡◌, true, [], List, OnOk, IsTrue, is_none};
 ghost use Rattle.ele_world.specs.declared.rows.NameRow.{NameRow};
-ghost use Rattle.ele_names.specs.Counted.{AreCounted, HasRoom, CanCount, IsCounted, Leaves};
+ghost use Rattle.ele_names.specs.Counted.{AreCounted, HasRoom, CanCount, Leaves};
 
 use ele_lists::Tally;
 use ele_moment::{DirId, NoMemory};
@@ -51,7 +51,6 @@ impl Lives {
 
     /// Counts a row no more, if it was live.
     pub fn leave(&mut self, row: &NameRow)
-        requires { is_none row.now.death ≡ true → IsCounted row.now self.old }
         ensures { (was now : List NameRow) → Leaves row.now was now
             → AreCounted was self.old → AreCounted now self.new }
     {

@@ -1,9 +1,6 @@
 use Rattle.std.proofs.Common.{refl}
-use Rattle.ele_names.proofs.Gone.{counted, kept_dead, killed}
+use Rattle.ele_names.proofs.Gone.{kept_dead, killed}
 use Rattle.ele_names.proofs.names.Names.kill.Goals as goal
-
-pub leave-requires : goal.leave-requires
-leave-requires c = counted c.self.inside c.self.invariant c.in-Some.serial c.in-Some.live c.in-Some.ensures.serial
 
 pub invariant_of-self : goal.invariant_of-self
 invariant_of-self c =
