@@ -61,7 +61,7 @@ got_within k [] x e = absurd cc
 got_within zero (y ∷ ys) x e = omega arith
 got_within (suc k) (y ∷ ys) x e = omega (arith, got_within k ys x e)
 
-times_got : (k : ℕ) (slots : List Slot) (x : Slot) → slice_get slots k ≡ Some x → 0 < times x.block (ids_of slots)
+pub times_got : (k : ℕ) (slots : List Slot) (x : Slot) → slice_get slots k ≡ Some x → 0 < times x.block (ids_of slots)
 times_got k [] x e = absurd cc
 times_got zero (y ∷ ys) x e =
     let same : y ≡ x = cc in
