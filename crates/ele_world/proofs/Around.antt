@@ -1,5 +1,5 @@
 -- Lists around one of their elements.
-use Rattle.std.proofs.Common.{◌≡◌, Bool, true, false, cond, List, [], ◌∷◌, ◌++◌, Some, refl, ap, sym, subst, ◌∙◌, filter, append_assoc}
+use Rattle.std.proofs.Common.{◌≡◌, Bool, true, false, cond, ◌&&◌, List, [], ◌∷◌, ◌++◌, Some, refl, ap, sym, subst, ◌∙◌, filter, append_assoc}
 use Rattle.std.specs.Prelude.{find}
 use Rattle.std.specs.List.{AllByRecursion}
 use Rattle.ele_lists.specs.Lists.{remove_first, AllLater}
@@ -11,6 +11,22 @@ module _ {X : Type 0} where
     by : (before rest : List X) → xs ≡ before ++ rest → AllByRecursion P rest
     by before [] whole = tt
     by before (x ∷ rest) whole = (each before x rest whole, by (before ++ x ∷ []) rest (whole ∙ sym (append_assoc before (x ∷ []) rest)))
+
+  pub all-append : (P : X → Type 0) (xs ys : List X) → AllByRecursion P xs → AllByRecursion P ys → AllByRecursion P (xs ++ ys)
+  all-append P [] ys all more = more
+  all-append P (x ∷ xs) ys all more = (all.0, all-append P xs ys all.1 more)
+
+  -- where a row that doesn't pass is missing, the same is found
+  pub find-without : (p : X → Bool) (xs : List X) (x : X) (ys : List X) → p x ≡ false → find p (xs ++ x ∷ ys) ≡ find p (xs ++ ys)
+  find-without p [] x ys fails = rw fails refl
+  find-without p (z ∷ xs) x ys fails = ap (λ o. cond (p z) (Some z) o) (find-without p xs x ys fails)
+
+  pub find-filter : (t p : X → Bool) (xs : List X) → find t (filter p xs) ≡ find (λ x. p x && t x) xs
+  find-filter t p [] = refl
+  find-filter t p (x ∷ xs) = elim (p x) as (λ b. find t (cond b (x ∷ filter p xs) (filter p xs)) ≡ cond (b && t x) (Some x) (find (λ x. p x && t x) xs)) [
+    | true ↦ ap (λ o. cond (t x) (Some x) o) (find-filter t p xs)
+    | false ↦ find-filter t p xs
+  ]
 
   pub all-around : (P : X → Type 0) (xs : List X) (x : X) (ys : List X) → AllByRecursion P (xs ++ x ∷ ys) → AllByRecursion P xs × P x × AllByRecursion P ys
   all-around P [] x ys all = (tt, all.0, all.1)

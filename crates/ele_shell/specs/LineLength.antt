@@ -6,5 +6,5 @@ abbrev pub longest_line : ℕ
 longest_line = 8192
 
 -- the line, unless it is too long
-abbrev pub kept : List ℕ → Option (List ℕ)
-kept line = if nat_le (length line) longest_line then Some line else None
+abbrev pub line_unless_long : List ℕ → Option (List ℕ)
+line_unless_long line = if nat_le (length line) longest_line then Some line else None
