@@ -3,6 +3,7 @@ pub mod Bounded
 pub mod Booked
 pub mod Asked
 pub mod Appended
+pub mod NewNames
 pub mod Made
 pub mod Kept
 pub mod Fresh

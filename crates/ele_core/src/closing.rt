@@ -16,7 +16,6 @@ ghost use Rattle.ele_core.specs.Closings.{makes_version, is_change};
 
 use crate::book::{blocks, follow_blocks, one_version};
 use crate::keys::NewKeys;
-use crate::lookups::is_live;
 use crate::rows::Rows;
 use ele_files::{Closing, Files, Meter};
 use ele_policy::ripe;
@@ -94,7 +93,7 @@ fn finish(rows: &mut Rows, handle: Handle, file: FileId) -> Result<Reply, NoMemo
     ensures err { OnErr result (world_of rows.new ≡ world_of rows.old) }
     ensures tracked { IsTracked rows.new }
 {
-    let is_live = is_live(&rows.names, file);
+    let is_live = rows.names.is_live(file);
     let keys = NewKeys {
         file,
         number: rows.files.next_of(file),

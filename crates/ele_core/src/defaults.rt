@@ -34,7 +34,7 @@ pub fn set_default(rows: &mut Rows, path: &Path, policy: Policy) -> Reply
     ensures tracked { IsTracked rows.old → IsTracked rows.new }
 {
     policy.is_given();
-    match directory_now(&rows.names, path.names()) {
+    match directory_now(&rows.names, path) {
         Ok(directory) => {
             govern(&mut rows.directories, directory, policy);
             Reply::Done

@@ -4,3 +4,5 @@ pub mod Index
 pub mod Last
 pub mod Serial
 pub mod Told
+pub mod Ends
+pub mod Keys

@@ -246,6 +246,13 @@ impl Names {
         self.lives.of_target.count(Target::Directory(directory)) != 0
     }
 
+    /// Whether the file has a live name.
+    pub fn is_live(&self, file: FileId) -> bool
+        ensures { result ≡ list_any (is_live_name_of file) self.now }
+    {
+        self.names_of(file) != 0
+    }
+
     /// How many live names the file has.
     pub fn names_of(&self, file: FileId) -> u64
         ensures { result ≡ count_by (is_live_name_of file) self.now }

@@ -81,6 +81,13 @@ no_live w directory name h = all-not_found (is_live_name directory name) w.names
   by None h = refl
   by (Some row) h = absurd (false≢true (sym h))
 
+-- each row of a name that isn't live is over when the name is born again
+pub apart_from_new : (w : World) (directory : ℕ) (name : List ℕ) (named : NameRow) → IsWellFormed w → is_some (live_target w.names directory name) ≡ false
+    → named.directory ≡ directory → named.name ≡ name → named.birth ≡ w.now → AllByRecursion (λ row. AreApart row named) w.names
+apart_from_new w directory name named k free d n b =
+    all-weaker (λ row. (is_live_name directory name row ≡ false) × IsNameRow w.files w.now row) (λ row. AreApart row named) w.names
+    (λ row h. dead_name w.files w.now directory name row named h.0 h.1 d n b) (all-both _ _ w.names (no_live w directory name free) (k.holds Names).each)
+
 version_push : (files : List FileRow) (new : FileRow) (now : ℕ) (row : VersionRow) → IsVersion files now row → IsVersion (files ++ new ∷ []) now row
 version_push files new now row h =
     let same = next_of-push files new row.file (omega (arith, h.numbered)) in
@@ -147,7 +154,7 @@ module _ (w : World) (directory : ℕ) (name : List ℕ) (policy : Policy) where
       each = all-push (IsNameRow files w.now) w.names named
           (all-weaker (IsNameRow w.files w.now) (IsNameRow files w.now) w.names (λ row h. record { there = there-push w.files new row.target h.there; born = h.born; dead = h.dead }) (k.holds Names).each)
           (record { there = omega (arith, new_next); born = omega arith; dead = tt });
-      lives = later-push AreApart w.names named (k.holds Names).lives (all-weaker (λ row. (is_live_name directory name row ≡ false) × IsNameRow w.files w.now row) (λ row. AreApart row named) w.names (λ row h. dead_name w.files w.now directory name row named h.0 h.1 refl refl refl) (all-both _ _ w.names (no_live w directory name may.free) (k.holds Names).each));
+      lives = later-push AreApart w.names named (k.holds Names).lives (apart_from_new w directory name named k may.free refl refl refl);
     }
     by Versions = record {
       each = all-push (IsVersion files w.now) w.versions (first_version w id)
