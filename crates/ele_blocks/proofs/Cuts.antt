@@ -1,5 +1,5 @@
 -- What a truncate to fewer bytes makes of a map: f slots stay whole, and kept slots stay.
-use Rattle.std.proofs.Common.{◌≡◌, ℕ, ◌+◌, ◌-◌, ◌*◌, ◌/◌, ◌<◌, ◌≤◌, true, false, cond, List, [], ◌∷◌, ◌++◌, length, take, drop, map, min, max, refl, ap, sym, ◌∙◌, arith, append_assoc, ltb, Some}
+use Rattle.std.proofs.Common.{◌≡◌, ℕ, ◌+◌, ◌-◌, ◌*◌, ◌/◌, ◌<◌, ◌≤◌, true, false, cond, List, [], ◌++◌, length, take, drop, map, min, max, refl, ap, sym, ◌∙◌, arith, append_assoc, ltb, Some}
 use Rattle.std.specs.Prelude.{slice_get}
 use Rattle.std.specs.List.{concat}
 use Rattle.std.proofs.lemmas.Bool.Decides.{nat_tests}
@@ -14,14 +14,14 @@ use Rattle.ele_blocks.specs.Layout.{Layout, shown, cell_of, cell_by, ids_of, is_
 use Rattle.ele_blocks.specs.Pieces.{pieces}
 use Rattle.ele_blocks.specs.LaidOver.{laid_over}
 use Rattle.ele_blocks.specs.LivesIn.{LivesIn}
-use Rattle.ele_blocks.specs.Owes.{Moves}
 use Rattle.ele_blocks.specs.Renews.{Renews}
-use Rattle.ele_blocks.proofs.Sizes.{AreSized, bytes_each, content_each, whole_sized, whole_short, sized_whole, sized-is, sized-count, sized-length, sized-take, sized-drop, slots-count, length-content}
-use Rattle.ele_blocks.proofs.Pieces.{pieces_joined, pieces-append, pieces_sized, pieces_whole, length-pieces}
+use Rattle.ele_blocks.proofs.Sizes.{AreSized, bytes_each, content_each, whole_sized, whole_short, sized-is, sized-count, sized-length, sized-take, sized-drop, slots-count, length-content}
+use Rattle.ele_blocks.proofs.Pieces.{pieces_joined, pieces-append, length-pieces}
 use Rattle.ele_blocks.proofs.Splices.{take_past}
 use Rattle.ele_blocks.proofs.LaidOvers.{laid_over-map, length-laid_over}
-use Rattle.ele_blocks.proofs.Changes.{IsChange}
-use Rattle.ele_blocks.proofs.Moves.{moved_one, cells_stay}
+use Rattle.ele_blocks.specs.Changes.{IsResized}
+use Rattle.ele_blocks.proofs.Changes.{is_resized}
+use Rattle.ele_blocks.proofs.Moves.{cells_stay}
 use Rattle.ele_blocks.proofs.Replaces.{times-ids}
 use Rattle.ele_blocks.proofs.Places.{cuts_between, slice_get_at}
 use Rattle.ele_blocks.proofs.Written.{no_cell, cells_by_slots, laid_writer, bytes_of_new}
@@ -176,17 +176,6 @@ module _ (s : Store) (m : Layout) (w size f kept : ℕ) (staged : List (List ℕ
       cut_shown : shown u after ≡ cells_after_truncate w size (shown s m)
       cut_shown = cut_shows ∙ cut_cells
 
-      cut_content : content_of (shown u after) ≡ content_after_truncate (content_of (shown s m)) size
-      cut_content =
-          let none : size - length (content_of (shown s m)) ≡ 0 = omega (arith, length-content s m lives.whole, short) in
-          let all : content_after_truncate (content_of (shown s m)) size ≡ take size (content_of (shown s m)) = rw none (append-nil (take size (content_of (shown s m)))) in
-          ap content_of cut_shows ∙ (content_each (take kept (laid_over f (map (cell_by w) staged) (shown s m))) ∙ (ap concat each_after ∙ (pieces_whole (take size (content_of (shown s m))) ∙ sym all)))
-
-      cut_moves : Moves s u (m ∷ []) (after ∷ [])
-      cut_moves = moved_one s u m after cut_trades
-          (sized_whole u after (omega (arith, whole_short s m lives.whole, short))
-          (rw (cut_shows, each_after) (sized-is (length (take size (content_of (shown s m)))) size (pieces (take size (content_of (shown s m)))) fewer (pieces_sized (take size (content_of (shown s m)))))))
-
       cut_renews : Renews s u w (refits m.size size) m after
       cut_renews =
           let none : Slot = record { writer = 0; block = 0 } in
@@ -199,8 +188,8 @@ module _ (s : Store) (m : Layout) (w size f kept : ℕ) (staged : List (List ℕ
             stays = λ slot is lt.
                 let less : slot < kept = omega (arith, length-take kept mid.slots, lt) in
                 slice_get-take kept slot mid.slots none less slots_after ∙ renews.stays slot (sym (same slot) ∙ is) (omega (arith, less, slots_after));
-            once = λ id zero. omega (arith, renews.once id zero, releases.owed id);
+            once = λ id zero. omega (arith, renews.once id zero, times-mid id);
           }
 
-      pub cut_change : IsChange s u w (refits m.size size) (content_after_truncate (content_of (shown s m)) size) (cells_after_truncate w size (shown s m)) m after
-      cut_change = record { content = cut_content; cells = cut_shown; moves = cut_moves; renews = cut_renews }
+      pub cut_change : IsResized s u w size m after
+      cut_change = is_resized s u m after w lives cut_trades size (omega (arith, whole_short s m lives.whole, short)) refl cut_shown cut_renews

@@ -5,12 +5,12 @@ pub mod Pieces
 pub mod LaidOvers
 pub mod Splices
 pub mod Moves
-pub mod Changes
 pub mod Places
 pub mod Replaces
 pub mod Written
-pub mod Writes
 pub mod Truncates
+pub mod Changes
+pub mod Writes
 pub mod Unchanged
 pub mod Cuts
 pub mod Owed

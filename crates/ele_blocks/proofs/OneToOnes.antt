@@ -6,8 +6,8 @@ use Rattle.std.proofs.lemmas.Bool.{false≢true}
 use Rattle.std.proofs.lemmas.Bool.Decides.{nat_tests}
 use Rattle.ele_blocks.specs.declared.slot.Slot.{Slot}
 use Rattle.ele_blocks.specs.Shared.{times, owners}
-use Rattle.ele_blocks.specs.Store.{Store}
-use Rattle.ele_blocks.specs.Layout.{Layout, ids_of}
+use Rattle.ele_blocks.specs.Store.{Store, owners_at}
+use Rattle.ele_blocks.specs.Layout.{Layout, slots_of, ids_of}
 use Rattle.ele_blocks.specs.LivesIn.{LivesIn}
 use Rattle.ele_blocks.specs.Owes.{Moves}
 use Rattle.ele_blocks.specs.Renews.{Renews}
@@ -105,6 +105,17 @@ not_true : (b : Bool) → (b ≡ true → ⊥) → b ≡ false
 not_true true h = absurd (h refl)
 not_true false h = refl
 
+-- each block of a map that lives is owned
+pub slot_owned : (s : Store) (m : Layout) → LivesIn s m → (k : ℕ) (x : Slot) → slice_get (slots_of s m) k ≡ Some x → 0 < owners_at s x.block
+slot_owned s m lives k x e = omega (arith, lives.owned.owned x.block, times_got k (slots_of s m) x e)
+
+-- and so is what its names name
+pub names_owned : (s : Store) (file : ℕ) (m : Layout) → LivesIn s m → AreOwnedNames s (names_of s file m)
+names_owned s file m lives n i =
+    let h = slot_from n file 0 (slots_of s m) i in
+    let b = ap (λ (m : Named). owners_at s m.block) h.is in
+    omega (arith, slot_owned s m lives h.place h.cell h.got, b)
+
 module _ (s t : Store) (w file : ℕ) (p : ℕ → Bool) (was now : Layout) (rest : List Named) (lives : LivesIn s was) (moves : Moves s t (was ∷ []) (now ∷ [])) (renews : Renews s t w p was now) (none : NoneBy file w rest) (owned : AreOwnedNames s rest) (one : AreOneToOne (names_of s file was ++ rest)) where
   -- a name after the change is fresh, or it was there before and is in no renewed slot by the writer
   record IsFresh (n : Named) : Type 0 where
@@ -135,7 +146,7 @@ module _ (s t : Store) (w file : ℕ) (p : ℕ → Bool) (was now : Layout) (res
             inr (record {
               before = in_front n (names_of s file was) rest (subst P (sym h.is) here);
               stays = λ f v. ap (λ (m : Named). p m.place.slot) is ∙ e;
-              held = let some = times_got h.place was.slots h.cell old in let b = ap (λ (m : Named). owners s m.block) is in omega (arith, lives.owned.owned h.cell.block, some, b);
+              held = names_owned s file was lives n (subst P (sym h.is) here);
             })
       ] refl
 
@@ -162,7 +173,7 @@ module _ (s t : Store) (w file : ℕ) (p : ℕ → Bool) (was now : Layout) (res
 
   -- a fresh block is named once
   once : (m : Named) → (h : IsFresh m) → times h.cell.block (ids_of now.slots) ≤ 1
-  once m h = omega (arith, moves.owed h.cell.block, renews.once h.cell.block h.free, lives.owned.owned h.cell.block, h.free)
+  once m h = renews.once h.cell.block h.free
 
   eqb_no : (a b : ℕ) → (a ≡ b → ⊥) → eqb a b ≡ false
   eqb_no a b h = not_true (eqb a b) (λ e. h (grind (arith, nat_tests)))

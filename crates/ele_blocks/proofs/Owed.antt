@@ -6,7 +6,7 @@ use Rattle.std.proofs.lemmas.List.{length-map}
 use Rattle.ele_blocks.specs.declared.slot.Slot.{Slot}
 use Rattle.ele_blocks.specs.Shared.{times, owners}
 use Rattle.ele_blocks.specs.Store.{Store, bytes_at}
-use Rattle.ele_blocks.specs.Layout.{Layout, ids_of, shown, cell_of}
+use Rattle.ele_blocks.specs.Layout.{Layout, slots_of, ids_of, shown, cell_of}
 use Rattle.ele_blocks.specs.LivesIn.{LivesIn, is_whole}
 use Rattle.ele_blocks.specs.Owes.{tally, SameMaps, named, broken, Owes, Moves, IsUncrowded}
 use Rattle.ele_blocks.proofs.Trades.{times-self, times-le-length}
@@ -90,6 +90,10 @@ module _ (s t : Store) (was now : List Layout) (moves : Moves s t was now) where
     -- every other map shows what it showed
     pub rest_stays : map (shown t) rest ≡ map (shown s) rest
     rest_stays = stay_beside rest beside
+
+    -- and names what it named
+    pub rest_slots : map (slots_of t) rest ≡ map (slots_of s) rest
+    rest_slots = refl
 
     -- and the store is owed by all of them, in whatever order
     pub moves_owes : (maps : List Layout) → SameMaps maps (now ++ rest) → Owes t maps

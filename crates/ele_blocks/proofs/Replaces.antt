@@ -111,7 +111,7 @@ module _ (s t : Store) (slots : List Slot) (fresh : List ℕ) (w first : ℕ) (w
               let past : first + length fresh ≤ slot = grind (arith, nat_tests) in
               slice_get_at replaced slot none lt ∙ (ap (λ x. Some x) (laid_after first (map (slot_by w) fresh) slots within slot none (omega (arith, count, past))) ∙ sym (slice_get_at slots slot none (omega (arith, length-replaced, lt, past)))))
               (order slot first);
-          once = λ id zero. omega (arith, swapped.owed id, adds.once id, zero);
+          once = λ id zero. omega (arith, times-replaced id, owned id, adds.once id, zero);
         }
 
 -- the slots between two ends in a list that has no slot behind its end

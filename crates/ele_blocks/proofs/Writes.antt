@@ -1,20 +1,20 @@
 -- What a write of some bytes, or past the end, lays over a map, and what that makes of the map: f is
 -- the first slot that it meets, and l the one past the last of those that stand.
-use Rattle.std.proofs.Common.{◌≡◌, ℕ, ◌+◌, ◌-◌, ◌*◌, ◌/◌, ◌<◌, ◌≤◌, true, List, length, take, drop, map, min, max, ap, sym, ◌∙◌, arith}
+use Rattle.std.proofs.Common.{◌≡◌, ℕ, ◌+◌, ◌-◌, ◌*◌, ◌/◌, ◌<◌, ◌≤◌, List, length, take, drop, map, min, max, ap, sym, ◌∙◌, arith}
 use Rattle.std.proofs.lemmas.List.{length-map, take-map, drop-map}
 use Rattle.ele_blocks.specs.Shared.{Trades}
 use Rattle.ele_blocks.specs.Store.{Store}
-use Rattle.ele_content.specs.Content.{content_of, content_after_write, slot_count, longest_content, meets, cells_after_write}
+use Rattle.ele_content.specs.Content.{content_of, content_after_write, slot_count, longest_content, meets}
 use Rattle.ele_blocks.specs.Layout.{Layout, shown, cell_of, cell_by, ids_of, is_between}
 use Rattle.ele_blocks.specs.Pieces.{pieces}
 use Rattle.ele_blocks.specs.LaidOver.{laid_over}
-use Rattle.ele_blocks.specs.LivesIn.{LivesIn, is_whole}
+use Rattle.ele_blocks.specs.LivesIn.{LivesIn}
 use Rattle.ele_blocks.specs.Renews.{Renews}
-use Rattle.ele_blocks.proofs.Sizes.{AreSized, bytes_each, whole_sized, sized_whole, sized-is, slots-count}
-use Rattle.ele_blocks.proofs.Changes.{IsChange}
-use Rattle.ele_blocks.proofs.Moves.{moved_one}
+use Rattle.ele_blocks.proofs.Sizes.{AreSized, bytes_each, whole_sized, slots-count}
+use Rattle.ele_blocks.specs.Changes.{IsWritten}
+use Rattle.ele_blocks.proofs.Changes.{is_written}
 use Rattle.ele_blocks.proofs.Replaces.{renews_as}
-use Rattle.ele_blocks.proofs.Written.{after_written, content_after, past, sized_after, same_slots}
+use Rattle.ele_blocks.proofs.Written.{after_written, past, same_slots}
 
 module _ (s : Store) (m : Layout) (w o f l : ℕ) (x : List ℕ) (staged : List (List ℕ)) (lives : LivesIn s m) (is_f : f ≡ min o m.size / 512) (is_l : l ≡ min ((o + length x + 511) / 512) (length m.slots)) (is_staged : staged ≡ pieces (content_after_write (content_of (map (cell_of s) (take (l - f) (drop f m.slots)))) (o - 512 * f) x)) where
   sized : AreSized m.size (bytes_each (shown s m))
@@ -32,16 +32,7 @@ module _ (s : Store) (m : Layout) (w o f l : ℕ) (x : List ℕ) (staged : List 
   pub write_count : slot_count (max m.size (o + length x)) ≡ max (length m.slots) (f + length staged)
   write_count = omega (arith, reach, slots-count s m lives.whole)
 
-  module _ (t : Store) (new : Layout) (shows : shown t new ≡ laid_over f (map (cell_by w) staged) (shown s m)) (size : new.size ≡ max m.size (o + length x)) (short : new.size ≤ longest_content) where
-    whole : is_whole t new ≡ true
-    whole =
-        let after = sized_after w o m.size f l x (shown s m) staged sized is_f last staged_is in
-        sized_whole t new short (rw shows (sized-is (max m.size (o + length x)) new.size (bytes_each (laid_over f (map (cell_by w) staged) (shown s m))) (sym size) after))
-
-    pub write_change : min o m.size < o + length x → Trades s t (ids_of m.slots) (ids_of new.slots) → Renews s t w (is_between f (f + length staged)) m new → IsChange s t w (meets (min o m.size) (o + length x)) (content_after_write (content_of (shown s m)) o x) (cells_after_write w o x (shown s m)) m new
-    write_change some trades renews = record {
-      content = ap content_of shows ∙ content_after w o m.size f l x (shown s m) staged sized is_f last staged_is;
-      cells = shows ∙ after_written w o m.size f l x (shown s m) staged sized is_f last staged_is some;
-      moves = moved_one s t m new trades whole;
-      renews = renews_as s t w (is_between f (f + length staged)) (meets (min o m.size) (o + length x)) m new (same_slots w o m.size f l x (shown s m) staged sized is_f last staged_is some) renews;
-    }
+  pub write_change : (t : Store) (new : Layout) → shown t new ≡ laid_over f (map (cell_by w) staged) (shown s m) → new.size ≡ max m.size (o + length x) → new.size ≤ longest_content → min o m.size < o + length x → Trades s t (ids_of m.slots) (ids_of new.slots) → Renews s t w (is_between f (f + length staged)) m new → IsWritten s t w o x m new
+  write_change t new shows size short some trades renews =
+      is_written s t m new w lives trades o x short size (shows ∙ after_written w o m.size f l x (shown s m) staged sized is_f last staged_is some)
+      (renews_as s t w (is_between f (f + length staged)) (meets (min o m.size) (o + length x)) m new (same_slots w o m.size f l x (shown s m) staged sized is_f last staged_is some) renews)

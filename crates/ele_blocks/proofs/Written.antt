@@ -10,8 +10,8 @@ use Rattle.ele_content.specs.Content.{content_of, content_after_write, slot_byte
 use Rattle.ele_blocks.specs.Layout.{cell_by, is_between}
 use Rattle.ele_blocks.specs.Pieces.{pieces}
 use Rattle.ele_blocks.specs.LaidOver.{laid_over}
-use Rattle.ele_blocks.proofs.Sizes.{AreSized, bytes_each, content_each, sized-is, sized-count, sized-length}
-use Rattle.ele_blocks.proofs.Pieces.{pieces_sized, pieces_whole, length-pieces, pieces_at_slot}
+use Rattle.ele_blocks.proofs.Sizes.{AreSized, bytes_each, content_each, sized-count, sized-length}
+use Rattle.ele_blocks.proofs.Pieces.{length-pieces, pieces_at_slot}
 use Rattle.ele_blocks.proofs.Splices.{pieces_patched, patched-count, length-spliced}
 use Rattle.ele_blocks.proofs.LaidOvers.{laid_over-map, laid_before, laid_within, laid_after, length-laid_over}
 use Rattle.ele_blocks.proofs.Places.{map_at, writer_at_is, cell_same, meets_between}
@@ -97,12 +97,6 @@ module _ (w o n f l : ℕ) (x : List ℕ) (cells : List Cell) (staged : List (Li
       ∙ (sym (pieces_patched n f l (o - 512 * f) x (bytes_each cells) sized start last)
       ∙ (ap (λ k. pieces (content_after_write (concat (bytes_each cells)) k x)) place
       ∙ ap (λ c. pieces (content_after_write c o x)) (sym (content_each cells)))))
-
-  pub content_after : content_of (laid_over f (map (cell_by w) staged) cells) ≡ content_after_write (content_of cells) o x
-  content_after = content_each (laid_over f (map (cell_by w) staged) cells) ∙ (ap concat each_after ∙ pieces_whole (content_after_write (content_of cells) o x))
-
-  pub sized_after : AreSized (max n (o + length x)) (bytes_each (laid_over f (map (cell_by w) staged) cells))
-  sized_after = rw each_after (sized-is (length (content_after_write (content_of cells) o x)) (max n (o + length x)) (pieces (content_after_write (content_of cells) o x)) new_size (pieces_sized (content_after_write (content_of cells) o x)))
 
   pub same_slots : min o n < o + length x → (slot : ℕ) → meets (min o n) (o + length x) slot ≡ is_between f (f + length staged) slot
   same_slots some slot = meets_between (min o n) (o + length x) slot some ∙ (ap (λ k. is_between k ((o + length x + 511) / 512) slot) (sym is_f) ∙ ap (λ k. is_between f k slot) (sym past))

@@ -2,8 +2,7 @@
 use Rattle.std.specs.Prelude.{◌≡◌, ◌⊎◌, ℕ, ◌+◌, ◌<◌, ◌==◌, List, [], ◌∷◌}
 use Rattle.std.specs.List.{flat_map}
 use Rattle.ele_blocks.specs.declared.slot.Slot.{Slot}
-use Rattle.ele_blocks.specs.Shared.{owners}
-use Rattle.ele_blocks.specs.Store.{Store}
+use Rattle.ele_blocks.specs.Store.{Store, owners_at}
 use Rattle.ele_blocks.specs.Layout.{Layout, slots_of, ids_of}
 use Rattle.ele_content.specs.Place.{Place, is_place}
 
@@ -40,4 +39,4 @@ NoneBy file writer ns = (n : Named) → IsIn n ns → n.place.file ≡ file → 
 
 -- each named block is owned
 abbrev pub AreOwnedNames : Store → List Named → Type 0
-AreOwnedNames s ns = (n : Named) → IsIn n ns → 0 < owners s n.block
+AreOwnedNames s ns = (n : Named) → IsIn n ns → 0 < owners_at s n.block

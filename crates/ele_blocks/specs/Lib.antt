@@ -6,6 +6,7 @@ pub mod LayoutInside
 pub mod LivesIn
 pub mod Owes
 pub mod Renews
+pub mod Changes
 pub mod Pieces
 pub mod LaidOver
 pub mod Distinct

@@ -4,7 +4,7 @@ ghost use Rattle.std.specs.Prelude.{◌≡◌, ℕ, ◌≤◌, ◌^◌, Bool, Li
 ghost use Rattle.ele_content.specs.Place.{different, is_place};
 ghost use Rattle.ele_blocks.specs.Distinct.{Named, AreOneToOne, NoneBy, AreOwnedNames, names_of};
 ghost use Rattle.ele_blocks.specs.Renews.{Renews};
-ghost use Rattle.ele_blocks.specs.Layout.{Layout, shown};
+ghost use Rattle.ele_blocks.specs.Layout.{Layout, slots_of, shown};
 ghost use Rattle.ele_blocks.specs.LivesIn.{LivesIn};
 ghost use Rattle.ele_blocks.specs.Owes.{Owes, Moves, SameMaps, IsUncrowded};
 ghost use Rattle.ele_blocks.specs.Stock.{StockLaws};
@@ -12,11 +12,14 @@ ghost use Rattle.ele_blocks.specs.Stock.{StockLaws};
 use crate::store::BlockStore;
 
 /// Whatever one call moves, the store owes the maps that came and those that stood beside, and those
-/// show what they showed.
+/// have the slots that they had and show what they showed.
 pub fn the_rest_stays(before: &BlockStore, after: &BlockStore)
     ensures owed { (all was now rest maps : List Layout) → Owes before.now all
         → SameMaps all (was ++ rest) → Moves before.now after.now was now
         → SameMaps maps (now ++ rest) → Owes after.now maps }
+    ensures slots { (all was now rest : List Layout) → Owes before.now all
+        → SameMaps all (was ++ rest) → Moves before.now after.now was now
+        → map (slots_of after.now) rest ≡ map (slots_of before.now) rest }
     ensures shown { (all was now rest : List Layout) → Owes before.now all
         → SameMaps all (was ++ rest) → Moves before.now after.now was now
         → map (shown after.now) rest ≡ map (shown before.now) rest }
@@ -26,11 +29,14 @@ pub fn the_rest_stays(before: &BlockStore, after: &BlockStore)
 }
 
 /// Each of the maps that a store owes lives in it, and no block has too many owners for one map more.
+/// A store has what the maps name that live in it.
 pub fn each_map_lives(store: &BlockStore)
     ensures lives { (all rest : List Layout) (m : Layout) → Owes store.now all
         → SameMaps all (m ∷ rest) → LivesIn store.now m }
     ensures few { (all : List Layout) → Owes store.now all → length all ≤ 2 ^ 50
         → IsUncrowded store.now }
+    ensures owned { (file : ℕ) (m : Layout) → LivesIn store.now m
+        → AreOwnedNames store.now (names_of store.now file m) }
 {
     let _ = store;
 }

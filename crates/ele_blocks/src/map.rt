@@ -1,11 +1,12 @@
 //! A block map: one content of at most 1,048,576 bytes, cut into slots of 512 bytes.
 //! A contract sees its length and its slots, and through a store the cells of the content.
-ghost use Rattle.std.specs.Prelude.{◌≡◌, ◌<◌, ◌≤◌, ◌+◌, [], ◌∷◌, OnOk, OnErr, IfOk, vec_len, slice_get};
+ghost use Rattle.std.specs.Prelude.{◌≡◌, ◌<◌, ◌≤◌, ◌+◌, [], ◌∷◌, OnOk, OnErr, IfOk, IfSome, vec_len, slice_get};
 ghost use Rattle.std.specs.Option.{option_map};
 ghost use Rattle.ele_content.specs.Content.{content_of, slot_count};
-ghost use Rattle.ele_blocks.specs.Layout.{Layout, shown};
+ghost use Rattle.ele_blocks.specs.Layout.{Layout, slots_of, shown};
 ghost use Rattle.ele_blocks.specs.LivesIn.{LivesIn};
 ghost use Rattle.ele_blocks.specs.Owes.{Moves, IsUncrowded};
+ghost use Rattle.ele_blocks.specs.Store.{owners_at};
 
 mod change;
 
@@ -64,11 +65,15 @@ impl BlockMap {
     }
 
     /// The version that last wrote the slot, and the slot's block; none past the last slot.
-    pub fn cell(&self, slot: usize) -> Option<(VersionNo, BlockId)>
-        ensures { result
-            ≡ option_map (λ cell. (cell.writer, cell.block)) (slice_get self.now.slots slot) }
+    pub fn cell(&self, store: &BlockStore, slot: usize) -> Option<(VersionNo, BlockId)>
+        requires { LivesIn store.now self.now }
+        ensures cell { result ≡ option_map (λ cell. (cell.writer, cell.block))
+            (slice_get (slots_of store.now self.now) slot) }
+        ensures owned { IfSome result (λ cell. 0 < owners_at store.now cell.1) }
     {
-        self.slots.get(slot).map(|cell| (cell.writer, cell.block))
+        let _ = store;
+        let cell = self.slots.get(slot)?;
+        Some((cell.writer, cell.block))
     }
 
     /// A second map of the same content, which shares every block with this one.

@@ -4,9 +4,9 @@ ghost use Rattle.std.specs.Prelude.{◌≡◌, ◌<◌, ◌≤◌, ◌+◌, ◌^
 ghost use Rattle.ele_content.specs.Place.{different};
 ghost use Rattle.ele_blocks.specs.Distinct.{blocks_of};
 ghost use Rattle.ele_blocks.specs.Owes.{Owes};
-ghost use Rattle.ele_blocks.specs.Shared.{owners, Sets, Trades, Adds, Covers, shared, released};
+ghost use Rattle.ele_blocks.specs.Shared.{Sets, Trades, Adds, Covers, shared, released};
 ghost use Rattle.ele_blocks.specs.Layout.{Layout, ids_of};
-ghost use Rattle.ele_blocks.specs.Store.{block_at, bytes_at};
+ghost use Rattle.ele_blocks.specs.Store.{no_blocks, owners_at, block_at, bytes_at};
 
 use crate::bytes::Bytes;
 use crate::shared::Shared;
@@ -50,7 +50,7 @@ impl Model for BlockStore {
 impl BlockStore {
     /// No blocks; this takes no memory.
     pub fn new(alloc: Global) -> BlockStore
-        ensures { result ≡ [] }
+        ensures { result ≡ no_blocks }
     {
         BlockStore {
             blocks: Shared::new(alloc),
@@ -75,8 +75,8 @@ impl BlockStore {
 
     /// Gives a block one owner more.
     pub fn share(&mut self, id: BlockId)
-        requires there { 0 < owners self.old id }
-        requires few { owners self.old id < 2 ^ 63 }
+        requires there { 0 < owners_at self.old id }
+        requires few { owners_at self.old id < 2 ^ 63 }
         ensures { Sets self.old self.new id (shared (block_at self.old id)) }
     {
         self.blocks.share(id.key);
@@ -84,7 +84,7 @@ impl BlockStore {
 
     /// Takes one owner from a block. With its last owner the block leaves the store.
     pub fn release(&mut self, id: BlockId)
-        requires { 0 < owners self.old id }
+        requires { 0 < owners_at self.old id }
         ensures { Sets self.old self.new id (released (block_at self.old id)) }
     {
         self.blocks.release(id.key);
@@ -92,7 +92,7 @@ impl BlockStore {
 
     /// The bytes of a block.
     pub fn get(&self, id: BlockId) -> &[u8]
-        requires { 0 < owners self.now id }
+        requires { 0 < owners_at self.now id }
         ensures { result.now ≡ bytes_at self.now id }
     {
         self.blocks.get(id.key).as_slice()
@@ -100,8 +100,8 @@ impl BlockStore {
 
     /// How many own a block.
     pub fn owners(&self, id: BlockId) -> u64
-        requires { 0 < owners self.now id }
-        ensures { result ≡ owners self.now id }
+        requires { 0 < owners_at self.now id }
+        ensures { result ≡ owners_at self.now id }
     {
         self.blocks.owners(id.key)
     }
@@ -133,7 +133,7 @@ impl BlockStore {
     /// Gives the block of each slot one owner more.
     pub(crate) fn share_all(&mut self, slots: &[Slot])
         requires there { Covers self.old (ids_of slots.now) }
-        requires few { (id : _) → owners self.old id + length slots.now ≤ 2 ^ 63 }
+        requires few { (id : _) → owners_at self.old id + length slots.now ≤ 2 ^ 63 }
         ensures { Trades self.old self.new [] (ids_of slots.now) }
     {
         for slot in slots {

@@ -1,8 +1,8 @@
 -- The book of usage, as the files change.
-use Rattle.std.proofs.Common.{◌≡◌, ℕ, ◌+◌, ◌-◌, ◌<◌, ◌≤◌, ◌^◌, Bool, true, false, cond, eqb, List, [], ◌∷◌, length, Some, None, Result, Ok, refl, ap, sym, subst, ◌∙◌, arith}
+use Rattle.std.proofs.Common.{◌≡◌, ℕ, ◌+◌, ◌-◌, ◌<◌, ◌≤◌, ◌^◌, Bool, true, false, cond, eqb, List, [], ◌∷◌, length, Some, Result, Ok, refl, ap, sym, subst, ◌∙◌, arith}
 use Rattle.std.specs.Result.{result_ok}
 use Rattle.ele_core.specs.Inside.{world_of, IsSound, IsTracked}
-use Rattle.ele_core.specs.Tracked.{told, told_by, blocks_of, only_blocks, of_file, IsOwed, IsBooked}
+use Rattle.ele_core.specs.Tracked.{told, told_by, blocks_of, only_blocks, IsOwed, IsBooked}
 use Rattle.ele_core.specs.declared.rows.Rows.{Rows}
 use Rattle.ele_content.specs.Content.{content_of, cells_after_truncate}
 use Rattle.ele_files.specs.Held.{Held, with_file, opened_by, written_by, written_of, fitted, fitted_of}
@@ -173,17 +173,6 @@ shift_fits files book file before policy owed of room few_before few_now =
     let blocks : (usage_of (told_by files) k).blocks + before ≡ (sums_of book k).blocks + blocks_of files = ap (λ (u : Usage). u.blocks) e in
     let within = within_blocks (told_by files) k in
     record { files = omega (arith, room.files); versions = omega (arith, room.versions); bytes = omega (arith, room.bytes); blocks = omega (arith, blocks, within, few_before, few_now) }
-
--- ---- a version that has left
-
-pub of_file_is : (h : Held) (file : ℕ) (policy : Policy) (usage : Usage) (k : Kind) → policy_of h.files file ≡ Some policy → of_file h file usage k ≡ only_at (kind_of policy) usage k
-of_file_is h file policy usage k of = rw of (sym (only_at_is k (kind_of policy) usage))
-
-pub of_no_file : (h : Held) (file : ℕ) (usage : Usage) (k : Kind) → policy_of h.files file ≡ None → of_file h file usage k ≡ nothing
-of_no_file h file usage k of = rw of refl
-
-pub its_kind : (h : Held) (file : ℕ) (policy : Policy) → policy_of h.files file ≡ Some policy → is_file_of h.files (kind_of policy) file ≡ true
-its_kind h file policy of = rw of (same_kind (kind_of policy))
 
 pub and_nothing : (u : Usage) → plus u nothing ≡ u
 and_nothing u = same_usage (plus u nothing) u (omega arith) (omega arith) (omega arith) (omega arith)

@@ -1,7 +1,7 @@
 //! The event that closes a handle, and may make its draft a version.
-ghost use Rattle.std.specs.Prelude.{◌≡◌, ◌≤◌, ◌<◌, ◌-◌, ◌+◌, ◌^◌, true, false, Ok, IfOk, OnErr, find, if◌then◌else◌};
+ghost use Rattle.std.specs.Prelude.{◌≡◌, ◌≤◌, ◌<◌, ◌-◌, ◌+◌, ◌^◌, Some, None, Ok, IfOk, OnErr, find, if◌then◌else◌};
 ghost use Rattle.std.specs.Option.{ForSome};
-ghost use Rattle.ele_files.specs.Closing.{closing};
+ghost use Rattle.ele_files.specs.Closing.{closing, changed_of};
 ghost use Rattle.ele_policy.specs.declared.policy.Kind.{Kind};
 ghost use Rattle.ele_usage.specs.Book.{sums_of};
 ghost use Rattle.ele_usage.specs.Sums.{nothing, plus, Fits};
@@ -12,12 +12,11 @@ ghost use Rattle.ele_world.specs.World.{next_of, is_version, file_by};
 ghost use Rattle.ele_core.specs.Inside.{world_of, IsTracked, IsSound};
 ghost use Rattle.ele_core.specs.Queued.{former_moment, own_moment};
 ghost use Rattle.ele_core.specs.Tracked.{one_version};
-ghost use Rattle.ele_core.specs.Closings.{makes_version, is_change};
 
 use crate::book::{blocks, follow_blocks, one_version};
 use crate::keys::NewKeys;
 use crate::rows::Rows;
-use ele_files::{Closing, Files, Meter};
+use ele_files::{Files, Meter};
 use ele_policy::ripe;
 use ele_usage::UsageBook;
 use ele_world::{FileId, Handle, Moment, NoMemory, Reply};
@@ -51,26 +50,6 @@ fn own_moment(files: &Files, file: FileId, now: Moment, is_live: bool) -> Option
     ripe(&policy, now, now, None)
 }
 
-/// Whether closing the handle makes a version.
-fn makes_version(files: &Files, handle: Handle) -> bool
-    ensures { result ≡ makes_version (closing files.now handle) }
-{
-    match files.peek_close(handle) {
-        Some(closing) => is_change(closing),
-        None => false,
-    }
-}
-
-/// Whether a changed draft goes.
-fn is_change(closing: Closing) -> bool
-    ensures { result ≡ is_change closing }
-{
-    match closing {
-        Closing::Changed(_, _) => true,
-        Closing::Clean(_) | Closing::StillOpen => false,
-    }
-}
-
 /// The book has one version more for the kind of the file, of so many bytes.
 fn add_version(book: &mut UsageBook, files: &Files, file: FileId, bytes: u64)
     requires { (k : Kind) → Fits (plus (sums_of book.old k) (one_version bytes)) }
@@ -83,11 +62,10 @@ fn add_version(book: &mut UsageBook, files: &Files, file: FileId, bytes: u64)
 }
 
 /// The last handle of a changed draft is closed, which becomes the file's next version.
-fn finish(rows: &mut Rows, handle: Handle, file: FileId) -> Result<Reply, NoMemory>
+fn finish(rows: &mut Rows, handle: Handle, file: FileId, opened: Moment) -> Result<Reply, NoMemory>
     requires sound { IsSound rows.old }
     requires meter { rows.old.meter ≡ 0 }
-    requires file { file_by rows.old.files.handles handle ≡ Ok file }
-    requires makes { makes_version (closing rows.old.files handle) ≡ true }
+    requires changed { changed_of (closing rows.old.files handle) ≡ Some (file, opened) }
     ensures step { IfOk result
         (λ reply. (reply, world_of rows.new) ≡ step (world_of rows.old) (event.Close handle)) }
     ensures err { OnErr result (world_of rows.new ≡ world_of rows.old) }
@@ -104,10 +82,11 @@ fn finish(rows: &mut Rows, handle: Handle, file: FileId) -> Result<Reply, NoMemo
     let bytes = rows.files.draft_length(file);
     // All keys come before the version does, so that one that is refused is still without trace.
     keys.put(&mut rows.queue)?;
-    let closed = rows
+    let now = rows.moment;
+    let finished = rows
         .files
-        .close(handle, rows.moment, is_live, &mut rows.meter);
-    let number = match closed {
+        .finish(handle, file, opened, now, is_live, &mut rows.meter);
+    let number = match finished {
         Ok(number) => number,
         Err(refused) => {
             keys.take(&mut rows.queue);
@@ -117,26 +96,22 @@ fn finish(rows: &mut Rows, handle: Handle, file: FileId) -> Result<Reply, NoMemo
     add_version(&mut rows.book, &rows.files, file, bytes);
     follow_blocks(&mut rows.book, &rows.files, file, before);
     rows.made.versions += 1;
-    Ok(Reply::Closed(number))
+    Ok(Reply::Closed(Some(number)))
 }
 
 /// A handle is closed whose draft stays, or goes without a trace.
-fn leave(rows: &mut Rows, handle: Handle, file: FileId) -> Result<Reply, NoMemory>
+fn leave(rows: &mut Rows, handle: Handle, file: FileId) -> Reply
     requires sound { IsSound rows.old }
     requires meter { rows.old.meter ≡ 0 }
     requires file { file_by rows.old.files.handles handle ≡ Ok file }
-    requires makes { makes_version (closing rows.old.files handle) ≡ false }
-    ensures step { IfOk result
-        (λ reply. (reply, world_of rows.new) ≡ step (world_of rows.old) (event.Close handle)) }
-    ensures err { OnErr result (world_of rows.new ≡ world_of rows.old) }
+    requires unchanged { changed_of (closing rows.old.files handle) ≡ None }
+    ensures step { (result, world_of rows.new) ≡ step (world_of rows.old) (event.Close handle) }
     ensures tracked { IsTracked rows.new }
 {
     let before = blocks(&rows.files);
-    // Whether the file is live is told of new versions alone, and none is made here.
-    rows.files
-        .close(handle, rows.moment, true, &mut rows.meter)?;
+    rows.files.leave(handle);
     follow_blocks(&mut rows.book, &rows.files, file, before);
-    Ok(Reply::Closed(None))
+    Reply::Closed(None)
 }
 
 /// Closes the handle. With a file's last handle its draft goes: a changed one becomes the file's next version, which ends
@@ -154,9 +129,8 @@ pub fn close(rows: &mut Rows, handle: Handle) -> Result<Reply, NoMemory>
         Ok(file) => file,
         Err(refusal) => return Ok(Reply::Refused(refusal)),
     };
-    if makes_version(&rows.files, handle) {
-        finish(rows, handle, file)
-    } else {
-        leave(rows, handle, file)
+    match rows.files.changed_draft(handle) {
+        Some(draft) => finish(rows, handle, draft.0, draft.1),
+        None => Ok(leave(rows, handle, file)),
     }
 }

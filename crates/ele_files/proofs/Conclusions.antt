@@ -7,7 +7,8 @@ use Rattle.std.specs.Result.{OnErr}
 use Rattle.ele_blocks.specs.Layout.{Layout}
 use Rattle.ele_blocks.specs.Store.{Store}
 use Rattle.ele_files.specs.Closing as rows
-use Rattle.ele_files.specs.Finishing.{IsRowPast, closing_row, changed_of, HasClosed}
+use Rattle.ele_files.specs.Closing.{changed_of}
+use Rattle.ele_files.specs.Finishing.{IsRowPast, closing_row, HasClosed}
 use Rattle.ele_files.specs.Held.{Held}
 use Rattle.ele_files.specs.Inside.{file_row, row_in, rows_in, draft_in, held_in, row_stock, draft_stock, stock_of, IsFileKept, IsDraftKept, Keeps, is_id}
 use Rattle.ele_files.specs.declared.file.File.{File}
@@ -129,14 +130,3 @@ module _ (s : Store) (files : List File) (ss : plain.AllSessions) (handle file o
 pub on_err : {T E : Type 0} (r : Result T E) (P : Type 0) → P → OnErr r P
 on_err (Ok x) P p = tt
 on_err (Err e) P p = p
-
--- the number of the version that is made
-pub number_made : (h : Held) (o : Option Closing) (file opened : ℕ) → changed_of o ≡ Some (file, opened) → rows.number_by h o ≡ Some (world.next_of h.files file)
-number_made h None file opened is = absurd cc
-number_made h (Some StillOpen) file opened is = absurd cc
-number_made h (Some (Clean other)) file opened is = absurd cc
-number_made h (Some (Changed other at)) file opened is =
-    let was : ℕ × ℕ = (other, at) in
-    let then : ℕ × ℕ = (file, opened) in
-    let pair : was ≡ then = cc in
-    ap (λ (p : ℕ × ℕ). Some (world.next_of h.files p.0)) pair

@@ -6,7 +6,7 @@ use Rattle.ele_blocks.specs.LivesIn.{LivesIn}
 use Rattle.ele_blocks.specs.Owes.{Moves}
 use Rattle.ele_blocks.specs.Store.{Store}
 use Rattle.ele_files.specs.Closing as rows
-use Rattle.ele_files.specs.Finishing.{changed_of}
+use Rattle.ele_files.specs.Closing.{changed_of}
 use Rattle.ele_files.specs.Inside.{draft_in, held_in, Keeps}
 use Rattle.ele_files.specs.declared.file.File.{File}
 use Rattle.ele_files.proofs.Drafts.{same_drafts, dropped_keeps, dropped_shows}

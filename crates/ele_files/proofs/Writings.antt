@@ -6,6 +6,7 @@ use Rattle.std.specs.Result.{OnOk, OnErr}
 use Rattle.std.proofs.lemmas.Bool.{false≢true}
 use Rattle.std.proofs.lemmas.Bool.Decides.{nat_tests}
 use Rattle.ele_content.specs.Content.{content_of, longest_content}
+use Rattle.ele_blocks.specs.Changes.{IsWritten, IsResized}
 use Rattle.ele_blocks.specs.Layout.{Layout, shown}
 use Rattle.ele_blocks.specs.LivesIn.{LivesIn}
 use Rattle.ele_blocks.specs.Owes.{Moves}
@@ -19,7 +20,7 @@ use Rattle.ele_files.proofs.Drafts.{its_number, rewritten_keeps, rewritten_shows
 use Rattle.ele_files.proofs.Rows.{handle_file-shown, draft-found}
 use Rattle.ele_files.proofs.Stock.{draft_lives}
 use Rattle.ele_lists.specs.Lists.{update_first}
-use Rattle.ele_sessions.specs.Changes.{RewritesDraft, Rewrites, Writes, Truncates, Stays, IsWritten, IsResized, rewritten_by, has_length}
+use Rattle.ele_sessions.specs.Changes.{RewritesDraft, Rewrites, Writes, Truncates, Stays, rewritten_by, has_length}
 use Rattle.ele_sessions.specs.Orderly.{AreOrderly}
 use Rattle.ele_sessions.specs.Sessions.{Draft, AllSessions, is_draft, handle_file, draft_by, draft_for}
 use Rattle.ele_world.specs.declared.rows.DraftRow.{DraftRow}
@@ -105,7 +106,7 @@ module _ (s : Store) (files : List File) (a : AllSessions) (kept : Keeps s files
 
     module _ (handle offset : ℕ) where
       abbrev Made : List ℕ → Draft → Layout → Type 0
-      Made bytes was now = IsWritten s t was offset bytes now
+      Made bytes was now = IsWritten s t was.number offset bytes was.layout now
 
       pub writes_keep : (bytes : List ℕ) → Writes s t a b handle offset bytes → Keeps t files b
       writes_keep [] h = stays_keeps h
@@ -129,7 +130,7 @@ module _ (s : Store) (files : List File) (a : AllSessions) (kept : Keeps s files
 
     module _ (handle size : ℕ) where
       abbrev Resized : Draft → Layout → Type 0
-      Resized was now = IsResized s t was size now
+      Resized was now = IsResized s t was.number size was.layout now
 
       pub truncates_keep : (same : Bool) → MatchBool same (Stays s t a b) (Rewrites a b handle Resized) → Keeps t files b
       truncates_keep true h = stays_keeps h

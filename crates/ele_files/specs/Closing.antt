@@ -55,6 +55,11 @@ closed_of h handle (Some file) now live =
 abbrev pub closed : Held → ℕ → ℕ → Bool → Held
 closed h handle now live = closed_of h handle (handle_file h.handles handle) now live
 
+-- the file and the opening of the draft that becomes a version
+abbrev pub changed_of : Option Closing → Option (ℕ × ℕ)
+changed_of (Some (Changed file opened)) = Some (file, opened)
+changed_of _ = None
+
 -- the number of the version that the closing makes, if it makes one
 abbrev pub number_by : Held → Option Closing → Option ℕ
 number_by h (Some (Changed file opened)) = Some (next_of h.files file)

@@ -7,6 +7,6 @@ mod files;
 mod stamps;
 
 pub use ele_inode_log::Meter;
-pub use ele_sessions::{Closing, SessionFault};
+pub use ele_sessions::SessionFault;
 pub use files::Files;
 pub use stamps::Stamps;

@@ -1,10 +1,9 @@
 -- What writes and truncates answer, and what they make of a draft.
-use Rattle.std.specs.Prelude.{◌≡◌, ℕ, ◌+◌, ◌==◌, nat_lt, true, false, Bool, MatchBool, List, [], ◌∷◌, length, min, max, Option, Some, None, find, if◌then◌else◌}
+use Rattle.std.specs.Prelude.{◌≡◌, ℕ, ◌+◌, ◌==◌, nat_lt, true, false, Bool, MatchBool, List, [], ◌∷◌, length, Option, Some, None, find, if◌then◌else◌}
 use Rattle.std.specs.Option.{IsSomeAnd, option_map_or}
-use Rattle.ele_content.specs.Content.{longest_content, content_of, content_after_write, content_after_truncate, cells_after_write, cells_after_truncate, meets, refits}
-use Rattle.ele_blocks.specs.Layout.{Layout, shown}
-use Rattle.ele_blocks.specs.Owes.{Moves}
-use Rattle.ele_blocks.specs.Renews.{Renews}
+use Rattle.ele_content.specs.Content.{longest_content}
+use Rattle.ele_blocks.specs.Changes.{IsWritten, IsResized}
+use Rattle.ele_blocks.specs.Layout.{Layout}
 use Rattle.ele_blocks.specs.Store.{Store}
 use Rattle.ele_sessions.specs.declared.fault.SessionFault.{SessionFault}
 use Rattle.ele_sessions.specs.declared.fault.SessionFault.TheVariants as fault
@@ -33,22 +32,6 @@ truncate_refusal s handle size = truncate_refusal_of (handle_file s.handles hand
 abbrev pub rewritten_by : Layout → Draft → Draft
 rewritten_by layout draft = record draft { layout = layout; changed = true }
 
--- the bytes stand in the draft's new map from the offset on, and its number at the slots that they meet
-pub record IsWritten (s t : Store) (was : Draft) (offset : ℕ) (bytes : List ℕ) (now : Layout) : Type 0 where
-  pub size : now.size ≡ max was.layout.size (offset + length bytes)
-  pub content : content_of (shown t now) ≡ content_after_write (content_of (shown s was.layout)) offset bytes
-  pub cells : shown t now ≡ cells_after_write was.number offset bytes (shown s was.layout)
-  pub moves : Moves s t (was.layout ∷ []) (now ∷ [])
-  pub renews : Renews s t was.number (meets (min offset was.layout.size) (offset + length bytes)) was.layout now
-
--- the draft's new map has so many bytes, and its number at the slots that were filled or cut
-pub record IsResized (s t : Store) (was : Draft) (size : ℕ) (now : Layout) : Type 0 where
-  pub size_is : now.size ≡ size
-  pub content : content_of (shown t now) ≡ content_after_truncate (content_of (shown s was.layout)) size
-  pub cells : shown t now ≡ cells_after_truncate was.number size (shown s was.layout)
-  pub moves : Moves s t (was.layout ∷ []) (now ∷ [])
-  pub renews : Renews s t was.number (refits was.layout.size size) was.layout now
-
 -- the file's draft has another map, which is made like that, and the other drafts are as they were
 abbrev pub RewritesDraft : List Draft → List Draft → ℕ → (Draft → Layout → Type 0) → Type 0
 RewritesDraft old new file Made = IsSomeAnd (find (is_draft file) old) (λ was. IsSomeAnd (find (is_draft file) new) (λ now. (new ≡ update_first (is_draft file) (rewritten_by now.layout) old) × Made was now.layout))
@@ -66,7 +49,7 @@ pub record Stays (s t : Store) (old new : AllSessions) : Type 0 where
 abbrev pub Writes : Store → Store → AllSessions → AllSessions → ℕ → ℕ → List ℕ → Type 0
 Writes s t old new handle offset [] = Stays s t old new
 Writes s t old new handle offset (byte ∷ bytes) =
-    Rewrites old new handle (λ was. IsWritten s t was offset (byte ∷ bytes))
+    Rewrites old new handle (λ was. IsWritten s t was.number offset (byte ∷ bytes) was.layout)
 
 -- whether it is a draft of that many bytes
 abbrev pub has_length : ℕ → Option Draft → Bool
@@ -75,9 +58,9 @@ has_length size draft = option_map_or (λ d. d.layout.size == size) draft false
 -- a draft of that length stays, and any other is resized
 abbrev pub Resizes : Store → Store → List Draft → List Draft → ℕ → ℕ → Type 0
 Resizes s t old new file size =
-    MatchBool (has_length size (find (is_draft file) old)) ((new ≡ old) × (t ≡ s)) (RewritesDraft old new file (λ was. IsResized s t was size))
+    MatchBool (has_length size (find (is_draft file) old)) ((new ≡ old) × (t ≡ s)) (RewritesDraft old new file (λ was. IsResized s t was.number size was.layout))
 
 -- a truncate to the same length changes nothing, and one to another length changes the draft
 abbrev pub Truncates : Store → Store → AllSessions → AllSessions → ℕ → ℕ → Type 0
 Truncates s t old new handle size =
-    MatchBool (has_length size (draft_by old handle)) (Stays s t old new) (Rewrites old new handle (λ was. IsResized s t was size))
+    MatchBool (has_length size (draft_by old handle)) (Stays s t old new) (Rewrites old new handle (λ was. IsResized s t was.number size was.layout))

@@ -1,6 +1,5 @@
 -- What holds between the elements of a list.
-use Rattle.std.specs.Prelude.{ℕ, ◌<◌, List, [], ◌∷◌}
-use Rattle.std.specs.List.{AllByRecursion}
+use Rattle.std.specs.Prelude.{ℕ, ◌<◌, List}
 pub use Rattle.ele_lists.specs.Lists.{AllLater}
 
 -- the keys rise along the list

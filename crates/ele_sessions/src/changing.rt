@@ -4,8 +4,9 @@ ghost use Rattle.std.specs.Prelude.{◌≡◌, ◌≤◌, ◌+◌, true, OnOk, O
 ghost use Rattle.std.specs.List.{list_any};
 ghost use Rattle.std.specs.Option.{ForSome};
 ghost use Rattle.ele_content.specs.Content.{longest_content};
+ghost use Rattle.ele_blocks.specs.Changes.{IsWritten};
 ghost use Rattle.ele_blocks.specs.LivesIn.{LivesIn};
-ghost use Rattle.ele_sessions.specs.Changes.{RewritesDraft, Resizes, IsWritten, has_length};
+ghost use Rattle.ele_sessions.specs.Changes.{RewritesDraft, Resizes, has_length};
 ghost use Rattle.ele_sessions.specs.Inside.{drafts_of, writers_of, file_in, is_of};
 ghost use Rattle.ele_sessions.specs.Order.{Rises};
 ghost use Rattle.ele_sessions.specs.Sessions.{is_draft};
@@ -29,7 +30,7 @@ pub fn write_draft(
     requires fits { offset + length bytes.now ≤ longest_content }
     ensures made { OnOk result
         (RewritesDraft (drafts_of drafts.old.items) (drafts_of drafts.new.items) file
-        (λ was. IsWritten store.old store.new was offset bytes.now)) }
+        (λ was. IsWritten store.old store.new was.number offset bytes.now was.layout)) }
     ensures writers { writers_of drafts.new.items ≡ writers_of drafts.old.items }
     ensures err { OnErr result (drafts_of drafts.new.items ≡ drafts_of drafts.old.items) }
     ensures err_store { OnErr result (store.new ≡ store.old) }

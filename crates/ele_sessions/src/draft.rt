@@ -1,10 +1,9 @@
 //! A file's draft: the map of its content, and whether it was changed.
 //! A contract sees its fields, with the map as its layout.
-ghost use Rattle.std.specs.Prelude.{◌≡◌, ◌≤◌, ◌+◌, true, OnOk, OnErr, length, ℕ};
+ghost use Rattle.std.specs.Prelude.{◌≡◌, ◌≤◌, ◌+◌, true, OnOk, OnErr, length};
 ghost use Rattle.ele_content.specs.Content.{longest_content};
+ghost use Rattle.ele_blocks.specs.Changes.{IsWritten, IsResized};
 ghost use Rattle.ele_blocks.specs.LivesIn.{LivesIn};
-ghost use Rattle.ele_sessions.specs.Changes.{IsWritten, IsResized};
-ghost use Rattle.ele_sessions.specs.Inside.{draft_with};
 
 use ele_blocks::{BlockMap, BlockStore};
 use ele_moment::{Moment, NoMemory, VersionNo};
@@ -30,8 +29,8 @@ impl Draft {
         requires fits { offset + length bytes.now ≤ longest_content }
         ensures draft { OnOk result
             (self.new ≡ record self.old { map = self.new.map; changed = true }) }
-        ensures written { OnOk result ((file : ℕ) → IsWritten store.old store.new
-            (draft_with file self.old) offset bytes.now self.new.map) }
+        ensures written { OnOk result (IsWritten store.old store.new
+            self.old.number offset bytes.now self.old.map self.new.map) }
         ensures err { OnErr result (self.new ≡ self.old) }
         ensures err_store { OnErr result (store.new ≡ store.old) }
     {
@@ -47,8 +46,8 @@ impl Draft {
         requires fits { size ≤ longest_content }
         ensures draft { OnOk result
             (self.new ≡ record self.old { map = self.new.map; changed = true }) }
-        ensures resized { OnOk result ((file : ℕ) → IsResized store.old store.new
-            (draft_with file self.old) size self.new.map) }
+        ensures resized { OnOk result (IsResized store.old store.new
+            self.old.number size self.old.map self.new.map) }
         ensures err { OnErr result (self.new ≡ self.old) }
         ensures err_store { OnErr result (store.new ≡ store.old) }
     {

@@ -2,12 +2,12 @@
 //! A contract sees the new cells as a definition over the old ones, and that the owners of blocks
 //! which other maps share stay.
 ghost use Rattle.std.specs.Prelude.{◌≡◌, ◌<◌, ◌≤◌, ◌+◌, ◌-◌, ◌*◌, ◌/◌, [], ◌∷◌, ◌++◌, OnOk, OnErr, max, min, length, map, take, drop, vec_len, vec_capacity};
-ghost use Rattle.ele_content.specs.Content.{longest_content, content_of, slot_count, content_after_write, content_after_truncate, cells_after_write, cells_after_truncate, meets, refits};
+ghost use Rattle.ele_content.specs.Content.{longest_content, slot_count};
+ghost use Rattle.ele_blocks.specs.Changes.{IsWritten, IsResized};
 ghost use Rattle.ele_blocks.specs.LaidOver.{laid_over};
 ghost use Rattle.ele_blocks.specs.Layout.{Layout, shown, ids_of, slot_by, cell_by, is_between};
 ghost use Rattle.ele_blocks.specs.LivesIn.{LivesIn};
 ghost use Rattle.ele_blocks.specs.Shared.{Trades, Covers};
-ghost use Rattle.ele_blocks.specs.Owes.{Moves};
 ghost use Rattle.ele_blocks.specs.Renews.{Renews};
 
 use crate::bytes::Bytes;
@@ -79,14 +79,8 @@ impl BlockMap {
     ) -> Result<(), NoMemory>
         requires lives { LivesIn store.old self.old }
         requires fits { offset + length bytes.now ≤ longest_content }
-        ensures size { OnOk result (self.new.size ≡ max self.old.size (offset + length bytes.now)) }
-        ensures content { OnOk result (content_of (shown store.new self.new)
-            ≡ content_after_write (content_of (shown store.old self.old)) offset bytes.now) }
-        ensures cells { OnOk result (shown store.new self.new
-            ≡ cells_after_write writer offset bytes.now (shown store.old self.old)) }
-        ensures moves { OnOk result (Moves store.old store.new (self.old ∷ []) (self.new ∷ [])) }
-        ensures renews { OnOk result (Renews store.old store.new writer
-            (meets (min offset self.old.size) (offset + length bytes.now)) self.old self.new) }
+        ensures written { OnOk result
+            (IsWritten store.old store.new writer offset bytes.now self.old self.new) }
         ensures err { OnErr result (self.new ≡ self.old) }
         ensures err_store { OnErr result (store.new ≡ store.old) }
     {
@@ -116,14 +110,8 @@ impl BlockMap {
     ) -> Result<(), NoMemory>
         requires lives { LivesIn store.old self.old }
         requires fits { size ≤ longest_content }
-        ensures size { OnOk result (self.new.size ≡ size) }
-        ensures content { OnOk result (content_of (shown store.new self.new)
-            ≡ content_after_truncate (content_of (shown store.old self.old)) size) }
-        ensures cells { OnOk result (shown store.new self.new
-            ≡ cells_after_truncate writer size (shown store.old self.old)) }
-        ensures moves { OnOk result (Moves store.old store.new (self.old ∷ []) (self.new ∷ [])) }
-        ensures renews { OnOk result (Renews store.old store.new writer
-            (refits self.old.size size) self.old self.new) }
+        ensures resized { OnOk result
+            (IsResized store.old store.new writer size self.old self.new) }
         ensures err { OnErr result (self.new ≡ self.old) }
         ensures err_store { OnErr result (store.new ≡ store.old) }
     {
@@ -144,14 +132,8 @@ impl BlockMap {
     ) -> Result<(), NoMemory>
         requires lives { LivesIn store.old self.old }
         requires shorter { size < self.old.size }
-        ensures size { OnOk result (self.new.size ≡ size) }
-        ensures content { OnOk result (content_of (shown store.new self.new)
-            ≡ content_after_truncate (content_of (shown store.old self.old)) size) }
-        ensures cells { OnOk result (shown store.new self.new
-            ≡ cells_after_truncate writer size (shown store.old self.old)) }
-        ensures moves { OnOk result (Moves store.old store.new (self.old ∷ []) (self.new ∷ [])) }
-        ensures renews { OnOk result (Renews store.old store.new writer
-            (refits self.old.size size) self.old self.new) }
+        ensures resized { OnOk result
+            (IsResized store.old store.new writer size self.old self.new) }
         ensures err { OnErr result (self.new ≡ self.old) }
         ensures err_store { OnErr result (store.new ≡ store.old) }
     {

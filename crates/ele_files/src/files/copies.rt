@@ -92,7 +92,7 @@ fn copy_cells(alloc: Global, store: &BlockStore, map: &BlockMap) -> Result<ListO
 {
     let mut cells = Vec::with_capacity(alloc, map.slots())?;
     for slot in 0..map.slots() {
-        let Some(cell) = map.cell(slot) else {
+        let Some(cell) = map.cell(store, slot) else {
             unreachable!()
         };
         let (writer, block) = cell;

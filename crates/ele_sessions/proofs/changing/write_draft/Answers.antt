@@ -1,6 +1,6 @@
 use Rattle.std.proofs.Common.{refl}
 use Rattle.ele_sessions.specs.Inside.{IsAt, IsGap, file_in, draft_in}
-use Rattle.ele_sessions.specs.Changes.{IsWritten}
+use Rattle.ele_blocks.specs.Changes.{IsWritten}
 use Rattle.ele_sessions.proofs.Found.{not_missing, found_draft, writers_stay, drafts_stay, rewrites, on_err}
 use Rattle.ele_sessions.proofs.changing.write_draft.Goals as goal
 
@@ -27,8 +27,7 @@ returns-clause-writers c =
 pub returns-clause-made : goal.returns-clause-made
 returns-clause-made c =
     let at : IsAt file_in c.args.file c.args.drafts.now.items c.in-Ok.at = rw c.deref.ensures.value at c.in-Ok.ensures.found in
-    let written = c.in_ok-write.ensures.written c.index_mut-entry.result.now.file in
-    rewrites _ _ _ _ at c.index_mut-entry.ensures.value (λ was. IsWritten c.args.store.now c.write.new.store was c.args.offset c.args.bytes.now) _ refl (rw (c.in_ok-write.ensures.draft, c.deref_mut.ensures.value) refl) (rw c.deref_mut.ensures.value at written)
+    rewrites _ _ _ _ at c.index_mut-entry.ensures.value (λ was. IsWritten c.args.store.now c.write.new.store was.number c.args.offset c.args.bytes.now was.layout) _ refl (rw (c.in_ok-write.ensures.draft, c.deref_mut.ensures.value) refl) (rw c.deref_mut.ensures.value at c.in_ok-write.ensures.written)
 
 pub returns-in_err-write-clause-err : goal.returns-in_err-write-clause-err
 returns-in_err-write-clause-err c =

@@ -1,9 +1,8 @@
 use Rattle.std.proofs.Common.{◌≡◌, ◌+◌, ◌-◌, ◌*◌, ◌/◌, ap, sym, refl, arith, map, length, take, drop, vec_len}
 use Rattle.std.proofs.lemmas.List.{length-take}
-use Rattle.ele_content.specs.Content.{content_of, content_after_truncate, refits, cells_after_truncate}
-use Rattle.ele_blocks.specs.Layout.{Layout, cell_of, shown}
+use Rattle.ele_content.specs.Content.{content_of}
+use Rattle.ele_blocks.specs.Layout.{Layout, cell_of}
 use Rattle.ele_blocks.specs.Pieces.{pieces}
-use Rattle.ele_blocks.proofs.Changes.{IsChange}
 use Rattle.ele_blocks.proofs.Replaces.{covers_within}
 use Rattle.ele_blocks.proofs.Cuts.{cut_count, cut_window, cut_change}
 use Rattle.ele_blocks.proofs.map.BlockMap.cut.Goals as goal
@@ -40,8 +39,8 @@ replace-requires-clause-count c =
     let count = cut_count s m c.args.writer c.args.size f kept c.in_ok-staged.staged.items lives short refl is_kept staged in
     rw (← c.self.view_is) (omega (arith, count, c.in_ok-staged.staged.ok))
 
-change : (c : goal.After-drop-window-2) → IsChange c.args.store.now c.shorten.new.store c.args.writer (refits c.args.self.now.size c.args.size) (content_after_truncate (content_of (shown c.args.store.now c.args.self.now)) c.args.size) (cells_after_truncate c.args.writer c.args.size (shown c.args.store.now c.args.self.now)) c.args.self.now c.shorten.new.self
-change c =
+pub returns-clause-resized : goal.returns-clause-resized
+returns-clause-resized c =
     let s = c.args.store.now in
     let m : Layout = record { size = c.self.inside.length; slots = c.self.inside.slots.items } in
     let lives = rw (← c.self.view_is) at c.requires.lives in
@@ -59,15 +58,3 @@ change c =
     let released = rw (sym is_kept) at c.shorten.ensures.trades in
     let layout = rw (sym is_kept) at c.shorten.ensures.layout in
     rw (layout, ← c.self.view_is) (cut_change s m c.args.writer c.args.size f kept c.in_ok-staged.staged.items lives short refl is_kept staged c.replace.new.store c.shorten.new.store c.replace.new.self trades shows renews released)
-
-pub returns-clause-content : goal.returns-clause-content
-returns-clause-content c = (change c).content
-
-pub returns-clause-cells : goal.returns-clause-cells
-returns-clause-cells c = (change c).cells
-
-pub returns-clause-moves : goal.returns-clause-moves
-returns-clause-moves c = (change c).moves
-
-pub returns-clause-renews : goal.returns-clause-renews
-returns-clause-renews c = (change c).renews
