@@ -1,5 +1,6 @@
 -- The keys that follow the rows. No public clause cites this module.
 use Rattle.std.specs.Prelude.{◌≡◌, ℕ, ◌-◌, ◌==◌, Bool, false, not, ◌&&◌, ◌||◌, List, [], ◌∷◌, Option, None, is_some, find, option_and_then, if◌then◌else◌}
+use Rattle.ele_core.specs.declared.keys.NewKeys.{NewKeys}
 use Rattle.ele_due.specs.declared.key.Key.{Key}
 use Rattle.ele_due.specs.HasKey.{has_key}
 use Rattle.ele_policy.specs.Ripe.{ripe_by}
@@ -26,6 +27,9 @@ IsRekeyed file number was is queue after =
 -- one of the keys of a version with the number and of the one before it
 abbrev pub is_either : ℕ → ℕ → Option ℕ → Option ℕ → Key → Bool
 is_either file number former own k = is_entry file (number - 1) former k || is_entry file number own k
+
+abbrev pub is_new : NewKeys → Key → Bool
+is_new keys k = is_either keys.file keys.number keys.former keys.own k
 
 -- the ripe moment of a row that ends then, as the next version closes; none where it had ended, for then it keeps what it has
 abbrev pub moment_at_end : List FileRow → ℕ → VersionRow → Option ℕ

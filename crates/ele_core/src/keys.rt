@@ -2,7 +2,7 @@
 ghost use Rattle.std.specs.Prelude.{◌≡◌, ◌-◌, ◌||◌, ◌&&◌, not, false, true, None, OnOk, OnErr};
 ghost use Rattle.ele_due.specs.declared.key.Key.{Key};
 ghost use Rattle.ele_due.specs.HasKey.{has_key};
-ghost use Rattle.ele_core.specs.Queued.{IsRekeyed, is_entry, is_either};
+ghost use Rattle.ele_core.specs.Queued.{IsRekeyed, is_entry, is_new};
 
 use ele_due::DueQueue;
 use ele_world::{FileId, Key, Moment, NoMemory, VersionNo};
@@ -45,7 +45,7 @@ impl NewKeys {
     /// Puts in both keys, or neither where memory is refused.
     pub fn put(&self, queue: &mut DueQueue) -> Result<(), NoMemory>
         ensures ok { OnOk result ((k : Key) → has_key k queue.new
-            ≡ (is_either self.now.file self.now.number self.now.former self.now.own k || has_key k queue.old)) }
+            ≡ (is_new self.now k || has_key k queue.old)) }
         ensures err { OnErr result ((k : Key)
             → (is_entry self.now.file (self.now.number - 1) self.now.former k ≡ true
             → has_key k queue.old ≡ false) → has_key k queue.new ≡ has_key k queue.old) }
@@ -64,7 +64,7 @@ impl NewKeys {
     /// Takes both out again.
     pub fn take(&self, queue: &mut DueQueue)
         ensures { (k : Key) → has_key k queue.new
-            ≡ (not (is_either self.now.file self.now.number self.now.former self.now.own k) && has_key k queue.old) }
+            ≡ (not (is_new self.now k) && has_key k queue.old) }
     {
         take(queue, self.file, self.number, self.own);
         take(queue, self.file, self.number.before(), self.former);
