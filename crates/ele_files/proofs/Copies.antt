@@ -16,7 +16,8 @@ use Rattle.ele_files.specs.Inside.{IsFileKept, IsRowOf, row_in, draft_in, reads_
 use Rattle.ele_files.specs.declared.file.File.{File}
 use Rattle.ele_inode_log.specs.Rows.{is_after, Precedes}
 use Rattle.ele_inode_log.specs.declared.row.VersionRow as log
-use Rattle.ele_inode_log.proofs.Lists.{later-weaker, all-weaker}
+use Rattle.ele_lists.proofs.Alls.{later-weaker}
+use Rattle.ele_lists.proofs.Edits.{all-weaker}
 use Rattle.ele_sessions.specs.Sessions as sessions
 use Rattle.ele_sessions.specs.Sessions.{Draft}
 use Rattle.ele_sessions.specs.declared.entries.OpenHandle.{OpenHandle}

@@ -10,7 +10,7 @@ use Rattle.ele_files.specs.Inside.{IsRowOf, IsFileKept, AreBefore}
 use Rattle.ele_files.specs.declared.file.File.{File}
 use Rattle.ele_inode_log.specs.declared.row.VersionRow as log
 use Rattle.ele_inode_log.specs.Rows.{AllLater, Precedes, EndsInTime, CanEndAt, is_numbered, last_of, update_last, ended_at}
-use Rattle.ele_inode_log.proofs.Lists.{all-append}
+use Rattle.ele_lists.proofs.Alls.{all-append}
 use Rattle.ele_lists.specs.Lists.{update_first}
 use Rattle.ele_lists.proofs.Edits.{all-weaker, all-both, all-found, all-update_first, later-update_first, later-push}
 

@@ -11,7 +11,7 @@ use Rattle.ele_blocks.proofs.Sizes.{length-content}
 use Rattle.ele_files.specs.Inside.{file_maps, maps_of}
 use Rattle.ele_files.specs.declared.file.File.{File}
 use Rattle.ele_inode_log.specs.declared.row.VersionRow as log
-use Rattle.ele_inode_log.proofs.Lists.{all-left, all-right}
+use Rattle.ele_lists.proofs.Alls.{all-left, all-right}
 use Rattle.ele_lists.proofs.Edits.{all-found}
 use Rattle.ele_sessions.specs.Sessions as sessions
 use Rattle.ele_sessions.specs.Sessions.{Draft}

@@ -6,7 +6,7 @@ use Rattle.ele_blocks.specs.Store.{Store}
 use Rattle.ele_files.specs.Inside.{row_in, rows_in, draft_in, file_maps, maps_of}
 use Rattle.ele_files.specs.declared.file.File.{File}
 use Rattle.ele_files.proofs.Splits.{all-map, all-flat_map}
-use Rattle.ele_inode_log.proofs.Lists.{all-left, all-right}
+use Rattle.ele_lists.proofs.Alls.{all-left, all-right}
 use Rattle.ele_inode_log.specs.declared.row.VersionRow as log
 use Rattle.ele_sessions.specs.Sessions.{Draft}
 use Rattle.ele_world.specs.declared.rows.VersionRow.{VersionRow}

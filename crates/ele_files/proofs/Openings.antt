@@ -23,7 +23,7 @@ use Rattle.ele_files.proofs.Members.{in_either, in_front, in_back, fewer_one_to_
 use Rattle.ele_files.proofs.Rests.{draft_map, rest_maps, rest_names, maps_with, maps_without, names_apart}
 use Rattle.ele_files.proofs.Rows.{next-found, version-found, any-draft}
 use Rattle.ele_files.proofs.Looks.{ShowsSame, each_same, versions_same, drafts_same}
-use Rattle.ele_inode_log.proofs.Lists.{all-left, all-right, all-append}
+use Rattle.ele_lists.proofs.Alls.{all-left, all-right, all-append}
 use Rattle.ele_inode_log.specs.declared.row.VersionRow.{VersionRow}
 use Rattle.ele_inode_log.specs.Rows.{is_numbered}
 use Rattle.ele_lists.specs.Lists.{insert_before}

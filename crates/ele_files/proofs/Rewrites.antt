@@ -15,7 +15,7 @@ use Rattle.ele_files.proofs.Cuts.{all_places, at_place, place_within, later_behi
 use Rattle.ele_files.proofs.Members.{fewer_one_to_one}
 use Rattle.ele_files.proofs.Rests.{draft_map, rest_maps, rest_names, maps_with, names_apart, names_together, rest_owned, next_each, none_beside}
 use Rattle.ele_files.proofs.Looks.{ShowsSame, each_same, versions_same, drafts_same}
-use Rattle.ele_inode_log.proofs.Lists.{all-left, all-right, all-append}
+use Rattle.ele_lists.proofs.Alls.{all-left, all-right, all-append}
 use Rattle.ele_lists.specs.Lists.{update_first}
 use Rattle.ele_lists.proofs.Edits.{all-weaker}
 use Rattle.ele_sessions.specs.Changes.{rewritten_by}

@@ -11,7 +11,7 @@ use Rattle.ele_files.proofs.Splits.{remove_first-map}
 use Rattle.ele_blocks.specs.Store.{Store}
 use Rattle.ele_inode_log.specs.declared.row.VersionRow as log
 use Rattle.ele_inode_log.specs.Rows.{is_numbered}
-use Rattle.ele_inode_log.proofs.Lists.{find-append}
+use Rattle.std.proofs.lemmas.List.Folds.{find-append}
 use Rattle.ele_lists.specs.Lists.{remove_first, AllLater}
 use Rattle.ele_sessions.specs.Sessions as sessions
 use Rattle.ele_sessions.specs.Sessions.{Draft}

@@ -3,7 +3,7 @@ use Rattle.std.proofs.Common.{◌≡◌, ℕ, ◌<◌, Bool, true, false, cond, 
 use Rattle.std.proofs.Math.ListN.{set}
 use Rattle.std.specs.Prelude.{find}
 use Rattle.std.specs.List.{AllByRecursion, flat_map}
-use Rattle.ele_inode_log.proofs.Lists.{all-append, all-left, all-right}
+use Rattle.ele_lists.proofs.Alls.{all-append, all-left, all-right}
 use Rattle.ele_lists.specs.Lists.{update_first, remove_first, insert_before, AllLater}
 
 module _ {X : Type 0} where

@@ -16,7 +16,7 @@ use Rattle.ele_lists.specs.Ends.{last_of, update_last}
 use Rattle.ele_lists.specs.Keys.{Rises, has_key}
 use Rattle.ele_lists.specs.Chunks.{flat, AreFilled, rows_at, before_place, behind_place, last_room, room_of, ends_before, Sinks, IsSeam, IsPlaceOf, IsFresh}
 use Rattle.ele_lists.proofs.Edits.{all-weaker, length-remove_first}
-use Rattle.ele_lists.proofs.Alls.{all-append, all-left, all-right, all-got, later-left, later-right, later-place, later-weaker}
+use Rattle.ele_lists.proofs.Alls.{all-append, all-left, all-right, all-got, later-left, later-right, later-place}
 use Rattle.ele_lists.proofs.Cuts.{find-at, remove_first-at}
 use Rattle.ele_lists.proofs.Ends.{last-append, last-take, last_at, all-last, later-across, update_last-append}
 
@@ -316,9 +316,6 @@ module _ {X : Type 0} where
   module _ (key : X → ℕ) (this : ℕ) where
     abbrev below : X → Bool
     below x = ltb (key x) this
-
-    pub key_sinks : (xs : List X) → Rises key xs → AllLater (Sinks below) xs
-    key_sinks xs rises = later-weaker (λ x y. key x < key y) (Sinks below) xs (λ x y lt h. grind (arith, nat_tests, lt, h)) rises
 
     lesser : (xs : List X) → AllByRecursion (λ x. below x ≡ true) xs → AllByRecursion (λ x. has_key key this x ≡ false) xs
     lesser xs all = all-weaker (λ x. below x ≡ true) (λ x. has_key key this x ≡ false) xs (λ x h. grind (arith, nat_tests, h)) all

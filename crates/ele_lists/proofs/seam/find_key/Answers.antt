@@ -1,10 +1,11 @@
 use Rattle.std.proofs.Common.{◌≡◌, ap, sym, ◌∙◌}
 use Rattle.std.specs.Option.{option_copied}
-use Rattle.ele_lists.proofs.Seams.{key_sinks, key_found, key_missing}
+use Rattle.ele_lists.proofs.Keys.{before_sinks}
+use Rattle.ele_lists.proofs.Seams.{key_found, key_missing}
 use Rattle.ele_lists.proofs.seam.find_key.Goals as goal
 
 pub seek-chunk-requires-clause-sinks : goal.seek-chunk-requires-clause-sinks
-seek-chunk-requires-clause-sinks g c = key_sinks g.T.Keyed.key c.args.key _ c.requires.rises
+seek-chunk-requires-clause-sinks g c = before_sinks g.T.Keyed.key c.args.key _ c.requires.rises
 
 pub returns-in_err-row-clause-missing : goal.returns-in_err-row-clause-missing
 returns-in_err-row-clause-missing g c =
