@@ -18,7 +18,7 @@ use Rattle.ele_sessions.specs.Sessions.{Draft}
 use Rattle.ele_sessions.specs.declared.entries.OpenHandle.{OpenHandle}
 use Rattle.ele_sessions.specs.declared.reads.Reads as session
 use Rattle.ele_sessions.specs.declared.reads.Reads.TheVariants as session_reads
-use Rattle.ele_world.proofs.Places.{find-position, find-none}
+use Rattle.ele_lists.proofs.Places.{find-position, find-none}
 use Rattle.ele_world.specs.declared.refusal.Refusal.{Refusal}
 use Rattle.ele_world.specs.declared.refusal.Refusal.TheVariants.{NoHandle}
 use Rattle.ele_world.specs.declared.rows.HandleRow.{HandleRow}

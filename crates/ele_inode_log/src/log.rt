@@ -15,7 +15,7 @@ use std::marker::Model;
 
 /// The held versions of one file. Numbers rise, a version has ended when the next one closes, and
 /// only the last may have no end. Each row that a call reads or removes adds one to the call's
-/// meter, and no call reads a row without one.
+/// meter, and no call reads a row without one; a search compares numbers or closings on its way.
 #[derive(Debug, Drop)]
 pub struct InodeLog {
     rows: Chunks<VersionRow>,

@@ -11,7 +11,6 @@ pub mod KeptNames
 pub mod KeptDrafts
 pub mod KeptVersions
 pub mod Keeps
-pub mod Around
 pub mod Views
 pub mod RipeMoments
 pub mod Removal
@@ -25,7 +24,6 @@ pub mod Refused
 pub mod Cleans
 pub mod Passes
 pub mod DueKeys
-pub mod Places
 pub mod SlotPlaces
 pub mod SumRows
 pub mod Splits
