@@ -35,6 +35,11 @@ module _ {X : Type 0} (p : X → Bool) where
     | false ↦ λ e. any-found xs (rw e at h)
   ] refl
 
+  -- without an element that fails, the same is found
+  pub find-without : (xs : List X) (x : X) (ys : List X) → p x ≡ false → find p (xs ++ x ∷ ys) ≡ find p (xs ++ ys)
+  find-without [] x ys fails = rw fails refl
+  find-without (z ∷ xs) x ys fails = ap (λ o. cond (p z) (Some z) o) (find-without xs x ys fails)
+
   -- where none passes in front, a find or a change happens behind
   pub find-skip : (xs ys : List X) → AllByRecursion (λ x. p x ≡ false) xs → find p (xs ++ ys) ≡ find p ys
   find-skip [] ys none = refl

@@ -7,6 +7,7 @@ pub mod Created
 pub mod Opened
 pub mod Outcomes
 pub mod Leads
+pub mod Closes
 pub mod KeptNames
 pub mod KeptDrafts
 pub mod KeptVersions
@@ -16,12 +17,15 @@ pub mod RipeMoments
 pub mod Removal
 pub mod RemovalOrder
 pub mod DueRows
+pub mod RipeAt
+pub mod Plain
 pub mod Allowed
 pub mod StepKeeps
 pub mod Moves
 pub mod Stays
 pub mod Refused
 pub mod Cleans
+pub mod CleanKeepsKeys
 pub mod Passes
 pub mod DueKeys
 pub mod SlotPlaces
