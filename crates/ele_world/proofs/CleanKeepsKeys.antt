@@ -23,7 +23,8 @@ use Rattle.ele_world.specs.Scan.{due_key, key_of, scan, first_due}
 use Rattle.ele_world.specs.Step.{clean_step}
 use Rattle.ele_world.specs.WellFormed.{IsWellFormed}
 use Rattle.ele_world.specs.World.{World, is_version}
-use Rattle.ele_world.proofs.Around.{all-append, all-around, find-split, remove_first-split, find-without}
+use Rattle.ele_lists.proofs.Alls.{all-append, all-around}
+use Rattle.ele_lists.proofs.Cuts.{find-cut, remove_first-at, find-without}
 use Rattle.ele_world.proofs.Cleans.{clean_of}
 use Rattle.ele_world.proofs.DueRows.{first_is_due}
 use Rattle.ele_world.proofs.RemovalOrder.{left, IsBeside, stays, no_more, sides}
@@ -141,12 +142,12 @@ pub clean_keeps_keys : CleanKeepsKeys
 clean_keeps_keys w key k first =
     let p = is_version key.file key.number in
     let due = first_is_due w key (placed_of w k) first in
-    let at = find-split p w.versions due.row due.found in
+    let at = find-cut p w.versions due.row due.found in
     let passes = at.passes in
     let file : due.row.file ≡ key.file = grind (arith, nat_tests) in
     let number : due.row.number ≡ key.number = grind (arith, nat_tests) in
     let same : w ≡ left w (at.before ++ due.row ∷ at.behind) = ap (left w) at.whole in
-    let taken : (clean_step w).1 ≡ left w (at.before ++ at.behind) = ap (λ o. (clean_of w o).1) first ∙ ap (left w) (ap (remove_first p) at.whole ∙ remove_first-split p at.before due.row at.behind at.none at.passes) in
+    let taken : (clean_step w).1 ≡ left w (at.before ++ at.behind) = ap (λ o. (clean_of w o).1) first ∙ ap (left w) (ap (remove_first p) at.whole ∙ remove_first-at p at.before due.row at.behind at.none at.passes) in
     let come : key.ripe ≤ w.now = (let now = sym (all-found p (IsDueFromRipe w) w.versions due.row due.found (due_from_ripe w k) w.now (now_of w k)) ∙ due.due in let ripe = rw due.ripe at now in grind (arith, nat_tests)) in
     subst (λ (v : World). TakesOneKey w key v) (sym taken)
     (subst (λ (u : World). TakesOneKey u key (left w (at.before ++ at.behind))) (sym same)

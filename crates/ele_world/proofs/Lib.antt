@@ -12,7 +12,6 @@ pub mod KeptNames
 pub mod KeptDrafts
 pub mod KeptVersions
 pub mod Keeps
-pub mod Around
 pub mod Views
 pub mod RipeMoments
 pub mod Removal
@@ -29,7 +28,6 @@ pub mod Cleans
 pub mod CleanKeepsKeys
 pub mod Passes
 pub mod DueKeys
-pub mod Places
 pub mod SlotPlaces
 pub mod SumRows
 pub mod Splits

@@ -11,9 +11,9 @@ use Rattle.ele_world.specs.FileView.{FileView, view_of, is_version_of, due_in}
 use Rattle.ele_world.specs.RemovalOrder.{LeavesDue, RemovalOrder}
 use Rattle.ele_world.specs.WellFormed.{IsWellFormed, ArePlaced}
 use Rattle.ele_world.specs.World.{World}
-use Rattle.ele_world.proofs.Around.{all-append, all-around, later-around}
+use Rattle.ele_lists.proofs.Alls.{all-append, all-around, later-around}
+use Rattle.ele_lists.proofs.Filters.{filter-same_all}
 use Rattle.ele_world.proofs.Removal.{with_rows, others_stay, no_more_due}
-use Rattle.ele_world.proofs.Splits.{filter-same_all}
 use Rattle.ele_world.proofs.Views.{IsLife, Precedes, precedes, view_is, lives_of, placed_of, own_rows, other_rows}
 
 abbrev pub left : World → List VersionRow → World

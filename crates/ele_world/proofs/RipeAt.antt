@@ -19,13 +19,13 @@ use Rattle.ele_world.specs.RipeMoments.{IsDueFromRipe}
 use Rattle.ele_world.specs.Scan.{due_key, key_of}
 use Rattle.ele_world.specs.WellFormed.{ArePlaced, IsWellFormed}
 use Rattle.ele_world.specs.World.{World, is_version}
-use Rattle.ele_world.proofs.Around.{find-filter}
+use Rattle.ele_lists.proofs.Filters.{find-filter_both}
 use Rattle.ele_world.proofs.RipeMoments.{due_from_ripe}
 use Rattle.ele_world.proofs.Views.{now_of, placed_of}
 
 pub ripe_at_is : (w : World) (file number : ℕ) → ripe_at w file number ≡ option_and_then (ripe_of w) (find (is_version file number) w.versions)
 unfolding ripe_numbered ripe_of
-ripe_at_is w file number = ap (option_and_then (ripe_in (view_of w file))) (find-filter (is_numbered number) (is_version_of file) w.versions) ∙ by (find (is_version file number) w.versions) refl where
+ripe_at_is w file number = ap (option_and_then (ripe_in (view_of w file))) (find-filter_both (is_numbered number) (is_version_of file) w.versions) ∙ by (find (is_version file number) w.versions) refl where
   by : (o : Option VersionRow) → find (is_version file number) w.versions ≡ o → option_and_then (ripe_in (view_of w file)) o ≡ option_and_then (λ row. ripe_in (view_of w row.file) row) o
   by None e = refl
   by (Some row) e =
