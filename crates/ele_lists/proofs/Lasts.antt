@@ -4,13 +4,13 @@ use Rattle.std.specs.Option.{option_or}
 use Rattle.std.specs.List.{AllByRecursion}
 use Rattle.ele_lists.specs.Lists.{AllLater}
 use Rattle.ele_lists.proofs.Edits.{all-any}
-use Rattle.ele_lists.specs.Last.{last_of, passing}
+use Rattle.ele_lists.specs.Last.{last_passing, passing}
 
 module _ {X : Type 0} where
   module _ (p : X → Bool) where
-    pub last_has : (P : X → Type 0) (xs : List X) (x : X) → AllByRecursion P xs → last_of p xs ≡ Some x → (P x) × (p x ≡ true)
+    pub last_has : (P : X → Type 0) (xs : List X) (x : X) → AllByRecursion P xs → last_passing p xs ≡ Some x → (P x) × (p x ≡ true)
     last_has P [] x all h = absurd cc
-    last_has P (y ∷ ys) x all h = elim (last_of p ys) as (λ o. last_of p ys ≡ o → (P x) × (p x ≡ true)) [
+    last_has P (y ∷ ys) x all h = elim (last_passing p ys) as (λ o. last_passing p ys ≡ o → (P x) × (p x ≡ true)) [
       | Some z ↦ λ e. last_has P ys x all.1 (e ∙ (rw e at h))
       | None ↦ λ e. elim (p y) as (λ b. p y ≡ b → (P x) × (p x ≡ true)) [
         | true ↦ λ f. let h' = rw (e, f) at h in let same : y ≡ x = cc in rw (← same) (all.0, f)
@@ -19,9 +19,9 @@ module _ {X : Type 0} where
     ] refl
 
     -- where each that passes fails q as soon as a later one passes, the last decides
-    pub find_last : (q : X → Bool) (xs : List X) → AllLater (λ x y. p x ≡ true → p y ≡ true → q x ≡ false) xs → find (λ x. p x && q x) xs ≡ passing q (last_of p xs)
+    pub find_last : (q : X → Bool) (xs : List X) → AllLater (λ x y. p x ≡ true → p y ≡ true → q x ≡ false) xs → find (λ x. p x && q x) xs ≡ passing q (last_passing p xs)
     find_last q [] apart = refl
-    find_last q (x ∷ xs) apart = elim (last_of p xs) as (λ o. last_of p xs ≡ o → find (λ x. p x && q x) (x ∷ xs) ≡ passing q (option_or o (cond (p x) (Some x) None))) [
+    find_last q (x ∷ xs) apart = elim (last_passing p xs) as (λ o. last_passing p xs ≡ o → find (λ x. p x && q x) (x ∷ xs) ≡ passing q (option_or o (cond (p x) (Some x) None))) [
       | Some y ↦ λ e. elim (p x) as (λ b. p x ≡ b → cond (b && q x) (Some x) (find (λ x. p x && q x) xs) ≡ passing q (Some y)) [
         | true ↦ λ f. let is = last_has (λ y. p x ≡ true → p y ≡ true → q x ≡ false) xs y apart.0 e in rw (is.0 f is.1) (find_last q xs apart.1 ∙ ap (passing q) e)
         | false ↦ λ f. find_last q xs apart.1 ∙ ap (passing q) e
@@ -35,5 +35,5 @@ module _ {X : Type 0} where
       ]
     ] refl
 
-    pub last_passes : (xs : List X) (x : X) → last_of p xs ≡ Some x → p x ≡ true
+    pub last_passes : (xs : List X) (x : X) → last_passing p xs ≡ Some x → p x ≡ true
     last_passes xs x h = (last_has (λ _. Unit {0}) xs x (all-any (λ _. Unit {0}) xs (λ _. tt)) h).1

@@ -9,7 +9,7 @@ use Rattle.std.specs.Map.{remove_entry, keys_of, values_of}
 use Rattle.std.proofs.lemmas.Map.Lookups.{exact_unsigned}
 use Rattle.std.proofs.lemmas.Bool.Decides.{nat_tests}
 use Rattle.ele_lists.specs.Lists.{AllLater}
-use Rattle.ele_lists.specs.Last.{last_of}
+use Rattle.ele_lists.specs.Last.{last_passing}
 use Rattle.ele_lists.specs.Serial.{value_at}
 use Rattle.ele_lists.proofs.Indexed.{at_itself}
 
@@ -79,20 +79,20 @@ module _ {X : Type 0} where
     ] refl
 
   module _ (p : X → Bool) where
-    pub none_last : (es : List (ℕ × X)) → IsRising es → ((t : ℕ) (w : X) → value_at es t ≡ Some w → p w ≡ false) → last_of p (values_of es) ≡ None
+    pub none_last : (es : List (ℕ × X)) → IsRising es → ((t : ℕ) (w : X) → value_at es t ≡ Some w → p w ≡ false) → last_passing p (values_of es) ≡ None
     none_last [] up none = refl
     none_last (e ∷ es) up none = rw (none_last es (rest_rises e es up) (λ t w h. none t w (after_head e es t w up h).1)) (rw (none e.0 e.1 (rw (at_itself e.0) refl)) refl)
 
     -- the value that passes with the greatest serial number is the last
-    pub is_last : (es : List (ℕ × X)) (s : ℕ) (v : X) → IsRising es → value_at es s ≡ Some v → p v ≡ true → ((t : ℕ) (w : X) → value_at es t ≡ Some w → p w ≡ true → t ≤ s) → last_of p (values_of es) ≡ Some v
+    pub is_last : (es : List (ℕ × X)) (s : ℕ) (v : X) → IsRising es → value_at es s ≡ Some v → p v ≡ true → ((t : ℕ) (w : X) → value_at es t ≡ Some w → p w ≡ true → t ≤ s) → last_passing p (values_of es) ≡ Some v
     is_last [] s v up there passes last = absurd cc
-    is_last (e ∷ es) s v up there passes last = elim (head_or_later e es s v up there) as (λ _. last_of p (values_of (e ∷ es)) ≡ Some v) [
+    is_last (e ∷ es) s v up there passes last = elim (head_or_later e es s v up there) as (λ _. last_passing p (values_of (e ∷ es)) ≡ Some v) [
       | inl is ↦ rw (none_last es (rest_rises e es up) (λ t w h. not_true (p w) (λ f. let le = last t w (after_head e es t w up h).1 f in let lt = (after_head e es t w up h).0 in omega (arith, is.0)))) (rw (is.1, passes) refl)
       | inr behind ↦ rw (is_last es s v (rest_rises e es up) behind.1 passes (λ t w h. last t w (after_head e es t w up h).1)) refl
     ]
 
   -- the values before and behind that of a serial number, and what a change of it or its removal leaves
-  pub record IsCut (es : List (ℕ × X)) (n : ℕ) (v : X) : Type 0 where
+  pub record IsCutAt (es : List (ℕ × X)) (n : ℕ) (v : X) : Type 0 where
     pub before : List X
     pub behind : List X
     pub values : values_of es ≡ before ++ v ∷ behind
@@ -100,9 +100,9 @@ module _ {X : Type 0} where
     pub set_keys : (w : X) → keys_of (insert_entry nat_cmp es n w) ≡ keys_of es
     pub without : values_of (remove_entry (is_at (nat_cmp n)) es) ≡ before ++ behind
 
-  pub cut : (es : List (ℕ × X)) (n : ℕ) (v : X) → IsRising es → value_at es n ≡ Some v → IsCut es n v
-  cut [] n v up there = absurd cc
-  cut (e ∷ es) n v up there = elim (nat_cmp n e.0) as (λ o. nat_cmp n e.0 ≡ o → IsCut (e ∷ es) n v) [
+  pub cut_at : (es : List (ℕ × X)) (n : ℕ) (v : X) → IsRising es → value_at es n ≡ Some v → IsCutAt es n v
+  cut_at [] n v up there = absurd cc
+  cut_at (e ∷ es) n v up there = elim (nat_cmp n e.0) as (λ o. nat_cmp n e.0 ≡ o → IsCutAt (e ∷ es) n v) [
     | Less ↦ λ f. let later = (after_head e es n v up (rw f at there)).0 in absurd (omega (arith, less n e.0 f))
     | Equal ↦ λ f.
         let h : Some e.1 ≡ Some v = rw f at there in
@@ -116,7 +116,7 @@ module _ {X : Type 0} where
           without = rw f refl;
         }
     | Greater ↦ λ f.
-        let c = cut es n v (rest_rises e es up) (rw f at there) in
+        let c = cut_at es n v (rest_rises e es up) (rw f at there) in
         record {
           before = e.1 ∷ c.before;
           behind = c.behind;

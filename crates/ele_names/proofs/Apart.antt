@@ -7,7 +7,7 @@ use Rattle.std.proofs.lemmas.Bool.{false≢true}
 use Rattle.std.proofs.lemmas.Bool.Decides.{nat_tests}
 use Rattle.std.proofs.lemmas.Slice.Eq.{bytes_eq-Decides}
 use Rattle.ele_lists.specs.Lists.{AllLater}
-use Rattle.ele_lists.specs.Last.{last_of, passing}
+use Rattle.ele_lists.specs.Last.{last_passing, passing}
 use Rattle.ele_lists.proofs.Edits.{all-weaker}
 use Rattle.ele_lists.proofs.Lasts.{find_last}
 use Rattle.ele_moment.specs.Last.{last_moment}
@@ -51,7 +51,7 @@ over o death b t is le up = rw is (grind (arith, nat_tests))
 
 module _ (d : ℕ) (n : List ℕ) (rows : List NameRow) (apart : AllLater Follows rows) where
   -- the live row is the newest, if that is live
-  pub live_is_newest : (newest : Option NameRow) → newest ≡ last_of (is_named d n) rows → find (is_live_name d n) rows ≡ passing (λ row. is_none row.death) newest
+  pub live_is_newest : (newest : Option NameRow) → newest ≡ last_passing (is_named d n) rows → find (is_live_name d n) rows ≡ passing (λ row. is_none row.death) newest
   live_is_newest newest is =
       find_same (is_live_name d n) (λ row. is_named d n row && is_none row.death) rows (λ row. regroup (row.directory == d) (bytes_eq row.name n) (is_none row.death))
       ∙ find_last (is_named d n) (λ row. is_none row.death) rows
@@ -60,7 +60,7 @@ module _ (d : ℕ) (n : List ℕ) (rows : List NameRow) (apart : AllLater Follow
       ∙ ap (passing (λ row. is_none row.death)) (sym is)
 
   -- the row that covers a moment is the newest by then, if it lives on
-  pub covering_is_newest : (t : ℕ) (newest : Option NameRow) → newest ≡ last_of (is_born_by d n t) rows → find (λ row. is_named d n row && covers t row) rows ≡ passing (lives_past t) newest
+  pub covering_is_newest : (t : ℕ) (newest : Option NameRow) → newest ≡ last_passing (is_born_by d n t) rows → find (λ row. is_named d n row && covers t row) rows ≡ passing (lives_past t) newest
   covering_is_newest t newest is =
       find_same (λ row. is_named d n row && covers t row) (λ row. is_born_by d n t row && lives_past t row) rows (λ row. regroup (is_named d n row) (nat_le row.birth t) (lives_past t row))
       ∙ find_last (is_born_by d n t) (lives_past t) rows
@@ -74,7 +74,7 @@ module _ (d : ℕ) (n : List ℕ) (rows : List NameRow) (apart : AllLater Follow
       ∙ ap (passing (lives_past t)) (sym is)
 
 -- all rows are born by the greatest number of seconds
-pub born_by_end : (d : ℕ) (n : List ℕ) (rows : List NameRow) → AllByRecursion (λ row. row.birth ≤ last_moment) rows → last_of (is_born_by d n 18446744073709551615) rows ≡ last_of (is_named d n) rows
+pub born_by_end : (d : ℕ) (n : List ℕ) (rows : List NameRow) → AllByRecursion (λ row. row.birth ≤ last_moment) rows → last_passing (is_born_by d n 18446744073709551615) rows ≡ last_passing (is_named d n) rows
 born_by_end d n [] all = refl
 born_by_end d n (row ∷ rows) all = rw (born_by_end d n rows all.1, same (is_named d n row) row.birth all.0) refl where
   same : (a : Bool) (b : ℕ) → b ≤ last_moment → (a && nat_le b 18446744073709551615) ≡ a

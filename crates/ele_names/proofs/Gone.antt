@@ -13,7 +13,7 @@ use Rattle.ele_lists.specs.Serial.{value_at, is_placed}
 use Rattle.ele_lists.proofs.Between.{all_set, all_without, later_before, later_set, later_without, update_first_between, filter_between, filter_all}
 use Rattle.ele_lists.proofs.Edits.{all-weaker}
 use Rattle.ele_lists.proofs.Indexed.{index_change}
-use Rattle.ele_lists.proofs.Serials.{IsCut, cut, all_keys_without, all_from_each, found_key}
+use Rattle.ele_lists.proofs.Serials.{IsCutAt, cut_at, all_keys_without, all_from_each, found_key}
 use Rattle.ele_moment.specs.Last.{last_moment}
 use Rattle.ele_world.specs.declared.rows.NameRow.{NameRow}
 use Rattle.ele_world.specs.declared.rows.Target.{Target}
@@ -57,8 +57,8 @@ module _ (a : Inside) (kept : IsKept a.table a.made a.lives) where
   es = a.table.rows.entries
 
   module _ (s : ℕ) (row : NameRow) (at : value_at es s ≡ Some row) where
-    c : IsCut es s row
-    c = cut es s row kept.is_table.rising at
+    c : IsCutAt es s row
+    c = cut_at es s row kept.is_table.rising at
 
     module _ (live : is_none row.death ≡ true) (moment : ℕ) where
       -- nothing of its name follows a live row

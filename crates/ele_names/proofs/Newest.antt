@@ -8,7 +8,7 @@ use Rattle.std.specs.Cmp.Lexicographic.{slice_cmp}
 use Rattle.std.proofs.lemmas.Map.Text.{is_eq-slice_cmp}
 use Rattle.std.proofs.lemmas.Bool.{false≢true, cases_lt}
 use Rattle.std.proofs.lemmas.Bool.Decides.{nat_tests}
-use Rattle.ele_lists.specs.Last.{last_of}
+use Rattle.ele_lists.specs.Last.{last_passing}
 use Rattle.ele_lists.specs.Index.{has, IsLastOf}
 use Rattle.ele_lists.specs.Serial.{value_at, is_placed}
 use Rattle.ele_lists.proofs.Serials.{found_key, later_at, none_last, is_last, not_true}
@@ -55,7 +55,7 @@ module _ (table : Table) (is : IsTable table) (d : ℕ) (n : List ℕ) (t : ℕ)
       is.placed.named.each (spot d n) row.birth s
       ∙ rw there (placed_named d n row row.birth ∙ rw (named, itself row.birth) refl)
 
-  pub none_newest : ((r s : ℕ) → r ≤ t → s < 2 ^ 64 → has_at r s ≡ false) → None ≡ last_of (is_born_by d n t) (rows_of table)
+  pub none_newest : ((r s : ℕ) → r ≤ t → s < 2 ^ 64 → has_at r s ≡ false) → None ≡ last_passing (is_born_by d n t) (rows_of table)
   none_newest none = sym (none_last (is_born_by d n t) table.rows.entries is.rising (λ s row there. not_true (is_born_by d n t row) (λ passes.
       let by = born (is_named d n row) row.birth t passes in
       false≢true (sym (none row.birth s by.1 (found_key (λ k. k < 2 ^ 64) table.rows.entries s row is.short there)) ∙ stands s row there by.0))))
@@ -64,7 +64,7 @@ module _ (table : Table) (is : IsTable table) (d : ℕ) (n : List ℕ) (t : ℕ)
     pub gone : at s ≡ None → ⊥
     gone none = false≢true (sym (is.placed.named.each (spot d n) r s ∙ rw none refl) ∙ last.there)
 
-    pub newest : (row : NameRow) → at s ≡ Some row → Some row ≡ last_of (is_born_by d n t) (rows_of table)
+    pub newest : (row : NameRow) → at s ≡ Some row → Some row ≡ last_passing (is_born_by d n t) (rows_of table)
     newest row there =
         let here : (is_named d n row && (row.birth == r)) ≡ true = sym (placed_named d n row r) ∙ sym (is.placed.named.each (spot d n) r s ∙ rw there refl) ∙ last.there in
         let birth = at_birth (is_named d n row) row.birth r t here last.up_to in

@@ -4,7 +4,7 @@ ghost use Rattle.std.specs.Prelude.{◌≡◌, ℕ, Some, [], find, is_none, tru
 ghost use Rattle.std.specs.declared.cmp.Ordering.TheVariants.{Less};
 ghost use Rattle.std.specs.Option.{option_map};
 ghost use Rattle.ele_lists.specs.Index.{has, IsNextGroup};
-ghost use Rattle.ele_lists.specs.Last.{last_of};
+ghost use Rattle.ele_lists.specs.Last.{last_passing};
 ghost use Rattle.ele_lists.specs.Serial.{value_at};
 ghost use Rattle.ele_world.specs.NameRows.{is_named, lives_past};
 ghost use Rattle.ele_world.specs.Walk.{is_live_name};
@@ -42,7 +42,7 @@ impl Table {
     pub fn newest_by(&self, directory: DirId, name: &Name, seconds: u64) -> Option<(u64, NameRow)>
         requires { IsTable self.now }
         ensures newest { option_map (λ e. e.1) result
-            ≡ last_of (is_born_by directory name.now seconds) (rows_of self.now) }
+            ≡ last_passing (is_born_by directory name.now seconds) (rows_of self.now) }
         ensures serial { IfSome result (λ e. value_at self.now.rows.entries e.0 ≡ Some e.1) }
     {
         let spot = Spot {
@@ -58,7 +58,7 @@ impl Table {
     pub fn newest(&self, directory: DirId, name: &Name) -> Option<(u64, NameRow)>
         requires { IsTable self.now }
         ensures newest { option_map (λ e. e.1) result
-            ≡ last_of (is_named directory name.now) (rows_of self.now) }
+            ≡ last_passing (is_named directory name.now) (rows_of self.now) }
         ensures serial { IfSome result (λ e. value_at self.now.rows.entries e.0 ≡ Some e.1) }
     {
         self.newest_by(directory, name, u64::MAX)

@@ -2,7 +2,7 @@
 use Rattle.std.specs.Prelude.{ℕ, ◌==◌, ◌&&◌, nat_le, nat_lt, Bool, true, false, List, Option, is_none, is_some, find}
 use Rattle.std.specs.Option.{option_map, option_map_or}
 use Rattle.std.specs.Str.{bytes_eq}
-use Rattle.ele_lists.specs.Last.{last_of, passing}
+use Rattle.ele_lists.specs.Last.{last_passing, passing}
 use Rattle.ele_world.specs.declared.rows.NameRow.{NameRow}
 use Rattle.ele_world.specs.declared.rows.Target.{Target}
 use Rattle.ele_world.specs.declared.rows.Target.TheVariants.{File, Directory}
@@ -27,7 +27,7 @@ target_at rows moment directory name =
 -- what the newest row of the name stands for, if that row is dead
 abbrev pub last_dead : List NameRow → ℕ → List ℕ → Option Target
 last_dead rows directory name =
-    option_map (λ row. row.target) (passing (λ row. is_some row.death) (last_of (is_named directory name) rows))
+    option_map (λ row. row.target) (passing (λ row. is_some row.death) (last_passing (is_named directory name) rows))
 
 -- a live name in the directory, whatever it is
 abbrev pub is_live_in : ℕ → NameRow → Bool
