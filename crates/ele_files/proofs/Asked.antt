@@ -15,7 +15,7 @@ use Rattle.ele_files.proofs.Stock.{draft_lives, row_lives}
 use Rattle.ele_files.proofs.Rows.{version-of, version-none, draft-found, any-draft, left-shown, handle_file-shown}
 use Rattle.ele_inode_log.specs.declared.row.VersionRow as log
 use Rattle.ele_inode_log.specs.Rows.{is_numbered}
-use Rattle.ele_inode_log.proofs.Lists.{is_some-copied}
+use Rattle.ele_lists.proofs.Shown.{is_some-copied}
 use Rattle.ele_lists.specs.Lists.{remove_first}
 use Rattle.ele_sessions.specs.Closes as closes
 use Rattle.ele_sessions.specs.Sessions as sessions

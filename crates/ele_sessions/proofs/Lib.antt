@@ -1,5 +1,3 @@
-pub mod Places
-pub mod Lifts
 pub mod Found
 pub mod Counts
 pub mod Keepings

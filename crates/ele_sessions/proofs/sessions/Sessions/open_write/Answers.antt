@@ -1,6 +1,6 @@
 use Rattle.ele_sessions.specs.Inside.{writers_in}
 use Rattle.ele_sessions.proofs.Keepings.{few_writers, joined_keeps, file_of}
-use Rattle.ele_sessions.proofs.Places.{rises-map}
+use Rattle.ele_lists.proofs.ShownAt.{rises-map}
 use Rattle.ele_sessions.proofs.sessions.Sessions.open_write.Goals as goal
 
 pub join-requires-clause-rise : goal.join-requires-clause-rise
