@@ -16,3 +16,4 @@ pub mod Cuts
 pub mod Owed
 pub mod Distincts
 pub mod OneToOnes
+pub mod Stocks

@@ -17,15 +17,15 @@ use Rattle.ele_blocks.specs.Distinct.{Named, IsIn, AreOneToOne, names_from, name
 abbrev name_of : ℕ → ℕ → Slot → Named
 name_of file slot x = record { place = record { file = file; slot = slot; writer = x.writer }; block = x.block }
 
-in_either : (n : Named) (xs ys : List Named) → IsIn n (xs ++ ys) → IsIn n xs ⊎ IsIn n ys
+pub in_either : (n : Named) (xs ys : List Named) → IsIn n (xs ++ ys) → IsIn n xs ⊎ IsIn n ys
 in_either n [] ys i = inr i
 in_either n (x ∷ xs) ys i = ⊎_elim (λ (e : n ≡ x). inl (inl e)) (λ (j : IsIn n (xs ++ ys)). ⊎_elim (λ (a : IsIn n xs). inl (inr a)) (λ (b : IsIn n ys). inr b) (in_either n xs ys j)) i
 
-in_front : (n : Named) (xs ys : List Named) → IsIn n xs → IsIn n (xs ++ ys)
+pub in_front : (n : Named) (xs ys : List Named) → IsIn n xs → IsIn n (xs ++ ys)
 in_front n [] ys i = absurd i
 in_front n (x ∷ xs) ys i = ⊎_elim (λ (e : n ≡ x). inl e) (λ (j : IsIn n xs). inr (in_front n xs ys j)) i
 
-in_back : (n : Named) (xs ys : List Named) → IsIn n ys → IsIn n (xs ++ ys)
+pub in_back : (n : Named) (xs ys : List Named) → IsIn n ys → IsIn n (xs ++ ys)
 in_back n [] ys i = i
 in_back n (x ∷ xs) ys i = inr (in_back n xs ys i)
 
@@ -61,7 +61,7 @@ got_within k [] x e = absurd cc
 got_within zero (y ∷ ys) x e = omega arith
 got_within (suc k) (y ∷ ys) x e = omega (arith, got_within k ys x e)
 
-times_got : (k : ℕ) (slots : List Slot) (x : Slot) → slice_get slots k ≡ Some x → 0 < times x.block (ids_of slots)
+pub times_got : (k : ℕ) (slots : List Slot) (x : Slot) → slice_get slots k ≡ Some x → 0 < times x.block (ids_of slots)
 times_got k [] x e = absurd cc
 times_got zero (y ∷ ys) x e =
     let same : y ≡ x = cc in
@@ -85,7 +85,7 @@ pub record SamePlace (p q : Place) : Type 0 where
   pub slot : p.slot ≡ q.slot
   pub writer : p.writer ≡ q.writer
 
-place_same : (p q : Place) → is_place p q ≡ true → SamePlace p q
+pub place_same : (p q : Place) → is_place p q ≡ true → SamePlace p q
 place_same p q h = elim (eqb p.file q.file) as (λ a. eqb p.file q.file ≡ a → SamePlace p q) [
   | false ↦ λ ea. absurd (false≢true (rw ea at h))
   | true ↦ λ ea. elim (eqb p.slot q.slot) as (λ b. eqb p.slot q.slot ≡ b → SamePlace p q) [

@@ -9,3 +9,4 @@ pub mod Renews
 pub mod Pieces
 pub mod LaidOver
 pub mod Distinct
+pub mod Stock

@@ -7,6 +7,7 @@ ghost use Rattle.ele_blocks.specs.Renews.{Renews};
 ghost use Rattle.ele_blocks.specs.Layout.{Layout, shown};
 ghost use Rattle.ele_blocks.specs.LivesIn.{LivesIn};
 ghost use Rattle.ele_blocks.specs.Owes.{Owes, Moves, SameMaps, IsUncrowded};
+ghost use Rattle.ele_blocks.specs.Stock.{StockLaws};
 
 use crate::store::BlockStore;
 
@@ -54,3 +55,8 @@ pub fn a_change_stays_one_to_one(before: &BlockStore, after: &BlockStore)
     let _ = before;
     let _ = after;
 }
+
+/// What every call of a map leaves of the maps of many files, as laws over stores that are or were.
+pub fn stocks()
+    ensures { StockLaws }
+{}

@@ -10,44 +10,46 @@ ghost use Rattle.ele_world.specs.declared.event.Event.TheVariants as event;
 ghost use Rattle.ele_world.specs.Usage.{is_file_of};
 ghost use Rattle.ele_world.specs.World.{next_of, is_version, file_by};
 ghost use Rattle.ele_core.specs.Inside.{world_of, IsTracked, IsSound};
-ghost use Rattle.ele_core.specs.Tracked.{former_key, own_key, one_version};
+ghost use Rattle.ele_core.specs.Queued.{former_moment, own_moment};
+ghost use Rattle.ele_core.specs.Tracked.{one_version};
 ghost use Rattle.ele_core.specs.Closings.{makes_version, is_change};
 
 use crate::book::{blocks, follow_blocks, one_version};
-use crate::keys::{NewKeys, key_at};
+use crate::keys::NewKeys;
 use crate::lookups::is_live;
 use crate::rows::Rows;
 use ele_files::{Closing, Files, Meter};
+use ele_policy::ripe;
 use ele_usage::UsageBook;
-use ele_world::{FileId, Handle, Key, Moment, NoMemory, Reply};
+use ele_world::{FileId, Handle, Moment, NoMemory, Reply};
 
-/// The key of the version before the file's next one, which ends now; none where it isn't held or has ended.
-fn former_key(files: &Files, file: FileId, now: Moment, meter: &mut Meter) -> Option<Key>
+/// The ripe moment that the version before the file's next one gets, which ends now; none where it isn't held or has ended.
+#[tactic(auto, using(crate::proofs::Asked::former_told))]
+fn former_moment(files: &Files, file: FileId, now: Moment, meter: &mut Meter) -> Option<Moment>
     requires past { ForSome
         (find (is_version file (next_of files.now.files file - 1)) files.now.versions)
         (λ row. row.closed ≤ now) }
     requires meter { meter.old < 2 ^ 60 }
-    ensures key { result ≡ former_key files.now file now }
+    ensures moment { result ≡ former_moment files.now.files files.now.versions file now }
     ensures read { meter.new ≤ meter.old + 1 }
 {
-    let policy = files.policy_of(file)?;
-    let number = files.next_of(file).before();
-    let stamps = files.stamps(file, number, meter)?;
+    let stamps = files.stamps(file, files.next_of(file).before(), meter)?;
     if stamps.ended.is_some() {
         return None;
     }
-    key_at(file, number, &policy, stamps.closed, now, Some(now))
+    let policy = files.policy_of(file)?;
+    ripe(&policy, stamps.closed, now, Some(now))
 }
 
-/// The key of the file's next version, which closes now; none where it doesn't end at once.
-fn own_key(files: &Files, file: FileId, now: Moment, is_live: bool) -> Option<Key>
-    ensures { result ≡ own_key files.now file now is_live }
+/// The ripe moment of the file's next version, which closes now; none where it doesn't end at once.
+fn own_moment(files: &Files, file: FileId, now: Moment, is_live: bool) -> Option<Moment>
+    ensures { result ≡ own_moment files.now.files file now is_live }
 {
     if is_live {
         return None;
     }
     let policy = files.policy_of(file)?;
-    key_at(file, files.next_of(file), &policy, now, now, None)
+    ripe(&policy, now, now, None)
 }
 
 /// Whether closing the handle makes a version.
@@ -94,20 +96,22 @@ fn finish(rows: &mut Rows, handle: Handle, file: FileId) -> Result<Reply, NoMemo
 {
     let is_live = is_live(&rows.names, file);
     let keys = NewKeys {
-        former: former_key(&rows.files, file, rows.moment, &mut rows.meter),
-        own: own_key(&rows.files, file, rows.moment, is_live),
+        file,
+        number: rows.files.next_of(file),
+        former: former_moment(&rows.files, file, rows.moment, &mut rows.meter),
+        own: own_moment(&rows.files, file, rows.moment, is_live),
     };
     let before = blocks(&rows.files);
     let bytes = rows.files.draft_length(file);
     // All keys come before the version does, so that one that is refused is still without trace.
-    let added = keys.insert(&mut rows.queue)?;
+    keys.put(&mut rows.queue)?;
     let closed = rows
         .files
         .close(handle, rows.moment, is_live, &mut rows.meter);
     let number = match closed {
         Ok(number) => number,
         Err(refused) => {
-            added.take_back(&mut rows.queue);
+            keys.take(&mut rows.queue);
             return Err(refused);
         }
     };

@@ -4,7 +4,6 @@
 
 mod file;
 mod files;
-mod room;
 mod stamps;
 
 pub use ele_inode_log::Meter;

@@ -244,7 +244,7 @@ impl Names {
     pub fn dir_live(&self, directory: DirId) -> bool
         ensures { result ≡ list_any (is_live_directory directory) self.now.rows }
     {
-        self.lives.of_target.count(Target::Directory(directory)) != 0
+        self.lives.of_target.count(Target::Directory(directory)) > 0
     }
 
     /// How many live names the file has.

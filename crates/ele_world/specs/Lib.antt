@@ -17,12 +17,14 @@ pub mod Run
 pub mod AlwaysWellFormed
 pub mod NothingChanges
 pub mod CreateLeads
+pub mod CloseKeeps
 pub mod OnlyDueLeave
 pub mod HeldStays
 pub mod PassLeavesKept
 pub mod UsageFits
 pub mod RipeMoments
 pub mod RemovalOrder
+pub mod CleanKeepsKeys
 pub mod Pass
 pub mod NewPlaces
 pub mod Whole

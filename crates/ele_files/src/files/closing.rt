@@ -163,11 +163,12 @@ impl Files {
         let Some(at) = place_of(&self.files, file) else {
             unreachable!()
         };
-        self.files[at].log.reserve()?;
+        let held = &mut self.files[at];
+        held.log.reserve()?;
         let Some(map) = map_of(self.sessions.close(handle)) else {
             unreachable!()
         };
-        let number = self.files[at].close_version(opened, now, is_live, map, meter);
+        let number = held.close_version(opened, now, is_live, map, meter);
         Ok(Some(number))
     }
 }

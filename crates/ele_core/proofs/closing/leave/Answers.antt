@@ -29,7 +29,7 @@ returns-clause-step c =
 
 pub returns-clause-tracked : goal.returns-clause-tracked
 returns-clause-tracked c = record {
-  queue = left_queue c.args.rows.now.files c.args.file c.close.new.self c.args.rows.now.queue
+  queue = left_queue c.args.rows.now c.args.file c.close.new.self
       (left c.args.rows.now.files c.args.handle c.args.file c.args.rows.now.moment true c.close.new.self c.requires.file c.requires.makes c.in_ok-close.ensures.ok)
       c.requires.sound.tracked.queue;
   book = c.follow_blocks.ensures;

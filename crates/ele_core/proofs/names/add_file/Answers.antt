@@ -6,7 +6,6 @@ use Rattle.ele_core.proofs.Made.{made_queue}
 use Rattle.ele_core.specs.Inside.{world_of}
 use Rattle.ele_world.specs.World.{default_of}
 use Rattle.ele_world.proofs.Created.{made_is}
-use Rattle.ele_world.specs.WellFormed.{Versions}
 use Rattle.ele_core.proofs.names.add_file.Goals as goal
 
 pub add-requires-2 : goal.add-requires-2
@@ -27,7 +26,8 @@ returns-clause-tracked c =
     let added = rw (c.default_of-policy.ensures, c.deref.ensures.value) at c.in_ok-add.ensures.ok in
     let kinds = rw (c.kind.ensures, c.default_of-policy.ensures, c.deref.ensures.value) at c.add-2.ensures.each in
     record {
-      queue = made_queue rows.files c.add.new.self rows.queue _ rows.moment rows.moment c.default_of-policy.result (c.requires.sound.formed.holds Versions).each c.in_ok-add.ensures.ok c.requires.sound.tracked.queue;
+      queue = rw (c.in_ok-add.ensures.ok, c.put.ensures, c.in_ok-reserve.ensures.items, c.default_of-policy.ensures, c.deref.ensures.value)
+          (made_queue (world_of rows) c.args.directory c.args.name (default_of rows.directories.items c.args.directory) c.requires.sound.formed rows.queue c.requires.sound.tracked.queue);
       book = made_book rows c.args.directory c.args.name c.add.new.self c.add-2.new.self c.requires.sound added kinds;
       bounds = c.requires.sound.tracked.bounds;
     }

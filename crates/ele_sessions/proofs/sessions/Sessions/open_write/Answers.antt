@@ -13,4 +13,4 @@ join-requires-clause-room c =
 pub invariant_of-self-2 : goal.invariant_of-self-2
 invariant_of-self-2 c =
     let kept = joined_keeps _ _ _ c.self.invariant c.args.file in
-    rw (c.in_ok-join.ensures.writers, c.put.ensures, c.reserve.ensures.items) kept
+    rw (c.in_ok-join.ensures.writers, c.put.ensures.items, c.reserve.ensures.items) kept

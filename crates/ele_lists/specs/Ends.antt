@@ -1,0 +1,14 @@
+-- The last element of a list.
+use Rattle.std.specs.Prelude.{List, [], ◌∷◌, Option, Some, None}
+
+-- the last element
+abbrev pub last_of : {X : Type 0} → List X → Option X
+last_of [] = None
+last_of (x ∷ []) = Some x
+last_of (x ∷ y ∷ xs) = last_of (y ∷ xs)
+
+-- with f of the last element in its place
+abbrev pub update_last : {X : Type 0} → (X → X) → List X → List X
+update_last f [] = []
+update_last f (x ∷ []) = f x ∷ []
+update_last f (x ∷ y ∷ xs) = x ∷ update_last f (y ∷ xs)
