@@ -8,7 +8,6 @@ use Rattle.ele_world.specs.declared.rows.Target.{Target}
 use Rattle.ele_world.specs.declared.rows.Target.TheVariants.{File, Directory}
 use Rattle.ele_world.specs.NameRows.{is_live_in, is_target_directory, is_live_directory}
 use Rattle.std.proofs.lemmas.Bool.Decides.{nat_tests}
-use Rattle.ele_names.specs.declared.lives.Lives.{Lives}
 use Rattle.ele_names.specs.Counted.{is_live_of, Leaves}
 use Rattle.ele_names.specs.Spots.{target_eq}
 
