@@ -92,7 +92,7 @@ module _ {X : Type 0} where
     ]
 
   -- the values before and behind that of a serial number, and what a change of it or its removal leaves
-  pub record IsCutAt (es : List (ℕ × X)) (n : ℕ) (v : X) : Type 0 where
+  pub record IsSplitAt (es : List (ℕ × X)) (n : ℕ) (v : X) : Type 0 where
     pub before : List X
     pub behind : List X
     pub values : values_of es ≡ before ++ v ∷ behind
@@ -100,9 +100,9 @@ module _ {X : Type 0} where
     pub set_keys : (w : X) → keys_of (insert_entry nat_cmp es n w) ≡ keys_of es
     pub without : values_of (remove_entry (is_at (nat_cmp n)) es) ≡ before ++ behind
 
-  pub cut_at : (es : List (ℕ × X)) (n : ℕ) (v : X) → IsRising es → value_at es n ≡ Some v → IsCutAt es n v
-  cut_at [] n v up there = absurd cc
-  cut_at (e ∷ es) n v up there = elim (nat_cmp n e.0) as (λ o. nat_cmp n e.0 ≡ o → IsCutAt (e ∷ es) n v) [
+  pub split_at : (es : List (ℕ × X)) (n : ℕ) (v : X) → IsRising es → value_at es n ≡ Some v → IsSplitAt es n v
+  split_at [] n v up there = absurd cc
+  split_at (e ∷ es) n v up there = elim (nat_cmp n e.0) as (λ o. nat_cmp n e.0 ≡ o → IsSplitAt (e ∷ es) n v) [
     | Less ↦ λ f. let later = (after_head e es n v up (rw f at there)).0 in absurd (omega (arith, less n e.0 f))
     | Equal ↦ λ f.
         let h : Some e.1 ≡ Some v = rw f at there in
@@ -116,7 +116,7 @@ module _ {X : Type 0} where
           without = rw f refl;
         }
     | Greater ↦ λ f.
-        let c = cut_at es n v (rest_rises e es up) (rw f at there) in
+        let c = split_at es n v (rest_rises e es up) (rw f at there) in
         record {
           before = e.1 ∷ c.before;
           behind = c.behind;

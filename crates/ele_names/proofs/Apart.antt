@@ -8,7 +8,7 @@ use Rattle.std.proofs.lemmas.Bool.Decides.{nat_tests}
 use Rattle.std.proofs.lemmas.Slice.Eq.{bytes_eq-Decides}
 use Rattle.ele_lists.specs.Lists.{AllLater}
 use Rattle.ele_lists.specs.Last.{last_passing, passing}
-use Rattle.ele_lists.proofs.Edits.{all-weaker}
+use Rattle.ele_lists.proofs.Alls.{later-weaker}
 use Rattle.ele_lists.proofs.Lasts.{find_last}
 use Rattle.ele_moment.specs.Last.{last_moment}
 use Rattle.ele_world.specs.declared.rows.NameRow.{NameRow}
@@ -34,10 +34,6 @@ same_name d n row other a b =
     let that = split (other.directory == d) (bytes_eq other.name n) b in
     (equal row.directory d this.0 ∙ sym (equal other.directory d that.0), (bytes_eq-Decides row.name n).0 this.1 ∙ sym ((bytes_eq-Decides other.name n).0 that.1))
 
-later_weaker : {X : Type 0} (R S : X → X → Type 0) (xs : List X) → ((x y : X) → R x y → S x y) → AllLater R xs → AllLater S xs
-later_weaker R S [] weaker later = tt
-later_weaker R S (x ∷ xs) weaker later = (all-weaker (R x) (S x) xs (weaker x) later.0, later_weaker R S xs weaker later.1)
-
 find_same : {X : Type 0} (p q : X → Bool) (xs : List X) → ((x : X) → p x ≡ q x) → find p xs ≡ find q xs
 find_same p q [] same = refl
 find_same p q (x ∷ xs) same = rw (same x) (ap (λ o. cond (q x) (Some x) o) (find_same p q xs same))
@@ -55,7 +51,7 @@ module _ (d : ℕ) (n : List ℕ) (rows : List NameRow) (apart : AllLater Follow
   live_is_newest newest is =
       find_same (is_live_name d n) (λ row. is_named d n row && is_none row.death) rows (λ row. regroup (row.directory == d) (bytes_eq row.name n) (is_none row.death))
       ∙ find_last (is_named d n) (λ row. is_none row.death) rows
-      (later_weaker Follows (λ x y. is_named d n x ≡ true → is_named d n y ≡ true → is_none x.death ≡ false) rows
+      (later-weaker Follows (λ x y. is_named d n x ≡ true → is_named d n y ≡ true → is_none x.death ≡ false) rows
       (λ x y follows a b. let same = same_name d n x y a b in rw (follows.apart same.0 same.1).1 refl) apart)
       ∙ ap (passing (λ row. is_none row.death)) (sym is)
 
@@ -64,7 +60,7 @@ module _ (d : ℕ) (n : List ℕ) (rows : List NameRow) (apart : AllLater Follow
   covering_is_newest t newest is =
       find_same (λ row. is_named d n row && covers t row) (λ row. is_born_by d n t row && lives_past t row) rows (λ row. regroup (is_named d n row) (nat_le row.birth t) (lives_past t row))
       ∙ find_last (is_born_by d n t) (lives_past t) rows
-      (later_weaker Follows (λ x y. is_born_by d n t x ≡ true → is_born_by d n t y ≡ true → lives_past t x ≡ false) rows
+      (later-weaker Follows (λ x y. is_born_by d n t x ≡ true → is_born_by d n t y ≡ true → lives_past t x ≡ false) rows
       (λ x y follows a b.
       let first = split (is_named d n x) (nat_le x.birth t) a in
       let second = split (is_named d n y) (nat_le y.birth t) b in

@@ -1,5 +1,5 @@
 -- A row between others that dies, or leaves.
-use Rattle.std.proofs.Common.{◌≡◌, ℕ, ◌≤◌, ◌<◌, ◌^◌, Bool, true, false, cond, not, ◌&&◌, ◌==◌, List, ◌∷◌, ◌++◌, length, filter, Some, None, Option, is_none, refl, sym, ap, ◌∙◌, arith, length-append}
+use Rattle.std.proofs.Common.{◌≡◌, ℕ, ◌≤◌, ◌<◌, ◌^◌, Bool, true, false, cond, not, ◌&&◌, ◌==◌, List, [], ◌∷◌, ◌++◌, length, filter, Some, None, Option, is_none, refl, sym, ap, ◌∙◌, arith, length-append}
 use Rattle.std.specs.List.Sorted.{IsStrictlySortedBy}
 use Rattle.std.specs.Str.{bytes_eq}
 use Rattle.std.specs.Ordering.{nat_cmp}
@@ -10,10 +10,12 @@ use Rattle.std.proofs.lemmas.Bool.Decides.{nat_tests}
 use Rattle.ele_lists.specs.Index.{has, IsLastOf}
 use Rattle.ele_lists.specs.Lists.{update_first}
 use Rattle.ele_lists.specs.Serial.{value_at, is_placed}
-use Rattle.ele_lists.proofs.Between.{all_set, all_without, later_before, later_set, later_without, update_first_between, filter_between, filter_all}
+use Rattle.ele_lists.proofs.Alls.{all-append, all-around, all-mid, all-exchange, later-around, later-without, later-exchange}
+use Rattle.ele_lists.proofs.Cuts.{update_first-at}
 use Rattle.ele_lists.proofs.Edits.{all-weaker}
+use Rattle.ele_lists.proofs.Filters.{filter-all}
 use Rattle.ele_lists.proofs.Indexed.{index_change}
-use Rattle.ele_lists.proofs.Serials.{IsCutAt, cut_at, all_keys_without, all_from_each, found_key}
+use Rattle.ele_lists.proofs.Serials.{IsSplitAt, split_at, all_keys_without, all_from_each, found_key}
 use Rattle.ele_moment.specs.Last.{last_moment}
 use Rattle.ele_world.specs.declared.rows.NameRow.{NameRow}
 use Rattle.ele_world.specs.declared.rows.Target.{Target}
@@ -45,6 +47,10 @@ named_dead d n row = any (row.directory == d) (bytes_eq row.name n) (is_none row
   any true false c h = refl
   any false b c h = refl
 
+filter_between : {X : Type 0} (p : X → Bool) (before : List X) (x : X) (behind : List X) → p x ≡ false → filter p (before ++ x ∷ behind) ≡ filter p (before ++ behind)
+filter_between p [] x behind h = rw h refl
+filter_between p (b ∷ before) x behind h = ap (λ ys. cond (p b) (b ∷ ys) ys) (filter_between p before x behind h)
+
 -- a target is where it stands
 target_stands : (t u : Target) (r : ℕ) → r ≤ 0 → is_placed target_cmp t 0 u r ≡ target_eq t u
 target_stands (File a) (File b) r h = grind (arith, nat_tests)
@@ -57,8 +63,8 @@ module _ (a : Inside) (kept : IsKept a.table a.made a.lives) where
   es = a.table.rows.entries
 
   module _ (s : ℕ) (row : NameRow) (at : value_at es s ≡ Some row) where
-    c : IsCutAt es s row
-    c = cut_at es s row kept.is_table.rising at
+    c : IsSplitAt es s row
+    c = split_at es s row kept.is_table.rising at
 
     module _ (live : is_none row.death ≡ true) (moment : ℕ) where
       -- nothing of its name follows a live row
@@ -76,8 +82,8 @@ module _ (a : Inside) (kept : IsKept a.table a.made a.lives) where
         is_table = record {
           rising = rising;
           short = rw keys_are kept.is_table.short;
-          born = rw rows_are (all_set (λ row. row.birth ≤ last_moment) row (dies moment row) (λ h. h) c.before c.behind (rw c.values at kept.is_table.born));
-          apart = rw rows_are (later_set Follows row (dies moment row) (λ b h. record { apart = h.apart; born = h.born }) over c.before c.behind (rw c.values at kept.is_table.apart));
+          born = rw rows_are (let born = rw c.values at kept.is_table.born in all-exchange (λ row. row.birth ≤ last_moment) c.before row (dies moment row) c.behind (all-mid (λ row. row.birth ≤ last_moment) c.before row c.behind born) born);
+          apart = rw rows_are (later-exchange Follows c.before row (dies moment row) c.behind (λ b h. record { apart = h.apart; born = h.born }) (λ rows. all-weaker (Follows row) (Follows (dies moment row)) rows over) (rw c.values at kept.is_table.apart));
           placed = rw places (record {
             named = index_change (value_at t.rows.entries) s row (dies moment row) a.table.places.by_name kept.is_table.placed.named at (λ q r. refl) now;
             targeted = index_change (value_at t.rows.entries) s row (dies moment row) a.table.places.by_target kept.is_table.placed.targeted at (λ q r. refl) now;
@@ -97,10 +103,11 @@ module _ (a : Inside) (kept : IsKept a.table a.made a.lives) where
       pub killed : (d : ℕ) (n : List ℕ) → is_named d n row ≡ true → values_of (insert_entry nat_cmp es s (dies moment row)) ≡ update_first (is_live_name d n) (dies moment) (rows_of a.table)
       killed d n named =
           c.set (dies moment row)
-          ∙ sym (rw c.values (update_first_between (is_live_name d n) (dies moment) row (named_live d n row named live) c.before c.behind
+          ∙ sym (rw c.values (update_first-at (is_live_name d n) (dies moment) c.before row c.behind
           (all-weaker (λ b. Follows b row) (λ b. is_live_name d n b ≡ false) c.before
           (λ b follows. named_dead d n b (λ is. let same = same_name d n b row is named in rw (follows.apart same.0 same.1).1 refl))
-          (later_before Follows row c.before c.behind (rw c.values at kept.is_table.apart)))))
+          (later-around Follows c.before row c.behind (rw c.values at kept.is_table.apart)).0)
+          (named_live d n row named live)))
 
     pub kept_without : (t : Table) (lives : Lives) → t.rows.entries ≡ remove_entry (is_at (nat_cmp s)) es
         → IsStrictlySortedBy nat_cmp (keys_of t.rows.entries)
@@ -112,8 +119,8 @@ module _ (a : Inside) (kept : IsKept a.table a.made a.lives) where
       is_table = record {
         rising = rising;
         short = rw is (all_keys_without (λ k. k < 2 ^ 64) (is_at (nat_cmp s)) es kept.is_table.short);
-        born = rw rows_are (all_without (λ row. row.birth ≤ last_moment) row c.before c.behind (rw c.values at kept.is_table.born));
-        apart = rw rows_are (later_without Follows row c.before c.behind (rw c.values at kept.is_table.apart));
+        born = rw rows_are (let born = all-around (λ row. row.birth ≤ last_moment) c.before row c.behind (rw c.values at kept.is_table.born) in all-append (λ row. row.birth ≤ last_moment) c.before c.behind born.0 born.2);
+        apart = rw rows_are (later-without Follows c.before row c.behind (rw c.values at kept.is_table.apart));
         placed = placed_same (λ k. cond (is_at (nat_cmp s) k) None (value_at es k)) (value_at t.rows.entries) t.places now (placed (value_at es) at kept.is_table.placed);
       };
       below = rw is (all_keys_without (λ k. k < a.made) (is_at (nat_cmp s)) es kept.below);
@@ -135,7 +142,7 @@ module _ (a : Inside) (kept : IsKept a.table a.made a.lives) where
     has_target = has target_cmp a.table.places.by_target target
 
     pub none_of_target : ((r s : ℕ) → r ≤ 0 → s < 2 ^ 64 → has_target r s ≡ false) → filter (is_other target) (rows_of a.table) ≡ rows_of a.table
-    none_of_target none = filter_all (is_other target) (rows_of a.table) (all_from_each (λ row. is_other target row ≡ true) es kept.is_table.rising (λ s row at.
+    none_of_target none = filter-all (is_other target) (rows_of a.table) (all_from_each (λ row. is_other target row ≡ true) es kept.is_table.rising (λ s row at.
         ap not (sym (target_stands row.target target 0 (omega arith)) ∙ sym (kept.is_table.placed.targeted.each target 0 s ∙ rw at refl)
         ∙ none 0 s (omega arith) (found_key (λ k. k < 2 ^ 64) es s row kept.is_table.short at))))
 

@@ -243,7 +243,7 @@ impl Names {
     pub fn dir_live(&self, directory: DirId) -> bool
         ensures { result ≡ list_any (is_live_directory directory) self.now }
     {
-        self.lives.of_target.count(Target::Directory(directory)) != 0
+        self.lives.of_target.count(Target::Directory(directory)) > 0
     }
 
     /// Whether the file has a live name.

@@ -1,7 +1,7 @@
 use Rattle.std.proofs.Common.{refl}
-use Rattle.ele_lists.proofs.Between.{none_counted}
 use Rattle.ele_world.specs.NameRows.{is_live_in}
 use Rattle.ele_names.specs.Kept.{rows_of}
+use Rattle.ele_names.proofs.Counts.{none_counted}
 use Rattle.ele_names.proofs.names.Names.is_empty.Goals as goal
 
 pub returns : goal.returns
