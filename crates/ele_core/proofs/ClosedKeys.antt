@@ -22,7 +22,7 @@ with_files rows h = record (world_of rows) { files = h.files; versions = h.versi
 abbrev Comes : Rows → ℕ → Bool → Key → Bool
 Comes rows file live j = is_either file (next_of rows.files.files file) (former_moment rows.files.files rows.files.versions file rows.moment) (own_moment rows.files.files file rows.moment live) j
 
-file_there : (rows : Rows) (handle file : ℕ) → IsSound rows → file_by rows.files.handles handle ≡ Ok file → makes_version (closing rows.files handle) ≡ true → 0 < next_of rows.files.files file
+pub file_there : (rows : Rows) (handle file : ℕ) → IsSound rows → file_by rows.files.handles handle ≡ Ok file → makes_version (closing rows.files handle) ≡ true → 0 < next_of rows.files.files file
 file_there rows handle file sound of_file makes = by (draft_becomes rows.files handle file of_file makes) where
   by : (draft : DraftRow) × Becomes rows.files handle file draft → 0 < next_of rows.files.files file
   by b = rw (← b.1.own) (all-found (is_draft file) (IsDraft rows.files.files rows.moment) rows.files.drafts b.0 b.1.found (sound.formed.holds Drafts).each).there

@@ -1,8 +1,10 @@
 -- What closing a handle leaves, as the step of the world has it.
-use Rattle.std.proofs.Common.{◌≡◌, ◌≤◌, ◌<◌, ◌+◌, ◌^◌, ℕ, Bool, true, false, cond, [], ◌∷◌, Option, Some, None, Result, Ok, Err, refl, ap, sym, subst, ◌∙◌, arith}
+use Rattle.std.proofs.Common.{◌≡◌, ◌≤◌, ◌<◌, ◌+◌, ◌^◌, ℕ, Bool, true, false, cond, [], ◌∷◌, length, is_some, Option, Some, None, Result, Ok, Err, refl, ap, sym, subst, ◌∙◌, arith}
 use Rattle.std.specs.Prelude.{find, IfSome}
 use Rattle.std.specs.List.{list_any, AllByRecursion}
-use Rattle.std.specs.Option.{ForSome, option_map_or}
+use Rattle.std.specs.Option.{ForSome, option_map, option_map_or}
+use Rattle.ele_content.specs.Content.{content_of}
+use Rattle.ele_world.specs.declared.rows.FileRow.{FileRow}
 use Rattle.std.specs.Result.{result_ok}
 use Rattle.std.proofs.lemmas.Bool.Decides.{nat_tests}
 use Rattle.ele_core.specs.Closings.{makes_version}
@@ -177,6 +179,24 @@ left h handle file now live after of_file makes is =
         changed : (c : Bool) → draft.changed ≡ c → Leaves h file (draft_left (left_by h handle) (Some draft) now live)
         changed true c = absurd (let n = rw c at m in cc)
         changed false c = rw c (record { files = refl; versions = refl; changes = subst (λ (id : ℕ). ChangesOnly id (told_by h) (told_by (record (left_by h handle) { drafts = remove_first (is_draft draft.file) h.drafts }))) own (vanished draft.file) })
+
+-- ---- what is told of the file and of the draft
+
+pub number_told : (o : Option FileRow) (n : ℕ) → Some n ≡ option_map (λ (row : FileRow). row.next) o → n ≡ option_map_or (λ (row : FileRow). row.next) o 0
+number_told None n e = absurd cc
+number_told (Some row) n e = cc
+
+pub untold : (o : Option FileRow) → None ≡ option_map (λ (row : FileRow). row.next) o → 0 < option_map_or (λ (row : FileRow). row.next) o 0 → ⊥
+untold None e there = omega (arith, there)
+untold (Some row) e there = cc
+
+pub bytes_told : (o : Option DraftRow) (n : ℕ) → Some n ≡ option_map (λ (row : DraftRow). length (content_of row.cells)) o → n ≡ length (content_of (option_map_or (λ (row : DraftRow). row.cells) o []))
+bytes_told None n e = absurd cc
+bytes_told (Some row) n e = cc
+
+pub undrafted : (o : Option DraftRow) → None ≡ option_map (λ (row : DraftRow). length (content_of row.cells)) o → is_some o ≡ true → ⊥
+undrafted None e there = cc
+undrafted (Some row) e there = cc
 
 -- ---- by what is told of the draft
 

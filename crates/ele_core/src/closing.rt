@@ -1,14 +1,16 @@
 //! The event that closes a handle, and may make its draft a version.
-ghost use Rattle.std.specs.Prelude.{◌≡◌, ◌≤◌, ◌<◌, ◌-◌, ◌+◌, ◌^◌, Some, None, Ok, IfOk, OnErr, find, if◌then◌else◌};
+ghost use Rattle.std.specs.Prelude.{◌≡◌, ◌≤◌, ◌<◌, ◌-◌, ◌+◌, ◌^◌, true, Some, None, Ok, IfOk, OnErr, find, is_some, length, if◌then◌else◌};
 ghost use Rattle.std.specs.Option.{ForSome};
+ghost use Rattle.ele_content.specs.Content.{content_of};
 ghost use Rattle.ele_files.specs.Closing.{closing, changed_of};
+ghost use Rattle.ele_files.specs.Held.{cells_of_draft};
 ghost use Rattle.ele_policy.specs.declared.policy.Kind.{Kind};
 ghost use Rattle.ele_usage.specs.Book.{sums_of};
 ghost use Rattle.ele_usage.specs.Sums.{nothing, plus, Fits};
 ghost use Rattle.ele_world.specs.Step.{step};
 ghost use Rattle.ele_world.specs.declared.event.Event.TheVariants as event;
 ghost use Rattle.ele_world.specs.Usage.{is_file_of};
-ghost use Rattle.ele_world.specs.World.{next_of, is_version, file_by};
+ghost use Rattle.ele_world.specs.World.{next_of, is_draft, is_version, file_by};
 ghost use Rattle.ele_core.specs.Inside.{world_of, IsTracked, IsSound};
 ghost use Rattle.ele_core.specs.Queued.{former_moment, own_moment};
 ghost use Rattle.ele_core.specs.Tracked.{one_version};
@@ -19,11 +21,18 @@ use crate::rows::Rows;
 use ele_files::{Files, Meter};
 use ele_policy::ripe;
 use ele_usage::UsageBook;
-use ele_world::{FileId, Handle, Moment, NoMemory, Reply};
+use ele_world::{FileId, Handle, Moment, NoMemory, Reply, VersionNo};
 
 /// The ripe moment that the version before the file's next one gets, which ends now; none where it isn't held or has ended.
 #[tactic(auto, using(crate::proofs::Asked::former_told))]
-fn former_moment(files: &Files, file: FileId, now: Moment, meter: &mut Meter) -> Option<Moment>
+fn former_moment(
+    files: &Files,
+    file: FileId,
+    next: VersionNo,
+    now: Moment,
+    meter: &mut Meter,
+) -> Option<Moment>
+    requires next { next ≡ next_of files.now.files file }
     requires past { ForSome
         (find (is_version file (next_of files.now.files file - 1)) files.now.versions)
         (λ row. row.closed ≤ now) }
@@ -31,7 +40,7 @@ fn former_moment(files: &Files, file: FileId, now: Moment, meter: &mut Meter) ->
     ensures moment { result ≡ former_moment files.now.files files.now.versions file now }
     ensures read { meter.new ≤ meter.old + 1 }
 {
-    let stamps = files.stamps(file, files.next_of(file).before(), meter)?;
+    let stamps = files.stamps(file, next.before(), meter)?;
     if stamps.ended.is_some() {
         return None;
     }
@@ -48,6 +57,28 @@ fn own_moment(files: &Files, file: FileId, now: Moment, is_live: bool) -> Option
     }
     let policy = files.policy_of(file)?;
     ripe(&policy, now, now, None)
+}
+
+/// The number of the file's next version; the file is there.
+fn next_number(files: &Files, file: FileId) -> VersionNo
+    requires { 0 < next_of files.now.files file }
+    ensures { result ≡ next_of files.now.files file }
+{
+    let Some(number) = files.next_of(file) else {
+        unreachable!()
+    };
+    number
+}
+
+/// How many bytes the file's draft has; it has one.
+fn draft_bytes(files: &Files, file: FileId) -> u64
+    requires { is_some (find (is_draft file) files.now.drafts) ≡ true }
+    ensures { result ≡ length (content_of (cells_of_draft files.now file)) }
+{
+    let Some(bytes) = files.draft_length(file) else {
+        unreachable!()
+    };
+    bytes
 }
 
 /// The book has one version more for the kind of the file, of so many bytes.
@@ -72,14 +103,15 @@ fn finish(rows: &mut Rows, handle: Handle, file: FileId, opened: Moment) -> Resu
     ensures tracked { IsTracked rows.new }
 {
     let is_live = rows.names.is_live(file);
+    let next = next_number(&rows.files, file);
     let keys = NewKeys {
         file,
-        number: rows.files.next_of(file),
-        former: former_moment(&rows.files, file, rows.moment, &mut rows.meter),
+        number: next,
+        former: former_moment(&rows.files, file, next, rows.moment, &mut rows.meter),
         own: own_moment(&rows.files, file, rows.moment, is_live),
     };
     let before = blocks(&rows.files);
-    let bytes = rows.files.draft_length(file);
+    let bytes = draft_bytes(&rows.files, file);
     // All keys come before the version does, so that one that is refused is still without trace.
     keys.put(&mut rows.queue)?;
     let now = rows.moment;

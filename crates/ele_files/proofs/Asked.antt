@@ -1,5 +1,5 @@
 -- What is answered of versions, drafts and handles, as the rows show it.
-use Rattle.std.proofs.Common.{◌≡◌, ℕ, Bool, true, false, cond, ◌||◌, List, [], ◌∷◌, map, Option, Some, None, is_some, refl, sym, ap, ◌∙◌}
+use Rattle.std.proofs.Common.{◌≡◌, ℕ, Bool, true, false, cond, ◌||◌, List, [], ◌∷◌, length, map, Option, Some, None, is_some, refl, sym, ap, ◌∙◌}
 use Rattle.std.specs.List.{find, flat_map, list_any}
 use Rattle.std.specs.Option.{option_map, option_copied}
 use Rattle.std.specs.Borrow.{Bor}
@@ -22,6 +22,8 @@ use Rattle.ele_sessions.specs.Sessions as sessions
 use Rattle.ele_sessions.specs.Sessions.{Draft, AllSessions}
 use Rattle.ele_sessions.specs.declared.closing.Closing.{Closing}
 use Rattle.ele_sessions.specs.declared.closing.Closing.TheVariants.{StillOpen}
+use Rattle.ele_content.specs.Content.{content_of}
+use Rattle.ele_world.specs.declared.rows.DraftRow.{DraftRow}
 use Rattle.ele_world.specs.World.{is_version, is_draft}
 
 -- a test passes somewhere if something is found
@@ -58,7 +60,19 @@ module _ (s : Store) (files : List File) (ss : AllSessions) (file : ℕ) where
     by None is none = rw (draft-found s file ss.drafts, is) refl
     by (Some d) is none = absurd cc
 
+  pub no_draft : None ≡ option_map (λ (d : Draft). d.layout) (sessions.draft_of ss file) → find (is_draft file) (map (draft_in s) ss.drafts) ≡ None
+  no_draft = by (sessions.draft_of ss file) refl where
+    by : (o : Option Draft) → sessions.draft_of ss file ≡ o → None ≡ option_map (λ (d : Draft). d.layout) o → find (is_draft file) (map (draft_in s) ss.drafts) ≡ None
+    by None is none = rw (draft-found s file ss.drafts, is) refl
+    by (Some d) is none = absurd cc
+
   module _ (kept : Keeps s files ss) (m : Layout) where
+    pub draft_long : Some m ≡ option_map (λ (d : Draft). d.layout) (sessions.draft_of ss file) → option_map (λ (row : DraftRow). length (content_of row.cells)) (find (is_draft file) (map (draft_in s) ss.drafts)) ≡ Some m.size
+    draft_long = by (sessions.draft_of ss file) refl where
+      by : (o : Option Draft) → sessions.draft_of ss file ≡ o → Some m ≡ option_map (λ (d : Draft). d.layout) o → option_map (λ (row : DraftRow). length (content_of row.cells)) (find (is_draft file) (map (draft_in s) ss.drafts)) ≡ Some m.size
+      by None is got = absurd cc
+      by (Some d) is got = let same : m ≡ d.layout = cc in rw (draft-found s file ss.drafts, is, same) (ap (λ n. Some n) (kept.laws.long s d.layout (draft_lives s files ss kept file d is)))
+
     pub draft-map : Some m ≡ option_map (λ (d : Draft). d.layout) (sessions.draft_of ss file) → LivesIn s m × (cells_of_draft (held_in s files ss) file ≡ shown s m)
     draft-map = by (sessions.draft_of ss file) refl where
       by : (o : Option Draft) → sessions.draft_of ss file ≡ o → Some m ≡ option_map (λ (d : Draft). d.layout) o → LivesIn s m × (cells_of_draft (held_in s files ss) file ≡ shown s m)

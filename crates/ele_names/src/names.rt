@@ -250,7 +250,7 @@ impl Names {
     pub fn is_live(&self, file: FileId) -> bool
         ensures { result ≡ list_any (is_live_name_of file) self.now }
     {
-        self.names_of(file) != 0
+        self.names_of(file) > 0
     }
 
     /// How many live names the file has.
