@@ -47,9 +47,13 @@ module _ (s : Store) (file number : ℕ) (files : List File) (a : AllSessions) (
     stamps-is row n is long = rw (version-of s file number files kept.rise f found, is, kept.laws.long s row.cells (row_lives s files a kept file (is_numbered number) f row found is), long) refl
 
 -- the draft of a file
+copied : (o : Option (Bor Layout)) → is_some (option_copied o) ≡ is_some o
+copied None = refl
+copied (Some m) = refl
+
 module _ (s : Store) (files : List File) (ss : AllSessions) (file : ℕ) where
   pub drafted : (o : Option (Bor Layout)) → option_copied o ≡ option_map (λ (d : Draft). d.layout) (sessions.draft_of ss file) → is_some o ≡ list_any (is_draft file) (map (draft_in s) ss.drafts)
-  drafted o is = sym (is_some-copied o) ∙ (ap is_some is ∙ (same (sessions.draft_of ss file) ∙ (any-found (sessions.is_draft file) ss.drafts ∙ sym (any-draft s file ss.drafts)))) where
+  drafted o is = sym (copied o) ∙ (ap is_some is ∙ (same (sessions.draft_of ss file) ∙ (any-found (sessions.is_draft file) ss.drafts ∙ sym (any-draft s file ss.drafts)))) where
     same : (d : Option Draft) → is_some (option_map (λ (d : Draft). d.layout) d) ≡ is_some d
     same None = refl
     same (Some d) = refl
