@@ -42,7 +42,7 @@ follow_blocks-requires-clause-fits c =
 
 pub returns-clause-step : goal.returns-clause-step
 returns-clause-step c =
-    let lives : c.is_live-is_live.result ≡ is_live (world_of c.args.rows.now) c.args.file = c.is_live-is_live.ensures ∙ ap (list_any (is_live_name_of c.args.file)) c.deref.ensures.value in
+    let lives : c.is_live-is_live.result ≡ is_live (world_of c.args.rows.now) c.args.file = c.is_live-is_live.ensures in
     finished_step (world_of c.args.rows.now) c.args.handle c.args.file c.is_live-is_live.result c.finish-finished.new.self (Some c.in-Ok.number) lives (made c.args.rows.now.files c.args.handle c.args.file c.args.opened c.requires.changed).of_file (made c.args.rows.now.files c.args.handle c.args.file c.args.opened c.requires.changed).makes c.in-Ok.ensures.ok (ap (λ n. Some n) c.in-Ok.ensures.number ∙ sym (made c.args.rows.now.files c.args.handle c.args.file c.args.opened c.requires.changed).number)
 
 pub returns-clause-tracked : goal.returns-clause-tracked
