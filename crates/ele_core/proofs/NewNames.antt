@@ -40,7 +40,7 @@ module _ (w : World) (directory : ℕ) (name : List ℕ) (k : IsWellFormed w) wh
       filter-append (λ row. not (is_target_file id row.target)) w.names (named ∷ [])
       ∙ rw own (append-nil (filter (λ row. not (is_target_file id row.target)) w.names))
       ∙ filter-all (λ row. not (is_target_file id row.target)) w.names
-          (all-weaker (IsNameRow w.files w.now) (λ row. not (is_target_file id row.target) ≡ true) w.names (λ row h. other_target row.target h.there) (k.holds Names).each)
+      (all-weaker (IsNameRow w.files w.now) (λ row. not (is_target_file id row.target) ≡ true) w.names (λ row h. other_target row.target h.there) (k.holds Names).each)
     where
       own : not (is_target_file id (File id)) ≡ false
       own = grind (arith, nat_tests)

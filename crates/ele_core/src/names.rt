@@ -39,7 +39,8 @@ fn add_file(rows: &mut Rows, directory: DirId, name: Name) -> Result<FileId, NoM
     let id = FileId(rows.made.files + 1);
     let policy = default_of(&rows.directories, directory);
     blocks_fit(&rows.files);
-    rows.names.add(directory, name, Target::File(id), rows.moment)?;
+    rows.names
+        .add(directory, name, Target::File(id), rows.moment)?;
     if let Err(refused) = rows.files.add(id, policy, rows.moment) {
         // The name goes again: it is the only one of the file.
         rows.names.drop_file(id);
