@@ -16,9 +16,19 @@ use crate::seam::{
 use std::alloc::{AllocError, Global};
 use std::marker::Model;
 
-/// How many rows a chunk has room for: enough that a million rows make few chunks, and few enough
-/// that a removal moves little.
+/// How many rows a chunk has room for at most: enough that a million rows make few chunks, and few
+/// enough that a removal moves little.
 const LONGEST: usize = 64;
+
+/// And at least: most lists stay short, and each takes no more than it needs.
+const SHORTEST: usize = 4;
+
+/// How many rows the next chunk has room for where there are so many: as many again, within the bounds.
+fn next_room(count: usize) -> usize
+    ensures { 1 ≤ result }
+{
+    count.clamp(SHORTEST, LONGEST)
+}
 
 /// Rows in chunks, each chunk in a block of memory of its own: a removal moves the rows of one
 /// chunk. A chunk without rows is kept beside them for the next.
@@ -76,7 +86,7 @@ impl<T: Drop> Chunks<T> {
             return Err(AllocError);
         }
         if self.fresh.is_none() {
-            self.fresh = Some(Vec::with_capacity(self.alloc, LONGEST)?);
+            self.fresh = Some(Vec::with_capacity(self.alloc, next_room(self.count))?);
         }
         Ok(())
     }
