@@ -15,11 +15,11 @@ use Rattle.ele_blocks.specs.Shared.{times}
 use Rattle.ele_blocks.specs.Stock.{Tagged, SameStock, IsStocked, ShowsSame, Stays, IsEarlier, StockLaws, layouts_of, names_in, is_below, empty_layout}
 use Rattle.ele_blocks.specs.Store.{Store}
 use Rattle.ele_blocks.proofs.Distincts.{as_many}
-use Rattle.ele_blocks.proofs.OneToOnes.{in_either, in_front, in_back, place_same, stays_one_to_one}
+use Rattle.ele_blocks.proofs.OneToOnes.{in_either, in_front, in_back, place_same, slot_owned, stays_one_to_one}
 use Rattle.ele_blocks.proofs.Owed.{tally-append, same_maps, owes_none, owes_same, owes_new, owes_lives, owes_uncrowded, moves_owes, rest_stays, rest_slots}
 use Rattle.ele_blocks.proofs.Backing.{slots_backed}
 use Rattle.ele_blocks.specs.LivesIn.{backing}
-use Rattle.ele_blocks.proofs.Sizes.{length-content, whole_short}
+use Rattle.ele_blocks.proofs.Sizes.{length-content, slots-count, whole_short}
 use Rattle.ele_content.specs.Place.{is_place}
 
 tally-sum : {X : Type 0} (f : X → ℕ) (xs : List X) → tally f xs ≡ sum_by f xs
@@ -182,6 +182,9 @@ in_same s ts us same h = record {
 with_empty : (s : Store) (file below : ℕ) (ts : List Tagged) → IsStocked s ts → IsStocked s (record { file = file; below = below; layout = empty_layout } ∷ ts)
 with_empty s file below ts h = record { owed = owes_new s (layouts_of ts) h.owed; one_to_one = h.one_to_one; written = omega (arith, h.written) }
 
+without_empty : (s : Store) (file below : ℕ) (ts : List Tagged) → IsStocked s (record { file = file; below = below; layout = empty_layout } ∷ ts) → IsStocked s ts
+without_empty s file below ts h = record { owed = record { counted = λ leaf. omega (arith, h.owed.counted leaf); backed = h.owed.backed; whole = omega (arith, h.owed.whole) }; one_to_one = h.one_to_one; written = omega (arith, h.written) }
+
 -- maps that name what they named
 same_slots : (s t : Store) (ts : List Tagged) → map (slots_of t) (layouts_of ts) ≡ map (slots_of s) (layouts_of ts) → (names_in t ts ≡ names_in s ts) × (late t ts ≡ late s ts)
 same_slots s t [] e = (refl, refl)
@@ -263,10 +266,13 @@ stock_laws = record {
   none = record { owed = owes_none; one_to_one = λ m n i j. absurd i; written = refl };
   same = in_same;
   empty = with_empty;
+  no_empty = without_empty;
   empty_lives = λ s. record { owned = record { owned = λ id. omega arith }; backed = λ id some. absurd (omega (arith, some)); whole = refl };
   lives = λ s t ts h. owes_lives s (layouts_of (t ∷ ts)) t.layout (layouts_of ts) h.owed (same_maps (layouts_of (t ∷ ts)));
   long = λ s m lives. length-content s m lives.whole;
   short = λ s m lives. whole_short s m lives.whole;
+  owned = λ s m k slot lives got. slot_owned s m lives k slot got;
+  slots = λ s m lives. slots-count s m lives.whole;
   few = λ s ts h few. owes_uncrowded s (layouts_of ts) h.owed (omega (arith, few, length-map ts (λ (t : Tagged). t.layout)));
   blocks = λ s ts h. rw (← blocks_named s ts) (sym (as_many (names_in s ts) h.one_to_one));
   gone = λ s t ts was rest h apart moves. goes s t ts was rest h apart moves;

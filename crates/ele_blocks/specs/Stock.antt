@@ -1,13 +1,14 @@
 -- The maps of many files over one store: what the store is owed, and what each call makes of it. Nothing here looks into a map.
-use Rattle.std.specs.Prelude.{◌≡◌, ℕ, ◌+◌, ◌≤◌, ◌^◌, Bool, nat_lt, nat_eq, List, [], ◌∷◌, length, map, if◌then◌else◌}
+use Rattle.std.specs.Prelude.{◌≡◌, ℕ, ◌+◌, ◌≤◌, ◌^◌, ◌<◌, Bool, nat_lt, nat_eq, List, [], ◌∷◌, length, map, Some, slice_get, if◌then◌else◌}
 use Rattle.std.specs.List.{flat_map, list_all, sum_by, AllByRecursion}
 use Rattle.ele_blocks.specs.Distinct.{Named, names_of, blocks_of, AreOneToOne}
 use Rattle.ele_blocks.specs.Layout.{Layout, slots_of, shown}
 use Rattle.ele_blocks.specs.LivesIn.{LivesIn}
 use Rattle.ele_blocks.specs.Owes.{tally, Owes, Moves, IsUncrowded}
 use Rattle.ele_blocks.specs.Renews.{Renews}
-use Rattle.ele_blocks.specs.Store.{Store, no_blocks}
-use Rattle.ele_content.specs.Content.{content_of, longest_content}
+use Rattle.ele_blocks.specs.Store.{Store, no_blocks, owners_at}
+use Rattle.ele_blocks.specs.declared.slot.Slot.{Slot}
+use Rattle.ele_content.specs.Content.{content_of, longest_content, slot_count}
 use Rattle.ele_content.specs.Place.{different, is_place}
 
 -- a map, the file that it is of, and a number that is greater than that of each writer of its slots
@@ -58,11 +59,14 @@ pub record StockLaws : Type 0 where
   pub same : (s : Store) (ts us : List Tagged) → SameStock ts us → IsStocked s ts → IsStocked s us
   -- the map of no bytes comes and goes without a change
   pub empty : (s : Store) (file below : ℕ) (ts : List Tagged) → IsStocked s ts → IsStocked s (record { file = file; below = below; layout = empty_layout } ∷ ts)
+  pub no_empty : (s : Store) (file below : ℕ) (ts : List Tagged) → IsStocked s (record { file = file; below = below; layout = empty_layout } ∷ ts) → IsStocked s ts
   pub empty_lives : (s : Store) → LivesIn s empty_layout
   -- each map lives in the store
   pub lives : (s : Store) (t : Tagged) (ts : List Tagged) → IsStocked s (t ∷ ts) → LivesIn s t.layout
   pub long : (s : Store) (m : Layout) → LivesIn s m → length (content_of (shown s m)) ≡ m.size
   pub short : (s : Store) (m : Layout) → LivesIn s m → m.size ≤ longest_content
+  pub owned : (s : Store) (m : Layout) (k : ℕ) (slot : Slot) → LivesIn s m → slice_get (slots_of s m) k ≡ Some slot → 0 < owners_at s slot.block
+  pub slots : (s : Store) (m : Layout) → LivesIn s m → length (slots_of s m) ≡ slot_count m.size
   pub few : (s : Store) (ts : List Tagged) → IsStocked s ts → length ts ≤ 2 ^ 50 → IsUncrowded s
   -- as many blocks as places
   pub blocks : (s : Store) (ts : List Tagged) → IsStocked s ts → different nat_eq (blocks_of s (layouts_of ts)) ≡ different is_place (map (λ n. n.place) (names_in s ts))

@@ -1,12 +1,13 @@
 -- The book of usage, as the files change.
-use Rattle.std.proofs.Common.{◌≡◌, ℕ, ◌+◌, ◌-◌, ◌<◌, ◌≤◌, ◌^◌, Bool, true, false, cond, eqb, List, [], ◌∷◌, length, Some, None, Result, Ok, refl, ap, sym, subst, ◌∙◌, arith}
+use Rattle.std.proofs.Common.{◌≡◌, ℕ, ◌+◌, ◌-◌, ◌<◌, ◌≤◌, ◌^◌, Bool, true, false, cond, eqb, List, [], ◌∷◌, ◌++◌, length, Some, Result, Ok, refl, ap, sym, subst, ◌∙◌, arith}
+use Rattle.std.specs.List.{list_any}
 use Rattle.std.specs.Result.{result_ok}
 use Rattle.ele_core.specs.Inside.{world_of, IsSound, IsTracked}
-use Rattle.ele_core.specs.Tracked.{told, told_by, blocks_of, only_blocks, of_file, IsOwed, IsBooked}
+use Rattle.ele_core.specs.Tracked.{told, told_by, blocks_of, only_blocks, IsOwed, IsBooked}
 use Rattle.ele_core.specs.declared.rows.Rows.{Rows}
 use Rattle.ele_content.specs.Content.{content_of, cells_after_truncate}
-use Rattle.ele_files.specs.Held.{Held, with_file, opened_by, written_by, written_of, fitted, fitted_of}
-use Rattle.ele_lists.specs.Lists.{update_first}
+use Rattle.ele_files.specs.Held.{Held, changed_at, with_file, opened_by, written_by, written_of, fitted, fitted_of}
+use Rattle.ele_lists.specs.Lists.{update_first, insert_before}
 use Rattle.ele_policy.specs.declared.policy.Kind.{Kind}
 use Rattle.ele_policy.specs.declared.policy.Kind.TheVariants as kind
 use Rattle.ele_policy.specs.declared.policy.Policy.{Policy}
@@ -18,11 +19,12 @@ use Rattle.ele_usage.specs.Sums.{nothing, plus, Fits}
 use Rattle.ele_world.specs.Usage.{usage_of, is_file_of, bytes_in}
 use Rattle.ele_world.specs.Whole.{whole, ChangesOnly}
 use Rattle.ele_world.specs.declared.rows.DraftRow.{DraftRow}
-use Rattle.ele_world.specs.Change.{changed_by, fitted_by}
+use Rattle.ele_world.specs.Change.{OpenHandle, StartDraft, changed_by, fitted_by, new_draft}
 use Rattle.ele_world.proofs.Created.{created}
-use Rattle.ele_world.proofs.Opened.{opened}
+use Rattle.ele_world.proofs.Opened.{opened, with_draft}
+use Rattle.ele_world.specs.declared.rows.Reads.TheVariants.{Draft}
 use Rattle.ele_world.specs.declared.refusal.Refusal.{Refusal}
-use Rattle.ele_world.specs.World.{World, default_of, policy_of, next_of, is_draft, file_by}
+use Rattle.ele_world.specs.World.{World, default_of, policy_of, next_of, is_draft, is_draft_after, file_by}
 use Rattle.ele_world.proofs.Usages.{usage_changes, usage_same, within_files, within_versions, within_bytes, within_blocks, whole_files, whole_versions, whole_bytes, changes_opened, changes_updated, created_usage, only_at_is}
 
 -- what a kind may use, but for its blocks
@@ -102,11 +104,24 @@ drafts_owed rows file now before tracked is same changes =
     (owed file rows.files now rows.book 0 0 0 0 changes (ap (λ (rs : List _). length rs + 0) same) (ap (λ (rs : List _). bytes_in rs + 0) same)
     (λ k. ap (λ (u : Usage). plus u (cond (is_file_of now.files k file) (some_versions 0 0) nothing)) (tracked.book k)))
 
--- a handle is opened
+-- a handle is opened, whether the file has a draft or not
+abbrev with_handle : Rows → ℕ → Held
+with_handle rows file = record rows.files {
+  drafts = with_draft (world_of rows) file;
+  handles = rows.files.handles ++ record { number = rows.files.opened + 1; reads = Draft file } ∷ [];
+  opened = rows.files.opened + 1;
+}
+
 pub opened_owed : (rows : Rows) (file : ℕ) (now : Held) (before : ℕ) → IsTracked rows → before ≡ blocks_of rows.files → now ≡ opened_by rows.files file rows.moment → IsOwed now rows.book file before
 opened_owed rows file now before tracked is after =
-    subst (λ (h : Held). IsOwed h rows.book file before) (sym after)
-    (drafts_owed rows file (opened_by rows.files file rows.moment) before tracked is refl (retold file (world_of rows) (opened (world_of rows) file 0) (changes_opened (world_of rows) file 0)))
+    subst (λ (h : Held). IsOwed h rows.book file before) (sym (after ∙ either (list_any (is_draft file) rows.files.drafts)))
+    (drafts_owed rows file (with_handle rows file) before tracked is refl (retold file (world_of rows) (opened (world_of rows) file 0) (changes_opened (world_of rows) file 0))) where
+      number : ℕ
+      number = rows.files.opened + 1
+
+      either : (b : Bool) → changed_at rows.files rows.moment (cond b (OpenHandle number file ∷ []) (StartDraft file ∷ OpenHandle number file ∷ [])) ≡ record (with_handle rows file) { drafts = cond b rows.files.drafts (insert_before (is_draft_after file) (new_draft (world_of rows) file) rows.files.drafts) }
+      either true = refl
+      either false = refl
 
 -- a draft is changed
 pub updated_owed : (rows : Rows) (file : ℕ) (now : Held) (before : ℕ) (f : DraftRow → DraftRow) → ((row : DraftRow) → (f row).file ≡ row.file) → IsTracked rows → before ≡ blocks_of rows.files → now ≡ record rows.files { drafts = update_first (is_draft file) f rows.files.drafts } → IsOwed now rows.book file before
@@ -173,17 +188,6 @@ shift_fits files book file before policy owed of room few_before few_now =
     let blocks : (usage_of (told_by files) k).blocks + before ≡ (sums_of book k).blocks + blocks_of files = ap (λ (u : Usage). u.blocks) e in
     let within = within_blocks (told_by files) k in
     record { files = omega (arith, room.files); versions = omega (arith, room.versions); bytes = omega (arith, room.bytes); blocks = omega (arith, blocks, within, few_before, few_now) }
-
--- ---- a version that has left
-
-pub of_file_is : (h : Held) (file : ℕ) (policy : Policy) (usage : Usage) (k : Kind) → policy_of h.files file ≡ Some policy → of_file h file usage k ≡ only_at (kind_of policy) usage k
-of_file_is h file policy usage k of = rw of (sym (only_at_is k (kind_of policy) usage))
-
-pub of_no_file : (h : Held) (file : ℕ) (usage : Usage) (k : Kind) → policy_of h.files file ≡ None → of_file h file usage k ≡ nothing
-of_no_file h file usage k of = rw of refl
-
-pub its_kind : (h : Held) (file : ℕ) (policy : Policy) → policy_of h.files file ≡ Some policy → is_file_of h.files (kind_of policy) file ≡ true
-its_kind h file policy of = rw of (same_kind (kind_of policy))
 
 pub and_nothing : (u : Usage) → plus u nothing ≡ u
 and_nothing u = same_usage (plus u nothing) u (omega arith) (omega arith) (omega arith) (omega arith)

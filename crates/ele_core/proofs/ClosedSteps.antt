@@ -1,19 +1,22 @@
 -- What closing a handle leaves, as the step of the world has it.
-use Rattle.std.proofs.Common.{◌≡◌, ◌≤◌, ◌<◌, ◌+◌, ◌^◌, ℕ, Bool, true, false, cond, [], ◌∷◌, Option, Some, None, Result, Ok, refl, ap, sym, subst, ◌∙◌, arith}
+use Rattle.std.proofs.Common.{◌≡◌, ◌≤◌, ◌<◌, ◌+◌, ◌^◌, ℕ, Bool, true, false, cond, [], ◌∷◌, length, is_some, Option, Some, None, Result, Ok, Err, refl, ap, sym, subst, ◌∙◌, arith}
 use Rattle.std.specs.Prelude.{find, IfSome}
 use Rattle.std.specs.List.{list_any, AllByRecursion}
-use Rattle.std.specs.Option.{ForSome, option_map_or}
+use Rattle.std.specs.Option.{ForSome, option_map, option_map_or}
+use Rattle.ele_content.specs.Content.{content_of}
+use Rattle.ele_world.specs.declared.rows.FileRow.{FileRow}
 use Rattle.std.specs.Result.{result_ok}
 use Rattle.std.proofs.lemmas.Bool.Decides.{nat_tests}
 use Rattle.ele_core.specs.Closings.{makes_version}
 use Rattle.ele_core.specs.Inside.{IsSound}
 use Rattle.ele_core.specs.Tracked.{told_by}
 use Rattle.ele_core.specs.declared.rows.Rows.{Rows}
-use Rattle.ele_files.specs.Closing.{closing, closing_of, closed, closed_of, draft_left, ending, finished_by, left_by, number_by, IsPast}
+use Rattle.ele_files.specs.Closing.{changed_of, closing, closing_of, closed, closed_of, draft_left, ending, finished_by, left_by, number_by, IsPast}
 use Rattle.ele_files.specs.Held.{Held}
 use Rattle.ele_lists.proofs.Edits.{found_passes, all-found, all-weaker}
 use Rattle.ele_lists.specs.Lists.{remove_first}
-use Rattle.ele_sessions.specs.declared.closing.Closing.TheVariants.{StillOpen}
+use Rattle.ele_sessions.specs.declared.closing.Closing.{Closing}
+use Rattle.ele_sessions.specs.declared.closing.Closing.TheVariants.{StillOpen, Clean, Changed}
 use Rattle.ele_world.specs.declared.event.Event.TheVariants.{Close}
 use Rattle.ele_world.specs.declared.refusal.Refusal.{Refusal}
 use Rattle.ele_world.specs.declared.reply.Reply.{Reply}
@@ -176,6 +179,65 @@ left h handle file now live after of_file makes is =
         changed : (c : Bool) → draft.changed ≡ c → Leaves h file (draft_left (left_by h handle) (Some draft) now live)
         changed true c = absurd (let n = rw c at m in cc)
         changed false c = rw c (record { files = refl; versions = refl; changes = subst (λ (id : ℕ). ChangesOnly id (told_by h) (told_by (record (left_by h handle) { drafts = remove_first (is_draft draft.file) h.drafts }))) own (vanished draft.file) })
+
+-- ---- what is told of the file and of the draft
+
+pub number_told : (o : Option FileRow) (n : ℕ) → Some n ≡ option_map (λ (row : FileRow). row.next) o → n ≡ option_map_or (λ (row : FileRow). row.next) o 0
+number_told None n e = absurd cc
+number_told (Some row) n e = cc
+
+pub untold : (o : Option FileRow) → None ≡ option_map (λ (row : FileRow). row.next) o → 0 < option_map_or (λ (row : FileRow). row.next) o 0 → ⊥
+untold None e there = omega (arith, there)
+untold (Some row) e there = cc
+
+pub bytes_told : (o : Option DraftRow) (n : ℕ) → Some n ≡ option_map (λ (row : DraftRow). length (content_of row.cells)) o → n ≡ length (content_of (option_map_or (λ (row : DraftRow). row.cells) o []))
+bytes_told None n e = absurd cc
+bytes_told (Some row) n e = cc
+
+pub undrafted : (o : Option DraftRow) → None ≡ option_map (λ (row : DraftRow). length (content_of row.cells)) o → is_some o ≡ true → ⊥
+undrafted None e there = cc
+undrafted (Some row) e there = cc
+
+-- ---- by what is told of the draft
+
+pub unmade : (c : Option Closing) → changed_of c ≡ None → makes_version c ≡ false
+unmade None e = refl
+unmade (Some StillOpen) e = refl
+unmade (Some (Clean file)) e = refl
+unmade (Some (Changed file opened)) e = absurd cc
+
+-- the handle writes the file whose version is made
+pub record Makes (h : Held) (handle file : ℕ) : Type 0 where
+  pub of_file : file_by h.handles handle ≡ Ok file
+  pub makes : makes_version (closing h handle) ≡ true
+  pub number : number_by h (closing h handle) ≡ Some (next_of h.files file)
+
+pub made : (h : Held) (handle file opened : ℕ) → changed_of (closing h handle) ≡ Some (file, opened) → Makes h handle file
+made h handle file opened is = by (file_by h.handles handle) refl is where
+  same : (p q : ℕ × ℕ) → Some p ≡ Some q → p.0 ≡ q.0
+  same p q e = let is : p ≡ q = cc in ap (λ (r : ℕ × ℕ). r.0) is
+
+  kind : (r : Result ℕ Refusal) → file_by h.handles handle ≡ r → (c : Closing) → closing_of h handle (result_ok r) ≡ Some c → changed_of (Some c) ≡ Some (file, opened) → r ≡ Ok file → Makes h handle file
+  kind r e StillOpen c is of = absurd cc
+  kind r e (Clean other) c is of = absurd cc
+  kind r e (Changed other at) c is of =
+      let all : closing h handle ≡ Some (Changed other at) = ap (λ q. closing_of h handle (result_ok q)) e ∙ c in
+      record { of_file = e ∙ of; makes = rw all refl; number = rw all (ap (λ n. Some (next_of h.files n)) (same (other, at) (file, opened) is)) }
+
+  by : (r : Result ℕ Refusal) → file_by h.handles handle ≡ r → changed_of (closing_of h handle (result_ok r)) ≡ Some (file, opened) → Makes h handle file
+  by (Err refusal) e is = absurd cc
+  by (Ok id) e is = kind (Ok id) e (cond others StillOpen (ending (find (is_draft id) h.drafts))) refl is (ap (λ n. Ok n) (its others (find (is_draft id) h.drafts) refl is)) where
+    others : Bool
+    others = list_any (is_writer id) (left_by h handle).handles
+
+    changed : (draft : DraftRow) → find (is_draft id) h.drafts ≡ Some draft → (b : Bool) → changed_of (Some (cond b (Changed draft.file draft.opened) (Clean draft.file))) ≡ Some (file, opened) → id ≡ file
+    changed draft found true is = let passes = found_passes (is_draft id) h.drafts draft found in let own : draft.file ≡ id = grind (arith, nat_tests) in sym own ∙ same (draft.file, draft.opened) (file, opened) is
+    changed draft found false is = absurd cc
+
+    its : (b : Bool) (o : Option DraftRow) → find (is_draft id) h.drafts ≡ o → changed_of (Some (cond b StillOpen (ending o))) ≡ Some (file, opened) → id ≡ file
+    its true o found is = absurd cc
+    its false None found is = absurd cc
+    its false (Some draft) found is = changed draft found draft.changed is
 
 -- ---- what a well-formed world says of the versions that may end
 

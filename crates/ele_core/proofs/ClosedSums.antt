@@ -3,7 +3,7 @@ use Rattle.std.proofs.Common.{◌≡◌, ℕ, ◌+◌, ◌-◌, ◌≤◌, ◌<�
 use Rattle.std.specs.Prelude.{find}
 use Rattle.std.specs.Option.{option_map_or}
 use Rattle.ele_content.specs.Content.{content_of, longest_content}
-use Rattle.ele_core.proofs.Booked.{few, few_blocks, owed, drafts_owed}
+use Rattle.ele_core.proofs.Booked.{few, few_blocks, owed, drafts_owed, and_nothing}
 use Rattle.ele_core.proofs.ClosedSteps.{Becomes, draft_becomes, Leaves}
 use Rattle.ele_core.specs.Closings.{makes_version}
 use Rattle.ele_core.specs.Inside.{IsSound, IsTracked}
@@ -63,13 +63,6 @@ finished_bytes h handle draft now live =
     let next = next_of h.files draft.file in
     omega (arith, bytes-insert (is_version_after draft.file next) (version_row draft.file next draft.opened now (cond live None (Some now)) draft.cells) (update_first (is_version draft.file (next - 1)) (ended_at now) h.versions), bytes-ended (is_version draft.file (next - 1)) now h.versions)
 
-same_usage : (a b : Usage) → a.files ≡ b.files → a.versions ≡ b.versions → a.bytes ≡ b.bytes → a.blocks ≡ b.blocks → a ≡ b
-same_usage a b files versions bytes blocks =
-    ap (λ n. record a { files = n }) files ∙ (ap (λ n. record a { files = b.files; versions = n }) versions ∙ (ap (λ n. record a { files = b.files; versions = b.versions; bytes = n }) bytes ∙ ap (λ n. record b { blocks = n }) blocks))
-
-plus_nothing : (u : Usage) → plus u nothing ≡ u
-plus_nothing u = same_usage (plus u nothing) u (omega arith) (omega arith) (omega arith) (omega arith)
-
 -- the book has the version of the file's kind
 abbrev pub HasAdded : Held → ℕ → Book → Book → ℕ → Type 0
 HasAdded now file before book bytes = (k : Kind) → sums_of book k ≡ plus (sums_of before k) (cond (is_file_of now.files k file) (one_version bytes) nothing)
@@ -89,8 +82,8 @@ drafted_owed rows handle file draft now live book tracked is added =
     owed file h after book 1 (length (content_of draft.cells)) 0 0 changes (omega (arith, finished_versions h handle draft now live)) (omega (arith, finished_bytes h handle draft now live))
     (λ k. ends k (is_file_of after.files k file) (added k)) where
       empty : (s : Usage) (d : Bool) → plus s (cond d nothing nothing) ≡ s
-      empty s true = plus_nothing s
-      empty s false = plus_nothing s
+      empty s true = and_nothing s
+      empty s false = and_nothing s
 
       ends : (k : Kind) (d : Bool) → sums_of book k ≡ plus (sums_of rows.book k) (cond d (one_version (length (content_of draft.cells))) nothing) → plus (sums_of book k) (cond d nothing nothing) ≡ plus (usage_of (told_by rows.files) k) (cond d (one_version (length (content_of draft.cells))) nothing)
       ends k d has = empty (sums_of book k) d ∙ has ∙ ap (λ u. plus u (cond d (one_version (length (content_of draft.cells))) nothing)) (tracked.book k)

@@ -1,9 +1,9 @@
-pub mod Keyed
-pub mod Plain
-pub mod Ripening
+pub mod Following
 pub mod Bounded
 pub mod Booked
 pub mod Asked
+pub mod Appended
+pub mod NewNames
 pub mod Made
 pub mod Kept
 pub mod Fresh

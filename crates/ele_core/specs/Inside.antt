@@ -1,7 +1,8 @@
 -- The world behind a core's rows, and what the rows keep. No public clause cites this module.
 use Rattle.ele_core.specs.declared.rows.Rows.{Rows}
 use Rattle.ele_core.specs.State.{State}
-use Rattle.ele_core.specs.Tracked.{IsQueued, IsBooked}
+use Rattle.ele_core.specs.Queued.{IsQueued}
+use Rattle.ele_core.specs.Tracked.{IsBooked}
 use Rattle.ele_world.specs.Bounds.{AreBounds}
 use Rattle.ele_world.specs.WellFormed.{IsWellFormed}
 use Rattle.ele_world.specs.World.{World}
@@ -11,7 +12,7 @@ world_of rows = record {
   now = rows.moment;
   directories = rows.directories.items;
   files = rows.files.files;
-  names = rows.names.items;
+  names = rows.names;
   versions = rows.files.versions;
   drafts = rows.files.drafts;
   handles = rows.files.handles;
@@ -24,7 +25,7 @@ state_of rows = record { world = world_of rows; rows_read = rows.meter }
 
 -- the queue and the book follow the files, and the limits are limits
 pub record IsTracked (rows : Rows) : Type 0 where
-  pub queue : IsQueued rows.files rows.queue
+  pub queue : IsQueued (world_of rows) rows.queue
   pub book : IsBooked rows.files rows.book
   pub bounds : AreBounds rows.limits
 

@@ -2,50 +2,51 @@
 ghost use Rattle.std.specs.Prelude.{◌≡◌, IfOk, Some, is_some, false};
 ghost use Rattle.ele_lists.specs.Lists.{remove_first};
 ghost use Rattle.ele_due.specs.Key.{is_ripe_by};
-ghost use Rattle.ele_world.specs.Due.{is_due};
+ghost use Rattle.ele_world.specs.Due.{is_due, ripe_at};
 ghost use Rattle.ele_world.specs.Pass.{EndsPass};
 ghost use Rattle.ele_world.specs.Scan.{scan, first_due};
 ghost use Rattle.ele_world.specs.Step.{clean_step};
 ghost use Rattle.ele_core.specs.Inside.{world_of, IsTracked, IsSound};
 ghost use Rattle.ele_core.specs.Reads.{CleanReads};
 ghost use Rattle.ele_core.specs.Stopped.{is_stopped};
-ghost use Rattle.ele_core.specs.Tracked.{version_key};
 ghost use Rattle.ele_world.specs.World.{is_version};
 
 use crate::book::{blocks, follow_blocks, take_version};
-use crate::keys::key_at;
+use crate::keys::take;
 use crate::rows::Rows;
 use ele_files::Meter;
+use ele_policy::ripe;
 use ele_world::{FileId, Key, KeyList, ListOf, Moment, NoMemory, PassEnd, Reply, VersionNo};
 
 /// Whether the version is held and due now.
-#[tactic(auto, using(crate::proofs::Asked::due_is, crate::proofs::Asked::key_held))]
+#[tactic(auto, using(crate::proofs::Asked::due_by_key))]
 pub fn is_due(rows: &Rows, file: FileId, number: VersionNo) -> bool
     requires { IsSound rows.now }
     ensures { result ≡ is_due (world_of rows.now) file number }
 {
-    match version_key(rows, file, number) {
-        Some(key) => is_ripe(&key, rows.moment) && rows.queue.holds(&key),
-        None => false,
-    }
+    let Some(ripe) = ripe_moment(rows, file, number) else {
+        return false;
+    };
+    let key = Key { ripe, file, number };
+    is_ripe(&key, rows.moment) && rows.queue.holds(&key)
 }
 
-/// The key that the version has; none where it isn't held, or never due.
-#[tactic(auto, using(crate::proofs::Asked::version_key_is))]
-fn version_key(rows: &Rows, file: FileId, number: VersionNo) -> Option<Key>
+/// The moment from which on the version is due; none where it isn't held, or never due.
+#[tactic(auto, using(crate::proofs::Asked::ripe_told))]
+fn ripe_moment(rows: &Rows, file: FileId, number: VersionNo) -> Option<Moment>
     requires { IsSound rows.now }
-    ensures { result ≡ version_key rows.now.files file number }
+    ensures { result ≡ ripe_at (world_of rows.now) file number }
 {
     let mut meter = Meter::new();
     let stamps = rows.files.stamps(file, number, &mut meter)?;
     let policy = rows.files.policy_of(file)?;
     // The next version's closing isn't read for this: no policy yet looks at what stands beside a version.
-    key_at(file, number, &policy, stamps.closed, stamps.ended?, None)
+    ripe(&policy, stamps.closed, stamps.ended?, None)
 }
 
 /// The keys of the versions that are due now, in order.
 pub fn due(rows: &Rows) -> Result<KeyList, NoMemory>
-    requires { IsTracked rows.now }
+    requires { IsSound rows.now }
     ensures { IfOk result (λ keys. keys ≡ scan (world_of rows.now)) }
 {
     Ok(ListOf::from_vec(rows.queue.until(rows.moment)?))
@@ -53,7 +54,7 @@ pub fn due(rows: &Rows) -> Result<KeyList, NoMemory>
 
 /// The first of those keys.
 pub fn due_first(rows: &Rows) -> Option<Key>
-    requires { IsTracked rows.now }
+    requires { IsSound rows.now }
     ensures { result ≡ first_due (world_of rows.now) }
 {
     let Some(key) = rows.queue.first() else {
@@ -104,7 +105,8 @@ fn remove(rows: &mut Rows, key: &Key)
     let Some(bytes) = rows.files.remove(key.file, key.number, &mut rows.meter) else {
         unreachable!()
     };
-    let _was = rows.queue.remove(key);
+    // No other key changes, so that a clean takes no memory and can't be stopped.
+    take(&mut rows.queue, key.file, key.number, Some(key.ripe));
     take_version(&mut rows.book, &rows.files, key.file, bytes);
     follow_blocks(&mut rows.book, &rows.files, key.file, before);
 }

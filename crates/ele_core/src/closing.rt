@@ -1,73 +1,84 @@
 //! The event that closes a handle, and may make its draft a version.
-ghost use Rattle.std.specs.Prelude.{◌≡◌, ◌≤◌, ◌<◌, ◌-◌, ◌+◌, ◌^◌, true, false, Ok, IfOk, OnErr, find, if◌then◌else◌};
+ghost use Rattle.std.specs.Prelude.{◌≡◌, ◌≤◌, ◌<◌, ◌-◌, ◌+◌, ◌^◌, true, Some, None, Ok, IfOk, OnErr, find, is_some, length, if◌then◌else◌};
 ghost use Rattle.std.specs.Option.{ForSome};
-ghost use Rattle.ele_files.specs.Closing.{closing};
+ghost use Rattle.ele_content.specs.Content.{content_of};
+ghost use Rattle.ele_files.specs.Closing.{closing, changed_of};
+ghost use Rattle.ele_files.specs.Held.{cells_of_draft};
 ghost use Rattle.ele_policy.specs.declared.policy.Kind.{Kind};
 ghost use Rattle.ele_usage.specs.Book.{sums_of};
 ghost use Rattle.ele_usage.specs.Sums.{nothing, plus, Fits};
 ghost use Rattle.ele_world.specs.Step.{step};
 ghost use Rattle.ele_world.specs.declared.event.Event.TheVariants as event;
 ghost use Rattle.ele_world.specs.Usage.{is_file_of};
-ghost use Rattle.ele_world.specs.World.{next_of, is_version, file_by};
+ghost use Rattle.ele_world.specs.World.{next_of, is_draft, is_version, file_by};
 ghost use Rattle.ele_core.specs.Inside.{world_of, IsTracked, IsSound};
-ghost use Rattle.ele_core.specs.Tracked.{former_key, own_key, one_version};
-ghost use Rattle.ele_core.specs.Closings.{makes_version, is_change};
+ghost use Rattle.ele_core.specs.Queued.{former_moment, own_moment};
+ghost use Rattle.ele_core.specs.Tracked.{one_version};
 
 use crate::book::{blocks, follow_blocks, one_version};
-use crate::keys::{NewKeys, key_at};
-use crate::lookups::is_live;
+use crate::keys::NewKeys;
 use crate::rows::Rows;
-use ele_files::{Closing, Files, Meter};
+use ele_files::{Files, Meter};
+use ele_policy::ripe;
 use ele_usage::UsageBook;
-use ele_world::{FileId, Handle, Key, Moment, NoMemory, Reply};
+use ele_world::{FileId, Handle, Moment, NoMemory, Reply, VersionNo};
 
-/// The key of the version before the file's next one, which ends now; none where it isn't held or has ended.
-fn former_key(files: &Files, file: FileId, now: Moment, meter: &mut Meter) -> Option<Key>
+/// The ripe moment that the version before the file's next one gets, which ends now; none where it isn't held or has ended.
+#[tactic(auto, using(crate::proofs::Asked::former_told))]
+fn former_moment(
+    files: &Files,
+    file: FileId,
+    next: VersionNo,
+    now: Moment,
+    meter: &mut Meter,
+) -> Option<Moment>
+    requires next { next ≡ next_of files.now.files file }
     requires past { ForSome
         (find (is_version file (next_of files.now.files file - 1)) files.now.versions)
         (λ row. row.closed ≤ now) }
     requires meter { meter.old < 2 ^ 60 }
-    ensures key { result ≡ former_key files.now file now }
+    ensures moment { result ≡ former_moment files.now.files files.now.versions file now }
     ensures read { meter.new ≤ meter.old + 1 }
 {
-    let policy = files.policy_of(file)?;
-    let number = files.next_of(file).before();
-    let stamps = files.stamps(file, number, meter)?;
+    let stamps = files.stamps(file, next.before(), meter)?;
     if stamps.ended.is_some() {
         return None;
     }
-    key_at(file, number, &policy, stamps.closed, now, Some(now))
+    let policy = files.policy_of(file)?;
+    ripe(&policy, stamps.closed, now, Some(now))
 }
 
-/// The key of the file's next version, which closes now; none where it doesn't end at once.
-fn own_key(files: &Files, file: FileId, now: Moment, is_live: bool) -> Option<Key>
-    ensures { result ≡ own_key files.now file now is_live }
+/// The ripe moment of the file's next version, which closes now; none where it doesn't end at once.
+fn own_moment(files: &Files, file: FileId, now: Moment, is_live: bool) -> Option<Moment>
+    ensures { result ≡ own_moment files.now.files file now is_live }
 {
     if is_live {
         return None;
     }
     let policy = files.policy_of(file)?;
-    key_at(file, files.next_of(file), &policy, now, now, None)
+    ripe(&policy, now, now, None)
 }
 
-/// Whether closing the handle makes a version.
-fn makes_version(files: &Files, handle: Handle) -> bool
-    ensures { result ≡ makes_version (closing files.now handle) }
+/// The number of the file's next version; the file is there.
+fn next_number(files: &Files, file: FileId) -> VersionNo
+    requires { 0 < next_of files.now.files file }
+    ensures { result ≡ next_of files.now.files file }
 {
-    match files.peek_close(handle) {
-        Some(closing) => is_change(closing),
-        None => false,
-    }
+    let Some(number) = files.next_of(file) else {
+        unreachable!()
+    };
+    number
 }
 
-/// Whether a changed draft goes.
-fn is_change(closing: Closing) -> bool
-    ensures { result ≡ is_change closing }
+/// How many bytes the file's draft has; it has one.
+fn draft_bytes(files: &Files, file: FileId) -> u64
+    requires { is_some (find (is_draft file) files.now.drafts) ≡ true }
+    ensures { result ≡ length (content_of (cells_of_draft files.now file)) }
 {
-    match closing {
-        Closing::Changed(_, _) => true,
-        Closing::Clean(_) | Closing::StillOpen => false,
-    }
+    let Some(bytes) = files.draft_length(file) else {
+        unreachable!()
+    };
+    bytes
 }
 
 /// The book has one version more for the kind of the file, of so many bytes.
@@ -82,58 +93,57 @@ fn add_version(book: &mut UsageBook, files: &Files, file: FileId, bytes: u64)
 }
 
 /// The last handle of a changed draft is closed, which becomes the file's next version.
-fn finish(rows: &mut Rows, handle: Handle, file: FileId) -> Result<Reply, NoMemory>
+fn finish(rows: &mut Rows, handle: Handle, file: FileId, opened: Moment) -> Result<Reply, NoMemory>
     requires sound { IsSound rows.old }
     requires meter { rows.old.meter ≡ 0 }
-    requires file { file_by rows.old.files.handles handle ≡ Ok file }
-    requires makes { makes_version (closing rows.old.files handle) ≡ true }
+    requires changed { changed_of (closing rows.old.files handle) ≡ Some (file, opened) }
     ensures step { IfOk result
         (λ reply. (reply, world_of rows.new) ≡ step (world_of rows.old) (event.Close handle)) }
     ensures err { OnErr result (world_of rows.new ≡ world_of rows.old) }
     ensures tracked { IsTracked rows.new }
 {
-    let is_live = is_live(&rows.names, file);
+    let is_live = rows.names.is_live(file);
+    let next = next_number(&rows.files, file);
     let keys = NewKeys {
-        former: former_key(&rows.files, file, rows.moment, &mut rows.meter),
-        own: own_key(&rows.files, file, rows.moment, is_live),
+        file,
+        number: next,
+        former: former_moment(&rows.files, file, next, rows.moment, &mut rows.meter),
+        own: own_moment(&rows.files, file, rows.moment, is_live),
     };
     let before = blocks(&rows.files);
-    let bytes = rows.files.draft_length(file);
+    let bytes = draft_bytes(&rows.files, file);
     // All keys come before the version does, so that one that is refused is still without trace.
-    let added = keys.insert(&mut rows.queue)?;
-    let closed = rows
+    keys.put(&mut rows.queue)?;
+    let now = rows.moment;
+    let finished = rows
         .files
-        .close(handle, rows.moment, is_live, &mut rows.meter);
-    let number = match closed {
+        .finish(handle, file, opened, now, is_live, &mut rows.meter);
+    let number = match finished {
         Ok(number) => number,
         Err(refused) => {
-            added.take_back(&mut rows.queue);
+            keys.take(&mut rows.queue);
             return Err(refused);
         }
     };
     add_version(&mut rows.book, &rows.files, file, bytes);
     follow_blocks(&mut rows.book, &rows.files, file, before);
     rows.made.versions += 1;
-    Ok(Reply::Closed(number))
+    Ok(Reply::Closed(Some(number)))
 }
 
 /// A handle is closed whose draft stays, or goes without a trace.
-fn leave(rows: &mut Rows, handle: Handle, file: FileId) -> Result<Reply, NoMemory>
+fn leave(rows: &mut Rows, handle: Handle, file: FileId) -> Reply
     requires sound { IsSound rows.old }
     requires meter { rows.old.meter ≡ 0 }
     requires file { file_by rows.old.files.handles handle ≡ Ok file }
-    requires makes { makes_version (closing rows.old.files handle) ≡ false }
-    ensures step { IfOk result
-        (λ reply. (reply, world_of rows.new) ≡ step (world_of rows.old) (event.Close handle)) }
-    ensures err { OnErr result (world_of rows.new ≡ world_of rows.old) }
+    requires unchanged { changed_of (closing rows.old.files handle) ≡ None }
+    ensures step { (result, world_of rows.new) ≡ step (world_of rows.old) (event.Close handle) }
     ensures tracked { IsTracked rows.new }
 {
     let before = blocks(&rows.files);
-    // Whether the file is live is told of new versions alone, and none is made here.
-    rows.files
-        .close(handle, rows.moment, true, &mut rows.meter)?;
+    rows.files.leave(handle);
     follow_blocks(&mut rows.book, &rows.files, file, before);
-    Ok(Reply::Closed(None))
+    Reply::Closed(None)
 }
 
 /// Closes the handle. With a file's last handle its draft goes: a changed one becomes the file's next version, which ends
@@ -151,9 +161,8 @@ pub fn close(rows: &mut Rows, handle: Handle) -> Result<Reply, NoMemory>
         Ok(file) => file,
         Err(refusal) => return Ok(Reply::Refused(refusal)),
     };
-    if makes_version(&rows.files, handle) {
-        finish(rows, handle, file)
-    } else {
-        leave(rows, handle, file)
+    match rows.files.changed_draft(handle) {
+        Some(draft) => finish(rows, handle, draft.0, draft.1),
+        None => Ok(leave(rows, handle, file)),
     }
 }

@@ -15,7 +15,7 @@ use ele_policy::Policy;
 use ele_world::{DirId, DirectoryRow, Path, Reply};
 
 /// Files that are made in the directory from now on get the policy.
-#[tactic(auto, using(ele_world::proofs::Places::first_places))]
+#[tactic(auto, using(ele_lists::proofs::Places::first_places))]
 fn govern(directories: &mut Vec<DirectoryRow>, directory: DirId, policy: Policy)
     ensures { directories.new.items
         ≡ update_first (is_directory directory) (governed_by policy) directories.old.items }
@@ -34,7 +34,7 @@ pub fn set_default(rows: &mut Rows, path: &Path, policy: Policy) -> Reply
     ensures tracked { IsTracked rows.old → IsTracked rows.new }
 {
     policy.is_given();
-    match directory_now(&rows.names, path.names()) {
+    match directory_now(&rows.names, path) {
         Ok(directory) => {
             govern(&mut rows.directories, directory, policy);
             Reply::Done

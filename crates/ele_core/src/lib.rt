@@ -26,7 +26,6 @@ mod keys;
 mod lookups;
 mod names;
 mod opening;
-mod room;
 mod rows;
 mod walk;
 mod writing;
@@ -42,6 +41,7 @@ use crate::rows::{Made, ROOT, Rows};
 use crate::writing::{truncate, write};
 use ele_due::DueQueue;
 use ele_files::{Files, Meter};
+use ele_names::Names;
 use ele_policy::Interval;
 use ele_usage::UsageBook;
 pub use ele_world::{
@@ -114,7 +114,7 @@ impl Core {
             rows: Rows {
                 moment: Moment::START,
                 directories,
-                names: Vec::new(alloc),
+                names: Names::new(alloc),
                 files: Files::new(alloc),
                 queue: DueQueue::new(alloc),
                 book: UsageBook::new(),
@@ -212,7 +212,7 @@ impl Core {
             now: rows.moment,
             directories: copy_list(rows.alloc, &rows.directories)?,
             files: rows.files.file_rows()?,
-            names: copy_list(rows.alloc, &rows.names)?,
+            names: ListOf::from_vec(rows.names.rows()?),
             versions: rows.files.version_rows()?,
             drafts: rows.files.draft_rows()?,
             handles: rows.files.handle_rows()?,

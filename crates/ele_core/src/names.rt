@@ -1,18 +1,18 @@
 //! The event that makes a file.
-ghost use Rattle.std.specs.Prelude.{◌≡◌, ◌<◌, ◌+◌, IfOk, OnErr};
+ghost use Rattle.std.specs.Prelude.{◌≡◌, ◌<◌, ◌+◌, IfOk, OnErr, is_some, false};
 ghost use Rattle.ele_world.specs.Change.{MakeFile, after_change};
 ghost use Rattle.ele_world.specs.Step.{step, versions_made};
+ghost use Rattle.ele_world.specs.Walk.{live_target};
 ghost use Rattle.ele_world.specs.World.{default_of};
 ghost use Rattle.ele_world.specs.declared.event.Event.TheVariants as event;
 ghost use Rattle.ele_core.specs.Inside.{world_of, IsTracked, IsSound};
 
 use crate::book::blocks_fit;
-use crate::lookups::{default_of, live_target};
-use crate::room::put;
+use crate::lookups::default_of;
 use crate::rows::{Rows, is_full};
-use crate::walk::parent_now;
+use ele_names::parent_now;
 use ele_usage::Usage;
-use ele_world::{DirId, FileId, Name, NameRow, NoMemory, Path, Refusal, Reply, Target, Which};
+use ele_world::{DirId, FileId, Name, NoMemory, Path, Refusal, Reply, Target, Which};
 
 /// What a new file uses.
 const NEW_FILE: Usage = Usage {
@@ -28,6 +28,7 @@ fn add_file(rows: &mut Rows, directory: DirId, name: Name) -> Result<FileId, NoM
     requires files { rows.old.made.files < rows.old.limits.files }
     requires names { rows.old.made.names < rows.old.limits.names }
     requires versions { versions_made (world_of rows.old) < rows.old.limits.versions }
+    requires free { is_some (live_target rows.old.names directory name) ≡ false }
     ensures id { IfOk result (λ id. id ≡ rows.old.made.files + 1) }
     ensures ok { IfOk result (λ id. world_of rows.new
         ≡ after_change (world_of rows.old)
@@ -35,22 +36,17 @@ fn add_file(rows: &mut Rows, directory: DirId, name: Name) -> Result<FileId, NoM
     ensures err { OnErr result (world_of rows.new ≡ world_of rows.old) }
     ensures tracked { IsTracked rows.new }
 {
-    rows.names.reserve(1)?;
     let id = FileId(rows.made.files + 1);
     let policy = default_of(&rows.directories, directory);
     blocks_fit(&rows.files);
-    rows.files.add(id, policy, rows.moment)?;
+    rows.names
+        .add(directory, name, Target::File(id), rows.moment)?;
+    if let Err(refused) = rows.files.add(id, policy, rows.moment) {
+        // The name goes again: it is the only one of the file.
+        rows.names.drop_file(id);
+        return Err(refused);
+    }
     rows.book.add(policy.kind(), NEW_FILE);
-    put(
-        &mut rows.names,
-        NameRow {
-            directory,
-            name,
-            target: Target::File(id),
-            birth: rows.moment,
-            death: None,
-        },
-    );
     rows.made.files += 1;
     rows.made.names += 1;
     rows.made.versions += 1;
@@ -65,11 +61,11 @@ pub fn create(rows: &mut Rows, path: &Path) -> Result<Reply, NoMemory>
     ensures err { OnErr result (world_of rows.new ≡ world_of rows.old) }
     ensures tracked { IsTracked rows.new }
 {
-    let (directory, name) = match parent_now(&rows.names, path.names()) {
+    let (directory, name) = match parent_now(&rows.names, path) {
         Ok(at) => at,
         Err(refusal) => return Ok(Reply::Refused(refusal)),
     };
-    if live_target(&rows.names, directory, &name).is_some() {
+    if rows.names.live(directory, &name).is_some() {
         return Ok(Reply::Refused(Refusal::Exists));
     }
     if rows.made.files >= rows.limits.files() {

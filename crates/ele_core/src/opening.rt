@@ -41,7 +41,7 @@ pub fn open_write(rows: &mut Rows, path: &Path) -> Result<Reply, NoMemory>
     ensures err { OnErr result (world_of rows.new ≡ world_of rows.old) }
     ensures tracked { IsTracked rows.new }
 {
-    let file = match file_now(&rows.names, path.names()) {
+    let file = match file_now(&rows.names, path) {
         Ok(file) => file,
         Err(refusal) => return Ok(Reply::Refused(refusal)),
     };

@@ -1,4 +1,4 @@
-//! What stands behind a core: the plain rows of directories and names, the files, and beside them the queue of keys and
+//! What stands behind a core: the plain rows of directories, the names, the files, and beside them the queue of keys and
 //! the book of usage, which follow each change.
 ghost use Rattle.std.specs.Prelude.{◌≡◌, nat_le};
 ghost use Rattle.ele_world.specs.Step.{versions_made};
@@ -6,8 +6,9 @@ ghost use Rattle.ele_core.specs.Inside.{world_of, IsSound};
 
 use ele_due::DueQueue;
 use ele_files::{Files, Meter};
+use ele_names::Names;
 use ele_usage::UsageBook;
-use ele_world::{DirId, DirectoryRow, Limits, Moment, NameRow};
+use ele_world::{DirId, DirectoryRow, Limits, Moment};
 use std::alloc::Global;
 
 /// The directory that every path begins in.
@@ -26,7 +27,7 @@ pub struct Made {
 pub struct Rows {
     pub moment: Moment,
     pub directories: Vec<DirectoryRow>,
-    pub names: Vec<NameRow>,
+    pub names: Names,
     pub files: Files,
     pub queue: DueQueue,
     pub book: UsageBook,

@@ -33,11 +33,6 @@ is_equal Greater h = cc
 pub is_key-same : (a b : Key) → is_key a b ≡ true → a ≡ b
 is_key-same a b h = key_exact a b (is_equal (key_cmp a b) h)
 
-pub is_key-itself : (a : Key) → is_key a a ≡ true
-is_key-itself a = ap is_eq (itself a) where
-  itself : (a : Key) → key_cmp a a ≡ Equal
-  itself a = grind (arith, nat_tests)
-
 turned : (o : Ordering) → is_eq (ordering_reverse o) ≡ is_eq o
 turned Less = refl
 turned Equal = refl

@@ -1,10 +1,10 @@
 //! The queue of keys, in a search tree.
 //! A contract sees it as the list of its keys, each key once, in order.
-ghost use Rattle.std.specs.Prelude.{◌≡◌, ◌<◌, ◌^◌, ◌↔◌, ◌||◌, ◌&&◌, [], not, length, filter, slice_get, take_while, IsOk, IfOk, OnOk, OnErr, IsTrue, List};
+ghost use Rattle.std.specs.Prelude.{◌≡◌, ◌<◌, ◌^◌, ◌↔◌, ◌||◌, ◌&&◌, [], not, length, filter, slice_get, take_while, IsOk, IfOk, OnOk, OnErr, IsTrue, List, ℕ};
 ghost use Rattle.std.specs.BTreeSet.{insert_key};
 ghost use Rattle.std.specs.Set.{remove_key};
 ghost use Rattle.ele_due.specs.declared.key.Key.{Key};
-ghost use Rattle.ele_due.specs.Key.{key_cmp, is_key, is_ripe_by};
+ghost use Rattle.ele_due.specs.Key.{key_cmp, is_key, is_ripe_by, if_ripe};
 ghost use Rattle.ele_due.specs.InOrder.{IsInOrder, in_order};
 ghost use Rattle.ele_due.specs.HasKey.{has_key};
 
@@ -95,9 +95,13 @@ impl DueQueue {
     /// The first key in order. None where the queue is empty.
     pub fn first(&self) -> Option<Key>
         ensures value { result ≡ slice_get self.now 0 }
+        // Of any list that has just the keys that are ripe by a moment it is the first, if it is ripe.
+        ensures ripe { (moment : ℕ) (ripe : List Key)
+            → ((k : Key) → has_key k ripe ≡ (is_ripe_by moment k && has_key k self.now))
+            → slice_get (in_order ripe) 0 ≡ if_ripe moment result }
         ensures ordered { IsInOrder self.now }
     {
-        self.keys.first().copied()
+        first_key(&self.keys)
     }
 
     /// The keys of the versions that are due at the moment, in order: those that are ripe then or
@@ -113,6 +117,13 @@ impl DueQueue {
     {
         Ok(ripe_keys(&self.keys, moment, self.alloc)?)
     }
+}
+
+// The least key.
+fn first_key(keys: &BTreeSet<Key>) -> Option<Key>
+    ensures { result ≡ slice_get keys.now.keys 0 }
+{
+    keys.first().copied()
 }
 
 // The keys up to the first that is not ripe.

@@ -1,22 +1,25 @@
 -- How far a copy of rows has come.
-use Rattle.std.proofs.Common.{◌≡◌, ℕ, ◌+◌, ◌<◌, ◌≤◌, Bool, true, false, eqb, List, [], ◌∷◌, ◌++◌, map, take, length, get_or, Option, Some, None, refl, sym, ap, ◌∙◌, arith, zero, suc, add-one, append_assoc, subst}
+use Rattle.std.proofs.Common.{◌≡◌, ℕ, ◌+◌, ◌<◌, ◌≤◌, Bool, true, false, eqb, List, [], ◌∷◌, ◌++◌, map, take, length, get_or, Option, Some, None, refl, sym, ap, ◌∙◌, arith, zero, suc, append_assoc, subst}
 use Rattle.std.specs.List.{find, filter, slice_get, flat_map, AllByRecursion}
-use Rattle.std.proofs.lemmas.List.{append-nil}
+use Rattle.std.proofs.lemmas.List.{append-nil, map-append, take_all, take_more}
+use Rattle.std.proofs.lemmas.Grind.{flat_map-append}
+use Rattle.std.proofs.lemmas.Option.{slice_get_within, get_or_from_slice_get}
 use Rattle.std.specs.Option.{option_map}
 use Rattle.std.proofs.lemmas.Bool.Decides.{nat_tests}
 use Rattle.ele_content.specs.declared.cell.Cell.{Cell}
 use Rattle.ele_blocks.specs.declared.slot.Slot.{Slot}
-use Rattle.ele_blocks.specs.Layout.{Layout, cell_of, cell_by, shown}
+use Rattle.ele_blocks.specs.Layout.{Layout, slots_of, cell_of, cell_by, shown}
 use Rattle.ele_blocks.specs.LivesIn.{LivesIn}
 use Rattle.ele_blocks.specs.Shared.{owners}
 use Rattle.ele_blocks.specs.Store.{Store, bytes_at}
-use Rattle.ele_blocks.proofs.SlotTrades.{slot_covered}
+use Rattle.ele_blocks.specs.Stock.{StockLaws}
 use Rattle.ele_inode_log.specs.declared.row.VersionRow.{VersionRow}
 use Rattle.ele_files.specs.Inside.{IsFileKept, IsRowOf, row_in, draft_in, reads_in, handle_in}
 use Rattle.ele_files.specs.declared.file.File.{File}
 use Rattle.ele_inode_log.specs.Rows.{is_after, Precedes}
 use Rattle.ele_inode_log.specs.declared.row.VersionRow as log
-use Rattle.ele_inode_log.proofs.Lists.{later-weaker, all-weaker}
+use Rattle.ele_lists.proofs.Alls.{all-got, later-weaker}
+use Rattle.ele_lists.proofs.Filters.{filter-all}
 use Rattle.ele_sessions.specs.Sessions as sessions
 use Rattle.ele_sessions.specs.Sessions.{Draft}
 use Rattle.ele_sessions.specs.declared.entries.OpenHandle.{OpenHandle}
@@ -27,58 +30,28 @@ use Rattle.ele_world.specs.declared.rows.HandleRow.{HandleRow}
 use Rattle.ele_world.specs.declared.rows.Reads.{Reads}
 use Rattle.ele_world.specs.declared.rows.VersionRow as world
 use Rattle.ele_lists.specs.Lists.{AllLater}
-use Rattle.ele_lists.proofs.Edits.{found_passes}
+use Rattle.ele_lists.proofs.Edits.{all-weaker, found_passes}
 
 module _ {X Y : Type 0} (g : X → Y) where
   -- one element more
   pub taken-next : (xs : List X) (i : ℕ) (x : X) → slice_get xs i ≡ Some x → map g (take (i + 1) xs) ≡ map g (take i xs) ++ g x ∷ []
-  taken-next xs i x h = rw add-one (by xs i h) where
-    by : (ys : List X) (k : ℕ) → slice_get ys k ≡ Some x → map g (take (suc k) ys) ≡ map g (take k ys) ++ g x ∷ []
-    by [] k h = absurd cc
-    by (y ∷ ys) zero h = let same : y ≡ x = cc in ap (λ z. g z ∷ []) same
-    by (y ∷ ys) (suc k) h = ap (λ zs. g y ∷ zs) (by ys k h)
+  taken-next xs i x h = ap (map g) (take_more xs i x (slice_get_within xs i x h)) ∙ (map-append g (take i xs) (get_or xs i x ∷ []) ∙ ap (λ y. map g (take i xs) ++ g y ∷ []) (get_or_from_slice_get xs i x x h))
 
   -- all of them
   pub taken-all : (xs : List X) (i : ℕ) → slice_get xs i ≡ None → map g (take i xs) ≡ map g xs
-  taken-all [] zero h = refl
-  taken-all [] (suc i) h = refl
+  taken-all [] i h = ap (map g) (take_all i [] (omega arith))
   taken-all (y ∷ ys) zero h = absurd cc
   taken-all (y ∷ ys) (suc i) h = ap (λ zs. g y ∷ zs) (taken-all ys i h)
 
 -- the lists of one element more
 pub gathered-next : {X Y : Type 0} (g : X → List Y) (xs : List X) (i : ℕ) (x : X) → i < length xs → x ≡ get_or xs i x → flat_map g (take (i + 1) xs) ≡ flat_map g (take i xs) ++ g x
-gathered-next {X} {Y} g xs i x lt is = rw add-one (by xs i lt is) where
-  by : (ys : List X) (k : ℕ) → k < length ys → x ≡ get_or ys k x → flat_map g (take (suc k) ys) ≡ flat_map g (take k ys) ++ g x
-  by [] k lt is = absurd (omega arith)
-  by (y ∷ ys) zero lt is = append-nil (g y) ∙ ap g (sym is)
-  by (y ∷ ys) (suc k) lt is = ap (λ zs. g y ++ zs) (by ys k (omega arith) is) ∙ sym (append_assoc (g y) (flat_map g (take k ys)) (g x))
+gathered-next g xs i x lt is = ap (flat_map g) (take_more xs i x lt) ∙ (flat_map-append g (take i xs) (get_or xs i x ∷ []) ∙ ap (λ ys. flat_map g (take i xs) ++ ys) (append-nil (g (get_or xs i x)) ∙ ap g (sym is)))
 
 module _ {X : Type 0} where
-  pub got-none : (xs : List X) (i : ℕ) → length xs ≤ i → slice_get xs i ≡ None
-  got-none [] i h = refl
-  got-none (x ∷ xs) zero h = absurd (omega arith)
-  got-none (x ∷ xs) (suc i) h = got-none xs i (omega arith)
-
-  pub taken-full : (xs : List X) (i : ℕ) → length xs ≤ i → take i xs ≡ xs
-  taken-full [] zero h = refl
-  taken-full [] (suc i) h = refl
-  taken-full (x ∷ xs) zero h = absurd (omega arith)
-  taken-full (x ∷ xs) (suc i) h = ap (λ ys. x ∷ ys) (taken-full xs i (omega arith))
-
   pub got-some : (xs : List X) (i : ℕ) → i < length xs → slice_get xs i ≡ None → ⊥
   got-some [] i lt h = omega arith
   got-some (x ∷ xs) zero lt h = cc
   got-some (x ∷ xs) (suc i) lt h = got-some xs i (omega arith) h
-
-  pub got-is : (xs : List X) (i : ℕ) (x : X) → slice_get xs i ≡ Some x → (i < length xs) × (x ≡ get_or xs i x)
-  got-is [] i x h = absurd cc
-  got-is (y ∷ ys) zero x h = (omega arith, let same : y ≡ x = cc in sym same)
-  got-is (y ∷ ys) (suc i) x h = let more = got-is ys i x h in (omega (arith, more.0), more.1)
-
-  all-got : (P : X → Type 0) (xs : List X) (i : ℕ) (x : X) → AllByRecursion P xs → slice_get xs i ≡ Some x → P x
-  all-got P [] i x all h = absurd cc
-  all-got P (y ∷ ys) zero x all h = let same : y ≡ x = cc in rw (← same) all.0
-  all-got P (y ∷ ys) (suc i) x all h = all-got P ys i x all.1 h
 
   -- where keys rise, an element is the first of its key
   pub found-got : (key : X → ℕ) (xs : List X) (i : ℕ) (x : X) → AllLater (λ y z. key y < key z) xs → slice_get xs i ≡ Some x → find (λ y. eqb (key y) (key x)) xs ≡ Some x
@@ -91,17 +64,6 @@ module _ {X : Type 0} where
       let lt : key y < key x = all-got (λ z. key y < key z) ys i x rise.0 h in
       let fails : eqb (key y) (key x) ≡ false = grind (arith, nat_tests) in
       rw fails (found-got key ys i x rise.1 h)
-
-  pub filter-all : (p : X → Bool) (xs : List X) → AllByRecursion (λ x. p x ≡ true) xs → filter p xs ≡ xs
-  filter-all p [] all = refl
-  filter-all p (x ∷ xs) all = rw all.0 (ap (λ ys. x ∷ ys) (filter-all p xs all.1))
-
-  pub filter-none : (p : X → Bool) (xs : List X) → find p xs ≡ None → filter p xs ≡ []
-  filter-none p [] h = refl
-  filter-none p (x ∷ xs) h = elim (p x) as (λ b. p x ≡ b → filter p (x ∷ xs) ≡ []) [
-    | true ↦ λ e. absurd (let h' = rw e at h in cc)
-    | false ↦ λ e. rw e (filter-none p xs (rw e at h))
-  ] refl
 
 -- what an option's element shows
 module _ {X Y : Type 0} (g : X → Y) (o : Option X) where
@@ -118,10 +80,8 @@ module _ {X Y : Type 0} (g : X → Y) (o : Option X) where
     by (Some x) e = (x, e, let h' = rw e at h in cc)
 
 -- the rows that are left behind one that was found
-module _ (behind : ℕ) where
-  later-pass : (x : VersionRow) (xs : List VersionRow) → behind < x.number → AllByRecursion (λ (y : VersionRow). x.number < y.number) xs → AllByRecursion (λ y. is_after behind y ≡ true) xs
-  later-pass x [] lt all = tt
-  later-pass x (y ∷ ys) lt all = (let more = all.0 in grind (arith, nat_tests), later-pass x ys lt all.1)
+all-after : (behind : ℕ) (x : VersionRow) (xs : List VersionRow) → behind ≤ x.number → AllByRecursion (λ (y : VersionRow). x.number < y.number) xs → filter (is_after behind) xs ≡ xs
+all-after behind x xs le all = filter-all (is_after behind) xs (all-weaker (λ (y : VersionRow). x.number < y.number) (λ y. is_after behind y ≡ true) xs (λ y lt. grind (arith, nat_tests, le)) all)
 
 pub left-behind : (behind : ℕ) (xs : List VersionRow) (row : VersionRow) → AllLater (λ (x y : VersionRow). x.number < y.number) xs → find (is_after behind) xs ≡ Some row → filter (is_after behind) xs ≡ row ∷ filter (is_after row.number) xs
 left-behind behind [] row rise h = absurd cc
@@ -131,40 +91,34 @@ left-behind behind (x ∷ xs) row rise h = elim (is_after behind x) as (λ b. is
       let same : x ≡ row = cc in
       let lt : behind < x.number = grind (arith, nat_tests) in
       let self : is_after x.number x ≡ false = grind (arith, nat_tests) in
-      let all-old = filter-all (is_after behind) xs (later-pass behind x xs lt rise.0) in
-      let all-new = filter-all (is_after x.number) xs (own x xs rise.0) in
-      let skip : filter (is_after x.number) (x ∷ xs) ≡ xs = rw self all-new in
+      let skip : filter (is_after x.number) (x ∷ xs) ≡ xs = rw self (all-after x.number x xs (omega arith) rise.0) in
       let first : filter (is_after behind) (x ∷ xs) ≡ x ∷ filter (is_after behind) xs = rw e refl in
-      subst (λ (r : VersionRow). filter (is_after behind) (x ∷ xs) ≡ r ∷ filter (is_after r.number) (x ∷ xs)) same (first ∙ (ap (λ ys. x ∷ ys) all-old ∙ sym (ap (λ ys. x ∷ ys) skip)))
+      subst (λ (r : VersionRow). filter (is_after behind) (x ∷ xs) ≡ r ∷ filter (is_after r.number) (x ∷ xs)) same (first ∙ (ap (λ ys. x ∷ ys) (all-after behind x xs (omega (arith, lt)) rise.0) ∙ sym (ap (λ ys. x ∷ ys) skip)))
   | false ↦ λ e.
       let more = left-behind behind xs row rise.1 (rw e at h) in
       let passes : is_after behind row ≡ true = found_passes (is_after behind) xs row (rw e at h) in
       let fails : is_after row.number x ≡ false = grind (arith, nat_tests) in
       rw (e, fails) more
-] refl where
-  own : (x : VersionRow) (xs : List VersionRow) → AllByRecursion (λ (y : VersionRow). x.number < y.number) xs → AllByRecursion (λ y. is_after x.number y ≡ true) xs
-  own x [] all = tt
-  own x (y ∷ ys) all = (let more = all.0 in grind (arith, nat_tests), own x ys all.1)
+] refl
 
 -- the cells of a map
 abbrev cell_from : Store → ℕ × ℕ → Cell
 cell_from s c = record { writer = c.0; bytes = bytes_at s c.1 }
 
-module _ (s : Store) (m : Layout) (lives : LivesIn s m) (k : ℕ) (cell : ℕ × ℕ) (got : Some cell ≡ option_map (λ (x : Slot). (x.writer, x.block)) (slice_get m.slots k)) where
-  slot : (x : Slot) × (slice_get m.slots k ≡ Some x) × ((x.writer, x.block) ≡ cell)
-  slot = shown-some (λ (x : Slot). (x.writer, x.block)) (slice_get m.slots k) cell got
+module _ (laws : StockLaws) (s : Store) (m : Layout) (lives : LivesIn s m) (k : ℕ) (cell : ℕ × ℕ) (got : Some cell ≡ option_map (λ (x : Slot). (x.writer, x.block)) (slice_get (slots_of s m) k)) where
+  slot : (x : Slot) × (slice_get (slots_of s m) k ≡ Some x) × ((x.writer, x.block) ≡ cell)
+  slot = shown-some (λ (x : Slot). (x.writer, x.block)) (slice_get (slots_of s m) k) cell got
 
   pub cell-owned : 0 < owners s cell.1
   cell-owned =
-      let at = got-is m.slots k slot.0 slot.1 in
-      let owned : 0 < owners s slot.0.block = slot_covered s s s m.slots k slot.0 at.0 at.1 lives.owned in
+      let owned : 0 < owners s slot.0.block = laws.owned s m k slot.0 lives slot.1 in
       rw (ap (λ (c : ℕ × ℕ). c.1) slot.2) at owned
 
-  pub cell-next : (bytes : List ℕ) → bytes ≡ bytes_at s cell.1 → map (cell_of s) (take (k + 1) m.slots) ≡ map (cell_of s) (take k m.slots) ++ record { writer = cell.0; bytes = bytes } ∷ []
+  pub cell-next : (bytes : List ℕ) → bytes ≡ bytes_at s cell.1 → map (cell_of s) (take (k + 1) (slots_of s m)) ≡ map (cell_of s) (take k (slots_of s m)) ++ record { writer = cell.0; bytes = bytes } ∷ []
   cell-next bytes is =
-      let next = taken-next (cell_of s) m.slots k slot.0 slot.1 in
+      let next = taken-next (cell_of s) (slots_of s m) k slot.0 slot.1 in
       let made : cell_of s slot.0 ≡ record { writer = cell.0; bytes = bytes } = ap (cell_from s) slot.2 ∙ ap (cell_by cell.0) (sym is) in
-      next ∙ ap (λ (c : Cell). map (cell_of s) (take k m.slots) ++ c ∷ []) made
+      next ∙ ap (λ (c : Cell). map (cell_of s) (take k (slots_of s m)) ++ c ∷ []) made
 
 -- the rows of a log
 module _ (s : Store) (f : File) (kept : IsFileKept f) where
@@ -216,7 +170,7 @@ module _ (hs : List OpenHandle) (k : ℕ) (t : ℕ × session.Reads) (got : Some
   handle = shown-some (λ (h : OpenHandle). (h.number, session_reads.Draft h.file)) (slice_get hs k) t got
 
   pub handle-within : k < length hs
-  handle-within = (got-is hs k handle.0 handle.1).0
+  handle-within = slice_get_within hs k handle.0 handle.1
 
   pub handle-next : (shows : Reads) → shows ≡ reads_in t.1 → map handle_in (take (k + 1) hs) ≡ map handle_in (take k hs) ++ record { number = t.0; reads = shows } ∷ []
   handle-next shows is =

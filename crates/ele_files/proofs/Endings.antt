@@ -3,15 +3,14 @@ use Rattle.std.proofs.Common.{◌≡◌, ℕ, ◌+◌, ◌-◌, ◌<◌, ◌≤�
 use Rattle.std.specs.Prelude.{find, is_some, unwrap_or, IfSome, IsSomeAnd}
 use Rattle.std.specs.List.{AllByRecursion}
 use Rattle.std.proofs.lemmas.Bool.Decides.{nat_tests}
-use Rattle.ele_blocks.specs.declared.slot.Slot.{Slot}
 use Rattle.ele_blocks.specs.Layout.{Layout}
 use Rattle.ele_files.specs.Finishing.{IsRowPast, ended_by, ended_rows, closing_row, HasClosed}
-use Rattle.ele_files.specs.Inside.{IsRowOf, IsFileKept, AreBefore}
+use Rattle.ele_files.specs.Inside.{IsRowOf, IsFileKept}
 use Rattle.ele_files.specs.declared.file.File.{File}
 use Rattle.ele_inode_log.specs.declared.row.VersionRow as log
 use Rattle.ele_inode_log.specs.Rows.{AllLater, Precedes, EndsInTime, CanEndAt, is_numbered, last_of, update_last, ended_at}
-use Rattle.ele_inode_log.proofs.Lists.{all-append}
 use Rattle.ele_lists.specs.Lists.{update_first}
+use Rattle.ele_lists.proofs.Alls.{all-append}
 use Rattle.ele_lists.proofs.Edits.{all-weaker, all-both, all-found, all-update_first, later-update_first, later-push}
 
 -- a row without an end is the last
@@ -100,7 +99,7 @@ module _ (f : File) (opened now : ℕ) (live : Bool) (cells : Layout) (kept : Is
     by true = tt
     by false = omega arith
 
-  module _ (g : File) (closed : HasClosed f g now new) (writers : AreBefore (f.next + 1) cells.slots) where
+  module _ (g : File) (closed : HasClosed f g now new) where
     ended_in_time : (row : log.VersionRow) → EndsInTime row × IsRowPast now row → EndsInTime (ended_by now row)
     ended_in_time row h = by row.ended h.0 where
       by : (o : Option ℕ) → IfSome o (λ ended. row.closed ≤ ended) → row.closed ≤ unwrap_or o now
@@ -117,17 +116,16 @@ module _ (f : File) (opened now : ℕ) (live : Bool) (cells : Layout) (kept : Is
     more row h = record {
       first = h.0.first;
       number = let below = h.0.number in omega arith;
-      writers = all-weaker (λ (slot : Slot). slot.writer < f.next) (λ (slot : Slot). slot.writer < f.next + 1) row.cells.slots (λ slot below. omega arith) h.0.writers;
       open_end = λ endless. absurd (not_some row.ended (λ ended. ended ≤ now) endless h.1.ended);
     }
 
-    of_rows : AllByRecursion (IsRowOf f.next) (ended_rows f now)
-    of_rows = all-update_first (is_numbered (f.next - 1)) (IsRowOf f.next) (IsRowOf f.next) (ended_by now) f.log.rows (λ row h. record { first = h.first; number = h.number; writers = h.writers; open_end = λ endless. absurd cc }) (λ row h. h) kept.rows
+    pub of_rows : AllByRecursion (IsRowOf f.next) (ended_rows f now)
+    of_rows = all-update_first (is_numbered (f.next - 1)) (IsRowOf f.next) (IsRowOf f.next) (ended_by now) f.log.rows (λ row h. record { first = h.first; number = h.number; open_end = λ endless. absurd cc }) (λ row h. h) kept.rows
 
     pub closed_kept : IsFileKept g
     closed_kept = record {
       next = rw closed.next (omega arith);
-      rows = rw (closed.next, closed.rows) (all-append (IsRowOf (f.next + 1)) (ended_rows f now) (new ∷ []) (all-weaker (λ row. IsRowOf f.next row × Precedes row new) (IsRowOf (f.next + 1)) (ended_rows f now) more (all-both (IsRowOf f.next) (λ row. Precedes row new) (ended_rows f now) of_rows before_new)) (record { first = kept.next; number = omega arith; writers = writers; open_end = λ endless. refl }, tt));
+      rows = rw (closed.next, closed.rows) (all-append (IsRowOf (f.next + 1)) (ended_rows f now) (new ∷ []) (all-weaker (λ row. IsRowOf f.next row × Precedes row new) (IsRowOf (f.next + 1)) (ended_rows f now) more (all-both (IsRowOf f.next) (λ row. Precedes row new) (ended_rows f now) of_rows before_new)) (record { first = kept.next; number = omega arith; open_end = λ endless. refl }, tt));
       order = rw closed.rows (record {
         ends = all-append EndsInTime (ended_rows f now) (new ∷ []) (all-update_first (is_numbered (f.next - 1)) (λ row. EndsInTime row × IsRowPast now row) EndsInTime (ended_by now) f.log.rows ended_in_time (λ row h. h.0) (all-both EndsInTime (IsRowPast now) f.log.rows kept.order.ends past)) (ends_in_time, tt);
         order = later-push Precedes (ended_rows f now) new (later-update_first (is_numbered (f.next - 1)) Precedes (ended_by now) f.log.rows ended_before (λ x y h. record { number = h.number; ended = h.ended }) kept.order.order) before_new;

@@ -11,9 +11,10 @@ use Rattle.ele_files.specs.Inside.{draft_in, handle_in, held_in}
 use Rattle.ele_files.specs.declared.file.File.{File}
 use Rattle.ele_files.proofs.Asked.{closing-shown}
 use Rattle.ele_files.proofs.Rows.{draft-found, handle_file-shown, left-shown}
-use Rattle.ele_files.proofs.Splits.{remove_first-map, remove_first-none}
 use Rattle.ele_lists.specs.Lists.{remove_first}
+use Rattle.ele_lists.proofs.Cuts.{remove_first-unfound}
 use Rattle.ele_lists.proofs.Edits.{all-not_found, found_passes}
+use Rattle.ele_lists.proofs.Shown.{remove_first-map}
 use Rattle.ele_sessions.specs.Closes as went
 use Rattle.ele_sessions.specs.Sessions as plain
 use Rattle.ele_sessions.specs.declared.closing.Closing.TheVariants.{StillOpen, Clean, Changed}
@@ -79,7 +80,7 @@ module _ (ss : plain.AllSessions) (handle : ℕ) where
     shared_left = ap (went.closed_of ss handle) h.writes ∙ by h.stays where
       by : (list_any (plain.is_writer h.file) (went.left_handles ss handle) ≡ true) ⊎ ((list_any (plain.is_writer h.file) (went.left_handles ss handle) ≡ false) × (find (plain.is_draft h.file) ss.drafts ≡ None)) → went.closed_of ss handle (Some h.file) ≡ left ss handle
       by (inl others) = rw others refl
-      by (inr alone) = rw (alone.0, remove_first-none (plain.is_draft h.file) ss.drafts (all-not_found (plain.is_draft h.file) ss.drafts alone.1)) refl
+      by (inr alone) = rw (alone.0, remove_first-unfound (plain.is_draft h.file) ss.drafts (all-not_found (plain.is_draft h.file) ss.drafts alone.1)) refl
 
   module _ (h : IsLast ss handle) where
     pub last_answer : went.closing ss handle ≡ Some (went.ending h.draft)

@@ -1,24 +1,32 @@
 -- A version leaves its file, and its map the store.
-use Rattle.std.proofs.Common.{◌≡◌, ℕ, ◌<◌, true, false, cond, not, eqb, List, [], ◌∷◌, ◌++◌, map, Some, refl, ap, sym, ◌∙◌, arith}
+use Rattle.std.proofs.Common.{◌≡◌, ℕ, ◌<◌, true, false, cond, not, eqb, List, [], ◌∷◌, length, map, get_or, Some, None, refl, ap, sym, ◌∙◌, arith}
+use Rattle.std.proofs.Math.ListN.{set}
 use Rattle.std.specs.Prelude.{find, filter}
-use Rattle.std.specs.List.{AllByRecursion, flat_map}
+use Rattle.std.specs.List.{AllByRecursion, flat_map, position}
+use Rattle.std.specs.Option.{option_map}
 use Rattle.std.proofs.lemmas.Bool.Decides.{nat_tests}
-use Rattle.ele_blocks.specs.Owes.{tally, SameMaps, Moves}
+use Rattle.ele_blocks.specs.Owes.{Moves}
+use Rattle.ele_blocks.specs.Stock.{Stays}
 use Rattle.ele_blocks.specs.Store.{Store}
-use Rattle.ele_blocks.proofs.Owed.{moves_owes, rest_stays, same_maps}
+use Rattle.ele_content.specs.Content.{content_of}
 use Rattle.ele_files.specs.Held.{without}
-use Rattle.ele_files.specs.Inside.{file_row, row_in, rows_in, held_in, maps_of, row_names, file_names, draft_names, all_names, IsRowOf, IsFileKept, IsDraftKept, Keeps}
+use Rattle.ele_files.specs.Inside.{row_in, rows_in, held_in, row_stock, stock_of, IsRowOf, IsFileKept, Keeps, is_id}
 use Rattle.ele_files.specs.declared.file.File.{File}
-use Rattle.ele_files.proofs.Looks.{rows_all, versions_stay, drafts_stay}
-use Rattle.ele_files.proofs.Members.{AreIn, beside_in, mid_in, in_mid, removed_in, fewer_one_to_one}
-use Rattle.ele_files.proofs.Splits.{NonePasses, all-mid, all-exchange, later-mid, later-exchange, map-exchange, flat_map-cut, remove_first-skip, remove_first-front, remove_first-map}
-use Rattle.ele_files.proofs.Sums.{total, tally-remove_first}
+use Rattle.ele_files.proofs.Exchanges.{after, rise_over, files_over, rows_same, drafts_over, same_keeps}
+use Rattle.ele_files.proofs.Looks.{held_stays}
+use Rattle.ele_files.proofs.Rows.{file-at, no-file, its_id, file_of, tagged, own_version, same_number, version-of, version-none}
+use Rattle.ele_files.proofs.Stock.{over, row_apart, row_lives}
 use Rattle.ele_inode_log.specs.declared.row.VersionRow as log
-use Rattle.ele_inode_log.specs.Rows.{AllLater, Precedes, EndsInTime, is_numbered, is_other}
-use Rattle.ele_lists.specs.Lists.{remove_first}
-use Rattle.ele_lists.proofs.Edits.{all-remove_first, later-remove_first, all-weaker}
-use Rattle.ele_sessions.specs.Sessions.{Draft, AllSessions}
+use Rattle.ele_inode_log.specs.Rows.{Precedes, EndsInTime, is_numbered, is_other}
+use Rattle.ele_lists.specs.Lists.{remove_first, AllLater}
+use Rattle.ele_lists.proofs.Buckets.{bucket_changes, local-remove_first}
+use Rattle.ele_lists.proofs.Cuts.{remove_first-unfound}
+use Rattle.ele_lists.proofs.Edits.{all-found, all-remove_first, all-not_found, later-remove_first}
+use Rattle.ele_lists.proofs.Places.{set-first}
+use Rattle.ele_lists.proofs.Shown.{remove_first-map}
+use Rattle.ele_sessions.specs.Sessions.{AllSessions}
 use Rattle.ele_world.specs.World.{is_version}
+use Rattle.ele_world.specs.declared.rows.VersionRow.{VersionRow}
 
 -- numbers rise, so a number is removed once
 others_stay : (number : ℕ) (row : log.VersionRow) (rows : List log.VersionRow) → row.number ≡ number → AllByRecursion (Precedes row) rows → filter (is_other number) rows ≡ rows
@@ -28,89 +36,72 @@ others_stay number row (x ∷ rows) is later =
     let other : eqb x.number number ≡ false = grind (arith, nat_tests) in
     rw other (ap (λ xs. x ∷ xs) (others_stay number row rows is later.1))
 
-pub filter_removes : (number : ℕ) (rows : List log.VersionRow) → AllLater Precedes rows → filter (is_other number) rows ≡ remove_first (is_numbered number) rows
+filter_removes : (number : ℕ) (rows : List log.VersionRow) → AllLater Precedes rows → filter (is_other number) rows ≡ remove_first (is_numbered number) rows
 filter_removes number [] order = refl
 filter_removes number (x ∷ rows) order = elim (eqb x.number number) as (λ b. eqb x.number number ≡ b → cond (not b) (x ∷ filter (is_other number) rows) (filter (is_other number) rows) ≡ cond b rows (x ∷ remove_first (is_numbered number) rows)) [
   | true ↦ λ e. others_stay number x rows (grind (arith, nat_tests)) order.0
   | false ↦ λ e. ap (λ xs. x ∷ xs) (filter_removes number rows order.1)
 ] refl
 
--- the same file, with other rows
-pub record IsSameFile (f g : File) : Type 0 where
-  pub id : g.id ≡ f.id
-  pub policy : g.policy ≡ f.policy
-  pub next : g.next ≡ f.next
+-- the file that a search reached
+pub record IsReached (files : List File) (id i : ℕ) (f : File) : Type 0 where
+  pub found : find (is_id id) files ≡ Some f
+  pub changed : (g : File) → g.id ≡ f.id → g.policy ≡ f.policy → set files i g ≡ after files id f g found
 
-pub same_row : (f g : File) → IsSameFile f g → file_row g ≡ file_row f
-same_row f g same = rw (same.id, same.policy, same.next) refl
-
--- the files with another in the place of f
-module _ (before after : List File) (f g : File) (same : g.id ≡ f.id) where
-  pub rise_stays : AllLater (λ (x y : File). x.id < y.id) (before ++ f ∷ after) → AllLater (λ (x y : File). x.id < y.id) (before ++ g ∷ after)
-  rise_stays rise = later-exchange (λ (x y : File). x.id < y.id) before f g after (λ z lt. rw same lt) (λ zs all. all-weaker (λ (y : File). f.id < y.id) (λ (y : File). g.id < y.id) zs (λ y lt. rw same lt) all) rise
-
-module _ (s : Store) (before after : List File) (f : File) (rise : AllLater (λ (x y : File). x.id < y.id) (before ++ f ∷ after)) (number : ℕ) where
-  -- no version of another file is that of this file
-  pub none_before : NonePasses (is_version f.id number) (flat_map (rows_in s) before)
-  none_before = rows_all (λ row. is_version f.id number row ≡ false) (λ (x : File). x.id < f.id) s before (λ x row lt. let e : eqb x.id f.id ≡ false = grind (arith, nat_tests) in rw e refl) (later-mid (λ (x y : File). x.id < y.id) before f after rise).0
-
-  pub none_after : NonePasses (is_version f.id number) (flat_map (rows_in s) after)
-  none_after = rows_all (λ row. is_version f.id number row ≡ false) (λ (x : File). f.id < x.id) s after (λ x row lt. let e : eqb x.id f.id ≡ false = grind (arith, nat_tests) in rw e refl) (later-mid (λ (x y : File). x.id < y.id) before f after rise).1
-
-  pub is_this : (row : log.VersionRow) → is_version f.id number (row_in s f.id row) ≡ is_numbered number row
-  is_this row = let e : eqb f.id f.id ≡ true = grind (arith, nat_tests) in rw e refl
-
-  remove_version : remove_first (is_version f.id number) (flat_map (rows_in s) (before ++ f ∷ after)) ≡ flat_map (rows_in s) before ++ (map (row_in s f.id) (remove_first (is_numbered number) f.log.rows) ++ flat_map (rows_in s) after)
-  remove_version =
-      let p = is_version f.id number in
-      let front = flat_map (rows_in s) before in
-      let this = rows_in s f in
-      let behind = flat_map (rows_in s) after in
-      ap (remove_first p) (flat_map-cut (rows_in s) before f after)
-      ∙ (remove_first-skip p front (this ++ behind) none_before
-      ∙ (ap (λ rows. front ++ rows) (remove_first-front p this behind none_after)
-      ∙ ap (λ rows. front ++ (rows ++ behind)) (remove_first-map (row_in s f.id) p (is_numbered number) is_this f.log.rows)))
-
--- the maps with the row's map apart
-without_row : (before after : List File) (f g : File) (drafts : List Draft) (number : ℕ) (row : log.VersionRow) → find (is_numbered number) f.log.rows ≡ Some row → g.log.rows ≡ remove_first (is_numbered number) f.log.rows → SameMaps (maps_of (before ++ f ∷ after) drafts) (row.cells ∷ maps_of (before ++ g ∷ after) drafts)
-without_row before after f g drafts number row found rows = record {
-  sums = λ k.
-      let these : tally (λ (r : log.VersionRow). k r.cells) g.log.rows ≡ tally (λ (r : log.VersionRow). k r.cells) (remove_first (is_numbered number) f.log.rows) = ap (tally (λ (r : log.VersionRow). k r.cells)) rows in
-      omega (arith, total k before f after drafts, total k before g after drafts, these, tally-remove_first (λ (r : log.VersionRow). k r.cells) (is_numbered number) f.log.rows row found);
+pub reached : (files : List File) (id i : ℕ) (f : File) → Some i ≡ position (is_id id) files → f ≡ get_or files i f → IsReached files id i f
+reached files id i f place is = record {
+  found = file-at files id i f place is;
+  changed = λ g its_id its_policy. set-first (is_id id) (over g) files i f g (sym place) is (rw (its_id, its_policy) refl);
 }
 
--- the file f has become g, which lacks one row, and the row's map has left the store
-module _ (s t : Store) (before after : List File) (f g : File) (ss : AllSessions) (number : ℕ) (row : log.VersionRow) (kept : Keeps s (before ++ f ∷ after) ss) (same : IsSameFile f g) (found : find (is_numbered number) f.log.rows ≡ Some row) (rows : g.log.rows ≡ remove_first (is_numbered number) f.log.rows) (moves : Moves s t (row.cells ∷ []) []) where
-  left : SameMaps (maps_of (before ++ f ∷ after) ss.drafts) (row.cells ∷ maps_of (before ++ g ∷ after) ss.drafts)
-  left = without_row before after f g ss.drafts number row found rows
+-- no file has the number
+module _ (s : Store) (files : List File) (a : AllSessions) (kept : Keeps s files a) (id number : ℕ) (missing : None ≡ position (is_id id) files) where
+  pub missing_version : find (is_version id number) (flat_map (rows_in s) files) ≡ None
+  missing_version = version-none s id number files kept.rise (no-file files id missing)
 
-  pub removed_keeps : Keeps t (before ++ g ∷ after) ss
-  removed_keeps = record {
-    rise = rise_stays before after f g same.id kept.rise;
-    owed = moves_owes s t (row.cells ∷ []) [] moves (maps_of (before ++ f ∷ after) ss.drafts) (maps_of (before ++ g ∷ after) ss.drafts) kept.owed left (maps_of (before ++ g ∷ after) ss.drafts) (same_maps (maps_of (before ++ g ∷ after) ss.drafts));
-    one_to_one = fewer_one_to_one (all_names t (before ++ g ∷ after) ss.drafts) (all_names s (before ++ f ∷ after) ss.drafts) (beside_in (flat_map (file_names s) (before ++ g ∷ after)) (flat_map (draft_names s) ss.drafts) (flat_map (file_names s) (before ++ f ∷ after)) (flat_map (draft_names s) ss.drafts) (mid_in (file_names s) before f g after (flat_map (file_names s) (before ++ f ∷ after)) names (λ n i. i)) (λ n i. i)) kept.one_to_one;
-    files_kept = all-exchange IsFileKept before f g after file_kept kept.files_kept;
-    drafts_kept = all-weaker (IsDraftKept (before ++ f ∷ after)) (IsDraftKept (before ++ g ∷ after)) ss.drafts (λ d h. record { there = h.there; number = rw (map-exchange file_row before f g after (same_row f g same)) h.number; writers = h.writers }) kept.drafts_kept;
-  } where
-    was : IsFileKept f
-    was = all-mid IsFileKept before f after kept.files_kept
+  pub missing_stays : held_in s files a ≡ without (held_in s files a) id number
+  missing_stays = rw (remove_first-unfound (is_version id number) (flat_map (rows_in s) files) (all-not_found (is_version id number) (flat_map (rows_in s) files) missing_version)) refl
 
-    file_kept : IsFileKept g
-    file_kept = record {
-      next = rw same.next was.next;
-      rows = rw (same.next, rows) (all-remove_first (is_numbered number) (IsRowOf f.next) f.log.rows was.rows);
-      order = rw rows (record { ends = all-remove_first (is_numbered number) EndsInTime f.log.rows was.order.ends; order = later-remove_first (is_numbered number) Precedes f.log.rows was.order.order });
+module _ (s : Store) (files : List File) (a : AllSessions) (kept : Keeps s files a) (id number : ℕ) (f g : File) (found : find (is_id id) files ≡ Some f) (next : g.next ≡ f.next) (rows : g.log.rows ≡ filter (is_other number) f.log.rows) where
+  its_kept : IsFileKept f
+  its_kept = all-found (is_id id) IsFileKept files f found kept.files_kept
+
+  left : g.log.rows ≡ remove_first (is_numbered number) f.log.rows
+  left = rows ∙ filter_removes number f.log.rows its_kept.order.order
+
+  left_kept : IsFileKept g
+  left_kept = record {
+    next = rw next its_kept.next;
+    rows = rw (next, left) (all-remove_first (is_numbered number) (IsRowOf f.next) f.log.rows its_kept.rows);
+    order = rw left (record { ends = all-remove_first (is_numbered number) EndsInTime f.log.rows its_kept.order.ends; order = later-remove_first (is_numbered number) Precedes f.log.rows its_kept.order.order });
+  }
+
+  versions_leave : remove_first (is_version id number) (flat_map (rows_in s) files) ≡ flat_map (rows_in s) (after files id f g found)
+  versions_leave = bucket_changes (λ (x : File). x.id) (rows_in s) file_of (tagged s) id (remove_first (is_version id number)) (local-remove_first file_of id (is_version id number) (own_version id number)) (over g) files f kept.rise found (ap (map (row_in s f.id)) left ∙ sym (remove_first-map (row_in s f.id) (is_version id number) (is_numbered number) (same_number s f.id id number (its_id files id f found)) f.log.rows))
+
+  pub leaves : held_in s (after files id f g found) a ≡ without (held_in s files a) id number
+  leaves = rw (versions_leave, rows_same files id f g found next) refl
+
+  -- the number isn't held
+  pub unheld_keeps : find (is_numbered number) f.log.rows ≡ None → Keeps s (after files id f g found) a
+  unheld_keeps none = same_keeps files id f g found s a kept next (left ∙ remove_first-unfound (is_numbered number) f.log.rows (all-not_found (is_numbered number) f.log.rows none)) its_kept
+
+  -- its row has left, and the map the store
+  module _ (t : Store) (row : log.VersionRow) (held : find (is_numbered number) f.log.rows ≡ Some row) (moves : Moves s t (row.cells ∷ []) []) where
+    stays : Stays s t (stock_of (after files id f g found) a.drafts) (stock_of (after files id f g found) a.drafts)
+    stays = kept.laws.gone s t (stock_of files a.drafts) (row_stock f.id row) (stock_of (after files id f g found) a.drafts) kept.stocked (row_apart files a.drafts id f g found (is_numbered number) row held left) moves
+
+    pub gone_keeps : Keeps t (after files id f g found) a
+    gone_keeps = record {
+      laws = kept.laws;
+      rise = rise_over files id f g found kept.rise;
+      stocked = stays.stocked;
+      files_kept = files_over files id f g found left_kept kept.files_kept;
+      drafts_kept = drafts_over files id f g found next a.drafts kept.drafts_kept;
     }
 
-    names : AreIn (file_names s g) (flat_map (file_names s) (before ++ f ∷ after))
-    names = λ n i. in_mid (file_names s) before f after n (removed_in (row_names s f.id) (is_numbered number) f.log.rows n (rw (same.id, rows) at i))
+    pub gone_shows : held_in t (after files id f g found) a ≡ without (held_in s files a) id number
+    gone_shows = held_stays s t (after files id f g found) a stays.shows ∙ leaves
 
-  pub removed_shows : held_in t (before ++ g ∷ after) ss ≡ without (held_in s (before ++ f ∷ after) ss) f.id number
-  removed_shows =
-      let stays = rest_stays s t (row.cells ∷ []) [] moves (maps_of (before ++ f ∷ after) ss.drafts) (maps_of (before ++ g ∷ after) ss.drafts) kept.owed left in
-      let versions : flat_map (rows_in t) (before ++ g ∷ after) ≡ remove_first (is_version f.id number) (flat_map (rows_in s) (before ++ f ∷ after)) =
-      versions_stay s t (before ++ g ∷ after) ss.drafts stays
-      ∙ (flat_map-cut (rows_in s) before g after
-      ∙ (ap (λ rows. flat_map (rows_in s) before ++ (rows ++ flat_map (rows_in s) after)) (rw (same.id, rows) refl)
-      ∙ sym (remove_version s before after f kept.rise number))) in
-      rw (versions, drafts_stay s t (before ++ g ∷ after) ss.drafts stays, map-exchange file_row before f g after (same_row f g same)) refl
+    pub gone_length : option_map (λ (r : VersionRow). length (content_of r.cells)) (find (is_version id number) (flat_map (rows_in s) files)) ≡ Some row.cells.size
+    gone_length = rw (version-of s id number files kept.rise f found, held) (ap (λ n. Some n) (kept.laws.long s row.cells (row_lives s files a kept id (is_numbered number) f row found held)))

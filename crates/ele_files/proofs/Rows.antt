@@ -1,43 +1,33 @@
 -- What the rows show of the files, drafts and handles behind them.
-use Rattle.std.proofs.Common.{◌≡◌, ℕ, ◌<◌, Bool, true, false, cond, eqb, ◌||◌, List, [], ◌∷◌, map, get_or, Option, Some, None, Result, Ok, Err, refl, sym, ap, ◌∙◌, arith}
+use Rattle.std.proofs.Common.{◌≡◌, ℕ, ◌<◌, true, false, eqb, List, map, get_or, Option, Some, None, Result, Ok, Err, refl, sym, ap, ◌∙◌, arith}
 use Rattle.std.specs.List.{find, position, list_any, flat_map, AllByRecursion}
-use Rattle.std.specs.Option.{option_map, option_or, option_map_or, ok_or}
+use Rattle.std.specs.Option.{option_map, option_map_or, option_and_then, ok_or}
 use Rattle.std.specs.Result.{result_ok}
+use Rattle.std.proofs.lemmas.Bool.{false≢true}
 use Rattle.std.proofs.lemmas.Bool.Decides.{nat_tests}
 use Rattle.ele_files.specs.Held.{handle_file}
 use Rattle.ele_files.specs.Inside.{is_id, file_row, row_in, rows_in, draft_in, reads_in, handle_in}
 use Rattle.ele_files.specs.declared.file.File.{File}
-use Rattle.ele_files.proofs.Splits.{remove_first-map}
 use Rattle.ele_blocks.specs.Store.{Store}
 use Rattle.ele_inode_log.specs.declared.row.VersionRow as log
 use Rattle.ele_inode_log.specs.Rows.{is_numbered}
-use Rattle.ele_inode_log.proofs.Lists.{find-append}
 use Rattle.ele_lists.specs.Lists.{remove_first, AllLater}
+use Rattle.ele_lists.proofs.Alls.{all-map}
+use Rattle.ele_lists.proofs.Buckets.{find-buckets}
+use Rattle.ele_lists.proofs.Edits.{all-any, found_passes}
+use Rattle.ele_lists.proofs.Places.{find-position, find-none}
+use Rattle.ele_lists.proofs.Shown.{find-map, any-map, remove_first-map}
 use Rattle.ele_sessions.specs.Sessions as sessions
 use Rattle.ele_sessions.specs.Sessions.{Draft}
 use Rattle.ele_sessions.specs.declared.entries.OpenHandle.{OpenHandle}
 use Rattle.ele_sessions.specs.declared.reads.Reads as session
 use Rattle.ele_sessions.specs.declared.reads.Reads.TheVariants as session_reads
-use Rattle.ele_world.proofs.Places.{find-position, find-none}
 use Rattle.ele_world.specs.declared.refusal.Refusal.{Refusal}
 use Rattle.ele_world.specs.declared.refusal.Refusal.TheVariants.{NoHandle}
 use Rattle.ele_world.specs.declared.rows.HandleRow.{HandleRow}
 use Rattle.ele_world.specs.declared.rows.Reads.{Reads}
 use Rattle.ele_world.specs.declared.rows.VersionRow.{VersionRow}
 use Rattle.ele_world.specs.World.{is_file, is_version, is_draft, is_handle, is_writer, file_written, reads_by, policy_of, next_of}
-
--- a test of what a view shows
-module _ {X Y : Type 0} (g : X → Y) (p : Y → Bool) where
-  pub find-map : (xs : List X) → find p (map g xs) ≡ option_map g (find (λ x. p (g x)) xs)
-  find-map [] = refl
-  find-map (x ∷ xs) = elim (p (g x)) as (λ b. cond b (Some (g x)) (find p (map g xs)) ≡ option_map g (cond b (Some x) (find (λ x. p (g x)) xs))) [
-    | true ↦ refl
-    | false ↦ find-map xs
-  ]
-
-  pub any-map : (xs : List X) → list_any p (map g xs) ≡ list_any (λ x. p (g x)) xs
-  any-map [] = refl
-  any-map (x ∷ xs) = ap (λ b. p (g x) || b) (any-map xs)
 
 -- ---- files
 
@@ -59,51 +49,41 @@ module _ (files : List File) (id : ℕ) where
   next-found None is = rw (file_row-found, is) refl
   next-found (Some x) is = rw (file_row-found, is) refl
 
+pub its_id : (files : List File) (id : ℕ) (f : File) → find (is_id id) files ≡ Some f → f.id ≡ id
+its_id files id f found = let e = found_passes (is_id id) files f found in grind (arith, nat_tests)
+
 -- ---- versions
 
-module _ (s : Store) (file number : ℕ) where
-  same-file : (id : ℕ) → eqb id file ≡ true → (rows : List log.VersionRow) → find (is_version file number) (map (row_in s id) rows) ≡ option_map (row_in s id) (find (is_numbered number) rows)
-  same-file id e [] = refl
-  same-file id e (x ∷ xs) = rw e (elim (eqb x.number number) as (λ b. cond b (Some (row_in s id x)) (find (is_version file number) (map (row_in s id) xs)) ≡ option_map (row_in s id) (cond b (Some x) (find (is_numbered number) xs))) [
-    | true ↦ refl
-    | false ↦ same-file id e xs
-  ])
+abbrev pub file_of : VersionRow → ℕ
+file_of row = row.file
 
-  other-file : (id : ℕ) → eqb id file ≡ false → (rows : List log.VersionRow) → find (is_version file number) (map (row_in s id) rows) ≡ None
-  other-file id e [] = refl
-  other-file id e (x ∷ xs) = rw e (other-file id e xs)
+pub tagged : (s : Store) (f : File) → AllByRecursion (λ row. file_of row ≡ f.id) (rows_in s f)
+tagged s f = all-map (row_in s f.id) (λ row. row.file ≡ f.id) f.log.rows (all-any (λ row. f.id ≡ f.id) f.log.rows (λ row. refl))
 
-  -- behind the file no file has its number
-  behind : (x : File) (files : List File) → eqb x.id file ≡ true → AllByRecursion (λ (y : File). x.id < y.id) files → find (is_version file number) (flat_map (rows_in s) files) ≡ None
-  behind x [] e all = refl
-  behind x (y ∷ ys) e all =
-      let apart : eqb y.id file ≡ false = let lt = all.0 in grind (arith, nat_tests) in
-      find-append (is_version file number) (rows_in s y) (flat_map (rows_in s) ys) ∙ rw (other-file y.id apart y.log.rows) (behind x ys e all.1)
+pub own_version : (file number : ℕ) (row : VersionRow) → is_version file number row ≡ true → row.file ≡ file
+own_version file number row h = elim (eqb row.file file) as (λ b. eqb row.file file ≡ b → row.file ≡ file) [
+  | true ↦ λ e. grind (arith, nat_tests)
+  | false ↦ λ e. absurd (false≢true (rw e at h))
+] refl
 
-  -- the row of that number in the file's log
-  abbrev pub row_of : Option File → Option VersionRow
-  row_of None = None
-  row_of (Some f) = option_map (row_in s file) (find (is_numbered number) f.log.rows)
+-- a file's row is its version of that number
+pub same_number : (s : Store) (id file number : ℕ) → id ≡ file → (row : log.VersionRow) → is_version file number (row_in s id row) ≡ is_numbered number row
+same_number s id file number is row = let e : eqb id file ≡ true = grind (arith, nat_tests) in rw e refl
 
-  either : {X : Type 0} (o : Option X) → option_or o None ≡ o
-  either None = refl
-  either (Some x) = refl
+module _ (s : Store) (file number : ℕ) (files : List File) (rise : AllLater (λ (x y : File). x.id < y.id) files) where
+  abbrev version : Option VersionRow
+  version = find (is_version file number) (flat_map (rows_in s) files)
 
-  pub version-found : (files : List File) → AllLater (λ (x y : File). x.id < y.id) files → find (is_version file number) (flat_map (rows_in s) files) ≡ row_of (find (is_id file) files)
-  version-found [] rise = refl
-  version-found (x ∷ xs) rise = find-append (is_version file number) (rows_in s x) (flat_map (rows_in s) xs) ∙ elim (eqb x.id file) as (λ b. eqb x.id file ≡ b → option_or (find (is_version file number) (rows_in s x)) (find (is_version file number) (flat_map (rows_in s) xs)) ≡ row_of (cond b (Some x) (find (is_id file) xs))) [
-    | true ↦ λ e.
-        let same : x.id ≡ file = grind (arith, nat_tests) in
-        rw (same-file x.id e x.log.rows, behind x xs e rise.0) (either (option_map (row_in s x.id) (find (is_numbered number) x.log.rows)) ∙ ap (λ id. option_map (row_in s id) (find (is_numbered number) x.log.rows)) same)
-    | false ↦ λ e. rw (other-file x.id e x.log.rows) (version-found xs rise.1)
-  ] refl
+  found_in : version ≡ option_and_then (λ f. find (is_version file number) (rows_in s f)) (find (is_id file) files)
+  found_in = find-buckets (λ (f : File). f.id) (rows_in s) file_of (tagged s) file (is_version file number) (own_version file number) files rise
 
-  module _ (files : List File) (rise : AllLater (λ (x y : File). x.id < y.id) files) where
-    pub version-of : (f : File) → find (is_id file) files ≡ Some f → find (is_version file number) (flat_map (rows_in s) files) ≡ option_map (row_in s file) (find (is_numbered number) f.log.rows)
-    version-of f is = version-found files rise ∙ ap row_of is
+  pub version-none : find (is_id file) files ≡ None → version ≡ None
+  version-none none = found_in ∙ ap (option_and_then (λ f. find (is_version file number) (rows_in s f))) none
 
-    pub version-none : find (is_id file) files ≡ None → find (is_version file number) (flat_map (rows_in s) files) ≡ None
-    version-none is = version-found files rise ∙ ap row_of is
+  pub version-of : (f : File) → find (is_id file) files ≡ Some f → version ≡ option_map (row_in s f.id) (find (is_numbered number) f.log.rows)
+  version-of f found = found_in ∙ (ap (option_and_then (λ f. find (is_version file number) (rows_in s f))) found ∙ (find-map (row_in s f.id) (is_version file number) f.log.rows ∙ ap (option_map (row_in s f.id)) (alike f.log.rows))) where
+    alike : (rows : List log.VersionRow) → find (λ row. is_version file number (row_in s f.id row)) rows ≡ find (is_numbered number) rows
+    alike rows = let e : eqb f.id file ≡ true = found_passes (is_id file) files f found in rw e refl
 
 -- ---- drafts and handles
 

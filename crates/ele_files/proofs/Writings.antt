@@ -1,7 +1,6 @@
 -- What a write or a truncate through a handle leaves.
-use Rattle.std.proofs.Common.{◌≡◌, ◌≤◌, ℕ, Bool, true, false, cond, eqb, List, [], ◌∷◌, ◌++◌, length, map, Option, Some, None, Result, Ok, Err, refl, sym, ap, ◌∙◌, arith}
+use Rattle.std.proofs.Common.{◌≡◌, ◌≤◌, ℕ, Bool, true, false, cond, eqb, List, [], ◌∷◌, length, map, Option, Some, None, Result, Ok, Err, refl, sym, ap, ◌∙◌, arith}
 use Rattle.std.specs.Prelude.{find, MatchBool}
-use Rattle.std.specs.List.{AllByRecursion}
 use Rattle.std.specs.Option.{IsSomeAnd, option_map, option_map_or}
 use Rattle.std.specs.Result.{OnOk, OnErr}
 use Rattle.std.proofs.lemmas.Bool.{false≢true}
@@ -13,17 +12,14 @@ use Rattle.ele_blocks.specs.LivesIn.{LivesIn}
 use Rattle.ele_blocks.specs.Owes.{Moves}
 use Rattle.ele_blocks.specs.Renews.{Renews}
 use Rattle.ele_blocks.specs.Store.{Store}
-use Rattle.ele_blocks.proofs.Sizes.{whole_short}
 use Rattle.ele_files.specs.declared.file.File.{File}
 use Rattle.ele_files.specs.Held as held
 use Rattle.ele_files.specs.Held.{written_of, written_by, fitted_of, fitted}
 use Rattle.ele_files.specs.Inside.{Keeps, file_row, draft_in, handle_in, held_in}
-use Rattle.ele_files.proofs.Cuts.{IsCut, cut_found, update_cut}
-use Rattle.ele_files.proofs.Lives.{draft_lives, shown-length}
-use Rattle.ele_files.proofs.Rewrites.{was_kept, rewritten_keeps, versions_stay, drafts_seen}
+use Rattle.ele_files.proofs.Drafts.{its_number, rewritten_keeps, rewritten_shows}
 use Rattle.ele_files.proofs.Rows.{handle_file-shown, draft-found}
+use Rattle.ele_files.proofs.Stock.{draft_lives}
 use Rattle.ele_lists.specs.Lists.{update_first}
-use Rattle.ele_lists.proofs.Edits.{all-weaker}
 use Rattle.ele_sessions.specs.Changes.{RewritesDraft, Rewrites, Writes, Truncates, Stays, rewritten_by, has_length}
 use Rattle.ele_sessions.specs.Orderly.{AreOrderly}
 use Rattle.ele_sessions.specs.Sessions.{Draft, AllSessions, is_draft, handle_file, draft_by, draft_for}
@@ -56,7 +52,7 @@ module _ (s : Store) (files : List File) (a : AllSessions) (kept : Keeps s files
   draft_by_lives handle d = of_file (handle_file a.handles handle) where
     of_file : (o : Option ℕ) → draft_for a o ≡ Some d → LivesIn s d.layout
     of_file None e = absurd cc
-    of_file (Some file) e = draft_lives s files a.drafts kept.owed file d e
+    of_file (Some file) e = draft_lives s files a kept file d e
 
   -- a draft that shows that length has a map of that length
   pub length_seen : (handle size : ℕ) → held.has_length (held_in s files a) handle size ≡ true → (has_length size (draft_by a handle) ≡ true) × (size ≤ longest_content)
@@ -64,10 +60,10 @@ module _ (s : Store) (files : List File) (a : AllSessions) (kept : Keeps s files
     of_draft : (file : ℕ) (o : Option Draft) → find (is_draft file) a.drafts ≡ o → option_map_or (λ row. eqb (length (content_of row.cells)) size) (option_map (draft_in s) o) false ≡ true → (has_length size o ≡ true) × (size ≤ longest_content)
     of_draft file None found e = absurd (false≢true e)
     of_draft file (Some d) found e =
-        let lives = draft_lives s files a.drafts kept.owed file d found in
-        let long : eqb d.layout.size size ≡ true = rw (shown-length s d.layout lives) at e in
+        let lives = draft_lives s files a kept file d found in
+        let long : eqb d.layout.size size ≡ true = rw (kept.laws.long s d.layout lives) at e in
         let is : d.layout.size ≡ size = grind (arith, nat_tests) in
-        (long, omega (arith, is, whole_short s d.layout lives.whole))
+        (long, omega (arith, is, kept.laws.short s d.layout lives))
 
     of_file : (o : Option ℕ) → held.has_length_of (held_in s files a) o size ≡ true → (has_length size (draft_for a o) ≡ true) × (size ≤ longest_content)
     of_file None e = absurd (false≢true e)
@@ -75,32 +71,18 @@ module _ (s : Store) (files : List File) (a : AllSessions) (kept : Keeps s files
 
   module _ (t : Store) (b : AllSessions) (orderly : AreOrderly a) where
     -- a new map for the file's draft
-    module _ (file : ℕ) (was : Draft) (now : Layout) (found : find (is_draft file) a.drafts ≡ Some was) (made : b.drafts ≡ update_first (is_draft file) (rewritten_by now) a.drafts) (moves : Moves s t (was.layout ∷ []) (now ∷ [])) where
-      cut : IsCut (is_draft file) a.drafts was
-      cut = cut_found (is_draft file) a.drafts was found
+    module _ (file : ℕ) (was : Draft) (now : Layout) (found : find (is_draft file) a.drafts ≡ Some was) (made : b.drafts ≡ update_first (is_draft file) (rewritten_by now) a.drafts) (moves : Moves s t (was.layout ∷ []) (now ∷ [])) (p : ℕ → Bool) (renews : Renews s t was.number p was.layout now) where
+      other_map_keeps : Keeps t files b
+      other_map_keeps = rewritten_keeps s t files a b kept file was found now p moves renews orderly.drafts_rise made
 
-      same : was.file ≡ file
-      same = let e = cut.passes in grind (arith, nat_tests)
+      pub number_is : was.number ≡ next_of (map file_row files) file
+      number_is = its_number s t files a b kept file was found now p moves renews orderly.drafts_rise made
 
-      fails : AllByRecursion (λ d. is_draft was.file d ≡ false) cut.before
-      fails = all-weaker (λ d. is_draft file d ≡ false) (λ d. is_draft was.file d ≡ false) cut.before (λ d e. ap (eqb d.file) same ∙ e) cut.fails
-
-      made_at : b.drafts ≡ cut.before ++ rewritten_by now was ∷ cut.behind
-      made_at = made ∙ (ap (update_first (is_draft file) (rewritten_by now)) cut.is ∙ update_cut (is_draft file) (rewritten_by now) cut.before cut.behind was cut.fails cut.passes)
-
-      pub its_number : was.number ≡ next_of (map file_row files) file
-      its_number = (was_kept s t files a b kept orderly.drafts_rise cut.before cut.behind was now cut.is fails made_at moves).number ∙ ap (next_of (map file_row files)) same
-
-      pub other_map_keeps : (p : ℕ → Bool) → Renews s t was.number p was.layout now → Keeps t files b
-      other_map_keeps p renews = rewritten_keeps s t files a b kept orderly.drafts_rise cut.before cut.behind was now cut.is fails made_at moves p renews
-
-      pub other_map_seen : b ≡ record a { drafts = b.drafts } → (change : DraftRow → DraftRow) → draft_in t (rewritten_by now was) ≡ change (draft_in s was) → held_in t files b ≡ record (held_in s files a) { drafts = update_first (world.is_draft file) change (map (draft_in s) a.drafts) }
+      other_map_seen : b ≡ record a { drafts = b.drafts } → (change : DraftRow → DraftRow) → draft_in t (rewritten_by now was) ≡ change (draft_in s was) → held_in t files b ≡ record (held_in s files a) { drafts = update_first (world.is_draft file) change (map (draft_in s) a.drafts) }
       other_map_seen rest change changed =
-          let versions = versions_stay s t files a b kept orderly.drafts_rise cut.before cut.behind was now cut.is fails made_at moves in
-          let drafts = drafts_seen s t files a b kept orderly.drafts_rise cut.before cut.behind was now cut.is fails made_at moves change changed in
           let handles = ap (λ (x : AllSessions). x.handles) rest in
           let opened = ap (λ (x : AllSessions). x.opened) rest in
-          rw (versions, drafts, same, handles, opened) refl
+          rewritten_shows s t files a b kept file was found now p moves renews orderly.drafts_rise made change changed ∙ rw (handles, opened) refl
 
     stays_keeps : Stays s t a b → Keeps t files b
     stays_keeps h = rw (h.store, h.sessions) kept
@@ -143,7 +125,7 @@ module _ (s : Store) (files : List File) (a : AllSessions) (kept : Keeps s files
           let by = rewritten_by_handle handle (Made (byte ∷ bytes)) h in
           let d = by.draft in
           let change : DraftRow → DraftRow = changed_by (next_of (map file_row files) by.file) offset (byte ∷ bytes) in
-          let seen = other_map_seen by.file d.was d.layout d.found d.made d.how.moves by.rest change (rw (d.how.cells, its_number by.file d.was d.layout d.found d.made d.how.moves) refl) in
+          let seen = other_map_seen by.file d.was d.layout d.found d.made d.how.moves _ d.how.renews by.rest change (rw (d.how.cells, number_is by.file d.was d.layout d.found d.made d.how.moves _ d.how.renews) refl) in
           seen ∙ sym (ap (λ o. written_of (held_in s files a) o offset (byte ∷ bytes)) (handle_file-shown a.handles handle ∙ by.there))
 
     module _ (handle size : ℕ) where
@@ -171,10 +153,10 @@ module _ (s : Store) (files : List File) (a : AllSessions) (kept : Keeps s files
       same_length : (o : Option ℕ) → has_length size (draft_for a o) ≡ true → held_in s files a ≡ fitted_of (held_in s files a) o size
       same_length None e = refl
       same_length (Some file) e = sym (ap (λ rows. record (held_in s files a) { drafts = rows }) (fits_already file a.drafts (λ d found.
-          let lives = draft_lives s files a.drafts kept.owed file d found in
+          let lives = draft_lives s files a kept file d found in
           let long : eqb d.layout.size size ≡ true = rw found at e in
           let is : d.layout.size ≡ size = grind (arith, nat_tests) in
-          shown-length s d.layout lives ∙ is) (next_of (map file_row files) file)))
+          kept.laws.long s d.layout lives ∙ is) (next_of (map file_row files) file)))
 
       pub truncates_seen : (same : Bool) → has_length size (draft_by a handle) ≡ same → MatchBool same (Stays s t a b) (Rewrites a b handle Resized) → held_in t files b ≡ fitted (held_in s files a) handle size
       truncates_seen true e h = stays_seen h ∙ (same_length (handle_file a.handles handle) e ∙ sym (ap (λ o. fitted_of (held_in s files a) o size) (handle_file-shown a.handles handle)))
@@ -182,10 +164,10 @@ module _ (s : Store) (files : List File) (a : AllSessions) (kept : Keeps s files
           let by = rewritten_by_handle handle Resized h in
           let d = by.draft in
           let number : ℕ = next_of (map file_row files) by.file in
-          let lives = draft_lives s files a.drafts kept.owed by.file d.was d.found in
+          let lives = draft_lives s files a kept by.file d.was d.found in
           let long : eqb d.was.layout.size size ≡ false = rw (by.there, d.found) at e in
-          let other : eqb (length (content_of (shown s d.was.layout))) size ≡ false = rw (shown-length s d.was.layout lives) long in
-          let seen = other_map_seen by.file d.was d.layout d.found d.made d.how.moves by.rest (fitted_by number size) (rw (other, d.how.cells, its_number by.file d.was d.layout d.found d.made d.how.moves) refl) in
+          let other : eqb (length (content_of (shown s d.was.layout))) size ≡ false = rw (kept.laws.long s d.was.layout lives) long in
+          let seen = other_map_seen by.file d.was d.layout d.found d.made d.how.moves _ d.how.renews by.rest (fitted_by number size) (rw (other, d.how.cells, number_is by.file d.was d.layout d.found d.made d.how.moves _ d.how.renews) refl) in
           seen ∙ sym (ap (λ o. fitted_of (held_in s files a) o size) (handle_file-shown a.handles handle ∙ by.there))
 
     -- whatever the call answers

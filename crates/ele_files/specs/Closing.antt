@@ -1,18 +1,18 @@
 -- What the closing of a handle comes to.
-use Rattle.std.specs.Prelude.{ℕ, ◌-◌, ◌≤◌, Bool, Option, Some, None, IfSome, find, if◌then◌else◌}
+use Rattle.std.specs.Prelude.{ℕ, ◌-◌, ◌≤◌, Bool, [], ◌∷◌, Option, Some, None, IfSome, find, if◌then◌else◌}
 use Rattle.std.specs.List.{list_any}
 use Rattle.ele_sessions.specs.declared.closing.Closing.{Closing}
 use Rattle.ele_sessions.specs.declared.closing.Closing.TheVariants.{StillOpen, Clean, Changed}
 use Rattle.ele_lists.specs.Lists.{update_first, remove_first, insert_before}
 use Rattle.ele_world.specs.declared.rows.VersionRow.{VersionRow}
 use Rattle.ele_world.specs.declared.rows.DraftRow.{DraftRow}
-use Rattle.ele_world.specs.Change.{numbered_on, ended_at}
-use Rattle.ele_world.specs.World.{is_file, next_of, is_version, is_version_after, is_draft, is_handle, is_writer}
-use Rattle.ele_files.specs.Held.{Held, version_row, handle_file}
+use Rattle.ele_world.specs.Change.{ShutHandle, EndDraft, numbered_on, ended_at}
+use Rattle.ele_world.specs.World.{is_file, next_of, is_version, is_version_after, is_draft, is_writer}
+use Rattle.ele_files.specs.Held.{Held, changed_at, version_row, handle_file}
 
 -- without the handle
 abbrev pub left_by : Held → ℕ → Held
-left_by h handle = record h { handles = remove_first (is_handle handle) h.handles }
+left_by h handle = changed_at h 0 (ShutHandle handle ∷ [])
 
 -- a draft whose last writer has closed
 abbrev pub ending : Option DraftRow → Closing
@@ -43,7 +43,7 @@ finished_by h draft now live =
 abbrev pub draft_left : Held → Option DraftRow → ℕ → Bool → Held
 draft_left h None now live = h
 draft_left h (Some draft) now live =
-    if draft.changed then finished_by h draft now live else record h { drafts = remove_first (is_draft draft.file) h.drafts }
+    if draft.changed then finished_by h draft now live else changed_at h 0 (EndDraft draft.file ∷ [])
 
 abbrev pub closed_of : Held → ℕ → Option ℕ → ℕ → Bool → Held
 closed_of h handle None now live = h
@@ -54,6 +54,11 @@ closed_of h handle (Some file) now live =
 -- all that is left when the handle is closed at that moment; whether the file is live then is told
 abbrev pub closed : Held → ℕ → ℕ → Bool → Held
 closed h handle now live = closed_of h handle (handle_file h.handles handle) now live
+
+-- the file and the opening of the draft that becomes a version
+abbrev pub changed_of : Option Closing → Option (ℕ × ℕ)
+changed_of (Some (Changed file opened)) = Some (file, opened)
+changed_of _ = None
 
 -- the number of the version that the closing makes, if it makes one
 abbrev pub number_by : Held → Option Closing → Option ℕ

@@ -5,8 +5,6 @@ use Rattle.ele_files.specs.declared.file.File.{File}
 use Rattle.ele_inode_log.specs.declared.row.VersionRow as log
 use Rattle.ele_inode_log.specs.Rows.{is_numbered}
 use Rattle.ele_lists.specs.Lists.{update_first}
-use Rattle.ele_sessions.specs.declared.closing.Closing.{Closing}
-use Rattle.ele_sessions.specs.declared.closing.Closing.TheVariants.{Changed}
 
 -- the version closed by that moment, and if it has ended, it ended by then
 pub record IsRowPast (now : ℕ) (row : log.VersionRow) : Type 0 where
@@ -39,8 +37,3 @@ pub record HasClosed (f g : File) (now : ℕ) (row : log.VersionRow) : Type 0 wh
   pub policy : g.policy ≡ f.policy
   pub next : g.next ≡ f.next + 1
   pub rows : g.log.rows ≡ ended_rows f now ++ row ∷ []
-
--- the file and the opening of the draft that becomes a version
-abbrev pub changed_of : Option Closing → Option (ℕ × ℕ)
-changed_of (Some (Changed file opened)) = Some (file, opened)
-changed_of _ = None

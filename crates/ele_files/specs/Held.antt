@@ -1,19 +1,18 @@
 -- The rows of all files, and how they change.
-use Rattle.std.specs.Prelude.{ℕ, ◌+◌, ◌-◌, ◌==◌, Bool, false, List, [], ◌∷◌, ◌++◌, length, Option, Some, None, find, if◌then◌else◌}
+use Rattle.std.specs.Prelude.{ℕ, ◌+◌, ◌==◌, Bool, false, List, [], ◌∷◌, ◌++◌, length, Option, Some, None, find, if◌then◌else◌}
 use Rattle.std.specs.List.{list_any}
 use Rattle.std.specs.Option.{option_map_or}
 use Rattle.std.specs.Result.{result_ok}
 use Rattle.ele_policy.specs.declared.policy.Policy.{Policy}
 use Rattle.ele_content.specs.declared.cell.Cell.{Cell}
 use Rattle.ele_content.specs.Content.{content_of}
-use Rattle.ele_lists.specs.Lists.{update_first, remove_first, insert_before}
 use Rattle.ele_world.specs.declared.rows.FileRow.{FileRow}
 use Rattle.ele_world.specs.declared.rows.VersionRow.{VersionRow}
 use Rattle.ele_world.specs.declared.rows.DraftRow.{DraftRow}
 use Rattle.ele_world.specs.declared.rows.HandleRow.{HandleRow}
-use Rattle.ele_world.specs.declared.rows.Reads.TheVariants.{Draft}
-use Rattle.ele_world.specs.Change.{changed_by, fitted_by}
-use Rattle.ele_world.specs.World.{next_of, is_version, is_draft, is_draft_after, file_by}
+use Rattle.ele_world.specs.Bounds.{largest_bounds}
+use Rattle.ele_world.specs.Change.{Change, OpenHandle, StartDraft, WriteDraft, TruncateDraft, Take, new_draft, after_changes}
+use Rattle.ele_world.specs.World.{World, fresh_world, is_draft, file_by}
 
 -- files by id, versions by file and number, drafts by file, handles by number, and how many handles were ever opened
 pub record Held : Type 0 where
@@ -34,25 +33,33 @@ with_file h id policy now = record h {
   versions = h.versions ++ version_row id 1 now now None [] ∷ [];
 }
 
--- the cells that a new draft of the file begins with: those of the version before the next one
-abbrev pub first_cells : Held → ℕ → List Cell
-first_cells h file = option_map_or (λ row. row.cells) (find (is_version file (next_of h.files file - 1)) h.versions) []
+-- a world with these rows and no others, at that moment
+abbrev pub world_with : Held → ℕ → World
+world_with h now = record (fresh_world largest_bounds) {
+  now = now;
+  files = h.files;
+  versions = h.versions;
+  drafts = h.drafts;
+  handles = h.handles;
+  made = record { files = 0; names = 0; versions = 0; handles = h.opened };
+}
+
+-- the rows that the files hold of a world
+abbrev pub rows_of : World → Held
+rows_of w = record { files = w.files; versions = w.versions; drafts = w.drafts; handles = w.handles; opened = w.made.handles }
+
+-- what changes leave of the rows
+abbrev pub changed_at : Held → ℕ → List Change → Held
+changed_at h now changes = rows_of (after_changes (world_with h now) changes)
 
 abbrev pub first_draft : Held → ℕ → ℕ → DraftRow
-first_draft h file now = record { file = file; opened = now; cells = first_cells h file; changed = false }
+first_draft h file now = new_draft (world_with h now) file
 
--- the drafts with one of the file: that which is there, or else a new one
-abbrev pub drafts_with : Held → ℕ → ℕ → List DraftRow
-drafts_with h file now =
-    if list_any (is_draft file) h.drafts then h.drafts else insert_before (is_draft_after file) (first_draft h file now) h.drafts
-
--- with one handle more, which writes the file
+-- with one handle more, which writes the file: its draft, or else a new one
 abbrev pub opened_by : Held → ℕ → ℕ → Held
-opened_by h file now = record h {
-  drafts = drafts_with h file now;
-  handles = h.handles ++ record { number = h.opened + 1; reads = Draft file } ∷ [];
-  opened = h.opened + 1;
-}
+opened_by h file now =
+    let number = h.opened + 1 in
+    changed_at h now (if list_any (is_draft file) h.drafts then OpenHandle number file ∷ [] else StartDraft file ∷ OpenHandle number file ∷ [])
 
 -- the file that is written through the handle, if there is one
 abbrev pub handle_file : List HandleRow → ℕ → Option ℕ
@@ -62,8 +69,7 @@ handle_file rows number = result_ok (file_by rows number)
 abbrev pub written_of : Held → Option ℕ → ℕ → List ℕ → Held
 written_of h None offset bytes = h
 written_of h (Some file) offset [] = h
-written_of h (Some file) offset (byte ∷ bytes) =
-    record h { drafts = update_first (is_draft file) (changed_by (next_of h.files file) offset (byte ∷ bytes)) h.drafts }
+written_of h (Some file) offset (byte ∷ bytes) = changed_at h 0 (WriteDraft file offset (byte ∷ bytes) ∷ [])
 
 abbrev pub written_by : Held → ℕ → ℕ → List ℕ → Held
 written_by h handle offset bytes = written_of h (handle_file h.handles handle) offset bytes
@@ -71,8 +77,7 @@ written_by h handle offset bytes = written_of h (handle_file h.handles handle) o
 -- with so many bytes in the draft under a handle of the file
 abbrev pub fitted_of : Held → Option ℕ → ℕ → Held
 fitted_of h None size = h
-fitted_of h (Some file) size =
-    record h { drafts = update_first (is_draft file) (fitted_by (next_of h.files file) size) h.drafts }
+fitted_of h (Some file) size = changed_at h 0 (TruncateDraft file size ∷ [])
 
 abbrev pub fitted : Held → ℕ → ℕ → Held
 fitted h handle size = fitted_of h (handle_file h.handles handle) size
@@ -92,4 +97,4 @@ cells_of_draft h file = option_map_or (λ row. row.cells) (find (is_draft file) 
 
 -- without the version
 abbrev pub without : Held → ℕ → ℕ → Held
-without h file number = record h { versions = remove_first (is_version file number) h.versions }
+without h file number = changed_at h 0 (Take file number ∷ [])

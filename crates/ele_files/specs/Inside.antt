@@ -1,10 +1,8 @@
 -- The rows behind the files, and what the fields keep. No public clause cites this module.
 use Rattle.std.specs.Prelude.{◌≡◌, ℕ, ◌+◌, ◌<◌, ◌≤◌, ◌==◌, Bool, List, ◌++◌, map, None}
 use Rattle.std.specs.List.{flat_map, AllByRecursion}
-use Rattle.ele_blocks.specs.declared.slot.Slot.{Slot}
-use Rattle.ele_blocks.specs.Distinct.{Named, AreOneToOne, names_of}
-use Rattle.ele_blocks.specs.Layout.{Layout, shown}
-use Rattle.ele_blocks.specs.Owes.{Owes}
+use Rattle.ele_blocks.specs.Layout.{shown}
+use Rattle.ele_blocks.specs.Stock.{Tagged, IsStocked, StockLaws}
 use Rattle.ele_blocks.specs.Store.{Store}
 use Rattle.ele_files.specs.Held.{Held}
 use Rattle.ele_files.specs.declared.file.File.{File}
@@ -65,35 +63,23 @@ held_of i = held_in i.store i.files.items i.sessions
 
 -- ---- what they keep
 
--- the maps of all versions and drafts
-abbrev pub file_maps : File → List Layout
-file_maps f = map (λ row. row.cells) f.log.rows
+-- the maps of all versions and drafts: none was written by a later version
+abbrev pub row_stock : ℕ → log.VersionRow → Tagged
+row_stock file row = record { file = file; below = row.number + 1; layout = row.cells }
 
-abbrev pub maps_of : List File → List Draft → List Layout
-maps_of files drafts = flat_map file_maps files ++ map (λ d. d.layout) drafts
+abbrev pub file_stock : File → List Tagged
+file_stock f = map (row_stock f.id) f.log.rows
 
--- their slots, each with its block
-abbrev pub row_names : Store → ℕ → log.VersionRow → List Named
-row_names s file row = names_of s file row.cells
+abbrev pub draft_stock : Draft → Tagged
+draft_stock d = record { file = d.file; below = d.number + 1; layout = d.layout }
 
-abbrev pub file_names : Store → File → List Named
-file_names s f = flat_map (row_names s f.id) f.log.rows
+abbrev pub stock_of : List File → List Draft → List Tagged
+stock_of files drafts = flat_map file_stock files ++ map draft_stock drafts
 
-abbrev pub draft_names : Store → Draft → List Named
-draft_names s d = names_of s d.file d.layout
-
-abbrev pub all_names : Store → List File → List Draft → List Named
-all_names s files drafts = flat_map (file_names s) files ++ flat_map (draft_names s) drafts
-
--- each slot was written by a version before that number
-abbrev pub AreBefore : ℕ → List Slot → Type 0
-AreBefore number slots = AllByRecursion (λ slot. slot.writer < number) slots
-
--- a version's number is before the file's next, and so are its writers; only the last may have no end
+-- a version's number is before the file's next; only the last may have no end
 pub record IsRowOf (next : ℕ) (row : log.VersionRow) : Type 0 where
   pub first : 0 < row.number
   pub number : row.number < next
-  pub writers : AreBefore next row.cells.slots
   pub open_end : row.ended ≡ None → row.number + 1 ≡ next
 
 pub record IsFileKept (f : File) : Type 0 where
@@ -101,16 +87,16 @@ pub record IsFileKept (f : File) : Type 0 where
   pub rows : AllByRecursion (IsRowOf f.next) f.log.rows
   pub order : AreInOrder f.log.rows
 
--- a draft is the next version of its file, which is there, and no later version wrote it
+-- a draft is the next version of its file, which is there
 pub record IsDraftKept (files : List File) (d : Draft) : Type 0 where
   pub there : 0 < d.number
   pub number : d.number ≡ next_of (map file_row files) d.file
-  pub writers : AreBefore (d.number + 1) d.layout.slots
 
+-- the laws of stocks stand here, so that each change can cite them
 pub record Keeps (s : Store) (files : List File) (sessions : AllSessions) : Type 0 where
+  pub laws : StockLaws
   pub rise : AllLater (λ x y. x.id < y.id) files
-  pub owed : Owes s (maps_of files sessions.drafts)
-  pub one_to_one : AreOneToOne (all_names s files sessions.drafts)
+  pub stocked : IsStocked s (stock_of files sessions.drafts)
   pub files_kept : AllByRecursion IsFileKept files
   pub drafts_kept : AllByRecursion (IsDraftKept files) sessions.drafts
 

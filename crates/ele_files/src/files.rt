@@ -21,9 +21,10 @@ mod copies;
 mod writing;
 
 use crate::file::File;
-use crate::room::put;
+use ele_blocks::laws::stocks;
 use ele_blocks::{BlockMap, BlockStore};
 use ele_inode_log::{InodeLog, Meter, VersionRow};
+use ele_lists::put;
 use ele_moment::{FileId, Handle, Moment, NoMemory, VersionNo};
 use ele_policy::Policy;
 use ele_sessions::Sessions;
@@ -56,10 +57,9 @@ fn place_of(files: &[File], id: FileId) -> Option<usize>
     requires { AllLater (λ x y. x.id < y.id) files.now }
     ensures { result ≡ position (is_id id) files.now }
 {
-    let at = files.partition_point(|file| file.id.0 < id.0);
-    match files.get(at) {
-        Some(file) if file.id == id => Some(at),
-        _ => None,
+    match ele_lists::place_of(files, id.0) {
+        Ok(at) => Some(at),
+        Err(_gap) => None,
     }
 }
 
@@ -82,6 +82,8 @@ impl Files {
     pub fn new(alloc: Global) -> Files
         ensures { result ≡ record { files = []; versions = []; drafts = []; handles = []; opened = 0 } }
     {
+        // The laws hold by themselves; from here on they stand in the invariant.
+        stocks();
         Files {
             files: Vec::new(alloc),
             sessions: Sessions::new(alloc),

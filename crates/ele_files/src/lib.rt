@@ -4,10 +4,9 @@
 
 mod file;
 mod files;
-mod room;
 mod stamps;
 
 pub use ele_inode_log::Meter;
-pub use ele_sessions::{Closing, SessionFault};
+pub use ele_sessions::SessionFault;
 pub use files::Files;
 pub use stamps::Stamps;

@@ -1,13 +1,18 @@
 -- Rows in order, after each change, and which of them lives at a moment.
-use Rattle.std.proofs.Common.{◌≡◌, ℕ, ◌≤◌, Bool, true, false, cond, ◌&&◌, List, [], ◌∷◌, ◌++◌, reverse, Option, Some, None, refl, ap, ◌∙◌, arith}
-use Rattle.std.specs.Prelude.{find, filter, nat_lt, IfSome, IsSomeAnd}
+use Rattle.std.proofs.Common.{◌≡◌, ℕ, ◌<◌, ◌≤◌, Bool, true, false, cond, ◌&&◌, List, [], ◌∷◌, ◌++◌, reverse, Option, Some, None, refl, ap, ◌∙◌, arith}
+use Rattle.std.specs.Prelude.{find, nat_lt, IfSome, IsSomeAnd}
 use Rattle.std.specs.Option.{option_and_then, option_or, option_map_or, ForSome}
 use Rattle.std.specs.List.{AllByRecursion}
 use Rattle.std.proofs.lemmas.Bool.Decides.{nat_tests}
 use Rattle.ele_inode_log.specs.declared.row.VersionRow.{VersionRow}
 use Rattle.ele_inode_log.specs.Rows.{AllLater, AreInOrder, Precedes, EndsInTime, CanEndAt, last_of, update_last, ended_at, has_closed_by, ends_after, lives_at}
 use Rattle.ele_inode_log.specs.LogInside.{unless_ended}
-use Rattle.ele_inode_log.proofs.Lists.{all-reverse, all-found, all-append, all-weaker, all-both, all-filter, later-push, later-filter, later-update_last, find_last-cons, found_passes}
+use Rattle.ele_lists.specs.Lists.{remove_first}
+use Rattle.ele_lists.specs.Chunks.{Sinks}
+use Rattle.ele_lists.specs.Keys.{Rises}
+use Rattle.ele_lists.proofs.Edits.{all-weaker, all-both, all-found, found_passes, later-push, all-remove_first, later-remove_first}
+use Rattle.ele_lists.proofs.Alls.{all-append, all-reverse, later-weaker}
+use Rattle.ele_lists.proofs.Ends.{later-update_last, find_last-cons}
 
 pub closes_first : (earlier later : VersionRow) → EndsInTime earlier → Precedes earlier later → earlier.closed ≤ later.closed
 closes_first earlier later ends precedes = between earlier.ended ends precedes.ended where
@@ -20,6 +25,16 @@ precedes_through a b c first ends second = record { number = let m = first.numbe
   at : (o : Option ℕ) → IsSomeAnd o (λ ended. ended ≤ b.closed) → IsSomeAnd o (λ ended. ended ≤ c.closed)
   at None h = absurd h
   at (Some ended) h = let more = closes_first b c ends second in omega arith
+
+-- numbers rise, and closings don't fall
+pub numbers_rise : (rows : List VersionRow) → AreInOrder rows → Rises (λ row. row.number) rows
+numbers_rise rows order = later-weaker Precedes (λ earlier later. earlier.number < later.number) rows (λ earlier later precedes. precedes.number) order.order
+
+pub closings_sink : (moment : ℕ) (rows : List VersionRow) → AreInOrder rows → AllLater (Sinks (has_closed_by moment)) rows
+closings_sink moment rows order = by rows order.ends order.order where
+  by : (rows : List VersionRow) → AllByRecursion EndsInTime rows → AllLater Precedes rows → AllLater (Sinks (has_closed_by moment)) rows
+  by [] ends later = tt
+  by (row ∷ rows) ends later = (all-weaker (Precedes row) (Sinks (has_closed_by moment) row) rows (λ next precedes h. let le = closes_first row next ends.0 precedes in grind (arith, nat_tests, le, h)) later.0, by rows ends.1 later.1)
 
 -- what the last row precedes, all rows precede
 pub all_precede : (rows : List VersionRow) (row : VersionRow) → AllByRecursion EndsInTime rows → AllLater Precedes rows → ForSome (last_of rows) (λ last. Precedes last row) → AllByRecursion (λ held. Precedes held row) rows
@@ -35,10 +50,10 @@ in_order-push rows row order last ends = record {
   order = later-push Precedes rows row order.order (all_precede rows row order.ends order.order last);
 }
 
-pub in_order-filter : (p : VersionRow → Bool) (rows : List VersionRow) → AreInOrder rows → AreInOrder (filter p rows)
-in_order-filter p rows order = record {
-  ends = all-filter EndsInTime p rows order.ends;
-  order = later-filter Precedes p rows order.order;
+pub in_order-removed : (p : VersionRow → Bool) (rows : List VersionRow) → AreInOrder rows → AreInOrder (remove_first p rows)
+in_order-removed p rows order = record {
+  ends = all-remove_first p EndsInTime rows order.ends;
+  order = later-remove_first p Precedes rows order.order;
 }
 
 ends-update_last : (moment : ℕ) (rows : List VersionRow) → IsSomeAnd (last_of rows) (CanEndAt moment) → AllByRecursion EndsInTime rows → AllByRecursion EndsInTime (update_last (ended_at moment) rows)
@@ -67,7 +82,7 @@ lives-is_last moment (row ∷ rows) order =
   where
     at : find (lives_at moment) rows ≡ option_and_then (unless_ended moment) (find (has_closed_by moment) (reverse rows)) → (o : Option VersionRow) → find (has_closed_by moment) (reverse rows) ≡ o → find (lives_at moment) (row ∷ rows) ≡ option_and_then (unless_ended moment) (option_or o (cond (has_closed_by moment row) (Some row) None))
     at rest (Some last) is =
-        let precedes : Precedes row last = all-found (Precedes row) (has_closed_by moment) (reverse rows) (all-reverse (Precedes row) rows order.0) last is in
+        let precedes : Precedes row last = all-found (has_closed_by moment) (Precedes row) (reverse rows) last is (all-reverse (Precedes row) rows order.0) in
         let over : ends_after moment row ≡ false = ended_by moment row last precedes (found_passes (has_closed_by moment) (reverse rows) last is) in
         rw over (elim (has_closed_by moment row) as (λ b. cond (b && false) (Some row) (find (lives_at moment) rows) ≡ unless_ended moment last) [
           | true ↦ rest ∙ ap (option_and_then (unless_ended moment)) is

@@ -1,9 +1,10 @@
 -- The held versions of one file, as contracts see them.
-use Rattle.std.specs.Prelude.{◌≡◌, ℕ, ◌<◌, ◌≤◌, ◌==◌, ◌&&◌, Bool, true, nat_lt, nat_le, not, List, [], ◌∷◌, Option, Some, None, IfSome, IsSomeAnd}
+use Rattle.std.specs.Prelude.{◌≡◌, ℕ, ◌<◌, ◌≤◌, ◌==◌, ◌&&◌, Bool, true, nat_lt, nat_le, not, List, Some, None, IfSome, IsSomeAnd}
 use Rattle.std.specs.Option.{option_map_or}
 use Rattle.std.specs.List.{AllByRecursion}
 use Rattle.ele_inode_log.specs.declared.row.VersionRow.{VersionRow}
 pub use Rattle.ele_lists.specs.Lists.{AllLater}
+pub use Rattle.ele_lists.specs.Ends.{last_of, update_last}
 
 -- the rows by number, and for how many more there is memory
 pub record HeldRows : Type 0 where
@@ -60,15 +61,3 @@ pub record Precedes (earlier later : VersionRow) : Type 0 where
 pub record AreInOrder (rows : List VersionRow) : Type 0 where
   pub ends : AllByRecursion EndsInTime rows
   pub order : AllLater Precedes rows
-
--- the last element
-abbrev pub last_of : {X : Type 0} → List X → Option X
-last_of [] = None
-last_of (x ∷ []) = Some x
-last_of (x ∷ y ∷ xs) = last_of (y ∷ xs)
-
--- with f of the last element in its place
-abbrev pub update_last : {X : Type 0} → (X → X) → List X → List X
-update_last f [] = []
-update_last f (x ∷ []) = f x ∷ []
-update_last f (x ∷ y ∷ xs) = x ∷ update_last f (y ∷ xs)

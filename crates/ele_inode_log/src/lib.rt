@@ -2,13 +2,8 @@
 //! A contract sees them as the list of their rows by number, with the room for more beside it.
 #![tactic(auto)]
 
-mod chunk;
-mod chunks;
-mod entry;
 mod log;
 mod meter;
-mod numbers;
-mod room;
 mod row;
 
 pub use log::InodeLog;

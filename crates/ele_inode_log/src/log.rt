@@ -4,24 +4,21 @@ ghost use Rattle.std.specs.Prelude.{◌≡◌, ◌<◌, ◌≤◌, ◌+◌, ◌=
 ghost use Rattle.std.specs.Option.{ForSome, option_copied, option_map, option_and_then};
 ghost use Rattle.std.specs.List.{list_any};
 ghost use Rattle.ele_inode_log.specs.Rows.{HeldRows, AreInOrder, Precedes, EndsInTime, CanEndAt, last_of, update_last, is_numbered, is_other, is_after, is_before, has_closed_by, lives_at, ended_at};
-ghost use Rattle.ele_inode_log.specs.LogInside.{row_at, IsStanding, unless_ended};
+ghost use Rattle.ele_inode_log.specs.LogInside.{unless_ended};
 
-use crate::entry::{Cut, Entry};
 use crate::meter::Meter;
-use crate::numbers::Numbers;
-use crate::row::VersionRow;
+use crate::row::{ClosedBy, EndsAt, VersionRow};
+use ele_lists::{BeforeKey, BehindKey, Chunks};
 use ele_moment::{Moment, NoMemory, VersionNo};
-use slab::Slab;
 use std::alloc::Global;
 use std::marker::Model;
 
 /// The held versions of one file. Numbers rise, a version has ended when the next one closes, and
 /// only the last may have no end. Each row that a call reads or removes adds one to the call's
-/// meter, and no call reads a row without one.
+/// meter, and no call reads a row without one; a search compares numbers or closings on its way.
 #[derive(Debug, Drop)]
 pub struct InodeLog {
-    rows: Slab<VersionRow>,
-    numbers: Numbers,
+    rows: Chunks<VersionRow>,
 }
 
 impl Model for InodeLog {
@@ -42,8 +39,7 @@ impl InodeLog {
         ensures { result.rows ≡ [] }
     {
         InodeLog {
-            rows: Slab::new(alloc),
-            numbers: Numbers::new(alloc),
+            rows: Chunks::new(alloc),
         }
     }
 
@@ -69,8 +65,7 @@ impl InodeLog {
         ensures ready { 1 ≤ self.old.spare → IsOk result }
         ensures rows { self.new.rows ≡ self.old.rows }
     {
-        self.rows.reserve(1)?;
-        self.numbers.reserve()?;
+        self.rows.reserve()?;
         Ok(())
     }
 
@@ -84,16 +79,10 @@ impl InodeLog {
         ensures back { IfErr result (λ refused. refused.0 ≡ row) }
         ensures err { OnErr result (self.new.rows ≡ self.old.rows) }
     {
-        if self.reserve().is_err() {
+        if self.rows.reserve().is_err() {
             return Err((row, NoMemory));
         }
-        let (number, closed) = (row.number, row.closed);
-        let place = self.rows.insert_reserved(row);
-        self.numbers.push(Entry {
-            number,
-            closed,
-            place,
-        });
+        self.rows.push(row);
         Ok(())
     }
 
@@ -103,9 +92,7 @@ impl InodeLog {
         ensures ended { self.new.rows ≡ update_last (ended_at moment) self.old.rows }
         ensures spare { self.new.spare ≡ self.old.spare }
     {
-        if let Some(last) = self.numbers.last() {
-            self.rows[last.place].ended = Some(moment);
-        }
+        self.rows.change_last(&EndsAt(moment));
     }
 
     /// The row of that number.
@@ -114,7 +101,7 @@ impl InodeLog {
         ensures row { option_copied result ≡ find (is_numbered number) self.now.rows }
         ensures read { meter.new ≡ meter.old + (if is_some result then 1 else 0) }
     {
-        read(&self.rows, self.numbers.get(number), meter)
+        counted(self.rows.get(number.0), meter)
     }
 
     /// The first row with a greater number.
@@ -123,8 +110,7 @@ impl InodeLog {
         ensures row { option_copied result ≡ find (is_after number) self.now.rows }
         ensures read { meter.new ≡ meter.old + (if is_some result then 1 else 0) }
     {
-        let next = self.numbers.first_behind(Cut::BehindNumber(number));
-        read(&self.rows, next, meter)
+        counted(self.rows.first_behind(&BehindKey(number.0)), meter)
     }
 
     /// The last row with a lesser number.
@@ -133,8 +119,7 @@ impl InodeLog {
         ensures row { option_copied result ≡ find (is_before number) (reverse self.now.rows) }
         ensures read { meter.new ≡ meter.old + (if is_some result then 1 else 0) }
     {
-        let previous = self.numbers.last_before(Cut::AtNumber(number));
-        read(&self.rows, previous, meter)
+        counted(self.rows.last_before(&BeforeKey(number.0)), meter)
     }
 
     /// Takes out the row of that number.
@@ -145,9 +130,8 @@ impl InodeLog {
         ensures room { 1 ≤ self.old.spare → 1 ≤ self.new.spare }
         ensures read { meter.new ≡ meter.old + (if is_some result then 1 else 0) }
     {
-        let entry = self.numbers.remove(number)?;
+        let row = self.rows.remove(number.0)?;
         meter.count();
-        let row = self.rows.remove(entry.place);
         Some(row)
     }
 
@@ -163,8 +147,8 @@ impl InodeLog {
         ensures read { meter.new ≡ meter.old
             + (if list_any (has_closed_by moment) self.now.rows then 1 else 0) }
     {
-        let last = self.numbers.last_before(Cut::BehindMoment(moment));
-        number_at(read(&self.rows, last, meter), moment)
+        let last = self.rows.last_before(&ClosedBy(moment));
+        number_at(counted(last, meter), moment)
     }
 }
 
@@ -180,18 +164,13 @@ fn number_at(row: Option<&VersionRow>, moment: Moment) -> Option<VersionNo>
     }
 }
 
-/// The row of an entry, if there is an entry, counted as read.
-fn read<'a>(
-    rows: &'a Slab<VersionRow>,
-    entry: Option<Entry>,
-    meter: &mut Meter,
-) -> Option<&'a VersionRow>
-    requires stands { ForSome entry (IsStanding rows.now) }
-    requires few { meter.old < 2 ^ 63 }
-    ensures row { option_copied result ≡ option_and_then (row_at rows.now) entry }
+/// The row, if there is one, counted as read.
+fn counted<'a>(row: Option<&'a VersionRow>, meter: &mut Meter) -> Option<&'a VersionRow>
+    requires { meter.old < 2 ^ 63 }
+    ensures row { option_copied result ≡ option_copied row.entry }
     ensures read { meter.new ≡ meter.old + (if is_some result then 1 else 0) }
 {
-    let entry = entry?;
+    let row = row?;
     meter.count();
-    Some(&rows[entry.place])
+    Some(row)
 }

@@ -1,8 +1,9 @@
 -- A list cut at an element: at the first that passes, at a place, or where one comes in; and what finds and changes do there.
 use Rattle.std.proofs.Common.{◌≡◌, ℕ, ◌<◌, Bool, true, false, cond, List, [], ◌∷◌, ◌++◌, length, map, get_or, Some, refl, ap, sym, ◌∙◌, arith, zero, suc, append_assoc}
 use Rattle.std.proofs.Math.ListN.{set}
+use Rattle.std.proofs.lemmas.Bool.{false≢true}
 use Rattle.std.specs.Prelude.{find}
-use Rattle.std.specs.List.{AllByRecursion, flat_map, remove}
+use Rattle.std.specs.List.{AllByRecursion, flat_map, list_any, remove}
 use Rattle.ele_lists.specs.Lists.{update_first, remove_first, insert_before}
 
 -- the first that passes, with what stands before and behind it
@@ -25,6 +26,19 @@ module _ {X : Type 0} (p : X → Bool) where
         let rest = find-cut xs x (rw e at found) in
         record { before = y ∷ rest.before; behind = rest.behind; whole = ap (λ zs. y ∷ zs) rest.whole; passes = rest.passes; none = (e, rest.none) }
   ] refl
+
+  -- where one passes, it is found
+  pub any-found : (xs : List X) → list_any p xs ≡ true → (x : X) × (find p xs ≡ Some x)
+  any-found [] h = absurd (false≢true h)
+  any-found (x ∷ xs) h = elim (p x) as (λ b. p x ≡ b → (y : X) × (cond b (Some x) (find p xs) ≡ Some y)) [
+    | true ↦ λ e. (x, refl)
+    | false ↦ λ e. any-found xs (rw e at h)
+  ] refl
+
+  -- without an element that fails, the same is found
+  pub find-without : (xs : List X) (x : X) (ys : List X) → p x ≡ false → find p (xs ++ x ∷ ys) ≡ find p (xs ++ ys)
+  find-without [] x ys fails = rw fails refl
+  find-without (z ∷ xs) x ys fails = ap (λ o. cond (p z) (Some z) o) (find-without xs x ys fails)
 
   -- where none passes in front, a find or a change happens behind
   pub find-skip : (xs ys : List X) → AllByRecursion (λ x. p x ≡ false) xs → find p (xs ++ ys) ≡ find p ys

@@ -1,5 +1,6 @@
 -- The last element: of lists after one another, at its place, in a reversed list, and what an update of it keeps.
-use Rattle.std.proofs.Common.{◌≡◌, ℕ, zero, suc, ◌-◌, ◌≤◌, Bool, true, false, cond, ◌||◌, List, [], ◌∷◌, ◌++◌, length, take, reverse, Option, Some, None, refl, ◌∙◌, arith}
+use Rattle.std.proofs.Math.ListN.{set}
+use Rattle.std.proofs.Common.{get_or, ap, ◌≡◌, ℕ, zero, suc, ◌-◌, ◌≤◌, Bool, true, false, cond, ◌||◌, List, [], ◌∷◌, ◌++◌, length, take, reverse, Option, Some, None, refl, ◌∙◌, arith}
 use Rattle.std.specs.Prelude.{find, slice_get, is_some}
 use Rattle.std.specs.Option.{option_or}
 use Rattle.std.specs.List.{list_any, AllByRecursion}
@@ -94,3 +95,21 @@ module _ {X : Type 0} (p : X → Bool) where
   find-parted [] [] fails passes = refl
   find-parted [] (x ∷ xs) fails passes = rw passes.0 refl
   find-parted (x ∷ xs) behind fails passes = rw fails.0 (find-parted xs behind fails.1 passes)
+
+module _ {X : Type 0} (f : X → X) where
+  pub update_last-set : (xs : List X) (n : ℕ) (x : X) → length xs ≡ suc n → x ≡ get_or xs n x → set xs n (f x) ≡ update_last f xs
+  update_last-set [] n x long is = absurd (omega arith)
+  update_last-set (y ∷ []) zero x long is = ap (λ z. f z ∷ []) is
+  update_last-set (y ∷ []) (suc n) x long is = absurd (omega arith)
+  update_last-set (y ∷ z ∷ xs) zero x long is = absurd (omega arith)
+  update_last-set (y ∷ z ∷ xs) (suc n) x long is = ap (λ ys. y ∷ ys) (update_last-set (z ∷ xs) n x (omega arith) is)
+
+  pub length-update_last : (xs : List X) → length (update_last f xs) ≡ length xs
+  length-update_last [] = refl
+  length-update_last (x ∷ []) = refl
+  length-update_last (x ∷ y ∷ xs) = omega (arith, length-update_last (y ∷ xs))
+
+  pub update_last-append : (xs : List X) (y : X) (ys : List X) → update_last f (xs ++ y ∷ ys) ≡ xs ++ update_last f (y ∷ ys)
+  update_last-append [] y ys = refl
+  update_last-append (x ∷ []) y ys = refl
+  update_last-append (x ∷ z ∷ xs) y ys = ap (λ zs. x ∷ zs) (update_last-append (z ∷ xs) y ys)

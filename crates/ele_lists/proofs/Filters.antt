@@ -36,6 +36,13 @@ module _ {X : Type 0} (p q : X → Bool) where
     | false ↦ filter-both xs
   ]
 
+  pub find-filter_both : (xs : List X) → find p (filter q xs) ≡ find (λ x. q x && p x) xs
+  find-filter_both [] = refl
+  find-filter_both (x ∷ xs) = elim (q x) as (λ b. find p (cond b (x ∷ filter q xs) (filter q xs)) ≡ cond (b && p x) (Some x) (find (λ x. q x && p x) xs)) [
+    | true ↦ ap (λ o. cond (p x) (Some x) o) (find-filter_both xs)
+    | false ↦ find-filter_both xs
+  ]
+
   -- all that one test finds passes the other
   pub find-filter : (xs : List X) → ((x : X) → p x ≡ true → q x ≡ true) → find p (filter q xs) ≡ find p xs
   find-filter [] within = refl

@@ -1,12 +1,16 @@
 -- Rows of rising keys: what a binary search by a key finds (`place_of`), and that rising keys are parted at any key.
-use Rattle.std.proofs.Common.{◌≡◌, ◌≢◌, ℕ, ◌<◌, ◌≤◌, Bool, true, false, ltb, eqb, List, [], ◌∷◌, length, get_or, Some, None, refl, arith, unwrap_or}
+use Rattle.std.proofs.Common.{sym, ◌≡◌, ◌≢◌, ℕ, ◌<◌, ◌≤◌, Bool, true, false, ltb, leb, eqb, not, filter, ap, cond, List, [], ◌∷◌, length, get_or, Some, None, refl, arith, unwrap_or}
 use Rattle.std.specs.List.{position, position_or_len}
 use Rattle.std.specs.List.Sorted.{IsPartitionedBy, IsPartitionPoint, IsNonDecreasingBy}
 use Rattle.std.proofs.lemmas.List.Sorted.{IsPartitionedBy-ltb}
 use Rattle.std.proofs.lemmas.List.Sums.{position_or_len_is}
 use Rattle.std.proofs.lemmas.Bool.Decides.{nat_tests}
+use Rattle.ele_lists.specs.Lists.{remove_first, AllLater}
+use Rattle.ele_lists.specs.Chunks.{Sinks}
+use Rattle.ele_lists.proofs.Edits.{all-weaker}
+use Rattle.ele_lists.proofs.Filters.{filter-all}
 use Rattle.ele_lists.specs.Keys.{Rises, has_key, is_behind}
-use Rattle.ele_lists.proofs.Alls.{later-place}
+use Rattle.ele_lists.proofs.Alls.{later-place, later-weaker}
 
 module _ {X : Type 0} (p : X → Bool) (xs : List X) where
   -- the first place that passes
@@ -84,3 +88,19 @@ module _ {X : Type 0} (key : X → ℕ) where
       end-gap within =
           let none = position-none (is_behind key this) xs (λ k d lt. let h = below k d (omega arith) in grind (arith, nat_tests)) in
           rw none (omega arith)
+
+-- rows of rising keys are parted before a key, and behind it
+module _ {X : Type 0} (key : X → ℕ) (this : ℕ) (xs : List X) (rises : Rises key xs) where
+  pub before_sinks : AllLater (Sinks (λ x. ltb (key x) this)) xs
+  before_sinks = later-weaker (λ x y. key x < key y) (Sinks (λ x. ltb (key x) this)) xs (λ x y lt h. grind (arith, nat_tests, lt, h)) rises
+
+  pub behind_sinks : AllLater (Sinks (λ x. leb (key x) this)) xs
+  behind_sinks = later-weaker (λ x y. key x < key y) (Sinks (λ x. leb (key x) this)) xs (λ x y lt h. grind (arith, nat_tests, lt, h)) rises
+
+-- the others, where the row of a key is taken out
+pub remove_first-key : {X : Type 0} (key : X → ℕ) (this : ℕ) (xs : List X) → Rises key xs → remove_first (has_key key this) xs ≡ filter (λ x. not (has_key key this x)) xs
+remove_first-key key this [] rises = refl
+remove_first-key key this (x ∷ xs) rises = elim (has_key key this x) as (λ b. has_key key this x ≡ b → cond b xs (x ∷ remove_first (has_key key this) xs) ≡ cond (not b) (x ∷ filter (λ y. not (has_key key this y)) xs) (filter (λ y. not (has_key key this y)) xs)) [
+  | true ↦ λ e. sym (filter-all (λ y. not (has_key key this y)) xs (all-weaker (λ y. key x < key y) (λ y. not (has_key key this y) ≡ true) xs (λ y lt. let same : key x ≡ this = grind (arith, nat_tests, e) in grind (arith, nat_tests, lt, same)) rises.0))
+  | false ↦ λ e. ap (λ ys. x ∷ ys) (remove_first-key key this xs rises.1)
+] refl

@@ -45,7 +45,7 @@ module _ {X : Type 0} (p : X → Bool) where
     | false ↦ λ e. rw e (none_of xs (let h' = rw e at h in omega arith))
   ] refl
 
-  list_any-position : (xs : List X) → position p xs ≡ None → list_any p xs ≡ false
+  pub list_any-position : (xs : List X) → position p xs ≡ None → list_any p xs ≡ false
   list_any-position xs h = none_of xs (grind (arith, nat_tests))
 
   update_none : (f : X → X) (xs : List X) → list_any p xs ≡ false → update_first p f xs ≡ xs

@@ -1,8 +1,9 @@
--- Finds, tests and changes of a view of a list, as those of the list itself.
-use Rattle.std.proofs.Common.{◌≡◌, Bool, true, false, cond, ◌||◌, List, [], ◌∷◌, map, Some, refl, ap}
-use Rattle.std.specs.Prelude.{find}
+-- Finds, tests and changes of a view of a list, as those of the list itself; and whether something is there behind a reference.
+use Rattle.std.proofs.Common.{◌≡◌, Bool, true, false, cond, ◌||◌, List, [], ◌∷◌, map, Option, Some, None, refl, ap}
+use Rattle.std.specs.Prelude.{find, is_some}
 use Rattle.std.specs.List.{list_any}
-use Rattle.std.specs.Option.{option_map}
+use Rattle.std.specs.Borrow.{Bor}
+use Rattle.std.specs.Option.{option_map, option_copied}
 use Rattle.ele_lists.specs.Lists.{update_first, remove_first, insert_before}
 
 module _ {X Y : Type 0} (h : X → Y) (p : Y → Bool) where
@@ -39,3 +40,8 @@ module _ {X Y : Type 0} (h : X → Y) (p : Y → Bool) (q : X → Bool) (same : 
     | true ↦ refl
     | false ↦ ap (λ ys. h x ∷ ys) (insert_before-map y xs)
   ])
+
+-- what is there behind a reference
+pub is_some-copied : {X : Type 0} (o : Option (Bor X)) → is_some (option_copied o) ≡ is_some o
+is_some-copied None = refl
+is_some-copied (Some x) = refl

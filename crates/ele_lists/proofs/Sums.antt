@@ -1,5 +1,5 @@
 -- Sums and counts over lists, and what a change at one place makes of them.
-use Rattle.std.proofs.Common.{◌≡◌, ℕ, ◌+◌, ◌≤◌, Bool, true, false, not, cond, ◌||◌, List, [], ◌∷◌, ◌++◌, map, Some, refl, sym, ◌∙◌, arith}
+use Rattle.std.proofs.Common.{◌≡◌, ℕ, ◌+◌, ◌≤◌, Bool, true, false, not, cond, ◌||◌, List, [], ◌∷◌, ◌++◌, length, map, Some, refl, sym, ◌∙◌, arith}
 use Rattle.std.specs.Prelude.{find, filter, nat_lt}
 use Rattle.std.specs.List.{AllByRecursion, list_any, flat_map, sum_by, count_by}
 use Rattle.std.proofs.lemmas.Bool.Decides.{nat_tests}
@@ -89,3 +89,11 @@ module _ {X : Type 0} (p : X → Bool) where
     | true ↦ λ e. let here : one x ≡ 1 = rw e refl in let more = sum_by-cons one x xs in grind (arith, nat_tests, here, more)
     | false ↦ λ e. let here : one x ≡ 0 = rw e refl in let more = sum_by-cons one x xs in any-count xs ∙ grind (arith, nat_tests, here, more)
   ] refl
+
+-- what passes and what doesn't
+pub length-split : {X : Type 0} (t : X → Bool) (xs : List X) → length xs ≡ length (filter t xs) + length (filter (λ x. not (t x)) xs)
+length-split t [] = refl
+length-split t (x ∷ xs) = elim (t x) as (λ b. length (x ∷ xs) ≡ length (cond b (x ∷ filter t xs) (filter t xs)) + length (cond (not b) (x ∷ filter (λ y. not (t y)) xs) (filter (λ y. not (t y)) xs))) [
+  | true ↦ omega (arith, length-split t xs)
+  | false ↦ omega (arith, length-split t xs)
+]

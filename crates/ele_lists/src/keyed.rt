@@ -5,6 +5,8 @@ ghost use Rattle.std.specs.List.{position};
 ghost use Rattle.std.specs.Option.{unwrap_or};
 ghost use Rattle.ele_lists.specs.Keys.{Rises, has_key, is_behind};
 
+use crate::cut::Cut;
+
 /// A row that stands by a number.
 pub trait Keyed {
     ghost use Rattle.std.specs.Prelude.{ℕ};
@@ -29,5 +31,33 @@ pub fn place_of<T: Keyed>(rows: &[T], key: u64) -> Result<usize, usize>
     match rows.get(at) {
         Some(row) if row.key() == key => Ok(at),
         _ => Err(at),
+    }
+}
+
+/// The cut before a key: rows of lesser keys stand before it.
+#[derive(Clone, Copy, Debug)]
+pub struct BeforeKey(pub u64);
+
+/// The cut behind a key: rows of keys up to it stand before it.
+#[derive(Clone, Copy, Debug)]
+pub struct BehindKey(pub u64);
+
+impl<T: Keyed> Cut<T> for BeforeKey {
+    ghost use Rattle.std.specs.Prelude.{nat_lt};
+
+    ghost before = { λ cut row. nat_lt (T.key row) cut.0 };
+
+    fn is_behind(&self, row: &T) -> bool {
+        row.key() < self.0
+    }
+}
+
+impl<T: Keyed> Cut<T> for BehindKey {
+    ghost use Rattle.std.specs.Prelude.{nat_le};
+
+    ghost before = { λ cut row. nat_le (T.key row) cut.0 };
+
+    fn is_behind(&self, row: &T) -> bool {
+        row.key() <= self.0
     }
 }

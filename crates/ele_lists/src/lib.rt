@@ -1,11 +1,20 @@
-//! Lists, what a change at one place makes of them, and rows by a rising key.
-//! A contract sees such a list as its items, and not the room behind them.
+//! Lists and what a change at one place makes of them, rows by a rising key, counts, and indexes.
+//! A contract sees a list as its items, a tally as counts, and an index as a test.
 #![tactic(auto)]
 
+mod chunks;
+mod cut;
+mod index;
 mod keyed;
 mod list;
 mod room;
+mod seam;
+mod tally;
 
-pub use keyed::{Keyed, place_of};
+pub use chunks::Chunks;
+pub use cut::{Change, Cut};
+pub use index::Index;
+pub use keyed::{BeforeKey, BehindKey, Keyed, place_of};
 pub use list::{ByteList, ListOf};
 pub use room::{put, put_at};
+pub use tally::Tally;

@@ -51,6 +51,11 @@ pub lets_go_without : (policy : Policy) (live : Bool) (xs : List ℕ) (gone : �
 lets_go_without One live xs gone ys closed age gone_age longer goes = refl
 lets_go_without (Safe interval) live xs gone ys closed age gone_age longer goes = refl
 
+-- and one that goes beside fewer goes beside more
+pub lets_go_fewer : (policy : Policy) (live : Bool) (xs : List ℕ) (more : ℕ) (ys : List ℕ) (closed age : ℕ) → lets_go policy closed (record { newer = xs ++ ys; live = live }) age ≡ true → lets_go policy closed (record { newer = xs ++ more ∷ ys; live = live }) age ≡ true
+lets_go_fewer One live xs more ys closed age goes = goes
+lets_go_fewer (Safe interval) live xs more ys closed age goes = goes
+
 -- Keep One and Keep Safe look at the age alone
 abbrev pub nothing_beside : Beside
 nothing_beside = record { newer = []; live = false }

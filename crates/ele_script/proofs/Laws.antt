@@ -10,7 +10,7 @@ use Rattle.ele_script.specs.declared.command.Command.{Command}
 use Rattle.ele_script.specs.declared.command.Command.TheVariants.{Clock, Tick, Create, OpenWrite, Write, Truncate, Close, Default, Clean, Read, Due, Usage, Pass}
 use Rattle.ele_script.specs.declared.fault.LineFault.{LineFault}
 use Rattle.ele_script.specs.declared.fault.LineFault.TheVariants.{NoMemory}
-use Rattle.ele_script.specs.Value.{Kind, Value, Number, Moment, Path, Bytes, Policy, kind_of}
+use Rattle.ele_script.specs.Value.{WordKind, Value, Number, Moment, Path, Bytes, Policy, word_kind}
 use Rattle.ele_script.specs.Command.{kinds_behind}
 use Rattle.ele_script.specs.Words.{words_of, is_worded}
 use Rattle.ele_script.specs.Spells.{line_parts, SpellsValues, SpellsWords, SpellsLine, Spells}
@@ -20,9 +20,9 @@ use Rattle.ele_script.proofs.Commands.{one_fit}
 use Rattle.ele_script.proofs.Values.{one_value, faultless_word, one_word_fault}
 
 -- the kinds of values
-abbrev kinds_of : List Value → List Kind
+abbrev kinds_of : List Value → List WordKind
 kinds_of [] = []
-kinds_of (value ∷ values) = kind_of value ∷ kinds_of values
+kinds_of (value ∷ values) = word_kind value ∷ kinds_of values
 
 -- the values of what is asked for are of the kinds that its command wants
 kinds_fit : (asked : Line) → kinds_of (line_parts asked).1 ≡ kinds_behind (line_parts asked).0
@@ -128,7 +128,7 @@ no_first : (words : List (List ℕ)) (values : List Value) (fault : LineFault) �
 no_first [] [] fault h bad = bad
 no_first [] (v ∷ vs) fault h bad = absurd h
 no_first (word ∷ words) [] fault h bad = bad
-no_first (word ∷ words) (v ∷ vs) fault h (inl bad) = faultless_word (kind_of v) word fault (v, refl, h.0) bad
+no_first (word ∷ words) (v ∷ vs) fault h (inl bad) = faultless_word (word_kind v) word fault (v, refl, h.0) bad
 no_first (word ∷ words) (v ∷ vs) fault h (inr bad) = no_first words vs fault h.1 bad.1
 
 moved : (fault : LineFault) {c d : Command} {xs ys : List (List ℕ)} → c ≡ d → xs ≡ ys → IsFirstWordFault (kinds_behind c) xs fault → IsFirstWordFault (kinds_behind d) ys fault
@@ -150,7 +150,7 @@ spelled_faultless line asked fault h (too_long long is) = omega (arith, long, h.
 spelled_faultless line asked fault h (not_worded short broken is) = true≢false (sym h.worded ∙ broken)
 spelled_faultless line asked fault h (of_words short worded bad) = no_words (words_of line) asked fault h.words bad
 
-one_first : (kinds : List Kind) (words : List (List ℕ)) (a b : LineFault) → IsFirstWordFault kinds words a → IsFirstWordFault kinds words b → a ≡ b
+one_first : (kinds : List WordKind) (words : List (List ℕ)) (a b : LineFault) → IsFirstWordFault kinds words a → IsFirstWordFault kinds words b → a ≡ b
 one_first [] words a b x y = absurd x
 one_first (kind ∷ kinds) [] a b x y = absurd x
 one_first (kind ∷ kinds) (word ∷ words) a b (inl x) (inl y) = one_word_fault kind word a b x y

@@ -23,7 +23,7 @@ use Rattle.ele_policy.specs.declared.policy.Policy.{Policy as AnyPolicy}
 use Rattle.ele_policy.specs.declared.policy.Policy.TheVariants.{One, Safe}
 use Rattle.ele_policy.specs.Interval.{IsInterval}
 use Rattle.ele_script.specs.PolicyWord.{IsSafeWord, SpellsPolicy, IsPolicyForm, one, safe, IsPolicyFault, formless, no_interval}
-use Rattle.ele_script.specs.Value.{Kind, NumberWord, MomentWord, PathWord, BytesWord, PolicyWord, Value, Number, Moment, Path, Bytes, Policy, kind_of, SpellsBytes, SpellsValue}
+use Rattle.ele_script.specs.Value.{WordKind, NumberWord, MomentWord, PathWord, BytesWord, PolicyWord, Value, Number, Moment, Path, Bytes, Policy, word_kind, SpellsBytes, SpellsValue}
 use Rattle.ele_script.specs.LineFault.{fault_of_path}
 use Rattle.ele_script.specs.FirstFault.{IsOfKind, IsWordFault}
 
@@ -116,7 +116,7 @@ one_policy_fault word a b (no_interval n form bad x) (formless none y) = absurd 
 one_policy_fault word a b (no_interval n form bad x) (no_interval m other worse y) = x ∙ sym y
 
 -- a word stands for one value of a kind
-pub one_value : (word : List ℕ) (a b : Value) → kind_of a ≡ kind_of b → SpellsValue word a → SpellsValue word b → a ≡ b
+pub one_value : (word : List ℕ) (a b : Value) → word_kind a ≡ word_kind b → SpellsValue word a → SpellsValue word b → a ≡ b
 one_value word (Number m) (Number n) k a b = ap Number (one_number word m n a b)
 one_value word (Moment m) (Moment n) k a b = ap Moment (one_moment word m n a b)
 one_value word (Path m) (Path n) k a b = ap Path (one_path word m n a b)
@@ -128,7 +128,7 @@ none_is : {A : Type 0} {x : A} → ◌≡◌ {A = Option A} None (Some x) → �
 none_is h = cc
 
 -- a word that stands for a value of its kind has no fault
-pub faultless_word : (kind : Kind) (word : List ℕ) (fault : LineFault) → IsOfKind kind word → IsWordFault kind word fault → ⊥
+pub faultless_word : (kind : WordKind) (word : List ℕ) (fault : LineFault) → IsOfKind kind word → IsWordFault kind word fault → ⊥
 faultless_word NumberWord word fault is bad = bad.1 is
 faultless_word MomentWord word fault is bad = bad.1 is
 faultless_word PathWord word fault (Path names, k, is) bad = none_is (ap (λ o. option_map fault_of_path o) (sym (spelled_faultless word names is)) ∙ bad)
@@ -138,7 +138,7 @@ faultless_word PolicyWord word fault (Policy policy, k, is) bad = faultless_poli
 faultless_word PolicyWord word fault (value, k, is) bad = absurd cc
 
 -- a word has one fault of its kind
-pub one_word_fault : (kind : Kind) (word : List ℕ) (a b : LineFault) → IsWordFault kind word a → IsWordFault kind word b → a ≡ b
+pub one_word_fault : (kind : WordKind) (word : List ℕ) (a b : LineFault) → IsWordFault kind word a → IsWordFault kind word b → a ≡ b
 one_word_fault NumberWord word a b x y = x.0 ∙ sym y.0
 one_word_fault MomentWord word a b x y = x.0 ∙ sym y.0
 one_word_fault PathWord word a b x y = some_is (sym x ∙ y)

@@ -1,6 +1,6 @@
 -- The commands: their words, and the kinds of words behind them.
 use Rattle.std.specs.Prelude.{ℕ, List, [], ◌∷◌, codes}
-use Rattle.ele_script.specs.Value.{Kind, NumberWord, MomentWord, PathWord, BytesWord, PolicyWord}
+use Rattle.ele_script.specs.Value.{WordKind, NumberWord, MomentWord, PathWord, BytesWord, PolicyWord}
 use Rattle.ele_script.specs.declared.command.Command.{Command}
 use Rattle.ele_script.specs.declared.command.Command.TheVariants.{Clock, Tick, Create, OpenWrite, Write, Truncate, Close, Default, Clean, Read, Due, Usage, Pass}
 
@@ -21,7 +21,7 @@ command_words Usage = codes "usage" ∷ []
 command_words Pass = codes "pass" ∷ []
 
 -- the kinds of the words behind it
-abbrev pub kinds_behind : Command → List Kind
+abbrev pub kinds_behind : Command → List WordKind
 kinds_behind Clock = MomentWord ∷ []
 kinds_behind Tick = NumberWord ∷ []
 kinds_behind Create = PathWord ∷ []

@@ -6,7 +6,7 @@ use Rattle.ele_script.specs.declared.command.Command.{Command}
 use Rattle.ele_script.specs.declared.fault.LineFault.{LineFault}
 use Rattle.ele_script.specs.declared.fault.LineFault.TheVariants.{BadMoment, Syntax, LineTooLong}
 use Rattle.ele_script.specs.LineFault.{fault_of_path}
-use Rattle.ele_script.specs.Value.{Kind, NumberWord, MomentWord, PathWord, BytesWord, PolicyWord, Value, kind_of, SpellsValue}
+use Rattle.ele_script.specs.Value.{WordKind, NumberWord, MomentWord, PathWord, BytesWord, PolicyWord, Value, word_kind, SpellsValue}
 use Rattle.ele_script.specs.PolicyWord.{IsPolicyFault}
 use Rattle.ele_script.specs.Command.{command_words, kinds_behind}
 use Rattle.ele_script.specs.Words.{words_of, is_worded}
@@ -16,11 +16,11 @@ use Rattle.ele_script.specs.declared.reading.Line.TheVariants as asks
 use Rattle.ele_world.specs.declared.event.Event.{Event}
 
 -- the word stands for some value of the kind
-abbrev pub IsOfKind : Kind → List ℕ → Type 0
-IsOfKind kind word = (value : Value) × (kind_of value ≡ kind) × SpellsValue word value
+abbrev pub IsOfKind : WordKind → List ℕ → Type 0
+IsOfKind kind word = (value : Value) × (word_kind value ≡ kind) × SpellsValue word value
 
 -- the fault of a word that stands for no value of its kind
-abbrev pub IsWordFault : Kind → List ℕ → LineFault → Type 0
+abbrev pub IsWordFault : WordKind → List ℕ → LineFault → Type 0
 IsWordFault NumberWord word fault = (fault ≡ Syntax) × ¬ IsOfKind NumberWord word
 IsWordFault MomentWord word fault = (fault ≡ BadMoment) × ¬ IsOfKind MomentWord word
 IsWordFault PathWord word fault = option_map fault_of_path (path_fault word) ≡ Some fault
@@ -28,7 +28,7 @@ IsWordFault BytesWord word fault = (fault ≡ Syntax) × ¬ IsOfKind BytesWord w
 IsWordFault PolicyWord word fault = IsPolicyFault word fault
 
 -- the fault of the first bad word, from the left
-abbrev pub IsFirstWordFault : List Kind → List (List ℕ) → LineFault → Type 0
+abbrev pub IsFirstWordFault : List WordKind → List (List ℕ) → LineFault → Type 0
 IsFirstWordFault (kind ∷ kinds) (word ∷ words) fault =
     IsWordFault kind word fault ⊎ (IsOfKind kind word × IsFirstWordFault kinds words fault)
 IsFirstWordFault kinds words fault = ⊥

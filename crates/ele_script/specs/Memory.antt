@@ -2,11 +2,11 @@
 use Rattle.std.specs.Prelude.{◌≡◌, ℕ, List, ◌++◌, Bool, true, false}
 use Rattle.std.specs.List.{list_any}
 use Rattle.ele_script.specs.declared.command.Command.{Command}
-use Rattle.ele_script.specs.Value.{Kind, NumberWord, MomentWord, PathWord, BytesWord, PolicyWord}
+use Rattle.ele_script.specs.Value.{WordKind, NumberWord, MomentWord, PathWord, BytesWord, PolicyWord}
 use Rattle.ele_script.specs.Command.{command_words, kinds_behind}
 
 -- a path and bytes take memory, and nothing else does
-abbrev pub takes_memory : Kind → Bool
+abbrev pub takes_memory : WordKind → Bool
 takes_memory NumberWord = false
 takes_memory MomentWord = false
 takes_memory PathWord = true

@@ -8,12 +8,12 @@ use Rattle.ele_time_path.specs.Path.{SpellsPath}
 use Rattle.ele_script.specs.PolicyWord.{SpellsPolicy}
 
 -- the kinds of words behind a command
-pub data Kind : Type 0 where
-  NumberWord : Kind
-  MomentWord : Kind
-  PathWord : Kind
-  BytesWord : Kind
-  PolicyWord : Kind
+pub data WordKind : Type 0 where
+  NumberWord : WordKind
+  MomentWord : WordKind
+  PathWord : WordKind
+  BytesWord : WordKind
+  PolicyWord : WordKind
 
 -- what a word stands for
 pub data Value : Type 0 where
@@ -24,12 +24,12 @@ pub data Value : Type 0 where
   Policy : AnyPolicy → Value
 
 -- the kind of words that stand for such a value
-abbrev pub kind_of : Value → Kind
-kind_of (Number n) = NumberWord
-kind_of (Moment m) = MomentWord
-kind_of (Path names) = PathWord
-kind_of (Bytes bytes) = BytesWord
-kind_of (Policy policy) = PolicyWord
+abbrev pub word_kind : Value → WordKind
+word_kind (Number n) = NumberWord
+word_kind (Moment m) = MomentWord
+word_kind (Path names) = PathWord
+word_kind (Bytes bytes) = BytesWord
+word_kind (Policy policy) = PolicyWord
 
 -- `-` for no bytes, else an even number of hexadecimal digits, each two a byte
 abbrev pub SpellsBytes : List ℕ → List ℕ → Type 0

@@ -11,7 +11,8 @@ use Rattle.ele_sessions.specs.Kept.{Keeps, writing, IsCounted}
 use Rattle.ele_lists.specs.Lists.{update_first, remove_first, insert_before}
 use Rattle.ele_sessions.specs.Order.{Rises}
 use Rattle.ele_sessions.specs.Sessions.{AllSessions, is_handle, is_writer, is_draft, handle_file}
-use Rattle.ele_sessions.proofs.Edits.{all-push, all-weaker, all-both, all-none, all-insert_before, all-remove_first, all-found, found_passes, any_found, later-push, later-update_first, later-remove_first, later-insert_before, list_any-update_first, list_any-insert_before, list_any-remove_first, length-remove_first-le}
+use Rattle.ele_lists.proofs.Edits.{all-push, all-weaker, all-both, all-none, all-insert_before, all-remove_first, all-found, found_passes, later-push, later-update_first, later-remove_first, later-insert_before, list_any-update_first, list_any-insert_before, list_any-remove_first, length-remove_first-le}
+use Rattle.ele_lists.proofs.Cuts.{any-found}
 use Rattle.ele_sessions.proofs.Counts.{writing-push, writing-remove, writing-none, writing-some, writing-le, writing-undrafted, all-others, counted-update, counted-remove}
 
 abbrev pub file_of : Writers → ℕ
@@ -108,7 +109,7 @@ module _ (ws : List Writers) (hs : List OpenHandle) (opened : ℕ) (keeps : Keep
     is_drafted = all-found (is_handle number) (λ x. list_any (is_of x.file) ws ≡ true) hs h found keeps.drafted
 
     its : (w : Writers) × (find (is_of h.file) ws ≡ Some w)
-    its = any_found (is_of h.file) ws is_drafted
+    its = any-found (is_of h.file) ws is_drafted
 
     its_count : its.0.writers ≡ writing h.file rest + 1
     its_count =

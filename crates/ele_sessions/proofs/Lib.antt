@@ -1,7 +1,4 @@
-pub mod Places
-pub mod Lifts
 pub mod Found
-pub mod Edits
 pub mod Counts
 pub mod Keepings
 pub mod Order

@@ -10,7 +10,7 @@ use Rattle.ele_sessions.specs.Order.{Rises}
 use Rattle.ele_sessions.specs.Orderly.{AreOrderly}
 use Rattle.ele_sessions.specs.Sessions.{is_draft, is_writer}
 use Rattle.ele_sessions.proofs.Counts.{writing-some}
-use Rattle.ele_sessions.proofs.Edits.{all-weaker}
+use Rattle.ele_lists.proofs.Edits.{all-weaker}
 
 drafts_above : (file : ℕ) (es : List Entry) → AllByRecursion (λ w. file < w.file) (writers_of es) → AllByRecursion (λ d. file < d.file) (drafts_of es)
 drafts_above file [] all = tt

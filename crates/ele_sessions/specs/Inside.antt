@@ -1,8 +1,9 @@
 -- What the fields say of drafts, handles and writers. No public clause cites this module.
-use Rattle.std.specs.Prelude.{◌≡◌, ℕ, ◌+◌, ◌-◌, ◌<◌, ◌≤◌, ◌==◌, nat_lt, Bool, false, List, map, find, length, slice_index_or, if◌then◌else◌}
-use Rattle.std.specs.List.{list_any}
-use Rattle.std.specs.Option.{option_map_or}
+use Rattle.std.specs.Prelude.{◌≡◌, ℕ, ◌+◌, ◌-◌, ◌==◌, nat_lt, Bool, false, List, Some, None, map, find, length, if◌then◌else◌}
+use Rattle.std.specs.List.{list_any, position}
+use Rattle.std.specs.Option.{option_map_or, unwrap_or}
 use Rattle.ele_lists.specs.Lists.{update_first, remove_first, insert_before}
+use Rattle.ele_lists.specs.Keys.{has_key, is_behind}
 use Rattle.ele_sessions.specs.declared.draft.Draft.{Draft as Fields}
 use Rattle.ele_sessions.specs.declared.entries.Entry.{Entry}
 use Rattle.ele_sessions.specs.declared.entries.OpenHandle.{OpenHandle}
@@ -53,17 +54,14 @@ more w = record w { writers = w.writers + 1 }
 abbrev pub fewer : Writers → Writers
 fewer w = record w { writers = w.writers - 1 }
 
--- the element at that place is the first whose key is this
-pub record IsAt {X : Type 0} (key : X → ℕ) (this : ℕ) (xs : List X) (i : ℕ) : Type 0 where
-  pub within : i < length xs
-  pub here : (d : X) → key (slice_index_or xs i d) ≡ this
-  pub before : (k : ℕ) (d : X) → k < i → key (slice_index_or xs k d) < this
+-- the first element of this key stands there
+abbrev pub IsAt : {X : Type 0} → (X → ℕ) → ℕ → List X → ℕ → Type 0
+IsAt key this xs i = position (has_key key this) xs ≡ Some i
 
 -- no element has this key, and it would stand at that place
 pub record IsGap {X : Type 0} (key : X → ℕ) (this : ℕ) (xs : List X) (i : ℕ) : Type 0 where
-  pub within : i ≤ length xs
-  pub before : (k : ℕ) (d : X) → k < i → key (slice_index_or xs k d) < this
-  pub behind : (k : ℕ) (d : X) → i ≤ k → k < length xs → this < key (slice_index_or xs k d)
+  pub missing : position (has_key key this) xs ≡ None
+  pub gap : unwrap_or (position (is_behind key this) xs) (length xs) ≡ i
 
 -- the writers with one more for the file
 abbrev pub joined : ℕ → List Writers → List Writers

@@ -6,6 +6,7 @@ ghost use Rattle.ele_sessions.specs.Order.{Rises};
 ghost use Rattle.ele_sessions.specs.Sessions.{handle_file};
 
 use crate::draft::Draft;
+use ele_lists::Keyed;
 use ele_moment::{FileId, Handle};
 
 /// A file's draft, and how many handles write it. The draft lies apart, so that few bytes move when
@@ -24,17 +25,29 @@ pub struct OpenHandle {
     pub file: FileId,
 }
 
+impl Keyed for Entry {
+    ghost key = { λ entry. entry.file };
+
+    fn key(&self) -> u64 {
+        self.file.0
+    }
+}
+
+impl Keyed for OpenHandle {
+    ghost key = { λ handle. handle.number };
+
+    fn key(&self) -> u64 {
+        self.number.0
+    }
+}
+
 /// The place of the file's draft, or where it would stand.
 pub fn place_of(drafts: &[Entry], file: FileId) -> Result<usize, usize>
     requires { Rises file_in drafts.now }
     ensures found { IfOk result (IsAt file_in file drafts.now) }
     ensures gap { IfErr result (IsGap file_in file drafts.now) }
 {
-    let at = drafts.partition_point(|entry| entry.file.0 < file.0);
-    match drafts.get(at) {
-        Some(entry) if entry.file == file => Ok(at),
-        _ => Err(at),
-    }
+    ele_lists::place_of(drafts, file.0)
 }
 
 /// The place of the handle of that number, or where it would stand.
@@ -43,11 +56,7 @@ pub fn handle_place(handles: &[OpenHandle], number: Handle) -> Result<usize, usi
     ensures found { IfOk result (IsAt number_in number handles.now) }
     ensures gap { IfErr result (IsGap number_in number handles.now) }
 {
-    let at = handles.partition_point(|handle| handle.number.0 < number.0);
-    match handles.get(at) {
-        Some(handle) if handle.number == number => Ok(at),
-        _ => Err(at),
-    }
+    ele_lists::place_of(handles, number.0)
 }
 
 /// The file that is written through the handle.

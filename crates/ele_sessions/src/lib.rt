@@ -10,7 +10,6 @@ mod fault;
 mod leaving;
 mod opening;
 mod reads;
-mod room;
 mod sessions;
 
 pub use closing::Closing;

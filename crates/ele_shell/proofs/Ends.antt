@@ -15,14 +15,14 @@ use Rattle.ele_shell.specs.declared.fault.ShellFault.{ShellFault}
 use Rattle.ele_shell.specs.declared.fault.ShellFault.TheVariants.{ReadFault, WriteFault, TooManyLines, NoMemory}
 use Rattle.ele_shell.specs.Block.{cut_block, cut_count}
 use Rattle.ele_shell.specs.Bounds.{most_lines}
-use Rattle.ele_shell.specs.Kept.{kept, longest_line}
-use Rattle.ele_shell.specs.Lines.{IsUnbroken, ended, joined, line_count}
+use Rattle.ele_shell.specs.LineLength.{line_unless_long, longest_line}
+use Rattle.ele_shell.specs.Lines.{IsUnbroken, line_text, lines_text, line_count}
 use Rattle.ele_shell.specs.Output.{AreBlocks}
 use Rattle.ele_shell.specs.Piece.{AnswersSome}
 use Rattle.ele_shell.specs.Running.{Runs, RanToTheEnd, RanPastABound, RanToAWriteFault}
-use Rattle.ele_shell.specs.State.{State}
+use Rattle.ele_shell.specs.RunState.{RunState}
 use Rattle.ele_shell.specs.Taken.{TakesPiece}
-use Rattle.ele_shell.proofs.EveryInput.{split_all, lines_before, some_blocks, blocks_append}
+use Rattle.ele_shell.proofs.Joins.{blocks_append}
 use Rattle.ele_shell.proofs.Ran.{HasRun, written_all, few_whole}
 
 -- what was read is all, where nothing is left
@@ -37,11 +37,6 @@ known_more None rest given taken = ([], tt)
 known_more (Some xs) None given taken = absurd taken
 known_more (Some xs) (Some ys) given taken = (ys, sym taken)
 
--- a front of some bytes is a front of these and more
-front_more : (old new : Option (List ℕ)) (bytes more : List ℕ) → AppendsFront old new bytes → AppendsFront old new (bytes ++ more)
-front_more old new bytes more f =
-    record { front = f.front; back = f.back ++ more; parts = ap (λ (xs : List ℕ). xs ++ more) f.parts ∙ append_assoc f.front f.back more; written = f.written }
-
 -- all of some bytes, and then a front of more
 front_then : (old mid new : Option (List ℕ)) (bytes more : List ℕ) → Appends old mid bytes → AppendsFront mid new more → AppendsFront old new (bytes ++ more)
 front_then old mid new bytes more a f =
@@ -53,27 +48,24 @@ front_then old mid new bytes more a f =
     }
 
 -- the writer failed in the blocks of these lines, whatever comes behind them
-fails_in : (start state : State) (given part text : List ℕ) (lines : List (List ℕ)) (input rest old new : Option (List ℕ))
-    → given ≡ joined lines ++ part → AllByRecursion IsUnbroken lines → AreBlocks start lines text state → Consumes input rest given
+fails_in : (start state : RunState) (given part text : List ℕ) (lines : List (List ℕ)) (input rest old new : Option (List ℕ))
+    → given ≡ lines_text lines ++ part → AllByRecursion IsUnbroken lines → AreBlocks start lines text state → Consumes input rest given
     → AppendsFront old new text → RanToAWriteFault start input old new
 fails_in start state given part text lines input rest old new e whole blocks taken front =
     let more = known_more input rest given taken in
-    let s = split_all (part ++ more.0) in
-    let r = some_blocks state s.lines in
     record {
-      all = given ++ more.0;
-      lines = lines ++ s.lines;
-      last = s.last;
-      text = (text ++ r.0) ++ cut_block (kept s.last);
-      input_is = more.1;
-      are = lines_before (given ++ more.0) (part ++ more.0) lines s.lines s.last
-          (ap (λ (w : List ℕ). w ++ more.0) e ∙ append_assoc (joined lines) part more.0) whole s.are;
-      output = record { blocks = text ++ r.0; state = r.1; are = blocks_append start state r.1 lines s.lines text r.0 blocks r.2; text_is = refl };
-      written = front_more old new (text ++ r.0) (cut_block (kept s.last)) (front_more old new text r.0 front);
+      lines = lines;
+      rest = part ++ more.0;
+      text = text;
+      state = state;
+      input_is = subst (λ (xs : List ℕ). Keeps input (Some xs)) (ap (λ (w : List ℕ). w ++ more.0) e ∙ append_assoc (lines_text lines) part more.0) more.1;
+      whole = whole;
+      blocks = blocks;
+      written = inl front;
     }
 
 -- a last line counts as its block does
-counts_cut : (lines : List (List ℕ)) (last : List ℕ) → line_count lines last ≡ length lines + cut_count (kept last)
+counts_cut : (lines : List (List ℕ)) (last : List ℕ) → line_count lines last ≡ length lines + cut_count (line_unless_long last)
 counts_cut lines [] = omega arith
 counts_cut lines (b ∷ bs) =
     elim (leb_tells (length (b ∷ bs)) longest_line) [
@@ -101,7 +93,7 @@ whole_both : (a b : List (List ℕ)) → AllByRecursion IsUnbroken a → AllByRe
 whole_both [] b h g = g
 whole_both (x ∷ a) b h g = (h.0, whole_both a b h.1 g)
 
-module _ {start state : State} {n : ℕ} {room : ℕ} {buffer input mid old so_far : Option (List ℕ)} {held : List ℕ} (ran : HasRun start n state room buffer input mid old so_far held) where
+module _ {start state : RunState} {n : ℕ} {room : ℕ} {buffer input mid old so_far : Option (List ℕ)} {held : List ℕ} (ran : HasRun start n state room buffer input mid old so_far held) where
   -- the writer failed as it was handed what is held
   pub ends_over : (new : Option (List ℕ)) → AppendsFront so_far new held → RanToAWriteFault start input old new
   ends_over new front =
@@ -158,13 +150,13 @@ module _ {start state : State} {n : ℕ} {room : ℕ} {buffer input mid old so_f
       → (count ≡ n + cut_count buffer) × Appends so_far new (held ++ cut_block buffer) → RanToTheEnd start count input rest old new
   ends_all rest new count none took at_end done =
       let counted : count ≡ line_count ran.lines ran.part =
-      done.0 ∙ ap (λ (b : Option (List ℕ)). n + cut_count b) ran.keeps ∙ ap (λ (m : ℕ). m + cut_count (kept ran.part)) (sym ran.count)
+      done.0 ∙ ap (λ (b : Option (List ℕ)). n + cut_count b) ran.keeps ∙ ap (λ (m : ℕ). m + cut_count (line_unless_long ran.part)) (sym ran.count)
       ∙ sym (counts_cut ran.lines ran.part) in
       record {
         given = ran.given;
         lines = ran.lines;
         last = ran.part;
-        text = ran.text ++ cut_block (kept ran.part);
+        text = ran.text ++ cut_block (line_unless_long ran.part);
         taken = subst (Consumes input rest) (append-nil ran.given) (Consumes-trans input mid rest ran.given [] ran.taken took);
         at_end = at_end;
         are = ran.are;
@@ -172,42 +164,46 @@ module _ {start state : State} {n : ℕ} {room : ℕ} {buffer input mid old so_f
         few_lines = subst (λ (m : ℕ). m ≤ most_lines) (sym counted) ran.few;
         few_bytes = omega (arith, ran.size);
         output = record { blocks = ran.text; state = state; are = ran.blocks; text_is = refl };
-        written = Appends-trans old so_far new ran.text (cut_block (kept ran.part)) (written_all ran none)
+        written = Appends-trans old so_far new ran.text (cut_block (line_unless_long ran.part)) (written_all ran none)
             (subst (Appends so_far new) (cut_is none) done.1);
       }
     where
-      cut_is : held ≡ [] → held ++ cut_block buffer ≡ cut_block (kept ran.part)
+      cut_is : held ≡ [] → held ++ cut_block buffer ≡ cut_block (line_unless_long ran.part)
       cut_is e = ap (λ (w : List ℕ). w ++ cut_block buffer) e ∙ ap cut_block ran.keeps
 
   -- the writer failed in the block of a last line without its line feed
   pub ends_in_cut : (rest new : Option (List ℕ)) → held ≡ [] → Consumes mid rest [] → IsAtEnd rest
       → AppendsFront so_far new (held ++ cut_block buffer) → RanToAWriteFault start input old new
   ends_in_cut rest new none took at_end front = record {
-    all = ran.given;
     lines = ran.lines;
-    last = ran.part;
-    text = ran.text ++ cut_block (kept ran.part);
-    input_is = whole_input input rest ran.given (subst (Consumes input rest) (append-nil ran.given) (Consumes-trans input mid rest ran.given [] ran.taken took)) at_end;
-    are = ran.are;
-    output = record { blocks = ran.text; state = state; are = ran.blocks; text_is = refl };
-    written = front_then old so_far new ran.text (cut_block (kept ran.part)) (written_all ran none)
-        (subst (AppendsFront so_far new) (ap (λ (w : List ℕ). w ++ cut_block buffer) none ∙ ap cut_block ran.keeps) front);
+    rest = ran.part;
+    text = ran.text;
+    state = state;
+    input_is = subst (λ (xs : List ℕ). Keeps input (Some xs)) ran.are.parts
+        (whole_input input rest ran.given (subst (Consumes input rest) (append-nil ran.given) (Consumes-trans input mid rest ran.given [] ran.taken took)) at_end);
+    whole = ran.are.whole;
+    blocks = ran.blocks;
+    written = inr (
+      ran.are.cut,
+      front_then old so_far new ran.text (cut_block (line_unless_long ran.part)) (written_all ran none)
+          (subst (AppendsFront so_far new) (ap (λ (w : List ℕ). w ++ cut_block buffer) none ∙ ap cut_block ran.keeps) front),
+    );
   }
 
   -- the writer failed in the blocks of the lines of a piece
-  pub ends_in_piece : (after : State) (rest new : Option (List ℕ)) (piece left : List ℕ) → Consumes mid rest piece
+  pub ends_in_piece : (after : RunState) (rest new : Option (List ℕ)) (piece left : List ℕ) → Consumes mid rest piece
       → AnswersSome state after ran.part piece (outlet so_far held) (outlet new left) → RanToAWriteFault start input old new
   ends_in_piece after rest new piece left took did =
       fails_in start after (ran.given ++ piece) did.rest (ran.text ++ did.text) (ran.lines ++ did.lines) input rest old new
-      (ap (λ (w : List ℕ). w ++ piece) ran.are.parts ∙ append_assoc (joined ran.lines) ran.part piece ∙ ap (λ (w : List ℕ). joined ran.lines ++ w) did.parts
-      ∙ sym (append_assoc (joined ran.lines) (joined did.lines) did.rest) ∙ ap (λ (w : List ℕ). w ++ did.rest) (sym (flat_map-append ended ran.lines did.lines)))
+      (ap (λ (w : List ℕ). w ++ piece) ran.are.parts ∙ append_assoc (lines_text ran.lines) ran.part piece ∙ ap (λ (w : List ℕ). lines_text ran.lines ++ w) did.parts
+      ∙ sym (append_assoc (lines_text ran.lines) (lines_text did.lines) did.rest) ∙ ap (λ (w : List ℕ). w ++ did.rest) (sym (flat_map-append line_text ran.lines did.lines)))
       (whole_both ran.lines did.lines ran.are.whole did.whole)
       (blocks_append start state after ran.lines did.lines ran.text did.text ran.blocks did.blocks)
       (Consumes-trans input mid rest ran.given piece ran.taken took)
       (puts_front (outlet old []) (outlet so_far held) (outlet new left) ran.text did.text ran.put did.put).front
 
 -- what a run has done at each end
-pub ran_to_the_end : (start : State) (input rest old new : Option (List ℕ)) (r : Result ℕ ShellFault) → Runs start input rest old new r
+pub ran_to_the_end : (start : RunState) (input rest old new : Option (List ℕ)) (r : Result ℕ ShellFault) → Runs start input rest old new r
     → IfOk r (λ n. RanToTheEnd start n input rest old new)
 ran_to_the_end start input rest old new (Ok n) h = h
 ran_to_the_end start input rest old new (Err fault) h = tt

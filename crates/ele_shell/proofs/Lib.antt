@@ -1,6 +1,6 @@
 pub mod Blocks
 pub mod Ends
-pub mod EveryInput
+pub mod Joins
 pub mod Passes
 pub mod Pieces
 pub mod Ran

@@ -16,7 +16,7 @@ use Rattle.ele_world.specs.declared.refusal.Stop.{Stop}
 use Rattle.ele_world.specs.declared.refusal.Stop.TheVariants.{NoMemory, HistoryFull}
 use Rattle.ele_shell.specs.Clean.{is_removed, Cleans, MayClean}
 use Rattle.ele_shell.specs.Pass.{Removes, Finishes, Fills, MayPass}
-use Rattle.ele_shell.specs.State.{State}
+use Rattle.ele_shell.specs.RunState.{RunState}
 
 is_some_true : (o : Option Key) → is_some o ≡ true → IsSome o
 is_some_true (Some key) h = h
@@ -26,7 +26,7 @@ is_some_false : (o : Option Key) → is_some o ≡ false → o ≡ None
 is_some_false None h = refl
 is_some_false (Some key) h = absurd cc
 
-pub removes_none : (s : State) → Removes s 0 s
+pub removes_none : (s : RunState) → Removes s 0 s
 removes_none s = record {
   cleaned = cleaned_none s.world;
   below = λ k lt. absurd (omega (arith, lt));
@@ -44,7 +44,7 @@ below_more P n below here k lt = elim (cases_lt k n) [
 ]
 
 -- one more is removed
-pub removes_more : (s t u : State) (n : ℕ) → Removes s n t → Cleans t true u → Removes s (n + 1) u
+pub removes_more : (s t u : RunState) (n : ℕ) → Removes s n t → Cleans t true u → Removes s (n + 1) u
 removes_more s t u n r c =
     let one = cleaned_more s.world n t.world r.cleaned (is_some_true (first_due t.world) c.due) in
     record {
@@ -58,7 +58,7 @@ nothing_due : (w : World) → first_due w ≡ None → (clean_step w).1 ≡ w
 nothing_due w none = ap (λ o. (clean_of w o).1) none
 
 -- nothing is due any more
-pub finishes : (s t u : State) (budget n : ℕ) → Removes s n t → n < budget → Cleans t false u → Finishes s budget n u
+pub finishes : (s t u : RunState) (budget n : ℕ) → Removes s n t → n < budget → Cleans t false u → Finishes s budget n u
 finishes s t u budget n r lt c =
     let none : first_due t.world ≡ None = is_some_false (first_due t.world) c.due in
     let same : u.world ≡ t.world = c.world ∙ nothing_due t.world none in
@@ -71,7 +71,7 @@ finishes s t u budget n r lt c =
     }
 
 -- as many replies were given as may be
-pub fills : (s t u : State) (budget n : ℕ) → Removes s n t → n < budget → (t.replies ≡ t.most) × (u ≡ t) → Fills s budget n u
+pub fills : (s t u : RunState) (budget n : ℕ) → Removes s n t → n < budget → (t.replies ≡ t.most) × (u ≡ t) → Fills s budget n u
 fills s t u budget n r lt (full, same) = rw same (record { removes = r; within = lt; full = full })
 
 -- a clean event tells whether it removed a version
@@ -82,6 +82,6 @@ clean_tells w v r is = by (first_due w) is where
   by (Some key) h = (ap (λ (p : Reply × World). is_removed p.0) (sym h), ap (λ (p : Reply × World). p.1) h)
 
 -- a stop ends the pass
-pub stopped : (s t u : State) (budget n : ℕ) (stop : Stop) → Removes s n t → n < budget → MayClean t (Err stop) u → MayPass s budget (Stopped stop n) u
+pub stopped : (s t u : RunState) (budget n : ℕ) (stop : Stop) → Removes s n t → n < budget → MayClean t (Err stop) u → MayPass s budget (Stopped stop n) u
 stopped s t u budget n HistoryFull r lt c = fills s t u budget n r lt c
 stopped s t u budget n NoMemory r lt c = absurd c

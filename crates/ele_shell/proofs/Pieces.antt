@@ -11,32 +11,32 @@ use Rattle.ele_script.specs.declared.fault.WriteFault.{WriteFault}
 use Rattle.ele_script.specs.Outlet.{Outlet, Takes, TakesFront}
 use Rattle.ele_script.proofs.Known.{takes_nil, takes_then, front_then}
 use Rattle.ele_shell.specs.Block.{IsBlock}
-use Rattle.ele_shell.specs.Kept.{kept, longest_line}
-use Rattle.ele_shell.specs.Lines.{IsUnbroken, ended, joined}
+use Rattle.ele_shell.specs.LineLength.{line_unless_long, longest_line}
+use Rattle.ele_shell.specs.Lines.{IsUnbroken, line_text, lines_text}
 use Rattle.ele_shell.specs.Output.{AreBlocks}
 use Rattle.ele_shell.specs.Piece.{Answers, AnswersAll, AnswersSome}
-use Rattle.ele_shell.specs.State.{State}
+use Rattle.ele_shell.specs.RunState.{RunState}
 use Rattle.ele_shell.specs.Written.{PutsBlock}
 use Rattle.ele_shell.proofs.Ran.{blocks_push, all_push, joined_push}
 
 -- these lines of a piece were answered, and so much of it is left; a line that began before is only the first
-pub record HasAnswered (before state : State) (part piece left : List ℕ) (buffer : Option (List ℕ)) (n count : ℕ) (old new : Outlet) : Type 0 where
+pub record HasAnswered (before state : RunState) (part piece left : List ℕ) (buffer : Option (List ℕ)) (n count : ℕ) (old new : Outlet) : Type 0 where
   pub lines : List (List ℕ)
   pub begun : List ℕ
   pub text : List ℕ
-  pub parts : part ++ piece ≡ joined lines ++ (begun ++ left)
+  pub parts : part ++ piece ≡ lines_text lines ++ (begun ++ left)
   pub whole : AllByRecursion IsUnbroken lines
   pub unbroken : IsUnbroken begun
   pub counted : n + length lines ≡ count
   pub few : length lines + length left ≤ length piece
   pub first : (begun ≡ []) ⊎ (lines ≡ [])
-  pub keeps : buffer ≡ kept begun
+  pub keeps : buffer ≡ line_unless_long begun
   pub blocks : AreBlocks before lines text state
   pub put : Takes old new text
 
 -- nothing was answered yet
-pub answered_none : (before : State) (part piece : List ℕ) (buffer : Option (List ℕ)) (n : ℕ) (old : Outlet)
-    → IsUnbroken part → buffer ≡ kept part → HasAnswered before before part piece piece buffer n n old old
+pub answered_none : (before : RunState) (part piece : List ℕ) (buffer : Option (List ℕ)) (n : ℕ) (old : Outlet)
+    → IsUnbroken part → buffer ≡ line_unless_long part → HasAnswered before before part piece piece buffer n n old old
 answered_none before part piece buffer n old whole keeps =
     record {
       lines = [];
@@ -71,7 +71,7 @@ all_of_two [] b h g = g
 all_of_two (x ∷ a) b h g = (h.0, all_of_two a b h.1 g)
 
 -- what is too long stays too long
-pub kept_more : (line bytes : List ℕ) → option_and_then (λ line. kept (line ++ bytes)) (kept line) ≡ kept (line ++ bytes)
+pub kept_more : (line bytes : List ℕ) → option_and_then (λ line. line_unless_long (line ++ bytes)) (line_unless_long line) ≡ line_unless_long (line ++ bytes)
 kept_more line bytes =
     elim (leb_tells (length line) longest_line) [
       | inl fits ↦ rw fits.0 refl
@@ -86,17 +86,17 @@ cut_at left at h =
     sym (take-append-drop at left)
     ∙ ap (λ (w : List ℕ). take at left ++ w) (drop_more left at 0 h.0.high ∙ ap (λ (b : ℕ). b ∷ drop (at + 1) left) (eqb-true (get_or left at 0) 10 h.1))
 
-line_parts : (begun line behind : List ℕ) → begun ++ (line ++ 10 ∷ behind) ≡ ended (begun ++ line) ++ behind
+line_parts : (begun line behind : List ℕ) → begun ++ (line ++ 10 ∷ behind) ≡ line_text (begun ++ line) ++ behind
 line_parts begun line behind = sym (append_assoc begun line (10 ∷ behind)) ∙ sym (append_assoc (begun ++ line) (10 ∷ []) behind)
 
-module _ {before between : State} {part piece left : List ℕ} {buffer : Option (List ℕ)} {n count : ℕ} {old mid : Outlet} (done : HasAnswered before between part piece left buffer n count old mid) where
+module _ {before between : RunState} {part piece left : List ℕ} {buffer : Option (List ℕ)} {n count : ℕ} {old mid : Outlet} (done : HasAnswered before between part piece left buffer n count old mid) where
   -- where the next line feed stands
-  parts_at : (at : ℕ) → IsFirstByte (is_byte 10) left (Some at) → part ++ piece ≡ joined (done.lines ++ (done.begun ++ take at left) ∷ []) ++ drop (at + 1) left
+  parts_at : (at : ℕ) → IsFirstByte (is_byte 10) left (Some at) → part ++ piece ≡ lines_text (done.lines ++ (done.begun ++ take at left) ∷ []) ++ drop (at + 1) left
   parts_at at h =
       let line = done.begun ++ take at left in
-      done.parts ∙ ap (λ (w : List ℕ). joined done.lines ++ (done.begun ++ w)) (cut_at left at h)
-      ∙ ap (λ (w : List ℕ). joined done.lines ++ w) (line_parts done.begun (take at left) (drop (at + 1) left))
-      ∙ sym (append_assoc (joined done.lines) (ended line) (drop (at + 1) left))
+      done.parts ∙ ap (λ (w : List ℕ). lines_text done.lines ++ (done.begun ++ w)) (cut_at left at h)
+      ∙ ap (λ (w : List ℕ). lines_text done.lines ++ w) (line_parts done.begun (take at left) (drop (at + 1) left))
+      ∙ sym (append_assoc (lines_text done.lines) (line_text line) (drop (at + 1) left))
       ∙ ap (λ (w : List ℕ). w ++ drop (at + 1) left) (sym (joined_push done.lines line))
 
   whole_at : (at : ℕ) → IsFirstByte (is_byte 10) left (Some at) → AllByRecursion IsUnbroken (done.lines ++ (done.begun ++ take at left) ∷ [])
@@ -104,17 +104,17 @@ module _ {before between : State} {part piece left : List ℕ} {buffer : Option 
       all_push IsUnbroken done.lines (done.begun ++ take at left) done.whole
       (all_of_two done.begun (take at left) done.unbroken (unbroken_before left at (λ k lt is. h.0.before k (omega arith) lt is)))
 
-  block_at : {A E : Type 0} (at : ℕ) (line : List ℕ) (after : State) (new : Outlet) (r : Result A E) → line ≡ take at left
-      → (wrote : PutsBlock between (option_and_then (λ l. kept (l ++ line)) buffer) after mid new r) → IsBlock between (kept (done.begun ++ take at left)) wrote.block after
+  block_at : {A E : Type 0} (at : ℕ) (line : List ℕ) (after : RunState) (new : Outlet) (r : Result A E) → line ≡ take at left
+      → (wrote : PutsBlock between (option_and_then (λ l. line_unless_long (l ++ line)) buffer) after mid new r) → IsBlock between (line_unless_long (done.begun ++ take at left)) wrote.block after
   block_at at line after new r e wrote =
       subst (λ (l : Option (List ℕ)). IsBlock between l wrote.block after)
-      (ap (λ (l : List ℕ). option_and_then (λ (b : List ℕ). kept (b ++ l)) buffer) e ∙ ap (option_and_then (λ (b : List ℕ). kept (b ++ take at left))) done.keeps ∙ kept_more done.begun (take at left))
+      (ap (λ (l : List ℕ). option_and_then (λ (b : List ℕ). line_unless_long (b ++ l)) buffer) e ∙ ap (option_and_then (λ (b : List ℕ). line_unless_long (b ++ take at left))) done.keeps ∙ kept_more done.begun (take at left))
       wrote.is
 
   -- one line more is answered
-  pub answered_more : {A E : Type 0} {after : State} {new : Outlet} {buffer' : Option (List ℕ)} (at : ℕ) (line left' : List ℕ) (r : Result A E) → IsFirstByte (is_byte 10) left (Some at)
+  pub answered_more : {A E : Type 0} {after : RunState} {new : Outlet} {buffer' : Option (List ℕ)} (at : ℕ) (line left' : List ℕ) (r : Result A E) → IsFirstByte (is_byte 10) left (Some at)
       → line ≡ take at left → left' ≡ drop (at + 1) left
-      → (wrote : PutsBlock between (option_and_then (λ l. kept (l ++ line)) buffer) after mid new r) → Takes mid new wrote.block → buffer' ≡ Some []
+      → (wrote : PutsBlock between (option_and_then (λ l. line_unless_long (l ++ line)) buffer) after mid new r) → Takes mid new wrote.block → buffer' ≡ Some []
       → HasAnswered before after part piece left' buffer' n (count + 1) old new
   answered_more {A} {E} {after} {new} {buffer'} at line left' r h e f wrote put begun =
       let is = block_at at line after new r e wrote in
@@ -122,7 +122,7 @@ module _ {before between : State} {part piece left : List ℕ} {buffer : Option 
         lines = done.lines ++ (done.begun ++ take at left) ∷ [];
         begun = [];
         text = done.text ++ wrote.block;
-        parts = parts_at at h ∙ ap (λ (w : List ℕ). joined (done.lines ++ (done.begun ++ take at left) ∷ []) ++ w) (sym f);
+        parts = parts_at at h ∙ ap (λ (w : List ℕ). lines_text (done.lines ++ (done.begun ++ take at left) ∷ []) ++ w) (sym f);
         whole = whole_at at h;
         unbroken = tt;
         counted = omega (arith, done.counted, length-append done.lines ((done.begun ++ take at left) ∷ []));
@@ -134,8 +134,8 @@ module _ {before between : State} {part piece left : List ℕ} {buffer : Option 
       }
 
   -- the writer failed in the block of one line more
-  pub answered_some : {A E : Type 0} {after : State} {new : Outlet} (at : ℕ) (line : List ℕ) (r : Result A E) → IsFirstByte (is_byte 10) left (Some at)
-      → line ≡ take at left → (wrote : PutsBlock between (option_and_then (λ l. kept (l ++ line)) buffer) after mid new r) → TakesFront mid new wrote.block → AnswersSome before after part piece old new
+  pub answered_some : {A E : Type 0} {after : RunState} {new : Outlet} (at : ℕ) (line : List ℕ) (r : Result A E) → IsFirstByte (is_byte 10) left (Some at)
+      → line ≡ take at left → (wrote : PutsBlock between (option_and_then (λ l. line_unless_long (l ++ line)) buffer) after mid new r) → TakesFront mid new wrote.block → AnswersSome before after part piece old new
   answered_some {A} {E} {after} {new} at line r h e wrote put =
       let is = block_at at line after new r e wrote in
       record {
@@ -149,7 +149,7 @@ module _ {before between : State} {part piece left : List ℕ} {buffer : Option 
       }
 
   -- no line feed is left
-  pub answered_all : {buffer' : Option (List ℕ)} → IsFirstByte (is_byte 10) left None → buffer' ≡ option_and_then (λ l. kept (l ++ left)) buffer
+  pub answered_all : {buffer' : Option (List ℕ)} → IsFirstByte (is_byte 10) left None → buffer' ≡ option_and_then (λ l. line_unless_long (l ++ left)) buffer
       → AnswersAll before between part piece buffer' n count old mid
   answered_all {buffer'} h pushed =
       record {
@@ -159,7 +159,7 @@ module _ {before between : State} {part piece left : List ℕ} {buffer : Option 
         are = record { parts = done.parts; whole = done.whole; cut = all_of_two done.begun left done.unbroken (none_found left h) };
         counted = done.counted;
         few = few_of done.begun done.first;
-        keeps = pushed ∙ ap (option_and_then (λ (b : List ℕ). kept (b ++ left))) done.keeps ∙ kept_more done.begun left;
+        keeps = pushed ∙ ap (option_and_then (λ (b : List ℕ). line_unless_long (b ++ left))) done.keeps ∙ kept_more done.begun left;
         blocks = done.blocks;
         put = done.put;
       }
@@ -169,7 +169,7 @@ module _ {before between : State} {part piece left : List ℕ} {buffer : Option 
       few_of begun (inr e) = inr e
 
 -- an error is the writer's
-pub answers_err : (before after : State) (part piece : List ℕ) (buffer : Option (List ℕ)) (n : ℕ) (old new : Outlet) (r : Result ℕ WriteFault)
+pub answers_err : (before after : RunState) (part piece : List ℕ) (buffer : Option (List ℕ)) (n : ℕ) (old new : Outlet) (r : Result ℕ WriteFault)
     → IsErr r → AnswersSome before after part piece old new → Answers before after part piece buffer n old new r
 answers_err before after part piece buffer n old new (Ok x) is h = absurd cc
 answers_err before after part piece buffer n old new (Err x) is h = h

@@ -9,15 +9,15 @@ use Rattle.ele_script.specs.Outlet.{outlet, Takes}
 use Rattle.ele_script.proofs.Known.{takes_nil, takes_then, takes_over}
 use Rattle.ele_shell.specs.Block.{IsBlock}
 use Rattle.ele_shell.specs.Bounds.{most_lines, most_bytes}
-use Rattle.ele_shell.specs.Kept.{kept}
-use Rattle.ele_shell.specs.Lines.{AreLines, ended, joined, line_count}
+use Rattle.ele_shell.specs.LineLength.{line_unless_long}
+use Rattle.ele_shell.specs.Lines.{AreLines, line_text, lines_text, line_count}
 use Rattle.ele_shell.specs.Output.{AreBlocks}
 use Rattle.ele_shell.specs.Piece.{AnswersAll}
-use Rattle.ele_shell.specs.State.{State}
-use Rattle.ele_shell.proofs.EveryInput.{lines_before, blocks_append}
+use Rattle.ele_shell.specs.RunState.{RunState}
+use Rattle.ele_shell.proofs.Joins.{lines_before, blocks_append}
 
 -- n whole lines were read and a part of one more, and their blocks put, up to this state; there is room for so many bytes more
-pub record HasRun (start : State) (n : ℕ) (state : State) (room : ℕ) (buffer input rest old new : Option (List ℕ)) (held : List ℕ) : Type 0 where
+pub record HasRun (start : RunState) (n : ℕ) (state : RunState) (room : ℕ) (buffer input rest old new : Option (List ℕ)) (held : List ℕ) : Type 0 where
   pub given : List ℕ
   pub lines : List (List ℕ)
   pub part : List ℕ
@@ -27,13 +27,13 @@ pub record HasRun (start : State) (n : ℕ) (state : State) (room : ℕ) (buffer
   pub few : line_count lines part ≤ most_lines
   pub within : n ≤ most_lines
   pub size : length given + room ≡ most_bytes
-  pub keeps : buffer ≡ kept part
+  pub keeps : buffer ≡ line_unless_long part
   pub blocks : AreBlocks start lines text state
   pub taken : Consumes input rest given
   pub put : Takes (outlet old []) (outlet new held) text
 
 -- a run that begins
-pub has_run_none : (start : State) (buffer input old : Option (List ℕ)) (held : List ℕ) → buffer ≡ Some [] → held ≡ []
+pub has_run_none : (start : RunState) (buffer input old : Option (List ℕ)) (held : List ℕ) → buffer ≡ Some [] → held ≡ []
     → HasRun start 0 start most_bytes buffer input input old old held
 has_run_none start buffer input old held clear none =
     record {
@@ -53,10 +53,10 @@ has_run_none start buffer input old held clear none =
     }
 
 -- the blocks of some lines, and then that of one more
-pub blocks_push : (start between after : State) (lines : List (List ℕ)) (line text block : List ℕ)
-    → AreBlocks start lines text between → IsBlock between (kept line) block after → AreBlocks start (lines ++ line ∷ []) (text ++ block) after
+pub blocks_push : (start between after : RunState) (lines : List (List ℕ)) (line text block : List ℕ)
+    → AreBlocks start lines text between → IsBlock between (line_unless_long line) block after → AreBlocks start (lines ++ line ∷ []) (text ++ block) after
 blocks_push start between after [] line text block are is =
-    let from_start : IsBlock start (kept line) block after = subst (λ (s : State). IsBlock s (kept line) block after) are.1 is in
+    let from_start : IsBlock start (line_unless_long line) block after = subst (λ (s : RunState). IsBlock s (line_unless_long line) block after) are.1 is in
     (block, [], after, from_start, (refl, refl), ap (λ (t : List ℕ). t ++ block) are.0 ∙ sym (append-nil block))
 blocks_push start between after (first ∷ lines) line text block (own, rest, mid, is_first, more, parts) is = (
   own,
@@ -71,11 +71,11 @@ pub all_push : (P : List ℕ → Type 0) (lines : List (List ℕ)) (line : List 
 all_push P [] line all one = (one, tt)
 all_push P (first ∷ lines) line all one = (all.0, all_push P lines line all.1 one)
 
-pub joined_push : (lines : List (List ℕ)) (line : List ℕ) → joined (lines ++ line ∷ []) ≡ joined lines ++ ended line
-joined_push lines line = flat_map-append ended lines (line ∷ []) ∙ ap (λ (xs : List ℕ). joined lines ++ xs) (flat_map-cons ended line [] ∙ append-nil (ended line))
+pub joined_push : (lines : List (List ℕ)) (line : List ℕ) → lines_text (lines ++ line ∷ []) ≡ lines_text lines ++ line_text line
+joined_push lines line = flat_map-append line_text lines (line ∷ []) ∙ ap (λ (xs : List ℕ). lines_text lines ++ xs) (flat_map-cons line_text line [] ∙ append-nil (line_text line))
 
 -- what is held is handed over
-pub has_run_over : {start state : State} {n room : ℕ} {buffer input rest old known new : Option (List ℕ)} {held left : List ℕ}
+pub has_run_over : {start state : RunState} {n room : ℕ} {buffer input rest old known new : Option (List ℕ)} {held left : List ℕ}
     → HasRun start n state room buffer input rest old known held → left ≡ [] → Appends known new held → HasRun start n state room buffer input rest old new left
 has_run_over {start} {state} {n} {room} {buffer} {input} {rest} {old} {known} {new} {held} {left} ran none over =
     record {
@@ -99,7 +99,7 @@ has_run_over {start} {state} {n} {room} {buffer} {input} {rest} {old} {known} {n
     }
 
 -- then all that was put is written
-pub written_all : {start state : State} {n room : ℕ} {buffer input rest old new : Option (List ℕ)} {held : List ℕ}
+pub written_all : {start state : RunState} {n room : ℕ} {buffer input rest old new : Option (List ℕ)} {held : List ℕ}
     → (ran : HasRun start n state room buffer input rest old new held) → held ≡ [] → Appends old new ran.text
 written_all {start} {state} {n} {room} {buffer} {input} {rest} {old} {new} {held} ran none =
     takes_over old new new held ran.text ran.put (rw none (Appends-nil new))
@@ -121,7 +121,7 @@ few_whole lines [] few = few
 few_whole lines (b ∷ bs) few = omega (arith, few)
 
 -- a piece more is read and answered
-pub has_run_on : {start between after : State} {n ended room left : ℕ} {buffer buffer' input mid rest old so_far new : Option (List ℕ)} {held held' piece : List ℕ}
+pub has_run_on : {start between after : RunState} {n ended room left : ℕ} {buffer buffer' input mid rest old so_far new : Option (List ℕ)} {held held' piece : List ℕ}
     → (ran : HasRun start n between room buffer input mid old so_far held) → n + length piece ≤ most_lines → 1 ≤ length piece → length piece + left ≡ room
     → Consumes mid rest piece → AnswersAll between after ran.part piece buffer' n ended (outlet so_far held) (outlet new held')
     → HasRun start ended after left buffer' input rest old new held'
@@ -133,7 +133,7 @@ has_run_on {start} {between} {after} {n} {ended} {room} {left} {buffer} {buffer'
       part = did.last;
       text = ran.text ++ did.text;
       are = lines_before (ran.given ++ piece) (ran.part ++ piece) ran.lines did.lines did.last
-          (ap (λ (w : List ℕ). w ++ piece) ran.are.parts ∙ append_assoc (joined ran.lines) ran.part piece) ran.are.whole did.are;
+          (ap (λ (w : List ℕ). w ++ piece) ran.are.parts ∙ append_assoc (lines_text ran.lines) ran.part piece) ran.are.whole did.are;
       count = omega (arith, ran.count, did.counted, length-append ran.lines did.lines);
       few = few;
       within = omega (arith, few_whole (ran.lines ++ did.lines) did.last few, ran.count, did.counted, length-append ran.lines did.lines);

@@ -2,12 +2,12 @@ pub mod Block
 pub mod Bounds
 pub mod Clean
 pub mod Fault
-pub mod Kept
+pub mod LineLength
 pub mod Lines
 pub mod Output
 pub mod Pass
 pub mod Piece
 pub mod Running
-pub mod State
+pub mod RunState
 pub mod Taken
 pub mod Written

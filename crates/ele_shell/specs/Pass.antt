@@ -5,17 +5,17 @@ use Rattle.ele_world.specs.declared.pass.PassEnd.TheVariants.{Finished, Budget, 
 use Rattle.ele_world.specs.declared.refusal.Stop.TheVariants.{NoMemory, HistoryFull}
 use Rattle.ele_world.specs.Pass.{IsCleaned}
 use Rattle.ele_world.specs.Run.{IsPass}
-use Rattle.ele_shell.specs.State.{State}
+use Rattle.ele_shell.specs.RunState.{RunState}
 
 -- so many clean events were answered, each while fewer replies were given than may be, and each removed a version
-pub record Removes (before : State) (removed : ℕ) (after : State) : Type 0 where
+pub record Removes (before : RunState) (removed : ℕ) (after : RunState) : Type 0 where
   pub cleaned : IsCleaned before.world removed after.world
   pub below : (k : ℕ) → k < removed → before.replies + k < before.most
   pub replies : after.replies ≡ before.replies + removed
   pub most : after.most ≡ before.most
 
 -- so many were removed, fewer than the budget, and one more clean event was answered, that nothing is due
-pub record Finishes (before : State) (budget removed : ℕ) (after : State) : Type 0 where
+pub record Finishes (before : RunState) (budget removed : ℕ) (after : RunState) : Type 0 where
   pub pass : IsPass before.world removed after.world
   pub within : removed < budget
   pub below : before.replies + removed < before.most
@@ -23,13 +23,13 @@ pub record Finishes (before : State) (budget removed : ℕ) (after : State) : Ty
   pub most : after.most ≡ before.most
 
 -- so many were removed, fewer than the budget, and then as many replies were given as may be
-pub record Fills (before : State) (budget removed : ℕ) (after : State) : Type 0 where
+pub record Fills (before : RunState) (budget removed : ℕ) (after : RunState) : Type 0 where
   pub removes : Removes before removed after
   pub within : removed < budget
   pub full : after.replies ≡ after.most
 
 -- how a pass with a budget may end; a clean takes no memory, so only a full history stops a pass
-abbrev pub MayPass : State → ℕ → PassEnd → State → Type 0
+abbrev pub MayPass : RunState → ℕ → PassEnd → RunState → Type 0
 MayPass before budget (Finished removed) after = Finishes before budget removed after
 MayPass before budget (Budget removed) after = (removed ≡ budget) × Removes before removed after
 MayPass before budget (Stopped HistoryFull removed) after = Fills before budget removed after

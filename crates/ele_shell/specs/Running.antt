@@ -1,16 +1,19 @@
 -- What a run has read and written when it ends.
 use Rattle.std.specs.Prelude.{◌≡◌, ℕ, ◌≤◌, List, [], ◌∷◌, ◌++◌, length, Option, Some, Result, Ok, Err, ◌⊎◌}
+use Rattle.std.specs.List.{AllByRecursion}
 use Rattle.std.specs.Io.KnownBytes.{Appends, Consumes, Keeps, IsAtEnd}
 use Rattle.ele_script.specs.Front.{AppendsFront}
 use Rattle.ele_shell.specs.declared.fault.ShellFault.{ShellFault}
 use Rattle.ele_shell.specs.declared.fault.ShellFault.TheVariants.{ReadFault, WriteFault, TooManyLines, NoMemory}
+use Rattle.ele_shell.specs.Block.{cut_block}
 use Rattle.ele_shell.specs.Bounds.{most_lines, most_bytes}
-use Rattle.ele_shell.specs.Lines.{AreLines, line_count}
+use Rattle.ele_shell.specs.LineLength.{line_unless_long}
+use Rattle.ele_shell.specs.Lines.{IsUnbroken, AreLines, lines_text, line_count}
 use Rattle.ele_shell.specs.Output.{AreBlocks, IsOutput}
-use Rattle.ele_shell.specs.State.{State}
+use Rattle.ele_shell.specs.RunState.{RunState}
 
 -- all input was read, n lines within the bounds, and an output of these written
-pub record RanToTheEnd (start : State) (n : ℕ) (input rest old new : Option (List ℕ)) : Type 0 where
+pub record RanToTheEnd (start : RunState) (n : ℕ) (input rest old new : Option (List ℕ)) : Type 0 where
   pub given : List ℕ
   pub lines : List (List ℕ)
   pub last : List ℕ
@@ -25,12 +28,12 @@ pub record RanToTheEnd (start : State) (n : ℕ) (input rest old new : Option (L
   pub written : Appends old new text
 
 -- whole lines were read, and bytes of one more, all within the bounds; the blocks of the whole lines were written
-pub record RanToAReadFault (start : State) (input rest old new : Option (List ℕ)) : Type 0 where
+pub record RanToAReadFault (start : RunState) (input rest old new : Option (List ℕ)) : Type 0 where
   pub given : List ℕ
   pub lines : List (List ℕ)
   pub part : List ℕ
   pub text : List ℕ
-  pub state : State
+  pub state : RunState
   pub taken : Consumes input rest given
   pub are : AreLines given lines part
   pub few_lines : length lines ≤ most_lines
@@ -43,13 +46,13 @@ abbrev pub AreMost : List ℕ → List (List ℕ) → List ℕ → Type 0
 AreMost given lines part = ((length lines ≡ most_lines) × (part ≡ [])) ⊎ (length given ≡ most_bytes)
 
 -- as much as a script may be was read, and a byte more; the blocks of the whole lines within it were written
-pub record RanPastABound (start : State) (input rest old new : Option (List ℕ)) : Type 0 where
+pub record RanPastABound (start : RunState) (input rest old new : Option (List ℕ)) : Type 0 where
   pub given : List ℕ
   pub byte : ℕ
   pub lines : List (List ℕ)
   pub part : List ℕ
   pub text : List ℕ
-  pub state : State
+  pub state : RunState
   pub taken : Consumes input rest (given ++ byte ∷ [])
   pub are : AreLines given lines part
   pub few_lines : length lines ≤ most_lines
@@ -58,19 +61,20 @@ pub record RanPastABound (start : State) (input rest old new : Option (List ℕ)
   pub blocks : AreBlocks start lines text state
   pub written : Appends old new text
 
--- a front of an output of the input was written
-pub record RanToAWriteFault (start : State) (input old new : Option (List ℕ)) : Type 0 where
-  pub all : List ℕ
+-- the input begins with these whole lines, and a front of their blocks was written; where the rest is a last line
+-- without its line feed, the front may reach into its block
+pub record RanToAWriteFault (start : RunState) (input old new : Option (List ℕ)) : Type 0 where
   pub lines : List (List ℕ)
-  pub last : List ℕ
+  pub rest : List ℕ
   pub text : List ℕ
-  pub input_is : Keeps input (Some all)
-  pub are : AreLines all lines last
-  pub output : IsOutput start lines last text
-  pub written : AppendsFront old new text
+  pub state : RunState
+  pub input_is : Keeps input (Some (lines_text lines ++ rest))
+  pub whole : AllByRecursion IsUnbroken lines
+  pub blocks : AreBlocks start lines text state
+  pub written : AppendsFront old new text ⊎ (IsUnbroken rest × AppendsFront old new (text ++ cut_block (line_unless_long rest)))
 
 -- what a run has done, by how it ends
-abbrev pub Runs : State → Option (List ℕ) → Option (List ℕ) → Option (List ℕ) → Option (List ℕ) → Result ℕ ShellFault → Type 0
+abbrev pub Runs : RunState → Option (List ℕ) → Option (List ℕ) → Option (List ℕ) → Option (List ℕ) → Result ℕ ShellFault → Type 0
 Runs start input rest old new (Ok n) = RanToTheEnd start n input rest old new
 Runs start input rest old new (Err ReadFault) = RanToAReadFault start input rest old new
 Runs start input rest old new (Err TooManyLines) = RanPastABound start input rest old new

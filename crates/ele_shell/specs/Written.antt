@@ -5,7 +5,7 @@ use Rattle.ele_script.specs.Front.{AppendsFront}
 use Rattle.ele_script.specs.Outlet.{Outlet, Puts}
 use Rattle.ele_shell.specs.declared.answer.Answer.{Answer}
 use Rattle.ele_shell.specs.Block.{IsBlock, IsText, cut_block, cut_count}
-use Rattle.ele_shell.specs.State.{State}
+use Rattle.ele_shell.specs.RunState.{RunState}
 
 -- the answer's text was put, or at an error a front of all that was to be written was taken
 pub record PutsText {A E : Type 0} (said : Answer) (old new : Outlet) (result : Result A E) : Type 0 where
@@ -14,7 +14,7 @@ pub record PutsText {A E : Type 0} (said : Answer) (old new : Outlet) (result : 
   pub put : Puts old new text result
 
 -- the line's block was put, or at an error a front of all that was to be written was taken
-pub record PutsBlock {A E : Type 0} (before : State) (line : Option (List ℕ)) (after : State) (old new : Outlet) (result : Result A E) : Type 0 where
+pub record PutsBlock {A E : Type 0} (before : RunState) (line : Option (List ℕ)) (after : RunState) (old new : Outlet) (result : Result A E) : Type 0 where
   pub block : List ℕ
   pub is : IsBlock before line block after
   pub put : Puts old new block result

@@ -1,7 +1,7 @@
 //! The keeper of a run: the core, and how many replies it gave.
 //! A contract sees the world, the count of replies and its limit.
 ghost use Rattle.std.specs.Prelude.{◌≡◌, IfOk};
-ghost use Rattle.ele_shell.specs.State.{fresh};
+ghost use Rattle.ele_shell.specs.RunState.{fresh};
 ghost use Rattle.ele_shell.specs.Block.{MayReply, MayAnswer};
 ghost use Rattle.ele_shell.specs.Clean.{is_removed, MayClean};
 ghost use Rattle.ele_shell.specs.Pass.{MayPass};
@@ -25,9 +25,9 @@ pub(crate) struct Keeper {
 
 impl Model for Keeper {
     ghost use Rattle.std.specs.Prelude.{◌≤◌};
-    ghost use Rattle.ele_shell.specs.State.{State};
+    ghost use Rattle.ele_shell.specs.RunState.{RunState};
 
-    ghost Value = { State };
+    ghost Value = { RunState };
 
     ghost view = { λ k. record { world = k.core.world; replies = k.replies; most = k.most } };
 

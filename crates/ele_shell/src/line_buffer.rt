@@ -2,7 +2,7 @@
 //! A contract sees it as `Some` of its bytes, or as `None` where it is too long to be kept.
 ghost use Rattle.std.specs.Prelude.{◌≡◌, ◌↔◌, ◌++◌, [], IsTrue, Some};
 ghost use Rattle.std.specs.Option.{option_map, option_and_then};
-ghost use Rattle.ele_shell.specs.Kept.{kept};
+ghost use Rattle.ele_shell.specs.LineLength.{line_unless_long};
 
 use arrayvec::ArrayVec;
 use std::marker::Model;
@@ -46,7 +46,7 @@ impl LineBuffer {
 
     /// Puts bytes at the end.
     pub(crate) fn extend(&mut self, bytes: &[u8])
-        ensures { self.new ≡ option_and_then (λ line. kept (line ++ bytes.now)) self.old }
+        ensures { self.new ≡ option_and_then (λ line. line_unless_long (line ++ bytes.now)) self.old }
     {
         if self.bytes.try_extend_from_slice(bytes).is_err() {
             self.is_too_long = true;
@@ -73,7 +73,7 @@ impl LineBuffer {
 
 /// The line, unless it is too long.
 pub(crate) fn kept_line(line: &[u8]) -> Option<&[u8]>
-    ensures { option_map (λ line. line.now) result ≡ kept line.now }
+    ensures { option_map (λ line. line.now) result ≡ line_unless_long line.now }
 {
     if line.len() > LONGEST_LINE {
         return None;

@@ -5,7 +5,7 @@ ghost use Rattle.std.specs.Option.{option_map, option_and_then};
 ghost use Rattle.memchr.specs.Find.{IsFirstByte, is_byte};
 ghost use Rattle.ele_script.specs.Outlet.{outlet, Puts};
 ghost use Rattle.ele_shell.specs.Block.{cut_block, cut_count};
-ghost use Rattle.ele_shell.specs.Kept.{kept};
+ghost use Rattle.ele_shell.specs.LineLength.{line_unless_long};
 ghost use Rattle.ele_shell.specs.Piece.{AnswersPiece};
 ghost use Rattle.ele_shell.specs.Written.{PutsBlock, Finishes};
 
@@ -43,7 +43,7 @@ fn put_whole<W: Write>(
     writer: &mut W,
 ) -> Result<(), WriteFault>
     ensures block { PutsBlock keeper.old
-        (option_and_then (λ line. kept (line ++ end.now)) buffer.old) keeper.new
+        (option_and_then (λ line. line_unless_long (line ++ end.now)) buffer.old) keeper.new
         (outlet (W.contents writer.old) output.old)
         (outlet (W.contents writer.new) output.new) result }
     ensures begun { OnOk result (buffer.new ≡ Some []) }

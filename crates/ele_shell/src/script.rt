@@ -1,7 +1,7 @@
 //! The run of a script, piece by piece.
 //! A contract sees the lines that the reader gives, and their output at the writer.
 ghost use Rattle.std.specs.Prelude.{◌≡◌, ◌≤◌, ◌-◌, min, IfOk, IsErrOf, length};
-ghost use Rattle.ele_shell.specs.State.{fresh};
+ghost use Rattle.ele_shell.specs.RunState.{fresh};
 ghost use Rattle.ele_shell.specs.Running.{Runs, RanToTheEnd, RanToAReadFault, RanPastABound, RanToAWriteFault};
 
 use crate::fault::ShellFault;

@@ -1,5 +1,5 @@
 -- The first key of the scan is that of a due row.
-use Rattle.std.proofs.Common.{◌≡◌, ℕ, Bool, true, false, cond, List, [], ◌∷◌, Option, Some, None, refl}
+use Rattle.std.proofs.Common.{◌≡◌, ℕ, Bool, true, false, cond, List, [], ◌∷◌, Option, Some, None, refl, ap, ◌∙◌}
 use Rattle.std.specs.Prelude.{find, is_none, slice_get, fold}
 use Rattle.std.specs.declared.cmp.Ordering.{Ordering}
 use Rattle.std.specs.declared.cmp.Ordering.TheVariants.{Less, Equal, Greater}
@@ -23,6 +23,7 @@ pub record IsDueKey (w : World) (key : Key) : Type 0 where
   pub row : VersionRow
   pub found : find (is_version key.file key.number) w.versions ≡ Some row
   pub due : is_due_at w row w.now ≡ true
+  pub ripe : ripe_of w row ≡ Some key.ripe
 
 pub all-filter_map : {X Y : Type 0} (P : X → Type 0) (Q : Y → Type 0) (h : X → Option Y) → ((x : X) (y : Y) → P x → h x ≡ Some y → Q y) → (xs : List X) → AllByRecursion P xs → AllByRecursion Q (filter_map h xs)
 all-filter_map P Q h gives [] all = tt
@@ -48,7 +49,7 @@ unfolding due_key
 key_due w row key found h = by (is_due_at w row w.now) refl (ripe_of w row) refl h where
   by : (b : Bool) → is_due_at w row w.now ≡ b → (o : Option ℕ) → ripe_of w row ≡ o → cond b (option_map (key_of row) o) None ≡ Some key → IsDueKey w key
   by true due None r h = absurd cc
-  by true due (Some ripe) r h = let file : row.file ≡ key.file = cc in let number : row.number ≡ key.number = cc in record { row = row; found = rw (← file, ← number) found; due = due }
+  by true due (Some ripe) r h = let file : row.file ≡ key.file = cc in let number : row.number ≡ key.number = cc in let moment : ripe ≡ key.ripe = cc in record { row = row; found = rw (← file, ← number) found; due = due; ripe = r ∙ ap (λ m. Some m) moment }
   by false due o r h = absurd cc
 
 -- the keys of the scan

@@ -14,7 +14,7 @@ use Rattle.ele_policy.specs.declared.policy.Policy.{Policy}
 use Rattle.ele_world.specs.Change.{governed_by, after_change, Time, Govern, MakeFile}
 use Rattle.ele_world.specs.Walk.{live_target, is_live_name}
 use Rattle.ele_policy.specs.Policy.{IsPolicy}
-use Rattle.ele_world.specs.WellFormed.{IsFile, IsName, AreApart, IsVersion, ArePlaced, IsDraft, is_current, HaveCurrent, Part, Now, Counted, Directories, Files, Names, Versions, Drafts, Current, Holds, IsWellFormed}
+use Rattle.ele_world.specs.WellFormed.{IsFile, IsNameRow, AreApart, IsVersion, ArePlaced, IsDraft, is_current, HaveCurrent, Part, Now, Counted, Directories, Files, Names, Versions, Drafts, Current, Holds, IsWellFormed}
 use Rattle.ele_world.specs.World.{World, root, is_directory, next_of, is_live, is_live_name_of, is_target_file}
 use Rattle.ele_world.specs.declared.rows.DraftRow.{DraftRow}
 use Rattle.ele_world.specs.declared.rows.FileRow.{FileRow}
@@ -28,7 +28,7 @@ use Rattle.ele_world.proofs.Writers.{written_more}
 
 -- ---- the clock
 
-name_later : (files : List FileRow) (now to : ℕ) (row : NameRow) → now ≤ to → IsName files now row → IsName files to row
+name_later : (files : List FileRow) (now to : ℕ) (row : NameRow) → now ≤ to → IsNameRow files now row → IsNameRow files to row
 name_later files now to row le h = record { there = h.there; born = omega (arith, h.born); dead = by row.death h.dead } where
   by : (o : Option ℕ) → IfSome o (λ death. (row.birth ≤ death) × (death ≤ now)) → IfSome o (λ death. (row.birth ≤ death) × (death ≤ to))
   by None h = tt
@@ -47,7 +47,7 @@ pub time_keeps : (w : World) (to : ℕ) → to ≤ last_moment → w.now ≤ to 
 time_keeps w to fits le k = record { holds = by } where
   by : (part : Part) → Holds (after_change w (Time to)) part
   by Now = fits
-  by Names = record { each = all-weaker (IsName w.files w.now) (IsName w.files to) w.names (λ row h. name_later w.files w.now to row le h) (k.holds Names).each; lives = (k.holds Names).lives }
+  by Names = record { each = all-weaker (IsNameRow w.files w.now) (IsNameRow w.files to) w.names (λ row h. name_later w.files w.now to row le h) (k.holds Names).each; lives = (k.holds Names).lives }
   by Versions = record { each = all-weaker (IsVersion w.files w.now) (IsVersion w.files to) w.versions (λ row h. version_later w.files w.now to row le h) (k.holds Versions).each; placed = (k.holds Versions).placed }
   by Drafts = record { each = all-weaker (IsDraft w.files w.now) (IsDraft w.files to) w.drafts (λ row h. draft_later w.files w.now to row le h) (k.holds Drafts).each; placed = (k.holds Drafts).placed }
   by part = k.holds part
@@ -66,7 +66,7 @@ govern_keeps w directory policy is k = record { holds = by } where
 -- ---- a file is made
 
 -- a name that isn't live has died
-dead_name : (files : List FileRow) (now directory : ℕ) (name : List ℕ) (x y : NameRow) → is_live_name directory name x ≡ false → IsName files now x → y.directory ≡ directory → y.name ≡ name → y.birth ≡ now → AreApart x y
+dead_name : (files : List FileRow) (now directory : ℕ) (name : List ℕ) (x y : NameRow) → is_live_name directory name x ≡ false → IsNameRow files now x → y.directory ≡ directory → y.name ≡ name → y.birth ≡ now → AreApart x y
 dead_name files now directory name x y dead is same_directory same_name birth = λ d n. by x.death (d ∙ same_directory) (n ∙ same_name) refl where
   by : (o : Option ℕ) → x.directory ≡ directory → x.name ≡ name → x.death ≡ o → (death : ℕ) × (x.death ≡ Some death) × (death ≤ y.birth)
   by None d n e =
@@ -80,6 +80,13 @@ no_live w directory name h = all-not_found (is_live_name directory name) w.names
   by : (o : Option NameRow) → is_some (option_map (λ (row : NameRow). row.target) o) ≡ false → o ≡ None
   by None h = refl
   by (Some row) h = absurd (false≢true (sym h))
+
+-- each row of a name that isn't live is over when the name is born again
+pub apart_from_new : (w : World) (directory : ℕ) (name : List ℕ) (named : NameRow) → IsWellFormed w → is_some (live_target w.names directory name) ≡ false
+    → named.directory ≡ directory → named.name ≡ name → named.birth ≡ w.now → AllByRecursion (λ row. AreApart row named) w.names
+apart_from_new w directory name named k free d n b =
+    all-weaker (λ row. (is_live_name directory name row ≡ false) × IsNameRow w.files w.now row) (λ row. AreApart row named) w.names
+    (λ row h. dead_name w.files w.now directory name row named h.0 h.1 d n b) (all-both _ _ w.names (no_live w directory name free) (k.holds Names).each)
 
 version_push : (files : List FileRow) (new : FileRow) (now : ℕ) (row : VersionRow) → IsVersion files now row → IsVersion (files ++ new ∷ []) now row
 version_push files new now row h =
@@ -144,10 +151,10 @@ module _ (w : World) (directory : ℕ) (name : List ℕ) (policy : Policy) where
       placed = later-push (λ earlier later. earlier.id < later.id) w.files new (k.holds Files).placed (all-weaker (IsFile w.made.files w.made.versions) (λ row. row.id < id) w.files (λ row h. omega (arith, h.given)) (k.holds Files).each);
     }
     by Names = record {
-      each = all-push (IsName files w.now) w.names named
-          (all-weaker (IsName w.files w.now) (IsName files w.now) w.names (λ row h. record { there = there-push w.files new row.target h.there; born = h.born; dead = h.dead }) (k.holds Names).each)
+      each = all-push (IsNameRow files w.now) w.names named
+          (all-weaker (IsNameRow w.files w.now) (IsNameRow files w.now) w.names (λ row h. record { there = there-push w.files new row.target h.there; born = h.born; dead = h.dead }) (k.holds Names).each)
           (record { there = omega (arith, new_next); born = omega arith; dead = tt });
-      lives = later-push AreApart w.names named (k.holds Names).lives (all-weaker (λ row. (is_live_name directory name row ≡ false) × IsName w.files w.now row) (λ row. AreApart row named) w.names (λ row h. dead_name w.files w.now directory name row named h.0 h.1 refl refl refl) (all-both _ _ w.names (no_live w directory name may.free) (k.holds Names).each));
+      lives = later-push AreApart w.names named (k.holds Names).lives (apart_from_new w directory name named k may.free refl refl refl);
     }
     by Versions = record {
       each = all-push (IsVersion files w.now) w.versions (first_version w id)

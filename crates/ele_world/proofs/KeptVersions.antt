@@ -8,7 +8,7 @@ use Rattle.ele_content.specs.declared.cell.Cell.{Cell}
 use Rattle.ele_lists.specs.Lists.{update_first}
 use Rattle.ele_lists.proofs.Edits.{all-weaker, all-both, all-update_first, all-remove_first, all-insert_before, later-update_first, later-remove_first, later-insert_before, length-update_first, length-insert_before, length-remove_first-le, list_any-update_first, list_any-insert_before, list_any-remove_first}
 use Rattle.ele_world.specs.Change.{numbered_on, ended_at, next_version, with_end, with_version, after_change, Take}
-use Rattle.ele_world.specs.WellFormed.{IsFile, IsName, IsVersion, ArePlaced, IsDraft, is_current, HaveCurrent, Part, Counted, Files, Names, Versions, Drafts, Current, Holds, IsWellFormed}
+use Rattle.ele_world.specs.WellFormed.{IsFile, IsNameRow, IsVersion, ArePlaced, IsDraft, is_current, HaveCurrent, Part, Counted, Files, Names, Versions, Drafts, Current, Holds, IsWellFormed}
 use Rattle.ele_world.specs.World.{World, next_of, is_file, is_live, is_version, is_version_after}
 use Rattle.ele_world.specs.declared.rows.FileRow.{FileRow}
 use Rattle.ele_world.specs.declared.rows.VersionRow.{VersionRow}
@@ -148,7 +148,7 @@ module _ (w : World) (file opened : ℕ) (cells : List Cell) (may : MayAppend w 
       placed = later-update_first (is_file file) (λ earlier later. earlier.id < later.id) numbered_on w.files (λ x y h. h) (λ x y h. h) (k.holds Files).placed;
     }
     by Names = record {
-      each = all-weaker (IsName w.files w.now) (IsName files w.now) w.names (λ row h. record { there = there-numbered_on w.files file row.target h.there; born = h.born; dead = h.dead }) (k.holds Names).each;
+      each = all-weaker (IsNameRow w.files w.now) (IsNameRow files w.now) w.names (λ row h. record { there = there-numbered_on w.files file row.target h.there; born = h.born; dead = h.dead }) (k.holds Names).each;
       lives = (k.holds Names).lives;
     }
     by Versions = record {

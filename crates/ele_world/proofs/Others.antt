@@ -16,22 +16,7 @@ use Rattle.ele_world.specs.Change.{numbered_on, ended_at, new_draft}
 use Rattle.ele_world.proofs.Opened.{with_draft}
 use Rattle.ele_world.specs.Usage.{is_of, is_file_of}
 use Rattle.ele_world.specs.World.{World, is_draft, is_draft_after, is_file, is_version, is_version_after}
-use Rattle.ele_world.proofs.Passes.{filter-remove_first}
-
--- a row that the filter drops, before its change and after
-filter-update_first : {X : Type 0} (q p : X → Bool) (f : X → X) (xs : List X) → ((x : X) → p x ≡ true → q x ≡ false) → ((x : X) → p x ≡ true → q (f x) ≡ false) → filter q (update_first p f xs) ≡ filter q xs
-filter-update_first q p f [] was is = refl
-filter-update_first q p f (x ∷ xs) was is = elim (p x) as (λ b. p x ≡ b → filter q (cond b (f x ∷ xs) (x ∷ update_first p f xs)) ≡ filter q (x ∷ xs)) [
-  | true ↦ λ e. rw (was x e, is x e) refl
-  | false ↦ λ e. rw (filter-update_first q p f xs was is) refl
-] refl
-
-filter-insert_before : {X : Type 0} (q p : X → Bool) (y : X) (xs : List X) → q y ≡ false → filter q (insert_before p y xs) ≡ filter q xs
-filter-insert_before q p y [] fails = rw fails refl
-filter-insert_before q p y (x ∷ xs) fails = elim (p x) as (λ b. filter q (cond b (y ∷ x ∷ xs) (x ∷ insert_before p y xs)) ≡ filter q (x ∷ xs)) [
-  | true ↦ rw fails refl
-  | false ↦ rw (filter-insert_before q p y xs fails) refl
-]
+use Rattle.ele_lists.proofs.Filters.{filter-update_first, filter-remove_first, filter-insert_before}
 
 -- ---- drafts
 

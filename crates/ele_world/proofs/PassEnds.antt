@@ -16,7 +16,7 @@ use Rattle.ele_world.specs.WellFormed.{IsWellFormed}
 use Rattle.ele_world.specs.World.{World, is_version}
 use Rattle.ele_world.proofs.DueRows.{first_is_due}
 use Rattle.ele_world.proofs.Passes.{cleaned_keeps_kept, pass_leaves_kept}
-use Rattle.ele_world.proofs.Splits.{split_length}
+use Rattle.ele_lists.proofs.Sums.{length-split}
 use Rattle.ele_world.proofs.StepKeeps.{step_keeps}
 use Rattle.ele_world.proofs.Views.{placed_of}
 
@@ -74,5 +74,5 @@ pass_finishes w n v budget keeps so_far none below =
       pass = pass;
       below = below;
       kept = left;
-      count = omega (arith, cleaned_removes n w keeps so_far.each, ap (λ (u : World). length u.versions) so_far.after_is, ap (λ (rows : List VersionRow). length rows) left, split_length (λ row. is_due_at w row w.now) w.versions);
+      count = omega (arith, cleaned_removes n w keeps so_far.each, ap (λ (u : World). length u.versions) so_far.after_is, ap (λ (rows : List VersionRow). length rows) left, length-split (λ row. is_due_at w row w.now) w.versions);
     }

@@ -20,24 +20,14 @@ use Rattle.ele_world.specs.Scan.{key_cmp, key_of, due_key, scan, first_due}
 use Rattle.ele_world.specs.Step.{clean_step}
 use Rattle.ele_world.specs.WellFormed.{IsWellFormed}
 use Rattle.ele_world.specs.World.{World, is_version}
-use Rattle.ele_world.proofs.Around.{find-split, remove_first-split, filter-all}
+use Rattle.ele_lists.proofs.Cuts.{find-cut, remove_first-at}
+use Rattle.ele_lists.proofs.Filters.{filter-all, filter-remove_first}
 use Rattle.ele_world.proofs.Cleans.{clean_of}
 use Rattle.ele_world.proofs.DueRows.{first_is_due}
 use Rattle.ele_world.proofs.RemovalOrder.{removal_order}
 use Rattle.ele_world.proofs.RipeMoments.{due_from_ripe}
 use Rattle.ele_world.proofs.StepKeeps.{step_keeps}
 use Rattle.ele_world.proofs.Views.{now_of, placed_of}
-
--- what isn't kept may go
-pub filter-remove_first : {X : Type 0} (keep p : X → Bool) (xs : List X) → ((x : X) → find p xs ≡ Some x → keep x ≡ false) → filter keep (remove_first p xs) ≡ filter keep xs
-filter-remove_first keep p [] goes = refl
-filter-remove_first {X} keep p (x ∷ xs) goes = by (p x) refl (filter-remove_first keep p xs) goes where
-  by : (b : Bool) → p x ≡ b → (((y : X) → find p xs ≡ Some y → keep y ≡ false) → filter keep (remove_first p xs) ≡ filter keep xs) → ((y : X) → cond b (Some x) (find p xs) ≡ Some y → keep y ≡ false) → filter keep (cond b xs (x ∷ remove_first p xs)) ≡ filter keep (x ∷ xs)
-  by true e rest goes = rw (goes x refl) refl
-  by false e rest goes = elim (keep x) as (λ b. cond b (x ∷ filter keep (remove_first p xs)) (filter keep (remove_first p xs)) ≡ cond b (x ∷ filter keep xs) (filter keep xs)) [
-    | true ↦ ap (λ ys. x ∷ ys) (rest goes)
-    | false ↦ rest goes
-  ]
 
 -- a clean leaves what is kept
 clean_keeps_kept : (w : World) → IsWellFormed w → kept_rows ((clean_step w).1) ≡ kept_rows w
@@ -47,8 +37,8 @@ clean_keeps_kept w k = by (first_due w) refl where
   by (Some key) e =
       let p = is_version key.file key.number in
       let due = first_is_due w key (placed_of w k) e in
-      let at = find-split p w.versions due.row due.found in
-      ap (λ (rows : List VersionRow). kept_rows (record w { versions = rows })) (ap (remove_first p) at.whole ∙ remove_first-split p at.before due.row at.behind at.none at.passes)
+      let at = find-cut p w.versions due.row due.found in
+      ap (λ (rows : List VersionRow). kept_rows (record w { versions = rows })) (ap (remove_first p) at.whole ∙ remove_first-at p at.before due.row at.behind at.none at.passes)
       ∙ (removal_order w at.before due.row at.behind k at.whole due.due).kept
 
 pub cleaned_keeps_kept : (n : ℕ) (w : World) → IsWellFormed w → (kept_rows (after_cleans n w) ≡ kept_rows w) × IsWellFormed (after_cleans n w)

@@ -7,7 +7,7 @@ use Rattle.std.proofs.lemmas.Bool.Decides.{nat_tests}
 use Rattle.ele_lists.specs.Lists.{AllLater}
 use Rattle.ele_policy.specs.declared.policy.Policy.{Policy}
 use Rattle.ele_policy.specs.Ripe.{Beside, is_due_by, lets_go}
-use Rattle.ele_policy.proofs.Waits.{lets_go_without}
+use Rattle.ele_policy.proofs.Waits.{lets_go_without, lets_go_fewer}
 use Rattle.ele_world.specs.declared.rows.VersionRow.{VersionRow}
 use Rattle.ele_world.specs.FileView.{FileView, is_newer, closings, is_protected, due_in}
 use Rattle.ele_world.proofs.Views.{IsLife, Precedes, newer_is, newer_before, newer_without, newer_behind}
@@ -50,6 +50,20 @@ closings-append : (xs ys : List VersionRow) → closings (xs ++ ys) ≡ closings
 closings-append [] ys = refl
 closings-append (x ∷ xs) ys = ap (λ t. x.closed ∷ t) (closings-append xs ys)
 
+abbrev goes_beside : FileView → VersionRow → ℕ → Option Policy → Option ℕ → List ℕ → Bool
+goes_beside v row at p e newer = option_map_or (λ policy. option_map_or (λ ended. is_due_by policy row.closed (newer_at v newer) ended at) e false) p false
+
+-- what is due beside fewer is due beside more
+beside_more : (v : FileView) (row : VersionRow) (at : ℕ) (xs : List ℕ) (more : ℕ) (ys : List ℕ) → due_beside v row at (xs ++ ys) ≡ true → due_beside v row at (xs ++ more ∷ ys) ≡ true
+beside_more v row at xs more ys = by v.policy row.ended where
+  by : (p : Option Policy) (e : Option ℕ) → (not (is_protected v row at) && goes_beside v row at p e (xs ++ ys)) ≡ true → (not (is_protected v row at) && goes_beside v row at p e (xs ++ more ∷ ys)) ≡ true
+  by None e h = h
+  by (Some policy) None h = h
+  by (Some policy) (Some ended) h =
+      let halves = both (not (is_protected v row at)) (goes_beside v row at (Some policy) (Some ended) (xs ++ ys)) h in
+      let parts = both (nat_le ended at) (lets_go policy row.closed (newer_at v (xs ++ ys)) (at - ended)) halves.1 in
+      rw (halves.0, parts.0) (lets_go_fewer policy v.live xs more ys row.closed (at - ended) parts.1)
+
 module _ (v : FileView) (xs : List VersionRow) (row : VersionRow) (ys : List VersionRow) (placed : AllLater Precedes (xs ++ row ∷ ys)) (life : IsLife row) where
   before_stays : (x : VersionRow) (at : ℕ) → Precedes x row → due_in (with_rows v (xs ++ row ∷ ys)) row at ≡ true → due_in (with_rows v (xs ++ row ∷ ys)) x at ≡ due_in (with_rows v (xs ++ ys)) x at
   before_stays x at before due =
@@ -69,3 +83,11 @@ module _ (v : FileView) (xs : List VersionRow) (row : VersionRow) (ys : List Ver
   pub others_stay : (x : VersionRow) (at : ℕ) → Precedes x row ⊎ Precedes row x → due_in (with_rows v (xs ++ row ∷ ys)) row at ≡ true → due_in (with_rows v (xs ++ row ∷ ys)) x at ≡ due_in (with_rows v (xs ++ ys)) x at
   others_stay x at (inl before) due = before_stays x at before due
   others_stay x at (inr after) due = ap (λ t. due_beside v x at (closings t)) (newer_behind x xs row ys after)
+
+  -- and none is due without the row that wasn't with it
+  pub no_more_due : (x : VersionRow) (at : ℕ) → Precedes x row ⊎ Precedes row x → due_in (with_rows v (xs ++ ys)) x at ≡ true → due_in (with_rows v (xs ++ row ∷ ys)) x at ≡ true
+  no_more_due x at (inl before) due =
+      let newer = filter (is_newer x) xs in
+      ap (due_beside v x at) (ap closings (newer_before x xs row ys placed before) ∙ closings-append newer (row ∷ ys))
+      ∙ beside_more v x at (closings newer) row.closed (closings ys) (subst (λ t. due_beside v x at t ≡ true) (ap closings (newer_without x xs row ys placed before) ∙ closings-append newer ys) due)
+  no_more_due x at (inr after) due = ap (λ t. due_beside v x at (closings t)) (newer_behind x xs row ys after) ∙ due

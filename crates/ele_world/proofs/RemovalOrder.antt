@@ -1,5 +1,5 @@
 -- The law of the order of removal, from one file to all.
-use Rattle.std.proofs.Common.{◌≡◌, ◌==◌, Bool, true, false, not, List, ◌∷◌, ◌++◌, refl, ap, sym, subst, ◌∙◌, filter, arith, ◌⊎◌, inl, inr}
+use Rattle.std.proofs.Common.{◌≡◌, ◌==◌, ℕ, Bool, true, false, not, List, ◌∷◌, ◌++◌, refl, ap, sym, subst, ◌∙◌, filter, arith, ◌⊎◌, inl, inr}
 use Rattle.std.specs.List.{AllByRecursion}
 use Rattle.std.proofs.lemmas.List.Elements.{filter-append}
 use Rattle.std.proofs.lemmas.Bool.Decides.{nat_tests}
@@ -7,73 +7,87 @@ use Rattle.ele_lists.specs.Lists.{AllLater}
 use Rattle.ele_lists.proofs.Edits.{all-weaker}
 use Rattle.ele_world.specs.declared.rows.VersionRow.{VersionRow}
 use Rattle.ele_world.specs.Due.{is_due_at}
-use Rattle.ele_world.specs.FileView.{view_of, is_version_of, due_in}
+use Rattle.ele_world.specs.FileView.{FileView, view_of, is_version_of, due_in}
 use Rattle.ele_world.specs.RemovalOrder.{LeavesDue, RemovalOrder}
 use Rattle.ele_world.specs.WellFormed.{IsWellFormed, ArePlaced}
 use Rattle.ele_world.specs.World.{World}
-use Rattle.ele_world.proofs.Around.{all-around, later-around}
-use Rattle.ele_world.proofs.Removal.{with_rows, others_stay}
-use Rattle.ele_world.proofs.Splits.{filter-same_all}
+use Rattle.ele_lists.proofs.Alls.{all-append, all-around, later-around}
+use Rattle.ele_lists.proofs.Filters.{filter-same_all}
+use Rattle.ele_world.proofs.Removal.{with_rows, others_stay, no_more_due}
 use Rattle.ele_world.proofs.Views.{IsLife, Precedes, precedes, view_is, lives_of, placed_of, own_rows, other_rows}
 
-abbrev left : World → List VersionRow → World
+abbrev pub left : World → List VersionRow → World
 left w rows = record w { versions = rows }
 
+-- where it is of the row's file, a version stands before the row or behind it
+abbrev pub IsBeside : VersionRow → VersionRow → Type 0
+IsBeside row x = x.file ≡ row.file → Precedes x row ⊎ Precedes row x
+
 module _ (w : World) (before : List VersionRow) (row : VersionRow) (behind : List VersionRow) (k : IsWellFormed (left w (before ++ row ∷ behind))) where
-  abbrev now_due : VersionRow → Bool
-  now_due x = is_due_at (left w (before ++ row ∷ behind)) x w.now
+  abbrev now_due : ℕ → VersionRow → Bool
+  now_due at x = is_due_at (left w (before ++ row ∷ behind)) x at
 
-  abbrev then_due : VersionRow → Bool
-  then_due x = is_due_at (left w (before ++ behind)) x w.now
+  abbrev then_due : ℕ → VersionRow → Bool
+  then_due at x = is_due_at (left w (before ++ behind)) x at
 
-  own_stays : (x : VersionRow) → Precedes x row ⊎ Precedes row x → now_due row ≡ true → due_in (view_of (left w (before ++ row ∷ behind)) row.file) x w.now ≡ due_in (view_of (left w (before ++ behind)) row.file) x w.now
+  abbrev own : List VersionRow → List VersionRow
+  own rows = filter (is_version_of row.file) rows
+
+  abbrev with_own : List VersionRow → FileView
+  with_own rows = with_rows (view_of w row.file) rows
+
+  own_placed : AllLater Precedes (own before ++ row ∷ own behind)
+  own_placed = subst (AllLater Precedes) (own_rows before row behind) (view_is (left w (before ++ row ∷ behind)) k row.file).placed
+
+  life : IsLife row
+  life = (all-around IsLife before row behind (lives_of (left w (before ++ row ∷ behind)) k)).1
+
+  -- how a row is due with the row and without it, by the rows of the row's file
+  seen : (Q : Bool → Bool → Type 0) → ((b : Bool) → Q b b) → (at : ℕ) (x : VersionRow)
+      → (x.file ≡ row.file → Q (due_in (with_own (own before ++ row ∷ own behind)) x at) (due_in (with_own (own before ++ own behind)) x at)) → Q (now_due at x) (then_due at x)
   unfolding is_due_at
-  own_stays x side due =
-      let v = view_of w row.file in
-      let own = is_version_of row.file in
-      ap (λ rows. due_in (with_rows v rows) x w.now) (own_rows before row behind)
-      ∙ others_stay v (filter own before) row (filter own behind)
-      (subst (AllLater Precedes) (own_rows before row behind) (view_is (left w (before ++ row ∷ behind)) k row.file).placed)
-      (all-around IsLife before row behind (lives_of (left w (before ++ row ∷ behind)) k)).1
-      x w.now side (subst (λ rows. due_in (with_rows v rows) row w.now ≡ true) (own_rows before row behind) due)
-      ∙ sym (ap (λ rows. due_in (with_rows v rows) x w.now) (filter-append own before behind))
-
-  stays : now_due row ≡ true → (x : VersionRow) → (x.file ≡ row.file → Precedes x row ⊎ Precedes row x) → then_due x ≡ now_due x
-  unfolding is_due_at
-  stays due x side = elim (x.file == row.file) as (λ b. (x.file == row.file) ≡ b → then_due x ≡ now_due x) [
+  seen Q same at x here = elim (x.file == row.file) as (λ b. (x.file == row.file) ≡ b → Q (now_due at x) (then_due at x)) [
     | true ↦ λ e.
-        let same : x.file ≡ row.file = grind (arith, nat_tests) in
-        ap (λ file. due_in (view_of (left w (before ++ behind)) file) x w.now) same
-        ∙ sym (own_stays x (side same) due)
-        ∙ ap (λ file. due_in (view_of (left w (before ++ row ∷ behind)) file) x w.now) (sym same)
+        let its : row.file ≡ x.file = grind (arith, nat_tests) in
+        subst (λ file. Q (due_in (view_of (left w (before ++ row ∷ behind)) file) x at) (due_in (view_of (left w (before ++ behind)) file) x at)) its
+        (subst (λ rows. Q (due_in (with_own rows) x at) (due_in (with_own (own (before ++ behind))) x at)) (sym (own_rows before row behind))
+        (subst (λ rows. Q (due_in (with_own (own before ++ row ∷ own behind)) x at) (due_in (with_own rows) x at)) (sym (filter-append (is_version_of row.file) before behind)) (here (sym its))))
     | false ↦ λ e.
         let apart : is_version_of x.file row ≡ false = grind (arith, nat_tests) in
-        sym (ap (λ rows. due_in (with_rows (view_of w x.file) rows) x w.now) (other_rows x.file before row behind apart))
+        subst (λ rows. Q (due_in (with_rows (view_of w x.file) rows) x at) (then_due at x)) (sym (other_rows x.file before row behind apart)) (same (then_due at x))
   ] refl
 
-  stay_before : now_due row ≡ true → AllByRecursion (λ x. then_due x ≡ now_due x) before
-  stay_before due = all-weaker (λ x. ArePlaced x row) (λ x. then_due x ≡ now_due x) before (λ x placed. stays due x (λ same. inl (precedes x row placed same))) (later-around ArePlaced before row behind (placed_of (left w (before ++ row ∷ behind)) k)).0
+  pub stays : (at : ℕ) → now_due at row ≡ true → (x : VersionRow) → IsBeside row x → then_due at x ≡ now_due at x
+  unfolding is_due_at
+  stays at due x side = seen (λ now then. then ≡ now) (λ b. refl) at x (λ same. sym (others_stay (view_of w row.file) (own before) row (own behind) own_placed life x at (side same)
+      (subst (λ rows. due_in (with_own rows) row at ≡ true) (own_rows before row behind) due)))
 
-  stay_behind : now_due row ≡ true → AllByRecursion (λ x. then_due x ≡ now_due x) behind
-  stay_behind due = all-weaker (ArePlaced row) (λ x. then_due x ≡ now_due x) behind (λ x placed. stays due x (λ same. inr (precedes row x placed (sym same)))) (later-around ArePlaced before row behind (placed_of (left w (before ++ row ∷ behind)) k)).1
+  pub no_more : (at : ℕ) (x : VersionRow) → IsBeside row x → then_due at x ≡ true → now_due at x ≡ true
+  no_more at x side = seen (λ now then. then ≡ true → now ≡ true) (λ b h. h) at x (λ same. no_more_due (view_of w row.file) (own before) row (own behind) own_placed life x at (side same))
 
-  without : now_due row ≡ true → LeavesDue (left w (before ++ row ∷ behind)) row (left w (before ++ behind))
-  without due =
-      let not_all = all-weaker (λ x. then_due x ≡ now_due x) (λ x. not (then_due x) ≡ not (now_due x)) in
-      record {
-        due = record {
-          before = filter now_due before;
-          behind = filter now_due behind;
-          whole = filter-append now_due before (row ∷ behind) ∙ rw due refl;
-          left = filter-append then_due before behind
-              ∙ ap (λ t. t ++ filter then_due behind) (filter-same_all then_due now_due before (stay_before due))
-              ∙ ap (λ t. filter now_due before ++ t) (filter-same_all then_due now_due behind (stay_behind due));
-        };
-        kept = filter-append (λ x. not (then_due x)) before behind
-            ∙ ap (λ t. t ++ filter (λ x. not (then_due x)) behind) (filter-same_all (λ x. not (then_due x)) (λ x. not (now_due x)) before (not_all before (λ x h. ap not h) (stay_before due)))
-            ∙ ap (λ t. filter (λ x. not (now_due x)) before ++ t) (filter-same_all (λ x. not (then_due x)) (λ x. not (now_due x)) behind (not_all behind (λ x h. ap not h) (stay_behind due)))
-            ∙ sym (filter-append (λ x. not (now_due x)) before (row ∷ behind) ∙ rw due refl);
-      }
+  pub sides : AllByRecursion (IsBeside row) (before ++ behind)
+  sides =
+      let placed = later-around ArePlaced before row behind (placed_of (left w (before ++ row ∷ behind)) k) in
+      all-append (IsBeside row) before behind
+      (all-weaker (λ x. ArePlaced x row) (IsBeside row) before (λ x placed same. inl (precedes x row placed same)) placed.0)
+      (all-weaker (ArePlaced row) (IsBeside row) behind (λ x placed same. inr (precedes row x placed (sym same))) placed.1)
+
+  same_due : now_due w.now row ≡ true → AllByRecursion (λ x. then_due w.now x ≡ now_due w.now x) (before ++ behind)
+  same_due due = all-weaker (IsBeside row) (λ x. then_due w.now x ≡ now_due w.now x) (before ++ behind) (stays w.now due) sides
+
+  without : now_due w.now row ≡ true → LeavesDue (left w (before ++ row ∷ behind)) row (left w (before ++ behind))
+  without due = record {
+    due = record {
+      before = filter (now_due w.now) before;
+      behind = filter (now_due w.now) behind;
+      whole = filter-append (now_due w.now) before (row ∷ behind) ∙ rw due refl;
+      left = filter-same_all (then_due w.now) (now_due w.now) (before ++ behind) (same_due due) ∙ filter-append (now_due w.now) before behind;
+    };
+    kept = filter-same_all (λ x. not (then_due w.now x)) (λ x. not (now_due w.now x)) (before ++ behind)
+        (all-weaker (λ x. then_due w.now x ≡ now_due w.now x) (λ x. not (then_due w.now x) ≡ not (now_due w.now x)) (before ++ behind) (λ x h. ap not h) (same_due due))
+        ∙ filter-append (λ x. not (now_due w.now x)) before behind
+        ∙ sym (filter-append (λ x. not (now_due w.now x)) before (row ∷ behind) ∙ rw due refl);
+  }
 
 pub removal_order : RemovalOrder
 removal_order w before row behind k is due =

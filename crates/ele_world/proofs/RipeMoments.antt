@@ -12,7 +12,7 @@ use Rattle.ele_world.specs.FileView.{FileView, view_of, is_version_of, beside, d
 use Rattle.ele_world.specs.RipeMoments.{IsDueFromRipe, DueFromRipe, RipeIsAnswer, RipeIsAnswered}
 use Rattle.ele_world.specs.WellFormed.{IsWellFormed}
 use Rattle.ele_world.specs.World.{World}
-use Rattle.ele_world.proofs.Around.{all-split}
+use Rattle.ele_lists.proofs.Alls.{all-split}
 use Rattle.ele_world.proofs.Views.{view_is, nearest_is, own_rows}
 
 -- what stands beside a held version

@@ -5,6 +5,7 @@ use Rattle.std.specs.List.{list_any, flat_map}
 use Rattle.std.proofs.lemmas.Bool.Decides.{nat_tests}
 use Rattle.std.proofs.lemmas.List.Concat.{flat_map-cons}
 use Rattle.std.proofs.lemmas.List.Folds.{list_any-append}
+use Rattle.ele_lists.proofs.Filters.{list_any-filter}
 use Rattle.ele_content.specs.declared.cell.Cell.{Cell}
 use Rattle.ele_content.specs.Place.{Place, is_place, different}
 use Rattle.ele_world.specs.declared.rows.VersionRow.{VersionRow}
@@ -22,14 +23,6 @@ list_any-flat_map p g (x ∷ xs) =
 list_any-same : {X : Type 0} (p q : X → Bool) (xs : List X) → ((x : X) → p x ≡ q x) → list_any p xs ≡ list_any q xs
 list_any-same p q [] same = refl
 list_any-same p q (x ∷ xs) same = rw (same x, list_any-same p q xs same) refl
-
--- what the filter drops fails the test anyway
-pub list_any-filter : {X : Type 0} (p t : X → Bool) (xs : List X) → ((x : X) → t x ≡ false → p x ≡ false) → list_any p (filter t xs) ≡ list_any p xs
-list_any-filter p t [] fails = refl
-list_any-filter p t (x ∷ xs) fails = elim (t x) as (λ b. t x ≡ b → list_any p (cond b (x ∷ filter t xs) (filter t xs)) ≡ list_any p (x ∷ xs)) [
-  | true ↦ λ e. ap (λ b. p x || b) (list_any-filter p t xs fails)
-  | false ↦ λ e. rw (fails x e) (list_any-filter p t xs fails)
-] refl
 
 or_false : (b : Bool) → (b || false) ≡ b
 or_false true = refl

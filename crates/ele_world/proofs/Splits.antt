@@ -12,41 +12,10 @@ use Rattle.ele_content.specs.Place.{Place, is_place, different}
 use Rattle.ele_world.specs.declared.rows.VersionRow.{VersionRow}
 use Rattle.ele_world.specs.declared.rows.DraftRow.{DraftRow}
 use Rattle.ele_world.specs.Usage.{places_from, places, bytes_in}
-use Rattle.ele_world.proofs.SlotPlaces.{list_any-filter}
-
-module _ {X : Type 0} where
-  pub filter-same : (p q : X → Bool) (xs : List X) → ((x : X) → p x ≡ q x) → filter p xs ≡ filter q xs
-  filter-same p q [] same = refl
-  filter-same p q (x ∷ xs) same = rw (same x, filter-same p q xs same) refl
-
-  pub filter-same_all : (p q : X → Bool) (xs : List X) → AllByRecursion (λ x. p x ≡ q x) xs → filter p xs ≡ filter q xs
-  filter-same_all p q [] same = refl
-  filter-same_all p q (x ∷ xs) same = rw (same.0, filter-same_all p q xs same.1) refl
-
-  pub filter-both : (p q : X → Bool) (xs : List X) → filter p (filter q xs) ≡ filter (λ x. q x && p x) xs
-  filter-both p q [] = refl
-  filter-both p q (x ∷ xs) = elim (q x) as (λ b. filter p (cond b (x ∷ filter q xs) (filter q xs)) ≡ cond (b && p x) (x ∷ filter (λ y. q y && p y) xs) (filter (λ y. q y && p y) xs)) [
-    | true ↦ rw (filter-both p q xs) refl
-    | false ↦ filter-both p q xs
-  ]
-
-and_swap : (a b : Bool) → (a && b) ≡ (b && a)
-and_swap true true = refl
-and_swap true false = refl
-and_swap false true = refl
-and_swap false false = refl
-
-pub filter-swap : {X : Type 0} (p q : X → Bool) (xs : List X) → filter p (filter q xs) ≡ filter q (filter p xs)
-filter-swap p q xs = filter-both p q xs ∙ (filter-same (λ x. q x && p x) (λ x. p x && q x) xs (λ x. and_swap (q x) (p x)) ∙ sym (filter-both q p xs))
+use Rattle.ele_lists.proofs.Filters.{list_any-filter}
+use Rattle.ele_lists.proofs.Sums.{length-split}
 
 -- ---- sums split
-
-pub split_length : {X : Type 0} (t : X → Bool) (xs : List X) → length xs ≡ length (filter t xs) + length (filter (λ x. not (t x)) xs)
-split_length t [] = omega arith
-split_length t (x ∷ xs) = elim (t x) as (λ b. length (x ∷ xs) ≡ length (cond b (x ∷ filter t xs) (filter t xs)) + length (cond (not b) (x ∷ filter (λ y. not (t y)) xs) (filter (λ y. not (t y)) xs))) [
-  | true ↦ omega (arith, split_length t xs)
-  | false ↦ omega (arith, split_length t xs)
-]
 
 pub bytes_in-cons : (row : VersionRow) (rows : List VersionRow) → bytes_in (row ∷ rows) ≡ length (content_of row.cells) + bytes_in rows
 bytes_in-cons row rows = sum_by-cons (λ (n : ℕ). n) (length (content_of row.cells)) (map (λ (r : VersionRow). length (content_of r.cells)) rows)
@@ -130,7 +99,7 @@ abbrev pub blocks_sum : List VersionRow → List DraftRow → ℕ
 blocks_sum versions drafts = different is_place (places versions drafts)
 
 pub count_splits : Splits count_sum
-count_splits = record { none = refl; both = λ t versions drafts. split_length (λ (r : VersionRow). t r.file) versions }
+count_splits = record { none = refl; both = λ t versions drafts. length-split (λ (r : VersionRow). t r.file) versions }
 
 pub bytes_splits : Splits bytes_sum
 bytes_splits = record { none = refl; both = λ t versions drafts. split_bytes (λ r. t r.file) versions }

@@ -31,7 +31,9 @@ use Rattle.ele_lists.proofs.Edits.{all-weaker}
 use Rattle.ele_lists.specs.Lists.{update_first, remove_first}
 use Rattle.ele_world.specs.Bounds.{AreBounds}
 use Rattle.ele_world.proofs.Others.{other_drafts, drafts-updated, drafts-opened, versions-removed}
-use Rattle.ele_world.proofs.Splits.{bytes_in-cons, split_length, filter-same, filter-same_all, filter-swap, Splits, count_sum, bytes_sum, blocks_sum, count_splits, bytes_splits, blocks_splits}
+use Rattle.ele_lists.proofs.Filters.{filter-same, filter-same_all, filter-swap}
+use Rattle.ele_lists.proofs.Sums.{length-split}
+use Rattle.ele_world.proofs.Splits.{bytes_in-cons, Splits, count_sum, bytes_sum, blocks_sum, count_splits, bytes_splits, blocks_splits}
 
 -- ---- the rows of some files
 
@@ -264,7 +266,7 @@ within_blocks w k = passing_le blocks_sum blocks_splits (is_file_of w.files k) w
 
 pub within_files : (w : World) (k : Kind) → (usage_of w k).files ≤ length w.files
 unfolding usage_of
-within_files w k = omega (arith, split_length (is_of k) w.files)
+within_files w k = omega (arith, length-split (is_of k) w.files)
 
 bytes_short : (files : List FileRow) (now : ℕ) (rows : List VersionRow) → AllByRecursion (IsVersion files now) rows → bytes_in rows ≤ longest_content * length rows
 bytes_short files now [] all = omega arith

@@ -13,7 +13,8 @@ use Rattle.ele_world.specs.declared.rows.VersionRow.{VersionRow}
 use Rattle.ele_world.specs.FileView.{FileView, view_of, is_version_of, is_newer, closings, beside}
 use Rattle.ele_world.specs.WellFormed.{Now, Versions, IsVersion, ArePlaced, IsWellFormed}
 use Rattle.ele_world.specs.World.{World}
-use Rattle.ele_world.proofs.Around.{all-filter, later-filter, later-around, filter-all, filter-none}
+use Rattle.ele_lists.proofs.Alls.{all-filter, later-filter, later-around}
+use Rattle.ele_lists.proofs.Filters.{filter-all, filter-none}
 
 -- the version didn't end before it closed
 abbrev pub IsLife : VersionRow → Type 0
@@ -50,8 +51,8 @@ placed_of w k = (k.holds Versions).placed
 
 pub view_is : (w : World) → IsWellFormed w → (file : ℕ) → IsView (view_of w file)
 view_is w k file = record {
-  lives = all-filter (is_version_of file) IsLife w.versions (lives_of w k);
-  placed = later-filter (is_version_of file) ArePlaced Precedes w.versions (λ x y own other placed. precedes x y placed (grind (arith, nat_tests))) (placed_of w k);
+  lives = all-filter IsLife (is_version_of file) w.versions (lives_of w k);
+  placed = later-filter ArePlaced Precedes (is_version_of file) w.versions (λ x y own other placed. precedes x y placed (grind (arith, nat_tests))) (placed_of w k);
 }
 
 -- ---- the newer rows

@@ -1,5 +1,5 @@
 -- One file as its policy sees it: all that the fate of its versions depends on.
-use Rattle.std.specs.Prelude.{ℕ, ◌==◌, nat_lt, Bool, false, not, ◌&&◌, List, Option, filter, map, option_and_then}
+use Rattle.std.specs.Prelude.{ℕ, ◌==◌, nat_lt, Bool, false, not, ◌&&◌, List, Option, filter, find, map, option_and_then}
 use Rattle.std.specs.Option.{option_map_or}
 use Rattle.ele_policy.specs.declared.policy.Policy.{Policy}
 use Rattle.ele_policy.specs.Ripe.{Beside, is_due_by, candidates, earliest_of}
@@ -42,3 +42,10 @@ due_in v row at =
 abbrev pub ripe_in : FileView → VersionRow → Option ℕ
 ripe_in v row =
     option_and_then (λ policy. option_and_then (λ ended. earliest_of (due_in v row) (candidates policy ended)) row.ended) v.policy
+
+abbrev pub is_numbered : ℕ → VersionRow → Bool
+is_numbered number row = row.number == number
+
+-- that moment of the version with the number, if it is held
+unfoldable pub ripe_numbered : FileView → ℕ → Option ℕ
+ripe_numbered v number = option_and_then (ripe_in v) (find (is_numbered number) v.rows)

@@ -3,6 +3,8 @@ pub mod Limits
 pub mod Answers
 pub mod World
 pub mod Walk
+pub mod NameRows
+pub mod WalkAt
 pub mod FileView
 pub mod Due
 pub mod Scan
@@ -15,12 +17,14 @@ pub mod Run
 pub mod AlwaysWellFormed
 pub mod NothingChanges
 pub mod CreateLeads
+pub mod CloseKeeps
 pub mod OnlyDueLeave
 pub mod HeldStays
 pub mod PassLeavesKept
 pub mod UsageFits
 pub mod RipeMoments
 pub mod RemovalOrder
+pub mod CleanKeepsKeys
 pub mod Pass
 pub mod NewPlaces
 pub mod Whole

@@ -54,7 +54,7 @@ IsThere files (File file) = 0 < next_of files file
 IsThere files (Directory directory) = Unit {0}
 
 -- a name's file is there; it was born by now, and if it is dead it died by now and not before its birth
-pub record IsName (files : List FileRow) (now : ℕ) (row : NameRow) : Type 0 where
+pub record IsNameRow (files : List FileRow) (now : ℕ) (row : NameRow) : Type 0 where
   pub there : IsThere files row.target
   pub born : row.birth ≤ now
   pub dead : IfSome row.death (λ death. (row.birth ≤ death) × (death ≤ now))
@@ -65,7 +65,7 @@ AreApart earlier later =
     earlier.directory ≡ later.directory → earlier.name ≡ later.name → (death : ℕ) × (earlier.death ≡ Some death) × (death ≤ later.birth)
 
 pub record AreNames (files : List FileRow) (now : ℕ) (rows : List NameRow) : Type 0 where
-  pub each : AllByRecursion (IsName files now) rows
+  pub each : AllByRecursion (IsNameRow files now) rows
   pub lives : AllLater AreApart rows
 
 -- the cells are those of a content: its slots in a row, each of 512 bytes but for the last, which has 1 to 512

@@ -1,5 +1,7 @@
 //! What every event does to a well-formed world, and so what is true of every run: each law is the contract of a function that
 //! does nothing.
+ghost use Rattle.ele_world.specs.CleanKeepsKeys.{CleanKeepsKeys};
+ghost use Rattle.ele_world.specs.CloseKeeps.{CloseKeeps};
 ghost use Rattle.ele_world.specs.CreateLeads.{CreateLeads};
 ghost use Rattle.ele_world.specs.AlwaysWellFormed.{FreshIsWellFormed, StepKeepsWellFormed, AlwaysWellFormed};
 ghost use Rattle.ele_world.specs.HeldStays.{HeldStays, HeldStaysInRuns};
@@ -38,6 +40,11 @@ pub fn asking_stays()
 /// After a create its path leads to the new file, whose current version is empty.
 pub fn create_leads()
     ensures { CreateLeads }
+{}
+
+/// A close that tells of a version has made it of all that was written.
+pub fn close_keeps()
+    ensures { CloseKeeps }
 {}
 
 /// A version leaves only by a clean event in whose world it was due.
@@ -89,4 +96,9 @@ pub fn ripe_is_answered()
 /// Whichever due version is removed, the due versions afterwards are those before without it.
 pub fn removal_order()
     ensures { RemovalOrder }
+{}
+
+/// Where the first due version is removed, no other version's ripe moment changes.
+pub fn clean_keeps_keys()
+    ensures { CleanKeepsKeys }
 {}

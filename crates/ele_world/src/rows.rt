@@ -20,7 +20,7 @@ pub struct DirectoryRow {
 }
 
 /// What a name stands for.
-#[derive(Clone, Copy, Debug, PartialEq, Eq)]
+#[derive(Clone, Copy, Debug, PartialEq, Eq, PartialOrd, Ord, Hash)]
 pub enum Target {
     File(FileId),
     Directory(DirId),

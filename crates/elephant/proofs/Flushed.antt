@@ -4,10 +4,10 @@ use Rattle.std.specs.Prelude.{IfOk}
 use Rattle.std.specs.Io.KnownBytes.{Keeps}
 use Rattle.std.proofs.KnownBytes.{Appends-kept}
 use Rattle.ele_shell.specs.Running.{RanToTheEnd, RanToAReadFault, RanPastABound}
-use Rattle.ele_shell.specs.State.{State}
+use Rattle.ele_shell.specs.RunState.{RunState}
 use Rattle.ele_shell.specs.declared.fault.ShellFault.{ShellFault}
 
-pub to_the_end : (start : State) (input rest old mid new : Option (List ℕ)) (r : Result ℕ ShellFault) → IfOk r (λ n. RanToTheEnd start n input rest old mid) → Keeps mid new
+pub to_the_end : (start : RunState) (input rest old mid new : Option (List ℕ)) (r : Result ℕ ShellFault) → IfOk r (λ n. RanToTheEnd start n input rest old mid) → Keeps mid new
     → IfOk r (λ n. RanToTheEnd start n input rest old new)
 to_the_end start input rest old mid new (Ok n) ran kept =
     record {
@@ -26,7 +26,7 @@ to_the_end start input rest old mid new (Ok n) ran kept =
     }
 to_the_end start input rest old mid new (Err fault) ran kept = tt
 
-pub to_a_read_fault : (start : State) (input rest old mid new : Option (List ℕ)) → RanToAReadFault start input rest old mid → Keeps mid new → RanToAReadFault start input rest old new
+pub to_a_read_fault : (start : RunState) (input rest old mid new : Option (List ℕ)) → RanToAReadFault start input rest old mid → Keeps mid new → RanToAReadFault start input rest old new
 to_a_read_fault start input rest old mid new ran kept =
     record {
       given = ran.given;
@@ -42,7 +42,7 @@ to_a_read_fault start input rest old mid new ran kept =
       written = Appends-kept old mid new ran.text ran.written kept;
     }
 
-pub past_a_bound : (start : State) (input rest old mid new : Option (List ℕ)) → RanPastABound start input rest old mid → Keeps mid new → RanPastABound start input rest old new
+pub past_a_bound : (start : RunState) (input rest old mid new : Option (List ℕ)) → RanPastABound start input rest old mid → Keeps mid new → RanPastABound start input rest old new
 past_a_bound start input rest old mid new ran kept =
     record {
       given = ran.given;

@@ -3,7 +3,7 @@
 ghost use Rattle.std.specs.Prelude.{◌≡◌, ℕ, IfOk, IsErrOf};
 ghost use Rattle.ele_world.specs.Bounds.{Bounds};
 ghost use Rattle.ele_shell.specs.Running.{RanToTheEnd, RanToAReadFault, RanPastABound};
-ghost use Rattle.ele_shell.specs.State.{fresh};
+ghost use Rattle.ele_shell.specs.RunState.{fresh};
 ghost use Rattle.elephant.specs.Status.{status_of, MayEndWith};
 
 use crate::asked::Asked;

@@ -7,7 +7,7 @@ ghost use Rattle.ele_content.specs.Content.{content_of};
 ghost use Rattle.ele_files.specs.Asked.{stamps_of};
 ghost use Rattle.ele_files.specs.Held.{cells_of_draft};
 ghost use Rattle.ele_files.specs.Inside.{reads_in};
-ghost use Rattle.ele_world.specs.World.{policy_of, next_of, is_version, is_draft, reads_by, file_written, file_by};
+ghost use Rattle.ele_world.specs.World.{policy_of, is_file, is_version, is_draft, reads_by, file_written, file_by};
 
 use crate::files::{Files, place_of};
 use crate::stamps::Stamps;
@@ -44,14 +44,12 @@ impl Files {
         Some(self.files[at].policy)
     }
 
-    /// The number that the file's next version gets; 0 where there is no such file.
-    pub fn next_of(&self, file: FileId) -> VersionNo
-        ensures { result ≡ next_of self.now.files file }
+    /// The number that the file's next version gets; none where there is no such file.
+    pub fn next_of(&self, file: FileId) -> Option<VersionNo>
+        ensures { result ≡ option_map (λ row. row.next) (find (is_file file) self.now.files) }
     {
-        match place_of(&self.files, file) {
-            Some(at) => self.files[at].next,
-            None => VersionNo(0),
-        }
+        let at = place_of(&self.files, file)?;
+        Some(self.files[at].next)
     }
 
     /// The version's moments and its length; none where it isn't held.
@@ -112,14 +110,13 @@ impl Files {
         self.sessions.draft(file).is_some()
     }
 
-    /// How many bytes the file's draft has; 0 where it has none.
-    pub fn draft_length(&self, file: FileId) -> u64
-        ensures { result ≡ length (content_of (cells_of_draft self.now file)) }
+    /// How many bytes the file's draft has; none where it has no draft.
+    pub fn draft_length(&self, file: FileId) -> Option<u64>
+        ensures { result ≡ option_map (λ row. length (content_of row.cells))
+            (find (is_draft file) self.now.drafts) }
     {
-        match self.sessions.draft(file) {
-            Some(map) => map.length(),
-            None => 0,
-        }
+        let map = self.sessions.draft(file)?;
+        Some(map.length())
     }
 
     /// The bytes of the file's draft; none where it has no draft.

@@ -3,9 +3,10 @@
 ghost use Rattle.std.specs.Prelude.{◌≡◌, ℕ, ◌<◌, ◌≤◌, ◌+◌, ◌^◌, Bool, Some, None, OnOk, OnErr, IfOk};
 ghost use Rattle.std.specs.List.{AllByRecursion};
 ghost use Rattle.std.specs.Option.{option_and_then};
-ghost use Rattle.ele_files.specs.Closing.{closing, closed, number_by, IsPast};
-ghost use Rattle.ele_files.specs.Finishing.{IsRowPast, HasRows, HasClosed, ended_rows, closing_row, changed_of};
+ghost use Rattle.ele_files.specs.Closing.{closing, closed, changed_of, IsPast};
+ghost use Rattle.ele_files.specs.Finishing.{IsRowPast, HasRows, HasClosed, ended_rows, closing_row};
 ghost use Rattle.ele_files.specs.Inside.{IsFileKept};
+ghost use Rattle.ele_world.specs.World.{next_of};
 
 use crate::file::File;
 use crate::files::{Files, place_of};
@@ -82,43 +83,15 @@ fn map_of(closed: Option<(Closing, Option<BlockMap>)>) -> Option<BlockMap>
 
 impl Files {
     /// What closing the handle comes to; none where no open handle has that number.
-    pub fn peek_close(&self, handle: Handle) -> Option<Closing>
+    fn peek_close(&self, handle: Handle) -> Option<Closing>
         ensures { result ≡ closing self.now handle }
     {
         self.sessions.peek_close(handle)
     }
 
-    /// Closes the handle. With a file's last handle its draft goes: it becomes the file's next
-    /// version if it was changed, and the version before that ends. The caller tells whether the
-    /// handle's file is live; where it isn't, the new version ends at once. The answer is the number
-    /// of the version that was made, if one was. Where memory is refused, all is as it was.
-    pub fn close(
-        &mut self,
-        handle: Handle,
-        now: Moment,
-        is_live: bool,
-        meter: &mut Meter,
-    ) -> Result<Option<VersionNo>, NoMemory>
-        requires numbered { AllByRecursion (λ row. row.next < 2 ^ 62) self.old.files }
-        requires past { AllByRecursion (IsPast now) self.old.versions }
-        requires meter { meter.old < 2 ^ 62 }
-        ensures number { IfOk result
-            (λ number. number ≡ number_by self.old (closing self.old handle)) }
-        ensures ok { OnOk result (self.new ≡ closed self.old handle now is_live) }
-        ensures err { OnErr result (self.new ≡ self.old) }
-        ensures read { meter.new ≤ meter.old + 1 }
-    {
-        match self.changed_draft(handle) {
-            Some((file, opened)) => self.finish(handle, file, opened, now, is_live, meter),
-            None => {
-                self.leave(handle);
-                Ok(None)
-            }
-        }
-    }
-
-    /// The file and the opening of the draft that becomes a version when the handle closes.
-    fn changed_draft(&self, handle: Handle) -> Option<(FileId, Moment)>
+    /// The file of the draft that becomes a version when the handle closes, and when the draft was
+    /// opened; none where no version is made.
+    pub fn changed_draft(&self, handle: Handle) -> Option<(FileId, Moment)>
         ensures { result ≡ changed_of (closing self.now handle) }
     {
         match self.peek_close(handle) {
@@ -130,8 +103,9 @@ impl Files {
         }
     }
 
-    /// Closes the handle, by which no version is made.
-    fn leave(&mut self, handle: Handle)
+    /// Closes a handle by which no version is made: while others write the file its draft stays, and
+    /// with the last handle an unchanged one vanishes. A number that no open handle has does nothing.
+    pub fn leave(&mut self, handle: Handle)
         requires { changed_of (closing self.old handle) ≡ None }
         ensures { (now : ℕ) (live : Bool) → self.new ≡ closed self.old handle now live }
     {
@@ -140,8 +114,11 @@ impl Files {
         }
     }
 
-    /// The handle is the last of a changed draft of the file, opened then, which becomes a version.
-    fn finish(
+    /// Closes the last handle of a changed draft of the file, opened then: the draft becomes the
+    /// file's next version, and the version before that ends. The caller tells whether the file is
+    /// live; where it isn't, the new version ends at once. The answer is its number. Where memory is
+    /// refused, all is as it was.
+    pub fn finish(
         &mut self,
         handle: Handle,
         file: FileId,
@@ -149,13 +126,12 @@ impl Files {
         now: Moment,
         is_live: bool,
         meter: &mut Meter,
-    ) -> Result<Option<VersionNo>, NoMemory>
+    ) -> Result<VersionNo, NoMemory>
         requires changed { changed_of (closing self.old handle) ≡ Some (file, opened) }
         requires numbered { AllByRecursion (λ row. row.next < 2 ^ 62) self.old.files }
         requires past { AllByRecursion (IsPast now) self.old.versions }
         requires meter { meter.old < 2 ^ 62 }
-        ensures number { IfOk result
-            (λ number. number ≡ number_by self.old (closing self.old handle)) }
+        ensures number { IfOk result (λ number. number ≡ next_of self.old.files file) }
         ensures ok { OnOk result (self.new ≡ closed self.old handle now is_live) }
         ensures err { OnErr result (self.new ≡ self.old) }
         ensures read { meter.new ≤ meter.old + 1 }
@@ -163,11 +139,11 @@ impl Files {
         let Some(at) = place_of(&self.files, file) else {
             unreachable!()
         };
-        self.files[at].log.reserve()?;
+        let held = &mut self.files[at];
+        held.log.reserve()?;
         let Some(map) = map_of(self.sessions.close(handle)) else {
             unreachable!()
         };
-        let number = self.files[at].close_version(opened, now, is_live, map, meter);
-        Ok(Some(number))
+        Ok(held.close_version(opened, now, is_live, map, meter))
     }
 }

@@ -5,6 +5,7 @@ ghost use Rattle.std.specs.List.{AllByRecursion};
 ghost use Rattle.std.specs.Option.{option_copied};
 ghost use Rattle.ele_blocks.specs.Layout.{shown};
 ghost use Rattle.ele_blocks.specs.LivesIn.{LivesIn};
+ghost use Rattle.ele_blocks.specs.Stock.{StockLaws};
 ghost use Rattle.ele_files.specs.Inside.{IsFileKept, rows_in};
 ghost use Rattle.ele_inode_log.specs.Rows.{is_after};
 
@@ -85,7 +86,8 @@ impl Files {
 
 /// The cells that the map shows, with bytes of their own.
 fn copy_cells(alloc: Global, store: &BlockStore, map: &BlockMap) -> Result<ListOf<Cell>, NoMemory>
-    requires { LivesIn store.now map.now }
+    requires laws { StockLaws }
+    requires lives { LivesIn store.now map.now }
     ensures { IfOk result (λ cells. cells ≡ shown store.now map.now) }
 {
     let mut cells = Vec::with_capacity(alloc, map.slots())?;
@@ -115,6 +117,7 @@ fn copy_log(
     file: &File,
     rows: &mut Vec<VersionRow>,
 ) -> Result<(), NoMemory>
+    requires laws { StockLaws }
     requires kept { IsFileKept file.now }
     requires lives { AllByRecursion (λ row. LivesIn store.now row.cells) file.now.log.rows }
     ensures { OnOk result (rows.new.items ≡ rows.old.items ++ rows_in store.now file.now) }

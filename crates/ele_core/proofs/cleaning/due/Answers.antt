@@ -1,7 +1,11 @@
 use Rattle.std.proofs.Common.{◌∙◌}
+use Rattle.std.specs.List.{filter_map}
 use Rattle.ele_core.specs.Inside.{world_of}
-use Rattle.ele_core.proofs.Ripening.{scan_is}
+use Rattle.ele_core.proofs.Asked.{due_keys, scan_is}
+use Rattle.ele_world.specs.Scan.{due_key}
 use Rattle.ele_core.proofs.cleaning.due.Goals as goal
 
 pub returns : goal.returns
-returns c = c.from_vec.ensures ∙ c.in_ok-until.ensures.keys ∙ scan_is (world_of c.args.rows.now) c.args.rows.now.queue c.in_ok-until.ensures.ordered c.requires.queue
+returns c =
+    let w = world_of c.args.rows.now in
+    c.from_vec.ensures ∙ c.in_ok-until.ensures.only (filter_map (due_key w) w.versions) (due_keys c.args.rows.now c.requires) ∙ scan_is w

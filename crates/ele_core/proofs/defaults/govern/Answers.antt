@@ -1,7 +1,7 @@
 use Rattle.std.proofs.Common.{◌≡◌, position, Some, refl}
 use Rattle.ele_world.specs.World.{is_directory}
 use Rattle.ele_world.specs.Change.{governed_by}
-use Rattle.ele_world.proofs.Places.{set-first}
+use Rattle.ele_lists.proofs.Places.{set-first}
 use Rattle.ele_core.proofs.defaults.govern.Goals as goal
 
 pub returns-in-Some : goal.returns-in-Some

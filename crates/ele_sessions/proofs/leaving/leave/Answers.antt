@@ -1,5 +1,7 @@
 use Rattle.std.proofs.Common.{◌≡◌, refl, nat_lt, true, false, arith, sym}
 use Rattle.std.proofs.lemmas.Bool.Decides.{nat_tests}
+use Rattle.ele_lists.specs.Keys.{has_key}
+use Rattle.ele_lists.proofs.ShownAt.{place-within}
 use Rattle.ele_sessions.specs.Inside.{IsAt, IsGap, file_in}
 use Rattle.ele_sessions.proofs.Found.{not_missing, stays_open, drafts_kept, writers_fewer, goes, drafts_gone, writers_gone, same_set, same_read}
 use Rattle.ele_sessions.proofs.leaving.leave.Goals as goal
@@ -33,7 +35,7 @@ returns-clause-answer c =
     let last : nat_lt 1 c.index_mut-entry.result.now.writers ≡ false = grind (arith, nat_tests) in
     let set = same_set c.args.drafts.now.items c.in-Ok.at c.index_mut-entry.result.now c.index_mut-entry.ensures.value in
     let read = rw set at c.remove-entry.ensures.value in
-    let same = same_read _ _ _ c.index_mut-entry.result.now at.within read c.index_mut-entry.ensures.value in
+    let same = same_read _ _ _ c.index_mut-entry.result.now (place-within (has_key file_in c.args.file) c.args.drafts.now.items c.in-Ok.at at) read c.index_mut-entry.ensures.value in
     let gone = goes _ _ _ _ at c.index_mut-entry.ensures.value last in
     rw (c.ending-closing.ensures, c.into_inner-draft.ensures, same) (sym gone)
 

@@ -1,6 +1,6 @@
 use Rattle.std.proofs.Common.{◌<◌, ◌^◌, refl, arith}
 use Rattle.ele_sessions.specs.Inside.{IsAt, IsGap, Writers, file_in, is_of, more}
-use Rattle.ele_sessions.proofs.Edits.{all-found}
+use Rattle.ele_lists.proofs.Edits.{all-found}
 use Rattle.ele_sessions.proofs.Found.{some_draft, some_writers, no_draft, no_writers, found_writers, drafts_stay, writers_set}
 use Rattle.ele_sessions.proofs.opening.join.Goals as goal
 

@@ -1,13 +1,13 @@
 use Rattle.std.proofs.Common.{◌≡◌, ℕ, ◌+◌, ◌<◌, ◌^◌, List, length}
 use Rattle.ele_script.specs.Outlet.{outlet}
-use Rattle.ele_shell.specs.Kept.{kept}
+use Rattle.ele_shell.specs.LineLength.{line_unless_long}
 use Rattle.ele_shell.specs.Lines.{IsUnbroken}
 use Rattle.ele_shell.proofs.Pieces.{HasAnswered}
 use Rattle.ele_shell.proofs.lines.answer_piece.Given as goal
 
 abbrev pub invariant-lines : goal.invariant-lines
 invariant-lines g l =
-    (l.ended + length l.rest < 2 ^ 64) × ((part : List ℕ) → IsUnbroken part → l.fn.buffer ≡ kept part → HasAnswered l.fn.keeper l.keeper part l.piece l.rest l.buffer l.lines l.ended (outlet (g.W.Write.contents l.fn.writer) l.fn.output) (outlet (g.W.Write.contents l.writer) l.output))
+    (l.ended + length l.rest < 2 ^ 64) × ((part : List ℕ) → IsUnbroken part → l.fn.buffer ≡ line_unless_long part → HasAnswered l.fn.keeper l.keeper part l.piece l.rest l.buffer l.lines l.ended (outlet (g.W.Write.contents l.fn.writer) l.fn.output) (outlet (g.W.Write.contents l.writer) l.output))
 
 abbrev pub decreases-lines : goal.decreases-lines
 decreases-lines g l = length l.rest

@@ -3,7 +3,7 @@ use Rattle.ele_files.proofs.Endings.{all_precede}
 use Rattle.ele_files.proofs.file.File.close_version.Goals as goal
 use Rattle.ele_inode_log.specs.Rows.{Precedes}
 use Rattle.ele_inode_log.specs.declared.row.VersionRow as log
-use Rattle.ele_inode_log.proofs.Lists.{all-last}
+use Rattle.ele_lists.proofs.Ends.{all-last}
 
 pub append-requires-clause-last : goal.append-requires-clause-last
 append-requires-clause-last c last is =

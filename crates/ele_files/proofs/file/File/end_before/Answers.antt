@@ -2,7 +2,7 @@ use Rattle.std.proofs.Common.{◌≡◌, Some, None, refl, sym, ◌∙◌, ◌-�
 use Rattle.std.specs.Prelude.{find}
 use Rattle.ele_files.specs.Finishing.{ended_by}
 use Rattle.ele_files.proofs.Endings.{last_row, can_end, no_end, keeps_end}
-use Rattle.ele_files.proofs.Splits.{update_first-none, update_first-same}
+use Rattle.ele_lists.proofs.Cuts.{update_first-unfound, update_first-same}
 use Rattle.ele_files.proofs.file.File.end_before.Goals as goal
 use Rattle.ele_inode_log.specs.Rows.{is_numbered}
 use Rattle.ele_lists.proofs.Edits.{all-not_found}
@@ -26,4 +26,4 @@ returns-else-is_none-clause-ended c =
 pub returns-in_default-clause-ended : goal.returns-in_default-clause-ended
 returns-in_default-clause-ended c =
     let missing : find (is_numbered (c.args.self.now.next - 1)) c.args.self.now.log.rows ≡ None = rw c.before-2.ensures at (sym c.in_default.ensures.row) in
-    record { id = refl; policy = refl; next = refl; rows = sym (update_first-none (is_numbered (c.args.self.now.next - 1)) (ended_by c.args.now) c.args.self.now.log.rows (all-not_found (is_numbered (c.args.self.now.next - 1)) c.args.self.now.log.rows missing)) }
+    record { id = refl; policy = refl; next = refl; rows = sym (update_first-unfound (is_numbered (c.args.self.now.next - 1)) (ended_by c.args.now) c.args.self.now.log.rows (all-not_found (is_numbered (c.args.self.now.next - 1)) c.args.self.now.log.rows missing)) }

@@ -1,16 +1,13 @@
-use Rattle.std.proofs.Common.{length, sym, ap, ◌∙◌}
-use Rattle.ele_content.specs.Content.{content_of}
-use Rattle.ele_files.proofs.Asked.{draft-map, undrafted}
-use Rattle.ele_files.proofs.Lives.{shown-length}
+use Rattle.std.proofs.Common.{refl, sym, ◌∙◌}
+use Rattle.ele_files.proofs.Asked.{no_draft, draft_long}
 use Rattle.ele_files.proofs.files.Files.draft_length.Goals as goal
 
-pub returns-in-Some : goal.returns-in-Some
-returns-in-Some c =
+pub returns-in_err-map : goal.returns-in_err-map
+returns-in_err-map c =
     let i = c.self.inside in
-    let map = draft-map i.store i.files.items i.sessions c.args.file c.self.invariant.owed c.in-Some.map.now c.in-Some.ensures in
-    c.length.ensures ∙ rw (← c.self.view_is, map.1) (sym (shown-length i.store c.in-Some.map.now map.0))
+    c.from_residual.ensures ∙ rw (← c.self.view_is, no_draft i.store i.files.items i.sessions c.args.file c.in_err-map.ensures) refl
 
-pub returns-in-None : goal.returns-in-None
-returns-in-None c =
+pub returns : goal.returns
+returns c =
     let i = c.self.inside in
-    rw (← c.self.view_is) (sym (ap (λ cells. length (content_of cells)) (undrafted i.store i.files.items i.sessions c.args.file c.in-None.ensures)))
+    rw (← c.self.view_is, c.length.ensures) (sym (draft_long i.store i.files.items i.sessions c.args.file c.self.invariant c.in_ok-map.map.now c.in_ok-map.ensures))

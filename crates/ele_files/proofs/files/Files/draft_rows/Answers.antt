@@ -1,6 +1,7 @@
 use Rattle.std.proofs.Common.{◌++◌, ◌∷◌, [], sym, ap, ◌∙◌, arith}
+use Rattle.std.proofs.lemmas.Option.{slice_get_past}
 use Rattle.ele_files.proofs.Asked.{draft-map}
-use Rattle.ele_files.proofs.Copies.{draft-there, draft-next, got-none, taken-all}
+use Rattle.ele_files.proofs.Copies.{draft-there, draft-next, taken-all}
 use Rattle.ele_files.proofs.files.Files.draft_rows.Goals as goal
 use Rattle.ele_files.specs.Inside.{draft_in}
 
@@ -9,10 +10,10 @@ unreachable-requires-in_default-draft c =
     let i = c.self.inside in
     draft-there i.store i.sessions.drafts c.drafts_open.ensures.orderly.drafts_rise c.loop-place.place c.in-Some.draft c.in-Some.ensures c.in_default-draft.ensures
 
-pub copy_cells-requires : goal.copy_cells-requires
-copy_cells-requires c =
+pub copy_cells-requires-clause-lives : goal.copy_cells-requires-clause-lives
+copy_cells-requires-clause-lives c =
     let i = c.self.inside in
-    (draft-map i.store i.files.items i.sessions c.in-Some.draft.0 c.self.invariant.owed c.in-Some-draft.map.now c.in-Some-draft.ensures).0
+    (draft-map i.store i.files.items i.sessions c.in-Some.draft.0 c.self.invariant c.in-Some-draft.map.now c.in-Some-draft.ensures).0
 
 pub loop-place-preserved : goal.loop-place-preserved
 loop-place-preserved c =
@@ -23,5 +24,5 @@ loop-place-preserved c =
 pub returns : goal.returns
 returns c =
     let i = c.self.inside in
-    let all = taken-all (draft_in i.store) i.sessions.drafts c.loop-place.place (got-none i.sessions.drafts c.loop-place.place (omega (arith, c.loop-place-test.false, c.drafts_open-place-end.ensures.value))) in
+    let all = taken-all (draft_in i.store) i.sessions.drafts c.loop-place.place (slice_get_past i.sessions.drafts c.loop-place.place (omega (arith, c.loop-place-test.false, c.drafts_open-place-end.ensures.value))) in
     rw (← c.self.view_is) (c.from_vec.ensures ∙ (c.loop-place.invariant ∙ all))

@@ -1,5 +1,4 @@
 use Rattle.std.proofs.Common.{None, arith}
-use Rattle.ele_blocks.proofs.Owed.{owes_uncrowded}
 use Rattle.ele_files.proofs.Openings.{first_lives, maps_seen, open_keeps, open_seen}
 use Rattle.ele_files.proofs.Rows.{file-at, no-file, next-found}
 use Rattle.ele_files.proofs.files.Files.open_write.Goals as goal
@@ -7,8 +6,7 @@ use Rattle.ele_files.proofs.files.Files.open_write.Goals as goal
 pub unreachable-requires : goal.unreachable-requires
 unreachable-requires c =
     let i = c.self.inside in
-    let found = no-file i.files.items c.args.file (rw c.deref.ensures.value at c.in_default.ensures) in
-    let none = next-found i.files.items c.args.file None found in
+    let none = next-found i.files.items c.args.file None (no-file i.files.items c.args.file (rw c.deref.ensures.value at c.in_default.ensures)) in
     let there = rw (← c.self.view_is) at c.requires.there in
     omega (arith, none, there)
 
@@ -16,22 +14,19 @@ pub open_write-requires-clause-few : goal.open_write-requires-clause-few
 open_write-requires-clause-few c =
     let i = c.self.inside in
     let few = rw (← c.self.view_is) at c.requires.few in
-    owes_uncrowded i.store _ c.self.invariant.owed (omega (arith, few, maps_seen i.store i.files.items i.sessions.drafts))
+    c.self.invariant.laws.few i.store _ c.self.invariant.stocked (omega (arith, few, maps_seen i.store i.files.items i.sessions.drafts))
 
 pub open_write-requires-clause-lives : goal.open_write-requires-clause-lives
 open_write-requires-clause-lives c =
-    let i = c.self.inside in
-    let found = file-at i.files.items c.args.file c.in-Some.at c.index-held.result.now (rw c.deref.ensures.value at c.in-Some.ensures) c.index-held.ensures in
-    rw (c.first_map-map.ensures.map, c.new-empty.ensures) (first_lives i.store i.files.items i.sessions c.self.invariant c.args.file c.index-held.result.now found)
+    let found = file-at _ c.args.file c.in-Some.at c.index-held.result.now (rw c.deref.ensures.value at c.in-Some.ensures) c.index-held.ensures in
+    rw (c.first_map-map.ensures.map, c.new-empty.ensures) (first_lives _ _ _ c.self.invariant c.args.file c.index-held.result.now found)
 
 pub invariant_of-self : goal.invariant_of-self
 invariant_of-self c =
-    let i = c.self.inside in
-    let found = file-at i.files.items c.args.file c.in-Some.at c.index-held.result.now (rw c.deref.ensures.value at c.in-Some.ensures) c.index-held.ensures in
+    let found = file-at _ c.args.file c.in-Some.at c.index-held.result.now (rw c.deref.ensures.value at c.in-Some.ensures) c.index-held.ensures in
     open_keeps _ _ _ c.self.invariant c.args.file _ found _ _ c.args.now _ (rw c.new-empty.ensures at c.first_map-map.ensures.map) _ c.open_write.ensures.sessions c.open_write.ensures.opens c.open_write.ensures.err c.open_write.ensures.err_store
 
 pub returns-clause-ok : goal.returns-clause-ok
 returns-clause-ok c =
-    let i = c.self.inside in
-    let found = file-at i.files.items c.args.file c.in-Some.at c.index-held.result.now (rw c.deref.ensures.value at c.in-Some.ensures) c.index-held.ensures in
+    let found = file-at _ c.args.file c.in-Some.at c.index-held.result.now (rw c.deref.ensures.value at c.in-Some.ensures) c.index-held.ensures in
     rw (← c.self.view_is) (open_seen _ _ _ c.self.invariant c.args.file _ found _ _ c.args.now _ (rw c.new-empty.ensures at c.first_map-map.ensures.map) _ c.open_write.ensures.sessions c.open_write.ensures.opens)

@@ -3,7 +3,7 @@ use Rattle.ele_sessions.specs.Inside.{IsAt, IsGap, number_in, writers_in, writer
 use Rattle.ele_sessions.specs.Kept.{sessions_of}
 use Rattle.ele_sessions.proofs.Found.{found_handle, removed_handle, no_handle, closes, closed_is, closes_none, closed_none}
 use Rattle.ele_sessions.proofs.Keepings.{left_keeps, stays_while, is_drafted, file_of}
-use Rattle.ele_sessions.proofs.Places.{rises-map}
+use Rattle.ele_lists.proofs.ShownAt.{rises-map}
 use Rattle.ele_sessions.proofs.Order.{kept_orderly}
 use Rattle.ele_sessions.proofs.sessions.Sessions.close.Goals as goal
 
@@ -30,7 +30,7 @@ pub invariant_of-self : goal.invariant_of-self
 invariant_of-self c =
     let at : IsAt number_in c.args.handle c.self.inside.handles.items c.in-Ok.at = rw c.deref.ensures.value at c.in-Ok.ensures.found in
     let found = found_handle _ _ _ c.remove-file.result at c.remove-file.ensures.value in
-    let removed = removed_handle _ _ _ at in
+    let removed = removed_handle c.self.inside.handles.items c.args.handle c.in-Ok.at at in
     rw (c.leave.ensures.writers, c.remove-file.ensures.items, removed) (left_keeps _ _ _ c.self.invariant c.args.handle c.remove-file.result found)
 
 pub returns-clause-answer : goal.returns-clause-answer
@@ -47,7 +47,7 @@ returns-clause-sessions c =
     let found = found_handle _ _ _ c.remove-file.result at c.remove-file.ensures.value in
     let others = stays c.remove-file.result.file (writers_of c.self.inside.drafts.items) in
     let stay = stays_while _ _ _ c.self.invariant c.args.handle c.remove-file.result found in
-    let removed = removed_handle _ _ _ at in
+    let removed = removed_handle c.self.inside.handles.items c.args.handle c.in-Ok.at at in
     rw (← c.self.view_is, c.leave.ensures.drafts, c.remove-file.ensures.items, removed) (sym (closed_is (sessions_of c.self.inside) c.args.handle c.remove-file.result others found stay))
 
 pub returns-clause-orderly : goal.returns-clause-orderly

@@ -2,7 +2,7 @@ use Rattle.std.proofs.Common.{refl}
 use Rattle.ele_sessions.specs.Inside.{IsAt, IsGap, file_in, writers_in}
 use Rattle.ele_sessions.proofs.Found.{found_draft, missing_draft}
 use Rattle.ele_sessions.proofs.Keepings.{file_of}
-use Rattle.ele_sessions.proofs.Places.{rises-map}
+use Rattle.ele_lists.proofs.ShownAt.{rises-map}
 use Rattle.ele_sessions.proofs.sessions.Sessions.draft.Goals as goal
 
 pub place_of-requires : goal.place_of-requires

@@ -1,6 +1,6 @@
 use Rattle.ele_sessions.specs.Inside.{writers_in}
 use Rattle.ele_sessions.proofs.Keepings.{few_writers, joined_keeps, file_of}
-use Rattle.ele_sessions.proofs.Places.{rises-map}
+use Rattle.ele_lists.proofs.ShownAt.{rises-map}
 use Rattle.ele_sessions.proofs.sessions.Sessions.open_write.Goals as goal
 
 pub join-requires-clause-rise : goal.join-requires-clause-rise
@@ -13,4 +13,4 @@ join-requires-clause-room c =
 pub invariant_of-self-2 : goal.invariant_of-self-2
 invariant_of-self-2 c =
     let kept = joined_keeps _ _ _ c.self.invariant c.args.file in
-    rw (c.in_ok-join.ensures.writers, c.put.ensures, c.reserve.ensures.items) kept
+    rw (c.in_ok-join.ensures.writers, c.put.ensures.items, c.reserve.ensures.items) kept

@@ -3,7 +3,7 @@ use Rattle.ele_sessions.specs.Inside.{writers_in, writers_of}
 use Rattle.ele_sessions.specs.Kept.{sessions_of}
 use Rattle.ele_sessions.specs.Sessions.{handle_file}
 use Rattle.ele_sessions.proofs.Keepings.{file_drafted, file_of, peeked}
-use Rattle.ele_sessions.proofs.Places.{rises-map}
+use Rattle.ele_lists.proofs.ShownAt.{rises-map}
 use Rattle.ele_sessions.proofs.sessions.Sessions.peek_close.Goals as goal
 
 pub peek-requires-clause-rise : goal.peek-requires-clause-rise

@@ -2,7 +2,7 @@ use Rattle.std.proofs.Common.{◌≡◌, Some}
 use Rattle.ele_sessions.specs.Inside.{writers_in}
 use Rattle.ele_sessions.specs.Sessions.{handle_file}
 use Rattle.ele_sessions.proofs.Keepings.{file_drafted, file_of}
-use Rattle.ele_sessions.proofs.Places.{rises-map}
+use Rattle.ele_lists.proofs.ShownAt.{rises-map}
 use Rattle.ele_sessions.proofs.Order.{kept_orderly}
 use Rattle.ele_sessions.proofs.sessions.Sessions.write.Goals as goal
 

@@ -1,0 +1,46 @@
+-- The name of a new file, which comes and may have to go again.
+use Rattle.std.proofs.Common.{◌≡◌, ℕ, ◌+◌, ◌≤◌, Bool, true, false, not, List, [], ◌∷◌, ◌++◌, filter, refl, ap, ◌∙◌, arith, append-nil}
+use Rattle.std.specs.Prelude.{is_some}
+use Rattle.std.specs.List.{AllByRecursion}
+use Rattle.std.proofs.lemmas.Bool.Decides.{nat_tests}
+use Rattle.std.proofs.lemmas.List.Elements.{filter-append}
+use Rattle.ele_lists.proofs.Edits.{all-weaker, all-both}
+use Rattle.ele_lists.proofs.Filters.{filter-all}
+use Rattle.ele_names.specs.Rows.{Follows, born_row}
+use Rattle.ele_world.specs.Walk.{live_target}
+use Rattle.ele_world.specs.WellFormed.{AreApart, IsNameRow, IsThere, Files, Names, IsWellFormed}
+use Rattle.ele_world.specs.World.{World, next_of, is_target_file}
+use Rattle.ele_world.specs.declared.rows.NameRow.{NameRow}
+use Rattle.ele_world.specs.declared.rows.Target.{Target}
+use Rattle.ele_world.specs.declared.rows.Target.TheVariants.{File, Directory}
+use Rattle.ele_world.proofs.Files.{next_of-given}
+use Rattle.ele_world.proofs.KeptNames.{apart_from_new}
+
+module _ (w : World) (directory : ℕ) (name : List ℕ) (k : IsWellFormed w) where
+  abbrev id : ℕ
+  id = w.made.files + 1
+
+  abbrev named : NameRow
+  named = born_row directory name (File id) w.now
+
+  pub follows_new : is_some (live_target w.names directory name) ≡ false → AllByRecursion (λ row. Follows row named) w.names
+  follows_new free =
+      all-weaker (λ row. AreApart row named × IsNameRow w.files w.now row) (λ row. Follows row named) w.names
+      (λ row h. record { apart = h.0; born = λ d n. h.1.born })
+      (all-both _ _ w.names (apart_from_new w directory name named k free refl refl refl) (k.holds Names).each)
+
+  other_target : (target : Target) → IsThere w.files target → not (is_target_file id target) ≡ true
+  other_target (Directory d) there = refl
+  other_target (File file) there =
+      let given = next_of-given w.made.files w.made.versions w.files file (k.holds Files).each there in
+      grind (arith, nat_tests)
+
+  pub name_goes : filter (λ row. not (is_target_file id row.target)) (w.names ++ named ∷ []) ≡ w.names
+  name_goes =
+      filter-append (λ row. not (is_target_file id row.target)) w.names (named ∷ [])
+      ∙ rw own (append-nil (filter (λ row. not (is_target_file id row.target)) w.names))
+      ∙ filter-all (λ row. not (is_target_file id row.target)) w.names
+      (all-weaker (IsNameRow w.files w.now) (λ row. not (is_target_file id row.target) ≡ true) w.names (λ row h. other_target row.target h.there) (k.holds Names).each)
+    where
+      own : not (is_target_file id (File id)) ≡ false
+      own = grind (arith, nat_tests)

@@ -1,6 +1,0 @@
-use Rattle.std.proofs.Common.{◌≡◌, drop}
-use Rattle.ele_world.specs.Walk.{walk, walk_now}
-use Rattle.ele_core.proofs.walk.walk.Given as goal
-
-abbrev pub invariant-loop-name : goal.invariant-loop-name
-invariant-loop-name l = walk l.names l.at (drop l.name-index l.path) ≡ walk_now l.names l.path

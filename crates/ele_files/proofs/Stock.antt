@@ -1,0 +1,102 @@
+-- The maps of files and drafts as one stock, where one file or one draft has changed.
+use Rattle.std.proofs.Common.{◌≡◌, ℕ, ◌+◌, ◌-◌, Bool, List, [], ◌∷◌, ◌++◌, map, Some, refl, arith}
+use Rattle.std.specs.Prelude.{find}
+use Rattle.std.specs.List.{flat_map, sum_by, AllByRecursion}
+use Rattle.std.proofs.lemmas.List.Sums.{sum_by-append, sum_by-cons, sum_by_push}
+use Rattle.ele_blocks.specs.LivesIn.{LivesIn}
+use Rattle.ele_blocks.specs.Stock.{Tagged, SameStock}
+use Rattle.ele_blocks.specs.Store.{Store}
+use Rattle.ele_files.specs.Finishing.{ended_by, ended_rows}
+use Rattle.ele_files.specs.Inside.{row_stock, file_stock, draft_stock, stock_of, Keeps, is_id}
+use Rattle.ele_files.specs.declared.file.File.{File}
+use Rattle.ele_inode_log.specs.declared.row.VersionRow as log
+use Rattle.ele_inode_log.specs.Rows.{is_numbered}
+use Rattle.ele_lists.specs.Lists.{update_first, remove_first, insert_before}
+use Rattle.ele_lists.proofs.Alls.{all-left, all-right, all-split, flat_map-all, map-all}
+use Rattle.ele_lists.proofs.Edits.{all-found}
+use Rattle.ele_lists.proofs.Sums.{sum_by-update_first, sum_by-remove_first, sum_by-insert_before, sum_by-update_same, sum_by-around, sum_by-map, sum_by-flat_map}
+use Rattle.ele_sessions.specs.Sessions.{Draft, AllSessions, is_draft}
+
+-- a file with the rows and the next number of g
+abbrev pub over : File → File → File
+over g f = record f { next = g.next; log = g.log }
+
+total : (k : Tagged → ℕ) (files : List File) (drafts : List Draft) → sum_by k (stock_of files drafts) ≡ sum_by (λ f. sum_by k (file_stock f)) files + sum_by (λ d. k (draft_stock d)) drafts
+total k files drafts = omega (arith, sum_by-append k (flat_map file_stock files) (map draft_stock drafts), sum_by-flat_map k file_stock files, sum_by-map k draft_stock drafts)
+
+module _ (files : List File) (drafts : List Draft) where
+  module _ (p : Draft → Bool) where
+    pub draft_apart : (d : Draft) → find p drafts ≡ Some d → SameStock (stock_of files drafts) (draft_stock d ∷ stock_of files (remove_first p drafts))
+    draft_apart d found = record { sums = λ k. omega (arith, total k files drafts, total k files (remove_first p drafts), sum_by-cons k (draft_stock d) (stock_of files (remove_first p drafts)), sum_by-remove_first (λ x. k (draft_stock x)) p drafts d found) }
+
+    pub draft_changed : (g : Draft → Draft) (d : Draft) → find p drafts ≡ Some d → SameStock (stock_of files (update_first p g drafts)) (draft_stock (g d) ∷ stock_of files (remove_first p drafts))
+    draft_changed g d found = record { sums = λ k. omega (arith, total k files (update_first p g drafts), total k files (remove_first p drafts), sum_by-cons k (draft_stock (g d)) (stock_of files (remove_first p drafts)), sum_by-remove_first (λ x. k (draft_stock x)) p drafts d found, sum_by-update_first (λ x. k (draft_stock x)) p g drafts d found) }
+
+    pub draft_begun : (d : Draft) → SameStock (stock_of files (insert_before p d drafts)) (draft_stock d ∷ stock_of files drafts)
+    draft_begun d = record { sums = λ k. omega (arith, total k files (insert_before p d drafts), total k files drafts, sum_by-cons k (draft_stock d) (stock_of files drafts), sum_by-insert_before (λ x. k (draft_stock x)) p d drafts) }
+
+  -- a file comes with one row
+  pub file_added : (x : File) (row : log.VersionRow) → x.log.rows ≡ row ∷ [] → SameStock (stock_of (files ++ x ∷ []) drafts) (row_stock x.id row ∷ stock_of files drafts)
+  file_added x row rows = record {
+    sums = λ k.
+        let one : sum_by k (file_stock x) ≡ sum_by k (row_stock x.id row ∷ []) = rw rows refl in
+        omega (arith, one, total k (files ++ x ∷ []) drafts, total k files drafts, sum_by_push (λ f. sum_by k (file_stock f)) files x, sum_by-cons k (row_stock x.id row) [], sum_by-cons k (row_stock x.id row) (stock_of files drafts));
+  }
+
+  -- one file has other rows
+  module _ (id : ℕ) (f g : File) (found : find (is_id id) files ≡ Some f) where
+    exchanged : (k : Tagged → ℕ) → sum_by k (stock_of (update_first (is_id id) (over g) files) drafts) + sum_by (λ row. k (row_stock f.id row)) f.log.rows ≡ sum_by k (stock_of files drafts) + sum_by (λ row. k (row_stock f.id row)) g.log.rows
+    exchanged k = omega (
+      arith,
+      total k files drafts,
+      total k (update_first (is_id id) (over g) files) drafts,
+      sum_by-update_first (λ x. sum_by k (file_stock x)) (is_id id) (over g) files f found,
+      sum_by-map k (row_stock f.id) f.log.rows,
+      sum_by-map k (row_stock f.id) g.log.rows,
+    )
+
+    pub row_apart : (q : log.VersionRow → Bool) (row : log.VersionRow) → find q f.log.rows ≡ Some row → g.log.rows ≡ remove_first q f.log.rows → SameStock (stock_of files drafts) (row_stock f.id row ∷ stock_of (update_first (is_id id) (over g) files) drafts)
+    row_apart q row held rows = record {
+      sums = λ k.
+          let h : log.VersionRow → ℕ = λ r. k (row_stock f.id r) in
+          let left : sum_by h g.log.rows ≡ sum_by h (remove_first q f.log.rows) = rw rows refl in
+          omega (arith, exchanged k, left, sum_by-remove_first h q f.log.rows row held, sum_by-cons k (row_stock f.id row) (stock_of (update_first (is_id id) (over g) files) drafts));
+    }
+
+    pub rows_stay : g.log.rows ≡ f.log.rows → SameStock (stock_of files drafts) (stock_of (update_first (is_id id) (over g) files) drafts)
+    rows_stay rows = record {
+      sums = λ k.
+          let h : log.VersionRow → ℕ = λ r. k (row_stock f.id r) in
+          let same : sum_by h g.log.rows ≡ sum_by h f.log.rows = rw rows refl in
+          omega (arith, exchanged k, same);
+    }
+
+    pub row_added : (now : ℕ) (new : log.VersionRow) → g.log.rows ≡ ended_rows f now ++ new ∷ [] → SameStock (stock_of (update_first (is_id id) (over g) files) drafts) (row_stock f.id new ∷ stock_of files drafts)
+    row_added now new rows = record {
+      sums = λ k.
+          let h : log.VersionRow → ℕ = λ r. k (row_stock f.id r) in
+          let more : sum_by h g.log.rows ≡ sum_by h (ended_rows f now ++ new ∷ []) = rw rows refl in
+          omega (arith, exchanged k, more, sum_by_push h (ended_rows f now) new, sum_by-update_same h (is_numbered (f.next - 1)) (ended_by now) f.log.rows (λ r. refl), sum_by-cons k (row_stock f.id new) (stock_of files drafts));
+    }
+
+-- each map lives in the store
+abbrev pub LogLives : Store → File → Type 0
+LogLives s f = AllByRecursion (λ (row : log.VersionRow). LivesIn s row.cells) f.log.rows
+
+module _ (s : Store) (files : List File) (a : AllSessions) (kept : Keeps s files a) where
+  each_lives : AllByRecursion (λ t. LivesIn s t.layout) (stock_of files a.drafts)
+  each_lives = all-split (λ t. LivesIn s t.layout) (stock_of files a.drafts) (λ before t behind is. kept.laws.lives s t (before ++ behind) (kept.laws.same s (stock_of files a.drafts) (t ∷ before ++ behind) (record { sums = λ k. rw is (omega (arith, sum_by-around k before t behind, sum_by-cons k t (before ++ behind))) }) kept.stocked))
+
+  logs : (fs : List File) → AllByRecursion (λ f. AllByRecursion (λ t. LivesIn s t.layout) (file_stock f)) fs → AllByRecursion (LogLives s) fs
+  logs [] all = tt
+  logs (f ∷ fs) all = (map-all (row_stock f.id) (λ t. LivesIn s t.layout) f.log.rows all.0, logs fs all.1)
+
+  pub logs_live : AllByRecursion (LogLives s) files
+  logs_live = logs files (flat_map-all file_stock (λ t. LivesIn s t.layout) files (all-left (λ t. LivesIn s t.layout) (flat_map file_stock files) (map draft_stock a.drafts) each_lives))
+
+  pub draft_lives : (file : ℕ) (d : Draft) → find (is_draft file) a.drafts ≡ Some d → LivesIn s d.layout
+  draft_lives file d found = all-found (is_draft file) (λ d. LivesIn s d.layout) a.drafts d found (map-all draft_stock (λ t. LivesIn s t.layout) a.drafts (all-right (λ t. LivesIn s t.layout) (flat_map file_stock files) (map draft_stock a.drafts) each_lives))
+
+  -- a found row of a found file
+  pub row_lives : (id : ℕ) (q : log.VersionRow → Bool) (f : File) (row : log.VersionRow) → find (is_id id) files ≡ Some f → find q f.log.rows ≡ Some row → LivesIn s row.cells
+  row_lives id q f row there held = all-found q (λ (row : log.VersionRow). LivesIn s row.cells) f.log.rows row held (all-found (is_id id) (LogLives s) files f there logs_live)

@@ -1,0 +1,130 @@
+-- What lies between two entries of one group.
+use Rattle.std.proofs.Common.{◌≡◌, ℕ, ◌+◌, ◌≤◌, ◌<◌, ◌^◌, Bool, true, false, cond, IsTrue, List, [], ◌∷◌, refl, sym, ◌∙◌, arith, ◌⊎◌}
+use Rattle.std.specs.declared.cmp.Ordering.{Ordering}
+use Rattle.std.specs.declared.cmp.Ordering.TheVariants.{Less, Equal, Greater}
+use Rattle.std.specs.Ordering.{nat_cmp, ordering_then, ordering_reverse, is_gt, is_lt, is_eq}
+use Rattle.std.specs.Cmp.{IsTotalOrder, nat_cmp_total}
+use Rattle.std.specs.BTreeMap.{is_at}
+use Rattle.std.specs.BTreeMap.Range.{IsLeBy}
+use Rattle.std.specs.List.{list_any, count_by}
+use Rattle.std.proofs.lemmas.Cmp.{then_total, on_total, eq_by_cmp_equiv, tied_itself, alike_right}
+use Rattle.std.proofs.lemmas.Bool.{true≢false, false≢true}
+use Rattle.std.proofs.lemmas.List.Sums.{sum_by-cons, sum_by-le-sum_by}
+use Rattle.std.proofs.lemmas.Map.Steps.{list_any_congr}
+use Rattle.std.proofs.lemmas.Bool.Decides.{nat_tests}
+use Rattle.ele_lists.specs.Index.{entry_cmp, has, IsLastOf, IsNextGroup}
+use Rattle.ele_lists.specs.declared.index.Index.{Index}
+
+not_true : (b : Bool) → (b ≡ true → ⊥) → b ≡ false
+not_true true h = absurd (h refl)
+not_true false h = refl
+
+first_le : (x y z : Ordering) → is_gt (ordering_then (ordering_then x y) z) ≡ false → is_gt x ≡ false
+first_le Less y z h = refl
+first_le Equal y z h = refl
+first_le Greater y z h = h
+
+level : (x y : Ordering) → x ≡ ordering_reverse y → is_gt x ≡ false → is_gt y ≡ false → x ≡ Equal
+level Less Less e a b = cc
+level Less Equal e a b = cc
+level Less Greater e a b = absurd cc
+level Equal y e a b = refl
+level Greater y e a b = absurd cc
+
+rank_le : (x : Ordering) (r rank s t : ℕ) → x ≡ Equal → is_gt (ordering_then (ordering_then x (nat_cmp r rank)) (nat_cmp s t)) ≡ false → r ≤ rank
+rank_le x r rank s t e h = grind (arith, nat_tests)
+
+from_start : (x : Ordering) (q t : ℕ) → x ≡ Equal → is_gt (ordering_then (ordering_then x (nat_cmp 0 q)) (nat_cmp 0 t)) ≡ false
+from_start x q t e = grind (arith, nat_tests)
+
+to_end : (x : Ordering) (q rank t m : ℕ) → x ≡ Equal → q ≤ rank → t ≤ m → is_gt (ordering_then (ordering_then x (nat_cmp q rank)) (nat_cmp t m)) ≡ false
+to_end x q rank t m e a b = grind (arith, nat_tests)
+
+not_later : (x : Ordering) (r q s t : ℕ) → x ≡ Equal → is_lt (ordering_then (ordering_then x (nat_cmp r q)) (nat_cmp s t)) ≡ false → (q < r) ⊎ ((q ≡ r) × (t ≤ s))
+not_later x r q s t e h = grind (arith, nat_tests)
+
+module _ {G : Type 0} {cmp : G → G → Ordering} (o : IsTotalOrder cmp) where
+  entry_total : IsTotalOrder (entry_cmp cmp)
+  entry_total = then_total (then_total (on_total (λ e. e.0) o) (on_total (λ e. e.1) nat_cmp_total)) (on_total (λ e. e.2) nat_cmp_total)
+
+  -- what has the group in its place
+  has_same : (index : Index G) (g h : G) (r s : ℕ) → cmp g h ≡ Equal → has cmp index g r s ≡ has cmp index h r s
+  has_same index g h r s e = list_any_congr (eq_by_cmp_equiv entry_total) (g, r, s) (h, r, s) index.entries.keys (same (cmp g h) e (nat_cmp r r) (tied_itself nat_cmp_total r) (nat_cmp s s) (tied_itself nat_cmp_total s)) where
+    same : (x : Ordering) → x ≡ Equal → (y : Ordering) → y ≡ Equal → (z : Ordering) → z ≡ Equal → is_eq (ordering_then (ordering_then x y) z) ≡ true
+    same x a y b z d = rw (a, b, d) refl
+
+  module _ (index : Index G) (g : G) (rank : ℕ) where
+    -- the least and the greatest entry of the group up to the rank
+    abbrev pub InGroup : G × ℕ × ℕ → Type 0
+    InGroup e = IsLeBy (entry_cmp cmp) (g, 0, 0) e × IsLeBy (entry_cmp cmp) e (g, rank, 18446744073709551615)
+
+    pub in_group : (q t : ℕ) → q ≤ rank → t < 2 ^ 64 → InGroup (g, q, t)
+    in_group q t h k = (from_start (cmp g g) q t (tied_itself o g), to_end (cmp g g) q rank t 18446744073709551615 (tied_itself o g) h (omega arith))
+
+    pub last_of_group : (e : G × ℕ × ℕ) → InGroup e → IsTrue (has cmp index e.0 e.1 e.2)
+        → ((e' : G × ℕ × ℕ) → InGroup e' → IsTrue (has cmp index e'.0 e'.1 e'.2) → is_lt (entry_cmp cmp e e') ≡ false)
+        → IsLastOf (has cmp index g) rank e.1 e.2
+    last_of_group e inside there last =
+        let here : cmp g e.0 ≡ Equal = level (cmp g e.0) (cmp e.0 g) (o.antisymm g e.0) (first_le (cmp g e.0) (nat_cmp 0 e.1) (nat_cmp 0 e.2) inside.0) (first_le (cmp e.0 g) (nat_cmp e.1 rank) (nat_cmp e.2 18446744073709551615) inside.1) in
+        let back : cmp e.0 g ≡ Equal = o.antisymm e.0 g ∙ rw here refl in
+        record {
+          there = rw (has_same index g e.0 e.1 e.2 here) there;
+          up_to = rank_le (cmp e.0 g) e.1 rank e.2 18446744073709551615 back inside.1;
+          last = λ q t h k has. not_later (cmp e.0 g) e.1 q e.2 t back (last (g, q, t) (in_group q t h k) has);
+        }
+
+later_group : (x : Ordering) (m r s : ℕ) → ordering_then (ordering_then x (nat_cmp m r)) (nat_cmp m s) ≡ Less → r ≤ m → s ≤ m → x ≡ Less
+later_group Less m r s h a b = refl
+later_group Equal m r s h a b = absurd (no h) where
+  no : ordering_then (nat_cmp m r) (nat_cmp m s) ≡ Less → ⊥
+  no h = grind (arith, nat_tests)
+later_group Greater m r s h a b = absurd cc
+
+module _ {X : Type 0} (p q t : X → Bool) (weaker : (x : X) → p x ≡ true → q x ≡ true) where
+  le_at : (x : X) → cond (p x) 1 0 ≤ cond (q x) 1 0
+  le_at x = elim (p x) as (λ b. p x ≡ b → cond b 1 0 ≤ cond (q x) 1 0) [ true ↦ λ e. rw (weaker x e) (omega arith) | false ↦ λ _. omega arith ] refl
+
+  -- one more passes the weaker test
+  count-less : (xs : List X) → ((x : X) → t x ≡ true → (q x ≡ true) × (p x ≡ false)) → list_any t xs ≡ true → count_by p xs < count_by q xs
+  count-less [] one any = absurd (false≢true any)
+  count-less (x ∷ xs) one any =
+      let ps = sum_by-cons (λ (x : X). cond (p x) 1 0) x xs in
+      let qs = sum_by-cons (λ (x : X). cond (q x) 1 0) x xs in
+      elim (t x) as (λ b. t x ≡ b → count_by p (x ∷ xs) < count_by q (x ∷ xs)) [
+        | true ↦ λ e.
+            let is = one x e in
+            let rest = sum_by-le-sum_by (λ (x : X). cond (p x) 1 0) (λ (x : X). cond (q x) 1 0) xs le_at in
+            let here : cond (p x) 1 0 + 1 ≤ cond (q x) 1 0 = rw (is.0, is.1) (omega arith) in
+            omega arith
+        | false ↦ λ e.
+            let rest = count-less xs one (rw e at any) in
+            let here = le_at x in
+            omega arith
+      ] refl
+
+module _ {G : Type 0} {cmp : G → G → Ordering} (o : IsTotalOrder cmp) (index : Index G) (after : G) (e : G × ℕ × ℕ) where
+  pub next_of_group : entry_cmp cmp (after, 18446744073709551615, 18446744073709551615) e ≡ Less → e.1 ≤ 18446744073709551615 → e.2 ≤ 18446744073709551615
+      → IsTrue (has cmp index e.0 e.1 e.2)
+      → ((k : G × ℕ × ℕ) → entry_cmp cmp (after, 18446744073709551615, 18446744073709551615) k ≡ Less → IsTrue (has cmp index k.0 k.1 k.2) → IsLeBy (entry_cmp cmp) e k)
+      → IsNextGroup cmp index after e.0
+  next_of_group behind rank serial there least =
+      let later : cmp after e.0 ≡ Less = later_group (cmp after e.0) 18446744073709551615 e.1 e.2 behind rank serial in
+      record {
+        later = later;
+        first = λ q r s a b. not_true (has cmp index q r s) (λ h. too_soon (cmp e.0 q) (nat_cmp e.1 r) (nat_cmp e.2 s) (o.antisymm e.0 q ∙ rw b refl) (least (q, r, s) (rw a refl) h));
+        fewer = count-less (λ k. is_lt (cmp e.0 k.0)) (λ k. is_lt (cmp after k.0)) (is_at (entry_cmp cmp e))
+            (λ k h. below (cmp e.0 k.0) h (λ l. o.trans after e.0 k.0 later l)) index.entries.keys
+            (λ k h. let same = group_of (cmp e.0 k.0) (nat_cmp e.1 k.1) (nat_cmp e.2 k.2) h in (rw (sym (alike_right o e.0 k.0 after same), later) refl, rw same refl)) there;
+      } where
+        too_soon : (x y z : Ordering) → x ≡ Greater → is_gt (ordering_then (ordering_then x y) z) ≡ false → ⊥
+        too_soon x y z e h = true≢false (sym (rw e refl) ∙ h)
+
+        below : (x : Ordering) {y : Ordering} → is_lt x ≡ true → (x ≡ Less → y ≡ Less) → is_lt y ≡ true
+        below Less h f = rw (f refl) refl
+        below Equal h f = absurd (false≢true h)
+        below Greater h f = absurd (false≢true h)
+
+        group_of : (x y z : Ordering) → is_eq (ordering_then (ordering_then x y) z) ≡ true → x ≡ Equal
+        group_of Less y z h = absurd (false≢true h)
+        group_of Equal y z h = refl
+        group_of Greater y z h = absurd (false≢true h)

@@ -1,0 +1,76 @@
+//! Serial numbers by group, and within a group by rank.
+//! A contract sees an index as a test: whether it has a serial number at a group and a rank.
+ghost use Rattle.std.specs.Prelude.{◌≡◌, ℕ, ◌≤◌, ◌<◌, ◌^◌, cond, true, false, OnOk, OnErr, IfSome, IfNone};
+ghost use Rattle.std.specs.declared.cmp.Ordering.TheVariants.{Less};
+ghost use Rattle.ele_lists.specs.Index.{has, is_entry, IsLastOf, IsNextGroup};
+
+use std::alloc::{AllocError, Global};
+use std::collections::BTreeSet;
+use std::ops::Bound;
+
+/// Serial numbers of rows that stand elsewhere, each at the group and the rank of its row. Every
+/// call looks at a logarithm of them.
+#[derive(Drop)]
+pub struct Index<G: Ord> {
+    entries: BTreeSet<(G, u64, u64)>,
+}
+
+impl<G: Ord + Copy> Index<G> {
+    /// No serial numbers. It takes no memory.
+    pub fn new(alloc: Global) -> Index<G>
+        ensures { (q : G) (r : ℕ) (s : ℕ) → has G.cmp result q r s ≡ false }
+    {
+        Index {
+            entries: BTreeSet::new(alloc),
+        }
+    }
+
+    /// Puts a serial number at the group and the rank. `AllocError` where there is no room for it;
+    /// the index then has what it had.
+    pub fn insert(&mut self, group: G, rank: u64, serial: u64) -> Result<(), AllocError>
+        ensures ok { OnOk result ((q : G) (r : ℕ) (s : ℕ) → has G.cmp self.new q r s
+            ≡ cond (is_entry G.cmp group rank serial q r s) true (has G.cmp self.old q r s)) }
+        ensures err { OnErr result ((q : G) (r : ℕ) (s : ℕ) → has G.cmp self.new q r s
+            ≡ has G.cmp self.old q r s) }
+    {
+        let _new = self.entries.insert((group, rank, serial))?;
+        Ok(())
+    }
+
+    /// Takes a serial number from the group and the rank, if it is there.
+    pub fn remove(&mut self, group: G, rank: u64, serial: u64)
+        ensures { (q : G) (r : ℕ) (s : ℕ) → has G.cmp self.new q r s
+            ≡ cond (is_entry G.cmp group rank serial q r s) false (has G.cmp self.old q r s) }
+    {
+        let _was = self.entries.remove(&(group, rank, serial));
+    }
+
+    /// The last entry of the group up to the rank: its rank and its serial number.
+    pub fn last(&self, group: G, rank: u64) -> Option<(u64, u64)>
+        ensures some { IfSome result (λ e. IsLastOf (has G.cmp self.now group) rank e.0 e.1) }
+        ensures none { IfNone result ((r : ℕ) (s : ℕ) → r ≤ rank → s < 2 ^ 64
+            → has G.cmp self.now group r s ≡ false) }
+    {
+        let (_, rank, serial) = self
+            .entries
+            .range((group, 0, 0)..=(group, rank, u64::MAX))
+            .next_back()?;
+        Some((*rank, *serial))
+    }
+
+    /// The first group behind that one that has an entry.
+    pub fn next_group(&self, after: G) -> Option<G>
+        ensures some { IfSome result (λ g. IsNextGroup G.cmp self.now after g) }
+        ensures none { IfNone result ((q : G) (r : ℕ) (s : ℕ) → G.cmp after q ≡ Less
+            → has G.cmp self.now q r s ≡ false) }
+    {
+        let from = (after, u64::MAX, u64::MAX);
+        let (group, rank, serial) = self
+            .entries
+            .range((Bound::Excluded(from), Bound::Unbounded))
+            .next()?;
+        let _rank = *rank;
+        let _serial = *serial;
+        Some(*group)
+    }
+}

@@ -1,0 +1,82 @@
+-- Rows of one name are over when a later one is born, so the newest decides.
+use Rattle.std.proofs.Common.{◌≡◌, ℕ, ◌≤◌, Bool, true, false, ◌&&◌, ◌==◌, nat_le, nat_lt, List, [], ◌∷◌, Some, None, Option, is_none, is_some, refl, ap, sym, ◌∙◌, arith, find, cond}
+use Rattle.std.specs.List.{AllByRecursion}
+use Rattle.std.specs.Option.{option_map_or}
+use Rattle.std.specs.Str.{bytes_eq}
+use Rattle.std.proofs.lemmas.Bool.{false≢true}
+use Rattle.std.proofs.lemmas.Bool.Decides.{nat_tests}
+use Rattle.std.proofs.lemmas.Slice.Eq.{bytes_eq-Decides}
+use Rattle.ele_lists.specs.Lists.{AllLater}
+use Rattle.ele_lists.specs.Last.{last_passing, passing}
+use Rattle.ele_lists.proofs.Alls.{later-weaker}
+use Rattle.ele_lists.proofs.Lasts.{find_last}
+use Rattle.ele_moment.specs.Last.{last_moment}
+use Rattle.ele_world.specs.declared.rows.NameRow.{NameRow}
+use Rattle.ele_world.specs.NameRows.{is_named, covers, lives_past}
+use Rattle.ele_world.specs.Walk.{is_live_name}
+use Rattle.ele_names.specs.Kept.{is_born_by}
+use Rattle.ele_names.specs.Rows.{Follows}
+
+pub split : (a b : Bool) → (a && b) ≡ true → (a ≡ true) × (b ≡ true)
+split true b h = (refl, h)
+split false b h = absurd (false≢true h)
+
+equal : (a b : ℕ) → (a == b) ≡ true → a ≡ b
+equal a b h = grind (arith, nat_tests)
+
+below : (b t : ℕ) → nat_le b t ≡ true → b ≤ t
+below b t h = grind (arith, nat_tests)
+
+-- rows of one name stand in one directory and have one name
+pub same_name : (d : ℕ) (n : List ℕ) (row other : NameRow) → is_named d n row ≡ true → is_named d n other ≡ true → (row.directory ≡ other.directory) × (row.name ≡ other.name)
+same_name d n row other a b =
+    let this = split (row.directory == d) (bytes_eq row.name n) a in
+    let that = split (other.directory == d) (bytes_eq other.name n) b in
+    (equal row.directory d this.0 ∙ sym (equal other.directory d that.0), (bytes_eq-Decides row.name n).0 this.1 ∙ sym ((bytes_eq-Decides other.name n).0 that.1))
+
+find_same : {X : Type 0} (p q : X → Bool) (xs : List X) → ((x : X) → p x ≡ q x) → find p xs ≡ find q xs
+find_same p q [] same = refl
+find_same p q (x ∷ xs) same = rw (same x) (ap (λ o. cond (q x) (Some x) o) (find_same p q xs same))
+
+regroup : (a b c : Bool) → (a && (b && c)) ≡ ((a && b) && c)
+regroup true b c = refl
+regroup false b c = refl
+
+over : (o : Option ℕ) (death b t : ℕ) → o ≡ Some death → death ≤ b → b ≤ t → option_map_or (λ death. nat_lt t death) o true ≡ false
+over o death b t is le up = rw is (grind (arith, nat_tests))
+
+module _ (d : ℕ) (n : List ℕ) (rows : List NameRow) (apart : AllLater Follows rows) where
+  -- the live row is the newest, if that is live
+  pub live_is_newest : (newest : Option NameRow) → newest ≡ last_passing (is_named d n) rows → find (is_live_name d n) rows ≡ passing (λ row. is_none row.death) newest
+  live_is_newest newest is =
+      find_same (is_live_name d n) (λ row. is_named d n row && is_none row.death) rows (λ row. regroup (row.directory == d) (bytes_eq row.name n) (is_none row.death))
+      ∙ find_last (is_named d n) (λ row. is_none row.death) rows
+      (later-weaker Follows (λ x y. is_named d n x ≡ true → is_named d n y ≡ true → is_none x.death ≡ false) rows
+      (λ x y follows a b. let same = same_name d n x y a b in rw (follows.apart same.0 same.1).1 refl) apart)
+      ∙ ap (passing (λ row. is_none row.death)) (sym is)
+
+  -- the row that covers a moment is the newest by then, if it lives on
+  pub covering_is_newest : (t : ℕ) (newest : Option NameRow) → newest ≡ last_passing (is_born_by d n t) rows → find (λ row. is_named d n row && covers t row) rows ≡ passing (lives_past t) newest
+  covering_is_newest t newest is =
+      find_same (λ row. is_named d n row && covers t row) (λ row. is_born_by d n t row && lives_past t row) rows (λ row. regroup (is_named d n row) (nat_le row.birth t) (lives_past t row))
+      ∙ find_last (is_born_by d n t) (lives_past t) rows
+      (later-weaker Follows (λ x y. is_born_by d n t x ≡ true → is_born_by d n t y ≡ true → lives_past t x ≡ false) rows
+      (λ x y follows a b.
+      let first = split (is_named d n x) (nat_le x.birth t) a in
+      let second = split (is_named d n y) (nat_le y.birth t) b in
+      let same = same_name d n x y first.0 second.0 in
+      let dead = follows.apart same.0 same.1 in
+      over x.death dead.0 y.birth t dead.1 dead.2 (below y.birth t second.1)) apart)
+      ∙ ap (passing (lives_past t)) (sym is)
+
+-- all rows are born by the greatest number of seconds
+pub born_by_end : (d : ℕ) (n : List ℕ) (rows : List NameRow) → AllByRecursion (λ row. row.birth ≤ last_moment) rows → last_passing (is_born_by d n 18446744073709551615) rows ≡ last_passing (is_named d n) rows
+born_by_end d n [] all = refl
+born_by_end d n (row ∷ rows) all = rw (born_by_end d n rows all.1, same (is_named d n row) row.birth all.0) refl where
+  same : (a : Bool) (b : ℕ) → b ≤ last_moment → (a && nat_le b 18446744073709551615) ≡ a
+  same true b h = grind (arith, nat_tests)
+  same false b h = refl
+
+pub still_live : (o : Option ℕ) → is_some o ≡ false → is_none o ≡ true
+still_live (Some e) h = absurd cc
+still_live None h = refl

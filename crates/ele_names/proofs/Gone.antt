@@ -1,0 +1,154 @@
+-- A row between others that dies, or leaves.
+use Rattle.std.proofs.Common.{◌≡◌, ℕ, ◌≤◌, ◌<◌, ◌^◌, Bool, true, false, cond, not, ◌&&◌, ◌==◌, List, [], ◌∷◌, ◌++◌, length, filter, Some, None, Option, is_none, refl, sym, ap, ◌∙◌, arith, length-append}
+use Rattle.std.specs.List.Sorted.{IsStrictlySortedBy}
+use Rattle.std.specs.Str.{bytes_eq}
+use Rattle.std.specs.Ordering.{nat_cmp}
+use Rattle.std.specs.BTreeMap.{is_at, insert_entry}
+use Rattle.std.specs.Map.{keys_of, values_of, remove_entry}
+use Rattle.std.proofs.lemmas.Bool.{true≢false, false≢true}
+use Rattle.std.proofs.lemmas.Bool.Decides.{nat_tests}
+use Rattle.ele_lists.specs.Index.{has, IsLastOf}
+use Rattle.ele_lists.specs.Lists.{update_first}
+use Rattle.ele_lists.specs.Serial.{value_at, is_placed}
+use Rattle.ele_lists.proofs.Alls.{all-append, all-around, all-mid, all-exchange, later-around, later-without, later-exchange}
+use Rattle.ele_lists.proofs.Cuts.{update_first-at}
+use Rattle.ele_lists.proofs.Edits.{all-weaker}
+use Rattle.ele_lists.proofs.Filters.{filter-all}
+use Rattle.ele_lists.proofs.Indexed.{index_change}
+use Rattle.ele_lists.proofs.Serials.{IsSplitAt, split_at, all_keys_without, all_from_each, found_key}
+use Rattle.ele_moment.specs.Last.{last_moment}
+use Rattle.ele_world.specs.declared.rows.NameRow.{NameRow}
+use Rattle.ele_world.specs.declared.rows.Target.{Target}
+use Rattle.ele_world.specs.declared.rows.Target.TheVariants.{File, Directory}
+use Rattle.ele_world.specs.NameRows.{is_named}
+use Rattle.ele_world.specs.Walk.{is_live_name}
+use Rattle.ele_names.specs.declared.lives.Lives.{Lives}
+use Rattle.ele_names.specs.declared.names.Names.TheInside.{Inside}
+use Rattle.ele_names.specs.declared.table.Table.{Table}
+use Rattle.ele_names.specs.Counted.{AreCounted, Leaves}
+use Rattle.ele_names.specs.Kept.{IsKept, rows_of}
+use Rattle.ele_names.specs.Placed.{ArePlaced}
+use Rattle.ele_names.specs.Rows.{Follows, dies}
+use Rattle.ele_names.specs.Spots.{is_other, target_cmp, target_eq}
+use Rattle.ele_names.proofs.Added.{placed_same}
+use Rattle.ele_names.proofs.Apart.{same_name}
+use Rattle.ele_names.proofs.Counts.{leaves_without, leaves_dead}
+
+named_live : (d : ℕ) (n : List ℕ) (row : NameRow) → is_named d n row ≡ true → is_none row.death ≡ true → is_live_name d n row ≡ true
+named_live d n row = all (row.directory == d) (bytes_eq row.name n) (is_none row.death) where
+  all : (a b c : Bool) → (a && b) ≡ true → c ≡ true → (a && (b && c)) ≡ true
+  all true b c h k = rw (h, k) refl
+  all false b c h k = h
+
+named_dead : (d : ℕ) (n : List ℕ) (row : NameRow) → (is_named d n row ≡ true → is_none row.death ≡ false) → is_live_name d n row ≡ false
+named_dead d n row = any (row.directory == d) (bytes_eq row.name n) (is_none row.death) where
+  any : (a b c : Bool) → ((a && b) ≡ true → c ≡ false) → (a && (b && c)) ≡ false
+  any true true c h = h refl
+  any true false c h = refl
+  any false b c h = refl
+
+filter_between : {X : Type 0} (p : X → Bool) (before : List X) (x : X) (behind : List X) → p x ≡ false → filter p (before ++ x ∷ behind) ≡ filter p (before ++ behind)
+filter_between p [] x behind h = rw h refl
+filter_between p (b ∷ before) x behind h = ap (λ ys. cond (p b) (b ∷ ys) ys) (filter_between p before x behind h)
+
+-- a target is where it stands
+target_stands : (t u : Target) (r : ℕ) → r ≤ 0 → is_placed target_cmp t 0 u r ≡ target_eq t u
+target_stands (File a) (File b) r h = grind (arith, nat_tests)
+target_stands (File a) (Directory b) r h = refl
+target_stands (Directory a) (File b) r h = refl
+target_stands (Directory a) (Directory b) r h = grind (arith, nat_tests)
+
+module _ (a : Inside) (kept : IsKept a.table a.made a.lives) where
+  abbrev es : List (ℕ × NameRow)
+  es = a.table.rows.entries
+
+  module _ (s : ℕ) (row : NameRow) (at : value_at es s ≡ Some row) where
+    c : IsSplitAt es s row
+    c = split_at es s row kept.is_table.rising at
+
+    module _ (live : is_none row.death ≡ true) (moment : ℕ) where
+      -- nothing of its name follows a live row
+      over : (b : NameRow) → Follows row b → Follows (dies moment row) b
+      over b follows = record { apart = λ d n. no d n; born = follows.born } where
+        no : {A : Type 0} → row.directory ≡ b.directory → row.name ≡ b.name → A
+        no d n = let dead : is_none row.death ≡ false = rw (follows.apart d n).1 refl in absurd (true≢false (sym live ∙ dead))
+
+      pub kept_dead : (t : Table) (lives : Lives) → t.places ≡ a.table.places → t.rows.entries ≡ insert_entry nat_cmp es s (dies moment row)
+          → IsStrictlySortedBy nat_cmp (keys_of t.rows.entries)
+          → ((k : ℕ) → value_at t.rows.entries k ≡ cond (is_at (nat_cmp s) k) (Some (dies moment row)) (value_at es k))
+          → ((was now : List NameRow) → Leaves row was now → AreCounted was a.lives → AreCounted now lives)
+          → IsKept t a.made lives
+      kept_dead t lives places is rising now counts = record {
+        is_table = record {
+          rising = rising;
+          short = rw keys_are kept.is_table.short;
+          born = rw rows_are (let born = rw c.values at kept.is_table.born in all-exchange (λ row. row.birth ≤ last_moment) c.before row (dies moment row) c.behind (all-mid (λ row. row.birth ≤ last_moment) c.before row c.behind born) born);
+          apart = rw rows_are (later-exchange Follows c.before row (dies moment row) c.behind (λ b h. record { apart = h.apart; born = h.born }) (λ rows. all-weaker (Follows row) (Follows (dies moment row)) rows over) (rw c.values at kept.is_table.apart));
+          placed = rw places (record {
+            named = index_change (value_at t.rows.entries) s row (dies moment row) a.table.places.by_name kept.is_table.placed.named at (λ q r. refl) now;
+            targeted = index_change (value_at t.rows.entries) s row (dies moment row) a.table.places.by_target kept.is_table.placed.targeted at (λ q r. refl) now;
+          });
+        };
+        below = rw keys_are kept.below;
+        few = rw rows_are (let few = kept.few in let same = ap length c.values in omega (arith, length-append c.before (row ∷ c.behind), length-append c.before (dies moment row ∷ c.behind)));
+        fits = kept.fits;
+        counts = rw rows_are (counts (rows_of a.table) (c.before ++ dies moment row ∷ c.behind) (rw c.values (leaves_dead row (dies moment row) refl c.before c.behind)) kept.counts);
+      } where
+        rows_are : rows_of t ≡ c.before ++ dies moment row ∷ c.behind
+        rows_are = ap values_of is ∙ c.set (dies moment row)
+
+        keys_are : keys_of t.rows.entries ≡ keys_of es
+        keys_are = ap keys_of is ∙ c.set_keys (dies moment row)
+
+      pub killed : (d : ℕ) (n : List ℕ) → is_named d n row ≡ true → values_of (insert_entry nat_cmp es s (dies moment row)) ≡ update_first (is_live_name d n) (dies moment) (rows_of a.table)
+      killed d n named =
+          c.set (dies moment row)
+          ∙ sym (rw c.values (update_first-at (is_live_name d n) (dies moment) c.before row c.behind
+          (all-weaker (λ b. Follows b row) (λ b. is_live_name d n b ≡ false) c.before
+          (λ b follows. named_dead d n b (λ is. let same = same_name d n b row is named in rw (follows.apart same.0 same.1).1 refl))
+          (later-around Follows c.before row c.behind (rw c.values at kept.is_table.apart)).0)
+          (named_live d n row named live)))
+
+    pub kept_without : (t : Table) (lives : Lives) → t.rows.entries ≡ remove_entry (is_at (nat_cmp s)) es
+        → IsStrictlySortedBy nat_cmp (keys_of t.rows.entries)
+        → ((k : ℕ) → value_at t.rows.entries k ≡ cond (is_at (nat_cmp s) k) None (value_at es k))
+        → ((at : ℕ → Option NameRow) → at s ≡ Some row → ArePlaced at a.table.places → ArePlaced (λ k. cond (is_at (nat_cmp s) k) None (at k)) t.places)
+        → ((was now : List NameRow) → Leaves row was now → AreCounted was a.lives → AreCounted now lives)
+        → IsKept t a.made lives
+    kept_without t lives is rising now placed counts = record {
+      is_table = record {
+        rising = rising;
+        short = rw is (all_keys_without (λ k. k < 2 ^ 64) (is_at (nat_cmp s)) es kept.is_table.short);
+        born = rw rows_are (let born = all-around (λ row. row.birth ≤ last_moment) c.before row c.behind (rw c.values at kept.is_table.born) in all-append (λ row. row.birth ≤ last_moment) c.before c.behind born.0 born.2);
+        apart = rw rows_are (later-without Follows c.before row c.behind (rw c.values at kept.is_table.apart));
+        placed = placed_same (λ k. cond (is_at (nat_cmp s) k) None (value_at es k)) (value_at t.rows.entries) t.places now (placed (value_at es) at kept.is_table.placed);
+      };
+      below = rw is (all_keys_without (λ k. k < a.made) (is_at (nat_cmp s)) es kept.below);
+      few = rw rows_are (let few = kept.few in let same = ap length c.values in omega (arith, length-append c.before (row ∷ c.behind), length-append c.before c.behind));
+      fits = kept.fits;
+      counts = rw rows_are (counts (rows_of a.table) (c.before ++ c.behind) (rw c.values (leaves_without row c.before c.behind)) kept.counts);
+    } where
+      rows_are : rows_of t ≡ c.before ++ c.behind
+      rows_are = ap values_of is ∙ c.without
+
+    pub fewer : length (values_of (remove_entry (is_at (nat_cmp s)) es)) < length (rows_of a.table)
+    fewer = rw (c.without, c.values) (omega (arith, length-append c.before c.behind, length-append c.before (row ∷ c.behind)))
+
+    pub others_stay : (target : Target) → is_other target row ≡ false → filter (is_other target) (values_of (remove_entry (is_at (nat_cmp s)) es)) ≡ filter (is_other target) (rows_of a.table)
+    others_stay target its = rw (c.without, c.values) (sym (filter_between (is_other target) c.before row c.behind its))
+
+  module _ (target : Target) where
+    abbrev has_target : ℕ → ℕ → Bool
+    has_target = has target_cmp a.table.places.by_target target
+
+    pub none_of_target : ((r s : ℕ) → r ≤ 0 → s < 2 ^ 64 → has_target r s ≡ false) → filter (is_other target) (rows_of a.table) ≡ rows_of a.table
+    none_of_target none = filter-all (is_other target) (rows_of a.table) (all_from_each (λ row. is_other target row ≡ true) es kept.is_table.rising (λ s row at.
+        ap not (sym (target_stands row.target target 0 (omega arith)) ∙ sym (kept.is_table.placed.targeted.each target 0 s ∙ rw at refl)
+        ∙ none 0 s (omega arith) (found_key (λ k. k < 2 ^ 64) es s row kept.is_table.short at))))
+
+    module _ (r s : ℕ) (last : IsLastOf has_target 0 r s) where
+      pub row_there : value_at es s ≡ None → ⊥
+      row_there at = false≢true (sym (kept.is_table.placed.targeted.each target r s ∙ rw at refl) ∙ last.there)
+
+      pub its_target : (row : NameRow) → value_at es s ≡ Some row → is_other target row ≡ false
+      its_target row at = ap not (sym (target_stands row.target target r last.up_to) ∙ sym (kept.is_table.placed.targeted.each target r s ∙ rw at refl) ∙ last.there)

@@ -1,0 +1,10 @@
+use Rattle.std.proofs.Common.{refl}
+use Rattle.ele_lists.proofs.Sums.{any-count}
+use Rattle.ele_world.specs.declared.rows.Target.TheVariants.{Directory}
+use Rattle.ele_world.specs.NameRows.{is_live_directory}
+use Rattle.ele_names.specs.Kept.{rows_of}
+use Rattle.ele_names.proofs.Counts.{directory_names}
+use Rattle.ele_names.proofs.names.Names.dir_live.Goals as goal
+
+pub returns : goal.returns
+returns c = rw (← c.self.view_is, any-count (is_live_directory c.args.directory) (rows_of c.self.inside.table), c.count.ensures, c.self.invariant.counts.of_target (Directory c.args.directory), directory_names c.args.directory (rows_of c.self.inside.table)) refl

@@ -1,0 +1,8 @@
+use Rattle.std.proofs.Common.{refl}
+use Rattle.ele_world.specs.NameRows.{is_live_in}
+use Rattle.ele_names.specs.Kept.{rows_of}
+use Rattle.ele_names.proofs.Counts.{none_counted}
+use Rattle.ele_names.proofs.names.Names.is_empty.Goals as goal
+
+pub returns : goal.returns
+returns c = rw (← c.self.view_is, none_counted (is_live_in c.args.directory) (rows_of c.self.inside.table), c.count.ensures, c.self.invariant.counts.in_directory c.args.directory) refl

@@ -1,0 +1,7 @@
+use Rattle.std.proofs.Common.{refl}
+use Rattle.ele_lists.proofs.Sums.{any-count}
+use Rattle.ele_world.specs.World.{is_live_name_of}
+use Rattle.ele_names.proofs.names.Names.is_live.Goals as goal
+
+pub returns : goal.returns
+returns c = rw (any-count (is_live_name_of c.args.file) c.args.self.now, c.names_of.ensures) refl

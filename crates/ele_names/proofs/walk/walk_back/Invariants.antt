@@ -1,0 +1,8 @@
+use Rattle.std.proofs.Common.{◌≡◌, drop}
+use Rattle.ele_world.specs.WalkAt.{walk_covering}
+use Rattle.ele_world.specs.World.{root}
+use Rattle.ele_world.specs.declared.rows.Target.TheVariants.{Directory}
+use Rattle.ele_names.proofs.walk.walk_back.Given as goal
+
+abbrev pub invariant-loop-name : goal.invariant-loop-name
+invariant-loop-name l = walk_covering l.names l.moment l.at (drop l.name-index l.path) ≡ walk_covering l.names l.moment (Directory root) l.path

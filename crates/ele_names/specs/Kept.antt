@@ -1,0 +1,40 @@
+-- What the fields of `Names` are to each other. No public clause cites this module.
+use Rattle.std.specs.Prelude.{ℕ, ◌≤◌, ◌<◌, ◌^◌, ◌&&◌, nat_le, Bool, List, length}
+use Rattle.std.specs.List.{AllByRecursion}
+use Rattle.std.specs.List.Sorted.{IsStrictlySortedBy}
+use Rattle.std.specs.Ordering.{nat_cmp}
+use Rattle.std.specs.Map.{keys_of, values_of}
+use Rattle.ele_lists.specs.Lists.{AllLater}
+use Rattle.ele_lists.specs.Serial.{value_at}
+use Rattle.ele_moment.specs.Last.{last_moment}
+use Rattle.ele_world.specs.declared.rows.NameRow.{NameRow}
+use Rattle.ele_world.specs.NameRows.{is_named}
+use Rattle.ele_names.specs.declared.lives.Lives.{Lives}
+use Rattle.ele_names.specs.declared.table.Table.{Table}
+use Rattle.ele_names.specs.Rows.{Follows}
+use Rattle.ele_names.specs.Placed.{ArePlaced}
+use Rattle.ele_names.specs.Counted.{AreCounted}
+
+-- the rows, in order of making
+abbrev pub rows_of : Table → List NameRow
+rows_of table = values_of table.rows.entries
+
+-- a row of that name in the directory that was born by the moment
+abbrev pub is_born_by : ℕ → List ℕ → ℕ → NameRow → Bool
+is_born_by directory name moment row = is_named directory name row && nat_le row.birth moment
+
+-- the rows stand at their places, and those of one name follow each other
+pub record IsTable (table : Table) : Type 0 where
+  pub rising : IsStrictlySortedBy nat_cmp (keys_of table.rows.entries)
+  pub short : AllByRecursion (λ serial. serial < 2 ^ 64) (keys_of table.rows.entries)
+  pub born : AllByRecursion (λ row. row.birth ≤ last_moment) (rows_of table)
+  pub apart : AllLater Follows (rows_of table)
+  pub placed : ArePlaced (value_at table.rows.entries) table.places
+
+-- each serial number is below the next one, and the live rows are counted
+pub record IsKept (table : Table) (made : ℕ) (lives : Lives) : Type 0 where
+  pub is_table : IsTable table
+  pub below : AllByRecursion (λ serial. serial < made) (keys_of table.rows.entries)
+  pub few : length (rows_of table) ≤ made
+  pub fits : made < 2 ^ 64
+  pub counts : AreCounted (rows_of table) lives

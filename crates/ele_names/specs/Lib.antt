@@ -1,0 +1,6 @@
+pub mod Rows
+pub mod Listed
+pub mod Spots
+pub mod Placed
+pub mod Counted
+pub mod Kept

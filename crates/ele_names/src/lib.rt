@@ -1,0 +1,14 @@
+//! Name rows, which name stood for what in which directory, from when until when, and where paths led.
+//! A contract sees the rows as their list in order of making, and how many were ever made.
+#![tactic(auto)]
+
+mod lives;
+mod names;
+mod places;
+mod spot;
+mod table;
+mod walk;
+
+pub use ele_world::{NameRow, Target};
+pub use names::Names;
+pub use walk::{parent_now, resolve_at, resolve_now};

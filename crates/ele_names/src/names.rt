@@ -1,0 +1,296 @@
+//! All name rows.
+//! A contract sees them as their list in order of making.
+ghost use Rattle.std.specs.Prelude.{◌≡◌, ℕ, ◌+◌, ◌<◌, ◌^◌, ◌++◌, ◌∷◌, [], List, false, not, map, filter, length, slice_get, IsTrue, IsSome, IfOk, OnOk, OnErr};
+ghost use Rattle.std.specs.BTreeMap.{is_at};
+ghost use Rattle.std.specs.Cmp.Lexicographic.{slice_cmp};
+ghost use Rattle.std.specs.List.{count_by, list_any, AllByRecursion};
+ghost use Rattle.std.specs.List.Sorted.{IsStrictlySortedBy};
+ghost use Rattle.std.specs.Map.{keys_of, lookup};
+ghost use Rattle.std.specs.Option.{option_map, option_to_list};
+ghost use Rattle.std.specs.Ordering.{nat_cmp};
+ghost use Rattle.ele_lists.specs.Lists.{update_first};
+ghost use Rattle.ele_world.specs.NameRows.{target_at, last_dead, is_live_in, is_live_directory};
+ghost use Rattle.ele_world.specs.Walk.{is_live_name, live_target};
+ghost use Rattle.ele_world.specs.World.{is_live_name_of, is_target_file};
+ghost use Rattle.ele_names.specs.Listed.{by_name, name_cmp};
+ghost use Rattle.ele_names.specs.Rows.{born_row, dies, Follows};
+ghost use Rattle.ele_names.specs.Spots.{at_spot, dead_at_spot, entry_at, name_at, is_other};
+
+use crate::lives::Lives;
+use crate::spot::Spot;
+use crate::table::{Table, lives_past};
+use ele_moment::{DirId, FileId, Moment, Name, NoMemory};
+use ele_world::{NameRow, Target};
+use std::alloc::Global;
+use std::marker::Model;
+
+/// All name rows, each with a serial number in order of making.
+#[derive(Drop)]
+pub struct Names {
+    table: Table,
+    made: u64,
+    lives: Lives,
+    alloc: Global,
+}
+
+impl Model for Names {
+    ghost use Rattle.std.specs.Prelude.{List};
+    ghost use Rattle.ele_names.specs.Kept.{IsKept, rows_of};
+    ghost use Rattle.ele_world.specs.declared.rows.NameRow.{NameRow};
+
+    ghost Value = { List NameRow };
+
+    ghost view = { λ names. rows_of names.table };
+
+    ghost invariant = { λ names. IsKept names.table names.made names.lives };
+}
+
+impl Names {
+    /// No rows. It takes no memory; later calls take theirs from `alloc`.
+    pub fn new(alloc: Global) -> Names
+        ensures { result ≡ [] }
+    {
+        Names {
+            table: Table::new(alloc),
+            made: 0,
+            lives: Lives::new(alloc),
+            alloc,
+        }
+    }
+
+    /// Makes a live name. The caller knows that no name of this kind is live, and that those there
+    /// were are over. `NoMemory` where there is no room for it, or no serial number: 2^64 rows were
+    /// made then. The rows are as they were.
+    pub fn add(
+        &mut self,
+        directory: DirId,
+        name: Name,
+        target: Target,
+        birth: Moment,
+    ) -> Result<(), NoMemory>
+        requires { AllByRecursion
+            (λ row. Follows row (born_row directory name target birth)) self.old }
+        ensures ok { OnOk result
+            (self.new ≡ self.old ++ born_row directory name target birth ∷ []) }
+        ensures err { OnErr result (self.new ≡ self.old) }
+    {
+        let row = NameRow {
+            directory,
+            name,
+            target,
+            birth,
+            death: None,
+        };
+        let serial = self.made;
+        let Some(made) = serial.checked_add(1) else {
+            return Err(NoMemory);
+        };
+        self.lives.reserve()?;
+        self.table.places.enter(&row, serial)?;
+        if let Err(_refused) = self.table.rows.insert(serial, row) {
+            self.table.places.leave(&row, serial);
+            return Err(NoMemory);
+        }
+        self.lives.enter(&row);
+        self.made = made;
+        Ok(())
+    }
+
+    /// Ends the live name at the moment. It takes no memory.
+    pub fn kill(&mut self, directory: DirId, name: &Name, moment: Moment)
+        requires { IsSome (live_target self.old directory name.now) }
+        ensures { self.new
+            ≡ update_first (is_live_name directory name.now) (dies moment) self.old }
+    {
+        let Some((serial, live)) = self.table.live(directory, name) else {
+            unreachable!()
+        };
+        let dead = NameRow {
+            death: Some(moment),
+            ..live
+        };
+        if let Err(_refused) = self.table.rows.insert(serial, dead) {
+            unreachable!()
+        }
+        self.lives.leave(&live);
+    }
+
+    /// Takes out all rows of the file, live ones too. It takes no memory.
+    pub fn drop_file(&mut self, file: FileId)
+        ensures { self.new
+            ≡ filter (λ row. not (is_target_file file row.target)) self.old }
+    {
+        while self.drop_one(Target::File(file)) {}
+    }
+
+    // Takes out one row of the target, if there is one, and answers whether there was.
+    fn drop_one(&mut self, target: Target) -> bool
+        ensures others { filter (is_other target) self.new
+            ≡ filter (is_other target) self.old }
+        ensures fewer { IsTrue result → length self.new < length self.old }
+        ensures none { result ≡ false → filter (is_other target) self.new ≡ self.new }
+    {
+        let Some((_, serial)) = self.table.places.by_target.last(target, 0) else {
+            return false;
+        };
+        let Some(row) = self.table.rows.remove(&serial) else {
+            unreachable!()
+        };
+        self.table.places.leave(&row, serial);
+        self.lives.leave(&row);
+        true
+    }
+
+    /// What the live name stands for.
+    pub fn live(&self, directory: DirId, name: &Name) -> Option<Target>
+        ensures { result ≡ live_target self.now directory name.now }
+    {
+        target_of(&self.table.live(directory, name))
+    }
+
+    /// What the newest row of the name stands for, if that row is dead.
+    pub fn last_dead(&self, directory: DirId, name: &Name) -> Option<Target>
+        ensures { result ≡ last_dead self.now directory name.now }
+    {
+        let (_, row) = self.table.newest(directory, name)?;
+        if row.death.is_some() {
+            Some(row.target)
+        } else {
+            None
+        }
+    }
+
+    /// What the name stood for at the moment.
+    pub fn at(&self, directory: DirId, name: &Name, moment: Moment) -> Option<Target>
+        ensures { result ≡ target_at self.now moment directory name.now }
+    {
+        let (_, row) = self.table.newest_by(directory, name, moment.seconds())?;
+        if lives_past(&row, moment) {
+            Some(row.target)
+        } else {
+            None
+        }
+    }
+
+    /// What the names of the directory stood for at the moment, by their bytes.
+    pub fn list(&self, directory: DirId, moment: Moment) -> Result<Vec<(Name, Target)>, NoMemory>
+        ensures sorted { IfOk result
+            (λ items. IsStrictlySortedBy (slice_cmp nat_cmp) (keys_of items.items)) }
+        ensures found { IfOk result (λ items. (name : List ℕ)
+            → lookup (is_at (slice_cmp nat_cmp name)) items.items
+            ≡ target_at self.now moment directory name) }
+    {
+        let mut items = Vec::new(self.alloc);
+        let mut spot = Spot {
+            directory,
+            name: None,
+        };
+        while let Some(next) = self.table.next_in(&spot) {
+            push_some(&mut items, self.told_at(&next, moment))?;
+            spot = next;
+        }
+        Ok(items)
+    }
+
+    // The name at the spot, and what it stood for at the moment, if it did.
+    fn told_at(&self, spot: &Spot, moment: Moment) -> Option<(Name, Target)>
+        ensures { option_map (name_at spot.now.directory) result
+            ≡ option_map (λ target. (spot.now, target)) (at_spot self.now moment spot.now) }
+    {
+        let name = spot.name?;
+        let target = self.at(spot.directory, &name, moment)?;
+        Some((name, target))
+    }
+
+    /// The names whose newest row is dead, with what that row stands for, by directory and bytes.
+    pub fn dead(&self) -> Result<Vec<(DirId, Name, Target)>, NoMemory>
+        ensures sorted { IfOk result
+            (λ items. IsStrictlySortedBy name_cmp (keys_of (map by_name items.items))) }
+        ensures found { IfOk result (λ items. (directory : ℕ) (name : List ℕ)
+            → lookup (is_at (name_cmp (directory, name))) (map by_name items.items)
+            ≡ last_dead self.now directory name) }
+    {
+        let mut items = Vec::new(self.alloc);
+        let mut spot = Spot {
+            directory: DirId(0),
+            name: None,
+        };
+        while let Some(next) = self.table.places.by_name.next_group(spot) {
+            push_some(&mut items, self.dead_at(&next))?;
+            spot = next;
+        }
+        Ok(items)
+    }
+
+    // The name at the spot with what it stood for, if its newest row is dead.
+    fn dead_at(&self, spot: &Spot) -> Option<(DirId, Name, Target)>
+        ensures { option_map entry_at (option_map by_name result)
+            ≡ option_map (λ target. (spot.now, target)) (dead_at_spot self.now spot.now) }
+    {
+        let name = spot.name?;
+        let target = self.last_dead(spot.directory, &name)?;
+        Some((spot.directory, name, target))
+    }
+
+    /// Whether no name in the directory is live.
+    pub fn is_empty(&self, directory: DirId) -> bool
+        ensures { result ≡ not (list_any (is_live_in directory) self.now) }
+    {
+        self.lives.in_directory.count(directory) == 0
+    }
+
+    /// Whether the directory has a live name.
+    pub fn dir_live(&self, directory: DirId) -> bool
+        ensures { result ≡ list_any (is_live_directory directory) self.now }
+    {
+        self.lives.of_target.count(Target::Directory(directory)) > 0
+    }
+
+    /// Whether the file has a live name.
+    pub fn is_live(&self, file: FileId) -> bool
+        ensures { result ≡ list_any (is_live_name_of file) self.now }
+    {
+        self.names_of(file) > 0
+    }
+
+    /// How many live names the file has.
+    pub fn names_of(&self, file: FileId) -> u64
+        ensures { result ≡ count_by (is_live_name_of file) self.now }
+    {
+        self.lives.of_target.count(Target::File(file))
+    }
+
+    /// The row at that place in order of making. It passes over the rows before it.
+    pub fn row(&self, place: usize) -> Option<NameRow>
+        ensures { result ≡ slice_get self.now place }
+    {
+        self.table.rows.values().nth(place).copied()
+    }
+
+    /// A copy of all rows, in order of making.
+    pub fn rows(&self) -> Result<Vec<NameRow>, NoMemory>
+        ensures { IfOk result (λ rows. rows.items ≡ self.now) }
+    {
+        Ok(self.table.rows.values().copied().collect(self.alloc)?)
+    }
+}
+
+// What the row stands for.
+fn target_of(found: &Option<(u64, NameRow)>) -> Option<Target>
+    ensures { result ≡ option_map (λ row. row.target) (option_map (λ e. e.1) found.now) }
+{
+    match found {
+        Some(found) => Some(found.1.target),
+        None => None,
+    }
+}
+
+// Adds the item, if there is one.
+fn push_some<T: Drop>(items: &mut Vec<T>, item: Option<T>) -> Result<(), NoMemory>
+    ensures { OnOk result (items.new.items ≡ items.old.items ++ option_to_list item) }
+{
+    if let Some(item) = item {
+        items.push(item)?;
+    }
+    Ok(())
+}

@@ -1,0 +1,86 @@
+//! Where a path leads, now or at an earlier moment.
+//! A contract sees the names as their rows, and a walk as the world's words say it.
+ghost use Rattle.std.specs.Prelude.{◌≡◌};
+ghost use Rattle.ele_world.specs.Walk.{walk_now, parent_now};
+ghost use Rattle.ele_world.specs.WalkAt.{walk_at, walk_covering};
+ghost use Rattle.ele_world.specs.World.{root};
+ghost use Rattle.ele_world.specs.declared.rows.Target.TheVariants.{Directory};
+
+use crate::names::Names;
+use ele_moment::{DirId, Moment, Name};
+use ele_time_path::Path;
+use ele_world::{Refusal, Target};
+
+/// The directory from which each path starts.
+const ROOT: DirId = DirId(0);
+
+/// What the path names. `NoEntry` where a name isn't there, `NotDirectory` where one is behind a file.
+pub fn resolve_now(names: &Names, path: &Path) -> Result<Target, Refusal>
+    ensures { result ≡ walk_now names.now path.now }
+{
+    walk(names, path.names())
+}
+
+/// What the path named at the moment. `Future` where that is later than now, else as `resolve_now`.
+pub fn resolve_at(
+    names: &Names,
+    path: &Path,
+    moment: Moment,
+    now: Moment,
+) -> Result<Target, Refusal>
+    ensures { result ≡ walk_at names.now moment now path.now }
+{
+    if moment > now {
+        return Err(Refusal::Future);
+    }
+    walk_back(names, path.names(), moment)
+}
+
+/// The directory that the path's last name stands in, and that name. `IsRoot` where the path has no
+/// name, else as `resolve_now` of the names before the last, which may not lead to a file.
+pub fn parent_now(names: &Names, path: &Path) -> Result<(DirId, Name), Refusal>
+    ensures { result ≡ parent_now names.now path.now }
+{
+    let path = path.names();
+    let Some(name) = path.last() else {
+        return Err(Refusal::IsRoot);
+    };
+    match walk(names, &path[..path.len() - 1])? {
+        Target::Directory(directory) => Ok((directory, *name)),
+        Target::File(_) => Err(Refusal::NotDirectory),
+    }
+}
+
+// Along live names from the root.
+fn walk(names: &Names, path: &[Name]) -> Result<Target, Refusal>
+    ensures { result ≡ walk_now names.now path.now }
+{
+    let mut at = Target::Directory(ROOT);
+    for name in path {
+        let Target::Directory(directory) = at else {
+            return Err(Refusal::NotDirectory);
+        };
+        let Some(target) = names.live(directory, name) else {
+            return Err(Refusal::NoEntry);
+        };
+        at = target;
+    }
+    Ok(at)
+}
+
+// Along names that covered the moment, from the root.
+fn walk_back(names: &Names, path: &[Name], moment: Moment) -> Result<Target, Refusal>
+    ensures { result ≡ walk_covering names.now moment (Directory root) path.now }
+{
+    let mut at = Target::Directory(ROOT);
+    for name in path {
+        let Target::Directory(directory) = at else {
+            return Err(Refusal::NotDirectory);
+        };
+        let Some(target) = names.at(directory, name, moment) else {
+            return Err(Refusal::NoEntry);
+        };
+        at = target;
+    }
+    Ok(at)
+}

@@ -1,0 +1,157 @@
+-- A removal of the first version of the scan changes no other version's moment: from the first's moment on whatever is due
+-- stays so without it, and before that moment nothing is due, neither with it nor without.
+use Rattle.std.proofs.Common.{◌≡◌, ◌==◌, ℕ, ◌≤◌, Bool, true, false, cond, List, [], ◌∷◌, ◌++◌, Option, Some, None, IfSome, refl, ap, sym, subst, ◌∙◌, fold, slice_get, arith, ◌⊎◌, inl, inr}
+use Rattle.std.specs.Prelude.{find, nat_le, option_and_then}
+use Rattle.std.specs.List.{AllByRecursion, filter_map}
+use Rattle.std.specs.Option.{option_map, option_map_or}
+use Rattle.std.specs.declared.cmp.Ordering.{Ordering}
+use Rattle.std.specs.declared.cmp.Ordering.TheVariants.{Less, Equal, Greater}
+use Rattle.std.specs.Ordering.{match_ordering}
+use Rattle.std.specs.BTreeSet.{insert_key}
+use Rattle.std.proofs.lemmas.Bool.Decides.{nat_tests}
+use Rattle.ele_due.specs.declared.key.Key.{Key}
+use Rattle.ele_due.specs.Key.{key_cmp}
+use Rattle.ele_lists.specs.Lists.{remove_first}
+use Rattle.ele_lists.proofs.Edits.{all-weaker, all-both, all-found, not_found}
+use Rattle.ele_moment.specs.Last.{last_moment}
+use Rattle.ele_world.specs.declared.rows.VersionRow.{VersionRow}
+use Rattle.ele_world.specs.Due.{is_due_at, ripe_of, ripe_at}
+use Rattle.ele_world.specs.FileView.{view_of}
+use Rattle.ele_world.specs.CleanKeepsKeys.{TakesOneKey, CleanKeepsKeys}
+use Rattle.ele_world.specs.RipeMoments.{IsDueFromRipe}
+use Rattle.ele_world.specs.Scan.{due_key, key_of, scan, first_due}
+use Rattle.ele_world.specs.Step.{clean_step}
+use Rattle.ele_world.specs.WellFormed.{IsWellFormed}
+use Rattle.ele_world.specs.World.{World, is_version}
+use Rattle.ele_lists.proofs.Alls.{all-append, all-around}
+use Rattle.ele_lists.proofs.Cuts.{find-cut, remove_first-at, find-without}
+use Rattle.ele_world.proofs.Cleans.{clean_of}
+use Rattle.ele_world.proofs.DueRows.{first_is_due}
+use Rattle.ele_world.proofs.RemovalOrder.{left, IsBeside, stays, no_more, sides}
+use Rattle.ele_world.proofs.RipeAt.{ripe_at_is, ripe_same}
+use Rattle.ele_world.proofs.RipeMoments.{due_from_ripe}
+use Rattle.ele_world.proofs.Views.{Precedes, now_of, placed_of}
+
+-- ---- the first key is ripe before the others
+
+-- the first of the keys in order is no later than each of them
+first_least : (sorted keys : List Key) (first : Key) → slice_get (fold (insert_key key_cmp) sorted keys) 0 ≡ Some first → IfSome (slice_get sorted 0) (λ k. first.ripe ≤ k.ripe) × AllByRecursion (λ k. first.ripe ≤ k.ripe) keys
+first_least [] [] first is = absurd cc
+first_least (y ∷ ys) [] first is = let same : y ≡ first = cc in (rw same (omega arith), tt)
+first_least [] (x ∷ xs) first is = let rest = first_least (x ∷ []) xs first is in (tt, (rest.0, rest.1))
+first_least (y ∷ ys) (x ∷ xs) first is = by (key_cmp x y) refl (first_least (insert_key key_cmp (y ∷ ys) x) xs first is) where
+  by : (o : Ordering) → key_cmp x y ≡ o → IfSome (slice_get (match_ordering o (x ∷ y ∷ ys) (y ∷ ys) (y ∷ insert_key key_cmp ys x)) 0) (λ k. first.ripe ≤ k.ripe) × AllByRecursion (λ k. first.ripe ≤ k.ripe) xs → (first.ripe ≤ y.ripe) × AllByRecursion (λ k. first.ripe ≤ k.ripe) (x ∷ xs)
+  by Less e rest = let least = rest.0 in ((let le : x.ripe ≤ y.ripe = grind (arith, nat_tests) in omega arith), (least, rest.1))
+  by Equal e rest = let least = rest.0 in (least, ((let le : y.ripe ≤ x.ripe = grind (arith, nat_tests) in omega arith), rest.1))
+  by Greater e rest = let least = rest.0 in (least, ((let le : y.ripe ≤ x.ripe = grind (arith, nat_tests) in omega arith), rest.1))
+
+all-unmapped : {X Y : Type 0} (Q : Y → Type 0) (h : X → Option Y) (xs : List X) → AllByRecursion Q (filter_map h xs) → AllByRecursion (λ x. IfSome (h x) Q) xs
+all-unmapped Q h [] all = tt
+all-unmapped {X} {Y} Q h (x ∷ xs) all = by (all-unmapped Q h xs) (h x) refl where
+  by : (AllByRecursion Q (filter_map h xs) → AllByRecursion (λ x. IfSome (h x) Q) xs) → (o : Option Y) → h x ≡ o → IfSome o Q × AllByRecursion (λ x. IfSome (h x) Q) xs
+  by rest None e = (tt, rest (rw e at all))
+  by rest (Some y) e = let both = rw e at all in (both.0, rest both.1)
+
+-- a version that is ripe isn't so before that moment
+abbrev IsLater : World → ℕ → VersionRow → Type 0
+IsLater w first row = IfSome (ripe_of w row) (λ m. first ≤ m)
+
+all_later : (w : World) (k : IsWellFormed w) (key : Key) → first_due w ≡ Some key → key.ripe ≤ w.now → AllByRecursion (IsLater w key.ripe) w.versions
+unfolding scan due_key
+all_later w k key first come =
+    all-weaker (λ row. IsDueFromRipe w row × IfSome (due_key w row) (λ j. key.ripe ≤ j.ripe)) (IsLater w key.ripe) w.versions (λ row both. one row both.0 both.1)
+    (all-both (IsDueFromRipe w) (λ row. IfSome (due_key w row) (λ j. key.ripe ≤ j.ripe)) w.versions (due_from_ripe w k)
+    (all-unmapped (λ j. key.ripe ≤ j.ripe) (due_key w) w.versions (first_least [] (filter_map (due_key w) w.versions) key first).1)) where
+      one : (row : VersionRow) → IsDueFromRipe w row → IfSome (due_key w row) (λ j. key.ripe ≤ j.ripe) → IsLater w key.ripe row
+      one row from least = by (ripe_of w row) (from w.now (now_of w k)) least where
+        by : (o : Option ℕ) → is_due_at w row w.now ≡ option_map_or (λ m. nat_le m w.now) o false → IfSome (cond (is_due_at w row w.now) (option_map (key_of row) o) None) (λ j. key.ripe ≤ j.ripe) → IfSome o (λ m. key.ripe ≤ m)
+        by None e h = tt
+        by (Some m) e h = soon (nat_le m w.now) refl (rw e at h) where
+          soon : (b : Bool) → nat_le m w.now ≡ b → IfSome (cond b (Some (key_of row m)) None) (λ j. key.ripe ≤ j.ripe) → key.ripe ≤ m
+          soon true t h = h
+          soon false t h = grind (arith, nat_tests)
+
+-- ---- the other versions
+
+module _ (w : World) (before : List VersionRow) (row : VersionRow) (behind : List VersionRow) (k : IsWellFormed (left w (before ++ row ∷ behind))) (first : ℕ)
+    (own : ripe_of (left w (before ++ row ∷ behind)) row ≡ Some first) (later : AllByRecursion (IsLater (left w (before ++ row ∷ behind)) first) (before ++ row ∷ behind)) where
+  abbrev with_row : World
+  with_row = left w (before ++ row ∷ behind)
+
+  abbrev without_row : World
+  without_row = left w (before ++ behind)
+
+  all_from : AllByRecursion (IsDueFromRipe with_row) (before ++ row ∷ behind)
+  all_from = due_from_ripe with_row k
+
+  row_from : IsDueFromRipe with_row row
+  row_from = (all-around (IsDueFromRipe with_row) before row behind all_from).1
+
+  early : (x : VersionRow) (at : ℕ) → IsDueFromRipe with_row x → IsLater with_row first x → at ≤ last_moment → nat_le first at ≡ false → is_due_at with_row x at ≡ false
+  early x at from late fits soon = from at fits ∙ by (ripe_of with_row x) late where
+    by : (o : Option ℕ) → IfSome o (λ m. first ≤ m) → option_map_or (λ m. nat_le m at) o false ≡ false
+    by None h = refl
+    by (Some m) h = grind (arith, nat_tests)
+
+  moment_stays : (x : VersionRow) → IsBeside row x → IsDueFromRipe with_row x → IsLater with_row first x → ripe_of without_row x ≡ ripe_of with_row x
+  unfolding ripe_of is_due_at
+  moment_stays x side from late = ripe_same (view_of with_row x.file) (view_of without_row x.file) x refl (λ at fits. by at fits (nat_le first at) refl) where
+    by : (at : ℕ) → at ≤ last_moment → (b : Bool) → nat_le first at ≡ b → is_due_at without_row x at ≡ is_due_at with_row x at
+    by at fits true e = stays w before row behind k at (row_from at fits ∙ rw (own, e) refl) x side
+    by at fits false e = let none = early x at from late fits e in elim (is_due_at without_row x at) as (λ b. is_due_at without_row x at ≡ b → b ≡ is_due_at with_row x at) [
+      | true ↦ λ due. sym (no_more w before row behind k at x side due)
+      | false ↦ λ due. sym none
+    ] refl
+
+  stay : AllByRecursion (λ x. ripe_of without_row x ≡ ripe_of with_row x) (before ++ behind)
+  stay =
+      let told = all-around (λ x. IsDueFromRipe with_row x × IsLater with_row first x) before row behind (all-both (IsDueFromRipe with_row) (IsLater with_row first) (before ++ row ∷ behind) all_from later) in
+      all-weaker (λ x. IsBeside row x × (IsDueFromRipe with_row x × IsLater with_row first x)) (λ x. ripe_of without_row x ≡ ripe_of with_row x) (before ++ behind) (λ x h. moment_stays x h.0 h.1.0 h.1.1)
+      (all-both (IsBeside row) (λ x. IsDueFromRipe with_row x × IsLater with_row first x) (before ++ behind) (sides w before row behind k)
+      (all-append (λ x. IsDueFromRipe with_row x × IsLater with_row first x) before behind told.0 told.2))
+
+  others : (file number : ℕ) → is_version file number row ≡ false → ripe_at without_row file number ≡ ripe_at with_row file number
+  others file number apart =
+      ripe_at_is without_row file number
+      ∙ by (find (is_version file number) (before ++ behind)) refl
+      ∙ ap (option_and_then (ripe_of with_row)) (sym (find-without (is_version file number) before row behind apart))
+      ∙ sym (ripe_at_is with_row file number) where
+        by : (o : Option VersionRow) → find (is_version file number) (before ++ behind) ≡ o → option_and_then (ripe_of without_row) o ≡ option_and_then (ripe_of with_row) o
+        by None e = refl
+        by (Some x) e = all-found (is_version file number) (λ x. ripe_of without_row x ≡ ripe_of with_row x) (before ++ behind) x e stay
+
+  gone : ripe_at without_row row.file row.number ≡ None
+  gone = ripe_at_is without_row row.file row.number ∙ ap (option_and_then (ripe_of without_row)) (not_found (is_version row.file row.number) (before ++ behind)
+      (all-weaker (IsBeside row) (λ x. is_version row.file row.number x ≡ false) (before ++ behind) (λ x side. other x side (x.file == row.file) refl) (sides w before row behind k))) where
+        apart : (x : VersionRow) → Precedes x row ⊎ Precedes row x → is_version row.file row.number x ≡ false
+        apart x (inl before) = let less = before.number in grind (arith, nat_tests)
+        apart x (inr after) = let less = after.number in grind (arith, nat_tests)
+
+        other : (x : VersionRow) → IsBeside row x → (b : Bool) → (x.file == row.file) ≡ b → is_version row.file row.number x ≡ false
+        other x side true e = apart x (side (grind (arith, nat_tests)))
+        other x side false e = grind (arith, nat_tests)
+
+  pub takes_one : find (is_version row.file row.number) (before ++ row ∷ behind) ≡ Some row → TakesOneKey with_row (key_of row first) without_row
+  takes_one found = record {
+    was = ripe_at_is with_row row.file row.number ∙ ap (option_and_then (ripe_of with_row)) found ∙ own;
+    gone = gone;
+    others = λ file number apart. others file number (grind (arith, nat_tests));
+  }
+
+pub clean_keeps_keys : CleanKeepsKeys
+clean_keeps_keys w key k first =
+    let p = is_version key.file key.number in
+    let due = first_is_due w key (placed_of w k) first in
+    let at = find-cut p w.versions due.row due.found in
+    let passes = at.passes in
+    let file : due.row.file ≡ key.file = grind (arith, nat_tests) in
+    let number : due.row.number ≡ key.number = grind (arith, nat_tests) in
+    let same : w ≡ left w (at.before ++ due.row ∷ at.behind) = ap (left w) at.whole in
+    let taken : (clean_step w).1 ≡ left w (at.before ++ at.behind) = ap (λ o. (clean_of w o).1) first ∙ ap (left w) (ap (remove_first p) at.whole ∙ remove_first-at p at.before due.row at.behind at.none at.passes) in
+    let come : key.ripe ≤ w.now = (let now = sym (all-found p (IsDueFromRipe w) w.versions due.row due.found (due_from_ripe w k) w.now (now_of w k)) ∙ due.due in let ripe = rw due.ripe at now in grind (arith, nat_tests)) in
+    subst (λ (v : World). TakesOneKey w key v) (sym taken)
+    (subst (λ (u : World). TakesOneKey u key (left w (at.before ++ at.behind))) (sym same)
+    (subst (λ (j : Key). TakesOneKey (left w (at.before ++ due.row ∷ at.behind)) j (left w (at.before ++ at.behind))) (rw (file, number) refl)
+    (takes_one w at.before due.row at.behind (subst IsWellFormed same k) key.ripe (subst (λ (u : World). ripe_of u due.row ≡ Some key.ripe) same due.ripe)
+    (subst (λ (u : World). AllByRecursion (IsLater u key.ripe) u.versions) same (all_later w k key first come))
+    (rw (file, number) (subst (λ (u : World). find p u.versions ≡ Some due.row) same due.found)))))

@@ -1,0 +1,68 @@
+-- A close that tells of a version has made it of all that was written.
+use Rattle.std.proofs.Common.{◌≡◌, ℕ, ◌-◌, ◌<◌, Bool, true, false, cond, List, [], ◌∷◌, Some, refl, ap, subst, arith, eqb}
+use Rattle.std.specs.Prelude.{find}
+use Rattle.std.specs.Option.{option_map}
+use Rattle.std.specs.List.{AllByRecursion}
+use Rattle.std.proofs.lemmas.Bool.Decides.{nat_tests}
+use Rattle.ele_lists.specs.Lists.{insert_before}
+use Rattle.ele_lists.proofs.Edits.{all-update_first}
+use Rattle.ele_world.specs.Change.{ended_at, next_version, with_end, with_version}
+use Rattle.ele_world.specs.CloseKeeps.{KeepsDraft}
+use Rattle.ele_world.specs.Step.{plan, step}
+use Rattle.ele_world.specs.WellFormed.{IsVersion, Versions, IsWellFormed}
+use Rattle.ele_world.specs.World.{World, next_of, is_version, is_version_after}
+use Rattle.ele_world.specs.declared.event.Event.TheVariants.{Close}
+use Rattle.ele_world.specs.declared.reply.Reply.TheVariants as reply
+use Rattle.ele_world.specs.declared.rows.FileRow.{FileRow}
+use Rattle.ele_world.specs.declared.rows.VersionRow.{VersionRow}
+use Rattle.ele_world.proofs.Outcomes.{in_all}
+
+-- what no other passes is found where it is put
+find-insert : {X : Type 0} (p t : X → Bool) (y : X) (xs : List X) → t y ≡ true → AllByRecursion (λ x. t x ≡ false) xs → find t (insert_before p y xs) ≡ Some y
+find-insert p t y [] own none = rw own refl
+find-insert p t y (x ∷ xs) own none = elim (p x) as (λ b. find t (cond b (y ∷ x ∷ xs) (x ∷ insert_before p y xs)) ≡ Some y) [
+  | true ↦ rw own refl
+  | false ↦ rw none.0 (find-insert p t y xs own none.1)
+]
+
+-- no version has the file's next number
+none_next : (files : List FileRow) (now file : ℕ) (row : VersionRow) → IsVersion files now row → is_version file (next_of files file) row ≡ false
+none_next files now file row h = by (eqb row.file file) refl where
+  by : (b : Bool) → eqb row.file file ≡ b → is_version file (next_of files file) row ≡ false
+  by true e =
+      let same : row.file ≡ file = grind (arith, nat_tests) in
+      let numbered : row.number < next_of files file = subst (λ f. row.number < next_of files f) same h.numbered in
+      grind (arith, nat_tests)
+  by false e = grind (arith, nat_tests)
+
+module _ (w : World) (file : ℕ) (k : IsWellFormed w) where
+  new_found : (opened : ℕ) (cells : _) → find (is_version file (next_of w.files file)) (with_version w file opened cells).versions ≡ Some (next_version w file opened cells)
+  new_found opened cells =
+      find-insert (is_version_after file (next_of w.files file)) (is_version file (next_of w.files file)) (next_version w file opened cells) (with_end w file)
+      (grind (arith, nat_tests))
+      (all-update_first (is_version file (next_of w.files file - 1)) (IsVersion w.files w.now) (λ row. is_version file (next_of w.files file) row ≡ false) (ended_at w.now) w.versions
+      (λ row h. none_next w.files w.now file row h) (λ row h. none_next w.files w.now file row h) (k.holds Versions).each)
+
+pub close_keeps : (w : World) (handle number : ℕ) → IsWellFormed w → (step w (Close handle)).0 ≡ reply.Closed (Some number) → KeepsDraft w handle number ((step w (Close handle)).1)
+close_keeps w handle number k = in_all w (λ answer. answer.0 ≡ reply.Closed (Some number) → KeepsDraft w handle number (answer.1)) (plan w (Close handle)) (
+  λ refusal e. absurd cc,
+  λ file writes. (
+    λ other e. absurd cc,
+    λ last. (
+      λ e. absurd cc,
+      λ draft found. (
+        λ changed e.
+            let same : next_of w.files file ≡ number = cc in
+            record {
+              file = file;
+              draft = draft;
+              written = writes;
+              drafted = found;
+              kept = subst (λ n. option_map (λ (row : VersionRow). row.cells) (find (is_version file n) (with_version w file draft.opened draft.cells).versions) ≡ Some draft.cells) same
+                  (ap (option_map (λ (row : VersionRow). row.cells)) (new_found w file k draft.opened draft.cells));
+            },
+        λ stays e. absurd cc,
+      ),
+    ),
+  ),
+)

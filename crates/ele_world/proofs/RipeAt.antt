@@ -1,0 +1,121 @@
+-- The ripe moment of a version that is found by its number, and the scan as the moments that have come.
+use Rattle.std.proofs.Common.{◌≡◌, ℕ, ◌≤◌, Bool, true, false, cond, ◌&&◌, ◌||◌, List, [], ◌∷◌, Option, Some, None, refl, ap, sym, ◌∙◌, arith}
+use Rattle.std.specs.Prelude.{find, nat_le, min, option_and_then}
+use Rattle.std.specs.List.{AllByRecursion, filter_map, list_any}
+use Rattle.std.specs.Option.{option_map, option_map_or}
+use Rattle.std.proofs.lemmas.Bool.Decides.{nat_tests}
+use Rattle.ele_due.specs.declared.key.Key.{Key}
+use Rattle.ele_due.specs.HasKey.{has_key}
+use Rattle.ele_due.specs.Key.{is_key, is_ripe_by}
+use Rattle.ele_lists.specs.Lists.{AllLater}
+use Rattle.ele_lists.proofs.Edits.{found_passes, all-found}
+use Rattle.ele_moment.specs.Last.{last_moment}
+use Rattle.ele_policy.specs.declared.policy.Policy.{Policy}
+use Rattle.ele_policy.specs.Ripe.{candidates, earliest_of}
+use Rattle.ele_world.specs.declared.rows.VersionRow.{VersionRow}
+use Rattle.ele_world.specs.Due.{is_due, is_due_at, ripe_of, ripe_at, is_moment}
+use Rattle.ele_world.specs.FileView.{FileView, view_of, is_version_of, is_numbered, due_in, ripe_in, ripe_numbered}
+use Rattle.ele_world.specs.RipeMoments.{IsDueFromRipe}
+use Rattle.ele_world.specs.Scan.{due_key, key_of}
+use Rattle.ele_world.specs.WellFormed.{ArePlaced, IsWellFormed}
+use Rattle.ele_world.specs.World.{World, is_version}
+use Rattle.ele_lists.proofs.Filters.{find-filter_both}
+use Rattle.ele_world.proofs.RipeMoments.{due_from_ripe}
+use Rattle.ele_world.proofs.Views.{now_of, placed_of}
+
+pub ripe_at_is : (w : World) (file number : ℕ) → ripe_at w file number ≡ option_and_then (ripe_of w) (find (is_version file number) w.versions)
+unfolding ripe_numbered ripe_of
+ripe_at_is w file number = ap (option_and_then (ripe_in (view_of w file))) (find-filter_both (is_numbered number) (is_version_of file) w.versions) ∙ by (find (is_version file number) w.versions) refl where
+  by : (o : Option VersionRow) → find (is_version file number) w.versions ≡ o → option_and_then (ripe_in (view_of w file)) o ≡ option_and_then (λ row. ripe_in (view_of w row.file) row) o
+  by None e = refl
+  by (Some row) e =
+      let passes = found_passes (is_version file number) w.versions row e in
+      let same : file ≡ row.file = grind (arith, nat_tests) in
+      ap (λ f. ripe_in (view_of w f) row) same
+
+-- a version without an end has none
+pub unended : (v : FileView) (row : VersionRow) → row.ended ≡ None → ripe_in v row ≡ None
+unended v row none = rw none (elim v.policy as (λ p. option_and_then {U = ℕ} (λ (policy : Policy). None) p ≡ None) [
+  | None ↦ refl
+  | Some policy ↦ refl
+])
+
+-- a version is due from it on
+pub is_due_is : (w : World) (file number : ℕ) → IsWellFormed w → is_due w file number ≡ option_map_or (λ m. nat_le m w.now) (ripe_at w file number) false
+unfolding is_due
+is_due_is w file number k = by (find (is_version file number) w.versions) refl ∙ ap (λ o. option_map_or (λ m. nat_le m w.now) o false) (sym (ripe_at_is w file number)) where
+  by : (o : Option VersionRow) → find (is_version file number) w.versions ≡ o → option_map_or (λ row. is_due_at w row w.now) o false ≡ option_map_or (λ m. nat_le m w.now) (option_and_then (ripe_of w) o) false
+  by None e = refl
+  by (Some row) e = all-found (is_version file number) (IsDueFromRipe w) w.versions row e (due_from_ripe w k) w.now (now_of w k)
+
+-- ---- the ripe moment is told by the moments at which the version is due
+
+earliest_same : (d e : ℕ → Bool) → ((at : ℕ) → at ≤ last_moment → d at ≡ e at) → (moments : List ℕ) → earliest_of d moments ≡ earliest_of e moments
+earliest_same d e same [] = refl
+earliest_same d e same (at ∷ moments) =
+    ap (λ o. cond (nat_le at last_moment && d at) (Some (option_map_or (min at) o at)) o) (earliest_same d e same moments)
+    ∙ ap (λ b. cond b (Some (option_map_or (min at) (earliest_of e moments) at)) (earliest_of e moments)) (by (nat_le at last_moment) refl) where
+      by : (b : Bool) → nat_le at last_moment ≡ b → (b && d at) ≡ (b && e at)
+      by true h = same at (grind (arith, nat_tests))
+      by false h = refl
+
+pub ripe_same : (v u : FileView) (row : VersionRow) → u.policy ≡ v.policy → ((at : ℕ) → at ≤ last_moment → due_in u row at ≡ due_in v row at) → ripe_in u row ≡ ripe_in v row
+ripe_same v u row policy same = ap (option_and_then (λ p. option_and_then (λ ended. earliest_of (due_in u row) (candidates p ended)) row.ended)) policy ∙ by v.policy row.ended where
+  by : (p : Option Policy) (e : Option ℕ) → option_and_then (λ policy. option_and_then (λ ended. earliest_of (due_in u row) (candidates policy ended)) e) p ≡ option_and_then (λ policy. option_and_then (λ ended. earliest_of (due_in v row) (candidates policy ended)) e) p
+  by None e = refl
+  by (Some policy) None = refl
+  by (Some policy) (Some ended) = earliest_same (due_in u row) (due_in v row) same (candidates policy ended)
+
+-- ---- the keys of the scan
+
+any-filter_map : {X Y : Type 0} (t : Y → Bool) (h : X → Option Y) (xs : List X) → list_any t (filter_map h xs) ≡ list_any (λ x. option_map_or t (h x) false) xs
+any-filter_map t h [] = refl
+any-filter_map {X} {Y} t h (x ∷ xs) = by (any-filter_map t h xs) (h x) refl where
+  by : list_any t (filter_map h xs) ≡ list_any (λ x. option_map_or t (h x) false) xs → (o : Option Y) → h x ≡ o → list_any t (filter_map h (x ∷ xs)) ≡ (option_map_or t o false || list_any (λ x. option_map_or t (h x) false) xs)
+  by rest None e = rw e rest
+  by rest (Some y) e = rw e (ap (λ b. t y || b) rest)
+
+-- of rows apart at most one has the number
+any-numbered : (file number : ℕ) (g : VersionRow → Bool) (xs : List VersionRow) → AllLater ArePlaced xs → list_any (λ x. is_version file number x && g x) xs ≡ option_map_or g (find (is_version file number) xs) false
+any-numbered file number g [] placed = refl
+any-numbered file number g (x ∷ xs) placed = elim (is_version file number x) as (λ b. is_version file number x ≡ b → ((b && g x) || list_any (λ x. is_version file number x && g x) xs) ≡ option_map_or g (cond b (Some x) (find (is_version file number) xs)) false) [
+  | true ↦ λ e. ap (λ b. g x || b) (none e xs placed.0) ∙ or_false (g x)
+  | false ↦ λ e. any-numbered file number g xs placed.1
+] refl where
+  or_false : (a : Bool) → (a || false) ≡ a
+  or_false true = refl
+  or_false false = refl
+
+  none : is_version file number x ≡ true → (ys : List VersionRow) → AllByRecursion (ArePlaced x) ys → list_any (λ x. is_version file number x && g x) ys ≡ false
+  none e [] all = refl
+  none e (y ∷ ys) all = let first = all.0 in let after = first.after in let other : is_version file number y ≡ false = grind (arith, nat_tests) in rw other (none e ys all.1)
+
+-- a row has the key if its number is the key's and its moment, which has come, too
+has_due_key : (w : World) (k : Key) (row : VersionRow) → w.now ≤ last_moment → IsDueFromRipe w row → option_map_or (is_key k) (due_key w row) false ≡ (is_version k.file k.number row && (is_ripe_by w.now k && is_moment k.ripe (ripe_of w row)))
+unfolding due_key
+has_due_key w k row fits from = ap (λ b. option_map_or (is_key k) (cond b (option_map (key_of row) (ripe_of w row)) None) false) (from w.now fits) ∙ by (ripe_of w row) where
+  by : (o : Option ℕ) → option_map_or (is_key k) (cond (option_map_or (λ m. nat_le m w.now) o false) (option_map (key_of row) o) None) false ≡ (is_version k.file k.number row && (is_ripe_by w.now k && is_moment k.ripe o))
+  by None = grind (arith, nat_tests)
+  by (Some m) = elim (nat_le m w.now) as (λ b. nat_le m w.now ≡ b → option_map_or (is_key k) (cond b (Some (key_of row m)) None) false ≡ (is_version k.file k.number row && (is_ripe_by w.now k && is_moment k.ripe (Some m)))) [
+    | true ↦ λ e. grind (arith, nat_tests)
+    | false ↦ λ e. grind (arith, nat_tests)
+  ] refl
+
+-- the due rows have just the keys whose moment has come
+pub scan_members : (w : World) → IsWellFormed w → (k : Key) → has_key k (filter_map (due_key w) w.versions) ≡ (is_ripe_by w.now k && is_moment k.ripe (ripe_at w k.file k.number))
+scan_members w formed k =
+    any-filter_map (is_key k) (due_key w) w.versions
+    ∙ each w.versions (due_from_ripe w formed)
+    ∙ any-numbered k.file k.number (λ row. is_ripe_by w.now k && is_moment k.ripe (ripe_of w row)) w.versions (placed_of w formed)
+    ∙ by (find (is_version k.file k.number) w.versions)
+    ∙ ap (λ o. is_ripe_by w.now k && is_moment k.ripe o) (sym (ripe_at_is w k.file k.number)) where
+      each : (xs : List VersionRow) → AllByRecursion (IsDueFromRipe w) xs → list_any (λ row. option_map_or (is_key k) (due_key w row) false) xs ≡ list_any (λ row. is_version k.file k.number row && (is_ripe_by w.now k && is_moment k.ripe (ripe_of w row))) xs
+      each [] all = refl
+      each (x ∷ xs) all = rw (has_due_key w k x (now_of w formed) all.0, each xs all.1) refl
+
+      by : (o : Option VersionRow) → option_map_or (λ row. is_ripe_by w.now k && is_moment k.ripe (ripe_of w row)) o false ≡ (is_ripe_by w.now k && is_moment k.ripe (option_and_then (ripe_of w) o))
+      by None = elim (is_ripe_by w.now k) as (λ b. false ≡ (b && false)) [
+        | true ↦ refl
+        | false ↦ refl
+      ]
+      by (Some row) = refl
