@@ -10,8 +10,7 @@ use Rattle.ele_content.specs.declared.cell.Cell.{Cell}
 use Rattle.ele_blocks.specs.declared.slot.Slot.{Slot}
 use Rattle.ele_blocks.specs.Layout.{Layout, slots_of, cell_of, cell_by, shown}
 use Rattle.ele_blocks.specs.LivesIn.{LivesIn}
-use Rattle.ele_blocks.specs.Shared.{owners}
-use Rattle.ele_blocks.specs.Store.{Store, bytes_at}
+use Rattle.ele_blocks.specs.Store.{Store, bytes_at, owners_at}
 use Rattle.ele_blocks.specs.Stock.{StockLaws}
 use Rattle.ele_inode_log.specs.declared.row.VersionRow.{VersionRow}
 use Rattle.ele_files.specs.Inside.{IsFileKept, IsRowOf, row_in, draft_in, reads_in, handle_in}
@@ -109,9 +108,9 @@ module _ (laws : StockLaws) (s : Store) (m : Layout) (lives : LivesIn s m) (k : 
   slot : (x : Slot) × (slice_get (slots_of s m) k ≡ Some x) × ((x.writer, x.block) ≡ cell)
   slot = shown-some (λ (x : Slot). (x.writer, x.block)) (slice_get (slots_of s m) k) cell got
 
-  pub cell-owned : 0 < owners s cell.1
+  pub cell-owned : 0 < owners_at s cell.1
   cell-owned =
-      let owned : 0 < owners s slot.0.block = laws.owned s m k slot.0 lives slot.1 in
+      let owned : 0 < owners_at s slot.0.block = laws.owned s m k slot.0 lives slot.1 in
       rw (ap (λ (c : ℕ × ℕ). c.1) slot.2) at owned
 
   pub cell-next : (bytes : List ℕ) → bytes ≡ bytes_at s cell.1 → map (cell_of s) (take (k + 1) (slots_of s m)) ≡ map (cell_of s) (take k (slots_of s m)) ++ record { writer = cell.0; bytes = bytes } ∷ []
