@@ -1,32 +1,24 @@
 -- The blocks of a store are as many as its maps name.
-use Rattle.std.proofs.Common.{◌≡◌, ℕ, ◌+◌, ◌<◌, Bool, true, false, ◌||◌, cond, List, [], ◌∷◌, map, Option, Some, None, is_some, refl, ap, sym, ◌∙◌, arith, eqb, ltb, zero, suc, inl, inr}
-use Rattle.std.specs.Prelude.{IfSome}
-use Rattle.std.proofs.Math.ListN.{set}
-use Rattle.std.specs.List.{list_any, count_by}
-use Rattle.std.proofs.lemmas.List.Sums.{sum_by-cons}
-use Rattle.std.proofs.lemmas.Bool.Decides.{nat_tests}
-use Rattle.ele_blocks.specs.declared.shared.Counted.{Counted}
-use Rattle.ele_blocks.specs.Shared.{times, place_at, owners_of, Owned}
-use Rattle.ele_blocks.specs.Store.{Store}
-use Rattle.ele_blocks.specs.Layout.{Layout, ids_of}
-use Rattle.ele_blocks.specs.Owes.{named, Owes}
-use Rattle.ele_content.specs.Place.{different, Place, is_place}
-use Rattle.ele_blocks.specs.Distinct.{blocks_of, Named, IsIn, AreOneToOne}
+use Rattle.ele_blocks.proofs.Words.{◌≡◌, ℕ, ◌+◌, ◌<◌, ◌≤◌, Bool, true, false, ◌||◌, cond, List, [], ◌∷◌, map, Option, Some, None, is_some, refl, ap, sym, ◌∙◌, arith, eqb, ltb, zero, suc, inl, inr, ⊎_elim, order, IfSome, set, list_any, count_by, sum_by-cons, nat_tests, Counted, times, place_at, owners_of, Owned, Store, owners_at, leaf_at, Slot, Layout, slots_of, ids_of, backing, named, Owes, different, Place, is_place, blocks_of, Named, IsIn, AreOneToOne}
+use Rattle.ele_blocks.proofs.Backing.{weight, backing_some, slots_backed, slots_least}
 use Rattle.ele_blocks.proofs.Trades.{times-append}
 
-self_eq : (x : ℕ) → eqb x x ≡ true
+abbrev pub Blocks : Type 0
+Blocks = List (Option (Counted (List ℕ)))
+
+pub self_eq : (x : ℕ) → eqb x x ≡ true
 self_eq x = grind (arith, nat_tests)
 
 -- how many places of the store hold something
-abbrev standing : Store → ℕ
+abbrev standing : Blocks → ℕ
 standing [] = 0
 standing (x ∷ xs) = cond (is_some x) 1 0 + standing xs
 
-count_standing : (s : Store) → count_by is_some s ≡ standing s
+count_standing : (s : Blocks) → count_by is_some s ≡ standing s
 count_standing [] = refl
 count_standing (x ∷ xs) = sum_by-cons (λ y. cond (is_some y) 1 0) x xs ∙ ap (λ n. cond (is_some x) 1 0 + n) (count_standing xs)
 
-taken_out : (s : Store) (id : ℕ) → is_some (place_at s id) ≡ true → standing (set s id None) + 1 ≡ standing s
+taken_out : (s : Blocks) (id : ℕ) → is_some (place_at s id) ≡ true → standing (set s id None) + 1 ≡ standing s
 taken_out [] id h = cc
 taken_out (x ∷ xs) zero h = rw h (omega arith)
 taken_out (x ∷ xs) (suc id) h = omega (arith, taken_out xs id h)
@@ -35,19 +27,19 @@ nothing : (t : Bool) → (let none : Option (Counted (List ℕ)) = None in none)
 nothing true = refl
 nothing false = refl
 
-place_at_set : (s : Store) (id q : ℕ) → place_at (set s id None) q ≡ cond (eqb id q) None (place_at s q)
+place_at_set : (s : Blocks) (id q : ℕ) → place_at (set s id None) q ≡ cond (eqb id q) None (place_at s q)
 place_at_set [] id q = nothing (eqb id q)
 place_at_set (x ∷ xs) zero zero = refl
 place_at_set (x ∷ xs) zero (suc q) = let e : eqb 0 (suc q) ≡ false = grind (arith, nat_tests) in rw e refl
 place_at_set (x ∷ xs) (suc id) zero = let e : eqb (suc id) 0 ≡ false = grind (arith, nat_tests) in rw e refl
 place_at_set (x ∷ xs) (suc id) (suc q) = let e : eqb (suc id) (suc q) ≡ eqb id q = grind (arith, nat_tests) in rw e (place_at_set xs id q)
 
-none_stand : (s : Store) → ((q : ℕ) → is_some (place_at s q) ≡ false) → standing s ≡ 0
+none_stand : (s : Blocks) → ((q : ℕ) → is_some (place_at s q) ≡ false) → standing s ≡ 0
 none_stand [] h = refl
 none_stand (x ∷ xs) h = let first = h 0 in rw first (omega (arith, none_stand xs (λ q. h (suc q))))
 
 -- where exactly the numbers of a list stand, as many stand as the list has different ones
-standing_different : (ids : List ℕ) (s : Store) → ((q : ℕ) → is_some (place_at s q) ≡ list_any (λ (y : ℕ). eqb y q) ids) → standing s ≡ different eqb ids
+standing_different : (ids : List ℕ) (s : Blocks) → ((q : ℕ) → is_some (place_at s q) ≡ list_any (λ (y : ℕ). eqb y q) ids) → standing s ≡ different eqb ids
 standing_different [] s h = none_stand s h
 standing_different (x ∷ xs) s h = elim (list_any (λ (y : ℕ). eqb y x) xs) as (λ t. list_any (λ (y : ℕ). eqb y x) xs ≡ t → standing s ≡ cond t 0 1 + different eqb xs) [
   | true ↦ λ e. standing_different xs s (λ q. elim (eqb x q) as (λ t. eqb x q ≡ t → is_some (place_at s q) ≡ list_any (λ (y : ℕ). eqb y q) xs) [
@@ -75,14 +67,42 @@ any_times q (x ∷ xs) = elim (eqb x q) as (λ t. (t || list_any (λ (y : ℕ). 
   | false ↦ any_times q xs ∙ ap (ltb 0) (let e : times q xs ≡ 0 + times q xs = omega arith in e)
 ]
 
-times_named : (s : Store) (q : ℕ) (ms : List Layout) → times q (blocks_of s ms) ≡ named s q ms
-times_named s q [] = refl
-times_named s q (m ∷ ms) = omega (arith, times-append q (ids_of m.slots) (blocks_of s ms), times_named s q ms)
+-- a leaf that names something is owned
+owned_leaf : (place : Option (Counted (List Slot))) (id : ℕ) → IfSome place (λ p. 0 < p.owners) → 0 < weight place id → 0 < owners_of place
+owned_leaf None id h lt = absurd (omega (arith, lt))
+owned_leaf (Some p) id h lt = h
 
-pub distinct_named : (s : Store) (maps : List Layout) → Owned s → Owes s maps → count_by is_some s ≡ different eqb (blocks_of s maps)
-distinct_named s maps owned owes =
-    count_standing s ∙ standing_different (blocks_of s maps) s (λ q.
-    some_owned (place_at s q) (owned q) ∙ (ap (ltb 0) (owes.counted q ∙ sym (times_named s q maps)) ∙ sym (any_times q (blocks_of s maps))))
+-- a block that a map names is named by a leaf, and a leaf's by a map
+map_backs : (s : Store) (id : ℕ) (ms : List Layout) → 0 < times id (blocks_of s ms) → 0 < backing s.leaves id
+map_backs s id [] lt = absurd (omega (arith, lt))
+map_backs s id (m ∷ ms) lt = ⊎_elim
+    (λ (here : 0 < times id (ids_of (slots_of s m))). slots_backed s m.leaves id here)
+    (λ (none : times id (ids_of (slots_of s m)) ≤ 0). map_backs s id ms (omega (arith, lt, none, times-append id (ids_of (slots_of s m)) (blocks_of s ms))))
+    (order 0 (times id (ids_of (slots_of s m))))
+
+leaf_names : (s : Store) (leaf id : ℕ) (ms : List Layout) → 0 < named leaf ms → times id (ids_of (leaf_at s leaf)) ≤ times id (blocks_of s ms)
+leaf_names s leaf id [] lt = absurd (omega (arith, lt))
+leaf_names s leaf id (m ∷ ms) lt = ⊎_elim
+    (λ (here : 0 < times leaf m.leaves). omega (arith, slots_least s m.leaves leaf id here, times-append id (ids_of (slots_of s m)) (blocks_of s ms)))
+    (λ (none : times leaf m.leaves ≤ 0). omega (arith, leaf_names s leaf id ms (omega (arith, lt, none)), times-append id (ids_of (slots_of s m)) (blocks_of s ms)))
+    (order 0 (times leaf m.leaves))
+
+same_sign : (m n : ℕ) → (0 < m → 0 < n) → (0 < n → 0 < m) → ltb 0 m ≡ ltb 0 n
+same_sign m n there back = grind (arith, nat_tests, there, back)
+
+-- in a store that owes the maps a block is owned where they name it
+named_owned : (s : Store) (maps : List Layout) → Owned s.leaves → Owes s maps → (id : ℕ) → ltb 0 (owners_at s id) ≡ ltb 0 (times id (blocks_of s maps))
+named_owned s maps owned owes id = same_sign (owners_at s id) (times id (blocks_of s maps))
+    (λ lt.
+    let by = backing_some s.leaves id (omega (arith, lt, owes.backed id)) in
+    let stands = owned_leaf (place_at s.leaves by.leaf) id (owned by.leaf) by.names in
+    omega (arith, by.names, leaf_names s by.leaf id maps (omega (arith, stands, owes.counted by.leaf))))
+    (λ lt. omega (arith, map_backs s id maps lt, owes.backed id))
+
+pub distinct_named : (s : Store) (maps : List Layout) → Owned s.blocks → Owned s.leaves → Owes s maps → count_by is_some s.blocks ≡ different eqb (blocks_of s maps)
+distinct_named s maps blocks leaves owes =
+    count_standing s.blocks ∙ standing_different (blocks_of s maps) s.blocks (λ q.
+    some_owned (place_at s.blocks q) (blocks q) ∙ (named_owned s maps leaves owes q ∙ sym (any_times q (blocks_of s maps))))
 
 -- one to one, there are as many places as blocks
 any_same : (n : Named) (ns : List Named) → ((q : Named) → IsIn q ns → is_place q.place n.place ≡ eqb q.block n.block) → list_any (λ (y : Place). is_place y n.place) (map (λ (m : Named). m.place) ns) ≡ list_any (λ (y : ℕ). eqb y n.block) (map (λ (m : Named). m.block) ns)

@@ -1,20 +1,16 @@
 -- A change by a new writer leaves slots and blocks one to one.
-use Rattle.std.proofs.Common.{◌≡◌, ◌⊎◌, ℕ, ◌+◌, ◌<◌, ◌≤◌, Bool, true, false, List, [], ◌∷◌, ◌++◌, length, Option, Some, None, refl, ap, sym, ◌∙◌, arith, eqb, zero, suc, inl, inr, ⊎_elim, subst}
-use Rattle.std.specs.Prelude.{slice_get}
-use Rattle.std.proofs.str.Laws.{order}
-use Rattle.std.proofs.lemmas.Bool.{false≢true}
-use Rattle.std.proofs.lemmas.Bool.Decides.{nat_tests}
-use Rattle.ele_blocks.specs.declared.slot.Slot.{Slot}
-use Rattle.ele_blocks.specs.Shared.{times, owners}
-use Rattle.ele_blocks.specs.Store.{Store, owners_at}
-use Rattle.ele_blocks.specs.Layout.{Layout, slots_of, ids_of}
-use Rattle.ele_blocks.specs.LivesIn.{LivesIn}
-use Rattle.ele_blocks.specs.Owes.{Moves}
-use Rattle.ele_blocks.specs.Renews.{Renews}
-use Rattle.ele_content.specs.Place.{Place, is_place}
-use Rattle.ele_blocks.specs.Distinct.{Named, IsIn, AreOneToOne, names_from, names_of, NoneBy, AreOwnedNames}
+use Rattle.ele_blocks.proofs.Words.{slice_get_within, ◌≡◌, ◌⊎◌, ℕ, ◌+◌, ◌<◌, ◌≤◌, Bool, true, false, List, [], ◌∷◌, ◌++◌, Option, Some, None, refl, ap, sym, ◌∙◌, arith, eqb, zero, suc, inl, inr, ⊎_elim, subst, slice_get, order, false≢true, nat_tests, Slot, times, Store, owners_at, Layout, slots_of, ids_of, LivesIn, Moves, Renews, Place, is_place, Named, IsIn, AreOneToOne, names_from, names_of}
+use Rattle.ele_blocks.proofs.Hands.{backed_there}
 
-abbrev name_of : ℕ → ℕ → Slot → Named
+-- no name is of this writer of the file
+abbrev pub NoneBy : ℕ → ℕ → List Named → Type 0
+NoneBy file writer ns = (n : Named) → IsIn n ns → n.place.file ≡ file → n.place.writer ≡ writer → ⊥
+
+-- each named block is owned
+abbrev pub AreOwnedNames : Store → List Named → Type 0
+AreOwnedNames s ns = (n : Named) → IsIn n ns → 0 < owners_at s n.block
+
+abbrev pub name_of : ℕ → ℕ → Slot → Named
 name_of file slot x = record { place = record { file = file; slot = slot; writer = x.writer }; block = x.block }
 
 pub in_either : (n : Named) (xs ys : List Named) → IsIn n (xs ++ ys) → IsIn n xs ⊎ IsIn n ys
@@ -56,12 +52,7 @@ slot_in file first (suc k) (y ∷ ys) x e =
     let P : ℕ → Type 0 = λ n. IsIn (name_of file n x) (names_from file (first + 1) ys) in
     inr (subst P (sym z) (slot_in file (first + 1) k ys x e))
 
-got_within : (k : ℕ) (slots : List Slot) (x : Slot) → slice_get slots k ≡ Some x → k < length slots
-got_within k [] x e = absurd cc
-got_within zero (y ∷ ys) x e = omega arith
-got_within (suc k) (y ∷ ys) x e = omega (arith, got_within k ys x e)
-
-pub times_got : (k : ℕ) (slots : List Slot) (x : Slot) → slice_get slots k ≡ Some x → 0 < times x.block (ids_of slots)
+times_got : (k : ℕ) (slots : List Slot) (x : Slot) → slice_get slots k ≡ Some x → 0 < times x.block (ids_of slots)
 times_got k [] x e = absurd cc
 times_got zero (y ∷ ys) x e =
     let same : y ≡ x = cc in
@@ -86,20 +77,10 @@ pub record SamePlace (p q : Place) : Type 0 where
   pub writer : p.writer ≡ q.writer
 
 pub place_same : (p q : Place) → is_place p q ≡ true → SamePlace p q
-place_same p q h = elim (eqb p.file q.file) as (λ a. eqb p.file q.file ≡ a → SamePlace p q) [
-  | false ↦ λ ea. absurd (false≢true (rw ea at h))
-  | true ↦ λ ea. elim (eqb p.slot q.slot) as (λ b. eqb p.slot q.slot ≡ b → SamePlace p q) [
-    | false ↦ λ eb. absurd (false≢true (rw (ea, eb) at h))
-    | true ↦ λ eb.
-        let ec : eqb p.writer q.writer ≡ true = rw (ea, eb) at h in
-        record { file = grind (arith, nat_tests); slot = grind (arith, nat_tests); writer = grind (arith, nat_tests) }
-  ] refl
-] refl
+place_same p q h = record { file = grind (arith, nat_tests, h); slot = grind (arith, nat_tests, h); writer = grind (arith, nat_tests, h) }
 
 place_back : (p q : Place) → SamePlace p q → is_place q p ≡ true
-place_back p q h =
-    let self : (x : ℕ) → eqb x x ≡ true = λ x. grind (arith, nat_tests) in
-    rw (h.file, h.slot, h.writer, self q.file, self q.slot, self q.writer) refl
+place_back p q h = grind (arith, nat_tests, h.file, h.slot, h.writer)
 
 not_true : (b : Bool) → (b ≡ true → ⊥) → b ≡ false
 not_true true h = absurd (h refl)
@@ -107,7 +88,7 @@ not_true false h = refl
 
 -- each block of a map that lives is owned
 pub slot_owned : (s : Store) (m : Layout) → LivesIn s m → (k : ℕ) (x : Slot) → slice_get (slots_of s m) k ≡ Some x → 0 < owners_at s x.block
-slot_owned s m lives k x e = omega (arith, lives.owned.owned x.block, times_got k (slots_of s m) x e)
+slot_owned s m lives k x e = backed_there s m.leaves lives.backed x.block (times_got k (slots_of s m) x e)
 
 -- and so is what its names name
 pub names_owned : (s : Store) (file : ℕ) (m : Layout) → LivesIn s m → AreOwnedNames s (names_of s file m)
@@ -121,18 +102,18 @@ module _ (s t : Store) (w file : ℕ) (p : ℕ → Bool) (was now : Layout) (res
   record IsFresh (n : Named) : Type 0 where
     pub place : ℕ
     pub cell : Slot
-    pub got : slice_get now.slots place ≡ Some cell
+    pub got : slice_get (slots_of t now) place ≡ Some cell
     pub is : n ≡ name_of file place cell
     pub renewed : p place ≡ true
     pub writer : cell.writer ≡ w
-    pub free : owners s cell.block ≡ 0
+    pub free : owners_at s cell.block ≡ 0
 
   record IsOld (n : Named) : Type 0 where
     pub before : IsIn n (names_of s file was ++ rest)
     pub stays : n.place.file ≡ file → n.place.writer ≡ w → p n.place.slot ≡ false
-    pub held : 0 < owners s n.block
+    pub held : 0 < owners_at s n.block
 
-  of_slot : (n : Named) → IsSlot n file 0 now.slots → IsFresh n ⊎ IsOld n
+  of_slot : (n : Named) → IsSlot n file 0 (slots_of t now) → IsFresh n ⊎ IsOld n
   of_slot n h =
       let is : n ≡ name_of file h.place h.cell = h.is ∙ ap (λ k. name_of file k h.cell) (let z : 0 + h.place ≡ h.place = omega arith in z) in
       elim (p h.place) as (λ b. p h.place ≡ b → IsFresh n ⊎ IsOld n) [
@@ -140,8 +121,8 @@ module _ (s t : Store) (w file : ℕ) (p : ℕ → Bool) (was now : Layout) (res
             let new = rw h.got at (renews.fresh h.place e) in
             inl (record { place = h.place; cell = h.cell; got = h.got; is = is; renewed = e; writer = new.0; free = new.1 })
         | false ↦ λ e.
-            let old = sym (renews.stays h.place e (got_within h.place now.slots h.cell h.got)) ∙ h.got in
-            let here = slot_in file 0 h.place was.slots h.cell old in
+            let old = sym (renews.stays h.place e (slice_get_within (slots_of t now) h.place h.cell h.got)) ∙ h.got in
+            let here = slot_in file 0 h.place (slots_of s was) h.cell old in
             let P : Named → Type 0 = λ m. IsIn m (names_of s file was) in
             inr (record {
               before = in_front n (names_of s file was) rest (subst P (sym h.is) here);
@@ -152,7 +133,7 @@ module _ (s t : Store) (w file : ℕ) (p : ℕ → Bool) (was now : Layout) (res
 
   of_name : (n : Named) → IsIn n (names_of t file now ++ rest) → IsFresh n ⊎ IsOld n
   of_name n i = ⊎_elim
-      (λ (a : IsIn n (names_of t file now)). of_slot n (slot_from n file 0 now.slots a))
+      (λ (a : IsIn n (names_of t file now)). of_slot n (slot_from n file 0 (slots_of t now) a))
       (λ (b : IsIn n rest). inr (record { before = in_back n (names_of s file was) rest b; stays = λ f v. absurd (none n b f v); held = owned n b }))
       (in_either n (names_of t file now) rest i)
 
@@ -168,11 +149,11 @@ module _ (s t : Store) (w file : ℕ) (p : ℕ → Bool) (was now : Layout) (res
   apart_block : (m n : Named) → IsFresh m → IsOld n → m.block ≡ n.block → ⊥
   apart_block m n h k e =
       let b : h.cell.block ≡ n.block = sym (ap (λ (q : Named). q.block) h.is) ∙ e in
-      let o = ap (owners s) b in
+      let o = ap (owners_at s) b in
       absurd (omega (arith, h.free, k.held, o))
 
   -- a fresh block is named once
-  once : (m : Named) → (h : IsFresh m) → times h.cell.block (ids_of now.slots) ≤ 1
+  once : (m : Named) → (h : IsFresh m) → times h.cell.block (ids_of (slots_of t now)) ≤ 1
   once m h = renews.once h.cell.block h.free
 
   eqb_no : (a b : ℕ) → (a ≡ b → ⊥) → eqb a b ≡ false
@@ -188,8 +169,8 @@ module _ (s t : Store) (w file : ℕ) (p : ℕ → Bool) (was now : Layout) (res
       let blocks : eqb m.block n.block ≡ false = eqb_no m.block n.block (λ e.
       let b : h.cell.block ≡ k.cell.block = sym (ap (λ (q : Named). q.block) h.is) ∙ (e ∙ ap (λ (q : Named). q.block) k.is) in
       ⊎_elim
-      (λ (lt : h.place < k.place). absurd (omega (arith, times_two h.place k.place now.slots h.cell k.cell lt h.got k.got b, once m h)))
-      (λ (lt : k.place < h.place). absurd (omega (arith, times_two k.place h.place now.slots k.cell h.cell lt k.got h.got (sym b), once n k)))
+      (λ (lt : h.place < k.place). absurd (omega (arith, times_two h.place k.place (slots_of t now) h.cell k.cell lt h.got k.got b, once m h)))
+      (λ (lt : k.place < h.place). absurd (omega (arith, times_two k.place h.place (slots_of t now) k.cell h.cell lt k.got h.got (sym b), once n k)))
       d) in
       places ∙ sym blocks in
       ⊎_elim
@@ -198,7 +179,7 @@ module _ (s t : Store) (w file : ℕ) (p : ℕ → Bool) (was now : Layout) (res
       (λ (lt : k.place < h.place). apart (inr lt))
       (λ (ge : h.place ≤ k.place).
       let z : h.place ≡ k.place = omega (arith, le, ge) in
-      let cells : h.cell ≡ k.cell = let e = sym h.got ∙ (ap (slice_get now.slots) z ∙ k.got) in cc in
+      let cells : h.cell ≡ k.cell = let e = sym h.got ∙ (ap (slice_get (slots_of t now)) z ∙ k.got) in cc in
       let same : m ≡ n = h.is ∙ (ap (λ q. name_of file q h.cell) z ∙ (ap (name_of file k.place) cells ∙ sym k.is)) in
       let self : (x : ℕ) → eqb x x ≡ true = λ x. grind (arith, nat_tests) in
       rw (same, self n.place.file, self n.place.slot, self n.place.writer, self n.block) refl)

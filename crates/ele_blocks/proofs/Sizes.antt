@@ -1,93 +1,69 @@
--- How many bytes cells and pieces hold.
-use Rattle.std.proofs.Common.{◌≡◌, ℕ, ◌+◌, ◌-◌, ◌*◌, ◌/◌, ◌<◌, ◌≤◌, true, false, List, [], ◌∷◌, ◌++◌, length, take, drop, map, min, refl, ap, sym, ◌∙◌, arith, zero, suc, length-append, eqb, ltb, leb}
-use Rattle.std.specs.List.{concat}
-use Rattle.std.proofs.lemmas.List.{length-map}
-use Rattle.std.proofs.lemmas.Bool.Decides.{nat_tests}
-use Rattle.std.proofs.lemmas.Bool.{false≢true}
-use Rattle.ele_content.specs.declared.cell.Cell.{Cell}
-use Rattle.ele_content.specs.Content.{content_of, longest_content}
-use Rattle.ele_blocks.specs.Store.{Store}
-use Rattle.ele_blocks.specs.Layout.{Layout, shown, cell_of}
-use Rattle.ele_content.specs.Content.{fill_slots}
-use Rattle.ele_blocks.specs.LivesIn.{is_whole}
+-- The sizes of a map that is whole, and the bytes of its slots.
+use Rattle.ele_blocks.proofs.Words.{◌≡◌, ℕ, ◌+◌, ◌-◌, ◌*◌, ◌≤◌, true, List, [], ◌++◌, length, take, drop, get_or, Some, refl, ap, sym, ◌∙◌, arith, leb, slice_get, take-add, nat_tests, length-map, drop-drop, get_or-map, slice_get_within, get_or_from_slice_get, Cell, content_of, longest_content, slot_count, slot_bytes, Slot, Store, leaf_at, bytes_at, Layout, slots_of, shown, cell_of, is_whole, leaf_count, AreSized, ◌/◌, ◌%◌, ◌<◌, get_or-take, get_or-drop, slice_get_read, LivesIn, owners}
+use Rattle.ele_blocks.proofs.Trades.{one_more}
+use Rattle.ele_blocks.proofs.Sized.{fills_sized, sized_fills, sized-length, sized-count, flat-at}
 
--- the bytes of each cell
-abbrev pub bytes_each : List Cell → List (List ℕ)
-bytes_each cells = map (λ cell. cell.bytes) cells
+abbrev pub bytes_of : Cell → List ℕ
+bytes_of cell = cell.bytes
 
--- pieces of 512 bytes, the last of 1 to 512, that hold so many bytes
-abbrev pub AreSized : ℕ → List (List ℕ) → Type 0
-AreSized n [] = n ≡ 0
-AreSized n (x ∷ xs) = (length x ≡ min n 512) × (0 < n) × AreSized (n - 512) xs
+abbrev pub no_cell : Cell
+no_cell = record { writer = 0; bytes = [] }
 
-pub content_each : (cells : List Cell) → content_of cells ≡ concat (bytes_each cells)
-content_each [] = refl
-content_each (x ∷ xs) = ap (λ ys. x.bytes ++ ys) (content_each xs)
-
--- the test is what it tests
-pub fills_sized : (n : ℕ) (cells : List Cell) → fill_slots n cells ≡ true → AreSized n (bytes_each cells)
-fills_sized n [] h = grind (arith, nat_tests)
-fills_sized n (x ∷ xs) h = elim (eqb (length x.bytes) (min n 512)) as (λ a. eqb (length x.bytes) (min n 512) ≡ a → AreSized n (bytes_each (x ∷ xs))) [
-  | true ↦ λ ea. elim (ltb 0 n) as (λ b. ltb 0 n ≡ b → AreSized n (bytes_each (x ∷ xs))) [
-    | true ↦ λ eb. (grind (arith, nat_tests), grind (arith, nat_tests), fills_sized (n - 512) xs (rw (ea, eb) at h))
-    | false ↦ λ eb. absurd (false≢true (rw (ea, eb) at h))
-  ] refl
-  | false ↦ λ ea. absurd (false≢true (rw ea at h))
-] refl
-
-pub sized_fills : (n : ℕ) (cells : List Cell) → AreSized n (bytes_each cells) → fill_slots n cells ≡ true
-sized_fills n [] h = grind (arith, nat_tests)
-sized_fills n (x ∷ xs) h =
-    let a : eqb (length x.bytes) (min n 512) ≡ true = let e = h.0 in grind (arith, nat_tests) in
-    let b : ltb 0 n ≡ true = let e = h.1 in grind (arith, nat_tests) in
-    rw (a, b) (sized_fills (n - 512) xs h.2)
-
-pub sized-count : (n : ℕ) (xs : List (List ℕ)) → AreSized n xs → length xs ≡ (n + 511) / 512
-sized-count n [] h = omega arith
-sized-count n (x ∷ xs) h = omega (arith, h, sized-count (n - 512) xs h.2)
-
-pub sized-length : (n : ℕ) (xs : List (List ℕ)) → AreSized n xs → length (concat xs) ≡ n
-sized-length n [] h = omega arith
-sized-length n (x ∷ xs) h = omega (arith, h, sized-length (n - 512) xs h.2, length-append x (concat xs))
-
-pub sized-is : (n m : ℕ) (xs : List (List ℕ)) → n ≡ m → AreSized n xs → AreSized m xs
-sized-is n m xs e h = rw (sym e) h
-
-pub sized-nil : (xs : List (List ℕ)) → AreSized 0 xs → xs ≡ []
-sized-nil [] h = refl
-sized-nil (x ∷ xs) h = absurd (omega (arith, h))
-
-pub sized-drop : (k n : ℕ) (xs : List (List ℕ)) → AreSized n xs → AreSized (n - 512 * k) (drop k xs)
-sized-drop zero n xs h = sized-is n (n - 512 * 0) xs (omega arith) h
-sized-drop (suc k) n [] h = let e : n - 512 * suc k ≡ 0 = omega (arith, h) in e
-sized-drop (suc k) n (x ∷ xs) h = sized-is (n - 512 - 512 * k) (n - 512 * suc k) (drop k xs) (omega arith) (sized-drop k (n - 512) xs h.2)
-
-pub sized-take : (k n : ℕ) (xs : List (List ℕ)) → AreSized n xs → AreSized (min n (512 * k)) (take k xs)
-sized-take zero n xs h = omega arith
-sized-take (suc k) n [] h = omega (arith, h)
-sized-take (suc k) n (x ∷ xs) h = (omega (arith, h), omega (arith, h), sized-is (min (n - 512) (512 * k)) (min n (512 * suc k) - 512) (take k xs) (omega arith) (sized-take k (n - 512) xs h.2))
-
--- both tests of a whole map
 module _ (s : Store) (m : Layout) where
-  pub whole_sized : is_whole s m ≡ true → AreSized m.size (bytes_each (shown s m))
-  whole_sized h = elim (leb m.size longest_content) as (λ a. leb m.size longest_content ≡ a → AreSized m.size (bytes_each (shown s m))) [
-    | true ↦ λ e. fills_sized m.size (shown s m) (rw e at h)
-    | false ↦ λ e. absurd (false≢true (rw e at h))
-  ] refl
+  -- what the tests of a whole map say
+  pub record IsWhole : Type 0 where
+    pub short : m.size ≤ longest_content
+    pub bytes : AreSized 512 bytes_of m.size (shown s m)
+    pub leaves : AreSized 16 (leaf_at s) (slot_count m.size) m.leaves
 
-  pub whole_short : is_whole s m ≡ true → m.size ≤ longest_content
-  whole_short h = elim (leb m.size longest_content) as (λ a. leb m.size longest_content ≡ a → m.size ≤ longest_content) [
-    | true ↦ λ e. grind (arith, nat_tests)
-    | false ↦ λ e. absurd (false≢true (rw e at h))
-  ] refl
+  pub whole_is : is_whole s m ≡ true → IsWhole
+  whole_is h = record {
+    short = grind (arith, nat_tests, h);
+    bytes = fills_sized 512 bytes_of m.size (shown s m) (grind (arith, nat_tests, h));
+    leaves = fills_sized 16 (leaf_at s) (slot_count m.size) m.leaves (grind (arith, nat_tests, h));
+  }
 
-  pub sized_whole : m.size ≤ longest_content → AreSized m.size (bytes_each (shown s m)) → is_whole s m ≡ true
-  sized_whole short h = let e : leb m.size longest_content ≡ true = grind (arith, nat_tests) in rw e (sized_fills m.size (shown s m) h)
+  pub is_whole_by : IsWhole → is_whole s m ≡ true
+  is_whole_by h = let e : leb m.size longest_content ≡ true = let short = h.short in grind (arith, nat_tests, short) in rw (e, sized_fills 512 bytes_of m.size (shown s m) h.bytes, sized_fills 16 (leaf_at s) (slot_count m.size) m.leaves h.leaves) refl
 
-  -- the content of a whole map has the map's size
-  pub length-content : is_whole s m ≡ true → length (content_of (shown s m)) ≡ m.size
-  length-content h = ap length (content_each (shown s m)) ∙ sized-length m.size (bytes_each (shown s m)) (whole_sized h)
+  module _ (whole : is_whole s m ≡ true) where
+    pub length-content : length (content_of (shown s m)) ≡ m.size
+    length-content = sized-length 512 bytes_of (omega arith) m.size (shown s m) (whole_is whole).bytes
 
-  -- and the map has as many slots as that fills
-  pub slots-count : is_whole s m ≡ true → length m.slots ≡ (m.size + 511) / 512
-  slots-count h = omega (arith, sized-count m.size (bytes_each (shown s m)) (whole_sized h), length-map (shown s m) (λ (cell : Cell). cell.bytes), length-map m.slots (cell_of s))
+    pub slots-count : length (slots_of s m) ≡ slot_count m.size
+    slots-count = sized-length 16 (leaf_at s) (omega arith) (slot_count m.size) m.leaves (whole_is whole).leaves
+
+    pub leaves-count : length m.leaves ≡ leaf_count (slot_count m.size)
+    leaves-count = omega (arith, sized-count 16 (leaf_at s) (omega arith) (slot_count m.size) m.leaves (whole_is whole).leaves)
+
+    -- the bytes of a slot
+    pub its_bytes : (slot : ℕ) (x : Slot) → slice_get (slots_of s m) slot ≡ Some x → bytes_at s x.block ≡ slot_bytes (content_of (shown s m)) slot
+    its_bytes slot x got =
+        let lt = slice_get_within (slots_of s m) slot x got in
+        let here : get_or (shown s m) slot no_cell ≡ cell_of s x = get_or-map (cell_of s) (slots_of s m) slot x no_cell lt ∙ ap (cell_of s) (get_or_from_slice_get (slots_of s m) slot x x got) in
+        sym (ap bytes_of here) ∙ flat-at 512 bytes_of (omega arith) slot m.size (shown s m) no_cell (whole_is whole).bytes (omega (arith, lt, length-map (slots_of s m) (cell_of s)))
+
+-- the bytes of some slots, and of one more
+pub bytes_more : (content : List ℕ) (first slot : ℕ) → first ≤ slot → take (512 * (slot + 1 - first)) (drop (512 * first) content) ≡ take (512 * (slot - first)) (drop (512 * first) content) ++ slot_bytes content slot
+bytes_more content first slot le =
+    let all = drop (512 * first) content in
+    let size : 512 * (slot + 1 - first) ≡ 512 * (slot - first) + 512 = omega (arith, le) in
+    let place : 512 * first + 512 * (slot - first) ≡ 512 * slot = omega (arith, le) in
+    ap (λ n. take n all) size ∙ (take-add (512 * (slot - first)) 512 all ∙ ap (λ ys. take (512 * (slot - first)) all ++ ys) (ap (take 512) (drop-drop (512 * (slot - first)) (512 * first) content ∙ ap (λ n. drop n content) place)))
+
+-- ---- a slot in its leaf
+
+module _ (s : Store) (m : Layout) (lives : LivesIn s m) (slot leaf : ℕ) (lt : slot < slot_count m.size) (is : leaf ≡ get_or m.leaves (slot / 16) leaf) where
+  leaf_within : slot / 16 < length m.leaves
+  leaf_within = omega (arith, leaves-count s m lives.whole, lt)
+
+  pub leaf_owned : 0 < owners s.leaves leaf
+  leaf_owned = omega (arith, one_more m.leaves (slot / 16) leaf leaf_within is, lives.owned.owned leaf)
+
+  pub leaf_is : leaf_at s leaf ≡ take 16 (drop (16 * (slot / 16)) (slots_of s m))
+  leaf_is = ap (leaf_at s) is ∙ flat-at 16 (leaf_at s) (omega arith) (slot / 16) (slot_count m.size) m.leaves leaf (whole_is s m lives.whole).leaves leaf_within
+
+pub slot_found : {X : Type 0} (xs leaf : List X) (slot : ℕ) (x : X) → leaf ≡ take 16 (drop (16 * (slot / 16)) xs) → slot < length xs → x ≡ get_or leaf (slot % 16) x → slice_get xs slot ≡ Some x
+slot_found xs leaf slot x is lt here =
+    let place : 16 * (slot / 16) + slot % 16 ≡ slot = omega arith in
+    slice_get_read xs (length xs) slot x refl lt (here ∙ (ap (λ ys. get_or ys (slot % 16) x) is ∙ (get_or-take 16 (drop (16 * (slot / 16)) xs) (slot % 16) x (omega arith) ∙ (get_or-drop (16 * (slot / 16)) xs (slot % 16) x ∙ ap (λ n. get_or xs n x) place))))

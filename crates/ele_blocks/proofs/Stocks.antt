@@ -1,24 +1,84 @@
 -- The laws of maps over one store.
-use Rattle.std.proofs.Common.{◌≡◌, ◌⊎◌, ℕ, ◌+◌, ◌<◌, ◌≤◌, Bool, true, false, cond, ◌&&◌, List, [], ◌∷◌, ◌++◌, map, length, Some, refl, ap, sym, ◌∙◌, arith, eqb, ltb, zero, suc, inl, inr, ⊎_elim, subst}
-use Rattle.std.specs.Prelude.{slice_get}
-use Rattle.std.specs.List.{flat_map, list_all, sum_by, AllByRecursion}
-use Rattle.std.proofs.lemmas.List.{length-map, map-append}
-use Rattle.std.proofs.lemmas.List.Sums.{sum_by-cons}
-use Rattle.std.proofs.lemmas.Bool.{false≢true}
-use Rattle.std.proofs.lemmas.Bool.Decides.{nat_tests}
-use Rattle.ele_blocks.specs.declared.slot.Slot.{Slot}
-use Rattle.ele_blocks.specs.Distinct.{Named, IsIn, AreOneToOne, NoneBy, AreOwnedNames, names_from, names_of, blocks_of}
-use Rattle.ele_blocks.specs.Layout.{Layout, ids_of, slots_of, shown}
-use Rattle.ele_blocks.specs.Owes.{tally, named, Moves}
-use Rattle.ele_blocks.specs.Renews.{Renews}
-use Rattle.ele_blocks.specs.Shared.{times}
-use Rattle.ele_blocks.specs.Stock.{Tagged, SameStock, IsStocked, ShowsSame, Stays, IsEarlier, StockLaws, layouts_of, names_in, is_below, empty_layout}
-use Rattle.ele_blocks.specs.Store.{Store}
-use Rattle.ele_blocks.proofs.Distincts.{as_many}
-use Rattle.ele_blocks.proofs.OneToOnes.{in_either, in_front, in_back, place_same, times_got, stays_one_to_one}
-use Rattle.ele_blocks.proofs.Owed.{tally-append, same_maps, owes_none, owes_same, owes_new, owes_lives, owes_uncrowded, moves_owes, rest_stays}
-use Rattle.ele_blocks.proofs.Sizes.{length-content, slots-count, whole_short}
-use Rattle.ele_content.specs.Place.{Place, different, is_place}
+use Rattle.ele_blocks.proofs.Words.{is_whole, slice_get_within, ◌≡◌, ◌⊎◌, ℕ, ◌+◌, ◌<◌, ◌≤◌, Bool, true, false, cond, ◌&&◌, List, [], ◌∷◌, map, Some, refl, ap, sym, ◌∙◌, arith, eqb, ltb, zero, suc, inl, inr, ⊎_elim, slice_get, list_all, sum_by, AllByRecursion, length-map, map-append, sum_by-cons, nat_tests, Slot, Named, IsIn, AreOneToOne, names_from, names_of, blocks_of, Layout, ids_of, slots_of, tally, Moves, Renews, times, Tagged, SameStock, IsStocked, Stays, IsEarlier, StockLaws, layouts_of, names_in, is_below, empty_layout, Store, backing, is_place, ◌*◌, ◌^◌, ◌++◌, length, owners, LivesIn, named, broken, Owes, IsUncrowded}
+use Rattle.ele_blocks.specs.Stock.{ShowsSame}
+use Rattle.ele_blocks.proofs.Backing.{backing_least, slots_backed}
+use Rattle.ele_blocks.proofs.Hands.{StayIn, stay_in, whole_same}
+use Rattle.ele_blocks.proofs.Trades.{times-le-length}
+use Rattle.ele_blocks.proofs.Sizes.{whole_is, leaves-count, length-content, slots-count}
+use Rattle.ele_blocks.proofs.Distincts.{self_eq, as_many}
+use Rattle.ele_blocks.proofs.OneToOnes.{name_of, NoneBy, in_either, in_front, in_back, place_same, slot_owned, stays_one_to_one}
+
+-- ---- what a store is owed
+
+module _ {X : Type 0} (f : X → ℕ) where
+  pub tally-append : (xs ys : List X) → tally f (xs ++ ys) ≡ tally f xs + tally f ys
+  tally-append [] ys = omega arith
+  tally-append (x ∷ xs) ys = omega (arith, tally-append xs ys)
+
+-- one of the maps lives in the store
+pub whole_of : (b : Bool) (n : ℕ) → n ≡ cond b 0 1 → n ≡ 0 → b ≡ true
+whole_of true n e h = refl
+whole_of false n e h = absurd (omega (arith, e, h))
+
+pub owes_lives : (s : Store) (m : Layout) (rest : List Layout) → Owes s (m ∷ rest) → LivesIn s m
+owes_lives s m rest owes = record {
+  owned = record { owned = λ leaf. omega (arith, owes.counted leaf) };
+  backed = λ id some. omega (arith, owes.backed id);
+  whole = whole_of (is_whole s m) (cond (is_whole s m) 0 1) refl (omega (arith, owes.whole));
+}
+
+-- a leaf is named at most 128 times by each map
+named_few : (s : Store) (leaf : ℕ) (ms : List Layout) → broken s ms ≡ 0 → named leaf ms ≤ 128 * length ms
+named_few s leaf [] h = omega arith
+named_few s leaf (m ∷ ms) h =
+    let whole : is_whole s m ≡ true = whole_of (is_whole s m) (cond (is_whole s m) 0 1) refl (omega (arith, h)) in
+    omega (arith, named_few s leaf ms (omega (arith, h)), times-le-length leaf m.leaves, leaves-count s m whole, (whole_is s m whole).short)
+
+pub owes_uncrowded : (s : Store) (all : List Layout) → Owes s all → length all ≤ 2 ^ 50 → IsUncrowded s
+owes_uncrowded s all owes few = record { few = λ leaf. omega (arith, owes.counted leaf, named_few s leaf all owes.whole, few) }
+
+abbrev pub late : Store → List Tagged → ℕ
+late s ts = tally (λ t. cond (is_below s t) 0 1) ts
+
+-- the first maps have given way, and these stood beside them
+module _ (s t : Store) (was now : List Layout) (moves : Moves s t was now) (rest : List Tagged) (owes : Owes s (was ++ layouts_of rest)) where
+  beside : (leaf : ℕ) → named leaf was + named leaf (layouts_of rest) ≤ owners s.leaves leaf
+  beside leaf = omega (arith, owes.counted leaf, tally-append (λ m. times leaf m.leaves) was (layouts_of rest))
+
+  pub its_leaves : (m : Layout) → ((leaf : ℕ) → named leaf was + times leaf m.leaves ≤ owners s.leaves leaf) → StayIn s t m.leaves
+  its_leaves m owned = stay_in s t _ _ m.leaves moves.hands (λ leaf some. omega (arith, owned leaf, some)) (λ leaf some id names. omega (arith, owes.backed id, backing_least s.leaves leaf id, names))
+
+  -- every other map shows what it showed, by the slots that it had
+  pub record AllStay (ts : List Tagged) : Type 0 where
+    pub shows : AllByRecursion (ShowsSame s t) ts
+    pub names : names_in t ts ≡ names_in s ts
+    pub late : late t ts ≡ late s ts
+    pub broken : broken t (layouts_of ts) ≡ broken s (layouts_of ts)
+
+  all_stay : (ts : List Tagged) → ((leaf : ℕ) → named leaf was + named leaf (layouts_of ts) ≤ owners s.leaves leaf) → AllStay ts
+  all_stay [] owned = record { shows = tt; names = refl; late = refl; broken = refl }
+  all_stay (m ∷ ts) owned =
+      let first = its_leaves m.layout (λ leaf. omega (arith, owned leaf)) in
+      let more = all_stay ts (λ leaf. omega (arith, owned leaf)) in
+      record {
+        shows = (record { same = first.cells }, more.shows);
+        names = rw (first.slots, more.names) refl;
+        late = rw (first.slots, more.late) refl;
+        broken = rw (whole_same s t m.layout first, more.broken) refl;
+      }
+
+  pub rest_stays : AllStay rest
+  rest_stays = all_stay rest beside
+
+  -- and the store is owed by all of them
+  pub moves_owes : Owes t (now ++ layouts_of rest)
+  moves_owes = record {
+    counted = λ leaf. let n : Layout → ℕ = λ m. times leaf m.leaves in omega (arith, owes.counted leaf, moves.hands.leaves leaf, tally-append n was (layouts_of rest), tally-append n now (layouts_of rest));
+    backed = λ id. omega (arith, owes.backed id, moves.hands.blocks id);
+    whole = omega (arith, owes.whole, moves.whole, tally-append (λ m. cond (is_whole s m) 0 1) was (layouts_of rest), tally-append (λ m. cond (is_whole t m) 0 1) now (layouts_of rest), rest_stays.broken);
+  }
+
+-- ---- maps in another order
 
 tally-sum : {X : Type 0} (f : X → ℕ) (xs : List X) → tally f xs ≡ sum_by f xs
 tally-sum f [] = refl
@@ -35,19 +95,12 @@ is_named n m = is_place n.place m.place && eqb n.block m.block
 abbrev count : Named → List Named → ℕ
 count n ns = tally (λ m. cond (is_named n m) 1 0) ns
 
-self_eq : (x : ℕ) → eqb x x ≡ true
-self_eq x = grind (arith, nat_tests)
-
 named_is : (n m : Named) → is_named n m ≡ true → n ≡ m
-named_is n m h = elim (is_place n.place m.place) as (λ b. is_place n.place m.place ≡ b → n ≡ m) [
-  | true ↦ λ e.
-      let p = place_same n.place m.place e in
-      let b : eqb n.block m.block ≡ true = rw e at h in
-      let block : n.block ≡ m.block = grind (arith, nat_tests) in
-      let place : n.place ≡ m.place = rw (p.file, p.slot, p.writer) refl in
-      rw (place, block) refl
-  | false ↦ λ e. absurd (false≢true (rw e at h))
-] refl
+named_is n m h =
+    let p = place_same n.place m.place (grind (arith, nat_tests, h)) in
+    let block : n.block ≡ m.block = grind (arith, nat_tests, h) in
+    let place : n.place ≡ m.place = rw (p.file, p.slot, p.writer) refl in
+    rw (place, block) refl
 
 counted : (n : Named) (ns : List Named) → IsIn n ns → 0 < count n ns
 counted n [] i = absurd i
@@ -75,53 +128,40 @@ fewer ns ms are one = λ m n i j. one m n (are m i) (are n j)
 
 -- ---- the names of one map, and of several
 
-abbrev name_at : ℕ → ℕ → Slot → Named
-name_at file slot x = record { place = record { file = file; slot = slot; writer = x.writer }; block = x.block }
-
 -- its file, a writer below, and a block that the map names
 record IsNameOf (n : Named) (file below : ℕ) (slots : List Slot) : Type 0 where
   pub its_file : n.place.file ≡ file
   pub writer : n.place.writer < below
   pub block : 0 < times n.block (ids_of slots)
 
-name_of : (n : Named) (file below first : ℕ) (slots : List Slot) → list_all (λ (slot : Slot). ltb slot.writer below) slots ≡ true → IsIn n (names_from file first slots) → IsNameOf n file below slots
-name_of n file below first [] all i = absurd i
-name_of n file below first (x ∷ xs) all i = elim (ltb x.writer below) as (λ b. ltb x.writer below ≡ b → IsNameOf n file below (x ∷ xs)) [
-  | true ↦ λ e. ⊎_elim
-      (λ (is : n ≡ name_at file first x).
-      let w : n.place.writer ≡ x.writer = ap (λ (m : Named). m.place.writer) is in
-      let b : n.block ≡ x.block = ap (λ (m : Named). m.block) is in
-      let one : eqb x.block n.block ≡ true = grind (arith, nat_tests) in
-      record { its_file = ap (λ (m : Named). m.place.file) is; writer = grind (arith, nat_tests); block = rw one (omega arith) })
-      (λ (j : IsIn n (names_from file (first + 1) xs)).
-      let more = name_of n file below (first + 1) xs (rw e at all) j in
-      record { its_file = more.its_file; writer = more.writer; block = omega (arith, more.block) })
-      i
-  | false ↦ λ e. absurd (false≢true (rw e at all))
-] refl
-
-zero_true : (b : Bool) (n : ℕ) → cond b 0 1 ≡ n → n ≡ 0 → b ≡ true
-zero_true true n e h = refl
-zero_true false n e h = absurd (omega (arith, e, h))
-
-abbrev late : Store → List Tagged → ℕ
-late s ts = tally (λ t. cond (is_below s t) 0 1) ts
+named_by : (n : Named) (file below first : ℕ) (slots : List Slot) → list_all (λ (slot : Slot). ltb slot.writer below) slots ≡ true → IsIn n (names_from file first slots) → IsNameOf n file below slots
+named_by n file below first [] all i = absurd i
+named_by n file below first (x ∷ xs) all i = ⊎_elim
+    (λ (is : n ≡ name_of file first x).
+    let w : n.place.writer ≡ x.writer = ap (λ (m : Named). m.place.writer) is in
+    let b : n.block ≡ x.block = ap (λ (m : Named). m.block) is in
+    let one : eqb x.block n.block ≡ true = grind (arith, nat_tests, b) in
+    record { its_file = ap (λ (m : Named). m.place.file) is; writer = grind (arith, nat_tests, all, w); block = rw one (omega arith) })
+    (λ (j : IsIn n (names_from file (first + 1) xs)).
+    let more = named_by n file below (first + 1) xs (grind (arith, nat_tests, all)) j in
+    record { its_file = more.its_file; writer = more.writer; block = omega (arith, more.block) })
+    i
 
 head_below : (s : Store) (t : Tagged) (ts : List Tagged) → late s (t ∷ ts) ≡ 0 → is_below s t ≡ true
-head_below s t ts h = zero_true (is_below s t) (cond (is_below s t) 0 1) refl (omega (arith, h))
+head_below s t ts h = whole_of (is_below s t) (cond (is_below s t) 0 1) refl (omega (arith, h))
 
-owned_names : (s : Store) (n : Named) (ts : List Tagged) → late s ts ≡ 0 → IsIn n (names_in s ts) → 0 < named s n.block (layouts_of ts)
+owned_names : (s : Store) (n : Named) (ts : List Tagged) → late s ts ≡ 0 → IsIn n (names_in s ts) → 0 < backing s.leaves n.block
 owned_names s n [] h i = absurd i
 owned_names s n (t ∷ ts) h i = ⊎_elim
-    (λ (a : IsIn n (names_of s t.file t.layout)). omega (arith, (name_of n t.file t.below 0 (slots_of s t.layout) (head_below s t ts h) a).block))
-    (λ (b : IsIn n (names_in s ts)). omega (arith, owned_names s n ts (omega (arith, h)) b))
+    (λ (a : IsIn n (names_of s t.file t.layout)). slots_backed s t.layout.leaves n.block (named_by n t.file t.below 0 (slots_of s t.layout) (head_below s t ts h) a).block)
+    (λ (b : IsIn n (names_in s ts)). owned_names s n ts (omega (arith, h)) b)
     (in_either n (names_of s t.file t.layout) (names_in s ts) i)
 
 none_by : (s : Store) (file writer : ℕ) (ts : List Tagged) → late s ts ≡ 0 → AllByRecursion (IsEarlier file writer) ts → NoneBy file writer (names_in s ts)
 none_by s file writer [] h all n i of by = absurd i
 none_by s file writer (t ∷ ts) h all n i of by = ⊎_elim
     (λ (a : IsIn n (names_of s t.file t.layout)).
-    let is = name_of n t.file t.below 0 (slots_of s t.layout) (head_below s t ts h) a in
+    let is = named_by n t.file t.below 0 (slots_of s t.layout) (head_below s t ts h) a in
     let lt = all.0.earlier (sym is.its_file ∙ of) in
     absurd (omega (arith, is.writer, lt, by)))
     (λ (b : IsIn n (names_in s ts)). none_by s file writer ts (omega (arith, h)) all.1 n b of by)
@@ -129,32 +169,19 @@ none_by s file writer (t ∷ ts) h all n i of by = ⊎_elim
 
 -- ---- writers by place
 
-and-left : (a b : Bool) → (a && b) ≡ true → a ≡ true
-and-left true b h = refl
-and-left false b h = absurd (false≢true h)
-
-and-right : (a b : Bool) → (a && b) ≡ true → b ≡ true
-and-right true b h = h
-and-right false b h = absurd (false≢true h)
-
 all_places : (p : Slot → Bool) (slots : List Slot) → ((k : ℕ) (x : Slot) → slice_get slots k ≡ Some x → p x ≡ true) → list_all p slots ≡ true
 all_places p [] each = refl
 all_places p (x ∷ xs) each = rw (each 0 x refl) (all_places p xs (λ k y e. each (suc k) y e))
 
 at_place : (p : Slot → Bool) (slots : List Slot) (k : ℕ) (x : Slot) → list_all p slots ≡ true → slice_get slots k ≡ Some x → p x ≡ true
 at_place p [] k x all e = absurd cc
-at_place p (y ∷ ys) zero x all e = let same : y ≡ x = cc in rw (← same) (and-left (p y) (list_all p ys) all)
-at_place p (y ∷ ys) (suc k) x all e = at_place p ys k x (and-right (p y) (list_all p ys) all) e
-
-place_within : (slots : List Slot) (k : ℕ) (x : Slot) → slice_get slots k ≡ Some x → k < length slots
-place_within [] k x e = absurd cc
-place_within (y ∷ ys) zero x e = omega arith
-place_within (y ∷ ys) (suc k) x e = omega (arith, place_within ys k x e)
+at_place p (y ∷ ys) zero x all e = let same : y ≡ x = cc in rw (← same) (grind (arith, nat_tests, all))
+at_place p (y ∷ ys) (suc k) x all e = at_place p ys k x (grind (arith, nat_tests, all)) e
 
 below_renewed : (s t : Store) (writer below : ℕ) (p : ℕ → Bool) (was now : Layout) → below ≡ writer + 1 → Renews s t writer p was now → list_all (λ (slot : Slot). ltb slot.writer below) (slots_of s was) ≡ true → list_all (λ (slot : Slot). ltb slot.writer below) (slots_of t now) ≡ true
 below_renewed s t writer below p was now is renews all = all_places (λ (slot : Slot). ltb slot.writer below) (slots_of t now) (λ k x e. elim (p k) as (λ b. p k ≡ b → ltb x.writer below ≡ true) [
   | true ↦ λ new. let fresh = rw e at (renews.fresh k new) in let w = fresh.0 in grind (arith, nat_tests)
-  | false ↦ λ old. at_place (λ (slot : Slot). ltb slot.writer below) (slots_of s was) k x all (sym (renews.stays k old (place_within (slots_of t now) k x e)) ∙ e)
+  | false ↦ λ old. at_place (λ (slot : Slot). ltb slot.writer below) (slots_of s was) k x all (sym (renews.stays k old (slice_get_within (slots_of t now) k x e)) ∙ e)
 ] refl)
 
 below_more : (below more : ℕ) (slots : List Slot) → below ≤ more → list_all (λ (slot : Slot). ltb slot.writer below) slots ≡ true → list_all (λ (slot : Slot). ltb slot.writer more) slots ≡ true
@@ -166,30 +193,29 @@ tally-layouts : (f : Layout → ℕ) (ts : List Tagged) → tally f (layouts_of 
 tally-layouts f [] = refl
 tally-layouts f (t ∷ ts) = omega (arith, tally-layouts f ts)
 
-each_shows : (s t : Store) (ts : List Tagged) → map (shown t) (layouts_of ts) ≡ map (shown s) (layouts_of ts) → AllByRecursion (ShowsSame s t) ts
-each_shows s t [] e = tt
-each_shows s t (m ∷ ts) e = (record { same = cc }, each_shows s t ts cc)
-
 in_same : (s : Store) (ts us : List Tagged) → SameStock ts us → IsStocked s ts → IsStocked s us
 in_same s ts us same h = record {
-  owed = owes_same s (layouts_of ts) (layouts_of us) h.owed (record { sums = λ f. tally-layouts f ts ∙ (same_tally ts us same (λ t. f t.layout) ∙ sym (tally-layouts f us)) });
+  owed = record {
+    counted = λ leaf. h.owed.counted leaf ∙ by (λ m. times leaf m.leaves);
+    backed = h.owed.backed;
+    whole = sym (by (λ m. cond (is_whole s m) 0 1)) ∙ h.owed.whole;
+  };
   one_to_one = fewer (names_in s us) (names_in s ts) (same_in s ts us same) h.one_to_one;
   written = sym (same_tally ts us same (λ t. cond (is_below s t) 0 1)) ∙ h.written;
-}
+} where
+  by : (f : Layout → ℕ) → tally f (layouts_of ts) ≡ tally f (layouts_of us)
+  by f = tally-layouts f ts ∙ (same_tally ts us same (λ t. f t.layout) ∙ sym (tally-layouts f us))
 
 with_empty : (s : Store) (file below : ℕ) (ts : List Tagged) → IsStocked s ts → IsStocked s (record { file = file; below = below; layout = empty_layout } ∷ ts)
-with_empty s file below ts h = record { owed = owes_new s (layouts_of ts) h.owed; one_to_one = h.one_to_one; written = omega (arith, h.written) }
+with_empty s file below ts h = record { owed = record { counted = λ leaf. omega (arith, h.owed.counted leaf); backed = h.owed.backed; whole = omega (arith, h.owed.whole) }; one_to_one = h.one_to_one; written = omega (arith, h.written) }
 
 without_empty : (s : Store) (file below : ℕ) (ts : List Tagged) → IsStocked s (record { file = file; below = below; layout = empty_layout } ∷ ts) → IsStocked s ts
-without_empty s file below ts h = record { owed = record { counted = λ id. omega (arith, h.owed.counted id); whole = omega (arith, h.owed.whole) }; one_to_one = h.one_to_one; written = omega (arith, h.written) }
+without_empty s file below ts h = record { owed = record { counted = λ leaf. omega (arith, h.owed.counted leaf); backed = h.owed.backed; whole = omega (arith, h.owed.whole) }; one_to_one = h.one_to_one; written = omega (arith, h.written) }
 
 back : (ts us : List Tagged) → SameStock ts us → SameStock us ts
 back ts us same = record { sums = λ f. sym (same.sums f) }
 
 module _ (s t : Store) (ts : List Tagged) (was : Tagged) (rest : List Tagged) (stocked : IsStocked s ts) (apart : SameStock ts (was ∷ rest)) where
-  abbrev all : List Layout
-  all = was.layout ∷ layouts_of rest
-
   h : IsStocked s (was ∷ rest)
   h = in_same s ts (was ∷ rest) apart stocked
 
@@ -200,40 +226,45 @@ module _ (s t : Store) (ts : List Tagged) (was : Tagged) (rest : List Tagged) (s
   was_below = head_below s was rest h.written
 
   goes : Moves s t (was.layout ∷ []) [] → Stays s t rest rest
-  goes moves = record {
-    stocked = record {
-      owed = moves_owes s t (was.layout ∷ []) [] moves all (layouts_of rest) h.owed (same_maps all) (layouts_of rest) (same_maps (layouts_of rest));
-      one_to_one = fewer (names_in t rest) (names_in s (was ∷ rest)) (λ n i. in_back n (names_of s was.file was.layout) (names_in s rest) i) h.one_to_one;
-      written = all_written;
-    };
-    shows = each_shows s t rest (rest_stays s t (was.layout ∷ []) [] moves all (layouts_of rest) h.owed (same_maps all));
-  }
+  goes moves =
+      let stay = rest_stays s t (was.layout ∷ []) [] moves rest h.owed in
+      record {
+        stocked = record {
+          owed = moves_owes s t (was.layout ∷ []) [] moves rest h.owed;
+          one_to_one = rw stay.names (fewer (names_in s rest) (names_in s (was ∷ rest)) (λ n i. in_back n (names_of s was.file was.layout) (names_in s rest) i) h.one_to_one);
+          written = stay.late ∙ all_written;
+        };
+        shows = stay.shows;
+      }
 
   -- a name of the map is there
   was_in : (n : Named) → IsIn n (names_of s was.file was.layout) → IsIn n (names_in s ts)
   was_in n i = same_in s ts (was ∷ rest) apart n (in_front n (names_of s was.file was.layout) (names_in s rest) i)
 
   copies : (below : ℕ) (us : List Tagged) → was.below ≤ below → Moves s t [] (was.layout ∷ []) → SameStock us (record was { below = below } ∷ ts) → Stays s t ts us
-  copies below us le moves same = record {
-    stocked = in_same t (record was { below = below } ∷ ts) us (back us (record was { below = below } ∷ ts) same) (record {
-      owed = moves_owes s t [] (was.layout ∷ []) moves (layouts_of ts) (layouts_of ts) stocked.owed (same_maps (layouts_of ts)) (was.layout ∷ layouts_of ts) (same_maps (was.layout ∷ layouts_of ts));
-      one_to_one = fewer (names_in t (was ∷ ts)) (names_in s ts) (λ n i. ⊎_elim (λ (a : IsIn n (names_of s was.file was.layout)). was_in n a) (λ (b : IsIn n (names_in s ts)). b) (in_either n (names_of s was.file was.layout) (names_in s ts) i)) stocked.one_to_one;
-      written = rw (below_more was.below below (slots_of s was.layout) le was_below) (let e = stocked.written in omega (arith, e));
-    });
-    shows = each_shows s t ts (rest_stays s t [] (was.layout ∷ []) moves (layouts_of ts) (layouts_of ts) stocked.owed (same_maps (layouts_of ts)));
-  }
+  copies below us le moves same =
+      let stay = rest_stays s t [] (was.layout ∷ []) moves ts stocked.owed in
+      let mine = (its_leaves s t [] (was.layout ∷ []) moves ts stocked.owed was.layout (λ leaf. omega (arith, h.owed.counted leaf))).slots in
+      record {
+        stocked = in_same t (record was { below = below } ∷ ts) us (back us (record was { below = below } ∷ ts) same) (record {
+          owed = moves_owes s t [] (was.layout ∷ []) moves ts stocked.owed;
+          one_to_one = rw (mine, stay.names) (fewer (names_in s (was ∷ ts)) (names_in s ts) (λ n i. ⊎_elim (λ (a : IsIn n (names_of s was.file was.layout)). was_in n a) (λ (b : IsIn n (names_in s ts)). b) (in_either n (names_of s was.file was.layout) (names_in s ts) i)) stocked.one_to_one);
+          written = rw (mine, stay.late, below_more was.below below (slots_of s was.layout) le was_below) (let e = stocked.written in omega (arith, e));
+        });
+        shows = stay.shows;
+      }
 
   rewrites : (writer : ℕ) (renewed : ℕ → Bool) (now : Layout) (us : List Tagged) → was.below ≡ writer + 1 → AllByRecursion (IsEarlier was.file writer) rest → Moves s t (was.layout ∷ []) (now ∷ []) → Renews s t writer renewed was.layout now → SameStock us (record was { layout = now } ∷ rest) → Stays s t rest us
-  rewrites writer renewed now us is others moves renews same = record {
-    stocked = in_same t (record was { layout = now } ∷ rest) us (back us (record was { layout = now } ∷ rest) same) (record {
-      owed = moves_owes s t (was.layout ∷ []) (now ∷ []) moves all (layouts_of rest) h.owed (same_maps all) (now ∷ layouts_of rest) (same_maps (now ∷ layouts_of rest));
-      one_to_one = stays_one_to_one s t writer was.file renewed was.layout now (names_in s rest) (owes_lives s all was.layout (layouts_of rest) h.owed (same_maps all)) moves renews (none_by s was.file writer rest all_written others) owned h.one_to_one;
-      written = rw (below_renewed s t writer was.below renewed was.layout now is renews was_below) (omega (arith, all_written));
-    });
-    shows = each_shows s t rest (rest_stays s t (was.layout ∷ []) (now ∷ []) moves all (layouts_of rest) h.owed (same_maps all));
-  } where
-    owned : AreOwnedNames s (names_in s rest)
-    owned n i = let o = h.owed.counted n.block in omega (arith, owned_names s n rest all_written i, o)
+  rewrites writer renewed now us is others moves renews same =
+      let stay = rest_stays s t (was.layout ∷ []) (now ∷ []) moves rest h.owed in
+      record {
+        stocked = in_same t (record was { layout = now } ∷ rest) us (back us (record was { layout = now } ∷ rest) same) (record {
+          owed = moves_owes s t (was.layout ∷ []) (now ∷ []) moves rest h.owed;
+          one_to_one = rw stay.names (stays_one_to_one s t writer was.file renewed was.layout now (names_in s rest) (owes_lives s was.layout (layouts_of rest) h.owed) moves renews (none_by s was.file writer rest all_written others) (λ n i. omega (arith, owned_names s n rest all_written i, h.owed.backed n.block)) h.one_to_one);
+          written = rw (below_renewed s t writer was.below renewed was.layout now is renews was_below, stay.late) (omega (arith, all_written));
+        });
+        shows = stay.shows;
+      }
 
 slot-blocks : (file first : ℕ) (slots : List Slot) → map (λ (n : Named). n.block) (names_from file first slots) ≡ ids_of slots
 slot-blocks file first [] = refl
@@ -245,15 +276,15 @@ blocks_named s (t ∷ ts) = rw (map-append (λ (n : Named). n.block) (names_of s
 
 pub stock_laws : StockLaws
 stock_laws = record {
-  none = record { owed = owes_none; one_to_one = λ m n i j. absurd i; written = refl };
+  none = record { owed = record { counted = λ leaf. refl; backed = λ id. refl; whole = refl }; one_to_one = λ m n i j. absurd i; written = refl };
   same = in_same;
   empty = with_empty;
   no_empty = without_empty;
-  empty_lives = λ s. record { owned = record { owned = λ id. omega arith }; whole = refl };
-  lives = λ s t ts h. owes_lives s (layouts_of (t ∷ ts)) t.layout (layouts_of ts) h.owed (same_maps (layouts_of (t ∷ ts)));
+  empty_lives = λ s. record { owned = record { owned = λ id. omega arith }; backed = λ id some. absurd (omega (arith, some)); whole = refl };
+  lives = λ s t ts h. owes_lives s t.layout (layouts_of ts) h.owed;
   long = λ s m lives. length-content s m lives.whole;
-  short = λ s m lives. whole_short s m lives.whole;
-  owned = λ s m k slot lives got. let times = times_got k (slots_of s m) slot got in let o = lives.owned.owned slot.block in omega (arith, times, o);
+  short = λ s m lives. (whole_is s m lives.whole).short;
+  owned = λ s m k slot lives got. slot_owned s m lives k slot got;
   slots = λ s m lives. slots-count s m lives.whole;
   few = λ s ts h few. owes_uncrowded s (layouts_of ts) h.owed (omega (arith, few, length-map ts (λ (t : Tagged). t.layout)));
   blocks = λ s ts h. rw (← blocks_named s ts) (sym (as_many (names_in s ts) h.one_to_one));

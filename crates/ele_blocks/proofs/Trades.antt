@@ -1,10 +1,5 @@
 -- How owners change hands, one change after another.
-use Rattle.std.proofs.Common.{◌≡◌, ℕ, ◌+◌, ◌-◌, ◌<◌, ◌≤◌, true, false, cond, List, [], ◌∷◌, ◌++◌, ◌^◌, map, length, take, drop, get_or, add-one, append_assoc, Option, Some, None, refl, ap, sym, ◌∙◌, arith, eqb, ltb}
-use Rattle.std.proofs.lemmas.Bool.Decides.{nat_tests}
-use Rattle.std.proofs.Math.Seq.{take-suc}
-use Rattle.std.proofs.lemmas.List.{map-append, take-append-drop, length-take-le}
-use Rattle.ele_blocks.specs.declared.shared.Counted.{Counted}
-use Rattle.ele_blocks.specs.Shared.{times, place_at, owners, owners_of, value_of, value_at, shared, released, Sets, Trades, Adds, Covers, Owned}
+use Rattle.ele_blocks.proofs.Words.{Slot, ids_of, map_more, length-map, ◌≡◌, ℕ, ◌+◌, ◌-◌, ◌<◌, ◌≤◌, true, false, cond, List, [], ◌∷◌, ◌++◌, ◌^◌, map, length, take, drop, get_or, add-one, append_assoc, Option, Some, None, refl, ap, sym, ◌∙◌, arith, eqb, ltb, zero, suc, nat_tests, take-suc, map-append, take-append-drop, length-take-le, Counted, times, place_at, owners, owners_of, value_of, value_at, shared, released, leaving, Sets, Trades, Adds, Covers}
 
 pub times-append : (id : ℕ) (xs ys : List ℕ) → times id (xs ++ ys) ≡ times id xs + times id ys
 times-append id [] ys = omega arith
@@ -12,6 +7,15 @@ times-append id (x ∷ xs) ys = omega (arith, times-append id xs ys)
 
 pub times-self : (x : ℕ) → times x (x ∷ []) ≡ 1
 times-self x = let one : eqb x x ≡ true = grind (arith, nat_tests) in rw one refl
+
+one_apart : (id q : ℕ) → eqb id q ≡ false → times q (id ∷ []) ≡ 0
+one_apart id q e = rw e refl
+
+-- a number of the list stands in it
+pub times_at : (xs : List ℕ) (k : ℕ) → k < length xs → 0 < times (get_or xs k 0) xs
+times_at [] k lt = absurd (omega (arith, lt))
+times_at (x ∷ xs) zero lt = omega (arith, times-self x)
+times_at (x ∷ xs) (suc k) lt = omega (arith, times_at xs k (omega (arith, lt)))
 
 pub times-le-length : (q : ℕ) (xs : List ℕ) → times q xs ≤ length xs
 times-le-length q [] = omega arith
@@ -23,27 +27,30 @@ times-le-length q (x ∷ xs) = elim (eqb x q) as (λ t. cond t 1 0 + times q xs 
 times-take-le : (q : ℕ) (xs : List ℕ) (k : ℕ) → times q (take k xs) ≤ times q xs
 times-take-le q xs k = let whole = ap (times q) (take-append-drop k xs) in omega (arith, times-append q (take k xs) (drop k xs))
 
-take_one : (xs : List ℕ) (k : ℕ) (x : ℕ) → k < length xs → x ≡ get_or xs k x → take (k + 1) xs ≡ take k xs ++ x ∷ []
+pub take_one : (xs : List ℕ) (k : ℕ) (x : ℕ) → k < length xs → x ≡ get_or xs k x → take (k + 1) xs ≡ take k xs ++ x ∷ []
 take_one xs k x lt is = rw add-one (take-suc xs k x lt ∙ ap (λ y. take k xs ++ y ∷ []) (sym is))
 
 module _ {X : Type 0} where
-  sets_at : (old new : List (Option (Counted X))) (id : ℕ) (b : Option (Counted X)) → Sets old new id b → (q : ℕ) → place_at new q ≡ cond (eqb id q) b (place_at old q)
-  sets_at old new id b h q = elim (eqb id q) as (λ t. eqb id q ≡ t → place_at new q ≡ cond t b (place_at old q)) [
-    | true ↦ λ e. let same : q ≡ id = grind (arith, nat_tests) in rw same h.changed
-    | false ↦ λ e. h.others q (grind (arith, nat_tests))
-  ] refl
+  -- one place changes, and the owners there by those that go and come
+  trades_set : (old new : List (Option (Counted X))) (id : ℕ) (b : Option (Counted X)) (was now : List ℕ) → Sets old new id b → ((q : ℕ) → eqb id q ≡ false → (times q was ≡ 0) × (times q now ≡ 0)) → owners_of b + times id was ≡ owners old id + times id now → (times id was < owners old id → value_of b ≡ value_at old id) → Trades old new was now
+  trades_set old new id b was now h apart count keeps = record {
+    owed = λ q. elim (eqb id q) as (λ t. eqb id q ≡ t → owners new q + times q was ≡ owners old q + times q now) [
+      | true ↦ λ e. let same : q ≡ id = grind (arith, nat_tests) in rw (same, h.changed) count
+      | false ↦ λ e. let o = ap owners_of (h.others q (grind (arith, nat_tests))) in omega (arith, o, apart q e)
+    ] refl;
+    kept = λ q lt. elim (eqb id q) as (λ t. eqb id q ≡ t → value_at new q ≡ value_at old q) [
+      | true ↦ λ e. let same : q ≡ id = grind (arith, nat_tests) in rw (same, h.changed) (keeps (rw same at lt))
+      | false ↦ λ e. ap value_of (h.others q (grind (arith, nat_tests)))
+    ] refl;
+  }
 
   -- a value is kept under a number that stood for nothing
   pub trades_put : (old new : List (Option (Counted X))) (id : ℕ) (x : X) → place_at old id ≡ None → Sets old new id (Some (record { value = x; owners = 1 })) → Trades old new [] (id ∷ [])
-  trades_put old new id x vacant h = record {
-    owed = λ q. rw (sets_at old new id _ h q) (elim (eqb id q) as (λ t. eqb id q ≡ t → owners_of (cond t (Some (record { value = x; owners = 1 })) (place_at old q)) + 0 ≡ owners old q + (cond t 1 0 + 0)) [
-      | true ↦ λ e. let same : q ≡ id = grind (arith, nat_tests) in rw (same, vacant) refl
-      | false ↦ λ e. omega arith
-    ] refl);
-    kept = λ q lt. ap value_of (h.others q (λ (same : q ≡ id). let gone : owners old q ≡ 0 = rw (same, vacant) refl in omega arith));
-  }
+  trades_put old new id x vacant h =
+      let none : owners old id ≡ 0 = rw vacant refl in
+      trades_set old new id _ [] (id ∷ []) h (λ q e. (refl, one_apart id q e)) (omega (arith, none, times-self id)) (λ lt. absurd (omega (arith, lt, none)))
 
-  shared_value : (b : Option (Counted X)) → value_of (shared b) ≡ value_of b
+  pub shared_value : (b : Option (Counted X)) → value_of (shared b) ≡ value_of b
   shared_value None = refl
   shared_value (Some b) = refl
 
@@ -53,56 +60,28 @@ module _ {X : Type 0} where
 
   -- a value gets an owner more
   pub trades_share : (old new : List (Option (Counted X))) (id : ℕ) → 0 < owners old id → Sets old new id (shared (place_at old id)) → Trades old new [] (id ∷ [])
-  trades_share old new id lt h = record {
-    owed = λ q. rw (sets_at old new id _ h q) (elim (eqb id q) as (λ t. eqb id q ≡ t → owners_of (cond t (shared (place_at old id)) (place_at old q)) + 0 ≡ owners old q + (cond t 1 0 + 0)) [
-      | true ↦ λ e. let same : q ≡ id = grind (arith, nat_tests) in rw same (omega (arith, shared_owners (place_at old id) lt))
-      | false ↦ λ e. omega arith
-    ] refl);
-    kept = λ q lt. rw (sets_at old new id _ h q) (elim (eqb id q) as (λ t. eqb id q ≡ t → value_of (cond t (shared (place_at old id)) (place_at old q)) ≡ value_at old q) [
-      | true ↦ λ e. let same : q ≡ id = grind (arith, nat_tests) in rw same (shared_value (place_at old id))
-      | false ↦ λ e. refl
-    ] refl);
-  }
+  trades_share old new id lt h = trades_set old new id _ [] (id ∷ []) h (λ q e. (refl, one_apart id q e)) (omega (arith, shared_owners (place_at old id) lt, times-self id)) (λ more. shared_value (place_at old id))
 
   released_owners : (b : Option (Counted X)) → 0 < owners_of b → owners_of (released b) + 1 ≡ owners_of b
   released_owners None lt = absurd (omega arith)
   released_owners (Some b) lt = elim (ltb 1 b.owners) as (λ t. ltb 1 b.owners ≡ t → owners_of (cond t (Some (record b { owners = b.owners - 1 })) None) + 1 ≡ b.owners) [
-    | true ↦ λ e. omega arith
+    | true ↦ λ e. grind (arith, nat_tests)
     | false ↦ λ e. grind (arith, nat_tests)
   ] refl
 
-  released_value : (b : Option (Counted X)) → 1 < owners_of b → value_of (released b) ≡ value_of b
+  pub released_value : (b : Option (Counted X)) → 1 < owners_of b → value_of (released b) ≡ value_of b
   released_value None lt = absurd (omega arith)
   released_value (Some b) lt = let e : ltb 1 b.owners ≡ true = grind (arith, nat_tests) in rw e refl
 
   -- a value loses an owner
   pub trades_release : (old new : List (Option (Counted X))) (id : ℕ) → 0 < owners old id → Sets old new id (released (place_at old id)) → Trades old new (id ∷ []) []
-  trades_release old new id lt h = record {
-    owed = λ q. rw (sets_at old new id _ h q) (elim (eqb id q) as (λ t. eqb id q ≡ t → owners_of (cond t (released (place_at old id)) (place_at old q)) + (cond t 1 0 + 0) ≡ owners old q + 0) [
-      | true ↦ λ e. let same : q ≡ id = grind (arith, nat_tests) in rw same (omega (arith, released_owners (place_at old id) lt))
-      | false ↦ λ e. omega arith
-    ] refl);
-    kept = λ q more. rw (sets_at old new id _ h q) (elim (eqb id q) as (λ t. eqb id q ≡ t → cond t 1 0 + 0 < owners old q → value_of (cond t (released (place_at old id)) (place_at old q)) ≡ value_at old q) [
-      | true ↦ λ e many. let same : q ≡ id = grind (arith, nat_tests) in rw same (released_value (place_at old id) (let m = rw same at many in omega arith))
-      | false ↦ λ e many. refl
-    ] refl more);
-  }
-
-  pub trades_none : (s : List (Option (Counted X))) → Trades s s [] []
-  trades_none s = record { owed = λ q. refl; kept = λ q lt. refl }
+  trades_release old new id lt h = trades_set old new id _ (id ∷ []) [] h (λ q e. (one_apart id q e, refl)) (omega (arith, released_owners (place_at old id) lt, times-self id)) (λ more. released_value (place_at old id) (omega (arith, more, times-self id)))
 
   -- one after the other
   pub trades_then : (a b c : List (Option (Counted X))) (was now was2 now2 : List ℕ) → Trades a b was now → Trades b c was2 now2 → Trades a c (was ++ was2) (now ++ now2)
   trades_then a b c was now was2 now2 h k = record {
     owed = λ q. omega (arith, h.owed q, k.owed q, times-append q was was2, times-append q now now2);
     kept = λ q lt. k.kept q (omega (arith, h.owed q, times-append q was was2)) ∙ h.kept q (omega (arith, times-append q was was2));
-  }
-
-  -- with more that stay on both sides
-  pub trades_within : (s t : List (Option (Counted X))) (a was now z : List ℕ) → Trades s t was now → Trades s t (a ++ (was ++ z)) (a ++ (now ++ z))
-  trades_within s t a was now z h = record {
-    owed = λ q. omega (arith, h.owed q, times-append q a (was ++ z), times-append q was z, times-append q a (now ++ z), times-append q now z);
-    kept = λ q lt. h.kept q (omega (arith, times-append q a (was ++ z), times-append q was z));
   }
 
   -- what is owned beside what goes keeps its value
@@ -113,9 +92,6 @@ module _ {X : Type 0} where
       let first : value_at t x ≡ value_at s x = h.kept x (let o = rw one at (owned x) in omega arith) in
       let rest = values_stay s t was now xs h (λ q. omega (arith, owned q)) in
       rw (first, rest) refl
-
-  pub adds_none : (s : List (Option (Counted X))) → Adds s s []
-  adds_none s = record { trades = trades_none s; fresh = λ q lt. refl; once = λ q. omega arith }
 
   -- a value more
   pub adds_more : (s0 s t : List (Option (Counted X))) (ids : List ℕ) (id : ℕ) (x : X) → Adds s0 s ids → place_at s id ≡ None → Sets s t id (Some (record { value = x; owners = 1 })) → Adds s0 t (ids ++ id ∷ [])
@@ -137,38 +113,83 @@ module _ {X : Type 0} where
   pub record PutsSoFar (s0 s : List (Option (Counted X))) (ids : List ℕ) (rest all : List X) : Type 0 where
     pub adds : Adds s0 s ids
     pub values : map (value_at s) ids ++ map (λ x. Some x) rest ≡ map (λ x. Some x) all
-    pub owned : Owned s
 
-  pub puts_more : (s0 s t : List (Option (Counted X))) (ids : List ℕ) (x : X) (rest all : List X) (id : ℕ) → PutsSoFar s0 s ids (x ∷ rest) all → place_at s id ≡ None → Sets s t id (Some (record { value = x; owners = 1 })) → Owned t → PutsSoFar s0 t (ids ++ id ∷ []) rest all
-  puts_more s0 s t ids x rest all id h vacant sets owned =
+  pub puts_more : (s0 s t : List (Option (Counted X))) (ids : List ℕ) (x : X) (rest all : List X) (id : ℕ) → PutsSoFar s0 s ids (x ∷ rest) all → place_at s id ≡ None → Sets s t id (Some (record { value = x; owners = 1 })) → PutsSoFar s0 t (ids ++ id ∷ []) rest all
+  puts_more s0 s t ids x rest all id h vacant sets =
       let put = trades_put s t id x vacant sets in
       let is : value_at t id ≡ Some x = ap value_of sets.changed in
       record {
         adds = adds_more s0 s t ids id x h.adds vacant sets;
         values = rw (map-append (value_at t) ids (id ∷ []), is, values_stay s t [] (id ∷ []) ids put (λ q. omega (arith, h.adds.trades.owed q)), append_assoc) h.values;
-        owned = owned;
       }
 
-  -- a list so far, and one more
-  module _ (s s0 t : List (Option (Counted X))) (ids : List ℕ) (k id : ℕ) (lt : k < length ids) (is : id ≡ get_or ids k id) (covers : Covers s0 ids) where
-    pub one_more : times id (take k ids) + 1 ≤ owners s0 id
-    one_more =
-        let e = ap (times id) (take_one ids k id lt is) in
-        omega (arith, times-append id (take k ids) (id ∷ []), times-self id, times-take-le id ids (k + 1), covers.owned id, e)
+  -- a place that a last owner leaves
+  pub record IsLast (place : Option (Counted X)) (x : X) : Type 0 where
+    pub owners : owners_of place ≡ 1
+    pub value : value_of place ≡ Some x
+    pub gone : released place ≡ None
 
-    pub release_next : Trades s0 s (take k ids) [] → 0 < owners s id
-    release_next h = omega (arith, one_more, h.owed id)
+  pub leaving_last : (place : Option (Counted X)) (x : X) → 0 < owners_of place → Some x ≡ leaving place → IsLast place x
+  leaving_last None x lt e = absurd (omega (arith, lt))
+  leaving_last (Some p) x lt e = elim (ltb 1 p.owners) as (λ t. ltb 1 p.owners ≡ t → Some x ≡ cond t None (Some p.value) → IsLast (Some p) x) [
+    | true ↦ λ more e. absurd cc
+    | false ↦ λ few e. record { owners = grind (arith, nat_tests); value = sym e; gone = rw few refl }
+  ] refl e
 
-    pub release_more : Trades s0 s (take k ids) [] → Sets s t id (released (place_at s id)) → Trades s0 t (take (k + 1) ids) []
-    release_more h sets = rw (take_one ids k id lt is) (trades_then s0 s t (take k ids) [] (id ∷ []) [] h (trades_release s t id (release_next h) sets))
+  pub leaving_none : (place : Option (Counted X)) → 0 < owners_of place → None ≡ leaving place → 1 < owners_of place
+  leaving_none None lt e = absurd (omega (arith, lt))
+  leaving_none (Some p) lt e = elim (ltb 1 p.owners) as (λ t. ltb 1 p.owners ≡ t → None ≡ cond t None (Some p.value) → 1 < p.owners) [
+    | true ↦ λ more e. grind (arith, nat_tests)
+    | false ↦ λ few e. absurd cc
+  ] refl e
 
-    pub share_next : Trades s0 s [] (take k ids) → 0 < owners s id
-    share_next h = omega (arith, one_more, h.owed id)
+-- a list so far, and one more
+module _ (ids : List ℕ) (k id : ℕ) (lt : k < length ids) (is : id ≡ get_or ids k id) where
+  pub times_next : (q : ℕ) → times q (take (k + 1) ids) ≡ times q (take k ids) + times q (id ∷ [])
+  times_next q = ap (times q) (take_one ids k id lt is) ∙ times-append q (take k ids) (id ∷ [])
 
-    pub share_few : Trades s0 s [] (take k ids) → owners s0 id + length ids ≤ 2 ^ 63 → owners s id < 2 ^ 63
-    share_few h few =
-        let e = ap (times id) (take_one ids k id lt is) in
-        omega (arith, h.owed id, times-le-length id (take k ids), length-take-le k ids (omega arith))
+  pub one_more : times id (take k ids) + 1 ≤ times id ids
+  one_more = omega (arith, times_next id, times-self id, times-take-le id ids (k + 1))
 
-    pub share_more : Trades s0 s [] (take k ids) → Sets s t id (shared (place_at s id)) → Trades s0 t [] (take (k + 1) ids)
-    share_more h sets = rw (take_one ids k id lt is) (trades_then s0 s t [] (take k ids) [] (id ∷ []) h (trades_share s t id (share_next h) sets))
+pub times-ids : (q : ℕ) (xs ys : List Slot) → times q (ids_of (xs ++ ys)) ≡ times q (ids_of xs) + times q (ids_of ys)
+times-ids q xs ys = ap (times q) (map-append (λ (x : Slot). x.block) xs ys) ∙ times-append q (ids_of xs) (ids_of ys)
+
+pub times-split : (q n : ℕ) (xs : List Slot) → times q (ids_of xs) ≡ times q (ids_of (take n xs)) + times q (ids_of (drop n xs))
+times-split q n xs = ap (λ ys. times q (ids_of ys)) (sym (take-append-drop n xs)) ∙ times-ids q (take n xs) (drop n xs)
+
+-- the slots so far, and one more
+module _ (slots : List Slot) (k : ℕ) (slot : Slot) (lt : k < length slots) (is : slot ≡ get_or slots k slot) where
+  ids_more : ids_of (take (k + 1) slots) ≡ ids_of (take k slots) ++ slot.block ∷ []
+  ids_more = map_more (λ (x : Slot). x.block) slots k slot lt ∙ ap (λ (x : Slot). ids_of (take k slots) ++ x.block ∷ []) (sym is)
+
+  slot_next : (q : ℕ) → times q (ids_of (take (k + 1) slots)) ≡ times q (ids_of (take k slots)) + times q (slot.block ∷ [])
+  slot_next q = ap (times q) ids_more ∙ times-append q (ids_of (take k slots)) (slot.block ∷ [])
+
+  slot_more : times slot.block (ids_of (take k slots)) + 1 ≤ times slot.block (ids_of slots)
+  slot_more = omega (arith, slot_next slot.block, times-self slot.block, times-split slot.block (k + 1) slots)
+
+  pub slot_named : 0 < times slot.block (ids_of slots)
+  slot_named = omega (arith, slot_more)
+
+  -- what holds of the blocks so far and of the next one
+  pub each_more : (P : ℕ → Type 0) → ((id : ℕ) → 0 < times id (ids_of (take k slots)) → P id) → P slot.block → (id : ℕ) → 0 < times id (ids_of (take (k + 1) slots)) → P id
+  each_more P each here id some = elim (eqb slot.block id) as (λ b. eqb slot.block id ≡ b → P id) [
+    | true ↦ λ e. let same : id ≡ slot.block = grind (arith, nat_tests) in rw same here
+    | false ↦ λ e. each id (omega (arith, some, slot_next id, one_apart slot.block id e))
+  ] refl
+
+  module _ {X : Type 0} {s0 s : List (Option (Counted X))} where
+    pub release_next : Covers s0 (ids_of slots) → Trades s0 s (ids_of (take k slots)) [] → 0 < owners s slot.block
+    release_next covers h = omega (arith, slot_more, covers.owned slot.block, h.owed slot.block)
+
+    pub release_more : (t : List (Option (Counted X))) → Covers s0 (ids_of slots) → Trades s0 s (ids_of (take k slots)) [] → Sets s t slot.block (released (place_at s slot.block)) → Trades s0 t (ids_of (take (k + 1) slots)) []
+    release_more t covers h sets = rw ids_more (trades_then s0 s t (ids_of (take k slots)) [] (slot.block ∷ []) [] h (trades_release s t slot.block (release_next covers h) sets))
+
+    pub share_next : 0 < owners s0 slot.block → Trades s0 s [] (ids_of (take k slots)) → 0 < owners s slot.block
+    share_next there h = omega (arith, there, h.owed slot.block)
+
+    pub share_few : Trades s0 s [] (ids_of (take k slots)) → owners s0 slot.block + length slots ≤ 2 ^ 63 → owners s slot.block < 2 ^ 63
+    share_few h few = omega (arith, h.owed slot.block, times-le-length slot.block (ids_of (take k slots)), length-map (take k slots) (λ (x : Slot). x.block), length-take-le k slots (omega (arith, lt)), lt, few)
+
+    pub share_more : (t : List (Option (Counted X))) → 0 < owners s0 slot.block → Trades s0 s [] (ids_of (take k slots)) → Sets s t slot.block (shared (place_at s slot.block)) → Trades s0 t [] (ids_of (take (k + 1) slots))
+    share_more t there h sets = rw ids_more (trades_then s0 s t [] (ids_of (take k slots)) [] (slot.block ∷ []) h (trades_share s t slot.block (share_next there h) sets))

@@ -1,8 +1,8 @@
 -- How many blocks the maps of a store name.
-use Rattle.std.specs.Prelude.{◌≡◌, ◌⊎◌, ℕ, ◌+◌, ◌<◌, ◌==◌, List, [], ◌∷◌}
+use Rattle.std.specs.Prelude.{◌≡◌, ◌⊎◌, ℕ, ◌+◌, ◌==◌, List, [], ◌∷◌}
 use Rattle.std.specs.List.{flat_map}
 use Rattle.ele_blocks.specs.declared.slot.Slot.{Slot}
-use Rattle.ele_blocks.specs.Store.{Store, owners_at}
+use Rattle.ele_blocks.specs.Store.{Store}
 use Rattle.ele_blocks.specs.Layout.{Layout, slots_of, ids_of}
 use Rattle.ele_content.specs.Place.{Place, is_place}
 
@@ -32,11 +32,3 @@ names_from file first (x ∷ xs) = record { place = record { file = file; slot =
 -- the names of a map of the file
 abbrev pub names_of : Store → ℕ → Layout → List Named
 names_of s file m = names_from file 0 (slots_of s m)
-
--- no name is of this writer of the file
-abbrev pub NoneBy : ℕ → ℕ → List Named → Type 0
-NoneBy file writer ns = (n : Named) → IsIn n ns → n.place.file ≡ file → n.place.writer ≡ writer → ⊥
-
--- each named block is owned
-abbrev pub AreOwnedNames : Store → List Named → Type 0
-AreOwnedNames s ns = (n : Named) → IsIn n ns → 0 < owners_at s n.block

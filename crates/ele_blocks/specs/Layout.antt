@@ -1,17 +1,17 @@
--- A block map as contracts see it, and what it shows through the store where its blocks stand.
+-- A block map as contracts see it, and what it shows through the store where its leaves and blocks stand.
 use Rattle.std.specs.Prelude.{ℕ, Bool, ◌&&◌, nat_le, nat_lt, List, map}
 use Rattle.ele_blocks.specs.declared.slot.Slot.{Slot}
 use Rattle.ele_content.specs.declared.cell.Cell.{Cell}
-use Rattle.ele_blocks.specs.Store.{Store, bytes_at}
+use Rattle.ele_blocks.specs.Store.{Store, bytes_at, slots_in}
 
--- how many bytes the content has, and for each of its slots the writer and the block
+-- how many bytes the content has, and the leaves of its slots
 pub record Layout : Type 0 where
   pub size : ℕ
-  pub slots : List Slot
+  pub leaves : List ℕ
 
--- the slots of the map
+-- the slots of the map: for each the writer and the block
 abbrev pub slots_of : Store → Layout → List Slot
-slots_of s m = m.slots
+slots_of s m = slots_in s m.leaves
 
 -- the blocks that the slots name
 abbrev pub ids_of : List Slot → List ℕ

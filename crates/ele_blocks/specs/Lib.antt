@@ -4,8 +4,10 @@ pub mod Store
 pub mod Layout
 pub mod LayoutInside
 pub mod LivesIn
+pub mod Hands
 pub mod Owes
 pub mod Renews
+pub mod Renewed
 pub mod Changes
 pub mod Pieces
 pub mod LaidOver

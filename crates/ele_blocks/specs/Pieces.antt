@@ -1,7 +1,12 @@
--- Bytes cut into slots. No public clause cites this module.
-use Rattle.std.specs.Prelude.{ℕ, List, length}
+-- Lists cut into pieces. No public clause cites this module.
+use Rattle.std.specs.Prelude.{◌≡◌, ℕ, ◌-◌, ◌<◌, min, List, [], ◌∷◌, length}
 use Rattle.std.specs.Simd.{first_chunks}
 use Rattle.ele_content.specs.Content.{slot_count}
+
+-- what f shows of each is a piece of c items, the last of 1 to c, and they have so many in all
+abbrev pub AreSized : {A X : Type 0} → ℕ → (A → List X) → ℕ → List A → Type 0
+AreSized c f n [] = n ≡ 0
+AreSized c f n (x ∷ xs) = (length (f x) ≡ min n c) × (0 < n) × AreSized c f (n - c) xs
 
 -- the bytes in pieces of 512, of which the last may be shorter
 unfoldable pub pieces : List ℕ → List (List ℕ)

@@ -1,6 +1,10 @@
 -- What stands under each number of a store, and how owners change hands.
 use Rattle.std.specs.Prelude.{◌≡◌, ◌≢◌, ℕ, ◌+◌, ◌-◌, ◌<◌, ◌≤◌, ◌==◌, nat_lt, List, [], ◌∷◌, Option, Some, None, IfSome, slice_index_or, if◌then◌else◌}
-use Rattle.ele_blocks.specs.declared.shared.Counted.{Counted}
+
+-- a value, and how many own it
+pub record Counted (X : Type 0) : Type 0 where
+  pub value : X
+  pub owners : ℕ
 
 -- how often the number stands in the list
 abbrev pub times : ℕ → List ℕ → ℕ
@@ -36,6 +40,11 @@ module _ {X : Type 0} where
   abbrev pub released : Option (Counted X) → Option (Counted X)
   released None = None
   released (Some place) = if nat_lt 1 place.owners then Some (record place { owners = place.owners - 1 }) else None
+
+  -- the value that goes with its last owner
+  abbrev pub leaving : Option (Counted X) → Option X
+  leaving None = None
+  leaving (Some place) = if nat_lt 1 place.owners then None else Some place.value
 
   -- the new store has this under the number, and all else as before
   pub record Sets (old new : List (Option (Counted X))) (id : ℕ) (place : Option (Counted X)) : Type 0 where

@@ -6,8 +6,7 @@ use Rattle.ele_blocks.specs.Layout.{Layout, slots_of, shown}
 use Rattle.ele_blocks.specs.LivesIn.{LivesIn}
 use Rattle.ele_blocks.specs.Owes.{tally, Owes, Moves, IsUncrowded}
 use Rattle.ele_blocks.specs.Renews.{Renews}
-use Rattle.ele_blocks.specs.Shared.{owners}
-use Rattle.ele_blocks.specs.Store.{Store}
+use Rattle.ele_blocks.specs.Store.{Store, no_blocks, owners_at}
 use Rattle.ele_blocks.specs.declared.slot.Slot.{Slot}
 use Rattle.ele_content.specs.Content.{content_of, longest_content, slot_count}
 use Rattle.ele_content.specs.Place.{different, is_place}
@@ -20,7 +19,7 @@ pub record Tagged : Type 0 where
 
 -- the map of no bytes
 abbrev pub empty_layout : Layout
-empty_layout = record { size = 0; slots = [] }
+empty_layout = record { size = 0; leaves = [] }
 
 -- the same maps of the same files, in whatever order: they agree in every sum
 pub record SameStock (ts us : List Tagged) : Type 0 where
@@ -55,7 +54,7 @@ pub record IsEarlier (file writer : ℕ) (t : Tagged) : Type 0 where
   pub earlier : t.file ≡ file → t.below ≤ writer
 
 pub record StockLaws : Type 0 where
-  pub none : IsStocked [] []
+  pub none : IsStocked no_blocks []
   -- in another order
   pub same : (s : Store) (ts us : List Tagged) → SameStock ts us → IsStocked s ts → IsStocked s us
   -- the map of no bytes comes and goes without a change
@@ -66,7 +65,7 @@ pub record StockLaws : Type 0 where
   pub lives : (s : Store) (t : Tagged) (ts : List Tagged) → IsStocked s (t ∷ ts) → LivesIn s t.layout
   pub long : (s : Store) (m : Layout) → LivesIn s m → length (content_of (shown s m)) ≡ m.size
   pub short : (s : Store) (m : Layout) → LivesIn s m → m.size ≤ longest_content
-  pub owned : (s : Store) (m : Layout) (k : ℕ) (slot : Slot) → LivesIn s m → slice_get (slots_of s m) k ≡ Some slot → 0 < owners s slot.block
+  pub owned : (s : Store) (m : Layout) (k : ℕ) (slot : Slot) → LivesIn s m → slice_get (slots_of s m) k ≡ Some slot → 0 < owners_at s slot.block
   pub slots : (s : Store) (m : Layout) → LivesIn s m → length (slots_of s m) ≡ slot_count m.size
   pub few : (s : Store) (ts : List Tagged) → IsStocked s ts → length ts ≤ 2 ^ 50 → IsUncrowded s
   -- as many blocks as places

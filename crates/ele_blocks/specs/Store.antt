@@ -1,23 +1,34 @@
--- What stands in a store of blocks.
+-- What stands in a store: blocks of bytes, and leaves of slots that name blocks.
 use Rattle.std.specs.Prelude.{ℕ, List, [], Option, unwrap_or}
-use Rattle.ele_blocks.specs.declared.shared.Counted.{Counted}
+use Rattle.std.specs.List.{flat_map}
+use Rattle.ele_blocks.specs.Shared.{Counted}
+use Rattle.ele_blocks.specs.declared.slot.Slot.{Slot}
 use Rattle.ele_blocks.specs.Shared.{place_at, value_at, owners}
 
-abbrev pub Store : Type 0
-Store = List (Option (Counted (List ℕ)))
+pub record Store : Type 0 where
+  pub blocks : List (Option (Counted (List ℕ)))
+  pub leaves : List (Option (Counted (List Slot)))
 
 -- the store where nothing stands
 abbrev pub no_blocks : Store
-no_blocks = []
+no_blocks = record { blocks = []; leaves = [] }
 
 -- the block under the id
 abbrev pub block_at : Store → ℕ → Option (Counted (List ℕ))
-block_at s id = place_at s id
+block_at s id = place_at s.blocks id
 
 -- how many own the block under the id
 abbrev pub owners_at : Store → ℕ → ℕ
-owners_at s id = owners s id
+owners_at s id = owners s.blocks id
 
 -- the bytes of the block under the id
 abbrev pub bytes_at : Store → ℕ → List ℕ
-bytes_at s id = unwrap_or (value_at s id) []
+bytes_at s id = unwrap_or (value_at s.blocks id) []
+
+-- the slots of the leaf under the number
+abbrev pub leaf_at : Store → ℕ → List Slot
+leaf_at s leaf = unwrap_or (value_at s.leaves leaf) []
+
+-- the slots of the leaves, one leaf after another
+abbrev pub slots_in : Store → List ℕ → List Slot
+slots_in s leaves = flat_map (leaf_at s) leaves

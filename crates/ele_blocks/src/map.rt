@@ -1,28 +1,32 @@
-//! A block map: one content of at most 1,048,576 bytes, cut into slots of 512 bytes.
-//! A contract sees its length and its slots, and through a store the cells of the content.
-ghost use Rattle.std.specs.Prelude.{◌≡◌, ◌<◌, ◌≤◌, ◌+◌, [], ◌∷◌, OnOk, OnErr, IfOk, IfSome, vec_len, slice_get};
+//! A block map: one content of at most 1,048,576 bytes, cut into slots of 512 bytes, which stand in
+//! leaves of 16. A contract sees its length and leaves, and through a store the cells of the content.
+ghost use Rattle.std.specs.Prelude.{◌≡◌, ◌<◌, ◌≤◌, ◌-◌, ◌*◌, ◌/◌, [], ◌∷◌, OnOk, OnErr, IfOk, IfSome, Some, drop, slice_get, take, vec_len};
 ghost use Rattle.std.specs.Option.{option_map};
-ghost use Rattle.ele_content.specs.Content.{content_of, slot_count};
+ghost use Rattle.ele_content.specs.Content.{content_of, slot_bytes, slot_count};
 ghost use Rattle.ele_blocks.specs.Layout.{Layout, slots_of, shown};
 ghost use Rattle.ele_blocks.specs.LivesIn.{LivesIn};
 ghost use Rattle.ele_blocks.specs.Owes.{Moves, IsUncrowded};
-ghost use Rattle.ele_blocks.specs.Store.{owners_at};
+ghost use Rattle.ele_blocks.specs.Shared.{owners};
+ghost use Rattle.ele_blocks.specs.Store.{bytes_at, owners_at, leaf_at};
 
 mod change;
 
-use crate::patch::joined;
+use crate::leaf::LEAF;
 use crate::slot::Slot;
 use crate::store::{BlockId, BlockStore};
 use ele_moment::{NoMemory, VersionNo};
 use std::alloc::Global;
 use std::marker::Model;
 
-/// One content, as the blocks of its slots. The blocks stand in a store, of which the map owns a
-/// share: whoever makes a map gives it up in that store, or the blocks stay there.
+/// How many bytes a slot holds.
+const SLOT: usize = 512;
+
+/// One content, as the leaves of its slots. They stand in a store, of which the map owns a share:
+/// whoever makes a map gives it up in that store, or leaves and blocks stay there.
 #[derive(Debug, Drop)]
 pub struct BlockMap {
     length: u64,
-    slots: Vec<Slot>,
+    leaves: Vec<usize>,
     alloc: Global,
 }
 
@@ -41,11 +45,11 @@ impl Model for BlockMap {
 impl BlockMap {
     /// The map of an empty content; this takes no memory.
     pub fn new(alloc: Global) -> BlockMap
-        ensures { result ≡ record { size = 0; slots = [] } }
+        ensures { result ≡ record { size = 0; leaves = [] } }
     {
         BlockMap {
             length: 0,
-            slots: Vec::new(alloc),
+            leaves: Vec::new(alloc),
             alloc,
         }
     }
@@ -61,7 +65,7 @@ impl BlockMap {
     pub fn slots(&self) -> usize
         ensures { result ≡ slot_count self.now.size }
     {
-        self.slots.len()
+        (self.length as usize).div_ceil(SLOT)
     }
 
     /// The version that last wrote the slot, and the slot's block; none past the last slot.
@@ -71,12 +75,38 @@ impl BlockMap {
             (slice_get (slots_of store.now self.now) slot) }
         ensures owned { IfSome result (λ cell. 0 < owners_at store.now cell.1) }
     {
-        let _ = store;
-        let cell = self.slots.get(slot)?;
+        if slot >= self.slots() {
+            return None;
+        }
+        let cell = self.slot_at(store, slot);
         Some((cell.writer, cell.block))
     }
 
-    /// A second map of the same content, which shares every block with this one.
+    /// A slot of the map.
+    fn slot_at(&self, store: &BlockStore, slot: usize) -> Slot
+        requires lives { LivesIn store.now self.now }
+        requires within { slot < slot_count self.now.size }
+        ensures at { slice_get (slots_of store.now self.now) slot ≡ Some result }
+        ensures owned { 0 < owners_at store.now result.block }
+        ensures bytes { bytes_at store.now result.block
+            ≡ slot_bytes (content_of (shown store.now self.now)) slot }
+    {
+        let leaf = self.leaf_of(store, slot);
+        store.leaf(leaf)[slot % LEAF]
+    }
+
+    /// The leaf that holds the slot.
+    fn leaf_of(&self, store: &BlockStore, slot: usize) -> usize
+        requires lives { LivesIn store.now self.now }
+        requires within { slot < slot_count self.now.size }
+        ensures owned { 0 < owners store.now.leaves result }
+        ensures is { leaf_at store.now result
+            ≡ take 16 (drop (16 * (slot / 16)) (slots_of store.now self.now)) }
+    {
+        self.leaves[slot / LEAF]
+    }
+
+    /// A second map of the same content, which shares every leaf with this one.
     /// Where memory is refused, the store is as it was.
     pub fn copy(&self, store: &mut BlockStore) -> Result<BlockMap, NoMemory>
         requires lives { LivesIn store.old self.now }
@@ -85,11 +115,11 @@ impl BlockMap {
         ensures moves { OnOk result (Moves store.old store.new [] (self.now ∷ [])) }
         ensures err { OnErr result (store.new ≡ store.old) }
     {
-        let slots = Vec::from_slice(self.alloc, &self.slots)?;
-        store.share_all(&self.slots);
+        let leaves = Vec::from_slice(self.alloc, &self.leaves)?;
+        store.share_leaves(&self.leaves);
         Ok(BlockMap {
             length: self.length,
-            slots,
+            leaves,
             alloc: self.alloc,
         })
     }
@@ -100,15 +130,32 @@ impl BlockMap {
         ensures bytes { IfOk result (λ bytes. bytes.items ≡ content_of (shown store.now self.now)) }
         ensures length { IfOk result (λ bytes. vec_len bytes ≡ self.now.size) }
     {
-        let bytes = joined(self.alloc, store, &self.slots)?;
+        let slots = self.slots();
+        let bytes = self.joined(store, 0, slots)?;
         Ok(bytes)
     }
 
-    /// Ends the map: each of its blocks has an owner fewer, and those without owners leave.
+    /// Ends the map: each of its leaves has an owner fewer, and those without owners leave, with the
+    /// blocks that no other leaf names.
     pub fn give_up(self, store: &mut BlockStore)
         requires { LivesIn store.old self }
         ensures { Moves store.old store.new (self ∷ []) [] }
     {
-        store.release_all(&self.slots);
+        store.release_leaves(&self.leaves);
+    }
+
+    /// The bytes of the slots from the first up to before the last.
+    fn joined(&self, store: &BlockStore, first: usize, past: usize) -> Result<Vec<u8>, NoMemory>
+        requires lives { LivesIn store.now self.now }
+        requires order { first ≤ past }
+        requires within { past ≤ slot_count self.now.size }
+        ensures { IfOk result (λ all. all.items ≡ take (512 * (past - first))
+            (drop (512 * first) (content_of (shown store.now self.now)))) }
+    {
+        let mut all = Vec::new(self.alloc);
+        for slot in first..past {
+            all.extend_from_slice(store.get(self.slot_at(store, slot).block))?;
+        }
+        Ok(all)
     }
 }

@@ -1,36 +1,32 @@
 //! Values that many own, each under a number, with the count of its owners.
-//! A contract sees the list of its places, each of which holds a value with its owners or nothing.
-ghost use Rattle.std.specs.Prelude.{◌≡◌, ◌<◌, ◌≤◌, ◌+◌, ◌^◌, [], ◌∷◌, OnErr, IfOk, Some, None, map, count_by, is_some, vec_len, vec_capacity};
+//! A contract sees its places, each of which holds a value with its owners or nothing, and the room
+//! behind them.
+ghost use Rattle.std.specs.Prelude.{◌≡◌, ◌<◌, ◌≤◌, ◌+◌, ◌^◌, [], ◌∷◌, OnOk, OnErr, IfOk, Some, None, map, count_by, is_some, vec_len, vec_capacity};
 ghost use Rattle.slab.specs.Slab.{HasRoomFor};
-ghost use Rattle.ele_blocks.specs.Shared.{place_at, value_at, owners, Sets, Adds, Owned, shared, released};
+ghost use Rattle.ele_blocks.specs.Shared.{place_at, value_at, owners, Sets, Adds, Owned, shared, released, leaving};
 
-use crate::room::put;
+use ele_lists::put;
 use slab::Slab;
-use std::alloc::{AllocError, AllocFailed, Global};
+use std::alloc::{AllocError, Global};
 use std::marker::Model;
 
-/// A value, and how many own it.
-#[derive(Debug, Drop)]
-pub struct Counted<T> {
-    pub value: T,
-    pub owners: u64,
-}
-
 /// Values under numbers that the store picks. A value leaves with its last owner.
+/// The counts stand beside the values: who changes hundreds of them reads no value.
 #[derive(Debug, Drop)]
 pub struct Shared<T> {
-    places: Slab<Counted<T>>,
+    values: Slab<T>,
+    owners: Vec<u64>,
 }
 
 impl<T> Model for Shared<T> {
-    ghost use Rattle.std.specs.Prelude.{List, Option};
-    ghost use Rattle.ele_blocks.specs.declared.shared.Counted.{Counted};
+    ghost use Rattle.slab.specs.Slab.{Slab};
+    ghost use Rattle.ele_blocks.specs.Shared.{Counted};
 
-    ghost Value = { List (Option (Counted T)) };
+    ghost Value = { Slab (Counted T) };
 
-    ghost use Rattle.ele_blocks.specs.SharedInside.{AreOwned};
+    ghost use Rattle.ele_blocks.specs.SharedInside.{counted_slab, AreOwned};
 
-    ghost view = { λ store. store.places.slots };
+    ghost view = { counted_slab };
 
     ghost invariant = { AreOwned };
 }
@@ -38,112 +34,124 @@ impl<T> Model for Shared<T> {
 impl<T: Drop> Shared<T> {
     /// No values; this takes no memory.
     pub fn new(alloc: Global) -> Self
-        ensures { result ≡ [] }
+        ensures { result.slots ≡ [] }
     {
         Shared {
-            places: Slab::new(alloc),
+            values: Slab::new(alloc),
+            owners: Vec::new(alloc),
         }
     }
 
     /// Keeps a value with one owner. Where memory is refused, the store is as it was.
-    pub fn put(&mut self, value: T) -> Result<usize, AllocFailed<Counted<T>>>
-        ensures vacant { IfOk result (λ id. place_at self.old id ≡ None) }
+    pub fn put(&mut self, value: T) -> Result<usize, AllocError>
+        ensures vacant { IfOk result (λ id. place_at self.old.slots id ≡ None) }
         ensures sets { IfOk result (λ id.
-            Sets self.old self.new id (Some (record { value = value; owners = 1 }))) }
-        ensures err { OnErr result (self.new ≡ self.old) }
+            Sets self.old.slots self.new.slots id (Some (record { value = value; owners = 1 }))) }
+        ensures err { OnErr result (self.new.slots ≡ self.old.slots) }
     {
-        self.places.insert(Counted { value, owners: 1 })
+        self.reserve(1)?;
+        Ok(self.put_reserved(value))
+    }
+
+    /// Makes room for so many values more.
+    pub fn reserve(&mut self, more: usize) -> Result<(), AllocError>
+        ensures room { OnOk result (HasRoomFor self.new more) }
+        ensures same { self.new.slots ≡ self.old.slots }
+    {
+        self.values.reserve(more)?;
+        let capacity = self.values.capacity();
+        if self.owners.len() < capacity {
+            self.owners.resize(capacity, 0)?;
+        }
+        Ok(())
+    }
+
+    /// Keeps a value with one owner where there is room.
+    pub fn put_reserved(&mut self, value: T) -> usize
+        requires { HasRoomFor self.old 1 }
+        ensures vacant { place_at self.old.slots result ≡ None }
+        ensures sets { Sets self.old.slots self.new.slots result
+            (Some (record { value = value; owners = 1 })) }
+        ensures room { (more : _) → HasRoomFor self.old (1 + more) → HasRoomFor self.new more }
+        ensures owned { Owned self.new.slots }
+    {
+        let id = self.values.insert_reserved(value);
+        self.owners[id] = 1;
+        id
     }
 
     /// Keeps each of the values with one owner, and answers their numbers in the same order.
     /// Where memory is refused, none is kept and the store is as it was.
     pub fn put_all(&mut self, alloc: Global, values: Vec<T>) -> Result<Vec<usize>, AllocError>
-        ensures adds { IfOk result (λ ids. Adds self.old self.new ids.items) }
+        ensures adds { IfOk result (λ ids. Adds self.old.slots self.new.slots ids.items) }
         ensures values { IfOk result (λ ids.
-            map (value_at self.new) ids.items ≡ map Some values.items) }
-        ensures err { OnErr result (self.new ≡ self.old) }
+            map (value_at self.new.slots) ids.items ≡ map Some values.items) }
+        ensures err { OnErr result (self.new.slots ≡ self.old.slots) }
     {
         let mut ids = Vec::new(alloc);
         ids.reserve(values.len())?;
-        self.places.reserve(values.len())?;
-        put_each(&mut self.places, &mut ids, values);
+        self.reserve(values.len())?;
+        put_each(self, &mut ids, values);
         Ok(ids)
     }
 
     /// The value under the number.
     pub fn get(&self, id: usize) -> &T
-        requires { 0 < owners self.now id }
-        ensures { value_at self.now id ≡ Some result.now }
+        requires { 0 < owners self.now.slots id }
+        ensures { value_at self.now.slots id ≡ Some result.now }
     {
-        &self.places[id].value
+        &self.values[id]
     }
 
     /// How many own the value under the number.
     pub fn owners(&self, id: usize) -> u64
-        requires { 0 < owners self.now id }
-        ensures { result ≡ owners self.now id }
+        requires { 0 < owners self.now.slots id }
+        ensures { result ≡ owners self.now.slots id }
     {
-        self.places[id].owners
+        self.owners[id]
     }
 
     /// How many values stand.
     pub fn len(&self) -> usize
-        ensures count { result ≡ count_by is_some self.now }
-        ensures owned { Owned self.now }
+        ensures count { result ≡ count_by is_some self.now.slots }
+        ensures owned { Owned self.now.slots }
     {
-        self.places.len()
+        self.values.len()
     }
 
     /// Gives the value one owner more.
     pub fn share(&mut self, id: usize)
-        requires there { 0 < owners self.old id }
-        requires few { owners self.old id < 2 ^ 63 }
-        ensures { Sets self.old self.new id (shared (place_at self.old id)) }
+        requires there { 0 < owners self.old.slots id }
+        requires few { owners self.old.slots id < 2 ^ 63 }
+        ensures { Sets self.old.slots self.new.slots id (shared (place_at self.old.slots id)) }
     {
-        if let Some(place) = self.places.get_mut(id) {
-            place.owners += 1;
-        }
+        self.owners[id] += 1;
     }
 
-    /// Takes one owner from the value, which leaves with its last.
-    pub fn release(&mut self, id: usize)
-        requires { 0 < owners self.old id }
-        ensures { Sets self.old self.new id (released (place_at self.old id)) }
+    /// Takes one owner from the value, which leaves with its last and is then answered.
+    pub fn release(&mut self, id: usize) -> Option<T>
+        requires { 0 < owners self.old.slots id }
+        ensures sets { Sets self.old.slots self.new.slots id
+            (released (place_at self.old.slots id)) }
+        ensures last { result ≡ leaving (place_at self.old.slots id) }
     {
-        if let Some(place) = self.places.get_mut(id) {
-            if place.owners > 1 {
-                place.owners -= 1;
-                return;
-            }
+        if self.owners[id] > 1 {
+            self.owners[id] -= 1;
+            return None;
         }
-        let _last = self.places.try_remove(id);
+        self.values.try_remove(id)
     }
-}
-
-/// Keeps a value with one owner where there is room.
-fn put_one<T: Drop>(places: &mut Slab<Counted<T>>, value: T) -> usize
-    requires room { HasRoomFor places.old 1 }
-    requires owned { Owned places.old.slots }
-    ensures vacant { place_at places.old.slots result ≡ None }
-    ensures sets { Sets places.old.slots places.new.slots result
-        (Some (record { value = value; owners = 1 })) }
-    ensures room { (more : _) → HasRoomFor places.old (1 + more) → HasRoomFor places.new more }
-    ensures owned { Owned places.new.slots }
-{
-    places.insert_reserved(Counted { value, owners: 1 })
 }
 
 /// Keeps each of the values with one owner where there is room.
-fn put_each<T: Drop>(places: &mut Slab<Counted<T>>, ids: &mut Vec<usize>, values: Vec<T>)
-    requires room { HasRoomFor places.old (vec_len values) }
+fn put_each<T: Drop>(store: &mut Shared<T>, ids: &mut Vec<usize>, values: Vec<T>)
+    requires room { HasRoomFor store.old (vec_len values) }
     requires room_ids { vec_len ids.old + vec_len values ≤ vec_capacity ids.old }
     requires empty { ids.old.items ≡ [] }
-    requires owned { Owned places.old.slots }
-    ensures adds { Adds places.old.slots places.new.slots ids.new.items }
-    ensures values { map (value_at places.new.slots) ids.new.items ≡ map Some values.items }
-    ensures owned { Owned places.new.slots }
+    ensures adds { Adds store.old.slots store.new.slots ids.new.items }
+    ensures values { map (value_at store.new.slots) ids.new.items ≡ map Some values.items }
 {
     for value in values {
-        put(ids, put_one(places, value));
+        put(ids, store.put_reserved(value));
     }
 }

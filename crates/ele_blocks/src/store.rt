@@ -1,16 +1,19 @@
-//! The blocks that all maps of one core share.
-//! A contract sees what stands under each id: bytes and a count of owners, or nothing.
+//! The blocks and leaves that all maps of one core share.
+//! A contract sees what stands under each number: bytes or slots and a count of owners, or nothing.
 ghost use Rattle.std.specs.Prelude.{◌≡◌, ◌<◌, ◌≤◌, ◌+◌, ◌^◌, [], OnErr, IfOk, Some, None, List, length, map, count_by, is_some, nat_eq};
 ghost use Rattle.ele_content.specs.Place.{different};
 ghost use Rattle.ele_blocks.specs.Distinct.{blocks_of};
 ghost use Rattle.ele_blocks.specs.Owes.{Owes};
-ghost use Rattle.ele_blocks.specs.Shared.{Sets, Trades, Adds, Covers, shared, released};
-ghost use Rattle.ele_blocks.specs.Layout.{Layout, ids_of};
+ghost use Rattle.ele_blocks.specs.Shared.{Sets, shared, released};
+ghost use Rattle.ele_blocks.specs.Layout.{Layout};
 ghost use Rattle.ele_blocks.specs.Store.{no_blocks, owners_at, block_at, bytes_at};
 
-use crate::bytes::Bytes;
+pub(crate) mod leaves;
+mod shares;
+
+use crate::leaf::Leaf;
 use crate::shared::Shared;
-use crate::slot::Slot;
+use ele_lists::ByteList;
 use ele_moment::NoMemory;
 use std::alloc::Global;
 use std::marker::Model;
@@ -31,20 +34,21 @@ impl Model for BlockId {
     ghost inverse = { λ n. record { key = n } };
 }
 
-/// Blocks of 1 to 512 bytes, each with a count of its owners.
+/// Blocks of 1 to 512 bytes, each with a count of its owners, and the leaves of the maps that live
+/// here, of which a copy of a map is one owner more. Each slot of a leaf owns its block.
 #[derive(Debug, Drop)]
 pub struct BlockStore {
-    blocks: Shared<Bytes>,
+    blocks: Shared<ByteList>,
+    leaves: Shared<Leaf>,
     alloc: Global,
 }
 
 impl Model for BlockStore {
-    ghost use Rattle.std.specs.Prelude.{List, Option, ℕ};
-    ghost use Rattle.ele_blocks.specs.declared.shared.Counted.{Counted};
+    ghost use Rattle.ele_blocks.specs.Store.{Store};
 
-    ghost Value = { List (Option (Counted (List ℕ))) };
+    ghost Value = { Store };
 
-    ghost view = { λ store. store.blocks };
+    ghost view = { λ store. record { blocks = store.blocks.slots; leaves = store.leaves.slots } };
 }
 
 impl BlockStore {
@@ -54,6 +58,7 @@ impl BlockStore {
     {
         BlockStore {
             blocks: Shared::new(alloc),
+            leaves: Shared::new(alloc),
             alloc,
         }
     }
@@ -64,11 +69,12 @@ impl BlockStore {
         requires some { 0 < length bytes.now }
         requires fits { length bytes.now ≤ 512 }
         ensures vacant { IfOk result (λ id. block_at self.old id ≡ None) }
-        ensures ok { IfOk result (λ id.
-            Sets self.old self.new id (Some (record { value = bytes.now; owners = 1 }))) }
+        ensures ok { IfOk result (λ id. Sets self.old.blocks self.new.blocks id
+            (Some (record { value = bytes.now; owners = 1 }))) }
+        ensures leaves { self.new.leaves ≡ self.old.leaves }
         ensures err { OnErr result (self.new ≡ self.old) }
     {
-        let bytes = Bytes::from_vec(Vec::from_slice(self.alloc, bytes)?);
+        let bytes = ByteList::from_vec(Vec::from_slice(self.alloc, bytes)?);
         let key = self.blocks.put(bytes)?;
         Ok(BlockId { key })
     }
@@ -77,7 +83,8 @@ impl BlockStore {
     pub fn share(&mut self, id: BlockId)
         requires there { 0 < owners_at self.old id }
         requires few { owners_at self.old id < 2 ^ 63 }
-        ensures { Sets self.old self.new id (shared (block_at self.old id)) }
+        ensures sets { Sets self.old.blocks self.new.blocks id (shared (block_at self.old id)) }
+        ensures leaves { self.new.leaves ≡ self.old.leaves }
     {
         self.blocks.share(id.key);
     }
@@ -85,9 +92,10 @@ impl BlockStore {
     /// Takes one owner from a block. With its last owner the block leaves the store.
     pub fn release(&mut self, id: BlockId)
         requires { 0 < owners_at self.old id }
-        ensures { Sets self.old self.new id (released (block_at self.old id)) }
+        ensures sets { Sets self.old.blocks self.new.blocks id (released (block_at self.old id)) }
+        ensures leaves { self.new.leaves ≡ self.old.leaves }
     {
-        self.blocks.release(id.key);
+        let _last = self.blocks.release(id.key);
     }
 
     /// The bytes of a block.
@@ -108,46 +116,19 @@ impl BlockStore {
 
     /// How many blocks stand, however many own each: as many different ones as the maps name that
     /// live here.
-    #[tactic(auto, using(crate::proofs::Distincts::distinct_named))]
     pub fn distinct(&self) -> u64
-        ensures count { result ≡ count_by is_some self.now }
+        ensures count { result ≡ count_by is_some self.now.blocks }
         ensures named { (maps : List Layout) → Owes self.now maps
             → result ≡ different nat_eq (blocks_of self.now maps) }
     {
+        let _leaves = self.leaves.len();
         self.blocks.len() as u64
     }
-}
 
-impl BlockStore {
-    /// Keeps each as a new block with one owner, in the same order, or none of them where memory is
-    /// refused.
-    pub(crate) fn put_all(&mut self, blocks: Vec<Bytes>) -> Result<Vec<usize>, NoMemory>
-        ensures adds { IfOk result (λ ids. Adds self.old self.new ids.items) }
-        ensures bytes { IfOk result (λ ids. map (bytes_at self.new) ids.items ≡ blocks.items) }
-        ensures err { OnErr result (self.new ≡ self.old) }
+    /// How many leaves stand, however many maps own each.
+    pub fn leaves(&self) -> u64
+        ensures { result ≡ count_by is_some self.now.leaves }
     {
-        let ids = self.blocks.put_all(self.alloc, blocks)?;
-        Ok(ids)
-    }
-
-    /// Gives the block of each slot one owner more.
-    pub(crate) fn share_all(&mut self, slots: &[Slot])
-        requires there { Covers self.old (ids_of slots.now) }
-        requires few { (id : _) → owners_at self.old id + length slots.now ≤ 2 ^ 63 }
-        ensures { Trades self.old self.new [] (ids_of slots.now) }
-    {
-        for slot in slots {
-            self.share(slot.block);
-        }
-    }
-
-    /// Takes one owner from the block of each slot.
-    pub(crate) fn release_all(&mut self, slots: &[Slot])
-        requires { Covers self.old (ids_of slots.now) }
-        ensures { Trades self.old self.new (ids_of slots.now) [] }
-    {
-        for slot in slots {
-            self.release(slot.block);
-        }
+        self.leaves.len() as u64
     }
 }

@@ -10,18 +10,17 @@ use Rattle.ele_core.proofs.Following.{follows}
 use Rattle.ele_core.specs.Queued.{IsQueued, is_entry, is_either, moment_at_end, former_moment, own_moment}
 use Rattle.ele_due.specs.declared.key.Key.{Key}
 use Rattle.ele_due.specs.HasKey.{has_key}
-use Rattle.ele_files.specs.Held.{version_row}
 use Rattle.ele_lists.specs.Lists.{update_first, insert_before}
 use Rattle.ele_lists.proofs.Edits.{all-weaker, all-update_first, find-insert_before, not_found}
 use Rattle.ele_policy.specs.declared.policy.Policy.{Policy}
 use Rattle.ele_policy.specs.Ripe.{Beside}
 use Rattle.ele_world.specs.declared.rows.FileRow.{FileRow}
 use Rattle.ele_world.specs.declared.rows.VersionRow.{VersionRow}
-use Rattle.ele_world.specs.Change.{ended_at, numbered_on}
+use Rattle.ele_world.specs.Change.{ended_at, numbered_on, next_version, with_version}
 use Rattle.ele_world.specs.Due.{ripe_of, ripe_at, is_moment}
 use Rattle.ele_world.specs.FileView.{view_of}
 use Rattle.ele_world.specs.WellFormed.{IsVersion, IsWellFormed, Versions}
-use Rattle.ele_world.specs.World.{World, is_file, is_version, is_version_after, next_of, policy_of}
+use Rattle.ele_world.specs.World.{World, is_file, is_live, is_version, is_version_after, next_of, policy_of}
 use Rattle.ele_world.proofs.Plain.{plain_ripe, ripe_is_plain}
 use Rattle.ele_world.proofs.RipeAt.{ripe_at_is}
 
@@ -61,7 +60,7 @@ policies-numbered files file id = elim (id == file) as (λ b. (id == file) ≡ b
 abbrev alone : List ℕ → Beside
 alone newer = record { newer = newer; live = false }
 
-module _ (w : World) (file opened : ℕ) (cells : List Cell) (live : Bool) (k : IsWellFormed w) (there : 0 < next_of w.files file) where
+module _ (w : World) (file opened : ℕ) (cells : List Cell) (k : IsWellFormed w) (there : 0 < next_of w.files file) where
   abbrev next : ℕ
   next = next_of w.files file
 
@@ -69,13 +68,13 @@ module _ (w : World) (file opened : ℕ) (cells : List Cell) (live : Bool) (k : 
   last = is_version file (next - 1)
 
   abbrev new : VersionRow
-  new = version_row file next opened w.now (cond live None (Some w.now)) cells
+  new = next_version w file opened cells
 
   abbrev ended : List VersionRow
   ended = update_first last (ended_at w.now) w.versions
 
   abbrev pub appended : World
-  appended = record w { files = update_first (is_file file) numbered_on w.files; versions = insert_before (is_version_after file next) new ended }
+  appended = with_version w file opened cells
 
   plain_after : (row : VersionRow) (newer : List ℕ) → ripe_of appended row ≡ plain_ripe (policy_of w.files row.file) row.closed (alone newer) row.ended
   unfolding ripe_of
@@ -97,14 +96,14 @@ module _ (w : World) (file opened : ℕ) (cells : List Cell) (live : Bool) (k : 
   next_none : ripe_at w file next ≡ None
   next_none = ripe_at_is w file next ∙ ap (option_and_then (ripe_of w)) (not_found (is_version file next) w.versions not_next)
 
-  own_is : ripe_at appended file next ≡ own_moment w.files file w.now live
+  own_is : ripe_at appended file next ≡ own_moment w.files file w.now (is_live w file)
   own_is =
       let is : is_version file next new ≡ true = grind (arith, nat_tests) in
       ripe_at_is appended file next
       ∙ ap (option_and_then (ripe_of appended)) (find-inserted (is_version_after file next) (is_version file next) new ended is
       (all-update_first last (λ row. is_version file next row ≡ false) (λ row. is_version file next row ≡ false) (ended_at w.now) w.versions (λ row h. h) (λ row h. h) not_next))
       ∙ plain_after new []
-      ∙ elim live as (λ b. plain_ripe (policy_of w.files file) w.now (alone []) (cond b None (Some w.now)) ≡ own_moment w.files file w.now b) [
+      ∙ elim (is_live w file) as (λ b. plain_ripe (policy_of w.files file) w.now (alone []) (cond b None (Some w.now)) ≡ own_moment w.files file w.now b) [
         | true ↦ elim (policy_of w.files file) as (λ p. plain_ripe p w.now (alone []) None ≡ None) [
           | None ↦ refl
           | Some policy ↦ refl
@@ -154,7 +153,7 @@ module _ (w : World) (file opened : ℕ) (cells : List Cell) (live : Bool) (k : 
   -- ---- the queue
 
   abbrev comes : Key → Bool
-  comes j = is_either file next (former_moment w.files w.versions file w.now) (own_moment w.files file w.now live) j
+  comes j = is_either file next (former_moment w.files w.versions file w.now) (own_moment w.files file w.now (is_live w file)) j
 
   module _ (queue after : List Key) (queued : IsQueued w queue) where
     -- with the two keys it has those of all versions
@@ -162,7 +161,7 @@ module _ (w : World) (file opened : ℕ) (cells : List Cell) (live : Bool) (k : 
     appended_queue edited = follows w appended queue after queued (λ f n. (f == file) && ((n == next - 1) || (n == next))) others
         (λ j. edited j ∙ by j (j.file == file) (j.number == next - 1) (j.number == next) refl refl refl) where
           by : (j : Key) (a b c : Bool) → (j.file == file) ≡ a → (j.number == next - 1) ≡ b → (j.number == next) ≡ c
-              → ((((a && b) && is_moment j.ripe (former_moment w.files w.versions file w.now)) || ((a && c) && is_moment j.ripe (own_moment w.files file w.now live))) || has_key j queue)
+              → ((((a && b) && is_moment j.ripe (former_moment w.files w.versions file w.now)) || ((a && c) && is_moment j.ripe (own_moment w.files file w.now (is_live w file)))) || has_key j queue)
               ≡ cond (a && (b || c)) (is_moment j.ripe (ripe_at appended j.file j.number)) (has_key j queue)
           by j false b c f l n = refl
           by j true false false f l n = refl
@@ -177,7 +176,7 @@ module _ (w : World) (file opened : ℕ) (cells : List Cell) (live : Bool) (k : 
           by j true false true f l n =
               let file_is : j.file ≡ file = grind (arith, nat_tests) in
               let number_is : j.number ≡ next = grind (arith, nat_tests) in
-              rw (queued j, file_is, number_is, next_none, own_is) (or_false (is_moment j.ripe (own_moment w.files file w.now live))) where
+              rw (queued j, file_is, number_is, next_none, own_is) (or_false (is_moment j.ripe (own_moment w.files file w.now (is_live w file)))) where
                 or_false : (b : Bool) → (b || false) ≡ b
                 or_false true = refl
                 or_false false = refl
@@ -186,7 +185,7 @@ module _ (w : World) (file opened : ℕ) (cells : List Cell) (live : Bool) (k : 
     comes_absent : (j : Key) → comes j ≡ true → has_key j queue ≡ false
     comes_absent j is = queued j ∙ by j (j.file == file) (j.number == next - 1) (j.number == next) refl refl refl is where
       by : (j : Key) (a b c : Bool) → (j.file == file) ≡ a → (j.number == next - 1) ≡ b → (j.number == next) ≡ c
-          → (((a && b) && is_moment j.ripe (former_moment w.files w.versions file w.now)) || ((a && c) && is_moment j.ripe (own_moment w.files file w.now live))) ≡ true → is_moment j.ripe (ripe_at w j.file j.number) ≡ false
+          → (((a && b) && is_moment j.ripe (former_moment w.files w.versions file w.now)) || ((a && c) && is_moment j.ripe (own_moment w.files file w.now (is_live w file)))) ≡ true → is_moment j.ripe (ripe_at w j.file j.number) ≡ false
       by j false b c f l n is = absurd (false≢true is)
       by j true false false f l n is = absurd (false≢true is)
       by j true b true f l n is =

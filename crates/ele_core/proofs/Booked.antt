@@ -1,13 +1,14 @@
 -- The book of usage, as the files change.
 use Rattle.std.proofs.Common.{◌≡◌, ℕ, ◌+◌, ◌-◌, ◌<◌, ◌≤◌, ◌^◌, Bool, true, false, cond, eqb, List, [], ◌∷◌, ◌++◌, length, Some, Result, Ok, refl, ap, sym, subst, ◌∙◌, arith}
-use Rattle.std.specs.List.{list_any}
+use Rattle.std.specs.List.{list_any, sum_by}
 use Rattle.std.specs.Result.{result_ok}
 use Rattle.ele_core.specs.Inside.{world_of, IsSound, IsTracked}
 use Rattle.ele_core.specs.Tracked.{told, told_by, blocks_of, only_blocks, IsOwed, IsBooked}
 use Rattle.ele_core.specs.declared.rows.Rows.{Rows}
 use Rattle.ele_content.specs.Content.{content_of, cells_after_truncate}
-use Rattle.ele_files.specs.Held.{Held, changed_at, with_file, opened_by, written_by, written_of, fitted, fitted_of}
+use Rattle.ele_files.specs.Held.{Held, changed_at, rows_after, rows_of, opened_by, written_by, written_of, fitted, fitted_of}
 use Rattle.ele_lists.specs.Lists.{update_first, insert_before}
+use Rattle.ele_lists.proofs.Sums.{sum_by-map}
 use Rattle.ele_policy.specs.declared.policy.Kind.{Kind}
 use Rattle.ele_policy.specs.declared.policy.Kind.TheVariants as kind
 use Rattle.ele_policy.specs.declared.policy.Policy.{Policy}
@@ -19,12 +20,13 @@ use Rattle.ele_usage.specs.Sums.{nothing, plus, Fits}
 use Rattle.ele_world.specs.Usage.{usage_of, is_file_of, bytes_in}
 use Rattle.ele_world.specs.Whole.{whole, ChangesOnly}
 use Rattle.ele_world.specs.declared.rows.DraftRow.{DraftRow}
-use Rattle.ele_world.specs.Change.{OpenHandle, StartDraft, changed_by, fitted_by, new_draft}
-use Rattle.ele_world.proofs.Created.{created}
+use Rattle.ele_world.specs.declared.rows.VersionRow.{VersionRow}
+use Rattle.ele_world.specs.Change.{MakeFile, OpenHandle, StartDraft, changed_by, fitted_by, new_draft}
+use Rattle.ele_world.proofs.Created.{created, made_is}
 use Rattle.ele_world.proofs.Opened.{opened, with_draft}
 use Rattle.ele_world.specs.declared.rows.Reads.TheVariants.{Draft}
 use Rattle.ele_world.specs.declared.refusal.Refusal.{Refusal}
-use Rattle.ele_world.specs.World.{World, default_of, policy_of, next_of, is_draft, is_draft_after, file_by}
+use Rattle.ele_world.specs.World.{World, policy_of, next_of, is_draft, is_draft_after, file_by}
 use Rattle.ele_world.proofs.Usages.{usage_changes, usage_same, within_files, within_versions, within_bytes, within_blocks, whole_files, whole_versions, whole_bytes, changes_opened, changes_updated, created_usage, only_at_is}
 
 -- what a kind may use, but for its blocks
@@ -54,6 +56,14 @@ pub fits : (rows : Rows) → IsSound rows → (k : Kind) → Fits (record (sums_
 fits rows sound k =
     let u = few rows sound k in
     record { files = omega (arith, u.files); versions = omega (arith, u.versions); bytes = omega (arith, u.bytes); blocks = omega arith }
+
+-- ---- the bytes of versions are a sum
+
+abbrev pub size : VersionRow → ℕ
+size row = length (content_of row.cells)
+
+pub bytes_are : (rows : List VersionRow) → bytes_in rows ≡ sum_by size rows
+bytes_are rows = sum_by-map (λ (n : ℕ). n) size rows
 
 -- ---- the blocks that are owed after a change of one file
 
@@ -159,18 +169,17 @@ made_fits rows k before sound is bound =
     record { files = omega (arith, u.files); versions = omega (arith, u.versions); bytes = omega (arith, u.bytes); blocks = omega (arith, few_blocks rows sound.tracked k, is, bound) }
 
 -- a new file, its name aside, is all that its kind has more
-pub made_book : (rows : Rows) (directory : ℕ) (name : List ℕ) (now : Held) (book : Book) → IsSound rows → now ≡ with_file rows.files (rows.made.files + 1) (default_of rows.directories.items directory) rows.moment → ((k : Kind) → sums_of book k ≡ plus (sums_of rows.book k) (only_at (kind_of (default_of rows.directories.items directory)) (record { files = 1; versions = 1; bytes = 0; blocks = 0 }) k)) → IsBooked now book
-made_book rows directory name now book sound after added k =
+pub made_book : (rows : Rows) (directory : ℕ) (name : List ℕ) (policy : Policy) (now : Held) (book : Book) → IsSound rows → now ≡ rows_after (world_of rows) rows.files (MakeFile directory name (rows.made.files + 1) policy ∷ []) → ((k : Kind) → sums_of book k ≡ plus (sums_of rows.book k) (only_at (kind_of policy) (record { files = 1; versions = 1; bytes = 0; blocks = 0 }) k)) → IsBooked now book
+made_book rows directory name policy now book sound after added k =
     let w = world_of rows in
-    let kind = kind_of (default_of rows.directories.items directory) in
     let new : Usage = record { files = 1; versions = 1; bytes = 0; blocks = 0 } in
-    let made = with_file rows.files (rows.made.files + 1) (default_of rows.directories.items directory) rows.moment in
+    let made = created w directory name (rows.made.files + 1) policy in
     added k
-    ∙ ap (λ (u : Usage). plus (sums_of rows.book k) u) (only_at_is k kind new)
-    ∙ ap (λ (u : Usage). plus u (cond (is_kind k kind) new nothing)) (booked rows sound.tracked k)
-    ∙ sym (created_usage w directory name (default_of rows.directories.items directory) sound.formed k)
-    ∙ usage_same (told_by made) (created w directory name (rows.made.files + 1) (default_of rows.directories.items directory)) refl refl refl k
-    ∙ ap (λ (h : Held). usage_of (told_by h) k) (sym after)
+    ∙ ap (λ (u : Usage). plus (sums_of rows.book k) u) (only_at_is k (kind_of policy) new)
+    ∙ ap (λ (u : Usage). plus u (cond (is_kind k (kind_of policy)) new nothing)) (booked rows sound.tracked k)
+    ∙ sym (created_usage w directory name policy sound.formed k)
+    ∙ usage_same (told_by (rows_of made)) made refl refl refl k
+    ∙ ap (λ (h : Held). usage_of (told_by h) k) (sym (after ∙ ap rows_of (made_is w directory name policy sound.formed)))
 
 -- ---- blocks that are shifted
 

@@ -4,11 +4,11 @@ pub mod Booked
 pub mod Asked
 pub mod Appended
 pub mod NewNames
+pub mod DirectoryNames
 pub mod Made
 pub mod Kept
 pub mod Fresh
 pub mod Removed
 pub mod Passing
 pub mod ClosedSteps
-pub mod ClosedKeys
 pub mod ClosedSums

@@ -1,5 +1,5 @@
 -- A new file brings no key.
-use Rattle.std.proofs.Common.{◌≡◌, ℕ, ◌==◌, ◌+◌, ◌<◌, Bool, true, false, cond, ◌||◌, List, [], ◌∷◌, Option, Some, None, refl, ap, sym, ◌∙◌, arith, filter, append-nil}
+use Rattle.std.proofs.Common.{◌≡◌, ℕ, ◌==◌, ◌+◌, ◌<◌, Bool, true, false, cond, ◌||◌, List, [], ◌∷◌, Option, Some, None, refl, ap, sym, ◌∙◌, arith, filter, append-nil, subst}
 use Rattle.std.specs.Prelude.{find, option_and_then}
 use Rattle.std.specs.List.{list_any}
 use Rattle.std.specs.Option.{option_map, option_or}
@@ -12,11 +12,12 @@ use Rattle.ele_lists.proofs.Edits.{all-found}
 use Rattle.ele_policy.specs.declared.policy.Policy.{Policy}
 use Rattle.ele_world.specs.declared.rows.FileRow.{FileRow}
 use Rattle.ele_world.specs.declared.rows.VersionRow.{VersionRow}
+use Rattle.ele_world.specs.Change.{MakeFile, after_change}
 use Rattle.ele_world.specs.Due.{ripe_of, ripe_at, is_moment}
 use Rattle.ele_world.specs.FileView.{view_of, is_version_of, ripe_in}
 use Rattle.ele_world.specs.WellFormed.{IsWellFormed}
 use Rattle.ele_world.specs.World.{World, is_file, is_live_name_of, is_version, policy_of, is_live}
-use Rattle.ele_world.proofs.Created.{created, new_file, new_name, first_version, versions_before}
+use Rattle.ele_world.proofs.Created.{created, made_is, new_file, new_name, first_version, versions_before}
 use Rattle.ele_world.proofs.RipeAt.{ripe_at_is, unended}
 
 option_or-none : {X : Type 0} (o : Option X) → option_or o None ≡ o
@@ -63,5 +64,5 @@ module _ (w : World) (directory : ℕ) (name : List ℕ) (policy : Policy) (k : 
             let before = all-found (is_version file number) (λ row. row.file < id) w.versions row e (versions_before w k) in
             ap (λ v. ripe_in v row) (same_view row.file (grind (arith, nat_tests)))
 
-  pub made_queue : (queue : List Key) → IsQueued w queue → IsQueued made queue
-  made_queue queue queued j = queued j ∙ ap (is_moment j.ripe) (sym (moment_stays j.file j.number))
+  pub made_queue : (queue : List Key) → IsQueued w queue → IsQueued (after_change w (MakeFile directory name (w.made.files + 1) policy)) queue
+  made_queue queue queued = subst (λ (v : World). IsQueued v queue) (sym (made_is w directory name policy k)) (λ j. queued j ∙ ap (is_moment j.ripe) (sym (moment_stays j.file j.number)))

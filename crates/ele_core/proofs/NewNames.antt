@@ -1,5 +1,5 @@
--- The name of a new file, which comes and may have to go again.
-use Rattle.std.proofs.Common.{◌≡◌, ℕ, ◌+◌, ◌≤◌, Bool, true, false, not, List, [], ◌∷◌, ◌++◌, filter, refl, ap, ◌∙◌, arith, append-nil}
+-- A new name, and that of a new file, which may have to go again.
+use Rattle.std.proofs.Common.{◌≡◌, ℕ, ◌+◌, true, false, not, List, [], ◌∷◌, ◌++◌, filter, refl, ◌∙◌, arith, append-nil}
 use Rattle.std.specs.Prelude.{is_some}
 use Rattle.std.specs.List.{AllByRecursion}
 use Rattle.std.proofs.lemmas.Bool.Decides.{nat_tests}
@@ -9,12 +9,20 @@ use Rattle.ele_lists.proofs.Filters.{filter-all}
 use Rattle.ele_names.specs.Rows.{Follows, born_row}
 use Rattle.ele_world.specs.Walk.{live_target}
 use Rattle.ele_world.specs.WellFormed.{AreApart, IsNameRow, IsThere, Files, Names, IsWellFormed}
-use Rattle.ele_world.specs.World.{World, next_of, is_target_file}
+use Rattle.ele_world.specs.World.{World, is_target_file}
 use Rattle.ele_world.specs.declared.rows.NameRow.{NameRow}
 use Rattle.ele_world.specs.declared.rows.Target.{Target}
 use Rattle.ele_world.specs.declared.rows.Target.TheVariants.{File, Directory}
 use Rattle.ele_world.proofs.Files.{next_of-given}
 use Rattle.ele_world.proofs.KeptNames.{apart_from_new}
+
+-- the names there were are over
+pub follows_new : (w : World) (directory : ℕ) (name : List ℕ) (target : Target) → IsWellFormed w → is_some (live_target w.names directory name) ≡ false → AllByRecursion (λ row. Follows row (born_row directory name target w.now)) w.names
+follows_new w directory name target k free =
+    let named = born_row directory name target w.now in
+    all-weaker (λ row. AreApart row named × IsNameRow w.files w.now row) (λ row. Follows row named) w.names
+    (λ row h. record { apart = h.0; born = λ d n. h.1.born })
+    (all-both _ _ w.names (apart_from_new w directory name named k free refl refl refl) (k.holds Names).each)
 
 module _ (w : World) (directory : ℕ) (name : List ℕ) (k : IsWellFormed w) where
   abbrev id : ℕ
@@ -22,12 +30,6 @@ module _ (w : World) (directory : ℕ) (name : List ℕ) (k : IsWellFormed w) wh
 
   abbrev named : NameRow
   named = born_row directory name (File id) w.now
-
-  pub follows_new : is_some (live_target w.names directory name) ≡ false → AllByRecursion (λ row. Follows row named) w.names
-  follows_new free =
-      all-weaker (λ row. AreApart row named × IsNameRow w.files w.now row) (λ row. Follows row named) w.names
-      (λ row h. record { apart = h.0; born = λ d n. h.1.born })
-      (all-both _ _ w.names (apart_from_new w directory name named k free refl refl refl) (k.holds Names).each)
 
   other_target : (target : Target) → IsThere w.files target → not (is_target_file id target) ≡ true
   other_target (Directory d) there = refl

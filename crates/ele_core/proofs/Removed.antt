@@ -1,9 +1,9 @@
 -- A clean event takes the row of the first key, and that key.
-use Rattle.std.proofs.Common.{◌≡◌, ℕ, ◌+◌, Bool, true, false, cond, List, [], ◌∷◌, length, Some, None, ap, sym, subst, ◌∙◌, arith}
+use Rattle.std.proofs.Common.{◌≡◌, ℕ, ◌+◌, Bool, true, false, cond, List, length, Some, None, ap, sym, subst, ◌∙◌, arith}
 use Rattle.std.specs.Prelude.{find}
 use Rattle.std.specs.Option.{option_map}
 use Rattle.ele_content.specs.Content.{content_of}
-use Rattle.ele_core.proofs.Booked.{few, owed, some_versions, and_nothing}
+use Rattle.ele_core.proofs.Booked.{few, owed, some_versions, and_nothing, size, bytes_are}
 use Rattle.ele_core.proofs.Following.{entry_follows}
 use Rattle.ele_core.specs.Inside.{world_of, IsSound}
 use Rattle.ele_core.specs.Queued.{IsQueued, IsRekeyed}
@@ -26,7 +26,7 @@ use Rattle.ele_world.specs.World.{World, is_version}
 use Rattle.ele_world.proofs.CleanKeepsKeys.{clean_keeps_keys}
 use Rattle.ele_world.proofs.Cleans.{clean_of}
 use Rattle.ele_world.proofs.DueRows.{IsDueKey}
-use Rattle.ele_world.proofs.Splits.{bytes_in-cons}
+use Rattle.ele_lists.proofs.Sums.{sum_by-remove_first}
 use Rattle.ele_world.proofs.Usages.{usage_changes, changes_removed}
 
 -- the queue without the first key
@@ -41,19 +41,7 @@ removed_queue rows key queue sound first taken =
 -- ---- the book
 
 bytes-removed : (p : VersionRow → Bool) (xs : List VersionRow) (row : VersionRow) → find p xs ≡ Some row → bytes_in (remove_first p xs) + length (content_of row.cells) ≡ bytes_in xs
-bytes-removed p [] row e = absurd cc
-bytes-removed p (x ∷ xs) row e = by (bytes-removed p xs row) (p x) e where
-  by : (find p xs ≡ Some row → bytes_in (remove_first p xs) + length (content_of row.cells) ≡ bytes_in xs) → (b : Bool) → cond b (Some x) (find p xs) ≡ Some row → bytes_in (cond b xs (x ∷ remove_first p xs)) + length (content_of row.cells) ≡ bytes_in (x ∷ xs)
-  by rest true h =
-      let same : x ≡ row = cc in
-      let first : bytes_in (x ∷ xs) ≡ length (content_of x.cells) + bytes_in xs = bytes_in-cons x xs in
-      let first' = rw same at first in
-      rw same (omega (arith, first'))
-  by rest false h =
-      let more = rest h in
-      let first : bytes_in (x ∷ xs) ≡ length (content_of x.cells) + bytes_in xs = bytes_in-cons x xs in
-      let still : bytes_in (x ∷ remove_first p xs) ≡ length (content_of x.cells) + bytes_in (remove_first p xs) = bytes_in-cons x (remove_first p xs) in
-      omega (arith, more, first, still)
+bytes-removed p xs row e = omega (arith, bytes_are (remove_first p xs), bytes_are xs, sum_by-remove_first size p xs row e)
 
 -- the version is in what its kind uses
 pub removed_within : (rows : Rows) (file number : ℕ) (row : VersionRow) (now : Held) → IsSound rows → find (is_version file number) rows.files.versions ≡ Some row → now ≡ without rows.files file number → (k : Kind) → is_file_of now.files k file ≡ true → IsWithin (one_version (length (content_of row.cells))) (sums_of rows.book k)

@@ -16,7 +16,7 @@ world_of rows = record {
   versions = rows.files.versions;
   drafts = rows.files.drafts;
   handles = rows.files.handles;
-  made = record { files = rows.made.files; names = rows.made.names; versions = rows.made.versions; handles = rows.files.opened };
+  made = record { files = rows.made.files; directories = rows.made.directories; names = rows.made.names; versions = rows.made.versions; handles = rows.files.opened };
   limits = rows.limits;
 }
 

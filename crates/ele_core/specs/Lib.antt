@@ -5,5 +5,4 @@ pub mod Stopped
 pub mod Queued
 pub mod Tracked
 pub mod Inside
-pub mod Closings
 pub mod Faults

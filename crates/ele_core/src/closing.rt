@@ -2,7 +2,7 @@
 ghost use Rattle.std.specs.Prelude.{◌≡◌, ◌≤◌, ◌<◌, ◌-◌, ◌+◌, ◌^◌, true, Some, None, Ok, IfOk, OnErr, find, is_some, length, if◌then◌else◌};
 ghost use Rattle.std.specs.Option.{ForSome};
 ghost use Rattle.ele_content.specs.Content.{content_of};
-ghost use Rattle.ele_files.specs.Closing.{closing, changed_of};
+ghost use Rattle.ele_files.specs.Closing.{opening_by};
 ghost use Rattle.ele_files.specs.Held.{cells_of_draft};
 ghost use Rattle.ele_policy.specs.declared.policy.Kind.{Kind};
 ghost use Rattle.ele_usage.specs.Book.{sums_of};
@@ -96,7 +96,8 @@ fn add_version(book: &mut UsageBook, files: &Files, file: FileId, bytes: u64)
 fn finish(rows: &mut Rows, handle: Handle, file: FileId, opened: Moment) -> Result<Reply, NoMemory>
     requires sound { IsSound rows.old }
     requires meter { rows.old.meter ≡ 0 }
-    requires changed { changed_of (closing rows.old.files handle) ≡ Some (file, opened) }
+    requires file { file_by rows.old.files.handles handle ≡ Ok file }
+    requires changed { opening_by rows.old.files handle ≡ Some opened }
     ensures step { IfOk result
         (λ reply. (reply, world_of rows.new) ≡ step (world_of rows.old) (event.Close handle)) }
     ensures err { OnErr result (world_of rows.new ≡ world_of rows.old) }
@@ -136,7 +137,7 @@ fn leave(rows: &mut Rows, handle: Handle, file: FileId) -> Reply
     requires sound { IsSound rows.old }
     requires meter { rows.old.meter ≡ 0 }
     requires file { file_by rows.old.files.handles handle ≡ Ok file }
-    requires unchanged { changed_of (closing rows.old.files handle) ≡ None }
+    requires unchanged { opening_by rows.old.files handle ≡ None }
     ensures step { (result, world_of rows.new) ≡ step (world_of rows.old) (event.Close handle) }
     ensures tracked { IsTracked rows.new }
 {
@@ -162,7 +163,7 @@ pub fn close(rows: &mut Rows, handle: Handle) -> Result<Reply, NoMemory>
         Err(refusal) => return Ok(Reply::Refused(refusal)),
     };
     match rows.files.changed_draft(handle) {
-        Some(draft) => finish(rows, handle, draft.0, draft.1),
+        Some(opened) => finish(rows, handle, file, opened),
         None => Ok(leave(rows, handle, file)),
     }
 }

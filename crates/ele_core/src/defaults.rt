@@ -1,12 +1,12 @@
 //! The event that changes the policy of a directory.
-ghost use Rattle.std.specs.Prelude.{◌≡◌};
-ghost use Rattle.ele_lists.specs.Lists.{update_first};
+ghost use Rattle.std.specs.Prelude.{◌≡◌, ◌<◌};
+ghost use Rattle.ele_lists.specs.Lists.{update_first, AllLater};
 ghost use Rattle.ele_policy.specs.Policy.{IsPolicy};
 ghost use Rattle.ele_world.specs.Change.{governed_by};
 ghost use Rattle.ele_world.specs.Step.{step};
 ghost use Rattle.ele_world.specs.World.{is_directory};
 ghost use Rattle.ele_world.specs.declared.event.Event.TheVariants as event;
-ghost use Rattle.ele_core.specs.Inside.{world_of, IsTracked};
+ghost use Rattle.ele_core.specs.Inside.{world_of, IsTracked, IsSound};
 
 use crate::lookups::directory_at;
 use crate::rows::Rows;
@@ -17,6 +17,7 @@ use ele_world::{DirId, DirectoryRow, Path, Reply};
 /// Files that are made in the directory from now on get the policy.
 #[tactic(auto, using(ele_lists::proofs::Places::first_places))]
 fn govern(directories: &mut Vec<DirectoryRow>, directory: DirId, policy: Policy)
+    requires { AllLater (λ x y. x.id < y.id) directories.old.items }
     ensures { directories.new.items
         ≡ update_first (is_directory directory) (governed_by policy) directories.old.items }
 {
@@ -28,10 +29,11 @@ fn govern(directories: &mut Vec<DirectoryRow>, directory: DirId, policy: Policy)
 
 /// The directory at the path gets the policy.
 pub fn set_default(rows: &mut Rows, path: &Path, policy: Policy) -> Reply
+    requires { IsSound rows.old }
     ensures step { (result, world_of rows.new)
         ≡ step (world_of rows.old) (event.SetDefault path.now policy) }
     ensures valid { IsPolicy policy }
-    ensures tracked { IsTracked rows.old → IsTracked rows.new }
+    ensures tracked { IsTracked rows.new }
 {
     policy.is_given();
     match directory_now(&rows.names, path) {

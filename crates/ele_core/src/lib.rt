@@ -22,6 +22,7 @@ mod cleaning;
 mod clock;
 mod closing;
 mod defaults;
+mod directories;
 mod keys;
 mod lookups;
 mod names;
@@ -35,6 +36,7 @@ use crate::cleaning::{clean_one, due, due_first, is_due, pass};
 use crate::clock::{clock, tick};
 use crate::closing::close;
 use crate::defaults::set_default;
+use crate::directories::{make_dir, remove_dir};
 use crate::names::create;
 use crate::opening::open_write;
 use crate::rows::{Made, ROOT, Rows};
@@ -84,6 +86,8 @@ fn answer(rows: &mut Rows, event: &Event) -> Result<Reply, NoMemory>
     match event {
         Event::Clock(to) => Ok(clock(rows, *to)),
         Event::Tick(seconds) => Ok(tick(rows, *seconds)),
+        Event::MakeDir(path) => make_dir(rows, path),
+        Event::RemoveDir(path) => Ok(remove_dir(rows, path)),
         Event::Create(path) => create(rows, path),
         Event::OpenWrite(path) => open_write(rows, path),
         Event::Write(handle, offset, bytes) => write(rows, *handle, *offset, bytes.as_slice()),
@@ -120,6 +124,7 @@ impl Core {
                 book: UsageBook::new(),
                 made: Made {
                     files: 0,
+                    directories: 0,
                     names: 0,
                     versions: 0,
                 },
@@ -132,8 +137,8 @@ impl Core {
 
     /// Takes the event: answers it, and makes its change.
     ///
-    /// `NoMemory` where memory is refused, and then the world is as it was. `clock`, `tick`, `default`, `clean` and `usage`
-    /// take none.
+    /// `NoMemory` where memory is refused, and then the world is as it was. `clock`, `tick`, `rmdir`, `default`, `clean`
+    /// and `usage` take none.
     pub fn apply(&mut self, event: &Event) -> Result<Reply, NoMemory>
         ensures step { IfOk result
             (λ reply. (reply, self.new.world) ≡ step self.old.world event.now) }
@@ -218,6 +223,7 @@ impl Core {
             handles: rows.files.handle_rows()?,
             made: Counts {
                 files: rows.made.files,
+                directories: rows.made.directories,
                 names: rows.made.names,
                 versions: rows.made.versions,
                 handles: rows.files.handles_opened(),

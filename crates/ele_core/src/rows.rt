@@ -1,4 +1,4 @@
-//! What stands behind a core: the plain rows of directories, the names, the files, and beside them the queue of keys and
+//! What stands behind a core: the rows of directories by number, the names, the files, and beside them the queue of keys and
 //! the book of usage, which follow each change.
 ghost use Rattle.std.specs.Prelude.{◌≡◌, nat_le};
 ghost use Rattle.ele_world.specs.Step.{versions_made};
@@ -18,6 +18,7 @@ pub const ROOT: DirId = DirId(0);
 #[derive(Clone, Copy, Debug)]
 pub struct Made {
     pub files: u64,
+    pub directories: u64,
     pub names: u64,
     pub versions: u64,
 }

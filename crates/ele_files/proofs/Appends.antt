@@ -1,31 +1,38 @@
--- A file's next version is appended.
-use Rattle.std.proofs.Common.{◌≡◌, ◌≢◌, ℕ, ◌-◌, ◌<◌, Bool, true, false, ◌||◌, ◌&&◌, eqb, ltb, List, [], ◌∷◌, ◌++◌, map, Some, refl, ap, sym, ◌∙◌, arith}
+-- A file's next version is appended, and the first one of a new file.
+use Rattle.std.proofs.Common.{◌≡◌, ◌≢◌, ℕ, ◌-◌, ◌<◌, Bool, true, false, ◌||◌, ◌&&◌, eqb, ltb, List, [], ◌∷◌, ◌++◌, map, Some, None, cond, refl, ap, sym, ◌∙◌, arith, ◌+◌, append-nil, subst}
 use Rattle.std.specs.Prelude.{find}
 use Rattle.std.specs.List.{AllByRecursion, flat_map}
 use Rattle.std.proofs.lemmas.Bool.Decides.{nat_tests}
 use Rattle.std.proofs.lemmas.List.{map-append}
-use Rattle.ele_blocks.specs.Layout.{Layout}
-use Rattle.ele_blocks.specs.Stock.{IsStocked, StockLaws}
+use Rattle.ele_blocks.specs.Layout.{Layout, shown}
+use Rattle.ele_blocks.specs.Stock.{IsStocked, StockLaws, empty_layout}
 use Rattle.ele_blocks.specs.Store.{Store}
-use Rattle.ele_files.specs.Finishing.{IsRowPast, ended_by, ended_rows, closing_row, HasClosed}
+use Rattle.ele_files.specs.Appending.{IsRowPast, ended_by, ended_rows, next_row, HasAppended}
+use Rattle.ele_content.specs.declared.cell.Cell.{Cell}
+use Rattle.ele_files.specs.Held.{Held, rows_of, GotFile, with_rows}
 use Rattle.ele_files.specs.Inside.{file_row, row_in, rows_in, held_in, row_stock, stock_of, IsRowOf, IsFileKept, IsDraftKept, Keeps, is_id}
 use Rattle.ele_files.specs.declared.file.File.{File}
 use Rattle.ele_files.proofs.Endings.{closed_kept, of_rows}
 use Rattle.ele_files.proofs.Exchanges.{after, rise_over, files_over, rows_over}
-use Rattle.ele_files.proofs.Rows.{its_id, file_of, tagged, own_version, same_number}
-use Rattle.ele_files.proofs.Stock.{over, row_added}
-use Rattle.ele_inode_log.specs.declared.row.VersionRow as log
+use Rattle.ele_files.proofs.Rows.{its_id, next-found, file_of, tagged, own_version, same_number}
+use Rattle.ele_files.proofs.Stock.{over, row_added, file_added}
 use Rattle.ele_inode_log.specs.Rows.{is_numbered}
 use Rattle.ele_lists.specs.Lists.{update_first, insert_before, AllLater}
-use Rattle.ele_lists.proofs.Alls.{all-map}
+use Rattle.ele_lists.proofs.Alls.{all-map, map-all}
 use Rattle.ele_lists.proofs.Buckets.{IsLocal, bucket_changes, local-after, local-update_first, local-insert_before}
-use Rattle.ele_lists.proofs.Edits.{all-weaker, all-both, all-found}
+use Rattle.ele_lists.proofs.Edits.{all-weaker, all-both, all-found, all-push, later-push, not_found}
 use Rattle.ele_lists.proofs.Shown.{update_first-map}
 use Rattle.ele_sessions.specs.Sessions.{Draft, AllSessions}
-use Rattle.ele_world.proofs.Files.{next_of-numbered_other}
-use Rattle.ele_world.specs.Change.{numbered_on, ended_at}
-use Rattle.ele_world.specs.World.{is_file, is_version, is_version_after}
+use Rattle.ele_world.proofs.Files.{next_of-numbered_other, next_of-push}
+use Rattle.ele_world.specs.Change.{Append, after_change, numbered_on, ended_at, with_file, with_name}
+use Rattle.ele_world.specs.World.{World, is_file, is_live, is_version, is_version_after, next_of}
+use Rattle.ele_world.specs.declared.rows.Target.TheVariants as target
 use Rattle.ele_world.specs.declared.rows.VersionRow.{VersionRow}
+use Rattle.std.proofs.lemmas.Grind.{flat_map-append}
+use Rattle.ele_lists.proofs.Cuts.{find-at, update_first-at}
+use Rattle.ele_world.proofs.Created.{named_live}
+use Rattle.ele_world.specs.declared.rows.FileRow.{FileRow}
+use Rattle.ele_inode_log.specs.declared.row.VersionRow as log
 
 -- what comes in behind all
 insert_end : {X : Type 0} (p : X → Bool) (y : X) (xs : List X) → AllByRecursion (λ x. p x ≡ false) xs → insert_before p y xs ≡ xs ++ y ∷ []
@@ -33,12 +40,20 @@ insert_end p y [] none = refl
 insert_end p y (x ∷ xs) none = rw none.0 (ap (λ zs. x ∷ zs) (insert_end p y xs none.1))
 
 -- the flat rows with a version more of the file, whose next number it has
-abbrev pub appended : ℕ → ℕ → ℕ → VersionRow → List VersionRow → List VersionRow
+abbrev appended : ℕ → ℕ → ℕ → VersionRow → List VersionRow → List VersionRow
 appended id next now row rows = insert_before (is_version_after id next) row (update_first (is_version id (next - 1)) (ended_at now) rows)
 
-module _ (s : Store) (files : List File) (id : ℕ) (f g : File) (found : find (is_id id) files ≡ Some f) (rise : AllLater (λ (x y : File). x.id < y.id) files) (files_kept : AllByRecursion IsFileKept files) (opened now : ℕ) (live : Bool) (cells : Layout) (closed : HasClosed f g now (closing_row f.next opened now live cells)) (past : AllByRecursion (IsRowPast now) f.log.rows) where
+abbrev with_next : Held → ℕ → ℕ → ℕ → Bool → List Cell → Held
+with_next h id opened now live cells =
+    let next = next_of h.files id in
+    record h {
+      files = update_first (is_file id) numbered_on h.files;
+      versions = appended id next now (record { file = id; number = next; opened = opened; closed = now; ended = cond live None (Some now); cells = cells }) h.versions;
+    }
+
+module _ (s : Store) (files : List File) (id : ℕ) (f g : File) (found : find (is_id id) files ≡ Some f) (rise : AllLater (λ (x y : File). x.id < y.id) files) (files_kept : AllByRecursion IsFileKept files) (opened now : ℕ) (live : Bool) (cells : Layout) (closed : HasAppended f g now (next_row f.next opened now live cells)) (past : AllByRecursion (IsRowPast now) f.log.rows) where
   abbrev new : log.VersionRow
-  new = closing_row f.next opened now live cells
+  new = next_row f.next opened now live cells
 
   its_kept : IsFileKept f
   its_kept = all-found (is_id id) IsFileKept files f found files_kept
@@ -46,7 +61,7 @@ module _ (s : Store) (files : List File) (id : ℕ) (f g : File) (found : find (
   is : f.id ≡ id
   is = its_id files id f found
 
-  pub rows_number_on : map file_row (after files id f g found) ≡ update_first (is_file id) numbered_on (map file_row files)
+  rows_number_on : map file_row (after files id f g found) ≡ update_first (is_file id) numbered_on (map file_row files)
   rows_number_on = rows_over files id f g found numbered_on (rw closed.next refl)
 
   -- drafts of other files
@@ -90,5 +105,65 @@ module _ (s : Store) (files : List File) (id : ℕ) (f g : File) (found : find (
   versions_append : appended id f.next now (row_in s f.id new) (flat_map (rows_in s) files) ≡ flat_map (rows_in s) (after files id f g found)
   versions_append = bucket_changes (λ (x : File). x.id) (rows_in s) file_of (tagged s) id (appended id f.next now (row_in s f.id new)) local (over g) files f rise found its_rows
 
-  pub appended_shows : (a : AllSessions) → held_in s (after files id f g found) a ≡ record (held_in s files a) { files = update_first (is_file id) numbered_on (map file_row files); versions = appended id f.next now (row_in s f.id new) (flat_map (rows_in s) files) }
-  appended_shows a = rw (versions_append, rows_number_on) refl
+  shows_next : (a : AllSessions) → held_in s (after files id f g found) a ≡ record (held_in s files a) { files = update_first (is_file id) numbered_on (map file_row files); versions = appended id f.next now (row_in s f.id new) (flat_map (rows_in s) files) }
+  shows_next a = rw (versions_append, rows_number_on) refl
+
+  -- what a world with the rows has once the version is appended there
+  pub appended_shows : (a : AllSessions) (w : World) → rows_of w ≡ held_in s files a → w.now ≡ now → is_live w id ≡ live → held_in s (after files id f g found) a ≡ rows_of (after_change w (Append id opened (shown s cells)))
+  appended_shows a w rows time lives =
+      let told : with_next (rows_of w) id opened w.now (is_live w id) (shown s cells) ≡ with_next (held_in s files a) id opened w.now (is_live w id) (shown s cells) = ap (λ (h : Held). with_next h id opened w.now (is_live w id) (shown s cells)) rows in
+      shows_next a ∙ (rw (next-found files id (Some f) found, is, ← time, ← lives) refl ∙ sym told)
+
+-- ---- a file comes without a version, and gets its first
+
+pub fresh_kept : (f : File) → f.next ≡ 1 → f.log.rows ≡ [] → IsFileKept f
+fresh_kept f next none = record { next = omega (arith, next); rows = rw none tt; order = rw none (record { ends = tt; order = tt }) }
+
+module _ (s : Store) (files : List File) (a : AllSessions) (kept : Keeps s files a) (f : File) (next : f.next ≡ 1) (none : f.log.rows ≡ []) (below : AllByRecursion (λ (row : FileRow). row.id < f.id) (map file_row files)) (now : ℕ) (x : File) (appended : HasAppended f x now (next_row 1 now now true empty_layout)) where
+  before : AllByRecursion (λ (g : File). g.id < f.id) files
+  before = map-all file_row (λ row. row.id < f.id) files below
+
+  others : AllByRecursion (λ g. is_id f.id g ≡ false) files
+  others = all-weaker (λ (g : File). g.id < f.id) (λ g. is_id f.id g ≡ false) files (λ g lt. grind (arith, nat_tests)) before
+
+  found : find (is_id f.id) (files ++ f ∷ []) ≡ Some f
+  found = find-at (is_id f.id) files f [] others (grind (arith, nat_tests))
+
+  more_rows : map file_row (files ++ f ∷ []) ≡ map file_row files ++ file_row f ∷ []
+  more_rows = map-append file_row files (f ∷ [])
+
+  begun : Keeps s (files ++ f ∷ []) a
+  begun = record {
+    laws = kept.laws;
+    rise = later-push (λ (g h : File). g.id < h.id) files f kept.rise before;
+    stocked = kept.laws.same s (stock_of files a.drafts) (stock_of (files ++ f ∷ []) a.drafts) (file_added files a.drafts f none) kept.stocked;
+    files_kept = all-push IsFileKept files f kept.files_kept (fresh_kept f next none);
+    drafts_kept = all-weaker (IsDraftKept files) (IsDraftKept (files ++ f ∷ [])) a.drafts (λ d k. record { there = k.there; number = k.number ∙ sym (ap (λ rs. next_of rs d.file) more_rows ∙ next_of-push (map file_row files) (file_row f) d.file (omega (arith, k.there, k.number))) }) kept.drafts_kept;
+  }
+
+  -- no draft is of the file
+  undrafted : AllByRecursion (λ d. d.file ≢ f.id) a.drafts
+  undrafted = all-weaker (IsDraftKept files) (λ d. d.file ≢ f.id) a.drafts (λ d k same.
+      let zero : next_of (map file_row files) f.id ≡ 0 = next-found files f.id None (not_found (is_id f.id) files others) in
+      let number : d.number ≡ next_of (map file_row files) f.id = k.number ∙ ap (next_of (map file_row files)) same in
+      omega (arith, k.there, number, zero)) kept.drafts_kept
+
+  placed : after (files ++ f ∷ []) f.id f x found ≡ files ++ x ∷ []
+  placed = update_first-at (is_id f.id) (over x) files f [] others (grind (arith, nat_tests)) ∙ ap (λ g. files ++ g ∷ []) (sym (rw (appended.id, appended.policy) refl))
+
+  same_next : HasAppended f x now (next_row f.next now now true empty_layout)
+  same_next = subst (λ (n : ℕ). HasAppended f x now (next_row n now now true empty_layout)) (sym next) appended
+
+  pub added_keeps : Keeps s (files ++ x ∷ []) a
+  added_keeps = rw (← placed) (appended_keeps s (files ++ f ∷ []) f.id f x found begun.rise begun.files_kept now now true empty_layout same_next (rw none tt) kept.laws a begun.drafts_kept undrafted (kept.laws.empty s f.id (f.next + 1) (stock_of (files ++ f ∷ []) a.drafts) begun.stocked))
+
+  pub added_shows : GotFile (held_in s files a) f.id f.policy now (held_in s (files ++ x ∷ []) a)
+  added_shows w directory name time =
+      let then : HasAppended f x w.now (next_row f.next w.now w.now true empty_layout) = subst (λ (n : ℕ). HasAppended f x n (next_row f.next n n true empty_layout)) (sym time) same_next in
+      let begin : World = with_file (with_rows w (held_in s files a)) f.id f.policy in
+      rw (← placed) (appended_shows s (files ++ f ∷ []) f.id f x found begun.rise begun.files_kept w.now w.now true empty_layout then (rw none tt) a (with_name begin directory name (target.File f.id)) rows refl (named_live begin directory name f.id)) where
+        none_shown : rows_in s f ≡ []
+        none_shown = rw none refl
+
+        rows : rows_of (with_name (with_file (with_rows w (held_in s files a)) f.id f.policy) directory name (target.File f.id)) ≡ held_in s (files ++ f ∷ []) a
+        rows = rw (more_rows, flat_map-append (rows_in s) files (f ∷ []), none_shown, append-nil (flat_map (rows_in s) files), next) refl

@@ -1,27 +1,21 @@
 -- What is answered of versions, drafts and handles, as the rows show it.
 use Rattle.std.proofs.Common.{◌≡◌, ℕ, Bool, true, false, cond, ◌||◌, List, [], ◌∷◌, length, map, Option, Some, None, is_some, refl, sym, ap, ◌∙◌}
 use Rattle.std.specs.List.{find, flat_map, list_any}
-use Rattle.std.specs.Option.{option_map, option_copied}
+use Rattle.std.specs.Option.{option_map, option_map_or, option_copied}
 use Rattle.std.specs.Borrow.{Bor}
 use Rattle.ele_blocks.specs.Layout.{Layout, shown}
 use Rattle.ele_blocks.specs.LivesIn.{LivesIn}
 use Rattle.ele_blocks.specs.Store.{Store}
 use Rattle.ele_files.specs.Asked.{stamps_of}
-use Rattle.ele_files.specs.Closing as now
-use Rattle.ele_files.specs.Held.{cells_of_draft}
+use Rattle.ele_files.specs.Held.{Held, cells_of_draft}
 use Rattle.ele_files.specs.Inside.{Keeps, is_id, rows_in, draft_in, held_in}
 use Rattle.ele_files.specs.declared.file.File.{File}
 use Rattle.ele_files.proofs.Stock.{draft_lives, row_lives}
-use Rattle.ele_files.proofs.Rows.{version-of, version-none, draft-found, any-draft, left-shown, handle_file-shown}
+use Rattle.ele_files.proofs.Rows.{version-of, version-none, draft-found, any-draft}
 use Rattle.ele_inode_log.specs.declared.row.VersionRow as log
 use Rattle.ele_inode_log.specs.Rows.{is_numbered}
-use Rattle.ele_lists.proofs.Shown.{is_some-copied}
-use Rattle.ele_lists.specs.Lists.{remove_first}
-use Rattle.ele_sessions.specs.Closes as closes
 use Rattle.ele_sessions.specs.Sessions as sessions
 use Rattle.ele_sessions.specs.Sessions.{Draft, AllSessions}
-use Rattle.ele_sessions.specs.declared.closing.Closing.{Closing}
-use Rattle.ele_sessions.specs.declared.closing.Closing.TheVariants.{StillOpen}
 use Rattle.ele_content.specs.Content.{content_of}
 use Rattle.ele_world.specs.declared.rows.DraftRow.{DraftRow}
 use Rattle.ele_world.specs.World.{is_version, is_draft}
@@ -58,42 +52,20 @@ module _ (s : Store) (files : List File) (ss : AllSessions) (file : ℕ) where
     same None = refl
     same (Some d) = refl
 
-  pub undrafted : None ≡ option_map (λ (d : Draft). d.layout) (sessions.draft_of ss file) → cells_of_draft (held_in s files ss) file ≡ []
-  undrafted = by (sessions.draft_of ss file) refl where
-    by : (o : Option Draft) → sessions.draft_of ss file ≡ o → None ≡ option_map (λ (d : Draft). d.layout) o → cells_of_draft (held_in s files ss) file ≡ []
-    by None is none = rw (draft-found s file ss.drafts, is) refl
-    by (Some d) is none = absurd cc
+-- what its map says of the draft, if there is one
+pub record IsDraftOf (s : Store) (h : Held) (file : ℕ) (o : Option Layout) : Type 0 where
+  pub lives : (m : Layout) → o ≡ Some m → LivesIn s m
+  pub cells : cells_of_draft h file ≡ option_map_or (shown s) o []
+  pub long : option_map (λ (row : DraftRow). length (content_of row.cells)) (find (is_draft file) h.drafts) ≡ option_map (λ m. m.size) o
 
-  pub no_draft : None ≡ option_map (λ (d : Draft). d.layout) (sessions.draft_of ss file) → find (is_draft file) (map (draft_in s) ss.drafts) ≡ None
-  no_draft = by (sessions.draft_of ss file) refl where
-    by : (o : Option Draft) → sessions.draft_of ss file ≡ o → None ≡ option_map (λ (d : Draft). d.layout) o → find (is_draft file) (map (draft_in s) ss.drafts) ≡ None
-    by None is none = rw (draft-found s file ss.drafts, is) refl
-    by (Some d) is none = absurd cc
-
-  module _ (kept : Keeps s files ss) (m : Layout) where
-    pub draft_long : Some m ≡ option_map (λ (d : Draft). d.layout) (sessions.draft_of ss file) → option_map (λ (row : DraftRow). length (content_of row.cells)) (find (is_draft file) (map (draft_in s) ss.drafts)) ≡ Some m.size
-    draft_long = by (sessions.draft_of ss file) refl where
-      by : (o : Option Draft) → sessions.draft_of ss file ≡ o → Some m ≡ option_map (λ (d : Draft). d.layout) o → option_map (λ (row : DraftRow). length (content_of row.cells)) (find (is_draft file) (map (draft_in s) ss.drafts)) ≡ Some m.size
-      by None is got = absurd cc
-      by (Some d) is got = let same : m ≡ d.layout = cc in rw (draft-found s file ss.drafts, is, same) (ap (λ n. Some n) (kept.laws.long s d.layout (draft_lives s files ss kept file d is)))
-
-    pub draft-map : Some m ≡ option_map (λ (d : Draft). d.layout) (sessions.draft_of ss file) → LivesIn s m × (cells_of_draft (held_in s files ss) file ≡ shown s m)
-    draft-map = by (sessions.draft_of ss file) refl where
-      by : (o : Option Draft) → sessions.draft_of ss file ≡ o → Some m ≡ option_map (λ (d : Draft). d.layout) o → LivesIn s m × (cells_of_draft (held_in s files ss) file ≡ shown s m)
-      by None is got = absurd cc
-      by (Some d) is got = let same : m ≡ d.layout = cc in rw same (draft_lives s files ss kept file d is, rw (draft-found s file ss.drafts, is) refl)
-
--- what closing a handle comes to
-pub closing-shown : (s : Store) (files : List File) (ss : AllSessions) (handle : ℕ) → option_map (λ (answer : Closing × Option Layout). answer.0) (closes.closing ss handle) ≡ now.closing (held_in s files ss) handle
-closing-shown s files ss handle = rw (handle_file-shown ss.handles handle) (by (sessions.handle_file ss.handles handle)) where
-  same : (b : Bool) (o : Option Draft) → (closes.file_closing b o).0 ≡ cond b StillOpen (now.ending (option_map (draft_in s) o))
-  same true o = refl
-  same false None = refl
-  same false (Some d) = elim d.changed as (λ c. d.changed ≡ c → (closes.ending d).0 ≡ now.ending (Some (draft_in s d))) [
-    | true ↦ λ e. rw e refl
-    | false ↦ λ e. rw e refl
-  ] refl
-
-  by : (o : Option ℕ) → option_map (λ (answer : Closing × Option Layout). answer.0) (closes.closing_of ss handle o) ≡ now.closing_of (held_in s files ss) handle o
-  by None = refl
-  by (Some file) = rw (left-shown ss.handles handle file, draft-found s file ss.drafts) (ap (λ (a : Closing). Some a) (same (list_any (sessions.is_writer file) (remove_first (sessions.is_handle handle) ss.handles)) (find (sessions.is_draft file) ss.drafts)))
+pub draft_shown : (s : Store) (files : List File) (ss : AllSessions) (kept : Keeps s files ss) (file : ℕ) (o : Option Layout) → o ≡ option_map (λ (d : Draft). d.layout) (sessions.draft_of ss file) → IsDraftOf s (held_in s files ss) file o
+draft_shown s files ss kept file o is = rw is (by (sessions.draft_of ss file) refl) where
+  by : (d : Option Draft) → sessions.draft_of ss file ≡ d → IsDraftOf s (held_in s files ss) file (option_map (λ (d : Draft). d.layout) d)
+  by None none = record { lives = λ m h. absurd cc; cells = rw (draft-found s file ss.drafts, none) refl; long = rw (draft-found s file ss.drafts, none) refl }
+  by (Some d) found =
+      let lives = draft_lives s files ss kept file d found in
+      record {
+        lives = λ m h. let same : d.layout ≡ m = cc in rw (← same) lives;
+        cells = rw (draft-found s file ss.drafts, found) refl;
+        long = rw (draft-found s file ss.drafts, found) (ap (λ n. Some n) (kept.laws.long s d.layout lives));
+      }

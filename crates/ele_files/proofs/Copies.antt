@@ -10,11 +10,10 @@ use Rattle.ele_content.specs.declared.cell.Cell.{Cell}
 use Rattle.ele_blocks.specs.declared.slot.Slot.{Slot}
 use Rattle.ele_blocks.specs.Layout.{Layout, slots_of, cell_of, cell_by, shown}
 use Rattle.ele_blocks.specs.LivesIn.{LivesIn}
-use Rattle.ele_blocks.specs.Shared.{owners}
-use Rattle.ele_blocks.specs.Store.{Store, bytes_at}
+use Rattle.ele_blocks.specs.Store.{Store, bytes_at, owners_at}
 use Rattle.ele_blocks.specs.Stock.{StockLaws}
 use Rattle.ele_inode_log.specs.declared.row.VersionRow.{VersionRow}
-use Rattle.ele_files.specs.Inside.{IsFileKept, IsRowOf, row_in, draft_in, reads_in, handle_in}
+use Rattle.ele_files.specs.Inside.{IsFileKept, IsRowOf, row_in, draft_in}
 use Rattle.ele_files.specs.declared.file.File.{File}
 use Rattle.ele_inode_log.specs.Rows.{is_after, Precedes}
 use Rattle.ele_inode_log.specs.declared.row.VersionRow as log
@@ -22,12 +21,7 @@ use Rattle.ele_lists.proofs.Alls.{all-got, later-weaker}
 use Rattle.ele_lists.proofs.Filters.{filter-all}
 use Rattle.ele_sessions.specs.Sessions as sessions
 use Rattle.ele_sessions.specs.Sessions.{Draft}
-use Rattle.ele_sessions.specs.declared.entries.OpenHandle.{OpenHandle}
-use Rattle.ele_sessions.specs.declared.reads.Reads as session
-use Rattle.ele_sessions.specs.declared.reads.Reads.TheVariants as session_reads
 use Rattle.ele_world.specs.declared.rows.DraftRow.{DraftRow}
-use Rattle.ele_world.specs.declared.rows.HandleRow.{HandleRow}
-use Rattle.ele_world.specs.declared.rows.Reads.{Reads}
 use Rattle.ele_world.specs.declared.rows.VersionRow as world
 use Rattle.ele_lists.specs.Lists.{AllLater}
 use Rattle.ele_lists.proofs.Edits.{all-weaker, found_passes}
@@ -109,9 +103,9 @@ module _ (laws : StockLaws) (s : Store) (m : Layout) (lives : LivesIn s m) (k : 
   slot : (x : Slot) × (slice_get (slots_of s m) k ≡ Some x) × ((x.writer, x.block) ≡ cell)
   slot = shown-some (λ (x : Slot). (x.writer, x.block)) (slice_get (slots_of s m) k) cell got
 
-  pub cell-owned : 0 < owners s cell.1
+  pub cell-owned : 0 < owners_at s cell.1
   cell-owned =
-      let owned : 0 < owners s slot.0.block = laws.owned s m k slot.0 lives slot.1 in
+      let owned : 0 < owners_at s slot.0.block = laws.owned s m k slot.0 lives slot.1 in
       rw (ap (λ (c : ℕ × ℕ). c.1) slot.2) at owned
 
   pub cell-next : (bytes : List ℕ) → bytes ≡ bytes_at s cell.1 → map (cell_of s) (take (k + 1) (slots_of s m)) ≡ map (cell_of s) (take k (slots_of s m)) ++ record { writer = cell.0; bytes = bytes } ∷ []
@@ -160,19 +154,3 @@ module _ (s : Store) (drafts : List Draft) (rise : AllLater (λ (x y : Draft). x
       let shows : shown s draft.0.layout ≡ cells = ap (shown s) (sym same) ∙ sym is in
       let made : draft_in s draft.0 ≡ draft_from (t.0, t.1, t.2) cells = ap (draft_from (draft.0.file, draft.0.opened, draft.0.changed)) shows ∙ ap (λ (u : ℕ × ℕ × Bool). draft_from u cells) draft.2 in
       next ∙ ap (λ (row : DraftRow). map (draft_in s) (take k drafts) ++ row ∷ []) made
-
--- the rows of handles
-abbrev handle_from : ℕ × session.Reads → HandleRow
-handle_from t = record { number = t.0; reads = reads_in t.1 }
-
-module _ (hs : List OpenHandle) (k : ℕ) (t : ℕ × session.Reads) (got : Some t ≡ option_map (λ (h : OpenHandle). (h.number, session_reads.Draft h.file)) (slice_get hs k)) where
-  handle : (h : OpenHandle) × (slice_get hs k ≡ Some h) × ((h.number, session_reads.Draft h.file) ≡ t)
-  handle = shown-some (λ (h : OpenHandle). (h.number, session_reads.Draft h.file)) (slice_get hs k) t got
-
-  pub handle-within : k < length hs
-  handle-within = slice_get_within hs k handle.0 handle.1
-
-  pub handle-next : (shows : Reads) → shows ≡ reads_in t.1 → map handle_in (take (k + 1) hs) ≡ map handle_in (take k hs) ++ record { number = t.0; reads = shows } ∷ []
-  handle-next shows is =
-      let made : handle_in handle.0 ≡ record { number = t.0; reads = shows } = ap handle_from handle.2 ∙ ap (λ (r : Reads). record { number = t.0; reads = r }) (sym is) in
-      taken-next handle_in hs k handle.0 handle.1 ∙ ap (λ (row : HandleRow). map handle_in (take k hs) ++ row ∷ []) made

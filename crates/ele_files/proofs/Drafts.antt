@@ -1,28 +1,40 @@
--- A draft goes, begins, or gets another map.
-use Rattle.std.proofs.Common.{◌≡◌, ◌≢◌, ℕ, ◌<◌, Bool, true, false, cond, eqb, List, [], ◌∷◌, map, Some, refl, ap, sym, ◌∙◌, arith}
-use Rattle.std.specs.Prelude.{find}
+-- A draft goes, or gets another map by a write or a truncate.
+use Rattle.std.proofs.Common.{◌≡◌, ◌≢◌, ℕ, ◌<◌, Bool, true, false, cond, eqb, List, [], ◌∷◌, map, Some, refl, ap, sym, ◌∙◌, arith, ◌≤◌, length, Option, None, Result, Ok, Err}
+use Rattle.std.specs.Prelude.{find, MatchBool}
 use Rattle.std.specs.List.{flat_map, AllByRecursion}
-use Rattle.std.specs.Option.{option_map_or}
+use Rattle.std.specs.Option.{option_map_or, IsSomeAnd, option_map}
 use Rattle.std.proofs.lemmas.Bool.Decides.{nat_tests}
-use Rattle.ele_blocks.specs.Layout.{Layout}
+use Rattle.ele_blocks.specs.Layout.{Layout, shown}
 use Rattle.ele_blocks.specs.Owes.{Moves}
 use Rattle.ele_blocks.specs.Renews.{Renews}
 use Rattle.ele_blocks.specs.Stock.{IsEarlier, ShowsSame, Stays}
 use Rattle.ele_blocks.specs.Store.{Store}
 use Rattle.ele_files.specs.Inside.{file_row, draft_in, held_in, row_stock, file_stock, draft_stock, stock_of, IsRowOf, IsFileKept, IsDraftKept, Keeps}
 use Rattle.ele_files.specs.declared.file.File.{File}
-use Rattle.ele_files.proofs.Looks.{held_stays, versions_same}
-use Rattle.ele_files.proofs.Stock.{draft_apart, draft_changed}
+use Rattle.ele_files.proofs.Looks.{IsSeen, held_stays, versions_same}
+use Rattle.ele_files.proofs.Stock.{draft_apart, draft_changed, draft_lives}
 use Rattle.ele_lists.specs.Lists.{update_first, remove_first, AllLater}
 use Rattle.ele_lists.proofs.Alls.{all-append, all-left, all-right, all-map, all-flat_map}
 use Rattle.ele_lists.proofs.Edits.{all-weaker, all-both, all-found, all-remove_first, all-update_first, found_passes}
 use Rattle.ele_lists.proofs.Shown.{remove_first-map}
-use Rattle.ele_sessions.specs.Changes.{rewritten_by}
+use Rattle.ele_sessions.specs.Changes.{rewritten_by, RewritesDraft, Rewrites, Writes, Truncates, has_length}
 use Rattle.ele_sessions.specs.Order.{Rises}
-use Rattle.ele_sessions.specs.Sessions.{Draft, AllSessions, is_draft}
+use Rattle.ele_sessions.specs.Sessions.{Draft, AllSessions, is_draft, handle_file, draft_by, draft_for}
 use Rattle.ele_world.specs.World.{next_of, is_file}
-use Rattle.ele_world.specs.World as world
 use Rattle.ele_world.specs.declared.rows.DraftRow.{DraftRow}
+use Rattle.std.specs.Result.{OnOk, OnErr}
+use Rattle.std.proofs.lemmas.Bool.{false≢true}
+use Rattle.ele_content.specs.Content.{content_of, longest_content}
+use Rattle.ele_blocks.specs.Changes.{IsResized}
+use Rattle.ele_blocks.specs.LivesIn.{LivesIn}
+use Rattle.ele_files.specs.Held.{Held, written_of, written_by, fitted_of, fitted}
+use Rattle.ele_files.proofs.Rows.{handle_file-shown, draft-found}
+use Rattle.ele_lists.proofs.Cuts.{update_first-same}
+use Rattle.ele_sessions.specs.Orderly.{AreOrderly}
+use Rattle.ele_world.specs.Change.{changed_by, fitted_by}
+use Rattle.ele_world.specs.World as world
+use Rattle.ele_files.specs.Held as held
+use Rattle.ele_sessions.specs.Changes as session
 
 -- handles are not in the invariant
 pub same_drafts : (s : Store) (files : List File) (a b : AllSessions) → b.drafts ≡ a.drafts → Keeps s files a → Keeps s files b
@@ -59,20 +71,20 @@ module _ (s t : Store) (files : List File) (a b : AllSessions) (kept : Keeps s f
     goes : Stays s t (stock_of files fewer) (stock_of files fewer)
     goes = kept.laws.gone s t (stock_of files a.drafts) (draft_stock d) (stock_of files fewer) kept.stocked (draft_apart files a.drafts (is_draft file) d found) moves
 
-    pub dropped_keeps : Keeps t files b
-    dropped_keeps = record {
-      laws = kept.laws;
-      rise = kept.rise;
-      stocked = rw made goes.stocked;
-      files_kept = kept.files_kept;
-      drafts_kept = rw made (all-remove_first (is_draft file) (IsDraftKept files) a.drafts kept.drafts_kept);
+    pub dropped : IsSeen t files b (record (held_in s files b) { drafts = remove_first (world.is_draft file) (map (draft_in s) a.drafts) })
+    dropped = record {
+      keeps = record {
+        laws = kept.laws;
+        rise = kept.rise;
+        stocked = rw made goes.stocked;
+        files_kept = kept.files_kept;
+        drafts_kept = rw made (all-remove_first (is_draft file) (IsDraftKept files) a.drafts kept.drafts_kept);
+      };
+      shows = held_stays s t files b (rw made goes.shows) ∙ rw (made, remove_first-map (draft_in s) (world.is_draft file) (is_draft file) (λ x. refl) a.drafts) refl;
     }
 
-    pub dropped_shows : held_in t files b ≡ record (held_in s files b) { drafts = remove_first (world.is_draft file) (map (draft_in s) a.drafts) }
-    dropped_shows = held_stays s t files b (rw made goes.shows) ∙ rw (made, remove_first-map (draft_in s) (world.is_draft file) (is_draft file) (λ x. refl) a.drafts) refl
-
   -- it gets another map
-  module _ (now : Layout) (renewed : ℕ → Bool) (moves : Moves s t (d.layout ∷ []) (now ∷ [])) (renews : Renews s t d.number renewed d.layout now) (rise : Rises (λ (x : Draft). x.file) a.drafts) (made : b.drafts ≡ update_first (is_draft file) (rewritten_by now) a.drafts) where
+  module _ (now : Layout) (renewed : ℕ → Bool) (moves : Moves s t (d.layout ∷ []) (now ∷ [])) (renews : Renews s t d.number renewed d.layout now) (rise : Rises (λ (x : Draft). x.file) a.drafts) where
     d_kept : IsDraftKept files d
     d_kept = all-found (is_draft file) (IsDraftKept files) a.drafts d found kept.drafts_kept
 
@@ -89,17 +101,17 @@ module _ (s t : Store) (files : List File) (a b : AllSessions) (kept : Keeps s f
     changes : Stays s t (stock_of files fewer) (stock_of files (update_first (is_draft file) (rewritten_by now) a.drafts))
     changes = kept.laws.rewritten s t (stock_of files a.drafts) (draft_stock d) (stock_of files fewer) d.number renewed now (stock_of files (update_first (is_draft file) (rewritten_by now) a.drafts)) kept.stocked (draft_apart files a.drafts (is_draft file) d found) refl others_earlier moves renews (draft_changed files a.drafts (is_draft file) (rewritten_by now) d found)
 
-    pub rewritten_keeps : Keeps t files b
-    rewritten_keeps = record {
-      laws = kept.laws;
-      rise = kept.rise;
-      stocked = rw made changes.stocked;
-      files_kept = kept.files_kept;
-      drafts_kept = rw made (all-update_first (is_draft file) (IsDraftKept files) (IsDraftKept files) (rewritten_by now) a.drafts (λ x h. record { there = h.there; number = h.number }) (λ x h. h) kept.drafts_kept);
-    }
-
-    pub rewritten_shows : (change : DraftRow → DraftRow) → draft_in t (rewritten_by now d) ≡ change (draft_in s d) → held_in t files b ≡ record (held_in s files b) { drafts = update_first (world.is_draft file) change (map (draft_in s) a.drafts) }
-    rewritten_shows change changed = rw (made, versions_same s t files (all-left (ShowsSame s t) (flat_map file_stock files) (map draft_stock fewer) changes.shows), seen a.drafts found (all-right (ShowsSame s t) (flat_map file_stock files) (map draft_stock fewer) changes.shows)) refl where
+    pub rewritten : (change : DraftRow → DraftRow) → draft_in t (rewritten_by now d) ≡ change (draft_in s d) → b ≡ record a { drafts = update_first (is_draft file) (rewritten_by now) a.drafts } → IsSeen t files b (record (held_in s files a) { drafts = update_first (world.is_draft file) change (map (draft_in s) a.drafts) })
+    rewritten change changed made = rw made (record {
+      keeps = record {
+        laws = kept.laws;
+        rise = kept.rise;
+        stocked = changes.stocked;
+        files_kept = kept.files_kept;
+        drafts_kept = all-update_first (is_draft file) (IsDraftKept files) (IsDraftKept files) (rewritten_by now) a.drafts (λ x h. record { there = h.there; number = h.number }) (λ x h. h) kept.drafts_kept;
+      };
+      shows = rw (versions_same s t files (all-left (ShowsSame s t) (flat_map file_stock files) (map draft_stock fewer) changes.shows), seen a.drafts found (all-right (ShowsSame s t) (flat_map file_stock files) (map draft_stock fewer) changes.shows)) refl;
+    }) where
       beside : (ds : List Draft) → AllByRecursion (ShowsSame s t) (map draft_stock ds) → map (draft_in t) ds ≡ map (draft_in s) ds
       beside [] all = refl
       beside (x ∷ ds) all = rw (all.0.same, beside ds all.1) refl
@@ -110,3 +122,95 @@ module _ (s t : Store) (files : List File) (a b : AllSessions) (kept : Keeps s f
         by : (v : Bool) → is_draft file x ≡ v → (find (is_draft file) ds ≡ Some d → AllByRecursion (ShowsSame s t) (map draft_stock (remove_first (is_draft file) ds)) → map (draft_in t) (update_first (is_draft file) (rewritten_by now) ds) ≡ update_first (world.is_draft file) change (map (draft_in s) ds)) → map (draft_in t) (cond v (rewritten_by now x ∷ ds) (x ∷ update_first (is_draft file) (rewritten_by now) ds)) ≡ cond v (change (draft_in s x) ∷ map (draft_in s) ds) (draft_in s x ∷ update_first (world.is_draft file) change (map (draft_in s) ds))
         by true e more = let h' = rw e at h in let same : x ≡ d = cc in rw (same, changed, beside ds (rw e at all)) refl
         by false e more = let all' : AllByRecursion (ShowsSame s t) (map draft_stock (x ∷ remove_first (is_draft file) ds)) = rw e at all in rw (all'.0.same, more (rw e at h) all'.1) refl
+
+-- ---- a write or a truncate through a handle
+
+module _ (s : Store) (files : List File) (a : AllSessions) (kept : Keeps s files a) where
+  -- the draft that is written through the handle lives in the store
+  pub draft_by_lives : (handle : ℕ) (d : Draft) → draft_by a handle ≡ Some d → LivesIn s d.layout
+  draft_by_lives handle d = of_file (handle_file a.handles handle) where
+    of_file : (o : Option ℕ) → draft_for a o ≡ Some d → LivesIn s d.layout
+    of_file None e = absurd cc
+    of_file (Some file) e = draft_lives s files a kept file d e
+
+  abbrev rows : Held
+  rows = held_in s files a
+
+  -- a draft shows as many bytes as its map has
+  length_is : (file size : ℕ) (d : Draft) → find (is_draft file) a.drafts ≡ Some d → eqb (length (content_of (shown s d.layout))) size ≡ eqb d.layout.size size
+  length_is file size d found = ap (λ n. eqb n size) (kept.laws.long s d.layout (draft_lives s files a kept file d found))
+
+  pub length_seen : (handle size : ℕ) → held.has_length rows handle size ≡ true → (has_length size (draft_by a handle) ≡ true) × (size ≤ longest_content)
+  length_seen handle size has = of_file (handle_file a.handles handle) (rw (handle_file-shown a.handles handle) at has) where
+    of_draft : (file : ℕ) (o : Option Draft) → find (is_draft file) a.drafts ≡ o → option_map_or (λ row. eqb (length (content_of row.cells)) size) (option_map (draft_in s) o) false ≡ true → (has_length size o ≡ true) × (size ≤ longest_content)
+    of_draft file None found e = absurd (false≢true e)
+    of_draft file (Some d) found e =
+        let long : eqb d.layout.size size ≡ true = rw (length_is file size d found) at e in
+        let is : d.layout.size ≡ size = grind (arith, nat_tests) in
+        (long, omega (arith, is, kept.laws.short s d.layout (draft_lives s files a kept file d found)))
+
+    of_file : (o : Option ℕ) → held.has_length_of rows o size ≡ true → (has_length size (draft_for a o) ≡ true) × (size ≤ longest_content)
+    of_file None e = absurd (false≢true e)
+    of_file (Some file) e = of_draft file (find (is_draft file) a.drafts) refl (rw (draft-found s file a.drafts) at e)
+
+  module _ (t : Store) (b : AllSessions) (orderly : AreOrderly a) where
+    stays : session.Stays s t a b → IsSeen t files b rows
+    stays h = rw (h.store, h.sessions) (record { keeps = kept; shows = refl })
+
+    -- a new map for a draft, which shows as the changed row does
+    record IsNewMap (change : DraftRow → DraftRow) (was : Draft) (now : Layout) : Type 0 where
+      pub moves : Moves s t (was.layout ∷ []) (now ∷ [])
+      pub renewed : ℕ → Bool
+      pub renews : Renews s t was.number renewed was.layout now
+      pub changed : draft_in t (rewritten_by now was) ≡ change (draft_in s was)
+
+    -- the draft under the handle gets it
+    rewrites : (handle : ℕ) (Made : Draft → Layout → Type 0) (change : ℕ → DraftRow → DraftRow) (after : Option ℕ → Held)
+        → ((file : ℕ) → after (Some file) ≡ record rows { drafts = update_first (world.is_draft file) (change (next_of (map file_row files) file)) rows.drafts })
+        → ((file : ℕ) → handle_file a.handles handle ≡ Some file → (r : RewritesDraft a.drafts b.drafts file Made) → IsNewMap (change r.was.number) r.was r.layout)
+        → Rewrites a b handle Made → IsSeen t files b (after (held.handle_file rows.handles handle))
+    rewrites handle Made change after is new h = rw (handle_file-shown a.handles handle) (by (handle_file a.handles handle) refl h.1) where
+      by : (o : Option ℕ) → handle_file a.handles handle ≡ o → IsSomeAnd o (λ file. RewritesDraft a.drafts b.drafts file Made) → IsSeen t files b (after o)
+      by None e r = absurd r
+      by (Some file) e r =
+          let map = new file e r in
+          let number = its_number s t files a b kept file r.was r.found r.layout map.renewed map.moves map.renews orderly.drafts_rise in
+          rw (is file, ← number) (rewritten s t files a b kept file r.was r.found r.layout map.renewed map.moves map.renews orderly.drafts_rise (change r.was.number) map.changed (h.0 ∙ ap (λ ds. record a { drafts = ds }) r.made))
+
+    written : (handle offset : ℕ) (bytes : List ℕ) → Writes s t a b handle offset bytes → IsSeen t files b (written_by rows handle offset bytes)
+    written handle offset [] h = by (held.handle_file rows.handles handle) where
+      by : (o : Option ℕ) → IsSeen t files b (written_of rows o offset [])
+      by None = stays h
+      by (Some file) = stays h
+    written handle offset (byte ∷ bytes) h = rewrites handle _ (λ number. changed_by number offset (byte ∷ bytes)) (λ o. written_of rows o offset (byte ∷ bytes)) (λ file. refl)
+        (λ file e r. record { moves = r.how.moves; renewed = _; renews = r.how.renews; changed = rw r.how.cells refl }) h
+
+    -- a draft of that length is as it was
+    fits_already : (o : Option ℕ) (size : ℕ) → has_length size (draft_for a o) ≡ true → rows ≡ fitted_of rows o size
+    fits_already None size e = refl
+    fits_already (Some file) size e = by (find (is_draft file) a.drafts) refl e where
+      by : (d : Option Draft) → find (is_draft file) a.drafts ≡ d → has_length size d ≡ true → rows ≡ fitted_of rows (Some file) size
+      by None found e = absurd (false≢true e)
+      by (Some d) found e =
+          let same = length_is file size d found ∙ e in
+          sym (ap (λ drafts. record rows { drafts = drafts }) (update_first-same (world.is_draft file) (fitted_by (next_of (map file_row files) file) size) rows.drafts (draft_in s d) (draft-found s file a.drafts ∙ ap (option_map (draft_in s)) found) (rw same refl)))
+
+    truncated : (handle size : ℕ) (same : Bool) → has_length size (draft_by a handle) ≡ same → MatchBool same (session.Stays s t a b) (Rewrites a b handle (λ was. IsResized s t was.number size was.layout)) → IsSeen t files b (fitted rows handle size)
+    truncated handle size true e h = rw (handle_file-shown a.handles handle, ← fits_already (handle_file a.handles handle) size e) (stays h)
+    truncated handle size false e h = rewrites handle _ (λ number. fitted_by number size) (λ o. fitted_of rows o size) (λ file. refl)
+        (λ file there r.
+        let long : eqb r.was.layout.size size ≡ false = rw (there, r.found) at e in
+        let other = length_is file size r.was r.found ∙ long in
+        record { moves = r.how.moves; renewed = _; renews = r.how.renews; changed = rw (other, r.how.cells) refl }) h
+
+    -- whatever the call answers
+    module _ {T E : Type 0} where
+      answered : (r : Result T E) (P : Type 0) (h : Held) → (P → IsSeen t files b h) → OnOk r P → OnErr r (session.Stays s t a b) → Keeps t files b × OnOk r (held_in t files b ≡ h)
+      answered (Ok x) P h seen done left = ((seen done).keeps, (seen done).shows)
+      answered (Err e) P h seen done left = ((stays left).keeps, tt)
+
+      pub wrote : (handle offset : ℕ) (bytes : List ℕ) (r : Result T E) → OnOk r (Writes s t a b handle offset bytes) → OnErr r (session.Stays s t a b) → Keeps t files b × OnOk r (held_in t files b ≡ written_by rows handle offset bytes)
+      wrote handle offset bytes r = answered r (Writes s t a b handle offset bytes) (written_by rows handle offset bytes) (written handle offset bytes)
+
+      pub cut : (handle size : ℕ) (r : Result T E) → OnOk r (Truncates s t a b handle size) → OnErr r (session.Stays s t a b) → Keeps t files b × OnOk r (held_in t files b ≡ fitted rows handle size)
+      cut handle size r = answered r (Truncates s t a b handle size) (fitted rows handle size) (truncated handle size (has_length size (draft_by a handle)) refl)

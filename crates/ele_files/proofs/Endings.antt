@@ -4,7 +4,7 @@ use Rattle.std.specs.Prelude.{find, is_some, unwrap_or, IfSome, IsSomeAnd}
 use Rattle.std.specs.List.{AllByRecursion}
 use Rattle.std.proofs.lemmas.Bool.Decides.{nat_tests}
 use Rattle.ele_blocks.specs.Layout.{Layout}
-use Rattle.ele_files.specs.Finishing.{IsRowPast, ended_by, ended_rows, closing_row, HasClosed}
+use Rattle.ele_files.specs.Appending.{IsRowPast, ended_by, ended_rows, next_row, HasAppended}
 use Rattle.ele_files.specs.Inside.{IsRowOf, IsFileKept}
 use Rattle.ele_files.specs.declared.file.File.{File}
 use Rattle.ele_inode_log.specs.declared.row.VersionRow as log
@@ -88,7 +88,7 @@ module _ (next now : ℕ) (new : log.VersionRow) (number : new.number ≡ next) 
 -- a file, and the row of its next version
 module _ (f : File) (opened now : ℕ) (live : Bool) (cells : Layout) (kept : IsFileKept f) (past : AllByRecursion (IsRowPast now) f.log.rows) where
   abbrev new : log.VersionRow
-  new = closing_row f.next opened now live cells
+  new = next_row f.next opened now live cells
 
   before_new : AllByRecursion (λ row. Precedes row new) (ended_rows f now)
   before_new = all_precede f.next now new refl refl f.log.rows kept.order.order kept.rows past
@@ -99,7 +99,7 @@ module _ (f : File) (opened now : ℕ) (live : Bool) (cells : Layout) (kept : Is
     by true = tt
     by false = omega arith
 
-  module _ (g : File) (closed : HasClosed f g now new) where
+  module _ (g : File) (closed : HasAppended f g now new) where
     ended_in_time : (row : log.VersionRow) → EndsInTime row × IsRowPast now row → EndsInTime (ended_by now row)
     ended_in_time row h = by row.ended h.0 where
       by : (o : Option ℕ) → IfSome o (λ ended. row.closed ≤ ended) → row.closed ≤ unwrap_or o now

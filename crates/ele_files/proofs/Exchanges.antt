@@ -1,21 +1,33 @@
--- One file has other rows, and perhaps another next number.
-use Rattle.std.proofs.Common.{◌≡◌, ℕ, ◌<◌, Bool, List, ◌∷◌, ◌++◌, map, Some, refl, ap, sym, ◌∙◌}
-use Rattle.std.specs.Prelude.{find}
-use Rattle.std.specs.List.{AllByRecursion}
+-- One file has other rows: as many, or one fewer.
+use Rattle.std.proofs.Common.{◌≡◌, ℕ, ◌<◌, Bool, List, ◌∷◌, ◌++◌, map, Some, refl, ap, sym, ◌∙◌, true, false, cond, not, eqb, [], length, get_or, None, arith}
+use Rattle.std.specs.Prelude.{find, filter}
+use Rattle.std.specs.List.{AllByRecursion, flat_map, position}
 use Rattle.std.specs.Option.{option_map}
 use Rattle.ele_blocks.specs.Store.{Store}
-use Rattle.ele_files.specs.Inside.{file_row, row_in, rows_in, held_in, IsFileKept, IsDraftKept, Keeps, is_id, stock_of}
+use Rattle.ele_files.specs.Inside.{file_row, row_in, rows_in, held_in, IsFileKept, IsDraftKept, Keeps, is_id, stock_of, row_stock, IsRowOf}
 use Rattle.ele_files.specs.declared.file.File.{File}
-use Rattle.ele_files.proofs.Rows.{file_row-found, file_of, tagged}
-use Rattle.ele_files.proofs.Stock.{over, rows_stay}
-use Rattle.ele_lists.specs.Lists.{update_first, AllLater}
-use Rattle.ele_lists.proofs.Buckets.{bucket_changes}
-use Rattle.ele_lists.proofs.Cuts.{find-cut, update_first-at, update_first-same}
-use Rattle.ele_lists.proofs.Edits.{all-update_first, all-weaker, later-update_first}
-use Rattle.ele_lists.proofs.Shown.{update_first-map}
+use Rattle.ele_files.proofs.Rows.{file_row-found, file_of, tagged, file-at, no-file, its_id, own_version, same_number, version-of, version-none}
+use Rattle.ele_files.proofs.Stock.{over, rows_stay, row_apart, row_lives}
+use Rattle.ele_lists.specs.Lists.{update_first, AllLater, remove_first}
+use Rattle.ele_lists.proofs.Buckets.{bucket_changes, local-remove_first}
+use Rattle.ele_lists.proofs.Cuts.{find-cut, update_first-at, update_first-same, remove_first-unfound}
+use Rattle.ele_lists.proofs.Edits.{all-update_first, all-weaker, later-update_first, all-found, all-remove_first, all-not_found, later-remove_first}
+use Rattle.ele_lists.proofs.Shown.{update_first-map, remove_first-map}
 use Rattle.ele_sessions.specs.Sessions.{Draft, AllSessions}
-use Rattle.ele_world.specs.World.{is_file}
+use Rattle.ele_world.specs.World.{is_file, is_version}
 use Rattle.ele_world.specs.declared.rows.FileRow.{FileRow}
+use Rattle.std.proofs.Math.ListN.{set}
+use Rattle.std.proofs.lemmas.Bool.Decides.{nat_tests}
+use Rattle.ele_blocks.specs.LivesIn.{LivesIn}
+use Rattle.ele_blocks.specs.Owes.{Moves}
+use Rattle.ele_blocks.specs.Stock.{Stays}
+use Rattle.ele_content.specs.Content.{content_of}
+use Rattle.ele_files.specs.Held.{without}
+use Rattle.ele_files.proofs.Looks.{IsSeen, held_stays}
+use Rattle.ele_inode_log.specs.Rows.{HeldRows, Precedes, EndsInTime, is_numbered, is_other}
+use Rattle.ele_lists.proofs.Places.{set-first}
+use Rattle.ele_world.specs.declared.rows.VersionRow.{VersionRow}
+use Rattle.ele_inode_log.specs.declared.row.VersionRow as log
 
 -- two changes of what is found that are the same there
 pub update_first-alike : {X : Type 0} (p : X → Bool) (f g : X → X) (xs : List X) (x : X) → find p xs ≡ Some x → f x ≡ g x → update_first p f xs ≡ update_first p g xs
@@ -65,3 +77,101 @@ module _ (files : List File) (id : ℕ) (f g : File) (found : find (is_id id) fi
 
     pub same_shows : held_in s after a ≡ held_in s files a
     same_shows = rw (sym (bucket_changes (λ (x : File). x.id) (rows_in s) file_of (tagged s) id (λ xs. xs) (record { past = λ xs ys all. refl; short = λ xs ys all. refl }) (over g) files f kept.rise found (ap (map (row_in s f.id)) rows)), rows_same next) refl
+
+-- ---- a version leaves its file, and its map the store
+
+-- numbers rise, so a number is removed once
+others_stay : (number : ℕ) (row : log.VersionRow) (rows : List log.VersionRow) → row.number ≡ number → AllByRecursion (Precedes row) rows → filter (is_other number) rows ≡ rows
+others_stay number row [] is later = refl
+others_stay number row (x ∷ rows) is later =
+    let above : row.number < x.number = later.0.number in
+    let other : eqb x.number number ≡ false = grind (arith, nat_tests) in
+    rw other (ap (λ xs. x ∷ xs) (others_stay number row rows is later.1))
+
+filter_removes : (number : ℕ) (rows : List log.VersionRow) → AllLater Precedes rows → filter (is_other number) rows ≡ remove_first (is_numbered number) rows
+filter_removes number [] order = refl
+filter_removes number (x ∷ rows) order = elim (eqb x.number number) as (λ b. eqb x.number number ≡ b → cond (not b) (x ∷ filter (is_other number) rows) (filter (is_other number) rows) ≡ cond b rows (x ∷ remove_first (is_numbered number) rows)) [
+  | true ↦ λ e. others_stay number x rows (grind (arith, nat_tests)) order.0
+  | false ↦ λ e. ap (λ xs. x ∷ xs) (filter_removes number rows order.1)
+] refl
+
+-- the file that a search reached
+pub record IsReached (files : List File) (id i : ℕ) (f : File) : Type 0 where
+  pub found : find (is_id id) files ≡ Some f
+  pub changed : (g : File) → g.id ≡ f.id → g.policy ≡ f.policy → set files i g ≡ after files id f g found
+
+pub reached : (files : List File) (id i : ℕ) (f : File) → Some i ≡ position (is_id id) files → f ≡ get_or files i f → IsReached files id i f
+reached files id i f place is = record {
+  found = file-at files id i f place is;
+  changed = λ g its_id its_policy. set-first (is_id id) (over g) files i f g (sym place) is (rw (its_id, its_policy) refl);
+}
+
+-- no file has the number
+pub missing : (s : Store) (files : List File) (a : AllSessions) (kept : Keeps s files a) (id number : ℕ) → None ≡ position (is_id id) files → (find (is_version id number) (flat_map (rows_in s) files) ≡ None) × (held_in s files a ≡ without (held_in s files a) id number)
+missing s files a kept id number none =
+    let unfound = version-none s id number files kept.rise (no-file files id none) in
+    (unfound, rw (remove_first-unfound (is_version id number) (flat_map (rows_in s) files) (all-not_found (is_version id number) (flat_map (rows_in s) files) unfound)) refl)
+
+-- the file at its place, where no row has the number any more
+module _ (s : Store) (files : List File) (a : AllSessions) (kept : Keeps s files a) (id number i : ℕ) (f : File) (place : Some i ≡ position (is_id id) files) (is : f ≡ get_or files i f) (these : HeldRows) (rows : these.rows ≡ filter (is_other number) f.log.rows) where
+  abbrev at : IsReached files id i f
+  at = reached files id i f place is
+
+  abbrev g : File
+  g = record f { log = these }
+
+  its_kept : IsFileKept f
+  its_kept = all-found (is_id id) IsFileKept files f at.found kept.files_kept
+
+  left : these.rows ≡ remove_first (is_numbered number) f.log.rows
+  left = rows ∙ filter_removes number f.log.rows its_kept.order.order
+
+  left_kept : IsFileKept g
+  left_kept = record {
+    next = its_kept.next;
+    rows = rw left (all-remove_first (is_numbered number) (IsRowOf f.next) f.log.rows its_kept.rows);
+    order = rw left (record { ends = all-remove_first (is_numbered number) EndsInTime f.log.rows its_kept.order.ends; order = later-remove_first (is_numbered number) Precedes f.log.rows its_kept.order.order });
+  }
+
+  versions_leave : remove_first (is_version id number) (flat_map (rows_in s) files) ≡ flat_map (rows_in s) (after files id f g at.found)
+  versions_leave = bucket_changes (λ (x : File). x.id) (rows_in s) file_of (tagged s) id (remove_first (is_version id number)) (local-remove_first file_of id (is_version id number) (own_version id number)) (over g) files f kept.rise at.found (ap (map (row_in s f.id)) left ∙ sym (remove_first-map (row_in s f.id) (is_version id number) (is_numbered number) (same_number s f.id id number (its_id files id f at.found)) f.log.rows))
+
+  leaves : held_in s (after files id f g at.found) a ≡ without (held_in s files a) id number
+  leaves = rw (versions_leave, rows_same files id f g at.found refl) refl
+
+  found_row : find (is_version id number) (flat_map (rows_in s) files) ≡ option_map (row_in s f.id) (find (is_numbered number) f.log.rows)
+  found_row = version-of s id number files kept.rise f at.found
+
+  -- the number isn't held
+  pub unheld : find (is_numbered number) f.log.rows ≡ None → IsSeen s (set files i g) a (without (held_in s files a) id number) × (find (is_version id number) (flat_map (rows_in s) files) ≡ None)
+  unheld none = (
+    rw (at.changed g refl refl) (record {
+      keeps = same_keeps files id f g at.found s a kept refl (left ∙ remove_first-unfound (is_numbered number) f.log.rows (all-not_found (is_numbered number) f.log.rows none)) its_kept;
+      shows = leaves;
+    }),
+    found_row ∙ ap (option_map (row_in s f.id)) none,
+  )
+
+  -- its row has left, and the map the store
+  module _ (row : log.VersionRow) (held : find (is_numbered number) f.log.rows ≡ Some row) where
+    pub lives : LivesIn s row.cells
+    lives = row_lives s files a kept id (is_numbered number) f row at.found held
+
+    module _ (t : Store) (moves : Moves s t (row.cells ∷ []) []) where
+      stays : Stays s t (stock_of (after files id f g at.found) a.drafts) (stock_of (after files id f g at.found) a.drafts)
+      stays = kept.laws.gone s t (stock_of files a.drafts) (row_stock f.id row) (stock_of (after files id f g at.found) a.drafts) kept.stocked (row_apart files a.drafts id f g at.found (is_numbered number) row held left) moves
+
+      pub gone : IsSeen t (set files i g) a (without (held_in s files a) id number) × (option_map (λ (r : VersionRow). length (content_of r.cells)) (find (is_version id number) (flat_map (rows_in s) files)) ≡ Some row.cells.size)
+      gone = (
+        rw (at.changed g refl refl) (record {
+          keeps = record {
+            laws = kept.laws;
+            rise = rise_over files id f g at.found kept.rise;
+            stocked = stays.stocked;
+            files_kept = files_over files id f g at.found left_kept kept.files_kept;
+            drafts_kept = drafts_over files id f g at.found refl a.drafts kept.drafts_kept;
+          };
+          shows = held_stays s t (after files id f g at.found) a stays.shows ∙ leaves;
+        }),
+        rw (found_row, held) (ap (λ n. Some n) (kept.laws.long s row.cells lives)),
+      )

@@ -2,16 +2,11 @@ pub mod Stock
 pub mod Looks
 pub mod Rows
 pub mod Exchanges
-pub mod Removals
 pub mod Endings
 pub mod Appends
 pub mod Drafts
-pub mod Writings
 pub mod Openings
 pub mod Asked
 pub mod Copies
 pub mod Names
-pub mod Additions
-pub mod Lasts
-pub mod Drops
-pub mod Conclusions
+pub mod Closes

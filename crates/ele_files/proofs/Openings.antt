@@ -14,7 +14,7 @@ use Rattle.ele_files.specs.declared.file.File.{File}
 use Rattle.ele_files.specs.Held.{opened_by, first_draft}
 use Rattle.ele_files.specs.Inside.{IsRowOf, IsFileKept, IsDraftKept, Keeps, is_id, file_row, row_in, rows_in, draft_in, handle_in, held_in, row_stock, file_stock, draft_stock, stock_of}
 use Rattle.ele_files.proofs.Drafts.{same_drafts}
-use Rattle.ele_files.proofs.Looks.{versions_stay, drafts_stay}
+use Rattle.ele_files.proofs.Looks.{IsSeen, versions_stay, drafts_stay}
 use Rattle.ele_files.proofs.Rows.{its_id, next-found, version-of, any-draft}
 use Rattle.ele_files.proofs.Stock.{over, draft_begun, row_apart, row_lives}
 use Rattle.ele_inode_log.specs.declared.row.VersionRow.{VersionRow}
@@ -29,7 +29,6 @@ use Rattle.ele_sessions.specs.Opening as opening
 use Rattle.ele_sessions.specs.Sessions.{Draft, AllSessions, is_draft, is_draft_after}
 use Rattle.ele_world.specs.World.{next_of, is_version}
 use Rattle.ele_world.specs.World as world
-use Rattle.ele_world.specs.declared.rows.Reads.TheVariants as reads
 
 -- the map of the version before the next one, or that of no bytes
 abbrev pub cells_of : Option VersionRow → Layout
@@ -123,52 +122,33 @@ module _ (s : Store) (files : List File) (a : AllSessions) (kept : Keeps s files
             let shown_rows = map-all (row_stock f.id) (ShowsSame s t) f.log.rows (all-found (is_id file) (λ x. AllByRecursion (ShowsSame s t) (file_stock x)) files f found mine) in
             record { stays = came; same = rw its (all-found is (λ r. ShowsSame s t (row_stock f.id r)) f.log.rows row e shown_rows).same }
 
-      pub started_keeps : b.drafts ≡ insert_before (is_draft_after file) new a.drafts → Keeps t files b
-      started_keeps made = record {
-        laws = kept.laws;
-        rise = kept.rise;
-        stocked = rw made begins.stays.stocked;
-        files_kept = kept.files_kept;
-        drafts_kept = rw made (all-insert_before (is_draft_after file) (IsDraftKept files) new a.drafts new_kept kept.drafts_kept);
-      }
-
       new_seen : draft_in t new ≡ first_draft (held_in s files a) file at
       new_seen = rw (begins.same, first_seen) refl
 
       drafts_on : map (draft_in t) (insert_before (is_draft_after file) new a.drafts) ≡ insert_before (world.is_draft_after file) (first_draft (held_in s files a) file at) (map (draft_in s) a.drafts)
       drafts_on = sym (insert_before-map (draft_in t) (world.is_draft_after file) (is_draft_after file) (λ x. refl) new a.drafts) ∙ rw (new_seen, drafts_stay s t files a begins.stays.shows) refl
 
-      pub versions_on : flat_map (rows_in t) files ≡ flat_map (rows_in s) files
+      versions_on : flat_map (rows_in t) files ≡ flat_map (rows_in s) files
       versions_on = versions_stay s t files a begins.stays.shows
 
-    module _ (is : b ≡ opening.opened_by a new) where
-      handles_on : map handle_in b.handles ≡ map handle_in a.handles ++ record { number = a.opened + 1; reads = reads.Draft file } ∷ []
-      handles_on = ap (λ (x : AllSessions). map handle_in x.handles) is ∙ map-append handle_in a.handles _
+    opened : (there : Bool) → list_any (is_draft file) a.drafts ≡ there → MatchBool there (t ≡ s) (Moves s t [] (first_map f ∷ [])) → IsSeen t files (opening.opened_by a new) (opened_by (held_in s files a) file at)
+    opened true e h = rw h (record {
+      keeps = same_drafts s files a (opening.opened_by a new) (rw e refl) kept;
+      shows = rw (map-append handle_in a.handles (record { number = a.opened + 1; file = file } ∷ []), any-draft s file a.drafts, e) refl;
+    })
+    opened false e h = record {
+      keeps = record {
+        laws = kept.laws;
+        rise = kept.rise;
+        stocked = rw e (begins h).stays.stocked;
+        files_kept = kept.files_kept;
+        drafts_kept = rw e (all-insert_before (is_draft_after file) (IsDraftKept files) new a.drafts new_kept kept.drafts_kept);
+      };
+      shows = rw (map-append handle_in a.handles (record { number = a.opened + 1; file = file } ∷ []), any-draft s file a.drafts, e, versions_on h, drafts_on h) refl;
+    }
 
-      opened_on : b.opened ≡ a.opened + 1
-      opened_on = ap (λ (x : AllSessions). x.opened) is
-
-      drafts_are : b.drafts ≡ with_draft new a.drafts
-      drafts_are = ap (λ (x : AllSessions). x.drafts) is
-
-      pub opened_keeps : (there : Bool) → list_any (is_draft file) a.drafts ≡ there → MatchBool there (t ≡ s) (Moves s t [] (first_map f ∷ [])) → Keeps t files b
-      opened_keeps true e h = rw h (same_drafts s files a b (rw e at drafts_are) kept)
-      opened_keeps false e h = started_keeps h (rw e at drafts_are)
-
-      pub opened_seen : (there : Bool) → list_any (is_draft file) a.drafts ≡ there → MatchBool there (t ≡ s) (Moves s t [] (first_map f ∷ [])) → held_in t files b ≡ opened_by (held_in s files a) file at
-      opened_seen true e h =
-          let same : b.drafts ≡ a.drafts = rw e at drafts_are in
-          rw (h, same, handles_on, opened_on, any-draft s file a.drafts, e) refl
-      opened_seen false e h =
-          let made : b.drafts ≡ insert_before (is_draft_after file) new a.drafts = rw e at drafts_are in
-          rw (made, handles_on, opened_on, any-draft s file a.drafts, e, versions_on h, drafts_on h) refl
-
--- whatever the call answers
-module _ {T E : Type 0} (s : Store) (files : List File) (a : AllSessions) (kept : Keeps s files a) (file : ℕ) (f : File) (found : find (is_id file) files ≡ Some f) (t : Store) (b : AllSessions) (at : ℕ) (m : Layout) (is : m ≡ first_map f) where
-  pub open_keeps : (r : Result T E) → OnOk r (b ≡ opening.opened_by a (new_draft file f.next at m)) → OnOk r (Opens s t a.drafts file m) → OnErr r (b ≡ a) → OnErr r (t ≡ s) → Keeps t files b
-  open_keeps (Ok x) done moved left store = opened_keeps s files a kept file f found t b at (rw is at done) (list_any (is_draft file) a.drafts) refl (rw is at moved)
-  open_keeps (Err e) done moved left store = rw (store, left) kept
-
-  pub open_seen : (r : Result T E) → OnOk r (b ≡ opening.opened_by a (new_draft file f.next at m)) → OnOk r (Opens s t a.drafts file m) → OnOk r (held_in t files b ≡ opened_by (held_in s files a) file at)
-  open_seen (Ok x) done moved = opened_seen s files a kept file f found t b at (rw is at done) (list_any (is_draft file) a.drafts) refl (rw is at moved)
-  open_seen (Err e) done moved = tt
+    -- whatever the call answers
+    pub opens : {T E : Type 0} (m : Layout) → m ≡ first_map f → (r : Result T E) → OnOk r (b ≡ opening.opened_by a (new_draft file f.next at m)) → OnOk r (Opens s t a.drafts file m) → OnErr r (b ≡ a) → OnErr r (t ≡ s)
+        → Keeps t files b × OnOk r (held_in t files b ≡ opened_by (held_in s files a) file at)
+    opens m is (Ok x) done moved left store = let seen = opened (list_any (is_draft file) a.drafts) refl (rw is at moved) in rw (done, is) (seen.keeps, seen.shows)
+    opens m is (Err e) done moved left store = (rw (store, left) kept, tt)

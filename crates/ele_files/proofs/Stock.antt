@@ -6,7 +6,7 @@ use Rattle.std.proofs.lemmas.List.Sums.{sum_by-append, sum_by-cons, sum_by_push}
 use Rattle.ele_blocks.specs.LivesIn.{LivesIn}
 use Rattle.ele_blocks.specs.Stock.{Tagged, SameStock}
 use Rattle.ele_blocks.specs.Store.{Store}
-use Rattle.ele_files.specs.Finishing.{ended_by, ended_rows}
+use Rattle.ele_files.specs.Appending.{ended_by, ended_rows}
 use Rattle.ele_files.specs.Inside.{row_stock, file_stock, draft_stock, stock_of, Keeps, is_id}
 use Rattle.ele_files.specs.declared.file.File.{File}
 use Rattle.ele_inode_log.specs.declared.row.VersionRow as log
@@ -35,12 +35,12 @@ module _ (files : List File) (drafts : List Draft) where
     pub draft_begun : (d : Draft) → SameStock (stock_of files (insert_before p d drafts)) (draft_stock d ∷ stock_of files drafts)
     draft_begun d = record { sums = λ k. omega (arith, total k files (insert_before p d drafts), total k files drafts, sum_by-cons k (draft_stock d) (stock_of files drafts), sum_by-insert_before (λ x. k (draft_stock x)) p d drafts) }
 
-  -- a file comes with one row
-  pub file_added : (x : File) (row : log.VersionRow) → x.log.rows ≡ row ∷ [] → SameStock (stock_of (files ++ x ∷ []) drafts) (row_stock x.id row ∷ stock_of files drafts)
-  file_added x row rows = record {
+  -- a file comes without rows
+  pub file_added : (f : File) → f.log.rows ≡ [] → SameStock (stock_of files drafts) (stock_of (files ++ f ∷ []) drafts)
+  file_added f none = record {
     sums = λ k.
-        let one : sum_by k (file_stock x) ≡ sum_by k (row_stock x.id row ∷ []) = rw rows refl in
-        omega (arith, one, total k (files ++ x ∷ []) drafts, total k files drafts, sum_by_push (λ f. sum_by k (file_stock f)) files x, sum_by-cons k (row_stock x.id row) [], sum_by-cons k (row_stock x.id row) (stock_of files drafts));
+        let no : sum_by k (file_stock f) ≡ 0 = rw none refl in
+        omega (arith, no, total k (files ++ f ∷ []) drafts, total k files drafts, sum_by_push (λ f. sum_by k (file_stock f)) files f);
   }
 
   -- one file has other rows

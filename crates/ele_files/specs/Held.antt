@@ -1,5 +1,5 @@
 -- The rows of all files, and how they change.
-use Rattle.std.specs.Prelude.{ℕ, ◌+◌, ◌==◌, Bool, false, List, [], ◌∷◌, ◌++◌, length, Option, Some, None, find, if◌then◌else◌}
+use Rattle.std.specs.Prelude.{◌≡◌, ℕ, ◌+◌, ◌==◌, Bool, false, List, [], ◌∷◌, length, Option, Some, None, find, if◌then◌else◌}
 use Rattle.std.specs.List.{list_any}
 use Rattle.std.specs.Option.{option_map_or}
 use Rattle.std.specs.Result.{result_ok}
@@ -11,8 +11,8 @@ use Rattle.ele_world.specs.declared.rows.VersionRow.{VersionRow}
 use Rattle.ele_world.specs.declared.rows.DraftRow.{DraftRow}
 use Rattle.ele_world.specs.declared.rows.HandleRow.{HandleRow}
 use Rattle.ele_world.specs.Bounds.{largest_bounds}
-use Rattle.ele_world.specs.Change.{Change, OpenHandle, StartDraft, WriteDraft, TruncateDraft, Take, new_draft, after_changes}
-use Rattle.ele_world.specs.World.{World, fresh_world, is_draft, file_by}
+use Rattle.ele_world.specs.Change.{Change, MakeFile, OpenHandle, StartDraft, WriteDraft, TruncateDraft, Take, new_draft, after_changes}
+use Rattle.ele_world.specs.World.{World, fresh_world, is_live, is_draft, file_by}
 
 -- files by id, versions by file and number, drafts by file, handles by number, and how many handles were ever opened
 pub record Held : Type 0 where
@@ -22,35 +22,40 @@ pub record Held : Type 0 where
   pub handles : List HandleRow
   pub opened : ℕ
 
-abbrev pub version_row : ℕ → ℕ → ℕ → ℕ → Option ℕ → List Cell → VersionRow
-version_row file number opened closed ended cells =
-    record { file = file; number = number; opened = opened; closed = closed; ended = ended; cells = cells }
-
--- with a new file, and its first version, which is empty
-abbrev pub with_file : Held → ℕ → Policy → ℕ → Held
-with_file h id policy now = record h {
-  files = h.files ++ record { id = id; policy = policy; next = 2 } ∷ [];
-  versions = h.versions ++ version_row id 1 now now None [] ∷ [];
-}
-
--- a world with these rows and no others, at that moment
-abbrev pub world_with : Held → ℕ → World
-world_with h now = record (fresh_world largest_bounds) {
-  now = now;
-  files = h.files;
-  versions = h.versions;
-  drafts = h.drafts;
-  handles = h.handles;
-  made = record { files = 0; names = 0; versions = 0; handles = h.opened };
-}
-
 -- the rows that the files hold of a world
 abbrev pub rows_of : World → Held
 rows_of w = record { files = w.files; versions = w.versions; drafts = w.drafts; handles = w.handles; opened = w.made.handles }
 
--- what changes leave of the rows
+-- the world with these rows in their place
+abbrev pub with_rows : World → Held → World
+with_rows w h = record w {
+  files = h.files;
+  versions = h.versions;
+  drafts = h.drafts;
+  handles = h.handles;
+  made = record w.made { handles = h.opened };
+}
+
+-- what changes leave of the rows in that world
+abbrev pub rows_after : World → Held → List Change → Held
+rows_after w h changes = rows_of (after_changes (with_rows w h) changes)
+
+-- a world with these rows and no others, at that moment
+abbrev pub world_with : Held → ℕ → World
+world_with h now = with_rows (record (fresh_world largest_bounds) { now = now }) h
+
+-- what changes leave of the rows, where nothing but the moment matters
 abbrev pub changed_at : Held → ℕ → List Change → Held
 changed_at h now changes = rows_of (after_changes (world_with h now) changes)
+
+-- the changes left these rows, in whatever world of that moment they stand in which the file is live or not, as told
+abbrev pub Became : Held → ℕ → ℕ → Bool → List Change → Held → Type 0
+Became h now file live changes after = (w : World) → w.now ≡ now → is_live w file ≡ live → after ≡ rows_after w h changes
+
+-- a file was made by whatever name, in whatever world of that moment
+abbrev pub GotFile : Held → ℕ → Policy → ℕ → Held → Type 0
+GotFile h id policy now after =
+    (w : World) (directory : ℕ) (name : List ℕ) → w.now ≡ now → after ≡ rows_after w h (MakeFile directory name id policy ∷ [])
 
 abbrev pub first_draft : Held → ℕ → ℕ → DraftRow
 first_draft h file now = new_draft (world_with h now) file

@@ -2,4 +2,4 @@ pub mod Held
 pub mod Closing
 pub mod Asked
 pub mod Inside
-pub mod Finishing
+pub mod Appending

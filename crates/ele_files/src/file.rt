@@ -1,8 +1,14 @@
 //! One file.
 //! A contract sees its number, its policy, the number of its next version, and the rows of its log.
-use ele_inode_log::InodeLog;
+ghost use Rattle.std.specs.Prelude.{◌≡◌, ◌<◌, ◌≤◌, ◌+◌, ◌^◌, []};
+ghost use Rattle.std.specs.List.{AllByRecursion};
+ghost use Rattle.ele_files.specs.Appending.{IsRowPast, HasRows, HasAppended, ended_rows, next_row};
+ghost use Rattle.ele_files.specs.Inside.{IsFileKept};
+
+use ele_blocks::BlockMap;
+use ele_inode_log::{InodeLog, Meter, VersionRow};
 use ele_lists::Keyed;
-use ele_moment::{FileId, VersionNo};
+use ele_moment::{FileId, Moment, VersionNo};
 use ele_policy::Policy;
 
 /// A file: its policy, the number that its next version gets, and its held versions.
@@ -19,5 +25,61 @@ impl Keyed for File {
 
     fn key(&self) -> u64 {
         self.id.0
+    }
+}
+
+impl File {
+    /// The version before the next one ends, unless it has ended.
+    fn end_before(&mut self, now: Moment, meter: &mut Meter)
+        requires kept { IsFileKept self.old }
+        requires past { AllByRecursion (IsRowPast now) self.old.log.rows }
+        requires meter { meter.old < 2 ^ 62 }
+        ensures ended { HasRows self.old self.new (ended_rows self.old now) }
+        ensures room { 1 ≤ self.old.log.spare → 1 ≤ self.new.log.spare }
+        ensures read { meter.new ≤ meter.old + 1 }
+    {
+        if let Some(row) = self.log.get(self.next.before(), meter) {
+            if row.ended.is_none() {
+                self.log.end_last(now);
+            }
+        }
+    }
+
+    /// Appends the next version, which closes now, and ends at once where the file isn't live. The
+    /// version before it ends. There is room for it. The answer is its number.
+    pub fn append(
+        &mut self,
+        opened: Moment,
+        now: Moment,
+        is_live: bool,
+        cells: BlockMap,
+        meter: &mut Meter,
+    ) -> VersionNo
+        requires kept { IsFileKept self.old }
+        requires past { AllByRecursion (IsRowPast now) self.old.log.rows }
+        requires numbered { self.old.next < 2 ^ 62 }
+        requires room { 1 ≤ self.old.log.spare }
+        requires meter { meter.old < 2 ^ 62 }
+        ensures number { result ≡ self.old.next }
+        ensures appended { HasAppended self.old self.new now
+            (next_row self.old.next opened now is_live cells) }
+        ensures read { meter.new ≤ meter.old + 1 }
+    {
+        self.end_before(now, meter);
+        let number = self.next;
+        let ended = if is_live { None } else { Some(now) };
+        let row = VersionRow {
+            number,
+            opened,
+            closed: now,
+            ended,
+            cells,
+        };
+        match self.log.append(row) {
+            Ok(()) => {}
+            Err(_refused) => unreachable!(),
+        }
+        self.next = number.after();
+        number
     }
 }

@@ -6,8 +6,7 @@ ghost use Rattle.std.specs.Option.{ForSome, option_map, option_map_or};
 ghost use Rattle.ele_content.specs.Content.{content_of};
 ghost use Rattle.ele_content.specs.Place.{different, is_place};
 ghost use Rattle.ele_files.specs.Asked.{stamps_of};
-ghost use Rattle.ele_files.specs.Closing.{closing, closed, number_by, IsPast};
-ghost use Rattle.ele_files.specs.Held.{Held, with_file, opened_by, written_by, fitted, cells_of_draft, without};
+ghost use Rattle.ele_files.specs.Held.{Held, GotFile, opened_by, without};
 ghost use Rattle.ele_files.specs.Inside.{is_id};
 ghost use Rattle.ele_inode_log.specs.Rows.{is_numbered};
 ghost use Rattle.ele_lists.specs.Lists.{AllLater};
@@ -23,7 +22,7 @@ mod writing;
 use crate::file::File;
 use ele_blocks::laws::stocks;
 use ele_blocks::{BlockMap, BlockStore};
-use ele_inode_log::{InodeLog, Meter, VersionRow};
+use ele_inode_log::{InodeLog, Meter};
 use ele_lists::put;
 use ele_moment::{FileId, Handle, Moment, NoMemory, VersionNo};
 use ele_policy::Policy;
@@ -96,30 +95,21 @@ impl Files {
     /// number is greater than those before. Where memory is refused, all is as it was.
     pub fn add(&mut self, id: FileId, policy: Policy, now: Moment) -> Result<(), NoMemory>
         requires { AllByRecursion (λ row. row.id < id) self.old.files }
-        ensures ok { OnOk result (self.new ≡ with_file self.old id policy now) }
+        ensures ok { OnOk result (GotFile self.old id policy now self.new) }
         ensures err { OnErr result (self.new ≡ self.old) }
     {
         self.files.reserve(1)?;
         let mut log = InodeLog::new(self.alloc);
-        let first = VersionRow {
-            number: VersionNo(1),
-            opened: now,
-            closed: now,
-            ended: None,
-            cells: BlockMap::new(self.alloc),
+        log.reserve()?;
+        let mut file = File {
+            id,
+            policy,
+            next: VersionNo(1),
+            log,
         };
-        if let Err((_row, refused)) = log.append(first) {
-            return Err(refused);
-        }
-        put(
-            &mut self.files,
-            File {
-                id,
-                policy,
-                next: VersionNo(2),
-                log,
-            },
-        );
+        let empty = BlockMap::new(self.alloc);
+        let _first = file.append(now, now, true, empty, &mut Meter::new());
+        put(&mut self.files, file);
         Ok(())
     }
 

@@ -5,21 +5,23 @@ use Rattle.std.specs.List.{list_any}
 use Rattle.std.specs.Str.{bytes_eq}
 use Rattle.std.specs.Cmp.Lexicographic.{bytes_decides}
 use Rattle.ele_script.specs.declared.command.Command.{Command}
-use Rattle.ele_script.specs.declared.command.Command.TheVariants.{Clock, Tick, Create, OpenWrite, Write, Truncate, Close, Default, Clean, Read, Due, Usage, Pass}
+use Rattle.ele_script.specs.declared.command.Command.TheVariants.{Clock, Tick, MakeDir, RemoveDir, Create, OpenWrite, Write, Truncate, Close, Default, Clean, Read, Due, Usage, Pass}
 use Rattle.ele_script.specs.declared.fault.LineFault.{LineFault}
 use Rattle.ele_script.specs.declared.fault.LineFault.TheVariants.{Syntax, NoMemory}
 use Rattle.ele_script.specs.declared.reading.Line.{Line}
 use Rattle.ele_script.specs.Spells.{SpellsBehind, SpellsWords}
 use Rattle.ele_script.specs.Command.{command_words, kinds_behind}
 use Rattle.ele_script.specs.Memory.{takes_memory, TakesMemory}
-use Rattle.ele_script.specs.CommandOf.{command_of, one_word_command, question_command, open_command, second_of, before}
+use Rattle.ele_script.specs.CommandOf.{command_of, one_word_command, directory_command, question_command, open_command, second_of, before}
 use Rattle.ele_script.specs.FirstFault.{FitsCommand, IsFaultBehind, miscounted, bad_word, IsFaultOfWords, no_command, of_word}
 
 -- a command's words, and what stands behind them
 command_of-words : (command : Command) (arguments : List (List ℕ)) → command_of (command_words command ++ arguments) ≡ Some (command, arguments)
-unfolding command_of one_word_command question_command open_command
+unfolding command_of one_word_command directory_command question_command open_command
 command_of-words Clock arguments = refl
 command_of-words Tick arguments = refl
+command_of-words MakeDir arguments = refl
+command_of-words RemoveDir arguments = refl
 command_of-words Create arguments = refl
 command_of-words OpenWrite arguments = refl
 command_of-words Write arguments = refl
@@ -47,11 +49,17 @@ question_is word =
     let P : Command → Type 0 = λ command. command_words command ≡ word ∷ [] in
     chain P _ Read _ (same word (codes "read")) (chain P _ Due _ (same word (codes "due")) (chain P _ Usage _ (same word (codes "usage")) tt))
 
+directory_is : (word : List ℕ) → IfSome (directory_command word) (λ command. command_words command ≡ word ∷ [])
+unfolding directory_command
+directory_is word =
+    let P : Command → Type 0 = λ command. command_words command ≡ word ∷ [] in
+    chain P _ MakeDir _ (same word (codes "mkdir")) (chain P _ RemoveDir _ (same word (codes "rmdir")) (question_is word))
+
 one_word_is : (word : List ℕ) → IfSome (one_word_command word) (λ command. command_words command ≡ word ∷ [])
 unfolding one_word_command
 one_word_is word =
     let P : Command → Type 0 = λ command. command_words command ≡ word ∷ [] in
-    chain P _ Clock _ (same word (codes "clock")) (chain P _ Tick _ (same word (codes "tick")) (chain P _ Create _ (same word (codes "create")) (chain P _ Write _ (same word (codes "write")) (chain P _ Truncate _ (same word (codes "truncate")) (chain P _ Close _ (same word (codes "close")) (chain P _ Default _ (same word (codes "default")) (chain P _ Clean _ (same word (codes "clean")) (chain P _ Pass _ (same word (codes "pass")) (question_is word)))))))))
+    chain P _ Clock _ (same word (codes "clock")) (chain P _ Tick _ (same word (codes "tick")) (chain P _ Create _ (same word (codes "create")) (chain P _ Write _ (same word (codes "write")) (chain P _ Truncate _ (same word (codes "truncate")) (chain P _ Close _ (same word (codes "close")) (chain P _ Default _ (same word (codes "default")) (chain P _ Clean _ (same word (codes "clean")) (chain P _ Pass _ (same word (codes "pass")) (directory_is word)))))))))
 
 open_is : (word : List ℕ) → IfSome (open_command word) (λ command. command_words command ≡ codes "open" ∷ word ∷ [])
 unfolding open_command

@@ -7,7 +7,7 @@ use Rattle.ele_world.specs.declared.event.Source.TheVariants.{Of}
 use Rattle.ele_script.specs.declared.reading.Line.{Line}
 use Rattle.ele_script.specs.declared.reading.Line.TheVariants as asks
 use Rattle.ele_script.specs.declared.command.Command.{Command}
-use Rattle.ele_script.specs.declared.command.Command.TheVariants.{Clock, Tick, Create, OpenWrite, Write, Truncate, Close, Default, Clean, Read, Due, Usage, Pass}
+use Rattle.ele_script.specs.declared.command.Command.TheVariants.{Clock, Tick, MakeDir, RemoveDir, Create, OpenWrite, Write, Truncate, Close, Default, Clean, Read, Due, Usage, Pass}
 use Rattle.ele_script.specs.declared.fault.LineFault.{LineFault}
 use Rattle.ele_script.specs.declared.fault.LineFault.TheVariants.{NoMemory}
 use Rattle.ele_script.specs.Value.{WordKind, Value, Number, Moment, Path, Bytes, Policy, word_kind}
@@ -28,6 +28,8 @@ kinds_of (value ∷ values) = word_kind value ∷ kinds_of values
 kinds_fit : (asked : Line) → kinds_of (line_parts asked).1 ≡ kinds_behind (line_parts asked).0
 kinds_fit (asks.Event (event.Clock moment)) = refl
 kinds_fit (asks.Event (event.Tick seconds)) = refl
+kinds_fit (asks.Event (event.MakeDir path)) = refl
+kinds_fit (asks.Event (event.RemoveDir path)) = refl
 kinds_fit (asks.Event (event.Create path)) = refl
 kinds_fit (asks.Event (event.OpenWrite path)) = refl
 kinds_fit (asks.Event (event.Write handle offset bytes)) = refl
@@ -44,6 +46,8 @@ kinds_fit (asks.Pass budget) = refl
 abbrev line_of : Command × List Value → Option Line
 line_of (Clock, Moment moment ∷ []) = Some (asks.Event (event.Clock moment))
 line_of (Tick, Number seconds ∷ []) = Some (asks.Event (event.Tick seconds))
+line_of (MakeDir, Path path ∷ []) = Some (asks.Event (event.MakeDir path))
+line_of (RemoveDir, Path path ∷ []) = Some (asks.Event (event.RemoveDir path))
 line_of (Create, Path path ∷ []) = Some (asks.Event (event.Create path))
 line_of (OpenWrite, Path path ∷ []) = Some (asks.Event (event.OpenWrite path))
 line_of (Write, Number handle ∷ Number offset ∷ Bytes bytes ∷ []) = Some (asks.Event (event.Write handle offset bytes))
@@ -61,6 +65,8 @@ line_of _ = None
 parts_back : (asked : Line) → line_of (line_parts asked) ≡ Some asked
 parts_back (asks.Event (event.Clock moment)) = refl
 parts_back (asks.Event (event.Tick seconds)) = refl
+parts_back (asks.Event (event.MakeDir path)) = refl
+parts_back (asks.Event (event.RemoveDir path)) = refl
 parts_back (asks.Event (event.Create path)) = refl
 parts_back (asks.Event (event.OpenWrite path)) = refl
 parts_back (asks.Event (event.Write handle offset bytes)) = refl

@@ -1,15 +1,16 @@
 -- The words of a line, cut off one after another.
-use Rattle.std.proofs.Common.{◌≡◌, ◌≢◌, ℕ, zero, suc, ◌+◌, ◌<◌, ◌≤◌, ◌==◌, not, cond, ◌&&◌, Bool, true, false, List, [], ◌∷◌, ◌++◌, length, take, drop, get_or, Some, None, refl, sym, ap, ◌∙◌, arith, append_assoc, length-append, map, lit≤, ◌⊎◌, inl, inr, nat_lt}
+use Rattle.std.proofs.Common.{◌≡◌, ◌≢◌, ℕ, zero, suc, ◌+◌, ◌<◌, ◌≤◌, ◌==◌, not, cond, ◌&&◌, Bool, true, false, List, [], ◌∷◌, ◌++◌, length, take, drop, get_or, Some, None, refl, sym, ap, ◌∙◌, arith, append_assoc, length-append, map, lit≤, ◌⊎◌, inl, inr, nat_lt, subst}
 use Rattle.std.specs.List.{list_all, position, position_or_len}
-use Rattle.std.proofs.lemmas.Bool.{ltb-false}
+use Rattle.std.proofs.Math.Bool.{and-false}
+use Rattle.std.proofs.lemmas.Bool.{ltb-false, eqb-true}
 use Rattle.std.proofs.lemmas.Bool.Decides.{nat_tests}
-use Rattle.std.proofs.lemmas.List.{map-append, length-map, drop_more, take-append-drop}
+use Rattle.std.proofs.lemmas.List.{map-append, length-map, length-take-le, drop_more, take-append-drop}
 use Rattle.std.proofs.lemmas.List.Folds.{list_all-append, list_all-map, list_all_at}
 use Rattle.std.proofs.lemmas.List.Quantifiers.{position-Some}
 use Rattle.std.proofs.lemmas.List.Splits.{length-slice_split}
 use Rattle.std.proofs.lemmas.List.Sums.{prefix_len_passes}
 use Rattle.ele_script.specs.declared.command.Command.{Command}
-use Rattle.ele_script.specs.declared.command.Command.TheVariants.{Clock, Tick, Create, OpenWrite, Write, Truncate, Close, Default, Clean, Read, Due, Usage, Pass}
+use Rattle.ele_script.specs.declared.command.Command.TheVariants.{Clock, Tick, MakeDir, RemoveDir, Create, OpenWrite, Write, Truncate, Close, Default, Clean, Read, Due, Usage, Pass}
 use Rattle.ele_script.specs.declared.fault.LineFault.TheVariants.{Syntax}
 use Rattle.ele_script.specs.Command.{command_words, kinds_behind}
 use Rattle.ele_script.specs.FirstFault.{IsFaultOfWords, no_command, IsFirstFault, not_worded, of_words}
@@ -68,18 +69,36 @@ no_end text none k lt =
     let all = ltb-false (position_or_len ends_word text) (length text) (none_at _ _ none) in
     not_true _ (prefix_len_passes (λ x. not (ends_word x)) text k 0 (omega (arith, lt, all)))
 
--- these words were cut off in front of the rest, and all that was cut off is plain
+-- a word has a byte
+abbrev pub has_byte : List ℕ → Bool
+has_byte word = nat_lt 0 (length word)
+
+positive : (n : ℕ) → (n == 0) ≡ false → 0 < n
+positive zero some = absurd cc
+positive (suc n) some = omega arith
+
+ltb-from : (m n : ℕ) → m < n → nat_lt m n ≡ true
+ltb-from m n lt = grind (arith, nat_tests)
+
+-- these words were cut off in front of the rest, none is empty, and all that was cut off is plain
 pub record AreCut (line : List ℕ) (front : List (List ℕ)) (rest : List ℕ) : Type 0 where
   pub words : words_of line ≡ front ++ words_of rest
   pub plain : list_all is_plain line ≡ list_all is_plain rest
+  pub spaced : list_all has_byte front ≡ true
 
 map_push : {A : Type 0} (v : A → List ℕ) (front now : List A) (x : A) → now ≡ front ++ x ∷ [] → map v now ≡ map v front ++ v x ∷ []
 map_push {A} v front now x pushed = ap (λ (xs : List A). map v xs) pushed ∙ map-append v front (x ∷ [])
 
+-- with one word more none is empty
+push_spaced : {A : Type 0} (v : A → List ℕ) (front now : List A) (x : A) → now ≡ front ++ x ∷ [] → list_all has_byte (map v front) ≡ true → 0 < length (v x) → list_all has_byte (map v now) ≡ true
+push_spaced {A} v front now x pushed before some =
+    let one : has_byte (v x) ≡ true = ltb-from 0 (length (v x)) some in
+    ap (list_all has_byte) (map_push v front now x pushed) ∙ list_all-append has_byte (map v front) (v x ∷ []) ∙ rw (before, one) refl
+
 -- a word more is cut off
 pub cut_more : {A : Type 0} (v : A → List ℕ) (line : List ℕ) (front now : List A) (word : A) (rest behind : List ℕ) (at : ℕ) → AreCut line (map v front) rest → position ends_word rest ≡ Some at
-    → get_or rest at 0 ≡ 32 → v word ≡ take at rest → behind ≡ drop 1 (drop at rest) → now ≡ front ++ word ∷ [] → AreCut line (map v now) behind
-cut_more {A} v line front now word rest behind at are found space here there pushed =
+    → get_or rest at 0 ≡ 32 → 0 < at → v word ≡ take at rest → behind ≡ drop 1 (drop at rest) → now ≡ front ++ word ∷ [] → AreCut line (map v now) behind
+cut_more {A} v line front now word rest behind at are found space some here there pushed =
     let f = position-Some ends_word rest at 0 found in
     let next = drop_more rest at 0 f.0 ∙ ap (λ (x : ℕ). x ∷ drop (at + 1) rest) space in
     let behind_is : behind ≡ drop (at + 1) rest = there ∙ ap (λ (xs : List ℕ). drop 1 xs) next in
@@ -91,7 +110,26 @@ cut_more {A} v line front now word rest behind at are found space here there pus
           ∙ ap (λ (ws : List (List ℕ)). ws ++ words_of behind) (sym (map_push v front now word pushed));
       plain = are.plain ∙ ap (list_all is_plain) parts ∙ list_all-append is_plain (take at rest) (32 ∷ behind)
           ∙ ap (λ (b : Bool). b && list_all is_plain behind) (plain_before at rest le f.2);
+      spaced = push_spaced v front now word pushed are.spaced (omega (arith, some, ap length here, length-take-le at rest le));
     }
+
+words_unspaced : (line : List ℕ) (front behind : List (List ℕ)) → words_of line ≡ front ++ [] ∷ behind → is_worded line ≡ false
+words_unspaced line front behind are =
+    let none : list_all has_byte (words_of line) ≡ false = ap (list_all has_byte) are ∙ list_all-append has_byte front ([] ∷ behind) ∙ and-false (list_all has_byte front) in
+    ap (λ b. list_all is_plain line && b) none ∙ and-false (list_all is_plain line)
+
+-- a space in front of the rest leaves an empty word
+pub cut_empty : (line : List ℕ) (front : List (List ℕ)) (rest : List ℕ) (at : ℕ) → AreCut line front rest → position ends_word rest ≡ Some at → get_or rest at 0 ≡ 32 → at ≡ 0 → is_worded line ≡ false
+cut_empty line front [] at are found space none = absurd (let f = position-Some ends_word [] at 0 found in omega (arith, f.0))
+cut_empty line front (x ∷ xs) at are found space none =
+    let first : x ≡ 32 = subst (λ n. get_or (x ∷ xs) n 0 ≡ 32) none space in
+    let words : words_of (x ∷ xs) ≡ [] ∷ words_of xs = ap (λ b. words_of (b ∷ xs)) first in
+    words_unspaced line front (words_of xs) (are.words ∙ ap (λ (ws : List (List ℕ)). front ++ ws) words)
+
+-- and so does no rest
+pub cut_none : (line : List ℕ) (front : List (List ℕ)) (rest : List ℕ) → AreCut line front rest → (length rest == 0) ≡ true → is_worded line ≡ false
+cut_none line front [] are none = words_unspaced line front [] are.words
+cut_none line front (x ∷ xs) are none = let zero = eqb-true (length (x ∷ xs)) 0 none in absurd (omega (arith, zero))
 
 -- a byte that isn't plain ends a word
 pub cut_unplain : (line : List ℕ) (front : List (List ℕ)) (rest : List ℕ) (at : ℕ) → AreCut line front rest → position ends_word rest ≡ Some at → get_or rest at 0 ≢ 32 → list_all is_plain line ≡ false
@@ -101,10 +139,18 @@ cut_unplain line front rest at are found other =
 
 -- what is left is the last word
 pub cut_last : {A : Type 0} (v : A → List ℕ) (line : List ℕ) (front now : List A) (last : A) → AreCut line (map v front) (v last) → position ends_word (v last) ≡ None → now ≡ front ++ last ∷ []
-    → (map v now ≡ words_of line) × (list_all is_plain line ≡ true)
+    → map v now ≡ words_of line
 cut_last {A} v line front now last are none pushed =
     let one = whole_word (v last) (no_end (v last) none) in
-    (map_push v front now last pushed ∙ sym (are.words ∙ ap (λ (ws : List (List ℕ)). map v front ++ ws) one.0), are.plain ∙ one.1)
+    map_push v front now last pushed ∙ sym (are.words ∙ ap (λ (ws : List (List ℕ)). map v front ++ ws) one.0)
+
+-- and with it the line is worded
+pub cut_worded : {A : Type 0} (v : A → List ℕ) (line : List ℕ) (front now : List A) (last : A) → AreCut line (map v front) (v last) → position ends_word (v last) ≡ None → now ≡ front ++ last ∷ []
+    → (length (v last) == 0) ≡ false → is_worded line ≡ true
+cut_worded {A} v line front now last are none pushed some =
+    let one = whole_word (v last) (no_end (v last) none) in
+    let spaced = push_spaced v front now last pushed are.spaced (positive (length (v last)) some) in
+    rw (are.plain ∙ one.1) (ap (list_all has_byte) (sym (cut_last v line front now last are none pushed)) ∙ spaced)
 
 some_word : (text : List ℕ) → 1 ≤ length (words_of text)
 some_word text = omega (arith, length-slice_split is_space text)
@@ -113,21 +159,14 @@ some_word text = omega (arith, length-slice_split is_space text)
 pub cut_some : {A : Type 0} (v : A → List ℕ) (line : List ℕ) (front : List A) (rest : List ℕ) → AreCut line (map v front) rest → length front < length (words_of line)
 cut_some {A} v line front rest are = omega (arith, ap length are.words, length-append (map v front) (words_of rest), length-map front v, some_word rest)
 
--- plain bytes are worded where no word is empty
-pub worded_as : {A : Type 0} (v : A → List ℕ) (line : List ℕ) (words slice : List A) (spaced : Bool) → list_all is_plain line ≡ true
-    → map v words ≡ words_of line → slice ≡ words → spaced ≡ list_all (λ x. nat_lt 0 (length (v x))) slice → is_worded line ≡ spaced
-worded_as {A} v line words slice spaced plain are same told =
-    let each : list_all (λ word. nat_lt 0 (length word)) (words_of line) ≡ spaced =
-    ap (λ (ws : List (List ℕ)). list_all (λ word. nat_lt 0 (length word)) ws) (sym are) ∙ list_all-map (λ word. nat_lt 0 (length word)) v words
-    ∙ ap (λ (xs : List A). list_all (λ x. nat_lt 0 (length (v x))) xs) (sym same) ∙ sym told in
-    ap (λ b. b && list_all (λ word. nat_lt 0 (length word)) (words_of line)) plain ∙ each
-
 pub unworded : (line : List ℕ) → list_all is_plain line ≡ false → is_worded line ≡ false
 unworded line broken = ap (λ b. b && list_all (λ word. nat_lt 0 (length word)) (words_of line)) broken
 
 most_words : (command : Command) → length (command_words command) + length (kinds_behind command) ≤ 4
 most_words Clock = lit≤ tt
 most_words Tick = lit≤ tt
+most_words MakeDir = lit≤ tt
+most_words RemoveDir = lit≤ tt
 most_words Create = lit≤ tt
 most_words OpenWrite = lit≤ tt
 most_words Write = lit≤ tt

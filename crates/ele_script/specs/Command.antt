@@ -2,12 +2,14 @@
 use Rattle.std.specs.Prelude.{ℕ, List, [], ◌∷◌, codes}
 use Rattle.ele_script.specs.Value.{WordKind, NumberWord, MomentWord, PathWord, BytesWord, PolicyWord}
 use Rattle.ele_script.specs.declared.command.Command.{Command}
-use Rattle.ele_script.specs.declared.command.Command.TheVariants.{Clock, Tick, Create, OpenWrite, Write, Truncate, Close, Default, Clean, Read, Due, Usage, Pass}
+use Rattle.ele_script.specs.declared.command.Command.TheVariants.{Clock, Tick, MakeDir, RemoveDir, Create, OpenWrite, Write, Truncate, Close, Default, Clean, Read, Due, Usage, Pass}
 
 -- the words that name a command
 abbrev pub command_words : Command → List (List ℕ)
 command_words Clock = codes "clock" ∷ []
 command_words Tick = codes "tick" ∷ []
+command_words MakeDir = codes "mkdir" ∷ []
+command_words RemoveDir = codes "rmdir" ∷ []
 command_words Create = codes "create" ∷ []
 command_words OpenWrite = codes "open" ∷ codes "write" ∷ []
 command_words Write = codes "write" ∷ []
@@ -24,6 +26,8 @@ command_words Pass = codes "pass" ∷ []
 abbrev pub kinds_behind : Command → List WordKind
 kinds_behind Clock = MomentWord ∷ []
 kinds_behind Tick = NumberWord ∷ []
+kinds_behind MakeDir = PathWord ∷ []
+kinds_behind RemoveDir = PathWord ∷ []
 kinds_behind Create = PathWord ∷ []
 kinds_behind OpenWrite = PathWord ∷ []
 kinds_behind Write = NumberWord ∷ NumberWord ∷ BytesWord ∷ []

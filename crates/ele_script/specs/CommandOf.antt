@@ -3,7 +3,7 @@ use Rattle.std.specs.Prelude.{ℕ, List, [], ◌∷◌, Option, Some, None, code
 use Rattle.std.specs.Option.{option_map}
 use Rattle.std.specs.Str.{bytes_eq}
 use Rattle.ele_script.specs.declared.command.Command.{Command}
-use Rattle.ele_script.specs.declared.command.Command.TheVariants.{Clock, Tick, Create, OpenWrite, Write, Truncate, Close, Default, Clean, Read, Due, Usage, Pass}
+use Rattle.ele_script.specs.declared.command.Command.TheVariants.{Clock, Tick, MakeDir, RemoveDir, Create, OpenWrite, Write, Truncate, Close, Default, Clean, Read, Due, Usage, Pass}
 
 -- the command of one word that asks a question
 unfoldable pub question_command : List ℕ → Option Command
@@ -12,6 +12,13 @@ question_command word =
     if bytes_eq word (codes "due") then Some Due else
     if bytes_eq word (codes "usage") then Some Usage else
     None
+
+-- the command of one word that makes or removes a directory, or asks a question
+unfoldable pub directory_command : List ℕ → Option Command
+directory_command word =
+    if bytes_eq word (codes "mkdir") then Some MakeDir else
+    if bytes_eq word (codes "rmdir") then Some RemoveDir else
+    question_command word
 
 -- the command of one word
 unfoldable pub one_word_command : List ℕ → Option Command
@@ -25,7 +32,7 @@ one_word_command word =
     if bytes_eq word (codes "default") then Some Default else
     if bytes_eq word (codes "clean") then Some Clean else
     if bytes_eq word (codes "pass") then Some Pass else
-    question_command word
+    directory_command word
 
 -- the command of two words whose first is `open`
 unfoldable pub open_command : List ℕ → Option Command

@@ -10,7 +10,7 @@ use Rattle.ele_world.specs.declared.refusal.Refusal.{Refusal}
 use Rattle.ele_world.specs.declared.refusal.Refusal.TheVariants as refusal
 use Rattle.ele_world.specs.declared.refusal.Stop.{Stop}
 use Rattle.ele_world.specs.declared.reply.Reply.{Reply}
-use Rattle.ele_world.specs.declared.reply.Reply.TheVariants.{Done, Nothing, Now, File, Handle, Closed, Removed, Bytes, DueList, UsageList, Refused}
+use Rattle.ele_world.specs.declared.reply.Reply.TheVariants.{Done, Nothing, Now, Directory, File, Handle, Closed, Removed, Bytes, DueList, UsageList, Refused}
 use Rattle.ele_usage.specs.declared.usage.Usage.{Usage}
 use Rattle.ele_world.specs.declared.pass.PassEnd.{PassEnd}
 use Rattle.ele_world.specs.declared.pass.PassEnd.TheVariants.{Finished, Budget, Stopped}
@@ -85,6 +85,7 @@ IsReplyText Done text = text ≡ line_text (codes "ok done" ∷ [])
 IsReplyText Nothing text = text ≡ line_text (codes "ok nothing" ∷ [])
 IsReplyText (Now moment) text =
     (stamp : List ℕ) × SpellsTimestamp stamp moment × (text ≡ line_text (codes "ok now" ∷ decimal moment ∷ stamp ∷ []))
+IsReplyText (Directory directory) text = text ≡ line_text (codes "ok directory" ∷ decimal directory ∷ [])
 IsReplyText (File file) text = text ≡ line_text (codes "ok file" ∷ decimal file ∷ [])
 IsReplyText (Handle handle) text = text ≡ line_text (codes "ok handle" ∷ decimal handle ∷ [])
 IsReplyText (Closed made) text = text ≡ closed_text made

@@ -4,7 +4,7 @@ use Rattle.ele_world.specs.declared.event.Event.{Event}
 use Rattle.ele_world.specs.declared.event.Event.TheVariants as event
 use Rattle.ele_world.specs.declared.event.Source.TheVariants.{Of}
 use Rattle.ele_script.specs.declared.command.Command.{Command}
-use Rattle.ele_script.specs.declared.command.Command.TheVariants.{Clock, Tick, Create, OpenWrite, Write, Truncate, Close, Default, Clean, Read, Due, Usage, Pass}
+use Rattle.ele_script.specs.declared.command.Command.TheVariants.{Clock, Tick, MakeDir, RemoveDir, Create, OpenWrite, Write, Truncate, Close, Default, Clean, Read, Due, Usage, Pass}
 use Rattle.ele_script.specs.declared.reading.Line.{Line}
 use Rattle.ele_script.specs.declared.reading.Line.TheVariants as asks
 use Rattle.ele_script.specs.Value.{Value, Number, Moment, Path, Bytes, Policy, SpellsValue}
@@ -15,6 +15,8 @@ use Rattle.ele_script.specs.Words.{words_of, is_worded}
 abbrev pub parts_of : Event → Command × List Value
 parts_of (event.Clock moment) = (Clock, Moment moment ∷ [])
 parts_of (event.Tick seconds) = (Tick, Number seconds ∷ [])
+parts_of (event.MakeDir path) = (MakeDir, Path path ∷ [])
+parts_of (event.RemoveDir path) = (RemoveDir, Path path ∷ [])
 parts_of (event.Create path) = (Create, Path path ∷ [])
 parts_of (event.OpenWrite path) = (OpenWrite, Path path ∷ [])
 parts_of (event.Write handle offset bytes) = (Write, Number handle ∷ Number offset ∷ Bytes bytes ∷ [])

@@ -1,13 +1,15 @@
 //! The commands of the script. A contract sees a command as itself.
 ghost use Rattle.std.specs.Prelude.{◌≡◌, map};
 ghost use Rattle.std.specs.Option.{option_map};
-ghost use Rattle.ele_script.specs.CommandOf.{command_of, one_word_command, question_command, open_command};
+ghost use Rattle.ele_script.specs.CommandOf.{command_of, one_word_command, directory_command, question_command, open_command};
 
 /// What a line tells a world to do; its first word, or its first two, name it.
 #[derive(Clone, Copy, Debug, PartialEq, Eq)]
 pub(crate) enum Command {
     Clock,
     Tick,
+    MakeDir,
+    RemoveDir,
     Create,
     OpenWrite,
     Write,
@@ -66,6 +68,20 @@ fn read_one(word: &[u8]) -> Option<Command>
     }
     if word == b"pass".as_slice() {
         return Some(Command::Pass);
+    }
+    read_directory(word)
+}
+
+/// The command of one word that makes or removes a directory, or asks a question.
+#[tactic(auto, unfolding(crate::specs::CommandOf::directory_command))]
+fn read_directory(word: &[u8]) -> Option<Command>
+    ensures { result ≡ directory_command word.now }
+{
+    if word == b"mkdir".as_slice() {
+        return Some(Command::MakeDir);
+    }
+    if word == b"rmdir".as_slice() {
+        return Some(Command::RemoveDir);
     }
     read_question(word)
 }

@@ -12,6 +12,6 @@ mod writing;
 
 pub use fault::{LineFault, WriteFault};
 pub use output::{Output, put};
-pub use putting::{put_fault, put_pass, put_reply};
+pub use putting::{put_answer, put_fault, put_pass, put_reply, put_stop};
 pub use reading::{Line, read_event, read_line};
 pub use writing::{write_fault, write_pass, write_reply};

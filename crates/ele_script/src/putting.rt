@@ -62,7 +62,8 @@ pub fn put_pass<W: Write>(
     }
 }
 
-fn put_answer<W: Write>(
+/// Puts the lines of a reply. At a fault the writer took a front of all that was put.
+pub fn put_answer<W: Write>(
     reply: &Reply,
     output: &mut Output,
     writer: &mut W,
@@ -75,6 +76,7 @@ fn put_answer<W: Write>(
         Reply::Done => put_line(b"ok done", &[], output, writer),
         Reply::Nothing => put_line(b"ok nothing", &[], output, writer),
         Reply::Now(moment) => put_now(moment.seconds(), &moment.text(), output, writer),
+        Reply::Directory(directory) => put_number(b"ok directory", directory.0, output, writer),
         Reply::File(file) => put_number(b"ok file", file.0, output, writer),
         Reply::Handle(handle) => put_number(b"ok handle", handle.0, output, writer),
         Reply::Closed(made) => put_closed(*made, output, writer),
@@ -342,7 +344,9 @@ fn put_three<'w, W: Write>(
     put_line(b"no", &[number, name, detail], output, writer)
 }
 
-fn put_stop<W: Write>(stop: Stop, output: &mut Output, writer: &mut W) -> Result<(), WriteFault>
+/// Puts the line of a stop that came in a reply's place. At a fault of the writer it took a front of
+/// all that was put.
+pub fn put_stop<W: Write>(stop: Stop, output: &mut Output, writer: &mut W) -> Result<(), WriteFault>
     ensures { Puts (outlet (W.contents writer.old) output.old)
         (outlet (W.contents writer.new) output.new) (stop_text stop) result }
 {

@@ -1,9 +1,9 @@
 //! Reading lines. A contract sees a line as its bytes, and an event as itself.
-ghost use Rattle.std.specs.Prelude.{◌≡◌, ◌<◌, ◌∷◌, [], ◌⊎◌, ℕ, map, length, nat_lt, true, false, IfOk, IfErr, IfSome, IsSome, None, Ok, Err};
-ghost use Rattle.std.specs.List.{list_all, list_any, position};
+ghost use Rattle.std.specs.Prelude.{◌≡◌, ◌<◌, ◌∷◌, [], ◌⊎◌, ℕ, map, length, true, false, IfOk, IfErr, IfSome, IsSome, None, Ok, Err};
+ghost use Rattle.std.specs.List.{list_any, position};
 ghost use Rattle.ele_script.specs.Command.{kinds_behind};
 ghost use Rattle.ele_script.specs.Memory.{takes_memory, TakesMemory};
-ghost use Rattle.ele_script.specs.Words.{words_of, is_plain, is_worded, ends_word};
+ghost use Rattle.ele_script.specs.Words.{words_of, is_worded, ends_word};
 ghost use Rattle.ele_script.specs.Spells.{Spells, SpellsLine, SpellsWords, SpellsBehind};
 ghost use Rattle.ele_script.specs.EventOf.{event_of};
 ghost use Rattle.ele_script.specs.FirstFault.{IsFirstFault, IsEventFault, IsFaultOfWords, IsFaultBehind};
@@ -90,27 +90,13 @@ fn words_in(line: &[u8]) -> Option<ArrayVec<&[u8], MOST_WORDS>>
     ensures none { result ≡ None
         → (is_worded line.now ≡ false) ⊎ (MOST_WORDS < length (words_of line.now)) }
 {
-    let words = split_words(line)?;
-    if is_spaced(words.as_slice()) {
-        Some(words)
-    } else {
-        None
-    }
-}
-
-/// The words of a line, if it is plain bytes, and no more words than a command may have. Words may
-/// be empty.
-fn split_words(line: &[u8]) -> Option<ArrayVec<&[u8], MOST_WORDS>>
-    ensures found { IfSome result
-        (λ words. map (λ word. word.now) words.items ≡ words_of line.now) }
-    ensures plain { IsSome result → list_all is_plain line.now ≡ true }
-    ensures none { result ≡ None
-        → (list_all is_plain line.now ≡ false) ⊎ (MOST_WORDS < length (words_of line.now)) }
-{
     let mut words = ArrayVec::new();
     let mut rest = line;
     'words: while let Some(at) = word_end(rest) {
         if rest[at] != b' ' {
+            return None;
+        }
+        if at == 0 {
             return None;
         }
         if words.is_full() {
@@ -119,6 +105,9 @@ fn split_words(line: &[u8]) -> Option<ArrayVec<&[u8], MOST_WORDS>>
         let (word, behind) = rest.split_at(at);
         words.push(word);
         rest = behind.split_at(1).1;
+    }
+    if rest.is_empty() {
+        return None;
     }
     if words.is_full() {
         return None;
@@ -133,13 +122,6 @@ fn word_end(text: &[u8]) -> Option<usize>
 {
     text.iter()
         .position(|byte| !(*byte > b' ' && *byte <= b'~'))
-}
-
-/// Whether no word is empty.
-fn is_spaced(words: &[&[u8]]) -> bool
-    ensures { result ≡ list_all (λ word. nat_lt 0 (length word.now)) words.now }
-{
-    words.iter().all(|word| !word.is_empty())
 }
 
 /// What words ask for.
@@ -169,6 +151,8 @@ fn line_behind(alloc: Global, command: Command, arguments: &[&[u8]]) -> Result<L
     match command {
         Command::Clock => clock(arguments),
         Command::Tick => tick(arguments),
+        Command::MakeDir => make_dir(alloc, arguments),
+        Command::RemoveDir => remove_dir(alloc, arguments),
         Command::Create => create(alloc, arguments),
         Command::OpenWrite => open_write(alloc, arguments),
         Command::Write => write(alloc, arguments),
@@ -207,6 +191,32 @@ fn tick(arguments: &[&[u8]]) -> Result<Line, LineFault>
         return Err(LineFault::Syntax);
     };
     Ok(Line::Event(Event::Tick(word::number(seconds)?)))
+}
+
+/// `mkdir P`, of which the command is read.
+fn make_dir(alloc: Global, arguments: &[&[u8]]) -> Result<Line, LineFault>
+    ensures found { IfOk result
+        (SpellsBehind Command.MakeDir (map (λ word. word.now) arguments.now)) }
+    ensures fault { IfErr result (λ fault. (fault ≡ LineFault.NoMemory)
+        ⊎ IsFaultBehind Command.MakeDir (map (λ word. word.now) arguments.now) fault) }
+{
+    let [path] = arguments else {
+        return Err(LineFault::Syntax);
+    };
+    Ok(Line::Event(Event::MakeDir(word::path(alloc, path)?)))
+}
+
+/// `rmdir P`, of which the command is read.
+fn remove_dir(alloc: Global, arguments: &[&[u8]]) -> Result<Line, LineFault>
+    ensures found { IfOk result
+        (SpellsBehind Command.RemoveDir (map (λ word. word.now) arguments.now)) }
+    ensures fault { IfErr result (λ fault. (fault ≡ LineFault.NoMemory)
+        ⊎ IsFaultBehind Command.RemoveDir (map (λ word. word.now) arguments.now) fault) }
+{
+    let [path] = arguments else {
+        return Err(LineFault::Syntax);
+    };
+    Ok(Line::Event(Event::RemoveDir(word::path(alloc, path)?)))
 }
 
 /// `create P`, of which the command is read.

@@ -19,7 +19,7 @@ use Rattle.ele_sessions.specs.Inside.{IsAt, IsGap, Writers, drafts_of, writers_o
 use Rattle.ele_lists.specs.Lists.{update_first, remove_first, insert_before}
 use Rattle.ele_sessions.specs.Sessions.{Draft, AllSessions, is_draft, is_draft_after, is_handle, is_writer, handle_file}
 use Rattle.ele_lists.proofs.Places.{find-position, find-none}
-use Rattle.ele_lists.proofs.ShownAt.{passes-shown, find-shown, set-shown, find_set-shown, remove-shown, any-shown, any-missing, find-missing, insert-shown, remove-place}
+use Rattle.ele_lists.proofs.ShownAt.{passes-shown, find-shown, set-shown, remove-shown, any-shown, any-missing, find-missing, insert-shown, remove-place}
 
 -- what holds anyway, said of an error
 pub on_err : {T E : Type 0} (r : Result T E) (P : Type 0) → P → OnErr r P
@@ -88,13 +88,9 @@ module _ (es : List Entry) (file i : ℕ) where
     writers_set f y made = set-shown writers_in (is_of file) es i at f e y is made
 
     -- another map for the draft
-    pub rewrites : (Made : Draft → Layout → Type 0) (y : Entry) → y.file ≡ e.file → draft_in y ≡ rewritten_by y.draft.value.map (draft_in e) → Made (draft_in e) y.draft.value.map → RewritesDraft (drafts_of es) (drafts_of (set es i y)) file Made
-    rewrites Made y file_is draft_is made =
-        let same : y.file ≡ file = file_is ∙ its_file in
-        let passes : eqb (file_in y) file ≡ true = grind (arith, nat_tests) in
-        let now = find_set-shown draft_in (is_draft file) es i at y passes in
-        let after = set-shown draft_in (is_draft file) es i at (rewritten_by y.draft.value.map) e y is draft_is in
-        rw (found_draft, now) (after, made)
+    pub rewrites : (Made : Draft → Layout → Type 0) (y : Entry) → draft_in y ≡ rewritten_by y.draft.value.map (draft_in e) → Made (draft_in e) y.draft.value.map → RewritesDraft (drafts_of es) (drafts_of (set es i y)) file Made
+    rewrites Made y draft_is made =
+        record { was = draft_in e; layout = y.draft.value.map; found = found_draft; made = set-shown draft_in (is_draft file) es i at (rewritten_by y.draft.value.map) e y is draft_is; how = made }
 
     pub length_found : (size : ℕ) → has_length size (find (is_draft file) (drafts_of es)) ≡ eqb e.draft.value.map.size size
     length_found size = rw found_draft refl

@@ -33,8 +33,12 @@ abbrev pub rewritten_by : Layout → Draft → Draft
 rewritten_by layout draft = record draft { layout = layout; changed = true }
 
 -- the file's draft has another map, which is made like that, and the other drafts are as they were
-abbrev pub RewritesDraft : List Draft → List Draft → ℕ → (Draft → Layout → Type 0) → Type 0
-RewritesDraft old new file Made = IsSomeAnd (find (is_draft file) old) (λ was. IsSomeAnd (find (is_draft file) new) (λ now. (new ≡ update_first (is_draft file) (rewritten_by now.layout) old) × Made was now.layout))
+pub record RewritesDraft (old new : List Draft) (file : ℕ) (Made : Draft → Layout → Type 0) : Type 0 where
+  pub was : Draft
+  pub layout : Layout
+  pub found : find (is_draft file) old ≡ Some was
+  pub made : new ≡ update_first (is_draft file) (rewritten_by layout) old
+  pub how : Made was layout
 
 -- so has the draft under the handle, and handles are as they were
 abbrev pub Rewrites : AllSessions → AllSessions → ℕ → (Draft → Layout → Type 0) → Type 0

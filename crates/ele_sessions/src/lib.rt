@@ -13,6 +13,7 @@ mod reads;
 mod sessions;
 
 pub use closing::Closing;
+pub use entries::OpenHandle;
 pub use fault::SessionFault;
 pub use reads::Reads;
 pub use sessions::Sessions;

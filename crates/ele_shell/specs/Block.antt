@@ -13,8 +13,8 @@ use Rattle.ele_script.specs.Printed.{IsAnswerText, bad_text, pass_text}
 use Rattle.ele_script.specs.Spells.{Spells, SpellsLine}
 use Rattle.ele_script.specs.Words.{words_of}
 use Rattle.ele_script.specs.declared.reading.Line.TheVariants as asks
-use Rattle.ele_shell.specs.declared.answer.Answer.{Answer}
-use Rattle.ele_shell.specs.declared.answer.Answer.TheVariants as answer
+use Rattle.ele_shell.specs.Answer.{Answer}
+use Rattle.ele_shell.specs.Answer as answer
 use Rattle.ele_shell.specs.Pass.{MayPass}
 use Rattle.ele_shell.specs.RunState.{RunState}
 

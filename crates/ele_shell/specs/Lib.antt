@@ -1,3 +1,4 @@
+pub mod Answer
 pub mod Block
 pub mod Bounds
 pub mod Clean

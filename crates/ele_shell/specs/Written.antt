@@ -1,14 +1,28 @@
 -- What was put for a line.
 use Rattle.std.specs.Prelude.{◌≡◌, ℕ, ◌+◌, List, ◌++◌, Option, Result, Ok, Err}
 use Rattle.std.specs.Io.KnownBytes.{Appends}
+use Rattle.ele_world.specs.declared.event.Event.{Event}
+use Rattle.ele_world.specs.declared.refusal.Stop.{Stop}
+use Rattle.ele_world.specs.declared.reply.Reply.{Reply}
 use Rattle.ele_script.specs.Front.{AppendsFront}
 use Rattle.ele_script.specs.Outlet.{Outlet, Puts}
-use Rattle.ele_shell.specs.declared.answer.Answer.{Answer}
-use Rattle.ele_shell.specs.Block.{IsBlock, IsText, cut_block, cut_count}
+use Rattle.ele_script.specs.Printed.{IsAnswerText}
+use Rattle.ele_shell.specs.Answer.{Answer}
+use Rattle.ele_shell.specs.Block.{MayReply, MayAnswer, IsBlock, IsText, cut_block, cut_count}
 use Rattle.ele_shell.specs.RunState.{RunState}
 
--- the answer's text was put, or at an error a front of all that was to be written was taken
-pub record PutsText {A E : Type 0} (said : Answer) (old new : Outlet) (result : Result A E) : Type 0 where
+-- the text of the event's reply was put, or at an error a front of all that was to be written was taken
+pub record PutsReply {A E : Type 0} (before : RunState) (event : Event) (after : RunState) (old new : Outlet) (result : Result A E) : Type 0 where
+  pub said : Result Reply Stop
+  pub may : MayReply before event said after
+  pub text : List ℕ
+  pub is : IsAnswerText said text
+  pub put : Puts old new text result
+
+-- the text of the line's answer was put, or at an error a front of all that was to be written was taken
+pub record PutsAnswer {A E : Type 0} (before : RunState) (line : List ℕ) (after : RunState) (old new : Outlet) (result : Result A E) : Type 0 where
+  pub said : Answer
+  pub may : MayAnswer before line said after
   pub text : List ℕ
   pub is : IsText said text
   pub put : Puts old new text result

@@ -1,17 +1,20 @@
 //! The keeper of a run: the core, and how many replies it gave.
 //! A contract sees the world, the count of replies and its limit.
-ghost use Rattle.std.specs.Prelude.{◌≡◌, IfOk};
+ghost use Rattle.std.specs.Prelude.{◌≡◌, ◌<◌, ◌↔◌, IfOk, IsTrue, IsFalse};
+ghost use Rattle.ele_script.specs.Outlet.{outlet};
 ghost use Rattle.ele_shell.specs.RunState.{fresh};
-ghost use Rattle.ele_shell.specs.Block.{MayReply, MayAnswer};
+ghost use Rattle.ele_shell.specs.Written.{PutsReply, PutsAnswer};
 ghost use Rattle.ele_shell.specs.Clean.{is_removed, MayClean};
 ghost use Rattle.ele_shell.specs.Pass.{MayPass};
 
-use crate::answer::Answer;
 use ele_core::Core;
 use ele_moment::NoMemory;
-use ele_script::{Line, LineFault, read_line};
+use ele_script::{
+    Line, LineFault, Output, WriteFault, put_answer, put_fault, put_pass, put_stop, read_line,
+};
 use ele_world::{Event, Limits, PassEnd, Reply, Stop};
 use std::alloc::Global;
+use std::io::Write;
 use std::marker::Model;
 
 /// The core, and how many replies it gave of those that it may ever give.
@@ -49,32 +52,58 @@ impl Keeper {
         })
     }
 
-    /// The answer to a line that is neither empty nor too long.
-    pub(crate) fn answer(&mut self, line: &[u8]) -> Answer
-        ensures { MayAnswer self.old line.now result self.new }
+    /// Answers a line that is neither empty nor too long, and puts the answer behind the others. At a fault the writer took
+    /// a front of all.
+    pub(crate) fn put_answer<W: Write>(
+        &mut self,
+        line: &[u8],
+        output: &mut Output,
+        writer: &mut W,
+    ) -> Result<(), WriteFault>
+        ensures { PutsAnswer self.old line.now self.new
+            (outlet (W.contents writer.old) output.old)
+            (outlet (W.contents writer.new) output.new) result }
     {
         match read_line(self.alloc, line) {
-            Ok(Line::Event(event)) => Answer::Reply(self.reply_to(&event)),
-            Ok(Line::Pass(budget)) => Answer::Pass(self.pass(budget)),
+            Ok(Line::Event(event)) => self.put_reply(&event, output, writer),
+            Ok(Line::Pass(budget)) => put_pass(&self.pass(budget), output, writer),
             Err(fault) => match fault {
-                LineFault::NoMemory => Answer::Reply(Err(Stop::NoMemory)),
-                _ => Answer::Bad(fault),
+                LineFault::NoMemory => put_stop(Stop::NoMemory, output, writer),
+                _ => put_fault(fault, output, writer),
             },
         }
     }
 
-    /// The reply to an event. A stop leaves the world and the count.
-    fn reply_to(&mut self, event: &Event) -> Result<Reply, Stop>
-        ensures { MayReply self.old event.now result self.new }
+    /// Puts the reply to an event, or the stop in its place, which leaves the world and the count. The reply isn't moved,
+    /// since it has room for the largest.
+    fn put_reply<W: Write>(
+        &mut self,
+        event: &Event,
+        output: &mut Output,
+        writer: &mut W,
+    ) -> Result<(), WriteFault>
+        ensures { PutsReply self.old event.now self.new
+            (outlet (W.contents writer.old) output.old)
+            (outlet (W.contents writer.new) output.new) result }
     {
-        if self.replies == self.most {
-            return Err(Stop::HistoryFull);
+        if self.is_full() {
+            return put_stop(Stop::HistoryFull, output, writer);
         }
-        let Ok(reply) = self.core.apply(event) else {
-            return Err(Stop::NoMemory);
-        };
-        self.replies += 1;
-        Ok(reply)
+        match &self.core.apply(event) {
+            Ok(reply) => {
+                self.replies += 1;
+                put_answer(reply, output, writer)
+            }
+            Err(_) => put_stop(Stop::NoMemory, output, writer),
+        }
+    }
+
+    /// Whether as many replies were given as may be.
+    fn is_full(&self) -> bool
+        ensures full { IsTrue result ↔ (self.now.replies ≡ self.now.most) }
+        ensures room { IsFalse result → self.now.replies < self.now.most }
+    {
+        self.replies == self.most
     }
 
     /// Cleans until nothing is due, or so many versions are removed. A stop ends it, and what was
@@ -96,8 +125,16 @@ impl Keeper {
     fn clean(&mut self) -> Result<bool, Stop>
         ensures { MayClean self.old result self.new }
     {
-        let reply = self.reply_to(&Event::CleanOne)?;
-        Ok(is_removed(&reply))
+        if self.is_full() {
+            return Err(Stop::HistoryFull);
+        }
+        match &self.core.apply(&Event::CleanOne) {
+            Ok(reply) => {
+                self.replies += 1;
+                Ok(is_removed(reply))
+            }
+            Err(_) => Err(Stop::NoMemory),
+        }
     }
 }
 

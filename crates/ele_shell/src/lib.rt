@@ -2,7 +2,6 @@
 //! A contract sees the bytes that the reader gives and those that the writer takes, where these are known.
 #![tactic(auto)]
 
-mod answer;
 mod fault;
 mod keeper;
 mod line_buffer;

@@ -9,7 +9,6 @@ ghost use Rattle.ele_shell.specs.LineLength.{line_unless_long};
 ghost use Rattle.ele_shell.specs.Piece.{AnswersPiece};
 ghost use Rattle.ele_shell.specs.Written.{PutsBlock, Finishes};
 
-use crate::answer::put_answer;
 use crate::keeper::Keeper;
 use crate::line_buffer::{LineBuffer, kept_line};
 use ele_script::{LineFault, Output, WriteFault, put_fault};
@@ -30,7 +29,7 @@ fn put_block<W: Write>(
     match line {
         None => put_fault(LineFault::LineTooLong, output, writer),
         Some([]) => Ok(()),
-        Some(line) => put_answer(&keeper.answer(line), output, writer),
+        Some(line) => keeper.put_answer(line, output, writer),
     }
 }
 

@@ -1,6 +1,6 @@
 -- The changes of each event may be made, each in its turn.
 use Rattle.std.proofs.Common.{◌≡◌, ℕ, ◌<◌, true, List, [], ◌∷◌, Option, Some, None, refl, subst, arith}
-use Rattle.std.specs.Prelude.{find}
+use Rattle.std.specs.Prelude.{find, is_some, nat_le, Ok, false}
 use Rattle.std.specs.List.{list_any, AllByRecursion}
 use Rattle.std.specs.Option.{option_map_or}
 use Rattle.std.proofs.lemmas.Bool.Decides.{nat_tests}
@@ -9,19 +9,22 @@ use Rattle.ele_lists.proofs.Edits.{all-found, found_passes, length-remove_first,
 use Rattle.ele_policy.specs.declared.policy.Policy.TheVariants.{Safe}
 use Rattle.ele_lists.specs.Lists.{insert_before}
 use Rattle.ele_world.specs.Change.{new_draft, EndDraft, ShutHandle, after_changes}
+use Rattle.ele_world.specs.NameRows.{is_live_in}
 use Rattle.ele_world.specs.Scan.{first_due}
 use Rattle.ele_world.specs.Step.{plan}
+use Rattle.ele_world.specs.Walk.{live_target, directory_now, parent_now}
 use Rattle.ele_policy.specs.Policy.{IsPolicy}
 use Rattle.ele_world.specs.WellFormed.{AreWrittenBy, IsDraft, Counted, Directories, Names, Versions, Drafts, IsWellFormed}
 use Rattle.ele_world.specs.World.{World, is_directory, default_of, next_of, is_draft, is_draft_after}
 use Rattle.ele_world.specs.declared.event.Event.{Event}
-use Rattle.ele_world.specs.declared.event.Event.TheVariants.{Clock, Tick, Create, OpenWrite, Write, Truncate, Close, SetDefault, CleanOne, Read, Due, UsageAll}
+use Rattle.ele_world.specs.declared.event.Event.TheVariants.{Clock, Tick, MakeDir, RemoveDir, Create, OpenWrite, Write, Truncate, Close, SetDefault, CleanOne, Read, Due, UsageAll}
 use Rattle.ele_world.specs.declared.event.Source.TheVariants.{Of}
 use Rattle.ele_world.specs.declared.rows.DirectoryRow.{DirectoryRow}
 use Rattle.ele_world.specs.declared.rows.DraftRow.{DraftRow}
 use Rattle.ele_world.proofs.DueRows.{first_is_due, due_has_ended}
-use Rattle.ele_world.proofs.May.{MayAppend, MayTake, MayPlan}
-use Rattle.ele_world.proofs.Walks.{file_there}
+use Rattle.ele_world.proofs.Homes.{parent_home}
+use Rattle.ele_world.proofs.May.{MayName, MayEnd, MayAppend, MayTake, MayPlan}
+use Rattle.ele_world.proofs.Walks.{file_there, last_leads}
 
 -- ---- what the checks found
 
@@ -53,13 +56,29 @@ finishes w handle file draft k found =
       written = subst (λ f. AreWrittenBy (next_of w.files f) draft.cells) own is.written;
     }
 
+-- a path's last name isn't live, and may be made
+may_name : (w : World) (path : List (List ℕ)) (at : ℕ × List ℕ) → IsWellFormed w → parent_now w.names path ≡ Ok at → is_some (live_target w.names at.0 at.1) ≡ false → nat_le w.limits.names w.made.names ≡ false → MayName w at.0 at.1
+may_name w path at k found free names =
+    let home = parent_home w path at k found in
+    record { room = grind (arith, nat_tests); free = free; home = home.0; reached = home.1 }
+
+-- the directory that the path leads to has no live name in it
+may_end : (w : World) (path : List (List ℕ)) (at : ℕ × List ℕ) (directory : ℕ) → parent_now w.names path ≡ Ok at → directory_now w.names path ≡ Ok directory → list_any (is_live_in directory) w.names ≡ false → MayEnd w at.0 at.1
+may_end w path at directory found leads empty = λ id ends.
+    let is = last_leads w.names path at directory found leads in
+    let same : directory ≡ id = cc in
+    subst (λ d. list_any (is_live_in d) w.names ≡ false) same empty
+
 -- ---- each event
 
 pub allowed : (w : World) (event : Event) → IsWellFormed w → MayPlan event w (plan w event)
 allowed w (Clock to) k = λ later. ((grind (arith, nat_tests), λ is. is), tt)
 allowed w (Tick seconds) k = λ fits. ((omega arith, λ is. grind (arith, nat_tests)), tt)
+allowed w (MakeDir path) k = λ at found free directories names.
+    (record { next = refl; directories = grind (arith, nat_tests); named = may_name w path at k found free names; valid = default_is w.directories at.0 (k.holds Directories).policies }, tt)
+allowed w (RemoveDir path) k = λ at found directory leads empty. (may_end w path at directory found leads empty, tt)
 allowed w (Create path) k = λ at found free files names versions.
-    (record { next = refl; files = grind (arith, nat_tests); names = grind (arith, nat_tests); room = grind (arith, nat_tests); free = free; valid = default_is w.directories at.0 (k.holds Directories).policies }, tt)
+    (record { next = refl; files = grind (arith, nat_tests); named = may_name w path at k found free names; room = grind (arith, nat_tests); valid = default_is w.directories at.0 (k.holds Directories).policies }, tt)
 allowed w (OpenWrite path) k = λ file found handles. (
   λ has. (record { next = refl; room = grind (arith, nat_tests); drafted = has }, tt),
   λ none versions. (

@@ -49,6 +49,16 @@ created w directory name id policy = record w {
   made = record w.made { files = id; names = w.made.names + 1; versions = w.made.versions + 1 };
 }
 
+-- a file with a new name is live
+pub named_live : (w : World) (directory : ℕ) (name : List ℕ) (id : ℕ) → is_live (with_name w directory name (File id)) id ≡ true
+named_live w directory name id = list_any-append (is_live_name_of id) w.names (new_name w directory name id ∷ []) ∙ by (list_any (is_live_name_of id) w.names) where
+  own : is_live_name_of id (new_name w directory name id) ≡ true
+  own = grind (arith, nat_tests)
+
+  by : (b : Bool) → (b || (is_live_name_of id (new_name w directory name id) || false)) ≡ true
+  by true = refl
+  by false = rw own refl
+
 -- each version is of a file before
 pub versions_before : (w : World) → IsWellFormed w → AllByRecursion (λ row. row.file < w.made.files + 1) w.versions
 versions_before w k = all-weaker (IsVersion w.files w.now) (λ row. row.file < w.made.files + 1) w.versions
@@ -59,7 +69,7 @@ module _ (w : World) (directory : ℕ) (name : List ℕ) (policy : Policy) (k : 
   id = w.made.files + 1
 
   abbrev begun : World
-  begun = with_name (with_file w id policy) directory name id
+  begun = with_name (with_file w id policy) directory name (File id)
 
   next_is : next_of begun.files id ≡ 1
   next_is = next_of-new w.made.files w.made.versions w.files (record { id = id; policy = policy; next = 1 }) (k.holds Files).each (omega arith)
@@ -72,17 +82,8 @@ module _ (w : World) (directory : ℕ) (name : List ℕ) (policy : Policy) (k : 
   before : AllByRecursion (λ row. row.file < id) w.versions
   before = versions_before w k
 
-  live : is_live begun id ≡ true
-  live = list_any-append (is_live_name_of id) w.names (new_name w directory name id ∷ []) ∙ by (list_any (is_live_name_of id) w.names) where
-    own : is_live_name_of id (new_name w directory name id) ≡ true
-    own = grind (arith, nat_tests)
-
-    by : (b : Bool) → (b || (is_live_name_of id (new_name w directory name id) || false)) ≡ true
-    by true = refl
-    by false = rw own refl
-
   version_is : next_version begun id w.now [] ≡ first_version w id
-  version_is = rw (next_is, live) refl
+  version_is = rw (next_is, named_live (with_file w id policy) directory name id) refl
 
   versions_are : insert_before (is_version_after id (next_of begun.files id)) (next_version begun id w.now []) (with_end begun id) ≡ w.versions ++ first_version w id ∷ []
   versions_are =

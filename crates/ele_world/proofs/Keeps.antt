@@ -1,7 +1,7 @@
 -- Each change that may be made keeps a world well formed, and so do all changes of a plan.
 use Rattle.std.proofs.Common.{◌≡◌, ℕ, true, false, List, [], ◌∷◌, Some, None, Ok, Err, refl, is_none}
 use Rattle.std.specs.Prelude.{find}
-use Rattle.ele_world.specs.Change.{Change, Time, Govern, MakeFile, Append, Take, StartDraft, WriteDraft, TruncateDraft, EndDraft, OpenHandle, ShutHandle, after_change, after_changes}
+use Rattle.ele_world.specs.Change.{Change, Time, Govern, MakeDirectory, EndName, MakeFile, Append, Take, StartDraft, WriteDraft, TruncateDraft, EndDraft, OpenHandle, ShutHandle, after_change, after_changes}
 use Rattle.ele_world.specs.Plan.{Plan, Tell, Make, Unless, When, Need, IfFound, outcome}
 use Rattle.ele_world.specs.Run.{IsEvent}
 use Rattle.ele_world.specs.WellFormed.{IsWellFormed}
@@ -9,6 +9,7 @@ use Rattle.ele_world.specs.World.{World, is_version}
 use Rattle.ele_world.specs.declared.event.Event.{Event}
 use Rattle.ele_world.specs.declared.rows.VersionRow.{VersionRow}
 use Rattle.ele_world.proofs.KeptDrafts.{start_keeps, write_keeps, truncate_keeps, end_keeps, open_keeps, shut_keeps}
+use Rattle.ele_world.proofs.KeptDirectories.{make_directory_keeps, end_name_keeps}
 use Rattle.ele_world.proofs.KeptNames.{time_keeps, govern_keeps, make_keeps}
 use Rattle.ele_world.proofs.KeptVersions.{append_keeps, take_keeps}
 use Rattle.ele_world.proofs.May.{MayTake, May, MayAll, MayPlan}
@@ -22,6 +23,8 @@ taken_ended event first w file number may row found =
 pub change_keeps : (event : Event) (first w : World) (change : Change) → IsEvent event → May event first w change → IsWellFormed w → IsWellFormed (after_change w change)
 change_keeps event first w (Time to) is may k = time_keeps w to (may.1 is) may.0 k
 change_keeps event first w (Govern directory policy) is may k = govern_keeps w directory policy (may is) k
+change_keeps event first w (MakeDirectory directory name id policy) is may k = make_directory_keeps w directory name id policy may k
+change_keeps event first w (EndName directory name) is may k = end_name_keeps w directory name may k
 change_keeps event first w (MakeFile directory name id policy) is may k = make_keeps w directory name id policy may k
 change_keeps event first w (Append file opened cells) is may k = append_keeps w file opened cells may k
 change_keeps event first w (Take file number) is may k = take_keeps w file number (taken_ended event first w file number may) k

@@ -1,5 +1,5 @@
 -- The clock, the policies of directories and the making of a file keep a world well formed.
-use Rattle.std.proofs.Common.{◌≡◌, ℕ, ◌+◌, ◌<◌, ◌≤◌, Bool, true, false, ◌&&◌, ◌||◌, List, [], ◌∷◌, ◌++◌, length-append, Option, Some, None, IfSome, refl, ap, sym, subst, ◌∙◌, arith, eqb}
+use Rattle.std.proofs.Common.{◌≡◌, ℕ, ◌+◌, ◌<◌, ◌≤◌, Bool, true, false, ◌==◌, ◌&&◌, ◌||◌, List, [], ◌∷◌, ◌++◌, length-append, Option, Some, None, IfSome, refl, ap, sym, subst, ◌∙◌, arith, eqb}
 use Rattle.std.specs.Prelude.{find, is_some, is_none}
 use Rattle.std.specs.List.{AllByRecursion, list_any}
 use Rattle.std.specs.Option.{option_map}
@@ -9,20 +9,25 @@ use Rattle.std.proofs.lemmas.Bool.Decides.{nat_tests}
 use Rattle.std.proofs.lemmas.List.Folds.{list_any-append}
 use Rattle.std.proofs.lemmas.Slice.Eq.{bytes_eq-Decides}
 use Rattle.ele_moment.specs.Last.{last_moment}
-use Rattle.ele_lists.proofs.Edits.{all-push, all-weaker, all-both, all-update_first, later-push, later-update_first, all-not_found, list_any-update_first}
+use Rattle.ele_lists.specs.Lists.{update_first}
+use Rattle.ele_lists.proofs.Edits.{all-push, all-weaker, all-both, all-update_first, later-push, later-update_first, all-not_found, length-update_first, list_any-update_first}
 use Rattle.ele_policy.specs.declared.policy.Policy.{Policy}
 use Rattle.ele_world.specs.Change.{governed_by, after_change, Time, Govern, MakeFile}
+use Rattle.ele_world.specs.NameRows.{is_name_of_directory}
 use Rattle.ele_world.specs.Walk.{live_target, is_live_name}
 use Rattle.ele_policy.specs.Policy.{IsPolicy}
-use Rattle.ele_world.specs.WellFormed.{IsFile, IsNameRow, AreApart, IsVersion, ArePlaced, IsDraft, is_current, HaveCurrent, Part, Now, Counted, Directories, Files, Names, Versions, Drafts, Current, Holds, IsWellFormed}
+use Rattle.ele_world.specs.WellFormed.{has_directory, IsDirectoryThere, IsHoused, IsFile, IsNameRow, AreApart, IsVersion, ArePlaced, IsDraft, is_current, HaveCurrent, Part, Now, Counted, Directories, Files, Names, Homes, Versions, Drafts, Current, Holds, IsWellFormed}
 use Rattle.ele_world.specs.World.{World, root, is_directory, next_of, is_live, is_live_name_of, is_target_file}
+use Rattle.ele_world.specs.declared.rows.DirectoryRow.{DirectoryRow}
 use Rattle.ele_world.specs.declared.rows.DraftRow.{DraftRow}
 use Rattle.ele_world.specs.declared.rows.FileRow.{FileRow}
 use Rattle.ele_world.specs.declared.rows.NameRow.{NameRow}
-use Rattle.ele_world.specs.declared.rows.Target.TheVariants.{File}
+use Rattle.ele_world.specs.declared.rows.Target.{Target}
+use Rattle.ele_world.specs.declared.rows.Target.TheVariants.{File, Directory}
 use Rattle.ele_world.specs.declared.rows.VersionRow.{VersionRow}
 use Rattle.ele_world.proofs.Created.{new_file, new_name, first_version, created, made_is}
 use Rattle.ele_world.proofs.Files.{next_of-push, next_of-push_other, next_of-given, next_of-new, there-push}
+use Rattle.ele_world.proofs.Homes.{named_housed, any_more}
 use Rattle.ele_world.proofs.May.{MayMake}
 use Rattle.ele_world.proofs.Writers.{written_more}
 
@@ -60,7 +65,23 @@ govern_keeps w directory policy is k = record { holds = by } where
     rooted = list_any-update_first (is_directory directory) (is_directory root) (governed_by policy) w.directories (λ row e. refl) ∙ (k.holds Directories).rooted;
     policies = all-update_first (is_directory directory) (λ row. IsPolicy row.default) (λ row. IsPolicy row.default) (governed_by policy) w.directories (λ row h. is) (λ row h. h) (k.holds Directories).policies;
     placed = later-update_first (is_directory directory) (λ earlier later. earlier.id < later.id) (governed_by policy) w.directories (λ x y h. h) (λ x y h. h) (k.holds Directories).placed;
+    given = all-update_first (is_directory directory) (λ row. row.id ≤ w.made.directories) (λ row. row.id ≤ w.made.directories) (governed_by policy) w.directories (λ row h. h) (λ row h. h) (k.holds Directories).given;
+    counted = omega (arith, (k.holds Directories).counted, length-update_first (is_directory directory) (governed_by policy) w.directories);
+    few = (k.holds Directories).few;
   }
+  by Homes = record {
+    each = all-weaker (IsHoused w.directories w.names) (IsHoused governed w.names) w.names (λ row h. record { home = still row.directory h.home; there = there row.target h.there; reached = h.reached }) (k.holds Homes).each;
+    named = all-update_first (is_directory directory) (λ row. ((row.id == root) || list_any (is_name_of_directory row.id) w.names) ≡ true) (λ row. ((row.id == root) || list_any (is_name_of_directory row.id) w.names) ≡ true) (governed_by policy) w.directories (λ row h. h) (λ row h. h) (k.holds Homes).named;
+  } where
+    governed : List DirectoryRow
+    governed = update_first (is_directory directory) (governed_by policy) w.directories
+
+    still : (id : ℕ) → has_directory w.directories id ≡ true → has_directory governed id ≡ true
+    still id h = list_any-update_first (is_directory directory) (is_directory id) (governed_by policy) w.directories (λ row e. refl) ∙ h
+
+    there : (target : Target) → IsDirectoryThere w.directories target → IsDirectoryThere governed target
+    there (File file) h = tt
+    there (Directory id) h = still id h
   by part = k.holds part
 
 -- ---- a file is made
@@ -137,7 +158,7 @@ module _ (w : World) (directory : ℕ) (name : List ℕ) (policy : Policy) where
     by : (part : Part) → Holds (created w directory name id policy) part
     by Counted = let c = k.holds Counted in record {
       files_made = omega (arith, may.files);
-      names_made = omega (arith, may.names);
+      names_made = omega (arith, may.named.room);
       versions_made = omega (arith, may.room);
       handles_made = c.handles_made;
       file_rows = simp length-append (omega (arith, c.file_rows));
@@ -154,8 +175,16 @@ module _ (w : World) (directory : ℕ) (name : List ℕ) (policy : Policy) where
       each = all-push (IsNameRow files w.now) w.names named
           (all-weaker (IsNameRow w.files w.now) (IsNameRow files w.now) w.names (λ row h. record { there = there-push w.files new row.target h.there; born = h.born; dead = h.dead }) (k.holds Names).each)
           (record { there = omega (arith, new_next); born = omega arith; dead = tt });
-      lives = later-push AreApart w.names named (k.holds Names).lives (apart_from_new w directory name named k may.free refl refl refl);
+      lives = later-push AreApart w.names named (k.holds Names).lives (apart_from_new w directory name named k may.named.free refl refl refl);
     }
+    by Homes = record {
+      each = named_housed w.directories w.directories w.names named (λ d h. h) may.named.home may.named.reached tt (k.holds Homes).each;
+      named = all-weaker (λ row. ((row.id == root) || list_any (is_name_of_directory row.id) w.names) ≡ true) (λ row. ((row.id == root) || list_any (is_name_of_directory row.id) (w.names ++ named ∷ [])) ≡ true) w.directories
+          (λ row h. still (row.id == root) row.id h) (k.holds Homes).named;
+    } where
+      still : (b : Bool) (d : ℕ) → (b || list_any (is_name_of_directory d) w.names) ≡ true → (b || list_any (is_name_of_directory d) (w.names ++ named ∷ [])) ≡ true
+      still true d h = refl
+      still false d h = any_more (is_name_of_directory d) w.names named h
     by Versions = record {
       each = all-push (IsVersion files w.now) w.versions (first_version w id)
           (all-weaker (IsVersion w.files w.now) (IsVersion files w.now) w.versions (version_push w.files new w.now) (k.holds Versions).each)

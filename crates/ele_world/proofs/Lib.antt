@@ -7,8 +7,12 @@ pub mod Created
 pub mod Opened
 pub mod Outcomes
 pub mod Leads
+pub mod DirectoryLeads
+pub mod NameEnds
 pub mod Closes
+pub mod Homes
 pub mod KeptNames
+pub mod KeptDirectories
 pub mod KeptDrafts
 pub mod KeptVersions
 pub mod Keeps

@@ -5,27 +5,45 @@ use Rattle.ele_content.specs.declared.cell.Cell.{Cell}
 use Rattle.ele_content.specs.Content.{longest_content}
 use Rattle.ele_moment.specs.Last.{last_moment}
 use Rattle.ele_policy.specs.declared.policy.Policy.{Policy}
-use Rattle.ele_world.specs.Change.{Change, Time, Govern, MakeFile, Append, Take, StartDraft, WriteDraft, TruncateDraft, EndDraft, OpenHandle, ShutHandle, after_change}
+use Rattle.ele_world.specs.Change.{Change, Time, Govern, MakeDirectory, EndName, MakeFile, Append, Take, StartDraft, WriteDraft, TruncateDraft, EndDraft, OpenHandle, ShutHandle, after_change}
 use Rattle.ele_world.specs.Due.{is_due_at}
+use Rattle.ele_world.specs.NameRows.{is_live_in}
 use Rattle.ele_world.specs.Plan.{Plan, Tell, Make, Unless, When, Need, IfFound}
 use Rattle.ele_world.specs.Run.{IsEvent}
 use Rattle.ele_world.specs.Walk.{live_target}
 use Rattle.ele_policy.specs.Policy.{IsPolicy}
-use Rattle.ele_world.specs.WellFormed.{IsContent, AreWrittenBy}
+use Rattle.ele_world.specs.WellFormed.{has_directory, is_reached, IsContent, AreWrittenBy}
 use Rattle.ele_world.specs.World.{World, next_of, is_version, is_draft, has_draft, is_writer}
 use Rattle.ele_world.specs.declared.event.Event.{Event}
 use Rattle.ele_world.specs.declared.event.Event.TheVariants.{CleanOne}
+use Rattle.ele_world.specs.declared.rows.Target.TheVariants.{Directory}
 use Rattle.ele_world.specs.declared.rows.VersionRow.{VersionRow}
 
 abbrev pub HasRoom : World → Type 0
 HasRoom w = w.made.versions + length w.drafts < w.limits.versions
 
+-- a new name, in a directory that is there
+pub record MayName (w : World) (directory : ℕ) (name : List ℕ) : Type 0 where
+  pub room : w.made.names < w.limits.names
+  pub free : is_some (live_target w.names directory name) ≡ false
+  pub home : has_directory w.directories directory ≡ true
+  pub reached : is_reached w.names directory ≡ true
+
+pub record MayMakeDirectory (w : World) (directory : ℕ) (name : List ℕ) (id : ℕ) (policy : Policy) : Type 0 where
+  pub next : id ≡ w.made.directories + 1
+  pub directories : w.made.directories < w.limits.directories
+  pub named : MayName w directory name
+  pub valid : IsPolicy policy
+
+-- a directory whose name dies has no live name in it
+abbrev pub MayEnd : World → ℕ → List ℕ → Type 0
+MayEnd w directory name = (id : ℕ) → live_target w.names directory name ≡ Some (Directory id) → list_any (is_live_in id) w.names ≡ false
+
 pub record MayMake (w : World) (directory : ℕ) (name : List ℕ) (id : ℕ) (policy : Policy) : Type 0 where
   pub next : id ≡ w.made.files + 1
   pub files : w.made.files < w.limits.files
-  pub names : w.made.names < w.limits.names
+  pub named : MayName w directory name
   pub room : HasRoom w
-  pub free : is_some (live_target w.names directory name) ≡ false
   pub valid : IsPolicy policy
 
 pub record MayAppend (w : World) (file opened : ℕ) (cells : List Cell) : Type 0 where
@@ -58,6 +76,8 @@ pub record MayOpen (w : World) (number file : ℕ) : Type 0 where
 abbrev pub May : Event → World → World → Change → Type 0
 May event first w (Time to) = (w.now ≤ to) × (IsEvent event → to ≤ last_moment)
 May event first w (Govern directory policy) = IsEvent event → IsPolicy policy
+May event first w (MakeDirectory directory name id policy) = MayMakeDirectory w directory name id policy
+May event first w (EndName directory name) = MayEnd w directory name
 May event first w (MakeFile directory name id policy) = MayMake w directory name id policy
 May event first w (Append file opened cells) = MayAppend w file opened cells
 May event first w (Take file number) = MayTake event first w file number

@@ -11,6 +11,7 @@ use Rattle.ele_world.specs.WellFormed.{AllLater, ArePlaced}
 use Rattle.ele_world.specs.World.{World, next_of, is_version, is_version_after}
 use Rattle.ele_world.specs.declared.event.Event.{Event}
 use Rattle.ele_world.specs.declared.rows.FileRow.{FileRow}
+use Rattle.ele_world.specs.declared.rows.Target.TheVariants.{File}
 use Rattle.ele_world.specs.declared.rows.VersionRow.{VersionRow}
 use Rattle.ele_world.proofs.Files.{next_of-push, next_of-numbered_le}
 use Rattle.ele_world.proofs.May.{May, MayTake}
@@ -76,7 +77,7 @@ module _ (event : Event) (first : World) (file number : ℕ) where
 
   pub change_moves : (w : World) (change : Change) → AllLater ArePlaced first.versions → May event first w change → IsPast w file number → MovesTo w (after_change w change).versions
   change_moves w (MakeFile directory name id policy) placed may is =
-      appends (with_name (with_file w id policy) directory name id) id w.now [] (let given = is.given in let next = may.next in grind (arith, nat_tests))
+      appends (with_name (with_file w id policy) directory name (File id)) id w.now [] (let given = is.given in let next = may.next in grind (arith, nat_tests))
   change_moves w (Append of opened cells) placed may is = appends w of opened cells (by (eqb of file) refl) where
     by : (b : Bool) → eqb of file ≡ b → is_version file number (next_version w of opened cells) ≡ false
     by true e = let same : of ≡ file = grind (arith, nat_tests) in let past : number < next_of w.files of = subst (λ f. number < next_of w.files f) (sym same) is.past in grind (arith, nat_tests)

@@ -6,7 +6,7 @@ use Rattle.ele_world.specs.Plan.{Plan, Tell, Make, Unless, When, Need, IfFound, 
 use Rattle.ele_world.specs.Step.{plan, step}
 use Rattle.ele_world.specs.World.{World}
 use Rattle.ele_world.specs.declared.event.Event.{Event}
-use Rattle.ele_world.specs.declared.event.Event.TheVariants.{Clock, Tick, Create, OpenWrite, Write, Truncate, Close, SetDefault, CleanOne, Read, Due, UsageAll}
+use Rattle.ele_world.specs.declared.event.Event.TheVariants.{Clock, Tick, MakeDir, RemoveDir, Create, OpenWrite, Write, Truncate, Close, SetDefault, CleanOne, Read, Due, UsageAll}
 use Rattle.ele_world.specs.declared.event.Source.TheVariants.{Of}
 use Rattle.ele_world.specs.declared.refusal.Refusal.{Refusal}
 use Rattle.ele_world.specs.declared.reply.Reply.{Reply}
@@ -28,6 +28,8 @@ IsFair event (IfFound found otherwise next) = IsFair event otherwise × ((x : _)
 fair : (w : World) (event : Event) → IsFair event (plan w event)
 fair w (Clock to) = (refl, refl)
 fair w (Tick seconds) = (refl, refl)
+fair w (MakeDir path) = λ at. (refl, refl)
+fair w (RemoveDir path) = λ at directory. (refl, refl)
 fair w (Create path) = λ at. (refl, refl)
 fair w (OpenWrite path) = λ file. ((refl, refl), (refl, refl))
 fair w (Write handle offset bytes) = λ file. (tt, (refl, refl))

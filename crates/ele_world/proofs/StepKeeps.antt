@@ -4,7 +4,7 @@ use Rattle.std.specs.List.{AllByRecursion}
 use Rattle.ele_world.specs.Bounds.{Bounds, AreBounds}
 use Rattle.ele_world.specs.Run.{run_of, IsEvent}
 use Rattle.ele_world.specs.Step.{plan, step}
-use Rattle.ele_world.specs.WellFormed.{Part, Now, Bounded, Counted, Directories, Files, Names, Versions, Drafts, Handles, Current, Holds, IsWellFormed}
+use Rattle.ele_world.specs.WellFormed.{Part, Now, Bounded, Counted, Directories, Files, Names, Homes, Versions, Drafts, Handles, Current, Holds, IsWellFormed}
 use Rattle.ele_world.specs.World.{World, fresh_world}
 use Rattle.ele_world.specs.declared.event.Event.{Event}
 use Rattle.ele_world.proofs.Allowed.{allowed}
@@ -20,9 +20,10 @@ fresh_is limits bounds = record { holds = by } where
   by Now = omega arith
   by Bounded = bounds
   by Counted = record { files_made = omega arith; names_made = omega arith; versions_made = omega arith; handles_made = omega arith; file_rows = omega arith; name_rows = omega arith; version_rows = omega arith }
-  by Directories = record { rooted = refl; policies = (record { some = omega arith; fits = omega arith }, tt); placed = (tt, tt) }
+  by Directories = record { rooted = refl; policies = (record { some = omega arith; fits = omega arith }, tt); placed = (tt, tt); given = (omega arith, tt); counted = omega arith; few = omega arith }
   by Files = record { each = tt; placed = tt }
   by Names = record { each = tt; lives = tt }
+  by Homes = record { each = tt; named = (refl, tt) }
   by Versions = record { each = tt; placed = tt }
   by Drafts = record { each = tt; placed = tt }
   by Handles = record { each = tt; placed = tt }

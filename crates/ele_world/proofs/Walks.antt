@@ -1,37 +1,44 @@
--- What a path leads to is there.
-use Rattle.std.proofs.Common.{◌≡◌, ℕ, ◌<◌, List, [], ◌∷◌, Option, Some, None, Result, Ok, Err, refl, ap}
-use Rattle.std.specs.Prelude.{find}
+-- What a path leads to, where it stands, and where a name is added.
+use Rattle.std.proofs.Common.{◌≡◌, ℕ, suc, zero, ◌+◌, ◌-◌, ◌<◌, true, false, List, [], ◌∷◌, ◌++◌, length, take, Option, Some, None, Result, Ok, Err, refl, ap, sym, subst, ◌∙◌, arith, eqb}
+use Rattle.std.specs.Prelude.{find, is_some, slice_get}
 use Rattle.std.specs.List.{AllByRecursion}
 use Rattle.std.specs.Option.{option_map, option_map_or}
+use Rattle.std.specs.Str.{bytes_eq}
+use Rattle.std.proofs.lemmas.Bool.{false≢true}
+use Rattle.std.proofs.lemmas.Bool.Decides.{nat_tests}
+use Rattle.std.proofs.lemmas.List.Folds.{find-append}
+use Rattle.std.proofs.lemmas.Slice.Eq.{bytes_eq-Decides}
 use Rattle.ele_world.specs.declared.refusal.Refusal.{Refusal}
-use Rattle.ele_world.specs.declared.refusal.Refusal.TheVariants.{NoEntry}
+use Rattle.ele_world.specs.declared.refusal.Refusal.TheVariants.{NoEntry, IsRoot}
 use Rattle.ele_world.specs.declared.rows.FileRow.{FileRow}
 use Rattle.ele_world.specs.declared.rows.NameRow.{NameRow}
 use Rattle.ele_world.specs.declared.rows.Target.{Target}
 use Rattle.ele_world.specs.declared.rows.Target.TheVariants.{File, Directory}
-use Rattle.ele_world.specs.Walk.{is_live_name, live_target, walk, walk_now, file_at, file_now}
+use Rattle.ele_world.specs.NameRows.{born_row}
+use Rattle.ele_world.specs.Walk.{is_live_name, live_target, walk, walk_now, file_at, file_now, directory_in, directory_now, directory_at, parent_now}
 use Rattle.ele_world.specs.WellFormed.{IsNameRow, IsThere}
 use Rattle.ele_world.specs.World.{next_of, root}
 use Rattle.ele_lists.proofs.Edits.{all-found}
 
--- what follows for the target of a name that is found
-target_there : (files : List FileRow) (o : Option NameRow) (target : Target) → ((row : NameRow) → o ≡ Some row → IsThere files row.target) → option_map (λ (row : NameRow). row.target) o ≡ Some target → IsThere files target
-target_there files None target each h = absurd cc
-target_there files (Some row) target each h = let same : row.target ≡ target = cc in let h' = each row refl in rw (← same) h'
+-- ---- what is true of each target of a live name is so of the place that a walk ends at
 
-live_there : (files : List FileRow) (now : ℕ) (rows : List NameRow) (directory : ℕ) (name : List ℕ) (target : Target) → AllByRecursion (IsNameRow files now) rows → live_target rows directory name ≡ Some target → IsThere files target
-live_there files now rows directory name target all h =
-    target_there files (find (is_live_name directory name) rows) target (λ row found. let is : IsNameRow files now row = all-found (is_live_name directory name) (IsNameRow files now) rows row found all in is.there) h
-
--- the place that a walk ends at
-walk_there : (files : List FileRow) (now : ℕ) (rows : List NameRow) (at target : Target) (names : List (List ℕ)) → AllByRecursion (IsNameRow files now) rows → IsThere files at → walk rows at names ≡ Ok target → IsThere files target
-walk_there files now rows at target [] all there h = let same : at ≡ target = cc in rw (← same) there
-walk_there files now rows (File file) target (name ∷ names) all there h = absurd cc
-walk_there files now rows (Directory directory) target (name ∷ names) all there h =
-    go (λ next there. walk_there files now rows next target names all there) (live_target rows directory name) refl h where
-      go : ((next : Target) → IsThere files next → walk rows next names ≡ Ok target → IsThere files target) → (o : Option Target) → live_target rows directory name ≡ o → option_map_or (λ target. walk rows target names) o (Err NoEntry) ≡ Ok target → IsThere files target
+walk_to : (P : Target → Type 0) (rows : List NameRow) → ((directory : ℕ) (name : List ℕ) (target : Target) → live_target rows directory name ≡ Some target → P target)
+    → (at target : Target) (names : List (List ℕ)) → P at → walk rows at names ≡ Ok target → P target
+walk_to P rows each at target [] so h = let same : at ≡ target = cc in rw (← same) so
+walk_to P rows each (File file) target (name ∷ names) so h = absurd cc
+walk_to P rows each (Directory directory) target (name ∷ names) so h =
+    go (λ next so. walk_to P rows each next target names so) (live_target rows directory name) refl h where
+      go : ((next : Target) → P next → walk rows next names ≡ Ok target → P target) → (o : Option Target) → live_target rows directory name ≡ o → option_map_or (λ target. walk rows target names) o (Err NoEntry) ≡ Ok target → P target
       go onward None e h = absurd cc
-      go onward (Some next) e h = onward next (live_there files now rows directory name next all e) h
+      go onward (Some next) e h = onward next (each directory name next e) h
+
+-- what is true of the row of each live name's target
+pub live_row : (P : Target → Type 0) (rows : List NameRow) (directory : ℕ) (name : List ℕ) (target : Target)
+    → ((row : NameRow) → find (is_live_name directory name) rows ≡ Some row → P row.target) → live_target rows directory name ≡ Some target → P target
+live_row P rows directory name target each h = by (find (is_live_name directory name) rows) refl h where
+  by : (o : Option NameRow) → find (is_live_name directory name) rows ≡ o → option_map (λ (row : NameRow). row.target) o ≡ Some target → P target
+  by None e h = absurd cc
+  by (Some row) e h = let same : row.target ≡ target = cc in subst P same (each row e)
 
 file_of : (r : Result Target Refusal) (file : ℕ) → file_at r ≡ Ok file → r ≡ Ok (File file)
 file_of (Ok (File other)) file h = let same : other ≡ file = cc in ap (λ f. Ok (File f)) same
@@ -40,4 +47,118 @@ file_of (Err refusal) file h = absurd cc
 
 -- the file at a path is there
 pub file_there : (files : List FileRow) (now : ℕ) (rows : List NameRow) (path : List (List ℕ)) (file : ℕ) → AllByRecursion (IsNameRow files now) rows → file_now rows path ≡ Ok file → 0 < next_of files file
-file_there files now rows path file all h = walk_there files now rows (Directory root) (File file) path all tt (file_of (walk_now rows path) file h)
+file_there files now rows path file all h =
+    walk_to (IsThere files) rows (λ directory name target. live_row (IsThere files) rows directory name target
+    (λ row found. let is : IsNameRow files now row = all-found (is_live_name directory name) (IsNameRow files now) rows row found all in is.there))
+    (Directory root) (File file) path tt (file_of (walk_now rows path) file h)
+
+-- ---- walks, where a name is added
+
+live_target-push : (rows : List NameRow) (row : NameRow) (directory : ℕ) (name : List ℕ) (target : Target) → live_target rows directory name ≡ Some target → live_target (rows ++ row ∷ []) directory name ≡ Some target
+live_target-push rows row directory name target h = by (find (is_live_name directory name) rows) refl h where
+  by : (o : Option NameRow) → find (is_live_name directory name) rows ≡ o → option_map (λ (r : NameRow). r.target) o ≡ Some target → live_target (rows ++ row ∷ []) directory name ≡ Some target
+  by None e h = absurd cc
+  by (Some found) e h = let is : find (is_live_name directory name) (rows ++ row ∷ []) ≡ Some found = find-append (is_live_name directory name) rows (row ∷ []) ∙ rw e refl in rw is h
+
+walk-push : (rows : List NameRow) (row : NameRow) (at : Target) (names : List (List ℕ)) (target : Target) → walk rows at names ≡ Ok target → walk (rows ++ row ∷ []) at names ≡ Ok target
+walk-push rows row at [] target h = h
+walk-push rows row (File file) (name ∷ names) target h = absurd cc
+walk-push rows row (Directory directory) (name ∷ names) target h = go (λ next. walk-push rows row next names target) (live_target rows directory name) refl h where
+  go : ((next : Target) → walk rows next names ≡ Ok target → walk (rows ++ row ∷ []) next names ≡ Ok target) → (o : Option Target) → live_target rows directory name ≡ o → option_map_or (λ target. walk rows target names) o (Err NoEntry) ≡ Ok target → walk (rows ++ row ∷ []) (Directory directory) (name ∷ names) ≡ Ok target
+  go onward None e h = absurd cc
+  go onward (Some next) e h = rw (live_target-push rows row directory name next e) (onward next h)
+
+-- a walk goes on from where it led
+pub walk-on : (rows : List NameRow) (at target : Target) (names more : List (List ℕ)) → walk rows at names ≡ Ok target → walk rows at (names ++ more) ≡ walk rows target more
+walk-on rows at target [] more h = let same : at ≡ target = cc in rw same refl
+walk-on rows (File file) target (name ∷ names) more h = absurd cc
+walk-on rows (Directory directory) target (name ∷ names) more h = go (λ next h. walk-on rows next target names more h) (live_target rows directory name) refl h where
+  go : ((next : Target) → walk rows next names ≡ Ok target → walk rows next (names ++ more) ≡ walk rows target more) → (o : Option Target) → live_target rows directory name ≡ o → option_map_or (λ target. walk rows target names) o (Err NoEntry) ≡ Ok target → walk rows (Directory directory) (name ∷ (names ++ more)) ≡ walk rows target more
+  go onward None e h = absurd cc
+  go onward (Some next) e h = rw e (onward next h)
+
+-- ---- a path's parent
+
+split-at : {X : Type 0} (xs : List X) (n : ℕ) (x : X) → n + 1 ≡ length xs → slice_get xs n ≡ Some x → xs ≡ take n xs ++ x ∷ []
+split-at [] n x is h = absurd cc
+split-at (y ∷ []) zero x is h = let same : y ≡ x = cc in ap (λ z. z ∷ []) same
+split-at (y ∷ z ∷ zs) zero x is h = absurd (omega (arith, is))
+split-at (y ∷ ys) (suc n) x is h = ap (λ t. y ∷ t) (split-at ys n x (omega (arith, is)) h)
+
+split-last : {X : Type 0} (xs : List X) (x : X) → slice_get xs (length xs - 1) ≡ Some x → xs ≡ take (length xs - 1) xs ++ x ∷ []
+split-last [] x h = absurd cc
+split-last (y ∷ ys) x h = split-at (y ∷ ys) (length (y ∷ ys) - 1) x (omega arith) h
+
+pub record IsParent (names : List NameRow) (path : List (List ℕ)) (at : ℕ × List ℕ) : Type 0 where
+  pub front : List (List ℕ)
+  pub whole : path ≡ front ++ at.1 ∷ []
+  pub leads : walk_now names front ≡ Ok (Directory at.0)
+
+pub parent_is : (names : List NameRow) (path : List (List ℕ)) (at : ℕ × List ℕ) → parent_now names path ≡ Ok at → IsParent names path at
+parent_is names path at h = by (slice_get path (length path - 1)) refl h where
+  front : List (List ℕ)
+  front = take (length path - 1) path
+
+  of : (name : List ℕ) → slice_get path (length path - 1) ≡ Some name → (r : Result Target Refusal) → walk_now names (take (length path - 1) path) ≡ r → directory_at name r ≡ Ok at → IsParent names path at
+  of name last (Ok (Directory directory)) w h =
+      let same : (directory, name) ≡ at = cc in
+      subst (IsParent names path) same (record { front = take (length path - 1) path; whole = split-last path name last; leads = w })
+  of name last (Ok (File file)) w h = absurd cc
+  of name last (Err refusal) w h = absurd cc
+
+  by : (o : Option (List ℕ)) → slice_get path (length path - 1) ≡ o → option_map_or (λ name. directory_at name (walk_now names (take (length path - 1) path))) o (Err IsRoot) ≡ Ok at → IsParent names path at
+  by None last h = absurd cc
+  by (Some name) last h = of name last (walk_now names (take (length path - 1) path)) refl h
+
+-- what is true of the root, and of each live name's target, is so of the directory that a path's last name stands in
+pub parent_to : (P : Target → Type 0) (rows : List NameRow) → ((directory : ℕ) (name : List ℕ) (target : Target) → live_target rows directory name ≡ Some target → P target)
+    → (path : List (List ℕ)) (at : ℕ × List ℕ) → P (Directory root) → parent_now rows path ≡ Ok at → P (Directory at.0)
+parent_to P rows each path at so h = let parent = parent_is rows path at h in walk_to P rows each (Directory root) (Directory at.0) parent.front so parent.leads
+
+directory_of : (r : Result Target Refusal) (directory : ℕ) → directory_in r ≡ Ok directory → r ≡ Ok (Directory directory)
+directory_of (Ok (File file)) directory h = absurd cc
+directory_of (Ok (Directory other)) directory h = let same : other ≡ directory = cc in ap (λ d. Ok (Directory d)) same
+directory_of (Err refusal) directory h = absurd cc
+
+-- the path's last name is that of the directory that the path leads to
+pub last_leads : (rows : List NameRow) (path : List (List ℕ)) (at : ℕ × List ℕ) (directory : ℕ) → parent_now rows path ≡ Ok at → directory_now rows path ≡ Ok directory → live_target rows at.0 at.1 ≡ Some (Directory directory)
+last_leads rows path at directory found leads = by (live_target rows at.0 at.1) (sym on ∙ directory_of (walk_now rows path) directory leads) where
+  parent : IsParent rows path at
+  parent = parent_is rows path at found
+
+  on : walk_now rows path ≡ option_map_or (λ target. Ok target) (live_target rows at.0 at.1) (Err NoEntry)
+  on = ap (walk_now rows) parent.whole ∙ walk-on rows (Directory root) (Directory at.0) parent.front (at.1 ∷ []) parent.leads
+
+  by : (o : Option Target) → option_map_or (λ (target : Target). Ok target) o (Err NoEntry) ≡ Ok (Directory directory) → o ≡ Some (Directory directory)
+  by None h = absurd cc
+  by (Some target) h = cc
+
+-- ---- a new name
+
+module _ (rows : List NameRow) (directory : ℕ) (name : List ℕ) (target : Target) (now : ℕ) where
+  own_name : is_live_name directory name (born_row directory name target now) ≡ true
+  own_name =
+      let named : bytes_eq name name ≡ true = (bytes_eq-Decides name name).1 refl in
+      let there : eqb directory directory ≡ true = grind (arith, nat_tests) in
+      rw (there, named) refl
+
+  none_before : is_some (live_target rows directory name) ≡ false → find (is_live_name directory name) rows ≡ None
+  none_before free = by (find (is_live_name directory name) rows) free where
+    by : (o : Option NameRow) → is_some (option_map (λ (row : NameRow). row.target) o) ≡ false → o ≡ None
+    by None h = refl
+    by (Some row) h = absurd (false≢true (sym h))
+
+  target_is : is_some (live_target rows directory name) ≡ false → live_target (rows ++ born_row directory name target now ∷ []) directory name ≡ Some target
+  target_is free =
+      let is : find (is_live_name directory name) (rows ++ born_row directory name target now ∷ []) ≡ Some (born_row directory name target now) = find-append (is_live_name directory name) rows (born_row directory name target now ∷ []) ∙ rw (none_before free, own_name) refl in
+      rw is refl
+
+-- the path leads to the target of its new name
+pub new_leads : (rows : List NameRow) (path : List (List ℕ)) (at : ℕ × List ℕ) (target : Target) (now : ℕ) → parent_now rows path ≡ Ok at → is_some (live_target rows at.0 at.1) ≡ false → walk_now (rows ++ born_row at.0 at.1 target now ∷ []) path ≡ Ok target
+new_leads rows path at target now found free =
+    let parent = parent_is rows path at found in
+    let row = born_row at.0 at.1 target now in
+    let there = target_is rows at.0 at.1 target now free in
+    ap (walk_now (rows ++ row ∷ [])) parent.whole
+    ∙ walk-on (rows ++ row ∷ []) (Directory root) (Directory at.0) parent.front (at.1 ∷ []) (walk-push rows row (Directory root) parent.front (Directory at.0) parent.leads)
+    ∙ rw there refl

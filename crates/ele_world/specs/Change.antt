@@ -9,13 +9,18 @@ use Rattle.ele_world.specs.declared.rows.DirectoryRow.{DirectoryRow}
 use Rattle.ele_world.specs.declared.rows.DraftRow.{DraftRow}
 use Rattle.ele_world.specs.declared.rows.FileRow.{FileRow}
 use Rattle.ele_world.specs.declared.rows.Reads.TheVariants.{Draft}
-use Rattle.ele_world.specs.declared.rows.Target.TheVariants.{File}
+use Rattle.ele_world.specs.declared.rows.Target.{Target}
+use Rattle.ele_world.specs.declared.rows.Target.TheVariants.{File, Directory}
 use Rattle.ele_world.specs.declared.rows.VersionRow.{VersionRow}
+use Rattle.ele_world.specs.NameRows.{born_row, dies}
+use Rattle.ele_world.specs.Walk.{is_live_name}
 use Rattle.ele_world.specs.World.{World, is_directory, is_file, next_of, is_version, is_version_after, is_live, current_of, is_draft, is_draft_after, is_handle}
 
 pub data Change : Type 0 where
   Time : (to : ℕ) → Change
   Govern : (directory : ℕ) → (policy : Policy) → Change
+  MakeDirectory : (directory : ℕ) → (name : List ℕ) → (id : ℕ) → (policy : Policy) → Change
+  EndName : (directory : ℕ) → (name : List ℕ) → Change
   MakeFile : (directory : ℕ) → (name : List ℕ) → (id : ℕ) → (policy : Policy) → Change
   Append : (file opened : ℕ) → (cells : List Cell) → Change
   Take : (file number : ℕ) → Change
@@ -31,6 +36,13 @@ pub data Change : Type 0 where
 abbrev pub governed_by : Policy → DirectoryRow → DirectoryRow
 governed_by policy row = record row { default = policy }
 
+-- a directory, without a name yet
+abbrev pub with_directory : World → ℕ → Policy → World
+with_directory w id policy = record w {
+  directories = w.directories ++ record { id = id; default = policy } ∷ [];
+  made = record w.made { directories = id };
+}
+
 -- a file, without a version yet
 abbrev pub with_file : World → ℕ → Policy → World
 with_file w id policy = record w {
@@ -38,10 +50,10 @@ with_file w id policy = record w {
   made = record w.made { files = id };
 }
 
--- a name of the file, from now on
-abbrev pub with_name : World → ℕ → List ℕ → ℕ → World
-with_name w directory name file = record w {
-  names = w.names ++ record { directory = directory; name = name; target = File file; birth = w.now; death = None } ∷ [];
+-- a name of the target, from now on
+abbrev pub with_name : World → ℕ → List ℕ → Target → World
+with_name w directory name target = record w {
+  names = w.names ++ born_row directory name target w.now ∷ [];
   made = record w.made { names = w.made.names + 1 };
 }
 
@@ -102,8 +114,12 @@ fitted_by number size draft =
 abbrev pub after_change : World → Change → World
 after_change w (Time to) = record w { now = to }
 after_change w (Govern directory policy) = record w { directories = update_first (is_directory directory) (governed_by policy) w.directories }
+-- a new directory and its name
+after_change w (MakeDirectory directory name id policy) = with_name (with_directory w id policy) directory name (Directory id)
+-- the live name dies now
+after_change w (EndName directory name) = record w { names = update_first (is_live_name directory name) (dies w.now) w.names }
 -- a new file, its name, and its first version, which is empty
-after_change w (MakeFile directory name id policy) = with_version (with_name (with_file w id policy) directory name id) id w.now []
+after_change w (MakeFile directory name id policy) = with_version (with_name (with_file w id policy) directory name (File id)) id w.now []
 after_change w (Append file opened cells) = with_version w file opened cells
 after_change w (Take file number) = record w { versions = remove_first (is_version file number) w.versions }
 after_change w (StartDraft file) = record w { drafts = insert_before (is_draft_after file) (new_draft w file) w.drafts }

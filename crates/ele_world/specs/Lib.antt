@@ -17,6 +17,8 @@ pub mod Run
 pub mod AlwaysWellFormed
 pub mod NothingChanges
 pub mod CreateLeads
+pub mod MakeDirLeads
+pub mod RemoveDirEnds
 pub mod CloseKeeps
 pub mod OnlyDueLeave
 pub mod HeldStays

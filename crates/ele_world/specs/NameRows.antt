@@ -1,11 +1,25 @@
 -- What name rows say of a name, a directory or a file, now and at earlier moments.
-use Rattle.std.specs.Prelude.{ℕ, ◌==◌, ◌&&◌, nat_le, nat_lt, Bool, true, false, List, Option, is_none, is_some, find}
+use Rattle.std.specs.Prelude.{ℕ, ◌==◌, ◌&&◌, nat_le, nat_lt, Bool, true, false, List, Option, Some, None, is_none, is_some, find}
 use Rattle.std.specs.Option.{option_map, option_map_or}
 use Rattle.std.specs.Str.{bytes_eq}
 use Rattle.ele_lists.specs.Last.{last_passing, passing}
 use Rattle.ele_world.specs.declared.rows.NameRow.{NameRow}
 use Rattle.ele_world.specs.declared.rows.Target.{Target}
 use Rattle.ele_world.specs.declared.rows.Target.TheVariants.{File, Directory}
+
+-- a row at its birth
+abbrev pub born_row : ℕ → List ℕ → Target → ℕ → NameRow
+born_row directory name target birth = record {
+  directory = directory;
+  name = name;
+  target = target;
+  birth = birth;
+  death = None;
+}
+
+-- the row, dead from the moment on
+abbrev pub dies : ℕ → NameRow → NameRow
+dies moment row = record row { death = Some moment }
 
 -- a row of that name in the directory
 abbrev pub is_named : ℕ → List ℕ → NameRow → Bool
@@ -36,6 +50,10 @@ is_live_in directory row = (row.directory == directory) && is_none row.death
 abbrev pub is_target_directory : ℕ → Target → Bool
 is_target_directory id (File file) = false
 is_target_directory id (Directory directory) = directory == id
+
+-- a name of the directory, live or dead
+abbrev pub is_name_of_directory : ℕ → NameRow → Bool
+is_name_of_directory id row = is_target_directory id row.target
 
 -- a name of the directory that has no death
 abbrev pub is_live_directory : ℕ → NameRow → Bool

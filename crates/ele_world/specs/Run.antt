@@ -2,7 +2,7 @@
 use Rattle.std.specs.Prelude.{◌≡◌, ℕ, suc, zero, ◌<◌, ◌≤◌, List, [], ◌∷◌, None, IsSome}
 use Rattle.ele_moment.specs.Last.{last_moment}
 use Rattle.ele_world.specs.declared.event.Event.{Event}
-use Rattle.ele_world.specs.declared.event.Event.TheVariants.{Clock, Tick, Create, OpenWrite, Write, Truncate, Close, SetDefault, CleanOne, Read, Due, UsageAll}
+use Rattle.ele_world.specs.declared.event.Event.TheVariants.{Clock, Tick, MakeDir, RemoveDir, Create, OpenWrite, Write, Truncate, Close, SetDefault, CleanOne, Read, Due, UsageAll}
 use Rattle.ele_world.specs.Scan.{first_due}
 use Rattle.ele_world.specs.Step.{step, clean_step}
 use Rattle.ele_policy.specs.Policy.{IsPolicy}
@@ -17,6 +17,8 @@ run_of w (event ∷ events) = run_of ((step w event).1) events
 abbrev pub IsEvent : Event → Type 0
 IsEvent (Clock to) = to ≤ last_moment
 IsEvent (Tick seconds) = Unit {0}
+IsEvent (MakeDir path) = Unit {0}
+IsEvent (RemoveDir path) = Unit {0}
 IsEvent (Create path) = Unit {0}
 IsEvent (OpenWrite path) = Unit {0}
 IsEvent (Write handle offset bytes) = Unit {0}

@@ -7,15 +7,16 @@ use Rattle.ele_content.specs.Content.{content_of, longest_content}
 use Rattle.ele_moment.specs.Last.{last_moment}
 use Rattle.ele_lists.specs.Lists.{remove_first}
 use Rattle.ele_world.specs.declared.event.Event.{Event}
-use Rattle.ele_world.specs.declared.event.Event.TheVariants.{Clock, Tick, Create, OpenWrite, Write, Truncate, Close, SetDefault, CleanOne, Read, Due, UsageAll}
+use Rattle.ele_world.specs.declared.event.Event.TheVariants.{Clock, Tick, MakeDir, RemoveDir, Create, OpenWrite, Write, Truncate, Close, SetDefault, CleanOne, Read, Due, UsageAll}
 use Rattle.ele_world.specs.declared.event.Source.TheVariants.{Of}
-use Rattle.ele_world.specs.declared.refusal.Refusal.TheVariants.{ClockBack, ClockEnd, Exists, TooBig, Full}
-use Rattle.ele_world.specs.declared.refusal.Which.TheVariants.{Files, Names, Versions, Handles}
+use Rattle.ele_world.specs.declared.refusal.Refusal.TheVariants.{ClockBack, ClockEnd, Exists, NotEmpty, TooBig, Full}
+use Rattle.ele_world.specs.declared.refusal.Which.TheVariants.{Files, Directories, Names, Versions, Handles}
 use Rattle.ele_world.specs.declared.reply.Reply.{Reply}
-use Rattle.ele_world.specs.declared.reply.Reply.TheVariants.{Done, Nothing, Now, File, Handle, Closed, Removed, Bytes, DueList, UsageList}
+use Rattle.ele_world.specs.declared.reply.Reply.TheVariants.{Done, Nothing, Now, Directory, File, Handle, Closed, Removed, Bytes, DueList, UsageList}
 use Rattle.ele_world.specs.declared.rows.Reads.{Reads}
 use Rattle.ele_world.specs.declared.rows.Reads.TheVariants.{Draft}
-use Rattle.ele_world.specs.Change.{Time, Govern, MakeFile, Append, Take, StartDraft, WriteDraft, TruncateDraft, EndDraft, OpenHandle, ShutHandle}
+use Rattle.ele_world.specs.Change.{Time, Govern, MakeDirectory, EndName, MakeFile, Append, Take, StartDraft, WriteDraft, TruncateDraft, EndDraft, OpenHandle, ShutHandle}
+use Rattle.ele_world.specs.NameRows.{is_live_in}
 use Rattle.ele_world.specs.Plan.{Plan, Tell, Make, Unless, When, Need, IfFound, outcome}
 use Rattle.ele_world.specs.Scan.{scan, first_due}
 use Rattle.ele_world.specs.Usage.{usages}
@@ -44,6 +45,20 @@ plan w (Clock to) = Unless (nat_lt to w.now) ClockBack (Make (Now to) (Time to �
 -- the time goes on by seconds
 plan w (Tick seconds) =
     let to = w.now + seconds in Unless (nat_lt last_moment to) ClockEnd (Make (Now to) (Time to ∷ []))
+-- a directory with the policy of the one that it stands in, and its name
+plan w (MakeDir path) =
+    let id = w.made.directories + 1 in
+    Need (parent_now w.names path) (λ at.
+    Unless (is_some (live_target w.names at.0 at.1)) Exists
+    (Unless (nat_le w.limits.directories w.made.directories) (Full Directories)
+    (Unless (nat_le w.limits.names w.made.names) (Full Names)
+    (Make (Directory id) (MakeDirectory at.0 at.1 id (default_of w.directories at.0) ∷ [])))))
+-- the name of a directory without names dies; the root has none
+plan w (RemoveDir path) =
+    Need (parent_now w.names path) (λ at.
+    Need (directory_now w.names path) (λ directory.
+    Unless (list_any (is_live_in directory) w.names) NotEmpty
+    (Make Done (EndName at.0 at.1 ∷ []))))
 -- a file with the directory's policy, its name, and an empty first version
 plan w (Create path) =
     let id = w.made.files + 1 in

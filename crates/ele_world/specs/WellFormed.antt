@@ -1,5 +1,5 @@
 -- What is true of every world of a run, in parts: each takes only what it speaks of.
-use Rattle.std.specs.Prelude.{◌≡◌, ℕ, ◌+◌, ◌==◌, ◌<◌, ◌≤◌, ◌&&◌, Bool, true, List, length, IfSome, Some, None, is_none}
+use Rattle.std.specs.Prelude.{◌≡◌, ℕ, ◌+◌, ◌==◌, ◌<◌, ◌≤◌, ◌&&◌, ◌||◌, Bool, true, List, length, IfSome, Some, None, is_none}
 use Rattle.std.specs.List.{list_any, AllByRecursion}
 use Rattle.ele_content.specs.declared.cell.Cell.{Cell}
 use Rattle.ele_content.specs.Content.{content_of, longest_content, fill_slots}
@@ -18,6 +18,7 @@ use Rattle.ele_world.specs.declared.rows.Reads.TheVariants.{Draft}
 use Rattle.ele_world.specs.declared.rows.Target.{Target}
 use Rattle.ele_world.specs.declared.rows.Target.TheVariants.{File, Directory}
 use Rattle.ele_world.specs.declared.rows.VersionRow.{VersionRow}
+use Rattle.ele_world.specs.NameRows.{is_name_of_directory, is_live_directory}
 use Rattle.ele_world.specs.World.{World, root, is_directory, next_of, is_live, is_draft, is_version_after}
 
 -- no count is above its limit, and each of so many rows and drafts was counted
@@ -30,11 +31,14 @@ pub record AreCounted (made : Counts) (limits : Bounds) (files names versions dr
   pub name_rows : names ≤ made.names
   pub version_rows : versions ≤ made.versions
 
--- the root is there, and each directory has a policy; their numbers rise
-pub record AreDirectories (rows : List DirectoryRow) : Type 0 where
+-- the root is there, and each directory has a policy; their numbers rise, and were given; they are counted but for the root
+pub record AreDirectories (made limit : ℕ) (rows : List DirectoryRow) : Type 0 where
   pub rooted : list_any (is_directory root) rows ≡ true
   pub policies : AllByRecursion (λ row. IsPolicy row.default) rows
   pub placed : AllLater (λ earlier later. earlier.id < later.id) rows
+  pub given : AllByRecursion (λ row. row.id ≤ made) rows
+  pub counted : length rows ≤ made + 1
+  pub few : made ≤ limit
 
 -- the file's number was given, and its next version's is from 2 on and not past so many versions made
 pub record IsFile (files versions : ℕ) (row : FileRow) : Type 0 where
@@ -67,6 +71,30 @@ AreApart earlier later =
 pub record AreNames (files : List FileRow) (now : ℕ) (rows : List NameRow) : Type 0 where
   pub each : AllByRecursion (IsNameRow files now) rows
   pub lives : AllLater AreApart rows
+
+abbrev pub has_directory : List DirectoryRow → ℕ → Bool
+has_directory rows id = list_any (is_directory id) rows
+
+-- the root, or a directory that has a live name
+abbrev pub is_reached : List NameRow → ℕ → Bool
+is_reached names id = (id == root) || list_any (is_live_directory id) names
+
+-- a directory that is there
+abbrev pub IsDirectoryThere : List DirectoryRow → Target → Type 0
+IsDirectoryThere directories (File file) = Unit {0}
+IsDirectoryThere directories (Directory directory) = has_directory directories directory ≡ true
+
+-- the directory that the name stands in is there, and so is one that it stands for; a live name stands in the root or in a
+-- directory that has a live name
+pub record IsHoused (directories : List DirectoryRow) (names : List NameRow) (row : NameRow) : Type 0 where
+  pub home : has_directory directories row.directory ≡ true
+  pub there : IsDirectoryThere directories row.target
+  pub reached : row.death ≡ None → is_reached names row.directory ≡ true
+
+-- each name is so, and each directory but the root has a name, live or dead
+pub record AreHoused (directories : List DirectoryRow) (names : List NameRow) : Type 0 where
+  pub each : AllByRecursion (IsHoused directories names) names
+  pub named : AllByRecursion (λ row. ((row.id == root) || list_any (is_name_of_directory row.id) names) ≡ true) directories
 
 -- the cells are those of a content: its slots in a row, each of 512 bytes but for the last, which has 1 to 512
 pub record IsContent (cells : List Cell) : Type 0 where
@@ -139,6 +167,7 @@ pub data Part : Type 0 where
   Directories : Part
   Files : Part
   Names : Part
+  Homes : Part
   Versions : Part
   Drafts : Part
   Handles : Part
@@ -148,9 +177,10 @@ abbrev pub Holds : World → Part → Type 0
 Holds w Now = w.now ≤ last_moment
 Holds w Bounded = AreBounds w.limits
 Holds w Counted = AreCounted w.made w.limits (length w.files) (length w.names) (length w.versions) (length w.drafts)
-Holds w Directories = AreDirectories w.directories
+Holds w Directories = AreDirectories w.made.directories w.limits.directories w.directories
 Holds w Files = AreFiles w.made.files w.made.versions w.files
 Holds w Names = AreNames w.files w.now w.names
+Holds w Homes = AreHoused w.directories w.names
 Holds w Versions = AreVersions w.files w.now w.versions
 Holds w Drafts = AreDrafts w.files w.now w.drafts
 Holds w Handles = AreHandles w.made.handles w.drafts w.handles

@@ -37,7 +37,7 @@ fresh_world limits = record {
   versions = [];
   drafts = [];
   handles = [];
-  made = record { files = 0; names = 0; versions = 0; handles = 0 };
+  made = record { files = 0; directories = 0; names = 0; versions = 0; handles = 0 };
   limits = limits;
 }
 

@@ -18,6 +18,10 @@ pub enum Event {
     Clock(Moment),
     /// The clock goes on by so many seconds.
     Tick(u64),
+    /// A directory is made at the path, with the policy of the one that it stands in.
+    MakeDir(Path),
+    /// The name of the directory at the path dies; the directory has no live name in it.
+    RemoveDir(Path),
     /// A file is made at the path, with an empty first version.
     Create(Path),
     /// A handle is opened by which the file at the path is written.

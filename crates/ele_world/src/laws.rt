@@ -4,6 +4,8 @@ ghost use Rattle.ele_world.specs.CleanKeepsKeys.{CleanKeepsKeys};
 ghost use Rattle.ele_world.specs.CloseKeeps.{CloseKeeps};
 ghost use Rattle.ele_world.specs.CreateLeads.{CreateLeads};
 ghost use Rattle.ele_world.specs.AlwaysWellFormed.{FreshIsWellFormed, StepKeepsWellFormed, AlwaysWellFormed};
+ghost use Rattle.ele_world.specs.MakeDirLeads.{MakeDirLeads};
+ghost use Rattle.ele_world.specs.RemoveDirEnds.{RemoveDirEnds};
 ghost use Rattle.ele_world.specs.HeldStays.{HeldStays, HeldStaysInRuns};
 ghost use Rattle.ele_world.specs.NothingChanges.{RefusedStays, AskingStays};
 ghost use Rattle.ele_world.specs.OnlyDueLeave.{OnlyDueLeave, OnlyDueLeaveInRuns};
@@ -35,6 +37,16 @@ pub fn refused_stays()
 /// An event that only asks changes nothing.
 pub fn asking_stays()
     ensures { AskingStays }
+{}
+
+/// After a mkdir its path leads to the new directory, which has no names, and the policy of the directory that it stands in.
+pub fn make_dir_leads()
+    ensures { MakeDirLeads }
+{}
+
+/// After a rmdir its path leads nowhere.
+pub fn remove_dir_ends()
+    ensures { RemoveDirEnds }
 {}
 
 /// After a create its path leads to the new file, whose current version is empty.

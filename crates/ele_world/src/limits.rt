@@ -36,6 +36,7 @@ impl Model for Limits {
 #[derive(Clone, Copy, Debug, PartialEq, Eq)]
 pub struct Counts {
     pub files: u64,
+    pub directories: u64,
     pub names: u64,
     pub versions: u64,
     pub handles: u64,
@@ -123,6 +124,14 @@ impl Limits {
         ensures valid { AreBounds self.now }
     {
         self.files
+    }
+
+    /// How many directories may ever be made, without the root.
+    pub fn directories(&self) -> u64
+        ensures value { result ≡ self.now.directories }
+        ensures valid { AreBounds self.now }
+    {
+        self.directories
     }
 
     /// How many name rows may ever be made.

@@ -3,7 +3,7 @@ use crate::list::KeyList;
 use crate::refusal::Refusal;
 use ele_due::Key;
 use ele_lists::ByteList;
-use ele_moment::{FileId, Handle, Moment, VersionNo};
+use ele_moment::{DirId, FileId, Handle, Moment, VersionNo};
 use ele_usage::Usage;
 
 /// The answer to a command.
@@ -13,6 +13,7 @@ pub enum Reply {
     /// Nothing was due.
     Nothing,
     Now(Moment),
+    Directory(DirId),
     File(FileId),
     Handle(Handle),
     /// The handle is closed, and the version that it made, if it made one.

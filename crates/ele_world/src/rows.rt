@@ -1,6 +1,6 @@
 //! The rows of a world: what stands in it of each file, name, version, draft and handle.
 use ele_content::Cell;
-use ele_lists::ListOf;
+use ele_lists::{Keyed, ListOf};
 use ele_moment::{DirId, FileId, Handle, Moment, Name, VersionNo};
 use ele_policy::Policy;
 
@@ -17,6 +17,14 @@ pub struct FileRow {
 pub struct DirectoryRow {
     pub id: DirId,
     pub default: Policy,
+}
+
+impl Keyed for DirectoryRow {
+    ghost key = { λ row. row.id };
+
+    fn key(&self) -> u64 {
+        self.id.0
+    }
 }
 
 /// What a name stands for.

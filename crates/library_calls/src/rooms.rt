@@ -2,6 +2,7 @@
 //! scripts.
 ghost use Rattle.std.specs.Prelude.{◌≡◌, None, IfOk};
 
+use ele_blocks::laws::stocks;
 use ele_blocks::{BlockMap, BlockStore};
 use ele_due::{DueQueue, Key};
 use ele_inode_log::{InodeLog, Meter, VersionRow};
@@ -27,6 +28,22 @@ fn a_block_goes_with_its_last_owner(rt: HostRuntime) -> Result<(), Fail> {
     assert_eq!(rt; store.distinct(), 2);
     store.release(first);
     assert_eq!(rt; store.distinct(), 1);
+    Ok(())
+}
+
+#[test]
+fn a_copy_shares_its_leaves(rt: HostRuntime) -> Result<(), Fail> {
+    stocks();
+    let mut store = BlockStore::new(rt.alloc());
+    let mut map = BlockMap::new(rt.alloc());
+    map.truncate(&mut store, VersionNo(1), 1_048_576)?;
+    assert_eq!(rt; (store.leaves(), store.distinct()), (128, 2048));
+    let mut copy = map.copy(&mut store)?;
+    assert_eq!(rt; (store.leaves(), store.distinct()), (128, 2048));
+    copy.write(&mut store, VersionNo(2), 0, b"a")?;
+    assert_eq!(rt; (store.leaves(), store.distinct()), (129, 2049));
+    copy.give_up(&mut store);
+    assert_eq!(rt; (store.leaves(), store.distinct()), (128, 2048));
     Ok(())
 }
 

@@ -7,7 +7,7 @@ use ele_world::Limits;
 use std::fs;
 
 /// The scripts under the largest limits, each NAME.script with its NAME.output.
-const ROWS: [&str; 24] = [
+const ROWS: [&str; 27] = [
     "first_run",
     "empty_script",
     "write_of_no_bytes",
@@ -18,6 +18,9 @@ const ROWS: [&str; 24] = [
     "bad_lines",
     "names_and_paths",
     "refusals",
+    "directories",
+    "a_path_of_32_directories",
+    "a_new_directory_takes_the_policy_of_its_parent",
     "moments",
     "tick_past_the_last_moment",
     "writers_share_a_draft",
@@ -35,7 +38,7 @@ const ROWS: [&str; 24] = [
 ];
 
 /// Scripts under limits of their own: events, files, directories, names, versions, handles, groups, members, marks.
-const LIMITED: [(&str, [u64; 9]); 9] = [
+const LIMITED: [(&str, [u64; 9]); 12] = [
     ("full_history", [1, 9, 9, 9, 9, 9, 9, 9, 9]),
     ("pass_fills_the_history", [6, 9, 9, 9, 9, 9, 9, 9, 9]),
     (
@@ -48,7 +51,16 @@ const LIMITED: [(&str, [u64; 9]); 9] = [
     ),
     ("pass_of_the_largest_budget", [1, 9, 9, 9, 9, 9, 9, 9, 9]),
     ("files_limit", [9, 1, 9, 9, 9, 9, 9, 9, 9]),
+    ("directories_limit", [9, 9, 1, 9, 9, 9, 9, 9, 9]),
     ("names_limit", [9, 9, 9, 1, 9, 9, 9, 9, 9]),
+    (
+        "names_limit_of_directories",
+        [9, 9, 9, 1, 9, 9, 9, 9, 9],
+    ),
+    (
+        "directories_are_full_before_names",
+        [9, 9, 1, 1, 9, 9, 9, 9, 9],
+    ),
     ("versions_limit", [99, 9, 9, 9, 2, 9, 9, 9, 9]),
     ("handles_limit", [9, 9, 9, 9, 9, 1, 9, 9, 9]),
 ];

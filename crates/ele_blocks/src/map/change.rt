@@ -1,51 +1,29 @@
 //! The changes of a content: a write, and a truncate.
-//! A contract sees the new cells as a definition over the old ones, and that the owners of blocks
+//! A contract sees the new cells as a definition over the old ones, and that the owners of leaves
 //! which other maps share stay.
-ghost use Rattle.std.specs.Prelude.{◌≡◌, ◌<◌, ◌≤◌, ◌+◌, ◌-◌, ◌*◌, ◌/◌, [], ◌∷◌, ◌++◌, OnOk, OnErr, max, min, length, map, take, drop, vec_len, vec_capacity};
+ghost use Rattle.std.specs.Prelude.{◌≡◌, ◌<◌, ◌≤◌, ◌+◌, ◌*◌, ◌/◌, ◌^◌, OnOk, OnErr, max, min, length, vec_len};
 ghost use Rattle.ele_content.specs.Content.{longest_content, slot_count};
 ghost use Rattle.ele_blocks.specs.Changes.{IsWritten, IsResized};
-ghost use Rattle.ele_blocks.specs.LaidOver.{laid_over};
-ghost use Rattle.ele_blocks.specs.Layout.{Layout, shown, ids_of, slot_by, cell_by, is_between};
-ghost use Rattle.ele_blocks.specs.LivesIn.{LivesIn};
-ghost use Rattle.ele_blocks.specs.Shared.{Trades, Covers};
-ghost use Rattle.ele_blocks.specs.Renews.{Renews};
+ghost use Rattle.ele_blocks.specs.Layout.{slots_of};
+ghost use Rattle.ele_blocks.specs.LivesIn.{LivesIn, leaf_count};
+ghost use Rattle.ele_blocks.specs.Renewed.{IsReplaced};
 
-use crate::bytes::Bytes;
-use crate::map::BlockMap;
-use crate::patch::{joined, pieces, spliced as splice};
-use crate::room::put;
-use crate::slot::Slot;
-use crate::store::{BlockId, BlockStore};
+use crate::laid::lay_leaves;
+use crate::leaf::LEAF;
+use crate::map::{BlockMap, SLOT};
+use crate::patch::{pieces, spliced as splice};
+use crate::store::BlockStore;
+use crate::store::leaves::Stage;
+use ele_lists::ByteList;
 use ele_moment::{NoMemory, VersionNo};
 
-/// How many bytes a slot holds.
-const SLOT: usize = 512;
-
-/// Puts the slot in its place, or behind the last where there is room.
-fn place(slots: &mut Vec<Slot>, at: usize, slot: Slot)
-    requires within { at ≤ length slots.old.items }
-    requires room { at < vec_capacity slots.old }
-    ensures items { slots.new.items ≡ laid_over at (slot ∷ []) slots.old.items }
-    ensures room { vec_capacity slots.old ≤ vec_capacity slots.new }
-{
-    if at < slots.len() {
-        slots[at] = slot;
-    } else {
-        put(slots, slot);
-    }
-}
-
-/// Lays the writer's slots for the blocks over the slots from the first on. There is room for those
-/// that go past the end.
-fn lay_over(slots: &mut Vec<Slot>, first: usize, writer: VersionNo, ids: &[usize])
-    requires within { first ≤ length slots.old.items }
-    requires room { first + length ids.now ≤ vec_capacity slots.old }
-    ensures { slots.new.items ≡ laid_over first (map (slot_by writer) ids.now) slots.old.items }
-{
-    for (i, id) in ids.iter().enumerate() {
-        let block = BlockId { key: *id };
-        place(slots, first + i, Slot { writer, block });
-    }
+/// New bytes for slots: how many slots before are kept, the first that is new, and the bytes of each.
+#[derive(Debug, Drop)]
+struct Change {
+    writer: VersionNo,
+    kept: usize,
+    first: usize,
+    staged: Vec<ByteList>,
 }
 
 /// The first slot that a write meets, and the one past the last of those that stand.
@@ -62,6 +40,38 @@ fn met(size: u64, slots: usize, offset: u64, count: usize) -> (usize, usize)
     let first = offset.min(size) as usize / SLOT;
     let past = (offset as usize + count).div_ceil(SLOT).min(slots);
     (first, past)
+}
+
+/// A run of leaves that gives way: up to before the second those whose slots are met.
+#[derive(Clone, Copy, Debug)]
+struct Run {
+    from: usize,
+    met: usize,
+    to: usize,
+}
+
+/// The leaves that a change meets from the first slot on, which ends in the leaf before `past`; where
+/// nothing that is kept stands behind them, all leaves behind go too.
+fn run_of(first: usize, past: usize, kept: usize, leaves: usize) -> Run
+    requires order { first ≤ kept }
+    requires within { kept ≤ 16 * leaves }
+    requires behind { first ≤ 16 * past }
+    requires small { leaves < 2 ^ 56 }
+    ensures from { result.from ≡ first / 16 }
+    ensures met { result.met ≡ min past leaves }
+    ensures to_end { kept ≤ 16 * result.met → result.to ≡ leaves }
+    ensures to_met { 16 * result.met < kept → result.to ≡ result.met }
+    ensures starts { result.from ≤ result.met }
+    ensures goes { result.met ≤ result.to }
+    ensures ends { result.to ≤ leaves }
+{
+    let met = past.min(leaves);
+    let to = if kept <= LEAF * met { leaves } else { met };
+    Run {
+        from: first / LEAF,
+        met,
+        to,
+    }
 }
 
 impl BlockMap {
@@ -84,17 +94,25 @@ impl BlockMap {
         ensures err { OnErr result (self.new ≡ self.old) }
         ensures err_store { OnErr result (store.new ≡ store.old) }
     {
+        let length = self.length();
         let end = offset + bytes.len() as u64;
-        if offset.min(self.length) == end {
+        if offset.min(length) == end {
             // No byte is filled or written.
             return Ok(());
         }
-        let (first, past) = met(self.length, self.slots.len(), offset, bytes.len());
-        let window = joined(self.alloc, store, &self.slots[first..past])?;
+        let kept = self.slots();
+        let (first, past) = met(length, kept, offset, bytes.len());
+        let window = self.joined(store, first, past)?;
         let patch = splice(self.alloc, &window, offset as usize - SLOT * first, bytes)?;
         let staged = pieces(self.alloc, &patch)?;
-        let size = self.length.max(end);
-        self.replace(store, writer, first, staged, size)?;
+        let change = Change {
+            writer,
+            kept,
+            first,
+            staged,
+        };
+        let size = length.max(end);
+        self.replace(store, change, size)?;
         Ok(())
     }
 
@@ -115,9 +133,10 @@ impl BlockMap {
         ensures err { OnErr result (self.new ≡ self.old) }
         ensures err_store { OnErr result (store.new ≡ store.old) }
     {
-        if size > self.length {
+        let length = self.length();
+        if size > length {
             self.write(store, writer, size, &[])?;
-        } else if size < self.length {
+        } else if size < length {
             self.cut(store, writer, size as usize)?;
         }
         Ok(())
@@ -137,60 +156,59 @@ impl BlockMap {
         ensures err { OnErr result (self.new ≡ self.old) }
         ensures err_store { OnErr result (store.new ≡ store.old) }
     {
-        let whole = size / SLOT;
+        let first = size / SLOT;
         let kept = size.div_ceil(SLOT);
-        let window = joined(self.alloc, store, &self.slots[whole..kept])?;
-        let staged = pieces(self.alloc, &window[..size - SLOT * whole])?;
-        let length = self.length;
-        self.replace(store, writer, whole, staged, length)?;
-        self.shorten(store, size as u64);
+        let window = self.joined(store, first, kept)?;
+        let staged = pieces(self.alloc, &window[..size - SLOT * first])?;
+        let change = Change {
+            writer,
+            kept,
+            first,
+            staged,
+        };
+        self.replace(store, change, size as u64)?;
         Ok(())
     }
 
-    /// Gives up the slots behind the length.
-    fn shorten(&mut self, store: &mut BlockStore, size: u64)
-        requires owned { Covers store.old (ids_of self.old.slots) }
-        requires shorter { size ≤ self.old.size }
-        ensures layout { self.new
-            ≡ record { size = size; slots = take (slot_count size) self.old.slots } }
-        ensures trades { Trades store.old store.new
-            (ids_of (drop (slot_count size) self.old.slots)) [] }
-    {
-        let kept = size.div_ceil(SLOT as u64) as usize;
-        store.release_all(&self.slots[kept..]);
-        self.slots.truncate(kept);
-        self.length = size;
-    }
-
-    /// Puts new blocks in place of those of the slots from the first on, and behind them.
+    /// Keeps the first slots, and lays new blocks over them. New leaves stand in place of those that
+    /// this meets, since other maps may own them.
     /// Where memory is refused, map and store are as they were.
-    fn replace(
-        &mut self,
-        store: &mut BlockStore,
-        writer: VersionNo,
-        first: usize,
-        staged: Vec<Bytes>,
-        size: u64,
-    ) -> Result<(), NoMemory>
-        requires owned { Covers store.old (ids_of self.old.slots) }
-        requires within { first ≤ length self.old.slots }
+    fn replace(&mut self, store: &mut BlockStore, change: Change, size: u64) -> Result<(), NoMemory>
+        requires lives { LivesIn store.old self.old }
+        requires within { change.first ≤ change.kept }
+        requires kept { change.kept ≤ slot_count self.old.size }
+        requires behind { change.first + vec_len change.staged < change.kept
+            → change.kept ≡ slot_count self.old.size }
         requires short { size ≤ longest_content }
-        requires count { slot_count size ≡ max (length self.old.slots) (first + vec_len staged) }
+        requires count { slot_count size ≡ max change.kept (change.first + vec_len change.staged) }
         ensures size { OnOk result (self.new.size ≡ size) }
-        ensures cells { OnOk result (shown store.new self.new
-            ≡ laid_over first (map (cell_by writer) staged.items) (shown store.old self.old)) }
-        ensures trades { OnOk result
-            (Trades store.old store.new (ids_of self.old.slots) (ids_of self.new.slots)) }
-        ensures renews { OnOk result (Renews store.old store.new writer
-            (is_between first (first + vec_len staged)) self.old self.new) }
+        ensures replaced { OnOk result (IsReplaced store.old store.new change.writer change.first
+            change.kept change.staged.items self.old self.new) }
         ensures err { OnErr result (self.new ≡ self.old) }
         ensures err_store { OnErr result (store.new ≡ store.old) }
     {
-        let past = first + staged.len();
-        self.slots.reserve(past.saturating_sub(self.slots.len()))?;
-        let fresh = store.put_all(staged)?;
-        store.release_all(&self.slots[first..past.min(self.slots.len())]);
-        lay_over(&mut self.slots, first, writer, &fresh);
+        let Change {
+            writer,
+            kept,
+            first,
+            staged,
+        } = change;
+        let leaves = self.leaves.len();
+        let past = (first + staged.len()).div_ceil(LEAF);
+        let run = run_of(first, past, kept, leaves);
+        let Run { from, met, to } = run;
+        self.leaves.reserve(past.saturating_sub(leaves))?;
+        let mut window = store.slots_in(&self.leaves[from..met])?;
+        window.truncate(kept - LEAF * from);
+        let stage = Stage {
+            window,
+            first: first - LEAF * from,
+            writer,
+            staged,
+        };
+        let now = store.renew(&self.leaves[from..to], stage)?;
+        lay_leaves(&mut self.leaves, from, &now);
+        self.leaves.truncate(from + now.len() + (leaves - to));
         self.length = size;
         Ok(())
     }

@@ -18,7 +18,7 @@ use ele_policy::Policy;
 use ele_world::{Reads, Refusal};
 
 /// What a handle of the sessions reads, as its row says it.
-pub fn reads_in(reads: ele_sessions::Reads) -> Reads
+fn reads_in(reads: ele_sessions::Reads) -> Reads
     ensures { result ≡ reads_in reads }
 {
     match reads {

@@ -1,73 +1,30 @@
 //! The closing of a handle, which may make a version.
 //! A contract sees the rows of all files before and after.
-ghost use Rattle.std.specs.Prelude.{◌≡◌, ℕ, ◌<◌, ◌≤◌, ◌+◌, ◌^◌, Bool, Some, None, OnOk, OnErr, IfOk};
+ghost use Rattle.std.specs.Prelude.{◌≡◌, ◌<◌, ◌≤◌, ◌+◌, ◌^◌, Some, Ok, OnOk, OnErr, IfOk};
 ghost use Rattle.std.specs.List.{AllByRecursion};
-ghost use Rattle.std.specs.Option.{option_and_then};
-ghost use Rattle.ele_files.specs.Closing.{closing, closed, changed_of, IsPast};
-ghost use Rattle.ele_files.specs.Finishing.{IsRowPast, HasRows, HasClosed, ended_rows, closing_row};
-ghost use Rattle.ele_files.specs.Inside.{IsFileKept};
-ghost use Rattle.ele_world.specs.World.{next_of};
+ghost use Rattle.std.specs.Option.{ForSome, option_and_then};
+ghost use Rattle.ele_blocks.specs.LivesIn.{LivesIn};
+ghost use Rattle.ele_files.specs.Appending.{IsGivenUp, opening_of};
+ghost use Rattle.ele_files.specs.Closing.{opening_by, left_by, finishing, IsPast};
+ghost use Rattle.ele_files.specs.Held.{Became};
+ghost use Rattle.ele_world.specs.World.{next_of, file_by};
 
-use crate::file::File;
 use crate::files::{Files, place_of};
-use ele_blocks::BlockMap;
-use ele_inode_log::{Meter, VersionRow};
+use ele_blocks::{BlockMap, BlockStore};
+use ele_inode_log::Meter;
 use ele_moment::{FileId, Handle, Moment, NoMemory, VersionNo};
 use ele_sessions::Closing;
 
-impl File {
-    /// The version before the next one ends, unless it has ended.
-    fn end_before(&mut self, now: Moment, meter: &mut Meter)
-        requires kept { IsFileKept self.old }
-        requires past { AllByRecursion (IsRowPast now) self.old.log.rows }
-        requires meter { meter.old < 2 ^ 62 }
-        ensures ended { HasRows self.old self.new (ended_rows self.old now) }
-        ensures room { 1 ≤ self.old.log.spare → 1 ≤ self.new.log.spare }
-        ensures read { meter.new ≤ meter.old + 1 }
-    {
-        if let Some(row) = self.log.get(self.next.before(), meter) {
-            if row.ended.is_none() {
-                self.log.end_last(now);
-            }
-        }
-    }
-
-    /// The file's next version, which closes now, and ends at once where the file isn't live. The
-    /// version before it ends. There is room for it.
-    fn close_version(
-        &mut self,
-        opened: Moment,
-        now: Moment,
-        is_live: bool,
-        cells: BlockMap,
-        meter: &mut Meter,
-    ) -> VersionNo
-        requires kept { IsFileKept self.old }
-        requires past { AllByRecursion (IsRowPast now) self.old.log.rows }
-        requires numbered { self.old.next < 2 ^ 62 }
-        requires room { 1 ≤ self.old.log.spare }
-        requires meter { meter.old < 2 ^ 62 }
-        ensures number { result ≡ self.old.next }
-        ensures closed { HasClosed self.old self.new now
-            (closing_row self.old.next opened now is_live cells) }
-        ensures read { meter.new ≤ meter.old + 1 }
-    {
-        self.end_before(now, meter);
-        let number = self.next;
-        let ended = if is_live { None } else { Some(now) };
-        let row = VersionRow {
-            number,
-            opened,
-            closed: now,
-            ended,
-            cells,
-        };
-        match self.log.append(row) {
-            Ok(()) => {}
-            Err(_refused) => unreachable!(),
-        }
-        self.next = number.after();
-        number
+/// When the draft was opened that the closing makes a version; none where it makes none.
+fn opening_of(closing: Option<Closing>) -> Option<Moment>
+    ensures { result ≡ opening_of closing }
+{
+    match closing {
+        Some(closing) => match closing {
+            Closing::Changed(_, opened) => Some(opened),
+            _ => None,
+        },
+        None => None,
     }
 }
 
@@ -81,42 +38,37 @@ fn map_of(closed: Option<(Closing, Option<BlockMap>)>) -> Option<BlockMap>
     }
 }
 
+/// Gives up the map, if there is one.
+fn give_up(store: &mut BlockStore, map: Option<BlockMap>)
+    requires { ForSome map (λ map. LivesIn store.old map) }
+    ensures { IsGivenUp store.old store.new map }
+{
+    if let Some(map) = map {
+        map.give_up(store);
+    }
+}
+
 impl Files {
-    /// What closing the handle comes to; none where no open handle has that number.
-    fn peek_close(&self, handle: Handle) -> Option<Closing>
-        ensures { result ≡ closing self.now handle }
+    /// When the draft was opened that is to become a version as the handle closes: that of the file which it writes, where no
+    /// other handle does and the draft was changed. None where closing it makes no version.
+    pub fn changed_draft(&self, handle: Handle) -> Option<Moment>
+        ensures { result ≡ opening_by self.now handle }
     {
-        self.sessions.peek_close(handle)
+        opening_of(self.sessions.peek_close(handle))
     }
 
-    /// The file of the draft that becomes a version when the handle closes, and when the draft was
-    /// opened; none where no version is made.
-    pub fn changed_draft(&self, handle: Handle) -> Option<(FileId, Moment)>
-        ensures { result ≡ changed_of (closing self.now handle) }
-    {
-        match self.peek_close(handle) {
-            Some(closing) => match closing {
-                Closing::Changed(file, opened) => Some((file, opened)),
-                _ => None,
-            },
-            None => None,
-        }
-    }
-
-    /// Closes a handle by which no version is made: while others write the file its draft stays, and
-    /// with the last handle an unchanged one vanishes. A number that no open handle has does nothing.
+    /// The handle goes, and no version is made: while others write the file its draft stays, and with
+    /// the last handle it vanishes. A number that no open handle has does nothing.
     pub fn leave(&mut self, handle: Handle)
-        requires { changed_of (closing self.old handle) ≡ None }
-        ensures { (now : ℕ) (live : Bool) → self.new ≡ closed self.old handle now live }
+        ensures { self.new ≡ left_by self.old handle }
     {
-        if let Some(map) = map_of(self.sessions.close(handle)) {
-            map.give_up(&mut self.store);
-        }
+        let map = map_of(self.sessions.close(handle));
+        give_up(&mut self.store, map);
     }
 
-    /// Closes the last handle of a changed draft of the file, opened then: the draft becomes the
-    /// file's next version, and the version before that ends. The caller tells whether the file is
-    /// live; where it isn't, the new version ends at once. The answer is its number. Where memory is
+    /// The last handle of a changed draft goes, which was opened then: the draft becomes its file's
+    /// next version, and the version before that ends. The caller tells whether the file is live;
+    /// where it isn't, the new version ends at once. The answer is its number. Where memory is
     /// refused, all is as it was.
     pub fn finish(
         &mut self,
@@ -127,12 +79,14 @@ impl Files {
         is_live: bool,
         meter: &mut Meter,
     ) -> Result<VersionNo, NoMemory>
-        requires changed { changed_of (closing self.old handle) ≡ Some (file, opened) }
+        requires file { file_by self.old.handles handle ≡ Ok file }
+        requires changed { opening_by self.old handle ≡ Some opened }
         requires numbered { AllByRecursion (λ row. row.next < 2 ^ 62) self.old.files }
         requires past { AllByRecursion (IsPast now) self.old.versions }
         requires meter { meter.old < 2 ^ 62 }
         ensures number { IfOk result (λ number. number ≡ next_of self.old.files file) }
-        ensures ok { OnOk result (self.new ≡ closed self.old handle now is_live) }
+        ensures ok { OnOk result (Became self.old now file is_live
+            (finishing self.old handle file opened) self.new) }
         ensures err { OnErr result (self.new ≡ self.old) }
         ensures read { meter.new ≤ meter.old + 1 }
     {
@@ -144,6 +98,6 @@ impl Files {
         let Some(map) = map_of(self.sessions.close(handle)) else {
             unreachable!()
         };
-        Ok(held.close_version(opened, now, is_live, map, meter))
+        Ok(held.append(opened, now, is_live, map, meter))
     }
 }

@@ -11,12 +11,11 @@ ghost use Rattle.ele_inode_log.specs.Rows.{is_after};
 
 use crate::file::File;
 use crate::files::Files;
-use crate::files::asking::reads_in;
 use ele_blocks::{BlockMap, BlockStore};
 use ele_inode_log::{Meter, VersionRow as LogRow};
 use ele_lists::ListOf;
 use ele_moment::{NoMemory, VersionNo};
-use ele_world::{Cell, DraftRow, FileRow, HandleRow, VersionRow};
+use ele_world::{Cell, DraftRow, FileRow, HandleRow, Reads, VersionRow};
 use std::alloc::Global;
 
 impl Files {
@@ -74,11 +73,12 @@ impl Files {
     pub fn handle_rows(&self) -> Result<ListOf<HandleRow>, NoMemory>
         ensures { IfOk result (λ rows. rows ≡ self.now.handles) }
     {
-        let mut rows = Vec::new(self.alloc);
-        while let Some(handle) = self.sessions.handle_at(rows.len()) {
-            let (number, reads) = handle;
-            let reads = reads_in(reads);
-            rows.push(HandleRow { number, reads })?;
+        let mut rows = Vec::with_capacity(self.alloc, self.sessions.handles().len())?;
+        for handle in self.sessions.handles() {
+            rows.push(HandleRow {
+                number: handle.number,
+                reads: Reads::Draft(handle.file),
+            })?;
         }
         Ok(ListOf::from_vec(rows))
     }

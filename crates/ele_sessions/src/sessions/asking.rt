@@ -9,7 +9,7 @@ ghost use Rattle.ele_sessions.specs.Sessions.{handle_file, draft_of};
 
 use crate::closing::Closing;
 use crate::draft::Draft;
-use crate::entries::{file_by, place_of};
+use crate::entries::{OpenHandle, file_by, place_of};
 use crate::leaving::peek;
 use crate::reads::Reads;
 use crate::sessions::Sessions;
@@ -72,13 +72,10 @@ impl Sessions {
         Some((entry.file, entry.draft.opened, entry.draft.changed))
     }
 
-    /// A handle's number and what is read through it, by its place among the open handles; none past
-    /// the last one.
-    pub fn handle_at(&self, place: usize) -> Option<(Handle, Reads)>
-        ensures { result ≡ option_map (λ handle. (handle.number, reads.Draft handle.file))
-            (slice_get self.now.handles place) }
+    /// The open handles, by number.
+    pub fn handles(&self) -> &[OpenHandle]
+        ensures { result.now ≡ self.now.handles }
     {
-        let handle = self.handles.get(place)?;
-        Some((handle.number, Reads::Draft(handle.file)))
+        &self.handles
     }
 }

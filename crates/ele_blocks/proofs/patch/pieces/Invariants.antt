@@ -1,6 +1,8 @@
-use Rattle.std.proofs.Common.{◌-◌}
-use Rattle.ele_blocks.proofs.Pieces.{PiecesSoFar}
+use Rattle.ele_blocks.proofs.Words.{◌≡◌, ◌++◌, ◌-◌, length, first_chunks, slot_count}
 use Rattle.ele_blocks.proofs.patch.pieces.Given as goal
 
 abbrev pub invariant-loop : goal.invariant-loop
-invariant-loop l = PiecesSoFar l.cut.items l.rest (l.end - l.counter) l.all
+invariant-loop l = record {
+  are : l.cut.items ++ first_chunks 512 (l.end - l.counter) l.rest ≡ first_chunks 512 (slot_count (length l.all)) l.all;
+  count : l.end - l.counter ≡ slot_count (length l.rest);
+}

@@ -1,13 +1,11 @@
-use Rattle.std.proofs.Common.{◌≡◌, ◌≤◌, ◌+◌, length, vec_len, vec_capacity}
-use Rattle.std.specs.Vec.Iter.{into_iter_items, into_iter_len}
-use Rattle.slab.specs.Slab.{HasRoomFor}
+use Rattle.ele_blocks.proofs.Words.{◌≡◌, ◌≤◌, ◌+◌, length, vec_len, vec_capacity, into_iter_items, into_iter_len, HasRoomFor}
 use Rattle.ele_blocks.proofs.Trades.{PutsSoFar}
 use Rattle.ele_blocks.proofs.shared.put_each.Given as goal
 
 abbrev pub invariant-loop-value : goal.invariant-loop-value
 invariant-loop-value g l = record {
-  puts : PutsSoFar l.initial.places.slots l.places.slots l.ids.items (into_iter_items l.value-iterator) l.fn.values.items;
+  puts : PutsSoFar l.initial.store.slots l.store.slots l.ids.items (into_iter_items l.value-iterator) l.fn.values.items;
   left : into_iter_len l.value-iterator ≡ length (into_iter_items l.value-iterator);
-  room : HasRoomFor l.places (into_iter_len l.value-iterator);
+  room : HasRoomFor l.store (into_iter_len l.value-iterator);
   room_ids : vec_len l.ids + into_iter_len l.value-iterator ≤ vec_capacity l.ids;
 }

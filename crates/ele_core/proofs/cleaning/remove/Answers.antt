@@ -3,8 +3,7 @@ use Rattle.ele_content.specs.Content.{content_of}
 use Rattle.ele_core.specs.Inside.{world_of}
 use Rattle.ele_core.proofs.Removed.{removed_bytes, removed_within, removed_owed, removed_fits, removed_queue}
 use Rattle.ele_core.specs.Queued.{IsQueued}
-use Rattle.ele_core.proofs.ClosedKeys.{with_files}
-use Rattle.ele_files.specs.Held.{Held}
+use Rattle.ele_files.specs.Held.{Held, with_rows}
 use Rattle.ele_world.proofs.DueRows.{IsDueKey, first_is_due}
 use Rattle.ele_world.proofs.Views.{placed_of}
 use Rattle.ele_core.proofs.cleaning.remove.Goals as goal
@@ -36,7 +35,7 @@ follow_blocks-requires-clause-fits c = removed_fits c.args.rows.now c.take_versi
 
 pub returns-clause-tracked : goal.returns-clause-tracked
 returns-clause-tracked c = record {
-  queue = subst (λ (h : Held). IsQueued (with_files c.args.rows.now h) c.take.new.queue) (sym c.in-Some.ensures.rows) (removed_queue c.args.rows.now c.args.key.now c.take.new.queue c.requires.sound c.requires.first c.take.ensures);
+  queue = subst (λ (h : Held). IsQueued (with_rows (world_of c.args.rows.now) h) c.take.new.queue) (sym c.in-Some.ensures.rows) (removed_queue c.args.rows.now c.args.key.now c.take.new.queue c.requires.sound c.requires.first c.take.ensures);
   book = c.follow_blocks.ensures;
   bounds = c.requires.sound.tracked.bounds;
 }

@@ -1,16 +1,20 @@
-use Rattle.std.proofs.Common.{◌≡◌, ◌+◌, refl, sym, ap, ◌∙◌, not, filter}
+use Rattle.std.proofs.Common.{◌≡◌, ◌+◌, refl, ap, ◌∙◌, not, filter}
 use Rattle.ele_core.specs.Tracked.{blocks_of}
 use Rattle.ele_core.proofs.Booked.{made_fits, made_book}
 use Rattle.ele_core.proofs.Bounded.{files_before}
 use Rattle.ele_core.proofs.Made.{made_queue}
 use Rattle.ele_core.proofs.NewNames.{follows_new, name_goes}
 use Rattle.ele_core.specs.Inside.{world_of}
-use Rattle.ele_world.specs.World.{default_of, is_target_file}
-use Rattle.ele_world.proofs.Created.{made_is}
+use Rattle.ele_world.specs.WellFormed.{Directories}
+use Rattle.ele_world.specs.World.{is_target_file}
+use Rattle.ele_world.specs.declared.rows.Target.TheVariants.{File}
 use Rattle.ele_core.proofs.names.add_file.Goals as goal
 
+pub default_of-policy-requires : goal.default_of-policy-requires
+default_of-policy-requires c = rw c.deref.ensures.value ((c.requires.sound.formed.holds Directories).placed)
+
 pub add-requires : goal.add-requires
-add-requires c = follows_new (world_of c.args.rows.now) c.args.directory c.args.name c.requires.sound.formed c.requires.free
+add-requires c = follows_new (world_of c.args.rows.now) c.args.directory c.args.name (File (c.args.rows.now.made.files + 1)) c.requires.sound.formed c.requires.free
 
 pub add-requires-2 : goal.add-requires-2
 add-requires-2 c = files_before c.args.rows.now c.requires.sound
@@ -32,18 +36,14 @@ returns-in-Err-clause-tracked c = rw (names_back c, c.in-Err.ensures.err) c.requ
 
 pub returns-clause-ok : goal.returns-clause-ok
 returns-clause-ok c =
-    let rows = c.args.rows.now in
-    rw (c.in_default.ensures.ok, c.in_ok-add.ensures.ok, c.default_of-policy.ensures, c.deref.ensures.value)
-    (sym (made_is (world_of rows) c.args.directory c.args.name (default_of rows.directories.items c.args.directory) c.requires.sound.formed))
+    rw (c.in_default.ensures.ok (world_of c.args.rows.now) c.args.directory c.args.name refl, c.in_ok-add.ensures.ok, c.default_of-policy.ensures, c.deref.ensures.value) refl
 
 pub returns-clause-tracked : goal.returns-clause-tracked
 returns-clause-tracked c =
     let rows = c.args.rows.now in
-    let added = rw (c.default_of-policy.ensures, c.deref.ensures.value) at c.in_default.ensures.ok in
-    let kinds = rw (c.kind.ensures, c.default_of-policy.ensures, c.deref.ensures.value) at c.add-3.ensures.each in
+    let added = c.in_default.ensures.ok (world_of rows) c.args.directory c.args.name refl in
     record {
-      queue = rw (c.in_default.ensures.ok, c.in_ok-add.ensures.ok, c.default_of-policy.ensures, c.deref.ensures.value)
-          (made_queue (world_of rows) c.args.directory c.args.name (default_of rows.directories.items c.args.directory) c.requires.sound.formed rows.queue c.requires.sound.tracked.queue);
-      book = made_book rows c.args.directory c.args.name c.add-2.new.self c.add-3.new.self c.requires.sound added kinds;
+      queue = rw (added, c.in_ok-add.ensures.ok) (made_queue (world_of rows) c.args.directory c.args.name c.default_of-policy.result c.requires.sound.formed rows.queue c.requires.sound.tracked.queue);
+      book = made_book rows c.args.directory c.args.name c.default_of-policy.result c.add-2.new.self c.add-3.new.self c.requires.sound added (rw c.kind.ensures at c.add-3.ensures.each);
       bounds = c.requires.sound.tracked.bounds;
     }

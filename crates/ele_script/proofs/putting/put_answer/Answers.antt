@@ -11,8 +11,11 @@ returns-in-Nothing g c =
 pub returns-in-Now : goal.returns-in-Now
 returns-in-Now g c = rw c.in-Now.is (_, (_, c.text.ensures.spells, refl), rw c.seconds.ensures.value at c.put_now.ensures)
 
+pub returns-in-Directory : goal.returns-in-Directory
+returns-in-Directory g c = rw c.in-Directory.is (_, refl, rw c.directory.view_is at c.put_number.ensures)
+
 pub returns-in-File : goal.returns-in-File
-returns-in-File g c = rw c.in-File.is (_, refl, rw c.file.view_is at c.put_number.ensures)
+returns-in-File g c = rw c.in-File.is (_, refl, rw c.file.view_is at c.put_number-in-File.ensures)
 
 pub returns-in-Handle : goal.returns-in-Handle
 returns-in-Handle g c = rw c.in-Handle.is (_, refl, rw c.handle.view_is at c.put_number-in-Handle.ensures)

@@ -51,4 +51,4 @@ returns-clause-made c =
     let at : IsAt file_in c.args.file c.args.drafts.now.items c.in-Ok.at = rw c.deref.ensures.value at c.in-Ok.ensures.found in
     let length = rw c.deref-2.ensures at c.length.ensures in
     let other : eqb c.index_mut-entry.result.now.draft.value.map.size c.args.size ≡ false = grind (arith, nat_tests, length) in
-    rw (length_found _ _ _ _ at c.index_mut-entry.ensures.value c.args.size, other) (rewrites _ _ _ _ at c.index_mut-entry.ensures.value (λ was. IsResized c.args.store.now c.truncate.new.store was.number c.args.size was.layout) _ refl (rw (c.in_ok-truncate.ensures.draft, c.deref_mut.ensures.value) refl) (rw c.deref_mut.ensures.value at c.in_ok-truncate.ensures.resized))
+    rw (length_found _ _ _ _ at c.index_mut-entry.ensures.value c.args.size, other) (rewrites _ _ _ _ at c.index_mut-entry.ensures.value (λ was. IsResized c.args.store.now c.truncate.new.store was.number c.args.size was.layout) _ (rw (c.in_ok-truncate.ensures.draft, c.deref_mut.ensures.value) refl) (rw c.deref_mut.ensures.value at c.in_ok-truncate.ensures.resized))

@@ -27,7 +27,7 @@ returns-clause-writers c =
 pub returns-clause-made : goal.returns-clause-made
 returns-clause-made c =
     let at : IsAt file_in c.args.file c.args.drafts.now.items c.in-Ok.at = rw c.deref.ensures.value at c.in-Ok.ensures.found in
-    rewrites _ _ _ _ at c.index_mut-entry.ensures.value (λ was. IsWritten c.args.store.now c.write.new.store was.number c.args.offset c.args.bytes.now was.layout) _ refl (rw (c.in_ok-write.ensures.draft, c.deref_mut.ensures.value) refl) (rw c.deref_mut.ensures.value at c.in_ok-write.ensures.written)
+    rewrites _ _ _ _ at c.index_mut-entry.ensures.value (λ was. IsWritten c.args.store.now c.write.new.store was.number c.args.offset c.args.bytes.now was.layout) _ (rw (c.in_ok-write.ensures.draft, c.deref_mut.ensures.value) refl) (rw c.deref_mut.ensures.value at c.in_ok-write.ensures.written)
 
 pub returns-in_err-write-clause-err : goal.returns-in_err-write-clause-err
 returns-in_err-write-clause-err c =

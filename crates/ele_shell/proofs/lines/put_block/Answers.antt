@@ -6,4 +6,4 @@ pub returns-in-None : goal.returns-in-None
 returns-in-None g c = rw c.in-None.is (record { block = _; is = (refl, refl); put = c.put_fault.ensures })
 
 pub returns-in-Some : goal.returns-in-Some
-returns-in-Some g c = rw (c.in-Some.is, ← c.in-Some.line-is) (block_of_answer _ _ _ _ _ _ _ c.in-Some.len_at_least c.answer.ensures c.put_answer.ensures)
+returns-in-Some g c = rw (c.in-Some.is, ← c.in-Some.line-is) (block_of_answer _ _ _ _ _ _ c.in-Some.len_at_least c.put_answer.ensures)

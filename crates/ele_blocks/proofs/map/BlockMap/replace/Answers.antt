@@ -1,53 +1,78 @@
-use Rattle.std.proofs.Common.{◌≡◌, ap, ◌∙◌, arith, map, length, vec_len}
-use Rattle.std.proofs.lemmas.List.{length-map}
-use Rattle.ele_blocks.specs.Store.{bytes_at}
-use Rattle.ele_blocks.specs.Layout.{slot_by}
-use Rattle.ele_blocks.specs.LaidOver.{laid_over}
-use Rattle.ele_blocks.proofs.Replaces.{gone_at, covers_gone, trades_replaced, cells_replaced, renews_replaced}
+use Rattle.ele_blocks.proofs.Words.{rules, ◌≡◌, ◌+◌, ◌-◌, ◌*◌, ◌∙◌, arith, ap, length, take, drop, Layout, laid_over, IsRenewed, slots_in}
+use Rattle.ele_blocks.proofs.Runs.{IsRun, part_owned, part_backed, window_there, inside, now_room, placed, replaced, leaves_new}
 use Rattle.ele_blocks.proofs.map.BlockMap.replace.Goals as goal
+use Rattle.ele_blocks.proofs.map.BlockMap.replace.Goals.{After-reserve, After-deref, After-deref-3, After-truncate, After-drop-now}
 
-pub release_all-requires : goal.release_all-requires
-release_all-requires c =
-    let slots = c.self.inside.slots.items in
-    let fresh = c.in_ok-fresh.fresh.items in
-    let same : c.deref.result.now ≡ slots = c.deref.ensures.value ∙ c.in_ok-reserve.ensures.items in
-    let within = rw (← c.self.view_is) at c.requires.within in
-    let count : length fresh ≡ vec_len c.args.staged = omega (arith, ap length c.in_ok-fresh.ensures.bytes, length-map fresh (bytes_at c.put_all.new.self), c.args.staged.ok) in
-    let gone = gone_at slots c.deref.result.now c.args.first (length fresh) c.min.result same within (omega (arith, c.min.ensures, c.len.ensures, c.len-3.ensures, c.deref.ensures.len, count)) in
-    rw gone (covers_gone c.args.store.now c.put_all.new.self slots fresh c.args.writer c.args.first within (rw (← c.self.view_is) at c.requires.owned) c.in_ok-fresh.ensures.adds)
+run : (c : After-reserve) → IsRun c.args.store.now c.args.self.now c.args.change.staged.items c.args.change.first c.args.change.kept c.run_of-run.result.from c.run_of-run.result.met c.run_of-run.result.to
+run c =
+    let size = ap (λ (m : Layout). m.size) c.self.view_is in
+    record {
+      lives = c.requires.lives;
+      le = c.requires.within;
+      kept_le = c.requires.kept;
+      behind = λ lt. c.requires.behind (omega (arith, lt));
+      is_from = c.run_of-run.ensures.from;
+      is_met = omega (arith, c.self.invariant.leaves, size);
+      to_end = λ end. omega (arith, c.run_of-run.ensures.to_end end, c.self.invariant.leaves, size);
+      to_met = c.run_of-run.ensures.to_met;
+    }
 
-pub returns-clause-trades : goal.returns-clause-trades
-returns-clause-trades c =
-    let slots = c.self.inside.slots.items in
-    let fresh = c.in_ok-fresh.fresh.items in
-    let within = rw (← c.self.view_is) at c.requires.within in
-    let covers = rw (← c.self.view_is) at c.requires.owned in
-    let same : c.deref.result.now ≡ slots = c.deref.ensures.value ∙ c.in_ok-reserve.ensures.items in
-    let count : length fresh ≡ vec_len c.args.staged = omega (arith, ap length c.in_ok-fresh.ensures.bytes, length-map fresh (bytes_at c.put_all.new.self), c.args.staged.ok) in
-    let gone = gone_at slots c.deref.result.now c.args.first (length fresh) c.min.result same within (omega (arith, c.min.ensures, c.len.ensures, c.len-3.ensures, c.deref.ensures.len, count)) in
-    let placed : c.lay_over.new.slots.items ≡ laid_over c.args.first (map (slot_by c.args.writer) fresh) slots = rw (c.deref-2.ensures.value, c.in_ok-reserve.ensures.items) at c.lay_over.ensures in
-    rw (placed, ← c.self.view_is) (trades_replaced c.args.store.now c.put_all.new.self slots fresh c.args.writer c.args.first within covers c.in_ok-fresh.ensures.adds c.release_all.new.self (rw gone at c.release_all.ensures))
+its_leaves : (c : After-deref) → c.reserve.new.self.items ≡ c.args.self.now.leaves
+its_leaves c = c.in_ok-reserve.ensures.items ∙ ap (λ (m : Layout). m.leaves) c.self.view_is
 
-pub returns-clause-cells : goal.returns-clause-cells
-returns-clause-cells c =
-    let slots = c.self.inside.slots.items in
-    let fresh = c.in_ok-fresh.fresh.items in
-    let within = rw (← c.self.view_is) at c.requires.within in
-    let covers = rw (← c.self.view_is) at c.requires.owned in
-    let same : c.deref.result.now ≡ slots = c.deref.ensures.value ∙ c.in_ok-reserve.ensures.items in
-    let count : length fresh ≡ vec_len c.args.staged = omega (arith, ap length c.in_ok-fresh.ensures.bytes, length-map fresh (bytes_at c.put_all.new.self), c.args.staged.ok) in
-    let gone = gone_at slots c.deref.result.now c.args.first (length fresh) c.min.result same within (omega (arith, c.min.ensures, c.len.ensures, c.len-3.ensures, c.deref.ensures.len, count)) in
-    let placed : c.lay_over.new.slots.items ≡ laid_over c.args.first (map (slot_by c.args.writer) fresh) slots = rw (c.deref-2.ensures.value, c.in_ok-reserve.ensures.items) at c.lay_over.ensures in
-    rw (placed, ← c.self.view_is) (cells_replaced c.args.store.now c.put_all.new.self slots fresh c.args.writer c.args.first within covers c.in_ok-fresh.ensures.adds c.release_all.new.self (rw gone at c.release_all.ensures) c.args.staged.items c.in_ok-fresh.ensures.bytes)
+its_window : (c : After-truncate) → c.reserve.new.self.items ≡ c.args.self.now.leaves → c.truncate.new.self.items ≡ take (c.args.change.kept - 16 * c.run_of-run.result.from) (slots_in c.args.store.now (take (c.run_of-run.result.met - c.run_of-run.result.from) (drop c.run_of-run.result.from c.args.self.now.leaves)))
+its_window c same = c.truncate.ensures.items ∙ ap (take (c.args.change.kept - 16 * c.run_of-run.result.from)) (rw (c.deref.ensures.value, same) at c.in_ok-window.ensures)
 
-pub returns-clause-renews : goal.returns-clause-renews
-returns-clause-renews c =
-    let slots = c.self.inside.slots.items in
-    let fresh = c.in_ok-fresh.fresh.items in
-    let within = rw (← c.self.view_is) at c.requires.within in
-    let covers = rw (← c.self.view_is) at c.requires.owned in
-    let same : c.deref.result.now ≡ slots = c.deref.ensures.value ∙ c.in_ok-reserve.ensures.items in
-    let count : length fresh ≡ vec_len c.args.staged = omega (arith, ap length c.in_ok-fresh.ensures.bytes, length-map fresh (bytes_at c.put_all.new.self), c.args.staged.ok) in
-    let gone = gone_at slots c.deref.result.now c.args.first (length fresh) c.min.result same within (omega (arith, c.min.ensures, c.len.ensures, c.len-3.ensures, c.deref.ensures.len, count)) in
-    let placed : c.lay_over.new.slots.items ≡ laid_over c.args.first (map (slot_by c.args.writer) fresh) slots = rw (c.deref-2.ensures.value, c.in_ok-reserve.ensures.items) at c.lay_over.ensures in
-    rw (placed, ← c.self.view_is, ← count) (renews_replaced c.args.store.now c.put_all.new.self slots fresh c.args.writer c.args.first within covers c.in_ok-fresh.ensures.adds c.release_all.new.self (rw gone at c.release_all.ensures) c.self.inside.length c.args.size)
+-- the leaves that came
+came : (c : After-deref-3) → c.reserve.new.self.items ≡ c.args.self.now.leaves → IsRenewed c.args.store.now c.renew.new.self (take (c.run_of-run.result.to - c.run_of-run.result.from) (drop c.run_of-run.result.from c.args.self.now.leaves)) (take (c.args.change.kept - 16 * c.run_of-run.result.from) (slots_in c.args.store.now (take (c.run_of-run.result.met - c.run_of-run.result.from) (drop c.run_of-run.result.from c.args.self.now.leaves)))) (c.args.change.first - 16 * c.run_of-run.result.from) c.args.change.writer c.args.change.staged.items c.in_ok-now.now.items
+came c same = rw (c.deref-2.ensures.value, same, its_window (goal.at.lay_leaves-requires-clause-room c).After-truncate same) at c.in_ok-now.ensures.renewed
+
+pub slots_in-requires : goal.slots_in-requires
+slots_in-requires c =
+    let at = (goal.at.slots_in-requires c).After-deref in
+    rw (c.deref.ensures.value, its_leaves at) (part_owned (run (goal.at.slots_in-requires c).After-reserve) c.run_of-run.result.from (c.run_of-run.result.met - c.run_of-run.result.from))
+
+pub renew-requires : goal.renew-requires
+renew-requires c =
+    let at = goal.at.renew-requires c in
+    let h = run at.After-reserve in
+    let same = its_leaves at.After-deref in
+    let is = its_window at.After-truncate same in
+    record {
+      owned = rw (c.deref-2.ensures.value, same) (part_owned h c.run_of-run.result.from (c.run_of-run.result.to - c.run_of-run.result.from));
+      backed = rw (c.deref-2.ensures.value, same) (part_backed h c.run_of-run.result.from (c.run_of-run.result.to - c.run_of-run.result.from));
+      there = rw is (window_there h);
+      within = omega (arith, inside h, ap length is, c.truncate.new.self.ok);
+      small = search rules;
+    }
+
+pub lay_leaves-requires-clause-room : goal.lay_leaves-requires-clause-room
+lay_leaves-requires-clause-room c =
+    let at = goal.at.lay_leaves-requires-clause-room c in
+    let size = ap (λ (m : Layout). m.size) c.self.view_is in
+    omega (arith, now_room (run at.After-reserve) (came at.After-deref-3 (its_leaves at.After-deref)), size, ap length c.deref-3.ensures.value, c.in_ok-reserve.ensures.len, c.in_ok-reserve.ensures.ok, c.self.invariant.leaves, c.self.inside.leaves.ok)
+
+new_leaves : (c : After-drop-now) → c.reserve.new.self.items ≡ c.args.self.now.leaves → c.truncate-2.new.self.items ≡ take (c.run_of-run.result.from + length c.in_ok-now.now.items + (length c.args.self.now.leaves - c.run_of-run.result.to)) (laid_over c.run_of-run.result.from c.in_ok-now.now.items c.args.self.now.leaves)
+new_leaves c same =
+    let laid : c.lay_leaves.new.leaves.items ≡ laid_over c.run_of-run.result.from c.in_ok-now.now.items c.args.self.now.leaves = rw (c.deref-3.ensures.value, same) at c.lay_leaves.ensures in
+    let many : c.run_of-run.result.from + c.len-2.result + (c.len-leaves.result - c.run_of-run.result.to) ≡ c.run_of-run.result.from + length c.in_ok-now.now.items + (length c.args.self.now.leaves - c.run_of-run.result.to) = omega (arith, c.in_ok-now.now.ok, ap length same, c.in_ok-reserve.ensures.items, c.self.inside.leaves.ok) in
+    rw (← many, ← laid) c.truncate-2.ensures.items
+
+pub invariant_of-self-2 : goal.invariant_of-self-2
+invariant_of-self-2 c =
+    let at = goal.at.invariant_of-self-2 c in
+    let h = run at.After-reserve in
+    let same = its_leaves at.After-deref in
+    let renewed = came at.After-deref-3 same in
+    record {
+      short = c.requires.short;
+      leaves = omega (arith, leaves_new h renewed (record { size = c.args.size; leaves = c.truncate-2.new.self.items }) (new_leaves at.After-drop-now same ∙ placed h renewed), c.requires.count, c.args.change.staged.ok);
+    }
+
+pub returns-clause-replaced : goal.returns-clause-replaced
+returns-clause-replaced c =
+    let at = goal.at.returns-clause-replaced c in
+    let h = run at.After-reserve in
+    let same = its_leaves at.After-deref in
+    let renewed = came at.After-deref-3 same in
+    replaced h renewed (record { size = c.args.size; leaves = c.truncate-2.new.self.items }) (new_leaves at.After-drop-now same ∙ placed h renewed)

@@ -1,8 +1,12 @@
-use Rattle.ele_blocks.proofs.SlotTrades.{slot_release_next, slot_release_more}
+use Rattle.std.proofs.Common.{◌∙◌}
+use Rattle.ele_blocks.proofs.Trades.{release_next, release_more}
 use Rattle.ele_blocks.proofs.store.BlockStore.release_all.Goals as goal
 
 pub release-requires : goal.release-requires
-release-requires c = slot_release_next c.loop-slot.self c.args.self.now c.loop-slot.self c.args.slots.now c.loop-slot.slot-index c.slot-item.result c.loop-slot-test.true c.slot-item.is c.requires c.loop-slot.invariant
+release-requires c = release_next c.args.slots.now c.loop-slot.slot-index c.slot-item.result c.loop-slot-test.true c.slot-item.is c.requires c.loop-slot.invariant.trades
 
 pub loop-slot-preserved : goal.loop-slot-preserved
-loop-slot-preserved c = slot_release_more c.loop-slot.self c.args.self.now c.release.new.self c.args.slots.now c.loop-slot.slot-index c.slot-item.result c.loop-slot-test.true c.slot-item.is c.requires c.loop-slot.invariant c.release.ensures
+loop-slot-preserved c = record {
+  trades = release_more c.args.slots.now c.loop-slot.slot-index c.slot-item.result c.loop-slot-test.true c.slot-item.is c.release.new.self.blocks c.requires c.loop-slot.invariant.trades c.release.ensures.sets;
+  leaves = c.release.ensures.leaves ∙ c.loop-slot.invariant.leaves;
+}

@@ -1,7 +1,8 @@
-use Rattle.std.proofs.Common.{take, []}
-use Rattle.ele_blocks.specs.Layout.{ids_of}
-use Rattle.ele_blocks.specs.Shared.{Trades}
+use Rattle.ele_blocks.proofs.Words.{◌≡◌, take, [], ids_of, Trades}
 use Rattle.ele_blocks.proofs.store.BlockStore.release_all.Given as goal
 
 abbrev pub invariant-loop-slot : goal.invariant-loop-slot
-invariant-loop-slot l = Trades l.initial.self l.self (ids_of (take l.slot-index l.slots)) []
+invariant-loop-slot l = record {
+  trades : Trades l.initial.self.blocks l.self.blocks (ids_of (take l.slot-index l.slots)) [];
+  leaves : l.self.leaves ≡ l.initial.self.leaves;
+}

@@ -1,6 +1,6 @@
 use Rattle.std.proofs.Common.{◌≡◌, Some, None, refl, sym, ◌∙◌, ◌-◌}
 use Rattle.std.specs.Prelude.{find}
-use Rattle.ele_files.specs.Finishing.{ended_by}
+use Rattle.ele_files.specs.Appending.{ended_by}
 use Rattle.ele_files.proofs.Endings.{last_row, can_end, no_end, keeps_end}
 use Rattle.ele_lists.proofs.Cuts.{update_first-unfound, update_first-same}
 use Rattle.ele_files.proofs.file.File.end_before.Goals as goal

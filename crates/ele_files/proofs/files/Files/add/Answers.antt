@@ -1,9 +1,20 @@
-use Rattle.std.proofs.Common.{refl}
-use Rattle.ele_files.proofs.Additions.{added_keeps}
+use Rattle.std.proofs.Common.{refl, ◌∙◌}
+use Rattle.ele_files.specs.declared.file.File.{File}
+use Rattle.ele_files.proofs.Appends.{fresh_kept, added_keeps, added_shows}
 use Rattle.ele_files.proofs.files.Files.add.Goals as goal
+
+pub append-first-requires-clause-kept : goal.append-first-requires-clause-kept
+append-first-requires-clause-kept c = fresh_kept _ refl (c.reserve-2.ensures.rows ∙ c.new-log.ensures)
+
+pub append-first-requires-clause-past : goal.append-first-requires-clause-past
+append-first-requires-clause-past c = rw (c.reserve-2.ensures.rows, c.new-log.ensures) tt
 
 pub invariant_of-self-2 : goal.invariant_of-self-2
 invariant_of-self-2 c =
-    let below = rw (← c.self.view_is) at c.requires in
-    let log = rw c.new-log.ensures at c.in_default.ensures.ok in
-    rw (c.put.ensures.items, c.reserve.ensures.items) (added_keeps _ _ _ c.self.invariant _ _ refl log (record { number = refl; no_end = refl; cells = c.new.ensures }) below)
+    let f : File = record { id = c.args.id; policy = c.args.policy; next = 1; log = c.reserve-2.new.self } in
+    rw (c.put.ensures.items, c.reserve.ensures.items) (added_keeps _ _ _ c.self.invariant f refl (c.reserve-2.ensures.rows ∙ c.new-log.ensures) (rw (← c.self.view_is) at c.requires) c.args.now _ (rw c.new-empty.ensures at c.append-first.ensures.appended))
+
+pub returns-clause-ok : goal.returns-clause-ok
+returns-clause-ok c =
+    let f : File = record { id = c.args.id; policy = c.args.policy; next = 1; log = c.reserve-2.new.self } in
+    rw (← c.self.view_is, c.put.ensures.items, c.reserve.ensures.items) (added_shows _ _ _ c.self.invariant f refl (c.reserve-2.ensures.rows ∙ c.new-log.ensures) (rw (← c.self.view_is) at c.requires) c.args.now _ (rw c.new-empty.ensures at c.append-first.ensures.appended))

@@ -1,6 +1,6 @@
-use Rattle.std.proofs.Common.{◌++◌, ◌∷◌, [], sym, ap, ◌∙◌, arith}
+use Rattle.std.proofs.Common.{◌++◌, ◌∷◌, [], refl, sym, ap, ◌∙◌, arith}
 use Rattle.std.proofs.lemmas.Option.{slice_get_past}
-use Rattle.ele_files.proofs.Asked.{draft-map}
+use Rattle.ele_files.proofs.Asked.{draft_shown}
 use Rattle.ele_files.proofs.Copies.{draft-there, draft-next, taken-all}
 use Rattle.ele_files.proofs.files.Files.draft_rows.Goals as goal
 use Rattle.ele_files.specs.Inside.{draft_in}
@@ -11,9 +11,7 @@ unreachable-requires-in_default-draft c =
     draft-there i.store i.sessions.drafts c.drafts_open.ensures.orderly.drafts_rise c.loop-place.place c.in-Some.draft c.in-Some.ensures c.in_default-draft.ensures
 
 pub copy_cells-requires-clause-lives : goal.copy_cells-requires-clause-lives
-copy_cells-requires-clause-lives c =
-    let i = c.self.inside in
-    (draft-map i.store i.files.items i.sessions c.in-Some.draft.0 c.self.invariant c.in-Some-draft.map.now c.in-Some-draft.ensures).0
+copy_cells-requires-clause-lives c = (draft_shown _ _ _ c.self.invariant c.in-Some.draft.0 _ c.in-Some-draft.ensures).lives _ refl
 
 pub loop-place-preserved : goal.loop-place-preserved
 loop-place-preserved c =

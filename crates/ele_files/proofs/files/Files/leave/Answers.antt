@@ -1,28 +1,21 @@
-use Rattle.std.proofs.Common.{◌≡◌, Some, None, sym, ◌∙◌}
-use Rattle.ele_files.proofs.Drops.{given, stays_keeps, stays_shows, given_lives, given_keeps, given_shows}
+use Rattle.std.proofs.Common.{sym, ap, ◌∙◌}
+use Rattle.std.specs.Option.{option_and_then}
+use Rattle.ele_files.specs.Closing.{left_by}
+use Rattle.ele_files.specs.Inside.{held_of}
+use Rattle.ele_files.proofs.Closes.{given_lives, leaves}
+use Rattle.ele_files.proofs.Looks.{IsSeen}
 use Rattle.ele_files.proofs.files.Files.leave.Goals as goal
+use Rattle.ele_files.proofs.files.Files.leave.Goals.{After-give_up}
+use Rattle.ele_sessions.specs.Closes.{closed}
 
 pub give_up-requires : goal.give_up-requires
-give_up-requires c =
-    let answer : given c.self.inside.sessions c.args.handle ≡ Some c.in-Some.map = rw c.close.ensures.answer at (sym c.map_of.ensures ∙ c.in-Some.is) in
-    given_lives c.self.inside.store c.self.inside.files.items c.self.inside.sessions c.args.handle c.self.invariant c.in-Some.map answer
+give_up-requires c m is = given_lives _ _ _ c.args.handle c.self.invariant m (sym (c.map_of-map.ensures ∙ ap (option_and_then (λ a. a.1)) c.close.ensures.answer) ∙ is)
+
+left : (c : After-give_up) → IsSeen c.give_up.new.store c.self.inside.files.items (closed c.self.inside.sessions c.args.handle) (left_by (held_of c.self.inside) c.args.handle)
+left c = leaves _ _ _ c.args.handle c.self.invariant c.give_up.new.store (rw (← c.close.ensures.answer, ← c.map_of-map.ensures) c.give_up.ensures)
 
 pub invariant_of-self : goal.invariant_of-self
-invariant_of-self c =
-    let answer : given c.self.inside.sessions c.args.handle ≡ Some c.in-Some.map = rw c.close.ensures.answer at (sym c.map_of.ensures ∙ c.in-Some.is) in
-    rw c.close.ensures.sessions (given_keeps c.self.inside.store c.self.inside.files.items c.self.inside.sessions c.args.handle c.self.invariant c.in-Some.map answer c.give_up.new.store c.give_up.ensures)
+invariant_of-self c = rw c.close.ensures.sessions (left c).keeps
 
-pub invariant_of-self-in_default : goal.invariant_of-self-in_default
-invariant_of-self-in_default c =
-    let answer : given c.self.inside.sessions c.args.handle ≡ None = rw c.close.ensures.answer at (sym c.map_of.ensures ∙ c.in_default.is) in
-    rw c.close.ensures.sessions (stays_keeps c.self.inside.store c.self.inside.files.items c.self.inside.sessions c.args.handle c.self.invariant answer)
-
-pub returns-in-Some : goal.returns-in-Some
-returns-in-Some c =
-    let answer : given c.self.inside.sessions c.args.handle ≡ Some c.in-Some.map = rw c.close.ensures.answer at (sym c.map_of.ensures ∙ c.in-Some.is) in
-    rw (← c.self.view_is, c.close.ensures.sessions) (given_shows c.self.inside.store c.self.inside.files.items c.self.inside.sessions c.args.handle c.self.invariant c.in-Some.map answer c.give_up.new.store c.give_up.ensures (rw (← c.self.view_is) at c.requires))
-
-pub returns-in_default : goal.returns-in_default
-returns-in_default c =
-    let answer : given c.self.inside.sessions c.args.handle ≡ None = rw c.close.ensures.answer at (sym c.map_of.ensures ∙ c.in_default.is) in
-    rw (← c.self.view_is, c.close.ensures.sessions) (stays_shows c.self.inside.store c.self.inside.files.items c.self.inside.sessions c.args.handle c.self.invariant answer)
+pub returns : goal.returns
+returns c = rw (← c.self.view_is, c.close.ensures.sessions) (left c).shows

@@ -1,5 +1,5 @@
 use Rattle.std.proofs.Common.{None, arith}
-use Rattle.ele_files.proofs.Openings.{first_lives, maps_seen, open_keeps, open_seen}
+use Rattle.ele_files.proofs.Openings.{first_lives, maps_seen, opens}
 use Rattle.ele_files.proofs.Rows.{file-at, no-file, next-found}
 use Rattle.ele_files.proofs.files.Files.open_write.Goals as goal
 
@@ -24,9 +24,9 @@ open_write-requires-clause-lives c =
 pub invariant_of-self : goal.invariant_of-self
 invariant_of-self c =
     let found = file-at _ c.args.file c.in-Some.at c.index-held.result.now (rw c.deref.ensures.value at c.in-Some.ensures) c.index-held.ensures in
-    open_keeps _ _ _ c.self.invariant c.args.file _ found _ _ c.args.now _ (rw c.new-empty.ensures at c.first_map-map.ensures.map) _ c.open_write.ensures.sessions c.open_write.ensures.opens c.open_write.ensures.err c.open_write.ensures.err_store
+    (opens _ _ _ c.self.invariant c.args.file _ found _ _ c.args.now _ (rw c.new-empty.ensures at c.first_map-map.ensures.map) _ c.open_write.ensures.sessions c.open_write.ensures.opens c.open_write.ensures.err c.open_write.ensures.err_store).0
 
 pub returns-clause-ok : goal.returns-clause-ok
 returns-clause-ok c =
     let found = file-at _ c.args.file c.in-Some.at c.index-held.result.now (rw c.deref.ensures.value at c.in-Some.ensures) c.index-held.ensures in
-    rw (← c.self.view_is) (open_seen _ _ _ c.self.invariant c.args.file _ found _ _ c.args.now _ (rw c.new-empty.ensures at c.first_map-map.ensures.map) _ c.open_write.ensures.sessions c.open_write.ensures.opens)
+    rw (← c.self.view_is) (opens _ _ _ c.self.invariant c.args.file _ found _ _ c.args.now _ (rw c.new-empty.ensures at c.first_map-map.ensures.map) _ c.open_write.ensures.sessions c.open_write.ensures.opens c.open_write.ensures.err c.open_write.ensures.err_store).1

@@ -1,12 +1,12 @@
 use Rattle.ele_files.proofs.Rows.{handle_file-shown}
-use Rattle.ele_files.proofs.Writings.{draft_by_lives, cut_keeps, cut_seen, length_seen}
+use Rattle.ele_files.proofs.Drafts.{draft_by_lives, cut, length_seen}
 use Rattle.ele_files.proofs.files.Files.truncate.Goals as goal
 
 pub truncate-requires : goal.truncate-requires
 truncate-requires c = draft_by_lives _ _ _ c.self.invariant c.args.handle
 
 pub invariant_of-self : goal.invariant_of-self
-invariant_of-self c = cut_keeps _ _ _ c.self.invariant _ _ c.truncate.ensures.orderly _ _ _ c.truncate.ensures.truncates c.truncate.ensures.err
+invariant_of-self c = (cut _ _ _ c.self.invariant _ _ c.truncate.ensures.orderly _ _ _ c.truncate.ensures.truncates c.truncate.ensures.err).0
 
 pub returns-clause-refused : goal.returns-clause-refused
 returns-clause-refused c = rw (← c.self.view_is, handle_file-shown) c.truncate.ensures.refused
@@ -15,7 +15,7 @@ pub returns-clause-otherwise : goal.returns-clause-otherwise
 returns-clause-otherwise c = rw (← c.self.view_is, handle_file-shown) c.truncate.ensures.otherwise
 
 pub returns-clause-ok : goal.returns-clause-ok
-returns-clause-ok c = rw (← c.self.view_is) (cut_seen _ _ _ c.self.invariant _ _ c.truncate.ensures.orderly _ _ _ c.truncate.ensures.truncates)
+returns-clause-ok c = rw (← c.self.view_is) (cut _ _ _ c.self.invariant _ _ c.truncate.ensures.orderly _ _ _ c.truncate.ensures.truncates c.truncate.ensures.err).1
 
 pub returns-clause-idle : goal.returns-clause-idle
 returns-clause-idle c = λ has.

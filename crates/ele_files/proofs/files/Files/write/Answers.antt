@@ -1,12 +1,12 @@
 use Rattle.ele_files.proofs.Rows.{handle_file-shown}
-use Rattle.ele_files.proofs.Writings.{draft_by_lives, wrote_keeps, wrote_seen}
+use Rattle.ele_files.proofs.Drafts.{draft_by_lives, wrote}
 use Rattle.ele_files.proofs.files.Files.write.Goals as goal
 
 pub write-requires : goal.write-requires
 write-requires c = draft_by_lives _ _ _ c.self.invariant c.args.handle
 
 pub invariant_of-self : goal.invariant_of-self
-invariant_of-self c = wrote_keeps _ _ _ c.self.invariant _ _ c.write.ensures.orderly _ _ _ _ c.write.ensures.writes c.write.ensures.err
+invariant_of-self c = (wrote _ _ _ c.self.invariant _ _ c.write.ensures.orderly _ _ _ _ c.write.ensures.writes c.write.ensures.err).0
 
 pub returns-clause-refused : goal.returns-clause-refused
 returns-clause-refused c = rw (← c.self.view_is, handle_file-shown) c.write.ensures.refused
@@ -15,7 +15,7 @@ pub returns-clause-otherwise : goal.returns-clause-otherwise
 returns-clause-otherwise c = rw (← c.self.view_is, handle_file-shown) c.write.ensures.otherwise
 
 pub returns-clause-ok : goal.returns-clause-ok
-returns-clause-ok c = rw (← c.self.view_is) (wrote_seen _ _ _ c.self.invariant _ _ c.write.ensures.orderly _ _ _ _ c.write.ensures.writes)
+returns-clause-ok c = rw (← c.self.view_is) (wrote _ _ _ c.self.invariant _ _ c.write.ensures.orderly _ _ _ _ c.write.ensures.writes c.write.ensures.err).1
 
 pub returns-clause-idle : goal.returns-clause-idle
 returns-clause-idle c = rw (← c.self.view_is, handle_file-shown) c.write.ensures.idle

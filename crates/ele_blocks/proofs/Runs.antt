@@ -1,0 +1,247 @@
+-- New slots over the first slots of a map, and new leaves in place of the run of those that they meet.
+use Rattle.ele_blocks.proofs.Words.{◌≡◌, ◌⊎◌, ℕ, ◌+◌, ◌-◌, ◌*◌, ◌/◌, ◌<◌, ◌≤◌, cond, List, [], ◌++◌, length, map, take, drop, min, max, get_or, refl, ap, sym, ◌∙◌, arith, ⊎_elim, inl, inr, slice_get, order, take-add, flat_map, nat_tests, flat_map-append, append-nil, append_assoc, map-append, map-id, take-append-drop, take_all, drop_all, take-take, take_at, take-append-le, drop-append-le, drop-drop, take-map, length-map, length-take, length-take-le, length-drop, length-append, get_or-map, flat_map-map, slice_get-get_or, slot_count, Slot, AreThere, laid_over, Layout, slots_of, shown, ids_of, cell_of, slot_by, cell_by, is_between, LivesIn, AreBacked, leaf_count, AreSized, IsRenewed, IsReplaced, parts, Renews, times, Covers, Store, owners_at, leaf_at, slots_in}
+use Rattle.ele_blocks.proofs.Hands.{StayIn, stay_in, hands_with, leaf_there, backed_there}
+use Rattle.ele_blocks.proofs.LaidOvers.{length-laid_over, laid_at, drop_past, slice_get-take}
+use Rattle.ele_blocks.proofs.Renewals.{times_laid}
+use Rattle.ele_blocks.proofs.Sized.{sized-is, sized-length, sized-count, sized-take, sized-drop, sized-append, sized-map, sized-chunks, chunks_joined, length-chunks, flat-take, flat-drop}
+use Rattle.ele_blocks.proofs.Sizes.{whole_is, slots-count, leaves-count}
+use Rattle.ele_blocks.proofs.Splices.{take_past}
+use Rattle.ele_blocks.proofs.Trades.{times-split, times-append, times_at}
+
+-- what is laid over the middle of a list, or over its end
+laid_apart : {X : Type 0} (first at : ℕ) (new front middle back : List X) → first ≡ length front + at → at ≤ length middle → (at + length new ≤ length middle) ⊎ (back ≡ []) → laid_over first new (front ++ (middle ++ back)) ≡ front ++ (laid_over at new middle ++ back)
+laid_apart first at new front middle back is within fit =
+    let n = length new in
+    let rest : drop (at + n) (middle ++ back) ≡ drop (at + n) middle ++ back = ⊎_elim
+    (λ (le : at + n ≤ length middle). drop-append-le (at + n) middle back le)
+    (λ (none : back ≡ []). rw none (ap (drop (at + n)) (append-nil middle) ∙ sym (append-nil (drop (at + n) middle))))
+    fit in
+    let head = take_past front (middle ++ back) at first is ∙ ap (λ ys. front ++ ys) (take-append-le at middle back within) in
+    let tail = drop_past front (middle ++ back) (at + n) (first + n) (omega (arith, is)) ∙ rest in
+    ap (λ ys. ys ++ (new ++ drop (first + n) (front ++ (middle ++ back)))) head
+    ∙ (ap (λ ys. (front ++ take at middle) ++ (new ++ ys)) tail
+    ∙ (append_assoc front (take at middle) (new ++ (drop (at + n) middle ++ back))
+    ∙ ap (λ ys. front ++ ys) (ap (λ ys. take at middle ++ ys) (sym (append_assoc new (drop (at + n) middle) back)) ∙ sym (append_assoc (take at middle) (new ++ drop (at + n) middle) back))))
+
+-- new slots by a writer over the first slots of a map: those that stand there are renewed
+laid_renews : (s t : Store) (was now : Layout) (w first kept : ℕ) (fresh : List ℕ) → LivesIn s was → first ≤ kept → kept ≤ length (slots_of s was) → ((id : ℕ) → 0 < owners_at s id → times id fresh ≡ 0) → ((id : ℕ) → times id fresh ≤ 1) → slots_of t now ≡ laid_over first (map (slot_by w) fresh) (take kept (slots_of s was)) → Renews s t w (is_between first (first + length fresh)) was now
+laid_renews s t was now w first kept fresh lives le kept_le new one is =
+    let old = take kept (slots_of s was) in
+    let count = length-map fresh (slot_by w) in
+    let few = length-take-le kept (slots_of s was) kept_le in
+    let within : first ≤ length old = omega (arith, few, le) in
+    let at : (slot : ℕ) → slice_get (slots_of t now) slot ≡ cond (is_between first (first + length fresh) slot) (slice_get (map (slot_by w) fresh) (slot - first)) (slice_get old slot) = λ slot. rw (is, ← count) (laid_at first (map (slot_by w) fresh) old within slot) in
+    record {
+      fresh = λ slot yes.
+          let from : first ≤ slot = grind (arith, nat_tests) in
+          let to : slot < first + length fresh = grind (arith, nat_tests) in
+          let none : Slot = record { writer = 0; block = 0 } in
+          let id = get_or fresh (slot - first) 0 in
+          let free : owners_at s id ≡ 0 = ⊎_elim (λ (lt : 0 < owners_at s id). absurd (omega (arith, new id lt, times_at fresh (slot - first) (omega (arith, from, to))))) (λ (none : owners_at s id ≤ 0). let e : owners_at s id ≡ 0 = omega (arith, none) in e) (order 0 (owners_at s id)) in
+          rw (at slot, yes, slice_get-get_or (map (slot_by w) fresh) (slot - first) none (omega (arith, from, to, count)), get_or-map (slot_by w) fresh (slot - first) 0 none (omega (arith, from, to))) (refl, free);
+      stays = λ slot no lt.
+          let long = length-laid_over first (map (slot_by w) fresh) old within in
+          let below : slot < kept = ⊎_elim (λ (b : slot < first). omega (arith, b, le)) (λ (from : first ≤ slot). let past : first + length fresh ≤ slot = grind (arith, nat_tests) in omega (arith, past, lt, ap length is, long, count, few)) (order slot first) in
+          rw (at slot, no) (slice_get-take kept slot (slots_of s was) below);
+      once = λ id zero.
+          let none : times id (ids_of (slots_of s was)) ≤ 0 = ⊎_elim (λ (some : 0 < times id (ids_of (slots_of s was))). absurd (omega (arith, backed_there s was.leaves lives.backed id some, zero))) (λ (no : times id (ids_of (slots_of s was)) ≤ 0). no) (order 0 (times id (ids_of (slots_of s was)))) in
+          omega (arith, ap (λ xs. times id (ids_of xs)) is, times_laid old first w fresh id, one id, none, times-split id kept (slots_of s was), times-split id first old, times-split id (first + length fresh) old);
+    }
+
+-- what a change asks, and the run of leaves that it meets: those before met have slots that are kept
+pub record IsRun (s : Store) (m : Layout) (staged : List (List ℕ)) (first kept from met to : ℕ) : Type 0 where
+  pub lives : LivesIn s m
+  pub le : first ≤ kept
+  pub kept_le : kept ≤ slot_count m.size
+  pub behind : first + length staged < kept → kept ≡ slot_count m.size
+  pub is_from : from ≡ first / 16
+  pub is_met : met ≡ min ((first + length staged + 15) / 16) (leaf_count (slot_count m.size))
+  pub to_end : kept ≤ 16 * met → to ≡ leaf_count (slot_count m.size)
+  pub to_met : 16 * met < kept → to ≡ met
+
+module _ {s : Store} {m : Layout} {staged : List (List ℕ)} {first kept from met to : ℕ} (h : IsRun s m staged first kept from met to) where
+  abbrev pub front : List ℕ
+  front = take from m.leaves
+
+  abbrev pub was : List ℕ
+  was = take (to - from) (drop from m.leaves)
+
+  abbrev pub back : List ℕ
+  back = drop to m.leaves
+
+  abbrev pub window : List Slot
+  window = take (kept - 16 * from) (slots_in s (take (met - from) (drop from m.leaves)))
+
+  sized : AreSized 16 (leaf_at s) (slot_count m.size) m.leaves
+  sized = (whole_is s m h.lives.whole).leaves
+
+  long : length (slots_of s m) ≡ slot_count m.size
+  long = slots-count s m h.lives.whole
+
+  order_of : (from ≤ met) × (met ≤ to) × (to ≤ leaf_count (slot_count m.size)) × (met ≤ leaf_count (slot_count m.size))
+  order_of = (omega arith, ⊎_elim (λ (more : 16 * met < kept). omega (arith, h.to_met more)) (λ (end : kept ≤ 16 * met). omega (arith, h.to_end end)) (order (16 * met) kept), ⊎_elim (λ (more : 16 * met < kept). omega (arith, h.to_met more)) (λ (end : kept ≤ 16 * met). omega (arith, h.to_end end)) (order (16 * met) kept), omega arith)
+
+  in_three : m.leaves ≡ front ++ (was ++ back)
+  in_three = sym (ap (λ ys. front ++ (was ++ ys)) (let e : from + (to - from) ≡ to = omega (arith, order_of) in sym (drop-drop (to - from) from m.leaves ∙ ap (λ j. drop j m.leaves) e)) ∙ (ap (λ ys. front ++ ys) (take-append-drop (to - from) (drop from m.leaves)) ∙ take-append-drop from m.leaves))
+
+  part_slots : (a d : ℕ) → slots_in s (take d (drop a m.leaves)) ≡ take (16 * d) (drop (16 * a) (slots_of s m))
+  part_slots a d = flat-take 16 (leaf_at s) (omega arith) d (slot_count m.size - 16 * a) (drop a m.leaves) (sized-drop 16 (leaf_at s) (omega arith) a (slot_count m.size) m.leaves sized) ∙ ap (take (16 * d)) (flat-drop 16 (leaf_at s) (omega arith) a (slot_count m.size) m.leaves sized)
+
+  front_slots : slots_in s front ≡ take (16 * from) (slots_of s m)
+  front_slots = flat-take 16 (leaf_at s) (omega arith) from (slot_count m.size) m.leaves sized
+
+  back_slots : slots_in s back ≡ drop (16 * to) (slots_of s m)
+  back_slots = flat-drop 16 (leaf_at s) (omega arith) to (slot_count m.size) m.leaves sized
+
+  front_long : length (slots_in s front) ≡ 16 * from
+  front_long = ap length front_slots ∙ length-take-le (16 * from) (slots_of s m) (omega (arith, long))
+
+  -- what a renewal of the run asks
+  pub part_owned : (a d : ℕ) → Covers s.leaves (take d (drop a m.leaves))
+  part_owned a d = record {
+    owned = λ q. omega (arith, h.lives.owned.owned q, ap (times q) (take-append-drop a m.leaves), ap (times q) (take-append-drop d (drop a m.leaves)), times-append q (take a m.leaves) (drop a m.leaves), times-append q (take d (drop a m.leaves)) (drop d (drop a m.leaves)));
+  }
+
+  fewer : (a d id : ℕ) → times id (ids_of (slots_in s (take d (drop a m.leaves)))) ≤ times id (ids_of (slots_of s m))
+  fewer a d id = omega (arith, ap (λ xs. times id (ids_of xs)) (part_slots a d), times-split id (16 * d) (drop (16 * a) (slots_of s m)), times-split id (16 * a) (slots_of s m))
+
+  pub part_backed : (a d : ℕ) → AreBacked s (slots_in s (take d (drop a m.leaves)))
+  part_backed a d id some = h.lives.backed id (omega (arith, some, fewer a d id))
+
+  pub window_there : AreThere s window
+  window_there id some = backed_there s m.leaves h.lives.backed id (omega (arith, some, fewer from (met - from) id, times-split id (kept - 16 * from) (slots_in s (take (met - from) (drop from m.leaves)))))
+
+  window_long : length window ≡ min (kept - 16 * from) (min (16 * (met - from)) (slot_count m.size - 16 * from))
+  window_long = omega (arith, length-take (kept - 16 * from) (slots_in s (take (met - from) (drop from m.leaves))), ap length (part_slots from (met - from)), length-take (16 * (met - from)) (drop (16 * from) (slots_of s m)), length-drop (16 * from) (slots_of s m), long)
+
+  none_behind : kept ≤ 16 * met → back ≡ []
+  none_behind end = drop_all to m.leaves (omega (arith, h.to_end end, leaves-count s m h.lives.whole))
+
+  fit : (first - 16 * from + length staged ≤ length window) ⊎ (slots_in s back ≡ [])
+  fit = ⊎_elim
+      (λ (more : 16 * met < kept). inl (omega (arith, window_long, more, order_of)))
+      (λ (end : kept ≤ 16 * met). inr (ap (slots_in s) (none_behind end)))
+      (order (16 * met) kept)
+
+  pub inside : first - 16 * from ≤ length window
+  inside = omega (arith, window_long, order_of)
+
+  cut : take kept (slots_of s m) ≡ slots_in s front ++ (window ++ slots_in s back)
+  cut = ⊎_elim
+      (λ (more : 16 * met < kept).
+      let all : kept ≡ slot_count m.size = h.behind (omega (arith, more)) in
+      let rest = drop (16 * from) (slots_of s m) in
+      let whole : window ≡ take (16 * (met - from)) rest = ap (take (kept - 16 * from)) (part_slots from (met - from)) ∙ take_all (kept - 16 * from) (take (16 * (met - from)) rest) (omega (arith, length-take (16 * (met - from)) rest, more)) in
+      let e : 16 * from + 16 * (met - from) ≡ 16 * to = omega (arith, order_of, h.to_met more) in
+      take_all kept (slots_of s m) (omega (arith, long, all))
+      ∙ sym (rw (front_slots, whole, back_slots) (ap (λ ys. take (16 * from) (slots_of s m) ++ ys) (ap (λ ys. take (16 * (met - from)) rest ++ ys) (sym (drop-drop (16 * (met - from)) (16 * from) (slots_of s m) ∙ ap (λ j. drop j (slots_of s m)) e)) ∙ take-append-drop (16 * (met - from)) rest) ∙ take-append-drop (16 * from) (slots_of s m))))
+      (λ (end : kept ≤ 16 * met).
+      let rest = drop (16 * from) (slots_of s m) in
+      let part : window ≡ take (kept - 16 * from) rest = ap (take (kept - 16 * from)) (part_slots from (met - from)) ∙ take-take (kept - 16 * from) (16 * (met - from)) rest (omega (arith, end)) in
+      let none : slots_in s back ≡ [] = ap (slots_in s) (none_behind end) in
+      let e : kept ≡ 16 * from + (kept - 16 * from) = omega arith in
+      ap (λ j. take j (slots_of s m)) e ∙ (take-add (16 * from) (kept - 16 * from) (slots_of s m)
+      ∙ sym (rw (front_slots, part, none) (ap (λ ys. take (16 * from) (slots_of s m) ++ ys) (append-nil (take (kept - 16 * from) rest))))))
+      (order (16 * met) kept)
+
+  -- the new leaves in their places
+  module _ {t : Store} {w : ℕ} {now : List ℕ} (renewed : IsRenewed s t was window (first - 16 * from) w staged now) where
+    abbrev laid : List Slot
+    laid = laid_over (first - 16 * from) (map (slot_by w) renewed.blocks) window
+
+    count : length (map (slot_by w) renewed.blocks) ≡ length staged
+    count = length-map renewed.blocks (slot_by w) ∙ renewed.count
+
+    laid_long : length laid ≡ first - 16 * from + length staged + (length window - (first - 16 * from + length staged))
+    laid_long = omega (arith, length-laid_over (first - 16 * from) (map (slot_by w) renewed.blocks) window inside, count)
+
+    now_long : length now ≡ leaf_count (length laid)
+    now_long = sym (length-map now (leaf_at t)) ∙ (ap length renewed.leaves ∙ length-chunks 16 (leaf_count (length laid)) laid)
+
+    -- as many as before, where some stand behind
+    met_long : 16 * met < kept → from + length now ≡ to
+    met_long more = omega (arith, now_long, laid_long, window_long, h.to_met more, more, order_of)
+
+    pub now_room : from + length now ≤ leaf_count (slot_count m.size) + ((first + length staged + 15) / 16 - leaf_count (slot_count m.size))
+    now_room = omega (arith, now_long, laid_long, window_long, order_of)
+
+    pub placed : take (from + length now + (length m.leaves - to)) (laid_over from now m.leaves) ≡ front ++ (now ++ back)
+    placed =
+        let c_is = leaves-count s m h.lives.whole in
+        let n = from + length now + (length m.leaves - to) in
+        let head : length (front ++ now) ≡ from + length now = omega (arith, length-append front now, length-take-le from m.leaves (omega (arith, c_is, order_of))) in
+        ⊎_elim
+        (λ (more : 16 * met < kept).
+        let e = met_long more in
+        ap (λ j. take n (front ++ (now ++ drop j m.leaves))) e
+        ∙ take_all n (front ++ (now ++ back)) (omega (arith, length-append front (now ++ back), length-append now back, length-drop to m.leaves, length-take from m.leaves, c_is, e, order_of)))
+        (λ (end : kept ≤ 16 * met).
+        let none = none_behind end in
+        let zero : n ≡ from + length now = omega (arith, c_is, h.to_end end) in
+        ap (λ j. take j (front ++ (now ++ drop (from + length now) m.leaves))) zero
+        ∙ (ap (take (from + length now)) (sym (append_assoc front now (drop (from + length now) m.leaves)))
+        ∙ (take_at (front ++ now) (drop (from + length now) m.leaves) (from + length now) head
+        ∙ sym (rw none (ap (λ ys. front ++ ys) (append-nil now))))))
+        (order (16 * met) kept)
+
+    times_old : (q : ℕ) → times q m.leaves ≡ times q was + (times q front + times q back)
+    times_old q = omega (arith, ap (times q) in_three, times-append q front (was ++ back), times-append q was back)
+
+    stays : (part : List ℕ) → ((q : ℕ) → times q part ≤ times q front + times q back) → StayIn s t part
+    stays part few = stay_in s t _ _ part renewed.hands (λ q some. omega (arith, some, few q, times_old q, h.lives.owned.owned q)) (λ q some. leaf_there s m.leaves h.lives.backed q (omega (arith, some, few q, times_old q)))
+
+    front_stays : StayIn s t front
+    front_stays = stays front (λ q. omega arith)
+
+    back_stays : StayIn s t back
+    back_stays = stays back (λ q. omega arith)
+
+    now_slots : slots_in t now ≡ laid
+    now_slots = sym (flat_map-map (λ (leaf : List Slot). leaf) (leaf_at t) now) ∙ (ap (flat_map (λ (leaf : List Slot). leaf)) renewed.leaves ∙ chunks_joined 16 (omega arith) (leaf_count (length laid)) laid (omega arith))
+
+    module _ (new : Layout) (is : new.leaves ≡ front ++ (now ++ back)) where
+      fit_by : {X : Type 0} (by : List X) (mid : List X) (tail : List X) → length by ≡ length staged → length mid ≡ length window → (slots_in s back ≡ [] → tail ≡ []) → (first - 16 * from + length by ≤ length mid) ⊎ (tail ≡ [])
+      fit_by by mid tail a b none = ⊎_elim (λ (le : first - 16 * from + length staged ≤ length window). inl (omega (arith, le, a, b))) (λ (e : slots_in s back ≡ []). inr (none e)) fit
+
+      new_slots : slots_of t new ≡ laid_over first (map (slot_by w) renewed.blocks) (take kept (slots_of s m))
+      new_slots =
+          ap (slots_in t) is ∙ (flat_map-append (leaf_at t) front (now ++ back) ∙ (rw (flat_map-append (leaf_at t) now back, front_stays.slots, back_stays.slots, now_slots) refl
+          ∙ sym (ap (laid_over first (map (slot_by w) renewed.blocks)) cut ∙ laid_apart first (first - 16 * from) (map (slot_by w) renewed.blocks) (slots_in s front) window (slots_in s back) (omega (arith, front_long)) inside (fit_by (map (slot_by w) renewed.blocks) window (slots_in s back) count refl (λ e. e)))))
+
+      new_cells : shown t new ≡ laid_over first (map (cell_by w) staged) (take kept (shown s m))
+      new_cells =
+          let g = cell_of s in
+          let u = cell_of t in
+          let by = map (cell_by w) staged in
+          let shown_cut : take kept (shown s m) ≡ map g (slots_in s front) ++ (map g window ++ map g (slots_in s back)) = take-map g kept (slots_of s m) ∙ (ap (map g) cut ∙ (map-append g (slots_in s front) (window ++ slots_in s back) ∙ ap (λ ys. map g (slots_in s front) ++ ys) (map-append g window (slots_in s back)))) in
+          ap (map u) (ap (slots_in t) is ∙ (flat_map-append (leaf_at t) front (now ++ back) ∙ ap (λ ys. slots_in t front ++ ys) (flat_map-append (leaf_at t) now back)))
+          ∙ (map-append u (slots_in t front) (slots_in t now ++ slots_in t back)
+          ∙ (ap (λ ys. map u (slots_in t front) ++ ys) (map-append u (slots_in t now) (slots_in t back))
+          ∙ (rw (front_stays.cells, back_stays.cells, renewed.cells) refl
+          ∙ sym (ap (laid_over first by) shown_cut ∙ laid_apart first (first - 16 * from) by (map g (slots_in s front)) (map g window) (map g (slots_in s back)) (omega (arith, front_long, length-map (slots_in s front) g)) (omega (arith, inside, length-map window g)) (fit_by by (map g window) (map g (slots_in s back)) (length-map staged (cell_by w)) (length-map window g) (ap (map g)))))))
+
+      filled : AreSized 16 (leaf_at t) (length (slots_of t new)) new.leaves
+      filled =
+          let n = slot_count m.size in
+          let all = 16 * from + (length laid + (n - 16 * to)) in
+          let head = sized-map 16 (leaf_at s) (leaf_at t) (16 * from) front front (sym front_stays.leaves) (sized-is 16 (leaf_at s) (omega arith) (min n (16 * from)) (16 * from) front (omega arith) (sized-take 16 (leaf_at s) (omega arith) from n m.leaves sized)) in
+          let mid = sized-map 16 (λ leaf. leaf) (leaf_at t) (length laid) (parts laid) now (map-id (parts laid) ∙ sym renewed.leaves) (sized-chunks 16 (omega arith) (leaf_count (length laid)) laid (omega arith) (omega arith)) in
+          let tail = sized-map 16 (leaf_at s) (leaf_at t) (n - 16 * to) back back (sym back_stays.leaves) (sized-drop 16 (leaf_at s) (omega arith) to n m.leaves sized) in
+          let even : (length laid ≡ 16 * length now) ⊎ (n - 16 * to ≡ 0) = ⊎_elim
+          (λ (more : 16 * met < kept). inl (omega (arith, now_long, laid_long, window_long, more, order_of)))
+          (λ (end : kept ≤ 16 * met). inr (omega (arith, h.to_end end)))
+          (order (16 * met) kept) in
+          let joined : AreSized 16 (leaf_at t) all new.leaves = rw is (sized-append 16 (leaf_at t) (omega arith) (16 * from) (length laid + (n - 16 * to)) front (now ++ back) head (sized-append 16 (leaf_at t) (omega arith) (length laid) (n - 16 * to) now back mid tail even) (inl (ap (λ j. 16 * j) (sym (length-take-le from m.leaves (omega (arith, leaves-count s m h.lives.whole, order_of))))))) in
+          sized-is 16 (leaf_at t) (omega arith) all (length (slots_of t new)) new.leaves (sym (sized-length 16 (leaf_at t) (omega arith) all new.leaves joined)) joined
+
+      pub replaced : IsReplaced s t w first kept staged m new
+      replaced = record {
+        cells = new_cells;
+        filled = filled;
+        renews = rw renewed.count at (laid_renews s t m new w first kept renewed.blocks h.lives h.le (omega (arith, long)) renewed.fresh renewed.once new_slots);
+        hands = hands_with s t _ _ (λ q. times q m.leaves) (λ q. times q new.leaves) (λ q. times q front + times q back) renewed.hands times_old (λ q. omega (arith, ap (times q) is, times-append q front (now ++ back), times-append q now back));
+      }
+
+      -- a leaf for each 16 slots
+      pub leaves_new : length new.leaves ≡ leaf_count (max kept (first + length staged))
+      leaves_new = omega (arith, sized-count 16 (leaf_at t) (omega arith) (length (slots_of t new)) new.leaves filled, ap length new_slots, length-laid_over first (map (slot_by w) renewed.blocks) (take kept (slots_of s m)) (omega (arith, length-take kept (slots_of s m), long)), count, length-take kept (slots_of s m), long)

@@ -1,0 +1,123 @@
+-- Lists in pieces of c items, of which the last may be shorter.
+use Rattle.ele_blocks.proofs.Words.{add-one, ◌≡◌, ◌⊎◌, ℕ, ◌+◌, ◌-◌, ◌*◌, ◌<◌, ◌≤◌, true, List, [], ◌∷◌, ◌++◌, length, take, drop, map, get_or, min, refl, ap, sym, ◌∙◌, arith, zero, suc, eqb, ltb, inl, inr, ⊎_elim, flat_map, first_chunks, order, mul-suc, take-nil, take-append-add, nat_tests, flat_map-append, append-nil, append_cancel_left, take-append-drop, take_all, length-append, length-take, length-take-le, length-drop, drop_more, nil_from_length, take_min, drop_min, laid_over, fills, AreSized}
+
+-- the test is what it tests
+pub fills_sized : {A X : Type 0} (c : ℕ) (f : A → List X) (n : ℕ) (xs : List A) → fills c f n xs ≡ true → AreSized c f n xs
+fills_sized c f n [] h = grind (arith, nat_tests)
+fills_sized c f n (x ∷ xs) h = (grind (arith, nat_tests, h), grind (arith, nat_tests, h), fills_sized c f (n - c) xs (grind (arith, nat_tests, h)))
+
+pub sized_fills : {A X : Type 0} (c : ℕ) (f : A → List X) (n : ℕ) (xs : List A) → AreSized c f n xs → fills c f n xs ≡ true
+sized_fills c f n [] h = grind (arith, nat_tests, h)
+sized_fills c f n (x ∷ xs) h =
+    let a : eqb (length (f x)) (min n c) ≡ true = let e = h.0 in grind (arith, nat_tests, e) in
+    let b : ltb 0 n ≡ true = let e = h.1 in grind (arith, nat_tests, e) in
+    rw (a, b) (sized_fills c f (n - c) xs h.2)
+
+pub fills-map : {A X : Type 0} (c : ℕ) (f g : A → List X) (n : ℕ) (xs : List A) → map f xs ≡ map g xs → fills c f n xs ≡ fills c g n xs
+fills-map c f g n [] e = refl
+fills-map c f g n (x ∷ xs) e =
+    let same : f x ≡ g x = cc in
+    let rest : map f xs ≡ map g xs = cc in
+    rw (same, fills-map c f g (n - c) xs rest) refl
+
+module _ {A X : Type 0} (c : ℕ) (f : A → List X) (some : 0 < c) where
+  pub sized-is : (n m : ℕ) (xs : List A) → n ≡ m → AreSized c f n xs → AreSized c f m xs
+  sized-is n m xs e h = rw (sym e) h
+
+  pub sized-nil : (xs : List A) → AreSized c f 0 xs → xs ≡ []
+  sized-nil [] h = refl
+  sized-nil (x ∷ xs) h = absurd (omega (arith, h))
+
+  -- as many items, and as many pieces
+  pub sized-length : (n : ℕ) (xs : List A) → AreSized c f n xs → length (flat_map f xs) ≡ n
+  sized-length n [] h = omega (arith, h)
+  sized-length n (x ∷ xs) h = omega (arith, h, sized-length (n - c) xs h.2, length-append (f x) (flat_map f xs))
+
+  pub sized-count : (n : ℕ) (xs : List A) → AreSized c f n xs → (n ≤ c * length xs) × (c * length xs < n + c)
+  sized-count n [] h = (omega (arith, h), omega (arith, h))
+  sized-count n (x ∷ xs) h =
+      let more = sized-count (n - c) xs h.2 in
+      (omega (arith, h, more, mul-suc c (length xs)), ⊎_elim (λ (lt : c < n). omega (arith, h, more, lt, mul-suc c (length xs))) (λ (le : n ≤ c). let none : xs ≡ [] = sized-nil xs (sized-is (n - c) 0 xs (omega (arith, le)) h.2) in let one : c * 1 ≡ c = omega arith in rw none (omega (arith, h, one))) (order c n))
+
+  pub sized-drop : (k n : ℕ) (xs : List A) → AreSized c f n xs → AreSized c f (n - c * k) (drop k xs)
+  sized-drop zero n xs h = sized-is n (n - c * 0) xs (omega arith) h
+  sized-drop (suc k) n [] h = omega (arith, h)
+  sized-drop (suc k) n (x ∷ xs) h = sized-is (n - c - c * k) (n - c * suc k) (drop k xs) (omega (arith, mul-suc c k)) (sized-drop k (n - c) xs h.2)
+
+  pub sized-take : (k n : ℕ) (xs : List A) → AreSized c f n xs → AreSized c f (min n (c * k)) (take k xs)
+  sized-take zero n xs h = omega arith
+  sized-take (suc k) n [] h = omega (arith, h)
+  sized-take (suc k) n (x ∷ xs) h = (omega (arith, h, mul-suc c k), omega (arith, h, mul-suc c k), sized-is (min (n - c) (c * k)) (min n (c * suc k) - c) (take k xs) (omega (arith, mul-suc c k)) (sized-take k (n - c) xs h.2))
+
+  -- whole pieces, and what follows them
+  pub sized-append : (n m : ℕ) (xs ys : List A) → AreSized c f n xs → AreSized c f m ys → (n ≡ c * length xs) ⊎ (m ≡ 0) → AreSized c f (n + m) (xs ++ ys)
+  sized-append n m [] ys h k e = sized-is m (n + m) ys (omega (arith, h)) k
+  sized-append n m (x ∷ xs) ys h k e = ⊎_elim
+      (λ (whole : n ≡ c * suc (length xs)).
+      let rest : n - c ≡ c * length xs = omega (arith, whole, mul-suc c (length xs)) in
+      (omega (arith, h, whole, mul-suc c (length xs)), omega (arith, h), sized-is (n - c + m) (n + m - c) (xs ++ ys) (omega (arith, whole, mul-suc c (length xs))) (sized-append (n - c) m xs ys h.2 k (inl rest))))
+      (λ (none : m ≡ 0). (omega (arith, h, none), omega (arith, h), sized-is (n - c + m) (n + m - c) (xs ++ ys) (omega (arith, none)) (sized-append (n - c) m xs ys h.2 k (inr none))))
+      e
+
+  -- the items of some pieces
+  pub flat-take : (k n : ℕ) (xs : List A) → AreSized c f n xs → flat_map f (take k xs) ≡ take (c * k) (flat_map f xs)
+  flat-take zero n xs h = let none : c * 0 ≡ 0 = omega arith in rw none refl
+  flat-take (suc k) n [] h = sym (take_all (c * suc k) (let none : List X = [] in none) (omega arith))
+  flat-take (suc k) n (x ∷ xs) h = ⊎_elim
+      (λ (more : c < n).
+      let size : c * suc k ≡ length (f x) + c * k = omega (arith, h, more, mul-suc c k) in
+      ap (λ ys. f x ++ ys) (flat-take k (n - c) xs h.2) ∙ sym (ap (λ j. take j (f x ++ flat_map f xs)) size ∙ take-append-add (f x) (flat_map f xs) (c * k)))
+      (λ (last : n ≤ c).
+      let none : xs ≡ [] = sized-nil xs (sized-is (n - c) 0 xs (omega (arith, last)) h.2) in
+      rw (none, take-nil k) (sym (take_all (c * suc k) (f x ++ []) (omega (arith, h, last, length-append (f x) [], mul-suc c k)))))
+      (order c n)
+
+  pub flat-drop : (k n : ℕ) (xs : List A) → AreSized c f n xs → flat_map f (drop k xs) ≡ drop (c * k) (flat_map f xs)
+  flat-drop k n xs h = append_cancel_left (take (c * k) (flat_map f xs)) (flat_map f (drop k xs)) (drop (c * k) (flat_map f xs))
+      (ap (λ ys. ys ++ flat_map f (drop k xs)) (sym (flat-take k n xs h)) ∙ (sym (flat_map-append f (take k xs) (drop k xs)) ∙ (ap (flat_map f) (take-append-drop k xs) ∙ sym (take-append-drop (c * k) (flat_map f xs)))))
+
+  pub flat-at : (k n : ℕ) (xs : List A) (d : A) → AreSized c f n xs → k < length xs → f (get_or xs k d) ≡ take c (drop (c * k) (flat_map f xs))
+  flat-at k n xs d h lt =
+      let one : c * 1 ≡ c = omega arith in
+      let first : take 1 (drop k xs) ≡ get_or xs k d ∷ [] = ap (take 1) (drop_more xs k d lt) in
+      sym (append-nil (f (get_or xs k d))) ∙ (sym (ap (flat_map f) first) ∙ (flat-take 1 (n - c * k) (drop k xs) (sized-drop k n xs h) ∙ (ap (λ j. take j (flat_map f (drop k xs))) one ∙ ap (take c) (flat-drop k n xs h))))
+
+  -- pieces laid over others
+  pub flat-laid : (first n : ℕ) (new old : List A) → AreSized c f n old → flat_map f (laid_over first new old) ≡ take (c * first) (flat_map f old) ++ (flat_map f new ++ drop (c * (first + length new)) (flat_map f old))
+  flat-laid first n new old h = flat_map-append f (take first old) (new ++ drop (first + length new) old) ∙ rw (flat-take first n old h, flat_map-append f new (drop (first + length new) old), flat-drop (first + length new) n old h) refl
+
+  pub sized-laid : (first n m : ℕ) (new old : List A) → AreSized c f n old → AreSized c f m new → first ≤ length old → c * first ≤ n → (m ≡ c * length new) ⊎ (n ≤ c * (first + length new)) → AreSized c f (c * first + (m + (n - c * (first + length new)))) (laid_over first new old)
+  sized-laid first n m new old h k within fit reach =
+      let rest = n - c * (first + length new) in
+      sized-append (c * first) (m + rest) (take first old) (new ++ drop (first + length new) old) (sized-is (min n (c * first)) (c * first) (take first old) (omega (arith, fit)) (sized-take first n old h))
+      (sized-append m rest new (drop (first + length new) old) k (sized-drop (first + length new) n old h) (⊎_elim (λ (whole : m ≡ c * length new). inl whole) (λ (end : n ≤ c * (first + length new)). inr (omega (arith, end))) reach))
+      (inl (ap (λ j. c * j) (sym (length-take-le first old within))))
+
+-- pieces that show the same
+pub sized-map : {A B X : Type 0} (c : ℕ) (f : A → List X) (g : B → List X) (n : ℕ) (xs : List A) (ys : List B) → map f xs ≡ map g ys → AreSized c f n xs → AreSized c g n ys
+sized-map c f g n [] [] e h = h
+sized-map c f g n [] (y ∷ ys) e h = absurd cc
+sized-map c f g n (x ∷ xs) [] e h = absurd cc
+sized-map c f g n (x ∷ xs) (y ∷ ys) e h = let same : f x ≡ g y = cc in let rest : map f xs ≡ map g ys = cc in (rw (← same) h.0, h.1, sized-map c f g (n - c) xs ys rest h.2)
+
+-- a list that is cut
+module _ {X : Type 0} (c : ℕ) (some : 0 < c) where
+  pub sized-chunks : (k : ℕ) (xs : List X) → length xs ≤ c * k → c * k < length xs + c → AreSized c (λ piece. piece) (length xs) (first_chunks c k xs)
+  sized-chunks zero xs enough few = omega (arith, enough)
+  sized-chunks (suc k) xs enough few =
+      let size = length-drop c xs in
+      (omega (arith, length-take c xs), omega (arith, few, mul-suc c k), sized-is c (λ piece. piece) some (length (drop c xs)) (length xs - c) (first_chunks c k (drop c xs)) size (sized-chunks k (drop c xs) (omega (arith, enough, size, mul-suc c k)) (omega (arith, few, size, mul-suc c k))))
+
+  pub chunks_joined : (k : ℕ) (xs : List X) → length xs ≤ c * k → flat_map (λ piece. piece) (first_chunks c k xs) ≡ xs
+  chunks_joined zero xs le = sym (nil_from_length xs (omega (arith, le)))
+  chunks_joined (suc k) xs le = ap (λ ys. take c xs ++ ys) (chunks_joined k (drop c xs) (omega (arith, le, length-drop c xs, mul-suc c k))) ∙ take-append-drop c xs
+
+-- the next chunk, as a split makes it
+pub chunk_next : {X : Type 0} (c left more n : ℕ) (rest front back : List X) → left ≡ more + 1 → n ≡ min (length rest) c → front ≡ take n rest → back ≡ drop n rest → first_chunks c left rest ≡ front ∷ first_chunks c more back
+chunk_next c left more n rest front back one size is_front is_back =
+    let turned : n ≡ min c (length rest) = omega (arith, size) in
+    rw (is_front, is_back, turned, take_min c rest, drop_min c rest, one, add-one) refl
+
+pub length-chunks : {X : Type 0} (c k : ℕ) (xs : List X) → length (first_chunks c k xs) ≡ k
+length-chunks c zero xs = refl
+length-chunks c (suc k) xs = omega (arith, length-chunks c k (drop c xs))

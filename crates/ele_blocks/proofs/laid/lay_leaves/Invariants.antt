@@ -1,0 +1,8 @@
+use Rattle.ele_blocks.proofs.Words.{◌≡◌, ◌≤◌, take, vec_capacity, laid_over}
+use Rattle.ele_blocks.proofs.laid.lay_leaves.Given as goal
+
+abbrev pub invariant-loop-i : goal.invariant-loop-i
+invariant-loop-i l = record {
+  items : l.leaves.items ≡ laid_over l.fn.first (take l.i l.ids) l.initial.leaves.items;
+  room : vec_capacity l.initial.leaves ≤ vec_capacity l.leaves;
+}

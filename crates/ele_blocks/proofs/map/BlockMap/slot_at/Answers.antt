@@ -1,0 +1,19 @@
+use Rattle.ele_blocks.proofs.Words.{◌∙◌, ◌*◌, ◌/◌, drop, ap, length, arith, length-take, length-drop, slots_of}
+use Rattle.ele_blocks.proofs.Sizes.{slot_found}
+use Rattle.ele_blocks.proofs.OneToOnes.{slot_owned}
+use Rattle.ele_blocks.proofs.Sizes.{slots-count, its_bytes}
+use Rattle.ele_blocks.proofs.map.BlockMap.slot_at.Goals as goal
+
+pub bounds-leaf-slot : goal.bounds-leaf-slot
+bounds-leaf-slot c =
+    let slots = slots_of c.args.store.now c.args.self.now in
+    omega (arith, ap length (c.leaf.ensures ∙ c.leaf_of-leaf.ensures.is), length-take 16 (drop (16 * (c.args.slot / 16)) slots), length-drop (16 * (c.args.slot / 16)) slots, slots-count c.args.store.now c.args.self.now c.requires.lives.whole, c.requires.within)
+
+pub returns : goal.returns
+returns c =
+    let s = c.args.store.now in
+    let m = c.args.self.now in
+    let lives = c.requires.lives in
+    let x = c.index-leaf-slot.result in
+    let at = slot_found (slots_of s m) c.leaf.result.now c.args.slot x (c.leaf.ensures ∙ c.leaf_of-leaf.ensures.is) (omega (arith, slots-count s m lives.whole, c.requires.within)) c.index-leaf-slot.is in
+    record { at = at; owned = slot_owned s m lives c.args.slot x at; bytes = its_bytes s m lives.whole c.args.slot x at }

@@ -1,0 +1,6 @@
+use Rattle.std.proofs.Common.{ap, sym, ◌∙◌}
+use Rattle.ele_blocks.proofs.Counts.{count-counted}
+use Rattle.ele_blocks.proofs.shared.Shared.len.Goals as goal
+
+pub returns-clause-count : goal.returns-clause-count
+returns-clause-count g c = rw (sym (ap (λ v. v.slots) c.self.view_is)) (c.len.ensures ∙ sym (count-counted c.self.inside.values.slots c.self.inside.owners.items))

@@ -1,7 +1,0 @@
-use Rattle.std.proofs.Common.{take, []}
-use Rattle.ele_blocks.specs.Layout.{ids_of}
-use Rattle.ele_blocks.specs.Shared.{Trades}
-use Rattle.ele_blocks.proofs.store.BlockStore.share_all.Given as goal
-
-abbrev pub invariant-loop-slot : goal.invariant-loop-slot
-invariant-loop-slot l = Trades l.initial.self l.self [] (ids_of (take l.slot-index l.slots))

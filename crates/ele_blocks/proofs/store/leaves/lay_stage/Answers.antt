@@ -1,0 +1,44 @@
+use Rattle.ele_blocks.proofs.Words.{◌≡◌, ◌+◌, ◌∙◌, length, take, drop, min, Some, ap, sym, arith, length-map, drop_min, value_at}
+use Rattle.ele_blocks.proofs.Renewals.{IsStaged, front_there, front_few, back_there, back_few, is_laid}
+use Rattle.ele_blocks.proofs.store.leaves.lay_stage.Goals as goal
+use Rattle.ele_blocks.proofs.store.leaves.lay_stage.Goals.{After-split_at, After-split_at-2}
+
+its_count : (c : After-split_at) → length c.in_ok-fresh.fresh.items ≡ length c.args.stage.staged.items
+its_count c = sym (length-map c.in_ok-fresh.fresh.items (value_at c.put_all.new.self.slots)) ∙ (ap length c.in_ok-fresh.ensures.values ∙ length-map c.args.stage.staged.items (λ x. Some x))
+
+staged : (c : After-split_at) → IsStaged c.args.blocks.now.slots c.put_all.new.self.slots c.args.stage.window.items c.args.stage.first c.in_ok-fresh.fresh.items
+staged c = record {
+  within = omega arith;
+  there = c.requires.there;
+  few = c.requires.few;
+  small = omega (arith, its_count c);
+  adds = c.in_ok-fresh.ensures.adds;
+}
+
+front : (c : After-split_at) → c.split_at.result.0.now ≡ take c.args.stage.first c.args.stage.window.items
+front c = c.split_at.ensures.front ∙ ap (take c.args.stage.first) (c.deref.ensures.value ∙ c.in_ok-reserve.ensures.items)
+
+back : (c : After-split_at-2) → length c.in_ok-fresh.fresh.items ≡ length c.args.stage.staged.items → c.split_at-2.result.1.now ≡ drop (c.args.stage.first + length c.in_ok-fresh.fresh.items) c.args.stage.window.items
+back c count =
+    let window = c.args.stage.window.items in
+    let past = c.args.stage.first + length c.in_ok-fresh.fresh.items in
+    let place : c.min.result ≡ min past (length window) = omega (arith, count) in
+    c.split_at-2.ensures.back ∙ (ap (drop c.min.result) (c.deref-2.ensures.value ∙ c.in_ok-reserve.ensures.items) ∙ (ap (λ n. drop n window) place ∙ drop_min past window))
+
+pub share_all-requires : goal.share_all-requires
+share_all-requires c =
+    let at = (goal.at.share_all-requires c).After-split_at in
+    record { there = rw (front at) (front_there (staged at)); few = rw (front at) (front_few (staged at)) }
+
+pub share_all-requires-2 : goal.share_all-requires-2
+share_all-requires-2 c =
+    let at = (goal.at.share_all-requires-2 c).After-split_at in
+    let behind = back (goal.at.share_all-requires-2 c).After-split_at-2 (its_count at) in
+    let shared = rw (front at) at c.share_all.ensures in
+    record { there = rw behind (back_there (staged at) c.share_all.new.blocks.slots shared); few = rw behind (back_few (staged at) c.share_all.new.blocks.slots shared) }
+
+pub returns-clause-laid : goal.returns-clause-laid
+returns-clause-laid c =
+    let at = (goal.at.returns-clause-laid c).After-split_at in
+    let at2 = (goal.at.returns-clause-laid c).After-split_at-2 in
+    is_laid (staged at) c.share_all.new.blocks.slots (rw (front at) at c.share_all.ensures) c.share_all-2.new.blocks.slots c.args.stage.writer c.args.stage.staged.items c.lay_slots.new.slots.items (rw (back at2 (its_count at)) at c.share_all-2.ensures) c.in_ok-fresh.ensures.values (rw (c.deref-3.ensures.value, c.in_ok-reserve.ensures.items) at c.lay_slots.ensures)

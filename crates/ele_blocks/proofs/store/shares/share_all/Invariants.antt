@@ -1,0 +1,5 @@
+use Rattle.ele_blocks.proofs.Words.{take, [], ids_of, Trades}
+use Rattle.ele_blocks.proofs.store.shares.share_all.Given as goal
+
+abbrev pub invariant-loop-slot : goal.invariant-loop-slot
+invariant-loop-slot l = Trades l.initial.blocks.slots l.blocks.slots [] (ids_of (take l.slot-index l.slots))

@@ -1,0 +1,49 @@
+//! Items laid over a list, from one of its places on.
+//! A contract sees lists.
+ghost use Rattle.std.specs.Prelude.{◌≡◌, ◌<◌, ◌≤◌, ◌+◌, [], ◌∷◌, length, map, vec_capacity};
+ghost use Rattle.ele_blocks.specs.LaidOver.{laid_over};
+ghost use Rattle.ele_blocks.specs.Layout.{slot_by};
+
+use crate::slot::Slot;
+use crate::store::BlockId;
+use ele_lists::put;
+use ele_moment::VersionNo;
+
+/// Puts the item in its place, or behind the last where there is room.
+#[tactic(auto, using(crate::proofs::LaidOvers::laid_set))]
+fn place<T: Copy>(items: &mut Vec<T>, at: usize, item: T)
+    requires within { at ≤ length items.old.items }
+    requires room { at < vec_capacity items.old }
+    ensures items { items.new.items ≡ laid_over at (item ∷ []) items.old.items }
+    ensures room { vec_capacity items.old ≤ vec_capacity items.new }
+{
+    if at < items.len() {
+        items[at] = item;
+    } else {
+        put(items, item);
+    }
+}
+
+/// Lays the writer's slots for the blocks over the slots from the first on. There is room for those
+/// that go past the end.
+pub fn lay_slots(slots: &mut Vec<Slot>, first: usize, writer: VersionNo, ids: &[usize])
+    requires within { first ≤ length slots.old.items }
+    requires room { first + length ids.now ≤ vec_capacity slots.old }
+    ensures { slots.new.items ≡ laid_over first (map (slot_by writer) ids.now) slots.old.items }
+{
+    for (i, id) in ids.iter().enumerate() {
+        let block = BlockId { key: *id };
+        place(slots, first + i, Slot { writer, block });
+    }
+}
+
+/// Lays the leaves over the leaves from the first on. There is room for those that go past the end.
+pub fn lay_leaves(leaves: &mut Vec<usize>, first: usize, ids: &[usize])
+    requires within { first ≤ length leaves.old.items }
+    requires room { first + length ids.now ≤ vec_capacity leaves.old }
+    ensures { leaves.new.items ≡ laid_over first ids.now leaves.old.items }
+{
+    for (i, id) in ids.iter().enumerate() {
+        place(leaves, first + i, *id);
+    }
+}

@@ -1,0 +1,172 @@
+//! Leaves as their owners come and go.
+//! A contract sees how owners of leaves change hands, and those of blocks with them.
+ghost use Rattle.std.specs.Prelude.{◌≡◌, ◌<◌, ◌≤◌, ◌+◌, ◌^◌, [], ◌∷◌, OnErr, IfOk, Some, length, map, max, vec_len, vec_capacity};
+ghost use Rattle.slab.specs.Slab.{HasRoomFor};
+ghost use Rattle.ele_blocks.specs.Hands.{Hands, AreThere};
+ghost use Rattle.ele_blocks.specs.Layout.{ids_of};
+ghost use Rattle.ele_blocks.specs.LivesIn.{AreBacked, backing, leaf_count};
+ghost use Rattle.ele_blocks.specs.Renewed.{IsLaid, IsRenewed, parts};
+ghost use Rattle.ele_blocks.specs.Shared.{Covers, Adds, owners, times, value_at};
+ghost use Rattle.ele_blocks.specs.Store.{leaf_at, slots_in};
+
+use crate::laid::lay_slots;
+use crate::leaf::{LEAF, Leaf};
+use crate::shared::Shared;
+use crate::slot::Slot;
+use crate::store::BlockStore;
+use crate::store::shares::share_all;
+use ele_lists::{ByteList, put};
+use ele_moment::{NoMemory, VersionNo};
+use std::alloc::Global;
+
+/// New slots for a run of leaves: blocks of these bytes, from this place on.
+#[derive(Debug, Drop)]
+pub(crate) struct Stage {
+    pub window: Vec<Slot>,
+    pub first: usize,
+    pub writer: VersionNo,
+    pub staged: Vec<ByteList>,
+}
+
+/// Keeps the slots as new leaves where there is room, and adds their numbers.
+fn put_leaves(leaves: &mut Shared<Leaf>, ids: &mut Vec<usize>, slots: &[Slot])
+    requires room { HasRoomFor leaves.old (leaf_count (length slots.now)) }
+    requires room_ids { leaf_count (length slots.now) ≤ vec_capacity ids.old }
+    requires empty { ids.old.items ≡ [] }
+    ensures adds { Adds leaves.old.slots leaves.new.slots ids.new.items }
+    ensures values { map (value_at leaves.new.slots) ids.new.items ≡ map Some (parts slots.now) }
+    ensures backing { (id : _) → backing leaves.new.slots id
+        ≡ backing leaves.old.slots id + times id (ids_of slots.now) }
+{
+    let mut rest = slots;
+    for _ in 0..slots.len().div_ceil(LEAF) {
+        let (part, more) = rest.split_at(rest.len().min(LEAF));
+        put(ids, leaves.put_reserved(Leaf::new(part)));
+        rest = more;
+    }
+}
+
+/// New blocks for what is staged, and the window with their slots laid over it. The block of every
+/// other slot has one owner more.
+/// Where memory is refused, the blocks are as they were.
+fn lay_stage(
+    blocks: &mut Shared<ByteList>,
+    alloc: Global,
+    stage: Stage,
+) -> Result<Vec<Slot>, NoMemory>
+    requires there { (id : _) → 0 < times id (ids_of stage.window.items)
+        → 0 < owners blocks.old.slots id }
+    requires few { (id : _) → 0 < times id (ids_of stage.window.items)
+        → owners blocks.old.slots id < 2 ^ 62 }
+    requires within { stage.first ≤ vec_len stage.window }
+    requires small { vec_len stage.window + vec_len stage.staged < 2 ^ 61 }
+    ensures laid { IfOk result (λ slots. IsLaid blocks.old.slots blocks.new.slots
+        stage.window.items stage.first stage.writer stage.staged.items slots.items) }
+    ensures count { IfOk result (λ slots.
+        vec_len slots ≡ max (vec_len stage.window) (stage.first + vec_len stage.staged)) }
+    ensures err { OnErr result (blocks.new.slots ≡ blocks.old.slots) }
+{
+    let Stage {
+        mut window,
+        first,
+        writer,
+        staged,
+    } = stage;
+    let past = first + staged.len();
+    window.reserve(past.saturating_sub(window.len()))?;
+    let fresh = blocks.put_all(alloc, staged)?;
+    share_all(blocks, window.split_at(first).0);
+    share_all(blocks, window.split_at(past.min(window.len())).1);
+    lay_slots(&mut window, first, writer, &fresh);
+    Ok(window)
+}
+
+impl BlockStore {
+    /// The slots of a leaf.
+    pub(crate) fn leaf(&self, leaf: usize) -> &[Slot]
+        requires { 0 < owners self.now.leaves leaf }
+        ensures { result.now ≡ leaf_at self.now leaf }
+    {
+        self.leaves.get(leaf).as_slice()
+    }
+
+    /// The slots of leaves in a row.
+    pub(crate) fn slots_in(&self, leaves: &[usize]) -> Result<Vec<Slot>, NoMemory>
+        requires { Covers self.now.leaves leaves.now }
+        ensures { IfOk result (λ slots. slots.items ≡ slots_in self.now leaves.now) }
+    {
+        let mut slots = Vec::new(self.alloc);
+        for leaf in leaves {
+            slots.extend_from_slice(self.leaf(*leaf))?;
+        }
+        Ok(slots)
+    }
+
+    /// Gives a leaf one owner more.
+    fn share_leaf(&mut self, leaf: usize)
+        requires there { 0 < owners self.old.leaves leaf }
+        requires few { owners self.old.leaves leaf < 2 ^ 63 }
+        ensures { Hands self.old self.new (λ other. 0) (λ other. times other (leaf ∷ [])) }
+    {
+        self.leaves.share(leaf);
+    }
+
+    /// Gives each leaf one owner more.
+    pub(crate) fn share_leaves(&mut self, leaves: &[usize])
+        requires there { Covers self.old.leaves leaves.now }
+        requires few { (leaf : _) → owners self.old.leaves leaf + length leaves.now ≤ 2 ^ 63 }
+        ensures { Hands self.old self.new (λ leaf. 0) (λ leaf. times leaf leaves.now) }
+    {
+        for leaf in leaves {
+            self.share_leaf(*leaf);
+        }
+    }
+
+    /// Takes one owner from a leaf, which leaves with its last, and then releases its blocks.
+    fn release_leaf(&mut self, leaf: usize)
+        requires there { 0 < owners self.old.leaves leaf }
+        requires backed { AreBacked self.old (leaf_at self.old leaf) }
+        ensures { Hands self.old self.new (λ other. times other (leaf ∷ [])) (λ other. 0) }
+    {
+        if let Some(slots) = self.leaves.release(leaf) {
+            self.release_all(slots.as_slice());
+        }
+    }
+
+    /// Takes one owner from each leaf.
+    pub(crate) fn release_leaves(&mut self, leaves: &[usize])
+        requires owned { Covers self.old.leaves leaves.now }
+        requires backed { AreBacked self.old (slots_in self.old leaves.now) }
+        ensures { Hands self.old self.new (λ leaf. times leaf leaves.now) (λ leaf. 0) }
+    {
+        for leaf in leaves {
+            self.release_leaf(*leaf);
+        }
+    }
+
+    /// New leaves and blocks in place of these leaves, each of which loses an owner. Every block is in
+    /// the new leaves under its number, so it has one owner more while the old leaf stands.
+    /// Where memory is refused, the store is as it was; so it is where a block has 2^62 owners.
+    pub(crate) fn renew(&mut self, was: &[usize], stage: Stage) -> Result<Vec<usize>, NoMemory>
+        requires owned { Covers self.old.leaves was.now }
+        requires backed { AreBacked self.old (slots_in self.old was.now) }
+        requires there { AreThere self.old stage.window.items }
+        requires within { stage.first ≤ vec_len stage.window }
+        requires small { vec_len stage.window + vec_len stage.staged < 2 ^ 61 }
+        ensures renewed { IfOk result (λ now. IsRenewed self.old self.new was.now
+            stage.window.items stage.first stage.writer stage.staged.items now.items) }
+        ensures err { OnErr result (self.new ≡ self.old) }
+    {
+        if !self.can_share(&stage.window) {
+            return Err(NoMemory);
+        }
+        let past = stage.first + stage.staged.len();
+        let count = past.max(stage.window.len()).div_ceil(LEAF);
+        let mut now = Vec::with_capacity(self.alloc, count)?;
+        self.leaves.reserve(count)?;
+        let slots = lay_stage(&mut self.blocks, self.alloc, stage)?;
+        put_leaves(&mut self.leaves, &mut now, &slots);
+        self.release_leaves(was);
+        Ok(now)
+    }
+}

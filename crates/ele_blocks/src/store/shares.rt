@@ -1,0 +1,63 @@
+//! Owners of many blocks at once.
+//! A contract sees how often each block is named.
+ghost use Rattle.std.specs.Prelude.{◌≡◌, ◌<◌, ◌≤◌, ◌+◌, ◌^◌, [], IsTrue, length};
+ghost use Rattle.ele_blocks.specs.Hands.{AreThere};
+ghost use Rattle.ele_blocks.specs.Layout.{ids_of};
+ghost use Rattle.ele_blocks.specs.Shared.{Sets, Trades, Covers, owners, place_at, shared, times};
+ghost use Rattle.ele_blocks.specs.Store.{owners_at};
+
+use crate::shared::Shared;
+use crate::slot::Slot;
+use crate::store::{BlockId, BlockStore};
+use ele_lists::ByteList;
+
+/// How many owners a block may have that is to get more.
+const CROWD: u64 = 1 << 62;
+
+/// Gives a block one owner more.
+fn share_one(blocks: &mut Shared<ByteList>, id: BlockId)
+    requires there { 0 < owners blocks.old.slots id }
+    requires few { owners blocks.old.slots id < 2 ^ 63 }
+    ensures { Sets blocks.old.slots blocks.new.slots id (shared (place_at blocks.old.slots id)) }
+{
+    blocks.share(id.key);
+}
+
+/// Gives the block of each slot one owner more.
+pub fn share_all(blocks: &mut Shared<ByteList>, slots: &[Slot])
+    requires there { (id : _) → 0 < times id (ids_of slots.now) → 0 < owners blocks.old.slots id }
+    requires few { (id : _) → 0 < times id (ids_of slots.now)
+        → owners blocks.old.slots id + length slots.now ≤ 2 ^ 63 }
+    ensures { Trades blocks.old.slots blocks.new.slots [] (ids_of slots.now) }
+{
+    for slot in slots {
+        share_one(blocks, slot.block);
+    }
+}
+
+impl BlockStore {
+    /// Whether no block of the slots has so many owners that more could not be counted.
+    pub(crate) fn can_share(&self, slots: &[Slot]) -> bool
+        requires { AreThere self.now slots.now }
+        ensures { IsTrue result
+            → (id : _) → 0 < times id (ids_of slots.now) → owners_at self.now id < 2 ^ 62 }
+    {
+        for slot in slots {
+            if self.owners(slot.block) >= CROWD {
+                return false;
+            }
+        }
+        true
+    }
+
+    /// Takes one owner from the block of each slot.
+    pub(crate) fn release_all(&mut self, slots: &[Slot])
+        requires { Covers self.old.blocks (ids_of slots.now) }
+        ensures trades { Trades self.old.blocks self.new.blocks (ids_of slots.now) [] }
+        ensures leaves { self.new.leaves ≡ self.old.leaves }
+    {
+        for slot in slots {
+            self.release(slot.block);
+        }
+    }
+}

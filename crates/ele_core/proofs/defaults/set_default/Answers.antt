@@ -1,0 +1,5 @@
+use Rattle.ele_world.specs.WellFormed.{Directories}
+use Rattle.ele_core.proofs.defaults.set_default.Goals as goal
+
+pub govern-requires : goal.govern-requires
+govern-requires c = (c.requires.formed.holds Directories).placed

@@ -1,0 +1,224 @@
+-- What goes with a handle, and what the last writer of a changed draft leaves.
+use Rattle.std.proofs.Common.{◌≡◌, ℕ, Bool, true, false, cond, List, map, Option, Some, None, is_some, refl, ap, sym, ◌∙◌, ◌<◌, [], ◌∷◌, get_or, Result, Ok, Err, arith}
+use Rattle.std.specs.Prelude.{find}
+use Rattle.std.specs.List.{list_any, AllByRecursion, position}
+use Rattle.std.specs.Option.{option_and_then, option_map}
+use Rattle.ele_blocks.specs.Layout.{Layout}
+use Rattle.ele_blocks.specs.LivesIn.{LivesIn}
+use Rattle.ele_blocks.specs.Store.{Store}
+use Rattle.ele_files.specs.Appending.{IsGivenUp, opening_of, IsRowPast, next_row, HasAppended}
+use Rattle.ele_files.specs.Closing.{last_draft, changed_opening, opening_by, leaving, left_of, left_by, IsPast, finishing}
+use Rattle.ele_files.specs.Held.{Held, changed_at, Became, rows_of, with_rows, cells_of_draft}
+use Rattle.ele_files.specs.Inside.{draft_in, handle_in, held_in, Keeps, file_row, row_in, rows_in, row_stock, draft_stock, stock_of, IsFileKept, IsDraftKept, is_id}
+use Rattle.ele_files.specs.declared.file.File.{File}
+use Rattle.ele_files.proofs.Drafts.{same_drafts, dropped, drafts_apart, its_file}
+use Rattle.ele_files.proofs.Looks.{IsSeen}
+use Rattle.ele_files.proofs.Rows.{draft-found, handle_file-shown, left-shown, no-file, next-found, its_id}
+use Rattle.ele_files.proofs.Stock.{draft_lives, draft_apart}
+use Rattle.ele_lists.specs.Lists.{remove_first}
+use Rattle.ele_lists.proofs.Cuts.{remove_first-unfound}
+use Rattle.ele_lists.proofs.Edits.{all-not_found, all-weaker, all-found, all-remove_first}
+use Rattle.ele_lists.proofs.Shown.{remove_first-map}
+use Rattle.ele_sessions.specs.Closes.{left_handles, file_closing, left_drafts, closing_of, closing, closed_of, closed}
+use Rattle.ele_sessions.specs.Sessions.{Draft, AllSessions, is_draft, is_writer}
+use Rattle.std.proofs.Math.ListN.{set}
+use Rattle.std.specs.Result.{OnErr, result_ok}
+use Rattle.ele_files.proofs.Appends.{appended_keeps, appended_shows}
+use Rattle.ele_files.proofs.Exchanges.{same_keeps, same_shows, IsReached, reached}
+use Rattle.ele_inode_log.specs.Rows.{HeldRows}
+use Rattle.ele_lists.proofs.Alls.{map-all, flat_map-all}
+use Rattle.ele_sessions.specs.Order.{Rises}
+use Rattle.ele_world.specs.Change.{ShutHandle, EndDraft, after_changes}
+use Rattle.ele_world.specs.World.{World, file_by, next_of}
+use Rattle.ele_sessions.specs.Sessions as sessions
+use Rattle.ele_world.specs.World as world
+
+-- the map that comes out with the handle
+abbrev pub given : AllSessions → ℕ → Option Layout
+given ss handle = option_and_then (λ answer. answer.1) (closing ss handle)
+
+-- the sessions without the handle, and without the file's draft where no other writes it
+abbrev pub without_handle : AllSessions → ℕ → ℕ → Bool → AllSessions
+without_handle ss handle file stays = record ss { drafts = left_drafts stays file ss.drafts; handles = left_handles ss handle }
+
+module _ (s : Store) (files : List File) (ss : AllSessions) (handle : ℕ) where
+  abbrev shown : Held
+  shown = held_in s files ss
+
+  pub last_shown : (file : ℕ) → last_draft shown handle file ≡ cond (list_any (is_writer file) (left_handles ss handle)) None (option_map (draft_in s) (find (is_draft file) ss.drafts))
+  last_shown file = rw (left-shown ss.handles handle file, draft-found s file ss.drafts) refl
+
+  pub handles_left : map handle_in (left_handles ss handle) ≡ remove_first (world.is_handle handle) shown.handles
+  handles_left = sym (remove_first-map handle_in (world.is_handle handle) (sessions.is_handle handle) (λ x. refl) ss.handles)
+
+  -- ---- what is asked before
+
+  pub opening_shown : opening_of (option_map (λ answer. answer.0) (closing ss handle)) ≡ opening_by shown handle
+  opening_shown = rw (handle_file-shown ss.handles handle) (by (sessions.handle_file ss.handles handle)) where
+    ends : (b : Bool) (o : Option Draft) → opening_of (Some (file_closing b o).0) ≡ changed_opening (cond b None (option_map (draft_in s) o))
+    ends true o = refl
+    ends false None = refl
+    ends false (Some d) = of_change d.changed d refl where
+      of_change : (c : Bool) (d : Draft) → d.changed ≡ c → opening_of (Some (file_closing false (Some d)).0) ≡ changed_opening (Some (draft_in s d))
+      of_change true d e = rw e refl
+      of_change false d e = rw e refl
+
+    by : (o : Option ℕ) → opening_of (option_map (λ answer. answer.0) (closing_of ss handle o)) ≡ option_and_then (λ file. changed_opening (last_draft shown handle file)) o
+    by None = refl
+    by (Some file) = rw (last_shown file) (ends (list_any (is_writer file) (left_handles ss handle)) (find (is_draft file) ss.drafts))
+
+  -- ---- the handle is left
+
+  module _ (kept : Keeps s files ss) where
+    pub given_lives : (m : Layout) → given ss handle ≡ Some m → LivesIn s m
+    given_lives m = by (sessions.handle_file ss.handles handle) where
+      ends : (file : ℕ) (b : Bool) (o : Option Draft) → find (is_draft file) ss.drafts ≡ o → (file_closing b o).1 ≡ Some m → LivesIn s m
+      ends file true o found is = absurd cc
+      ends file false None found is = absurd cc
+      ends file false (Some d) found is = let same : d.layout ≡ m = cc in rw (← same) (draft_lives s files ss kept file d found)
+
+      by : (o : Option ℕ) → option_and_then (λ answer. answer.1) (closing_of ss handle o) ≡ Some m → LivesIn s m
+      by None is = absurd cc
+      by (Some file) is = ends file (list_any (is_writer file) (left_handles ss handle)) (find (is_draft file) ss.drafts) refl is
+
+    module _ (t : Store) where
+      pub leaves : IsGivenUp s t (given ss handle) → IsSeen t files (closed ss handle) (left_by shown handle)
+      leaves = rw (handle_file-shown ss.handles handle) (by (sessions.handle_file ss.handles handle)) where
+        stays : (file : ℕ) (b : Bool) → left_drafts b file ss.drafts ≡ ss.drafts → t ≡ s → IsSeen t files (without_handle ss handle file b) (changed_at shown 0 (leaving handle file false))
+        stays file b drafts gone = record {
+          keeps = rw gone (same_drafts s files ss (without_handle ss handle file b) drafts kept);
+          shows = rw (gone, drafts, handles_left) refl;
+        }
+
+        ends : (file : ℕ) (b : Bool) (o : Option Draft) → find (is_draft file) ss.drafts ≡ o → IsGivenUp s t (file_closing b o).1 → IsSeen t files (without_handle ss handle file b) (changed_at shown 0 (leaving handle file (is_some (cond b None (option_map (draft_in s) o)))))
+        ends file true o found gone = stays file true refl gone
+        ends file false None found gone = stays file false (remove_first-unfound (is_draft file) ss.drafts (all-not_found (is_draft file) ss.drafts found)) gone
+        ends file false (Some d) found gone =
+            let seen = dropped s t files ss (without_handle ss handle file false) kept file d found gone refl in
+            record { keeps = seen.keeps; shows = seen.shows ∙ rw handles_left refl }
+
+        by : (o : Option ℕ) → IsGivenUp s t (option_and_then (λ answer. answer.1) (closing_of ss handle o)) → IsSeen t files (closed_of ss handle o) (left_of shown handle o)
+        by None gone = record { keeps = rw gone kept; shows = rw gone refl }
+        by (Some file) gone = rw (last_shown file) (ends file (list_any (is_writer file) (left_handles ss handle)) (find (is_draft file) ss.drafts) refl gone)
+
+-- ---- a version is made of the draft
+
+-- the draft that goes with the handle, and what the sessions make of it
+pub record IsLast (ss : AllSessions) (handle file opened : ℕ) : Type 0 where
+  pub draft : Draft
+  pub found : find (is_draft file) ss.drafts ≡ Some draft
+  pub its_opening : draft.opened ≡ opened
+  pub out : given ss handle ≡ Some draft.layout
+  pub left : closed ss handle ≡ without_handle ss handle file false
+
+-- what the files and the sessions are then
+pub record IsFinished (s : Store) (was : Held) (handle file opened now : ℕ) (live : Bool) (next : ℕ) (files : List File) (ss : AllSessions) : Type 0 where
+  pub keeps : Keeps s files ss
+  pub number : next ≡ next_of was.files file
+  pub shows : Became was now file live (finishing was handle file opened) (held_in s files ss)
+
+module _ (s : Store) (files : List File) (ss : AllSessions) (handle file opened : ℕ) (kept : Keeps s files ss) (writes : file_by (held_in s files ss).handles handle ≡ Ok file) (ends : opening_by (held_in s files ss) handle ≡ Some opened) where
+  abbrev rows : Held
+  rows = held_in s files ss
+
+  pub is_last : IsLast ss handle file opened
+  is_last = by (list_any (is_writer file) (left_handles ss handle)) (find (is_draft file) ss.drafts) refl refl
+      (sym (ap changed_opening (last_shown s files ss handle file)) ∙ (sym (ap (option_and_then (λ f. changed_opening (last_draft rows handle f))) (ap result_ok writes)) ∙ ends)) where
+        of_file : sessions.handle_file ss.handles handle ≡ Some file
+        of_file = sym (handle_file-shown ss.handles handle) ∙ ap result_ok writes
+
+        then : (d : Draft) (c : Bool) → cond c (Some d.opened) None ≡ Some opened → d.opened ≡ opened
+        then d true is = cc
+        then d false is = absurd cc
+
+        by : (b : Bool) (o : Option Draft) → list_any (is_writer file) (left_handles ss handle) ≡ b → find (is_draft file) ss.drafts ≡ o → changed_opening (cond b None (option_map (draft_in s) o)) ≡ Some opened → IsLast ss handle file opened
+        by true o alone found is = absurd cc
+        by false None alone found is = absurd cc
+        by false (Some d) alone found is = record {
+          draft = d;
+          found = found;
+          its_opening = then d d.changed is;
+          out = ap (λ o. option_and_then (λ a. a.1) (closing_of ss handle o)) of_file ∙ rw (alone, found) refl;
+          left = ap (closed_of ss handle) of_file ∙ rw alone refl;
+        }
+
+  abbrev d : Draft
+  d = is_last.draft
+
+  pub its_map : given ss handle ≡ Some d.layout
+  its_map = is_last.out
+
+  d_kept : IsDraftKept files d
+  d_kept = all-found (is_draft file) (IsDraftKept files) ss.drafts d is_last.found kept.drafts_kept
+
+  is_file : d.file ≡ file
+  is_file = its_file file ss.drafts d is_last.found
+
+  its_next : d.number ≡ next_of (map file_row files) file
+  its_next = d_kept.number ∙ ap (next_of (map file_row files)) is_file
+
+  -- the draft's file is there
+  pub not_missing : position (is_id file) files ≡ None → ⊥
+  not_missing missing = omega (arith, d_kept.there, its_next, next-found files file None (no-file files file (sym missing)))
+
+  -- the file at its place, with room for the version
+  module _ (i : ℕ) (f : File) (place : Some i ≡ position (is_id file) files) (is : f ≡ get_or files i f) (log : HeldRows) (rows_stay : log.rows ≡ f.log.rows) where
+    abbrev at : IsReached files file i f
+    at = reached files file i f place is
+
+    abbrev k : File
+    k = record f { log = log }
+
+    its_kept : IsFileKept f
+    its_kept = all-found (is_id file) IsFileKept files f at.found kept.files_kept
+
+    next_is : next_of (map file_row files) file ≡ f.next
+    next_is = next-found files file (Some f) at.found
+
+    pub waits_keeps : Keeps s (set files i k) ss
+    waits_keeps = rw (at.changed k refl refl) (same_keeps files file f k at.found s ss kept refl rows_stay its_kept)
+
+    pub waits_shows : held_in s (set files i k) ss ≡ rows
+    waits_shows = rw (at.changed k refl refl) (same_shows files file f k at.found s ss kept refl rows_stay)
+
+    f_past : (now : ℕ) → AllByRecursion (IsPast now) rows.versions → AllByRecursion (IsRowPast now) f.log.rows
+    f_past now past = all-weaker (λ row. IsPast now (row_in s f.id row)) (IsRowPast now) f.log.rows (λ row p. record { closed = p.closed; ended = p.ended }) (map-all (row_in s f.id) (IsPast now) f.log.rows (all-found (is_id file) (λ x. AllByRecursion (IsPast now) (rows_in s x)) files f at.found (flat_map-all (rows_in s) (IsPast now) files past)))
+
+    pub ready_past : (now : ℕ) → AllByRecursion (IsPast now) rows.versions → AllByRecursion (IsRowPast now) log.rows
+    ready_past now past = rw rows_stay (f_past now past)
+
+    pub ready_few : (n : ℕ) → AllByRecursion (λ row. row.next < n) rows.files → f.next < n
+    ready_few n few = all-found (is_id file) (λ x. x.next < n) files f at.found (map-all file_row (λ row. row.next < n) files few)
+
+    module _ (now : ℕ) (live : Bool) (m : Layout) (out : given ss handle ≡ Some m) (l : File) (appended : HasAppended k l now (next_row f.next opened now live m)) (past : AllByRecursion (IsPast now) rows.versions) where
+      m_is : m ≡ d.layout
+      m_is = cc (out, its_map)
+
+      f_appended : HasAppended f l now (next_row f.next opened now live d.layout)
+      f_appended = record { id = appended.id; policy = appended.policy; next = appended.next; rows = rw (← m_is) (appended.rows ∙ rw rows_stay refl) }
+
+      tag_is : draft_stock d ≡ row_stock f.id (next_row f.next opened now live d.layout)
+      tag_is = rw (its_next, next_is, is_file, its_id files file f at.found) refl
+
+      keeps_it : Rises (λ (x : Draft). x.file) ss.drafts → Keeps s (set files i l) (closed ss handle)
+      keeps_it rise =
+          let stocked = kept.laws.same s (stock_of files ss.drafts) (draft_stock d ∷ stock_of files (remove_first (is_draft file) ss.drafts)) (draft_apart files ss.drafts (is_draft file) d is_last.found) kept.stocked in
+          rw (at.changed l appended.id appended.policy, is_last.left) (appended_keeps s files file f l at.found kept.rise kept.files_kept opened now live d.layout f_appended (f_past now past) kept.laws (without_handle ss handle file false) (all-remove_first (is_draft file) (IsDraftKept files) ss.drafts kept.drafts_kept) (drafts_apart file ss.drafts rise) (rw tag_is at stocked))
+
+      shows_it : Became rows now file live (finishing rows handle file opened) (held_in s (set files i l) (closed ss handle))
+      shows_it w time lives =
+          rw (at.changed l appended.id appended.policy, is_last.left, cells)
+          (appended_shows s files file f l at.found kept.rise kept.files_kept opened now live d.layout f_appended (f_past now past) (without_handle ss handle file false) (after_changes (with_rows w rows) (ShutHandle handle ∷ EndDraft file ∷ [])) left time lives)
+        where
+          cells : cells_of_draft rows file ≡ (draft_in s d).cells
+          cells = rw (draft-found s file ss.drafts, is_last.found) refl
+
+          left : rows_of (after_changes (with_rows w rows) (ShutHandle handle ∷ EndDraft file ∷ [])) ≡ held_in s files (without_handle ss handle file false)
+          left = rw (handles_left s files ss handle, remove_first-map (draft_in s) (world.is_draft file) (is_draft file) (λ x. refl) ss.drafts) refl
+
+      pub finished : Rises (λ (x : Draft). x.file) ss.drafts → IsFinished s rows handle file opened now live f.next (set files i l) (closed ss handle)
+      finished rise = record { keeps = keeps_it rise; number = sym next_is; shows = shows_it }
+
+pub on_err : {T E : Type 0} (r : Result T E) (P : Type 0) → P → OnErr r P
+on_err (Ok x) P p = tt
+on_err (Err e) P p = p

@@ -1,0 +1,10 @@
+use Rattle.std.proofs.Common.{map, length}
+use Rattle.ele_script.proofs.Words.{AreCut}
+use Rattle.ele_script.proofs.reading.words_in.Given as goal
+
+-- the words so far were cut off, and the rest is left
+abbrev pub invariant-words : goal.invariant-words
+invariant-words l = AreCut l.line (map (λ word. word.now) l.words.items) l.rest
+
+abbrev pub decreases-words : goal.decreases-words
+decreases-words l = length l.rest

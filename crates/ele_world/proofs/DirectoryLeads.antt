@@ -1,0 +1,88 @@
+-- After a mkdir its path leads to the new directory.
+use Rattle.std.proofs.Common.{◌≡◌, ℕ, ◌+◌, ◌≤◌, Bool, true, false, ◌==◌, ◌&&◌, List, [], ◌∷◌, ◌++◌, Some, Ok, refl, ap, subst, ◌∙◌, arith}
+use Rattle.std.specs.Prelude.{find, is_none, is_some}
+use Rattle.std.specs.List.{AllByRecursion, list_any}
+use Rattle.std.specs.Option.{option_map_or}
+use Rattle.std.proofs.lemmas.Bool.Decides.{nat_tests}
+use Rattle.std.proofs.lemmas.List.Folds.{find-append, list_any-append}
+use Rattle.ele_lists.proofs.Edits.{all-weaker, not_found}
+use Rattle.ele_policy.specs.declared.policy.Policy.{Policy}
+use Rattle.ele_policy.specs.declared.policy.Policy.TheVariants.{Safe}
+use Rattle.ele_world.specs.Change.{after_change, MakeDirectory}
+use Rattle.ele_world.specs.MakeDirLeads.{LeadsToDirectory}
+use Rattle.ele_world.specs.NameRows.{born_row, is_live_in}
+use Rattle.ele_world.specs.Step.{plan, step}
+use Rattle.ele_world.specs.Walk.{live_target, directory_in, parent_now}
+use Rattle.ele_world.specs.WellFormed.{IsHoused, Directories, Homes, IsWellFormed}
+use Rattle.ele_world.specs.World.{World, is_directory, default_of}
+use Rattle.ele_world.specs.declared.event.Event.TheVariants.{MakeDir}
+use Rattle.ele_world.specs.declared.reply.Reply.TheVariants as reply
+use Rattle.ele_world.specs.declared.rows.DirectoryRow.{DirectoryRow}
+use Rattle.ele_world.specs.declared.rows.Target.TheVariants.{Directory}
+use Rattle.ele_world.proofs.Homes.{or_last, parent_home, directory_given}
+use Rattle.ele_world.proofs.Outcomes.{in_all}
+use Rattle.ele_world.proofs.Walks.{new_leads}
+
+-- what no element passes none passes with one more
+none_more : {X : Type 0} (p : X → Bool) (xs : List X) (y : X) → AllByRecursion (λ x. p x ≡ false) xs → p y ≡ false → list_any p (xs ++ y ∷ []) ≡ false
+none_more p [] y none last = rw last refl
+none_more p (x ∷ xs) y none last = rw none.0 (none_more p xs y none.1 last)
+
+module _ (w : World) (path : List (List ℕ)) (at : ℕ × List ℕ) (k : IsWellFormed w) where
+  abbrev id : ℕ
+  id = w.made.directories + 1
+
+  abbrev policy : Policy
+  policy = default_of w.directories at.0
+
+  abbrev new : DirectoryRow
+  new = record { id = id; default = policy }
+
+  abbrev after : World
+  after = after_change w (MakeDirectory at.0 at.1 id policy)
+
+  own : is_directory id new ≡ true
+  own = grind (arith, nat_tests)
+
+  -- no name stands in a directory whose number wasn't given
+  out : (home : ℕ) (b : Bool) → home ≤ w.made.directories → ((home == id) && b) ≡ false
+  out home b given = let no : (home == id) ≡ false = grind (arith, nat_tests) in rw no refl
+
+  none_in : AllByRecursion (λ row. is_live_in id row ≡ false) w.names
+  none_in = all-weaker (IsHoused w.directories w.names) (λ row. is_live_in id row ≡ false) w.names
+      (λ row h. out row.directory (is_none row.death) (directory_given w.made.directories w.directories row.directory (k.holds Directories).given h.home)) (k.holds Homes).each
+
+  none_before : AllByRecursion (λ row. is_directory id row ≡ false) w.directories
+  none_before = all-weaker (λ row. row.id ≤ w.made.directories) (λ row. is_directory id row ≡ false) w.directories (λ row h. grind (arith, nat_tests)) (k.holds Directories).given
+
+  policy_is : default_of after.directories id ≡ policy
+  policy_is =
+      let is : find (is_directory id) (w.directories ++ new ∷ []) ≡ Some new = find-append (is_directory id) w.directories (new ∷ []) ∙ rw (not_found (is_directory id) w.directories none_before, own) refl in
+      ap (λ o. option_map_or (λ (row : DirectoryRow). row.default) o (Safe 86400)) is
+
+  leads_to : parent_now w.names path ≡ Ok at → is_some (live_target w.names at.0 at.1) ≡ false → LeadsToDirectory w path id after
+  leads_to found free = record {
+    home = at;
+    stands = found;
+    there = list_any-append (is_directory id) w.directories (new ∷ []) ∙ rw own (or_last (list_any (is_directory id) w.directories) true refl);
+    named = ap directory_in (new_leads w.names path at (Directory id) w.now found free);
+    empty = none_more (is_live_in id) w.names (born_row at.0 at.1 (Directory id) w.now) none_in (out at.0 true (directory_given w.made.directories w.directories at.0 (k.holds Directories).given (parent_home w path at k found).0));
+    policy = policy_is;
+  }
+
+pub make_dir_leads : (w : World) (path : List (List ℕ)) (id : ℕ) → IsWellFormed w → (step w (MakeDir path)).0 ≡ reply.Directory id → LeadsToDirectory w path id ((step w (MakeDir path)).1)
+make_dir_leads w path id k = in_all w (λ answer. answer.0 ≡ reply.Directory id → LeadsToDirectory w path id (answer.1)) (plan w (MakeDir path)) (
+  λ refusal e. absurd cc,
+  λ at found. (
+    λ e. absurd cc,
+    λ free. (
+      λ e. absurd cc,
+      λ directories. (
+        λ e. absurd cc,
+        λ names. λ e.
+            let same : w.made.directories + 1 ≡ id = cc in
+            subst (λ n. LeadsToDirectory w path n (after_change w (MakeDirectory at.0 at.1 (w.made.directories + 1) (default_of w.directories at.0)))) same (leads_to w path at k found free),
+      ),
+    ),
+  ),
+)

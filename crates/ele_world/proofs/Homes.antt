@@ -1,0 +1,81 @@
+-- The directories that names stand in.
+use Rattle.std.proofs.Common.{◌≡◌, ℕ, ◌≤◌, Bool, true, false, ◌==◌, ◌||◌, List, [], ◌∷◌, ◌++◌, Some, Ok, refl, subst, ◌∙◌, arith}
+use Rattle.std.specs.Prelude.{find, is_none}
+use Rattle.std.specs.List.{AllByRecursion, list_any}
+use Rattle.std.proofs.lemmas.Bool.{false≢true}
+use Rattle.std.proofs.lemmas.Bool.Decides.{nat_tests}
+use Rattle.std.proofs.lemmas.List.Folds.{list_any-append}
+use Rattle.ele_lists.proofs.Edits.{all-push, all-weaker, all-found, found_passes}
+use Rattle.ele_lists.proofs.Found.{any-found}
+use Rattle.ele_world.specs.NameRows.{is_live_directory}
+use Rattle.ele_world.specs.Walk.{is_live_name, live_target, parent_now}
+use Rattle.ele_world.specs.WellFormed.{has_directory, is_reached, IsDirectoryThere, IsHoused, Directories, Homes, IsWellFormed}
+use Rattle.ele_world.specs.World.{World, root, is_directory}
+use Rattle.ele_world.specs.declared.rows.DirectoryRow.{DirectoryRow}
+use Rattle.ele_world.specs.declared.rows.NameRow.{NameRow}
+use Rattle.ele_world.specs.declared.rows.Target.{Target}
+use Rattle.ele_world.specs.declared.rows.Target.TheVariants.{File, Directory}
+use Rattle.ele_world.proofs.Walks.{live_row, parent_to}
+
+pub or_last : (a b : Bool) → b ≡ true → (a || b) ≡ true
+or_last true b h = refl
+or_last false b h = h
+
+-- what was there is there beside more
+pub any_more : {X : Type 0} (p : X → Bool) (xs : List X) (y : X) → list_any p xs ≡ true → list_any p (xs ++ y ∷ []) ≡ true
+any_more p xs y h = list_any-append p xs (y ∷ []) ∙ rw h refl
+
+pub reached_more : (names : List NameRow) (named : NameRow) (id : ℕ) → is_reached names id ≡ true → is_reached (names ++ named ∷ []) id ≡ true
+reached_more names named id h = by (id == root) h where
+  by : (b : Bool) → (b || list_any (is_live_directory id) names) ≡ true → (b || list_any (is_live_directory id) (names ++ named ∷ [])) ≡ true
+  by true h = refl
+  by false h = any_more (is_live_directory id) names named h
+
+-- ---- where a path's last name stands
+
+-- a directory there that a path leads to
+abbrev IsHome : List DirectoryRow → List NameRow → Target → Type 0
+IsHome directories names (File file) = Unit {0}
+IsHome directories names (Directory directory) = (has_directory directories directory ≡ true) × (is_reached names directory ≡ true)
+
+pub still_none : (directory : ℕ) (name : List ℕ) (row : NameRow) → is_live_name directory name row ≡ true → is_none row.death ≡ true
+still_none directory name row h = grind (arith, nat_tests)
+
+live_home : (directories : List DirectoryRow) (names : List NameRow) → AllByRecursion (IsHoused directories names) names
+    → (directory : ℕ) (name : List ℕ) (target : Target) → live_target names directory name ≡ Some target → IsHome directories names target
+live_home directories names each directory name target = live_row (IsHome directories names) names directory name target (λ row found. by row found row.target refl) where
+  by : (row : NameRow) → find (is_live_name directory name) names ≡ Some row → (t : Target) → row.target ≡ t → IsHome directories names t
+  by row found (File file) is = tt
+  by row found (Directory id) is =
+      let housed : IsHoused directories names row = all-found (is_live_name directory name) (IsHoused directories names) names row found each in
+      let alive = still_none directory name row (found_passes (is_live_name directory name) names row found) in
+      let own : (id == id) ≡ true = grind (arith, nat_tests) in
+      let live : is_live_directory id row ≡ true = rw (is, own) alive in
+      (subst (IsDirectoryThere directories) is housed.there, or_last (id == root) (list_any (is_live_directory id) names) (any-found (is_live_name directory name) (is_live_directory id) names row found live))
+
+pub parent_home : (w : World) (path : List (List ℕ)) (at : ℕ × List ℕ) → IsWellFormed w → parent_now w.names path ≡ Ok at → (has_directory w.directories at.0 ≡ true) × (is_reached w.names at.0 ≡ true)
+parent_home w path at k found = parent_to (IsHome w.directories w.names) w.names (live_home w.directories w.names (k.holds Homes).each) path at ((k.holds Directories).rooted, refl) found
+
+-- ---- a name more
+
+-- each name stands as it did, and the new one in a directory that is there
+pub named_housed : (directories more : List DirectoryRow) (names : List NameRow) (named : NameRow)
+    → ((id : ℕ) → has_directory directories id ≡ true → has_directory more id ≡ true)
+    → has_directory directories named.directory ≡ true → is_reached names named.directory ≡ true → IsDirectoryThere more named.target
+    → AllByRecursion (IsHoused directories names) names → AllByRecursion (IsHoused more (names ++ named ∷ [])) (names ++ named ∷ [])
+named_housed directories more names named wider home reached there each =
+    all-push (IsHoused more (names ++ named ∷ [])) names named
+    (all-weaker (IsHoused directories names) (IsHoused more (names ++ named ∷ [])) names
+    (λ row h. record { home = wider row.directory h.home; there = stays row.target h.there; reached = λ none. reached_more names named row.directory (h.reached none) }) each)
+    (record { home = wider named.directory home; there = there; reached = λ none. reached_more names named named.directory reached }) where
+      stays : (target : Target) → IsDirectoryThere directories target → IsDirectoryThere more target
+      stays (File file) h = tt
+      stays (Directory id) h = wider id h
+
+-- a directory that is there has a number that was given
+pub directory_given : (made : ℕ) (rows : List DirectoryRow) (id : ℕ) → AllByRecursion (λ row. row.id ≤ made) rows → has_directory rows id ≡ true → id ≤ made
+directory_given made [] id all h = absurd (false≢true h)
+directory_given made (row ∷ rows) id all h = elim (is_directory id row) as (λ b. is_directory id row ≡ b → (b || list_any (is_directory id) rows) ≡ true → id ≤ made) [
+  | true ↦ λ e h. let given = all.0 in grind (arith, nat_tests)
+  | false ↦ λ e h. directory_given made rows id all.1 h
+] refl h

@@ -1,0 +1,161 @@
+-- The making of a directory, and the end of a name, keep a world well formed.
+use Rattle.std.proofs.Common.{◌≡◌, ℕ, ◌+◌, ◌<◌, ◌≤◌, Bool, true, false, ◌==◌, ◌&&◌, ◌||◌, List, [], ◌∷◌, ◌++◌, length-append, Option, Some, None, refl, ap, sym, subst, ◌∙◌, arith}
+use Rattle.std.specs.Prelude.{find, is_none}
+use Rattle.std.specs.List.{AllByRecursion, list_any}
+use Rattle.std.proofs.lemmas.Bool.{false≢true}
+use Rattle.std.proofs.lemmas.Bool.Decides.{nat_tests}
+use Rattle.std.proofs.lemmas.List.Folds.{list_any-append}
+use Rattle.ele_lists.specs.Lists.{update_first}
+use Rattle.ele_lists.proofs.Edits.{all-any, all-push, all-weaker, all-both, all-none, all-update_first, later-push, length-update_first, list_any-update_first}
+use Rattle.ele_lists.proofs.Found.{list_any-update_found, list_any-update_fails, later-update_found}
+use Rattle.ele_policy.specs.declared.policy.Policy.{Policy}
+use Rattle.ele_policy.specs.Policy.{IsPolicy}
+use Rattle.ele_world.specs.Change.{after_change, MakeDirectory, EndName}
+use Rattle.ele_world.specs.NameRows.{born_row, dies, is_live_in, is_name_of_directory, is_target_directory, is_live_directory}
+use Rattle.ele_world.specs.Walk.{is_live_name, live_target}
+use Rattle.ele_world.specs.WellFormed.{has_directory, is_reached, IsHoused, IsNameRow, AreApart, Part, Counted, Directories, Names, Homes, Current, Holds, IsWellFormed}
+use Rattle.ele_world.specs.World.{World, root, is_directory, is_live_name_of}
+use Rattle.ele_world.specs.declared.rows.DirectoryRow.{DirectoryRow}
+use Rattle.ele_world.specs.declared.rows.NameRow.{NameRow}
+use Rattle.ele_world.specs.declared.rows.Target.{Target}
+use Rattle.ele_world.specs.declared.rows.Target.TheVariants.{File, Directory}
+use Rattle.ele_world.proofs.Homes.{or_last, any_more, still_none, named_housed}
+use Rattle.ele_world.proofs.KeptNames.{apart_from_new}
+use Rattle.ele_world.proofs.May.{MayMakeDirectory, MayEnd}
+
+-- ---- a directory is made
+
+-- a name of a directory makes no file live
+pub no_file_named : (names : List NameRow) (directory : ℕ) (name : List ℕ) (id now file : ℕ) → list_any (is_live_name_of file) (names ++ born_row directory name (Directory id) now ∷ []) ≡ list_any (is_live_name_of file) names
+no_file_named names directory name id now file = list_any-append (is_live_name_of file) names (born_row directory name (Directory id) now ∷ []) ∙ or_false (list_any (is_live_name_of file) names) where
+  or_false : (b : Bool) → (b || false) ≡ b
+  or_false true = refl
+  or_false false = refl
+
+module _ (w : World) (directory : ℕ) (name : List ℕ) (policy : Policy) where
+  abbrev id : ℕ
+  id = w.made.directories + 1
+
+  abbrev new : DirectoryRow
+  new = record { id = id; default = policy }
+
+  abbrev named : NameRow
+  named = born_row directory name (Directory id) w.now
+
+  abbrev made : World
+  made = after_change w (MakeDirectory directory name id policy)
+
+  new_keeps : MayMakeDirectory w directory name id policy → IsWellFormed w → IsWellFormed made
+  new_keeps may k = record { holds = by } where
+    own : (id == id) ≡ true
+    own = grind (arith, nat_tests)
+
+    there : has_directory made.directories id ≡ true
+    there = list_any-append (is_directory id) w.directories (new ∷ []) ∙ rw own (or_last (list_any (is_directory id) w.directories) true refl)
+
+    by : (part : Part) → Holds made part
+    by Counted = let c = k.holds Counted in record {
+      files_made = c.files_made;
+      names_made = omega (arith, may.named.room);
+      versions_made = c.versions_made;
+      handles_made = c.handles_made;
+      file_rows = c.file_rows;
+      name_rows = simp length-append (omega (arith, c.name_rows));
+      version_rows = c.version_rows;
+    }
+    by Directories = let d = k.holds Directories in record {
+      rooted = any_more (is_directory root) w.directories new d.rooted;
+      policies = all-push (λ row. IsPolicy row.default) w.directories new d.policies may.valid;
+      placed = later-push (λ earlier later. earlier.id < later.id) w.directories new d.placed (all-weaker (λ row. row.id ≤ w.made.directories) (λ row. row.id < id) w.directories (λ row h. omega (arith, h)) d.given);
+      given = all-push (λ row. row.id ≤ id) w.directories new (all-weaker (λ row. row.id ≤ w.made.directories) (λ row. row.id ≤ id) w.directories (λ row h. omega (arith, h)) d.given) (omega arith);
+      counted = simp length-append (omega (arith, d.counted));
+      few = omega (arith, may.directories);
+    }
+    by Names = record {
+      each = all-push (IsNameRow w.files w.now) w.names named (k.holds Names).each (record { there = tt; born = omega arith; dead = tt });
+      lives = later-push AreApart w.names named (k.holds Names).lives (apart_from_new w directory name named k may.named.free refl refl refl);
+    }
+    by Homes = record {
+      each = named_housed w.directories made.directories w.names named (λ d h. any_more (is_directory d) w.directories new h) may.named.home may.named.reached there (k.holds Homes).each;
+      named = all-push (λ row. ((row.id == root) || list_any (is_name_of_directory row.id) made.names) ≡ true) w.directories new
+          (all-weaker (λ row. ((row.id == root) || list_any (is_name_of_directory row.id) w.names) ≡ true) (λ row. ((row.id == root) || list_any (is_name_of_directory row.id) made.names) ≡ true) w.directories
+          (λ row h. still (row.id == root) row.id h) (k.holds Homes).named)
+          (or_last (id == root) (list_any (is_name_of_directory id) made.names) (list_any-append (is_name_of_directory id) w.names (named ∷ []) ∙ rw own (or_last (list_any (is_name_of_directory id) w.names) true refl)));
+    } where
+      still : (b : Bool) (d : ℕ) → (b || list_any (is_name_of_directory d) w.names) ≡ true → (b || list_any (is_name_of_directory d) made.names) ≡ true
+      still true d h = refl
+      still false d h = any_more (is_name_of_directory d) w.names named h
+    by Current = λ file live. k.holds Current file (sym (no_file_named w.names directory name id w.now file) ∙ live)
+    by part = k.holds part
+
+pub make_directory_keeps : (w : World) (directory : ℕ) (name : List ℕ) (id : ℕ) (policy : Policy) → MayMakeDirectory w directory name id policy → IsWellFormed w → IsWellFormed (after_change w (MakeDirectory directory name id policy))
+make_directory_keeps w directory name id policy may k =
+    subst (λ n. MayMakeDirectory w directory name n policy → IsWellFormed (after_change w (MakeDirectory directory name n policy))) (sym may.next)
+    (λ m. new_keeps w directory name policy m k) may
+
+-- ---- a name dies
+
+and_false : (b : Bool) → (b && false) ≡ false
+and_false true = refl
+and_false false = refl
+
+module _ (w : World) (directory : ℕ) (name : List ℕ) (may : MayEnd w directory name) where
+  abbrev p : NameRow → Bool
+  p = is_live_name directory name
+
+  abbrev after : List NameRow
+  after = update_first p (dies w.now) w.names
+
+  -- the name that dies isn't that of the directory
+  abbrev IsSpared : ℕ → Type 0
+  IsSpared id = (row : NameRow) → find p w.names ≡ Some row → is_target_directory id row.target ≡ false
+
+  -- each live name stands in a directory that is spared
+  all_spared : AllByRecursion (λ row. row.death ≡ None → IsSpared row.directory) w.names
+  all_spared = by (find p w.names) refl where
+    of : (found : NameRow) → find p w.names ≡ Some found → (t : Target) → found.target ≡ t → AllByRecursion (λ row. row.death ≡ None → IsSpared row.directory) w.names
+    of found e (File file) is = all-any (λ row. row.death ≡ None → IsSpared row.directory) w.names (λ row none other f. let same : found ≡ other = cc in rw (← same, is) refl)
+    of found e (Directory id) is =
+        let ends : live_target w.names directory name ≡ Some (Directory id) = rw (e, is) refl in
+        all-weaker (λ row. is_live_in id row ≡ false) (λ row. row.death ≡ None → IsSpared row.directory) w.names
+        (λ row out none other f. let same : found ≡ other = cc in let apart : is_live_in id row ≡ false = out in let live : is_none row.death ≡ true = rw none refl in rw (← same, is) (grind (arith, nat_tests)))
+        (all-none (is_live_in id) w.names (may id ends))
+
+    by : (o : Option NameRow) → find p w.names ≡ o → AllByRecursion (λ row. row.death ≡ None → IsSpared row.directory) w.names
+    by None e = all-any (λ row. row.death ≡ None → IsSpared row.directory) w.names (λ row none other f. absurd cc)
+    by (Some found) e = of found e found.target refl
+
+  -- so it is reached as before
+  reached_still : (id : ℕ) → IsSpared id → is_reached w.names id ≡ true → is_reached after id ≡ true
+  reached_still id spared h = ap (λ b. (id == root) || b) (list_any-update_found p (is_live_directory id) (dies w.now) w.names (λ row found. rw (spared row found) refl)) ∙ h
+
+  pub end_name_keeps : IsWellFormed w → IsWellFormed (after_change w (EndName directory name))
+  end_name_keeps k = record { holds = by } where
+    over : (x y : NameRow) → p x ≡ true → AreApart x y → AreApart (dies w.now x) y
+    over x y live apart = λ d n. let dead = apart d n in let none = still_none directory name x live in absurd (let no : is_none x.death ≡ false = rw dead.1 refl in false≢true (sym no ∙ none))
+
+    by : (part : Part) → Holds (after_change w (EndName directory name)) part
+    by Counted = let c = k.holds Counted in record {
+      files_made = c.files_made;
+      names_made = c.names_made;
+      versions_made = c.versions_made;
+      handles_made = c.handles_made;
+      file_rows = c.file_rows;
+      name_rows = omega (arith, c.name_rows, length-update_first p (dies w.now) w.names);
+      version_rows = c.version_rows;
+    }
+    by Names = record {
+      each = all-update_first p (IsNameRow w.files w.now) (IsNameRow w.files w.now) (dies w.now) w.names (λ row h. record { there = h.there; born = h.born; dead = (h.born, omega arith) }) (λ row h. h) (k.holds Names).each;
+      lives = later-update_found p AreApart (dies w.now) w.names over (λ x y h. h) (k.holds Names).lives;
+    }
+    by Homes = record {
+      each = all-update_first p (IsHoused w.directories after) (IsHoused w.directories after) (dies w.now) w.names
+          (λ row h. record { home = h.home; there = h.there; reached = λ none. absurd cc }) (λ row h. h)
+          (all-weaker (λ row. (row.death ≡ None → IsSpared row.directory) × IsHoused w.directories w.names row) (IsHoused w.directories after) w.names
+          (λ row h. record { home = h.1.home; there = h.1.there; reached = λ none. reached_still row.directory (h.0 none) (h.1.reached none) })
+          (all-both _ _ w.names all_spared (k.holds Homes).each));
+      named = all-weaker (λ row. ((row.id == root) || list_any (is_name_of_directory row.id) w.names) ≡ true) (λ row. ((row.id == root) || list_any (is_name_of_directory row.id) after) ≡ true) w.directories
+          (λ row h. ap (λ b. (row.id == root) || b) (list_any-update_first p (is_name_of_directory row.id) (dies w.now) w.names (λ x e. refl)) ∙ h) (k.holds Homes).named;
+    }
+    by Current = λ file live. k.holds Current file (list_any-update_fails p (is_live_name_of file) (dies w.now) w.names (λ row. and_false _) live)
+    by part = k.holds part
