@@ -53,10 +53,7 @@ const LIMITED: [(&str, [u64; 9]); 12] = [
     ("files_limit", [9, 1, 9, 9, 9, 9, 9, 9, 9]),
     ("directories_limit", [9, 9, 1, 9, 9, 9, 9, 9, 9]),
     ("names_limit", [9, 9, 9, 1, 9, 9, 9, 9, 9]),
-    (
-        "names_limit_of_directories",
-        [9, 9, 9, 1, 9, 9, 9, 9, 9],
-    ),
+    ("names_limit_of_directories", [9, 9, 9, 1, 9, 9, 9, 9, 9]),
     (
         "directories_are_full_before_names",
         [9, 9, 1, 1, 9, 9, 9, 9, 9],
