@@ -5,18 +5,19 @@ use Rattle.ele_content.specs.declared.cell.Cell.{Cell}
 use Rattle.ele_content.specs.Content.{longest_content}
 use Rattle.ele_moment.specs.Last.{last_moment}
 use Rattle.ele_policy.specs.declared.policy.Policy.{Policy}
-use Rattle.ele_world.specs.Change.{Change, Time, Govern, MakeDirectory, EndName, MakeFile, Append, Take, StartDraft, WriteDraft, TruncateDraft, EndDraft, OpenHandle, ShutHandle, after_change}
+use Rattle.ele_world.specs.Change.{Change, Time, Govern, MakeDirectory, EndName, AddName, MoveName, EndFileName, Revive, MakeFile, Append, Take, StartDraft, WriteDraft, TruncateDraft, EndDraft, OpenHandle, ShutHandle, DropIdle, after_change}
 use Rattle.ele_world.specs.Due.{is_due_at}
-use Rattle.ele_world.specs.NameRows.{is_live_in}
+use Rattle.ele_world.specs.NameRows.{is_live_in, is_live_directory, is_target_directory}
 use Rattle.ele_world.specs.Plan.{Plan, Tell, Make, Unless, When, Need, IfFound}
 use Rattle.ele_world.specs.Run.{IsEvent}
 use Rattle.ele_world.specs.Walk.{live_target}
 use Rattle.ele_policy.specs.Policy.{IsPolicy}
-use Rattle.ele_world.specs.WellFormed.{has_directory, is_reached, IsContent, AreWrittenBy}
-use Rattle.ele_world.specs.World.{World, next_of, is_version, is_draft, has_draft, is_writer}
+use Rattle.ele_world.specs.WellFormed.{IsThere, IsDirectoryThere, has_directory, is_reached, IsContent, AreWrittenBy}
+use Rattle.ele_world.specs.World.{World, next_of, is_version, is_live, current_of, is_draft, has_draft, is_writer}
 use Rattle.ele_world.specs.declared.event.Event.{Event}
 use Rattle.ele_world.specs.declared.event.Event.TheVariants.{CleanOne}
-use Rattle.ele_world.specs.declared.rows.Target.TheVariants.{Directory}
+use Rattle.ele_world.specs.declared.rows.Target.{Target}
+use Rattle.ele_world.specs.declared.rows.Target.TheVariants.{File, Directory}
 use Rattle.ele_world.specs.declared.rows.VersionRow.{VersionRow}
 
 abbrev pub HasRoom : World → Type 0
@@ -38,6 +39,31 @@ pub record MayMakeDirectory (w : World) (directory : ℕ) (name : List ℕ) (id 
 -- a directory whose name dies has no live name in it
 abbrev pub MayEnd : World → ℕ → List ℕ → Type 0
 MayEnd w directory name = (id : ℕ) → live_target w.names directory name ≡ Some (Directory id) → list_any (is_live_in id) w.names ≡ false
+
+-- a file that has a live name, or a directory that has none
+abbrev pub MayHaveMore : World → Target → Type 0
+MayHaveMore w (File file) = is_live w file ≡ true
+MayHaveMore w (Directory id) = list_any (is_live_directory id) w.names ≡ false
+
+pub record MayAdd (w : World) (directory : ℕ) (name : List ℕ) (target : Target) : Type 0 where
+  pub named : MayName w directory name
+  pub file : IsThere w.files target
+  pub directory : IsDirectoryThere w.directories target
+  pub more : MayHaveMore w target
+
+-- the new name doesn't stand in what is moved
+pub record MayMove (w : World) (from : ℕ) (old : List ℕ) (to : ℕ) (new : List ℕ) (target : Target) : Type 0 where
+  pub stands : live_target w.names from old ≡ Some target
+  pub named : MayName w to new
+  pub outside : is_target_directory to target ≡ false
+
+-- the file has no live name, and its last version is held
+pub record MayRevive (w : World) (directory : ℕ) (name : List ℕ) (file : ℕ) : Type 0 where
+  pub named : MayName w directory name
+  pub nameless : is_live w file ≡ false
+  pub last : VersionRow
+  pub held : current_of w file ≡ Some last
+  pub room : HasRoom w
 
 pub record MayMake (w : World) (directory : ℕ) (name : List ℕ) (id : ℕ) (policy : Policy) : Type 0 where
   pub next : id ≡ w.made.files + 1
@@ -78,6 +104,10 @@ May event first w (Time to) = (w.now ≤ to) × (IsEvent event → to ≤ last_m
 May event first w (Govern directory policy) = IsEvent event → IsPolicy policy
 May event first w (MakeDirectory directory name id policy) = MayMakeDirectory w directory name id policy
 May event first w (EndName directory name) = MayEnd w directory name
+May event first w (AddName directory name target) = MayAdd w directory name target
+May event first w (MoveName from old to new target) = MayMove w from old to new target
+May event first w (EndFileName directory name file) = live_target w.names directory name ≡ Some (File file)
+May event first w (Revive directory name file) = MayRevive w directory name file
 May event first w (MakeFile directory name id policy) = MayMake w directory name id policy
 May event first w (Append file opened cells) = MayAppend w file opened cells
 May event first w (Take file number) = MayTake event first w file number
@@ -87,6 +117,7 @@ May event first w (TruncateDraft file size) = size ≤ longest_content
 May event first w (EndDraft file) = list_any (is_writer file) w.handles ≡ false
 May event first w (OpenHandle number file) = MayOpen w number file
 May event first w (ShutHandle number) = Unit {0}
+May event first w (DropIdle file) = Unit {0}
 
 -- each in its turn
 abbrev pub MayAll : Event → World → World → List Change → Type 0

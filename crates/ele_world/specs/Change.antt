@@ -1,5 +1,6 @@
 -- The changes that a world can undergo, and what each makes of its rows; each leaves a well-formed world.
-use Rattle.std.specs.Prelude.{ℕ, ◌+◌, ◌-◌, ◌==◌, true, false, List, [], ◌∷◌, ◌++◌, length, Some, None, unwrap_or, if◌then◌else◌}
+use Rattle.std.specs.Prelude.{ℕ, ◌+◌, ◌-◌, ◌==◌, ◌&&◌, not, true, false, Bool, List, [], ◌∷◌, ◌++◌, length, filter, Some, None, unwrap_or, if◌then◌else◌}
+use Rattle.std.specs.List.{list_any}
 use Rattle.std.specs.Option.{option_map_or}
 use Rattle.ele_content.specs.declared.cell.Cell.{Cell}
 use Rattle.ele_content.specs.Content.{content_of, cells_after_write, cells_after_truncate}
@@ -12,15 +13,20 @@ use Rattle.ele_world.specs.declared.rows.Reads.TheVariants.{Draft}
 use Rattle.ele_world.specs.declared.rows.Target.{Target}
 use Rattle.ele_world.specs.declared.rows.Target.TheVariants.{File, Directory}
 use Rattle.ele_world.specs.declared.rows.VersionRow.{VersionRow}
+use Rattle.ele_world.specs.FileView.{is_version_of}
 use Rattle.ele_world.specs.NameRows.{born_row, dies}
 use Rattle.ele_world.specs.Walk.{is_live_name}
-use Rattle.ele_world.specs.World.{World, is_directory, is_file, next_of, is_version, is_version_after, is_live, current_of, is_draft, is_draft_after, is_handle}
+use Rattle.ele_world.specs.World.{World, is_directory, is_file, next_of, is_version, is_version_after, is_target_file, is_live, current_of, is_draft, has_draft, is_draft_after, is_handle}
 
 pub data Change : Type 0 where
   Time : (to : ℕ) → Change
   Govern : (directory : ℕ) → (policy : Policy) → Change
   MakeDirectory : (directory : ℕ) → (name : List ℕ) → (id : ℕ) → (policy : Policy) → Change
   EndName : (directory : ℕ) → (name : List ℕ) → Change
+  AddName : (directory : ℕ) → (name : List ℕ) → (target : Target) → Change
+  MoveName : (from : ℕ) → (old : List ℕ) → (to : ℕ) → (new : List ℕ) → (target : Target) → Change
+  EndFileName : (directory : ℕ) → (name : List ℕ) → (file : ℕ) → Change
+  Revive : (directory : ℕ) → (name : List ℕ) → (file : ℕ) → Change
   MakeFile : (directory : ℕ) → (name : List ℕ) → (id : ℕ) → (policy : Policy) → Change
   Append : (file opened : ℕ) → (cells : List Cell) → Change
   Take : (file number : ℕ) → Change
@@ -30,6 +36,7 @@ pub data Change : Type 0 where
   EndDraft : (file : ℕ) → Change
   OpenHandle : (number file : ℕ) → Change
   ShutHandle : (number : ℕ) → Change
+  DropIdle : (file : ℕ) → Change
 
 -- ---- directories, files and names
 
@@ -57,6 +64,21 @@ with_name w directory name target = record w {
   made = record w.made { names = w.made.names + 1 };
 }
 
+-- the live name dies now
+abbrev pub without_name : World → ℕ → List ℕ → World
+without_name w directory name = record w { names = update_first (is_live_name directory name) (dies w.now) w.names }
+
+-- nothing is left of the file: no live name, no held version and no draft
+abbrev pub is_idle : World → ℕ → Bool
+is_idle w file = not (is_live w file) && (not (list_any (is_version_of file) w.versions) && not (has_draft w file))
+
+-- the file goes, and its dead names with it
+abbrev pub without_file : World → ℕ → World
+without_file w file = record w {
+  files = remove_first (is_file file) w.files;
+  names = filter (λ row. not (is_target_file file row.target)) w.names;
+}
+
 -- ---- versions
 
 -- it ends then, unless it has ended
@@ -66,6 +88,10 @@ ended_at at row = record row { ended = Some (unwrap_or row.ended at) }
 -- the versions, where the one before the file's next has an end
 abbrev pub with_end : World → ℕ → List VersionRow
 with_end w file = update_first (is_version file (next_of w.files file - 1)) (ended_at w.now) w.versions
+
+-- where the file has no live name, that version has an end
+abbrev pub ended_if_nameless : World → ℕ → World
+ended_if_nameless w file = record w { versions = if is_live w file then w.versions else with_end w file }
 
 abbrev pub numbered_on : FileRow → FileRow
 numbered_on row = record row { next = row.next + 1 }
@@ -116,8 +142,16 @@ after_change w (Time to) = record w { now = to }
 after_change w (Govern directory policy) = record w { directories = update_first (is_directory directory) (governed_by policy) w.directories }
 -- a new directory and its name
 after_change w (MakeDirectory directory name id policy) = with_name (with_directory w id policy) directory name (Directory id)
--- the live name dies now
-after_change w (EndName directory name) = record w { names = update_first (is_live_name directory name) (dies w.now) w.names }
+-- a directory's live name dies now
+after_change w (EndName directory name) = without_name w directory name
+-- a name more of what is there
+after_change w (AddName directory name target) = with_name w directory name target
+-- the live name dies now, and what it stood for has another one
+after_change w (MoveName from old to new target) = with_name (without_name w from old) to new target
+-- a file's live name dies now, and with its last one the current version ends
+after_change w (EndFileName directory name file) = ended_if_nameless (without_name w directory name) file
+-- a file without a live name has one, and a version more with the cells of its last one
+after_change w (Revive directory name file) = with_version (with_name w directory name (File file)) file w.now (current_cells w file)
 -- a new file, its name, and its first version, which is empty
 after_change w (MakeFile directory name id policy) = with_version (with_name (with_file w id policy) directory name (File id)) id w.now []
 after_change w (Append file opened cells) = with_version w file opened cells
@@ -131,6 +165,8 @@ after_change w (OpenHandle number file) = record w {
   made = record w.made { handles = number };
 }
 after_change w (ShutHandle number) = record w { handles = remove_first (is_handle number) w.handles }
+-- the file goes if nothing is left of it
+after_change w (DropIdle file) = if is_idle w file then without_file w file else w
 
 -- one after the other
 abbrev pub after_changes : World → List Change → World

@@ -10,6 +10,7 @@ pub mod Due
 pub mod Scan
 pub mod Usage
 pub mod Change
+pub mod Restorable
 pub mod Plan
 pub mod Step
 pub mod WellFormed
@@ -19,6 +20,11 @@ pub mod NothingChanges
 pub mod CreateLeads
 pub mod MakeDirLeads
 pub mod RemoveDirEnds
+pub mod LinkLeads
+pub mod RenameLeads
+pub mod UnlinkEnds
+pub mod UndeleteLeads
+pub mod NoIdleStays
 pub mod CloseKeeps
 pub mod OnlyDueLeave
 pub mod HeldStays

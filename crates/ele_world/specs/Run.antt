@@ -2,7 +2,7 @@
 use Rattle.std.specs.Prelude.{◌≡◌, ℕ, suc, zero, ◌<◌, ◌≤◌, List, [], ◌∷◌, None, IsSome}
 use Rattle.ele_moment.specs.Last.{last_moment}
 use Rattle.ele_world.specs.declared.event.Event.{Event}
-use Rattle.ele_world.specs.declared.event.Event.TheVariants.{Clock, Tick, MakeDir, RemoveDir, Create, OpenWrite, Write, Truncate, Close, SetDefault, CleanOne, Read, Due, UsageAll}
+use Rattle.ele_world.specs.declared.event.Event.TheVariants.{Clock, Tick, MakeDir, RemoveDir, Create, Link, Unlink, Rename, Undelete, OpenWrite, Write, Truncate, Close, SetDefault, CleanOne, Read, Restorable, Due, UsageAll}
 use Rattle.ele_world.specs.Scan.{first_due}
 use Rattle.ele_world.specs.Step.{step, clean_step}
 use Rattle.ele_policy.specs.Policy.{IsPolicy}
@@ -20,6 +20,10 @@ IsEvent (Tick seconds) = Unit {0}
 IsEvent (MakeDir path) = Unit {0}
 IsEvent (RemoveDir path) = Unit {0}
 IsEvent (Create path) = Unit {0}
+IsEvent (Link from to) = Unit {0}
+IsEvent (Unlink path) = Unit {0}
+IsEvent (Rename from to) = Unit {0}
+IsEvent (Undelete path) = Unit {0}
 IsEvent (OpenWrite path) = Unit {0}
 IsEvent (Write handle offset bytes) = Unit {0}
 IsEvent (Truncate handle size) = Unit {0}
@@ -27,6 +31,7 @@ IsEvent (Close handle) = Unit {0}
 IsEvent (SetDefault path policy) = IsPolicy policy
 IsEvent CleanOne = Unit {0}
 IsEvent (Read source) = Unit {0}
+IsEvent Restorable = Unit {0}
 IsEvent Due = Unit {0}
 IsEvent UsageAll = Unit {0}
 

@@ -1,5 +1,5 @@
 -- What each event answers, and the world that it leaves: its checks in their order, then its reply, and its changes.
-use Rattle.std.specs.Prelude.{ℕ, ◌+◌, ◌==◌, nat_lt, nat_le, Bool, List, [], ◌∷◌, length, Some, None, is_some, find}
+use Rattle.std.specs.Prelude.{ℕ, ◌+◌, ◌==◌, nat_lt, nat_le, Bool, not, List, [], ◌∷◌, length, Some, None, is_some, find}
 use Rattle.std.specs.List.{list_any}
 use Rattle.std.specs.Option.{option_map_or}
 use Rattle.ele_content.specs.declared.cell.Cell.{Cell}
@@ -7,20 +7,22 @@ use Rattle.ele_content.specs.Content.{content_of, longest_content}
 use Rattle.ele_moment.specs.Last.{last_moment}
 use Rattle.ele_lists.specs.Lists.{remove_first}
 use Rattle.ele_world.specs.declared.event.Event.{Event}
-use Rattle.ele_world.specs.declared.event.Event.TheVariants.{Clock, Tick, MakeDir, RemoveDir, Create, OpenWrite, Write, Truncate, Close, SetDefault, CleanOne, Read, Due, UsageAll}
+use Rattle.ele_world.specs.declared.event.Event.TheVariants.{Clock, Tick, MakeDir, RemoveDir, Create, Link, Unlink, Rename, Undelete, OpenWrite, Write, Truncate, Close, SetDefault, CleanOne, Read, Restorable, Due, UsageAll}
 use Rattle.ele_world.specs.declared.event.Source.TheVariants.{Of}
-use Rattle.ele_world.specs.declared.refusal.Refusal.TheVariants.{ClockBack, ClockEnd, Exists, NotEmpty, TooBig, Full}
+use Rattle.ele_world.specs.declared.refusal.Refusal.TheVariants.{ClockBack, ClockEnd, Exists, NotEmpty, IntoItself, TooBig, Drafting, NotRestorable, Full}
 use Rattle.ele_world.specs.declared.refusal.Which.TheVariants.{Files, Directories, Names, Versions, Handles}
 use Rattle.ele_world.specs.declared.reply.Reply.{Reply}
-use Rattle.ele_world.specs.declared.reply.Reply.TheVariants.{Done, Nothing, Now, Directory, File, Handle, Closed, Removed, Bytes, DueList, UsageList}
+use Rattle.ele_world.specs.declared.reply.Reply.TheVariants.{Done, Nothing, Now, Directory, File, Handle, Version, Closed, Removed, Bytes, RestoreList, DueList, UsageList}
 use Rattle.ele_world.specs.declared.rows.Reads.{Reads}
 use Rattle.ele_world.specs.declared.rows.Reads.TheVariants.{Draft}
-use Rattle.ele_world.specs.Change.{Time, Govern, MakeDirectory, EndName, MakeFile, Append, Take, StartDraft, WriteDraft, TruncateDraft, EndDraft, OpenHandle, ShutHandle}
+use Rattle.ele_world.specs.declared.rows.Target.TheVariants as target
+use Rattle.ele_world.specs.Change.{Time, Govern, MakeDirectory, EndName, AddName, MoveName, EndFileName, Revive, MakeFile, Append, Take, StartDraft, WriteDraft, TruncateDraft, EndDraft, OpenHandle, ShutHandle, DropIdle}
 use Rattle.ele_world.specs.NameRows.{is_live_in}
 use Rattle.ele_world.specs.Plan.{Plan, Tell, Make, Unless, When, Need, IfFound, outcome}
+use Rattle.ele_world.specs.Restorable.{may_return, last_target, nameless, restorable}
 use Rattle.ele_world.specs.Scan.{scan, first_due}
 use Rattle.ele_world.specs.Usage.{usages}
-use Rattle.ele_world.specs.Walk.{live_target, file_now, directory_now, parent_now}
+use Rattle.ele_world.specs.Walk.{live_target, walk_now, file_now, directory_now, parent_now, stands_in}
 use Rattle.ele_world.specs.World.{World, default_of, next_of, has_draft, is_draft, is_handle, is_writer, file_by, reads_by}
 
 -- versions ever made, and drafts open now
@@ -68,6 +70,41 @@ plan w (Create path) =
     (Unless (nat_le w.limits.names w.made.names) (Full Names)
     (Unless (nat_le w.limits.versions (versions_made w)) (Full Versions)
     (Make (File id) (MakeFile at.0 at.1 id (default_of w.directories at.0) ∷ []))))))
+-- the file has a name more
+plan w (Link from to) =
+    Need (file_now w.names from) (λ file.
+    Need (parent_now w.names to) (λ at.
+    Unless (is_some (live_target w.names at.0 at.1)) Exists
+    (Unless (nat_le w.limits.names w.made.names) (Full Names)
+    (Make Done (AddName at.0 at.1 (target.File file) ∷ [])))))
+-- the file's name dies; with the last one the current version ends
+plan w (Unlink path) =
+    Need (parent_now w.names path) (λ at.
+    Need (file_now w.names path) (λ file.
+    Make Done (EndFileName at.0 at.1 file ∷ [])))
+-- what has the name gets another one in its place; a directory can't come to stand in itself
+plan w (Rename from to) =
+    Need (parent_now w.names from) (λ old.
+    Need (walk_now w.names from) (λ moved.
+    Need (parent_now w.names to) (λ at.
+    Unless (stands_in w.names moved to) IntoItself
+    (Unless (is_some (live_target w.names at.0 at.1)) Exists
+    (Unless (nat_le w.limits.names w.made.names) (Full Names)
+    (Make Done (MoveName old.0 old.1 at.0 at.1 moved ∷ [])))))))
+-- what the dead name last stood for has it again; a file without a live name gets a version like its last one
+plan w (Undelete path) =
+    Need (parent_now w.names path) (λ at.
+    Unless (is_some (live_target w.names at.0 at.1)) Exists
+    (Need (last_target w.names at.0 at.1) (λ lost.
+    Unless (not (may_return w lost)) NotRestorable
+    (IfFound (nameless w lost)
+    (Unless (nat_le w.limits.names w.made.names) (Full Names)
+    (Make Done (AddName at.0 at.1 lost ∷ [])))
+    (λ file.
+    Unless (has_draft w file) Drafting
+    (Unless (nat_le w.limits.names w.made.names) (Full Names)
+    (Unless (nat_le w.limits.versions (versions_made w)) (Full Versions)
+    (Make (Version (next_of w.files file)) (Revive at.0 at.1 file ∷ [])))))))))
 -- a handle that writes the file's draft, which is begun for the first one
 plan w (OpenWrite path) =
     let number = w.made.handles + 1 in
@@ -87,22 +124,24 @@ plan w (Truncate handle size) =
     Need (file_by w.handles handle) (λ file.
     Unless (nat_lt longest_content size) TooBig
     (Make Done (TruncateDraft file size ∷ [])))
--- the handle goes; with a file's last one a changed draft becomes the next version, and any other vanishes
+-- the handle goes; with a file's last one a changed draft becomes the next version, and any other vanishes, and with it a
+-- file of which nothing else is left
 plan w (Close handle) =
     Need (file_by w.handles handle) (λ file.
     When (has_other_writer w handle file) (Make (Closed None) (ShutHandle handle ∷ []))
     (IfFound (find (is_draft file) w.drafts) (Make (Closed None) (ShutHandle handle ∷ [])) (λ draft.
     When draft.changed
     (Make (Closed (Some (next_of w.files file))) (ShutHandle handle ∷ EndDraft file ∷ Append file draft.opened draft.cells ∷ []))
-    (Make (Closed None) (ShutHandle handle ∷ EndDraft file ∷ [])))))
+    (Make (Closed None) (ShutHandle handle ∷ EndDraft file ∷ DropIdle file ∷ [])))))
 -- files that are made in the directory from now on get the policy
 plan w (SetDefault path policy) =
     Need (directory_now w.names path) (λ directory. Make Done (Govern directory policy ∷ []))
--- the first version of the scan goes
+-- the first version of the scan goes, and with it a file of which nothing else is left
 plan w CleanOne =
-    IfFound (first_due w) (Tell Nothing) (λ key. Make (Removed key) (Take key.file key.number ∷ []))
+    IfFound (first_due w) (Tell Nothing) (λ key. Make (Removed key) (Take key.file key.number ∷ DropIdle key.file ∷ []))
 -- the content of what the handle reads
 plan w (Read (Of handle)) = Need (reads_by w.handles handle) (λ reads. Tell (Bytes (content_of (cells_read w reads))))
+plan w Restorable = Tell (RestoreList (restorable w))
 plan w Due = Tell (DueList (scan w))
 plan w UsageAll = Tell (UsageList (usages w))
 

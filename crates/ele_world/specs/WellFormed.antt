@@ -1,5 +1,5 @@
 -- What is true of every world of a run, in parts: each takes only what it speaks of.
-use Rattle.std.specs.Prelude.{◌≡◌, ℕ, ◌+◌, ◌==◌, ◌<◌, ◌≤◌, ◌&&◌, ◌||◌, Bool, true, List, length, IfSome, Some, None, is_none}
+use Rattle.std.specs.Prelude.{◌≡◌, ℕ, ◌+◌, ◌==◌, ◌<◌, ◌≤◌, ◌&&◌, ◌||◌, Bool, true, false, List, length, IfSome, Some, None, is_none}
 use Rattle.std.specs.List.{list_any, AllByRecursion}
 use Rattle.ele_content.specs.declared.cell.Cell.{Cell}
 use Rattle.ele_content.specs.Content.{content_of, longest_content, fill_slots}
@@ -96,6 +96,10 @@ pub record AreHoused (directories : List DirectoryRow) (names : List NameRow) : 
   pub each : AllByRecursion (IsHoused directories names) names
   pub named : AllByRecursion (λ row. ((row.id == root) || list_any (is_name_of_directory row.id) names) ≡ true) directories
 
+-- two live names of directories are of two directories
+abbrev pub AreOthers : NameRow → NameRow → Type 0
+AreOthers earlier later = (id : ℕ) → is_live_directory id earlier ≡ true → is_live_directory id later ≡ false
+
 -- the cells are those of a content: its slots in a row, each of 512 bytes but for the last, which has 1 to 512
 pub record IsContent (cells : List Cell) : Type 0 where
   pub short : length (content_of cells) ≤ longest_content
@@ -168,6 +172,7 @@ pub data Part : Type 0 where
   Files : Part
   Names : Part
   Homes : Part
+  Tree : Part
   Versions : Part
   Drafts : Part
   Handles : Part
@@ -181,6 +186,7 @@ Holds w Directories = AreDirectories w.made.directories w.limits.directories w.d
 Holds w Files = AreFiles w.made.files w.made.versions w.files
 Holds w Names = AreNames w.files w.now w.names
 Holds w Homes = AreHoused w.directories w.names
+Holds w Tree = AllLater AreOthers w.names
 Holds w Versions = AreVersions w.files w.now w.versions
 Holds w Drafts = AreDrafts w.files w.now w.drafts
 Holds w Handles = AreHandles w.made.handles w.drafts w.handles

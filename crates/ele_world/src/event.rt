@@ -24,6 +24,15 @@ pub enum Event {
     RemoveDir(Path),
     /// A file is made at the path, with an empty first version.
     Create(Path),
+    /// The file at the first path gets the second path as another name.
+    Link(Path, Path),
+    /// The name of the file at the path dies; with the last one its current version ends.
+    Unlink(Path),
+    /// What stands at the first path has the second path as its name from now on, in place of the first.
+    Rename(Path, Path),
+    /// The dead name at the path stands again for what it last stood for; a file that had no live name gets a version with
+    /// the content of its last one.
+    Undelete(Path),
     /// A handle is opened by which the file at the path is written.
     OpenWrite(Path),
     /// The bytes are written through the handle, from that offset on.
@@ -38,6 +47,8 @@ pub enum Event {
     CleanOne,
     /// Asks for bytes.
     Read(Source),
+    /// Asks which names may come back.
+    Restorable,
     /// Asks which versions are due.
     Due,
     /// Asks what the files of each kind of policy use.

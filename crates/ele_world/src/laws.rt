@@ -4,13 +4,18 @@ ghost use Rattle.ele_world.specs.CleanKeepsKeys.{CleanKeepsKeys};
 ghost use Rattle.ele_world.specs.CloseKeeps.{CloseKeeps};
 ghost use Rattle.ele_world.specs.CreateLeads.{CreateLeads};
 ghost use Rattle.ele_world.specs.AlwaysWellFormed.{FreshIsWellFormed, StepKeepsWellFormed, AlwaysWellFormed};
+ghost use Rattle.ele_world.specs.LinkLeads.{LinkLeads};
 ghost use Rattle.ele_world.specs.MakeDirLeads.{MakeDirLeads};
+ghost use Rattle.ele_world.specs.NoIdleStays.{NoIdleStays, NoIdleStaysInRuns};
 ghost use Rattle.ele_world.specs.RemoveDirEnds.{RemoveDirEnds};
 ghost use Rattle.ele_world.specs.HeldStays.{HeldStays, HeldStaysInRuns};
 ghost use Rattle.ele_world.specs.NothingChanges.{RefusedStays, AskingStays};
 ghost use Rattle.ele_world.specs.OnlyDueLeave.{OnlyDueLeave, OnlyDueLeaveInRuns};
 ghost use Rattle.ele_world.specs.PassLeavesKept.{PassLeavesKept, PassLeavesKeptInRuns};
 ghost use Rattle.ele_world.specs.RemovalOrder.{RemovalOrder};
+ghost use Rattle.ele_world.specs.RenameLeads.{RenameLeads};
+ghost use Rattle.ele_world.specs.UndeleteLeads.{UndeleteLeads};
+ghost use Rattle.ele_world.specs.UnlinkEnds.{UnlinkEnds};
 ghost use Rattle.ele_world.specs.RipeMoments.{DueFromRipe, RipeIsAnswered};
 ghost use Rattle.ele_world.specs.UsageFits.{UsageFits};
 
@@ -52,6 +57,36 @@ pub fn remove_dir_ends()
 /// After a create its path leads to the new file, whose current version is empty.
 pub fn create_leads()
     ensures { CreateLeads }
+{}
+
+/// After a link both paths lead to the file.
+pub fn link_leads()
+    ensures { LinkLeads }
+{}
+
+/// After a rename the new path leads where the old one led, the old one leads nowhere, and no version has changed.
+pub fn rename_leads()
+    ensures { RenameLeads }
+{}
+
+/// After an unlink its path leads nowhere, and a file without another live name has no current version.
+pub fn unlink_ends()
+    ensures { UnlinkEnds }
+{}
+
+/// After an undelete its path leads to what the name last stood for, and a version that it made has the cells of the last.
+pub fn undelete_leads()
+    ensures { UndeleteLeads }
+{}
+
+/// An event leaves no file of which nothing is left: no live name, no held version and no draft.
+pub fn no_idle_stays()
+    ensures { NoIdleStays }
+{}
+
+/// After any list of events there is none.
+pub fn no_idle_stays_in_runs()
+    ensures { NoIdleStaysInRuns }
 {}
 
 /// A close that tells of a version has made it of all that was written.

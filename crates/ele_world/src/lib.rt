@@ -24,8 +24,10 @@ pub use ele_usage::Usage;
 pub use event::{Event, Source};
 pub use flat::Flat;
 pub use limits::{Counts, Limits};
-pub use list::KeyList;
+pub use list::{DeadNameList, KeyList};
 pub use pass::PassEnd;
 pub use refusal::{Refusal, Stop, Which};
 pub use reply::Reply;
-pub use rows::{DirectoryRow, DraftRow, FileRow, HandleRow, NameRow, Reads, Target, VersionRow};
+pub use rows::{
+    DeadName, DirectoryRow, DraftRow, FileRow, HandleRow, NameRow, Reads, Target, VersionRow,
+};

@@ -1,5 +1,5 @@
 //! Replies: what a command answers.
-use crate::list::KeyList;
+use crate::list::{DeadNameList, KeyList};
 use crate::refusal::Refusal;
 use ele_due::Key;
 use ele_lists::ByteList;
@@ -16,10 +16,13 @@ pub enum Reply {
     Directory(DirId),
     File(FileId),
     Handle(Handle),
+    Version(VersionNo),
     /// The handle is closed, and the version that it made, if it made one.
     Closed(Option<VersionNo>),
     Removed(Key),
     Bytes(ByteList),
+    /// The names that may come back.
+    RestoreList(DeadNameList),
     DueList(KeyList),
     /// What the files of each kind of policy use, in the order of `Kind`.
     UsageList([Usage; 4]),

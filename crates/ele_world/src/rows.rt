@@ -44,6 +44,14 @@ pub struct NameRow {
     pub death: Option<Moment>,
 }
 
+/// A name whose newest row is dead, and what that row stood for.
+#[derive(Clone, Copy, Debug, PartialEq, Eq)]
+pub struct DeadName {
+    pub directory: DirId,
+    pub name: Name,
+    pub target: Target,
+}
+
 /// A held version of a file: when its session opened it, when it closed, and when it ended, if it has.
 #[derive(Debug, Drop, PartialEq, Eq)]
 pub struct VersionRow {
