@@ -47,8 +47,8 @@ MayHaveMore w (Directory id) = list_any (is_live_directory id) w.names ≡ false
 
 pub record MayAdd (w : World) (directory : ℕ) (name : List ℕ) (target : Target) : Type 0 where
   pub named : MayName w directory name
-  pub file : IsThere w.files target
-  pub directory : IsDirectoryThere w.directories target
+  pub there : IsThere w.files target
+  pub housed : IsDirectoryThere w.directories target
   pub more : MayHaveMore w target
 
 -- the new name doesn't stand in what is moved
