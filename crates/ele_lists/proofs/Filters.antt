@@ -61,6 +61,22 @@ module _ {X : Type 0} (p q : X → Bool) where
     | false ↦ λ e. rw (within x e) (list_any-filter xs within)
   ] refl
 
+  -- what passes among some passes among all
+  pub any-filtered : (xs : List X) → list_any p (filter q xs) ≡ true → list_any p xs ≡ true
+  any-filtered [] h = h
+  any-filtered (x ∷ xs) h = by (q x) (any-filtered xs) h where
+    both : (a : Bool) → (list_any p (filter q xs) ≡ true → list_any p xs ≡ true) → (a || list_any p (filter q xs)) ≡ true → (a || list_any p xs) ≡ true
+    both true rest h = refl
+    both false rest h = rest h
+
+    or_true : (a : Bool) → list_any p xs ≡ true → (a || list_any p xs) ≡ true
+    or_true true h = refl
+    or_true false h = h
+
+    by : (b : Bool) → (list_any p (filter q xs) ≡ true → list_any p xs ≡ true) → list_any p (cond b (x ∷ filter q xs) (filter q xs)) ≡ true → (p x || list_any p xs) ≡ true
+    by true rest h = both (p x) rest h
+    by false rest h = or_true (p x) (rest h)
+
 pub filter-swap : {X : Type 0} (p q : X → Bool) (xs : List X) → filter p (filter q xs) ≡ filter q (filter p xs)
 filter-swap p q xs = filter-both p q xs ∙ (filter-same (λ x. q x && p x) (λ x. p x && q x) xs (λ x. swapped (q x) (p x)) ∙ sym (filter-both q p xs)) where
   swapped : (a b : Bool) → (a && b) ≡ (b && a)

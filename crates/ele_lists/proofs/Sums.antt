@@ -2,6 +2,7 @@
 use Rattle.std.proofs.Common.{◌≡◌, ℕ, ◌+◌, ◌≤◌, Bool, true, false, not, cond, ◌||◌, List, [], ◌∷◌, ◌++◌, length, map, Some, refl, sym, ◌∙◌, arith}
 use Rattle.std.specs.Prelude.{find, filter, nat_lt}
 use Rattle.std.specs.List.{AllByRecursion, list_any, flat_map, sum_by, count_by}
+use Rattle.std.specs.Option.{option_map_or}
 use Rattle.std.proofs.lemmas.Bool.Decides.{nat_tests}
 use Rattle.std.proofs.lemmas.List.Sums.{sum_by-cons, sum_by-append}
 use Rattle.ele_lists.specs.Lists.{update_first, remove_first, insert_before}
@@ -96,4 +97,18 @@ length-split t [] = refl
 length-split t (x ∷ xs) = elim (t x) as (λ b. length (x ∷ xs) ≡ length (cond b (x ∷ filter t xs) (filter t xs)) + length (cond (not b) (x ∷ filter (λ y. not (t y)) xs) (filter (λ y. not (t y)) xs))) [
   | true ↦ omega (arith, length-split t xs)
   | false ↦ omega (arith, length-split t xs)
+]
+
+-- of those that pass one is fewer, where the removed one does
+pub length-filter_removed : {X : Type 0} (t p : X → Bool) (xs : List X) → length (filter t (remove_first p xs)) + option_map_or (λ x. cond (t x) 1 0) (find p xs) 0 ≡ length (filter t xs)
+length-filter_removed t p [] = omega arith
+length-filter_removed t p (x ∷ xs) = elim (p x) as (λ b. length (filter t (cond b xs (x ∷ remove_first p xs))) + option_map_or (λ x. cond (t x) 1 0) (cond b (Some x) (find p xs)) 0 ≡ length (filter t (x ∷ xs))) [
+  | true ↦ elim (t x) as (λ b. length (filter t xs) + cond b 1 0 ≡ length (cond b (x ∷ filter t xs) (filter t xs))) [
+    | true ↦ omega arith
+    | false ↦ omega arith
+  ]
+  | false ↦ elim (t x) as (λ b. length (cond b (x ∷ filter t (remove_first p xs)) (filter t (remove_first p xs))) + option_map_or (λ x. cond (t x) 1 0) (find p xs) 0 ≡ length (cond b (x ∷ filter t xs) (filter t xs))) [
+    | true ↦ omega (arith, length-filter_removed t p xs)
+    | false ↦ length-filter_removed t p xs
+  ]
 ]

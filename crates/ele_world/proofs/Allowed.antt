@@ -17,7 +17,7 @@ use Rattle.ele_policy.specs.Policy.{IsPolicy}
 use Rattle.ele_world.specs.WellFormed.{AreWrittenBy, IsDraft, Counted, Directories, Names, Versions, Drafts, IsWellFormed}
 use Rattle.ele_world.specs.World.{World, is_directory, default_of, next_of, is_draft, is_draft_after}
 use Rattle.ele_world.specs.declared.event.Event.{Event}
-use Rattle.ele_world.specs.declared.event.Event.TheVariants.{Clock, Tick, MakeDir, RemoveDir, Create, OpenWrite, Write, Truncate, Close, SetDefault, CleanOne, Read, Due, UsageAll}
+use Rattle.ele_world.specs.declared.event.Event.TheVariants.{Clock, Tick, MakeDir, RemoveDir, Create, Link, Unlink, Rename, Undelete, Restorable, OpenWrite, Write, Truncate, Close, SetDefault, CleanOne, Read, Due, UsageAll}
 use Rattle.ele_world.specs.declared.event.Source.TheVariants.{Of}
 use Rattle.ele_world.specs.declared.rows.DirectoryRow.{DirectoryRow}
 use Rattle.ele_world.specs.declared.rows.DraftRow.{DraftRow}
@@ -79,6 +79,12 @@ allowed w (MakeDir path) k = λ at found free directories names.
 allowed w (RemoveDir path) k = λ at found directory leads empty. (may_end w path at directory found leads empty, tt)
 allowed w (Create path) k = λ at found free files names versions.
     (record { next = refl; files = grind (arith, nat_tests); named = may_name w path at k found free names; room = grind (arith, nat_tests); valid = default_is w.directories at.0 (k.holds Directories).policies }, tt)
+-- TEMPORARY
+allowed w (Link from to) k = ?
+allowed w (Unlink path) k = ?
+allowed w (Rename from to) k = ?
+allowed w (Undelete path) k = ?
+allowed w Restorable k = ?
 allowed w (OpenWrite path) k = λ file found handles. (
   λ has. (record { next = refl; room = grind (arith, nat_tests); drafted = has }, tt),
   λ none versions. (
@@ -92,11 +98,11 @@ allowed w (Close handle) k = λ file found. (
   λ other. (tt, tt),
   λ last. (
     (tt, tt),
-    λ draft drafted. (λ changed. (tt, (last, (finishes w handle file draft k drafted, tt))), λ same. (tt, (last, tt))),
+    λ draft drafted. (λ changed. (tt, (last, (finishes w handle file draft k drafted, tt))), λ same. (tt, (last, (tt, tt)))),
   ),
 )
 allowed w (SetDefault path policy) k = λ directory found. (λ is. is, tt)
-allowed w CleanOne k = (tt, λ key first. (takes w key k first, tt))
+allowed w CleanOne k = (tt, λ key first. (takes w key k first, (tt, tt)))
 allowed w (Read (Of handle)) k = λ reads found. tt
 allowed w Due k = tt
 allowed w UsageAll k = tt

@@ -20,12 +20,14 @@ use Rattle.ele_world.specs.FileView.{view_of}
 use Rattle.ele_world.specs.CleanKeepsKeys.{TakesOneKey, CleanKeepsKeys}
 use Rattle.ele_world.specs.RipeMoments.{IsDueFromRipe}
 use Rattle.ele_world.specs.Scan.{due_key, key_of, scan, first_due}
+use Rattle.ele_world.specs.Change.{Take, DropIdle, after_change}
 use Rattle.ele_world.specs.Step.{clean_step}
 use Rattle.ele_world.specs.WellFormed.{IsWellFormed}
 use Rattle.ele_world.specs.World.{World, is_version}
 use Rattle.ele_lists.proofs.Alls.{all-append, all-around}
 use Rattle.ele_lists.proofs.Cuts.{find-cut, remove_first-at, find-without}
 use Rattle.ele_world.proofs.Cleans.{clean_of}
+use Rattle.ele_world.proofs.DropViews.{ripe_at_dropped}
 use Rattle.ele_world.proofs.DueRows.{first_is_due}
 use Rattle.ele_world.proofs.RemovalOrder.{left, IsBeside, stays, no_more, sides}
 use Rattle.ele_world.proofs.RipeAt.{ripe_at_is, ripe_same}
@@ -138,8 +140,9 @@ module _ (w : World) (before : List VersionRow) (row : VersionRow) (behind : Lis
     others = λ file number apart. others file number (grind (arith, nat_tests));
   }
 
-pub clean_keeps_keys : CleanKeepsKeys
-clean_keeps_keys w key k first =
+-- the version goes, whether its file then goes or not
+pub take_keeps_keys : (w : World) (key : Key) → IsWellFormed w → first_due w ≡ Some key → TakesOneKey w key (after_change w (Take key.file key.number))
+take_keeps_keys w key k first =
     let p = is_version key.file key.number in
     let due = first_is_due w key (placed_of w k) first in
     let at = find-cut p w.versions due.row due.found in
@@ -147,7 +150,7 @@ clean_keeps_keys w key k first =
     let file : due.row.file ≡ key.file = grind (arith, nat_tests) in
     let number : due.row.number ≡ key.number = grind (arith, nat_tests) in
     let same : w ≡ left w (at.before ++ due.row ∷ at.behind) = ap (left w) at.whole in
-    let taken : (clean_step w).1 ≡ left w (at.before ++ at.behind) = ap (λ o. (clean_of w o).1) first ∙ ap (left w) (ap (remove_first p) at.whole ∙ remove_first-at p at.before due.row at.behind at.none at.passes) in
+    let taken : after_change w (Take key.file key.number) ≡ left w (at.before ++ at.behind) = ap (left w) (ap (remove_first p) at.whole ∙ remove_first-at p at.before due.row at.behind at.none at.passes) in
     let come : key.ripe ≤ w.now = (let now = sym (all-found p (IsDueFromRipe w) w.versions due.row due.found (due_from_ripe w k) w.now (now_of w k)) ∙ due.due in let ripe = rw due.ripe at now in grind (arith, nat_tests)) in
     subst (λ (v : World). TakesOneKey w key v) (sym taken)
     (subst (λ (u : World). TakesOneKey u key (left w (at.before ++ at.behind))) (sym same)
@@ -155,3 +158,14 @@ clean_keeps_keys w key k first =
     (takes_one w at.before due.row at.behind (subst IsWellFormed same k) key.ripe (subst (λ (u : World). ripe_of u due.row ≡ Some key.ripe) same due.ripe)
     (subst (λ (u : World). AllByRecursion (IsLater u key.ripe) u.versions) same (all_later w k key first come))
     (rw (file, number) (subst (λ (u : World). find p u.versions ≡ Some due.row) same due.found)))))
+
+pub clean_keeps_keys : CleanKeepsKeys
+clean_keeps_keys w key k first =
+    let w' = after_change w (Take key.file key.number) in
+    let one = take_keeps_keys w key k first in
+    let same = ripe_at_dropped w' key.file in
+    subst (λ (v : World). TakesOneKey w key v) (sym (ap (λ o. (clean_of w o).1) first)) (record {
+      was = one.was;
+      gone = same key.file key.number ∙ one.gone;
+      others = λ file number apart. same file number ∙ one.others file number apart;
+    })

@@ -13,7 +13,7 @@ use Rattle.ele_policy.specs.Policy.{IsPolicy}
 use Rattle.ele_world.specs.Change.{after_change, MakeDirectory, EndName}
 use Rattle.ele_world.specs.NameRows.{born_row, dies, is_live_in, is_name_of_directory, is_target_directory, is_live_directory}
 use Rattle.ele_world.specs.Walk.{is_live_name, live_target}
-use Rattle.ele_world.specs.WellFormed.{has_directory, is_reached, IsHoused, IsNameRow, AreApart, Part, Counted, Directories, Names, Homes, Current, Holds, IsWellFormed}
+use Rattle.ele_world.specs.WellFormed.{has_directory, is_reached, IsHoused, IsNameRow, AreApart, Part, Counted, Directories, Names, Homes, Tree, Current, Holds, IsWellFormed}
 use Rattle.ele_world.specs.World.{World, root, is_directory, is_live_name_of}
 use Rattle.ele_world.specs.declared.rows.DirectoryRow.{DirectoryRow}
 use Rattle.ele_world.specs.declared.rows.NameRow.{NameRow}
@@ -85,6 +85,8 @@ module _ (w : World) (directory : ℕ) (name : List ℕ) (policy : Policy) where
       still : (b : Bool) (d : ℕ) → (b || list_any (is_name_of_directory d) w.names) ≡ true → (b || list_any (is_name_of_directory d) made.names) ≡ true
       still true d h = refl
       still false d h = any_more (is_name_of_directory d) w.names named h
+    -- TEMPORARY
+    by Tree = ?
     by Current = λ file live. k.holds Current file (sym (no_file_named w.names directory name id w.now file) ∙ live)
     by part = k.holds part
 
@@ -157,5 +159,7 @@ module _ (w : World) (directory : ℕ) (name : List ℕ) (may : MayEnd w directo
       named = all-weaker (λ row. ((row.id == root) || list_any (is_name_of_directory row.id) w.names) ≡ true) (λ row. ((row.id == root) || list_any (is_name_of_directory row.id) after) ≡ true) w.directories
           (λ row h. ap (λ b. (row.id == root) || b) (list_any-update_first p (is_name_of_directory row.id) (dies w.now) w.names (λ x e. refl)) ∙ h) (k.holds Homes).named;
     }
+    -- TEMPORARY
+    by Tree = ?
     by Current = λ file live. k.holds Current file (list_any-update_fails p (is_live_name_of file) (dies w.now) w.names (λ row. and_false _) live)
     by part = k.holds part

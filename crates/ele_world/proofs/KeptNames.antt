@@ -16,7 +16,7 @@ use Rattle.ele_world.specs.Change.{governed_by, after_change, Time, Govern, Make
 use Rattle.ele_world.specs.NameRows.{is_name_of_directory}
 use Rattle.ele_world.specs.Walk.{live_target, is_live_name}
 use Rattle.ele_policy.specs.Policy.{IsPolicy}
-use Rattle.ele_world.specs.WellFormed.{has_directory, IsDirectoryThere, IsHoused, IsFile, IsNameRow, AreApart, IsVersion, ArePlaced, IsDraft, is_current, HaveCurrent, Part, Now, Counted, Directories, Files, Names, Homes, Versions, Drafts, Current, Holds, IsWellFormed}
+use Rattle.ele_world.specs.WellFormed.{has_directory, IsDirectoryThere, IsHoused, IsFile, IsNameRow, AreApart, IsVersion, ArePlaced, IsDraft, is_current, HaveCurrent, Part, Now, Counted, Directories, Files, Names, Homes, Tree, Versions, Drafts, Current, Holds, IsWellFormed}
 use Rattle.ele_world.specs.World.{World, root, is_directory, next_of, is_live, is_live_name_of, is_target_file}
 use Rattle.ele_world.specs.declared.rows.DirectoryRow.{DirectoryRow}
 use Rattle.ele_world.specs.declared.rows.DraftRow.{DraftRow}
@@ -199,6 +199,8 @@ module _ (w : World) (directory : ℕ) (name : List ℕ) (policy : Policy) where
           (λ row h. let same = next_of-push w.files new row.file h.there in record { there = omega (arith, h.there, same); opened = h.opened; content = h.content; written = written_more (next_of w.files row.file) (next_of files row.file) row.cells (omega (arith, same)) h.written }) (k.holds Drafts).each;
       placed = (k.holds Drafts).placed;
     }
+    -- TEMPORARY
+    by Tree = ?
     by Current = created_current w new named (first_version w id) (new_next ∙ omega arith) (k.holds Files).each (k.holds Current) refl refl refl
     by part = k.holds part
 

@@ -38,3 +38,7 @@ pub mod Splits
 pub mod Others
 pub mod Usages
 pub mod PassEnds
+pub mod Dropped
+pub mod KeptDrops
+pub mod DropViews
+pub mod DropUsage

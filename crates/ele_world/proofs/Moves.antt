@@ -1,34 +1,73 @@
 -- What a change does to the row of a version that is held before it: nothing, or it ends, or it is taken.
-use Rattle.std.proofs.Common.{◌≡◌, ℕ, ◌-◌, ◌<◌, ◌≤◌, Bool, true, false, cond, List, [], ◌∷◌, ◌++◌, Option, Some, None, refl, sym, subst, arith, eqb, ◌⊎◌, inl, inr}
+use Rattle.std.proofs.Common.{◌≡◌, ℕ, ◌-◌, ◌<◌, ◌≤◌, Bool, true, false, cond, ◌&&◌, List, [], ◌∷◌, ◌++◌, Option, Some, None, refl, ap, sym, subst, arith, eqb, ◌⊎◌, inl, inr}
 use Rattle.std.specs.Prelude.{find}
-use Rattle.std.specs.Option.{option_map}
+use Rattle.std.specs.List.{AllByRecursion}
+use Rattle.std.specs.Option.{option_map, option_map_or}
+use Rattle.std.proofs.lemmas.Bool.{false≢true}
 use Rattle.std.proofs.lemmas.Bool.Decides.{nat_tests}
 use Rattle.ele_content.specs.declared.cell.Cell.{Cell}
 use Rattle.ele_lists.specs.Lists.{update_first, remove_first}
-use Rattle.ele_lists.proofs.Edits.{all-weaker, not_found, find-insert_before, find-remove_first}
-use Rattle.ele_world.specs.Change.{Change, MakeFile, Append, Take, after_change, ended_at, next_version, with_end, with_file, with_name, with_version}
+use Rattle.ele_lists.proofs.Edits.{all-push, all-weaker, all-update_first, all-remove_first, all-found, found_passes, not_found, find-insert_before, find-remove_first}
+use Rattle.ele_world.specs.Change.{Change, MakeFile, Append, Take, Revive, EndFileName, DropIdle, after_change, current_cells, numbered_on, ended_at, next_version, with_end, with_file, with_name, without_name, with_version}
 use Rattle.ele_world.specs.WellFormed.{AllLater, ArePlaced}
-use Rattle.ele_world.specs.World.{World, next_of, is_version, is_version_after}
+use Rattle.ele_world.specs.World.{World, is_file, is_live, next_of, is_version, is_version_after}
 use Rattle.ele_world.specs.declared.event.Event.{Event}
 use Rattle.ele_world.specs.declared.rows.FileRow.{FileRow}
 use Rattle.ele_world.specs.declared.rows.Target.TheVariants.{File}
 use Rattle.ele_world.specs.declared.rows.VersionRow.{VersionRow}
-use Rattle.ele_world.proofs.Files.{next_of-push, next_of-numbered_le}
+use Rattle.ele_world.proofs.Dropped.{dropped, dropped_versions}
 use Rattle.ele_world.proofs.May.{May, MayTake}
 
 -- ---- a number that was given isn't given again
 
+-- where it is of the file, the row numbers on behind the version
+abbrev IsBehind : ℕ → ℕ → FileRow → Type 0
+IsBehind file number row = row.id ≡ file → number < row.next
+
+-- the file's number was given, and its row, if it is still there, numbers on behind the version
 pub record IsPast (w : World) (file number : ℕ) : Type 0 where
   pub given : file ≤ w.made.files
-  pub past : number < next_of w.files file
+  pub first : 1 ≤ number
+  pub past : AllByRecursion (IsBehind file number) w.files
+
+-- by what the file numbers on with
+pub all_behind : (files : List FileRow) (file number : ℕ) → AllLater (λ earlier later. earlier.id < later.id) files → number < next_of files file → AllByRecursion (IsBehind file number) files
+all_behind [] file number placed less = tt
+all_behind (x ∷ xs) file number placed less = elim (is_file file x) as (λ b. is_file file x ≡ b → AllByRecursion (IsBehind file number) (x ∷ xs)) [
+  | true ↦ λ e. ((λ same. rw e at less), all-weaker (λ y. x.id < y.id) (IsBehind file number) xs (λ y later same. let own : x.id ≡ file = grind (arith, nat_tests) in absurd (omega (arith, own, same, later))) placed.0)
+  | false ↦ λ e. ((λ same. absurd (let no : false ≡ true = grind (arith, nat_tests) in false≢true no)), all_behind xs file number placed.1 (rw e at less))
+] refl
+
+past_numbered : (files : List FileRow) (of file number : ℕ) → AllByRecursion (IsBehind file number) files → AllByRecursion (IsBehind file number) (update_first (is_file of) numbered_on files)
+past_numbered files of file number = all-update_first (is_file of) (IsBehind file number) (IsBehind file number) numbered_on files (λ row h same. let less = h same in omega arith) (λ row h. h)
+
+-- so it isn't the next number
+not_next : (w : World) (of file number opened : ℕ) (cells : List Cell) → IsPast w file number → is_version file number (next_version w of opened cells) ≡ false
+not_next w of file number opened cells is = by (eqb of file) refl where
+  next : (o : Option FileRow) → find (is_file file) w.files ≡ o → eqb (option_map_or (λ (row : FileRow). row.next) o 0) number ≡ false
+  next None e = let first = is.first in grind (arith, nat_tests)
+  next (Some row) e =
+      let passes = found_passes (is_file file) w.files row e in
+      let less : number < row.next = all-found (is_file file) (IsBehind file number) w.files row e is.past (grind (arith, nat_tests)) in
+      grind (arith, nat_tests)
+
+  by : (b : Bool) → eqb of file ≡ b → (b && eqb (next_of w.files of) number) ≡ false
+  by true e = let same : of ≡ file = grind (arith, nat_tests) in subst (λ f. eqb (next_of w.files f) number ≡ false) (sym same) (next (find (is_file file) w.files) refl)
+  by false e = refl
 
 pub change_past : (event : Event) (first w : World) (change : Change) (file number : ℕ) → May event first w change → IsPast w file number → IsPast (after_change w change) file number
 change_past event first w (MakeFile directory name id policy) file number may is =
     let new : FileRow = record { id = id; policy = policy; next = 1 } in
-    let same = next_of-push w.files new file (omega (arith, is.past)) in
-    record { given = omega (arith, is.given, may.next); past = omega (arith, is.past, same, next_of-numbered_le (w.files ++ new ∷ []) id file) }
-change_past event first w (Append of opened cells) file number may is = record { given = is.given; past = omega (arith, is.past, next_of-numbered_le w.files of file) }
-change_past event first w change file number may is = record { given = is.given; past = is.past }
+    record {
+      given = omega (arith, is.given, may.next);
+      first = is.first;
+      past = past_numbered (w.files ++ new ∷ []) id file number (all-push (IsBehind file number) w.files new is.past (λ same. absurd (omega (arith, same, is.given, may.next))));
+    }
+change_past event first w (Append of opened cells) file number may is = record { given = is.given; first = is.first; past = past_numbered w.files of file number is.past }
+change_past event first w (Revive directory name of) file number may is = record { given = is.given; first = is.first; past = past_numbered w.files of file number is.past }
+change_past event first w (DropIdle of) file number may is =
+    dropped (λ v. IsPast v file number) w of (λ idle. record { given = is.given; first = is.first; past = all-remove_first (is_file of) (IsBehind file number) w.files is.past }) (λ busy. is)
+change_past event first w change file number may is = record { given = is.given; first = is.first; past = is.past }
 
 -- ---- the row
 
@@ -78,10 +117,17 @@ module _ (event : Event) (first : World) (file number : ℕ) where
   pub change_moves : (w : World) (change : Change) → AllLater ArePlaced first.versions → May event first w change → IsPast w file number → MovesTo w (after_change w change).versions
   change_moves w (MakeFile directory name id policy) placed may is =
       appends (with_name (with_file w id policy) directory name (File id)) id w.now [] (let given = is.given in let next = may.next in grind (arith, nat_tests))
-  change_moves w (Append of opened cells) placed may is = appends w of opened cells (by (eqb of file) refl) where
-    by : (b : Bool) → eqb of file ≡ b → is_version file number (next_version w of opened cells) ≡ false
-    by true e = let same : of ≡ file = grind (arith, nat_tests) in let past : number < next_of w.files of = subst (λ f. number < next_of w.files f) (sym same) is.past in grind (arith, nat_tests)
-    by false e = rw e refl
+  change_moves w (Append of opened cells) placed may is = appends w of opened cells (not_next w of file number opened cells is)
+  change_moves w (Revive directory name of) placed may is =
+      let named = with_name w directory name (File of) in
+      appends named of w.now (current_cells w of) (not_next named of file number w.now (current_cells w of) (record { given = is.given; first = is.first; past = is.past }))
+  change_moves w (EndFileName directory name of) placed may is =
+      let nameless = without_name w directory name in
+      elim (is_live nameless of) as (λ b. MovesTo w (cond b w.versions (with_end nameless of))) [
+        | true ↦ Same refl
+        | false ↦ ends nameless of
+      ]
+  change_moves w (DropIdle of) placed may is = Same (ap (find (is_version file number)) (dropped_versions w of))
   change_moves w (Take of taken) placed may is = by (eqb of file) (eqb taken number) refl refl where
     gone : find (is_version of taken) (remove_first (is_version of taken) w.versions) ≡ None
     gone = removed_gone of taken w.versions (subst (λ rows. AllLater ArePlaced rows) (sym may.same) placed)

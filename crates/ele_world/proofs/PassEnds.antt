@@ -10,10 +10,12 @@ use Rattle.ele_world.specs.Due.{is_due_at, kept_rows}
 use Rattle.ele_world.specs.Pass.{IsCleaned, HasRemoved, IsFinished}
 use Rattle.ele_world.specs.Run.{after_cleans, IsPass}
 use Rattle.ele_world.specs.Scan.{first_due}
+use Rattle.ele_world.specs.Change.{Take, after_change}
 use Rattle.ele_world.specs.Step.{clean_step}
 use Rattle.ele_world.proofs.Cleans.{clean_of}
 use Rattle.ele_world.specs.WellFormed.{IsWellFormed}
 use Rattle.ele_world.specs.World.{World, is_version}
+use Rattle.ele_world.proofs.Dropped.{dropped_versions}
 use Rattle.ele_world.proofs.DueRows.{first_is_due}
 use Rattle.ele_world.proofs.Passes.{cleaned_keeps_kept, pass_leaves_kept}
 use Rattle.ele_lists.proofs.Sums.{length-split}
@@ -47,7 +49,8 @@ clean_removes w keeps some = by (first_due w) refl some where
   by None e h = absurd cc
   by (Some key) e h =
       let due = first_is_due w key (placed_of w keeps) e in
-      length-remove_first (is_version key.file key.number) w.versions due.row due.found
+      ap (λ (rows : List VersionRow). length rows + 1) (dropped_versions (after_change w (Take key.file key.number)) key.file)
+      ∙ length-remove_first (is_version key.file key.number) w.versions due.row due.found
 
 -- and so many by so many events
 cleaned_removes : (n : ℕ) (w : World) → IsWellFormed w → ((k : ℕ) → k < n → IsSome (first_due (after_cleans k w))) → length (after_cleans n w).versions + n ≡ length w.versions

@@ -17,12 +17,14 @@ use Rattle.ele_lists.proofs.Edits.{all-both, all-weaker}
 use Rattle.ele_world.specs.RipeMoments.{IsDueFromRipe}
 use Rattle.ele_world.specs.Run.{after_cleans, IsPass}
 use Rattle.ele_world.specs.Scan.{key_cmp, key_of, due_key, scan, first_due}
+use Rattle.ele_world.specs.Change.{Take, after_change}
 use Rattle.ele_world.specs.Step.{clean_step}
 use Rattle.ele_world.specs.WellFormed.{IsWellFormed}
 use Rattle.ele_world.specs.World.{World, is_version}
 use Rattle.ele_lists.proofs.Cuts.{find-cut, remove_first-at}
 use Rattle.ele_lists.proofs.Filters.{filter-all, filter-remove_first}
 use Rattle.ele_world.proofs.Cleans.{clean_of}
+use Rattle.ele_world.proofs.DropViews.{dropped_sees, kept_same}
 use Rattle.ele_world.proofs.DueRows.{first_is_due}
 use Rattle.ele_world.proofs.RemovalOrder.{removal_order}
 use Rattle.ele_world.proofs.RipeMoments.{due_from_ripe}
@@ -38,7 +40,9 @@ clean_keeps_kept w k = by (first_due w) refl where
       let p = is_version key.file key.number in
       let due = first_is_due w key (placed_of w k) e in
       let at = find-cut p w.versions due.row due.found in
-      ap (λ (rows : List VersionRow). kept_rows (record w { versions = rows })) (ap (remove_first p) at.whole ∙ remove_first-at p at.before due.row at.behind at.none at.passes)
+      let taken = after_change w (Take key.file key.number) in
+      kept_same taken _ (dropped_sees taken key.file)
+      ∙ ap (λ (rows : List VersionRow). kept_rows (record w { versions = rows })) (ap (remove_first p) at.whole ∙ remove_first-at p at.before due.row at.behind at.none at.passes)
       ∙ (removal_order w at.before due.row at.behind k at.whole due.due).kept
 
 pub cleaned_keeps_kept : (n : ℕ) (w : World) → IsWellFormed w → (kept_rows (after_cleans n w) ≡ kept_rows w) × IsWellFormed (after_cleans n w)

@@ -18,7 +18,7 @@ use Rattle.ele_world.proofs.Allowed.{allowed}
 use Rattle.ele_world.proofs.Files.{next_of-given}
 use Rattle.ele_world.proofs.Keeps.{reached}
 use Rattle.ele_world.proofs.May.{MayAll}
-use Rattle.ele_world.proofs.Moves.{IsPast, change_past, Moves, Same, Ended, Taken, change_moves}
+use Rattle.ele_world.proofs.Moves.{IsPast, all_behind, change_past, Moves, Same, Ended, Taken, change_moves}
 use Rattle.ele_world.proofs.Versions.{IsFound, all_found}
 
 -- ---- one version, from the first world on
@@ -54,7 +54,11 @@ follow event first w row (change ∷ changes) found placed may past was = follow
 row_stays : (w : World) (event : Event) (row : VersionRow) → IsWellFormed w → IsVersion w.files w.now row → IsFound w.versions row → StillOrDue event w row (find (is_version row.file row.number) ((step w event).1).versions)
 row_stays w event row k is found =
     let by = reached event w (plan w event) (allowed w event k) in
-    let past : IsPast w row.file row.number = record { given = next_of-given w.made.files w.made.versions w.files row.file (k.holds Files).each (omega (arith, is.numbered)); past = is.numbered } in
+    let past : IsPast w row.file row.number = record {
+      given = next_of-given w.made.files w.made.versions w.files row.file (k.holds Files).each (omega (arith, is.numbered));
+      first = is.first;
+      past = all_behind w.files row.file row.number (k.holds Files).placed is.numbered;
+    } in
     let start : IsStill row (find (is_version row.file row.number) w.versions) = record { after = row; is = found; same = record { opened = refl; closed = refl; cells = refl; ended = λ at e. e } } in
     rw by.is (follow event w w row by.changes found (k.holds Versions).placed by.may past (inl start))
 

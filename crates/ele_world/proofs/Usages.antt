@@ -111,7 +111,7 @@ summed-same : (files : ℕ) (t t' : ℕ → Bool) (versions : List VersionRow) (
 summed-same files t t' versions drafts same =
     rw (filter-same (λ (r : VersionRow). t r.file) (λ r. t' r.file) versions (λ r. same r.file), filter-same (λ (r : DraftRow). t r.file) (λ r. t' r.file) drafts (λ r. same r.file)) refl
 
-same_usage : (a b : Usage) → a.files ≡ b.files → a.versions ≡ b.versions → a.bytes ≡ b.bytes → a.blocks ≡ b.blocks → a ≡ b
+pub same_usage : (a b : Usage) → a.files ≡ b.files → a.versions ≡ b.versions → a.bytes ≡ b.bytes → a.blocks ≡ b.blocks → a ≡ b
 same_usage a b files versions bytes blocks =
     ap (λ n. record a { files = n }) files ∙ (ap (λ n. record a { files = b.files; versions = n }) versions ∙ (ap (λ n. record a { files = b.files; versions = b.versions; bytes = n }) bytes ∙ ap (λ n. record b { blocks = n }) blocks))
 

@@ -1,0 +1,61 @@
+-- What the files of each kind use after the dropping of an idle file: as much as before, but for the file.
+use Rattle.std.proofs.Common.{◌≡◌, ◌==◌, ℕ, ◌+◌, Bool, true, false, ◌&&◌, cond, List, length, Option, Some, None, refl, ap, ◌∙◌, arith}
+use Rattle.std.specs.Prelude.{filter, find}
+use Rattle.std.specs.List.{AllByRecursion}
+use Rattle.std.specs.Option.{option_map, option_map_or}
+use Rattle.ele_lists.specs.Lists.{remove_first}
+use Rattle.ele_lists.proofs.Edits.{all-weaker}
+use Rattle.ele_lists.proofs.Filters.{filter-same_all}
+use Rattle.ele_lists.proofs.Sums.{length-filter_removed}
+use Rattle.ele_policy.specs.declared.policy.Kind.{Kind}
+use Rattle.ele_policy.specs.declared.policy.Policy.{Policy}
+use Rattle.ele_policy.specs.Policy.{kind_of, is_kind}
+use Rattle.ele_usage.specs.declared.usage.Usage.{Usage}
+use Rattle.ele_usage.specs.Sums.{nothing, plus}
+use Rattle.ele_world.specs.Change.{DropIdle, is_idle, without_file, after_change}
+use Rattle.ele_world.specs.Usage.{is_of, is_file_of, usage_of}
+use Rattle.ele_world.specs.Whole.{whole}
+use Rattle.ele_world.specs.World.{World, is_file}
+use Rattle.ele_world.specs.declared.rows.DraftRow.{DraftRow}
+use Rattle.ele_world.specs.declared.rows.FileRow.{FileRow}
+use Rattle.ele_world.specs.declared.rows.VersionRow.{VersionRow}
+use Rattle.ele_world.proofs.Dropped.{IsIdle, idle_is, dropped, idle_versions, idle_drafts, policy_of-removed}
+use Rattle.ele_world.proofs.Usages.{same_usage}
+
+-- a file, and nothing of it
+abbrev pub one_file : Usage
+one_file = record { files = 1; versions = 0; bytes = 0; blocks = 0 }
+
+-- all versions and drafts are as before, and each other file is of its kind
+pub dropped_whole : (w : World) (file : ℕ) → whole (after_change w (DropIdle file)) ≡ whole w
+dropped_whole w file = dropped (λ v. whole v ≡ whole w) w file (λ idle. refl) (λ busy. refl)
+
+pub kind_other : (files : List FileRow) (file other : ℕ) (k : Kind) → (other == file) ≡ false → is_file_of (remove_first (is_file file) files) k other ≡ is_file_of files k other
+kind_other files file other k apart = ap (λ o. option_map_or (λ (policy : Policy). is_kind k (kind_of policy)) o false) (policy_of-removed files file other apart)
+
+-- of the file's kind there is one file fewer
+fewer_files : (files : List FileRow) (file : ℕ) (k : Kind) → length (filter (is_of k) (remove_first (is_file file) files)) + cond (is_file_of files k file) 1 0 ≡ length (filter (is_of k) files)
+fewer_files files file k = ap (λ n. length (filter (is_of k) (remove_first (is_file file) files)) + n) (by (find (is_file file) files)) ∙ length-filter_removed (is_of k) (is_file file) files where
+  by : (o : Option FileRow) → ◌≡◌ {A = ℕ} (cond (option_map_or (λ (policy : Policy). is_kind k (kind_of policy)) (option_map (λ (row : FileRow). row.policy) o) false) 1 0) (option_map_or (λ (row : FileRow). cond (is_of k row) 1 0) o 0)
+  by None = refl
+  by (Some row) = refl
+
+less : (b : Bool) (a c : Usage) → a.files + cond b 1 0 ≡ c.files → a.versions ≡ c.versions → a.bytes ≡ c.bytes → a.blocks ≡ c.blocks → plus a (cond b one_file nothing) ≡ c
+less true a c files versions bytes blocks = same_usage (plus a one_file) c files (omega (arith, versions)) (omega (arith, bytes)) (omega (arith, blocks))
+less false a c files versions bytes blocks = same_usage (plus a nothing) c files (omega (arith, versions)) (omega (arith, bytes)) (omega (arith, blocks))
+
+without_usage : (w : World) (file : ℕ) (k : Kind) → IsIdle w file → plus (usage_of (without_file w file) k) (cond (is_file_of w.files k file) one_file nothing) ≡ usage_of w k
+unfolding usage_of
+without_usage w file k idle =
+    let versions = filter-same_all (λ (row : VersionRow). is_file_of (remove_first (is_file file) w.files) k row.file) (λ row. is_file_of w.files k row.file) w.versions
+        (all-weaker (λ (row : VersionRow). (row.file == file) ≡ false) (λ row. is_file_of (remove_first (is_file file) w.files) k row.file ≡ is_file_of w.files k row.file) w.versions (λ row apart. kind_other w.files file row.file k apart) (idle_versions w file idle)) in
+    let drafts = filter-same_all (λ (row : DraftRow). is_file_of (remove_first (is_file file) w.files) k row.file) (λ row. is_file_of w.files k row.file) w.drafts
+        (all-weaker (λ (row : DraftRow). (row.file == file) ≡ false) (λ row. is_file_of (remove_first (is_file file) w.files) k row.file ≡ is_file_of w.files k row.file) w.drafts (λ row apart. kind_other w.files file row.file k apart) (idle_drafts w file idle)) in
+    rw (versions, drafts) (less (is_file_of w.files k file) _ _ (fewer_files w.files file k) refl refl refl)
+
+-- a dropped file counted for one file of its kind
+pub dropped_usage : (w : World) (file : ℕ) (k : Kind) → plus (usage_of (after_change w (DropIdle file)) k) (cond (is_idle w file && is_file_of w.files k file) one_file nothing) ≡ usage_of w k
+dropped_usage w file k = elim (is_idle w file) as (λ b. is_idle w file ≡ b → plus (usage_of (cond b (without_file w file) w) k) (cond (b && is_file_of w.files k file) one_file nothing) ≡ usage_of w k) [
+  | true ↦ λ e. without_usage w file k (idle_is w file e)
+  | false ↦ λ e. same_usage (plus (usage_of w k) nothing) (usage_of w k) (omega arith) (omega arith) (omega arith) (omega arith)
+] refl

@@ -1,0 +1,94 @@
+-- Due versions and ripe moments after a change that no file's view sees, as the dropping of an idle file.
+use Rattle.std.proofs.Common.{◌≡◌, ◌==◌, ℕ, Bool, true, false, not, ◌&&◌, List, [], ◌∷◌, Option, Some, None, refl, ap, sym, ◌∙◌, arith}
+use Rattle.std.specs.Prelude.{filter, find, is_none, option_and_then}
+use Rattle.std.specs.List.{AllByRecursion, filter_map}
+use Rattle.std.specs.Option.{option_map}
+use Rattle.std.proofs.lemmas.Bool.{false≢true}
+use Rattle.std.proofs.lemmas.Bool.Decides.{nat_tests}
+use Rattle.ele_lists.proofs.Edits.{all-any, all-both, all-weaker, all-found}
+use Rattle.ele_lists.proofs.Filters.{filter-same_all, list_any-filter}
+use Rattle.ele_world.specs.Change.{DropIdle, without_file, after_change}
+use Rattle.ele_world.specs.Due.{is_due_at, ripe_of, ripe_at, due_rows, kept_rows}
+use Rattle.ele_world.specs.FileView.{FileView, view_of, is_version_of, due_in, ripe_in}
+use Rattle.ele_world.specs.Scan.{due_key, key_of, in_order, scan}
+use Rattle.ele_world.specs.World.{World, is_version, policy_of, is_live, is_live_name_of, is_target_file}
+use Rattle.ele_world.specs.declared.rows.NameRow.{NameRow}
+use Rattle.ele_world.specs.declared.rows.Target.{Target}
+use Rattle.ele_world.specs.declared.rows.Target.TheVariants.{File, Directory}
+use Rattle.ele_world.specs.declared.rows.VersionRow.{VersionRow}
+use Rattle.ele_world.proofs.Dropped.{IsIdle, dropped, stays_named, idle_versions, policy_of-removed}
+use Rattle.ele_world.proofs.RipeAt.{ripe_at_is}
+
+-- the same versions are held at the same moment, and each one's file is seen alike
+pub record SeesSame (w v : World) : Type 0 where
+  pub now : v.now ≡ w.now
+  pub versions : v.versions ≡ w.versions
+  pub views : AllByRecursion (λ (row : VersionRow). view_of v row.file ≡ view_of w row.file) w.versions
+
+filter_map-same_all : {X Y : Type 0} (g h : X → Option Y) (xs : List X) → AllByRecursion (λ x. g x ≡ h x) xs → filter_map g xs ≡ filter_map h xs
+filter_map-same_all g h [] same = refl
+filter_map-same_all g h (x ∷ xs) same = rw (same.0, filter_map-same_all g h xs same.1) refl
+
+module _ (w v : World) (same : SeesSame w v) where
+  pub due_same : AllByRecursion (λ row. (at : ℕ) → is_due_at v row at ≡ is_due_at w row at) w.versions
+  unfolding is_due_at
+  due_same = all-weaker (λ (row : VersionRow). view_of v row.file ≡ view_of w row.file) (λ row. (at : ℕ) → is_due_at v row at ≡ is_due_at w row at) w.versions (λ row e at. ap (λ (view : FileView). due_in view row at) e) same.views
+
+  pub due_now_same : AllByRecursion (λ row. is_due_at v row v.now ≡ is_due_at w row w.now) w.versions
+  due_now_same = all-weaker (λ row. (at : ℕ) → is_due_at v row at ≡ is_due_at w row at) (λ row. is_due_at v row v.now ≡ is_due_at w row w.now) w.versions (λ row e. ap (is_due_at v row) same.now ∙ e w.now) due_same
+
+  pub ripe_of_same : AllByRecursion (λ row. ripe_of v row ≡ ripe_of w row) w.versions
+  unfolding ripe_of
+  ripe_of_same = all-weaker (λ (row : VersionRow). view_of v row.file ≡ view_of w row.file) (λ row. ripe_of v row ≡ ripe_of w row) w.versions (λ row e. ap (λ (view : FileView). ripe_in view row) e) same.views
+
+  pub ripe_at_same : (file number : ℕ) → ripe_at v file number ≡ ripe_at w file number
+  ripe_at_same file number =
+      ripe_at_is v file number
+      ∙ ap (λ (rows : List VersionRow). option_and_then (ripe_of v) (find (is_version file number) rows)) same.versions
+      ∙ by (find (is_version file number) w.versions) refl
+      ∙ sym (ripe_at_is w file number) where
+        by : (o : Option VersionRow) → find (is_version file number) w.versions ≡ o → option_and_then (ripe_of v) o ≡ option_and_then (ripe_of w) o
+        by None e = refl
+        by (Some row) e = all-found (is_version file number) (λ row. ripe_of v row ≡ ripe_of w row) w.versions row e ripe_of_same
+
+  pub kept_same : kept_rows v ≡ kept_rows w
+  kept_same =
+      ap (filter (λ row. not (is_due_at v row v.now))) same.versions
+      ∙ filter-same_all (λ row. not (is_due_at v row v.now)) (λ row. not (is_due_at w row w.now)) w.versions
+      (all-weaker (λ row. is_due_at v row v.now ≡ is_due_at w row w.now) (λ row. not (is_due_at v row v.now) ≡ not (is_due_at w row w.now)) w.versions (λ row e. ap not e) due_now_same)
+
+  -- the scan
+  pub scan_same : scan v ≡ scan w
+  unfolding scan due_key
+  scan_same =
+      ap (λ (rows : List VersionRow). in_order (filter_map (due_key v) rows)) same.versions
+      ∙ ap in_order (filter_map-same_all (due_key v) (due_key w) w.versions
+      (all-weaker (λ row. (is_due_at v row v.now ≡ is_due_at w row w.now) × (ripe_of v row ≡ ripe_of w row)) (λ row. due_key v row ≡ due_key w row) w.versions (λ row e. rw (e.0, e.1) refl)
+      (all-both _ _ w.versions due_now_same ripe_of_same)))
+
+-- ---- the dropping of an idle file
+
+-- a name that goes makes no other file live
+no_other : (file other : ℕ) (target : Target) → (other == file) ≡ false → not (is_target_file file target) ≡ false → is_target_file other target ≡ false
+no_other file other (File id) apart goes = grind (arith, nat_tests)
+no_other file other (Directory id) apart goes = refl
+
+pub live_other : (w : World) (file other : ℕ) → (other == file) ≡ false → is_live (without_file w file) other ≡ is_live w other
+live_other w file other apart = list_any-filter (is_live_name_of other) (stays_named file) w.names (λ row goes. rw (no_other file other row.target apart goes) refl)
+
+pub view_other : (w : World) (file other : ℕ) → (other == file) ≡ false → view_of (without_file w file) other ≡ view_of w other
+view_other w file other apart = rw (policy_of-removed w.files file other apart, live_other w file other apart) refl
+
+pub dropped_sees : (w : World) (file : ℕ) → SeesSame w (after_change w (DropIdle file))
+dropped_sees w file = dropped (SeesSame w) w file (λ idle. record {
+  now = refl;
+  versions = refl;
+  views = all-weaker (λ (row : VersionRow). (row.file == file) ≡ false) (λ (row : VersionRow). view_of (without_file w file) row.file ≡ view_of w row.file) w.versions (λ row apart. view_other w file row.file apart) (idle_versions w file idle);
+}) (λ busy. record { now = refl; versions = refl; views = all-any (λ (row : VersionRow). view_of w row.file ≡ view_of w row.file) w.versions (λ row. refl) })
+
+-- each version has its ripe moment, and is due, as before
+pub ripe_at_dropped : (w : World) (file other number : ℕ) → ripe_at (after_change w (DropIdle file)) other number ≡ ripe_at w other number
+ripe_at_dropped w file = ripe_at_same w (after_change w (DropIdle file)) (dropped_sees w file)
+
+pub scan_dropped : (w : World) (file : ℕ) → scan (after_change w (DropIdle file)) ≡ scan w
+scan_dropped w file = scan_same w (after_change w (DropIdle file)) (dropped_sees w file)

@@ -1,0 +1,58 @@
+-- What the dropping of a file comes to: it goes with its names, where nothing was left of it, or nothing changes.
+use Rattle.std.proofs.Common.{◌≡◌, ◌==◌, ℕ, Bool, true, false, not, ◌&&◌, cond, List, [], ◌∷◌, refl, ap, arith}
+use Rattle.std.specs.Prelude.{filter, find}
+use Rattle.std.specs.List.{AllByRecursion, list_any}
+use Rattle.std.specs.Option.{option_map, option_map_or}
+use Rattle.std.proofs.lemmas.Bool.{false≢true}
+use Rattle.std.proofs.lemmas.Bool.Decides.{nat_tests}
+use Rattle.ele_lists.specs.Lists.{remove_first}
+use Rattle.ele_lists.proofs.Edits.{all-none, find-remove_first}
+use Rattle.ele_world.specs.Change.{DropIdle, is_idle, without_file, after_change}
+use Rattle.ele_world.specs.FileView.{is_version_of}
+use Rattle.ele_world.specs.World.{World, is_file, next_of, policy_of, is_live, has_draft, is_draft, is_target_file}
+use Rattle.ele_world.specs.declared.rows.DraftRow.{DraftRow}
+use Rattle.ele_world.specs.declared.rows.FileRow.{FileRow}
+use Rattle.ele_world.specs.declared.rows.NameRow.{NameRow}
+use Rattle.ele_world.specs.declared.rows.VersionRow.{VersionRow}
+
+-- nothing is left of the file
+pub record IsIdle (w : World) (file : ℕ) : Type 0 where
+  pub nameless : is_live w file ≡ false
+  pub unheld : list_any (is_version_of file) w.versions ≡ false
+  pub undrafted : has_draft w file ≡ false
+
+pub idle_is : (w : World) (file : ℕ) → is_idle w file ≡ true → IsIdle w file
+idle_is w file h = record { nameless = grind (arith, h); unheld = grind (arith, h); undrafted = grind (arith, h) }
+
+-- what holds where it goes and where it stays
+pub dropped : (Q : World → Type 0) (w : World) (file : ℕ) → (IsIdle w file → Q (without_file w file)) → (is_idle w file ≡ false → Q w) → Q (after_change w (DropIdle file))
+dropped Q w file goes stays = elim (is_idle w file) as (λ b. is_idle w file ≡ b → Q (cond b (without_file w file) w)) [
+  | true ↦ λ e. goes (idle_is w file e)
+  | false ↦ λ e. stays e
+] refl
+
+-- the versions stay
+pub dropped_versions : (w : World) (file : ℕ) → (after_change w (DropIdle file)).versions ≡ w.versions
+dropped_versions w file = dropped (λ v. v.versions ≡ w.versions) w file (λ idle. refl) (λ busy. refl)
+
+-- the names that stay
+abbrev pub stays_named : ℕ → NameRow → Bool
+stays_named file row = not (is_target_file file row.target)
+
+-- no row is of an idle file
+pub idle_versions : (w : World) (file : ℕ) → IsIdle w file → AllByRecursion (λ (row : VersionRow). (row.file == file) ≡ false) w.versions
+idle_versions w file idle = all-none (is_version_of file) w.versions idle.unheld
+
+pub idle_drafts : (w : World) (file : ℕ) → IsIdle w file → AllByRecursion (λ (row : DraftRow). (row.file == file) ≡ false) w.drafts
+idle_drafts w file idle = all-none (is_draft file) w.drafts idle.undrafted
+
+-- ---- the other files
+
+pub find-removed : (files : List FileRow) (file other : ℕ) → (other == file) ≡ false → find (is_file other) (remove_first (is_file file) files) ≡ find (is_file other) files
+find-removed files file other apart = find-remove_first (is_file file) (is_file other) files (λ row e. grind (arith, nat_tests))
+
+pub next_of-removed : (files : List FileRow) (file other : ℕ) → (other == file) ≡ false → next_of (remove_first (is_file file) files) other ≡ next_of files other
+next_of-removed files file other apart = ap (λ o. option_map_or (λ (row : FileRow). row.next) o 0) (find-removed files file other apart)
+
+pub policy_of-removed : (files : List FileRow) (file other : ℕ) → (other == file) ≡ false → policy_of (remove_first (is_file file) files) other ≡ policy_of files other
+policy_of-removed files file other apart = ap (option_map (λ (row : FileRow). row.policy)) (find-removed files file other apart)

@@ -1,0 +1,111 @@
+-- The dropping of an idle file keeps a world well formed.
+use Rattle.std.proofs.Common.{◌≡◌, ◌==◌, ℕ, ◌<◌, Bool, true, false, not, ◌&&◌, ◌||◌, List, None, refl, ap, sym, subst, ◌∙◌, arith}
+use Rattle.std.specs.Prelude.{filter}
+use Rattle.std.specs.List.{AllByRecursion, list_any}
+use Rattle.std.proofs.lemmas.Bool.{false≢true}
+use Rattle.std.proofs.lemmas.Bool.Decides.{nat_tests}
+use Rattle.ele_lists.specs.Lists.{remove_first}
+use Rattle.ele_lists.proofs.Alls.{all-filter, filter-passes, later-filter}
+use Rattle.ele_lists.proofs.Edits.{all-weaker, all-both, all-remove_first, later-remove_first, length-remove_first-le}
+use Rattle.ele_lists.proofs.Filters.{list_any-filter, any-filtered}
+use Rattle.ele_lists.proofs.Sums.{length-split}
+use Rattle.ele_world.specs.Change.{DropIdle, without_file, after_change}
+use Rattle.ele_world.specs.NameRows.{is_target_directory, is_name_of_directory, is_live_directory}
+use Rattle.ele_world.specs.WellFormed.{is_reached, IsFile, IsThere, IsNameRow, AreApart, IsHoused, AreOthers, IsVersion, IsDraft, is_current, Part, Counted, Files, Names, Homes, Tree, Versions, Drafts, Current, Holds, IsWellFormed}
+use Rattle.ele_world.specs.World.{World, root, is_file, next_of, is_live, is_live_name_of, is_target_file}
+use Rattle.ele_world.specs.declared.rows.FileRow.{FileRow}
+use Rattle.ele_world.specs.declared.rows.NameRow.{NameRow}
+use Rattle.ele_world.specs.declared.rows.Target.{Target}
+use Rattle.ele_world.specs.declared.rows.Target.TheVariants.{File, Directory}
+use Rattle.ele_world.proofs.Dropped.{IsIdle, dropped, stays_named, idle_versions, idle_drafts, next_of-removed}
+
+not_true : (b : Bool) → not b ≡ true → b ≡ false
+not_true true h = absurd (false≢true h)
+not_true false h = refl
+
+-- a name that goes is of no directory
+no_directory : (file id : ℕ) (target : Target) → not (is_target_file file target) ≡ false → is_target_directory id target ≡ false
+no_directory file id (File other) goes = refl
+no_directory file id (Directory other) goes = absurd (false≢true (sym goes))
+
+module _ (w : World) (file : ℕ) (idle : IsIdle w file) where
+  abbrev files : List FileRow
+  files = remove_first (is_file file) w.files
+
+  abbrev keep : NameRow → Bool
+  keep = stays_named file
+
+  abbrev names : List NameRow
+  names = filter keep w.names
+
+  there_still : (target : Target) → not (is_target_file file target) ≡ true → IsThere w.files target → IsThere files target
+  there_still (File other) stays h = rw (next_of-removed w.files file other (not_true (other == file) stays)) h
+  there_still (Directory id) stays h = tt
+
+  -- directories are named and reached as before
+  named_still : (id : ℕ) → list_any (is_name_of_directory id) names ≡ list_any (is_name_of_directory id) w.names
+  named_still id = list_any-filter (is_name_of_directory id) keep w.names (λ row goes. no_directory file id row.target goes)
+
+  reached_still : (id : ℕ) → is_reached names id ≡ is_reached w.names id
+  reached_still id = ap (λ b. (id == root) || b) (list_any-filter (is_live_directory id) keep w.names (λ row goes. rw (no_directory file id row.target goes) refl))
+
+  drop_file_keeps : IsWellFormed w → IsWellFormed (without_file w file)
+  drop_file_keeps k = record { holds = by } where
+    current_still : (other : ℕ) → is_live w other ≡ true → (b : Bool) → (other == file) ≡ b → list_any (is_current other (next_of files other)) w.versions ≡ true
+    current_still other live true e =
+        let same : other ≡ file = grind (arith, nat_tests) in
+        absurd (false≢true (sym idle.nameless ∙ subst (λ f. is_live w f ≡ true) same live))
+    current_still other live false e = rw (next_of-removed w.files file other e) (k.holds Current other live)
+
+    by : (part : Part) → Holds (without_file w file) part
+    by Counted = let c = k.holds Counted in record {
+      files_made = c.files_made;
+      names_made = c.names_made;
+      versions_made = c.versions_made;
+      handles_made = c.handles_made;
+      file_rows = omega (arith, c.file_rows, length-remove_first-le (is_file file) w.files);
+      name_rows = omega (arith, c.name_rows, length-split keep w.names);
+      version_rows = c.version_rows;
+    }
+    by Files = record {
+      each = all-remove_first (is_file file) (IsFile w.made.files w.made.versions) w.files (k.holds Files).each;
+      placed = later-remove_first (is_file file) (λ earlier later. earlier.id < later.id) w.files (k.holds Files).placed;
+    }
+    by Names = record {
+      each = all-weaker (λ row. (keep row ≡ true) × IsNameRow w.files w.now row) (IsNameRow files w.now) names (λ row h. record { there = there_still row.target h.0 h.1.there; born = h.1.born; dead = h.1.dead })
+          (all-both _ _ names (filter-passes keep w.names) (all-filter (IsNameRow w.files w.now) keep w.names (k.holds Names).each));
+      lives = later-filter AreApart AreApart keep w.names (λ x y e f h. h) (k.holds Names).lives;
+    }
+    by Homes = record {
+      each = all-weaker (IsHoused w.directories w.names) (IsHoused w.directories names) names (λ row h. record { home = h.home; there = h.there; reached = λ none. reached_still row.directory ∙ h.reached none })
+          (all-filter (IsHoused w.directories w.names) keep w.names (k.holds Homes).each);
+      named = all-weaker (λ row. ((row.id == root) || list_any (is_name_of_directory row.id) w.names) ≡ true) (λ row. ((row.id == root) || list_any (is_name_of_directory row.id) names) ≡ true) w.directories
+          (λ row h. ap (λ b. (row.id == root) || b) (named_still row.id) ∙ h) (k.holds Homes).named;
+    }
+    by Tree = later-filter AreOthers AreOthers keep w.names (λ x y e f h. h) (k.holds Tree)
+    by Versions = record {
+      each = all-weaker (λ row. ((row.file == file) ≡ false) × IsVersion w.files w.now row) (IsVersion files w.now) w.versions
+          (λ row h. let same = next_of-removed w.files file row.file h.0 in record {
+            first = h.1.first;
+            numbered = rw same h.1.numbered;
+            opened = h.1.opened;
+            closed = h.1.closed;
+            ended = h.1.ended;
+            open_end = λ none. h.1.open_end none ∙ sym same;
+            content = h.1.content;
+            written = h.1.written;
+          })
+          (all-both _ _ w.versions (idle_versions w file idle) (k.holds Versions).each);
+      placed = (k.holds Versions).placed;
+    }
+    by Drafts = record {
+      each = all-weaker (λ row. ((row.file == file) ≡ false) × IsDraft w.files w.now row) (IsDraft files w.now) w.drafts
+          (λ row h. let same = next_of-removed w.files file row.file h.0 in record { there = rw same h.1.there; opened = h.1.opened; content = h.1.content; written = rw same h.1.written })
+          (all-both _ _ w.drafts (idle_drafts w file idle) (k.holds Drafts).each);
+      placed = (k.holds Drafts).placed;
+    }
+    by Current = λ other live. current_still other (any-filtered (is_live_name_of other) keep w.names live) (other == file) refl
+    by part = k.holds part
+
+pub drop_keeps : (w : World) (file : ℕ) → IsWellFormed w → IsWellFormed (after_change w (DropIdle file))
+drop_keeps w file k = dropped IsWellFormed w file (λ idle. drop_file_keeps w file idle k) (λ busy. k)
