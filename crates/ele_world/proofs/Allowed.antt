@@ -38,7 +38,7 @@ default_is rows id all = by (find (is_directory id) rows) refl where
 begun : (w : World) (file : ℕ) → list_any (is_draft file) (insert_before (is_draft_after file) (new_draft w file) w.drafts) ≡ true
 begun w file = let own : is_draft file (new_draft w file) ≡ true = grind (arith, nat_tests) in rw (list_any-insert_before (is_draft_after file) (is_draft file) (new_draft w file) w.drafts, own) refl
 
-takes : (w : World) (key : Key) → IsWellFormed w → first_due w ≡ Some key → MayTake CleanOne w w key.file key.number
+pub takes : (w : World) (key : Key) → IsWellFormed w → first_due w ≡ Some key → MayTake CleanOne w w key.file key.number
 takes w key k first =
     let due = first_is_due w key (k.holds Versions).placed first in
     record { clean = refl; row = due.row; found = due.found; due = due.due; ended = due_has_ended w due.row w.now due.due; same = refl }

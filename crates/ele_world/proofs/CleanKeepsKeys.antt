@@ -20,8 +20,7 @@ use Rattle.ele_world.specs.FileView.{view_of}
 use Rattle.ele_world.specs.CleanKeepsKeys.{TakesOneKey, CleanKeepsKeys}
 use Rattle.ele_world.specs.RipeMoments.{IsDueFromRipe}
 use Rattle.ele_world.specs.Scan.{due_key, key_of, scan, first_due}
-use Rattle.ele_world.specs.Change.{Take, DropIdle, after_change}
-use Rattle.ele_world.specs.Step.{clean_step}
+use Rattle.ele_world.specs.Change.{Take, after_change}
 use Rattle.ele_world.specs.WellFormed.{IsWellFormed}
 use Rattle.ele_world.specs.World.{World, is_version}
 use Rattle.ele_lists.proofs.Alls.{all-append, all-around}

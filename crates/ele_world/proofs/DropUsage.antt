@@ -1,7 +1,6 @@
 -- What the files of each kind use after the dropping of an idle file: as much as before, but for the file.
-use Rattle.std.proofs.Common.{◌≡◌, ◌==◌, ℕ, ◌+◌, Bool, true, false, ◌&&◌, cond, List, length, Option, Some, None, refl, ap, ◌∙◌, arith}
+use Rattle.std.proofs.Common.{◌≡◌, ◌==◌, ℕ, ◌+◌, Bool, true, false, ◌&&◌, cond, List, length, Option, Some, None, refl, ap, sym, ◌∙◌, arith}
 use Rattle.std.specs.Prelude.{filter, find}
-use Rattle.std.specs.List.{AllByRecursion}
 use Rattle.std.specs.Option.{option_map, option_map_or}
 use Rattle.ele_lists.specs.Lists.{remove_first}
 use Rattle.ele_lists.proofs.Edits.{all-weaker}
@@ -11,16 +10,17 @@ use Rattle.ele_policy.specs.declared.policy.Kind.{Kind}
 use Rattle.ele_policy.specs.declared.policy.Policy.{Policy}
 use Rattle.ele_policy.specs.Policy.{kind_of, is_kind}
 use Rattle.ele_usage.specs.declared.usage.Usage.{Usage}
+use Rattle.ele_usage.specs.OnlyAt.{only_at}
 use Rattle.ele_usage.specs.Sums.{nothing, plus}
 use Rattle.ele_world.specs.Change.{DropIdle, is_idle, without_file, after_change}
 use Rattle.ele_world.specs.Usage.{is_of, is_file_of, usage_of}
 use Rattle.ele_world.specs.Whole.{whole}
-use Rattle.ele_world.specs.World.{World, is_file}
+use Rattle.ele_world.specs.World.{World, is_file, policy_of}
 use Rattle.ele_world.specs.declared.rows.DraftRow.{DraftRow}
 use Rattle.ele_world.specs.declared.rows.FileRow.{FileRow}
 use Rattle.ele_world.specs.declared.rows.VersionRow.{VersionRow}
 use Rattle.ele_world.proofs.Dropped.{IsIdle, idle_is, dropped, idle_versions, idle_drafts, policy_of-removed}
-use Rattle.ele_world.proofs.Usages.{same_usage}
+use Rattle.ele_world.proofs.Usages.{same_usage, only_at_is}
 
 -- a file, and nothing of it
 abbrev pub one_file : Usage
@@ -48,9 +48,9 @@ without_usage : (w : World) (file : ℕ) (k : Kind) → IsIdle w file → plus (
 unfolding usage_of
 without_usage w file k idle =
     let versions = filter-same_all (λ (row : VersionRow). is_file_of (remove_first (is_file file) w.files) k row.file) (λ row. is_file_of w.files k row.file) w.versions
-        (all-weaker (λ (row : VersionRow). (row.file == file) ≡ false) (λ row. is_file_of (remove_first (is_file file) w.files) k row.file ≡ is_file_of w.files k row.file) w.versions (λ row apart. kind_other w.files file row.file k apart) (idle_versions w file idle)) in
+    (all-weaker (λ (row : VersionRow). (row.file == file) ≡ false) (λ row. is_file_of (remove_first (is_file file) w.files) k row.file ≡ is_file_of w.files k row.file) w.versions (λ row apart. kind_other w.files file row.file k apart) (idle_versions w file idle)) in
     let drafts = filter-same_all (λ (row : DraftRow). is_file_of (remove_first (is_file file) w.files) k row.file) (λ row. is_file_of w.files k row.file) w.drafts
-        (all-weaker (λ (row : DraftRow). (row.file == file) ≡ false) (λ row. is_file_of (remove_first (is_file file) w.files) k row.file ≡ is_file_of w.files k row.file) w.drafts (λ row apart. kind_other w.files file row.file k apart) (idle_drafts w file idle)) in
+    (all-weaker (λ (row : DraftRow). (row.file == file) ≡ false) (λ row. is_file_of (remove_first (is_file file) w.files) k row.file ≡ is_file_of w.files k row.file) w.drafts (λ row apart. kind_other w.files file row.file k apart) (idle_drafts w file idle)) in
     rw (versions, drafts) (less (is_file_of w.files k file) _ _ (fewer_files w.files file k) refl refl refl)
 
 -- a dropped file counted for one file of its kind
@@ -59,3 +59,9 @@ dropped_usage w file k = elim (is_idle w file) as (λ b. is_idle w file ≡ b �
   | true ↦ λ e. without_usage w file k (idle_is w file e)
   | false ↦ λ e. same_usage (plus (usage_of w k) nothing) (usage_of w k) (omega arith) (omega arith) (omega arith) (omega arith)
 ] refl
+
+-- the same by the file's policy
+pub dropped_at : (w : World) (file : ℕ) (policy : Policy) → policy_of w.files file ≡ Some policy → is_idle w file ≡ true → (k : Kind) → plus (usage_of (without_file w file) k) (only_at (kind_of policy) one_file k) ≡ usage_of w k
+dropped_at w file policy filed idle k =
+    let kind : cond (is_file_of w.files k file) one_file nothing ≡ only_at (kind_of policy) one_file k = rw filed (sym (only_at_is k (kind_of policy) one_file)) in
+    ap (plus (usage_of (without_file w file) k)) (sym kind) ∙ without_usage w file k (idle_is w file idle)

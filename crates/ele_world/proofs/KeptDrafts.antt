@@ -117,7 +117,7 @@ write_keeps w file offset bytes fits k = edit_keeps w file (changed_by number of
     written = subst (λ f. AreWrittenBy (next_of w.files f) ((changed_by number offset bytes row).cells)) (sym same) (changed_written number offset bytes row (subst (λ f. AreWrittenBy (next_of w.files f) row.cells) same h.written));
   }
 
-same_file : (number size : ℕ) (row : DraftRow) → (fitted_by number size row).file ≡ row.file
+pub same_file : (number size : ℕ) (row : DraftRow) → (fitted_by number size row).file ≡ row.file
 same_file number size row = elim (eqb (length (content_of row.cells)) size) as (λ b. (cond b row (record row { cells = cells_after_truncate number size row.cells; changed = true })).file ≡ row.file) [
   | true ↦ refl
   | false ↦ refl

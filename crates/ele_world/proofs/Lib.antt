@@ -42,3 +42,4 @@ pub mod Dropped
 pub mod KeptDrops
 pub mod DropViews
 pub mod DropUsage
+pub mod NoIdle
