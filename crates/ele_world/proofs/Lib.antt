@@ -10,6 +10,7 @@ pub mod Leads
 pub mod DirectoryLeads
 pub mod NameEnds
 pub mod Closes
+pub mod NameParts
 pub mod Homes
 pub mod KeptNames
 pub mod KeptDirectories

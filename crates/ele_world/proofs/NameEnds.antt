@@ -22,9 +22,9 @@ use Rattle.ele_world.specs.declared.reply.Reply.TheVariants.{Done}
 use Rattle.ele_world.specs.declared.rows.NameRow.{NameRow}
 use Rattle.ele_world.specs.declared.rows.Target.{Target}
 use Rattle.ele_world.specs.declared.rows.Target.TheVariants.{File, Directory}
-use Rattle.ele_world.proofs.Homes.{still_none}
 use Rattle.ele_world.proofs.Outcomes.{in_all}
 use Rattle.ele_world.proofs.Walks.{parent_is, walk-on, last_leads}
+use Rattle.ele_world.proofs.NameParts.{still_none, dies_so}
 
 -- a live name stands in its directory, by its name
 record IsNamed (d : ℕ) (n : List ℕ) (row : NameRow) : Type 0 where

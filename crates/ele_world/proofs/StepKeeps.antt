@@ -4,7 +4,7 @@ use Rattle.std.specs.List.{AllByRecursion}
 use Rattle.ele_world.specs.Bounds.{Bounds, AreBounds}
 use Rattle.ele_world.specs.Run.{run_of, IsEvent}
 use Rattle.ele_world.specs.Step.{plan, step}
-use Rattle.ele_world.specs.WellFormed.{Part, Now, Bounded, Counted, Directories, Files, Names, Homes, Versions, Drafts, Handles, Current, Holds, IsWellFormed}
+use Rattle.ele_world.specs.WellFormed.{Part, Now, Bounded, Counted, Directories, Files, Names, Homes, Tree, Versions, Drafts, Handles, Current, Holds, IsWellFormed}
 use Rattle.ele_world.specs.World.{World, fresh_world}
 use Rattle.ele_world.specs.declared.event.Event.{Event}
 use Rattle.ele_world.proofs.Allowed.{allowed}
@@ -24,6 +24,7 @@ fresh_is limits bounds = record { holds = by } where
   by Files = record { each = tt; placed = tt }
   by Names = record { each = tt; lives = tt }
   by Homes = record { each = tt; named = (refl, tt) }
+  by Tree = tt
   by Versions = record { each = tt; placed = tt }
   by Drafts = record { each = tt; placed = tt }
   by Handles = record { each = tt; placed = tt }
