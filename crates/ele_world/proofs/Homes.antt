@@ -1,5 +1,5 @@
 -- The directories that names stand in.
-use Rattle.std.proofs.Common.{◌≡◌, ℕ, ◌≤◌, Bool, true, false, ◌==◌, ◌||◌, List, [], ◌∷◌, ◌++◌, Some, Ok, refl, subst, ◌∙◌, arith, ap}
+use Rattle.std.proofs.Common.{◌≡◌, ℕ, ◌≤◌, Bool, true, false, ◌==◌, ◌||◌, List, [], ◌∷◌, ◌++◌, Some, Ok, refl, subst, ◌∙◌, arith, ap, sym}
 use Rattle.std.specs.Prelude.{find, is_none}
 use Rattle.std.specs.List.{AllByRecursion, list_any}
 use Rattle.std.proofs.lemmas.Bool.{false≢true}
@@ -26,6 +26,14 @@ or_last false b h = h
 -- what was there is there beside more
 pub any_more : {X : Type 0} (p : X → Bool) (xs : List X) (y : X) → list_any p xs ≡ true → list_any p (xs ++ y ∷ []) ≡ true
 any_more p xs y h = list_any-append p xs (y ∷ []) ∙ rw h refl
+
+-- and what one more makes so was so, where it was so whenever that one is
+pub any_less : {X : Type 0} (p : X → Bool) (xs : List X) (y : X) → (p y ≡ true → list_any p xs ≡ true) → list_any p (xs ++ y ∷ []) ≡ true → list_any p xs ≡ true
+any_less p xs y from h = by (list_any p xs) (p y) refl refl (sym (list_any-append p xs (y ∷ [])) ∙ h) where
+  by : (a b : Bool) → list_any p xs ≡ a → p y ≡ b → (a || (b || false)) ≡ true → list_any p xs ≡ true
+  by true b is e h = is
+  by false true is e h = from e
+  by false false is e h = absurd (false≢true h)
 
 pub reached_more : (names : List NameRow) (named : NameRow) (id : ℕ) → is_reached names id ≡ true → is_reached (names ++ named ∷ []) id ≡ true
 reached_more names named id h = by (id == root) h where

@@ -16,6 +16,8 @@ pub mod KeptNames
 pub mod KeptDirectories
 pub mod KeptDrafts
 pub mod KeptVersions
+pub mod KeptLinks
+pub mod KeptMoves
 pub mod Keeps
 pub mod Views
 pub mod RipeMoments

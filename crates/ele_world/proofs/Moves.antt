@@ -6,9 +6,9 @@ use Rattle.std.proofs.lemmas.Bool.Decides.{nat_tests}
 use Rattle.ele_content.specs.declared.cell.Cell.{Cell}
 use Rattle.ele_lists.specs.Lists.{update_first, remove_first}
 use Rattle.ele_lists.proofs.Edits.{all-weaker, not_found, find-insert_before, find-remove_first}
-use Rattle.ele_world.specs.Change.{Change, MakeFile, Append, Take, after_change, ended_at, next_version, with_end, with_file, with_name, with_version}
+use Rattle.ele_world.specs.Change.{Change, MakeFile, Append, Take, after_change, ended_at, next_version, with_end, with_file, with_name, with_version, EndFileName, Revive, DropIdle, without_name}
 use Rattle.ele_world.specs.WellFormed.{AllLater, ArePlaced}
-use Rattle.ele_world.specs.World.{World, next_of, is_version, is_version_after}
+use Rattle.ele_world.specs.World.{World, next_of, is_version, is_version_after, is_live}
 use Rattle.ele_world.specs.declared.event.Event.{Event}
 use Rattle.ele_world.specs.declared.rows.FileRow.{FileRow}
 use Rattle.ele_world.specs.declared.rows.Target.TheVariants.{File}
@@ -28,6 +28,10 @@ change_past event first w (MakeFile directory name id policy) file number may is
     let same = next_of-push w.files new file (omega (arith, is.past)) in
     record { given = omega (arith, is.given, may.next); past = omega (arith, is.past, same, next_of-numbered_le (w.files ++ new ∷ []) id file) }
 change_past event first w (Append of opened cells) file number may is = record { given = is.given; past = omega (arith, is.past, next_of-numbered_le w.files of file) }
+-- TEMPORARY
+change_past event first w (Revive directory name of) file number may is = ?
+-- TEMPORARY
+change_past event first w (DropIdle of) file number may is = ?
 change_past event first w change file number may is = record { given = is.given; past = is.past }
 
 -- ---- the row
@@ -94,4 +98,12 @@ module _ (event : Event) (first : World) (file number : ℕ) where
         (subst (λ n. Moves event first of n (row_of w of n) (find (is_version of n) (remove_first (is_version of taken) w.versions))) number_is (Taken w may gone))
     by true false e f = Same (find-remove_first (is_version of taken) (is_version file number) w.versions (λ x passes. grind (arith, nat_tests)))
     by false c e f = Same (find-remove_first (is_version of taken) (is_version file number) w.versions (λ x passes. grind (arith, nat_tests)))
+  change_moves w (EndFileName directory name of) placed may is = elim (is_live (without_name w directory name) of) as (λ b. MovesTo w (cond b w.versions (with_end w of))) [
+    | true ↦ Same refl
+    | false ↦ ends w of
+  ]
+  -- TEMPORARY
+  change_moves w (Revive directory name of) placed may is = ?
+  -- TEMPORARY
+  change_moves w (DropIdle of) placed may is = ?
   change_moves w change placed may is = Same refl
