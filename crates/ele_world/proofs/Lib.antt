@@ -8,9 +8,12 @@ pub mod Opened
 pub mod Outcomes
 pub mod Leads
 pub mod DirectoryLeads
-pub mod NameEnds
-pub mod Closes
 pub mod NameParts
+pub mod NameEnds
+pub mod Currents
+pub mod Links
+pub mod Renames
+pub mod Closes
 pub mod Homes
 pub mod KeptNames
 pub mod KeptDirectories
