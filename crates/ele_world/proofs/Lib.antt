@@ -29,6 +29,7 @@ pub mod RemovalOrder
 pub mod DueRows
 pub mod RipeAt
 pub mod Plain
+pub mod NameMoments
 pub mod Allowed
 pub mod StepKeeps
 pub mod Moves
