@@ -8,14 +8,7 @@ use Rattle.ele_world.specs.declared.rows.VersionRow.{VersionRow}
 use Rattle.ele_world.specs.WellFormed.{is_current, Versions, Current, IsWellFormed}
 use Rattle.ele_world.specs.World.{World, next_of, is_live, is_version, current_of}
 use Rattle.ele_world.proofs.Versions.{IsFound, all_found}
-
--- one of those that pass, and what all have
-one_of : {X : Type 0} (t : X → Bool) (P : X → Type 0) (xs : List X) → AllByRecursion P xs → list_any t xs ≡ true → (x : X) × (t x ≡ true) × P x
-one_of t P [] all h = absurd (false≢true h)
-one_of {X} t P (x ∷ xs) all h = by (one_of t P xs all.1) (t x) refl h where
-  by : (list_any t xs ≡ true → (y : X) × (t y ≡ true) × P y) → (b : Bool) → t x ≡ b → (b || list_any t xs) ≡ true → (y : X) × (t y ≡ true) × P y
-  by more true e h = (x, e, all.0)
-  by more false e h = more h
+use Rattle.ele_world.proofs.Elements.{one_of}
 
 -- its last version is held, and has no end
 pub record HasCurrent (w : World) (file : ℕ) : Type 0 where

@@ -22,17 +22,7 @@ use Rattle.ele_world.proofs.KeptLinks.{counted_more}
 use Rattle.ele_world.proofs.May.{MayMove}
 use Rattle.ele_world.proofs.NameParts.{and_false, free_still, IsUnnamed, names_end, names_more, still_none, tree_end, tree_more}
 use Rattle.ele_world.proofs.Walks.{live_row}
-
--- once the only element that passes t, which p finds, is changed, none passes t
-none_left : {X : Type 0} (p t : X → Bool) (f : X → X) (xs : List X) (x : X) → find p xs ≡ Some x → t x ≡ true → ((x : X) → t (f x) ≡ false) → AllLater (λ x y. t x ≡ true → t y ≡ false) xs → AllByRecursion (λ x. t x ≡ false) (update_first p f xs)
-none_left p t f [] x found passes fails only = absurd cc
-none_left p t f (y ∷ xs) x found passes fails only = elim (p y) as (λ b. p y ≡ b → AllByRecursion (λ x. t x ≡ false) (cond b (f y ∷ xs) (y ∷ update_first p f xs))) [
-  | true ↦ λ e. let found' = rw e at found in let same : y ≡ x = cc in (fails y, all-weaker (λ z. t y ≡ true → t z ≡ false) (λ z. t z ≡ false) xs (λ z h. h (rw same passes)) only.0)
-  | false ↦ λ e. (before (rw e at found) (t y) refl, none_left p t f xs x (rw e at found) passes fails only.1)
-] refl where
-  before : find p xs ≡ Some x → (b : Bool) → t y ≡ b → b ≡ false
-  before found' false h = refl
-  before found' true h = let later = all-found p (λ z. t y ≡ true → t z ≡ false) xs x found' only.0 in absurd (false≢true (sym (later h) ∙ passes))
+use Rattle.ele_world.proofs.Elements.{none_left}
 
 module _ (w : World) (from : ℕ) (old : List ℕ) (to : ℕ) (new : List ℕ) (target : Target) (may : MayMove w from old to new target) (k : IsWellFormed w) where
   abbrev p : NameRow → Bool

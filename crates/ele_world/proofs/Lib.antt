@@ -1,3 +1,4 @@
+pub mod Elements
 pub mod Files
 pub mod Versions
 pub mod Walks
@@ -44,4 +45,5 @@ pub mod SumRows
 pub mod Splits
 pub mod Others
 pub mod Usages
+pub mod EndUsage
 pub mod PassEnds

@@ -20,6 +20,7 @@ use Rattle.ele_world.proofs.Currents.{HasCurrent, has_current}
 use Rattle.ele_world.proofs.NameEnds.{dead_path}
 use Rattle.ele_world.proofs.Outcomes.{in_all}
 use Rattle.ele_world.proofs.Walks.{file_of, last_is, new_leads, target_live, walk-push}
+use Rattle.ele_world.proofs.Elements.{find-updated}
 
 -- ---- a link
 
@@ -43,14 +44,6 @@ link_leads w from to k = in_all w (λ answer. answer.0 ≡ Done → LeadsToSame 
 
 -- ---- an unlink
 
--- the element that is found, after a change of it
-found_changed : {X : Type 0} (p : X → Bool) (f : X → X) (xs : List X) (x : X) → ((x : X) → p (f x) ≡ p x) → find p xs ≡ Some x → find p (update_first p f xs) ≡ Some (f x)
-found_changed p f [] x keeps h = absurd cc
-found_changed p f (y ∷ xs) x keeps h = elim (p y) as (λ b. p y ≡ b → find p (cond b (f y ∷ xs) (y ∷ update_first p f xs)) ≡ Some (f x)) [
-  | true ↦ λ e. let h' = rw e at h in let same : y ≡ x = cc in rw (keeps y, e, same) refl
-  | false ↦ λ e. rw e (found_changed p f xs x keeps (rw e at h))
-] refl
-
 module _ (w : World) (directory : ℕ) (name : List ℕ) (file : ℕ) (k : IsWellFormed w) (leads : live_target w.names directory name ≡ Some (File file)) where
   abbrev pub unlinked : World
   unlinked = after_change w (EndFileName directory name file)
@@ -59,7 +52,7 @@ module _ (w : World) (directory : ℕ) (name : List ℕ) (file : ℕ) (k : IsWel
   current = has_current w file k (target_live w.names directory name (File file) leads)
 
   pub ended_current : is_live unlinked file ≡ false → current_of unlinked file ≡ Some (ended_at w.now current.row)
-  ended_current dead = rw dead (found_changed (is_version file (next_of w.files file - 1)) (ended_at w.now) w.versions current.row (λ row. refl) current.found)
+  ended_current dead = rw dead (find-updated (is_version file (next_of w.files file - 1)) (ended_at w.now) w.versions (λ row. refl) ∙ ap (option_map (ended_at w.now)) current.found)
 
 pub unlink_ends : UnlinkEnds
 unlink_ends w path k = in_all w (λ answer. answer.0 ≡ Done → EndsName w path (answer.1)) (plan w (Unlink path)) (
