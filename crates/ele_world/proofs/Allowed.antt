@@ -12,19 +12,20 @@ use Rattle.ele_world.specs.Change.{new_draft, EndDraft, ShutHandle, after_change
 use Rattle.ele_world.specs.NameRows.{is_live_in}
 use Rattle.ele_world.specs.Scan.{first_due}
 use Rattle.ele_world.specs.Step.{plan}
-use Rattle.ele_world.specs.Walk.{live_target, directory_now, parent_now}
+use Rattle.ele_world.specs.Walk.{live_target, directory_now, parent_now, walk_now}
 use Rattle.ele_policy.specs.Policy.{IsPolicy}
 use Rattle.ele_world.specs.WellFormed.{AreWrittenBy, IsDraft, Counted, Directories, Names, Versions, Drafts, IsWellFormed}
 use Rattle.ele_world.specs.World.{World, is_directory, default_of, next_of, is_draft, is_draft_after}
 use Rattle.ele_world.specs.declared.event.Event.{Event}
-use Rattle.ele_world.specs.declared.event.Event.TheVariants.{Clock, Tick, MakeDir, RemoveDir, Create, Link, Unlink, Rename, Undelete, Restorable, OpenWrite, Write, Truncate, Close, SetDefault, CleanOne, Read, Due, UsageAll}
+use Rattle.ele_world.specs.declared.event.Event.TheVariants.{Clock, Tick, MakeDir, RemoveDir, Create, Link, Unlink, Rename, Undelete, OpenWrite, Write, Truncate, Close, SetDefault, CleanOne, Read, Restorable, Due, UsageAll}
 use Rattle.ele_world.specs.declared.event.Source.TheVariants.{Of}
 use Rattle.ele_world.specs.declared.rows.DirectoryRow.{DirectoryRow}
 use Rattle.ele_world.specs.declared.rows.DraftRow.{DraftRow}
 use Rattle.ele_world.proofs.DueRows.{first_is_due, due_has_ended}
 use Rattle.ele_world.proofs.Homes.{parent_home}
 use Rattle.ele_world.proofs.May.{MayName, MayEnd, MayAppend, MayTake, MayPlan}
-use Rattle.ele_world.proofs.Walks.{file_there, last_leads}
+use Rattle.ele_world.proofs.Walks.{file_there, last_leads, file_live, file_of, last_is}
+use Rattle.ele_world.specs.declared.rows.Target.TheVariants.{File}
 
 -- ---- what the checks found
 
@@ -79,12 +80,13 @@ allowed w (MakeDir path) k = λ at found free directories names.
 allowed w (RemoveDir path) k = λ at found directory leads empty. (may_end w path at directory found leads empty, tt)
 allowed w (Create path) k = λ at found free files names versions.
     (record { next = refl; files = grind (arith, nat_tests); named = may_name w path at k found free names; room = grind (arith, nat_tests); valid = default_is w.directories at.0 (k.holds Directories).policies }, tt)
+allowed w (Link from to) k = λ file leads at found free names.
+    (record { named = may_name w to at k found free names; there = file_there w.files w.now w.names from file (k.holds Names).each leads; housed = tt; more = file_live w.names from file leads }, tt)
+allowed w (Unlink path) k = λ at found file leads. (last_is w.names path at (File file) found (file_of (walk_now w.names path) file leads), tt)
+allowed w (Rename from to) k = λ old found moved leads at home apart free names.
+    (record { stands = last_is w.names from old moved found leads; named = may_name w to at k home free names }, tt)
 -- TEMPORARY
-allowed w (Link from to) k = ?
-allowed w (Unlink path) k = ?
-allowed w (Rename from to) k = ?
 allowed w (Undelete path) k = ?
-allowed w Restorable k = ?
 allowed w (OpenWrite path) k = λ file found handles. (
   λ has. (record { next = refl; room = grind (arith, nat_tests); drafted = has }, tt),
   λ none versions. (
@@ -104,5 +106,6 @@ allowed w (Close handle) k = λ file found. (
 allowed w (SetDefault path policy) k = λ directory found. (λ is. is, tt)
 allowed w CleanOne k = (tt, λ key first. (takes w key k first, (tt, tt)))
 allowed w (Read (Of handle)) k = λ reads found. tt
+allowed w Restorable k = tt
 allowed w Due k = tt
 allowed w UsageAll k = tt

@@ -1,21 +1,23 @@
 -- The directories that names stand in.
-use Rattle.std.proofs.Common.{◌≡◌, ℕ, ◌≤◌, Bool, true, false, ◌==◌, ◌||◌, List, [], ◌∷◌, ◌++◌, Some, Ok, refl, subst, ◌∙◌, arith}
+use Rattle.std.proofs.Common.{◌≡◌, ℕ, ◌≤◌, Bool, true, false, ◌==◌, ◌||◌, List, [], ◌∷◌, ◌++◌, Some, Ok, refl, subst, ◌∙◌, arith, ap, sym}
 use Rattle.std.specs.Prelude.{find, is_none}
 use Rattle.std.specs.List.{AllByRecursion, list_any}
 use Rattle.std.proofs.lemmas.Bool.{false≢true}
 use Rattle.std.proofs.lemmas.Bool.Decides.{nat_tests}
 use Rattle.std.proofs.lemmas.List.Folds.{list_any-append}
-use Rattle.ele_lists.proofs.Edits.{all-push, all-weaker, all-found, found_passes}
+use Rattle.ele_lists.proofs.Edits.{all-push, all-weaker, all-found, found_passes, list_any-update_first}
 use Rattle.ele_lists.proofs.Found.{any-found}
-use Rattle.ele_world.specs.NameRows.{is_live_directory}
+use Rattle.ele_world.specs.NameRows.{is_live_directory, is_name_of_directory, dies}
 use Rattle.ele_world.specs.Walk.{is_live_name, live_target, parent_now}
-use Rattle.ele_world.specs.WellFormed.{has_directory, is_reached, IsDirectoryThere, IsHoused, Directories, Homes, IsWellFormed}
+use Rattle.ele_world.specs.WellFormed.{has_directory, is_reached, IsDirectoryThere, IsHoused, Directories, Homes, IsWellFormed, AreHoused}
 use Rattle.ele_world.specs.World.{World, root, is_directory}
 use Rattle.ele_world.specs.declared.rows.DirectoryRow.{DirectoryRow}
 use Rattle.ele_world.specs.declared.rows.NameRow.{NameRow}
 use Rattle.ele_world.specs.declared.rows.Target.{Target}
 use Rattle.ele_world.specs.declared.rows.Target.TheVariants.{File, Directory}
 use Rattle.ele_world.proofs.Walks.{live_row, parent_to}
+use Rattle.ele_world.proofs.NameParts.{still_none}
+use Rattle.ele_lists.specs.Lists.{update_first}
 
 pub or_last : (a b : Bool) → b ≡ true → (a || b) ≡ true
 or_last true b h = refl
@@ -24,6 +26,14 @@ or_last false b h = h
 -- what was there is there beside more
 pub any_more : {X : Type 0} (p : X → Bool) (xs : List X) (y : X) → list_any p xs ≡ true → list_any p (xs ++ y ∷ []) ≡ true
 any_more p xs y h = list_any-append p xs (y ∷ []) ∙ rw h refl
+
+-- and what one more makes so was so, where it was so whenever that one is
+pub any_less : {X : Type 0} (p : X → Bool) (xs : List X) (y : X) → (p y ≡ true → list_any p xs ≡ true) → list_any p (xs ++ y ∷ []) ≡ true → list_any p xs ≡ true
+any_less p xs y from h = by (list_any p xs) (p y) refl refl (sym (list_any-append p xs (y ∷ [])) ∙ h) where
+  by : (a b : Bool) → list_any p xs ≡ a → p y ≡ b → (a || (b || false)) ≡ true → list_any p xs ≡ true
+  by true b is e h = is
+  by false true is e h = from e
+  by false false is e h = absurd (false≢true h)
 
 pub reached_more : (names : List NameRow) (named : NameRow) (id : ℕ) → is_reached names id ≡ true → is_reached (names ++ named ∷ []) id ≡ true
 reached_more names named id h = by (id == root) h where
@@ -37,9 +47,6 @@ reached_more names named id h = by (id == root) h where
 abbrev IsHome : List DirectoryRow → List NameRow → Target → Type 0
 IsHome directories names (File file) = Unit {0}
 IsHome directories names (Directory directory) = (has_directory directories directory ≡ true) × (is_reached names directory ≡ true)
-
-pub still_none : (directory : ℕ) (name : List ℕ) (row : NameRow) → is_live_name directory name row ≡ true → is_none row.death ≡ true
-still_none directory name row h = grind (arith, nat_tests)
 
 live_home : (directories : List DirectoryRow) (names : List NameRow) → AllByRecursion (IsHoused directories names) names
     → (directory : ℕ) (name : List ℕ) (target : Target) → live_target names directory name ≡ Some target → IsHome directories names target
@@ -71,6 +78,26 @@ named_housed directories more names named wider home reached there each =
       stays : (target : Target) → IsDirectoryThere directories target → IsDirectoryThere more target
       stays (File file) h = tt
       stays (Directory id) h = wider id h
+
+-- the root, or a directory that has a name, live or dead
+abbrev pub HasName : List NameRow → DirectoryRow → Type 0
+HasName names row = ((row.id == root) || list_any (is_name_of_directory row.id) names) ≡ true
+
+pub named_more : (directories : List DirectoryRow) (names : List NameRow) (named : NameRow) → AllByRecursion (HasName names) directories → AllByRecursion (HasName (names ++ named ∷ [])) directories
+named_more directories names named = all-weaker (HasName names) (HasName (names ++ named ∷ [])) directories (λ row. still (row.id == root) row.id) where
+  still : (b : Bool) (d : ℕ) → (b || list_any (is_name_of_directory d) names) ≡ true → (b || list_any (is_name_of_directory d) (names ++ named ∷ [])) ≡ true
+  still true d h = refl
+  still false d h = any_more (is_name_of_directory d) names named h
+
+pub named_end : (now : ℕ) (p : NameRow → Bool) (directories : List DirectoryRow) (names : List NameRow) → AllByRecursion (HasName names) directories → AllByRecursion (HasName (update_first p (dies now) names)) directories
+named_end now p directories names = all-weaker (HasName names) (HasName (update_first p (dies now) names)) directories
+    (λ row h. ap (λ b. (row.id == root) || b) (list_any-update_first p (is_name_of_directory row.id) (dies now) names (λ x e. refl)) ∙ h)
+
+pub homes_more : (directories : List DirectoryRow) (names : List NameRow) (named : NameRow) → has_directory directories named.directory ≡ true → is_reached names named.directory ≡ true → IsDirectoryThere directories named.target → AreHoused directories names → AreHoused directories (names ++ named ∷ [])
+homes_more directories names named home reached there are = record {
+  each = named_housed directories directories names named (λ d h. h) home reached there are.each;
+  named = named_more directories names named are.named;
+}
 
 -- a directory that is there has a number that was given
 pub directory_given : (made : ℕ) (rows : List DirectoryRow) (id : ℕ) → AllByRecursion (λ row. row.id ≤ made) rows → has_directory rows id ≡ true → id ≤ made

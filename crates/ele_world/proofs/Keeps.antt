@@ -1,7 +1,7 @@
 -- Each change that may be made keeps a world well formed, and so do all changes of a plan.
 use Rattle.std.proofs.Common.{◌≡◌, ℕ, true, false, List, [], ◌∷◌, Some, None, Ok, Err, refl, is_none}
 use Rattle.std.specs.Prelude.{find}
-use Rattle.ele_world.specs.Change.{Change, Time, Govern, MakeDirectory, EndName, MakeFile, Append, Take, StartDraft, WriteDraft, TruncateDraft, EndDraft, OpenHandle, ShutHandle, DropIdle, after_change, after_changes, AddName, MoveName, EndFileName, Revive}
+use Rattle.ele_world.specs.Change.{Change, Time, Govern, MakeDirectory, EndName, AddName, MoveName, EndFileName, Revive, MakeFile, Append, Take, StartDraft, WriteDraft, TruncateDraft, EndDraft, OpenHandle, ShutHandle, DropIdle, after_change, after_changes}
 use Rattle.ele_world.specs.Plan.{Plan, Tell, Make, Unless, When, Need, IfFound, outcome}
 use Rattle.ele_world.specs.Run.{IsEvent}
 use Rattle.ele_world.specs.WellFormed.{IsWellFormed}
@@ -14,6 +14,8 @@ use Rattle.ele_world.proofs.KeptNames.{time_keeps, govern_keeps, make_keeps}
 use Rattle.ele_world.proofs.KeptDrops.{drop_keeps}
 use Rattle.ele_world.proofs.KeptVersions.{append_keeps, take_keeps}
 use Rattle.ele_world.proofs.May.{MayTake, May, MayAll, MayPlan}
+use Rattle.ele_world.proofs.KeptLinks.{add_name_keeps, end_file_name_keeps}
+use Rattle.ele_world.proofs.KeptMoves.{move_name_keeps}
 
 -- the version that is taken had ended
 taken_ended : (event : Event) (first w : World) (file number : ℕ) → MayTake event first w file number → (row : VersionRow) → find (is_version file number) w.versions ≡ Some row → is_none row.ended ≡ false
@@ -26,10 +28,10 @@ change_keeps event first w (Time to) is may k = time_keeps w to (may.1 is) may.0
 change_keeps event first w (Govern directory policy) is may k = govern_keeps w directory policy (may is) k
 change_keeps event first w (MakeDirectory directory name id policy) is may k = make_directory_keeps w directory name id policy may k
 change_keeps event first w (EndName directory name) is may k = end_name_keeps w directory name may k
+change_keeps event first w (AddName directory name target) is may k = add_name_keeps w directory name target may k
+change_keeps event first w (MoveName from old to new target) is may k = move_name_keeps w from old to new target may k
+change_keeps event first w (EndFileName directory name file) is may k = end_file_name_keeps w directory name file may k
 -- TEMPORARY
-change_keeps event first w (AddName directory name target) is may k = ?
-change_keeps event first w (MoveName from old to new target) is may k = ?
-change_keeps event first w (EndFileName directory name file) is may k = ?
 change_keeps event first w (Revive directory name file) is may k = ?
 change_keeps event first w (MakeFile directory name id policy) is may k = make_keeps w directory name id policy may k
 change_keeps event first w (Append file opened cells) is may k = append_keeps w file opened cells may k

@@ -13,15 +13,16 @@ use Rattle.ele_policy.specs.Policy.{IsPolicy}
 use Rattle.ele_world.specs.Change.{after_change, MakeDirectory, EndName}
 use Rattle.ele_world.specs.NameRows.{born_row, dies, is_live_in, is_name_of_directory, is_target_directory, is_live_directory}
 use Rattle.ele_world.specs.Walk.{is_live_name, live_target}
-use Rattle.ele_world.specs.WellFormed.{has_directory, is_reached, IsHoused, IsNameRow, AreApart, Part, Counted, Directories, Names, Homes, Tree, Current, Holds, IsWellFormed}
+use Rattle.ele_world.specs.WellFormed.{has_directory, is_reached, IsHoused, IsNameRow, AreApart, Part, Counted, Directories, Names, Homes, Current, Holds, IsWellFormed, Tree, IsDirectoryThere}
 use Rattle.ele_world.specs.World.{World, root, is_directory, is_live_name_of}
 use Rattle.ele_world.specs.declared.rows.DirectoryRow.{DirectoryRow}
 use Rattle.ele_world.specs.declared.rows.NameRow.{NameRow}
 use Rattle.ele_world.specs.declared.rows.Target.{Target}
 use Rattle.ele_world.specs.declared.rows.Target.TheVariants.{File, Directory}
-use Rattle.ele_world.proofs.Homes.{or_last, any_more, still_none, named_housed}
+use Rattle.ele_world.proofs.Homes.{or_last, any_more, named_housed, HasName, named_more, named_end, directory_given}
 use Rattle.ele_world.proofs.KeptNames.{apart_from_new}
 use Rattle.ele_world.proofs.May.{MayMakeDirectory, MayEnd}
+use Rattle.ele_world.proofs.NameParts.{and_false, names_more, names_end, tree_more, tree_end}
 
 -- ---- a directory is made
 
@@ -71,22 +72,18 @@ module _ (w : World) (directory : ℕ) (name : List ℕ) (policy : Policy) where
       counted = simp length-append (omega (arith, d.counted));
       few = omega (arith, may.directories);
     }
-    by Names = record {
-      each = all-push (IsNameRow w.files w.now) w.names named (k.holds Names).each (record { there = tt; born = omega arith; dead = tt });
-      lives = later-push AreApart w.names named (k.holds Names).lives (apart_from_new w directory name named k may.named.free refl refl refl);
-    }
+    by Names = names_more w.files w.now w.names directory name (Directory id) may.named.free tt (k.holds Names)
     by Homes = record {
       each = named_housed w.directories made.directories w.names named (λ d h. any_more (is_directory d) w.directories new h) may.named.home may.named.reached there (k.holds Homes).each;
-      named = all-push (λ row. ((row.id == root) || list_any (is_name_of_directory row.id) made.names) ≡ true) w.directories new
-          (all-weaker (λ row. ((row.id == root) || list_any (is_name_of_directory row.id) w.names) ≡ true) (λ row. ((row.id == root) || list_any (is_name_of_directory row.id) made.names) ≡ true) w.directories
-          (λ row h. still (row.id == root) row.id h) (k.holds Homes).named)
+      named = all-push (HasName made.names) w.directories new (named_more w.directories w.names named (k.holds Homes).named)
           (or_last (id == root) (list_any (is_name_of_directory id) made.names) (list_any-append (is_name_of_directory id) w.names (named ∷ []) ∙ rw own (or_last (list_any (is_name_of_directory id) w.names) true refl)));
-    } where
-      still : (b : Bool) (d : ℕ) → (b || list_any (is_name_of_directory d) w.names) ≡ true → (b || list_any (is_name_of_directory d) made.names) ≡ true
-      still true d h = refl
-      still false d h = any_more (is_name_of_directory d) w.names named h
-    -- TEMPORARY
-    by Tree = ?
+    }
+    by Tree = tree_more w.now w.names directory name (Directory id) (all-weaker (IsHoused w.directories w.names) (λ row. is_live_directory id row ≡ false) w.names (λ row h. unnamed row.target (is_none row.death) h.there) (k.holds Homes).each) (k.holds Tree) where
+      unnamed : (target : Target) (b : Bool) → IsDirectoryThere w.directories target → (is_target_directory id target && b) ≡ false
+      unnamed (File file) b there = refl
+      unnamed (Directory d) b there =
+          let given = directory_given w.made.directories w.directories d (k.holds Directories).given there in
+          let no : (d == id) ≡ false = grind (arith, nat_tests) in rw no refl
     by Current = λ file live. k.holds Current file (sym (no_file_named w.names directory name id w.now file) ∙ live)
     by part = k.holds part
 
@@ -96,10 +93,6 @@ make_directory_keeps w directory name id policy may k =
     (λ m. new_keeps w directory name policy m k) may
 
 -- ---- a name dies
-
-and_false : (b : Bool) → (b && false) ≡ false
-and_false true = refl
-and_false false = refl
 
 module _ (w : World) (directory : ℕ) (name : List ℕ) (may : MayEnd w directory name) where
   abbrev p : NameRow → Bool
@@ -133,9 +126,6 @@ module _ (w : World) (directory : ℕ) (name : List ℕ) (may : MayEnd w directo
 
   pub end_name_keeps : IsWellFormed w → IsWellFormed (after_change w (EndName directory name))
   end_name_keeps k = record { holds = by } where
-    over : (x y : NameRow) → p x ≡ true → AreApart x y → AreApart (dies w.now x) y
-    over x y live apart = λ d n. let dead = apart d n in let none = still_none directory name x live in absurd (let no : is_none x.death ≡ false = rw dead.1 refl in false≢true (sym no ∙ none))
-
     by : (part : Part) → Holds (after_change w (EndName directory name)) part
     by Counted = let c = k.holds Counted in record {
       files_made = c.files_made;
@@ -146,20 +136,15 @@ module _ (w : World) (directory : ℕ) (name : List ℕ) (may : MayEnd w directo
       name_rows = omega (arith, c.name_rows, length-update_first p (dies w.now) w.names);
       version_rows = c.version_rows;
     }
-    by Names = record {
-      each = all-update_first p (IsNameRow w.files w.now) (IsNameRow w.files w.now) (dies w.now) w.names (λ row h. record { there = h.there; born = h.born; dead = (h.born, omega arith) }) (λ row h. h) (k.holds Names).each;
-      lives = later-update_found p AreApart (dies w.now) w.names over (λ x y h. h) (k.holds Names).lives;
-    }
+    by Names = names_end w.now w.names directory name w.files (k.holds Names)
+    by Tree = tree_end w.now w.names directory name (k.holds Tree)
     by Homes = record {
       each = all-update_first p (IsHoused w.directories after) (IsHoused w.directories after) (dies w.now) w.names
           (λ row h. record { home = h.home; there = h.there; reached = λ none. absurd cc }) (λ row h. h)
           (all-weaker (λ row. (row.death ≡ None → IsSpared row.directory) × IsHoused w.directories w.names row) (IsHoused w.directories after) w.names
           (λ row h. record { home = h.1.home; there = h.1.there; reached = λ none. reached_still row.directory (h.0 none) (h.1.reached none) })
           (all-both _ _ w.names all_spared (k.holds Homes).each));
-      named = all-weaker (λ row. ((row.id == root) || list_any (is_name_of_directory row.id) w.names) ≡ true) (λ row. ((row.id == root) || list_any (is_name_of_directory row.id) after) ≡ true) w.directories
-          (λ row h. ap (λ b. (row.id == root) || b) (list_any-update_first p (is_name_of_directory row.id) (dies w.now) w.names (λ x e. refl)) ∙ h) (k.holds Homes).named;
+      named = named_end w.now p w.directories w.names (k.holds Homes).named;
     }
-    -- TEMPORARY
-    by Tree = ?
     by Current = λ file live. k.holds Current file (list_any-update_fails p (is_live_name_of file) (dies w.now) w.names (λ row. and_false _) live)
     by part = k.holds part

@@ -16,7 +16,7 @@ use Rattle.ele_world.specs.Change.{governed_by, after_change, Time, Govern, Make
 use Rattle.ele_world.specs.NameRows.{is_name_of_directory}
 use Rattle.ele_world.specs.Walk.{live_target, is_live_name}
 use Rattle.ele_policy.specs.Policy.{IsPolicy}
-use Rattle.ele_world.specs.WellFormed.{has_directory, IsDirectoryThere, IsHoused, IsFile, IsNameRow, AreApart, IsVersion, ArePlaced, IsDraft, is_current, HaveCurrent, Part, Now, Counted, Directories, Files, Names, Homes, Tree, Versions, Drafts, Current, Holds, IsWellFormed}
+use Rattle.ele_world.specs.WellFormed.{has_directory, IsDirectoryThere, IsHoused, IsFile, IsNameRow, AreApart, IsVersion, ArePlaced, IsDraft, is_current, HaveCurrent, Part, Now, Counted, Directories, Files, Names, Homes, Versions, Drafts, Current, Holds, IsWellFormed, Tree}
 use Rattle.ele_world.specs.World.{World, root, is_directory, next_of, is_live, is_live_name_of, is_target_file}
 use Rattle.ele_world.specs.declared.rows.DirectoryRow.{DirectoryRow}
 use Rattle.ele_world.specs.declared.rows.DraftRow.{DraftRow}
@@ -27,9 +27,10 @@ use Rattle.ele_world.specs.declared.rows.Target.TheVariants.{File, Directory}
 use Rattle.ele_world.specs.declared.rows.VersionRow.{VersionRow}
 use Rattle.ele_world.proofs.Created.{new_file, new_name, first_version, created, made_is}
 use Rattle.ele_world.proofs.Files.{next_of-push, next_of-push_other, next_of-given, next_of-new, there-push}
-use Rattle.ele_world.proofs.Homes.{named_housed, any_more}
+use Rattle.ele_world.proofs.Homes.{named_housed, any_more, homes_more}
 use Rattle.ele_world.proofs.May.{MayMake}
 use Rattle.ele_world.proofs.Writers.{written_more}
+use Rattle.ele_world.proofs.NameParts.{all_apart, names_more, tree_more}
 
 -- ---- the clock
 
@@ -86,28 +87,10 @@ govern_keeps w directory policy is k = record { holds = by } where
 
 -- ---- a file is made
 
--- a name that isn't live has died
-dead_name : (files : List FileRow) (now directory : ℕ) (name : List ℕ) (x y : NameRow) → is_live_name directory name x ≡ false → IsNameRow files now x → y.directory ≡ directory → y.name ≡ name → y.birth ≡ now → AreApart x y
-dead_name files now directory name x y dead is same_directory same_name birth = λ d n. by x.death (d ∙ same_directory) (n ∙ same_name) refl where
-  by : (o : Option ℕ) → x.directory ≡ directory → x.name ≡ name → x.death ≡ o → (death : ℕ) × (x.death ≡ Some death) × (death ≤ y.birth)
-  by None d n e =
-      let named : bytes_eq x.name name ≡ true = (bytes_eq-Decides x.name name).1 n in
-      let there : eqb x.directory directory ≡ true = grind (arith, nat_tests) in
-      absurd (false≢true (sym dead ∙ rw (there, named, e) refl))
-  by (Some death) d n e = let bound = rw e at is.dead in (death, e, omega (arith, bound.1, birth))
-
-no_live : (w : World) (directory : ℕ) (name : List ℕ) → is_some (live_target w.names directory name) ≡ false → AllByRecursion (λ row. is_live_name directory name row ≡ false) w.names
-no_live w directory name h = all-not_found (is_live_name directory name) w.names (by (find (is_live_name directory name) w.names) h) where
-  by : (o : Option NameRow) → is_some (option_map (λ (row : NameRow). row.target) o) ≡ false → o ≡ None
-  by None h = refl
-  by (Some row) h = absurd (false≢true (sym h))
-
 -- each row of a name that isn't live is over when the name is born again
 pub apart_from_new : (w : World) (directory : ℕ) (name : List ℕ) (named : NameRow) → IsWellFormed w → is_some (live_target w.names directory name) ≡ false
     → named.directory ≡ directory → named.name ≡ name → named.birth ≡ w.now → AllByRecursion (λ row. AreApart row named) w.names
-apart_from_new w directory name named k free d n b =
-    all-weaker (λ row. (is_live_name directory name row ≡ false) × IsNameRow w.files w.now row) (λ row. AreApart row named) w.names
-    (λ row h. dead_name w.files w.now directory name row named h.0 h.1 d n b) (all-both _ _ w.names (no_live w directory name free) (k.holds Names).each)
+apart_from_new w directory name named k = all_apart w.files w.now w.names directory name named (k.holds Names).each
 
 version_push : (files : List FileRow) (new : FileRow) (now : ℕ) (row : VersionRow) → IsVersion files now row → IsVersion (files ++ new ∷ []) now row
 version_push files new now row h =
@@ -171,20 +154,12 @@ module _ (w : World) (directory : ℕ) (name : List ℕ) (policy : Policy) where
           (record { numbered = omega arith; given = omega arith; first = omega arith; next = omega arith; policy = may.valid });
       placed = later-push (λ earlier later. earlier.id < later.id) w.files new (k.holds Files).placed (all-weaker (IsFile w.made.files w.made.versions) (λ row. row.id < id) w.files (λ row h. omega (arith, h.given)) (k.holds Files).each);
     }
-    by Names = record {
-      each = all-push (IsNameRow files w.now) w.names named
-          (all-weaker (IsNameRow w.files w.now) (IsNameRow files w.now) w.names (λ row h. record { there = there-push w.files new row.target h.there; born = h.born; dead = h.dead }) (k.holds Names).each)
-          (record { there = omega (arith, new_next); born = omega arith; dead = tt });
-      lives = later-push AreApart w.names named (k.holds Names).lives (apart_from_new w directory name named k may.named.free refl refl refl);
-    }
-    by Homes = record {
-      each = named_housed w.directories w.directories w.names named (λ d h. h) may.named.home may.named.reached tt (k.holds Homes).each;
-      named = all-weaker (λ row. ((row.id == root) || list_any (is_name_of_directory row.id) w.names) ≡ true) (λ row. ((row.id == root) || list_any (is_name_of_directory row.id) (w.names ++ named ∷ [])) ≡ true) w.directories
-          (λ row h. still (row.id == root) row.id h) (k.holds Homes).named;
-    } where
-      still : (b : Bool) (d : ℕ) → (b || list_any (is_name_of_directory d) w.names) ≡ true → (b || list_any (is_name_of_directory d) (w.names ++ named ∷ [])) ≡ true
-      still true d h = refl
-      still false d h = any_more (is_name_of_directory d) w.names named h
+    by Names = names_more files w.now w.names directory name (File id) may.named.free (omega (arith, new_next)) (record {
+      each = all-weaker (IsNameRow w.files w.now) (IsNameRow files w.now) w.names (λ row h. record { there = there-push w.files new row.target h.there; born = h.born; dead = h.dead }) (k.holds Names).each;
+      lives = (k.holds Names).lives;
+    })
+    by Homes = homes_more w.directories w.names named may.named.home may.named.reached tt (k.holds Homes)
+    by Tree = tree_more w.now w.names directory name (File id) tt (k.holds Tree)
     by Versions = record {
       each = all-push (IsVersion files w.now) w.versions (first_version w id)
           (all-weaker (IsVersion w.files w.now) (IsVersion files w.now) w.versions (version_push w.files new w.now) (k.holds Versions).each)
@@ -199,8 +174,6 @@ module _ (w : World) (directory : ℕ) (name : List ℕ) (policy : Policy) where
           (λ row h. let same = next_of-push w.files new row.file h.there in record { there = omega (arith, h.there, same); opened = h.opened; content = h.content; written = written_more (next_of w.files row.file) (next_of files row.file) row.cells (omega (arith, same)) h.written }) (k.holds Drafts).each;
       placed = (k.holds Drafts).placed;
     }
-    -- TEMPORARY
-    by Tree = ?
     by Current = created_current w new named (first_version w id) (new_next ∙ omega arith) (k.holds Files).each (k.holds Current) refl refl refl
     by part = k.holds part
 

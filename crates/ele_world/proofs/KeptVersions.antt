@@ -1,5 +1,5 @@
 -- The making and the removal of a version keep a world well formed.
-use Rattle.std.proofs.Common.{◌≡◌, ◌≢◌, ℕ, ◌+◌, ◌-◌, ◌<◌, ◌≤◌, Bool, true, false, cond, List, Option, Some, None, IfSome, refl, ap, sym, subst, ◌∙◌, arith, eqb}
+use Rattle.std.proofs.Common.{◌≡◌, ◌≢◌, ℕ, ◌+◌, ◌-◌, ◌<◌, ◌≤◌, Bool, true, false, cond, List, Option, Some, None, IfSome, refl, ap, sym, subst, ◌∙◌, arith, eqb, ◌==◌}
 use Rattle.std.specs.Prelude.{find, unwrap_or, is_none}
 use Rattle.std.specs.List.{list_any, AllByRecursion}
 use Rattle.std.proofs.lemmas.Bool.{false≢true}
@@ -8,7 +8,7 @@ use Rattle.ele_content.specs.declared.cell.Cell.{Cell}
 use Rattle.ele_lists.specs.Lists.{update_first}
 use Rattle.ele_lists.proofs.Edits.{all-weaker, all-both, all-update_first, all-remove_first, all-insert_before, later-update_first, later-remove_first, later-insert_before, length-update_first, length-insert_before, length-remove_first-le, list_any-update_first, list_any-insert_before, list_any-remove_first}
 use Rattle.ele_world.specs.Change.{numbered_on, ended_at, next_version, with_end, with_version, after_change, Take}
-use Rattle.ele_world.specs.WellFormed.{IsFile, IsNameRow, IsVersion, ArePlaced, IsDraft, is_current, HaveCurrent, Part, Counted, Files, Names, Versions, Drafts, Current, Holds, IsWellFormed}
+use Rattle.ele_world.specs.WellFormed.{IsFile, IsNameRow, IsVersion, ArePlaced, IsDraft, is_current, HaveCurrent, Part, Counted, Files, Names, Versions, Drafts, Current, Holds, IsWellFormed, AreVersions}
 use Rattle.ele_world.specs.World.{World, next_of, is_file, is_live, is_version, is_version_after}
 use Rattle.ele_world.specs.declared.rows.FileRow.{FileRow}
 use Rattle.ele_world.specs.declared.rows.VersionRow.{VersionRow}
@@ -46,6 +46,16 @@ placed_ended now x y h = record { after = h.after; ended = λ same. let was = h.
 
 placed_before_ended : (now : ℕ) (x y : VersionRow) → ArePlaced x y → ArePlaced x (ended_at now y)
 placed_before_ended now x y h = record { after = h.after; ended = h.ended }
+
+pub versions_ended : (files : List FileRow) (now : ℕ) (p : VersionRow → Bool) (rows : List VersionRow) → AreVersions files now rows → AreVersions files now (update_first p (ended_at now) rows)
+versions_ended files now p rows are = record {
+  each = all-update_first p (IsVersion files now) (IsVersion files now) (ended_at now) rows (ended_version files now) (λ row h. h) are.each;
+  placed = later-update_first p ArePlaced (ended_at now) rows (placed_ended now) (placed_before_ended now) are.placed;
+}
+
+-- what is current in another file is so still
+pub current_ended : (file other number next now : ℕ) (rows : List VersionRow) → (file == other) ≡ false → list_any (is_current other next) (update_first (is_version file number) (ended_at now) rows) ≡ list_any (is_current other next) rows
+current_ended file other number next now rows apart = list_any-update_first (is_version file number) (is_current other next) (ended_at now) rows (λ row h. let no : (row.file == other) ≡ false = grind (arith, nat_tests) in rw no refl)
 
 -- a row is behind the new one only where its file is
 abbrev IsOld : List FileRow → ℕ → ℕ → VersionRow → Type 0
@@ -117,7 +127,7 @@ module _ (w : World) (file opened : ℕ) (cells : List Cell) (may : MayAppend w 
         let next = next_of-numbered_other w.files file other apart in
         let t = is_current other (next_of w.files other) in
         let fails : t new ≡ false = rw e refl in
-        let same = list_any-update_first (is_version file (next_of w.files file - 1)) t (ended_at w.now) w.versions (λ row h. let no : eqb row.file other ≡ false = grind (arith, nat_tests) in rw no refl) in
+        let same = current_ended file other (next_of w.files file - 1) (next_of w.files other) w.now w.versions e in
         rw (next, list_any-insert_before (is_version_after file (next_of w.files file)) t new (with_end w file), fails, same) (current other live)
 
   abbrev next : ℕ
@@ -128,8 +138,11 @@ module _ (w : World) (file opened : ℕ) (cells : List Cell) (may : MayAppend w 
 
   pub append_keeps : IsWellFormed w → IsWellFormed (with_version w file opened cells)
   append_keeps k = record { holds = by } where
+    ended : AreVersions w.files w.now (with_end w file)
+    ended = versions_ended w.files w.now p w.versions (k.holds Versions)
+
     old : AllByRecursion (IsOld w.files w.now file) (with_end w file)
-    old = all-both _ _ (with_end w file) (file_ended w.files w.now file w.versions (k.holds Versions).placed (k.holds Versions).each) (all-update_first p (IsVersion w.files w.now) (IsVersion w.files w.now) (ended_at w.now) w.versions (ended_version w.files w.now) (λ row h. h) (k.holds Versions).each)
+    old = all-both _ _ (with_end w file) (file_ended w.files w.now file w.versions (k.holds Versions).placed (k.holds Versions).each) ended.each
 
     by : (part : Part) → Holds (with_version w file opened cells) part
     by Counted = let c = k.holds Counted in record {
@@ -155,8 +168,7 @@ module _ (w : World) (file opened : ℕ) (cells : List Cell) (may : MayAppend w 
       each = all-insert_before (is_version_after file next) (IsVersion files w.now) new (with_end w file) new_is
           (all-weaker (IsOld w.files w.now file) (IsVersion files w.now) (with_end w file) (λ row h. numbered_version w.files w.now file row h.0 h.1) old);
       placed = later-insert_before (is_version_after file next) ArePlaced (IsOld w.files w.now file) new (with_end w file)
-          behind_old before_old (after_both file next) old
-          (later-update_first p ArePlaced (ended_at w.now) w.versions (placed_ended w.now) (placed_before_ended w.now) (k.holds Versions).placed);
+          behind_old before_old (after_both file next) old ended.placed;
     }
     by Drafts = record {
       each = all-weaker (IsDraft w.files w.now) (IsDraft files w.now) w.drafts

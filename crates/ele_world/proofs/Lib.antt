@@ -1,3 +1,4 @@
+pub mod Elements
 pub mod Files
 pub mod Versions
 pub mod Walks
@@ -8,13 +9,19 @@ pub mod Opened
 pub mod Outcomes
 pub mod Leads
 pub mod DirectoryLeads
+pub mod NameParts
 pub mod NameEnds
+pub mod Currents
+pub mod Links
+pub mod Renames
 pub mod Closes
 pub mod Homes
 pub mod KeptNames
 pub mod KeptDirectories
 pub mod KeptDrafts
 pub mod KeptVersions
+pub mod KeptLinks
+pub mod KeptMoves
 pub mod Keeps
 pub mod Views
 pub mod RipeMoments
@@ -23,6 +30,7 @@ pub mod RemovalOrder
 pub mod DueRows
 pub mod RipeAt
 pub mod Plain
+pub mod NameMoments
 pub mod Allowed
 pub mod StepKeeps
 pub mod Moves
@@ -37,6 +45,7 @@ pub mod SumRows
 pub mod Splits
 pub mod Others
 pub mod Usages
+pub mod EndUsage
 pub mod PassEnds
 pub mod Dropped
 pub mod KeptDrops

@@ -7,7 +7,7 @@ use Rattle.ele_moment.specs.Last.{last_moment}
 use Rattle.ele_policy.specs.declared.policy.Policy.{Policy}
 use Rattle.ele_world.specs.Change.{Change, Time, Govern, MakeDirectory, EndName, AddName, MoveName, EndFileName, Revive, MakeFile, Append, Take, StartDraft, WriteDraft, TruncateDraft, EndDraft, OpenHandle, ShutHandle, DropIdle, after_change}
 use Rattle.ele_world.specs.Due.{is_due_at}
-use Rattle.ele_world.specs.NameRows.{is_live_in, is_live_directory, is_target_directory}
+use Rattle.ele_world.specs.NameRows.{is_live_in, is_live_directory}
 use Rattle.ele_world.specs.Plan.{Plan, Tell, Make, Unless, When, Need, IfFound}
 use Rattle.ele_world.specs.Run.{IsEvent}
 use Rattle.ele_world.specs.Walk.{live_target}
@@ -51,11 +51,10 @@ pub record MayAdd (w : World) (directory : ℕ) (name : List ℕ) (target : Targ
   pub housed : IsDirectoryThere w.directories target
   pub more : MayHaveMore w target
 
--- the new name doesn't stand in what is moved
+-- the old name stands for what is moved
 pub record MayMove (w : World) (from : ℕ) (old : List ℕ) (to : ℕ) (new : List ℕ) (target : Target) : Type 0 where
   pub stands : live_target w.names from old ≡ Some target
   pub named : MayName w to new
-  pub outside : is_target_directory to target ≡ false
 
 -- the file has no live name, and its last version is held
 pub record MayRevive (w : World) (directory : ℕ) (name : List ℕ) (file : ℕ) : Type 0 where

@@ -24,7 +24,6 @@ fresh_is limits bounds = record { holds = by } where
   by Files = record { each = tt; placed = tt }
   by Names = record { each = tt; lives = tt }
   by Homes = record { each = tt; named = (refl, tt) }
-  -- TEMPORARY
   by Tree = tt
   by Versions = record { each = tt; placed = tt }
   by Drafts = record { each = tt; placed = tt }

@@ -1,7 +1,7 @@
 -- What a path leads to, where it stands, and where a name is added.
-use Rattle.std.proofs.Common.{◌≡◌, ℕ, suc, zero, ◌+◌, ◌-◌, ◌<◌, true, false, List, [], ◌∷◌, ◌++◌, length, take, Option, Some, None, Result, Ok, Err, refl, ap, sym, subst, ◌∙◌, arith, eqb}
-use Rattle.std.specs.Prelude.{find, is_some, slice_get}
-use Rattle.std.specs.List.{AllByRecursion}
+use Rattle.std.proofs.Common.{◌≡◌, ℕ, suc, zero, ◌+◌, ◌-◌, ◌<◌, true, false, List, [], ◌∷◌, ◌++◌, length, take, Option, Some, None, Result, Ok, Err, refl, ap, sym, subst, ◌∙◌, arith, eqb, ◌==◌}
+use Rattle.std.specs.Prelude.{find, is_some, slice_get, is_none}
+use Rattle.std.specs.List.{AllByRecursion, list_any}
 use Rattle.std.specs.Option.{option_map, option_map_or}
 use Rattle.std.specs.Str.{bytes_eq}
 use Rattle.std.proofs.lemmas.Bool.{false≢true}
@@ -17,8 +17,9 @@ use Rattle.ele_world.specs.declared.rows.Target.TheVariants.{File, Directory}
 use Rattle.ele_world.specs.NameRows.{born_row}
 use Rattle.ele_world.specs.Walk.{is_live_name, live_target, walk, walk_now, file_at, file_now, directory_in, directory_now, directory_at, parent_now}
 use Rattle.ele_world.specs.WellFormed.{IsNameRow, IsThere}
-use Rattle.ele_world.specs.World.{next_of, root}
-use Rattle.ele_lists.proofs.Edits.{all-found}
+use Rattle.ele_world.specs.World.{next_of, root, is_live_name_of}
+use Rattle.ele_lists.proofs.Edits.{all-found, found_passes}
+use Rattle.ele_lists.proofs.Found.{any-found}
 
 -- ---- what is true of each target of a live name is so of the place that a walk ends at
 
@@ -40,7 +41,7 @@ live_row P rows directory name target each h = by (find (is_live_name directory 
   by None e h = absurd cc
   by (Some row) e h = let same : row.target ≡ target = cc in subst P same (each row e)
 
-file_of : (r : Result Target Refusal) (file : ℕ) → file_at r ≡ Ok file → r ≡ Ok (File file)
+pub file_of : (r : Result Target Refusal) (file : ℕ) → file_at r ≡ Ok file → r ≡ Ok (File file)
 file_of (Ok (File other)) file h = let same : other ≡ file = cc in ap (λ f. Ok (File f)) same
 file_of (Ok (Directory directory)) file h = absurd cc
 file_of (Err refusal) file h = absurd cc
@@ -52,15 +53,34 @@ file_there files now rows path file all h =
     (λ row found. let is : IsNameRow files now row = all-found (is_live_name directory name) (IsNameRow files now) rows row found all in is.there))
     (Directory root) (File file) path tt (file_of (walk_now rows path) file h)
 
+-- it is live
+abbrev pub IsLive : List NameRow → Target → Type 0
+IsLive rows (File file) = list_any (is_live_name_of file) rows ≡ true
+IsLive rows (Directory directory) = Unit {0}
+
+pub target_live : (rows : List NameRow) (directory : ℕ) (name : List ℕ) (target : Target) → live_target rows directory name ≡ Some target → IsLive rows target
+target_live rows directory name target = live_row (IsLive rows) rows directory name target (λ row found. by row found row.target refl) where
+  by : (row : NameRow) → find (is_live_name directory name) rows ≡ Some row → (t : Target) → row.target ≡ t → IsLive rows t
+  by row found (Directory id) is = tt
+  by row found (File file) is =
+      let passes = found_passes (is_live_name directory name) rows row found in
+      let alive : is_none row.death ≡ true = grind (arith, nat_tests) in
+      let own : (file == file) ≡ true = grind (arith, nat_tests) in
+      any-found (is_live_name directory name) (is_live_name_of file) rows row found (rw (is, own) alive)
+
+-- the file at a path is live
+pub file_live : (rows : List NameRow) (path : List (List ℕ)) (file : ℕ) → file_now rows path ≡ Ok file → list_any (is_live_name_of file) rows ≡ true
+file_live rows path file h = walk_to (IsLive rows) rows (target_live rows) (Directory root) (File file) path tt (file_of (walk_now rows path) file h)
+
 -- ---- walks, where a name is added
 
-live_target-push : (rows : List NameRow) (row : NameRow) (directory : ℕ) (name : List ℕ) (target : Target) → live_target rows directory name ≡ Some target → live_target (rows ++ row ∷ []) directory name ≡ Some target
+pub live_target-push : (rows : List NameRow) (row : NameRow) (directory : ℕ) (name : List ℕ) (target : Target) → live_target rows directory name ≡ Some target → live_target (rows ++ row ∷ []) directory name ≡ Some target
 live_target-push rows row directory name target h = by (find (is_live_name directory name) rows) refl h where
   by : (o : Option NameRow) → find (is_live_name directory name) rows ≡ o → option_map (λ (r : NameRow). r.target) o ≡ Some target → live_target (rows ++ row ∷ []) directory name ≡ Some target
   by None e h = absurd cc
   by (Some found) e h = let is : find (is_live_name directory name) (rows ++ row ∷ []) ≡ Some found = find-append (is_live_name directory name) rows (row ∷ []) ∙ rw e refl in rw is h
 
-walk-push : (rows : List NameRow) (row : NameRow) (at : Target) (names : List (List ℕ)) (target : Target) → walk rows at names ≡ Ok target → walk (rows ++ row ∷ []) at names ≡ Ok target
+pub walk-push : (rows : List NameRow) (row : NameRow) (at : Target) (names : List (List ℕ)) (target : Target) → walk rows at names ≡ Ok target → walk (rows ++ row ∷ []) at names ≡ Ok target
 walk-push rows row at [] target h = h
 walk-push rows row (File file) (name ∷ names) target h = absurd cc
 walk-push rows row (Directory directory) (name ∷ names) target h = go (λ next. walk-push rows row next names target) (live_target rows directory name) refl h where
@@ -91,6 +111,7 @@ split-last (y ∷ ys) x h = split-at (y ∷ ys) (length (y ∷ ys) - 1) x (omega
 
 pub record IsParent (names : List NameRow) (path : List (List ℕ)) (at : ℕ × List ℕ) : Type 0 where
   pub front : List (List ℕ)
+  pub taken : front ≡ take (length path - 1) path
   pub whole : path ≡ front ++ at.1 ∷ []
   pub leads : walk_now names front ≡ Ok (Directory at.0)
 
@@ -102,7 +123,7 @@ parent_is names path at h = by (slice_get path (length path - 1)) refl h where
   of : (name : List ℕ) → slice_get path (length path - 1) ≡ Some name → (r : Result Target Refusal) → walk_now names (take (length path - 1) path) ≡ r → directory_at name r ≡ Ok at → IsParent names path at
   of name last (Ok (Directory directory)) w h =
       let same : (directory, name) ≡ at = cc in
-      subst (IsParent names path) same (record { front = take (length path - 1) path; whole = split-last path name last; leads = w })
+      subst (IsParent names path) same (record { front = take (length path - 1) path; taken = refl; whole = split-last path name last; leads = w })
   of name last (Ok (File file)) w h = absurd cc
   of name last (Err refusal) w h = absurd cc
 
@@ -120,18 +141,21 @@ directory_of (Ok (File file)) directory h = absurd cc
 directory_of (Ok (Directory other)) directory h = let same : other ≡ directory = cc in ap (λ d. Ok (Directory d)) same
 directory_of (Err refusal) directory h = absurd cc
 
--- the path's last name is that of the directory that the path leads to
-pub last_leads : (rows : List NameRow) (path : List (List ℕ)) (at : ℕ × List ℕ) (directory : ℕ) → parent_now rows path ≡ Ok at → directory_now rows path ≡ Ok directory → live_target rows at.0 at.1 ≡ Some (Directory directory)
-last_leads rows path at directory found leads = by (live_target rows at.0 at.1) (sym on ∙ directory_of (walk_now rows path) directory leads) where
+-- the path's last name is that of what the path leads to
+pub last_is : (rows : List NameRow) (path : List (List ℕ)) (at : ℕ × List ℕ) (target : Target) → parent_now rows path ≡ Ok at → walk_now rows path ≡ Ok target → live_target rows at.0 at.1 ≡ Some target
+last_is rows path at target found leads = by (live_target rows at.0 at.1) (sym on ∙ leads) where
   parent : IsParent rows path at
   parent = parent_is rows path at found
 
   on : walk_now rows path ≡ option_map_or (λ target. Ok target) (live_target rows at.0 at.1) (Err NoEntry)
   on = ap (walk_now rows) parent.whole ∙ walk-on rows (Directory root) (Directory at.0) parent.front (at.1 ∷ []) parent.leads
 
-  by : (o : Option Target) → option_map_or (λ (target : Target). Ok target) o (Err NoEntry) ≡ Ok (Directory directory) → o ≡ Some (Directory directory)
+  by : (o : Option Target) → option_map_or (λ (target : Target). Ok target) o (Err NoEntry) ≡ Ok target → o ≡ Some target
   by None h = absurd cc
-  by (Some target) h = cc
+  by (Some other) h = cc
+
+pub last_leads : (rows : List NameRow) (path : List (List ℕ)) (at : ℕ × List ℕ) (directory : ℕ) → parent_now rows path ≡ Ok at → directory_now rows path ≡ Ok directory → live_target rows at.0 at.1 ≡ Some (Directory directory)
+last_leads rows path at directory found leads = last_is rows path at (Directory directory) found (directory_of (walk_now rows path) directory leads)
 
 -- ---- a new name
 
@@ -154,11 +178,13 @@ module _ (rows : List NameRow) (directory : ℕ) (name : List ℕ) (target : Tar
       rw is refl
 
 -- the path leads to the target of its new name
-pub new_leads : (rows : List NameRow) (path : List (List ℕ)) (at : ℕ × List ℕ) (target : Target) (now : ℕ) → parent_now rows path ≡ Ok at → is_some (live_target rows at.0 at.1) ≡ false → walk_now (rows ++ born_row at.0 at.1 target now ∷ []) path ≡ Ok target
-new_leads rows path at target now found free =
-    let parent = parent_is rows path at found in
+pub named_leads : (rows : List NameRow) (path : List (List ℕ)) (at : ℕ × List ℕ) (target : Target) (now : ℕ) → IsParent rows path at → is_some (live_target rows at.0 at.1) ≡ false → walk_now (rows ++ born_row at.0 at.1 target now ∷ []) path ≡ Ok target
+named_leads rows path at target now parent free =
     let row = born_row at.0 at.1 target now in
     let there = target_is rows at.0 at.1 target now free in
     ap (walk_now (rows ++ row ∷ [])) parent.whole
     ∙ walk-on (rows ++ row ∷ []) (Directory root) (Directory at.0) parent.front (at.1 ∷ []) (walk-push rows row (Directory root) parent.front (Directory at.0) parent.leads)
     ∙ rw there refl
+
+pub new_leads : (rows : List NameRow) (path : List (List ℕ)) (at : ℕ × List ℕ) (target : Target) (now : ℕ) → parent_now rows path ≡ Ok at → is_some (live_target rows at.0 at.1) ≡ false → walk_now (rows ++ born_row at.0 at.1 target now ∷ []) path ≡ Ok target
+new_leads rows path at target now found = named_leads rows path at target now (parent_is rows path at found)

@@ -1,0 +1,98 @@
+-- A name that moves keeps a world well formed.
+use Rattle.std.proofs.Common.{◌≡◌, ℕ, ◌≤◌, Bool, true, false, ◌==◌, ◌&&◌, ◌||◌, List, [], ◌∷◌, ◌++◌, length, length-append, Option, Some, None, refl, ap, sym, subst, ◌∙◌, arith, cond}
+use Rattle.std.specs.Prelude.{find, is_none}
+use Rattle.std.specs.List.{AllByRecursion, list_any}
+use Rattle.std.proofs.lemmas.Bool.{false≢true}
+use Rattle.std.proofs.lemmas.Bool.Decides.{nat_tests}
+use Rattle.std.proofs.lemmas.List.Folds.{list_any-append}
+use Rattle.ele_lists.specs.Lists.{update_first, AllLater}
+use Rattle.ele_lists.proofs.Alls.{later-weaker}
+use Rattle.ele_lists.proofs.Edits.{all-found, all-push, all-update_first, all-weaker, found_passes, length-update_first}
+use Rattle.ele_lists.proofs.Found.{any-found, list_any-update_fails, list_any-update_found}
+use Rattle.ele_world.specs.Change.{after_change, MoveName}
+use Rattle.ele_world.specs.declared.rows.NameRow.{NameRow}
+use Rattle.ele_world.specs.declared.rows.Target.{Target}
+use Rattle.ele_world.specs.declared.rows.Target.TheVariants.{File, Directory}
+use Rattle.ele_world.specs.NameRows.{born_row, dies, is_live_directory, is_target_directory}
+use Rattle.ele_world.specs.Walk.{is_live_name, live_target}
+use Rattle.ele_world.specs.WellFormed.{IsNameRow, IsDirectoryThere, is_reached, IsHoused, AreOthers, Part, Counted, Names, Homes, Tree, Current, Holds, IsWellFormed, IsThere}
+use Rattle.ele_world.specs.World.{World, root, is_target_file, is_live_name_of, is_live}
+use Rattle.ele_world.proofs.Homes.{any_less, any_more, named_end, named_more, or_last}
+use Rattle.ele_world.proofs.KeptLinks.{counted_more}
+use Rattle.ele_world.proofs.May.{MayMove}
+use Rattle.ele_world.proofs.NameParts.{and_false, free_still, IsUnnamed, names_end, names_more, still_none, tree_end, tree_more}
+use Rattle.ele_world.proofs.Walks.{live_row}
+use Rattle.ele_world.proofs.Elements.{none_left}
+
+module _ (w : World) (from : ℕ) (old : List ℕ) (to : ℕ) (new : List ℕ) (target : Target) (may : MayMove w from old to new target) (k : IsWellFormed w) where
+  abbrev p : NameRow → Bool
+  p = is_live_name from old
+
+  abbrev left : List NameRow
+  left = update_first p (dies w.now) w.names
+
+  abbrev named : NameRow
+  named = born_row to new target w.now
+
+  -- what is true of the row that dies and its target
+  of_row : (P : Target → Type 0) → ((row : NameRow) → find p w.names ≡ Some row → P row.target) → P target
+  of_row P each = live_row P w.names from old target each may.stands
+
+  there : IsThere w.files target
+  there = of_row (IsThere w.files) (λ row found. let is : IsNameRow w.files w.now row = all-found p (IsNameRow w.files w.now) w.names row found (k.holds Names).each in is.there)
+
+  housed : IsDirectoryThere w.directories target
+  housed = of_row (IsDirectoryThere w.directories) (λ row found. let is : IsHoused w.directories w.names row = all-found p (IsHoused w.directories w.names) w.names row found (k.holds Homes).each in is.there)
+
+  -- it had the only name of a directory
+  unnamed : IsUnnamed left target
+  unnamed = of_row (IsUnnamed left) (λ row found. by row found row.target refl) where
+    by : (row : NameRow) → find p w.names ≡ Some row → (t : Target) → row.target ≡ t → IsUnnamed left t
+    by row found (File file) is = tt
+    by row found (Directory id) is =
+        let alive = still_none from old row (found_passes p w.names row found) in
+        let own : (id == id) ≡ true = grind (arith, nat_tests) in
+        none_left p (is_live_directory id) (dies w.now) w.names row found (rw (is, own) alive) (λ x. and_false (is_target_directory id x.target)) (later-weaker AreOthers _ w.names (λ x y h. h id) (k.holds Tree))
+
+  -- each directory that was reached is
+  reached : (id : ℕ) → is_reached w.names id ≡ true → is_reached (left ++ named ∷ []) id ≡ true
+  reached id h = by (is_target_directory id target) refl where
+    by : (b : Bool) → is_target_directory id target ≡ b → is_reached (left ++ named ∷ []) id ≡ true
+    by true own = or_last (id == root) (list_any (is_live_directory id) (left ++ named ∷ [])) (list_any-append (is_live_directory id) left (named ∷ []) ∙ rw own (or_last (list_any (is_live_directory id) left) true refl))
+    by false other = more (id == root) h where
+      same : list_any (is_live_directory id) left ≡ list_any (is_live_directory id) w.names
+      same = list_any-update_found p (is_live_directory id) (dies w.now) w.names (λ row found. rw (of_found row found) refl) where
+        of_found : (row : NameRow) → find p w.names ≡ Some row → is_target_directory id row.target ≡ false
+        of_found row found = let at : Some row.target ≡ Some target = rw found at may.stands in let is : row.target ≡ target = cc in rw is other
+
+      more : (b : Bool) → (b || list_any (is_live_directory id) w.names) ≡ true → (b || list_any (is_live_directory id) (left ++ named ∷ [])) ≡ true
+      more true h = refl
+      more false h = any_more (is_live_directory id) left named (same ∙ h)
+
+  -- what the name makes live was so
+  was_live : (file : ℕ) → is_live_name_of file named ≡ true → is_live w file ≡ true
+  was_live file = of_row (λ t. (is_target_file file t && true) ≡ true → is_live w file ≡ true) (λ row found own.
+      any-found p (is_live_name_of file) w.names row found (let alive = still_none from old row (found_passes p w.names row found) in rw alive own))
+
+  pub move_name_keeps : IsWellFormed (after_change w (MoveName from old to new target))
+  move_name_keeps = record { holds = by } where
+    by : (part : Part) → Holds (after_change w (MoveName from old to new target)) part
+    by Counted = counted_more w (length (left ++ named ∷ [])) k may.named.room (simp length-append (omega (arith, length-update_first p (dies w.now) w.names)))
+    by Names = names_more w.files w.now left to new target (free_still w.now w.names from old to new may.named.free) there (names_end w.now w.names from old w.files (k.holds Names))
+    by Homes = record {
+      each = all-push (IsHoused w.directories (left ++ named ∷ [])) left named
+          (all-update_first p (IsHoused w.directories w.names) (IsHoused w.directories (left ++ named ∷ [])) (dies w.now) w.names
+          (λ row h. record { home = h.home; there = h.there; reached = λ none. absurd cc })
+          (λ row h. record { home = h.home; there = h.there; reached = λ none. reached row.directory (h.reached none) }) (k.holds Homes).each)
+          (record { home = may.named.home; there = housed; reached = λ none. reached to may.named.reached });
+      named = named_more w.directories left named (named_end w.now p w.directories w.names (k.holds Homes).named);
+    }
+    by Tree = tree_more w.now left to new target unnamed (tree_end w.now w.names from old (k.holds Tree))
+    by Current = λ file live. k.holds Current file (any_less (is_live_name_of file) w.names named (was_live file) (was file live)) where
+      was : (file : ℕ) → list_any (is_live_name_of file) (left ++ named ∷ []) ≡ true → list_any (is_live_name_of file) (w.names ++ named ∷ []) ≡ true
+      was file live = list_any-append (is_live_name_of file) w.names (named ∷ []) ∙ both (list_any (is_live_name_of file) left) (list_any (is_live_name_of file) (named ∷ [])) (list_any-update_fails p (is_live_name_of file) (dies w.now) w.names (λ row. and_false (is_target_file file row.target))) (sym (list_any-append (is_live_name_of file) left (named ∷ [])) ∙ live) where
+        both : (a b : Bool) → (a ≡ true → list_any (is_live_name_of file) w.names ≡ true) → (a || b) ≡ true → (list_any (is_live_name_of file) w.names || b) ≡ true
+        both true b from h = rw (from refl) refl
+        both false true from h = or_last (list_any (is_live_name_of file) w.names) true refl
+        both false false from h = absurd (false≢true h)
+    by part = k.holds part

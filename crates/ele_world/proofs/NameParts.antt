@@ -1,0 +1,105 @@
+-- A name more, and the end of one, in the parts of a well-formed world that speak of names.
+use Rattle.std.proofs.Common.{◌≡◌, ℕ, ◌≤◌, Bool, true, false, ◌==◌, ◌&&◌, List, [], ◌∷◌, ◌++◌, Option, Some, None, refl, sym, subst, ◌∙◌, arith, eqb}
+use Rattle.std.specs.Prelude.{find, is_some, is_none}
+use Rattle.std.specs.List.{AllByRecursion}
+use Rattle.std.specs.Option.{option_map}
+use Rattle.std.specs.Str.{bytes_eq}
+use Rattle.std.proofs.lemmas.Bool.{false≢true}
+use Rattle.std.proofs.lemmas.Bool.Decides.{nat_tests}
+use Rattle.std.proofs.lemmas.Slice.Eq.{bytes_eq-Decides}
+use Rattle.ele_lists.specs.Lists.{update_first}
+use Rattle.ele_lists.proofs.Edits.{all-any, all-push, all-weaker, all-both, all-update_first, all-not_found, later-push, later-update_first, not_found}
+use Rattle.ele_lists.proofs.Found.{later-update_found}
+use Rattle.ele_world.specs.NameRows.{born_row, dies, is_live_directory}
+use Rattle.ele_world.specs.Walk.{live_target, is_live_name}
+use Rattle.ele_world.specs.WellFormed.{AllLater, IsThere, IsNameRow, AreApart, AreNames, AreOthers}
+use Rattle.ele_world.specs.declared.rows.FileRow.{FileRow}
+use Rattle.ele_world.specs.declared.rows.NameRow.{NameRow}
+use Rattle.ele_world.specs.declared.rows.Target.{Target}
+use Rattle.ele_world.specs.declared.rows.Target.TheVariants.{File, Directory}
+
+-- ---- a name more
+
+-- a name that isn't live has died
+dead_name : (files : List FileRow) (now directory : ℕ) (name : List ℕ) (x y : NameRow) → is_live_name directory name x ≡ false → IsNameRow files now x → y.directory ≡ directory → y.name ≡ name → y.birth ≡ now → AreApart x y
+dead_name files now directory name x y dead is same_directory same_name birth = λ d n. by x.death (d ∙ same_directory) (n ∙ same_name) refl where
+  by : (o : Option ℕ) → x.directory ≡ directory → x.name ≡ name → x.death ≡ o → (death : ℕ) × (x.death ≡ Some death) × (death ≤ y.birth)
+  by None d n e =
+      let named : bytes_eq x.name name ≡ true = (bytes_eq-Decides x.name name).1 n in
+      let there : eqb x.directory directory ≡ true = grind (arith, nat_tests) in
+      absurd (false≢true (sym dead ∙ rw (there, named, e) refl))
+  by (Some death) d n e = let bound = rw e at is.dead in (death, e, omega (arith, bound.1, birth))
+
+no_live : (names : List NameRow) (directory : ℕ) (name : List ℕ) → is_some (live_target names directory name) ≡ false → AllByRecursion (λ row. is_live_name directory name row ≡ false) names
+no_live names directory name h = all-not_found (is_live_name directory name) names (by (find (is_live_name directory name) names) h) where
+  by : (o : Option NameRow) → is_some (option_map (λ (row : NameRow). row.target) o) ≡ false → o ≡ None
+  by None h = refl
+  by (Some row) h = absurd (false≢true (sym h))
+
+-- each row of a name that isn't live is over when the name is born again
+pub all_apart : (files : List FileRow) (now : ℕ) (names : List NameRow) (directory : ℕ) (name : List ℕ) (named : NameRow) → AllByRecursion (IsNameRow files now) names → is_some (live_target names directory name) ≡ false
+    → named.directory ≡ directory → named.name ≡ name → named.birth ≡ now → AllByRecursion (λ row. AreApart row named) names
+all_apart files now names directory name named each free d n b =
+    all-weaker (λ row. (is_live_name directory name row ≡ false) × IsNameRow files now row) (λ row. AreApart row named) names
+    (λ row h. dead_name files now directory name row named h.0 h.1 d n b) (all-both _ _ names (no_live names directory name free) each)
+
+pub names_more : (files : List FileRow) (now : ℕ) (names : List NameRow) (directory : ℕ) (name : List ℕ) (target : Target) → is_some (live_target names directory name) ≡ false → IsThere files target → AreNames files now names → AreNames files now (names ++ born_row directory name target now ∷ [])
+names_more files now names directory name target free there are = let named = born_row directory name target now in record {
+  each = all-push (IsNameRow files now) names named are.each (record { there = there; born = omega arith; dead = tt });
+  lives = later-push AreApart names named are.lives (all_apart files now names directory name named are.each free refl refl refl);
+}
+
+-- no live name stands for it, if it is a directory
+abbrev pub IsUnnamed : List NameRow → Target → Type 0
+IsUnnamed names (File file) = Unit {0}
+IsUnnamed names (Directory id) = AllByRecursion (λ row. is_live_directory id row ≡ false) names
+
+pub tree_more : (now : ℕ) (names : List NameRow) (directory : ℕ) (name : List ℕ) (target : Target) → IsUnnamed names target → AllLater AreOthers names → AllLater AreOthers (names ++ born_row directory name target now ∷ [])
+tree_more now names directory name target none tree = later-push AreOthers names (born_row directory name target now) tree (others target none) where
+  other : (row : NameRow) (d id : ℕ) → is_live_directory d row ≡ false → is_live_directory id row ≡ true → (b : Bool) → (d == id) ≡ b → (b && true) ≡ false
+  other row d id h live false e = refl
+  other row d id h live true e = let same : d ≡ id = grind (arith, nat_tests) in absurd (false≢true (sym h ∙ subst (λ i. is_live_directory i row ≡ true) (sym same) live))
+
+  others : (t : Target) → IsUnnamed names t → AllByRecursion (λ row. AreOthers row (born_row directory name t now)) names
+  others (File file) none = all-any (λ row. AreOthers row (born_row directory name (File file) now)) names (λ row id live. refl)
+  others (Directory d) none = all-weaker (λ row. is_live_directory d row ≡ false) (λ row. AreOthers row (born_row directory name (Directory d) now)) names (λ row h id live. other row d id h live (d == id) refl) none
+
+-- ---- the end of a name
+
+pub and_false : (b : Bool) → (b && false) ≡ false
+and_false true = refl
+and_false false = refl
+
+pub still_none : (directory : ℕ) (name : List ℕ) (row : NameRow) → is_live_name directory name row ≡ true → is_none row.death ≡ true
+still_none directory name row h = grind (arith, nat_tests)
+
+-- a dead name isn't live
+pub dies_so : (now directory : ℕ) (name : List ℕ) (row : NameRow) → is_live_name directory name (dies now row) ≡ false
+dies_so now directory name row = by (row.directory == directory) (bytes_eq row.name name) where
+  by : (a b : Bool) → (a && (b && false)) ≡ false
+  by true b = and_false b
+  by false b = refl
+
+module _ (now : ℕ) (names : List NameRow) (directory : ℕ) (name : List ℕ) where
+  abbrev p : NameRow → Bool
+  p = is_live_name directory name
+
+  abbrev after : List NameRow
+  after = update_first p (dies now) names
+
+  pub names_end : (files : List FileRow) → AreNames files now names → AreNames files now after
+  names_end files are = record {
+    each = all-update_first p (IsNameRow files now) (IsNameRow files now) (dies now) names (λ row h. record { there = h.there; born = h.born; dead = (h.born, omega arith) }) (λ row h. h) are.each;
+    lives = later-update_found p AreApart (dies now) names over (λ x y h. h) are.lives;
+  } where
+    over : (x y : NameRow) → p x ≡ true → AreApart x y → AreApart (dies now x) y
+    over x y live apart = λ d n. let dead = apart d n in let none = still_none directory name x live in absurd (let no : is_none x.death ≡ false = rw dead.1 refl in false≢true (sym no ∙ none))
+
+  pub tree_end : AllLater AreOthers names → AllLater AreOthers after
+  tree_end = later-update_first p AreOthers (dies now) names (λ x y h id live. absurd (false≢true (sym (and_false _) ∙ live))) (λ x y h id live. and_false _)
+
+  -- a name that wasn't live isn't
+  pub free_still : (other : ℕ) (new : List ℕ) → is_some (live_target names other new) ≡ false → is_some (live_target after other new) ≡ false
+  free_still other new free =
+      let none = all-update_first p (λ row. is_live_name other new row ≡ false) (λ row. is_live_name other new row ≡ false) (dies now) names (λ row h. dies_so now other new row) (λ row h. h) (no_live names other new free) in
+      rw (not_found (is_live_name other new) after none) refl

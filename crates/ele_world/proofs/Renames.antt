@@ -1,0 +1,147 @@
+-- After a rename the new path leads where the old one led, and the old one nowhere.
+use Rattle.std.proofs.Common.{◌≡◌, ℕ, Bool, true, false, ◌==◌, ◌&&◌, ◌||◌, List, [], ◌∷◌, ◌++◌, Option, Some, None, Ok, Err, refl, ap, sym, subst, ◌∙◌, arith, length, ◌-◌, take}
+use Rattle.std.specs.Prelude.{find, is_some}
+use Rattle.std.specs.Option.{option_map, option_map_or}
+use Rattle.std.specs.Str.{bytes_eq}
+use Rattle.std.proofs.lemmas.Bool.{false≢true}
+use Rattle.std.proofs.lemmas.Bool.Decides.{nat_tests}
+use Rattle.std.proofs.lemmas.List.Folds.{find-append}
+use Rattle.std.proofs.lemmas.Slice.Eq.{bytes_eq-Decides}
+use Rattle.ele_lists.specs.Lists.{update_first}
+use Rattle.ele_world.specs.Change.{after_change, MoveName}
+use Rattle.ele_world.specs.declared.event.Event.TheVariants.{Rename}
+use Rattle.ele_world.specs.declared.refusal.Refusal.TheVariants.{NoEntry}
+use Rattle.ele_world.specs.declared.reply.Reply.TheVariants.{Done}
+use Rattle.ele_world.specs.declared.rows.NameRow.{NameRow}
+use Rattle.ele_world.specs.declared.rows.Target.{Target}
+use Rattle.ele_world.specs.declared.rows.Target.TheVariants.{File, Directory}
+use Rattle.ele_world.specs.NameRows.{born_row, dies}
+use Rattle.ele_world.specs.RenameLeads.{LeadsInstead, RenameLeads}
+use Rattle.ele_world.specs.Step.{plan, step}
+use Rattle.ele_world.specs.Walk.{is_live_name, live_target, walk, walk_now, parent_now, comes_through, stands_in}
+use Rattle.ele_world.specs.WellFormed.{Names, IsWellFormed}
+use Rattle.ele_world.specs.World.{World, root}
+use Rattle.ele_world.proofs.NameEnds.{gone, other_stays, path_ends}
+use Rattle.ele_world.proofs.NameParts.{free_still}
+use Rattle.ele_world.proofs.Outcomes.{in_all}
+use Rattle.ele_world.proofs.Walks.{IsParent, last_is, live_target-push, named_leads, parent_is}
+
+-- ---- a walk that doesn't come to what is moved leads where it did
+
+module _ (rows : List NameRow) where
+  -- if it is a directory, the walk from there along the names doesn't come to it
+  abbrev Avoids : Target → Target → List (List ℕ) → Type 0
+  Avoids (File file) from names = Unit {0}
+  Avoids (Directory id) from names = comes_through rows id from names ≡ false
+
+  avoids_next : (moved : Target) (e : ℕ) (m : List ℕ) (names : List (List ℕ)) (next : Target) → live_target rows e m ≡ Some next → Avoids moved (Directory e) (m ∷ names) → Avoids moved next names
+  avoids_next (File file) e m names next edge avoids = tt
+  avoids_next (Directory id) e m names next edge avoids = by (e == id) (rw edge at avoids) where
+    by : (b : Bool) → (b || comes_through rows id next names) ≡ false → comes_through rows id next names ≡ false
+    by true h = absurd (false≢true (sym h))
+    by false h = h
+
+  -- what is moved doesn't avoid itself, where it leads to a directory
+  avoids_itself : (moved : Target) (names : List (List ℕ)) (d : ℕ) → walk rows moved names ≡ Ok (Directory d) → Avoids moved moved names → ⊥
+  avoids_itself (File file) [] d h avoids = cc
+  avoids_itself (File file) (m ∷ names) d h avoids = cc
+  avoids_itself (Directory id) [] d h avoids = let own : (id == id) ≡ true = grind (arith, nat_tests) in false≢true (sym avoids ∙ own)
+  avoids_itself (Directory id) (m ∷ names) d h avoids =
+      let own : (id == id) ≡ true = grind (arith, nat_tests) in
+      false≢true (sym avoids ∙ rw own refl)
+
+  module _ (at : ℕ × List ℕ) (moved : Target) (now : ℕ) (stands : live_target rows at.0 at.1 ≡ Some moved) where
+    abbrev left : List NameRow
+    left = update_first (is_live_name at.0 at.1) (dies now) rows
+
+    leads_still : (d : ℕ) (from : Target) (names : List (List ℕ)) → Avoids moved from names → walk rows from names ≡ Ok (Directory d) → walk left from names ≡ Ok (Directory d)
+    leads_still d from [] avoids h = h
+    leads_still d (File file) (m ∷ names) avoids h = absurd cc
+    leads_still d (Directory e) (m ∷ names) avoids h = onward (λ next. leads_still d next names) (live_target rows e m) refl h where
+      onward : ((next : Target) → Avoids moved next names → walk rows next names ≡ Ok (Directory d) → walk left next names ≡ Ok (Directory d)) → (o : Option Target) → live_target rows e m ≡ o → option_map_or (λ target. walk rows target names) o (Err NoEntry) ≡ Ok (Directory d) → walk left (Directory e) (m ∷ names) ≡ Ok (Directory d)
+      onward more None edge h = absurd cc
+      onward more (Some next) edge h = by ((at.0 == e) && bytes_eq at.1 m) refl where
+        beyond : Avoids moved next names
+        beyond = avoids_next moved e m names next edge avoids
+
+        by : (b : Bool) → ((at.0 == e) && bytes_eq at.1 m) ≡ b → walk left (Directory e) (m ∷ names) ≡ Ok (Directory d)
+        by false not = rw (other_stays rows at.0 at.1 now e m not ∙ edge) (more next beyond h)
+        by true is =
+            let same_directory : at.0 ≡ e = grind (arith, nat_tests) in
+            let same_name : at.1 ≡ m = (bytes_eq-Decides at.1 m).0 (grind (arith, nat_tests)) in
+            let stands' : live_target rows e m ≡ Some moved = subst (λ i. live_target rows i m ≡ Some moved) same_directory (subst (λ l. live_target rows at.0 l ≡ Some moved) same_name stands) in
+            let same : moved ≡ next = (let one : Some moved ≡ Some next = sym stands' ∙ edge in cc) in
+            absurd (avoids_itself moved names d (rw same h) (subst (λ t. Avoids moved t names) (sym same) beyond))
+
+-- ---- the law
+
+module _ (w : World) (from to : List (List ℕ)) (k : IsWellFormed w) (old : ℕ × List ℕ) (found : parent_now w.names from ≡ Ok old) (moved : Target) (leads : walk_now w.names from ≡ Ok moved) (at : ℕ × List ℕ) (home : parent_now w.names to ≡ Ok at) (apart : stands_in w.names moved to ≡ false) (free : is_some (live_target w.names at.0 at.1) ≡ false) where
+  abbrev remaining : List NameRow
+  remaining = update_first (is_live_name old.0 old.1) (dies w.now) w.names
+
+  abbrev named : NameRow
+  named = born_row at.0 at.1 moved w.now
+
+  stands : live_target w.names old.0 old.1 ≡ Some moved
+  stands = last_is w.names from old moved found leads
+
+  parent : IsParent w.names to at
+  parent = parent_is w.names to at home
+
+  avoids : Avoids w.names moved (Directory root) parent.front
+  avoids = rw parent.taken (by moved apart) where
+    by : (t : Target) → stands_in w.names t to ≡ false → Avoids w.names t (Directory root) (take (length to - 1) to)
+    by (File file) h = tt
+    by (Directory id) h = h
+
+  parent_still : IsParent remaining to at
+  parent_still = record { front = parent.front; taken = parent.taken; whole = parent.whole; leads = leads_still w.names old moved w.now stands at.0 (Directory root) parent.front avoids parent.leads }
+
+  -- the new name isn't the old one
+  nowhere : live_target (remaining ++ named ∷ []) old.0 old.1 ≡ None
+  nowhere =
+      let is : find (is_live_name old.0 old.1) (remaining ++ named ∷ []) ≡ None = find-append (is_live_name old.0 old.1) remaining (named ∷ []) ∙ rw (none, other) refl in
+      rw is refl where
+    none : find (is_live_name old.0 old.1) remaining ≡ None
+    none = by (find (is_live_name old.0 old.1) remaining) (gone w.names old.0 old.1 w.now (k.holds Names).lives) where
+      by : (o : Option NameRow) → option_map (λ (row : NameRow). row.target) o ≡ None → o ≡ None
+      by None h = refl
+      by (Some row) h = absurd cc
+
+    other : is_live_name old.0 old.1 named ≡ false
+    other = by (is_live_name old.0 old.1 named) refl where
+      by : (b : Bool) → is_live_name old.0 old.1 named ≡ b → b ≡ false
+      by false is = refl
+      by true is =
+          let same_directory : at.0 ≡ old.0 = grind (arith, nat_tests) in
+          let same_name : at.1 ≡ old.1 = (bytes_eq-Decides at.1 old.1).0 (grind (arith, nat_tests)) in
+          let free' = rw (same_directory, same_name, stands) at free in
+          absurd (false≢true (sym free'))
+
+  leads_instead : LeadsInstead w from to (after_change w (MoveName old.0 old.1 at.0 at.1 moved))
+  leads_instead = record {
+    leads = named_leads remaining to at moved w.now parent_still (free_still w.now w.names old.0 old.1 at.0 at.1 free) ∙ sym leads;
+    gone = path_ends w.names (remaining ++ named ∷ []) old nowhere (λ e m target not edge. live_target-push remaining named e m target (other_stays w.names old.0 old.1 w.now e m not ∙ edge)) from found;
+    versions = refl;
+  }
+
+pub rename_leads : RenameLeads
+rename_leads w from to k = in_all w (λ answer. answer.0 ≡ Done → LeadsInstead w from to (answer.1)) (plan w (Rename from to)) (
+  λ refusal e. absurd cc,
+  λ old found. (
+    λ refusal e. absurd cc,
+    λ moved leads. (
+      λ refusal e. absurd cc,
+      λ at home. (
+        λ e. absurd cc,
+        λ apart. (
+          λ e. absurd cc,
+          λ free. (
+            λ e. absurd cc,
+            λ names e. leads_instead w from to k old found moved leads at home apart free,
+          ),
+        ),
+      ),
+    ),
+  ),
+)

@@ -1,0 +1,5 @@
+use Rattle.ele_world.proofs.Links.{link_leads}
+use Rattle.ele_world.proofs.laws.link_leads.Goals as goal
+
+pub returns : goal.returns
+returns c = λ w from to k. link_leads w from to k

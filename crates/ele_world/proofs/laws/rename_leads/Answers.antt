@@ -1,0 +1,5 @@
+use Rattle.ele_world.proofs.Renames.{rename_leads}
+use Rattle.ele_world.proofs.laws.rename_leads.Goals as goal
+
+pub returns : goal.returns
+returns c = λ w from to k. rename_leads w from to k
