@@ -1,7 +1,7 @@
 -- Each change that may be made keeps a world well formed, and so do all changes of a plan.
 use Rattle.std.proofs.Common.{◌≡◌, ℕ, true, false, List, [], ◌∷◌, Some, None, Ok, Err, refl, is_none}
 use Rattle.std.specs.Prelude.{find}
-use Rattle.ele_world.specs.Change.{Change, Time, Govern, MakeDirectory, EndName, MakeFile, Append, Take, StartDraft, WriteDraft, TruncateDraft, EndDraft, OpenHandle, ShutHandle, after_change, after_changes}
+use Rattle.ele_world.specs.Change.{Change, Time, Govern, MakeDirectory, EndName, AddName, MoveName, EndFileName, DropIdle, Revive, MakeFile, Append, Take, StartDraft, WriteDraft, TruncateDraft, EndDraft, OpenHandle, ShutHandle, after_change, after_changes}
 use Rattle.ele_world.specs.Plan.{Plan, Tell, Make, Unless, When, Need, IfFound, outcome}
 use Rattle.ele_world.specs.Run.{IsEvent}
 use Rattle.ele_world.specs.WellFormed.{IsWellFormed}
@@ -11,6 +11,7 @@ use Rattle.ele_world.specs.declared.rows.VersionRow.{VersionRow}
 use Rattle.ele_world.proofs.KeptDrafts.{start_keeps, write_keeps, truncate_keeps, end_keeps, open_keeps, shut_keeps}
 use Rattle.ele_world.proofs.KeptDirectories.{make_directory_keeps, end_name_keeps}
 use Rattle.ele_world.proofs.KeptNames.{time_keeps, govern_keeps, make_keeps}
+use Rattle.ele_world.proofs.KeptRevived.{revive_keeps}
 use Rattle.ele_world.proofs.KeptVersions.{append_keeps, take_keeps}
 use Rattle.ele_world.proofs.May.{MayTake, May, MayAll, MayPlan}
 
@@ -25,6 +26,15 @@ change_keeps event first w (Time to) is may k = time_keeps w to (may.1 is) may.0
 change_keeps event first w (Govern directory policy) is may k = govern_keeps w directory policy (may is) k
 change_keeps event first w (MakeDirectory directory name id policy) is may k = make_directory_keeps w directory name id policy may k
 change_keeps event first w (EndName directory name) is may k = end_name_keeps w directory name may k
+-- TEMPORARY
+change_keeps event first w (AddName directory name target) is may k = ?
+-- TEMPORARY
+change_keeps event first w (MoveName from old to new target) is may k = ?
+-- TEMPORARY
+change_keeps event first w (EndFileName directory name file) is may k = ?
+-- TEMPORARY
+change_keeps event first w (DropIdle file) is may k = ?
+change_keeps event first w (Revive directory name file) is may k = revive_keeps w directory name file may k
 change_keeps event first w (MakeFile directory name id policy) is may k = make_keeps w directory name id policy may k
 change_keeps event first w (Append file opened cells) is may k = append_keeps w file opened cells may k
 change_keeps event first w (Take file number) is may k = take_keeps w file number (taken_ended event first w file number may) k
@@ -57,5 +67,5 @@ reached event w (When true passing otherwise) may = reached event w passing (may
 reached event w (When false passing otherwise) may = reached event w otherwise (may.1 refl)
 reached event w (Need (Err refusal) next) may = left event w
 reached event w (Need (Ok x) next) may = reached event w (next x) (may x refl)
-reached event w (IfFound None otherwise next) may = reached event w otherwise may.0
+reached event w (IfFound None otherwise next) may = reached event w otherwise (may.0 refl)
 reached event w (IfFound (Some x) otherwise next) may = reached event w (next x) (may.1 x refl)

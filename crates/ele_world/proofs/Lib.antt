@@ -15,6 +15,8 @@ pub mod KeptNames
 pub mod KeptDirectories
 pub mod KeptDrafts
 pub mod KeptVersions
+pub mod Lost
+pub mod KeptRevived
 pub mod Keeps
 pub mod Views
 pub mod RipeMoments
@@ -28,10 +30,12 @@ pub mod StepKeeps
 pub mod Moves
 pub mod Stays
 pub mod Refused
+pub mod Returned
 pub mod Cleans
 pub mod CleanKeepsKeys
 pub mod Passes
 pub mod DueKeys
+pub mod Newest
 pub mod SlotPlaces
 pub mod SumRows
 pub mod Splits

@@ -6,7 +6,7 @@ use Rattle.std.proofs.lemmas.Bool.Decides.{nat_tests}
 use Rattle.ele_content.specs.declared.cell.Cell.{Cell}
 use Rattle.ele_lists.specs.Lists.{update_first, remove_first}
 use Rattle.ele_lists.proofs.Edits.{all-weaker, not_found, find-insert_before, find-remove_first}
-use Rattle.ele_world.specs.Change.{Change, MakeFile, Append, Take, after_change, ended_at, next_version, with_end, with_file, with_name, with_version}
+use Rattle.ele_world.specs.Change.{Change, EndFileName, DropIdle, Revive, MakeFile, Append, Take, after_change, current_cells, ended_at, next_version, with_end, with_file, with_name, with_version}
 use Rattle.ele_world.specs.WellFormed.{AllLater, ArePlaced}
 use Rattle.ele_world.specs.World.{World, next_of, is_version, is_version_after}
 use Rattle.ele_world.specs.declared.event.Event.{Event}
@@ -27,7 +27,10 @@ change_past event first w (MakeFile directory name id policy) file number may is
     let new : FileRow = record { id = id; policy = policy; next = 1 } in
     let same = next_of-push w.files new file (omega (arith, is.past)) in
     record { given = omega (arith, is.given, may.next); past = omega (arith, is.past, same, next_of-numbered_le (w.files ++ new ∷ []) id file) }
+change_past event first w (Revive directory name of) file number may is = record { given = is.given; past = omega (arith, is.past, next_of-numbered_le w.files of file) }
 change_past event first w (Append of opened cells) file number may is = record { given = is.given; past = omega (arith, is.past, next_of-numbered_le w.files of file) }
+-- TEMPORARY
+change_past event first w (DropIdle of) file number may is = ?
 change_past event first w change file number may is = record { given = is.given; past = is.past }
 
 -- ---- the row
@@ -75,13 +78,19 @@ module _ (event : Event) (first : World) (file number : ℕ) where
   appends : (w : World) (of opened : ℕ) (cells : List Cell) → is_version file number (next_version w of opened cells) ≡ false → MovesTo w (with_version w of opened cells).versions
   appends w of opened cells other = subst (λ o. Moves event first file number (row_of w file number) o) (sym (find-insert_before (is_version_after of (next_of w.files of)) (is_version file number) (next_version w of opened cells) (with_end w of) other)) (ends w of)
 
+  -- which a number that was given isn't
+  not_next : (w : World) (of opened : ℕ) (cells : List Cell) → number < next_of w.files file → is_version file number (next_version w of opened cells) ≡ false
+  not_next w of opened cells past = by (eqb of file) refl where
+    by : (b : Bool) → eqb of file ≡ b → is_version file number (next_version w of opened cells) ≡ false
+    by true e = let same : of ≡ file = grind (arith, nat_tests) in let before : number < next_of w.files of = subst (λ f. number < next_of w.files f) (sym same) past in grind (arith, nat_tests)
+    by false e = rw e refl
+
   pub change_moves : (w : World) (change : Change) → AllLater ArePlaced first.versions → May event first w change → IsPast w file number → MovesTo w (after_change w change).versions
   change_moves w (MakeFile directory name id policy) placed may is =
       appends (with_name (with_file w id policy) directory name (File id)) id w.now [] (let given = is.given in let next = may.next in grind (arith, nat_tests))
-  change_moves w (Append of opened cells) placed may is = appends w of opened cells (by (eqb of file) refl) where
-    by : (b : Bool) → eqb of file ≡ b → is_version file number (next_version w of opened cells) ≡ false
-    by true e = let same : of ≡ file = grind (arith, nat_tests) in let past : number < next_of w.files of = subst (λ f. number < next_of w.files f) (sym same) is.past in grind (arith, nat_tests)
-    by false e = rw e refl
+  change_moves w (Revive directory name of) placed may is =
+      appends (with_name w directory name (File of)) of w.now (current_cells w of) (not_next (with_name w directory name (File of)) of w.now (current_cells w of) is.past)
+  change_moves w (Append of opened cells) placed may is = appends w of opened cells (not_next w of opened cells is.past)
   change_moves w (Take of taken) placed may is = by (eqb of file) (eqb taken number) refl refl where
     gone : find (is_version of taken) (remove_first (is_version of taken) w.versions) ≡ None
     gone = removed_gone of taken w.versions (subst (λ rows. AllLater ArePlaced rows) (sym may.same) placed)
@@ -94,4 +103,8 @@ module _ (event : Event) (first : World) (file number : ℕ) where
         (subst (λ n. Moves event first of n (row_of w of n) (find (is_version of n) (remove_first (is_version of taken) w.versions))) number_is (Taken w may gone))
     by true false e f = Same (find-remove_first (is_version of taken) (is_version file number) w.versions (λ x passes. grind (arith, nat_tests)))
     by false c e f = Same (find-remove_first (is_version of taken) (is_version file number) w.versions (λ x passes. grind (arith, nat_tests)))
+  -- TEMPORARY
+  change_moves w (EndFileName directory name of) placed may is = ?
+  -- TEMPORARY
+  change_moves w (DropIdle of) placed may is = ?
   change_moves w change placed may is = Same refl

@@ -6,7 +6,7 @@ use Rattle.ele_world.specs.Plan.{Plan, Tell, Make, Unless, When, Need, IfFound, 
 use Rattle.ele_world.specs.Step.{plan, step}
 use Rattle.ele_world.specs.World.{World}
 use Rattle.ele_world.specs.declared.event.Event.{Event}
-use Rattle.ele_world.specs.declared.event.Event.TheVariants.{Clock, Tick, MakeDir, RemoveDir, Create, OpenWrite, Write, Truncate, Close, SetDefault, CleanOne, Read, Due, UsageAll}
+use Rattle.ele_world.specs.declared.event.Event.TheVariants.{Clock, Tick, MakeDir, RemoveDir, Create, Link, Unlink, Rename, Undelete, OpenWrite, Write, Truncate, Close, SetDefault, CleanOne, Read, Restorable, Due, UsageAll}
 use Rattle.ele_world.specs.declared.event.Source.TheVariants.{Of}
 use Rattle.ele_world.specs.declared.refusal.Refusal.{Refusal}
 use Rattle.ele_world.specs.declared.reply.Reply.{Reply}
@@ -31,6 +31,13 @@ fair w (Tick seconds) = (refl, refl)
 fair w (MakeDir path) = λ at. (refl, refl)
 fair w (RemoveDir path) = λ at directory. (refl, refl)
 fair w (Create path) = λ at. (refl, refl)
+-- TEMPORARY
+fair w (Link from to) = ?
+-- TEMPORARY
+fair w (Unlink path) = ?
+-- TEMPORARY
+fair w (Rename from to) = ?
+fair w (Undelete path) = λ at lost. ((refl, refl), λ file. (refl, refl))
 fair w (OpenWrite path) = λ file. ((refl, refl), (refl, refl))
 fair w (Write handle offset bytes) = λ file. (tt, (refl, refl))
 fair w (Truncate handle size) = λ file. (refl, refl)
@@ -38,6 +45,7 @@ fair w (Close handle) = λ file. ((refl, refl), ((refl, refl), λ draft. ((refl,
 fair w (SetDefault path policy) = λ directory. (refl, refl)
 fair w CleanOne = (tt, λ key. (refl, refl))
 fair w (Read (Of handle)) = λ file. tt
+fair w Restorable = tt
 fair w Due = tt
 fair w UsageAll = tt
 
