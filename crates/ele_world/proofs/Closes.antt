@@ -26,7 +26,7 @@ find-insert p t y (x ∷ xs) own none = elim (p x) as (λ b. find t (cond b (y �
 ]
 
 -- no version has the file's next number
-none_next : (files : List FileRow) (now file : ℕ) (row : VersionRow) → IsVersion files now row → is_version file (next_of files file) row ≡ false
+pub none_next : (files : List FileRow) (now file : ℕ) (row : VersionRow) → IsVersion files now row → is_version file (next_of files file) row ≡ false
 none_next files now file row h = by (eqb row.file file) refl where
   by : (b : Bool) → eqb row.file file ≡ b → is_version file (next_of files file) row ≡ false
   by true e =
