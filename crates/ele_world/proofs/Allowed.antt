@@ -23,6 +23,7 @@ use Rattle.ele_world.specs.declared.rows.DirectoryRow.{DirectoryRow}
 use Rattle.ele_world.specs.declared.rows.DraftRow.{DraftRow}
 use Rattle.ele_world.proofs.DueRows.{first_is_due, due_has_ended}
 use Rattle.ele_world.proofs.Homes.{parent_home}
+use Rattle.ele_world.proofs.Lost.{may_add, may_revive}
 use Rattle.ele_world.proofs.May.{MayName, MayEnd, MayAppend, MayTake, MayPlan}
 use Rattle.ele_world.proofs.Walks.{file_there, last_leads, file_live, file_of, last_is}
 use Rattle.ele_world.specs.declared.rows.Target.TheVariants.{File}
@@ -58,7 +59,7 @@ finishes w handle file draft k found =
     }
 
 -- a path's last name isn't live, and may be made
-may_name : (w : World) (path : List (List ℕ)) (at : ℕ × List ℕ) → IsWellFormed w → parent_now w.names path ≡ Ok at → is_some (live_target w.names at.0 at.1) ≡ false → nat_le w.limits.names w.made.names ≡ false → MayName w at.0 at.1
+pub may_name : (w : World) (path : List (List ℕ)) (at : ℕ × List ℕ) → IsWellFormed w → parent_now w.names path ≡ Ok at → is_some (live_target w.names at.0 at.1) ≡ false → nat_le w.limits.names w.made.names ≡ false → MayName w at.0 at.1
 may_name w path at k found free names =
     let home = parent_home w path at k found in
     record { room = grind (arith, nat_tests); free = free; home = home.0; reached = home.1 }
@@ -85,8 +86,10 @@ allowed w (Link from to) k = λ file leads at found free names.
 allowed w (Unlink path) k = λ at found file leads. (last_is w.names path at (File file) found (file_of (walk_now w.names path) file leads), tt)
 allowed w (Rename from to) k = λ old found moved leads at home apart free names.
     (record { stands = last_is w.names from old moved found leads; named = may_name w to at k home free names }, tt)
--- TEMPORARY
-allowed w (Undelete path) k = ?
+allowed w (Undelete path) k = λ at found free lost last returns. (
+  λ live names. (may_add w at lost k (may_name w path at k found free names) last live returns, tt),
+  λ file nameless drafts names versions. (may_revive w at lost file (may_name w path at k found free names) nameless returns (grind (arith, nat_tests)), tt),
+)
 allowed w (OpenWrite path) k = λ file found handles. (
   λ has. (record { next = refl; room = grind (arith, nat_tests); drafted = has }, tt),
   λ none versions. (
@@ -99,12 +102,12 @@ allowed w (Truncate handle size) k = λ file found fits. (grind (arith, nat_test
 allowed w (Close handle) k = λ file found. (
   λ other. (tt, tt),
   λ last. (
-    (tt, tt),
+    λ none. (tt, tt),
     λ draft drafted. (λ changed. (tt, (last, (finishes w handle file draft k drafted, tt))), λ same. (tt, (last, (tt, tt)))),
   ),
 )
 allowed w (SetDefault path policy) k = λ directory found. (λ is. is, tt)
-allowed w CleanOne k = (tt, λ key first. (takes w key k first, (tt, tt)))
+allowed w CleanOne k = (λ none. tt, λ key first. (takes w key k first, (tt, tt)))
 allowed w (Read (Of handle)) k = λ reads found. tt
 allowed w Restorable k = tt
 allowed w Due k = tt

@@ -26,7 +26,7 @@ find-insert p t y (x ∷ xs) own none = elim (p x) as (λ b. find t (cond b (y �
 ]
 
 -- no version has the file's next number
-none_next : (files : List FileRow) (now file : ℕ) (row : VersionRow) → IsVersion files now row → is_version file (next_of files file) row ≡ false
+pub none_next : (files : List FileRow) (now file : ℕ) (row : VersionRow) → IsVersion files now row → is_version file (next_of files file) row ≡ false
 none_next files now file row h = by (eqb row.file file) refl where
   by : (b : Bool) → eqb row.file file ≡ b → is_version file (next_of files file) row ≡ false
   by true e =
@@ -35,13 +35,13 @@ none_next files now file row h = by (eqb row.file file) refl where
       grind (arith, nat_tests)
   by false e = grind (arith, nat_tests)
 
-module _ (w : World) (file : ℕ) (k : IsWellFormed w) where
-  new_found : (opened : ℕ) (cells : _) → find (is_version file (next_of w.files file)) (with_version w file opened cells).versions ≡ Some (next_version w file opened cells)
+module _ (w : World) (file : ℕ) (each : AllByRecursion (IsVersion w.files w.now) w.versions) where
+  pub new_found : (opened : ℕ) (cells : _) → find (is_version file (next_of w.files file)) (with_version w file opened cells).versions ≡ Some (next_version w file opened cells)
   new_found opened cells =
       find-insert (is_version_after file (next_of w.files file)) (is_version file (next_of w.files file)) (next_version w file opened cells) (with_end w file)
       (grind (arith, nat_tests))
       (all-update_first (is_version file (next_of w.files file - 1)) (IsVersion w.files w.now) (λ row. is_version file (next_of w.files file) row ≡ false) (ended_at w.now) w.versions
-      (λ row h. none_next w.files w.now file row h) (λ row h. none_next w.files w.now file row h) (k.holds Versions).each)
+      (λ row h. none_next w.files w.now file row h) (λ row h. none_next w.files w.now file row h) each)
 
 pub close_keeps : (w : World) (handle number : ℕ) → IsWellFormed w → (step w (Close handle)).0 ≡ reply.Closed (Some number) → KeepsDraft w handle number ((step w (Close handle)).1)
 close_keeps w handle number k = in_all w (λ answer. answer.0 ≡ reply.Closed (Some number) → KeepsDraft w handle number (answer.1)) (plan w (Close handle)) (
@@ -59,7 +59,7 @@ close_keeps w handle number k = in_all w (λ answer. answer.0 ≡ reply.Closed (
               written = writes;
               drafted = found;
               kept = subst (λ n. option_map (λ (row : VersionRow). row.cells) (find (is_version file n) (with_version w file draft.opened draft.cells).versions) ≡ Some draft.cells) same
-                  (ap (option_map (λ (row : VersionRow). row.cells)) (new_found w file k draft.opened draft.cells));
+                  (ap (option_map (λ (row : VersionRow). row.cells)) (new_found w file (k.holds Versions).each draft.opened draft.cells));
             },
         λ stays e. absurd cc,
       ),

@@ -2,7 +2,7 @@
 use Rattle.std.proofs.Common.{◌≡◌, ◌≢◌, ℕ, ◌+◌, ◌<◌, ◌≤◌, true, false, cond, List, [], ◌∷◌, ◌++◌, Some, refl, arith}
 use Rattle.std.specs.Prelude.{find}
 use Rattle.std.specs.List.{AllByRecursion}
-use Rattle.std.specs.Option.{option_map_or}
+use Rattle.std.specs.Option.{option_map, option_map_or}
 use Rattle.std.proofs.lemmas.Bool.Decides.{nat_tests}
 use Rattle.ele_world.specs.declared.rows.FileRow.{FileRow}
 use Rattle.ele_world.specs.declared.rows.Target.{Target}
@@ -10,7 +10,7 @@ use Rattle.ele_world.specs.declared.rows.Target.TheVariants.{File, Directory}
 use Rattle.ele_lists.specs.Lists.{update_first}
 use Rattle.ele_world.specs.Change.{numbered_on}
 use Rattle.ele_world.specs.WellFormed.{IsFile, IsThere}
-use Rattle.ele_world.specs.World.{is_file, next_of}
+use Rattle.ele_world.specs.World.{is_file, next_of, policy_of}
 
 -- a file that is there keeps its number when rows are added behind
 pub next_of-push : (files : List FileRow) (row : FileRow) (file : ℕ) → 0 < next_of files file → next_of (files ++ row ∷ []) file ≡ next_of files file
@@ -74,6 +74,20 @@ next_of-numbered_le (x ∷ xs) file other = elim (is_file file x) as (λ b. next
   | false ↦ elim (is_file other x) as (λ b. option_map_or (λ (row : FileRow). row.next) (cond b (Some x) (find (is_file other) xs)) 0 ≤ option_map_or (λ (row : FileRow). row.next) (cond b (Some x) (find (is_file other) (update_first (is_file file) numbered_on xs))) 0) [
     | true ↦ omega arith
     | false ↦ next_of-numbered_le xs file other
+  ]
+]
+
+-- each file keeps its policy
+pub policies-numbered : (files : List FileRow) (file id : ℕ) → policy_of (update_first (is_file file) numbered_on files) id ≡ policy_of files id
+policies-numbered [] file id = refl
+policies-numbered (x ∷ xs) file id = elim (is_file file x) as (λ b. policy_of (cond b (numbered_on x ∷ xs) (x ∷ update_first (is_file file) numbered_on xs)) id ≡ policy_of (x ∷ xs) id) [
+  | true ↦ elim (is_file id x) as (λ b. option_map (λ (row : FileRow). row.policy) (cond b (Some (numbered_on x)) (find (is_file id) xs)) ≡ option_map (λ (row : FileRow). row.policy) (cond b (Some x) (find (is_file id) xs))) [
+    | true ↦ refl
+    | false ↦ refl
+  ]
+  | false ↦ elim (is_file id x) as (λ b. option_map (λ (row : FileRow). row.policy) (cond b (Some x) (find (is_file id) (update_first (is_file file) numbered_on xs))) ≡ option_map (λ (row : FileRow). row.policy) (cond b (Some x) (find (is_file id) xs))) [
+    | true ↦ refl
+    | false ↦ policies-numbered xs file id
   ]
 ]
 

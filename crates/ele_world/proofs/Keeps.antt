@@ -12,6 +12,7 @@ use Rattle.ele_world.proofs.KeptDrafts.{start_keeps, write_keeps, truncate_keeps
 use Rattle.ele_world.proofs.KeptDirectories.{make_directory_keeps, end_name_keeps}
 use Rattle.ele_world.proofs.KeptNames.{time_keeps, govern_keeps, make_keeps}
 use Rattle.ele_world.proofs.KeptDrops.{drop_keeps}
+use Rattle.ele_world.proofs.KeptRevived.{revive_keeps}
 use Rattle.ele_world.proofs.KeptVersions.{append_keeps, take_keeps}
 use Rattle.ele_world.proofs.May.{MayTake, May, MayAll, MayPlan}
 use Rattle.ele_world.proofs.KeptLinks.{add_name_keeps, end_file_name_keeps}
@@ -31,8 +32,7 @@ change_keeps event first w (EndName directory name) is may k = end_name_keeps w 
 change_keeps event first w (AddName directory name target) is may k = add_name_keeps w directory name target may k
 change_keeps event first w (MoveName from old to new target) is may k = move_name_keeps w from old to new target may k
 change_keeps event first w (EndFileName directory name file) is may k = end_file_name_keeps w directory name file may k
--- TEMPORARY
-change_keeps event first w (Revive directory name file) is may k = ?
+change_keeps event first w (Revive directory name file) is may k = revive_keeps w directory name file may k
 change_keeps event first w (MakeFile directory name id policy) is may k = make_keeps w directory name id policy may k
 change_keeps event first w (Append file opened cells) is may k = append_keeps w file opened cells may k
 change_keeps event first w (Take file number) is may k = take_keeps w file number (taken_ended event first w file number may) k
@@ -66,5 +66,5 @@ reached event w (When true passing otherwise) may = reached event w passing (may
 reached event w (When false passing otherwise) may = reached event w otherwise (may.1 refl)
 reached event w (Need (Err refusal) next) may = left event w
 reached event w (Need (Ok x) next) may = reached event w (next x) (may x refl)
-reached event w (IfFound None otherwise next) may = reached event w otherwise may.0
+reached event w (IfFound None otherwise next) may = reached event w otherwise (may.0 refl)
 reached event w (IfFound (Some x) otherwise next) may = reached event w (next x) (may.1 x refl)

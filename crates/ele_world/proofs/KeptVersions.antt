@@ -66,6 +66,15 @@ numbered_in files now file row h same = subst (λ f. row.number < next_of files 
 
 -- ---- the file's next version
 
+-- each part holds, but that the file itself may be live without a current version
+abbrev pub HoldsBeside : ℕ → World → Part → Type 0
+HoldsBeside file w Current = (other : ℕ) → other ≢ file → is_live w other ≡ true → list_any (is_current other (next_of w.files other)) w.versions ≡ true
+HoldsBeside file w part = Holds w part
+
+beside : (file : ℕ) (w : World) → IsWellFormed w → (part : Part) → HoldsBeside file w part
+beside file w k Current = λ other apart live. k.holds Current other live
+beside file w k part = k.holds part
+
 after_both : (file number : ℕ) (x z : VersionRow) → is_version_after file number x ≡ true → ArePlaced x z → is_version_after file number z ≡ true
 after_both file number x z e placed = let after = placed.after in grind (arith, nat_tests)
 
@@ -113,7 +122,7 @@ module _ (w : World) (file opened : ℕ) (cells : List Cell) (may : MayAppend w 
     by false = (omega arith, omega arith)
 
   -- each live file has its current version: the file its new one, and each other what it had
-  current_after : HaveCurrent w → HaveCurrent (with_version w file opened cells)
+  current_after : HoldsBeside file w Current → HaveCurrent (with_version w file opened cells)
   current_after current other live = by (eqb file other) refl where
     by : (b : Bool) → eqb file other ≡ b → list_any (is_current other (next_of files other)) (with_version w file opened cells).versions ≡ true
     by true e =
@@ -128,7 +137,7 @@ module _ (w : World) (file opened : ℕ) (cells : List Cell) (may : MayAppend w 
         let t = is_current other (next_of w.files other) in
         let fails : t new ≡ false = rw e refl in
         let same = current_ended file other (next_of w.files file - 1) (next_of w.files other) w.now w.versions e in
-        rw (next, list_any-insert_before (is_version_after file (next_of w.files file)) t new (with_end w file), fails, same) (current other live)
+        rw (next, list_any-insert_before (is_version_after file (next_of w.files file)) t new (with_end w file), fails, same) (current other apart live)
 
   abbrev next : ℕ
   next = next_of w.files file
@@ -136,16 +145,16 @@ module _ (w : World) (file opened : ℕ) (cells : List Cell) (may : MayAppend w 
   abbrev p : VersionRow → Bool
   p = is_version file (next - 1)
 
-  pub append_keeps : IsWellFormed w → IsWellFormed (with_version w file opened cells)
-  append_keeps k = record { holds = by } where
+  pub append_completes : ((part : Part) → HoldsBeside file w part) → IsWellFormed (with_version w file opened cells)
+  append_completes holds = record { holds = by } where
     ended : AreVersions w.files w.now (with_end w file)
-    ended = versions_ended w.files w.now p w.versions (k.holds Versions)
+    ended = versions_ended w.files w.now p w.versions (holds Versions)
 
     old : AllByRecursion (IsOld w.files w.now file) (with_end w file)
-    old = all-both _ _ (with_end w file) (file_ended w.files w.now file w.versions (k.holds Versions).placed (k.holds Versions).each) ended.each
+    old = all-both _ _ (with_end w file) (file_ended w.files w.now file w.versions (holds Versions).placed (holds Versions).each) ended.each
 
     by : (part : Part) → Holds (with_version w file opened cells) part
-    by Counted = let c = k.holds Counted in record {
+    by Counted = let c = holds Counted in record {
       files_made = c.files_made;
       names_made = c.names_made;
       versions_made = omega (arith, may.room);
@@ -157,12 +166,12 @@ module _ (w : World) (file opened : ℕ) (cells : List Cell) (may : MayAppend w 
     by Files = record {
       each = all-update_first (is_file file) (IsFile w.made.files w.made.versions) (IsFile w.made.files (w.made.versions + 1)) numbered_on w.files
           (λ row h. record { numbered = h.numbered; given = h.given; first = omega (arith, h.first); next = omega (arith, h.next); policy = h.policy })
-          (λ row h. record { numbered = h.numbered; given = h.given; first = h.first; next = omega (arith, h.next); policy = h.policy }) (k.holds Files).each;
-      placed = later-update_first (is_file file) (λ earlier later. earlier.id < later.id) numbered_on w.files (λ x y h. h) (λ x y h. h) (k.holds Files).placed;
+          (λ row h. record { numbered = h.numbered; given = h.given; first = h.first; next = omega (arith, h.next); policy = h.policy }) (holds Files).each;
+      placed = later-update_first (is_file file) (λ earlier later. earlier.id < later.id) numbered_on w.files (λ x y h. h) (λ x y h. h) (holds Files).placed;
     }
     by Names = record {
-      each = all-weaker (IsNameRow w.files w.now) (IsNameRow files w.now) w.names (λ row h. record { there = there-numbered_on w.files file row.target h.there; born = h.born; dead = h.dead }) (k.holds Names).each;
-      lives = (k.holds Names).lives;
+      each = all-weaker (IsNameRow w.files w.now) (IsNameRow files w.now) w.names (λ row h. record { there = there-numbered_on w.files file row.target h.there; born = h.born; dead = h.dead }) (holds Names).each;
+      lives = (holds Names).lives;
     }
     by Versions = record {
       each = all-insert_before (is_version_after file next) (IsVersion files w.now) new (with_end w file) new_is
@@ -172,11 +181,14 @@ module _ (w : World) (file opened : ℕ) (cells : List Cell) (may : MayAppend w 
     }
     by Drafts = record {
       each = all-weaker (IsDraft w.files w.now) (IsDraft files w.now) w.drafts
-          (λ row h. let le = next_of-numbered_le w.files file row.file in record { there = omega (arith, h.there, le); opened = h.opened; content = h.content; written = written_more (next_of w.files row.file) (next_of files row.file) row.cells le h.written }) (k.holds Drafts).each;
-      placed = (k.holds Drafts).placed;
+          (λ row h. let le = next_of-numbered_le w.files file row.file in record { there = omega (arith, h.there, le); opened = h.opened; content = h.content; written = written_more (next_of w.files row.file) (next_of files row.file) row.cells le h.written }) (holds Drafts).each;
+      placed = (holds Drafts).placed;
     }
-    by Current = current_after (k.holds Current)
-    by part = k.holds part
+    by Current = current_after (holds Current)
+    by part = holds part
+
+  pub append_keeps : IsWellFormed w → IsWellFormed (with_version w file opened cells)
+  append_keeps k = append_completes (beside file w k)
 
 -- ---- a version that has ended goes
 

@@ -22,6 +22,8 @@ pub mod KeptDrafts
 pub mod KeptVersions
 pub mod KeptLinks
 pub mod KeptMoves
+pub mod Lost
+pub mod KeptRevived
 pub mod Keeps
 pub mod Views
 pub mod RipeMoments
@@ -31,15 +33,18 @@ pub mod DueRows
 pub mod RipeAt
 pub mod Plain
 pub mod NameMoments
+pub mod RevivedKeys
 pub mod Allowed
 pub mod StepKeeps
 pub mod Moves
 pub mod Stays
 pub mod Refused
+pub mod Returned
 pub mod Cleans
 pub mod CleanKeepsKeys
 pub mod Passes
 pub mod DueKeys
+pub mod Newest
 pub mod SlotPlaces
 pub mod SumRows
 pub mod Splits

@@ -1,5 +1,5 @@
 -- What each change needs, so that it leaves a well-formed world, and takes only what was due.
-use Rattle.std.specs.Prelude.{◌≡◌, ℕ, ◌+◌, ◌<◌, ◌≤◌, true, false, List, [], ◌∷◌, length, Some, Ok, is_some, is_none, find}
+use Rattle.std.specs.Prelude.{◌≡◌, ℕ, ◌+◌, ◌<◌, ◌≤◌, true, false, List, [], ◌∷◌, length, Some, None, Ok, is_some, is_none, find}
 use Rattle.std.specs.List.{list_any}
 use Rattle.ele_content.specs.declared.cell.Cell.{Cell}
 use Rattle.ele_content.specs.Content.{longest_content}
@@ -130,4 +130,4 @@ MayPlan event w (Make reply changes) = MayAll event w w changes
 MayPlan event w (Unless test refusal next) = test ≡ false → MayPlan event w next
 MayPlan event w (When test passing otherwise) = (test ≡ true → MayPlan event w passing) × (test ≡ false → MayPlan event w otherwise)
 MayPlan event w (Need found next) = (x : _) → found ≡ Ok x → MayPlan event w (next x)
-MayPlan event w (IfFound found otherwise next) = MayPlan event w otherwise × ((x : _) → found ≡ Some x → MayPlan event w (next x))
+MayPlan event w (IfFound found otherwise next) = (found ≡ None → MayPlan event w otherwise) × ((x : _) → found ≡ Some x → MayPlan event w (next x))

@@ -1,8 +1,8 @@
 -- The rows of other files stay where one file's rows change.
-use Rattle.std.proofs.Common.{◌≡◌, ℕ, Bool, true, false, not, ◌&&◌, cond, List, [], ◌∷◌, length, Some, refl, ap, ◌∙◌, arith, eqb}
-use Rattle.std.specs.Prelude.{filter, find}
+use Rattle.std.proofs.Common.{◌≡◌, ℕ, Bool, true, false, not, ◌&&◌, cond, List, [], ◌∷◌, length, Option, refl, ap, ◌∙◌, arith, eqb}
+use Rattle.std.specs.Prelude.{filter}
 use Rattle.std.specs.List.{list_any}
-use Rattle.std.specs.Option.{option_map_or, option_map}
+use Rattle.std.specs.Option.{option_map_or}
 use Rattle.std.proofs.lemmas.Bool.Decides.{nat_tests}
 use Rattle.ele_lists.specs.Lists.{update_first, remove_first, insert_before}
 use Rattle.ele_lists.proofs.Edits.{found_passes}
@@ -16,6 +16,7 @@ use Rattle.ele_world.specs.Change.{numbered_on, ended_at, new_draft}
 use Rattle.ele_world.proofs.Opened.{with_draft}
 use Rattle.ele_world.specs.Usage.{is_of, is_file_of}
 use Rattle.ele_world.specs.World.{World, is_draft, is_draft_after, is_file, is_version, is_version_after}
+use Rattle.ele_world.proofs.Files.{policies-numbered}
 use Rattle.ele_lists.proofs.Filters.{filter-update_first, filter-remove_first, filter-insert_before}
 
 -- ---- drafts
@@ -67,17 +68,7 @@ versions-finished file next number now row rows own =
 -- ---- files
 
 pub kinds-numbered : (files : List FileRow) (file : ℕ) (k : Kind) (id : ℕ) → is_file_of (update_first (is_file file) numbered_on files) k id ≡ is_file_of files k id
-kinds-numbered [] file k id = refl
-kinds-numbered (x ∷ xs) file k id = elim (is_file file x) as (λ b. is_file_of (cond b (numbered_on x ∷ xs) (x ∷ update_first (is_file file) numbered_on xs)) k id ≡ is_file_of (x ∷ xs) k id) [
-  | true ↦ elim (is_file id x) as (λ b. option_map_or (λ (policy : Policy). is_kind k (kind_of policy)) (option_map (λ (row : FileRow). row.policy) (cond b (Some (numbered_on x)) (find (is_file id) xs))) false ≡ option_map_or (λ (policy : Policy). is_kind k (kind_of policy)) (option_map (λ (row : FileRow). row.policy) (cond b (Some x) (find (is_file id) xs))) false) [
-    | true ↦ refl
-    | false ↦ refl
-  ]
-  | false ↦ elim (is_file id x) as (λ b. option_map_or (λ (policy : Policy). is_kind k (kind_of policy)) (option_map (λ (row : FileRow). row.policy) (cond b (Some x) (find (is_file id) (update_first (is_file file) numbered_on xs)))) false ≡ option_map_or (λ (policy : Policy). is_kind k (kind_of policy)) (option_map (λ (row : FileRow). row.policy) (cond b (Some x) (find (is_file id) xs))) false) [
-    | true ↦ refl
-    | false ↦ kinds-numbered xs file k id
-  ]
-]
+kinds-numbered files file k id = ap (λ (p : Option Policy). option_map_or (λ (policy : Policy). is_kind k (kind_of policy)) p false) (policies-numbered files file id)
 
 pub files-numbered : (files : List FileRow) (file : ℕ) (k : Kind) → length (filter (is_of k) (update_first (is_file file) numbered_on files)) ≡ length (filter (is_of k) files)
 files-numbered [] file k = refl

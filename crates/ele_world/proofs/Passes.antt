@@ -1,6 +1,6 @@
 -- A pass that nothing disturbs removes the due versions, and no others.
 use Rattle.std.proofs.Common.{◌≡◌, ℕ, suc, zero, ◌≤◌, Bool, true, false, cond, not, List, [], ◌∷◌, Option, Some, None, refl, ap, sym, ◌∙◌}
-use Rattle.std.specs.Prelude.{find, filter, nat_le, slice_get, fold, is_some}
+use Rattle.std.specs.Prelude.{nat_le, slice_get, fold, is_some}
 use Rattle.std.specs.declared.cmp.Ordering.{Ordering}
 use Rattle.std.specs.declared.cmp.Ordering.TheVariants.{Less, Equal, Greater}
 use Rattle.std.specs.BTreeSet.{insert_key}
@@ -22,7 +22,7 @@ use Rattle.ele_world.specs.Step.{clean_step}
 use Rattle.ele_world.specs.WellFormed.{IsWellFormed}
 use Rattle.ele_world.specs.World.{World, is_version}
 use Rattle.ele_lists.proofs.Cuts.{find-cut, remove_first-at}
-use Rattle.ele_lists.proofs.Filters.{filter-all, filter-remove_first}
+use Rattle.ele_lists.proofs.Filters.{filter-all}
 use Rattle.ele_world.proofs.Cleans.{clean_of}
 use Rattle.ele_world.proofs.DropViews.{dropped_sees, kept_same}
 use Rattle.ele_world.proofs.DueRows.{first_is_due}

@@ -1,5 +1,5 @@
 -- After a rename the new path leads where the old one led, and the old one nowhere.
-use Rattle.std.proofs.Common.{◌≡◌, ℕ, Bool, true, false, ◌==◌, ◌&&◌, ◌||◌, List, [], ◌∷◌, ◌++◌, Option, Some, None, Ok, Err, refl, ap, sym, subst, ◌∙◌, arith, length, ◌-◌, take}
+use Rattle.std.proofs.Common.{◌≡◌, ℕ, Bool, true, false, ◌==◌, ◌&&◌, ◌||◌, List, [], ◌∷◌, ◌++◌, Option, Some, None, Ok, Err, refl, sym, subst, ◌∙◌, arith, length, ◌-◌, take}
 use Rattle.std.specs.Prelude.{find, is_some}
 use Rattle.std.specs.Option.{option_map, option_map_or}
 use Rattle.std.specs.Str.{bytes_eq}
@@ -17,7 +17,7 @@ use Rattle.ele_world.specs.declared.rows.Target.{Target}
 use Rattle.ele_world.specs.declared.rows.Target.TheVariants.{File, Directory}
 use Rattle.ele_world.specs.NameRows.{born_row, dies}
 use Rattle.ele_world.specs.RenameLeads.{LeadsInstead, RenameLeads}
-use Rattle.ele_world.specs.Step.{plan, step}
+use Rattle.ele_world.specs.Step.{plan}
 use Rattle.ele_world.specs.Walk.{is_live_name, live_target, walk, walk_now, parent_now, comes_through, stands_in}
 use Rattle.ele_world.specs.WellFormed.{Names, IsWellFormed}
 use Rattle.ele_world.specs.World.{World, root}

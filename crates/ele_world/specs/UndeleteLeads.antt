@@ -1,6 +1,5 @@
 -- After an undelete the path leads to what its name last stood for; where a version was made, it has the cells of the one before.
 use Rattle.std.specs.Prelude.{◌≡◌, ℕ, List, Some, None, Ok}
-use Rattle.std.specs.Option.{option_map}
 use Rattle.ele_world.specs.declared.event.Event.TheVariants.{Undelete}
 use Rattle.ele_world.specs.declared.reply.Reply.TheVariants.{Done, Version}
 use Rattle.ele_world.specs.declared.rows.Target.{Target}

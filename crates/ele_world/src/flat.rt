@@ -2,13 +2,14 @@
 ghost use Rattle.std.specs.Prelude.{◌≡◌, IfOk};
 ghost use Rattle.std.specs.List.{AllByRecursion};
 ghost use Rattle.ele_usage.specs.Sums.{Fits};
+ghost use Rattle.ele_world.specs.Restorable.{restorable};
 ghost use Rattle.ele_world.specs.Scan.{scan};
 ghost use Rattle.ele_world.specs.Usage.{usages};
 
 use crate::limits::{Counts, Limits};
-use crate::list::KeyList;
+use crate::list::{DeadNameList, KeyList};
 use crate::rows::{DirectoryRow, DraftRow, FileRow, HandleRow, NameRow, VersionRow};
-use crate::{scan, sums};
+use crate::{returning, scan, sums};
 use ele_lists::ListOf;
 use ele_moment::{Moment, NoMemory};
 use ele_policy::Kind;
@@ -35,6 +36,13 @@ impl Flat {
         ensures { IfOk result (λ keys. keys ≡ scan self.entry.now) }
     {
         scan::due(self)
+    }
+
+    /// The names that may come back, by directory and then by the bytes of the name.
+    pub fn restorable(&self) -> Result<DeadNameList, NoMemory>
+        ensures { IfOk result (λ names. names ≡ restorable self.entry.now) }
+    {
+        returning::restorable(self)
     }
 
     /// What the files of each kind of policy use, in the order of `Kind`: how many they are, their versions, the bytes of

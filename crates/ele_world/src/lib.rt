@@ -10,6 +10,7 @@ mod list;
 mod pass;
 mod refusal;
 mod reply;
+mod returning;
 mod rows;
 mod scan;
 mod sums;

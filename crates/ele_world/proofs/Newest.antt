@@ -1,0 +1,147 @@
+-- The newest row of each name, and the names that may come back among those whose newest row is dead.
+use Rattle.std.proofs.Common.{◌≡◌, ℕ, ◌+◌, ◌<◌, Bool, true, false, cond, ◌&&◌, List, [], ◌∷◌, length, map, get_or, take, fold, Option, Some, None, refl, ap, sym, subst, ◌∙◌, filter}
+use Rattle.std.specs.Prelude.{find, is_some, unwrap_or}
+use Rattle.std.specs.List.{AllByRecursion, filter_map, cons_option}
+use Rattle.std.specs.List.Sorted.{IsStrictlySortedBy}
+use Rattle.std.specs.Map.{keys_of, values_of, lookup}
+use Rattle.std.specs.BTreeMap.{insert_entry, is_at}
+use Rattle.std.specs.Option.{option_map, option_map_or, option_or}
+use Rattle.std.specs.declared.cmp.Ordering.{Ordering}
+use Rattle.std.specs.declared.cmp.Ordering.TheVariants.{Less, Equal, Greater}
+use Rattle.std.specs.Ordering.{nat_cmp, ordering_then, is_eq}
+use Rattle.std.specs.Cmp.{IsTotalOrder, nat_cmp_total, unsigned_tied, eq_by_cmp_equiv}
+use Rattle.std.specs.Cmp.Lexicographic.{slice_cmp, nat_list_cmp_total}
+use Rattle.std.proofs.lemmas.Cmp.{then_total, on_total}
+use Rattle.std.proofs.lemmas.Grind.{fold-append}
+use Rattle.std.proofs.lemmas.List.{take_more}
+use Rattle.std.proofs.lemmas.Map.Entries.{option_filter, lookup-filter-values}
+use Rattle.std.proofs.lemmas.Map.Keys.{IsDistinct-from_sorted}
+use Rattle.std.proofs.lemmas.Map.Lookups.{CmpEqualImpliesEq, exact_pairs, exact_unsigned, exact_bytes}
+use Rattle.std.proofs.lemmas.Map.Made.{lookup-map_values, keys_of-map_values}
+use Rattle.std.proofs.lemmas.Map.Text.{is_eq-slice_cmp}
+use Rattle.ele_lists.specs.Last.{last_passing, passing}
+use Rattle.ele_lists.proofs.Entries.{entries_same, filter_map-map, sorted-insert_entry, lookup-insert_entry, sorted-filter_entries, all-insert_entry}
+use Rattle.ele_world.specs.NameRows.{is_named, last_dead}
+use Rattle.ele_world.specs.Restorable.{name_cmp, newest_rows, may_return, returning, restorable}
+use Rattle.ele_world.specs.World.{World, is_file, next_of}
+use Rattle.ele_world.specs.declared.rows.DeadName.{DeadName}
+use Rattle.ele_world.specs.declared.rows.FileRow.{FileRow}
+use Rattle.ele_world.specs.declared.rows.NameRow.{NameRow}
+use Rattle.ele_world.specs.declared.rows.Target.{Target}
+
+abbrev Key : Type 0
+Key = ℕ × List ℕ
+
+abbrev key_of : NameRow → Key
+key_of row = (row.directory, row.name)
+
+pub next_is : (files : List FileRow) (file : ℕ) → unwrap_or (option_map (λ (row : FileRow). row.next) (find (is_file file) files)) 0 ≡ next_of files file
+next_is files file = by (find (is_file file) files) where
+  by : (o : Option FileRow) → unwrap_or (option_map (λ (row : FileRow). row.next) o) 0 ≡ option_map_or (λ (row : FileRow). row.next) o 0
+  by None = refl
+  by (Some row) = refl
+
+-- one more row
+pub newest_more : (xs : List NameRow) (i : ℕ) (x : NameRow) → i < length xs → x ≡ get_or xs i x → newest_rows (take (i + 1) xs) ≡ insert_entry name_cmp (newest_rows (take i xs)) (key_of x) x
+newest_more xs i x lt is = rw (take_more xs i x lt, ← is, fold-append (λ newest row. insert_entry name_cmp newest (key_of row) row) [] (take i xs) (x ∷ [])) refl
+
+-- of their values those that may come back
+pub restorable_values : (w : World) → filter_map (returning w) (values_of (newest_rows w.names)) ≡ restorable w
+unfolding restorable
+restorable_values w = filter_map-map (returning w) (λ (entry : Key × NameRow). entry.1) (newest_rows w.names)
+
+-- ---- the order of names
+
+name_total : IsTotalOrder name_cmp
+name_total = then_total (on_total (λ (k : Key). k.0) nat_cmp_total) (on_total (λ (k : Key). k.1) nat_list_cmp_total)
+
+name_exact : CmpEqualImpliesEq name_cmp
+name_exact = exact_pairs nat_cmp (slice_cmp nat_cmp) exact_unsigned exact_bytes
+
+both : (x y : Ordering) → is_eq (ordering_then x y) ≡ (is_eq x && is_eq y)
+both Less y = refl
+both Equal y = refl
+both Greater y = refl
+
+is_at_name : (d : ℕ) (n : List ℕ) (row : NameRow) → is_eq (name_cmp (key_of row) (d, n)) ≡ is_named d n row
+is_at_name d n row = both (nat_cmp row.directory d) (slice_cmp nat_cmp row.name n) ∙ rw (unsigned_tied row.directory d, is_eq-slice_cmp row.name n) refl
+
+-- ---- the newest rows
+
+abbrev IsOwn : Key × NameRow → Type 0
+IsOwn e = e.0 ≡ key_of e.1
+
+sorted_none : IsStrictlySortedBy name_cmp []
+unfolding IsStrictlySortedBy
+sorted_none = tt
+
+-- they stand in order
+newest_sorted : (rows : List NameRow) (newest : List (Key × NameRow)) → IsStrictlySortedBy name_cmp (keys_of newest) → IsStrictlySortedBy name_cmp (keys_of (fold (λ newest row. insert_entry name_cmp newest (key_of row) row) newest rows))
+newest_sorted [] newest up = up
+newest_sorted (row ∷ rows) newest up = newest_sorted rows (insert_entry name_cmp newest (key_of row) row) (sorted-insert_entry name_total newest (key_of row) row up)
+
+-- each at its own name
+newest_own : (rows : List NameRow) (newest : List (Key × NameRow)) → AllByRecursion IsOwn newest → AllByRecursion IsOwn (fold (λ newest row. insert_entry name_cmp newest (key_of row) row) newest rows)
+newest_own [] newest own = own
+newest_own (row ∷ rows) newest own = newest_own rows (insert_entry name_cmp newest (key_of row) row)
+    (all-insert_entry IsOwn name_cmp newest (key_of row) row refl (λ e alike. sym (name_exact (key_of row) e.0 alike)) own)
+
+-- and a name has its last row
+newest_found : (d : ℕ) (n : List ℕ) (rows : List NameRow) (newest : List (Key × NameRow)) → lookup (is_at (name_cmp (d, n))) (fold (λ newest row. insert_entry name_cmp newest (key_of row) row) newest rows) ≡ option_or (last_passing (is_named d n) rows) (lookup (is_at (name_cmp (d, n))) newest)
+newest_found d n [] newest = refl
+newest_found d n (row ∷ rows) newest =
+    newest_found d n rows (insert_entry name_cmp newest (key_of row) row)
+    ∙ ap (option_or (last_passing (is_named d n) rows)) (lookup-insert_entry name_total (d, n) newest (key_of row) row ∙ ap (λ b. cond b (Some row) (lookup (is_at (name_cmp (d, n))) newest)) (is_at_name d n row))
+    ∙ by (last_passing (is_named d n) rows) (is_named d n row) where
+      by : (o : Option NameRow) (b : Bool) → option_or o (cond b (Some row) (lookup (is_at (name_cmp (d, n))) newest)) ≡ option_or (option_or o (cond b (Some row) None)) (lookup (is_at (name_cmp (d, n))) newest)
+      by (Some last) b = refl
+      by None true = refl
+      by None false = refl
+
+-- ---- those that are dead
+
+abbrev is_dead : NameRow → Bool
+is_dead row = is_some row.death
+
+abbrev targets : List (Key × NameRow) → List (Key × Target)
+targets newest = map (λ (e : Key × NameRow). (e.0, e.1.target)) newest
+
+dead_found : (rows : List NameRow) (d : ℕ) (n : List ℕ) → lookup (is_at (name_cmp (d, n))) (targets (filter (λ (e : Key × NameRow). is_dead e.1) (newest_rows rows))) ≡ last_dead rows d n
+dead_found rows d n =
+    lookup-map_values (λ (row : NameRow). row.target) (is_at (name_cmp (d, n))) (filter (λ (e : Key × NameRow). is_dead e.1) (newest_rows rows))
+    ∙ ap (option_map (λ (row : NameRow). row.target)) (
+    lookup-filter-values (eq_by_cmp_equiv name_total) is_dead (d, n) (newest_rows rows) (IsDistinct-from_sorted name_cmp (keys_of (newest_rows rows)) (newest_sorted rows [] sorted_none))
+    ∙ ap (option_filter is_dead) (newest_found d n rows [])
+    ∙ by (last_passing (is_named d n) rows)) where
+      by : (o : Option NameRow) → option_filter is_dead (option_or o None) ≡ passing is_dead o
+      by None = refl
+      by (Some row) = refl
+
+-- ---- those that may come back
+
+-- the dead name, if what it last stood for may have a name again
+abbrev pub returning_item : World → ℕ × List ℕ × Target → Option DeadName
+returning_item w item = cond (may_return w item.2) (Some (record { directory = item.0; name = item.1; target = item.2 })) None
+
+abbrev returning_entry : World → Key × Target → Option DeadName
+returning_entry w e = returning_item w (e.0.0, e.0.1, e.1)
+
+dead_return : (w : World) (newest : List (Key × NameRow)) → AllByRecursion IsOwn newest → filter_map (returning_entry w) (targets (filter (λ (e : Key × NameRow). is_dead e.1) newest)) ≡ filter_map (λ (e : Key × NameRow). returning w e.1) newest
+dead_return w [] own = refl
+dead_return w (e ∷ newest) own = by (is_dead e.1) (dead_return w newest own.1) own.0 where
+  by : (b : Bool) → filter_map (returning_entry w) (targets (filter (λ (e : Key × NameRow). is_dead e.1) newest)) ≡ filter_map (λ (e : Key × NameRow). returning w e.1) newest → e.0 ≡ key_of e.1
+      → filter_map (returning_entry w) (targets (cond b (e ∷ filter (λ (e : Key × NameRow). is_dead e.1) newest) (filter (λ (e : Key × NameRow). is_dead e.1) newest))) ≡ cons_option (cond (b && may_return w e.1.target) (Some (record { directory = e.1.directory; name = e.1.name; target = e.1.target })) None) (filter_map (λ (e : Key × NameRow). returning w e.1) newest)
+  by true rest own = rw (rest, own) refl
+  by false rest own = rest
+
+-- of any list of the dead names, each once and in order, with what each last stood for, those that may come back
+pub restorable_is : (w : World) (items : List (ℕ × List ℕ × Target)) → IsStrictlySortedBy name_cmp (keys_of (map (λ (item : ℕ × List ℕ × Target). ((item.0, item.1), item.2)) items))
+    → ((d : ℕ) (n : List ℕ) → lookup (is_at (name_cmp (d, n))) (map (λ (item : ℕ × List ℕ × Target). ((item.0, item.1), item.2)) items) ≡ last_dead w.names d n)
+    → filter_map (returning_item w) items ≡ restorable w
+unfolding restorable
+restorable_is w items up found =
+    sym (filter_map-map (returning_entry w) (λ (item : ℕ × List ℕ × Target). ((item.0, item.1), item.2)) items)
+    ∙ ap (filter_map (returning_entry w)) (entries_same name_total name_exact (map (λ (item : ℕ × List ℕ × Target). ((item.0, item.1), item.2)) items) (targets (filter (λ (e : Key × NameRow). is_dead e.1) (newest_rows w.names))) up
+    (subst (IsStrictlySortedBy name_cmp) (sym (keys_of-map_values (λ (row : NameRow). row.target) (filter (λ (e : Key × NameRow). is_dead e.1) (newest_rows w.names)))) (sorted-filter_entries name_cmp (λ e. is_dead e.1) (newest_rows w.names) (newest_sorted w.names [] sorted_none)))
+    (λ q. found q.0 q.1 ∙ sym (dead_found w.names q.0 q.1)))
+    ∙ dead_return w (newest_rows w.names) (newest_own w.names [] tt)

@@ -1,0 +1,105 @@
+-- After an undelete its path leads to what the name last stood for.
+use Rattle.std.proofs.Common.{◌≡◌, ℕ, ◌-◌, Bool, true, false, cond, List, [], Option, Some, None, Ok, refl, ap, subst, ◌∙◌, arith}
+use Rattle.std.specs.Prelude.{find, is_some}
+use Rattle.std.specs.Option.{option_map_or}
+use Rattle.std.proofs.lemmas.Bool.Decides.{nat_tests}
+use Rattle.ele_world.specs.Change.{after_change, Revive, current_cells, next_version, with_name}
+use Rattle.ele_world.specs.Restorable.{last_target, nameless}
+use Rattle.ele_world.specs.Step.{plan, step}
+use Rattle.ele_world.specs.UndeleteLeads.{LeadsAgain, HasNameAgain, HasVersionAgain}
+use Rattle.ele_world.specs.Walk.{live_target, parent_now}
+use Rattle.ele_world.specs.WellFormed.{Versions, IsWellFormed}
+use Rattle.ele_world.specs.World.{World, next_of, is_live, is_version, current_of}
+use Rattle.ele_world.specs.declared.event.Event.TheVariants.{Undelete}
+use Rattle.ele_world.specs.declared.reply.Reply.{Reply}
+use Rattle.ele_world.specs.declared.reply.Reply.TheVariants as reply
+use Rattle.ele_world.specs.declared.rows.Target.{Target}
+use Rattle.ele_world.specs.declared.rows.Target.TheVariants.{File, Directory}
+use Rattle.ele_world.specs.declared.rows.VersionRow.{VersionRow}
+use Rattle.ele_world.proofs.Allowed.{may_name}
+use Rattle.ele_world.proofs.Closes.{new_found}
+use Rattle.ele_world.proofs.Created.{named_live}
+use Rattle.ele_world.proofs.Files.{next_of-numbered_on}
+use Rattle.ele_world.proofs.KeptRevived.{again}
+use Rattle.ele_world.proofs.Lost.{lost_dead, may_revive}
+use Rattle.ele_world.proofs.May.{MayRevive}
+use Rattle.ele_world.proofs.Outcomes.{in_all}
+use Rattle.ele_world.proofs.Walks.{new_leads}
+
+-- a file that had no live name
+pub returned_file : (w : World) (lost : Target) (file : ℕ) → nameless w lost ≡ Some file → lost ≡ File file
+returned_file w (Directory id) file h = absurd cc
+returned_file w (File other) file h = by (is_live w other) h where
+  by : (b : Bool) → cond b None (Some other) ≡ Some file → File other ≡ File file
+  by true h = absurd cc
+  by false h = cc
+
+module _ (w : World) (path : List (List ℕ)) (at : ℕ × List ℕ) (k : IsWellFormed w) (found : parent_now w.names path ≡ Ok at) (free : is_some (live_target w.names at.0 at.1) ≡ false) where
+  named_again : (lost : Target) (after : World) → after.names ≡ (with_name w at.0 at.1 lost).names → last_target w.names at.0 at.1 ≡ Ok lost → LeadsAgain w path lost after
+  named_again lost after names last = record { home = at; stands = found; lost = lost_dead w.names at.0 at.1 lost last; leads = rw names (new_leads w.names path at lost w.now found free) }
+
+  module _ (file : ℕ) (may : MayRevive w at.0 at.1 file) where
+    abbrev revived : World
+    revived = after_change w (Revive at.0 at.1 file)
+
+    abbrev new : VersionRow
+    new = next_version (with_name w at.0 at.1 (File file)) file w.now (current_cells w file)
+
+    current_is : current_of revived file ≡ Some new
+    current_is =
+        let version = again w at.0 at.1 file may (k.holds Versions).each in
+        let next : next_of revived.files file - 1 ≡ next_of w.files file = omega (arith, next_of-numbered_on w.files file version.there) in
+        ap (λ n. find (is_version file n) revived.versions) next
+        ∙ new_found (with_name w at.0 at.1 (File file)) file (k.holds Versions).each w.now (current_cells w file)
+
+    version_again : (number : ℕ) → next_of w.files file ≡ number → last_target w.names at.0 at.1 ≡ Ok (File file) → HasVersionAgain w path number revived
+    version_again number same last = record {
+      file = file;
+      last = may.last;
+      current = new;
+      named = named_again (File file) revived refl last;
+      was = may.held;
+      is = current_is;
+      numbered = same;
+      no_end = rw (named_live w at.0 at.1 file) refl;
+      cells = ap (λ (o : Option VersionRow). option_map_or (λ (row : VersionRow). row.cells) o []) may.held;
+    }
+
+abbrev Leads : World → List (List ℕ) → Reply × World → Type 0
+Leads w path answer = (answer.0 ≡ reply.Done → HasNameAgain w path answer.1) × ((number : ℕ) → answer.0 ≡ reply.Version number → HasVersionAgain w path number answer.1)
+
+pub undelete_leads : (w : World) (path : List (List ℕ)) → IsWellFormed w → Leads w path (step w (Undelete path))
+undelete_leads w path k = in_all w (Leads w path) (plan w (Undelete path)) (
+  λ refusal. (λ e. absurd cc, λ number e. absurd cc),
+  λ at found. (
+    (λ e. absurd cc, λ number e. absurd cc),
+    λ free. (
+      λ refusal. (λ e. absurd cc, λ number e. absurd cc),
+      λ lost last. (
+        (λ e. absurd cc, λ number e. absurd cc),
+        λ returns. (
+          (
+            (λ e. absurd cc, λ number e. absurd cc),
+            λ names. (λ e. record { target = lost; named = named_again w path at k found free lost (with_name w at.0 at.1 lost) refl last; versions = refl }, λ number e. absurd cc),
+          ),
+          λ file none. (
+            (λ e. absurd cc, λ number e. absurd cc),
+            λ drafts. (
+              (λ e. absurd cc, λ number e. absurd cc),
+              λ names. (
+                (λ e. absurd cc, λ number e. absurd cc),
+                λ versions. (
+                  λ e. absurd cc,
+                  λ number e.
+                      let may = may_revive w at lost file (may_name w path at k found free names) none returns (grind (arith, nat_tests)) in
+                      let same : next_of w.files file ≡ number = cc in
+                      version_again w path at k found free file may number same (subst (λ t. last_target w.names at.0 at.1 ≡ Ok t) (returned_file w lost file none) last),
+                ),
+              ),
+            ),
+          ),
+        ),
+      ),
+    ),
+  ),
+)

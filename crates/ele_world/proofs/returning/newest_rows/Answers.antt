@@ -1,0 +1,12 @@
+use Rattle.std.proofs.Common.{ap, sym, ◌∙◌}
+use Rattle.std.specs.BTreeMap.{insert_entry}
+use Rattle.ele_world.specs.Restorable.{name_cmp}
+use Rattle.ele_world.proofs.Newest.{newest_more}
+use Rattle.ele_world.proofs.returning.newest_rows.Goals as goal
+
+pub loop-row-preserved : goal.loop-row-preserved
+loop-row-preserved c =
+    let row = c.row-item.result in
+    c.in_ok-_older.ensures.entries
+    ∙ ap (λ es. insert_entry name_cmp es (row.directory, row.name) row) c.loop-row.invariant
+    ∙ sym (newest_more c.args.rows.now c.loop-row.row-index row c.loop-row-test.true c.row-item.is)
