@@ -1,7 +1,6 @@
 -- A live file has a current version.
-use Rattle.std.proofs.Common.{◌≡◌, ℕ, ◌+◌, ◌-◌, Bool, true, false, ◌||◌, List, [], ◌∷◌, Option, Some, None, refl, subst, sym, arith}
+use Rattle.std.proofs.Common.{◌≡◌, ℕ, ◌-◌, true, false, Option, Some, None, refl, subst, arith}
 use Rattle.std.specs.Prelude.{find, is_none}
-use Rattle.std.specs.List.{AllByRecursion, list_any}
 use Rattle.std.proofs.lemmas.Bool.{false≢true}
 use Rattle.std.proofs.lemmas.Bool.Decides.{nat_tests}
 use Rattle.ele_world.specs.declared.rows.VersionRow.{VersionRow}

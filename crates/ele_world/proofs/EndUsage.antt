@@ -3,12 +3,10 @@ use Rattle.std.proofs.Common.{◌≡◌, ℕ, ◌+◌, Bool, true, false, cond, 
 use Rattle.std.specs.List.{flat_map}
 use Rattle.std.proofs.lemmas.List.Concat.{flat_map-cons}
 use Rattle.ele_content.specs.Content.{content_of}
-use Rattle.ele_content.specs.Place.{Place, is_place, different}
+use Rattle.ele_content.specs.Place.{Place}
 use Rattle.ele_lists.specs.Lists.{update_first}
 use Rattle.ele_policy.specs.declared.policy.Kind.{Kind}
-use Rattle.ele_usage.specs.declared.usage.Usage.{Usage}
 use Rattle.ele_world.specs.Change.{ended_at}
-use Rattle.ele_world.specs.declared.rows.DraftRow.{DraftRow}
 use Rattle.ele_world.specs.declared.rows.VersionRow.{VersionRow}
 use Rattle.ele_world.specs.Usage.{is_file_of, places_from, bytes_in, usage_of}
 use Rattle.ele_world.specs.World.{World}

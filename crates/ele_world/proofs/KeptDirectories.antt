@@ -2,25 +2,23 @@
 use Rattle.std.proofs.Common.{◌≡◌, ℕ, ◌+◌, ◌<◌, ◌≤◌, Bool, true, false, ◌==◌, ◌&&◌, ◌||◌, List, [], ◌∷◌, ◌++◌, length-append, Option, Some, None, refl, ap, sym, subst, ◌∙◌, arith}
 use Rattle.std.specs.Prelude.{find, is_none}
 use Rattle.std.specs.List.{AllByRecursion, list_any}
-use Rattle.std.proofs.lemmas.Bool.{false≢true}
 use Rattle.std.proofs.lemmas.Bool.Decides.{nat_tests}
 use Rattle.std.proofs.lemmas.List.Folds.{list_any-append}
 use Rattle.ele_lists.specs.Lists.{update_first}
-use Rattle.ele_lists.proofs.Edits.{all-any, all-push, all-weaker, all-both, all-none, all-update_first, later-push, length-update_first, list_any-update_first}
-use Rattle.ele_lists.proofs.Found.{list_any-update_found, list_any-update_fails, later-update_found}
+use Rattle.ele_lists.proofs.Edits.{all-any, all-push, all-weaker, all-both, all-none, all-update_first, later-push, length-update_first}
+use Rattle.ele_lists.proofs.Found.{list_any-update_found, list_any-update_fails}
 use Rattle.ele_policy.specs.declared.policy.Policy.{Policy}
 use Rattle.ele_policy.specs.Policy.{IsPolicy}
 use Rattle.ele_world.specs.Change.{after_change, MakeDirectory, EndName}
 use Rattle.ele_world.specs.NameRows.{born_row, dies, is_live_in, is_name_of_directory, is_target_directory, is_live_directory}
 use Rattle.ele_world.specs.Walk.{is_live_name, live_target}
-use Rattle.ele_world.specs.WellFormed.{has_directory, is_reached, IsHoused, IsNameRow, AreApart, Part, Counted, Directories, Names, Homes, Current, Holds, IsWellFormed, Tree, IsDirectoryThere}
+use Rattle.ele_world.specs.WellFormed.{has_directory, is_reached, IsHoused, Part, Counted, Directories, Names, Homes, Current, Holds, IsWellFormed, Tree, IsDirectoryThere}
 use Rattle.ele_world.specs.World.{World, root, is_directory, is_live_name_of}
 use Rattle.ele_world.specs.declared.rows.DirectoryRow.{DirectoryRow}
 use Rattle.ele_world.specs.declared.rows.NameRow.{NameRow}
 use Rattle.ele_world.specs.declared.rows.Target.{Target}
 use Rattle.ele_world.specs.declared.rows.Target.TheVariants.{File, Directory}
 use Rattle.ele_world.proofs.Homes.{or_last, any_more, named_housed, HasName, named_more, named_end, directory_given}
-use Rattle.ele_world.proofs.KeptNames.{apart_from_new}
 use Rattle.ele_world.proofs.May.{MayMakeDirectory, MayEnd}
 use Rattle.ele_world.proofs.NameParts.{and_false, names_more, names_end, tree_more, tree_end}
 

@@ -1,20 +1,20 @@
 -- A name that moves keeps a world well formed.
-use Rattle.std.proofs.Common.{◌≡◌, ℕ, ◌≤◌, Bool, true, false, ◌==◌, ◌&&◌, ◌||◌, List, [], ◌∷◌, ◌++◌, length, length-append, Option, Some, None, refl, ap, sym, subst, ◌∙◌, arith, cond}
-use Rattle.std.specs.Prelude.{find, is_none}
-use Rattle.std.specs.List.{AllByRecursion, list_any}
+use Rattle.std.proofs.Common.{◌≡◌, ℕ, Bool, true, false, ◌==◌, ◌&&◌, ◌||◌, List, [], ◌∷◌, ◌++◌, length, length-append, Some, refl, sym, ◌∙◌, arith}
+use Rattle.std.specs.Prelude.{find}
+use Rattle.std.specs.List.{list_any}
 use Rattle.std.proofs.lemmas.Bool.{false≢true}
 use Rattle.std.proofs.lemmas.Bool.Decides.{nat_tests}
 use Rattle.std.proofs.lemmas.List.Folds.{list_any-append}
-use Rattle.ele_lists.specs.Lists.{update_first, AllLater}
+use Rattle.ele_lists.specs.Lists.{update_first}
 use Rattle.ele_lists.proofs.Alls.{later-weaker}
-use Rattle.ele_lists.proofs.Edits.{all-found, all-push, all-update_first, all-weaker, found_passes, length-update_first}
+use Rattle.ele_lists.proofs.Edits.{all-found, all-push, all-update_first, found_passes, length-update_first}
 use Rattle.ele_lists.proofs.Found.{any-found, list_any-update_fails, list_any-update_found}
 use Rattle.ele_world.specs.Change.{after_change, MoveName}
 use Rattle.ele_world.specs.declared.rows.NameRow.{NameRow}
 use Rattle.ele_world.specs.declared.rows.Target.{Target}
 use Rattle.ele_world.specs.declared.rows.Target.TheVariants.{File, Directory}
 use Rattle.ele_world.specs.NameRows.{born_row, dies, is_live_directory, is_target_directory}
-use Rattle.ele_world.specs.Walk.{is_live_name, live_target}
+use Rattle.ele_world.specs.Walk.{is_live_name}
 use Rattle.ele_world.specs.WellFormed.{IsNameRow, IsDirectoryThere, is_reached, IsHoused, AreOthers, Part, Counted, Names, Homes, Tree, Current, Holds, IsWellFormed, IsThere}
 use Rattle.ele_world.specs.World.{World, root, is_target_file, is_live_name_of, is_live}
 use Rattle.ele_world.proofs.Homes.{any_less, any_more, named_end, named_more, or_last}

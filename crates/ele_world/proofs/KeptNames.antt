@@ -1,20 +1,16 @@
 -- The clock, the policies of directories and the making of a file keep a world well formed.
 use Rattle.std.proofs.Common.{◌≡◌, ℕ, ◌+◌, ◌<◌, ◌≤◌, Bool, true, false, ◌==◌, ◌&&◌, ◌||◌, List, [], ◌∷◌, ◌++◌, length-append, Option, Some, None, IfSome, refl, ap, sym, subst, ◌∙◌, arith, eqb}
-use Rattle.std.specs.Prelude.{find, is_some, is_none}
+use Rattle.std.specs.Prelude.{is_some, is_none}
 use Rattle.std.specs.List.{AllByRecursion, list_any}
-use Rattle.std.specs.Option.{option_map}
-use Rattle.std.specs.Str.{bytes_eq}
-use Rattle.std.proofs.lemmas.Bool.{false≢true}
 use Rattle.std.proofs.lemmas.Bool.Decides.{nat_tests}
 use Rattle.std.proofs.lemmas.List.Folds.{list_any-append}
-use Rattle.std.proofs.lemmas.Slice.Eq.{bytes_eq-Decides}
 use Rattle.ele_moment.specs.Last.{last_moment}
 use Rattle.ele_lists.specs.Lists.{update_first}
-use Rattle.ele_lists.proofs.Edits.{all-push, all-weaker, all-both, all-update_first, later-push, later-update_first, all-not_found, length-update_first, list_any-update_first}
+use Rattle.ele_lists.proofs.Edits.{all-push, all-weaker, all-update_first, later-push, later-update_first, length-update_first, list_any-update_first}
 use Rattle.ele_policy.specs.declared.policy.Policy.{Policy}
 use Rattle.ele_world.specs.Change.{governed_by, after_change, Time, Govern, MakeFile}
 use Rattle.ele_world.specs.NameRows.{is_name_of_directory}
-use Rattle.ele_world.specs.Walk.{live_target, is_live_name}
+use Rattle.ele_world.specs.Walk.{live_target}
 use Rattle.ele_policy.specs.Policy.{IsPolicy}
 use Rattle.ele_world.specs.WellFormed.{has_directory, IsDirectoryThere, IsHoused, IsFile, IsNameRow, AreApart, IsVersion, ArePlaced, IsDraft, is_current, HaveCurrent, Part, Now, Counted, Directories, Files, Names, Homes, Versions, Drafts, Current, Holds, IsWellFormed, Tree}
 use Rattle.ele_world.specs.World.{World, root, is_directory, next_of, is_live, is_live_name_of, is_target_file}
@@ -27,7 +23,7 @@ use Rattle.ele_world.specs.declared.rows.Target.TheVariants.{File, Directory}
 use Rattle.ele_world.specs.declared.rows.VersionRow.{VersionRow}
 use Rattle.ele_world.proofs.Created.{new_file, new_name, first_version, created, made_is}
 use Rattle.ele_world.proofs.Files.{next_of-push, next_of-push_other, next_of-given, next_of-new, there-push}
-use Rattle.ele_world.proofs.Homes.{named_housed, any_more, homes_more}
+use Rattle.ele_world.proofs.Homes.{homes_more}
 use Rattle.ele_world.proofs.May.{MayMake}
 use Rattle.ele_world.proofs.Writers.{written_more}
 use Rattle.ele_world.proofs.NameParts.{all_apart, names_more, tree_more}

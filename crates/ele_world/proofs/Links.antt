@@ -1,9 +1,7 @@
 -- After a link both paths lead to the file; after an unlink its path leads nowhere, and with the last name the file ended.
-use Rattle.std.proofs.Common.{◌≡◌, ℕ, ◌-◌, Bool, true, false, cond, List, [], ◌∷◌, ◌++◌, Option, Some, Ok, refl, ap, sym, subst, ◌∙◌, arith}
-use Rattle.std.specs.Prelude.{find, is_some, unwrap_or}
+use Rattle.std.proofs.Common.{◌≡◌, ℕ, ◌-◌, false, List, Option, Some, Ok, refl, ap, sym, ◌∙◌}
+use Rattle.std.specs.Prelude.{unwrap_or}
 use Rattle.std.specs.Option.{option_map}
-use Rattle.std.proofs.lemmas.Bool.{false≢true}
-use Rattle.ele_lists.specs.Lists.{update_first}
 use Rattle.ele_world.specs.Change.{after_change, ended_at, EndFileName}
 use Rattle.ele_world.specs.declared.event.Event.TheVariants.{Link, Unlink}
 use Rattle.ele_world.specs.declared.reply.Reply.TheVariants.{Done}
@@ -11,7 +9,7 @@ use Rattle.ele_world.specs.declared.rows.Target.TheVariants.{File, Directory}
 use Rattle.ele_world.specs.declared.rows.VersionRow.{VersionRow}
 use Rattle.ele_world.specs.LinkLeads.{LeadsToSame, LinkLeads}
 use Rattle.ele_world.specs.NameRows.{born_row}
-use Rattle.ele_world.specs.Step.{plan, step}
+use Rattle.ele_world.specs.Step.{plan}
 use Rattle.ele_world.specs.UnlinkEnds.{EndsName, UnlinkEnds}
 use Rattle.ele_world.specs.Walk.{file_at, file_now, live_target, parent_now, walk_now}
 use Rattle.ele_world.specs.WellFormed.{IsWellFormed}

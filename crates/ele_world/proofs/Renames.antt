@@ -1,5 +1,5 @@
 -- After a rename the new path leads where the old one led, and the old one nowhere.
-use Rattle.std.proofs.Common.{◌≡◌, ℕ, Bool, true, false, ◌==◌, ◌&&◌, ◌||◌, List, [], ◌∷◌, ◌++◌, Option, Some, None, Ok, Err, refl, ap, sym, subst, ◌∙◌, arith, length, ◌-◌, take}
+use Rattle.std.proofs.Common.{◌≡◌, ℕ, Bool, true, false, ◌==◌, ◌&&◌, ◌||◌, List, [], ◌∷◌, ◌++◌, Option, Some, None, Ok, Err, refl, sym, subst, ◌∙◌, arith, length, ◌-◌, take}
 use Rattle.std.specs.Prelude.{find, is_some}
 use Rattle.std.specs.Option.{option_map, option_map_or}
 use Rattle.std.specs.Str.{bytes_eq}
@@ -17,7 +17,7 @@ use Rattle.ele_world.specs.declared.rows.Target.{Target}
 use Rattle.ele_world.specs.declared.rows.Target.TheVariants.{File, Directory}
 use Rattle.ele_world.specs.NameRows.{born_row, dies}
 use Rattle.ele_world.specs.RenameLeads.{LeadsInstead, RenameLeads}
-use Rattle.ele_world.specs.Step.{plan, step}
+use Rattle.ele_world.specs.Step.{plan}
 use Rattle.ele_world.specs.Walk.{is_live_name, live_target, walk, walk_now, parent_now, comes_through, stands_in}
 use Rattle.ele_world.specs.WellFormed.{Names, IsWellFormed}
 use Rattle.ele_world.specs.World.{World, root}
@@ -102,21 +102,21 @@ module _ (w : World) (from to : List (List ℕ)) (k : IsWellFormed w) (old : ℕ
   nowhere =
       let is : find (is_live_name old.0 old.1) (remaining ++ named ∷ []) ≡ None = find-append (is_live_name old.0 old.1) remaining (named ∷ []) ∙ rw (none, other) refl in
       rw is refl where
-    none : find (is_live_name old.0 old.1) remaining ≡ None
-    none = by (find (is_live_name old.0 old.1) remaining) (gone w.names old.0 old.1 w.now (k.holds Names).lives) where
-      by : (o : Option NameRow) → option_map (λ (row : NameRow). row.target) o ≡ None → o ≡ None
-      by None h = refl
-      by (Some row) h = absurd cc
+        none : find (is_live_name old.0 old.1) remaining ≡ None
+        none = by (find (is_live_name old.0 old.1) remaining) (gone w.names old.0 old.1 w.now (k.holds Names).lives) where
+          by : (o : Option NameRow) → option_map (λ (row : NameRow). row.target) o ≡ None → o ≡ None
+          by None h = refl
+          by (Some row) h = absurd cc
 
-    other : is_live_name old.0 old.1 named ≡ false
-    other = by (is_live_name old.0 old.1 named) refl where
-      by : (b : Bool) → is_live_name old.0 old.1 named ≡ b → b ≡ false
-      by false is = refl
-      by true is =
-          let same_directory : at.0 ≡ old.0 = grind (arith, nat_tests) in
-          let same_name : at.1 ≡ old.1 = (bytes_eq-Decides at.1 old.1).0 (grind (arith, nat_tests)) in
-          let free' = rw (same_directory, same_name, stands) at free in
-          absurd (false≢true (sym free'))
+        other : is_live_name old.0 old.1 named ≡ false
+        other = by (is_live_name old.0 old.1 named) refl where
+          by : (b : Bool) → is_live_name old.0 old.1 named ≡ b → b ≡ false
+          by false is = refl
+          by true is =
+              let same_directory : at.0 ≡ old.0 = grind (arith, nat_tests) in
+              let same_name : at.1 ≡ old.1 = (bytes_eq-Decides at.1 old.1).0 (grind (arith, nat_tests)) in
+              let free' = rw (same_directory, same_name, stands) at free in
+              absurd (false≢true (sym free'))
 
   leads_instead : LeadsInstead w from to (after_change w (MoveName old.0 old.1 at.0 at.1 moved))
   leads_instead = record {
