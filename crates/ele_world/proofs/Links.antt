@@ -16,7 +16,7 @@ use Rattle.ele_world.specs.World.{root}
 use Rattle.ele_world.proofs.Currents.{has_current, last_ends}
 use Rattle.ele_world.proofs.NameEnds.{dead_path}
 use Rattle.ele_world.proofs.Outcomes.{in_all}
-use Rattle.ele_world.proofs.Walks.{file_of, last_is, new_leads, target_live, walk-push}
+use Rattle.ele_world.proofs.Walks.{file_of, last_names, new_leads, target_live, walk-push}
 
 -- ---- a link
 
@@ -50,7 +50,7 @@ unlink_ends w path k = in_all w (λ answer. answer.0 ≡ Done → EndsName w pat
 ) where
   ends : (at : ℕ × List ℕ) → parent_now w.names path ≡ Ok at → (file : ℕ) → file_now w.names path ≡ Ok file → EndsName w path (after_change w (EndFileName at.0 at.1 file))
   ends at found file leads =
-      let named = last_is w.names path at (File file) found (file_of (walk_now w.names path) file leads) in
+      let named = last_names w.names path at (File file) found (file_of (walk_now w.names path) file leads) in
       let current = has_current w file k (target_live w.names at.0 at.1 (File file) named) in
       record {
         file = file;

@@ -24,7 +24,7 @@ use Rattle.ele_world.specs.World.{World, root}
 use Rattle.ele_world.proofs.NameEnds.{gone, other_stays, path_ends}
 use Rattle.ele_world.proofs.NameParts.{free_still}
 use Rattle.ele_world.proofs.Outcomes.{in_all}
-use Rattle.ele_world.proofs.Walks.{IsParent, last_is, live_target-push, named_leads, parent_is}
+use Rattle.ele_world.proofs.Walks.{IsParent, last_names, live_target-push, named_leads, parent_is}
 
 -- ---- a walk that doesn't come to what is moved leads where it did
 
@@ -83,7 +83,7 @@ module _ (w : World) (from to : List (List ℕ)) (k : IsWellFormed w) (old : ℕ
   named = born_row at.0 at.1 moved w.now
 
   stands : live_target w.names old.0 old.1 ≡ Some moved
-  stands = last_is w.names from old moved found leads
+  stands = last_names w.names from old moved found leads
 
   parent : IsParent w.names to at
   parent = parent_is w.names to at home
