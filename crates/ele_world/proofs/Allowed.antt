@@ -25,7 +25,7 @@ use Rattle.ele_world.proofs.DueRows.{first_is_due, due_has_ended}
 use Rattle.ele_world.proofs.Homes.{parent_home}
 use Rattle.ele_world.proofs.Lost.{may_add, may_revive}
 use Rattle.ele_world.proofs.May.{MayName, MayEnd, MayAppend, MayTake, MayPlan}
-use Rattle.ele_world.proofs.Walks.{file_there, last_leads, file_live, file_of, last_is}
+use Rattle.ele_world.proofs.Walks.{file_there, last_leads, file_live, file_of, last_names}
 use Rattle.ele_world.specs.declared.rows.Target.TheVariants.{File}
 
 -- ---- what the checks found
@@ -83,9 +83,9 @@ allowed w (Create path) k = λ at found free files names versions.
     (record { next = refl; files = grind (arith, nat_tests); named = may_name w path at k found free names; room = grind (arith, nat_tests); valid = default_is w.directories at.0 (k.holds Directories).policies }, tt)
 allowed w (Link from to) k = λ file leads at found free names.
     (record { named = may_name w to at k found free names; there = file_there w.files w.now w.names from file (k.holds Names).each leads; housed = tt; more = file_live w.names from file leads }, tt)
-allowed w (Unlink path) k = λ at found file leads. (last_is w.names path at (File file) found (file_of (walk_now w.names path) file leads), tt)
+allowed w (Unlink path) k = λ at found file leads. (last_names w.names path at (File file) found (file_of (walk_now w.names path) file leads), tt)
 allowed w (Rename from to) k = λ old found moved leads at home apart free names.
-    (record { stands = last_is w.names from old moved found leads; named = may_name w to at k home free names }, tt)
+    (record { stands = last_names w.names from old moved found leads; named = may_name w to at k home free names }, tt)
 allowed w (Undelete path) k = λ at found free lost last returns. (
   λ live names. (may_add w at lost k (may_name w path at k found free names) last live returns, tt),
   λ file nameless drafts names versions. (may_revive w at lost file (may_name w path at k found free names) nameless returns (grind (arith, nat_tests)), tt),

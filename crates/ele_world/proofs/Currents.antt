@@ -1,5 +1,5 @@
--- A live file has a current version.
-use Rattle.std.proofs.Common.{◌≡◌, ℕ, ◌-◌, true, Option, Some, None, refl, subst, arith}
+-- A live file has a current version, which ends with its last name.
+use Rattle.std.proofs.Common.{◌≡◌, ℕ, ◌-◌, true, Option, Some, None, refl, subst, arith, ap, ◌∙◌}
 use Rattle.std.specs.Prelude.{find, is_none}
 use Rattle.std.proofs.lemmas.Bool.{false≢true}
 use Rattle.std.proofs.lemmas.Bool.Decides.{nat_tests}
@@ -7,7 +7,9 @@ use Rattle.ele_world.specs.declared.rows.VersionRow.{VersionRow}
 use Rattle.ele_world.specs.WellFormed.{is_current, Versions, Current, IsWellFormed}
 use Rattle.ele_world.specs.World.{World, next_of, is_live, is_version, current_of}
 use Rattle.ele_world.proofs.Versions.{IsFound, all_found}
-use Rattle.ele_world.proofs.Elements.{one_of}
+use Rattle.ele_world.proofs.Elements.{one_of, find-updated}
+use Rattle.std.specs.Option.{option_map}
+use Rattle.ele_world.specs.Change.{ended_at, with_end}
 
 -- its last version is held, and has no end
 pub record HasCurrent (w : World) (file : ℕ) : Type 0 where
@@ -32,3 +34,7 @@ has_current w file k live =
       none : (o : Option ℕ) → is_none o ≡ true → o ≡ None
       none None h = refl
       none (Some at) h = absurd (false≢true h)
+
+-- it is found as before once it ends
+pub last_ends : (w : World) (file : ℕ) (current : HasCurrent w file) → find (is_version file (next_of w.files file - 1)) (with_end w file) ≡ Some (ended_at w.now current.row)
+last_ends w file current = find-updated (is_version file (next_of w.files file - 1)) (ended_at w.now) w.versions (λ row. refl) ∙ ap (option_map (ended_at w.now)) current.found

@@ -1,5 +1,5 @@
 -- A name more of what is there, and the end of a file's name, keep a world well formed.
-use Rattle.std.proofs.Common.{◌≡◌, ℕ, ◌+◌, ◌-◌, ◌<◌, ◌≤◌, Bool, true, false, cond, ◌==◌, List, [], ◌∷◌, ◌++◌, length, length-append, Some, refl, sym, subst, ◌∙◌, arith}
+use Rattle.std.proofs.Common.{◌≡◌, ℕ, ◌-◌, Bool, true, false, cond, ◌==◌, List, [], ◌∷◌, ◌++◌, length, length-append, Some, refl, sym, subst, ◌∙◌, arith}
 use Rattle.std.specs.List.{list_any}
 use Rattle.std.proofs.lemmas.Bool.{false≢true}
 use Rattle.std.proofs.lemmas.Bool.Decides.{nat_tests}
@@ -10,27 +10,15 @@ use Rattle.ele_world.specs.declared.rows.Target.{Target}
 use Rattle.ele_world.specs.declared.rows.Target.TheVariants.{File, Directory}
 use Rattle.ele_world.specs.NameRows.{born_row, is_live_directory}
 use Rattle.ele_world.specs.Walk.{live_target}
-use Rattle.ele_world.specs.WellFormed.{AreCounted, Part, Counted, Names, Homes, Tree, Versions, Current, Holds, IsWellFormed, is_current}
+use Rattle.ele_world.specs.WellFormed.{Part, Counted, Names, Homes, Tree, Versions, Current, Holds, IsWellFormed, is_current}
 use Rattle.ele_world.specs.World.{World, next_of, is_live, is_live_name_of, is_version}
 use Rattle.ele_world.proofs.Homes.{any_less, homes_more}
 use Rattle.ele_world.proofs.KeptDirectories.{end_name_keeps}
 use Rattle.ele_world.proofs.KeptVersions.{versions_ended, current_ended}
 use Rattle.ele_world.proofs.May.{MayHaveMore, MayAdd, MayEnd}
-use Rattle.ele_world.proofs.NameParts.{IsUnnamed, names_more, tree_more}
+use Rattle.ele_world.proofs.NameParts.{IsUnnamed, names_more, tree_more, counted_more}
 
 -- ---- a name more
-
--- so many name rows, at most one more than there were
-pub counted_more : (w : World) (rows : ℕ) → IsWellFormed w → w.made.names < w.limits.names → rows ≤ length w.names + 1 → AreCounted (record w.made { names = w.made.names + 1 }) w.limits (length w.files) rows (length w.versions) (length w.drafts)
-counted_more w rows k room le = let c = k.holds Counted in record {
-  files_made = c.files_made;
-  names_made = omega (arith, room);
-  versions_made = c.versions_made;
-  handles_made = c.handles_made;
-  file_rows = c.file_rows;
-  name_rows = omega (arith, c.name_rows, le);
-  version_rows = c.version_rows;
-}
 
 pub add_name_keeps : (w : World) (directory : ℕ) (name : List ℕ) (target : Target) → MayAdd w directory name target → IsWellFormed w → IsWellFormed (after_change w (AddName directory name target))
 add_name_keeps w directory name target may k = record { holds = by } where

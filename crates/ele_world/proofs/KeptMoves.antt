@@ -18,9 +18,8 @@ use Rattle.ele_world.specs.Walk.{is_live_name}
 use Rattle.ele_world.specs.WellFormed.{IsNameRow, IsDirectoryThere, is_reached, IsHoused, AreOthers, Part, Counted, Names, Homes, Tree, Current, Holds, IsWellFormed, IsThere}
 use Rattle.ele_world.specs.World.{World, root, is_target_file, is_live_name_of, is_live}
 use Rattle.ele_world.proofs.Homes.{any_less, any_more, named_end, named_more, or_last}
-use Rattle.ele_world.proofs.KeptLinks.{counted_more}
 use Rattle.ele_world.proofs.May.{MayMove}
-use Rattle.ele_world.proofs.NameParts.{and_false, free_still, IsUnnamed, names_end, names_more, still_none, tree_end, tree_more}
+use Rattle.ele_world.proofs.NameParts.{and_false, free_still, IsUnnamed, names_end, names_more, still_none, tree_end, tree_more, counted_more}
 use Rattle.ele_world.proofs.Walks.{live_row}
 use Rattle.ele_world.proofs.Elements.{none_left}
 

@@ -1,8 +1,8 @@
 -- After a link both paths lead to the file; after an unlink its path leads nowhere, and with the last name the file ended.
-use Rattle.std.proofs.Common.{◌≡◌, ℕ, ◌-◌, false, List, Option, Some, Ok, refl, ap, sym, ◌∙◌}
+use Rattle.std.proofs.Common.{◌≡◌, ℕ, List, Option, Some, Ok, refl, ap, sym, ◌∙◌}
 use Rattle.std.specs.Prelude.{unwrap_or}
 use Rattle.std.specs.Option.{option_map}
-use Rattle.ele_world.specs.Change.{after_change, ended_at, EndFileName}
+use Rattle.ele_world.specs.Change.{after_change, EndFileName}
 use Rattle.ele_world.specs.declared.event.Event.TheVariants.{Link, Unlink}
 use Rattle.ele_world.specs.declared.reply.Reply.TheVariants.{Done}
 use Rattle.ele_world.specs.declared.rows.Target.TheVariants.{File, Directory}
@@ -11,14 +11,12 @@ use Rattle.ele_world.specs.LinkLeads.{LeadsToSame, LinkLeads}
 use Rattle.ele_world.specs.NameRows.{born_row}
 use Rattle.ele_world.specs.Step.{plan}
 use Rattle.ele_world.specs.UnlinkEnds.{EndsName, UnlinkEnds}
-use Rattle.ele_world.specs.Walk.{file_at, file_now, live_target, parent_now, walk_now}
-use Rattle.ele_world.specs.WellFormed.{IsWellFormed}
-use Rattle.ele_world.specs.World.{World, root, next_of, is_live, is_version, current_of}
-use Rattle.ele_world.proofs.Currents.{HasCurrent, has_current}
+use Rattle.ele_world.specs.Walk.{file_at, file_now, parent_now, walk_now}
+use Rattle.ele_world.specs.World.{root}
+use Rattle.ele_world.proofs.Currents.{has_current, last_ends}
 use Rattle.ele_world.proofs.NameEnds.{dead_path}
 use Rattle.ele_world.proofs.Outcomes.{in_all}
-use Rattle.ele_world.proofs.Walks.{file_of, last_is, new_leads, target_live, walk-push}
-use Rattle.ele_world.proofs.Elements.{find-updated}
+use Rattle.ele_world.proofs.Walks.{file_of, last_names, new_leads, target_live, walk-push}
 
 -- ---- a link
 
@@ -42,16 +40,6 @@ link_leads w from to k = in_all w (λ answer. answer.0 ≡ Done → LeadsToSame 
 
 -- ---- an unlink
 
-module _ (w : World) (directory : ℕ) (name : List ℕ) (file : ℕ) (k : IsWellFormed w) (leads : live_target w.names directory name ≡ Some (File file)) where
-  abbrev pub unlinked : World
-  unlinked = after_change w (EndFileName directory name file)
-
-  pub current : HasCurrent w file
-  current = has_current w file k (target_live w.names directory name (File file) leads)
-
-  pub ended_current : is_live unlinked file ≡ false → current_of unlinked file ≡ Some (ended_at w.now current.row)
-  ended_current dead = rw dead (find-updated (is_version file (next_of w.files file - 1)) (ended_at w.now) w.versions (λ row. refl) ∙ ap (option_map (ended_at w.now)) current.found)
-
 pub unlink_ends : UnlinkEnds
 unlink_ends w path k = in_all w (λ answer. answer.0 ≡ Done → EndsName w path (answer.1)) (plan w (Unlink path)) (
   λ refusal e. absurd cc,
@@ -62,12 +50,12 @@ unlink_ends w path k = in_all w (λ answer. answer.0 ≡ Done → EndsName w pat
 ) where
   ends : (at : ℕ × List ℕ) → parent_now w.names path ≡ Ok at → (file : ℕ) → file_now w.names path ≡ Ok file → EndsName w path (after_change w (EndFileName at.0 at.1 file))
   ends at found file leads =
-      let named = last_is w.names path at (File file) found (file_of (walk_now w.names path) file leads) in
-      let last = current w at.0 at.1 file k named in
+      let named = last_names w.names path at (File file) found (file_of (walk_now w.names path) file leads) in
+      let current = has_current w file k (target_live w.names at.0 at.1 (File file) named) in
       record {
         file = file;
         was = leads;
         gone = dead_path w path at k found;
-        ended = λ dead. ap (option_map (λ (row : VersionRow). row.ended)) (ended_current w at.0 at.1 file k named dead) ∙ ap (λ (o : Option ℕ). Some (Some (unwrap_or o w.now))) last.no_end;
+        ended = λ dead. rw dead (ap (option_map (λ (row : VersionRow). row.ended)) (last_ends w file current) ∙ ap (λ (o : Option ℕ). Some (Some (unwrap_or o w.now))) current.no_end);
         stays = λ live. rw live refl;
       }

@@ -4,15 +4,12 @@ use Rattle.std.specs.Prelude.{find, option_and_then}
 use Rattle.std.proofs.lemmas.Bool.Decides.{nat_tests}
 use Rattle.ele_lists.proofs.Found.{find-update_other}
 use Rattle.ele_policy.specs.Ripe.{Beside, ripe_by}
-use Rattle.ele_world.specs.Change.{ended_at, with_end}
-use Rattle.ele_world.specs.declared.rows.Target.TheVariants.{File}
+use Rattle.ele_world.specs.Change.{ended_at, with_end, after_change, EndFileName}
 use Rattle.ele_world.specs.declared.rows.VersionRow.{VersionRow}
 use Rattle.ele_world.specs.Due.{ripe_of, ripe_at}
 use Rattle.ele_world.specs.FileView.{view_of}
-use Rattle.ele_world.specs.Walk.{live_target}
-use Rattle.ele_world.specs.WellFormed.{IsWellFormed}
 use Rattle.ele_world.specs.World.{World, policy_of, next_of, is_live, is_version}
-use Rattle.ele_world.proofs.Links.{unlinked, current, ended_current}
+use Rattle.ele_world.proofs.Currents.{HasCurrent, last_ends}
 use Rattle.ele_world.proofs.Plain.{ripe_is_plain}
 use Rattle.ele_world.proofs.RipeAt.{ripe_at_is, unended}
 
@@ -38,9 +35,9 @@ module _ (w v : World) (files : v.files ≡ w.files) where
 
 -- ---- the end of a file's name
 
-module _ (w : World) (directory : ℕ) (name : List ℕ) (file : ℕ) (k : IsWellFormed w) (leads : live_target w.names directory name ≡ Some (File file)) where
+module _ (w : World) (directory : ℕ) (name : List ℕ) (file : ℕ) where
   abbrev after : World
-  after = unlinked w directory name file k leads
+  after = after_change w (EndFileName directory name file)
 
   abbrev last : ℕ
   last = next_of w.files file - 1
@@ -56,18 +53,17 @@ module _ (w : World) (directory : ℕ) (name : List ℕ) (file : ℕ) (k : IsWel
     by true = refl
     by false = find-update_other (is_version file last) (is_version f n) (ended_at w.now) w.versions (λ row h. (grind (arith, nat_tests), grind (arith, nat_tests)))
 
-  -- its last version, which had none, gets one: it ends now
-  pub no_moment : ripe_at w file last ≡ None
-  unfolding ripe_of
-  no_moment =
-      let row = (current w directory name file k leads).row in
-      ripe_at_is w file last ∙ ap (option_and_then (ripe_of w)) (current w directory name file k leads).found ∙ unended (view_of w row.file) row (current w directory name file k leads).no_end
+  module _ (current : HasCurrent w file) where
+    -- its last version, which had none, gets one, as it ends now
+    pub no_moment : ripe_at w file last ≡ None
+    unfolding ripe_of
+    no_moment = ripe_at_is w file last ∙ ap (option_and_then (ripe_of w)) current.found ∙ unended (view_of w current.row.file) current.row current.no_end
 
-  pub ended_moment : (stands : Beside) → is_live after file ≡ false
-      → ripe_at after file last ≡ option_and_then (λ policy. ripe_by policy (current w directory name file k leads).row.closed stands w.now) (policy_of w.files file)
-  unfolding ripe_of
-  ended_moment stands dead =
-      let row = (current w directory name file k leads).row in
-      ripe_at_is after file last ∙ ap (option_and_then (ripe_of after)) (ended_current w directory name file k leads dead)
-      ∙ ripe_is_plain (view_of after row.file) (ended_at w.now row) stands
-      ∙ rw ((current w directory name file k leads).no_end, (current w directory name file k leads).own) refl
+    pub ended_moment : (stands : Beside) → is_live after file ≡ false → ripe_at after file last ≡ option_and_then (λ policy. ripe_by policy current.row.closed stands w.now) (policy_of w.files file)
+    unfolding ripe_of
+    ended_moment stands dead =
+        let found : find (is_version file last) after.versions ≡ Some (ended_at w.now current.row) = rw dead (last_ends w file current) in
+        ripe_at_is after file last
+        ∙ ap (option_and_then (ripe_of after)) found
+        ∙ ripe_is_plain (view_of after current.row.file) (ended_at w.now current.row) stands
+        ∙ rw (current.no_end, current.own) refl

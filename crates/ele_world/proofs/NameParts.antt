@@ -1,5 +1,5 @@
 -- A name more, and the end of one, in the parts of a well-formed world that speak of names.
-use Rattle.std.proofs.Common.{◌≡◌, ℕ, ◌≤◌, Bool, true, false, ◌==◌, ◌&&◌, List, [], ◌∷◌, ◌++◌, Option, Some, None, refl, sym, subst, ◌∙◌, arith, eqb}
+use Rattle.std.proofs.Common.{◌≡◌, ℕ, ◌≤◌, Bool, true, false, ◌==◌, ◌&&◌, List, [], ◌∷◌, ◌++◌, Option, Some, None, refl, sym, subst, ◌∙◌, arith, eqb, ◌+◌, ◌<◌, length}
 use Rattle.std.specs.Prelude.{find, is_some, is_none}
 use Rattle.std.specs.List.{AllByRecursion}
 use Rattle.std.specs.Option.{option_map}
@@ -12,11 +12,12 @@ use Rattle.ele_lists.proofs.Edits.{all-any, all-push, all-weaker, all-both, all-
 use Rattle.ele_lists.proofs.Found.{later-update_found}
 use Rattle.ele_world.specs.NameRows.{born_row, dies, is_live_directory}
 use Rattle.ele_world.specs.Walk.{live_target, is_live_name}
-use Rattle.ele_world.specs.WellFormed.{AllLater, IsThere, IsNameRow, AreApart, AreNames, AreOthers}
+use Rattle.ele_world.specs.WellFormed.{AllLater, IsThere, IsNameRow, AreApart, AreNames, AreOthers, AreCounted, Counted, IsWellFormed}
 use Rattle.ele_world.specs.declared.rows.FileRow.{FileRow}
 use Rattle.ele_world.specs.declared.rows.NameRow.{NameRow}
 use Rattle.ele_world.specs.declared.rows.Target.{Target}
 use Rattle.ele_world.specs.declared.rows.Target.TheVariants.{File, Directory}
+use Rattle.ele_world.specs.World.{World}
 
 -- ---- a name more
 
@@ -63,6 +64,18 @@ tree_more now names directory name target none tree = later-push AreOthers names
   others : (t : Target) → IsUnnamed names t → AllByRecursion (λ row. AreOthers row (born_row directory name t now)) names
   others (File file) none = all-any (λ row. AreOthers row (born_row directory name (File file) now)) names (λ row id live. refl)
   others (Directory d) none = all-weaker (λ row. is_live_directory d row ≡ false) (λ row. AreOthers row (born_row directory name (Directory d) now)) names (λ row h id live. other row d id h live (d == id) refl) none
+
+-- so many name rows, at most one more than there were
+pub counted_more : (w : World) (rows : ℕ) → IsWellFormed w → w.made.names < w.limits.names → rows ≤ length w.names + 1 → AreCounted (record w.made { names = w.made.names + 1 }) w.limits (length w.files) rows (length w.versions) (length w.drafts)
+counted_more w rows k room le = let c = k.holds Counted in record {
+  files_made = c.files_made;
+  names_made = omega (arith, room);
+  versions_made = c.versions_made;
+  handles_made = c.handles_made;
+  file_rows = c.file_rows;
+  name_rows = omega (arith, c.name_rows, le);
+  version_rows = c.version_rows;
+}
 
 -- ---- the end of a name
 

@@ -24,7 +24,7 @@ use Rattle.ele_world.specs.World.{World, root}
 use Rattle.ele_world.proofs.NameEnds.{gone, other_stays, path_ends}
 use Rattle.ele_world.proofs.NameParts.{free_still}
 use Rattle.ele_world.proofs.Outcomes.{in_all}
-use Rattle.ele_world.proofs.Walks.{IsParent, last_is, live_target-push, named_leads, parent_is}
+use Rattle.ele_world.proofs.Walks.{IsParent, last_names, live_target-push, named_leads, parent_is}
 
 -- ---- a walk that doesn't come to what is moved leads where it did
 
@@ -83,7 +83,7 @@ module _ (w : World) (from to : List (List ℕ)) (k : IsWellFormed w) (old : ℕ
   named = born_row at.0 at.1 moved w.now
 
   stands : live_target w.names old.0 old.1 ≡ Some moved
-  stands = last_is w.names from old moved found leads
+  stands = last_names w.names from old moved found leads
 
   parent : IsParent w.names to at
   parent = parent_is w.names to at home
@@ -102,21 +102,21 @@ module _ (w : World) (from to : List (List ℕ)) (k : IsWellFormed w) (old : ℕ
   nowhere =
       let is : find (is_live_name old.0 old.1) (remaining ++ named ∷ []) ≡ None = find-append (is_live_name old.0 old.1) remaining (named ∷ []) ∙ rw (none, other) refl in
       rw is refl where
-    none : find (is_live_name old.0 old.1) remaining ≡ None
-    none = by (find (is_live_name old.0 old.1) remaining) (gone w.names old.0 old.1 w.now (k.holds Names).lives) where
-      by : (o : Option NameRow) → option_map (λ (row : NameRow). row.target) o ≡ None → o ≡ None
-      by None h = refl
-      by (Some row) h = absurd cc
+        none : find (is_live_name old.0 old.1) remaining ≡ None
+        none = by (find (is_live_name old.0 old.1) remaining) (gone w.names old.0 old.1 w.now (k.holds Names).lives) where
+          by : (o : Option NameRow) → option_map (λ (row : NameRow). row.target) o ≡ None → o ≡ None
+          by None h = refl
+          by (Some row) h = absurd cc
 
-    other : is_live_name old.0 old.1 named ≡ false
-    other = by (is_live_name old.0 old.1 named) refl where
-      by : (b : Bool) → is_live_name old.0 old.1 named ≡ b → b ≡ false
-      by false is = refl
-      by true is =
-          let same_directory : at.0 ≡ old.0 = grind (arith, nat_tests) in
-          let same_name : at.1 ≡ old.1 = (bytes_eq-Decides at.1 old.1).0 (grind (arith, nat_tests)) in
-          let free' = rw (same_directory, same_name, stands) at free in
-          absurd (false≢true (sym free'))
+        other : is_live_name old.0 old.1 named ≡ false
+        other = by (is_live_name old.0 old.1 named) refl where
+          by : (b : Bool) → is_live_name old.0 old.1 named ≡ b → b ≡ false
+          by false is = refl
+          by true is =
+              let same_directory : at.0 ≡ old.0 = grind (arith, nat_tests) in
+              let same_name : at.1 ≡ old.1 = (bytes_eq-Decides at.1 old.1).0 (grind (arith, nat_tests)) in
+              let free' = rw (same_directory, same_name, stands) at free in
+              absurd (false≢true (sym free'))
 
   leads_instead : LeadsInstead w from to (after_change w (MoveName old.0 old.1 at.0 at.1 moved))
   leads_instead = record {

@@ -142,8 +142,8 @@ directory_of (Ok (Directory other)) directory h = let same : other ≡ directory
 directory_of (Err refusal) directory h = absurd cc
 
 -- the path's last name is that of what the path leads to
-pub last_is : (rows : List NameRow) (path : List (List ℕ)) (at : ℕ × List ℕ) (target : Target) → parent_now rows path ≡ Ok at → walk_now rows path ≡ Ok target → live_target rows at.0 at.1 ≡ Some target
-last_is rows path at target found leads = by (live_target rows at.0 at.1) (sym on ∙ leads) where
+pub last_names : (rows : List NameRow) (path : List (List ℕ)) (at : ℕ × List ℕ) (target : Target) → parent_now rows path ≡ Ok at → walk_now rows path ≡ Ok target → live_target rows at.0 at.1 ≡ Some target
+last_names rows path at target found leads = by (live_target rows at.0 at.1) (sym on ∙ leads) where
   parent : IsParent rows path at
   parent = parent_is rows path at found
 
@@ -155,7 +155,7 @@ last_is rows path at target found leads = by (live_target rows at.0 at.1) (sym o
   by (Some other) h = cc
 
 pub last_leads : (rows : List NameRow) (path : List (List ℕ)) (at : ℕ × List ℕ) (directory : ℕ) → parent_now rows path ≡ Ok at → directory_now rows path ≡ Ok directory → live_target rows at.0 at.1 ≡ Some (Directory directory)
-last_leads rows path at directory found leads = last_is rows path at (Directory directory) found (directory_of (walk_now rows path) directory leads)
+last_leads rows path at directory found leads = last_names rows path at (Directory directory) found (directory_of (walk_now rows path) directory leads)
 
 -- ---- a new name
 
