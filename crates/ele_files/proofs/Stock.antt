@@ -71,6 +71,14 @@ module _ (files : List File) (drafts : List Draft) where
           omega (arith, exchanged k, same);
     }
 
+    pub rows_ended : (now : ℕ) → g.log.rows ≡ ended_rows f now → SameStock (stock_of files drafts) (stock_of (update_first (is_id id) (over g) files) drafts)
+    rows_ended now rows = record {
+      sums = λ k.
+          let h : log.VersionRow → ℕ = λ r. k (row_stock f.id r) in
+          let same : sum_by h g.log.rows ≡ sum_by h (ended_rows f now) = rw rows refl in
+          omega (arith, exchanged k, same, sum_by-update_same h (is_numbered (f.next - 1)) (ended_by now) f.log.rows (λ r. refl));
+    }
+
     pub row_added : (now : ℕ) (new : log.VersionRow) → g.log.rows ≡ ended_rows f now ++ new ∷ [] → SameStock (stock_of (update_first (is_id id) (over g) files) drafts) (row_stock f.id new ∷ stock_of files drafts)
     row_added now new rows = record {
       sums = λ k.
