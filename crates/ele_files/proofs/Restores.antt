@@ -1,9 +1,8 @@
 -- A held version comes again as its file's next one.
-use Rattle.std.proofs.Common.{◌≡◌, ◌≢◌, ℕ, ◌+◌, Bool, true, false, eqb, List, [], ◌∷◌, get_or, Option, Some, None, refl, sym, ◌∙◌, arith}
+use Rattle.std.proofs.Common.{◌≡◌, ℕ, ◌+◌, Bool, false, List, [], ◌∷◌, get_or, Option, Some, None, refl, sym, ◌∙◌, arith}
 use Rattle.std.proofs.Math.ListN.{set}
 use Rattle.std.specs.Prelude.{find, IsSome}
 use Rattle.std.specs.List.{AllByRecursion, list_any, position}
-use Rattle.std.proofs.lemmas.Bool.Decides.{nat_tests}
 use Rattle.ele_blocks.specs.Layout.{Layout, shown}
 use Rattle.ele_blocks.specs.LivesIn.{LivesIn}
 use Rattle.ele_blocks.specs.Owes.{Moves}
@@ -19,12 +18,12 @@ use Rattle.ele_files.proofs.Copied.{row_copied, row_same}
 use Rattle.ele_files.proofs.Exchanges.{IsReached, reached}
 use Rattle.ele_files.proofs.Looks.{held_stays}
 use Rattle.ele_files.proofs.Places.{its_kept, its_past}
-use Rattle.ele_files.proofs.Rows.{any-draft, next-found, no-file, version-none, version-of}
+use Rattle.ele_files.proofs.Rows.{undrafted, next-found, no-file, version-none, version-of}
 use Rattle.ele_files.proofs.Stock.{row_lives}
 use Rattle.ele_inode_log.specs.Rows.{HeldRows, is_numbered}
 use Rattle.ele_inode_log.specs.declared.row.VersionRow as log
-use Rattle.ele_lists.proofs.Edits.{all-found, all-none, all-weaker}
-use Rattle.ele_sessions.specs.Sessions.{Draft, AllSessions, is_draft}
+use Rattle.ele_lists.proofs.Edits.{all-found}
+use Rattle.ele_sessions.specs.Sessions.{AllSessions}
 use Rattle.ele_world.specs.Change.{Append}
 use Rattle.ele_world.specs.World.{is_version, next_of}
 use Rattle.ele_world.specs.World as world
@@ -61,7 +60,7 @@ module _ (s : Store) (files : List File) (a : AllSessions) (kept : Keeps s files
       pub lives : LivesIn s row.cells
       lives = row_lives s files a kept file (is_numbered number) f row at.found its_row
 
-      module _ (t : Store) (moves : Moves s t [] (row.cells ∷ [])) (undrafted : list_any (world.is_draft file) (held_in s files a).drafts ≡ false) (now : ℕ) (live : Bool) (m : Layout) (same : m ≡ row.cells) (l : File) (appended : HasAppended k l now (next_row f.next now now live m)) (past : AllByRecursion (IsPast now) (held_in s files a).versions) where
+      module _ (t : Store) (moves : Moves s t [] (row.cells ∷ [])) (alone : list_any (world.is_draft file) (held_in s files a).drafts ≡ false) (now : ℕ) (live : Bool) (m : Layout) (same : m ≡ row.cells) (l : File) (appended : HasAppended k l now (next_row f.next now now live m)) (past : AllByRecursion (IsPast now) (held_in s files a).versions) where
         abbrev new : log.VersionRow
         new = next_row f.next now now live row.cells
 
@@ -73,15 +72,12 @@ module _ (s : Store) (files : List File) (a : AllSessions) (kept : Keeps s files
             let below = (all-found (is_numbered number) (IsRowOf f.next) f.log.rows row its_row (its_kept s files a kept file i f place is).rows).number in
             row_copied s t files a kept file f at.found (is_numbered number) row its_row moves (f.next + 1) (omega (arith, below)) (row_stock f.id new ∷ stock_of files a.drafts) (record { sums = λ x. refl })
 
-        others : AllByRecursion (λ (d : Draft). d.file ≢ file) a.drafts
-        others = all-weaker (λ (d : Draft). is_draft file d ≡ false) (λ (d : Draft). d.file ≢ file) a.drafts (λ d no same. absurd (let yes : eqb d.file file ≡ true = grind (arith, nat_tests) in cc)) (all-none (is_draft file) a.drafts (sym (any-draft s file a.drafts) ∙ undrafted))
-
         cells : cells_of_version (held_in s files a) file number ≡ shown t row.cells
         cells = rw (version-of s file number files kept.rise f at.found, its_row) (sym (row_same s t files a kept file f at.found (is_numbered number) row its_row came.shows))
 
         pub restored : IsRestored t (held_in s files a) file number now live f.next (set files i l) a
         restored = record {
-          keeps = rw (at.changed l appended.id appended.policy) (appended_keeps t files file f l at.found kept.rise kept.files_kept now now live row.cells f_appended (its_past s files a kept file i f place is now past) kept.laws a kept.drafts_kept others came.stocked);
+          keeps = rw (at.changed l appended.id appended.policy) (appended_keeps t files file f l at.found kept.rise kept.files_kept now now live row.cells f_appended (its_past s files a kept file i f place is now past) kept.laws a kept.drafts_kept (undrafted s file a.drafts alone) came.stocked);
           number = sym (next-found files file (Some f) at.found);
           shows = λ w time lives. rw (at.changed l appended.id appended.policy, cells) (appended_shows t files file f l at.found kept.rise kept.files_kept now now live row.cells f_appended (its_past s files a kept file i f place is now past) a (with_rows w (held_in s files a)) (sym (held_stays s t files a came.shows)) time lives);
         }

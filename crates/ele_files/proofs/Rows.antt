@@ -1,5 +1,5 @@
 -- What the rows show of the files, drafts and handles behind them.
-use Rattle.std.proofs.Common.{◌≡◌, ℕ, ◌-◌, ◌<◌, true, false, eqb, List, map, get_or, Option, Some, None, Result, Ok, Err, refl, sym, ap, ◌∙◌, arith}
+use Rattle.std.proofs.Common.{◌≡◌, ◌≢◌, ℕ, ◌-◌, ◌<◌, true, false, eqb, List, map, get_or, Option, Some, None, Result, Ok, Err, refl, sym, ap, ◌∙◌, arith}
 use Rattle.std.specs.List.{find, position, list_any, flat_map, AllByRecursion}
 use Rattle.std.specs.Option.{option_map, option_map_or, option_and_then, ok_or}
 use Rattle.std.specs.Result.{result_ok}
@@ -16,7 +16,7 @@ use Rattle.ele_inode_log.specs.Rows.{is_numbered}
 use Rattle.ele_lists.specs.Lists.{update_first, remove_first, AllLater}
 use Rattle.ele_lists.proofs.Alls.{all-map, map-all, flat_map-all}
 use Rattle.ele_lists.proofs.Buckets.{find-buckets}
-use Rattle.ele_lists.proofs.Edits.{all-any, all-found, all-weaker, found_passes}
+use Rattle.ele_lists.proofs.Edits.{all-any, all-found, all-none, all-weaker, found_passes}
 use Rattle.ele_lists.proofs.Places.{find-position, find-none}
 use Rattle.ele_lists.proofs.Shown.{find-map, any-map, remove_first-map, update_first-map}
 use Rattle.ele_sessions.specs.Sessions as sessions
@@ -103,6 +103,10 @@ draft-found s file ds = find-map (draft_in s) (is_draft file) ds
 
 pub any-draft : (s : Store) (file : ℕ) (ds : List Draft) → list_any (is_draft file) (map (draft_in s) ds) ≡ list_any (sessions.is_draft file) ds
 any-draft s file ds = any-map (draft_in s) (is_draft file) ds
+
+-- no draft is of a file that has none
+pub undrafted : (s : Store) (file : ℕ) (ds : List Draft) → list_any (is_draft file) (map (draft_in s) ds) ≡ false → AllByRecursion (λ (d : Draft). d.file ≢ file) ds
+undrafted s file ds none = all-weaker (λ (d : Draft). sessions.is_draft file d ≡ false) (λ (d : Draft). d.file ≢ file) ds (λ d no same. absurd (let yes : eqb d.file file ≡ true = grind (arith, nat_tests) in cc)) (all-none (sessions.is_draft file) ds (sym (any-draft s file ds) ∙ none))
 
 -- what the sessions answer of a handle, as the rows say it
 abbrev pub reads_of : Option session.Reads → Result Reads Refusal

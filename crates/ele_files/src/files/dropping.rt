@@ -1,12 +1,21 @@
 //! The file of which nothing is held, and its drop.
 //! A contract sees the rows of all files before and after.
-ghost use Rattle.std.specs.Prelude.{◌≡◌, true};
-ghost use Rattle.std.specs.List.{list_any};
+ghost use Rattle.std.specs.Prelude.{◌≡◌, ◌<◌, true, vec_len};
+ghost use Rattle.std.specs.List.{list_any, remove};
 ghost use Rattle.ele_files.specs.Held.{is_bare, without_file};
 ghost use Rattle.ele_world.specs.FileView.{is_version_of};
 
+use crate::file::File;
 use crate::files::{Files, place_of};
 use ele_moment::FileId;
+
+/// The file at that place goes.
+fn take_out(files: &mut Vec<File>, at: usize)
+    requires { at < vec_len files.old }
+    ensures { files.new.items ≡ remove files.old.items at }
+{
+    let _file = files.remove(at);
+}
 
 impl Files {
     /// Whether a version of the file is held.
@@ -32,7 +41,7 @@ impl Files {
         ensures { self.new ≡ without_file self.old file }
     {
         if let Some(at) = place_of(&self.files, file) {
-            let _bare = self.files.remove(at);
+            take_out(&mut self.files, at);
         }
     }
 }
