@@ -1,6 +1,5 @@
 -- A file of which nothing is held.
 use Rattle.std.proofs.Common.{◌≡◌, ◌≢◌, ℕ, ◌<◌, Bool, true, false, not, ◌&&◌, eqb, List, [], ◌∷◌, ◌++◌, get_or, map, Option, Some, None, is_some, refl, ap, sym, ◌∙◌, arith}
-
 use Rattle.std.specs.Prelude.{find, IsTrue, ◌↔◌}
 use Rattle.std.specs.List.{flat_map, list_any, position, remove}
 use Rattle.std.specs.Option.{option_and_then, option_map_or}
