@@ -7,21 +7,19 @@ use Rattle.std.proofs.lemmas.List.{map-append}
 use Rattle.ele_blocks.specs.Layout.{Layout, shown}
 use Rattle.ele_blocks.specs.Stock.{IsStocked, StockLaws, empty_layout}
 use Rattle.ele_blocks.specs.Store.{Store}
-use Rattle.ele_files.specs.Appending.{IsRowPast, ended_by, ended_rows, next_row, HasAppended}
+use Rattle.ele_files.specs.Appending.{IsRowPast, ended_rows, next_row, HasAppended}
 use Rattle.ele_content.specs.declared.cell.Cell.{Cell}
 use Rattle.ele_files.specs.Held.{Held, rows_of, GotFile, with_rows}
 use Rattle.ele_files.specs.Inside.{file_row, row_in, rows_in, held_in, row_stock, stock_of, IsRowOf, IsFileKept, IsDraftKept, Keeps, is_id}
 use Rattle.ele_files.specs.declared.file.File.{File}
 use Rattle.ele_files.proofs.Endings.{closed_kept, of_rows}
 use Rattle.ele_files.proofs.Exchanges.{after, rise_over, files_over, rows_over}
-use Rattle.ele_files.proofs.Rows.{its_id, next-found, file_of, tagged, own_version, same_number}
+use Rattle.ele_files.proofs.Rows.{its_id, next-found, file_of, tagged, own_version, ended_shown}
 use Rattle.ele_files.proofs.Stock.{over, row_added, file_added}
-use Rattle.ele_inode_log.specs.Rows.{is_numbered}
 use Rattle.ele_lists.specs.Lists.{update_first, insert_before, AllLater}
 use Rattle.ele_lists.proofs.Alls.{all-map, map-all}
 use Rattle.ele_lists.proofs.Buckets.{IsLocal, bucket_changes, local-after, local-update_first, local-insert_before}
 use Rattle.ele_lists.proofs.Edits.{all-weaker, all-both, all-found, all-push, later-push, not_found}
-use Rattle.ele_lists.proofs.Shown.{update_first-map}
 use Rattle.ele_sessions.specs.Sessions.{Draft, AllSessions}
 use Rattle.ele_world.proofs.Files.{next_of-numbered_other, next_of-push}
 use Rattle.ele_world.specs.Change.{Append, after_change, numbered_on, ended_at, with_file, with_name}
@@ -73,7 +71,7 @@ module _ (s : Store) (files : List File) (id : ℕ) (f g : File) (found : find (
     laws = laws;
     rise = rise_over files id f g found rise;
     stocked = laws.same s (row_stock f.id new ∷ stock_of files a.drafts) (stock_of (after files id f g found) a.drafts) (record { sums = λ k. sym ((row_added files a.drafts id f g found now new closed.rows).sums k) }) stocked;
-    files_kept = files_over files id f g found (closed_kept f opened now live cells its_kept past g closed) files_kept;
+    files_kept = files_over files id f g found (closed_kept f now its_kept past opened live cells g closed) files_kept;
     drafts_kept = others_keep a.drafts others kept;
   }
 
@@ -85,7 +83,7 @@ module _ (s : Store) (files : List File) (id : ℕ) (f g : File) (found : find (
       rw (a, e, b) refl
 
   none_later : AllByRecursion (λ row. is_version_after id f.next row ≡ false) (map (row_in s f.id) (ended_rows f now))
-  none_later = all-map (row_in s f.id) (λ row. is_version_after id f.next row ≡ false) (ended_rows f now) (all-weaker (IsRowOf f.next) (λ row. is_version_after id f.next (row_in s f.id row) ≡ false) (ended_rows f now) (λ row h. row_later row.number h.number) (of_rows f opened now live cells its_kept past g closed))
+  none_later = all-map (row_in s f.id) (λ row. is_version_after id f.next row ≡ false) (ended_rows f now) (all-weaker (IsRowOf f.next) (λ row. is_version_after id f.next (row_in s f.id row) ≡ false) (ended_rows f now) (λ row h. row_later row.number h.number) (of_rows f now its_kept past))
 
   local : IsLocal file_of id (appended id f.next now (row_in s f.id new))
   local = local-after file_of id (insert_before (is_version_after id f.next) (row_in s f.id new)) (update_first (is_version id (f.next - 1)) (ended_at now)) (local-insert_before file_of id (is_version_after id f.next) (row_in s f.id new) (λ row lt.
@@ -100,7 +98,7 @@ module _ (s : Store) (files : List File) (id : ℕ) (f g : File) (found : find (
       ap (map (row_in s f.id)) closed.rows
       ∙ (map-append (row_in s f.id) (ended_rows f now) (new ∷ [])
       ∙ (sym (insert_end (is_version_after id f.next) (row_in s f.id new) (map (row_in s f.id) (ended_rows f now)) none_later)
-      ∙ ap (insert_before (is_version_after id f.next) (row_in s f.id new)) (sym (update_first-map (row_in s f.id) (is_version id (f.next - 1)) (is_numbered (f.next - 1)) (same_number s f.id id (f.next - 1) is) (ended_at now) (ended_by now) (λ row. refl) f.log.rows))))
+      ∙ ap (insert_before (is_version_after id f.next) (row_in s f.id new)) (ended_shown s f now id is)))
 
   versions_append : appended id f.next now (row_in s f.id new) (flat_map (rows_in s) files) ≡ flat_map (rows_in s) (after files id f g found)
   versions_append = bucket_changes (λ (x : File). x.id) (rows_in s) file_of (tagged s) id (appended id f.next now (row_in s f.id new)) local (over g) files f rise found its_rows

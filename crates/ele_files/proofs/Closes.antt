@@ -1,32 +1,31 @@
 -- What goes with a handle, and what the last writer of a changed draft leaves.
-use Rattle.std.proofs.Common.{◌≡◌, ℕ, Bool, true, false, cond, List, map, Option, Some, None, is_some, refl, ap, sym, ◌∙◌, ◌<◌, [], ◌∷◌, get_or, Result, Ok, Err, arith}
+use Rattle.std.proofs.Common.{◌≡◌, ℕ, Bool, true, false, cond, List, map, Option, Some, None, is_some, refl, ap, sym, ◌∙◌, [], ◌∷◌, get_or, Result, Ok, Err, arith}
 use Rattle.std.specs.Prelude.{find}
 use Rattle.std.specs.List.{list_any, AllByRecursion, position}
 use Rattle.std.specs.Option.{option_and_then, option_map}
 use Rattle.ele_blocks.specs.Layout.{Layout}
 use Rattle.ele_blocks.specs.LivesIn.{LivesIn}
 use Rattle.ele_blocks.specs.Store.{Store}
-use Rattle.ele_files.specs.Appending.{IsGivenUp, opening_of, IsRowPast, next_row, HasAppended}
+use Rattle.ele_files.specs.Appending.{IsGivenUp, opening_of, next_row, HasAppended}
 use Rattle.ele_files.specs.Closing.{last_draft, changed_opening, opening_by, leaving, left_of, left_by, IsPast, finishing}
 use Rattle.ele_files.specs.Held.{Held, changed_at, Became, rows_of, with_rows, cells_of_draft}
-use Rattle.ele_files.specs.Inside.{draft_in, handle_in, held_in, Keeps, file_row, row_in, rows_in, row_stock, draft_stock, stock_of, IsFileKept, IsDraftKept, is_id}
+use Rattle.ele_files.specs.Inside.{draft_in, handle_in, held_in, Keeps, file_row, row_stock, draft_stock, stock_of, IsDraftKept, is_id}
 use Rattle.ele_files.specs.declared.file.File.{File}
 use Rattle.ele_files.proofs.Drafts.{same_drafts, dropped, drafts_apart, its_file}
 use Rattle.ele_files.proofs.Looks.{IsSeen}
-use Rattle.ele_files.proofs.Rows.{draft-found, handle_file-shown, left-shown, no-file, next-found, its_id}
+use Rattle.ele_files.proofs.Rows.{draft-found, handle_file-shown, left-shown, no-file, next-found, its_id, file_past}
 use Rattle.ele_files.proofs.Stock.{draft_lives, draft_apart}
 use Rattle.ele_lists.specs.Lists.{remove_first}
 use Rattle.ele_lists.proofs.Cuts.{remove_first-unfound}
-use Rattle.ele_lists.proofs.Edits.{all-not_found, all-weaker, all-found, all-remove_first}
+use Rattle.ele_lists.proofs.Edits.{all-not_found, all-found, all-remove_first}
 use Rattle.ele_lists.proofs.Shown.{remove_first-map}
 use Rattle.ele_sessions.specs.Closes.{left_handles, file_closing, left_drafts, closing_of, closing, closed_of, closed}
 use Rattle.ele_sessions.specs.Sessions.{Draft, AllSessions, is_draft, is_writer}
 use Rattle.std.proofs.Math.ListN.{set}
 use Rattle.std.specs.Result.{OnErr, result_ok}
 use Rattle.ele_files.proofs.Appends.{appended_keeps, appended_shows}
-use Rattle.ele_files.proofs.Exchanges.{same_keeps, same_shows, IsReached, reached}
+use Rattle.ele_files.proofs.Exchanges.{IsReached, reached}
 use Rattle.ele_inode_log.specs.Rows.{HeldRows}
-use Rattle.ele_lists.proofs.Alls.{map-all, flat_map-all}
 use Rattle.ele_sessions.specs.Order.{Rises}
 use Rattle.ele_world.specs.Change.{ShutHandle, EndDraft, after_changes}
 use Rattle.ele_world.specs.World.{World, file_by, next_of}
@@ -169,26 +168,8 @@ module _ (s : Store) (files : List File) (ss : AllSessions) (handle file opened 
     abbrev k : File
     k = record f { log = log }
 
-    its_kept : IsFileKept f
-    its_kept = all-found (is_id file) IsFileKept files f at.found kept.files_kept
-
     next_is : next_of (map file_row files) file ≡ f.next
     next_is = next-found files file (Some f) at.found
-
-    pub waits_keeps : Keeps s (set files i k) ss
-    waits_keeps = rw (at.changed k refl refl) (same_keeps files file f k at.found s ss kept refl rows_stay its_kept)
-
-    pub waits_shows : held_in s (set files i k) ss ≡ rows
-    waits_shows = rw (at.changed k refl refl) (same_shows files file f k at.found s ss kept refl rows_stay)
-
-    f_past : (now : ℕ) → AllByRecursion (IsPast now) rows.versions → AllByRecursion (IsRowPast now) f.log.rows
-    f_past now past = all-weaker (λ row. IsPast now (row_in s f.id row)) (IsRowPast now) f.log.rows (λ row p. record { closed = p.closed; ended = p.ended }) (map-all (row_in s f.id) (IsPast now) f.log.rows (all-found (is_id file) (λ x. AllByRecursion (IsPast now) (rows_in s x)) files f at.found (flat_map-all (rows_in s) (IsPast now) files past)))
-
-    pub ready_past : (now : ℕ) → AllByRecursion (IsPast now) rows.versions → AllByRecursion (IsRowPast now) log.rows
-    ready_past now past = rw rows_stay (f_past now past)
-
-    pub ready_few : (n : ℕ) → AllByRecursion (λ row. row.next < n) rows.files → f.next < n
-    ready_few n few = all-found (is_id file) (λ x. x.next < n) files f at.found (map-all file_row (λ row. row.next < n) files few)
 
     module _ (now : ℕ) (live : Bool) (m : Layout) (out : given ss handle ≡ Some m) (l : File) (appended : HasAppended k l now (next_row f.next opened now live m)) (past : AllByRecursion (IsPast now) rows.versions) where
       m_is : m ≡ d.layout
@@ -203,12 +184,12 @@ module _ (s : Store) (files : List File) (ss : AllSessions) (handle file opened 
       keeps_it : Rises (λ (x : Draft). x.file) ss.drafts → Keeps s (set files i l) (closed ss handle)
       keeps_it rise =
           let stocked = kept.laws.same s (stock_of files ss.drafts) (draft_stock d ∷ stock_of files (remove_first (is_draft file) ss.drafts)) (draft_apart files ss.drafts (is_draft file) d is_last.found) kept.stocked in
-          rw (at.changed l appended.id appended.policy, is_last.left) (appended_keeps s files file f l at.found kept.rise kept.files_kept opened now live d.layout f_appended (f_past now past) kept.laws (without_handle ss handle file false) (all-remove_first (is_draft file) (IsDraftKept files) ss.drafts kept.drafts_kept) (drafts_apart file ss.drafts rise) (rw tag_is at stocked))
+          rw (at.changed l appended.id appended.policy, is_last.left) (appended_keeps s files file f l at.found kept.rise kept.files_kept opened now live d.layout f_appended (file_past s files file f now at.found past) kept.laws (without_handle ss handle file false) (all-remove_first (is_draft file) (IsDraftKept files) ss.drafts kept.drafts_kept) (drafts_apart file ss.drafts rise) (rw tag_is at stocked))
 
       shows_it : Became rows now file live (finishing rows handle file opened) (held_in s (set files i l) (closed ss handle))
       shows_it w time lives =
           rw (at.changed l appended.id appended.policy, is_last.left, cells)
-          (appended_shows s files file f l at.found kept.rise kept.files_kept opened now live d.layout f_appended (f_past now past) (without_handle ss handle file false) (after_changes (with_rows w rows) (ShutHandle handle ∷ EndDraft file ∷ [])) left time lives)
+          (appended_shows s files file f l at.found kept.rise kept.files_kept opened now live d.layout f_appended (file_past s files file f now at.found past) (without_handle ss handle file false) (after_changes (with_rows w rows) (ShutHandle handle ∷ EndDraft file ∷ [])) left time lives)
         where
           cells : cells_of_draft rows file ≡ (draft_in s d).cells
           cells = rw (draft-found s file ss.drafts, is_last.found) refl

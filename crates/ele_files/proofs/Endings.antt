@@ -4,11 +4,11 @@ use Rattle.std.specs.Prelude.{find, is_some, unwrap_or, IfSome, IsSomeAnd}
 use Rattle.std.specs.List.{AllByRecursion}
 use Rattle.std.proofs.lemmas.Bool.Decides.{nat_tests}
 use Rattle.ele_blocks.specs.Layout.{Layout}
-use Rattle.ele_files.specs.Appending.{IsRowPast, ended_by, ended_rows, next_row, HasAppended}
+use Rattle.ele_files.specs.Appending.{IsRowPast, ended_by, ended_rows, next_row, HasRows, HasAppended}
 use Rattle.ele_files.specs.Inside.{IsRowOf, IsFileKept}
 use Rattle.ele_files.specs.declared.file.File.{File}
 use Rattle.ele_inode_log.specs.declared.row.VersionRow as log
-use Rattle.ele_inode_log.specs.Rows.{AllLater, Precedes, EndsInTime, CanEndAt, is_numbered, last_of, update_last, ended_at}
+use Rattle.ele_inode_log.specs.Rows.{AllLater, AreInOrder, Precedes, EndsInTime, CanEndAt, is_numbered, last_of, update_last, ended_at}
 use Rattle.ele_lists.specs.Lists.{update_first}
 use Rattle.ele_lists.proofs.Alls.{all-append}
 use Rattle.ele_lists.proofs.Edits.{all-weaker, all-both, all-found, all-update_first, later-update_first, later-push}
@@ -85,32 +85,45 @@ module _ (next now : ℕ) (new : log.VersionRow) (number : new.number ≡ next) 
         absurd (grind (arith, nat_tests))
     has (Some ended) endless h e = h
 
--- a file, and the row of its next version
-module _ (f : File) (opened now : ℕ) (live : Bool) (cells : Layout) (kept : IsFileKept f) (past : AllByRecursion (IsRowPast now) f.log.rows) where
-  abbrev new : log.VersionRow
-  new = next_row f.next opened now live cells
+-- a file whose version before the next one ends
+module _ (f : File) (now : ℕ) (kept : IsFileKept f) (past : AllByRecursion (IsRowPast now) f.log.rows) where
+  ended_in_time : (row : log.VersionRow) → EndsInTime row × IsRowPast now row → EndsInTime (ended_by now row)
+  ended_in_time row h = by row.ended h.0 where
+    by : (o : Option ℕ) → IfSome o (λ ended. row.closed ≤ ended) → row.closed ≤ unwrap_or o now
+    by None ends = h.1.closed
+    by (Some ended) ends = ends
 
-  before_new : AllByRecursion (λ row. Precedes row new) (ended_rows f now)
-  before_new = all_precede f.next now new refl refl f.log.rows kept.order.order kept.rows past
+  ended_before : (x y : log.VersionRow) → Precedes x y → Precedes (ended_by now x) y
+  ended_before x y h = record { number = h.number; ended = by x.ended h.ended } where
+    by : (o : Option ℕ) → IsSomeAnd o (λ ended. ended ≤ y.closed) → unwrap_or o now ≤ y.closed
+    by None ends = absurd ends
+    by (Some ended) ends = ends
 
-  ends_in_time : EndsInTime new
-  ends_in_time = by live where
-    by : (b : Bool) → IfSome (cond b None (Some now)) (λ ended. now ≤ ended)
-    by true = tt
-    by false = omega arith
+  pub of_rows : AllByRecursion (IsRowOf f.next) (ended_rows f now)
+  of_rows = all-update_first (is_numbered (f.next - 1)) (IsRowOf f.next) (IsRowOf f.next) (ended_by now) f.log.rows (λ row h. record { first = h.first; number = h.number; open_end = λ endless. absurd cc }) (λ row h. h) kept.rows
 
-  module _ (g : File) (closed : HasAppended f g now new) where
-    ended_in_time : (row : log.VersionRow) → EndsInTime row × IsRowPast now row → EndsInTime (ended_by now row)
-    ended_in_time row h = by row.ended h.0 where
-      by : (o : Option ℕ) → IfSome o (λ ended. row.closed ≤ ended) → row.closed ≤ unwrap_or o now
-      by None ends = h.1.closed
-      by (Some ended) ends = ends
+  ended_order : AreInOrder (ended_rows f now)
+  ended_order = record {
+    ends = all-update_first (is_numbered (f.next - 1)) (λ row. EndsInTime row × IsRowPast now row) EndsInTime (ended_by now) f.log.rows ended_in_time (λ row h. h.0) (all-both EndsInTime (IsRowPast now) f.log.rows kept.order.ends past);
+    order = later-update_first (is_numbered (f.next - 1)) Precedes (ended_by now) f.log.rows ended_before (λ x y h. record { number = h.number; ended = h.ended }) kept.order.order;
+  }
 
-    ended_before : (x y : log.VersionRow) → Precedes x y → Precedes (ended_by now x) y
-    ended_before x y h = record { number = h.number; ended = by x.ended h.ended } where
-      by : (o : Option ℕ) → IsSomeAnd o (λ ended. ended ≤ y.closed) → unwrap_or o now ≤ y.closed
-      by None ends = absurd ends
-      by (Some ended) ends = ends
+  pub ended_kept : (g : File) → HasRows f g (ended_rows f now) → IsFileKept g
+  ended_kept g ended = record { next = rw ended.next kept.next; rows = rw (ended.next, ended.rows) of_rows; order = rw ended.rows ended_order }
+
+  -- and the row of its next version
+  module _ (opened : ℕ) (live : Bool) (cells : Layout) where
+    abbrev new : log.VersionRow
+    new = next_row f.next opened now live cells
+
+    before_new : AllByRecursion (λ row. Precedes row new) (ended_rows f now)
+    before_new = all_precede f.next now new refl refl f.log.rows kept.order.order kept.rows past
+
+    ends_in_time : EndsInTime new
+    ends_in_time = by live where
+      by : (b : Bool) → IfSome (cond b None (Some now)) (λ ended. now ≤ ended)
+      by true = tt
+      by false = omega arith
 
     more : (row : log.VersionRow) → IsRowOf f.next row × Precedes row new → IsRowOf (f.next + 1) row
     more row h = record {
@@ -119,15 +132,9 @@ module _ (f : File) (opened now : ℕ) (live : Bool) (cells : Layout) (kept : Is
       open_end = λ endless. absurd (not_some row.ended (λ ended. ended ≤ now) endless h.1.ended);
     }
 
-    pub of_rows : AllByRecursion (IsRowOf f.next) (ended_rows f now)
-    of_rows = all-update_first (is_numbered (f.next - 1)) (IsRowOf f.next) (IsRowOf f.next) (ended_by now) f.log.rows (λ row h. record { first = h.first; number = h.number; open_end = λ endless. absurd cc }) (λ row h. h) kept.rows
-
-    pub closed_kept : IsFileKept g
-    closed_kept = record {
+    pub closed_kept : (g : File) → HasAppended f g now new → IsFileKept g
+    closed_kept g closed = record {
       next = rw closed.next (omega arith);
       rows = rw (closed.next, closed.rows) (all-append (IsRowOf (f.next + 1)) (ended_rows f now) (new ∷ []) (all-weaker (λ row. IsRowOf f.next row × Precedes row new) (IsRowOf (f.next + 1)) (ended_rows f now) more (all-both (IsRowOf f.next) (λ row. Precedes row new) (ended_rows f now) of_rows before_new)) (record { first = kept.next; number = omega arith; open_end = λ endless. refl }, tt));
-      order = rw closed.rows (record {
-        ends = all-append EndsInTime (ended_rows f now) (new ∷ []) (all-update_first (is_numbered (f.next - 1)) (λ row. EndsInTime row × IsRowPast now row) EndsInTime (ended_by now) f.log.rows ended_in_time (λ row h. h.0) (all-both EndsInTime (IsRowPast now) f.log.rows kept.order.ends past)) (ends_in_time, tt);
-        order = later-push Precedes (ended_rows f now) new (later-update_first (is_numbered (f.next - 1)) Precedes (ended_by now) f.log.rows ended_before (λ x y h. record { number = h.number; ended = h.ended }) kept.order.order) before_new;
-      });
+      order = rw closed.rows (record { ends = all-append EndsInTime (ended_rows f now) (new ∷ []) ended_order.ends (ends_in_time, tt); order = later-push Precedes (ended_rows f now) new ended_order.order before_new });
     }

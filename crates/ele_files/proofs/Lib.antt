@@ -3,9 +3,14 @@ pub mod Looks
 pub mod Rows
 pub mod Exchanges
 pub mod Endings
+pub mod Places
+pub mod Ends
 pub mod Appends
 pub mod Drafts
+pub mod Copied
 pub mod Openings
+pub mod Restores
+pub mod Drops
 pub mod Asked
 pub mod Copies
 pub mod Names

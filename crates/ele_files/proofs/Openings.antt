@@ -1,27 +1,27 @@
 -- A handle that writes a file comes, and with the file's first handle a draft.
 use Rattle.std.proofs.Common.{◌≡◌, ℕ, ◌+◌, ◌-◌, Bool, true, false, List, [], ◌∷◌, ◌++◌, length, map, Option, Some, None, Result, Ok, Err, refl, sym, ap, ◌∙◌, arith, length-append}
 use Rattle.std.specs.Prelude.{find, MatchBool}
-use Rattle.std.specs.List.{flat_map, list_any, sum_by, AllByRecursion}
+use Rattle.std.specs.List.{flat_map, list_any, sum_by}
 use Rattle.std.specs.Option.{option_map, option_map_or}
 use Rattle.std.specs.Result.{OnOk, OnErr}
 use Rattle.std.proofs.lemmas.List.{map-append, length-map}
 use Rattle.ele_blocks.specs.Layout.{Layout, shown}
 use Rattle.ele_blocks.specs.LivesIn.{LivesIn}
 use Rattle.ele_blocks.specs.Owes.{Moves}
-use Rattle.ele_blocks.specs.Stock.{Tagged, ShowsSame, Stays, empty_layout}
+use Rattle.ele_blocks.specs.Stock.{Tagged, Stays, empty_layout}
 use Rattle.ele_blocks.specs.Store.{Store}
 use Rattle.ele_files.specs.declared.file.File.{File}
 use Rattle.ele_files.specs.Held.{opened_by, first_draft}
 use Rattle.ele_files.specs.Inside.{IsRowOf, IsFileKept, IsDraftKept, Keeps, is_id, file_row, row_in, rows_in, draft_in, handle_in, held_in, row_stock, file_stock, draft_stock, stock_of}
+use Rattle.ele_files.proofs.Copied.{row_copied, row_same}
 use Rattle.ele_files.proofs.Drafts.{same_drafts}
 use Rattle.ele_files.proofs.Looks.{IsSeen, versions_stay, drafts_stay}
 use Rattle.ele_files.proofs.Rows.{its_id, next-found, version-of, any-draft}
-use Rattle.ele_files.proofs.Stock.{over, draft_begun, row_apart, row_lives}
+use Rattle.ele_files.proofs.Stock.{draft_begun, row_lives}
 use Rattle.ele_inode_log.specs.declared.row.VersionRow.{VersionRow}
 use Rattle.ele_inode_log.specs.declared.row.VersionRow as log
 use Rattle.ele_inode_log.specs.Rows.{is_numbered}
-use Rattle.ele_lists.specs.Lists.{update_first, remove_first, insert_before}
-use Rattle.ele_lists.proofs.Alls.{all-left, flat_map-all, map-all}
+use Rattle.ele_lists.specs.Lists.{insert_before}
 use Rattle.ele_lists.proofs.Edits.{all-found, all-insert_before}
 use Rattle.ele_lists.proofs.Shown.{insert_before-map}
 use Rattle.ele_sessions.specs.Opening.{new_draft, with_draft, Opens}
@@ -110,17 +110,11 @@ module _ (s : Store) (files : List File) (a : AllSessions) (kept : Keeps s files
         of_row (Some row) e =
             let its : first_map f ≡ row.cells = ap cells_of e in
             let is : log.VersionRow → Bool = is_numbered (f.next - 1) in
-            let g : File = record f { log = record f.log { rows = remove_first is f.log.rows } } in
-            let row_kept = all-found is (IsRowOf f.next) f.log.rows row e file_kept.rows in
-            let below = row_kept.number in
+            let below = (all-found is (IsRowOf f.next) f.log.rows row e file_kept.rows).number in
             let id : f.id ≡ file = its_id files file f found in
-            let copy : Tagged = record { file = f.id; below = f.next + 1; layout = row.cells } in
-            let same_tag : copy ≡ draft_stock new = rw (id, its) refl in
-            let rest = stock_of (update_first (is_id file) (over g) files) a.drafts in
-            let came = kept.laws.copied s t old (row_stock f.id row) rest (f.next + 1) us kept.stocked (row_apart files a.drafts file f g found is row e refl) (omega (arith, below)) (rw its at moves) (rw same_tag (draft_begun files a.drafts (is_draft_after file) new)) in
-            let mine = flat_map-all file_stock (ShowsSame s t) files (all-left (ShowsSame s t) (flat_map file_stock files) (map draft_stock a.drafts) came.shows) in
-            let shown_rows = map-all (row_stock f.id) (ShowsSame s t) f.log.rows (all-found (is_id file) (λ x. AllByRecursion (ShowsSame s t) (file_stock x)) files f found mine) in
-            record { stays = came; same = rw its (all-found is (λ r. ShowsSame s t (row_stock f.id r)) f.log.rows row e shown_rows).same }
+            let same_tag : record (row_stock f.id row) { below = f.next + 1 } ≡ draft_stock new = rw (id, its) refl in
+            let came = row_copied s t files a kept file f found is row e (rw its at moves) (f.next + 1) (omega (arith, below)) us (rw same_tag (draft_begun files a.drafts (is_draft_after file) new)) in
+            record { stays = came; same = rw its (row_same s t files a kept file f found is row e came.shows) }
 
       new_seen : draft_in t new ≡ first_draft (held_in s files a) file at
       new_seen = rw (begins.same, first_seen) refl

@@ -1,27 +1,30 @@
 -- What the rows show of the files, drafts and handles behind them.
-use Rattle.std.proofs.Common.{◌≡◌, ℕ, ◌<◌, true, false, eqb, List, map, get_or, Option, Some, None, Result, Ok, Err, refl, sym, ap, ◌∙◌, arith}
+use Rattle.std.proofs.Common.{◌≡◌, ◌≢◌, ℕ, ◌-◌, ◌<◌, true, false, eqb, List, map, get_or, Option, Some, None, Result, Ok, Err, refl, sym, ap, ◌∙◌, arith}
 use Rattle.std.specs.List.{find, position, list_any, flat_map, AllByRecursion}
 use Rattle.std.specs.Option.{option_map, option_map_or, option_and_then, ok_or}
 use Rattle.std.specs.Result.{result_ok}
 use Rattle.std.proofs.lemmas.Bool.{false≢true}
 use Rattle.std.proofs.lemmas.Bool.Decides.{nat_tests}
+use Rattle.ele_files.specs.Appending.{IsRowPast, ended_by, ended_rows}
+use Rattle.ele_files.specs.Closing.{IsPast}
 use Rattle.ele_files.specs.Held.{handle_file}
 use Rattle.ele_files.specs.Inside.{is_id, file_row, row_in, rows_in, draft_in, reads_in, handle_in}
 use Rattle.ele_files.specs.declared.file.File.{File}
 use Rattle.ele_blocks.specs.Store.{Store}
 use Rattle.ele_inode_log.specs.declared.row.VersionRow as log
 use Rattle.ele_inode_log.specs.Rows.{is_numbered}
-use Rattle.ele_lists.specs.Lists.{remove_first, AllLater}
-use Rattle.ele_lists.proofs.Alls.{all-map}
+use Rattle.ele_lists.specs.Lists.{update_first, remove_first, AllLater}
+use Rattle.ele_lists.proofs.Alls.{all-map, map-all, flat_map-all}
 use Rattle.ele_lists.proofs.Buckets.{find-buckets}
-use Rattle.ele_lists.proofs.Edits.{all-any, found_passes}
+use Rattle.ele_lists.proofs.Edits.{all-any, all-found, all-none, all-weaker, found_passes}
 use Rattle.ele_lists.proofs.Places.{find-position, find-none}
-use Rattle.ele_lists.proofs.Shown.{find-map, any-map, remove_first-map}
+use Rattle.ele_lists.proofs.Shown.{find-map, any-map, remove_first-map, update_first-map}
 use Rattle.ele_sessions.specs.Sessions as sessions
 use Rattle.ele_sessions.specs.Sessions.{Draft}
 use Rattle.ele_sessions.specs.declared.entries.OpenHandle.{OpenHandle}
 use Rattle.ele_sessions.specs.declared.reads.Reads as session
 use Rattle.ele_sessions.specs.declared.reads.Reads.TheVariants as session_reads
+use Rattle.ele_world.specs.Change.{ended_at}
 use Rattle.ele_world.specs.declared.refusal.Refusal.{Refusal}
 use Rattle.ele_world.specs.declared.refusal.Refusal.TheVariants.{NoHandle}
 use Rattle.ele_world.specs.declared.rows.HandleRow.{HandleRow}
@@ -70,6 +73,14 @@ own_version file number row h = elim (eqb row.file file) as (λ b. eqb row.file 
 pub same_number : (s : Store) (id file number : ℕ) → id ≡ file → (row : log.VersionRow) → is_version file number (row_in s id row) ≡ is_numbered number row
 same_number s id file number is row = let e : eqb id file ≡ true = grind (arith, nat_tests) in rw e refl
 
+-- so the row that ends is that version
+pub ended_shown : (s : Store) (f : File) (now file : ℕ) → f.id ≡ file → map (row_in s f.id) (ended_rows f now) ≡ update_first (is_version file (f.next - 1)) (ended_at now) (rows_in s f)
+ended_shown s f now file is = sym (update_first-map (row_in s f.id) (is_version file (f.next - 1)) (is_numbered (f.next - 1)) (same_number s f.id file (f.next - 1) is) (ended_at now) (ended_by now) (λ row. refl) f.log.rows)
+
+-- each row of a file is past where its versions are
+pub file_past : (s : Store) (files : List File) (id : ℕ) (f : File) (now : ℕ) → find (is_id id) files ≡ Some f → AllByRecursion (IsPast now) (flat_map (rows_in s) files) → AllByRecursion (IsRowPast now) f.log.rows
+file_past s files id f now found past = all-weaker (λ row. IsPast now (row_in s f.id row)) (IsRowPast now) f.log.rows (λ row p. record { closed = p.closed; ended = p.ended }) (map-all (row_in s f.id) (IsPast now) f.log.rows (all-found (is_id id) (λ x. AllByRecursion (IsPast now) (rows_in s x)) files f found (flat_map-all (rows_in s) (IsPast now) files past)))
+
 module _ (s : Store) (file number : ℕ) (files : List File) (rise : AllLater (λ (x y : File). x.id < y.id) files) where
   abbrev version : Option VersionRow
   version = find (is_version file number) (flat_map (rows_in s) files)
@@ -92,6 +103,10 @@ draft-found s file ds = find-map (draft_in s) (is_draft file) ds
 
 pub any-draft : (s : Store) (file : ℕ) (ds : List Draft) → list_any (is_draft file) (map (draft_in s) ds) ≡ list_any (sessions.is_draft file) ds
 any-draft s file ds = any-map (draft_in s) (is_draft file) ds
+
+-- no draft is of a file that has none
+pub undrafted : (s : Store) (file : ℕ) (ds : List Draft) → list_any (is_draft file) (map (draft_in s) ds) ≡ false → AllByRecursion (λ (d : Draft). d.file ≢ file) ds
+undrafted s file ds none = all-weaker (λ (d : Draft). sessions.is_draft file d ≡ false) (λ (d : Draft). d.file ≢ file) ds (λ d no same. absurd (let yes : eqb d.file file ≡ true = grind (arith, nat_tests) in cc)) (all-none (sessions.is_draft file) ds (sym (any-draft s file ds) ∙ none))
 
 -- what the sessions answer of a handle, as the rows say it
 abbrev pub reads_of : Option session.Reads → Result Reads Refusal

@@ -43,6 +43,14 @@ module _ (files : List File) (drafts : List Draft) where
         omega (arith, no, total k (files ++ f ∷ []) drafts, total k files drafts, sum_by_push (λ f. sum_by k (file_stock f)) files f);
   }
 
+  -- and so it goes
+  pub file_dropped : (p : File → Bool) (f : File) → find p files ≡ Some f → f.log.rows ≡ [] → SameStock (stock_of files drafts) (stock_of (remove_first p files) drafts)
+  file_dropped p f found none = record {
+    sums = λ k.
+        let no : sum_by k (file_stock f) ≡ 0 = rw none refl in
+        omega (arith, no, total k files drafts, total k (remove_first p files) drafts, sum_by-remove_first (λ x. sum_by k (file_stock x)) p files f found);
+  }
+
   -- one file has other rows
   module _ (id : ℕ) (f g : File) (found : find (is_id id) files ≡ Some f) where
     exchanged : (k : Tagged → ℕ) → sum_by k (stock_of (update_first (is_id id) (over g) files) drafts) + sum_by (λ row. k (row_stock f.id row)) f.log.rows ≡ sum_by k (stock_of files drafts) + sum_by (λ row. k (row_stock f.id row)) g.log.rows
@@ -69,6 +77,14 @@ module _ (files : List File) (drafts : List Draft) where
           let h : log.VersionRow → ℕ = λ r. k (row_stock f.id r) in
           let same : sum_by h g.log.rows ≡ sum_by h f.log.rows = rw rows refl in
           omega (arith, exchanged k, same);
+    }
+
+    pub rows_ended : (now : ℕ) → g.log.rows ≡ ended_rows f now → SameStock (stock_of files drafts) (stock_of (update_first (is_id id) (over g) files) drafts)
+    rows_ended now rows = record {
+      sums = λ k.
+          let h : log.VersionRow → ℕ = λ r. k (row_stock f.id r) in
+          let same : sum_by h g.log.rows ≡ sum_by h (ended_rows f now) = rw rows refl in
+          omega (arith, exchanged k, same, sum_by-update_same h (is_numbered (f.next - 1)) (ended_by now) f.log.rows (λ r. refl));
     }
 
     pub row_added : (now : ℕ) (new : log.VersionRow) → g.log.rows ≡ ended_rows f now ++ new ∷ [] → SameStock (stock_of (update_first (is_id id) (over g) files) drafts) (row_stock f.id new ∷ stock_of files drafts)

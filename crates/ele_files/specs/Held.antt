@@ -1,5 +1,5 @@
 -- The rows of all files, and how they change.
-use Rattle.std.specs.Prelude.{◌≡◌, ℕ, ◌+◌, ◌==◌, Bool, false, List, [], ◌∷◌, length, Option, Some, None, find, if◌then◌else◌}
+use Rattle.std.specs.Prelude.{◌≡◌, ℕ, ◌+◌, ◌==◌, Bool, false, not, ◌&&◌, List, [], ◌∷◌, length, Option, Some, None, find, if◌then◌else◌}
 use Rattle.std.specs.List.{list_any}
 use Rattle.std.specs.Option.{option_map_or}
 use Rattle.std.specs.Result.{result_ok}
@@ -11,8 +11,10 @@ use Rattle.ele_world.specs.declared.rows.VersionRow.{VersionRow}
 use Rattle.ele_world.specs.declared.rows.DraftRow.{DraftRow}
 use Rattle.ele_world.specs.declared.rows.HandleRow.{HandleRow}
 use Rattle.ele_world.specs.Bounds.{largest_bounds}
-use Rattle.ele_world.specs.Change.{Change, MakeFile, OpenHandle, StartDraft, WriteDraft, TruncateDraft, Take, new_draft, after_changes}
-use Rattle.ele_world.specs.World.{World, fresh_world, is_live, is_draft, file_by}
+use Rattle.ele_lists.specs.Lists.{remove_first}
+use Rattle.ele_world.specs.Change.{Change, MakeFile, OpenHandle, StartDraft, WriteDraft, TruncateDraft, Take, new_draft, with_end, after_changes}
+use Rattle.ele_world.specs.FileView.{is_version_of}
+use Rattle.ele_world.specs.World.{World, fresh_world, is_file, is_live, is_version, is_draft, file_by}
 
 -- files by id, versions by file and number, drafts by file, handles by number, and how many handles were ever opened
 pub record Held : Type 0 where
@@ -103,3 +105,19 @@ cells_of_draft h file = option_map_or (λ row. row.cells) (find (is_draft file) 
 -- without the version
 abbrev pub without : Held → ℕ → ℕ → Held
 without h file number = changed_at h 0 (Take file number ∷ [])
+
+-- the cells of a version
+abbrev pub cells_of_version : Held → ℕ → ℕ → List Cell
+cells_of_version h file number = option_map_or (λ row. row.cells) (find (is_version file number) h.versions) []
+
+-- the version before the file's next one has ended, then or before
+abbrev pub current_ended : Held → ℕ → ℕ → Held
+current_ended h file now = record h { versions = with_end (world_with h now) file }
+
+-- nothing of the file is held: no version and no draft
+abbrev pub is_bare : Held → ℕ → Bool
+is_bare h file = not (list_any (is_version_of file) h.versions) && not (list_any (is_draft file) h.drafts)
+
+-- without the file's row
+abbrev pub without_file : Held → ℕ → Held
+without_file h file = record h { files = remove_first (is_file file) h.files }

@@ -30,7 +30,7 @@ impl Keyed for File {
 
 impl File {
     /// The version before the next one ends, unless it has ended.
-    fn end_before(&mut self, now: Moment, meter: &mut Meter)
+    pub fn end_before(&mut self, now: Moment, meter: &mut Meter)
         requires kept { IsFileKept self.old }
         requires past { AllByRecursion (IsRowPast now) self.old.log.rows }
         requires meter { meter.old < 2 ^ 62 }

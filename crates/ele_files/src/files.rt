@@ -17,6 +17,8 @@ ghost use Rattle.ele_world.specs.World.{policy_of, next_of, is_version, is_draft
 mod asking;
 mod closing;
 mod copies;
+mod dropping;
+mod restoring;
 mod writing;
 
 use crate::file::File;

@@ -2,7 +2,8 @@ use Rattle.std.proofs.Common.{◌≡◌, Some, ap, sym, ◌∙◌}
 use Rattle.std.proofs.Math.ListN.{set}
 use Rattle.std.specs.Option.{option_and_then}
 use Rattle.ele_files.specs.Inside.{held_of}
-use Rattle.ele_files.proofs.Closes.{given, on_err, its_map, not_missing, waits_keeps, waits_shows, ready_past, ready_few, IsFinished, finished}
+use Rattle.ele_files.proofs.Closes.{given, on_err, its_map, not_missing, IsFinished, finished}
+use Rattle.ele_files.proofs.Places.{its_few, ready_past, waits}
 use Rattle.ele_files.proofs.files.Files.finish.Goals as goal
 use Rattle.ele_files.proofs.files.Files.finish.Goals.{After-self-2-1}
 use Rattle.ele_sessions.specs.Closes.{closed}
@@ -11,11 +12,11 @@ pub unreachable-requires : goal.unreachable-requires
 unreachable-requires c = not_missing _ _ _ c.args.handle c.args.file c.args.opened c.self.invariant (rw (← c.self.view_is) at c.requires.file) (rw (← c.self.view_is) at c.requires.changed) (sym (rw c.deref.ensures.value at c.in_default.ensures))
 
 pub invariant_of-self : goal.invariant_of-self
-invariant_of-self c = waits_keeps _ _ _ c.args.handle c.args.file c.args.opened c.self.invariant (rw (← c.self.view_is) at c.requires.file) (rw (← c.self.view_is) at c.requires.changed) _ _ (rw c.deref.ensures.value at c.in-Some.ensures) c.index_mut-held.ensures.value _ c.reserve.ensures.rows
+invariant_of-self c = (waits _ _ _ c.self.invariant c.args.file _ _ (rw c.deref.ensures.value at c.in-Some.ensures) c.index_mut-held.ensures.value c.reserve.new.self c.reserve.ensures.rows).keeps
 
 pub returns-in_err-reserve-clause-err : goal.returns-in_err-reserve-clause-err
 returns-in_err-reserve-clause-err c =
-    on_err c.from_residual.result _ (rw (← c.self.view_is) (waits_shows _ _ _ c.args.handle c.args.file c.args.opened c.self.invariant (rw (← c.self.view_is) at c.requires.file) (rw (← c.self.view_is) at c.requires.changed) _ _ (rw c.deref.ensures.value at c.in-Some.ensures) c.index_mut-held.ensures.value _ c.reserve.ensures.rows))
+    on_err c.from_residual.result _ (rw (← c.self.view_is) (waits _ _ _ c.self.invariant c.args.file _ _ (rw c.deref.ensures.value at c.in-Some.ensures) c.index_mut-held.ensures.value c.reserve.new.self c.reserve.ensures.rows).shows)
 
 pub unreachable-requires-in_default-map_of : goal.unreachable-requires-in_default-map_of
 unreachable-requires-in_default-map_of c =
@@ -24,10 +25,10 @@ unreachable-requires-in_default-map_of c =
     cc
 
 pub append-requires-clause-past : goal.append-requires-clause-past
-append-requires-clause-past c = ready_past _ _ _ c.args.handle c.args.file c.args.opened c.self.invariant (rw (← c.self.view_is) at c.requires.file) (rw (← c.self.view_is) at c.requires.changed) _ _ (rw c.deref.ensures.value at c.in-Some.ensures) c.index_mut-held.ensures.value c.reserve.new.self c.reserve.ensures.rows c.args.now (rw (← c.self.view_is) at c.requires.past)
+append-requires-clause-past c = ready_past _ _ _ c.self.invariant c.args.file _ _ (rw c.deref.ensures.value at c.in-Some.ensures) c.index_mut-held.ensures.value c.reserve.new.self c.reserve.ensures.rows c.args.now (rw (← c.self.view_is) at c.requires.past)
 
 pub append-requires-clause-numbered : goal.append-requires-clause-numbered
-append-requires-clause-numbered c = ready_few _ _ _ c.args.handle c.args.file c.args.opened c.self.invariant (rw (← c.self.view_is) at c.requires.file) (rw (← c.self.view_is) at c.requires.changed) _ _ (rw c.deref.ensures.value at c.in-Some.ensures) c.index_mut-held.ensures.value c.reserve.new.self c.reserve.ensures.rows _ (rw (← c.self.view_is) at c.requires.numbered)
+append-requires-clause-numbered c = its_few _ _ _ c.self.invariant c.args.file _ _ (rw c.deref.ensures.value at c.in-Some.ensures) c.index_mut-held.ensures.value _ (rw (← c.self.view_is) at c.requires.numbered)
 
 done : (c : After-self-2-1) → IsFinished c.self.inside.store (held_of c.self.inside) c.args.handle c.args.file c.args.opened c.args.now c.args.is_live c.index_mut-held.result.now.next (set c.self.inside.files.items c.in-Some.at c.append.new.self) (closed c.self.inside.sessions c.args.handle)
 done c =

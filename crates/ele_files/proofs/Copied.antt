@@ -1,0 +1,30 @@
+-- A copy of a held version's map comes into the store.
+use Rattle.std.proofs.Common.{◌≡◌, ℕ, ◌+◌, ◌≤◌, Bool, List, [], ◌∷◌, map, Some, refl}
+use Rattle.std.specs.Prelude.{find}
+use Rattle.std.specs.List.{flat_map, AllByRecursion}
+use Rattle.ele_blocks.specs.Layout.{shown}
+use Rattle.ele_blocks.specs.Owes.{Moves}
+use Rattle.ele_blocks.specs.Stock.{Tagged, SameStock, ShowsSame, Stays}
+use Rattle.ele_blocks.specs.Store.{Store}
+use Rattle.ele_files.specs.Inside.{Keeps, is_id, row_stock, file_stock, draft_stock, stock_of}
+use Rattle.ele_files.specs.declared.file.File.{File}
+use Rattle.ele_files.proofs.Stock.{over, row_apart}
+use Rattle.ele_inode_log.specs.declared.row.VersionRow as log
+use Rattle.ele_lists.specs.Lists.{update_first, remove_first}
+use Rattle.ele_lists.proofs.Alls.{all-left, flat_map-all, map-all}
+use Rattle.ele_lists.proofs.Edits.{all-found}
+use Rattle.ele_sessions.specs.Sessions.{AllSessions}
+
+module _ (s t : Store) (files : List File) (a : AllSessions) (kept : Keeps s files a) (id : ℕ) (f : File) (found : find (is_id id) files ≡ Some f) (q : log.VersionRow → Bool) (row : log.VersionRow) (held : find q f.log.rows ≡ Some row) where
+  -- the stock has it too, for whatever file's later version
+  pub row_copied : Moves s t [] (row.cells ∷ []) → (below : ℕ) → row.number + 1 ≤ below → (us : List Tagged) → SameStock us (record (row_stock f.id row) { below = below } ∷ stock_of files a.drafts) → Stays s t (stock_of files a.drafts) us
+  row_copied moves below later us is =
+      let g : File = record f { log = record f.log { rows = remove_first q f.log.rows } } in
+      kept.laws.copied s t (stock_of files a.drafts) (row_stock f.id row) (stock_of (update_first (is_id id) (over g) files) a.drafts) below us kept.stocked (row_apart files a.drafts id f g found q row held refl) later moves is
+
+  -- and the version shows what it showed
+  pub row_same : AllByRecursion (ShowsSame s t) (stock_of files a.drafts) → shown t row.cells ≡ shown s row.cells
+  row_same all =
+      let mine = flat_map-all file_stock (ShowsSame s t) files (all-left (ShowsSame s t) (flat_map file_stock files) (map draft_stock a.drafts) all) in
+      let rows = map-all (row_stock f.id) (ShowsSame s t) f.log.rows (all-found (is_id id) (λ x. AllByRecursion (ShowsSame s t) (file_stock x)) files f found mine) in
+      (all-found q (λ r. ShowsSame s t (row_stock f.id r)) f.log.rows row held rows).same

@@ -1,0 +1,122 @@
+-- A file of which nothing is held.
+use Rattle.std.proofs.Common.{◌≡◌, ◌≢◌, ℕ, ◌<◌, Bool, true, false, not, ◌&&◌, eqb, List, [], ◌∷◌, ◌++◌, get_or, map, Option, Some, None, is_some, refl, ap, sym, ◌∙◌, arith}
+use Rattle.std.specs.Prelude.{find, IsTrue, ◌↔◌}
+use Rattle.std.specs.List.{flat_map, list_any, position, remove}
+use Rattle.std.specs.Option.{option_and_then, option_map_or}
+use Rattle.std.proofs.lemmas.Bool.{false≢true}
+use Rattle.std.proofs.lemmas.Bool.Decides.{nat_tests}
+use Rattle.std.proofs.lemmas.Grind.{flat_map-append}
+use Rattle.ele_blocks.specs.Store.{Store}
+use Rattle.ele_files.specs.Held.{is_bare, without_file}
+use Rattle.ele_files.specs.Inside.{IsDraftKept, IsFileKept, Keeps, file_row, row_in, rows_in, held_in, is_id, stock_of}
+use Rattle.ele_files.specs.declared.file.File.{File}
+use Rattle.ele_files.proofs.Asked.{any-found}
+use Rattle.ele_files.proofs.Looks.{IsSeen}
+use Rattle.ele_files.proofs.Rows.{file_of, tagged, undrafted}
+use Rattle.ele_files.proofs.Stock.{file_dropped}
+use Rattle.ele_inode_log.specs.declared.row.VersionRow as log
+use Rattle.ele_lists.specs.Lists.{remove_first, AllLater}
+use Rattle.ele_lists.proofs.Buckets.{find-buckets}
+use Rattle.ele_lists.proofs.Edits.{all-both, all-remove_first, all-weaker, find-remove_first, found_passes, later-remove_first}
+use Rattle.ele_lists.proofs.Cuts.{find-cut, flat_map-cut, remove_first-at}
+use Rattle.ele_lists.proofs.Places.{find-position, remove_first-none, remove_first-position}
+use Rattle.ele_lists.proofs.Shown.{remove_first-map}
+use Rattle.ele_sessions.specs.Sessions.{Draft, AllSessions}
+use Rattle.ele_world.specs.FileView.{is_version_of}
+use Rattle.ele_world.specs.declared.rows.FileRow.{FileRow}
+use Rattle.ele_world.specs.World as world
+use Rattle.ele_world.specs.World.{is_file, next_of}
+
+module _ (s : Store) (id : ℕ) (files : List File) (rise : AllLater (λ (x y : File). x.id < y.id) files) where
+  found_in : find (is_version_of id) (flat_map (rows_in s) files) ≡ option_and_then (λ f. find (is_version_of id) (rows_in s f)) (find (is_id id) files)
+  found_in = find-buckets (λ (f : File). f.id) (rows_in s) file_of (tagged s) id (is_version_of id) (λ row is. grind (arith, nat_tests)) files rise
+
+  -- no file has the number
+  pub unheld : find (is_id id) files ≡ None → list_any (is_version_of id) (flat_map (rows_in s) files) ≡ false
+  unheld none = sym (any-found (is_version_of id) (flat_map (rows_in s) files)) ∙ ap is_some (found_in ∙ ap (option_and_then (λ f. find (is_version_of id) (rows_in s f))) none)
+
+  -- the file's rows are its versions
+  pub held_by : (f : File) → find (is_id id) files ≡ Some f → list_any (is_version_of id) (flat_map (rows_in s) files) ≡ list_any (is_version_of id) (rows_in s f)
+  held_by f found = sym (any-found (is_version_of id) (flat_map (rows_in s) files)) ∙ (ap is_some (found_in ∙ ap (option_and_then (λ f. find (is_version_of id) (rows_in s f))) found) ∙ any-found (is_version_of id) (rows_in s f))
+
+  -- whether it has any
+  pub any_held : (f : File) → find (is_id id) files ≡ Some f → (none : Bool) → IsTrue none ↔ (f.log.rows ≡ []) → not none ≡ list_any (is_version_of id) (flat_map (rows_in s) files)
+  any_held f found none is = by none f.log.rows is ∙ sym (held_by f found) where
+    by : (b : Bool) (rows : List log.VersionRow) → IsTrue b ↔ (rows ≡ []) → not b ≡ list_any (is_version_of id) (map (row_in s f.id) rows)
+    by true rows h = rw (h.0 refl) refl
+    by false [] h = absurd (false≢true (h.1 refl))
+    by false (row ∷ rows) h = let e : eqb f.id id ≡ true = found_passes (is_id id) files f found in rw e refl
+
+-- ---- the file's row goes
+
+neither : (a b : Bool) → (not a && not b) ≡ true → (a ≡ false) × (b ≡ false)
+neither true b h = absurd (false≢true h)
+neither false true h = absurd (false≢true h)
+neither false false h = (refl, refl)
+
+some_item : {X : Type 0} (p : X → Bool) (xs : List X) (i : ℕ) → Some i ≡ position p xs → X
+some_item p [] i at = absurd cc
+some_item p (x ∷ xs) i at = x
+
+-- each row is a version
+no_rows : (s : Store) (id : ℕ) (f : File) → is_id id f ≡ true → list_any (is_version_of id) (rows_in s f) ≡ false → f.log.rows ≡ []
+no_rows s id f is none = by f.log.rows none where
+  by : (rows : List log.VersionRow) → list_any (is_version_of id) (map (row_in s f.id) rows) ≡ false → rows ≡ []
+  by [] h = refl
+  by (row ∷ rows) h = absurd (false≢true (sym (rw is at h)))
+
+module _ (s : Store) (files : List File) (a : AllSessions) (kept : Keeps s files a) (id : ℕ) (bare : is_bare (held_in s files a) id ≡ true) where
+  abbrev fewer : List File
+  fewer = remove_first (is_id id) files
+
+  versionless : list_any (is_version_of id) (held_in s files a).versions ≡ false
+  versionless = (neither (list_any (is_version_of id) (held_in s files a).versions) (list_any (world.is_draft id) (held_in s files a).drafts) bare).0
+
+  alone : list_any (world.is_draft id) (held_in s files a).drafts ≡ false
+  alone = (neither (list_any (is_version_of id) (held_in s files a).versions) (list_any (world.is_draft id) (held_in s files a).drafts) bare).1
+
+  rows_left : map file_row fewer ≡ remove_first (is_file id) (map file_row files)
+  rows_left = sym (remove_first-map file_row (is_file id) (is_id id) (λ x. refl) files)
+
+  -- no file has the number
+  pub none_drops : None ≡ position (is_id id) files → held_in s files a ≡ without_file (held_in s files a) id
+  none_drops none = rw (← rows_left, remove_first-none (is_id id) files (sym none)) refl
+
+  module _ (f : File) (found : find (is_id id) files ≡ Some f) where
+    no_log : f.log.rows ≡ []
+    no_log = no_rows s id f (found_passes (is_id id) files f found) (sym (held_by s id files kept.rise f found) ∙ versionless)
+
+    versions_stay : flat_map (rows_in s) files ≡ flat_map (rows_in s) fewer
+    versions_stay =
+        let cut = find-cut (is_id id) files f found in
+        let left : fewer ≡ cut.before ++ cut.behind = ap (remove_first (is_id id)) cut.whole ∙ remove_first-at (is_id id) cut.before f cut.behind cut.none cut.passes in
+        let none : rows_in s f ≡ [] = ap (map (row_in s f.id)) no_log in
+        ap (flat_map (rows_in s)) cut.whole
+        ∙ (flat_map-cut (rows_in s) cut.before f cut.behind
+        ∙ (ap (λ rows. flat_map (rows_in s) cut.before ++ (rows ++ flat_map (rows_in s) cut.behind)) none
+        ∙ (sym (flat_map-append (rows_in s) cut.before cut.behind)
+        ∙ ap (flat_map (rows_in s)) (sym left))))
+
+    draft_stays : (d : Draft) → IsDraftKept files d × (d.file ≢ id) → IsDraftKept fewer d
+    draft_stays d h = record {
+      there = h.0.there;
+      number = rw rows_left (h.0.number ∙ ap (λ (o : Option FileRow). option_map_or (λ row. row.next) o 0) (sym (find-remove_first (is_file id) (is_file d.file) (map file_row files) (λ row is. let other = h.1 in grind (arith, nat_tests)))));
+    }
+
+    pub drops : IsSeen s fewer a (without_file (held_in s files a) id)
+    drops = record {
+      keeps = record {
+        laws = kept.laws;
+        rise = later-remove_first (is_id id) (λ (x y : File). x.id < y.id) files kept.rise;
+        stocked = kept.laws.same s (stock_of files a.drafts) (stock_of fewer a.drafts) (file_dropped files a.drafts (is_id id) f found no_log) kept.stocked;
+        files_kept = all-remove_first (is_id id) IsFileKept files kept.files_kept;
+        drafts_kept = all-weaker (λ d. IsDraftKept files d × (d.file ≢ id)) (IsDraftKept fewer) a.drafts draft_stays (all-both (IsDraftKept files) (λ d. d.file ≢ id) a.drafts kept.drafts_kept (undrafted s id a.drafts alone));
+      };
+      shows = rw (← versions_stay, rows_left) refl;
+    }
+
+  -- the file at its place
+  pub drops_at : (i : ℕ) → Some i ≡ position (is_id id) files → IsSeen s (remove files i) a (without_file (held_in s files a) id)
+  drops_at i place =
+      let x = some_item (is_id id) files i place in
+      rw (← remove_first-position (is_id id) files i x (sym place)) (drops (get_or files i x) (find-position (is_id id) files i x (sym place)))

@@ -1,0 +1,49 @@
+-- The version before a file's next one ends.
+use Rattle.std.proofs.Common.{◌≡◌, ℕ, ◌-◌, List, map, flat_map, get_or, Some, None, refl, ap, ◌∙◌}
+use Rattle.std.proofs.Math.ListN.{set}
+use Rattle.std.specs.List.{AllByRecursion, position}
+use Rattle.ele_blocks.specs.Store.{Store}
+use Rattle.ele_files.specs.Appending.{ended_rows, HasRows}
+use Rattle.ele_files.specs.Closing.{IsPast}
+use Rattle.ele_files.specs.Held.{current_ended}
+use Rattle.ele_files.specs.Inside.{Keeps, file_row, row_in, rows_in, held_in, is_id, stock_of}
+use Rattle.ele_files.specs.declared.file.File.{File}
+use Rattle.ele_files.proofs.Endings.{ended_kept}
+use Rattle.ele_files.proofs.Exchanges.{IsReached, reached, after, rise_over, files_over, drafts_over, rows_same}
+use Rattle.ele_files.proofs.Looks.{IsSeen}
+use Rattle.ele_files.proofs.Places.{its_kept, its_past}
+use Rattle.ele_files.proofs.Rows.{file_of, tagged, own_version, ended_shown, its_id, next-found, no-file, version-none}
+use Rattle.ele_files.proofs.Stock.{over, rows_ended}
+use Rattle.ele_lists.specs.Lists.{update_first}
+use Rattle.ele_lists.proofs.Buckets.{bucket_changes, local-update_first}
+use Rattle.ele_lists.proofs.Cuts.{update_first-unfound}
+use Rattle.ele_lists.proofs.Edits.{all-not_found}
+use Rattle.ele_sessions.specs.Sessions.{AllSessions}
+use Rattle.ele_world.specs.Change.{ended_at}
+use Rattle.ele_world.specs.World.{is_version, next_of}
+
+module _ (s : Store) (files : List File) (a : AllSessions) (kept : Keeps s files a) (id now : ℕ) where
+  -- no file has the number
+  pub none_ends : None ≡ position (is_id id) files → held_in s files a ≡ current_ended (held_in s files a) id now
+  none_ends none =
+      let number : ℕ = next_of (map file_row files) id - 1 in
+      rw (update_first-unfound (is_version id number) (ended_at now) (flat_map (rows_in s) files) (all-not_found (is_version id number) (flat_map (rows_in s) files) (version-none s id number files kept.rise (no-file files id none)))) refl
+
+  module _ (i : ℕ) (f g : File) (place : Some i ≡ position (is_id id) files) (is : f ≡ get_or files i f) (past : AllByRecursion (IsPast now) (held_in s files a).versions) (ended : HasRows f g (ended_rows f now)) where
+    abbrev at : IsReached files id i f
+    at = reached files id i f place is
+
+    versions_end : update_first (is_version id (f.next - 1)) (ended_at now) (flat_map (rows_in s) files) ≡ flat_map (rows_in s) (after files id f g at.found)
+    versions_end = bucket_changes (λ (x : File). x.id) (rows_in s) file_of (tagged s) id (update_first (is_version id (f.next - 1)) (ended_at now)) (local-update_first file_of id (is_version id (f.next - 1)) (own_version id (f.next - 1)) (ended_at now)) (over g) files f kept.rise at.found (ap (map (row_in s f.id)) ended.rows ∙ ended_shown s f now id (its_id files id f at.found))
+
+    pub ends : IsSeen s (set files i g) a (current_ended (held_in s files a) id now)
+    ends = rw (at.changed g ended.id ended.policy) (record {
+      keeps = record {
+        laws = kept.laws;
+        rise = rise_over files id f g at.found kept.rise;
+        stocked = kept.laws.same s (stock_of files a.drafts) (stock_of (after files id f g at.found) a.drafts) (rows_ended files a.drafts id f g at.found now ended.rows) kept.stocked;
+        files_kept = files_over files id f g at.found (ended_kept f now (its_kept s files a kept id i f place is) (its_past s files a kept id i f place is now past) g ended) kept.files_kept;
+        drafts_kept = drafts_over files id f g at.found ended.next a.drafts kept.drafts_kept;
+      };
+      shows = rw (next-found files id (Some f) at.found, versions_end, rows_same files id f g at.found ended.next) refl;
+    })

@@ -1,0 +1,47 @@
+//! The file of which nothing is held, and its drop.
+//! A contract sees the rows of all files before and after.
+ghost use Rattle.std.specs.Prelude.{◌≡◌, ◌<◌, true, vec_len};
+ghost use Rattle.std.specs.List.{list_any, remove};
+ghost use Rattle.ele_files.specs.Held.{is_bare, without_file};
+ghost use Rattle.ele_world.specs.FileView.{is_version_of};
+
+use crate::file::File;
+use crate::files::{Files, place_of};
+use ele_moment::FileId;
+
+/// The file at that place goes.
+fn take_out(files: &mut Vec<File>, at: usize)
+    requires { at < vec_len files.old }
+    ensures { files.new.items ≡ remove files.old.items at }
+{
+    let _file = files.remove(at);
+}
+
+impl Files {
+    /// Whether a version of the file is held.
+    fn has_version(&self, file: FileId) -> bool
+        ensures { result ≡ list_any (is_version_of file) self.now.versions }
+    {
+        match place_of(&self.files, file) {
+            Some(at) => !self.files[at].log.is_empty(),
+            None => false,
+        }
+    }
+
+    /// Whether nothing of the file is held: no version and no draft.
+    pub fn is_bare(&self, file: FileId) -> bool
+        ensures { result ≡ is_bare self.now file }
+    {
+        !self.has_version(file) && !self.has_draft(file)
+    }
+
+    /// Takes out the row of a file of which nothing is held.
+    pub fn drop_file(&mut self, file: FileId)
+        requires { is_bare self.old file ≡ true }
+        ensures { self.new ≡ without_file self.old file }
+    {
+        if let Some(at) = place_of(&self.files, file) {
+            take_out(&mut self.files, at);
+        }
+    }
+}

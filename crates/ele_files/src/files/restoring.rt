@@ -1,0 +1,64 @@
+//! The end of a file's current version, and an older content as its next version.
+//! A contract sees the rows of all files before and after.
+ghost use Rattle.std.specs.Prelude.{◌≡◌, ◌<◌, ◌≤◌, ◌+◌, ◌^◌, false, [], ◌∷◌, IfOk, IsSome, OnOk, OnErr, find, length};
+ghost use Rattle.std.specs.List.{AllByRecursion, list_any};
+ghost use Rattle.ele_files.specs.Closing.{IsPast};
+ghost use Rattle.ele_files.specs.Held.{Became, cells_of_version, current_ended};
+ghost use Rattle.ele_world.specs.Change.{Append};
+ghost use Rattle.ele_world.specs.World.{is_draft, is_version, next_of};
+
+use crate::files::{Files, place_of};
+use ele_inode_log::Meter;
+use ele_moment::{FileId, Moment, NoMemory, VersionNo};
+
+impl Files {
+    /// The version before the file's next one ends now, unless it has ended or isn't held. This takes
+    /// no memory.
+    pub fn end_current(&mut self, file: FileId, now: Moment, meter: &mut Meter)
+        requires past { AllByRecursion (IsPast now) self.old.versions }
+        requires meter { meter.old < 2 ^ 62 }
+        ensures rows { self.new ≡ current_ended self.old file now }
+        ensures read { meter.new ≤ meter.old + 1 }
+    {
+        if let Some(at) = place_of(&self.files, file) {
+            let held = &mut self.files[at];
+            held.end_before(now, meter);
+        }
+    }
+
+    /// The held version of that number comes again as the file's next version, which opens and closes
+    /// now, and the version before that ends. No draft of the file is there. The caller tells whether
+    /// the file is live; where it isn't, the new version ends at once. The answer is its number. Where
+    /// memory is refused, all is as it was.
+    pub fn restore(
+        &mut self,
+        file: FileId,
+        number: VersionNo,
+        now: Moment,
+        is_live: bool,
+        meter: &mut Meter,
+    ) -> Result<VersionNo, NoMemory>
+        requires held { IsSome (find (is_version file number) self.old.versions) }
+        requires undrafted { list_any (is_draft file) self.old.drafts ≡ false }
+        requires few { length self.old.versions + length self.old.drafts ≤ 2 ^ 50 }
+        requires numbered { AllByRecursion (λ row. row.next < 2 ^ 62) self.old.files }
+        requires past { AllByRecursion (IsPast now) self.old.versions }
+        requires meter { meter.old < 2 ^ 61 }
+        ensures number { IfOk result (λ number. number ≡ next_of self.old.files file) }
+        ensures ok { OnOk result (Became self.old now file is_live
+            (Append file now (cells_of_version self.old file number) ∷ []) self.new) }
+        ensures err { OnErr result (self.new ≡ self.old) }
+        ensures read { meter.new ≤ meter.old + 2 }
+    {
+        let Some(at) = place_of(&self.files, file) else {
+            unreachable!()
+        };
+        let held = &mut self.files[at];
+        held.log.reserve()?;
+        let Some(row) = held.log.get(number, meter) else {
+            unreachable!()
+        };
+        let map = row.cells.copy(&mut self.store)?;
+        Ok(held.append(now, now, is_live, map, meter))
+    }
+}
