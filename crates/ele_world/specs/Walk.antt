@@ -1,5 +1,5 @@
 -- Where a path leads, name by name from the root.
-use Rattle.std.specs.Prelude.{ℕ, ◌-◌, ◌==◌, ◌&&◌, Bool, List, [], ◌∷◌, length, take, slice_get, is_none, Option, find, Result, Ok, Err}
+use Rattle.std.specs.Prelude.{ℕ, ◌-◌, ◌==◌, ◌&&◌, ◌||◌, Bool, false, List, [], ◌∷◌, length, take, slice_get, is_none, Option, find, Result, Ok, Err}
 use Rattle.std.specs.Option.{option_map, option_map_or}
 use Rattle.std.specs.Str.{bytes_eq}
 use Rattle.ele_world.specs.declared.refusal.Refusal.{Refusal}
@@ -7,6 +7,7 @@ use Rattle.ele_world.specs.declared.refusal.Refusal.TheVariants.{NoEntry, NotDir
 use Rattle.ele_world.specs.declared.rows.NameRow.{NameRow}
 use Rattle.ele_world.specs.declared.rows.Target.{Target}
 use Rattle.ele_world.specs.declared.rows.Target.TheVariants.{File, Directory}
+use Rattle.ele_world.specs.NameRows.{is_target_directory}
 use Rattle.ele_world.specs.World.{root}
 
 -- a live name in the directory
@@ -55,3 +56,15 @@ directory_at name (Err refusal) = Err refusal
 abbrev pub parent_now : List NameRow → List (List ℕ) → Result (ℕ × List ℕ) Refusal
 parent_now rows path =
     option_map_or (λ name. directory_at name (walk_now rows (take (length path - 1) path))) (slice_get path (length path - 1)) (Err IsRoot)
+
+-- from a place along the names the walk comes to the directory
+abbrev pub comes_through : List NameRow → ℕ → Target → List (List ℕ) → Bool
+comes_through rows id at [] = is_target_directory id at
+comes_through rows id (File file) (name ∷ names) = false
+comes_through rows id (Directory directory) (name ∷ names) =
+    (directory == id) || option_map_or (λ target. comes_through rows id target names) (live_target rows directory name) false
+
+-- the path's last name stands in what is moved, or below it
+abbrev pub stands_in : List NameRow → Target → List (List ℕ) → Bool
+stands_in rows (File file) path = false
+stands_in rows (Directory id) path = comes_through rows id (Directory root) (take (length path - 1) path)
