@@ -6,6 +6,11 @@ use Rattle.std.specs.Ordering.{nat_cmp}
 use Rattle.std.specs.BTreeMap.{is_at, insert_entry}
 use Rattle.std.specs.Map.{keys_of, values_of, remove_entry}
 use Rattle.std.proofs.lemmas.Bool.{true≢false, false≢true}
+use Rattle.std.specs.Prelude.{All}
+use Rattle.std.specs.declared.cmp.Ordering.TheVariants.{Less}
+use Rattle.std.proofs.lemmas.List.{map-append}
+use Rattle.std.proofs.lemmas.List.Elements.{All-head, All-tail}
+use Rattle.ele_lists.proofs.Indexed.{at_itself}
 use Rattle.std.proofs.lemmas.Bool.Decides.{nat_tests}
 use Rattle.ele_lists.specs.Index.{has, IsLastOf}
 use Rattle.ele_lists.specs.Lists.{update_first}
@@ -50,6 +55,26 @@ named_dead d n row = any (row.directory == d) (bytes_eq row.name n) (is_none row
 filter_between : {X : Type 0} (p : X → Bool) (before : List X) (x : X) (behind : List X) → p x ≡ false → filter p (before ++ x ∷ behind) ≡ filter p (before ++ behind)
 filter_between p [] x behind h = rw h refl
 filter_between p (b ∷ before) x behind h = ap (λ ys. cond (p b) (b ∷ ys) ys) (filter_between p before x behind h)
+
+same_front : {X : Type 0} (xs ys : List X) (x y : X) → xs ++ x ∷ [] ≡ ys ++ y ∷ [] → xs ≡ ys
+same_front [] [] x y h = refl
+same_front [] (b ∷ ys) x y h = absurd (omega (arith, ap length h, length-append ys (y ∷ [])))
+same_front (a ∷ xs) [] x y h = absurd (omega (arith, ap length h, length-append xs (x ∷ [])))
+same_front (a ∷ xs) (b ∷ ys) x y h =
+    let behind : xs ++ x ∷ [] ≡ ys ++ y ∷ [] = cc in
+    let front : xs ≡ ys = same_front xs ys x y behind in
+    cc
+
+-- the last entry leaves
+pub without_last : {X : Type 0} (n : ℕ) (x : X) (es : List (ℕ × X)) → All (λ k. nat_cmp k n ≡ Less) (keys_of es) → remove_entry (is_at (nat_cmp n)) (es ++ (n, x) ∷ []) ≡ es
+without_last n x [] below = rw (at_itself n) refl
+without_last n x (e ∷ es) below = rw (later n e.0 (All-head (λ k. nat_cmp k n ≡ Less) e.0 (keys_of es) below)) (ap (λ (es : List _). e ∷ es) (without_last n x es (All-tail (λ k. nat_cmp k n ≡ Less) e.0 (keys_of es) below))) where
+  later : (a b : ℕ) → nat_cmp b a ≡ Less → is_at (nat_cmp a) b ≡ false
+  later a b h = grind (arith, nat_tests)
+
+-- and leaves the values before it
+pub last_gone : {X : Type 0} (rows : List X) (row : X) (es fs : List (ℕ × X)) (n : ℕ) (x : X) → es ≡ fs ++ (n, x) ∷ [] → values_of es ≡ rows ++ row ∷ [] → values_of fs ≡ rows
+last_gone rows row es fs n x is are = same_front (values_of fs) rows x row (sym (map-append (λ (e : ℕ × _). e.1) fs ((n, x) ∷ [])) ∙ sym (ap values_of is) ∙ are)
 
 -- a target is where it stands
 target_stands : (t u : Target) (r : ℕ) → r ≤ 0 → is_placed target_cmp t 0 u r ≡ target_eq t u

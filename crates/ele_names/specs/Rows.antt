@@ -1,7 +1,6 @@
 -- Rows at their birth and their death.
-use Rattle.std.specs.Prelude.{◌≡◌, ℕ, ◌≤◌, List, Some, None}
+use Rattle.std.specs.Prelude.{◌≡◌, ◌≤◌}
 use Rattle.ele_world.specs.declared.rows.NameRow.{NameRow}
-use Rattle.ele_world.specs.declared.rows.Target.{Target}
 pub use Rattle.ele_world.specs.NameRows.{born_row, dies}
 use Rattle.ele_world.specs.WellFormed.{AreApart}
 

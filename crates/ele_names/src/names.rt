@@ -96,6 +96,20 @@ impl Names {
         Ok(())
     }
 
+    /// Takes out the last row in order of making: right behind `add` the one that it made. It takes
+    /// no memory.
+    pub fn take_back(&mut self)
+        requires { 0 < length self.old }
+        ensures { (rows : List NameRow) (newest : NameRow)
+            → self.old ≡ rows ++ newest ∷ [] → self.new ≡ rows }
+    {
+        let Some((serial, row)) = self.table.rows.pop_last() else {
+            unreachable!()
+        };
+        self.table.places.leave(&row, serial);
+        self.lives.leave(&row);
+    }
+
     /// Ends the live name at the moment. It takes no memory.
     pub fn kill(&mut self, directory: DirId, name: &Name, moment: Moment)
         requires { IsSome (live_target self.old directory name.now) }

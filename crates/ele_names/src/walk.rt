@@ -1,7 +1,7 @@
 //! Where a path leads, now or at an earlier moment.
 //! A contract sees the names as their rows, and a walk as the world's words say it.
 ghost use Rattle.std.specs.Prelude.{◌≡◌};
-ghost use Rattle.ele_world.specs.Walk.{walk_now, parent_now};
+ghost use Rattle.ele_world.specs.Walk.{walk_now, parent_now, comes_through, stands_in};
 ghost use Rattle.ele_world.specs.WalkAt.{walk_at, walk_covering};
 ghost use Rattle.ele_world.specs.World.{root};
 ghost use Rattle.ele_world.specs.declared.rows.Target.TheVariants.{Directory};
@@ -49,6 +49,38 @@ pub fn parent_now(names: &Names, path: &Path) -> Result<(DirId, Name), Refusal>
         Target::Directory(directory) => Ok((directory, *name)),
         Target::File(_) => Err(Refusal::NotDirectory),
     }
+}
+
+/// Whether the path's last name stands in the target or below it: whether the walk of the names before
+/// the last comes through that directory. Nothing stands in a file. It takes no memory.
+pub fn stands_in(names: &Names, target: Target, path: &Path) -> bool
+    ensures { result ≡ stands_in names.now target path.now }
+{
+    let Target::Directory(directory) = target else {
+        return false;
+    };
+    let path = path.names();
+    comes_through(names, directory, &path[..path.len().saturating_sub(1)])
+}
+
+// Whether the walk of the live names from the root comes to the directory.
+fn comes_through(names: &Names, id: DirId, path: &[Name]) -> bool
+    ensures { result ≡ comes_through names.now id (Directory root) path.now }
+{
+    let mut at = Target::Directory(ROOT);
+    for name in path {
+        if at == Target::Directory(id) {
+            return true;
+        }
+        let Target::Directory(directory) = at else {
+            return false;
+        };
+        let Some(target) = names.live(directory, name) else {
+            return false;
+        };
+        at = target;
+    }
+    at == Target::Directory(id)
 }
 
 // Along live names from the root.

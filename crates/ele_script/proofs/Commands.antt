@@ -5,24 +5,28 @@ use Rattle.std.specs.List.{list_any}
 use Rattle.std.specs.Str.{bytes_eq}
 use Rattle.std.specs.Cmp.Lexicographic.{bytes_decides}
 use Rattle.ele_script.specs.declared.command.Command.{Command}
-use Rattle.ele_script.specs.declared.command.Command.TheVariants.{Clock, Tick, MakeDir, RemoveDir, Create, OpenWrite, Write, Truncate, Close, Default, Clean, Read, Due, Usage, Pass}
+use Rattle.ele_script.specs.declared.command.Command.TheVariants.{Clock, Tick, MakeDir, RemoveDir, Create, Link, Unlink, Rename, Undelete, OpenWrite, Write, Truncate, Close, Default, Clean, Read, Restorable, Due, Usage, Pass}
 use Rattle.ele_script.specs.declared.fault.LineFault.{LineFault}
 use Rattle.ele_script.specs.declared.fault.LineFault.TheVariants.{Syntax, NoMemory}
 use Rattle.ele_script.specs.declared.reading.Line.{Line}
 use Rattle.ele_script.specs.Spells.{SpellsBehind, SpellsWords}
 use Rattle.ele_script.specs.Command.{command_words, kinds_behind}
 use Rattle.ele_script.specs.Memory.{takes_memory, TakesMemory}
-use Rattle.ele_script.specs.CommandOf.{command_of, one_word_command, directory_command, question_command, open_command, second_of, before}
+use Rattle.ele_script.specs.CommandOf.{command_of, one_word_command, directory_command, name_command, question_command, open_command, second_of, before}
 use Rattle.ele_script.specs.FirstFault.{FitsCommand, IsFaultBehind, miscounted, bad_word, IsFaultOfWords, no_command, of_word}
 
 -- a command's words, and what stands behind them
 command_of-words : (command : Command) (arguments : List (List ℕ)) → command_of (command_words command ++ arguments) ≡ Some (command, arguments)
-unfolding command_of one_word_command directory_command question_command open_command
+unfolding command_of one_word_command directory_command name_command question_command open_command
 command_of-words Clock arguments = refl
 command_of-words Tick arguments = refl
 command_of-words MakeDir arguments = refl
 command_of-words RemoveDir arguments = refl
 command_of-words Create arguments = refl
+command_of-words Link arguments = refl
+command_of-words Unlink arguments = refl
+command_of-words Rename arguments = refl
+command_of-words Undelete arguments = refl
 command_of-words OpenWrite arguments = refl
 command_of-words Write arguments = refl
 command_of-words Truncate arguments = refl
@@ -30,6 +34,7 @@ command_of-words Close arguments = refl
 command_of-words Default arguments = refl
 command_of-words Clean arguments = refl
 command_of-words Read arguments = refl
+command_of-words Restorable arguments = refl
 command_of-words Due arguments = refl
 command_of-words Usage arguments = refl
 command_of-words Pass arguments = refl
@@ -49,11 +54,17 @@ question_is word =
     let P : Command → Type 0 = λ command. command_words command ≡ word ∷ [] in
     chain P _ Read _ (same word (codes "read")) (chain P _ Due _ (same word (codes "due")) (chain P _ Usage _ (same word (codes "usage")) tt))
 
+name_is : (word : List ℕ) → IfSome (name_command word) (λ command. command_words command ≡ word ∷ [])
+unfolding name_command
+name_is word =
+    let P : Command → Type 0 = λ command. command_words command ≡ word ∷ [] in
+    chain P _ Link _ (same word (codes "link")) (chain P _ Unlink _ (same word (codes "unlink")) (chain P _ Rename _ (same word (codes "rename")) (chain P _ Undelete _ (same word (codes "undelete")) (chain P _ Restorable _ (same word (codes "restorable")) (question_is word)))))
+
 directory_is : (word : List ℕ) → IfSome (directory_command word) (λ command. command_words command ≡ word ∷ [])
 unfolding directory_command
 directory_is word =
     let P : Command → Type 0 = λ command. command_words command ≡ word ∷ [] in
-    chain P _ MakeDir _ (same word (codes "mkdir")) (chain P _ RemoveDir _ (same word (codes "rmdir")) (question_is word))
+    chain P _ MakeDir _ (same word (codes "mkdir")) (chain P _ RemoveDir _ (same word (codes "rmdir")) (name_is word))
 
 one_word_is : (word : List ℕ) → IfSome (one_word_command word) (λ command. command_words command ≡ word ∷ [])
 unfolding one_word_command

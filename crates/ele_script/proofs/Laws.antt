@@ -7,7 +7,7 @@ use Rattle.ele_world.specs.declared.event.Source.TheVariants.{Of}
 use Rattle.ele_script.specs.declared.reading.Line.{Line}
 use Rattle.ele_script.specs.declared.reading.Line.TheVariants as asks
 use Rattle.ele_script.specs.declared.command.Command.{Command}
-use Rattle.ele_script.specs.declared.command.Command.TheVariants.{Clock, Tick, MakeDir, RemoveDir, Create, OpenWrite, Write, Truncate, Close, Default, Clean, Read, Due, Usage, Pass}
+use Rattle.ele_script.specs.declared.command.Command.TheVariants.{Clock, Tick, MakeDir, RemoveDir, Create, Link, Unlink, Rename, Undelete, OpenWrite, Write, Truncate, Close, Default, Clean, Read, Restorable, Due, Usage, Pass}
 use Rattle.ele_script.specs.declared.fault.LineFault.{LineFault}
 use Rattle.ele_script.specs.declared.fault.LineFault.TheVariants.{NoMemory}
 use Rattle.ele_script.specs.Value.{WordKind, Value, Number, Moment, Path, Bytes, Policy, word_kind}
@@ -31,6 +31,10 @@ kinds_fit (asks.Event (event.Tick seconds)) = refl
 kinds_fit (asks.Event (event.MakeDir path)) = refl
 kinds_fit (asks.Event (event.RemoveDir path)) = refl
 kinds_fit (asks.Event (event.Create path)) = refl
+kinds_fit (asks.Event (event.Link from to)) = refl
+kinds_fit (asks.Event (event.Unlink path)) = refl
+kinds_fit (asks.Event (event.Rename from to)) = refl
+kinds_fit (asks.Event (event.Undelete path)) = refl
 kinds_fit (asks.Event (event.OpenWrite path)) = refl
 kinds_fit (asks.Event (event.Write handle offset bytes)) = refl
 kinds_fit (asks.Event (event.Truncate handle size)) = refl
@@ -38,6 +42,7 @@ kinds_fit (asks.Event (event.Close handle)) = refl
 kinds_fit (asks.Event (event.SetDefault path policy)) = refl
 kinds_fit (asks.Event event.CleanOne) = refl
 kinds_fit (asks.Event (event.Read (Of handle))) = refl
+kinds_fit (asks.Event event.Restorable) = refl
 kinds_fit (asks.Event event.Due) = refl
 kinds_fit (asks.Event event.UsageAll) = refl
 kinds_fit (asks.Pass budget) = refl
@@ -49,6 +54,10 @@ line_of (Tick, Number seconds ∷ []) = Some (asks.Event (event.Tick seconds))
 line_of (MakeDir, Path path ∷ []) = Some (asks.Event (event.MakeDir path))
 line_of (RemoveDir, Path path ∷ []) = Some (asks.Event (event.RemoveDir path))
 line_of (Create, Path path ∷ []) = Some (asks.Event (event.Create path))
+line_of (Link, Path from ∷ Path to ∷ []) = Some (asks.Event (event.Link from to))
+line_of (Unlink, Path path ∷ []) = Some (asks.Event (event.Unlink path))
+line_of (Rename, Path from ∷ Path to ∷ []) = Some (asks.Event (event.Rename from to))
+line_of (Undelete, Path path ∷ []) = Some (asks.Event (event.Undelete path))
 line_of (OpenWrite, Path path ∷ []) = Some (asks.Event (event.OpenWrite path))
 line_of (Write, Number handle ∷ Number offset ∷ Bytes bytes ∷ []) = Some (asks.Event (event.Write handle offset bytes))
 line_of (Truncate, Number handle ∷ Number size ∷ []) = Some (asks.Event (event.Truncate handle size))
@@ -56,6 +65,7 @@ line_of (Close, Number handle ∷ []) = Some (asks.Event (event.Close handle))
 line_of (Default, Path path ∷ Policy policy ∷ []) = Some (asks.Event (event.SetDefault path policy))
 line_of (Clean, []) = Some (asks.Event event.CleanOne)
 line_of (Read, Number handle ∷ []) = Some (asks.Event (event.Read (Of handle)))
+line_of (Restorable, []) = Some (asks.Event event.Restorable)
 line_of (Due, []) = Some (asks.Event event.Due)
 line_of (Usage, []) = Some (asks.Event event.UsageAll)
 line_of (Pass, Number budget ∷ []) = Some (asks.Pass budget)
@@ -68,6 +78,10 @@ parts_back (asks.Event (event.Tick seconds)) = refl
 parts_back (asks.Event (event.MakeDir path)) = refl
 parts_back (asks.Event (event.RemoveDir path)) = refl
 parts_back (asks.Event (event.Create path)) = refl
+parts_back (asks.Event (event.Link from to)) = refl
+parts_back (asks.Event (event.Unlink path)) = refl
+parts_back (asks.Event (event.Rename from to)) = refl
+parts_back (asks.Event (event.Undelete path)) = refl
 parts_back (asks.Event (event.OpenWrite path)) = refl
 parts_back (asks.Event (event.Write handle offset bytes)) = refl
 parts_back (asks.Event (event.Truncate handle size)) = refl
@@ -75,6 +89,7 @@ parts_back (asks.Event (event.Close handle)) = refl
 parts_back (asks.Event (event.SetDefault path policy)) = refl
 parts_back (asks.Event event.CleanOne) = refl
 parts_back (asks.Event (event.Read (Of handle))) = refl
+parts_back (asks.Event event.Restorable) = refl
 parts_back (asks.Event event.Due) = refl
 parts_back (asks.Event event.UsageAll) = refl
 parts_back (asks.Pass budget) = refl

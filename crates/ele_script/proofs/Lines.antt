@@ -6,9 +6,8 @@ use Rattle.std.proofs.lemmas.Fmt.{decimal_digit}
 use Rattle.std.proofs.lemmas.List.{drop_more, drop_all, append-nil, take-append-drop}
 use Rattle.ele_usage.specs.declared.usage.Usage.{Usage}
 use Rattle.std.specs.List.{join_with_byte, flat_map}
-use Rattle.ele_due.specs.declared.key.Key.{Key}
 use Rattle.hex.specs.Hex.{encode_with, encode_lower, lower_digits}
-use Rattle.ele_script.specs.Printed.{line_text, due_line, bytes_text, kind_words, usage_line, usage_lines}
+use Rattle.ele_script.specs.Printed.{line_text, bytes_text, kind_words, usage_line, usage_lines}
 
 -- what follows a word of a line
 abbrev pub behind_word : List (List ℕ) → List ℕ
@@ -28,10 +27,10 @@ behind_here {A} v xs i d lt = ap (λ (ys : List A). behind_word (map v ys)) (dro
 pub behind_end : {A : Type 0} (v : A → List ℕ) (xs : List A) (i : ℕ) → length xs ≤ i → behind_word (map v (drop i xs)) ≡ 10 ∷ []
 behind_end {A} v xs i le = ap (λ (ys : List A). behind_word (map v ys)) (drop_all i xs le)
 
--- at a key, its line is next
-pub keys_here : (keys : List Key) (i : ℕ) (key : Key) → i < length keys → key ≡ get_or keys i key → flat_map due_line (drop i keys) ≡ due_line key ++ flat_map due_line (drop (i + 1) keys)
-keys_here keys i key lt is =
-    ap (λ (ys : List Key). flat_map due_line ys) (drop_more keys i key lt ∙ ap (λ y. y ∷ drop (i + 1) keys) (sym is))
+-- at an item, its line is next
+pub lines_here : {A : Type 0} (line : A → List ℕ) (xs : List A) (i : ℕ) (x : A) → i < length xs → x ≡ get_or xs i x → flat_map line (drop i xs) ≡ line x ++ flat_map line (drop (i + 1) xs)
+lines_here {A} line xs i x lt is =
+    ap (λ (ys : List A). flat_map line ys) (drop_more xs i x lt ∙ ap (λ y. y ∷ drop (i + 1) xs) (sym is))
 
 digits_append : (xs ys : List ℕ) → encode_lower (xs ++ ys) ≡ encode_lower xs ++ encode_lower ys
 unfolding encode_with

@@ -5,12 +5,12 @@ use Rattle.std.proofs.Math.Bool.{and-false}
 use Rattle.std.proofs.lemmas.Bool.{ltb-false, eqb-true}
 use Rattle.std.proofs.lemmas.Bool.Decides.{nat_tests}
 use Rattle.std.proofs.lemmas.List.{map-append, length-map, length-take-le, drop_more, take-append-drop}
-use Rattle.std.proofs.lemmas.List.Folds.{list_all-append, list_all-map, list_all_at}
+use Rattle.std.proofs.lemmas.List.Folds.{list_all-append, list_all_at}
 use Rattle.std.proofs.lemmas.List.Quantifiers.{position-Some}
 use Rattle.std.proofs.lemmas.List.Splits.{length-slice_split}
 use Rattle.std.proofs.lemmas.List.Sums.{prefix_len_passes}
 use Rattle.ele_script.specs.declared.command.Command.{Command}
-use Rattle.ele_script.specs.declared.command.Command.TheVariants.{Clock, Tick, MakeDir, RemoveDir, Create, OpenWrite, Write, Truncate, Close, Default, Clean, Read, Due, Usage, Pass}
+use Rattle.ele_script.specs.declared.command.Command.TheVariants.{Clock, Tick, MakeDir, RemoveDir, Create, Link, Unlink, Rename, Undelete, OpenWrite, Write, Truncate, Close, Default, Clean, Read, Restorable, Due, Usage, Pass}
 use Rattle.ele_script.specs.declared.fault.LineFault.TheVariants.{Syntax}
 use Rattle.ele_script.specs.Command.{command_words, kinds_behind}
 use Rattle.ele_script.specs.FirstFault.{IsFaultOfWords, no_command, IsFirstFault, not_worded, of_words}
@@ -168,6 +168,10 @@ most_words Tick = lit≤ tt
 most_words MakeDir = lit≤ tt
 most_words RemoveDir = lit≤ tt
 most_words Create = lit≤ tt
+most_words Link = lit≤ tt
+most_words Unlink = lit≤ tt
+most_words Rename = lit≤ tt
+most_words Undelete = lit≤ tt
 most_words OpenWrite = lit≤ tt
 most_words Write = lit≤ tt
 most_words Truncate = lit≤ tt
@@ -175,6 +179,7 @@ most_words Close = lit≤ tt
 most_words Default = lit≤ tt
 most_words Clean = lit≤ tt
 most_words Read = lit≤ tt
+most_words Restorable = lit≤ tt
 most_words Due = lit≤ tt
 most_words Usage = lit≤ tt
 most_words Pass = lit≤ tt

@@ -2,7 +2,7 @@
 use Rattle.std.specs.Prelude.{ℕ, List, [], ◌∷◌, codes}
 use Rattle.ele_script.specs.Value.{WordKind, NumberWord, MomentWord, PathWord, BytesWord, PolicyWord}
 use Rattle.ele_script.specs.declared.command.Command.{Command}
-use Rattle.ele_script.specs.declared.command.Command.TheVariants.{Clock, Tick, MakeDir, RemoveDir, Create, OpenWrite, Write, Truncate, Close, Default, Clean, Read, Due, Usage, Pass}
+use Rattle.ele_script.specs.declared.command.Command.TheVariants.{Clock, Tick, MakeDir, RemoveDir, Create, Link, Unlink, Rename, Undelete, OpenWrite, Write, Truncate, Close, Default, Clean, Read, Restorable, Due, Usage, Pass}
 
 -- the words that name a command
 abbrev pub command_words : Command → List (List ℕ)
@@ -11,6 +11,10 @@ command_words Tick = codes "tick" ∷ []
 command_words MakeDir = codes "mkdir" ∷ []
 command_words RemoveDir = codes "rmdir" ∷ []
 command_words Create = codes "create" ∷ []
+command_words Link = codes "link" ∷ []
+command_words Unlink = codes "unlink" ∷ []
+command_words Rename = codes "rename" ∷ []
+command_words Undelete = codes "undelete" ∷ []
 command_words OpenWrite = codes "open" ∷ codes "write" ∷ []
 command_words Write = codes "write" ∷ []
 command_words Truncate = codes "truncate" ∷ []
@@ -18,6 +22,7 @@ command_words Close = codes "close" ∷ []
 command_words Default = codes "default" ∷ []
 command_words Clean = codes "clean" ∷ []
 command_words Read = codes "read" ∷ []
+command_words Restorable = codes "restorable" ∷ []
 command_words Due = codes "due" ∷ []
 command_words Usage = codes "usage" ∷ []
 command_words Pass = codes "pass" ∷ []
@@ -29,6 +34,10 @@ kinds_behind Tick = NumberWord ∷ []
 kinds_behind MakeDir = PathWord ∷ []
 kinds_behind RemoveDir = PathWord ∷ []
 kinds_behind Create = PathWord ∷ []
+kinds_behind Link = PathWord ∷ PathWord ∷ []
+kinds_behind Unlink = PathWord ∷ []
+kinds_behind Rename = PathWord ∷ PathWord ∷ []
+kinds_behind Undelete = PathWord ∷ []
 kinds_behind OpenWrite = PathWord ∷ []
 kinds_behind Write = NumberWord ∷ NumberWord ∷ BytesWord ∷ []
 kinds_behind Truncate = NumberWord ∷ NumberWord ∷ []
@@ -36,6 +45,7 @@ kinds_behind Close = NumberWord ∷ []
 kinds_behind Default = PathWord ∷ PolicyWord ∷ []
 kinds_behind Clean = []
 kinds_behind Read = NumberWord ∷ []
+kinds_behind Restorable = []
 kinds_behind Due = []
 kinds_behind Usage = []
 kinds_behind Pass = NumberWord ∷ []

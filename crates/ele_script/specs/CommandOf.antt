@@ -3,7 +3,7 @@ use Rattle.std.specs.Prelude.{ℕ, List, [], ◌∷◌, Option, Some, None, code
 use Rattle.std.specs.Option.{option_map}
 use Rattle.std.specs.Str.{bytes_eq}
 use Rattle.ele_script.specs.declared.command.Command.{Command}
-use Rattle.ele_script.specs.declared.command.Command.TheVariants.{Clock, Tick, MakeDir, RemoveDir, Create, OpenWrite, Write, Truncate, Close, Default, Clean, Read, Due, Usage, Pass}
+use Rattle.ele_script.specs.declared.command.Command.TheVariants.{Clock, Tick, MakeDir, RemoveDir, Create, Link, Unlink, Rename, Undelete, OpenWrite, Write, Truncate, Close, Default, Clean, Read, Restorable, Due, Usage, Pass}
 
 -- the command of one word that asks a question
 unfoldable pub question_command : List ℕ → Option Command
@@ -13,12 +13,22 @@ question_command word =
     if bytes_eq word (codes "usage") then Some Usage else
     None
 
--- the command of one word that makes or removes a directory, or asks a question
+-- the command of one word that is about the names of what there is, or asks a question
+unfoldable pub name_command : List ℕ → Option Command
+name_command word =
+    if bytes_eq word (codes "link") then Some Link else
+    if bytes_eq word (codes "unlink") then Some Unlink else
+    if bytes_eq word (codes "rename") then Some Rename else
+    if bytes_eq word (codes "undelete") then Some Undelete else
+    if bytes_eq word (codes "restorable") then Some Restorable else
+    question_command word
+
+-- the command of one word that makes or removes a directory, is about names, or asks a question
 unfoldable pub directory_command : List ℕ → Option Command
 directory_command word =
     if bytes_eq word (codes "mkdir") then Some MakeDir else
     if bytes_eq word (codes "rmdir") then Some RemoveDir else
-    question_command word
+    name_command word
 
 -- the command of one word
 unfoldable pub one_word_command : List ℕ → Option Command

@@ -10,7 +10,10 @@ use Rattle.ele_world.specs.declared.refusal.Refusal.{Refusal}
 use Rattle.ele_world.specs.declared.refusal.Refusal.TheVariants as refusal
 use Rattle.ele_world.specs.declared.refusal.Stop.{Stop}
 use Rattle.ele_world.specs.declared.reply.Reply.{Reply}
-use Rattle.ele_world.specs.declared.reply.Reply.TheVariants.{Done, Nothing, Now, Directory, File, Handle, Closed, Removed, Bytes, DueList, UsageList, Refused}
+use Rattle.ele_world.specs.declared.reply.Reply.TheVariants.{Done, Nothing, Now, Directory, File, Handle, Version, Closed, Removed, Bytes, RestoreList, DueList, UsageList, Refused}
+use Rattle.ele_world.specs.declared.rows.DeadName.{DeadName}
+use Rattle.ele_world.specs.declared.rows.Target.{Target}
+use Rattle.ele_world.specs.declared.rows.Target.TheVariants as target
 use Rattle.ele_usage.specs.declared.usage.Usage.{Usage}
 use Rattle.ele_world.specs.declared.pass.PassEnd.{PassEnd}
 use Rattle.ele_world.specs.declared.pass.PassEnd.TheVariants.{Finished, Budget, Stopped}
@@ -43,6 +46,20 @@ refusal_text why =
 abbrev pub closed_text : Option ℕ → List ℕ
 closed_text None = line_text (codes "ok closed" ∷ [])
 closed_text (Some number) = line_text (codes "ok closed version" ∷ decimal number ∷ [])
+
+-- the words of what a name stood for
+abbrev pub target_words : Target → List (List ℕ)
+target_words (target.File file) = codes "file" ∷ decimal file ∷ []
+target_words (target.Directory directory) = codes "directory" ∷ decimal directory ∷ []
+
+-- the line of a name that may come back: its directory, its bytes as they are, and what it stood for
+abbrev pub restorable_line : DeadName → List ℕ
+restorable_line dead = line_text (codes "-" ∷ decimal dead.directory ∷ dead.name ∷ target_words dead.target)
+
+-- the text of names that may come back: how many, and a line for each
+abbrev pub restorable_text : List DeadName → List ℕ
+restorable_text names =
+    line_text (codes "ok restorable" ∷ decimal (length names) ∷ []) ++ flat_map restorable_line names
 
 -- the line of a key that is due
 abbrev pub due_line : Key → List ℕ
@@ -88,9 +105,11 @@ IsReplyText (Now moment) text =
 IsReplyText (Directory directory) text = text ≡ line_text (codes "ok directory" ∷ decimal directory ∷ [])
 IsReplyText (File file) text = text ≡ line_text (codes "ok file" ∷ decimal file ∷ [])
 IsReplyText (Handle handle) text = text ≡ line_text (codes "ok handle" ∷ decimal handle ∷ [])
+IsReplyText (Version number) text = text ≡ line_text (codes "ok version" ∷ decimal number ∷ [])
 IsReplyText (Closed made) text = text ≡ closed_text made
 IsReplyText (Removed key) text = text ≡ line_text (codes "ok removed" ∷ key_words key)
 IsReplyText (Bytes bytes) text = text ≡ bytes_text bytes
+IsReplyText (RestoreList names) text = text ≡ restorable_text names
 IsReplyText (DueList keys) text = text ≡ due_text keys
 IsReplyText (UsageList usages) text = text ≡ usage_text usages
 IsReplyText (Refused why) text = text ≡ refusal_text why

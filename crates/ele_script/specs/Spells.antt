@@ -4,7 +4,7 @@ use Rattle.ele_world.specs.declared.event.Event.{Event}
 use Rattle.ele_world.specs.declared.event.Event.TheVariants as event
 use Rattle.ele_world.specs.declared.event.Source.TheVariants.{Of}
 use Rattle.ele_script.specs.declared.command.Command.{Command}
-use Rattle.ele_script.specs.declared.command.Command.TheVariants.{Clock, Tick, MakeDir, RemoveDir, Create, OpenWrite, Write, Truncate, Close, Default, Clean, Read, Due, Usage, Pass}
+use Rattle.ele_script.specs.declared.command.Command.TheVariants.{Clock, Tick, MakeDir, RemoveDir, Create, Link, Unlink, Rename, Undelete, OpenWrite, Write, Truncate, Close, Default, Clean, Read, Restorable, Due, Usage, Pass}
 use Rattle.ele_script.specs.declared.reading.Line.{Line}
 use Rattle.ele_script.specs.declared.reading.Line.TheVariants as asks
 use Rattle.ele_script.specs.Value.{Value, Number, Moment, Path, Bytes, Policy, SpellsValue}
@@ -18,6 +18,10 @@ parts_of (event.Tick seconds) = (Tick, Number seconds ∷ [])
 parts_of (event.MakeDir path) = (MakeDir, Path path ∷ [])
 parts_of (event.RemoveDir path) = (RemoveDir, Path path ∷ [])
 parts_of (event.Create path) = (Create, Path path ∷ [])
+parts_of (event.Link from to) = (Link, Path from ∷ Path to ∷ [])
+parts_of (event.Unlink path) = (Unlink, Path path ∷ [])
+parts_of (event.Rename from to) = (Rename, Path from ∷ Path to ∷ [])
+parts_of (event.Undelete path) = (Undelete, Path path ∷ [])
 parts_of (event.OpenWrite path) = (OpenWrite, Path path ∷ [])
 parts_of (event.Write handle offset bytes) = (Write, Number handle ∷ Number offset ∷ Bytes bytes ∷ [])
 parts_of (event.Truncate handle size) = (Truncate, Number handle ∷ Number size ∷ [])
@@ -25,6 +29,7 @@ parts_of (event.Close handle) = (Close, Number handle ∷ [])
 parts_of (event.SetDefault path policy) = (Default, Path path ∷ Policy policy ∷ [])
 parts_of event.CleanOne = (Clean, [])
 parts_of (event.Read (Of handle)) = (Read, Number handle ∷ [])
+parts_of event.Restorable = (Restorable, [])
 parts_of event.Due = (Due, [])
 parts_of event.UsageAll = (Usage, [])
 

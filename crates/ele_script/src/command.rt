@@ -1,7 +1,7 @@
 //! The commands of the script. A contract sees a command as itself.
 ghost use Rattle.std.specs.Prelude.{◌≡◌, map};
 ghost use Rattle.std.specs.Option.{option_map};
-ghost use Rattle.ele_script.specs.CommandOf.{command_of, one_word_command, directory_command, question_command, open_command};
+ghost use Rattle.ele_script.specs.CommandOf.{command_of, one_word_command, directory_command, name_command, question_command, open_command};
 
 /// What a line tells a world to do; its first word, or its first two, name it.
 #[derive(Clone, Copy, Debug, PartialEq, Eq)]
@@ -11,6 +11,10 @@ pub(crate) enum Command {
     MakeDir,
     RemoveDir,
     Create,
+    Link,
+    Unlink,
+    Rename,
+    Undelete,
     OpenWrite,
     Write,
     Truncate,
@@ -18,6 +22,7 @@ pub(crate) enum Command {
     Default,
     Clean,
     Read,
+    Restorable,
     Due,
     Usage,
     Pass,
@@ -72,7 +77,7 @@ fn read_one(word: &[u8]) -> Option<Command>
     read_directory(word)
 }
 
-/// The command of one word that makes or removes a directory, or asks a question.
+/// The command of one word that makes or removes a directory, is about names, or asks a question.
 #[tactic(auto, unfolding(crate::specs::CommandOf::directory_command))]
 fn read_directory(word: &[u8]) -> Option<Command>
     ensures { result ≡ directory_command word.now }
@@ -82,6 +87,29 @@ fn read_directory(word: &[u8]) -> Option<Command>
     }
     if word == b"rmdir".as_slice() {
         return Some(Command::RemoveDir);
+    }
+    read_naming(word)
+}
+
+/// The command of one word that is about the names of what there is, or asks a question.
+#[tactic(auto, unfolding(crate::specs::CommandOf::name_command))]
+fn read_naming(word: &[u8]) -> Option<Command>
+    ensures { result ≡ name_command word.now }
+{
+    if word == b"link".as_slice() {
+        return Some(Command::Link);
+    }
+    if word == b"unlink".as_slice() {
+        return Some(Command::Unlink);
+    }
+    if word == b"rename".as_slice() {
+        return Some(Command::Rename);
+    }
+    if word == b"undelete".as_slice() {
+        return Some(Command::Undelete);
+    }
+    if word == b"restorable".as_slice() {
+        return Some(Command::Restorable);
     }
     read_question(word)
 }

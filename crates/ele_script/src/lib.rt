@@ -5,8 +5,10 @@
 mod command;
 mod fault;
 mod output;
+mod paths;
 mod putting;
 mod reading;
+mod refusal;
 mod word;
 mod writing;
 

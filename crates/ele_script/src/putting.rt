@@ -1,14 +1,14 @@
 //! Putting replies into an output. A contract sees a reply as itself, and the output with its
 //! writer as an outlet.
 ghost use Rattle.std.specs.Prelude.{◌≡◌, ◌≤◌, ◌++◌, ◌∷◌, [], Ok, List, ℕ, length, OnOk, OnErr, decimal, codes};
-ghost use Rattle.ele_world.specs.Answers.{refusal_number, refusal_name};
 ghost use Rattle.ele_script.specs.Outlet.{outlet, Puts};
-ghost use Rattle.ele_script.specs.Printed.{line_text, key_words, refusal_text, closed_text, due_text, bytes_text, usage_line, usage_text, stop_text, pass_text, bad_text, IsAnswerText, IsReplyText};
+ghost use Rattle.ele_script.specs.Printed.{line_text, key_words, closed_text, restorable_line, restorable_text, due_text, bytes_text, usage_line, usage_text, stop_text, pass_text, bad_text, IsAnswerText, IsReplyText};
 ghost use Rattle.hex.specs.Hex.{encode_lower};
 
 use crate::fault::{LineFault, WriteFault};
 use crate::output::{Output, put_line};
-use ele_world::{Key, PassEnd, Refusal, Reply, Stop, Usage, VersionNo};
+use crate::refusal::put_refusal;
+use ele_world::{DeadName, Key, PassEnd, Reply, Stop, Target, Usage, VersionNo};
 use itoa::Buffer;
 use std::io::Write;
 
@@ -79,9 +79,11 @@ pub fn put_answer<W: Write>(
         Reply::Directory(directory) => put_number(b"ok directory", directory.0, output, writer),
         Reply::File(file) => put_number(b"ok file", file.0, output, writer),
         Reply::Handle(handle) => put_number(b"ok handle", handle.0, output, writer),
+        Reply::Version(number) => put_number(b"ok version", number.0, output, writer),
         Reply::Closed(made) => put_closed(*made, output, writer),
         Reply::Removed(key) => put_key(b"ok removed", *key, output, writer),
         Reply::Bytes(bytes) => put_bytes(bytes.as_slice(), output, writer),
+        Reply::RestoreList(names) => put_dead_names(names.as_slice(), output, writer),
         Reply::DueList(keys) => put_keys(keys.as_slice(), output, writer),
         Reply::UsageList(usages) => put_usages(usages, output, writer),
         Reply::Refused(why) => put_refusal(why, output, writer),
@@ -159,6 +161,61 @@ fn put_keys<W: Write>(keys: &[Key], output: &mut Output, writer: &mut W) -> Resu
         put_key(b"-", *key, output, writer)?;
     }
     Ok(())
+}
+
+fn put_dead_names<W: Write>(
+    names: &[DeadName],
+    output: &mut Output,
+    writer: &mut W,
+) -> Result<(), WriteFault>
+    ensures { Puts (outlet (W.contents writer.old) output.old)
+        (outlet (W.contents writer.new) output.new) (restorable_text names.now) result }
+{
+    put_number(b"ok restorable", names.len() as u64, output, writer)?;
+    for dead in names {
+        put_dead_name(dead, output, writer)?;
+    }
+    Ok(())
+}
+
+/// Puts the line of a name that may come back.
+fn put_dead_name<W: Write>(
+    dead: &DeadName,
+    output: &mut Output,
+    writer: &mut W,
+) -> Result<(), WriteFault>
+    ensures { Puts (outlet (W.contents writer.old) output.old)
+        (outlet (W.contents writer.new) output.new) (restorable_line dead.now) result }
+{
+    match dead.target {
+        Target::File(file) => put_target(dead, b"file", file.0, output, writer),
+        Target::Directory(directory) => put_target(dead, b"directory", directory.0, output, writer),
+    }
+}
+
+/// Puts the line of a name that stood for a target of this kind and number.
+fn put_target<W: Write>(
+    dead: &DeadName,
+    kind: &[u8],
+    target: u64,
+    output: &mut Output,
+    writer: &mut W,
+) -> Result<(), WriteFault>
+    ensures { Puts (outlet (W.contents writer.old) output.old)
+        (outlet (W.contents writer.new) output.new)
+        (line_text (codes "-" ∷ decimal dead.now.directory ∷ dead.now.name ∷ kind.now
+        ∷ decimal target ∷ [])) result }
+{
+    let mut directory = Buffer::new();
+    let mut number = Buffer::new();
+    let directory = directory.format(dead.directory.0).as_bytes();
+    let number = number.format(target).as_bytes();
+    put_line(
+        b"-",
+        &[directory, dead.name.bytes(), kind, number],
+        output,
+        writer,
+    )
 }
 
 /// Puts bytes, which stay in the line of the reply however many they are.
@@ -262,58 +319,8 @@ fn put_usage<W: Write>(
     )
 }
 
-fn put_refusal<W: Write>(
-    why: &Refusal,
-    output: &mut Output,
-    writer: &mut W,
-) -> Result<(), WriteFault>
-    ensures { Puts (outlet (W.contents writer.old) output.old)
-        (outlet (W.contents writer.new) output.new) (refusal_text why.now) result }
-{
-    match why {
-        Refusal::Forgotten(None) => put_detail(why, b"-", output, writer),
-        Refusal::Forgotten(Some(before)) => {
-            let mut digits = Buffer::new();
-            put_detail(why, digits.format(before.0).as_bytes(), output, writer)
-        }
-        Refusal::Full(which) => put_detail(why, which.word().as_bytes(), output, writer),
-        _ => put_undetailed(why, output, writer),
-    }
-}
-
-/// Puts the line of a refusal that tells one thing more.
-fn put_detail<W: Write>(
-    why: &Refusal,
-    detail: &[u8],
-    output: &mut Output,
-    writer: &mut W,
-) -> Result<(), WriteFault>
-    ensures { Puts (outlet (W.contents writer.old) output.old)
-        (outlet (W.contents writer.new) output.new)
-        (line_text (codes "no" ∷ decimal (refusal_number why.now) ∷ refusal_name why.now
-        ∷ detail.now ∷ [])) result }
-{
-    let mut digits = Buffer::new();
-    let number = digits.format(why.number()).as_bytes();
-    put_three(number, why.name().as_bytes(), detail, output, writer)
-}
-
-/// Puts the line of a refusal that tells no more.
-fn put_undetailed<W: Write>(
-    why: &Refusal,
-    output: &mut Output,
-    writer: &mut W,
-) -> Result<(), WriteFault>
-    ensures { Puts (outlet (W.contents writer.old) output.old)
-        (outlet (W.contents writer.new) output.new)
-        (line_text (codes "no" ∷ decimal (refusal_number why.now) ∷ refusal_name why.now
-        ∷ [])) result }
-{
-    put_named(b"no", why.number(), why.name(), output, writer)
-}
-
 /// Puts a line of a first word, a number and a name.
-fn put_named<W: Write>(
+pub(crate) fn put_named<W: Write>(
     first: &[u8],
     number: u8,
     name: &str,
@@ -327,21 +334,6 @@ fn put_named<W: Write>(
     let mut digits = Buffer::new();
     let number = digits.format(number).as_bytes();
     put_line(first, &[number, name.as_bytes()], output, writer)
-}
-
-/// Puts the line of a refusal of these three words.
-fn put_three<'w, W: Write>(
-    number: &'w [u8],
-    name: &'w [u8],
-    detail: &'w [u8],
-    output: &mut Output,
-    writer: &mut W,
-) -> Result<(), WriteFault>
-    ensures { Puts (outlet (W.contents writer.old) output.old)
-        (outlet (W.contents writer.new) output.new)
-        (line_text (codes "no" ∷ number.now ∷ name.now ∷ detail.now ∷ [])) result }
-{
-    put_line(b"no", &[number, name, detail], output, writer)
 }
 
 /// Puts the line of a stop that came in a reply's place. At a fault of the writer it took a front of

@@ -10,6 +10,7 @@ ghost use Rattle.ele_script.specs.FirstFault.{IsFirstFault, IsEventFault, IsFaul
 
 use crate::command::{Command, read_command};
 use crate::fault::LineFault;
+use crate::paths::{create, link, make_dir, open_write, remove_dir, rename, undelete, unlink};
 use crate::word;
 use arrayvec::ArrayVec;
 use ele_world::{Event, Handle, Source};
@@ -154,6 +155,10 @@ fn line_behind(alloc: Global, command: Command, arguments: &[&[u8]]) -> Result<L
         Command::MakeDir => make_dir(alloc, arguments),
         Command::RemoveDir => remove_dir(alloc, arguments),
         Command::Create => create(alloc, arguments),
+        Command::Link => link(alloc, arguments),
+        Command::Unlink => unlink(alloc, arguments),
+        Command::Rename => rename(alloc, arguments),
+        Command::Undelete => undelete(alloc, arguments),
         Command::OpenWrite => open_write(alloc, arguments),
         Command::Write => write(alloc, arguments),
         Command::Truncate => truncate(arguments),
@@ -161,6 +166,7 @@ fn line_behind(alloc: Global, command: Command, arguments: &[&[u8]]) -> Result<L
         Command::Default => set_default(alloc, arguments),
         Command::Clean => clean(arguments),
         Command::Read => read(arguments),
+        Command::Restorable => restorable(arguments),
         Command::Due => due(arguments),
         Command::Usage => usage(arguments),
         Command::Pass => pass(arguments),
@@ -191,58 +197,6 @@ fn tick(arguments: &[&[u8]]) -> Result<Line, LineFault>
         return Err(LineFault::Syntax);
     };
     Ok(Line::Event(Event::Tick(word::number(seconds)?)))
-}
-
-/// `mkdir P`, of which the command is read.
-fn make_dir(alloc: Global, arguments: &[&[u8]]) -> Result<Line, LineFault>
-    ensures found { IfOk result
-        (SpellsBehind Command.MakeDir (map (λ word. word.now) arguments.now)) }
-    ensures fault { IfErr result (λ fault. (fault ≡ LineFault.NoMemory)
-        ⊎ IsFaultBehind Command.MakeDir (map (λ word. word.now) arguments.now) fault) }
-{
-    let [path] = arguments else {
-        return Err(LineFault::Syntax);
-    };
-    Ok(Line::Event(Event::MakeDir(word::path(alloc, path)?)))
-}
-
-/// `rmdir P`, of which the command is read.
-fn remove_dir(alloc: Global, arguments: &[&[u8]]) -> Result<Line, LineFault>
-    ensures found { IfOk result
-        (SpellsBehind Command.RemoveDir (map (λ word. word.now) arguments.now)) }
-    ensures fault { IfErr result (λ fault. (fault ≡ LineFault.NoMemory)
-        ⊎ IsFaultBehind Command.RemoveDir (map (λ word. word.now) arguments.now) fault) }
-{
-    let [path] = arguments else {
-        return Err(LineFault::Syntax);
-    };
-    Ok(Line::Event(Event::RemoveDir(word::path(alloc, path)?)))
-}
-
-/// `create P`, of which the command is read.
-fn create(alloc: Global, arguments: &[&[u8]]) -> Result<Line, LineFault>
-    ensures found { IfOk result
-        (SpellsBehind Command.Create (map (λ word. word.now) arguments.now)) }
-    ensures fault { IfErr result (λ fault. (fault ≡ LineFault.NoMemory)
-        ⊎ IsFaultBehind Command.Create (map (λ word. word.now) arguments.now) fault) }
-{
-    let [path] = arguments else {
-        return Err(LineFault::Syntax);
-    };
-    Ok(Line::Event(Event::Create(word::path(alloc, path)?)))
-}
-
-/// `open write P`, of which the command is read.
-fn open_write(alloc: Global, arguments: &[&[u8]]) -> Result<Line, LineFault>
-    ensures found { IfOk result
-        (SpellsBehind Command.OpenWrite (map (λ word. word.now) arguments.now)) }
-    ensures fault { IfErr result (λ fault. (fault ≡ LineFault.NoMemory)
-        ⊎ IsFaultBehind Command.OpenWrite (map (λ word. word.now) arguments.now) fault) }
-{
-    let [path] = arguments else {
-        return Err(LineFault::Syntax);
-    };
-    Ok(Line::Event(Event::OpenWrite(word::path(alloc, path)?)))
 }
 
 /// `write H N X`, of which the command is read.
@@ -356,6 +310,19 @@ fn read(arguments: &[&[u8]]) -> Result<Line, LineFault>
         return Err(LineFault::Syntax);
     };
     Ok(Line::Event(Event::Read(Source::Of(Handle(word::number(handle)?)))))
+}
+
+/// `restorable`, of which the command is read.
+fn restorable(arguments: &[&[u8]]) -> Result<Line, LineFault>
+    ensures found { IfOk result
+        (SpellsBehind Command.Restorable (map (λ word. word.now) arguments.now)) }
+    ensures fault { IfErr result
+        (IsFaultBehind Command.Restorable (map (λ word. word.now) arguments.now)) }
+{
+    if !arguments.is_empty() {
+        return Err(LineFault::Syntax);
+    }
+    Ok(Line::Event(Event::Restorable))
 }
 
 /// `due`, of which the command is read.

@@ -20,11 +20,17 @@ returns-in-File g c = rw c.in-File.is (_, refl, rw c.file.view_is at c.put_numbe
 pub returns-in-Handle : goal.returns-in-Handle
 returns-in-Handle g c = rw c.in-Handle.is (_, refl, rw c.handle.view_is at c.put_number-in-Handle.ensures)
 
+pub returns-in-Version : goal.returns-in-Version
+returns-in-Version g c = rw c.in-Version.is (_, refl, rw c.number.view_is at c.put_number-in-Version.ensures)
+
 pub returns-in-Closed : goal.returns-in-Closed
 returns-in-Closed g c = rw c.in-Closed.is (_, refl, c.put_closed.ensures)
 
 pub returns-in-Removed : goal.returns-in-Removed
 returns-in-Removed g c = rw c.in-Removed.is (_, refl, c.put_key.ensures)
+
+pub returns-in-RestoreList : goal.returns-in-RestoreList
+returns-in-RestoreList g c = rw c.in-RestoreList.is (_, refl, rw c.as_slice-in-RestoreList.ensures at c.put_dead_names.ensures)
 
 pub returns-in-DueList : goal.returns-in-DueList
 returns-in-DueList g c = rw c.in-DueList.is (_, refl, rw c.as_slice-in-DueList.ensures at c.put_keys.ensures)

@@ -1,4 +1,3 @@
-use Rattle.std.proofs.Common.{ap}
 use Rattle.ele_names.proofs.Told.{dead_none, dead_more, dead_sorted, dead_all}
 use Rattle.ele_names.proofs.names.Names.dead.Goals as goal
 

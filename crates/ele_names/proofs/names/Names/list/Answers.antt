@@ -1,4 +1,4 @@
-use Rattle.std.proofs.Common.{refl, ap, ◌∙◌}
+use Rattle.std.proofs.Common.{refl, ◌∙◌}
 use Rattle.ele_names.proofs.Told.{listed_none, listed_more, listed_sorted, listed_all}
 use Rattle.ele_names.proofs.names.Names.list.Goals as goal
 

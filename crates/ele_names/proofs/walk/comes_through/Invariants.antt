@@ -1,0 +1,8 @@
+use Rattle.std.proofs.Common.{◌≡◌, drop}
+use Rattle.ele_world.specs.Walk.{comes_through}
+use Rattle.ele_world.specs.World.{root}
+use Rattle.ele_world.specs.declared.rows.Target.TheVariants.{Directory}
+use Rattle.ele_names.proofs.walk.comes_through.Given as goal
+
+abbrev pub invariant-loop-name : goal.invariant-loop-name
+invariant-loop-name l = comes_through l.names l.id l.at (drop l.name-index l.path) ≡ comes_through l.names l.id (Directory root) l.path
