@@ -25,7 +25,7 @@ pub mod RemovalOrder
 pub mod DueRows
 pub mod RipeAt
 pub mod Plain
-pub mod RevivedKeys
+pub mod Revivals
 pub mod Allowed
 pub mod StepKeeps
 pub mod Moves
