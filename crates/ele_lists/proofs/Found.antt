@@ -1,8 +1,8 @@
 -- The element that is found, and a change of it.
 use Rattle.std.proofs.Common.{◌≡◌, Bool, true, false, cond, ◌||◌, List, [], ◌∷◌, Some, None, refl, ap}
 use Rattle.std.specs.Prelude.{find}
-use Rattle.std.specs.List.{list_any}
-use Rattle.ele_lists.specs.Lists.{update_first, AllLater}
+use Rattle.std.specs.List.{list_any, AllByRecursion}
+use Rattle.ele_lists.specs.Lists.{update_first, insert_before, AllLater}
 use Rattle.ele_lists.proofs.Edits.{all-weaker, all-update_first, not_found}
 
 -- a test t beside the test p by which it is found
@@ -50,6 +50,14 @@ module _ {X : Type 0} (p t : X → Bool) where
       | false ↦ find-update_other f xs apart
     ]
   ] refl
+
+  -- what no other passes is found where it is put
+  pub find-inserted : (y : X) (xs : List X) → t y ≡ true → AllByRecursion (λ x. t x ≡ false) xs → find t (insert_before p y xs) ≡ Some y
+  find-inserted y [] own none = rw own refl
+  find-inserted y (x ∷ xs) own none = elim (p x) as (λ b. find t (cond b (y ∷ x ∷ xs) (x ∷ insert_before p y xs)) ≡ Some y) [
+    | true ↦ rw own refl
+    | false ↦ rw none.0 (find-inserted y xs own none.1)
+  ]
 
 module _ {X : Type 0} (p : X → Bool) where
   -- none passes once the only one that did is changed

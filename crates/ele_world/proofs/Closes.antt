@@ -4,8 +4,8 @@ use Rattle.std.specs.Prelude.{find}
 use Rattle.std.specs.Option.{option_map}
 use Rattle.std.specs.List.{AllByRecursion}
 use Rattle.std.proofs.lemmas.Bool.Decides.{nat_tests}
-use Rattle.ele_lists.specs.Lists.{insert_before}
 use Rattle.ele_lists.proofs.Edits.{all-update_first}
+use Rattle.ele_lists.proofs.Found.{find-inserted}
 use Rattle.ele_world.specs.Change.{ended_at, next_version, with_end, with_version}
 use Rattle.ele_world.specs.CloseKeeps.{KeepsDraft}
 use Rattle.ele_world.specs.Step.{plan, step}
@@ -16,14 +16,6 @@ use Rattle.ele_world.specs.declared.reply.Reply.TheVariants as reply
 use Rattle.ele_world.specs.declared.rows.FileRow.{FileRow}
 use Rattle.ele_world.specs.declared.rows.VersionRow.{VersionRow}
 use Rattle.ele_world.proofs.Outcomes.{in_all}
-
--- what no other passes is found where it is put
-find-insert : {X : Type 0} (p t : X → Bool) (y : X) (xs : List X) → t y ≡ true → AllByRecursion (λ x. t x ≡ false) xs → find t (insert_before p y xs) ≡ Some y
-find-insert p t y [] own none = rw own refl
-find-insert p t y (x ∷ xs) own none = elim (p x) as (λ b. find t (cond b (y ∷ x ∷ xs) (x ∷ insert_before p y xs)) ≡ Some y) [
-  | true ↦ rw own refl
-  | false ↦ rw none.0 (find-insert p t y xs own none.1)
-]
 
 -- no version has the file's next number
 pub none_next : (files : List FileRow) (now file : ℕ) (row : VersionRow) → IsVersion files now row → is_version file (next_of files file) row ≡ false
@@ -38,7 +30,7 @@ none_next files now file row h = by (eqb row.file file) refl where
 module _ (w : World) (file : ℕ) (each : AllByRecursion (IsVersion w.files w.now) w.versions) where
   pub new_found : (opened : ℕ) (cells : _) → find (is_version file (next_of w.files file)) (with_version w file opened cells).versions ≡ Some (next_version w file opened cells)
   new_found opened cells =
-      find-insert (is_version_after file (next_of w.files file)) (is_version file (next_of w.files file)) (next_version w file opened cells) (with_end w file)
+      find-inserted (is_version_after file (next_of w.files file)) (is_version file (next_of w.files file)) (next_version w file opened cells) (with_end w file)
       (grind (arith, nat_tests))
       (all-update_first (is_version file (next_of w.files file - 1)) (IsVersion w.files w.now) (λ row. is_version file (next_of w.files file) row ≡ false) (ended_at w.now) w.versions
       (λ row h. none_next w.files w.now file row h) (λ row h. none_next w.files w.now file row h) each)

@@ -33,7 +33,7 @@ pub mod DueRows
 pub mod RipeAt
 pub mod Plain
 pub mod NameMoments
-pub mod RevivedKeys
+pub mod Revivals
 pub mod Allowed
 pub mod StepKeeps
 pub mod Moves

@@ -22,7 +22,7 @@ use Rattle.std.proofs.lemmas.Map.Text.{is_eq-slice_cmp}
 use Rattle.ele_lists.specs.Last.{last_passing, passing}
 use Rattle.ele_lists.proofs.Entries.{entries_same, filter_map-map, sorted-insert_entry, lookup-insert_entry, sorted-filter_entries, all-insert_entry}
 use Rattle.ele_world.specs.NameRows.{is_named, last_dead}
-use Rattle.ele_world.specs.Restorable.{name_cmp, newest_rows, may_return, returning, restorable}
+use Rattle.ele_world.specs.Restorable.{name_cmp, newest_rows, returning_name, returning, restorable}
 use Rattle.ele_world.specs.World.{World, is_file, next_of}
 use Rattle.ele_world.specs.declared.rows.DeadName.{DeadName}
 use Rattle.ele_world.specs.declared.rows.FileRow.{FileRow}
@@ -32,8 +32,16 @@ use Rattle.ele_world.specs.declared.rows.Target.{Target}
 abbrev Key : Type 0
 Key = ℕ × List ℕ
 
+abbrev Entry : Type 0
+Entry = Key × NameRow
+
 abbrev key_of : NameRow → Key
 key_of row = (row.directory, row.name)
+
+abbrev more : List Entry → NameRow → List Entry
+more newest row = insert_entry name_cmp newest (key_of row) row
+
+-- ---- for src/returning.rt
 
 pub next_is : (files : List FileRow) (file : ℕ) → unwrap_or (option_map (λ (row : FileRow). row.next) (find (is_file file) files)) 0 ≡ next_of files file
 next_is files file = by (find (is_file file) files) where
@@ -42,13 +50,13 @@ next_is files file = by (find (is_file file) files) where
   by (Some row) = refl
 
 -- one more row
-pub newest_more : (xs : List NameRow) (i : ℕ) (x : NameRow) → i < length xs → x ≡ get_or xs i x → newest_rows (take (i + 1) xs) ≡ insert_entry name_cmp (newest_rows (take i xs)) (key_of x) x
-newest_more xs i x lt is = rw (take_more xs i x lt, ← is, fold-append (λ newest row. insert_entry name_cmp newest (key_of row) row) [] (take i xs) (x ∷ [])) refl
+pub newest_more : (xs : List NameRow) (i : ℕ) (x : NameRow) → i < length xs → x ≡ get_or xs i x → newest_rows (take (i + 1) xs) ≡ more (newest_rows (take i xs)) x
+newest_more xs i x lt is = rw (take_more xs i x lt, ← is, fold-append more [] (take i xs) (x ∷ [])) refl
 
 -- of their values those that may come back
 pub restorable_values : (w : World) → filter_map (returning w) (values_of (newest_rows w.names)) ≡ restorable w
 unfolding restorable
-restorable_values w = filter_map-map (returning w) (λ (entry : Key × NameRow). entry.1) (newest_rows w.names)
+restorable_values w = filter_map-map (returning w) (λ (e : Entry). e.1) (newest_rows w.names)
 
 -- ---- the order of names
 
@@ -68,49 +76,57 @@ is_at_name d n row = both (nat_cmp row.directory d) (slice_cmp nat_cmp row.name 
 
 -- ---- the newest rows
 
-abbrev IsOwn : Key × NameRow → Type 0
+abbrev IsOwn : Entry → Type 0
 IsOwn e = e.0 ≡ key_of e.1
 
-sorted_none : IsStrictlySortedBy name_cmp []
-unfolding IsStrictlySortedBy
-sorted_none = tt
-
 -- they stand in order
-newest_sorted : (rows : List NameRow) (newest : List (Key × NameRow)) → IsStrictlySortedBy name_cmp (keys_of newest) → IsStrictlySortedBy name_cmp (keys_of (fold (λ newest row. insert_entry name_cmp newest (key_of row) row) newest rows))
+newest_sorted : (rows : List NameRow) (newest : List Entry) → IsStrictlySortedBy name_cmp (keys_of newest) → IsStrictlySortedBy name_cmp (keys_of (fold more newest rows))
 newest_sorted [] newest up = up
-newest_sorted (row ∷ rows) newest up = newest_sorted rows (insert_entry name_cmp newest (key_of row) row) (sorted-insert_entry name_total newest (key_of row) row up)
+newest_sorted (row ∷ rows) newest up = newest_sorted rows (more newest row) (sorted-insert_entry name_total newest (key_of row) row up)
 
 -- each at its own name
-newest_own : (rows : List NameRow) (newest : List (Key × NameRow)) → AllByRecursion IsOwn newest → AllByRecursion IsOwn (fold (λ newest row. insert_entry name_cmp newest (key_of row) row) newest rows)
+newest_own : (rows : List NameRow) (newest : List Entry) → AllByRecursion IsOwn newest → AllByRecursion IsOwn (fold more newest rows)
 newest_own [] newest own = own
-newest_own (row ∷ rows) newest own = newest_own rows (insert_entry name_cmp newest (key_of row) row)
-    (all-insert_entry IsOwn name_cmp newest (key_of row) row refl (λ e alike. sym (name_exact (key_of row) e.0 alike)) own)
+newest_own (row ∷ rows) newest own = newest_own rows (more newest row) (all-insert_entry IsOwn name_cmp newest (key_of row) row refl (λ e alike. sym (name_exact (key_of row) e.0 alike)) own)
 
 -- and a name has its last row
-newest_found : (d : ℕ) (n : List ℕ) (rows : List NameRow) (newest : List (Key × NameRow)) → lookup (is_at (name_cmp (d, n))) (fold (λ newest row. insert_entry name_cmp newest (key_of row) row) newest rows) ≡ option_or (last_passing (is_named d n) rows) (lookup (is_at (name_cmp (d, n))) newest)
+newest_found : (d : ℕ) (n : List ℕ) (rows : List NameRow) (newest : List Entry) → lookup (is_at (name_cmp (d, n))) (fold more newest rows) ≡ option_or (last_passing (is_named d n) rows) (lookup (is_at (name_cmp (d, n))) newest)
 newest_found d n [] newest = refl
 newest_found d n (row ∷ rows) newest =
-    newest_found d n rows (insert_entry name_cmp newest (key_of row) row)
-    ∙ ap (option_or (last_passing (is_named d n) rows)) (lookup-insert_entry name_total (d, n) newest (key_of row) row ∙ ap (λ b. cond b (Some row) (lookup (is_at (name_cmp (d, n))) newest)) (is_at_name d n row))
+    newest_found d n rows (more newest row)
+    ∙ ap (option_or (last_passing (is_named d n) rows)) (lookup-insert_entry name_total (d, n) newest (key_of row) row ∙ ap (λ b. cond b (Some row) old) (is_at_name d n row))
     ∙ by (last_passing (is_named d n) rows) (is_named d n row) where
-      by : (o : Option NameRow) (b : Bool) → option_or o (cond b (Some row) (lookup (is_at (name_cmp (d, n))) newest)) ≡ option_or (option_or o (cond b (Some row) None)) (lookup (is_at (name_cmp (d, n))) newest)
+      old : Option NameRow
+      old = lookup (is_at (name_cmp (d, n))) newest
+
+      by : (o : Option NameRow) (b : Bool) → option_or o (cond b (Some row) old) ≡ option_or (option_or o (cond b (Some row) None)) old
       by (Some last) b = refl
       by None true = refl
       by None false = refl
 
--- ---- those that are dead
+-- ---- those that are dead, with what they stood for
 
 abbrev is_dead : NameRow → Bool
 is_dead row = is_some row.death
 
-abbrev targets : List (Key × NameRow) → List (Key × Target)
-targets newest = map (λ (e : Key × NameRow). (e.0, e.1.target)) newest
+abbrev dead_of : List Entry → List Entry
+dead_of newest = filter (λ (e : Entry). is_dead e.1) newest
 
-dead_found : (rows : List NameRow) (d : ℕ) (n : List ℕ) → lookup (is_at (name_cmp (d, n))) (targets (filter (λ (e : Key × NameRow). is_dead e.1) (newest_rows rows))) ≡ last_dead rows d n
+abbrev targets : List Entry → List (Key × Target)
+targets newest = map (λ (e : Entry). (e.0, e.1.target)) newest
+
+sorted_rows : (rows : List NameRow) → IsStrictlySortedBy name_cmp (keys_of (newest_rows rows))
+unfolding IsStrictlySortedBy
+sorted_rows rows = newest_sorted rows [] tt
+
+dead_sorted : (rows : List NameRow) → IsStrictlySortedBy name_cmp (keys_of (targets (dead_of (newest_rows rows))))
+dead_sorted rows = subst (IsStrictlySortedBy name_cmp) (sym (keys_of-map_values (λ (row : NameRow). row.target) (dead_of (newest_rows rows)))) (sorted-filter_entries name_cmp (λ (e : Entry). is_dead e.1) (newest_rows rows) (sorted_rows rows))
+
+dead_found : (rows : List NameRow) (d : ℕ) (n : List ℕ) → lookup (is_at (name_cmp (d, n))) (targets (dead_of (newest_rows rows))) ≡ last_dead rows d n
 dead_found rows d n =
-    lookup-map_values (λ (row : NameRow). row.target) (is_at (name_cmp (d, n))) (filter (λ (e : Key × NameRow). is_dead e.1) (newest_rows rows))
+    lookup-map_values (λ (row : NameRow). row.target) (is_at (name_cmp (d, n))) (dead_of (newest_rows rows))
     ∙ ap (option_map (λ (row : NameRow). row.target)) (
-    lookup-filter-values (eq_by_cmp_equiv name_total) is_dead (d, n) (newest_rows rows) (IsDistinct-from_sorted name_cmp (keys_of (newest_rows rows)) (newest_sorted rows [] sorted_none))
+    lookup-filter-values (eq_by_cmp_equiv name_total) is_dead (d, n) (newest_rows rows) (IsDistinct-from_sorted name_cmp (keys_of (newest_rows rows)) (sorted_rows rows))
     ∙ ap (option_filter is_dead) (newest_found d n rows [])
     ∙ by (last_passing (is_named d n) rows)) where
       by : (o : Option NameRow) → option_filter is_dead (option_or o None) ≡ passing is_dead o
@@ -119,29 +135,25 @@ dead_found rows d n =
 
 -- ---- those that may come back
 
--- the dead name, if what it last stood for may have a name again
-abbrev pub returning_item : World → ℕ × List ℕ × Target → Option DeadName
-returning_item w item = cond (may_return w item.2) (Some (record { directory = item.0; name = item.1; target = item.2 })) None
-
 abbrev returning_entry : World → Key × Target → Option DeadName
-returning_entry w e = returning_item w (e.0.0, e.0.1, e.1)
+returning_entry w e = returning_name w (e.0.0, e.0.1, e.1)
 
-dead_return : (w : World) (newest : List (Key × NameRow)) → AllByRecursion IsOwn newest → filter_map (returning_entry w) (targets (filter (λ (e : Key × NameRow). is_dead e.1) newest)) ≡ filter_map (λ (e : Key × NameRow). returning w e.1) newest
+dead_return : (w : World) (newest : List Entry) → AllByRecursion IsOwn newest → filter_map (returning_entry w) (targets (dead_of newest)) ≡ filter_map (λ (e : Entry). returning w e.1) newest
 dead_return w [] own = refl
-dead_return w (e ∷ newest) own = by (is_dead e.1) (dead_return w newest own.1) own.0 where
-  by : (b : Bool) → filter_map (returning_entry w) (targets (filter (λ (e : Key × NameRow). is_dead e.1) newest)) ≡ filter_map (λ (e : Key × NameRow). returning w e.1) newest → e.0 ≡ key_of e.1
-      → filter_map (returning_entry w) (targets (cond b (e ∷ filter (λ (e : Key × NameRow). is_dead e.1) newest) (filter (λ (e : Key × NameRow). is_dead e.1) newest))) ≡ cons_option (cond (b && may_return w e.1.target) (Some (record { directory = e.1.directory; name = e.1.name; target = e.1.target })) None) (filter_map (λ (e : Key × NameRow). returning w e.1) newest)
-  by true rest own = rw (rest, own) refl
-  by false rest own = rest
+dead_return w (e ∷ newest) own = by (is_dead e.1) (dead_return w newest own.1) where
+  by : (b : Bool) → filter_map (returning_entry w) (targets (dead_of newest)) ≡ filter_map (λ (e : Entry). returning w e.1) newest
+      → filter_map (returning_entry w) (targets (cond b (e ∷ dead_of newest) (dead_of newest))) ≡ cons_option (cond b (returning_name w (e.1.directory, e.1.name, e.1.target)) None) (filter_map (λ (e : Entry). returning w e.1) newest)
+  by true rest = rw (rest, own.0) refl
+  by false rest = rest
 
--- of any list of the dead names, each once and in order, with what each last stood for, those that may come back
-pub restorable_is : (w : World) (items : List (ℕ × List ℕ × Target)) → IsStrictlySortedBy name_cmp (keys_of (map (λ (item : ℕ × List ℕ × Target). ((item.0, item.1), item.2)) items))
-    → ((d : ℕ) (n : List ℕ) → lookup (is_at (name_cmp (d, n))) (map (λ (item : ℕ × List ℕ × Target). ((item.0, item.1), item.2)) items) ≡ last_dead w.names d n)
-    → filter_map (returning_item w) items ≡ restorable w
+abbrev as_entry : ℕ × List ℕ × Target → Key × Target
+as_entry item = ((item.0, item.1), item.2)
+
+-- of the dead names, each once and in order, with what each last stood for, those that may come back
+pub restorable_is : (w : World) (items : List (ℕ × List ℕ × Target)) → IsStrictlySortedBy name_cmp (keys_of (map as_entry items)) → ((d : ℕ) (n : List ℕ) → lookup (is_at (name_cmp (d, n))) (map as_entry items) ≡ last_dead w.names d n)
+    → filter_map (returning_name w) items ≡ restorable w
 unfolding restorable
 restorable_is w items up found =
-    sym (filter_map-map (returning_entry w) (λ (item : ℕ × List ℕ × Target). ((item.0, item.1), item.2)) items)
-    ∙ ap (filter_map (returning_entry w)) (entries_same name_total name_exact (map (λ (item : ℕ × List ℕ × Target). ((item.0, item.1), item.2)) items) (targets (filter (λ (e : Key × NameRow). is_dead e.1) (newest_rows w.names))) up
-    (subst (IsStrictlySortedBy name_cmp) (sym (keys_of-map_values (λ (row : NameRow). row.target) (filter (λ (e : Key × NameRow). is_dead e.1) (newest_rows w.names)))) (sorted-filter_entries name_cmp (λ e. is_dead e.1) (newest_rows w.names) (newest_sorted w.names [] sorted_none)))
-    (λ q. found q.0 q.1 ∙ sym (dead_found w.names q.0 q.1)))
+    sym (filter_map-map (returning_entry w) as_entry items)
+    ∙ ap (filter_map (returning_entry w)) (entries_same name_total name_exact (map as_entry items) (targets (dead_of (newest_rows w.names))) up (dead_sorted w.names) (λ q. found q.0 q.1 ∙ sym (dead_found w.names q.0 q.1)))
     ∙ dead_return w (newest_rows w.names) (newest_own w.names [] tt)

@@ -1,5 +1,5 @@
 -- Which names may come back.
-use Rattle.std.specs.Prelude.{ℕ, ◌-◌, Bool, not, List, [], fold, Option, Some, None, is_some, Result, Ok, Err, if◌then◌else◌, ◌&&◌}
+use Rattle.std.specs.Prelude.{ℕ, ◌-◌, Bool, not, List, [], fold, Option, Some, None, is_some, Result, Ok, Err, if◌then◌else◌}
 use Rattle.std.specs.BTreeMap.{insert_entry}
 use Rattle.std.specs.Cmp.Lexicographic.{slice_cmp}
 use Rattle.std.specs.List.{list_any, filter_map}
@@ -37,11 +37,13 @@ name_cmp a b = ordering_then (nat_cmp a.0 b.0) (slice_cmp nat_cmp a.1 b.1)
 abbrev pub newest_rows : List NameRow → List ((ℕ × List ℕ) × NameRow)
 newest_rows rows = fold (λ newest row. insert_entry name_cmp newest (row.directory, row.name) row) [] rows
 
--- the name, if its newest row is dead and what it stood for may have a name again
+-- the dead name, if what it last stood for may have a name again
+abbrev pub returning_name : World → ℕ × List ℕ × Target → Option DeadName
+returning_name w lost = if may_return w lost.2 then Some (record { directory = lost.0; name = lost.1; target = lost.2 }) else None
+
+-- the name of the newest row, if that is dead
 abbrev pub returning : World → NameRow → Option DeadName
-returning w row =
-    if is_some row.death && may_return w row.target then Some (record { directory = row.directory; name = row.name; target = row.target })
-    else None
+returning w row = if is_some row.death then returning_name w (row.directory, row.name, row.target) else None
 
 -- the names that may come back
 unfoldable pub restorable : World → List DeadName

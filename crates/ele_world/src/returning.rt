@@ -33,7 +33,9 @@ fn next_of(files: &[FileRow], file: FileId) -> VersionNo
 fn is_held(versions: &[VersionRow], file: FileId, number: VersionNo) -> bool
     ensures { result ≡ list_any (is_version file number) versions.now }
 {
-    versions.iter().any(|row| row.file == file && row.number == number)
+    versions
+        .iter()
+        .any(|row| row.file == file && row.number == number)
 }
 
 /// Whether the row is a live name of the directory.

@@ -1,5 +1,6 @@
--- Which ripe moments change where names change, and where a file has a name again with a version like its last one.
-use Rattle.std.proofs.Common.{◌≡◌, ℕ, ◌-◌, ◌==◌, Bool, true, false, ◌&&◌, List, [], Option, Some, None, refl, ap, sym, ◌∙◌, arith}
+-- What changes for usage, and which ripe moments do, where a file has a name again with a version like its last one; and that
+-- names change no moment.
+use Rattle.std.proofs.Common.{◌≡◌, ℕ, ◌-◌, ◌==◌, Bool, true, false, ◌&&◌, List, [], ◌∷◌, Option, Some, None, refl, ap, sym, ◌∙◌, arith}
 use Rattle.std.specs.Prelude.{find, is_none, unwrap_or, option_and_then}
 use Rattle.std.specs.List.{AllByRecursion}
 use Rattle.std.proofs.lemmas.Bool.Decides.{nat_tests}
@@ -12,6 +13,7 @@ use Rattle.ele_world.specs.Change.{after_change, Revive, current_cells, ended_at
 use Rattle.ele_world.specs.Due.{ripe_of, ripe_at}
 use Rattle.ele_world.specs.FileView.{view_of}
 use Rattle.ele_world.specs.WellFormed.{IsVersion}
+use Rattle.ele_world.specs.Whole.{ChangesOnly}
 use Rattle.ele_world.specs.World.{World, policy_of, next_of, is_version, is_version_after}
 use Rattle.ele_world.specs.declared.rows.Target.TheVariants.{File}
 use Rattle.ele_world.specs.declared.rows.VersionRow.{VersionRow}
@@ -20,6 +22,7 @@ use Rattle.ele_world.proofs.Created.{named_live}
 use Rattle.ele_world.proofs.Files.{policies-numbered}
 use Rattle.ele_world.proofs.KeptRevived.{last_is}
 use Rattle.ele_world.proofs.May.{MayRevive}
+use Rattle.ele_world.proofs.Others.{kinds-numbered, files-numbered, versions-finished}
 use Rattle.ele_world.proofs.Plain.{plain_ripe, ripe_is_plain}
 use Rattle.ele_world.proofs.RipeAt.{ripe_at_is, unended}
 
@@ -98,7 +101,17 @@ module _ (w : World) (directory : ℕ) (name : List ℕ) (file : ℕ) (may : May
         rw (file_is, number_is) (revived_new ∙ sym revived_before)
     by false e = kept f n e (find-update_other last (is_version f n) (ended_at w.now) w.versions (λ row h. (grind (arith, nat_tests), grind (arith, nat_tests))))
 
-  -- the last one has the moment of its end, which is now if it had none
+  -- the last one has the moment of its end, if it had one
+  pub revived_was : (stands : Beside) → ripe_at w file (next - 1) ≡ plain_ripe (policy_of w.files file) may.last.closed stands may.last.ended
+  unfolding ripe_of
+  revived_was stands =
+      let its = last_is w file may.last each may.held in
+      ripe_at_is w file (next - 1)
+      ∙ ap (option_and_then (ripe_of w)) may.held
+      ∙ ripe_is_plain (view_of w may.last.file) may.last stands
+      ∙ ap (λ id. plain_ripe (policy_of w.files id) may.last.closed stands may.last.ended) its.own
+
+  -- afterwards its end is now, if it had none
   pub revived_last : (stands : Beside) → ripe_at revived file (next - 1) ≡ plain_ripe (policy_of w.files file) may.last.closed stands (Some (unwrap_or may.last.ended w.now))
   unfolding ripe_of
   revived_last stands =
@@ -123,3 +136,15 @@ module _ (w : World) (directory : ℕ) (name : List ℕ) (file : ℕ) (may : May
         let number_is : n ≡ next = grind (arith, nat_tests) in
         rw (file_is, number_is) (revived_new ∙ sym revived_before)
     by false e = kept f n e (ap (find (is_version f n)) (update_first-same last (ended_at w.now) w.versions may.last may.held (ended_stays w.now may.last may.last.ended refl ended)))
+
+-- ---- usage
+
+pub changes_revived : (w : World) (directory : ℕ) (name : List ℕ) (file : ℕ) → ChangesOnly file w (after_change w (Revive directory name file))
+changes_revived w directory name file =
+    let next = next_of w.files file in
+    record {
+      kinds = λ k id. kinds-numbered w.files file k id;
+      files = λ k. files-numbered w.files file k;
+      versions = versions-finished file next (next - 1) w.now (next_version (with_name w directory name (File file)) file w.now (current_cells w file)) w.versions refl;
+      drafts = refl;
+    }
