@@ -10,17 +10,20 @@ use Rattle.ele_world.specs.Due.{ripe_of, ripe_at}
 use Rattle.ele_world.specs.FileView.{view_of}
 use Rattle.ele_world.specs.World.{World, policy_of, next_of, is_live, is_version}
 use Rattle.ele_world.proofs.Currents.{HasCurrent, last_ends}
-use Rattle.ele_world.proofs.Plain.{ripe_is_plain}
+use Rattle.ele_world.proofs.Plain.{ripe_is_plain, plain_ripe}
 use Rattle.ele_world.proofs.RipeAt.{ripe_at_is, unended}
 
 abbrev nothing_beside : Beside
 nothing_beside = record { newer = []; live = false }
 
--- a version that both worlds find has the same moment in them
-module _ (w v : World) (files : v.files ≡ w.files) where
+-- a version that both worlds find has the same moment in them, where each file has the same policy
+module _ (w v : World) (policies : (id : ℕ) → policy_of v.files id ≡ policy_of w.files id) where
   same_moment : (row : VersionRow) → ripe_of v row ≡ ripe_of w row
   unfolding ripe_of
-  same_moment row = ripe_is_plain (view_of v row.file) row nothing_beside ∙ rw files (sym (ripe_is_plain (view_of w row.file) row nothing_beside))
+  same_moment row =
+      ripe_is_plain (view_of v row.file) row nothing_beside
+      ∙ ap (λ p. plain_ripe p row.closed nothing_beside row.ended) (policies row.file)
+      ∙ sym (ripe_is_plain (view_of w row.file) row nothing_beside)
 
   pub found_moment : (file number : ℕ) → find (is_version file number) v.versions ≡ find (is_version file number) w.versions → ripe_at v file number ≡ ripe_at w file number
   found_moment file number same =
@@ -29,9 +32,9 @@ module _ (w v : World) (files : v.files ≡ w.files) where
         by None = refl
         by (Some row) = same_moment row
 
-  -- so names alone change none
-  pub moments_stay : v.versions ≡ w.versions → (file number : ℕ) → ripe_at v file number ≡ ripe_at w file number
-  moments_stay versions file number = found_moment file number (rw versions refl)
+-- so where files and versions stay, so do all moments, whatever becomes of names
+pub moments_stay : (w v : World) → v.files ≡ w.files → v.versions ≡ w.versions → (file number : ℕ) → ripe_at v file number ≡ ripe_at w file number
+moments_stay w v files versions file number = found_moment w v (λ id. ap (λ rows. policy_of rows id) files) file number (rw versions refl)
 
 -- ---- the end of a file's name
 
@@ -48,7 +51,7 @@ module _ (w : World) (directory : ℕ) (name : List ℕ) (file : ℕ) where
 
   -- those of all other versions stay
   pub other_moments : (f n : ℕ) → ((f == file) && (n == last)) ≡ false → ripe_at after f n ≡ ripe_at w f n
-  other_moments f n apart = found_moment w after refl f n (by (is_live after file)) where
+  other_moments f n apart = found_moment w after (λ id. refl) f n (by (is_live after file)) where
     by : (b : Bool) → find (is_version f n) (cond b w.versions (with_end w file)) ≡ find (is_version f n) w.versions
     by true = refl
     by false = find-update_other (is_version file last) (is_version f n) (ended_at w.now) w.versions (λ row h. (grind (arith, nat_tests), grind (arith, nat_tests)))
