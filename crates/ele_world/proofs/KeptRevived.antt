@@ -1,21 +1,20 @@
 -- A file that has a name again, and a version like its last one, keeps a world well formed.
-use Rattle.std.proofs.Common.{◌≡◌, ◌≢◌, ℕ, ◌-◌, ◌<◌, Bool, true, false, ◌==◌, ◌||◌, List, [], ◌∷◌, length-append, Some, refl, sym, subst, ◌∙◌, arith}
-use Rattle.std.specs.List.{AllByRecursion, list_any}
+use Rattle.std.proofs.Common.{◌≡◌, ℕ, ◌-◌, ◌<◌, List, length-append, Some, subst, arith, length}
+use Rattle.std.specs.List.{AllByRecursion}
 use Rattle.std.proofs.lemmas.Bool.Decides.{nat_tests}
-use Rattle.std.proofs.lemmas.List.Folds.{list_any-append}
-use Rattle.ele_lists.proofs.Edits.{all-any, all-found, all-push, all-weaker, found_passes, later-push}
+use Rattle.ele_lists.proofs.Edits.{all-found, found_passes}
 use Rattle.ele_world.specs.Change.{after_change, Revive, current_cells, with_name}
-use Rattle.ele_world.specs.NameRows.{born_row, is_name_of_directory}
-use Rattle.ele_world.specs.WellFormed.{AreApart, AreOthers, IsNameRow, IsVersion, Part, Counted, Names, Homes, Tree, Versions, Current, IsWellFormed}
-use Rattle.ele_world.specs.World.{World, root, next_of, is_live, is_live_name_of, is_version, current_of}
+use Rattle.ele_world.specs.NameRows.{born_row}
+use Rattle.ele_world.specs.WellFormed.{IsVersion, Part, Counted, Names, Homes, Tree, Versions, Current, IsWellFormed}
+use Rattle.ele_world.specs.World.{World, next_of, is_live_name_of, is_version, current_of}
 use Rattle.ele_world.specs.declared.rows.NameRow.{NameRow}
 use Rattle.ele_world.specs.declared.rows.Target.TheVariants.{File}
 use Rattle.ele_world.specs.declared.rows.VersionRow.{VersionRow}
-use Rattle.ele_world.proofs.Homes.{any_more, named_housed}
-use Rattle.ele_world.proofs.KeptNames.{apart_from_new}
+use Rattle.ele_world.proofs.Homes.{any_less, homes_more}
 use Rattle.ele_world.proofs.KeptVersions.{HoldsBeside, append_completes}
 use Rattle.ele_world.proofs.May.{MayName, MayRevive, MayAppend}
 use Rattle.ele_world.proofs.Writers.{written_more}
+use Rattle.ele_world.proofs.NameParts.{counted_more, names_more, tree_more}
 
 -- the current version is one of the file, and holds what all do
 pub record IsLast (w : World) (file : ℕ) (row : VersionRow) : Type 0 where
@@ -39,37 +38,11 @@ module _ (w : World) (directory : ℕ) (name : List ℕ) (file : ℕ) where
   pub named_holds : MayName w directory name → 0 < next_of w.files file → IsWellFormed w → (part : Part) → HoldsBeside file named part
   named_holds may there k = by where
     by : (part : Part) → HoldsBeside file named part
-    by Counted = let c = k.holds Counted in record {
-      files_made = c.files_made;
-      names_made = omega (arith, may.room);
-      versions_made = c.versions_made;
-      handles_made = c.handles_made;
-      file_rows = c.file_rows;
-      name_rows = simp length-append (omega (arith, c.name_rows));
-      version_rows = c.version_rows;
-    }
-    by Names = record {
-      each = all-push (IsNameRow w.files w.now) w.names row (k.holds Names).each (record { there = there; born = omega arith; dead = tt });
-      lives = later-push AreApart w.names row (k.holds Names).lives (apart_from_new w directory name row k may.free refl refl refl);
-    }
-    by Homes = record {
-      each = named_housed w.directories w.directories w.names row (λ d h. h) may.home may.reached tt (k.holds Homes).each;
-      named = all-weaker (λ d. ((d.id == root) || list_any (is_name_of_directory d.id) w.names) ≡ true) (λ d. ((d.id == root) || list_any (is_name_of_directory d.id) named.names) ≡ true) w.directories
-          (λ d h. still (d.id == root) d.id h) (k.holds Homes).named;
-    } where
-      still : (b : Bool) (d : ℕ) → (b || list_any (is_name_of_directory d) w.names) ≡ true → (b || list_any (is_name_of_directory d) named.names) ≡ true
-      still true d h = refl
-      still false d h = any_more (is_name_of_directory d) w.names row h
-    by Tree = later-push AreOthers w.names row (k.holds Tree) (all-any (λ earlier. AreOthers earlier row) w.names (λ earlier id h. refl))
-    by Current = λ other apart live. k.holds Current other (sym (others other apart) ∙ live) where
-      or_false : (b : Bool) → (b || false) ≡ b
-      or_false true = refl
-      or_false false = refl
-
-      others : (other : ℕ) → other ≢ file → is_live named other ≡ is_live w other
-      others other apart =
-          let not_its : is_live_name_of other row ≡ false = grind (arith, nat_tests) in
-          list_any-append (is_live_name_of other) w.names (row ∷ []) ∙ rw not_its (or_false (is_live w other))
+    by Counted = counted_more w (length named.names) k may.room (simp length-append (omega arith))
+    by Names = names_more w.files w.now w.names directory name (File file) may.free there (k.holds Names)
+    by Homes = homes_more w.directories w.names row may.home may.reached tt (k.holds Homes)
+    by Tree = tree_more w.now w.names directory name (File file) tt (k.holds Tree)
+    by Current = λ other apart live. k.holds Current other (any_less (is_live_name_of other) w.names row (λ own. absurd (apart (grind (arith, nat_tests)))) live)
     by part = k.holds part
 
   -- a version like the last one may be made

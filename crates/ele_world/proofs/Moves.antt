@@ -7,10 +7,10 @@ use Rattle.std.proofs.lemmas.Bool.{false≢true}
 use Rattle.std.proofs.lemmas.Bool.Decides.{nat_tests}
 use Rattle.ele_content.specs.declared.cell.Cell.{Cell}
 use Rattle.ele_lists.specs.Lists.{update_first, remove_first}
-use Rattle.ele_lists.proofs.Edits.{all-push, all-weaker, all-update_first, all-remove_first, all-found, found_passes, not_found, find-insert_before, find-remove_first}
-use Rattle.ele_world.specs.Change.{Change, MakeFile, Append, Take, Revive, EndFileName, DropIdle, after_change, current_cells, numbered_on, ended_at, next_version, with_end, with_file, with_name, without_name, with_version}
+use Rattle.ele_lists.proofs.Edits.{all-weaker, not_found, find-insert_before, find-remove_first, all-push, all-update_first, all-remove_first, all-found, found_passes}
+use Rattle.ele_world.specs.Change.{Change, MakeFile, Append, Take, after_change, ended_at, next_version, with_end, with_file, with_name, with_version, EndFileName, Revive, DropIdle, without_name, current_cells, numbered_on}
 use Rattle.ele_world.specs.WellFormed.{AllLater, ArePlaced}
-use Rattle.ele_world.specs.World.{World, is_file, is_live, next_of, is_version, is_version_after}
+use Rattle.ele_world.specs.World.{World, next_of, is_version, is_version_after, is_live, is_file}
 use Rattle.ele_world.specs.declared.event.Event.{Event}
 use Rattle.ele_world.specs.declared.rows.FileRow.{FileRow}
 use Rattle.ele_world.specs.declared.rows.Target.TheVariants.{File}

@@ -1,11 +1,9 @@
--- What changes for usage, and which ripe moments do, where a file has a name again with a version like its last one; and that
--- names change no moment.
-use Rattle.std.proofs.Common.{◌≡◌, ℕ, ◌-◌, ◌==◌, Bool, true, false, ◌&&◌, List, [], ◌∷◌, Option, Some, None, refl, ap, sym, ◌∙◌, arith}
+-- What changes for usage, and which ripe moments do, where a file has a name again with a version like its last one.
+use Rattle.std.proofs.Common.{◌≡◌, ℕ, ◌-◌, ◌==◌, Bool, true, false, ◌&&◌, List, Option, Some, None, refl, ap, sym, ◌∙◌, arith}
 use Rattle.std.specs.Prelude.{find, is_none, unwrap_or, option_and_then}
 use Rattle.std.specs.List.{AllByRecursion}
 use Rattle.std.proofs.lemmas.Bool.Decides.{nat_tests}
-use Rattle.ele_lists.specs.Lists.{update_first}
-use Rattle.ele_lists.proofs.Cuts.{find-cut, find-at, update_first-at, update_first-same}
+use Rattle.ele_lists.proofs.Cuts.{update_first-same}
 use Rattle.ele_lists.proofs.Edits.{all-weaker, find-insert_before, not_found}
 use Rattle.ele_lists.proofs.Found.{find-update_other}
 use Rattle.ele_policy.specs.Ripe.{Beside}
@@ -25,29 +23,9 @@ use Rattle.ele_world.proofs.May.{MayRevive}
 use Rattle.ele_world.proofs.Others.{kinds-numbered, files-numbered, versions-finished}
 use Rattle.ele_world.proofs.Plain.{plain_ripe, ripe_is_plain}
 use Rattle.ele_world.proofs.RipeAt.{ripe_at_is, unended}
-
-abbrev alone : Beside
-alone = record { newer = []; live = false }
-
--- a version's moment follows from its file's policy
-same_ripe : (w v : World) (row : VersionRow) → policy_of v.files row.file ≡ policy_of w.files row.file → ripe_of v row ≡ ripe_of w row
-unfolding ripe_of
-same_ripe w v row same =
-    ripe_is_plain (view_of v row.file) row alone
-    ∙ ap (λ p. plain_ripe p row.closed alone row.ended) same
-    ∙ sym (ripe_is_plain (view_of w row.file) row alone)
-
-found_ripe : (w v : World) (o : Option VersionRow) → ((id : ℕ) → policy_of v.files id ≡ policy_of w.files id) → option_and_then (ripe_of v) o ≡ option_and_then (ripe_of w) o
-found_ripe w v None same = refl
-found_ripe w v (Some row) same = same_ripe w v row (same row.file)
-
--- where files and versions stay, so do all moments, whatever becomes of names
-pub names_keep_ripe : (w v : World) → v.files ≡ w.files → v.versions ≡ w.versions → (file number : ℕ) → ripe_at v file number ≡ ripe_at w file number
-names_keep_ripe w v files versions file number =
-    ripe_at_is v file number
-    ∙ ap (λ rows. option_and_then (ripe_of v) (find (is_version file number) rows)) versions
-    ∙ found_ripe w v (find (is_version file number) w.versions) (λ id. ap (λ rows. policy_of rows id) files)
-    ∙ sym (ripe_at_is w file number)
+use Rattle.ele_world.proofs.NameMoments.{found_moment}
+use Rattle.ele_world.proofs.Elements.{find-updated}
+use Rattle.std.specs.Option.{option_map}
 
 -- what has ended keeps its end
 ended_stays : (now : ℕ) (row : VersionRow) (o : Option ℕ) → row.ended ≡ o → is_none o ≡ false → ended_at now row ≡ row
@@ -85,11 +63,7 @@ module _ (w : World) (directory : ℕ) (name : List ℕ) (file : ℕ) (may : May
 
   -- a version that the end of the last one leaves keeps its moment
   kept : (f n : ℕ) → is_version f n new ≡ false → find (is_version f n) (with_end named file) ≡ find (is_version f n) w.versions → ripe_at revived f n ≡ ripe_at w f n
-  kept f n not_new same =
-      ripe_at_is revived f n
-      ∙ ap (option_and_then (ripe_of revived)) (find-insert_before (is_version_after file next) (is_version f n) new (with_end named file) not_new ∙ same)
-      ∙ found_ripe w revived (find (is_version f n) w.versions) (λ id. policies-numbered w.files file id)
-      ∙ sym (ripe_at_is w f n)
+  kept f n not_new same = found_moment w revived (policies-numbered w.files file) f n (find-insert_before (is_version_after file next) (is_version f n) new (with_end named file) not_new ∙ same)
 
   -- so does each that isn't the last
   pub revived_others : (f n : ℕ) → ((f == file) && (n == next - 1)) ≡ false → ripe_at revived f n ≡ ripe_at w f n
@@ -116,14 +90,11 @@ module _ (w : World) (directory : ℕ) (name : List ℕ) (file : ℕ) (may : May
   unfolding ripe_of
   revived_last stands =
       let its = last_is w file may.last each may.held in
-      let cut = find-cut last w.versions may.last may.held in
       let other : last new ≡ false = grind (arith, nat_tests) in
       ripe_at_is revived file (next - 1)
       ∙ ap (option_and_then (ripe_of revived)) (
       find-insert_before (is_version_after file next) last new (with_end named file) other
-      ∙ ap (λ rows. find last (update_first last (ended_at w.now) rows)) cut.whole
-      ∙ ap (find last) (update_first-at last (ended_at w.now) cut.before may.last cut.behind cut.none cut.passes)
-      ∙ find-at last cut.before (ended_at w.now may.last) cut.behind cut.none cut.passes)
+      ∙ find-updated last (ended_at w.now) w.versions (λ row. refl) ∙ ap (option_map (ended_at w.now)) may.held)
       ∙ ripe_is_plain (view_of revived may.last.file) (ended_at w.now may.last) stands
       ∙ ap (λ p. plain_ripe p may.last.closed stands (Some (unwrap_or may.last.ended w.now))) (policies-numbered w.files file may.last.file ∙ ap (policy_of w.files) its.own)
 
