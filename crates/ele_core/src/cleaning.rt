@@ -12,6 +12,7 @@ ghost use Rattle.ele_core.specs.Stopped.{is_stopped};
 ghost use Rattle.ele_world.specs.World.{is_version};
 
 use crate::book::{blocks, follow_blocks, take_version};
+use crate::dropping::drop_idle;
 use crate::keys::take;
 use crate::rows::Rows;
 use ele_files::Meter;
@@ -86,6 +87,7 @@ pub fn clean_one(rows: &mut Rows) -> Reply
         return Reply::Nothing;
     };
     remove(rows, &key);
+    drop_idle(rows, key.file);
     Reply::Removed(key)
 }
 

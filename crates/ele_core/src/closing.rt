@@ -16,6 +16,7 @@ ghost use Rattle.ele_core.specs.Queued.{former_moment, own_moment};
 ghost use Rattle.ele_core.specs.Tracked.{one_version};
 
 use crate::book::{blocks, follow_blocks, one_version};
+use crate::dropping::drop_idle;
 use crate::keys::NewKeys;
 use crate::rows::Rows;
 use ele_files::{Files, Meter};
@@ -25,7 +26,7 @@ use ele_world::{FileId, Handle, Moment, NoMemory, Reply, VersionNo};
 
 /// The ripe moment that the version before the file's next one gets, which ends now; none where it isn't held or has ended.
 #[tactic(auto, using(crate::proofs::Asked::former_told))]
-fn former_moment(
+pub fn former_moment(
     files: &Files,
     file: FileId,
     next: VersionNo,
@@ -60,7 +61,7 @@ fn own_moment(files: &Files, file: FileId, now: Moment, is_live: bool) -> Option
 }
 
 /// The number of the file's next version; the file is there.
-fn next_number(files: &Files, file: FileId) -> VersionNo
+pub fn next_number(files: &Files, file: FileId) -> VersionNo
     requires { 0 < next_of files.now.files file }
     ensures { result ≡ next_of files.now.files file }
 {
@@ -82,7 +83,7 @@ fn draft_bytes(files: &Files, file: FileId) -> u64
 }
 
 /// The book has one version more for the kind of the file, of so many bytes.
-fn add_version(book: &mut UsageBook, files: &Files, file: FileId, bytes: u64)
+pub fn add_version(book: &mut UsageBook, files: &Files, file: FileId, bytes: u64)
     requires { (k : Kind) → Fits (plus (sums_of book.old k) (one_version bytes)) }
     ensures { (k : Kind) → sums_of book.new k ≡ plus (sums_of book.old k)
         (if is_file_of files.now.files k file then one_version bytes else nothing) }
@@ -164,6 +165,10 @@ pub fn close(rows: &mut Rows, handle: Handle) -> Result<Reply, NoMemory>
     };
     match rows.files.changed_draft(handle) {
         Some(opened) => finish(rows, handle, file, opened),
-        None => Ok(leave(rows, handle, file)),
+        None => {
+            let reply = leave(rows, handle, file);
+            drop_idle(rows, file);
+            Ok(reply)
+        }
     }
 }

@@ -6,6 +6,7 @@ ghost use Rattle.ele_world.specs.Bounds.{AreBounds};
 ghost use Rattle.ele_world.specs.Due.{is_due};
 ghost use Rattle.ele_world.specs.Pass.{EndsPass};
 ghost use Rattle.ele_world.specs.Run.{IsEvent};
+ghost use Rattle.ele_world.specs.Restorable.{restorable};
 ghost use Rattle.ele_world.specs.Scan.{scan, first_due};
 ghost use Rattle.ele_world.specs.Step.{step};
 ghost use Rattle.ele_world.specs.Usage.{usages};
@@ -23,11 +24,15 @@ mod clock;
 mod closing;
 mod defaults;
 mod directories;
+mod dropping;
 mod keys;
+mod links;
 mod lookups;
 mod names;
 mod opening;
+mod restoring;
 mod rows;
+mod unlinking;
 mod walk;
 mod writing;
 
@@ -37,9 +42,12 @@ use crate::clock::{clock, tick};
 use crate::closing::close;
 use crate::defaults::set_default;
 use crate::directories::{make_dir, remove_dir};
+use crate::links::{link, rename};
 use crate::names::create;
 use crate::opening::open_write;
+use crate::restoring::{restorable, undelete};
 use crate::rows::{Made, ROOT, Rows};
+use crate::unlinking::unlink;
 use crate::writing::{truncate, write};
 use ele_due::DueQueue;
 use ele_files::{Files, Meter};
@@ -47,7 +55,7 @@ use ele_names::Names;
 use ele_policy::Interval;
 use ele_usage::UsageBook;
 pub use ele_world::{
-    ByteList, Cell, Counts, DirId, DirectoryRow, DraftRow, Event, FileId, FileRow, Flat, Handle,
+    ByteList, Cell, Counts, DeadName, DeadNameList, DirId, DirectoryRow, DraftRow, Event, FileId, FileRow, Flat, Handle,
     HandleRow, Key, KeyList, Kind, Limits, ListOf, Moment, Name, NameRow, NoMemory, PassEnd, Path,
     Policy, Reads, Refusal, Reply, Source, Stop, Target, Usage, VersionNo, VersionRow, Which,
 };
@@ -89,6 +97,10 @@ fn answer(rows: &mut Rows, event: &Event) -> Result<Reply, NoMemory>
         Event::MakeDir(path) => make_dir(rows, path),
         Event::RemoveDir(path) => Ok(remove_dir(rows, path)),
         Event::Create(path) => create(rows, path),
+        Event::Link(from, to) => link(rows, from, to),
+        Event::Unlink(path) => unlink(rows, path),
+        Event::Rename(from, to) => rename(rows, from, to),
+        Event::Undelete(path) => undelete(rows, path),
         Event::OpenWrite(path) => open_write(rows, path),
         Event::Write(handle, offset, bytes) => write(rows, *handle, *offset, bytes.as_slice()),
         Event::Truncate(handle, size) => truncate(rows, *handle, *size),
@@ -96,6 +108,7 @@ fn answer(rows: &mut Rows, event: &Event) -> Result<Reply, NoMemory>
         Event::SetDefault(path, policy) => Ok(set_default(rows, path, *policy)),
         Event::CleanOne => Ok(clean_one(rows)),
         Event::Read(source) => read(rows, *source),
+        Event::Restorable => Ok(Reply::RestoreList(restorable(rows)?)),
         Event::Due => Ok(Reply::DueList(due(rows)?)),
         Event::UsageAll => Ok(Reply::UsageList(usage(rows))),
     }
@@ -174,6 +187,15 @@ impl Core {
         ensures { result ≡ usages self.now.world }
     {
         usage(&self.rows)
+    }
+
+    /// The names that may come back, by directory and then by the bytes of the name.
+    ///
+    /// `NoMemory` where memory is refused.
+    pub fn restorable(&self) -> Result<DeadNameList, NoMemory>
+        ensures { IfOk result (λ names. names ≡ restorable self.now.world) }
+    {
+        restorable(&self.rows)
     }
 
     /// Whether the version is held and due now.

@@ -38,6 +38,13 @@ pub struct Rows {
     pub alloc: Global,
 }
 
+/// Whether as many names were made as may be.
+pub fn are_names_full(rows: &Rows) -> bool
+    ensures { result ≡ nat_le rows.now.limits.names rows.now.made.names }
+{
+    rows.made.names >= rows.limits.names()
+}
+
 /// Whether as many versions were made, and drafts are open, as may be.
 pub fn is_full(rows: &Rows) -> bool
     requires { IsSound rows.now }

@@ -1,0 +1,111 @@
+//! The events that give a name more, or another one in a name's place.
+ghost use Rattle.std.specs.Prelude.{◌≡◌, ◌<◌, IfOk, OnOk, OnErr, Some};
+ghost use Rattle.ele_world.specs.Change.{AddName, MoveName, after_change};
+ghost use Rattle.ele_world.specs.Step.{step};
+ghost use Rattle.ele_world.specs.declared.event.Event.TheVariants as event;
+ghost use Rattle.ele_world.proofs.May.{MayAdd, MayMove};
+ghost use Rattle.ele_core.specs.Inside.{world_of, IsTracked, IsSound};
+
+use crate::rows::{Rows, are_names_full};
+use crate::walk::file_now;
+use ele_names::{parent_now, resolve_now, stands_in};
+use ele_world::{DirId, Name, NoMemory, Path, Refusal, Reply, Target, Which};
+
+/// What is there gets a name more, once nothing refuses it.
+pub fn add_name(
+    rows: &mut Rows,
+    directory: DirId,
+    name: Name,
+    target: Target,
+) -> Result<(), NoMemory>
+    requires sound { IsSound rows.old }
+    requires may { MayAdd (world_of rows.old) directory name target }
+    ensures ok { OnOk result (world_of rows.new
+        ≡ after_change (world_of rows.old) (AddName directory name target)) }
+    ensures err { OnErr result (world_of rows.new ≡ world_of rows.old) }
+    ensures tracked { IsTracked rows.new }
+{
+    rows.names.add(directory, name, target, rows.moment)?;
+    rows.made.names += 1;
+    Ok(())
+}
+
+/// The file at the first path gets the second one as another name.
+pub fn link(rows: &mut Rows, from: &Path, to: &Path) -> Result<Reply, NoMemory>
+    requires { IsSound rows.old }
+    ensures step { IfOk result (λ reply.
+        (reply, world_of rows.new) ≡ step (world_of rows.old) (event.Link from.now to.now)) }
+    ensures err { OnErr result (world_of rows.new ≡ world_of rows.old) }
+    ensures tracked { IsTracked rows.new }
+{
+    let file = match file_now(&rows.names, from) {
+        Ok(file) => file,
+        Err(refusal) => return Ok(Reply::Refused(refusal)),
+    };
+    let (directory, name) = match parent_now(&rows.names, to) {
+        Ok(at) => at,
+        Err(refusal) => return Ok(Reply::Refused(refusal)),
+    };
+    if rows.names.live(directory, &name).is_some() {
+        return Ok(Reply::Refused(Refusal::Exists));
+    }
+    if are_names_full(rows) {
+        return Ok(Reply::Refused(Refusal::Full(Which::Names)));
+    }
+    add_name(rows, directory, name, Target::File(file))?;
+    Ok(Reply::Done)
+}
+
+/// The live name gives way to another one of what it stands for, once nothing refuses it.
+fn move_name(
+    rows: &mut Rows,
+    from: (DirId, Name),
+    to: (DirId, Name),
+    target: Target,
+) -> Result<(), NoMemory>
+    requires sound { IsSound rows.old }
+    requires may { MayMove (world_of rows.old) from.0 from.1 to.0 to.1 target }
+    ensures ok { OnOk result (world_of rows.new
+        ≡ after_change (world_of rows.old) (MoveName from.0 from.1 to.0 to.1 target)) }
+    ensures err { OnErr result (world_of rows.new ≡ world_of rows.old) }
+    ensures tracked { IsTracked rows.new }
+{
+    // The new name comes first, since it may be refused memory.
+    rows.names.add(to.0, to.1, target, rows.moment)?;
+    rows.names.kill(from.0, &from.1, rows.moment);
+    rows.made.names += 1;
+    Ok(())
+}
+
+/// What stands at the first path stands at the second one from now on.
+pub fn rename(rows: &mut Rows, from: &Path, to: &Path) -> Result<Reply, NoMemory>
+    requires { IsSound rows.old }
+    ensures step { IfOk result (λ reply.
+        (reply, world_of rows.new) ≡ step (world_of rows.old) (event.Rename from.now to.now)) }
+    ensures err { OnErr result (world_of rows.new ≡ world_of rows.old) }
+    ensures tracked { IsTracked rows.new }
+{
+    let old = match parent_now(&rows.names, from) {
+        Ok(at) => at,
+        Err(refusal) => return Ok(Reply::Refused(refusal)),
+    };
+    let moved = match resolve_now(&rows.names, from) {
+        Ok(target) => target,
+        Err(refusal) => return Ok(Reply::Refused(refusal)),
+    };
+    let new = match parent_now(&rows.names, to) {
+        Ok(at) => at,
+        Err(refusal) => return Ok(Reply::Refused(refusal)),
+    };
+    if stands_in(&rows.names, moved, to) {
+        return Ok(Reply::Refused(Refusal::IntoItself));
+    }
+    if rows.names.live(new.0, &new.1).is_some() {
+        return Ok(Reply::Refused(Refusal::Exists));
+    }
+    if are_names_full(rows) {
+        return Ok(Reply::Refused(Refusal::Full(Which::Names)));
+    }
+    move_name(rows, old, new, moved)?;
+    Ok(Reply::Done)
+}

@@ -1,0 +1,140 @@
+//! The event that gives a dead name back, and which names may come back.
+ghost use Rattle.std.specs.Prelude.{◌≡◌, IfOk, OnErr};
+ghost use Rattle.ele_world.specs.Change.{Revive, after_change};
+ghost use Rattle.ele_world.specs.Restorable.{may_return, nameless, restorable};
+ghost use Rattle.ele_world.specs.Step.{step};
+ghost use Rattle.ele_world.specs.World.{has_draft, next_of};
+ghost use Rattle.ele_world.specs.declared.event.Event.TheVariants as event;
+ghost use Rattle.ele_world.proofs.May.{MayRevive};
+ghost use Rattle.ele_core.specs.Inside.{world_of, IsTracked, IsSound};
+
+use crate::book::{blocks, follow_blocks};
+use crate::closing::{add_version, next_number};
+use crate::links::add_name;
+use crate::rows::{Rows, are_names_full, is_full};
+use ele_files::Meter;
+use ele_names::parent_now;
+use ele_world::{
+    DeadName, DeadNameList, DirId, FileId, ListOf, Name, NoMemory, Path, Refusal, Reply, Target,
+    VersionNo, Which,
+};
+
+/// Whether it may have a name again: a directory that has none, or a file whose last version is held.
+fn may_return(rows: &Rows, target: Target) -> bool
+    requires { IsSound rows.now }
+    ensures { result ≡ may_return (world_of rows.now) target }
+{
+    match target {
+        Target::File(file) => has_last_version(rows, file),
+        Target::Directory(id) => !rows.names.dir_live(id),
+    }
+}
+
+/// Whether the file's last version is held.
+fn has_last_version(rows: &Rows, file: FileId) -> bool
+    requires { IsSound rows.now }
+    ensures { result ≡ is_held (world_of rows.now) file (next_of rows.now.files.files file - 1) }
+{
+    let Some(next) = rows.files.next_of(file) else {
+        return false;
+    };
+    rows.files
+        .stamps(file, next.before(), &mut Meter::new())
+        .is_some()
+}
+
+/// A file without a live name has one again, and a version with the content of its last one.
+fn revive(
+    rows: &mut Rows,
+    directory: DirId,
+    name: Name,
+    file: FileId,
+) -> Result<VersionNo, NoMemory>
+    requires sound { IsSound rows.old }
+    requires meter { rows.old.meter ≡ 0 }
+    requires may { MayRevive (world_of rows.old) directory name file }
+    requires undrafted { has_draft (world_of rows.old) file ≡ false }
+    ensures number { IfOk result (λ number. number ≡ next_of rows.old.files.files file) }
+    ensures ok { OnOk result (world_of rows.new
+        ≡ after_change (world_of rows.old) (Revive directory name file)) }
+    ensures err { OnErr result (world_of rows.new ≡ world_of rows.old) }
+    ensures tracked { IsTracked rows.new }
+{
+    let last = next_number(&rows.files, file).before();
+    let bytes = version_bytes(&rows.files, file, last);
+    let before = blocks(&rows.files);
+    let now = rows.moment;
+    rows.names
+        .add(directory, name, Target::File(file), now)?;
+    let restored = rows
+        .files
+        .restore(file, last, now, true, &mut rows.meter);
+    let number = match restored {
+        Ok(number) => number,
+        Err(refused) => {
+            rows.names.take_back();
+            return Err(refused);
+        }
+    };
+    add_version(&mut rows.book, &rows.files, file, bytes);
+    follow_blocks(&mut rows.book, &rows.files, file, before);
+    rows.made.names += 1;
+    rows.made.versions += 1;
+    Ok(number)
+}
+
+/// The dead name at the path stands again for what it last stood for.
+pub fn undelete(rows: &mut Rows, path: &Path) -> Result<Reply, NoMemory>
+    requires sound { IsSound rows.old }
+    requires meter { rows.old.meter ≡ 0 }
+    ensures step { IfOk result (λ reply.
+        (reply, world_of rows.new) ≡ step (world_of rows.old) (event.Undelete path.now)) }
+    ensures err { OnErr result (world_of rows.new ≡ world_of rows.old) }
+    ensures tracked { IsTracked rows.new }
+{
+    let (directory, name) = match parent_now(&rows.names, path) {
+        Ok(at) => at,
+        Err(refusal) => return Ok(Reply::Refused(refusal)),
+    };
+    if rows.names.live(directory, &name).is_some() {
+        return Ok(Reply::Refused(Refusal::Exists));
+    }
+    let Some(lost) = rows.names.last_dead(directory, &name) else {
+        return Ok(Reply::Refused(Refusal::NoEntry));
+    };
+    if !may_return(rows, lost) {
+        return Ok(Reply::Refused(Refusal::NotRestorable));
+    }
+    // TODO by the helper: the rest in a function of its own if this grows too long
+    let Some(file) = nameless(rows, lost) else {
+        if are_names_full(rows) {
+            return Ok(Reply::Refused(Refusal::Full(Which::Names)));
+        }
+        add_name(rows, directory, name, lost)?;
+        return Ok(Reply::Done);
+    };
+    if rows.files.has_draft(file) {
+        return Ok(Reply::Refused(Refusal::Drafting));
+    }
+    if are_names_full(rows) {
+        return Ok(Reply::Refused(Refusal::Full(Which::Names)));
+    }
+    if is_full(rows) {
+        return Ok(Reply::Refused(Refusal::Full(Which::Versions)));
+    }
+    let number = revive(rows, directory, name, file)?;
+    Ok(Reply::Version(number))
+}
+
+/// The names that may come back, by directory and then by the bytes of the name.
+pub fn restorable(rows: &Rows) -> Result<DeadNameList, NoMemory>
+    requires { IsSound rows.now }
+    ensures { IfOk result (λ names. names ≡ restorable (world_of rows.now)) }
+{
+    let dead = rows.names.dead()?;
+    let names: Vec<DeadName> = dead
+        .into_iter()
+        .filter_map(|item| returning(rows, item))
+        .collect(rows.alloc)?;
+    Ok(ListOf::from_vec(names))
+}

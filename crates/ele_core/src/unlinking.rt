@@ -1,0 +1,66 @@
+//! The event that ends a file's name.
+ghost use Rattle.std.specs.Prelude.{◌≡◌, IfOk, OnOk, OnErr, Some};
+ghost use Rattle.std.specs.List.{count_by};
+ghost use Rattle.ele_world.specs.Change.{EndFileName, after_change};
+ghost use Rattle.ele_world.specs.Step.{step};
+ghost use Rattle.ele_world.specs.Walk.{live_target};
+ghost use Rattle.ele_world.specs.World.{is_live_name_of};
+ghost use Rattle.ele_world.specs.declared.event.Event.TheVariants as event;
+ghost use Rattle.ele_world.specs.declared.rows.Target.TheVariants.{File};
+ghost use Rattle.ele_core.specs.Inside.{world_of, IsTracked, IsSound};
+
+use crate::closing::{former_moment, next_number};
+use crate::keys::put;
+use crate::rows::Rows;
+use crate::walk::file_now;
+use ele_names::parent_now;
+use ele_world::{DirId, FileId, Name, NoMemory, Path, Reply};
+
+/// The only name of the file dies, and its current version ends.
+fn end_last_name(
+    rows: &mut Rows,
+    directory: DirId,
+    name: &Name,
+    file: FileId,
+) -> Result<(), NoMemory>
+    requires sound { IsSound rows.old }
+    requires meter { rows.old.meter ≡ 0 }
+    requires stands { live_target rows.old.names directory name.now ≡ Some (File file) }
+    requires last { count_by (is_live_name_of file) rows.old.names ≡ 1 }
+    ensures ok { OnOk result (world_of rows.new
+        ≡ after_change (world_of rows.old) (EndFileName directory name.now file)) }
+    ensures err { OnErr result (world_of rows.new ≡ world_of rows.old) }
+    ensures tracked { IsTracked rows.new }
+{
+    let next = next_number(&rows.files, file);
+    let moment = former_moment(&rows.files, file, next, rows.moment, &mut rows.meter);
+    put(&mut rows.queue, file, next.before(), moment)?;
+    rows.names.kill(directory, name, rows.moment);
+    rows.files.end_current(file, rows.moment, &mut rows.meter);
+    Ok(())
+}
+
+/// The name of the file at the path dies, and with its last one its current version ends.
+pub fn unlink(rows: &mut Rows, path: &Path) -> Result<Reply, NoMemory>
+    requires sound { IsSound rows.old }
+    requires meter { rows.old.meter ≡ 0 }
+    ensures step { IfOk result (λ reply.
+        (reply, world_of rows.new) ≡ step (world_of rows.old) (event.Unlink path.now)) }
+    ensures err { OnErr result (world_of rows.new ≡ world_of rows.old) }
+    ensures tracked { IsTracked rows.new }
+{
+    let (directory, name) = match parent_now(&rows.names, path) {
+        Ok(at) => at,
+        Err(refusal) => return Ok(Reply::Refused(refusal)),
+    };
+    let file = match file_now(&rows.names, path) {
+        Ok(file) => file,
+        Err(refusal) => return Ok(Reply::Refused(refusal)),
+    };
+    if rows.names.names_of(file) == 1 {
+        end_last_name(rows, directory, &name, file)?;
+    } else {
+        rows.names.kill(directory, &name, rows.moment);
+    }
+    Ok(Reply::Done)
+}
