@@ -7,7 +7,7 @@ use ele_world::Limits;
 use std::fs;
 
 /// The scripts under the largest limits, each NAME.script with its NAME.output.
-const ROWS: [&str; 27] = [
+const ROWS: [&str; 37] = [
     "first_run",
     "empty_script",
     "write_of_no_bytes",
@@ -21,6 +21,16 @@ const ROWS: [&str; 27] = [
     "directories",
     "a_path_of_32_directories",
     "a_new_directory_takes_the_policy_of_its_parent",
+    "a_file_comes_back",
+    "names_come_back",
+    "names_that_come_and_go",
+    "links",
+    "renames",
+    "a_name_that_lived_three_times",
+    "a_directory_is_moved_with_what_is_below_it",
+    "a_file_without_a_name",
+    "a_file_is_unlinked_while_it_is_written",
+    "a_dropped_file_uncovers_an_older_name",
     "moments",
     "tick_past_the_last_moment",
     "writers_share_a_draft",
@@ -38,7 +48,7 @@ const ROWS: [&str; 27] = [
 ];
 
 /// Scripts under limits of their own: events, files, directories, names, versions, handles, groups, members, marks.
-const LIMITED: [(&str, [u64; 9]); 12] = [
+const LIMITED: [(&str, [u64; 9]); 14] = [
     ("full_history", [1, 9, 9, 9, 9, 9, 9, 9, 9]),
     ("pass_fills_the_history", [6, 9, 9, 9, 9, 9, 9, 9, 9]),
     (
@@ -54,11 +64,13 @@ const LIMITED: [(&str, [u64; 9]); 12] = [
     ("directories_limit", [9, 9, 1, 9, 9, 9, 9, 9, 9]),
     ("names_limit", [9, 9, 9, 1, 9, 9, 9, 9, 9]),
     ("names_limit_of_directories", [9, 9, 9, 1, 9, 9, 9, 9, 9]),
+    ("names_limit_of_renames", [9, 9, 9, 2, 9, 9, 9, 9, 9]),
     (
         "directories_are_full_before_names",
         [9, 9, 1, 1, 9, 9, 9, 9, 9],
     ),
     ("versions_limit", [99, 9, 9, 9, 2, 9, 9, 9, 9]),
+    ("versions_limit_of_undelete", [9, 9, 9, 9, 2, 9, 9, 9, 9]),
     ("handles_limit", [9, 9, 9, 9, 9, 1, 9, 9, 9]),
 ];
 
