@@ -35,7 +35,7 @@ impl Files {
         !self.has_version(file) && !self.has_draft(file)
     }
 
-    /// Takes out the row of a file of which nothing is held.
+    /// Takes out the row of a file of which nothing is held. A number that no file has does nothing.
     pub fn drop_file(&mut self, file: FileId)
         requires { is_bare self.old file ≡ true }
         ensures { self.new ≡ without_file self.old file }
