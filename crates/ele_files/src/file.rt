@@ -7,7 +7,6 @@ ghost use Rattle.ele_files.specs.Inside.{IsFileKept};
 
 use ele_blocks::BlockMap;
 use ele_inode_log::{InodeLog, Meter, VersionRow};
-use ele_lists::Keyed;
 use ele_moment::{FileId, Moment, VersionNo};
 use ele_policy::Policy;
 
@@ -18,14 +17,6 @@ pub struct File {
     pub policy: Policy,
     pub next: VersionNo,
     pub log: InodeLog,
-}
-
-impl Keyed for File {
-    ghost key = { λ file. file.id };
-
-    fn key(&self) -> u64 {
-        self.id.0
-    }
 }
 
 impl File {

@@ -2,7 +2,7 @@
 //! A contract sees the flat rows of all of them.
 ghost use Rattle.std.specs.Prelude.{◌≡◌, ◌<◌, ◌≤◌, ◌+◌, ◌-◌, ◌^◌, [], All, OnOk, OnErr, IfOk, IfNone, IsOkUnless, IsErrOf, length, find, is_some, position, if◌then◌else◌};
 ghost use Rattle.std.specs.List.{AllByRecursion, list_any};
-ghost use Rattle.std.specs.Option.{ForSome, option_map, option_map_or};
+ghost use Rattle.std.specs.Option.{ForSome, option_copied, option_map, option_map_or};
 ghost use Rattle.ele_content.specs.Content.{content_of};
 ghost use Rattle.ele_content.specs.Place.{different, is_place};
 ghost use Rattle.ele_files.specs.Asked.{stamps_of};
@@ -21,6 +21,7 @@ mod dropping;
 mod restoring;
 mod writing;
 
+use crate::boxed::BoxedFile;
 use crate::file::File;
 use ele_blocks::laws::stocks;
 use ele_blocks::{BlockMap, BlockStore};
@@ -35,7 +36,7 @@ use std::marker::Model;
 /// Files by id, each with its held versions; drafts and handles; and the store of all their blocks.
 #[derive(Drop)]
 pub struct Files {
-    files: Vec<File>,
+    files: Vec<BoxedFile>,
     sessions: Sessions,
     store: BlockStore,
     alloc: Global,
@@ -54,7 +55,7 @@ impl Model for Files {
 }
 
 /// The place of the file of that number.
-fn place_of(files: &[File], id: FileId) -> Option<usize>
+fn place_of(files: &[BoxedFile], id: FileId) -> Option<usize>
     requires { AllLater (λ x y. x.id < y.id) files.now }
     ensures { result ≡ position (is_id id) files.now }
 {
@@ -62,6 +63,15 @@ fn place_of(files: &[File], id: FileId) -> Option<usize>
         Ok(at) => Some(at),
         Err(_gap) => None,
     }
+}
+
+/// The file of that number.
+fn file_of(files: &[BoxedFile], id: FileId) -> Option<&File>
+    requires { AllLater (λ x y. x.id < y.id) files.now }
+    ensures { option_copied result ≡ find (is_id id) files.now }
+{
+    let at = place_of(files, id)?;
+    Some(files[at].get())
 }
 
 /// The map that a new draft of the file begins with: that of the version before the next one, or the
@@ -111,7 +121,8 @@ impl Files {
         };
         let empty = BlockMap::new(self.alloc);
         let _first = file.append(now, now, true, empty, &mut Meter::new());
-        put(&mut self.files, file);
+        let boxed = BoxedFile::new(self.alloc, file)?;
+        put(&mut self.files, boxed);
         Ok(())
     }
 
@@ -132,10 +143,9 @@ impl Files {
         ensures err { OnErr result (self.new ≡ self.old) }
         ensures read { meter.new ≤ meter.old + 1 }
     {
-        let Some(at) = place_of(&self.files, file) else {
+        let Some(held) = file_of(&self.files, file) else {
             unreachable!()
         };
-        let held = &self.files[at];
         let empty = BlockMap::new(self.alloc);
         let map = first_map(held, &empty, meter);
         self.sessions
@@ -151,7 +161,7 @@ impl Files {
         ensures read { meter.new ≡ meter.old + (if is_some result then 1 else 0) }
     {
         let at = place_of(&self.files, file)?;
-        let row = self.files[at].log.remove(number, meter)?;
+        let row = self.files[at].get_mut().log.remove(number, meter)?;
         let length = row.cells.length();
         row.cells.give_up(&mut self.store);
         Some(length)

@@ -2,6 +2,7 @@
 //! A contract sees the flat rows of all files.
 #![tactic(auto)]
 
+mod boxed;
 mod file;
 mod files;
 mod stamps;

@@ -9,7 +9,7 @@ ghost use Rattle.ele_files.specs.Held.{cells_of_draft};
 ghost use Rattle.ele_files.specs.Inside.{reads_in};
 ghost use Rattle.ele_world.specs.World.{policy_of, is_file, is_version, is_draft, reads_by, file_written, file_by};
 
-use crate::files::{Files, place_of};
+use crate::files::{Files, file_of};
 use crate::stamps::Stamps;
 use ele_inode_log::Meter;
 use ele_lists::{ByteList, ListOf};
@@ -40,16 +40,16 @@ impl Files {
     pub fn policy_of(&self, file: FileId) -> Option<Policy>
         ensures { result ≡ policy_of self.now.files file }
     {
-        let at = place_of(&self.files, file)?;
-        Some(self.files[at].policy)
+        let held = file_of(&self.files, file)?;
+        Some(held.policy)
     }
 
     /// The number that the file's next version gets; none where there is no such file.
     pub fn next_of(&self, file: FileId) -> Option<VersionNo>
         ensures { result ≡ option_map (λ row. row.next) (find (is_file file) self.now.files) }
     {
-        let at = place_of(&self.files, file)?;
-        Some(self.files[at].next)
+        let held = file_of(&self.files, file)?;
+        Some(held.next)
     }
 
     /// The version's moments and its length; none where it isn't held.
@@ -59,8 +59,8 @@ impl Files {
             ≡ option_map stamps_of (find (is_version file number) self.now.versions) }
         ensures read { meter.new ≡ meter.old + (if is_some result then 1 else 0) }
     {
-        let at = place_of(&self.files, file)?;
-        let row = self.files[at].log.get(number, meter)?;
+        let held = file_of(&self.files, file)?;
+        let row = held.log.get(number, meter)?;
         Some(Stamps {
             opened: row.opened,
             closed: row.closed,

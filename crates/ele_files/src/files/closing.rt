@@ -93,7 +93,7 @@ impl Files {
         let Some(at) = place_of(&self.files, file) else {
             unreachable!()
         };
-        let held = &mut self.files[at];
+        let held = self.files[at].get_mut();
         held.log.reserve()?;
         let Some(map) = map_of(self.sessions.close(handle)) else {
             unreachable!()

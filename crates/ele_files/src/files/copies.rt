@@ -25,6 +25,7 @@ impl Files {
     {
         let mut rows = Vec::with_capacity(self.alloc, self.files.len())?;
         for file in &self.files {
+            let file = file.get();
             rows.push(FileRow {
                 id: file.id,
                 policy: file.policy,
@@ -40,7 +41,7 @@ impl Files {
     {
         let mut rows = Vec::new(self.alloc);
         for file in &self.files {
-            copy_log(self.alloc, &self.store, file, &mut rows)?;
+            copy_log(self.alloc, &self.store, file.get(), &mut rows)?;
         }
         Ok(ListOf::from_vec(rows))
     }

@@ -5,12 +5,12 @@ ghost use Rattle.std.specs.List.{list_any, remove};
 ghost use Rattle.ele_files.specs.Held.{is_bare, without_file};
 ghost use Rattle.ele_world.specs.FileView.{is_version_of};
 
-use crate::file::File;
-use crate::files::{Files, place_of};
+use crate::boxed::BoxedFile;
+use crate::files::{Files, file_of, place_of};
 use ele_moment::FileId;
 
 /// The file at that place goes.
-fn take_out(files: &mut Vec<File>, at: usize)
+fn take_out(files: &mut Vec<BoxedFile>, at: usize)
     requires { at < vec_len files.old }
     ensures { files.new.items ≡ remove files.old.items at }
 {
@@ -22,8 +22,8 @@ impl Files {
     fn has_version(&self, file: FileId) -> bool
         ensures { result ≡ list_any (is_version_of file) self.now.versions }
     {
-        match place_of(&self.files, file) {
-            Some(at) => !self.files[at].log.is_empty(),
+        match file_of(&self.files, file) {
+            Some(held) => !held.log.is_empty(),
             None => false,
         }
     }
@@ -35,7 +35,7 @@ impl Files {
         !self.has_version(file) && !self.has_draft(file)
     }
 
-    /// Takes out the row of a file of which nothing is held.
+    /// Takes out the row of a file of which nothing is held. A number that no file has does nothing.
     pub fn drop_file(&mut self, file: FileId)
         requires { is_bare self.old file ≡ true }
         ensures { self.new ≡ without_file self.old file }

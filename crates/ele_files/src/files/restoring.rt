@@ -21,7 +21,7 @@ impl Files {
         ensures read { meter.new ≤ meter.old + 1 }
     {
         if let Some(at) = place_of(&self.files, file) {
-            let held = &mut self.files[at];
+            let held = self.files[at].get_mut();
             held.end_before(now, meter);
         }
     }
@@ -53,7 +53,7 @@ impl Files {
         let Some(at) = place_of(&self.files, file) else {
             unreachable!()
         };
-        let held = &mut self.files[at];
+        let held = self.files[at].get_mut();
         held.log.reserve()?;
         let Some(row) = held.log.get(number, meter) else {
             unreachable!()

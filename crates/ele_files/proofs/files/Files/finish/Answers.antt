@@ -12,11 +12,11 @@ pub unreachable-requires : goal.unreachable-requires
 unreachable-requires c = not_missing _ _ _ c.args.handle c.args.file c.args.opened c.self.invariant (rw (← c.self.view_is) at c.requires.file) (rw (← c.self.view_is) at c.requires.changed) (sym (rw c.deref.ensures.value at c.in_default.ensures))
 
 pub invariant_of-self : goal.invariant_of-self
-invariant_of-self c = (waits _ _ _ c.self.invariant c.args.file _ _ (rw c.deref.ensures.value at c.in-Some.ensures) c.index_mut-held.ensures.value c.reserve.new.self c.reserve.ensures.rows).keeps
+invariant_of-self c = (waits _ _ _ c.self.invariant c.args.file _ _ (rw c.deref.ensures.value at c.in-Some.ensures) (rw (← c.get_mut-held.ensures.value) at c.index_mut.ensures.value) c.reserve.new.self c.reserve.ensures.rows).keeps
 
 pub returns-in_err-reserve-clause-err : goal.returns-in_err-reserve-clause-err
 returns-in_err-reserve-clause-err c =
-    on_err c.from_residual.result _ (rw (← c.self.view_is) (waits _ _ _ c.self.invariant c.args.file _ _ (rw c.deref.ensures.value at c.in-Some.ensures) c.index_mut-held.ensures.value c.reserve.new.self c.reserve.ensures.rows).shows)
+    on_err c.from_residual.result _ (rw (← c.self.view_is) (waits _ _ _ c.self.invariant c.args.file _ _ (rw c.deref.ensures.value at c.in-Some.ensures) (rw (← c.get_mut-held.ensures.value) at c.index_mut.ensures.value) c.reserve.new.self c.reserve.ensures.rows).shows)
 
 pub unreachable-requires-in_default-map_of : goal.unreachable-requires-in_default-map_of
 unreachable-requires-in_default-map_of c =
@@ -25,15 +25,15 @@ unreachable-requires-in_default-map_of c =
     cc
 
 pub append-requires-clause-past : goal.append-requires-clause-past
-append-requires-clause-past c = ready_past _ _ _ c.self.invariant c.args.file _ _ (rw c.deref.ensures.value at c.in-Some.ensures) c.index_mut-held.ensures.value c.reserve.new.self c.reserve.ensures.rows c.args.now (rw (← c.self.view_is) at c.requires.past)
+append-requires-clause-past c = ready_past _ _ _ c.self.invariant c.args.file _ _ (rw c.deref.ensures.value at c.in-Some.ensures) (rw (← c.get_mut-held.ensures.value) at c.index_mut.ensures.value) c.reserve.new.self c.reserve.ensures.rows c.args.now (rw (← c.self.view_is) at c.requires.past)
 
 pub append-requires-clause-numbered : goal.append-requires-clause-numbered
-append-requires-clause-numbered c = its_few _ _ _ c.self.invariant c.args.file _ _ (rw c.deref.ensures.value at c.in-Some.ensures) c.index_mut-held.ensures.value _ (rw (← c.self.view_is) at c.requires.numbered)
+append-requires-clause-numbered c = its_few _ _ _ c.self.invariant c.args.file _ _ (rw c.deref.ensures.value at c.in-Some.ensures) (rw (← c.get_mut-held.ensures.value) at c.index_mut.ensures.value) _ (rw (← c.self.view_is) at c.requires.numbered)
 
-done : (c : After-self-2-1) → IsFinished c.self.inside.store (held_of c.self.inside) c.args.handle c.args.file c.args.opened c.args.now c.args.is_live c.index_mut-held.result.now.next (set c.self.inside.files.items c.in-Some.at c.append.new.self) (closed c.self.inside.sessions c.args.handle)
+done : (c : After-self-2-1) → IsFinished c.self.inside.store (held_of c.self.inside) c.args.handle c.args.file c.args.opened c.args.now c.args.is_live c.get_mut-held.result.now.next (set c.self.inside.files.items c.in-Some.at c.append.new.self) (closed c.self.inside.sessions c.args.handle)
 done c =
     let out : given c.self.inside.sessions c.args.handle ≡ Some c.in-Some-map_of.map = rw c.close.ensures.answer at (sym c.map_of.ensures ∙ c.in-Some-map_of.is) in
-    finished _ _ _ c.args.handle c.args.file c.args.opened c.self.invariant (rw (← c.self.view_is) at c.requires.file) (rw (← c.self.view_is) at c.requires.changed) _ _ (rw c.deref.ensures.value at c.in-Some.ensures) c.index_mut-held.ensures.value _ c.reserve.ensures.rows c.args.now c.args.is_live _ out _ c.append.ensures.appended (rw (← c.self.view_is) at c.requires.past) c.close.ensures.orderly.drafts_rise
+    finished _ _ _ c.args.handle c.args.file c.args.opened c.self.invariant (rw (← c.self.view_is) at c.requires.file) (rw (← c.self.view_is) at c.requires.changed) _ _ (rw c.deref.ensures.value at c.in-Some.ensures) (rw (← c.get_mut-held.ensures.value) at c.index_mut.ensures.value) _ c.reserve.ensures.rows c.args.now c.args.is_live _ out _ c.append.ensures.appended (rw (← c.self.view_is) at c.requires.past) c.close.ensures.orderly.drafts_rise
 
 pub invariant_of-self-2 : goal.invariant_of-self-2
 invariant_of-self-2 c = rw c.close.ensures.sessions (done c).keeps

@@ -1,9 +1,9 @@
-use Rattle.std.proofs.Common.{refl, ◌∙◌}
-use Rattle.ele_files.proofs.Rows.{file-at, no-file, file_row-found}
+use Rattle.std.proofs.Common.{refl, sym, ◌∙◌}
+use Rattle.ele_files.proofs.Rows.{file_row-found}
 use Rattle.ele_files.proofs.files.Files.next_of.Goals as goal
 
-pub returns-in_err-at : goal.returns-in_err-at
-returns-in_err-at c = c.from_residual.ensures ∙ rw (← c.self.view_is, file_row-found, no-file c.self.inside.files.items c.args.file (rw c.deref.ensures.value at c.in_err-at.ensures)) refl
+pub returns-in_err-held : goal.returns-in_err-held
+returns-in_err-held c = c.from_residual.ensures ∙ rw (← c.self.view_is, file_row-found, sym (rw c.deref.ensures.value at c.in_err-held.ensures)) refl
 
 pub returns : goal.returns
-returns c = rw (← c.self.view_is, file_row-found, file-at c.self.inside.files.items c.args.file c.in_ok-at.at c.index.result.now (rw c.deref.ensures.value at c.in_ok-at.ensures) c.index.ensures) refl
+returns c = rw (← c.self.view_is, file_row-found, sym (rw c.deref.ensures.value at c.in_ok-held.ensures)) refl

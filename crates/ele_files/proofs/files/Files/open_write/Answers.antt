@@ -1,12 +1,12 @@
-use Rattle.std.proofs.Common.{None, arith}
+use Rattle.std.proofs.Common.{None, arith, sym}
 use Rattle.ele_files.proofs.Openings.{first_lives, maps_seen, opens}
-use Rattle.ele_files.proofs.Rows.{file-at, no-file, next-found}
+use Rattle.ele_files.proofs.Rows.{next-found}
 use Rattle.ele_files.proofs.files.Files.open_write.Goals as goal
 
 pub unreachable-requires : goal.unreachable-requires
 unreachable-requires c =
     let i = c.self.inside in
-    let none = next-found i.files.items c.args.file None (no-file i.files.items c.args.file (rw c.deref.ensures.value at c.in_default.ensures)) in
+    let none = next-found i.files.items c.args.file None (sym (rw c.deref.ensures.value at c.in_default.ensures)) in
     let there = rw (← c.self.view_is) at c.requires.there in
     omega (arith, none, there)
 
@@ -18,15 +18,15 @@ open_write-requires-clause-few c =
 
 pub open_write-requires-clause-lives : goal.open_write-requires-clause-lives
 open_write-requires-clause-lives c =
-    let found = file-at _ c.args.file c.in-Some.at c.index-held.result.now (rw c.deref.ensures.value at c.in-Some.ensures) c.index-held.ensures in
-    rw (c.first_map-map.ensures.map, c.new-empty.ensures) (first_lives _ _ _ c.self.invariant c.args.file c.index-held.result.now found)
+    let found = sym (rw c.deref.ensures.value at c.in-Some.ensures) in
+    rw (c.first_map-map.ensures.map, c.new-empty.ensures) (first_lives _ _ _ c.self.invariant c.args.file c.in-Some.held.now found)
 
 pub invariant_of-self : goal.invariant_of-self
 invariant_of-self c =
-    let found = file-at _ c.args.file c.in-Some.at c.index-held.result.now (rw c.deref.ensures.value at c.in-Some.ensures) c.index-held.ensures in
+    let found = sym (rw c.deref.ensures.value at c.in-Some.ensures) in
     (opens _ _ _ c.self.invariant c.args.file _ found _ _ c.args.now _ (rw c.new-empty.ensures at c.first_map-map.ensures.map) _ c.open_write.ensures.sessions c.open_write.ensures.opens c.open_write.ensures.err c.open_write.ensures.err_store).0
 
 pub returns-clause-ok : goal.returns-clause-ok
 returns-clause-ok c =
-    let found = file-at _ c.args.file c.in-Some.at c.index-held.result.now (rw c.deref.ensures.value at c.in-Some.ensures) c.index-held.ensures in
+    let found = sym (rw c.deref.ensures.value at c.in-Some.ensures) in
     rw (← c.self.view_is) (opens _ _ _ c.self.invariant c.args.file _ found _ _ c.args.now _ (rw c.new-empty.ensures at c.first_map-map.ensures.map) _ c.open_write.ensures.sessions c.open_write.ensures.opens c.open_write.ensures.err c.open_write.ensures.err_store).1

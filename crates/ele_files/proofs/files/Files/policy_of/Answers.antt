@@ -1,13 +1,9 @@
 use Rattle.std.proofs.Common.{Some, None, sym, ◌∙◌}
-use Rattle.ele_files.proofs.Rows.{file-at, no-file, policy-found}
+use Rattle.ele_files.proofs.Rows.{policy-found}
 use Rattle.ele_files.proofs.files.Files.policy_of.Goals as goal
 
-pub returns-in_err-at : goal.returns-in_err-at
-returns-in_err-at c =
-    let found = no-file c.self.inside.files.items c.args.file (rw c.deref.ensures.value at c.in_err-at.ensures) in
-    c.from_residual.ensures ∙ rw (← c.self.view_is) (sym (policy-found c.self.inside.files.items c.args.file None found))
+pub returns-in_err-held : goal.returns-in_err-held
+returns-in_err-held c = c.from_residual.ensures ∙ rw (← c.self.view_is) (sym (policy-found c.self.inside.files.items c.args.file None (sym (rw c.deref.ensures.value at c.in_err-held.ensures))))
 
 pub returns : goal.returns
-returns c =
-    let found = file-at c.self.inside.files.items c.args.file c.in_ok-at.at c.index.result.now (rw c.deref.ensures.value at c.in_ok-at.ensures) c.index.ensures in
-    rw (← c.self.view_is) (sym (policy-found c.self.inside.files.items c.args.file (Some c.index.result.now) found))
+returns c = rw (← c.self.view_is) (sym (policy-found c.self.inside.files.items c.args.file (Some c.in_ok-held.held.now) (sym (rw c.deref.ensures.value at c.in_ok-held.ensures))))
