@@ -26,6 +26,7 @@ fault_name fault = (fault_answer fault).1
 abbrev pub fault_of_path : PathFault → LineFault
 fault_of_path path.BadName = BadName
 fault_of_path path.BadPath = BadPath
+fault_of_path path.BadMoment = BadMoment
 fault_of_path path.NoMemory = NoMemory
 
 abbrev pub write_fault_answer : ℕ × List ℕ

@@ -88,6 +88,7 @@ impl From<PathFault> for LineFault {
         match fault {
             PathFault::BadName => LineFault::BadName,
             PathFault::BadPath => LineFault::BadPath,
+            PathFault::BadMoment => LineFault::BadMoment,
             PathFault::NoMemory => LineFault::NoMemory,
         }
     }

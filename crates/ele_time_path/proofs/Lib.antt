@@ -1,3 +1,5 @@
 pub mod Names
 pub mod Pieces
 pub mod Spelled
+pub mod Tags
+pub mod TaggedFaults

@@ -1,2 +1,5 @@
 pub mod Path
 pub mod FirstFault
+pub mod Tagged
+pub mod TaggedFault
+pub mod Begins

@@ -1,19 +1,23 @@
-//! Why a word is no path. A contract sees a fault as the fault.
+//! Why a word is no path, or no path with a tag. A contract sees a fault as the fault.
 ghost use Rattle.std.specs.Prelude.{◌≡◌};
 ghost use Rattle.ele_time_path.specs.declared.fault.PathFault.TheVariants.{NoMemory};
 
 use std::alloc::AllocFailed;
 use thiserror::Error;
 
-/// Why a word was not read as a path.
+/// Why a word was not read as a path, or as a path with a tag.
 #[derive(Clone, Copy, Debug, PartialEq, Eq, Error)]
 pub enum PathFault {
     /// A piece between the slashes is no name.
     #[error("not a name")]
     BadName,
-    /// The word does not begin with a slash, has an empty piece, or has more than 32 pieces.
+    /// The word does not begin with a slash, has an empty piece, or has more than 32 pieces; or what
+    /// stands behind `#` is no number.
     #[error("not a path")]
     BadPath,
+    /// What stands behind `@` is no moment.
+    #[error("not a moment")]
+    BadMoment,
     /// There was no memory for the names.
     #[error("no memory")]
     NoMemory,

@@ -1,8 +1,11 @@
-//! Paths of names. A contract sees a path as the list of its names, each a list of bytes.
+//! Paths of names, and tags behind them. A contract sees a path as the list of its names, each a list
+//! of bytes, and a path with a tag as the record of both.
 #![tactic(auto)]
 
 mod fault;
 mod path;
+mod tagged;
 
 pub use fault::PathFault;
 pub use path::Path;
+pub use tagged::{Tag, TaggedPath};
