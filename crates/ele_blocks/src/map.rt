@@ -152,7 +152,7 @@ impl BlockMap {
         ensures { IfOk result (λ all. all.items ≡ take (512 * (past - first))
             (drop (512 * first) (content_of (shown store.now self.now)))) }
     {
-        let mut all = Vec::new(self.alloc);
+        let mut all = Vec::with_capacity(self.alloc, (past - first).saturating_mul(SLOT))?;
         for slot in first..past {
             all.extend_from_slice(store.get(self.slot_at(store, slot).block))?;
         }

@@ -13,7 +13,7 @@ pub fn spliced(alloc: Global, old: &[u8], offset: usize, bytes: &[u8]) -> Result
     requires { offset + length bytes.now < 2 ^ 64 }
     ensures { IfOk result (λ new. new.items ≡ content_after_write old.now offset bytes.now) }
 {
-    let mut new = Vec::new(alloc);
+    let mut new = Vec::with_capacity(alloc, old.len().max(offset + bytes.len()))?;
     new.extend_from_slice(&old[..offset.min(old.len())])?;
     new.resize(offset, 0)?;
     new.extend_from_slice(bytes)?;
@@ -28,9 +28,10 @@ pub fn spliced(alloc: Global, old: &[u8], offset: usize, bytes: &[u8]) -> Result
 pub fn pieces(alloc: Global, all: &[u8]) -> Result<Vec<ByteList>, NoMemory>
     ensures { IfOk result (λ cut. cut.items ≡ pieces all.now) }
 {
-    let mut cut = Vec::new(alloc);
+    let count = all.len().div_ceil(512);
+    let mut cut = Vec::with_capacity(alloc, count)?;
     let mut rest = all;
-    for _ in 0..all.len().div_ceil(512) {
+    for _ in 0..count {
         let (piece, more) = rest.split_at(rest.len().min(512));
         cut.push(ByteList::from_vec(Vec::from_slice(alloc, piece)?))?;
         rest = more;

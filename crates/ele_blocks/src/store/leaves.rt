@@ -95,7 +95,7 @@ impl BlockStore {
         requires { Covers self.now.leaves leaves.now }
         ensures { IfOk result (λ slots. slots.items ≡ slots_in self.now leaves.now) }
     {
-        let mut slots = Vec::new(self.alloc);
+        let mut slots = Vec::with_capacity(self.alloc, leaves.len().saturating_mul(LEAF))?;
         for leaf in leaves {
             slots.extend_from_slice(self.leaf(*leaf))?;
         }
