@@ -66,10 +66,7 @@ may_name w path at k found free names =
 
 -- the directory that the path leads to has no live name in it
 may_end : (w : World) (path : List (List ℕ)) (at : ℕ × List ℕ) (directory : ℕ) → parent_now w.names path ≡ Ok at → directory_now w.names path ≡ Ok directory → list_any (is_live_in directory) w.names ≡ false → MayEnd w at.0 at.1
-may_end w path at directory found leads empty = λ id ends.
-    let is = last_leads w.names path at directory found leads in
-    let same : directory ≡ id = cc in
-    subst (λ d. list_any (is_live_in d) w.names ≡ false) same empty
+may_end w path at directory found leads empty = record { id = directory; stands = last_leads w.names path at directory found leads; empty = empty }
 
 -- ---- each event
 

@@ -9,8 +9,8 @@ use Rattle.ele_lists.proofs.Edits.{all-push, all-weaker, all-found, found_passes
 use Rattle.ele_lists.proofs.Found.{any-found}
 use Rattle.ele_world.specs.NameRows.{is_live_directory, is_name_of_directory, dies}
 use Rattle.ele_world.specs.Walk.{is_live_name, live_target, parent_now}
-use Rattle.ele_world.specs.WellFormed.{has_directory, is_reached, IsDirectoryThere, IsHoused, Directories, Homes, IsWellFormed, AreHoused}
-use Rattle.ele_world.specs.World.{World, root, is_directory}
+use Rattle.ele_world.specs.WellFormed.{has_directory, is_reached, IsDirectoryThere, IsHoused, Directories, Homes, IsWellFormed, AreHoused, IsOfLive}
+use Rattle.ele_world.specs.World.{World, root, is_directory, is_live_name_of}
 use Rattle.ele_world.specs.declared.rows.DirectoryRow.{DirectoryRow}
 use Rattle.ele_world.specs.declared.rows.NameRow.{NameRow}
 use Rattle.ele_world.specs.declared.rows.Target.{Target}
@@ -18,6 +18,7 @@ use Rattle.ele_world.specs.declared.rows.Target.TheVariants.{File, Directory}
 use Rattle.ele_world.proofs.Walks.{live_row, parent_to}
 use Rattle.ele_world.proofs.NameParts.{still_none}
 use Rattle.ele_lists.specs.Lists.{update_first}
+use Rattle.ele_world.specs.declared.rows.VersionRow.{VersionRow}
 
 pub or_last : (a b : Bool) → b ≡ true → (a || b) ≡ true
 or_last true b h = refl
@@ -34,6 +35,13 @@ any_less p xs y from h = by (list_any p xs) (p y) refl refl (sym (list_any-appen
   by true b is e h = is
   by false true is e h = from e
   by false false is e h = absurd (false≢true h)
+
+pub any_last : {X : Type 0} (p : X → Bool) (xs : List X) (y : X) → p y ≡ true → list_any p (xs ++ y ∷ []) ≡ true
+any_last p xs y h = list_any-append p xs (y ∷ []) ∙ or_last (list_any p xs) (list_any p (y ∷ [])) (rw h refl)
+
+-- what was of a live file is so
+pub ended_more : (names : List NameRow) (named : NameRow) (versions : List VersionRow) → AllByRecursion (IsOfLive names) versions → AllByRecursion (IsOfLive (names ++ named ∷ [])) versions
+ended_more names named versions each = all-weaker (IsOfLive names) (IsOfLive (names ++ named ∷ [])) versions (λ row h none. any_more (is_live_name_of row.file) names named (h none)) each
 
 pub reached_more : (names : List NameRow) (named : NameRow) (id : ℕ) → is_reached names id ≡ true → is_reached (names ++ named ∷ []) id ≡ true
 reached_more names named id h = by (id == root) h where

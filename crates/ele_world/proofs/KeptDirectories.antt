@@ -9,18 +9,18 @@ use Rattle.ele_lists.proofs.Edits.{all-any, all-push, all-weaker, all-both, all-
 use Rattle.ele_lists.proofs.Found.{list_any-update_found, list_any-update_fails}
 use Rattle.ele_policy.specs.declared.policy.Policy.{Policy}
 use Rattle.ele_policy.specs.Policy.{IsPolicy}
-use Rattle.ele_world.specs.Change.{after_change, MakeDirectory, EndName}
+use Rattle.ele_world.specs.Change.{after_change, MakeDirectory, EndName, without_name}
 use Rattle.ele_world.specs.NameRows.{born_row, dies, is_live_in, is_name_of_directory, is_target_directory, is_live_directory}
 use Rattle.ele_world.specs.Walk.{is_live_name, live_target}
-use Rattle.ele_world.specs.WellFormed.{has_directory, is_reached, IsHoused, Part, Counted, Directories, Names, Homes, Current, Holds, IsWellFormed, Tree, IsDirectoryThere}
+use Rattle.ele_world.specs.WellFormed.{has_directory, is_reached, IsHoused, Part, Counted, Directories, Names, Homes, Current, Holds, IsWellFormed, Tree, IsDirectoryThere, Ended, HaveEnded, IsOfLive}
 use Rattle.ele_world.specs.World.{World, root, is_directory, is_live_name_of}
 use Rattle.ele_world.specs.declared.rows.DirectoryRow.{DirectoryRow}
 use Rattle.ele_world.specs.declared.rows.NameRow.{NameRow}
 use Rattle.ele_world.specs.declared.rows.Target.{Target}
 use Rattle.ele_world.specs.declared.rows.Target.TheVariants.{File, Directory}
-use Rattle.ele_world.proofs.Homes.{or_last, any_more, named_housed, HasName, named_more, named_end, directory_given}
+use Rattle.ele_world.proofs.Homes.{or_last, any_more, named_housed, HasName, named_more, named_end, directory_given, ended_more}
 use Rattle.ele_world.proofs.May.{MayMakeDirectory, MayEnd}
-use Rattle.ele_world.proofs.NameParts.{and_false, names_more, names_end, tree_more, tree_end}
+use Rattle.ele_world.proofs.NameParts.{and_false, names_more, names_end, tree_more, tree_end, live_still}
 
 -- ---- a directory is made
 
@@ -83,6 +83,7 @@ module _ (w : World) (directory : ℕ) (name : List ℕ) (policy : Policy) where
           let given = directory_given w.made.directories w.directories d (k.holds Directories).given there in
           let no : (d == id) ≡ false = grind (arith, nat_tests) in rw no refl
     by Current = λ file live. k.holds Current file (sym (no_file_named w.names directory name id w.now file) ∙ live)
+    by Ended = ended_more w.names named w.versions (k.holds Ended)
     by part = k.holds part
 
 pub make_directory_keeps : (w : World) (directory : ℕ) (name : List ℕ) (id : ℕ) (policy : Policy) → MayMakeDirectory w directory name id policy → IsWellFormed w → IsWellFormed (after_change w (MakeDirectory directory name id policy))
@@ -92,7 +93,19 @@ make_directory_keeps w directory name id policy may k =
 
 -- ---- a name dies
 
-module _ (w : World) (directory : ℕ) (name : List ℕ) (may : MayEnd w directory name) where
+-- each part, with that in place of the ends of versions
+abbrev pub HoldsWith : Type 0 → World → Part → Type 0
+HoldsWith Q w Ended = Q
+HoldsWith Q w part = Holds w part
+
+-- with the ends each part holds
+pub with_ends : (w : World) → ((part : Part) → HoldsWith (HaveEnded w) w part) → IsWellFormed w
+with_ends w holds = record { holds = by } where
+  by : (part : Part) → Holds w part
+  by Ended = holds Ended
+  by part = holds part
+
+module _ (w : World) (directory : ℕ) (name : List ℕ) (empty : (id : ℕ) → live_target w.names directory name ≡ Some (Directory id) → list_any (is_live_in id) w.names ≡ false) where
   abbrev p : NameRow → Bool
   p = is_live_name directory name
 
@@ -112,7 +125,7 @@ module _ (w : World) (directory : ℕ) (name : List ℕ) (may : MayEnd w directo
         let ends : live_target w.names directory name ≡ Some (Directory id) = rw (e, is) refl in
         all-weaker (λ row. is_live_in id row ≡ false) (λ row. row.death ≡ None → IsSpared row.directory) w.names
         (λ row out none other f. let same : found ≡ other = cc in let apart : is_live_in id row ≡ false = out in let live : is_none row.death ≡ true = rw none refl in rw (← same, is) (grind (arith, nat_tests)))
-        (all-none (is_live_in id) w.names (may id ends))
+        (all-none (is_live_in id) w.names (empty id ends))
 
     by : (o : Option NameRow) → find p w.names ≡ o → AllByRecursion (λ row. row.death ≡ None → IsSpared row.directory) w.names
     by None e = all-any (λ row. row.death ≡ None → IsSpared row.directory) w.names (λ row none other f. absurd cc)
@@ -122,9 +135,10 @@ module _ (w : World) (directory : ℕ) (name : List ℕ) (may : MayEnd w directo
   reached_still : (id : ℕ) → IsSpared id → is_reached w.names id ≡ true → is_reached after id ≡ true
   reached_still id spared h = ap (λ b. (id == root) || b) (list_any-update_found p (is_live_directory id) (dies w.now) w.names (λ row found. rw (spared row found) refl)) ∙ h
 
-  pub end_name_keeps : IsWellFormed w → IsWellFormed (after_change w (EndName directory name))
-  end_name_keeps k = record { holds = by } where
-    by : (part : Part) → Holds (after_change w (EndName directory name)) part
+  -- all but that the name's file may have a version without an end
+  pub end_name_holds : (Q : Type 0) → Q → IsWellFormed w → (part : Part) → HoldsWith Q (without_name w directory name) part
+  end_name_holds Q ends k = by where
+    by : (part : Part) → HoldsWith Q (without_name w directory name) part
     by Counted = let c = k.holds Counted in record {
       files_made = c.files_made;
       names_made = c.names_made;
@@ -145,4 +159,13 @@ module _ (w : World) (directory : ℕ) (name : List ℕ) (may : MayEnd w directo
       named = named_end w.now p w.directories w.names (k.holds Homes).named;
     }
     by Current = λ file live. k.holds Current file (list_any-update_fails p (is_live_name_of file) (dies w.now) w.names (λ row. and_false _) live)
+    by Ended = ends
     by part = k.holds part
+
+pub end_name_keeps : (w : World) (directory : ℕ) (name : List ℕ) → MayEnd w directory name → IsWellFormed w → IsWellFormed (after_change w (EndName directory name))
+end_name_keeps w directory name may k = with_ends (without_name w directory name) (end_name_holds w directory name empty (HaveEnded (without_name w directory name)) ends k) where
+  empty : (id : ℕ) → live_target w.names directory name ≡ Some (Directory id) → list_any (is_live_in id) w.names ≡ false
+  empty id stands = let was = may.stands in let same : may.id ≡ id = cc in subst (λ d. list_any (is_live_in d) w.names ≡ false) same may.empty
+
+  ends : HaveEnded (without_name w directory name)
+  ends = all-weaker (IsOfLive w.names) (IsOfLive (without_name w directory name).names) w.versions (λ row h none. live_still w.now w.names directory name (Directory may.id) may.stands row.file refl ∙ h none) (k.holds Ended)

@@ -11,7 +11,7 @@ use Rattle.ele_lists.proofs.Filters.{list_any-filter, any-filtered}
 use Rattle.ele_lists.proofs.Sums.{length-split}
 use Rattle.ele_world.specs.Change.{DropIdle, without_file, after_change}
 use Rattle.ele_world.specs.NameRows.{is_target_directory, is_name_of_directory, is_live_directory}
-use Rattle.ele_world.specs.WellFormed.{is_reached, IsFile, IsThere, IsNameRow, AreApart, IsHoused, AreOthers, IsVersion, IsDraft, is_current, Part, Counted, Files, Names, Homes, Tree, Versions, Drafts, Current, Holds, IsWellFormed}
+use Rattle.ele_world.specs.WellFormed.{is_reached, IsFile, IsThere, IsNameRow, AreApart, IsHoused, AreOthers, IsVersion, IsDraft, is_current, Part, Counted, Files, Names, Homes, Tree, Versions, Drafts, Current, Holds, IsWellFormed, IsOfLive, Ended}
 use Rattle.ele_world.specs.World.{World, root, is_file, next_of, is_live, is_live_name_of, is_target_file}
 use Rattle.ele_world.specs.declared.rows.FileRow.{FileRow}
 use Rattle.ele_world.specs.declared.rows.NameRow.{NameRow}
@@ -27,6 +27,11 @@ not_true false h = refl
 no_directory : (file id : ℕ) (target : Target) → not (is_target_file file target) ≡ false → is_target_directory id target ≡ false
 no_directory file id (File other) goes = refl
 no_directory file id (Directory other) goes = absurd (false≢true (sym goes))
+
+-- nor of another file
+other_file : (file other : ℕ) (target : Target) → (other == file) ≡ false → not (is_target_file file target) ≡ false → is_target_file other target ≡ false
+other_file file other (File of) apart goes = grind (arith, nat_tests)
+other_file file other (Directory id) apart goes = refl
 
 module _ (w : World) (file : ℕ) (idle : IsIdle w file) where
   abbrev files : List FileRow
@@ -48,6 +53,10 @@ module _ (w : World) (file : ℕ) (idle : IsIdle w file) where
 
   reached_still : (id : ℕ) → is_reached names id ≡ is_reached w.names id
   reached_still id = ap (λ b. (id == root) || b) (list_any-filter (is_live_directory id) keep w.names (λ row goes. rw (no_directory file id row.target goes) refl))
+
+  -- each other file is live as before
+  live_still : (other : ℕ) → (other == file) ≡ false → list_any (is_live_name_of other) names ≡ list_any (is_live_name_of other) w.names
+  live_still other apart = list_any-filter (is_live_name_of other) keep w.names (λ row goes. rw (other_file file other row.target apart goes) refl)
 
   drop_file_keeps : IsWellFormed w → IsWellFormed (without_file w file)
   drop_file_keeps k = record { holds = by } where
@@ -105,6 +114,8 @@ module _ (w : World) (file : ℕ) (idle : IsIdle w file) where
       placed = (k.holds Drafts).placed;
     }
     by Current = λ other live. current_still other (any-filtered (is_live_name_of other) keep w.names live) (other == file) refl
+    by Ended = all-weaker (λ row. ((row.file == file) ≡ false) × IsOfLive w.names row) (IsOfLive names) w.versions (λ row h none. live_still row.file h.0 ∙ h.1 none)
+        (all-both _ _ w.versions (idle_versions w file idle) (k.holds Ended))
     by part = k.holds part
 
 pub drop_keeps : (w : World) (file : ℕ) → IsWellFormed w → IsWellFormed (after_change w (DropIdle file))

@@ -1,22 +1,24 @@
 -- A name more of what is there, and the end of a file's name, keep a world well formed.
 use Rattle.std.proofs.Common.{◌≡◌, ℕ, ◌-◌, Bool, true, false, cond, ◌==◌, List, [], ◌∷◌, ◌++◌, length, length-append, Some, refl, sym, subst, ◌∙◌, arith}
-use Rattle.std.specs.List.{list_any}
+use Rattle.std.specs.List.{list_any, AllByRecursion}
 use Rattle.std.proofs.lemmas.Bool.{false≢true}
 use Rattle.std.proofs.lemmas.Bool.Decides.{nat_tests}
-use Rattle.ele_lists.proofs.Edits.{all-none, length-update_first}
-use Rattle.ele_world.specs.Change.{after_change, ended_at, ended_if_nameless, with_end, without_name, AddName, EndFileName}
+use Rattle.ele_lists.proofs.Edits.{all-none, length-update_first, all-weaker, all-both, all-update_first}
+use Rattle.ele_world.specs.Change.{after_change, ended_at, with_end, without_name, AddName, EndFileName}
 use Rattle.ele_world.specs.declared.rows.NameRow.{NameRow}
 use Rattle.ele_world.specs.declared.rows.Target.{Target}
 use Rattle.ele_world.specs.declared.rows.Target.TheVariants.{File, Directory}
-use Rattle.ele_world.specs.NameRows.{born_row, is_live_directory}
+use Rattle.ele_world.specs.NameRows.{born_row, is_live_directory, is_live_in}
 use Rattle.ele_world.specs.Walk.{live_target}
-use Rattle.ele_world.specs.WellFormed.{Part, Counted, Names, Homes, Tree, Versions, Current, Holds, IsWellFormed, is_current}
+use Rattle.ele_world.specs.WellFormed.{Part, Counted, Names, Homes, Tree, Versions, Current, Holds, IsWellFormed, is_current, HaveEnded, IsOfLive, Ended}
 use Rattle.ele_world.specs.World.{World, next_of, is_live, is_live_name_of, is_version}
-use Rattle.ele_world.proofs.Homes.{any_less, homes_more}
-use Rattle.ele_world.proofs.KeptDirectories.{end_name_keeps}
+use Rattle.ele_world.proofs.Homes.{any_less, homes_more, ended_more}
+use Rattle.ele_world.proofs.KeptDirectories.{HoldsWith, with_ends, end_name_holds}
 use Rattle.ele_world.proofs.KeptVersions.{versions_ended, current_ended}
-use Rattle.ele_world.proofs.May.{MayHaveMore, MayAdd, MayEnd}
-use Rattle.ele_world.proofs.NameParts.{IsUnnamed, names_more, tree_more, counted_more}
+use Rattle.ele_world.proofs.May.{MayHaveMore, MayAdd}
+use Rattle.ele_world.proofs.NameParts.{IsUnnamed, names_more, tree_more, counted_more, live_still}
+use Rattle.ele_world.proofs.Versions.{IsEndedBy, file_ended}
+use Rattle.ele_world.specs.declared.rows.VersionRow.{VersionRow}
 
 -- ---- a name more
 
@@ -40,22 +42,32 @@ add_name_keeps w directory name target may k = record { holds = by } where
   by Homes = homes_more w.directories w.names named may.named.home may.named.reached may.housed (k.holds Homes)
   by Tree = tree_more w.now w.names directory name target (unnamed target may.more) (k.holds Tree)
   by Current = λ file live. k.holds Current file (any_less (is_live_name_of file) w.names named (was_live target file may.more) live)
+  by Ended = ended_more w.names named w.versions (k.holds Ended)
   by part = k.holds part
 
 -- ---- the end of a file's name
 
+-- each version but the file's has an end or is of a live file
+abbrev EndBeside : ℕ → World → Type 0
+EndBeside file w = AllByRecursion (λ row. (row.file == file) ≡ false → IsOfLive w.names row) w.versions
+
 -- the last version of a file without a live name ends
-with_end_keeps : (w : World) (file : ℕ) → is_live w file ≡ false → IsWellFormed w → IsWellFormed (record w { versions = with_end w file })
-with_end_keeps w file dead k = record { holds = by } where
+with_end_keeps : (w : World) (file : ℕ) → is_live w file ≡ false → ((part : Part) → HoldsWith (EndBeside file w) w part) → IsWellFormed (record w { versions = with_end w file })
+with_end_keeps w file dead holds = record { holds = by } where
   last : ℕ
   last = next_of w.files file - 1
 
   current : (other : ℕ) (b : Bool) → (file == other) ≡ b → is_live w other ≡ true → list_any (is_current other (next_of w.files other)) (with_end w file) ≡ true
   current other true e live = let same : file ≡ other = grind (arith, nat_tests) in absurd (false≢true (sym (subst (λ f. is_live w f ≡ false) same dead) ∙ live))
-  current other false e live = current_ended file other last (next_of w.files other) w.now w.versions e ∙ k.holds Current other live
+  current other false e live = current_ended file other last (next_of w.files other) w.now w.versions e ∙ holds Current other live
+
+  -- the file's have ended, and each other is as before
+  of_live : (row : VersionRow) → (row.file ≡ file → IsEndedBy w.now row) → ((row.file == file) ≡ false → IsOfLive w.names row) → (b : Bool) → (row.file == file) ≡ b → IsOfLive w.names row
+  of_live row own other true e none = let ends = own (grind (arith, nat_tests)) in let is = ends.is in absurd cc
+  of_live row own other false e none = other e none
 
   by : (part : Part) → Holds (record w { versions = with_end w file }) part
-  by Counted = let c = k.holds Counted in record {
+  by Counted = let c = holds Counted in record {
     files_made = c.files_made;
     names_made = c.names_made;
     versions_made = c.versions_made;
@@ -64,17 +76,34 @@ with_end_keeps w file dead k = record { holds = by } where
     name_rows = c.name_rows;
     version_rows = omega (arith, c.version_rows, length-update_first (is_version file last) (ended_at w.now) w.versions);
   }
-  by Versions = versions_ended w.files w.now (is_version file last) w.versions (k.holds Versions)
+  by Versions = versions_ended w.files w.now (is_version file last) w.versions (holds Versions)
   by Current = λ other live. current other (file == other) refl live
-  by part = k.holds part
+  by Ended = all-weaker (λ row. (row.file ≡ file → IsEndedBy w.now row) × ((row.file == file) ≡ false → IsOfLive w.names row)) (IsOfLive w.names) (with_end w file) (λ row h. of_live row h.0 h.1 (row.file == file) refl)
+      (all-both _ _ (with_end w file) (file_ended w.files w.now file w.versions (holds Versions).placed (holds Versions).each)
+      (all-update_first (is_version file last) (λ row. (row.file == file) ≡ false → IsOfLive w.names row) (λ row. (row.file == file) ≡ false → IsOfLive w.names row) (ended_at w.now) w.versions (λ row h other none. absurd cc) (λ row h. h) (holds Ended)))
+  by part = holds part
 
-ended_keeps : (w : World) (file : ℕ) → IsWellFormed w → IsWellFormed (ended_if_nameless w file)
-ended_keeps w file k = elim (is_live w file) as (λ b. is_live w file ≡ b → IsWellFormed (record w { versions = cond b w.versions (with_end w file) })) [
-  | true ↦ λ e. k
-  | false ↦ λ e. with_end_keeps w file e k
-] refl
+module _ (w : World) (directory : ℕ) (name : List ℕ) (file : ℕ) (leads : live_target w.names directory name ≡ Some (File file)) (k : IsWellFormed w) where
+  abbrev left : World
+  left = without_name w directory name
 
-pub end_file_name_keeps : (w : World) (directory : ℕ) (name : List ℕ) (file : ℕ) → live_target w.names directory name ≡ Some (File file) → IsWellFormed w → IsWellFormed (after_change w (EndFileName directory name file))
-end_file_name_keeps w directory name file leads k = ended_keeps (without_name w directory name) file (end_name_keeps w directory name may k) where
-  may : MayEnd w directory name
-  may id ends = absurd (let no : Some (File file) ≡ Some (Directory id) = sym leads ∙ ends in cc)
+  no_directory : (id : ℕ) → live_target w.names directory name ≡ Some (Directory id) → list_any (is_live_in id) w.names ≡ false
+  no_directory id stands = absurd (let no : Some (File file) ≡ Some (Directory id) = sym leads ∙ stands in cc)
+
+  -- each other file is live as before
+  beside : EndBeside file left
+  beside = all-weaker (IsOfLive w.names) (λ row. (row.file == file) ≡ false → IsOfLive left.names row) w.versions
+      (λ row h other none. live_still w.now w.names directory name (File file) leads row.file (grind (arith, nat_tests)) ∙ h none) (k.holds Ended)
+
+  -- and so is the file, if another name is left
+  all_live : is_live left file ≡ true → HaveEnded left
+  all_live live = all-weaker (λ row. (row.file == file) ≡ false → IsOfLive left.names row) (IsOfLive left.names) w.versions (λ row h. by row h (row.file == file) refl) beside where
+    by : (row : VersionRow) → ((row.file == file) ≡ false → IsOfLive left.names row) → (b : Bool) → (row.file == file) ≡ b → IsOfLive left.names row
+    by row h true e none = let same : row.file ≡ file = grind (arith, nat_tests) in rw same live
+    by row h false e none = h e none
+
+  pub end_file_name_keeps : IsWellFormed (after_change w (EndFileName directory name file))
+  end_file_name_keeps = elim (is_live left file) as (λ b. is_live left file ≡ b → IsWellFormed (record left { versions = cond b w.versions (with_end left file) })) [
+    | true ↦ λ e. with_ends left (end_name_holds w directory name no_directory (HaveEnded left) (all_live e) k)
+    | false ↦ λ e. with_end_keeps left file e (end_name_holds w directory name no_directory (EndBeside file left) beside k)
+  ] refl

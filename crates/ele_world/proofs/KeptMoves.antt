@@ -7,7 +7,7 @@ use Rattle.std.proofs.lemmas.Bool.Decides.{nat_tests}
 use Rattle.std.proofs.lemmas.List.Folds.{list_any-append}
 use Rattle.ele_lists.specs.Lists.{update_first}
 use Rattle.ele_lists.proofs.Alls.{later-weaker}
-use Rattle.ele_lists.proofs.Edits.{all-found, all-push, all-update_first, found_passes, length-update_first}
+use Rattle.ele_lists.proofs.Edits.{all-found, all-push, all-update_first, found_passes, length-update_first, all-weaker}
 use Rattle.ele_lists.proofs.Found.{any-found, list_any-update_fails, list_any-update_found}
 use Rattle.ele_world.specs.Change.{after_change, MoveName}
 use Rattle.ele_world.specs.declared.rows.NameRow.{NameRow}
@@ -15,11 +15,11 @@ use Rattle.ele_world.specs.declared.rows.Target.{Target}
 use Rattle.ele_world.specs.declared.rows.Target.TheVariants.{File, Directory}
 use Rattle.ele_world.specs.NameRows.{born_row, dies, is_live_directory, is_target_directory}
 use Rattle.ele_world.specs.Walk.{is_live_name}
-use Rattle.ele_world.specs.WellFormed.{IsNameRow, IsDirectoryThere, is_reached, IsHoused, AreOthers, Part, Counted, Names, Homes, Tree, Current, Holds, IsWellFormed, IsThere}
+use Rattle.ele_world.specs.WellFormed.{IsNameRow, IsDirectoryThere, is_reached, IsHoused, AreOthers, Part, Counted, Names, Homes, Tree, Current, Holds, IsWellFormed, IsThere, IsOfLive, Ended}
 use Rattle.ele_world.specs.World.{World, root, is_target_file, is_live_name_of, is_live}
-use Rattle.ele_world.proofs.Homes.{any_less, any_more, named_end, named_more, or_last}
+use Rattle.ele_world.proofs.Homes.{any_less, any_more, named_end, named_more, or_last, any_last}
 use Rattle.ele_world.proofs.May.{MayMove}
-use Rattle.ele_world.proofs.NameParts.{and_false, free_still, IsUnnamed, names_end, names_more, still_none, tree_end, tree_more, counted_more}
+use Rattle.ele_world.proofs.NameParts.{and_false, free_still, IsUnnamed, names_end, names_more, still_none, tree_end, tree_more, counted_more, found_target, live_still}
 use Rattle.ele_world.proofs.Walks.{live_row}
 use Rattle.ele_world.proofs.Elements.{none_left}
 
@@ -60,9 +60,7 @@ module _ (w : World) (from : ℕ) (old : List ℕ) (to : ℕ) (new : List ℕ) (
     by true own = or_last (id == root) (list_any (is_live_directory id) (left ++ named ∷ [])) (list_any-append (is_live_directory id) left (named ∷ []) ∙ rw own (or_last (list_any (is_live_directory id) left) true refl))
     by false other = more (id == root) h where
       same : list_any (is_live_directory id) left ≡ list_any (is_live_directory id) w.names
-      same = list_any-update_found p (is_live_directory id) (dies w.now) w.names (λ row found. rw (of_found row found) refl) where
-        of_found : (row : NameRow) → find p w.names ≡ Some row → is_target_directory id row.target ≡ false
-        of_found row found = let at : Some row.target ≡ Some target = rw found at may.stands in let is : row.target ≡ target = cc in rw is other
+      same = list_any-update_found p (is_live_directory id) (dies w.now) w.names (λ row found. rw (found_target w.now w.names from old target may.stands row found, other) refl)
 
       more : (b : Bool) → (b || list_any (is_live_directory id) w.names) ≡ true → (b || list_any (is_live_directory id) (left ++ named ∷ [])) ≡ true
       more true h = refl
@@ -72,6 +70,11 @@ module _ (w : World) (from : ℕ) (old : List ℕ) (to : ℕ) (new : List ℕ) (
   was_live : (file : ℕ) → is_live_name_of file named ≡ true → is_live w file ≡ true
   was_live file = of_row (λ t. (is_target_file file t && true) ≡ true → is_live w file ≡ true) (λ row found own.
       any-found p (is_live_name_of file) w.names row found (let alive = still_none from old row (found_passes p w.names row found) in rw alive own))
+
+  -- each file that was live is
+  lives_on : (file : ℕ) (b : Bool) → is_target_file file target ≡ b → list_any (is_live_name_of file) w.names ≡ true → list_any (is_live_name_of file) (left ++ named ∷ []) ≡ true
+  lives_on file true own live = any_last (is_live_name_of file) left named (rw own refl)
+  lives_on file false other live = any_more (is_live_name_of file) left named (live_still w.now w.names from old target may.stands file other ∙ live)
 
   pub move_name_keeps : IsWellFormed (after_change w (MoveName from old to new target))
   move_name_keeps = record { holds = by } where
@@ -94,4 +97,5 @@ module _ (w : World) (from : ℕ) (old : List ℕ) (to : ℕ) (new : List ℕ) (
         both true b from h = rw (from refl) refl
         both false true from h = or_last (list_any (is_live_name_of file) w.names) true refl
         both false false from h = absurd (false≢true h)
+    by Ended = all-weaker (IsOfLive w.names) (IsOfLive (left ++ named ∷ [])) w.versions (λ row h none. lives_on row.file (is_target_file row.file target) refl (h none)) (k.holds Ended)
     by part = k.holds part

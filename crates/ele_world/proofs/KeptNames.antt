@@ -12,7 +12,7 @@ use Rattle.ele_world.specs.Change.{governed_by, after_change, Time, Govern, Make
 use Rattle.ele_world.specs.NameRows.{is_name_of_directory}
 use Rattle.ele_world.specs.Walk.{live_target}
 use Rattle.ele_policy.specs.Policy.{IsPolicy}
-use Rattle.ele_world.specs.WellFormed.{has_directory, IsDirectoryThere, IsHoused, IsFile, IsNameRow, AreApart, IsVersion, ArePlaced, IsDraft, is_current, HaveCurrent, Part, Now, Counted, Directories, Files, Names, Homes, Versions, Drafts, Current, Holds, IsWellFormed, Tree}
+use Rattle.ele_world.specs.WellFormed.{has_directory, IsDirectoryThere, IsHoused, IsFile, IsNameRow, AreApart, IsVersion, ArePlaced, IsDraft, is_current, HaveCurrent, Part, Now, Counted, Directories, Files, Names, Homes, Versions, Drafts, Current, Holds, IsWellFormed, Tree, IsOfLive, Ended}
 use Rattle.ele_world.specs.World.{World, root, is_directory, next_of, is_live, is_live_name_of, is_target_file}
 use Rattle.ele_world.specs.declared.rows.DirectoryRow.{DirectoryRow}
 use Rattle.ele_world.specs.declared.rows.DraftRow.{DraftRow}
@@ -23,7 +23,7 @@ use Rattle.ele_world.specs.declared.rows.Target.TheVariants.{File, Directory}
 use Rattle.ele_world.specs.declared.rows.VersionRow.{VersionRow}
 use Rattle.ele_world.proofs.Created.{new_file, new_name, first_version, created, made_is}
 use Rattle.ele_world.proofs.Files.{next_of-push, next_of-push_other, next_of-given, next_of-new, there-push}
-use Rattle.ele_world.proofs.Homes.{homes_more}
+use Rattle.ele_world.proofs.Homes.{homes_more, ended_more, any_last}
 use Rattle.ele_world.proofs.May.{MayMake}
 use Rattle.ele_world.proofs.Writers.{written_more}
 use Rattle.ele_world.proofs.NameParts.{all_apart, names_more, tree_more}
@@ -171,6 +171,8 @@ module _ (w : World) (directory : ℕ) (name : List ℕ) (policy : Policy) where
       placed = (k.holds Drafts).placed;
     }
     by Current = created_current w new named (first_version w id) (new_next ∙ omega arith) (k.holds Files).each (k.holds Current) refl refl refl
+    by Ended = all-push (IsOfLive (w.names ++ named ∷ [])) w.versions (first_version w id) (ended_more w.names named w.versions (k.holds Ended))
+        (λ _. let own : is_live_name_of id named ≡ true = grind (arith, nat_tests) in any_last (is_live_name_of id) w.names named own)
     by part = k.holds part
 
 pub make_keeps : (w : World) (directory : ℕ) (name : List ℕ) (id : ℕ) (policy : Policy) → MayMake w directory name id policy → IsWellFormed w → IsWellFormed (after_change w (MakeFile directory name id policy))

@@ -5,12 +5,12 @@ use Rattle.std.proofs.lemmas.Bool.Decides.{nat_tests}
 use Rattle.ele_lists.proofs.Edits.{all-found, found_passes}
 use Rattle.ele_world.specs.Change.{after_change, Revive, current_cells, with_name}
 use Rattle.ele_world.specs.NameRows.{born_row}
-use Rattle.ele_world.specs.WellFormed.{IsVersion, Part, Counted, Names, Homes, Tree, Versions, Current, IsWellFormed}
+use Rattle.ele_world.specs.WellFormed.{IsVersion, Part, Counted, Names, Homes, Tree, Versions, Current, IsWellFormed, Ended}
 use Rattle.ele_world.specs.World.{World, next_of, is_live_name_of, is_version, current_of}
 use Rattle.ele_world.specs.declared.rows.NameRow.{NameRow}
 use Rattle.ele_world.specs.declared.rows.Target.TheVariants.{File}
 use Rattle.ele_world.specs.declared.rows.VersionRow.{VersionRow}
-use Rattle.ele_world.proofs.Homes.{any_less, homes_more}
+use Rattle.ele_world.proofs.Homes.{any_less, homes_more, ended_more}
 use Rattle.ele_world.proofs.KeptVersions.{HoldsBeside, append_completes}
 use Rattle.ele_world.proofs.May.{MayName, MayRevive, MayAppend}
 use Rattle.ele_world.proofs.Writers.{written_more}
@@ -43,6 +43,7 @@ module _ (w : World) (directory : ℕ) (name : List ℕ) (file : ℕ) where
     by Homes = homes_more w.directories w.names row may.home may.reached tt (k.holds Homes)
     by Tree = tree_more w.now w.names directory name (File file) tt (k.holds Tree)
     by Current = λ other apart live. k.holds Current other (any_less (is_live_name_of other) w.names row (λ own. absurd (apart (grind (arith, nat_tests)))) live)
+    by Ended = ended_more w.names row w.versions (k.holds Ended)
     by part = k.holds part
 
   -- a version like the last one may be made

@@ -8,7 +8,7 @@ use Rattle.ele_content.specs.declared.cell.Cell.{Cell}
 use Rattle.ele_lists.specs.Lists.{update_first}
 use Rattle.ele_lists.proofs.Edits.{all-weaker, all-both, all-update_first, all-remove_first, all-insert_before, later-update_first, later-remove_first, later-insert_before, length-update_first, length-insert_before, length-remove_first-le, list_any-update_first, list_any-insert_before, list_any-remove_first}
 use Rattle.ele_world.specs.Change.{numbered_on, ended_at, next_version, with_end, with_version, after_change, Take}
-use Rattle.ele_world.specs.WellFormed.{IsFile, IsNameRow, IsVersion, ArePlaced, IsDraft, is_current, HaveCurrent, Part, Counted, Files, Names, Versions, Drafts, Current, Holds, IsWellFormed, AreVersions}
+use Rattle.ele_world.specs.WellFormed.{IsFile, IsNameRow, IsVersion, ArePlaced, IsDraft, is_current, HaveCurrent, Part, Counted, Files, Names, Versions, Drafts, Current, Holds, IsWellFormed, AreVersions, IsOfLive, Ended}
 use Rattle.ele_world.specs.World.{World, next_of, is_file, is_live, is_version, is_version_after}
 use Rattle.ele_world.specs.declared.rows.FileRow.{FileRow}
 use Rattle.ele_world.specs.declared.rows.VersionRow.{VersionRow}
@@ -185,6 +185,11 @@ module _ (w : World) (file opened : ℕ) (cells : List Cell) (may : MayAppend w 
       placed = (holds Drafts).placed;
     }
     by Current = current_after (holds Current)
+    by Ended = all-insert_before (is_version_after file next) (IsOfLive w.names) new (with_end w file) (new_live (is_live w file) refl)
+        (all-update_first p (IsOfLive w.names) (IsOfLive w.names) (ended_at w.now) w.versions (λ row h none. absurd cc) (λ row h. h) (holds Ended)) where
+          new_live : (b : Bool) → is_live w file ≡ b → cond b None (Some w.now) ≡ None → b ≡ true
+          new_live true e none = refl
+          new_live false e none = absurd cc
     by part = holds part
 
   pub append_keeps : IsWellFormed w → IsWellFormed (with_version w file opened cells)
@@ -213,4 +218,5 @@ take_keeps w file number ended k = record { holds = by } where
   }
   by Current = λ other live. list_any-remove_first (is_version file number) (is_current other (next_of w.files other)) w.versions
       (λ row found. not_current other row (ended row found)) ∙ k.holds Current other live
+  by Ended = all-remove_first (is_version file number) (IsOfLive w.names) w.versions (k.holds Ended)
   by part = k.holds part

@@ -36,9 +36,11 @@ pub record MayMakeDirectory (w : World) (directory : ℕ) (name : List ℕ) (id 
   pub named : MayName w directory name
   pub valid : IsPolicy policy
 
--- a directory whose name dies has no live name in it
-abbrev pub MayEnd : World → ℕ → List ℕ → Type 0
-MayEnd w directory name = (id : ℕ) → live_target w.names directory name ≡ Some (Directory id) → list_any (is_live_in id) w.names ≡ false
+-- the name is of a directory that has no live name in it
+pub record MayEnd (w : World) (directory : ℕ) (name : List ℕ) : Type 0 where
+  pub id : ℕ
+  pub stands : live_target w.names directory name ≡ Some (Directory id)
+  pub empty : list_any (is_live_in id) w.names ≡ false
 
 -- a file that has a live name, or a directory that has none
 abbrev pub MayHaveMore : World → Target → Type 0

@@ -1,7 +1,7 @@
 -- A name more, and the end of one, in the parts of a well-formed world that speak of names.
 use Rattle.std.proofs.Common.{◌≡◌, ℕ, ◌≤◌, Bool, true, false, ◌==◌, ◌&&◌, List, [], ◌∷◌, ◌++◌, Option, Some, None, refl, sym, subst, ◌∙◌, arith, eqb, ◌+◌, ◌<◌, length}
 use Rattle.std.specs.Prelude.{find, is_some, is_none}
-use Rattle.std.specs.List.{AllByRecursion}
+use Rattle.std.specs.List.{AllByRecursion, list_any}
 use Rattle.std.specs.Option.{option_map}
 use Rattle.std.specs.Str.{bytes_eq}
 use Rattle.std.proofs.lemmas.Bool.{false≢true}
@@ -9,7 +9,7 @@ use Rattle.std.proofs.lemmas.Bool.Decides.{nat_tests}
 use Rattle.std.proofs.lemmas.Slice.Eq.{bytes_eq-Decides}
 use Rattle.ele_lists.specs.Lists.{update_first}
 use Rattle.ele_lists.proofs.Edits.{all-any, all-push, all-weaker, all-both, all-update_first, all-not_found, later-push, later-update_first, not_found}
-use Rattle.ele_lists.proofs.Found.{later-update_found}
+use Rattle.ele_lists.proofs.Found.{later-update_found, list_any-update_found}
 use Rattle.ele_world.specs.NameRows.{born_row, dies, is_live_directory}
 use Rattle.ele_world.specs.Walk.{live_target, is_live_name}
 use Rattle.ele_world.specs.WellFormed.{AllLater, IsThere, IsNameRow, AreApart, AreNames, AreOthers, AreCounted, Counted, IsWellFormed}
@@ -17,7 +17,7 @@ use Rattle.ele_world.specs.declared.rows.FileRow.{FileRow}
 use Rattle.ele_world.specs.declared.rows.NameRow.{NameRow}
 use Rattle.ele_world.specs.declared.rows.Target.{Target}
 use Rattle.ele_world.specs.declared.rows.Target.TheVariants.{File, Directory}
-use Rattle.ele_world.specs.World.{World}
+use Rattle.ele_world.specs.World.{World, is_target_file, is_live_name_of}
 
 -- ---- a name more
 
@@ -116,3 +116,11 @@ module _ (now : ℕ) (names : List NameRow) (directory : ℕ) (name : List ℕ) 
   free_still other new free =
       let none = all-update_first p (λ row. is_live_name other new row ≡ false) (λ row. is_live_name other new row ≡ false) (dies now) names (λ row h. dies_so now other new row) (λ row h. h) (no_live names other new free) in
       rw (not_found (is_live_name other new) after none) refl
+
+  -- the row that dies stands for the name's target
+  pub found_target : (target : Target) → live_target names directory name ≡ Some target → (row : NameRow) → find p names ≡ Some row → row.target ≡ target
+  found_target target stands row found = let at : Some row.target ≡ Some target = rw found at stands in cc
+
+  -- a file that the name isn't of is live as before
+  pub live_still : (target : Target) → live_target names directory name ≡ Some target → (file : ℕ) → is_target_file file target ≡ false → list_any (is_live_name_of file) after ≡ list_any (is_live_name_of file) names
+  live_still target stands file other = list_any-update_found p (is_live_name_of file) (dies now) names (λ row found. rw (found_target target stands row found, other) refl)

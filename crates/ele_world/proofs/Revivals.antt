@@ -1,18 +1,17 @@
--- What changes for usage, and which ripe moments do, where a file has a name again with a version like its last one.
-use Rattle.std.proofs.Common.{◌≡◌, ℕ, ◌-◌, ◌==◌, Bool, true, false, ◌&&◌, List, Option, Some, None, refl, ap, sym, ◌∙◌, arith}
-use Rattle.std.specs.Prelude.{find, is_none, unwrap_or, option_and_then}
-use Rattle.std.specs.List.{AllByRecursion}
+-- Where a file has a name again, with a version like its last one, no ripe moment changes; and what changes for usage.
+use Rattle.std.proofs.Common.{◌≡◌, ℕ, ◌-◌, Bool, true, false, List, Option, Some, None, refl, ap, sym, subst, ◌∙◌, arith}
+use Rattle.std.specs.Prelude.{find, option_and_then}
+use Rattle.std.specs.List.{AllByRecursion, list_any}
+use Rattle.std.proofs.lemmas.Bool.{false≢true}
 use Rattle.std.proofs.lemmas.Bool.Decides.{nat_tests}
 use Rattle.ele_lists.proofs.Cuts.{update_first-same}
-use Rattle.ele_lists.proofs.Edits.{all-weaker, find-insert_before, not_found}
-use Rattle.ele_lists.proofs.Found.{find-update_other}
-use Rattle.ele_policy.specs.Ripe.{Beside}
+use Rattle.ele_lists.proofs.Edits.{all-found, all-weaker, find-insert_before, not_found}
 use Rattle.ele_world.specs.Change.{after_change, Revive, current_cells, ended_at, next_version, with_end, with_name}
 use Rattle.ele_world.specs.Due.{ripe_of, ripe_at}
 use Rattle.ele_world.specs.FileView.{view_of}
-use Rattle.ele_world.specs.WellFormed.{IsVersion}
+use Rattle.ele_world.specs.WellFormed.{Ended, IsOfLive, IsVersion, Versions, IsWellFormed}
 use Rattle.ele_world.specs.Whole.{ChangesOnly}
-use Rattle.ele_world.specs.World.{World, policy_of, next_of, is_version, is_version_after}
+use Rattle.ele_world.specs.World.{World, next_of, is_live_name_of, is_version, is_version_after}
 use Rattle.ele_world.specs.declared.rows.Target.TheVariants.{File}
 use Rattle.ele_world.specs.declared.rows.VersionRow.{VersionRow}
 use Rattle.ele_world.proofs.Closes.{none_next, new_found}
@@ -21,92 +20,62 @@ use Rattle.ele_world.proofs.Files.{policies-numbered}
 use Rattle.ele_world.proofs.KeptRevived.{last_is}
 use Rattle.ele_world.proofs.May.{MayRevive}
 use Rattle.ele_world.proofs.Others.{kinds-numbered, files-numbered, versions-finished}
-use Rattle.ele_world.proofs.Plain.{plain_ripe, ripe_is_plain}
 use Rattle.ele_world.proofs.RipeAt.{ripe_at_is, unended}
 use Rattle.ele_world.proofs.NameMoments.{found_moment}
-use Rattle.ele_world.proofs.Elements.{find-updated}
-use Rattle.std.specs.Option.{option_map}
 
--- what has ended keeps its end
-ended_stays : (now : ℕ) (row : VersionRow) (o : Option ℕ) → row.ended ≡ o → is_none o ≡ false → ended_at now row ≡ row
-ended_stays now row None is h = absurd cc
-ended_stays now row (Some at) is h = ap (λ (o : Option ℕ). record row { ended = o }) (rw is refl)
-
-module _ (w : World) (directory : ℕ) (name : List ℕ) (file : ℕ) (may : MayRevive w directory name file) (each : AllByRecursion (IsVersion w.files w.now) w.versions) where
+module _ (w : World) (directory : ℕ) (name : List ℕ) (file : ℕ) (may : MayRevive w directory name file) (k : IsWellFormed w) where
   abbrev next : ℕ
   next = next_of w.files file
 
   abbrev named : World
   named = with_name w directory name (File file)
 
-  abbrev pub revived : World
+  abbrev revived : World
   revived = after_change w (Revive directory name file)
 
-  abbrev pub new : VersionRow
+  abbrev new : VersionRow
   new = next_version named file w.now (current_cells w file)
 
-  abbrev last : VersionRow → Bool
-  last = is_version file (next - 1)
+  each : AllByRecursion (IsVersion w.files w.now) w.versions
+  each = (k.holds Versions).each
+
+  -- the last version had ended, as the file had no live name
+  last_ended : ended_at w.now may.last ≡ may.last
+  last_ended = by may.last.ended refl where
+    by : (o : Option ℕ) → may.last.ended ≡ o → ended_at w.now may.last ≡ may.last
+    by None none =
+        let its = last_is w file may.last each may.held in
+        let live : IsOfLive w.names may.last = all-found (is_version file (next - 1)) (IsOfLive w.names) w.versions may.last may.held (k.holds Ended) in
+        absurd (false≢true (sym may.nameless ∙ subst (λ f. list_any (is_live_name_of f) w.names ≡ true) its.own (live none)))
+    by (Some at) is = ap (λ (o : Option ℕ). record may.last { ended = o }) (rw is refl)
+
+  -- so no version ends
+  pub none_ends : with_end named file ≡ w.versions
+  none_ends = update_first-same (is_version file (next - 1)) (ended_at w.now) w.versions may.last may.held last_ended
 
   -- the new version has no end, and so no moment, as before it was there
-  pub revived_new : ripe_at revived file next ≡ None
+  new_moment : ripe_at revived file next ≡ None
   unfolding ripe_of
-  revived_new =
+  new_moment =
       ripe_at_is revived file next
       ∙ ap (option_and_then (ripe_of revived)) (new_found named file each w.now (current_cells w file))
       ∙ unended (view_of revived file) new (rw (named_live w directory name file) refl)
 
-  pub revived_before : ripe_at w file next ≡ None
-  revived_before =
+  moment_before : ripe_at w file next ≡ None
+  moment_before =
       ripe_at_is w file next
       ∙ ap (option_and_then (ripe_of w)) (not_found (is_version file next) w.versions (all-weaker (IsVersion w.files w.now) (λ row. is_version file next row ≡ false) w.versions (λ row is. none_next w.files w.now file row is) each))
 
-  -- a version that the end of the last one leaves keeps its moment
-  kept : (f n : ℕ) → is_version f n new ≡ false → find (is_version f n) (with_end named file) ≡ find (is_version f n) w.versions → ripe_at revived f n ≡ ripe_at w f n
-  kept f n not_new same = found_moment w revived (policies-numbered w.files file) f n (find-insert_before (is_version_after file next) (is_version f n) new (with_end named file) not_new ∙ same)
-
-  -- so does each that isn't the last
-  pub revived_others : (f n : ℕ) → ((f == file) && (n == next - 1)) ≡ false → ripe_at revived f n ≡ ripe_at w f n
-  revived_others f n apart = by (is_version f n new) refl where
+  pub revived_moments : (f n : ℕ) → ripe_at revived f n ≡ ripe_at w f n
+  revived_moments f n = by (is_version f n new) refl where
     by : (b : Bool) → is_version f n new ≡ b → ripe_at revived f n ≡ ripe_at w f n
     by true e =
         let file_is : f ≡ file = grind (arith, nat_tests) in
         let number_is : n ≡ next = grind (arith, nat_tests) in
-        rw (file_is, number_is) (revived_new ∙ sym revived_before)
-    by false e = kept f n e (find-update_other last (is_version f n) (ended_at w.now) w.versions (λ row h. (grind (arith, nat_tests), grind (arith, nat_tests))))
-
-  -- the last one has the moment of its end, if it had one
-  pub revived_was : (stands : Beside) → ripe_at w file (next - 1) ≡ plain_ripe (policy_of w.files file) may.last.closed stands may.last.ended
-  unfolding ripe_of
-  revived_was stands =
-      let its = last_is w file may.last each may.held in
-      ripe_at_is w file (next - 1)
-      ∙ ap (option_and_then (ripe_of w)) may.held
-      ∙ ripe_is_plain (view_of w may.last.file) may.last stands
-      ∙ ap (λ id. plain_ripe (policy_of w.files id) may.last.closed stands may.last.ended) its.own
-
-  -- afterwards its end is now, if it had none
-  pub revived_last : (stands : Beside) → ripe_at revived file (next - 1) ≡ plain_ripe (policy_of w.files file) may.last.closed stands (Some (unwrap_or may.last.ended w.now))
-  unfolding ripe_of
-  revived_last stands =
-      let its = last_is w file may.last each may.held in
-      let other : last new ≡ false = grind (arith, nat_tests) in
-      ripe_at_is revived file (next - 1)
-      ∙ ap (option_and_then (ripe_of revived)) (
-      find-insert_before (is_version_after file next) last new (with_end named file) other
-      ∙ find-updated last (ended_at w.now) w.versions (λ row. refl) ∙ ap (option_map (ended_at w.now)) may.held)
-      ∙ ripe_is_plain (view_of revived may.last.file) (ended_at w.now may.last) stands
-      ∙ ap (λ p. plain_ripe p may.last.closed stands (Some (unwrap_or may.last.ended w.now))) (policies-numbered w.files file may.last.file ∙ ap (policy_of w.files) its.own)
-
-  -- where it had ended, no moment changes
-  pub revived_same : is_none may.last.ended ≡ false → (f n : ℕ) → ripe_at revived f n ≡ ripe_at w f n
-  revived_same ended f n = by (is_version f n new) refl where
-    by : (b : Bool) → is_version f n new ≡ b → ripe_at revived f n ≡ ripe_at w f n
-    by true e =
-        let file_is : f ≡ file = grind (arith, nat_tests) in
-        let number_is : n ≡ next = grind (arith, nat_tests) in
-        rw (file_is, number_is) (revived_new ∙ sym revived_before)
-    by false e = kept f n e (ap (find (is_version f n)) (update_first-same last (ended_at w.now) w.versions may.last may.held (ended_stays w.now may.last may.last.ended refl ended)))
+        rw (file_is, number_is) (new_moment ∙ sym moment_before)
+    by false e =
+        found_moment w revived (policies-numbered w.files file) f n
+        (find-insert_before (is_version_after file next) (is_version f n) new (with_end named file) e ∙ ap (find (is_version f n)) none_ends)
 
 -- ---- usage
 

@@ -19,7 +19,7 @@ use Rattle.ele_world.specs.declared.rows.Target.{Target}
 use Rattle.ele_world.specs.declared.rows.Target.TheVariants.{File, Directory}
 use Rattle.ele_world.specs.declared.rows.VersionRow.{VersionRow}
 use Rattle.ele_world.specs.NameRows.{is_name_of_directory, is_live_directory}
-use Rattle.ele_world.specs.World.{World, root, is_directory, next_of, is_live, is_draft, is_version_after}
+use Rattle.ele_world.specs.World.{World, root, is_directory, next_of, is_live_name_of, is_live, is_draft, is_version_after}
 
 -- no count is above its limit, and each of so many rows and drafts was counted
 pub record AreCounted (made : Counts) (limits : Bounds) (files names versions drafts : ℕ) : Type 0 where
@@ -164,6 +164,14 @@ is_current file next row = (row.file == file) && ((row.number + 1 == next) && is
 abbrev pub HaveCurrent : World → Type 0
 HaveCurrent w = (file : ℕ) → is_live w file ≡ true → list_any (is_current file (next_of w.files file)) w.versions ≡ true
 
+-- a version without an end is of a live file
+abbrev pub IsOfLive : List NameRow → VersionRow → Type 0
+IsOfLive names row = row.ended ≡ None → list_any (is_live_name_of row.file) names ≡ true
+
+-- so without a live name all versions of a file have ended
+abbrev pub HaveEnded : World → Type 0
+HaveEnded w = AllByRecursion (IsOfLive w.names) w.versions
+
 pub data Part : Type 0 where
   Now : Part
   Bounded : Part
@@ -177,6 +185,7 @@ pub data Part : Type 0 where
   Drafts : Part
   Handles : Part
   Current : Part
+  Ended : Part
 
 abbrev pub Holds : World → Part → Type 0
 Holds w Now = w.now ≤ last_moment
@@ -191,6 +200,7 @@ Holds w Versions = AreVersions w.files w.now w.versions
 Holds w Drafts = AreDrafts w.files w.now w.drafts
 Holds w Handles = AreHandles w.made.handles w.drafts w.handles
 Holds w Current = HaveCurrent w
+Holds w Ended = HaveEnded w
 
 -- each part holds
 pub record IsWellFormed (w : World) : Type 0 where
