@@ -26,7 +26,7 @@ const SLOT: usize = 512;
 #[derive(Debug, Drop)]
 pub struct BlockMap {
     length: u64,
-    leaves: Vec<usize>,
+    leaves: Vec<u32>,
     alloc: Global,
 }
 
@@ -103,7 +103,7 @@ impl BlockMap {
         ensures is { leaf_at store.now result
             ≡ take 16 (drop (16 * (slot / 16)) (slots_of store.now self.now)) }
     {
-        self.leaves[slot / LEAF]
+        self.leaves[slot / LEAF] as usize
     }
 
     /// A second map of the same content, which shares every leaf with this one.
@@ -131,7 +131,7 @@ impl BlockMap {
         ensures length { IfOk result (λ bytes. vec_len bytes ≡ self.now.size) }
     {
         let slots = self.slots();
-        let bytes = self.joined(store, 0, slots)?;
+        let bytes = self.joined(store, 0, slots, 0)?;
         Ok(bytes)
     }
 
@@ -144,15 +144,22 @@ impl BlockMap {
         store.release_leaves(&self.leaves);
     }
 
-    /// The bytes of the slots from the first up to before the last.
-    fn joined(&self, store: &BlockStore, first: usize, past: usize) -> Result<Vec<u8>, NoMemory>
+    /// The bytes of the slots from the first up to before the last, with room for so many at least.
+    fn joined(
+        &self,
+        store: &BlockStore,
+        first: usize,
+        past: usize,
+        room: usize,
+    ) -> Result<Vec<u8>, NoMemory>
         requires lives { LivesIn store.now self.now }
         requires order { first ≤ past }
         requires within { past ≤ slot_count self.now.size }
         ensures { IfOk result (λ all. all.items ≡ take (512 * (past - first))
             (drop (512 * first) (content_of (shown store.now self.now)))) }
     {
-        let mut all = Vec::with_capacity(self.alloc, (past - first).saturating_mul(SLOT))?;
+        let room = room.max((past - first).saturating_mul(SLOT));
+        let mut all = Vec::with_capacity(self.alloc, room)?;
         for slot in first..past {
             all.extend_from_slice(store.get(self.slot_at(store, slot).block))?;
         }

@@ -8,19 +8,20 @@ use ele_lists::ByteList;
 use ele_moment::NoMemory;
 use std::alloc::Global;
 
-/// The bytes over older ones from the offset on, with zeros before them where the older ones end.
-pub fn spliced(alloc: Global, old: &[u8], offset: usize, bytes: &[u8]) -> Result<Vec<u8>, NoMemory>
+/// The bytes over those of the window from the offset on, with zeros before them where it ends.
+pub fn spliced(mut window: Vec<u8>, offset: usize, bytes: &[u8]) -> Result<Vec<u8>, NoMemory>
     requires { offset + length bytes.now < 2 ^ 64 }
-    ensures { IfOk result (λ new. new.items ≡ content_after_write old.now offset bytes.now) }
+    ensures { IfOk result (λ new.
+        new.items ≡ content_after_write window.items offset bytes.now) }
 {
-    let mut new = Vec::with_capacity(alloc, old.len().max(offset + bytes.len()))?;
-    new.extend_from_slice(&old[..offset.min(old.len())])?;
-    new.resize(offset, 0)?;
-    new.extend_from_slice(bytes)?;
-    if offset + bytes.len() < old.len() {
-        new.extend_from_slice(&old[offset + bytes.len()..])?;
+    let end = offset + bytes.len();
+    if end < window.len() {
+        window[offset..end].copy_from_slice(bytes);
+    } else {
+        window.resize(offset, 0)?;
+        window.extend_from_slice(bytes)?;
     }
-    Ok(new)
+    Ok(window)
 }
 
 /// The bytes cut into pieces of 512, of which the last may be shorter.

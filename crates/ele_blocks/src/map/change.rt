@@ -79,7 +79,7 @@ impl BlockMap {
     /// Each slot that meets what is filled or written gets a new block and the writer; every other
     /// slot stays, and so does every other map, also one that shared the blocks which are replaced.
     /// No bytes within the content change nothing. Where memory is refused, map and store are as
-    /// they were.
+    /// they were; the store refuses room for more than 2^32 leaves.
     pub fn write(
         &mut self,
         store: &mut BlockStore,
@@ -102,8 +102,9 @@ impl BlockMap {
         }
         let kept = self.slots();
         let (first, past) = met(length, kept, offset, bytes.len());
-        let window = self.joined(store, first, past)?;
-        let patch = splice(self.alloc, &window, offset as usize - SLOT * first, bytes)?;
+        let start = offset as usize - SLOT * first;
+        let window = self.joined(store, first, past, start + bytes.len())?;
+        let patch = splice(window, start, bytes)?;
         let staged = pieces(self.alloc, &patch)?;
         let change = Change {
             writer,
@@ -158,7 +159,7 @@ impl BlockMap {
     {
         let first = size / SLOT;
         let kept = size.div_ceil(SLOT);
-        let window = self.joined(store, first, kept)?;
+        let window = self.joined(store, first, kept, 0)?;
         let staged = pieces(self.alloc, &window[..size - SLOT * first])?;
         let change = Change {
             writer,

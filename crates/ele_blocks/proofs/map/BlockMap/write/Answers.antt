@@ -4,7 +4,7 @@ use Rattle.ele_blocks.proofs.map.BlockMap.write.Goals as goal
 use Rattle.ele_blocks.proofs.map.BlockMap.write.Goals.{After-max-size}
 
 its_pieces : (c : After-max-size) → c.in_ok-staged.staged.items ≡ pieces (content_after_write (take (512 * (c.met-first.result.1 - c.met-first.result.0)) (drop (512 * c.met-first.result.0) (content_of (shown c.args.store.now c.args.self.now)))) (c.args.offset - 512 * c.met-first.result.0) c.args.bytes.now)
-its_pieces c = cc (c.in_ok-staged.ensures, c.in_ok-patch.ensures, c.deref.ensures.value, c.deref-2.ensures.value, c.in_ok-window.ensures)
+its_pieces c = cc (c.in_ok-staged.ensures, c.in_ok-patch.ensures, c.deref.ensures.value, c.in_ok-window.ensures)
 
 pub replace-requires-clause-count : goal.replace-requires-clause-count
 replace-requires-clause-count c =
