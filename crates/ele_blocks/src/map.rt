@@ -131,7 +131,7 @@ impl BlockMap {
         ensures length { IfOk result (λ bytes. vec_len bytes ≡ self.now.size) }
     {
         let slots = self.slots();
-        let bytes = self.joined(store, 0, slots, 0)?;
+        let bytes = self.joined(store, 0, slots)?;
         Ok(bytes)
     }
 
@@ -144,22 +144,15 @@ impl BlockMap {
         store.release_leaves(&self.leaves);
     }
 
-    /// The bytes of the slots from the first up to before the last, with room for so many at least.
-    fn joined(
-        &self,
-        store: &BlockStore,
-        first: usize,
-        past: usize,
-        room: usize,
-    ) -> Result<Vec<u8>, NoMemory>
+    /// The bytes of the slots from the first up to before the last.
+    fn joined(&self, store: &BlockStore, first: usize, past: usize) -> Result<Vec<u8>, NoMemory>
         requires lives { LivesIn store.now self.now }
         requires order { first ≤ past }
         requires within { past ≤ slot_count self.now.size }
         ensures { IfOk result (λ all. all.items ≡ take (512 * (past - first))
             (drop (512 * first) (content_of (shown store.now self.now)))) }
     {
-        let room = room.max((past - first).saturating_mul(SLOT));
-        let mut all = Vec::with_capacity(self.alloc, room)?;
+        let mut all = Vec::with_capacity(self.alloc, (past - first).saturating_mul(SLOT))?;
         for slot in first..past {
             all.extend_from_slice(store.get(self.slot_at(store, slot).block))?;
         }

@@ -1,6 +1,6 @@
 //! The bytes that a change of a content puts into its slots.
 //! A contract sees lists of bytes.
-ghost use Rattle.std.specs.Prelude.{◌≡◌, ◌<◌, ◌+◌, ◌^◌, IfOk, length};
+ghost use Rattle.std.specs.Prelude.{◌≡◌, ℕ, ◌<◌, ◌+◌, ◌^◌, IfOk, List, drop, length, take};
 ghost use Rattle.ele_content.specs.Content.{content_after_write};
 ghost use Rattle.ele_blocks.specs.Pieces.{pieces};
 
@@ -8,20 +8,40 @@ use ele_lists::ByteList;
 use ele_moment::NoMemory;
 use std::alloc::Global;
 
-/// The bytes over those of the window from the offset on, with zeros before them where it ends.
-pub fn spliced(mut window: Vec<u8>, offset: usize, bytes: &[u8]) -> Result<Vec<u8>, NoMemory>
+/// The bytes over older ones from the offset on, with zeros before them where the older ones end.
+fn spliced(alloc: Global, old: &[u8], offset: usize, bytes: &[u8]) -> Result<Vec<u8>, NoMemory>
     requires { offset + length bytes.now < 2 ^ 64 }
-    ensures { IfOk result (λ new.
-        new.items ≡ content_after_write window.items offset bytes.now) }
+    ensures { IfOk result (λ new. new.items ≡ content_after_write old.now offset bytes.now) }
 {
-    let end = offset + bytes.len();
-    if end < window.len() {
-        window[offset..end].copy_from_slice(bytes);
-    } else {
-        window.resize(offset, 0)?;
-        window.extend_from_slice(bytes)?;
+    let mut new = Vec::with_capacity(alloc, old.len().max(offset + bytes.len()))?;
+    new.extend_from_slice(&old[..offset.min(old.len())])?;
+    new.resize(offset, 0)?;
+    new.extend_from_slice(bytes)?;
+    if offset + bytes.len() < old.len() {
+        new.extend_from_slice(&old[offset + bytes.len()..])?;
     }
-    Ok(window)
+    Ok(new)
+}
+
+/// The piece of 512 bytes from a place on, once the bytes lie over the content from the offset on:
+/// what of them falls into the piece lies over the older piece.
+pub fn patched(
+    alloc: Global,
+    old: &[u8],
+    at: usize,
+    offset: usize,
+    bytes: &[u8],
+) -> Result<ByteList, NoMemory>
+    requires small { at < 2 ^ 32 }
+    requires fits { offset + length bytes.now < 2 ^ 32 }
+    ensures { (content : List ℕ) → old.now ≡ take 512 (drop at content) → IfOk result (λ new.
+        new ≡ take 512 (drop at (content_after_write content offset bytes.now))) }
+{
+    let start = offset.saturating_sub(at).min(512);
+    let from = at.saturating_sub(offset).min(bytes.len());
+    let past = (at + 512).saturating_sub(offset).min(bytes.len());
+    let new = spliced(alloc, old, start, &bytes[from..past])?;
+    Ok(ByteList::from_vec(new))
 }
 
 /// The bytes cut into pieces of 512, of which the last may be shorter.
