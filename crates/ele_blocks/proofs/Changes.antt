@@ -174,30 +174,24 @@ module _ (s : Store) (m : Layout) (w o f : ℕ) (x : List ℕ) (staged : List (L
 
 -- ---- a truncate to fewer bytes: f slots stay whole, and kept slots stay
 
-module _ (s : Store) (m : Layout) (w size f kept : ℕ) (staged : List (List ℕ)) (lives : LivesIn s m) (less : size < m.size) (is_f : f ≡ size / 512) (is_kept : kept ≡ (size + 511) / 512) (is_staged : staged ≡ pieces (take (size - 512 * f) (take (512 * (kept - f)) (drop (512 * f) (content_of (shown s m)))))) where
-  part_long : length (take (512 * (kept - f)) (drop (512 * f) (content_of (shown s m)))) ≡ min (512 * (kept - f)) (m.size - 512 * f)
-  part_long = omega (arith, length-take (512 * (kept - f)) (drop (512 * f) (content_of (shown s m))), length-drop (512 * f) (content_of (shown s m)), length-content s m lives.whole)
-
-  pub cut_window : size - 512 * f ≤ length (take (512 * (kept - f)) (drop (512 * f) (content_of (shown s m))))
-  cut_window = omega (arith, part_long, is_f, is_kept, less)
-
-  cut_long : length (take (size - 512 * f) (take (512 * (kept - f)) (drop (512 * f) (content_of (shown s m))))) ≡ size - 512 * f
-  cut_long = omega (arith, length-take (size - 512 * f) (take (512 * (kept - f)) (drop (512 * f) (content_of (shown s m)))), cut_window)
+module _ (s : Store) (m : Layout) (w size f kept : ℕ) (staged : List (List ℕ)) (lives : LivesIn s m) (less : size < m.size) (is_f : f ≡ size / 512) (is_kept : kept ≡ (size + 511) / 512) (is_staged : staged ≡ pieces (take (size - 512 * f) (slot_bytes (content_of (shown s m)) f))) where
+  pub cut_long : length (take (size - 512 * f) (slot_bytes (content_of (shown s m)) f)) ≡ size - 512 * f
+  cut_long = omega (arith, length-take (size - 512 * f) (slot_bytes (content_of (shown s m)) f), length-take 512 (drop (512 * f) (content_of (shown s m))), length-drop (512 * f) (content_of (shown s m)), length-content s m lives.whole, is_f, less)
 
   pub cut_reach : f + length staged ≡ kept
-  cut_reach = omega (arith, ap length is_staged, length-pieces (take (size - 512 * f) (take (512 * (kept - f)) (drop (512 * f) (content_of (shown s m))))), cut_long, is_f, is_kept)
+  cut_reach = omega (arith, ap length is_staged, length-pieces (take (size - 512 * f) (slot_bytes (content_of (shown s m)) f)), cut_long, is_f, is_kept)
 
   pub cut_change : (t : Store) (new : Layout) → new.size ≡ size → IsReplaced s t w f kept staged m new → IsResized s t w size m new
   cut_change t new is h =
       let content = content_of (shown s m) in
-      let patch = take (size - 512 * f) (take (512 * (kept - f)) (drop (512 * f) content)) in
+      let patch = take (size - 512 * f) (slot_bytes content f) in
       let whole_long = length-content s m lives.whole in
       let kept_le : kept ≤ slot_count m.size = omega (arith, is_kept, less) in
       let le : f ≤ kept = omega (arith, is_f, is_kept) in
       let start : 512 * f ≤ m.size = omega (arith, is_f, less) in
       let fit : 512 * (f + length staged) < min m.size (512 * kept) → length patch ≡ 512 * length staged = λ lt. absurd (omega (arith, lt, cut_reach)) in
       let head : take (512 * f) (take (512 * kept) content) ≡ take (512 * f) content = take-take (512 * f) (512 * kept) content (omega (arith, le)) in
-      let mid : patch ≡ take (size - 512 * f) (drop (512 * f) content) = take-take (size - 512 * f) (512 * (kept - f)) (drop (512 * f) content) (omega (arith, is_f, is_kept)) in
+      let mid : patch ≡ take (size - 512 * f) (drop (512 * f) content) = take-take (size - 512 * f) 512 (drop (512 * f) content) (omega (arith, is_f)) in
       let tail : drop (512 * (f + length staged)) (take (512 * kept) content) ≡ [] = drop_all (512 * (f + length staged)) (take (512 * kept) content) (omega (arith, length-take (512 * kept) content, cut_reach)) in
       let none : size - length content ≡ 0 = omega (arith, whole_long, less) in
       let size_is : 512 * f + (size - 512 * f) ≡ size = omega (arith, is_f) in

@@ -125,18 +125,6 @@ impl BlockMap {
         Ok(staged)
     }
 
-    /// The bytes of a slot; none past the last.
-    fn bytes_at<'a>(&self, store: &'a BlockStore, slot: usize) -> &'a [u8]
-        requires { LivesIn store.now self.now }
-        ensures { result.now ≡ slot_bytes (content_of (shown store.now self.now)) slot }
-    {
-        if slot < self.slots() {
-            store.get(self.slot_at(store, slot).block)
-        } else {
-            &[]
-        }
-    }
-
     /// Makes the content so many bytes long. A longer one is filled with zeros, and each slot that
     /// they meet gets a new block and the writer; a shorter one loses its last slots, and a slot that
     /// is cut gets a new block and the writer. Every other slot stays, and so does every other map.
@@ -179,8 +167,8 @@ impl BlockMap {
     {
         let first = size / SLOT;
         let kept = size.div_ceil(SLOT);
-        let window = self.joined(store, first, kept)?;
-        let staged = pieces(self.alloc, &window[..size - SLOT * first])?;
+        let last = self.bytes_at(store, first);
+        let staged = pieces(self.alloc, &last[..size - SLOT * first])?;
         let change = Change {
             writer,
             kept,
