@@ -1,5 +1,5 @@
 -- What a write and a truncate make of a map and its store.
-use Rattle.ele_blocks.proofs.Words.{◌≡◌, ◌⊎◌, ℕ, ◌+◌, ◌-◌, ◌*◌, ◌/◌, ◌<◌, ◌≤◌, Bool, true, false, cond, ◌&&◌, List, [], ◌∷◌, ◌++◌, length, map, take, drop, get_or, min, max, replicate, refl, ap, sym, ◌∙◌, arith, zero, suc, ltb, inl, inr, ⊎_elim, slice_get, flat_map, range_with_len, option_map_or, order, take-add, false≢true, nat_tests, append-nil, length-append, length-map, length-take, length-drop, length-replicate, nil_from_length, take_all, take-take, take-append-drop, drop_all, flat_map-map, fill_by_all, slice_get-get_or, Cell, content_of, content_after_write, content_after_truncate, longest_content, slot_bytes, slot_count, first_chunks, writer_at, meets, refits, Slot, IsRewritten, IsWritten, IsResized, Hands, Layout, shown, slots_of, ids_of, cell_of, cell_by, is_between, LivesIn, AreSized, pieces, IsReplaced, Renews, times, Store, leaf_at}
+use Rattle.ele_blocks.proofs.Words.{◌≡◌, ◌⊎◌, ℕ, ◌+◌, ◌-◌, ◌*◌, ◌/◌, ◌<◌, ◌≤◌, Bool, true, false, cond, ◌&&◌, List, [], ◌∷◌, ◌++◌, length, map, take, drop, get_or, min, max, replicate, refl, ap, sym, ◌∙◌, arith, zero, suc, ltb, inl, inr, ⊎_elim, slice_get, flat_map, range_with_len, option_map_or, order, take-add, false≢true, nat_tests, append-nil, length-append, length-map, length-take, length-drop, length-replicate, nil_from_length, take_all, take-take, take-append-drop, drop_all, flat_map-map, fill_by_all, slice_get-get_or, Cell, content_of, content_after_write, content_after_truncate, longest_content, slot_bytes, slot_count, writer_at, meets, refits, Slot, IsRewritten, IsWritten, IsResized, Hands, Layout, shown, slots_of, ids_of, cell_of, cell_by, is_between, LivesIn, AreSized, pieces, pieces_between, IsReplaced, Renews, times, Store, leaf_at}
 use Rattle.ele_content.specs.Content.{cells_after_write, cells_after_truncate}
 use Rattle.ele_blocks.proofs.Hands.{hands_none, hands_with, backed_there}
 use Rattle.ele_blocks.proofs.Hands.{moved_one}
@@ -132,9 +132,9 @@ resized_cells s m w size lives = rw (length-content s m lives.whole) refl
 
 -- ---- a write of some bytes, or past the end: f is the first slot that it meets
 
-module _ (s : Store) (m : Layout) (w o f : ℕ) (x : List ℕ) (staged : List (List ℕ)) (lives : LivesIn s m) (is_f : f ≡ min o m.size / 512) (is_staged : staged ≡ first_chunks 512 ((o + length x + 511) / 512 - f) (drop (512 * f) (content_after_write (content_of (shown s m)) o x))) where
+module _ (s : Store) (m : Layout) (w o f : ℕ) (x : List ℕ) (staged : List (List ℕ)) (lives : LivesIn s m) (is_f : f ≡ min o m.size / 512) (is_staged : staged ≡ pieces_between f (slot_count (o + length x)) (content_after_write (content_of (shown s m)) o x)) where
   abbrev many : ℕ
-  many = (o + length x + 511) / 512 - f
+  many = slot_count (o + length x) - f
 
   abbrev patch : List ℕ
   patch = take (512 * many) (drop (512 * f) (content_after_write (content_of (shown s m)) o x))

@@ -1,8 +1,8 @@
 -- A splice touches only the part of a content that it meets, which is cut into pieces.
-use Rattle.ele_blocks.proofs.Words.{◌≡◌, ℕ, ◌+◌, ◌-◌, ◌*◌, ◌≤◌, List, [], ◌∷◌, ◌++◌, length, take, drop, max, replicate, refl, ap, sym, ◌∙◌, arith, length-append, length-take, length-drop, zero, suc, flat_map, length-replicate, take-append-drop, take-append-le, drop-drop, take-take, first_chunks, ◌<◌, content_after_write, slot_count, AreSized}
+use Rattle.ele_blocks.proofs.Words.{◌≡◌, ℕ, ◌+◌, ◌-◌, ◌*◌, ◌≤◌, List, [], ◌∷◌, ◌++◌, length, take, drop, max, replicate, refl, ap, sym, ◌∙◌, arith, length-append, length-take, length-drop, zero, suc, flat_map, length-replicate, take-append-drop, take-append-le, drop-drop, take-take, first_chunks, ◌<◌, content_after_write, slot_bytes, slot_count, AreSized, pieces_between}
 use Rattle.ele_blocks.specs.Pieces.{pieces}
 use Rattle.ele_blocks.proofs.LaidOvers.{drop_past}
-use Rattle.ele_blocks.proofs.Sized.{sized-chunks, chunks_joined, chunks_taken, length-chunks}
+use Rattle.ele_blocks.proofs.Sized.{chunk_more, sized-chunks, chunks_joined, chunks_taken, length-chunks}
 
 -- bytes in pieces of 512
 pub length-pieces : (xs : List ℕ) → length (pieces xs) ≡ slot_count (length xs)
@@ -16,6 +16,15 @@ pieces_sized xs = sized-chunks 512 (omega arith) (slot_count (length xs)) xs (om
 pub pieces_joined : (xs : List ℕ) → flat_map (λ piece. piece) (pieces xs) ≡ xs
 unfolding pieces
 pieces_joined xs = chunks_joined 512 (omega arith) (slot_count (length xs)) xs (omega arith)
+
+-- one piece more
+pub piece_more : (first slot : ℕ) (xs : List ℕ) → first ≤ slot → pieces_between first (slot + 1) xs ≡ pieces_between first slot xs ++ slot_bytes xs slot ∷ []
+piece_more first slot xs le =
+    let count = slot - first in
+    let next : slot + 1 - first ≡ count + 1 = omega (arith, le) in
+    let place : 512 * first + 512 * count ≡ 512 * slot = omega (arith, le) in
+    let piece = drop-drop (512 * count) (512 * first) xs ∙ ap (λ n. drop n xs) place in
+    rw (next, ← piece) (chunk_more 512 count (drop (512 * first) xs))
 
 -- the first pieces
 pub pieces_taken : (n : ℕ) (xs : List ℕ) → 512 * n < length xs + 512 → pieces (take (512 * n) xs) ≡ first_chunks 512 n xs

@@ -1,7 +1,7 @@
 //! The bytes that a change of a content puts into its slots.
 //! A contract sees lists of bytes.
-ghost use Rattle.std.specs.Prelude.{◌≡◌, ℕ, ◌<◌, ◌+◌, ◌^◌, IfOk, List, drop, length, take};
-ghost use Rattle.ele_content.specs.Content.{content_after_write};
+ghost use Rattle.std.specs.Prelude.{◌≡◌, ℕ, ◌<◌, ◌+◌, ◌^◌, IfOk, List, length};
+ghost use Rattle.ele_content.specs.Content.{content_after_write, slot_bytes};
 ghost use Rattle.ele_blocks.specs.Pieces.{pieces};
 
 use ele_lists::ByteList;
@@ -23,20 +23,21 @@ fn spliced(alloc: Global, old: &[u8], offset: usize, bytes: &[u8]) -> Result<Vec
     Ok(new)
 }
 
-/// The piece of 512 bytes from a place on, once the bytes lie over the content from the offset on:
-/// what of them falls into the piece lies over the older piece.
+/// A slot's bytes once the bytes lie over the content from the offset on: what of them falls into
+/// the slot lies over its old bytes.
 pub fn patched(
     alloc: Global,
     old: &[u8],
-    at: usize,
+    slot: usize,
     offset: usize,
     bytes: &[u8],
 ) -> Result<ByteList, NoMemory>
-    requires small { at < 2 ^ 32 }
+    requires small { slot < 2 ^ 32 }
     requires fits { offset + length bytes.now < 2 ^ 32 }
-    ensures { (content : List ℕ) → old.now ≡ take 512 (drop at content) → IfOk result (λ new.
-        new ≡ take 512 (drop at (content_after_write content offset bytes.now))) }
+    ensures { (content : List ℕ) → old.now ≡ slot_bytes content slot → IfOk result (λ new.
+        new ≡ slot_bytes (content_after_write content offset bytes.now) slot) }
 {
+    let at = 512 * slot;
     let start = offset.saturating_sub(at).min(512);
     let from = at.saturating_sub(offset).min(bytes.len());
     let past = (at + 512).saturating_sub(offset).min(bytes.len());

@@ -2,11 +2,11 @@
 //! A contract sees the new cells as a definition over the old ones, and that the owners of leaves
 //! which other maps share stay.
 ghost use Rattle.std.specs.Prelude.{◌≡◌, ◌<◌, ◌≤◌, ◌+◌, ◌-◌, ◌*◌, ◌/◌, ◌^◌, OnOk, OnErr, IfOk, drop, max, min, length, vec_len};
-ghost use Rattle.std.specs.Simd.{first_chunks};
 ghost use Rattle.ele_content.specs.Content.{content_after_write, content_of, longest_content, slot_bytes, slot_count};
 ghost use Rattle.ele_blocks.specs.Changes.{IsWritten, IsResized};
 ghost use Rattle.ele_blocks.specs.Layout.{slots_of, shown};
 ghost use Rattle.ele_blocks.specs.LivesIn.{LivesIn, leaf_count};
+ghost use Rattle.ele_blocks.specs.Pieces.{pieces_between};
 ghost use Rattle.ele_blocks.specs.Renewed.{IsReplaced};
 
 use crate::laid::lay_leaves;
@@ -111,16 +111,15 @@ impl BlockMap {
         requires lives { LivesIn store.now self.now }
         requires fits { offset + length bytes.now ≤ longest_content }
         requires starts { 512 * first ≤ offset }
-        ensures { IfOk result (λ staged. staged.items
-            ≡ first_chunks 512 ((offset + length bytes.now + 511) / 512 - first)
-            (drop (512 * first)
-            (content_after_write (content_of (shown store.now self.now)) offset bytes.now))) }
+        ensures { let after = content_after_write (content_of (shown store.now self.now)) offset bytes.now in
+            IfOk result (λ staged.
+            staged.items ≡ pieces_between first (slot_count (offset + length bytes.now)) after) }
     {
         let past = (offset + bytes.len()).div_ceil(SLOT);
         let mut staged = Vec::with_capacity(self.alloc, past.saturating_sub(first))?;
         for slot in first..past {
             let old = self.bytes_at(store, slot);
-            staged.push(patched(self.alloc, old, SLOT * slot, offset, bytes)?)?;
+            staged.push(patched(self.alloc, old, slot, offset, bytes)?)?;
         }
         Ok(staged)
     }
