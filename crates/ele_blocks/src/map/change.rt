@@ -111,9 +111,10 @@ impl BlockMap {
         requires lives { LivesIn store.now self.now }
         requires fits { offset + length bytes.now ≤ longest_content }
         requires starts { 512 * first ≤ offset }
-        ensures { let after = content_after_write (content_of (shown store.now self.now)) offset bytes.now in
-            IfOk result (λ staged.
-            staged.items ≡ pieces_between first (slot_count (offset + length bytes.now)) after) }
+        ensures { let content = content_of (shown store.now self.now) in
+            let after = content_after_write content offset bytes.now in
+            let past = slot_count (offset + length bytes.now) in
+            IfOk result (λ staged. staged.items ≡ pieces_between first past after) }
     {
         let past = (offset + bytes.len()).div_ceil(SLOT);
         let mut staged = Vec::with_capacity(self.alloc, past.saturating_sub(first))?;
