@@ -1,11 +1,11 @@
 -- What a write and a truncate make of a map and its store.
-use Rattle.ele_blocks.proofs.Words.{◌≡◌, ◌⊎◌, ℕ, ◌+◌, ◌-◌, ◌*◌, ◌/◌, ◌<◌, ◌≤◌, Bool, true, false, cond, ◌&&◌, List, [], ◌∷◌, ◌++◌, length, map, take, drop, get_or, min, max, replicate, refl, ap, sym, ◌∙◌, arith, zero, suc, ltb, inl, inr, ⊎_elim, slice_get, flat_map, range_with_len, option_map_or, order, take-add, false≢true, nat_tests, append-nil, length-append, length-map, length-take, length-drop, length-replicate, nil_from_length, take_all, take-take, take-append-drop, drop_all, flat_map-map, fill_by_all, slice_get-get_or, Cell, content_of, content_after_write, content_after_truncate, longest_content, slot_bytes, slot_count, writer_at, meets, refits, Slot, IsRewritten, IsWritten, IsResized, Hands, Layout, shown, slots_of, ids_of, cell_of, cell_by, is_between, LivesIn, AreSized, pieces, IsReplaced, Renews, times, Store, leaf_at}
+use Rattle.ele_blocks.proofs.Words.{◌≡◌, ◌⊎◌, ℕ, ◌+◌, ◌-◌, ◌*◌, ◌/◌, ◌<◌, ◌≤◌, Bool, true, false, cond, ◌&&◌, List, [], ◌∷◌, ◌++◌, length, map, take, drop, get_or, min, max, replicate, refl, ap, sym, ◌∙◌, arith, zero, suc, ltb, inl, inr, ⊎_elim, slice_get, flat_map, range_with_len, option_map_or, order, take-add, false≢true, nat_tests, append-nil, length-append, length-map, length-take, length-drop, length-replicate, nil_from_length, take_all, take-take, take-append-drop, drop_all, flat_map-map, fill_by_all, slice_get-get_or, Cell, content_of, content_after_write, content_after_truncate, longest_content, slot_bytes, slot_count, writer_at, meets, refits, Slot, IsRewritten, IsWritten, IsResized, Hands, Layout, shown, slots_of, ids_of, cell_of, cell_by, is_between, LivesIn, AreSized, pieces, pieces_between, IsReplaced, Renews, times, Store, leaf_at}
 use Rattle.ele_content.specs.Content.{cells_after_write, cells_after_truncate}
 use Rattle.ele_blocks.proofs.Hands.{hands_none, hands_with, backed_there}
 use Rattle.ele_blocks.proofs.Hands.{moved_one}
-use Rattle.ele_blocks.proofs.Sized.{sized-is, sized-length, sized-count, sized-take, sized-map, sized-laid, flat-at, flat-take, flat-laid}
+use Rattle.ele_blocks.proofs.Sized.{length-chunks, sized-is, sized-length, sized-count, sized-take, sized-map, sized-laid, flat-at, flat-take, flat-laid}
 use Rattle.ele_blocks.proofs.Sizes.{bytes_of, no_cell, whole_is, is_whole_by, length-content}
-use Rattle.ele_blocks.proofs.Splices.{length-pieces, pieces_sized, pieces_joined, length-spliced, spliced_part}
+use Rattle.ele_blocks.proofs.Splices.{length-pieces, pieces_sized, pieces_joined, pieces_taken, length-spliced, spliced_part}
 
 pub renews_as : (s t : Store) (w : ℕ) (p q : ℕ → Bool) (was now : Layout) → ((slot : ℕ) → q slot ≡ p slot) → Renews s t w p was now → Renews s t w q was now
 renews_as s t w p q was now same h = record {
@@ -130,20 +130,32 @@ resized_cells : (s : Store) (m : Layout) (w size : ℕ) → LivesIn s m → slot
 unfolding cells_after_truncate
 resized_cells s m w size lives = rw (length-content s m lives.whole) refl
 
--- ---- a write of some bytes, or past the end: f is the first slot that it meets, and l the one past the last that stands
+-- ---- a write of some bytes, or past the end: f is the first slot that it meets
 
-module _ (s : Store) (m : Layout) (w o f l : ℕ) (x : List ℕ) (staged : List (List ℕ)) (lives : LivesIn s m) (is_f : f ≡ min o m.size / 512) (is_l : l ≡ min ((o + length x + 511) / 512) (slot_count m.size)) (is_staged : staged ≡ pieces (content_after_write (take (512 * (l - f)) (drop (512 * f) (content_of (shown s m)))) (o - 512 * f) x)) where
+module _ (s : Store) (m : Layout) (w o f : ℕ) (x : List ℕ) (staged : List (List ℕ)) (lives : LivesIn s m) (is_f : f ≡ min o m.size / 512) (is_staged : staged ≡ pieces_between f (slot_count (o + length x)) (content_after_write (content_of (shown s m)) o x)) where
+  abbrev many : ℕ
+  many = slot_count (o + length x) - f
+
   abbrev patch : List ℕ
-  patch = content_after_write (take (512 * (l - f)) (drop (512 * f) (content_of (shown s m)))) (o - 512 * f) x
+  patch = take (512 * many) (drop (512 * f) (content_after_write (content_of (shown s m)) o x))
 
   whole_long : length (content_of (shown s m)) ≡ m.size
   whole_long = length-content s m lives.whole
 
-  patch_long : length patch ≡ max (min (512 * (l - f)) (m.size - 512 * f)) (o - 512 * f + length x)
-  patch_long = omega (arith, length-spliced (take (512 * (l - f)) (drop (512 * f) (content_of (shown s m)))) (o - 512 * f) x, length-take (512 * (l - f)) (drop (512 * f) (content_of (shown s m))), length-drop (512 * f) (content_of (shown s m)), whole_long)
+  rest_long : length (drop (512 * f) (content_after_write (content_of (shown s m)) o x)) ≡ max m.size (o + length x) - 512 * f
+  rest_long = omega (arith, length-spliced (content_of (shown s m)) o x, length-drop (512 * f) (content_after_write (content_of (shown s m)) o x), whole_long)
+
+  patch_long : length patch ≡ min (512 * many) (max m.size (o + length x) - 512 * f)
+  patch_long = omega (arith, length-take (512 * many) (drop (512 * f) (content_after_write (content_of (shown s m)) o x)), rest_long)
+
+  staged_count : length staged ≡ many
+  staged_count = ap length is_staged ∙ length-chunks 512 many (drop (512 * f) (content_after_write (content_of (shown s m)) o x))
 
   pub reach : f + length staged ≡ (o + length x + 511) / 512
-  reach = omega (arith, ap length is_staged, length-pieces patch, patch_long, is_f, is_l)
+  reach = omega (arith, staged_count, is_f)
+
+  cut : staged ≡ pieces patch
+  cut = is_staged ∙ sym (pieces_taken many (drop (512 * f) (content_after_write (content_of (shown s m)) o x)) (omega (arith, rest_long, is_f)))
 
   pub write_change : (t : Store) (new : Layout) → new.size ≡ max m.size (o + length x) → o + length x ≤ longest_content → min o m.size < o + length x → IsReplaced s t w f (slot_count m.size) staged m new → IsWritten s t w o x m new
   write_change t new size short some h =
@@ -153,39 +165,33 @@ module _ (s : Store) (m : Layout) (w o f l : ℕ) (x : List ℕ) (staged : List 
       let start : 512 * f ≤ m.size = omega (arith, is_f) in
       let le : f ≤ slot_count m.size = omega (arith, is_f) in
       let all : take (512 * slot_count m.size) content ≡ content = take_all (512 * slot_count m.size) content (omega (arith, whole_long)) in
-      let fit : 512 * (f + length staged) < min m.size (512 * slot_count m.size) → length patch ≡ 512 * length staged = λ lt. omega (arith, lt, reach, patch_long, is_f, is_l) in
-      let part : after ≡ take (512 * f) content ++ (patch ++ drop (512 * (f + length staged)) content) = spliced_part content o (512 * f) (512 * (l - f)) (512 * (f + length staged)) x (omega (arith, is_f)) (omega (arith, start, whole_long)) (⊎_elim (λ (more : l < slot_count m.size). inl (omega (arith, more, is_l, is_f), omega (arith, more, is_l, is_f, whole_long), omega (arith, more, is_l, is_f, reach))) (λ (all : slot_count m.size ≤ l). inr (omega (arith, all, is_f, whole_long), omega (arith, all, is_l, reach, whole_long))) (order l (slot_count m.size))) in
-      let is : content_of (shown t new) ≡ after = laid_content s t m new w f (slot_count m.size) staged patch lives h is_staged (omega arith) le start fit ∙ rw all (sym part) in
-      let bytes = sized-is 512 bytes_of (omega arith) (512 * f + (length patch + (min m.size (512 * slot_count m.size) - 512 * (f + length staged)))) new.size (shown t new) (omega (arith, size, reach, patch_long, is_f, is_l, some)) (laid_bytes s t m new w f (slot_count m.size) staged patch lives h is_staged (omega arith) le start fit) in
+      let fit : 512 * (f + length staged) < min m.size (512 * slot_count m.size) → length patch ≡ 512 * length staged = λ lt. omega (arith, lt, reach, patch_long, staged_count) in
+      let part : after ≡ take (512 * f) content ++ (patch ++ drop (512 * (f + length staged)) content) = spliced_part content o (512 * f) (512 * many) (512 * (f + length staged)) x (omega (arith, is_f)) (omega (arith, start, whole_long)) (omega (arith, reach)) (omega (arith, staged_count)) in
+      let is : content_of (shown t new) ≡ after = laid_content s t m new w f (slot_count m.size) staged patch lives h cut (omega arith) le start fit ∙ rw all (sym part) in
+      let bytes = sized-is 512 bytes_of (omega arith) (512 * f + (length patch + (min m.size (512 * slot_count m.size) - 512 * (f + length staged)))) new.size (shown t new) (omega (arith, size, reach, patch_long, is_f, staged_count, some)) (laid_bytes s t m new w f (slot_count m.size) staged patch lives h cut (omega arith) le start fit) in
       let same : (slot : ℕ) → test slot ≡ is_between f (f + length staged) slot = λ slot. meets_between (min o m.size) (o + length x) slot some ∙ (ap (λ k. is_between k ((o + length x + 511) / 512) slot) (sym is_f) ∙ ap (λ k. is_between f k slot) (sym reach)) in
       rewritten s t m new w test after (length (slots_of t new)) h.hands h.filled (renews_as s t w (is_between f (f + length staged)) test m new same h.renews) is bytes (omega (arith, size, short, (whole_is s m lives.whole).short)) (max m.size (o + length x)) (cells_after_write w o x (shown s m)) size (written_cells s m w o new.size x lives size)
 
 -- ---- a truncate to fewer bytes: f slots stay whole, and kept slots stay
 
-module _ (s : Store) (m : Layout) (w size f kept : ℕ) (staged : List (List ℕ)) (lives : LivesIn s m) (less : size < m.size) (is_f : f ≡ size / 512) (is_kept : kept ≡ (size + 511) / 512) (is_staged : staged ≡ pieces (take (size - 512 * f) (take (512 * (kept - f)) (drop (512 * f) (content_of (shown s m)))))) where
-  part_long : length (take (512 * (kept - f)) (drop (512 * f) (content_of (shown s m)))) ≡ min (512 * (kept - f)) (m.size - 512 * f)
-  part_long = omega (arith, length-take (512 * (kept - f)) (drop (512 * f) (content_of (shown s m))), length-drop (512 * f) (content_of (shown s m)), length-content s m lives.whole)
-
-  pub cut_window : size - 512 * f ≤ length (take (512 * (kept - f)) (drop (512 * f) (content_of (shown s m))))
-  cut_window = omega (arith, part_long, is_f, is_kept, less)
-
-  cut_long : length (take (size - 512 * f) (take (512 * (kept - f)) (drop (512 * f) (content_of (shown s m))))) ≡ size - 512 * f
-  cut_long = omega (arith, length-take (size - 512 * f) (take (512 * (kept - f)) (drop (512 * f) (content_of (shown s m)))), cut_window)
+module _ (s : Store) (m : Layout) (w size f kept : ℕ) (staged : List (List ℕ)) (lives : LivesIn s m) (less : size < m.size) (is_f : f ≡ size / 512) (is_kept : kept ≡ (size + 511) / 512) (is_staged : staged ≡ pieces (take (size - 512 * f) (slot_bytes (content_of (shown s m)) f))) where
+  pub cut_long : length (take (size - 512 * f) (slot_bytes (content_of (shown s m)) f)) ≡ size - 512 * f
+  cut_long = omega (arith, length-take (size - 512 * f) (slot_bytes (content_of (shown s m)) f), length-take 512 (drop (512 * f) (content_of (shown s m))), length-drop (512 * f) (content_of (shown s m)), length-content s m lives.whole, is_f, less)
 
   pub cut_reach : f + length staged ≡ kept
-  cut_reach = omega (arith, ap length is_staged, length-pieces (take (size - 512 * f) (take (512 * (kept - f)) (drop (512 * f) (content_of (shown s m))))), cut_long, is_f, is_kept)
+  cut_reach = omega (arith, ap length is_staged, length-pieces (take (size - 512 * f) (slot_bytes (content_of (shown s m)) f)), cut_long, is_f, is_kept)
 
   pub cut_change : (t : Store) (new : Layout) → new.size ≡ size → IsReplaced s t w f kept staged m new → IsResized s t w size m new
   cut_change t new is h =
       let content = content_of (shown s m) in
-      let patch = take (size - 512 * f) (take (512 * (kept - f)) (drop (512 * f) content)) in
+      let patch = take (size - 512 * f) (slot_bytes content f) in
       let whole_long = length-content s m lives.whole in
       let kept_le : kept ≤ slot_count m.size = omega (arith, is_kept, less) in
       let le : f ≤ kept = omega (arith, is_f, is_kept) in
       let start : 512 * f ≤ m.size = omega (arith, is_f, less) in
       let fit : 512 * (f + length staged) < min m.size (512 * kept) → length patch ≡ 512 * length staged = λ lt. absurd (omega (arith, lt, cut_reach)) in
       let head : take (512 * f) (take (512 * kept) content) ≡ take (512 * f) content = take-take (512 * f) (512 * kept) content (omega (arith, le)) in
-      let mid : patch ≡ take (size - 512 * f) (drop (512 * f) content) = take-take (size - 512 * f) (512 * (kept - f)) (drop (512 * f) content) (omega (arith, is_f, is_kept)) in
+      let mid : patch ≡ take (size - 512 * f) (drop (512 * f) content) = take-take (size - 512 * f) 512 (drop (512 * f) content) (omega (arith, is_f)) in
       let tail : drop (512 * (f + length staged)) (take (512 * kept) content) ≡ [] = drop_all (512 * (f + length staged)) (take (512 * kept) content) (omega (arith, length-take (512 * kept) content, cut_reach)) in
       let none : size - length content ≡ 0 = omega (arith, whole_long, less) in
       let size_is : 512 * f + (size - 512 * f) ≡ size = omega (arith, is_f) in

@@ -10,6 +10,7 @@ pub mod Renewals
 pub mod Stocks
 pub mod LaidOvers
 pub mod Splices
+pub mod Patches
 pub mod Changes
 pub mod Runs
 mod Counts

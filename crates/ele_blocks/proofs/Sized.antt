@@ -1,5 +1,6 @@
 -- Lists in pieces of c items, of which the last may be shorter.
-use Rattle.ele_blocks.proofs.Words.{add-one, ◌≡◌, ◌⊎◌, ℕ, ◌+◌, ◌-◌, ◌*◌, ◌<◌, ◌≤◌, true, List, [], ◌∷◌, ◌++◌, length, take, drop, map, get_or, min, refl, ap, sym, ◌∙◌, arith, zero, suc, eqb, ltb, inl, inr, ⊎_elim, flat_map, first_chunks, order, mul-suc, take-nil, take-append-add, nat_tests, flat_map-append, append-nil, append_cancel_left, take-append-drop, take_all, length-append, length-take, length-take-le, length-drop, drop_more, nil_from_length, take_min, drop_min, laid_over, fills, AreSized}
+use Rattle.ele_blocks.proofs.Words.{add-one, ◌≡◌, ◌⊎◌, ℕ, ◌+◌, ◌-◌, ◌*◌, ◌<◌, ◌≤◌, true, List, [], ◌∷◌, ◌++◌, length, take, drop, map, get_or, min, refl, ap, sym, ◌∙◌, arith, zero, suc, eqb, ltb, inl, inr, ⊎_elim, flat_map, first_chunks, order, mul-suc, take-nil, take-append-add, nat_tests, flat_map-append, append-nil, append_cancel_left, take-append-drop, take_all, take-take, length-append, length-take, length-take-le, length-drop, drop-drop, drop_more, nil_from_length, take_min, drop_min, laid_over, fills, AreSized}
+use Rattle.std.proofs.lemmas.List.{drop-take}
 
 -- the test is what it tests
 pub fills_sized : {A X : Type 0} (c : ℕ) (f : A → List X) (n : ℕ) (xs : List A) → fills c f n xs ≡ true → AreSized c f n xs
@@ -121,3 +122,19 @@ chunk_next c left more n rest front back one size is_front is_back =
 pub length-chunks : {X : Type 0} (c k : ℕ) (xs : List X) → length (first_chunks c k xs) ≡ k
 length-chunks c zero xs = refl
 length-chunks c (suc k) xs = omega (arith, length-chunks c k (drop c xs))
+
+-- one chunk more
+pub chunk_more : {X : Type 0} (c k : ℕ) (xs : List X) → first_chunks c (k + 1) xs ≡ first_chunks c k xs ++ take c (drop (c * k) xs) ∷ []
+chunk_more {X = X} c k xs = rw (add-one k) (by k xs) where
+  by : (k : ℕ) (xs : List X) → first_chunks c (suc k) xs ≡ first_chunks c k xs ++ take c (drop (c * k) xs) ∷ []
+  by zero xs = let none : c * 0 ≡ 0 = omega arith in rw none refl
+  by (suc k) xs =
+      let place : c + c * k ≡ c * suc k = omega (arith, mul-suc c k) in
+      ap (λ ys. take c xs ∷ ys) (by k (drop c xs) ∙ ap (λ ys. first_chunks c k (drop c xs) ++ take c ys ∷ []) (drop-drop (c * k) c xs ∙ ap (λ n. drop n xs) place))
+
+-- the chunks of the items that they hold
+pub chunks_taken : {X : Type 0} (c k : ℕ) (xs : List X) → first_chunks c k (take (c * k) xs) ≡ first_chunks c k xs
+chunks_taken c zero xs = refl
+chunks_taken c (suc k) xs =
+    let size : c * suc k ≡ c + c * k = omega (arith, mul-suc c k) in
+    rw (size, take-take c (c + c * k) xs (omega arith), drop-take c (c * k) xs, chunks_taken c k (drop c xs)) refl

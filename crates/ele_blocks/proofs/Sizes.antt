@@ -1,5 +1,5 @@
 -- The sizes of a map that is whole, and the bytes of its slots.
-use Rattle.ele_blocks.proofs.Words.{◌≡◌, ℕ, ◌+◌, ◌-◌, ◌*◌, ◌≤◌, true, List, [], ◌++◌, length, take, drop, get_or, Some, refl, ap, sym, ◌∙◌, arith, leb, slice_get, take-add, nat_tests, length-map, drop-drop, get_or-map, slice_get_within, get_or_from_slice_get, Cell, content_of, longest_content, slot_count, slot_bytes, Slot, Store, leaf_at, bytes_at, Layout, slots_of, shown, cell_of, is_whole, leaf_count, AreSized, ◌/◌, ◌%◌, ◌<◌, get_or-take, get_or-drop, slice_get_read, LivesIn, owners}
+use Rattle.ele_blocks.proofs.Words.{◌≡◌, ℕ, ◌+◌, ◌*◌, ◌≤◌, true, List, [], length, take, drop, get_or, Some, refl, ap, sym, ◌∙◌, arith, leb, slice_get, nat_tests, length-map, get_or-map, slice_get_within, get_or_from_slice_get, Cell, content_of, longest_content, slot_count, slot_bytes, Slot, Store, leaf_at, bytes_at, Layout, slots_of, shown, cell_of, is_whole, leaf_count, AreSized, ◌/◌, ◌%◌, ◌<◌, get_or-take, get_or-drop, slice_get_read, LivesIn, owners}
 use Rattle.ele_blocks.proofs.Trades.{one_more}
 use Rattle.ele_blocks.proofs.Sized.{fills_sized, sized_fills, sized-length, sized-count, flat-at}
 
@@ -42,14 +42,6 @@ module _ (s : Store) (m : Layout) where
         let lt = slice_get_within (slots_of s m) slot x got in
         let here : get_or (shown s m) slot no_cell ≡ cell_of s x = get_or-map (cell_of s) (slots_of s m) slot x no_cell lt ∙ ap (cell_of s) (get_or_from_slice_get (slots_of s m) slot x x got) in
         sym (ap bytes_of here) ∙ flat-at 512 bytes_of (omega arith) slot m.size (shown s m) no_cell (whole_is whole).bytes (omega (arith, lt, length-map (slots_of s m) (cell_of s)))
-
--- the bytes of some slots, and of one more
-pub bytes_more : (content : List ℕ) (first slot : ℕ) → first ≤ slot → take (512 * (slot + 1 - first)) (drop (512 * first) content) ≡ take (512 * (slot - first)) (drop (512 * first) content) ++ slot_bytes content slot
-bytes_more content first slot le =
-    let all = drop (512 * first) content in
-    let size : 512 * (slot + 1 - first) ≡ 512 * (slot - first) + 512 = omega (arith, le) in
-    let place : 512 * first + 512 * (slot - first) ≡ 512 * slot = omega (arith, le) in
-    ap (λ n. take n all) size ∙ (take-add (512 * (slot - first)) 512 all ∙ ap (λ ys. take (512 * (slot - first)) all ++ ys) (ap (take 512) (drop-drop (512 * (slot - first)) (512 * first) content ∙ ap (λ n. drop n content) place)))
 
 -- ---- a slot in its leaf
 

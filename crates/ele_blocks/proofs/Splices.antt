@@ -1,8 +1,8 @@
--- A splice touches only the part of a content that it meets, which is spliced by itself and cut into pieces.
-use Rattle.ele_blocks.proofs.Words.{◌≡◌, ◌⊎◌, ℕ, ◌+◌, ◌-◌, ◌≤◌, List, [], ◌∷◌, ◌++◌, length, take, drop, max, replicate, refl, ap, sym, ◌∙◌, arith, append_assoc, length-append, length-take, length-drop, zero, suc, inl, inr, ⊎_elim, flat_map, append-nil, length-replicate, take-append-drop, take-append-le, drop-append-le, drop-drop, drop_all, content_after_write, slot_count, AreSized}
+-- A splice touches only the part of a content that it meets, which is cut into pieces.
+use Rattle.ele_blocks.proofs.Words.{◌≡◌, ℕ, ◌+◌, ◌-◌, ◌*◌, ◌≤◌, List, [], ◌∷◌, ◌++◌, length, take, drop, max, replicate, refl, ap, sym, ◌∙◌, arith, length-append, length-take, length-drop, zero, suc, flat_map, length-replicate, take-append-drop, take-append-le, drop-drop, take-take, first_chunks, ◌<◌, content_after_write, slot_bytes, slot_count, AreSized, pieces_between}
 use Rattle.ele_blocks.specs.Pieces.{pieces}
 use Rattle.ele_blocks.proofs.LaidOvers.{drop_past}
-use Rattle.ele_blocks.proofs.Sized.{sized-chunks, chunks_joined, length-chunks}
+use Rattle.ele_blocks.proofs.Sized.{chunk_more, sized-chunks, chunks_joined, chunks_taken, length-chunks}
 
 -- bytes in pieces of 512
 pub length-pieces : (xs : List ℕ) → length (pieces xs) ≡ slot_count (length xs)
@@ -17,6 +17,22 @@ pub pieces_joined : (xs : List ℕ) → flat_map (λ piece. piece) (pieces xs) �
 unfolding pieces
 pieces_joined xs = chunks_joined 512 (omega arith) (slot_count (length xs)) xs (omega arith)
 
+-- one piece more
+pub piece_more : (first slot : ℕ) (xs : List ℕ) → first ≤ slot → pieces_between first (slot + 1) xs ≡ pieces_between first slot xs ++ slot_bytes xs slot ∷ []
+piece_more first slot xs le =
+    let count = slot - first in
+    let next : slot + 1 - first ≡ count + 1 = omega (arith, le) in
+    let place : 512 * first + 512 * count ≡ 512 * slot = omega (arith, le) in
+    let piece = drop-drop (512 * count) (512 * first) xs ∙ ap (λ n. drop n xs) place in
+    rw (next, ← piece) (chunk_more 512 count (drop (512 * first) xs))
+
+-- the first pieces
+pub pieces_taken : (n : ℕ) (xs : List ℕ) → 512 * n < length xs + 512 → pieces (take (512 * n) xs) ≡ first_chunks 512 n xs
+unfolding pieces
+pieces_taken n xs lt =
+    let count : slot_count (length (take (512 * n) xs)) ≡ n = omega (arith, length-take (512 * n) xs, lt) in
+    rw count (chunks_taken 512 n xs)
+
 pub take_past : {X : Type 0} (xs ys : List X) (a n : ℕ) → n ≡ length xs + a → take n (xs ++ ys) ≡ xs ++ take a ys
 take_past [] ys a n e = let same : n ≡ a = omega (arith, e) in rw same refl
 take_past (x ∷ xs) ys a zero e = absurd (omega (arith, e))
@@ -30,40 +46,28 @@ length-spliced content offset bytes =
     omega (arith, length-append (t ++ z ++ bytes) d, length-append (t ++ z) bytes, length-append t z, length-take offset content, length-replicate {A = ℕ} (offset - length content) 0, length-drop (offset + length bytes) content)
 
 -- what stands before the offset stays
-spliced-front : (xs ys : List ℕ) (a offset : ℕ) (bytes : List ℕ) → offset ≡ length xs + a → content_after_write (xs ++ ys) offset bytes ≡ xs ++ content_after_write ys a bytes
-spliced-front xs ys a offset bytes e =
-    let t = take a ys in
-    let z : List ℕ = replicate (a - length ys) 0 in
-    let d = drop (a + length bytes) ys in
-    let gap : offset - length (xs ++ ys) ≡ a - length ys = omega (arith, e, length-append xs ys) in
-    rw (take_past xs ys a offset e, drop_past xs ys (a + length bytes) (offset + length bytes) (omega (arith, e)), gap)
-    (ap (λ l. l ++ bytes ++ d) (append_assoc xs t z) ∙ (ap (λ l. l ++ d) (append_assoc xs (t ++ z) bytes) ∙ append_assoc xs (t ++ z ++ bytes) d))
+spliced-front : (content : List ℕ) (offset : ℕ) (bytes : List ℕ) (n : ℕ) → n ≤ offset → n ≤ length content → take n (content_after_write content offset bytes) ≡ take n content
+spliced-front content offset bytes n le within =
+    let t = take offset content in
+    let z : List ℕ = replicate (offset - length content) 0 in
+    let size = length-take offset content in
+    take-append-le n (t ++ z ++ bytes) (drop (offset + length bytes) content) (omega (arith, length-append (t ++ z) bytes, length-append t z, size, le, within))
+    ∙ (take-append-le n (t ++ z) bytes (omega (arith, length-append t z, size, le, within))
+    ∙ (take-append-le n t z (omega (arith, size, le, within)) ∙ take-take n offset content le))
 
 -- what stands behind the bytes stays
-spliced-back : (xs ys : List ℕ) (offset : ℕ) (bytes : List ℕ) → (offset + length bytes ≤ length xs) ⊎ (ys ≡ []) → content_after_write (xs ++ ys) offset bytes ≡ content_after_write xs offset bytes ++ ys
-spliced-back xs ys offset bytes = ⊎_elim
-    (λ (fits : offset + length bytes ≤ length xs).
-    let gap : offset - length (xs ++ ys) ≡ offset - length xs = omega (arith, length-append xs ys) in
-    rw (take-append-le offset xs ys (omega arith), drop-append-le (offset + length bytes) xs ys fits, gap)
-    (sym (append_assoc (take offset xs ++ replicate (offset - length xs) 0 ++ bytes) (drop (offset + length bytes) xs) ys)))
-    (λ (none : ys ≡ []). rw none (ap (λ c. content_after_write c offset bytes) (append-nil xs) ∙ sym (append-nil (content_after_write xs offset bytes))))
+spliced-back : (content : List ℕ) (offset : ℕ) (bytes : List ℕ) (n : ℕ) → offset + length bytes ≤ n → drop n (content_after_write content offset bytes) ≡ drop n content
+spliced-back content offset bytes n le =
+    let t = take offset content in
+    let z : List ℕ = replicate (offset - length content) 0 in
+    let past = offset + length bytes in
+    let place : past + (n - past) ≡ n = omega (arith, le) in
+    let head : length (t ++ z ++ bytes) ≡ past = omega (arith, length-append (t ++ z) bytes, length-append t z, length-take offset content, length-replicate {A = ℕ} (offset - length content) 0) in
+    drop_past (t ++ z ++ bytes) (drop past content) (n - past) n (omega (arith, head, le)) ∙ (drop-drop (n - past) past content ∙ ap (λ k. drop k content) place)
 
--- the part of q bytes from p on is spliced by itself, and behind it stands what stood behind r bytes
-pub spliced_part : (content : List ℕ) (offset p q r : ℕ) (bytes : List ℕ) → p ≤ offset → p ≤ length content → ((offset + length bytes ≤ p + q) × (p + q ≤ length content) × (r ≡ p + q)) ⊎ ((length content ≤ p + q) × (length content ≤ r)) → content_after_write content offset bytes ≡ take p content ++ (content_after_write (take q (drop p content)) (offset - p) bytes ++ drop r content)
-spliced_part content offset p q r bytes from le fit =
-    let part = take q (drop p content) in
-    let rest = drop q (drop p content) in
-    let long = length-take q (drop p content) in
-    let size = length-drop p content in
-    let all : content ≡ take p content ++ (part ++ rest) = sym (ap (λ ys. take p content ++ ys) (take-append-drop q (drop p content)) ∙ take-append-drop p content) in
-    let rest_is : rest ≡ drop r content = ⊎_elim
-    (λ (h : (offset + length bytes ≤ p + q) × (p + q ≤ length content) × (r ≡ p + q)). drop-drop q p content ∙ ap (λ n. drop n content) (sym h.2))
-    (λ (h : (length content ≤ p + q) × (length content ≤ r)). drop_all q (drop p content) (omega (arith, h, size)) ∙ sym (drop_all r content h.1))
-    fit in
-    let behind : (offset - p + length bytes ≤ length part) ⊎ (rest ≡ []) = ⊎_elim
-    (λ (h : (offset + length bytes ≤ p + q) × (p + q ≤ length content) × (r ≡ p + q)). inl (omega (arith, h, long, size, from)))
-    (λ (h : (length content ≤ p + q) × (length content ≤ r)). inr (drop_all q (drop p content) (omega (arith, h, size))))
-    fit in
-    ap (λ c. content_after_write c offset bytes) all
-    ∙ (spliced-front (take p content) (part ++ rest) (offset - p) offset bytes (omega (arith, from, le, length-take p content))
-    ∙ ap (λ ys. take p content ++ ys) (spliced-back part rest (offset - p) bytes behind ∙ ap (λ ys. content_after_write part (offset - p) bytes ++ ys) rest_is))
+-- so a splice is the part of q bytes from p on, between what stood before it and behind it
+pub spliced_part : (content : List ℕ) (offset p q r : ℕ) (bytes : List ℕ) → p ≤ offset → p ≤ length content → offset + length bytes ≤ r → r ≡ p + q → content_after_write content offset bytes ≡ take p content ++ (take q (drop p (content_after_write content offset bytes)) ++ drop r content)
+spliced_part content offset p q r bytes from le past is =
+    let after = content_after_write content offset bytes in
+    let behind : drop q (drop p after) ≡ drop r content = drop-drop q p after ∙ (ap (λ n. drop n after) (sym is) ∙ spliced-back content offset bytes r past) in
+    rw (← behind, take-append-drop q (drop p after), ← spliced-front content offset bytes p from le) (sym (take-append-drop p after))

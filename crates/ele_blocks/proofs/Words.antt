@@ -6,7 +6,7 @@ pub use Rattle.ele_blocks.specs.LaidOver.{laid_over}
 pub use Rattle.ele_blocks.specs.Layout.{Layout, cell_by, cell_of, ids_of, is_between, shown, slot_by, slots_of}
 pub use Rattle.ele_blocks.specs.LivesIn.{AreBacked, LivesIn, backing, fills, is_whole, leaf_count}
 pub use Rattle.ele_blocks.specs.Owes.{IsUncrowded, Moves, Owes, broken, named, tally}
-pub use Rattle.ele_blocks.specs.Pieces.{AreSized, pieces}
+pub use Rattle.ele_blocks.specs.Pieces.{AreSized, pieces, pieces_between}
 pub use Rattle.ele_blocks.specs.Renewed.{IsLaid, IsRenewed, IsReplaced, parts}
 pub use Rattle.ele_blocks.specs.Renews.{Renews}
 pub use Rattle.ele_blocks.specs.Shared.{Adds, Covers, Owned, Sets, Trades, leaving, owners, owners_of, place_at, released, shared, times, value_at, value_of}

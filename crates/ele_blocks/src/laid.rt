@@ -38,7 +38,7 @@ pub fn lay_slots(slots: &mut Vec<Slot>, first: usize, writer: VersionNo, ids: &[
 }
 
 /// Lays the leaves over the leaves from the first on. There is room for those that go past the end.
-pub fn lay_leaves(leaves: &mut Vec<usize>, first: usize, ids: &[usize])
+pub fn lay_leaves(leaves: &mut Vec<u32>, first: usize, ids: &[u32])
     requires within { first ≤ length leaves.old.items }
     requires room { first + length ids.now ≤ vec_capacity leaves.old }
     ensures { leaves.new.items ≡ laid_over first ids.now leaves.old.items }

@@ -26,7 +26,7 @@ const SLOT: usize = 512;
 #[derive(Debug, Drop)]
 pub struct BlockMap {
     length: u64,
-    leaves: Vec<usize>,
+    leaves: Vec<u32>,
     alloc: Global,
 }
 
@@ -103,7 +103,7 @@ impl BlockMap {
         ensures is { leaf_at store.now result
             ≡ take 16 (drop (16 * (slot / 16)) (slots_of store.now self.now)) }
     {
-        self.leaves[slot / LEAF]
+        self.leaves[slot / LEAF] as usize
     }
 
     /// A second map of the same content, which shares every leaf with this one.
@@ -130,9 +130,11 @@ impl BlockMap {
         ensures bytes { IfOk result (λ bytes. bytes.items ≡ content_of (shown store.now self.now)) }
         ensures length { IfOk result (λ bytes. vec_len bytes ≡ self.now.size) }
     {
-        let slots = self.slots();
-        let bytes = self.joined(store, 0, slots)?;
-        Ok(bytes)
+        let mut all = Vec::with_capacity(self.alloc, self.length as usize)?;
+        for slot in 0..self.slots() {
+            all.extend_from_slice(self.bytes_at(store, slot))?;
+        }
+        Ok(all)
     }
 
     /// Ends the map: each of its leaves has an owner fewer, and those without owners leave, with the
@@ -144,18 +146,14 @@ impl BlockMap {
         store.release_leaves(&self.leaves);
     }
 
-    /// The bytes of the slots from the first up to before the last.
-    fn joined(&self, store: &BlockStore, first: usize, past: usize) -> Result<Vec<u8>, NoMemory>
-        requires lives { LivesIn store.now self.now }
-        requires order { first ≤ past }
-        requires within { past ≤ slot_count self.now.size }
-        ensures { IfOk result (λ all. all.items ≡ take (512 * (past - first))
-            (drop (512 * first) (content_of (shown store.now self.now)))) }
+    /// The bytes of a slot; none past the last.
+    fn bytes_at<'a>(&self, store: &'a BlockStore, slot: usize) -> &'a [u8]
+        requires { LivesIn store.now self.now }
+        ensures { result.now ≡ slot_bytes (content_of (shown store.now self.now)) slot }
     {
-        let mut all = Vec::with_capacity(self.alloc, (past - first).saturating_mul(SLOT))?;
-        for slot in first..past {
-            all.extend_from_slice(store.get(self.slot_at(store, slot).block))?;
+        if slot >= self.slots() {
+            return &[];
         }
-        Ok(all)
+        store.get(self.slot_at(store, slot).block)
     }
 }

@@ -1,7 +1,7 @@
 //! The bytes that a change of a content puts into its slots.
 //! A contract sees lists of bytes.
-ghost use Rattle.std.specs.Prelude.{◌≡◌, ◌<◌, ◌+◌, ◌^◌, IfOk, length};
-ghost use Rattle.ele_content.specs.Content.{content_after_write};
+ghost use Rattle.std.specs.Prelude.{◌≡◌, ℕ, ◌<◌, ◌+◌, ◌^◌, IfOk, List, length};
+ghost use Rattle.ele_content.specs.Content.{content_after_write, slot_bytes};
 ghost use Rattle.ele_blocks.specs.Pieces.{pieces};
 
 use ele_lists::ByteList;
@@ -9,7 +9,7 @@ use ele_moment::NoMemory;
 use std::alloc::Global;
 
 /// The bytes over older ones from the offset on, with zeros before them where the older ones end.
-pub fn spliced(alloc: Global, old: &[u8], offset: usize, bytes: &[u8]) -> Result<Vec<u8>, NoMemory>
+fn spliced(alloc: Global, old: &[u8], offset: usize, bytes: &[u8]) -> Result<Vec<u8>, NoMemory>
     requires { offset + length bytes.now < 2 ^ 64 }
     ensures { IfOk result (λ new. new.items ≡ content_after_write old.now offset bytes.now) }
 {
@@ -21,6 +21,28 @@ pub fn spliced(alloc: Global, old: &[u8], offset: usize, bytes: &[u8]) -> Result
         new.extend_from_slice(&old[offset + bytes.len()..])?;
     }
     Ok(new)
+}
+
+/// A slot's bytes once the bytes lie over the content from the offset on: what of them falls into
+/// the slot lies over its old bytes.
+pub fn patched(
+    alloc: Global,
+    old: &[u8],
+    slot: usize,
+    offset: usize,
+    bytes: &[u8],
+) -> Result<ByteList, NoMemory>
+    requires small { slot < 2 ^ 32 }
+    requires fits { offset + length bytes.now < 2 ^ 32 }
+    ensures { (content : List ℕ) → old.now ≡ slot_bytes content slot → IfOk result (λ new.
+        new ≡ slot_bytes (content_after_write content offset bytes.now) slot) }
+{
+    let at = 512 * slot;
+    let start = offset.saturating_sub(at).min(512);
+    let from = at.saturating_sub(offset).min(bytes.len());
+    let past = (at + 512).saturating_sub(offset).min(bytes.len());
+    let new = spliced(alloc, old, start, &bytes[from..past])?;
+    Ok(ByteList::from_vec(new))
 }
 
 /// The bytes cut into pieces of 512, of which the last may be shorter.

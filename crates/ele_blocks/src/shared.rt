@@ -66,6 +66,13 @@ impl<T: Drop> Shared<T> {
         Ok(())
     }
 
+    /// How many values fit, with those that stand.
+    pub fn capacity(&self) -> usize
+        ensures { self.now.capacity ≤ result }
+    {
+        self.values.capacity()
+    }
+
     /// Keeps a value with one owner where there is room.
     pub fn put_reserved(&mut self, value: T) -> usize
         requires { HasRoomFor self.old 1 }
@@ -74,6 +81,8 @@ impl<T: Drop> Shared<T> {
             (Some (record { value = value; owners = 1 })) }
         ensures room { (more : _) → HasRoomFor self.old (1 + more) → HasRoomFor self.new more }
         ensures owned { Owned self.new.slots }
+        ensures within { result < self.old.capacity }
+        ensures capacity { self.new.capacity ≡ self.old.capacity }
     {
         let id = self.values.insert_reserved(value);
         self.owners[id] = 1;

@@ -1,17 +1,18 @@
 //! The changes of a content: a write, and a truncate.
 //! A contract sees the new cells as a definition over the old ones, and that the owners of leaves
 //! which other maps share stay.
-ghost use Rattle.std.specs.Prelude.{◌≡◌, ◌<◌, ◌≤◌, ◌+◌, ◌*◌, ◌/◌, ◌^◌, OnOk, OnErr, max, min, length, vec_len};
-ghost use Rattle.ele_content.specs.Content.{longest_content, slot_count};
+ghost use Rattle.std.specs.Prelude.{◌≡◌, ◌<◌, ◌≤◌, ◌+◌, ◌-◌, ◌*◌, ◌/◌, ◌^◌, OnOk, OnErr, IfOk, drop, max, min, length, vec_len};
+ghost use Rattle.ele_content.specs.Content.{content_after_write, content_of, longest_content, slot_bytes, slot_count};
 ghost use Rattle.ele_blocks.specs.Changes.{IsWritten, IsResized};
-ghost use Rattle.ele_blocks.specs.Layout.{slots_of};
+ghost use Rattle.ele_blocks.specs.Layout.{slots_of, shown};
 ghost use Rattle.ele_blocks.specs.LivesIn.{LivesIn, leaf_count};
+ghost use Rattle.ele_blocks.specs.Pieces.{pieces_between};
 ghost use Rattle.ele_blocks.specs.Renewed.{IsReplaced};
 
 use crate::laid::lay_leaves;
 use crate::leaf::LEAF;
 use crate::map::{BlockMap, SLOT};
-use crate::patch::{pieces, spliced as splice};
+use crate::patch::{patched, pieces};
 use crate::store::BlockStore;
 use crate::store::leaves::Stage;
 use ele_lists::ByteList;
@@ -24,22 +25,6 @@ struct Change {
     kept: usize,
     first: usize,
     staged: Vec<ByteList>,
-}
-
-/// The first slot that a write meets, and the one past the last of those that stand.
-fn met(size: u64, slots: usize, offset: u64, count: usize) -> (usize, usize)
-    requires slots { slots ≡ slot_count size }
-    requires fits { offset + count ≤ longest_content }
-    requires small { size ≤ longest_content }
-    ensures first { result.0 ≡ min offset size / 512 }
-    ensures past { result.1 ≡ min ((offset + count + 511) / 512) slots }
-    ensures from { result.0 ≤ result.1 }
-    ensures within { result.1 ≤ slots }
-    ensures start { 512 * result.0 ≤ offset }
-{
-    let first = offset.min(size) as usize / SLOT;
-    let past = (offset as usize + count).div_ceil(SLOT).min(slots);
-    (first, past)
 }
 
 /// A run of leaves that gives way: up to before the second those whose slots are met.
@@ -79,7 +64,7 @@ impl BlockMap {
     /// Each slot that meets what is filled or written gets a new block and the writer; every other
     /// slot stays, and so does every other map, also one that shared the blocks which are replaced.
     /// No bytes within the content change nothing. Where memory is refused, map and store are as
-    /// they were.
+    /// they were; the store refuses room for more than 2^32 leaves.
     pub fn write(
         &mut self,
         store: &mut BlockStore,
@@ -96,15 +81,14 @@ impl BlockMap {
     {
         let length = self.length();
         let end = offset + bytes.len() as u64;
-        if offset.min(length) == end {
+        let from = offset.min(length);
+        if from == end {
             // No byte is filled or written.
             return Ok(());
         }
         let kept = self.slots();
-        let (first, past) = met(length, kept, offset, bytes.len());
-        let window = self.joined(store, first, past)?;
-        let patch = splice(self.alloc, &window, offset as usize - SLOT * first, bytes)?;
-        let staged = pieces(self.alloc, &patch)?;
+        let first = from as usize / SLOT;
+        let staged = self.patches(store, first, offset as usize, bytes)?;
         let change = Change {
             writer,
             kept,
@@ -114,6 +98,31 @@ impl BlockMap {
         let size = length.max(end);
         self.replace(store, change, size)?;
         Ok(())
+    }
+
+    /// The bytes of the slots from the first up to where a write of the bytes ends, after this write.
+    fn patches(
+        &self,
+        store: &BlockStore,
+        first: usize,
+        offset: usize,
+        bytes: &[u8],
+    ) -> Result<Vec<ByteList>, NoMemory>
+        requires lives { LivesIn store.now self.now }
+        requires fits { offset + length bytes.now ≤ longest_content }
+        requires starts { 512 * first ≤ offset }
+        ensures { let content = content_of (shown store.now self.now) in
+            let after = content_after_write content offset bytes.now in
+            let past = slot_count (offset + length bytes.now) in
+            IfOk result (λ staged. staged.items ≡ pieces_between first past after) }
+    {
+        let past = (offset + bytes.len()).div_ceil(SLOT);
+        let mut staged = Vec::with_capacity(self.alloc, past.saturating_sub(first))?;
+        for slot in first..past {
+            let old = self.bytes_at(store, slot);
+            staged.push(patched(self.alloc, old, slot, offset, bytes)?)?;
+        }
+        Ok(staged)
     }
 
     /// Makes the content so many bytes long. A longer one is filled with zeros, and each slot that
@@ -158,8 +167,8 @@ impl BlockMap {
     {
         let first = size / SLOT;
         let kept = size.div_ceil(SLOT);
-        let window = self.joined(store, first, kept)?;
-        let staged = pieces(self.alloc, &window[..size - SLOT * first])?;
+        let last = self.bytes_at(store, first);
+        let staged = pieces(self.alloc, &last[..size - SLOT * first])?;
         let change = Change {
             writer,
             kept,

@@ -1,6 +1,6 @@
 //! Leaves as their owners come and go.
 //! A contract sees how owners of leaves change hands, and those of blocks with them.
-ghost use Rattle.std.specs.Prelude.{◌≡◌, ◌<◌, ◌≤◌, ◌+◌, ◌^◌, [], ◌∷◌, OnErr, IfOk, Some, length, map, max, vec_len, vec_capacity};
+ghost use Rattle.std.specs.Prelude.{◌≡◌, ◌<◌, ◌≤◌, ◌+◌, ◌^◌, [], ◌∷◌, OnOk, OnErr, IfOk, Some, length, map, max, vec_len, vec_capacity};
 ghost use Rattle.slab.specs.Slab.{HasRoomFor};
 ghost use Rattle.ele_blocks.specs.Hands.{Hands, AreThere};
 ghost use Rattle.ele_blocks.specs.Layout.{ids_of};
@@ -19,6 +19,9 @@ use ele_lists::{ByteList, put};
 use ele_moment::{NoMemory, VersionNo};
 use std::alloc::Global;
 
+/// For how many leaves a store has room at most: as many as 32 bits can number.
+const MOST: usize = 1 << 32;
+
 /// New slots for a run of leaves: blocks of these bytes, from this place on.
 #[derive(Debug, Drop)]
 pub(crate) struct Stage {
@@ -28,11 +31,25 @@ pub(crate) struct Stage {
     pub staged: Vec<ByteList>,
 }
 
+/// Makes room for so many leaves more, each with a number of 32 bits.
+fn reserve_leaves(leaves: &mut Shared<Leaf>, more: usize) -> Result<(), NoMemory>
+    ensures room { OnOk result (HasRoomFor leaves.new more) }
+    ensures numbers { OnOk result (leaves.new.capacity ≤ 2 ^ 32) }
+    ensures same { leaves.new.slots ≡ leaves.old.slots }
+{
+    leaves.reserve(more)?;
+    if leaves.capacity() > MOST {
+        return Err(NoMemory);
+    }
+    Ok(())
+}
+
 /// Keeps the slots as new leaves where there is room, and adds their numbers.
-fn put_leaves(leaves: &mut Shared<Leaf>, ids: &mut Vec<usize>, slots: &[Slot])
+fn put_leaves(leaves: &mut Shared<Leaf>, ids: &mut Vec<u32>, slots: &[Slot])
     requires room { HasRoomFor leaves.old (leaf_count (length slots.now)) }
     requires room_ids { leaf_count (length slots.now) ≤ vec_capacity ids.old }
     requires empty { ids.old.items ≡ [] }
+    requires numbers { leaves.old.capacity ≤ 2 ^ 32 }
     ensures adds { Adds leaves.old.slots leaves.new.slots ids.new.items }
     ensures values { map (value_at leaves.new.slots) ids.new.items ≡ map Some (parts slots.now) }
     ensures backing { (id : _) → backing leaves.new.slots id
@@ -41,7 +58,7 @@ fn put_leaves(leaves: &mut Shared<Leaf>, ids: &mut Vec<usize>, slots: &[Slot])
     let mut rest = slots;
     for _ in 0..slots.len().div_ceil(LEAF) {
         let (part, more) = rest.split_at(rest.len().min(LEAF));
-        put(ids, leaves.put_reserved(Leaf::new(part)));
+        put(ids, leaves.put_reserved(Leaf::new(part)) as u32);
         rest = more;
     }
 }
@@ -91,13 +108,13 @@ impl BlockStore {
     }
 
     /// The slots of leaves in a row.
-    pub(crate) fn slots_in(&self, leaves: &[usize]) -> Result<Vec<Slot>, NoMemory>
+    pub(crate) fn slots_in(&self, leaves: &[u32]) -> Result<Vec<Slot>, NoMemory>
         requires { Covers self.now.leaves leaves.now }
         ensures { IfOk result (λ slots. slots.items ≡ slots_in self.now leaves.now) }
     {
         let mut slots = Vec::with_capacity(self.alloc, leaves.len().saturating_mul(LEAF))?;
         for leaf in leaves {
-            slots.extend_from_slice(self.leaf(*leaf))?;
+            slots.extend_from_slice(self.leaf(*leaf as usize))?;
         }
         Ok(slots)
     }
@@ -112,13 +129,13 @@ impl BlockStore {
     }
 
     /// Gives each leaf one owner more.
-    pub(crate) fn share_leaves(&mut self, leaves: &[usize])
+    pub(crate) fn share_leaves(&mut self, leaves: &[u32])
         requires there { Covers self.old.leaves leaves.now }
         requires few { (leaf : _) → owners self.old.leaves leaf + length leaves.now ≤ 2 ^ 63 }
         ensures { Hands self.old self.new (λ leaf. 0) (λ leaf. times leaf leaves.now) }
     {
         for leaf in leaves {
-            self.share_leaf(*leaf);
+            self.share_leaf(*leaf as usize);
         }
     }
 
@@ -134,20 +151,21 @@ impl BlockStore {
     }
 
     /// Takes one owner from each leaf.
-    pub(crate) fn release_leaves(&mut self, leaves: &[usize])
+    pub(crate) fn release_leaves(&mut self, leaves: &[u32])
         requires owned { Covers self.old.leaves leaves.now }
         requires backed { AreBacked self.old (slots_in self.old leaves.now) }
         ensures { Hands self.old self.new (λ leaf. times leaf leaves.now) (λ leaf. 0) }
     {
         for leaf in leaves {
-            self.release_leaf(*leaf);
+            self.release_leaf(*leaf as usize);
         }
     }
 
     /// New leaves and blocks in place of these leaves, each of which loses an owner. Every block is in
     /// the new leaves under its number, so it has one owner more while the old leaf stands.
-    /// Where memory is refused, the store is as it was; so it is where a block has 2^62 owners.
-    pub(crate) fn renew(&mut self, was: &[usize], stage: Stage) -> Result<Vec<usize>, NoMemory>
+    /// Where memory is refused, the store is as it was; so it is where a block has 2^62 owners, and
+    /// where there would be room for more than 2^32 leaves.
+    pub(crate) fn renew(&mut self, was: &[u32], stage: Stage) -> Result<Vec<u32>, NoMemory>
         requires owned { Covers self.old.leaves was.now }
         requires backed { AreBacked self.old (slots_in self.old was.now) }
         requires there { AreThere self.old stage.window.items }
@@ -163,7 +181,7 @@ impl BlockStore {
         let past = stage.first + stage.staged.len();
         let count = past.max(stage.window.len()).div_ceil(LEAF);
         let mut now = Vec::with_capacity(self.alloc, count)?;
-        self.leaves.reserve(count)?;
+        reserve_leaves(&mut self.leaves, count)?;
         let slots = lay_stage(&mut self.blocks, self.alloc, stage)?;
         put_leaves(&mut self.leaves, &mut now, &slots);
         self.release_leaves(was);

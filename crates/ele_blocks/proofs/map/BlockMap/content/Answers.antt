@@ -1,13 +1,18 @@
-use Rattle.ele_blocks.proofs.Words.{◌*◌, ◌-◌, ◌∙◌, ap, length, arith, take_all, length-take, content_of, shown}
+use Rattle.ele_blocks.proofs.Words.{◌≡◌, ◌+◌, ◌*◌, ◌∙◌, ap, sym, arith, length, take-add, take_all, content_of, shown}
 use Rattle.ele_blocks.proofs.Sizes.{length-content}
 use Rattle.ele_blocks.proofs.map.BlockMap.content.Goals as goal
 
+pub loop-slot-preserved : goal.loop-slot-preserved
+loop-slot-preserved c =
+    let content = content_of (shown c.args.store.now c.args.self.now) in
+    let next : 512 * (c.loop-slot.slot + 1) ≡ 512 * c.loop-slot.slot + 512 = omega arith in
+    c.in_ok-extend_from_slice.ensures.items ∙ rw (c.loop-slot.invariant, c.bytes_at.ensures, next) (sym (take-add (512 * c.loop-slot.slot) 512 content))
+
+-- all slots have been joined
 pub returns-clause-bytes : goal.returns-clause-bytes
 returns-clause-bytes c =
     let content = content_of (shown c.args.store.now c.args.self.now) in
-    c.in_ok-bytes.ensures ∙ take_all (512 * (c.slots-slots.result - 0)) content (omega (arith, length-content c.args.store.now c.args.self.now c.requires.whole))
+    c.loop-slot.invariant ∙ take_all (512 * c.loop-slot.slot) content (omega (arith, length-content c.args.store.now c.args.self.now c.requires.whole))
 
 pub returns-clause-length : goal.returns-clause-length
-returns-clause-length c =
-    let content = content_of (shown c.args.store.now c.args.self.now) in
-    omega (arith, c.in_ok-bytes.bytes.ok, ap length c.in_ok-bytes.ensures, length-take (512 * (c.slots-slots.result - 0)) content, length-content c.args.store.now c.args.self.now c.requires.whole)
+returns-clause-length c = omega (arith, c.loop-slot.all.ok, ap length (returns-clause-bytes c), length-content c.args.store.now c.args.self.now c.requires.whole)

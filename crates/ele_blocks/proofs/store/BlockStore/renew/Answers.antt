@@ -10,9 +10,9 @@ come c =
     let h : HaveCome s mid c.args.stage.window.items c.args.stage.first c.args.stage.writer c.args.stage.staged.items c.in_ok-slots.slots.items c.put_leaves.new.ids.items c.args.was.now = record {
       there = rw (← c.self.view_is) at c.requires.there;
       laid = c.in_ok-slots.ensures.laid;
-      puts = rw c.in_ok-reserve.ensures.same at c.put_leaves.ensures.adds;
+      puts = rw c.in_ok-reserve_leaves.ensures.same at c.put_leaves.ensures.adds;
       values = rw c.deref-2.ensures.value at c.put_leaves.ensures.values;
-      backs = rw (c.in_ok-reserve.ensures.same, c.deref-2.ensures.value) at c.put_leaves.ensures.backing;
+      backs = rw (c.in_ok-reserve_leaves.ensures.same, c.deref-2.ensures.value) at c.put_leaves.ensures.backing;
       owned = rw (← c.self.view_is) at c.requires.owned;
       backed = rw (← c.self.view_is) at c.requires.backed;
     } in

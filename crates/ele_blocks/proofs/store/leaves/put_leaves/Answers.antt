@@ -4,6 +4,9 @@ use Rattle.ele_blocks.proofs.Sized.{chunk_next}
 use Rattle.ele_blocks.proofs.Trades.{puts_more}
 use Rattle.ele_blocks.proofs.store.leaves.put_leaves.Goals as goal
 
+pub overflow_cast-put_reserved : goal.overflow_cast-put_reserved
+overflow_cast-put_reserved c = omega (arith, c.put_reserved.ensures.within, c.loop.invariant.numbers)
+
 pub loop-preserved : goal.loop-preserved
 loop-preserved c =
     let h = c.loop.invariant in
@@ -16,6 +19,7 @@ loop-preserved c =
       puts = rw c.put.ensures.items (puts_more c.args.leaves.now.slots c.loop.leaves.slots c.put_reserved.new.self.slots c.loop.ids.items front _ _ c.put_reserved.result (rw next at h.puts) c.put_reserved.ensures.vacant sets);
       left = omega (arith, h.left, ap length c.split_at.ensures.back, length-drop c.min.result c.loop.rest.now, c.min.ensures);
       room = c.put_reserved.ensures.room left (omega (arith, h.room));
+      numbers = omega (arith, c.put_reserved.ensures.capacity, h.numbers);
       room_ids = omega (arith, h.room_ids, ap length c.put.ensures.items, length-append c.loop.ids.items (c.put_reserved.result ∷ []), c.put.ensures.room);
       backing = λ id. backing_put c.loop.leaves.slots c.put_reserved.new.self.slots c.loop.rest.now front back c.min.result c.put_reserved.result c.split_at.ensures.front c.split_at.ensures.back c.put_reserved.ensures.vacant sets id ∙ h.backing id;
     }

@@ -1,4 +1,4 @@
-use Rattle.ele_blocks.proofs.Words.{◌≡◌, ℕ, ◌+◌, ◌-◌, ◌≤◌, length, vec_capacity, first_chunks, HasRoomFor, ids_of, backing, leaf_count, parts, times}
+use Rattle.ele_blocks.proofs.Words.{◌≡◌, ℕ, ◌+◌, ◌-◌, ◌≤◌, ◌^◌, length, vec_capacity, first_chunks, HasRoomFor, ids_of, backing, leaf_count, parts, times}
 use Rattle.ele_blocks.proofs.Trades.{PutsSoFar}
 use Rattle.ele_blocks.proofs.store.leaves.put_leaves.Given as goal
 
@@ -7,6 +7,7 @@ invariant-loop l = record {
   puts : PutsSoFar l.initial.leaves.slots l.leaves.slots l.ids.items (first_chunks 16 (l.end - l.counter) l.rest) (parts l.slots);
   left : l.end - l.counter ≡ leaf_count (length l.rest);
   room : HasRoomFor l.leaves (l.end - l.counter);
+  numbers : l.leaves.capacity ≤ 2 ^ 32;
   room_ids : length l.ids.items + (l.end - l.counter) ≤ vec_capacity l.ids;
   backing : (id : ℕ) → backing l.leaves.slots id + times id (ids_of l.rest) ≡ backing l.initial.leaves.slots id + times id (ids_of l.slots);
 }

@@ -1,0 +1,5 @@
+use Rattle.ele_blocks.proofs.Words.{◌≡◌, ◌*◌, take, content_of, shown}
+use Rattle.ele_blocks.proofs.map.BlockMap.content.Given as goal
+
+abbrev pub invariant-loop-slot : goal.invariant-loop-slot
+invariant-loop-slot l = l.all.items ≡ take (512 * l.slot) (content_of (shown l.store l.self))
