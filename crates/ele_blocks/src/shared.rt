@@ -66,9 +66,9 @@ impl<T: Drop> Shared<T> {
         Ok(())
     }
 
-    /// How many values fit, with those that stand.
+    /// How many values fit, with those that stand, once room was made.
     pub fn capacity(&self) -> usize
-        ensures { self.now.capacity ≤ result }
+        ensures { 0 < self.now.capacity → result ≡ self.now.capacity }
     {
         self.values.capacity()
     }
