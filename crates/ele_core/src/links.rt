@@ -1,9 +1,9 @@
 //! The events that give a name more, or another one in a name's place.
-ghost use Rattle.std.specs.Prelude.{◌≡◌, ◌<◌, IfOk, OnOk, OnErr, Some};
+ghost use Rattle.std.specs.Prelude.{◌≡◌, ◌<◌, IfOk, OnOk, OnErr, Some, is_some, false};
 ghost use Rattle.ele_world.specs.Change.{AddName, MoveName, after_change};
 ghost use Rattle.ele_world.specs.Step.{step};
+ghost use Rattle.ele_world.specs.Walk.{live_target};
 ghost use Rattle.ele_world.specs.declared.event.Event.TheVariants as event;
-ghost use Rattle.ele_world.proofs.May.{MayAdd, MayMove};
 ghost use Rattle.ele_core.specs.Inside.{world_of, IsTracked, IsSound};
 
 use crate::rows::{Rows, are_names_full};
@@ -19,7 +19,8 @@ pub fn add_name(
     target: Target,
 ) -> Result<(), NoMemory>
     requires sound { IsSound rows.old }
-    requires may { MayAdd (world_of rows.old) directory name target }
+    requires names { rows.old.made.names < rows.old.limits.names }
+    requires free { is_some (live_target rows.old.names directory name) ≡ false }
     ensures ok { OnOk result (world_of rows.new
         ≡ after_change (world_of rows.old) (AddName directory name target)) }
     ensures err { OnErr result (world_of rows.new ≡ world_of rows.old) }
@@ -64,7 +65,9 @@ fn move_name(
     target: Target,
 ) -> Result<(), NoMemory>
     requires sound { IsSound rows.old }
-    requires may { MayMove (world_of rows.old) from.0 from.1 to.0 to.1 target }
+    requires names { rows.old.made.names < rows.old.limits.names }
+    requires stands { live_target rows.old.names from.0 from.1 ≡ Some target }
+    requires free { is_some (live_target rows.old.names to.0 to.1) ≡ false }
     ensures ok { OnOk result (world_of rows.new
         ≡ after_change (world_of rows.old) (MoveName from.0 from.1 to.0 to.1 target)) }
     ensures err { OnErr result (world_of rows.new ≡ world_of rows.old) }
