@@ -4,6 +4,7 @@ pub mod Booked
 pub mod Asked
 pub mod Appended
 pub mod NewNames
+pub mod LinkedNames
 pub mod DirectoryNames
 pub mod Made
 pub mod Kept

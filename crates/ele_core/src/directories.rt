@@ -8,7 +8,7 @@ ghost use Rattle.ele_world.specs.declared.event.Event.TheVariants as event;
 ghost use Rattle.ele_core.specs.Inside.{world_of, IsTracked, IsSound};
 
 use crate::lookups::default_of;
-use crate::rows::Rows;
+use crate::rows::{Rows, are_names_full};
 use crate::walk::directory_now;
 use ele_lists::put;
 use ele_names::parent_now;
@@ -56,7 +56,7 @@ pub fn make_dir(rows: &mut Rows, path: &Path) -> Result<Reply, NoMemory>
     if rows.made.directories >= rows.limits.directories() {
         return Ok(Reply::Refused(Refusal::Full(Which::Directories)));
     }
-    if rows.made.names >= rows.limits.names() {
+    if are_names_full(rows) {
         return Ok(Reply::Refused(Refusal::Full(Which::Names)));
     }
     let id = add_directory(rows, directory, name)?;

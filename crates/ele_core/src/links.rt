@@ -1,14 +1,14 @@
 //! The events that give a name more, or another one in a name's place.
-ghost use Rattle.std.specs.Prelude.{◌≡◌, ◌<◌, IfOk, OnOk, OnErr, Some};
+ghost use Rattle.std.specs.Prelude.{◌≡◌, ◌<◌, IfOk, OnOk, OnErr, Some, is_some, false};
 ghost use Rattle.ele_world.specs.Change.{AddName, MoveName, after_change};
 ghost use Rattle.ele_world.specs.Step.{step};
+ghost use Rattle.ele_world.specs.Walk.{live_target};
 ghost use Rattle.ele_world.specs.declared.event.Event.TheVariants as event;
-ghost use Rattle.ele_world.proofs.May.{MayAdd, MayMove};
 ghost use Rattle.ele_core.specs.Inside.{world_of, IsTracked, IsSound};
 
 use crate::rows::{Rows, are_names_full};
 use crate::walk::file_now;
-use ele_names::{parent_now, resolve_now, stands_in};
+use ele_names::{Names, parent_now, resolve_now, stands_in};
 use ele_world::{DirId, Name, NoMemory, Path, Refusal, Reply, Target, Which};
 
 /// What is there gets a name more, once nothing refuses it.
@@ -19,7 +19,8 @@ pub fn add_name(
     target: Target,
 ) -> Result<(), NoMemory>
     requires sound { IsSound rows.old }
-    requires may { MayAdd (world_of rows.old) directory name target }
+    requires names { rows.old.made.names < rows.old.limits.names }
+    requires free { is_some (live_target rows.old.names directory name) ≡ false }
     ensures ok { OnOk result (world_of rows.new
         ≡ after_change (world_of rows.old) (AddName directory name target)) }
     ensures err { OnErr result (world_of rows.new ≡ world_of rows.old) }
@@ -56,22 +57,31 @@ pub fn link(rows: &mut Rows, from: &Path, to: &Path) -> Result<Reply, NoMemory>
     Ok(Reply::Done)
 }
 
+/// Whether the name is live there.
+fn is_taken(names: &Names, at: &(DirId, Name)) -> bool
+    ensures { result ≡ is_some (live_target names.now at.now.0 at.now.1) }
+{
+    names.live(at.0, &at.1).is_some()
+}
+
 /// The live name gives way to another one of what it stands for, once nothing refuses it.
 fn move_name(
     rows: &mut Rows,
-    from: (DirId, Name),
-    to: (DirId, Name),
-    target: Target,
+    from: &(DirId, Name),
+    to: &(DirId, Name),
+    target: &Target,
 ) -> Result<(), NoMemory>
     requires sound { IsSound rows.old }
-    requires may { MayMove (world_of rows.old) from.0 from.1 to.0 to.1 target }
+    requires names { rows.old.made.names < rows.old.limits.names }
+    requires stands { live_target rows.old.names from.now.0 from.now.1 ≡ Some target.now }
+    requires free { is_some (live_target rows.old.names to.now.0 to.now.1) ≡ false }
     ensures ok { OnOk result (world_of rows.new
-        ≡ after_change (world_of rows.old) (MoveName from.0 from.1 to.0 to.1 target)) }
+        ≡ after_change (world_of rows.old) (MoveName from.now.0 from.now.1 to.now.0 to.now.1 target.now)) }
     ensures err { OnErr result (world_of rows.new ≡ world_of rows.old) }
     ensures tracked { IsTracked rows.new }
 {
     // The new name comes first, since it may be refused memory.
-    rows.names.add(to.0, to.1, target, rows.moment)?;
+    rows.names.add(to.0, to.1, *target, rows.moment)?;
     rows.names.kill(from.0, &from.1, rows.moment);
     rows.made.names += 1;
     Ok(())
@@ -100,12 +110,12 @@ pub fn rename(rows: &mut Rows, from: &Path, to: &Path) -> Result<Reply, NoMemory
     if stands_in(&rows.names, moved, to) {
         return Ok(Reply::Refused(Refusal::IntoItself));
     }
-    if rows.names.live(new.0, &new.1).is_some() {
+    if is_taken(&rows.names, &new) {
         return Ok(Reply::Refused(Refusal::Exists));
     }
     if are_names_full(rows) {
         return Ok(Reply::Refused(Refusal::Full(Which::Names)));
     }
-    move_name(rows, old, new, moved)?;
+    move_name(rows, &old, &new, &moved)?;
     Ok(Reply::Done)
 }

@@ -9,7 +9,7 @@ ghost use Rattle.ele_core.specs.Inside.{world_of, IsTracked, IsSound};
 
 use crate::book::blocks_fit;
 use crate::lookups::default_of;
-use crate::rows::{Rows, is_full};
+use crate::rows::{Rows, are_names_full, is_full};
 use ele_names::parent_now;
 use ele_usage::Usage;
 use ele_world::{DirId, FileId, Name, NoMemory, Path, Refusal, Reply, Target, Which};
@@ -71,7 +71,7 @@ pub fn create(rows: &mut Rows, path: &Path) -> Result<Reply, NoMemory>
     if rows.made.files >= rows.limits.files() {
         return Ok(Reply::Refused(Refusal::Full(Which::Files)));
     }
-    if rows.made.names >= rows.limits.names() {
+    if are_names_full(rows) {
         return Ok(Reply::Refused(Refusal::Full(Which::Names)));
     }
     if is_full(rows) {
