@@ -183,7 +183,7 @@ made_book rows directory name policy now book sound after added k =
 
 -- ---- blocks that are shifted
 
-same_kind : (k : Kind) → is_kind k k ≡ true
+pub same_kind : (k : Kind) → is_kind k k ≡ true
 same_kind kind.One = refl
 same_kind kind.All = refl
 same_kind kind.Safe = refl

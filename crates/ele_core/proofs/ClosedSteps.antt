@@ -1,6 +1,7 @@
 -- What closing a handle leaves, as the step of the world has it.
-use Rattle.std.proofs.Common.{◌≡◌, ◌≤◌, ◌<◌, ◌^◌, ℕ, Bool, true, false, cond, [], ◌∷◌, length, is_some, Option, Some, None, Result, Ok, refl, ap, sym, ◌∙◌, arith}
+use Rattle.std.proofs.Common.{◌≡◌, ◌≤◌, ◌<◌, ◌^◌, ℕ, Bool, true, false, cond, [], ◌∷◌, length, is_some, Option, Some, None, Result, Ok, Err, refl, ap, sym, subst, ◌∙◌, arith}
 use Rattle.std.specs.Prelude.{find, IfSome}
+use Rattle.std.proofs.lemmas.Bool.{false≢true}
 use Rattle.std.specs.List.{AllByRecursion}
 use Rattle.std.specs.Option.{ForSome, option_and_then, option_map, option_map_or}
 use Rattle.std.specs.Result.{result_ok}
@@ -14,25 +15,31 @@ use Rattle.ele_files.specs.Held.{Held, changed_at, rows_of, with_rows}
 use Rattle.ele_lists.proofs.Edits.{found_passes, all-found, all-weaker}
 use Rattle.ele_world.specs.declared.event.Event.TheVariants.{Close}
 use Rattle.ele_world.specs.declared.refusal.Refusal.{Refusal}
+use Rattle.ele_world.specs.declared.refusal.Refusal.TheVariants.{NoHandle}
 use Rattle.ele_world.specs.declared.reply.Reply.{Reply}
 use Rattle.ele_world.specs.declared.reply.Reply.TheVariants.{Closed}
 use Rattle.ele_world.specs.declared.rows.DraftRow.{DraftRow}
 use Rattle.ele_world.specs.declared.rows.FileRow.{FileRow}
+use Rattle.ele_world.specs.declared.rows.HandleRow.{HandleRow}
+use Rattle.ele_world.specs.declared.rows.Reads.{Reads}
+use Rattle.ele_world.specs.declared.rows.Reads.TheVariants.{Draft}
 use Rattle.ele_world.specs.declared.rows.VersionRow.{VersionRow}
-use Rattle.ele_world.specs.Change.{EndDraft, ShutHandle, Append, after_changes}
+use Rattle.ele_world.specs.Change.{EndDraft, ShutHandle, Append, DropIdle, after_change, after_changes}
 use Rattle.ele_world.specs.Plan.{found_outcome}
 use Rattle.ele_world.specs.Step.{has_other_writer, step}
-use Rattle.ele_world.specs.WellFormed.{IsDraft, IsFile, IsVersion, Counted, Drafts, Files, Versions, IsWellFormed}
+use Rattle.ele_world.specs.WellFormed.{IsDraft, IsFile, IsHandle, IsReadable, IsVersion, Counted, Drafts, Files, Handles, Versions, IsWellFormed}
 use Rattle.ele_world.specs.Whole.{ChangesOnly}
+use Rattle.ele_world.proofs.Dropped.{dropped}
+use Rattle.ele_world.proofs.Keeps.{all_keep}
 use Rattle.ele_world.proofs.Others.{drafts-removed}
-use Rattle.ele_world.specs.World.{World, file_by, is_draft, next_of}
+use Rattle.ele_world.specs.World.{World, file_by, file_written, has_draft, is_draft, is_handle, next_of}
 
 -- the step, by what the file's draft is, and by the file that the handle writes
 abbrev draft_step : World → ℕ → ℕ → Option DraftRow → Reply × World
 draft_step w handle file found = option_map_or (λ draft.
     cond draft.changed
     (Closed (Some (next_of w.files file)), after_changes w (ShutHandle handle ∷ EndDraft file ∷ Append file draft.opened draft.cells ∷ []))
-    (Closed None, after_changes w (ShutHandle handle ∷ EndDraft file ∷ []))) found (Closed None, after_changes w (ShutHandle handle ∷ []))
+    (Closed None, after_changes w (ShutHandle handle ∷ EndDraft file ∷ DropIdle file ∷ []))) found (Closed None, after_changes w (ShutHandle handle ∷ []))
 
 abbrev close_of : World → ℕ → Result ℕ Refusal → Reply × World
 close_of w handle found = found_outcome w found (λ file.
@@ -84,16 +91,46 @@ module _ (w : World) (handle file : ℕ) (of_file : file_by w.handles handle ≡
   abbrev pub goes : Bool
   goes = is_some (last_draft (rows_of w) handle file)
 
-  pub left_step : opening_by (rows_of w) handle ≡ None → step w (Close handle) ≡ (Closed None, after_changes w (leaving handle file goes))
-  left_step opens = ap (close_of w handle) of_file ∙ by (has_other_writer w handle file) (find (is_draft file) w.drafts) (opening None opens) where
-    of_change : (draft : DraftRow) (c : Bool) → draft.changed ≡ c → cond c (Some draft.opened) None ≡ None → draft_step w handle file (Some draft) ≡ (Closed None, after_changes w (leaving handle file true))
+  -- the file that the handle writes has a draft
+  drafted_by : IsWellFormed w → has_draft w file ≡ true
+  drafted_by formed = by (find (is_handle handle) w.handles) refl of_file where
+    of_row : (row : HandleRow) → IsReadable w.drafts row.reads → file_written (Ok row.reads) ≡ Ok file → has_draft w file ≡ true
+    of_row row there is = read row.reads there is where
+      read : (reads : Reads) → IsReadable w.drafts reads → file_written (Ok reads) ≡ Ok file → has_draft w file ≡ true
+      read (Draft other) there is = let same : other ≡ file = cc in subst (λ f. has_draft w f ≡ true) same there
+
+    by : (o : Option HandleRow) → find (is_handle handle) w.handles ≡ o → file_written (option_map_or (λ (row : HandleRow). Ok row.reads) o (Err NoHandle)) ≡ Ok file → has_draft w file ≡ true
+    by None found is = absurd cc
+    by (Some row) found is = of_row row (all-found (is_handle handle) (IsHandle w.made.handles w.drafts) w.handles row found (formed.holds Handles).each).readable is
+
+  abbrev shut : World
+  shut = after_changes w (ShutHandle handle ∷ [])
+
+  -- so it stays where the draft does
+  stays : IsWellFormed w → after_change shut (DropIdle file) ≡ shut
+  stays formed = dropped (λ v. v ≡ shut) shut file (λ idle. absurd (false≢true (sym idle.undrafted ∙ drafted_by formed))) (λ busy. refl)
+
+  pub left_step : IsWellFormed w → opening_by (rows_of w) handle ≡ None → step w (Close handle) ≡ (Closed None, after_change (after_changes w (leaving handle file goes)) (DropIdle file))
+  left_step formed opens = ap (close_of w handle) of_file ∙ by (has_other_writer w handle file) (find (is_draft file) w.drafts) (opening None opens) where
+    of_change : (draft : DraftRow) (c : Bool) → draft.changed ≡ c → cond c (Some draft.opened) None ≡ None → draft_step w handle file (Some draft) ≡ (Closed None, after_change (after_changes w (leaving handle file true)) (DropIdle file))
     of_change draft true e is = absurd cc
     of_change draft false e is = rw e refl
 
-    by : (b : Bool) (o : Option DraftRow) → changed_opening (cond b None o) ≡ None → cond b (Closed None, after_changes w (ShutHandle handle ∷ [])) (draft_step w handle file o) ≡ (Closed None, after_changes w (leaving handle file (is_some (cond b None o))))
-    by true o is = refl
-    by false None is = refl
+    only_shut : ◌≡◌ {A = Reply × World} (Closed None, shut) (Closed None, after_change shut (DropIdle file))
+    only_shut = ap (λ (v : World). (Closed None, v)) (sym (stays formed))
+
+    by : (b : Bool) (o : Option DraftRow) → changed_opening (cond b None o) ≡ None → cond b (Closed None, shut) (draft_step w handle file o) ≡ (Closed None, after_change (after_changes w (leaving handle file (is_some (cond b None o)))) (DropIdle file))
+    by true o is = only_shut
+    by false None is = only_shut
     by false (Some draft) is = of_change draft draft.changed refl is
+
+  -- and a well-formed world stays so, before the drop too
+  pub left_keeps : IsWellFormed w → IsWellFormed (after_changes w (leaving handle file goes))
+  left_keeps formed = by (has_other_writer w handle file) refl (find (is_draft file) w.drafts) where
+    by : (b : Bool) → has_other_writer w handle file ≡ b → (o : Option DraftRow) → IsWellFormed (after_changes w (leaving handle file (is_some (cond b None o))))
+    by true other o = all_keep (Close handle) w w (ShutHandle handle ∷ []) tt (tt, tt) formed
+    by false alone None = all_keep (Close handle) w w (ShutHandle handle ∷ []) tt (tt, tt) formed
+    by false alone (Some draft) = all_keep (Close handle) w w (ShutHandle handle ∷ EndDraft file ∷ []) tt (tt, (alone, tt)) formed
 
   left_at : left_by (rows_of w) handle ≡ changed_at (rows_of w) 0 (leaving handle file goes)
   left_at = ap (λ r. left_of (rows_of w) handle (result_ok r)) of_file

@@ -19,12 +19,15 @@ use Rattle.ele_usage.specs.Book.{Book, sums_of}
 use Rattle.ele_usage.specs.Sums.{nothing, plus, Fits, IsWithin}
 use Rattle.ele_world.specs.declared.rows.VersionRow.{VersionRow}
 use Rattle.ele_world.specs.Scan.{first_due}
-use Rattle.ele_world.specs.Step.{clean_step}
+use Rattle.ele_world.specs.Change.{Take, after_change}
+use Rattle.ele_world.specs.WellFormed.{IsWellFormed}
+use Rattle.ele_world.specs.declared.event.Event.TheVariants.{CleanOne}
 use Rattle.ele_world.specs.Usage.{is_file_of, bytes_in, usage_of}
 use Rattle.ele_world.specs.Whole.{whole, ChangesOnly}
 use Rattle.ele_world.specs.World.{World, is_version}
-use Rattle.ele_world.proofs.CleanKeepsKeys.{clean_keeps_keys}
-use Rattle.ele_world.proofs.Cleans.{clean_of}
+use Rattle.ele_world.proofs.Allowed.{takes}
+use Rattle.ele_world.proofs.CleanKeepsKeys.{take_keeps_keys}
+use Rattle.ele_world.proofs.Keeps.{change_keeps}
 use Rattle.ele_world.proofs.DueRows.{IsDueKey}
 use Rattle.ele_lists.proofs.Sums.{sum_by-remove_first}
 use Rattle.ele_world.proofs.Usages.{usage_changes, changes_removed}
@@ -34,9 +37,12 @@ pub removed_queue : (rows : Rows) (key : Key) (queue : List Key) → IsSound row
     → IsQueued (record (world_of rows) { versions = remove_first (is_version key.file key.number) rows.files.versions }) queue
 removed_queue rows key queue sound first taken =
     let w = world_of rows in
-    let one = clean_keeps_keys w key sound.formed first in
-    subst (λ o. IsQueued ((clean_of w o).1) queue) first
-    (entry_follows w ((clean_step w).1) rows.queue queue sound.tracked.queue key.file key.number one.others (rw (one.was, one.gone) taken))
+    let one = take_keeps_keys w key sound.formed first in
+    entry_follows w (after_change w (Take key.file key.number)) rows.queue queue sound.tracked.queue key.file key.number one.others (rw (one.was, one.gone) taken)
+
+-- a well-formed world stays so
+pub removed_keeps : (w v : World) (key : Key) → first_due w ≡ Some key → v ≡ after_change w (Take key.file key.number) → IsWellFormed w → IsWellFormed v
+removed_keeps w v key first is k = subst IsWellFormed (sym is) (change_keeps CleanOne w w (Take key.file key.number) tt (takes w key k first) k)
 
 -- ---- the book
 

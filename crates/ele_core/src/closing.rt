@@ -133,7 +133,7 @@ fn finish(rows: &mut Rows, handle: Handle, file: FileId, opened: Moment) -> Resu
     Ok(Reply::Closed(Some(number)))
 }
 
-/// A handle is closed whose draft stays, or goes without a trace.
+/// A handle is closed whose draft stays, or goes without a trace, and with it a file of which nothing else is left.
 fn leave(rows: &mut Rows, handle: Handle, file: FileId) -> Reply
     requires sound { IsSound rows.old }
     requires meter { rows.old.meter ≡ 0 }
@@ -145,6 +145,7 @@ fn leave(rows: &mut Rows, handle: Handle, file: FileId) -> Reply
     let before = blocks(&rows.files);
     rows.files.leave(handle);
     follow_blocks(&mut rows.book, &rows.files, file, before);
+    drop_idle(rows, file);
     Reply::Closed(None)
 }
 
@@ -165,10 +166,6 @@ pub fn close(rows: &mut Rows, handle: Handle) -> Result<Reply, NoMemory>
     };
     match rows.files.changed_draft(handle) {
         Some(opened) => finish(rows, handle, file, opened),
-        None => {
-            let reply = leave(rows, handle, file);
-            drop_idle(rows, file);
-            Ok(reply)
-        }
+        None => Ok(leave(rows, handle, file)),
     }
 }

@@ -91,6 +91,13 @@ module _ {X : Type 0} (p : X → Bool) where
     | false ↦ λ e. let here : one x ≡ 0 = rw e refl in let more = sum_by-cons one x xs in any-count xs ∙ grind (arith, nat_tests, here, more)
   ] refl
 
+  -- one that passed and is changed so that it doesn't makes the count one less
+  pub count-update_first : (t : X → Bool) (g : X → X) (xs : List X) (x : X) → find t xs ≡ Some x → p x ≡ true → p (g x) ≡ false → count_by p (update_first t g xs) + 1 ≡ count_by p xs
+  count-update_first t g xs x found was is =
+      let before : one x ≡ 1 = rw was refl in
+      let after : one (g x) ≡ 0 = rw is refl in
+      omega (arith, sum_by-update_first one t g xs x found, before, after)
+
 -- what passes and what doesn't
 pub length-split : {X : Type 0} (t : X → Bool) (xs : List X) → length xs ≡ length (filter t xs) + length (filter (λ x. not (t x)) xs)
 length-split t [] = refl

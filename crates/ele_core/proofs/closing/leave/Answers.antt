@@ -1,9 +1,11 @@
-use Rattle.std.proofs.Common.{None, ap, sym, ◌∙◌}
+use Rattle.std.proofs.Common.{None, ap, sym, subst, ◌∙◌}
 use Rattle.ele_core.proofs.Booked.{fits}
-use Rattle.ele_core.proofs.ClosedSteps.{left_step, left_world, leaves}
+use Rattle.ele_core.proofs.ClosedSteps.{left_keeps, left_step, left_world, leaves}
 use Rattle.ele_core.proofs.ClosedSums.{left_owed}
 use Rattle.ele_core.specs.Inside.{world_of}
 use Rattle.ele_files.specs.Held.{with_rows}
+use Rattle.ele_world.specs.Change.{DropIdle, after_change}
+use Rattle.ele_world.specs.WellFormed.{IsWellFormed}
 use Rattle.ele_world.specs.World.{World}
 use Rattle.ele_world.specs.declared.reply.Reply.TheVariants.{Closed}
 use Rattle.ele_core.proofs.closing.leave.Goals as goal
@@ -16,13 +18,17 @@ follow_blocks-requires-clause-owed c =
 pub follow_blocks-requires-clause-fits : goal.follow_blocks-requires-clause-fits
 follow_blocks-requires-clause-fits c = fits c.args.rows.now c.requires.sound
 
+pub drop_idle-requires : goal.drop_idle-requires
+drop_idle-requires c =
+    let w = world_of c.args.rows.now in
+    let is = leaves w c.args.handle c.args.file c.requires.file in
+    record {
+      formed = subst IsWellFormed (sym (ap (with_rows w) c.leave.ensures ∙ left_world w c.args.handle c.args.file c.requires.file)) (left_keeps w c.args.handle c.args.file c.requires.file c.requires.sound.formed);
+      tracked = record { queue = rw (c.leave.ensures, is.files, is.versions) c.requires.sound.tracked.queue; book = c.follow_blocks.ensures; bounds = c.requires.sound.tracked.bounds };
+    }
+
 pub returns-clause-step : goal.returns-clause-step
 returns-clause-step c =
     let w = world_of c.args.rows.now in
-    ap (λ (v : World). (Closed None, v)) (ap (with_rows w) c.leave.ensures ∙ left_world w c.args.handle c.args.file c.requires.file)
-    ∙ sym (left_step w c.args.handle c.args.file c.requires.file c.requires.unchanged)
-
-pub returns-clause-tracked : goal.returns-clause-tracked
-returns-clause-tracked c =
-    let is = leaves (world_of c.args.rows.now) c.args.handle c.args.file c.requires.file in
-    record { queue = rw (c.leave.ensures, is.files, is.versions) c.requires.sound.tracked.queue; book = c.follow_blocks.ensures; bounds = c.requires.sound.tracked.bounds }
+    ap (λ (v : World). (Closed None, v)) (c.drop_idle.ensures.world ∙ ap (λ (v : World). after_change v (DropIdle c.args.file)) (ap (with_rows w) c.leave.ensures ∙ left_world w c.args.handle c.args.file c.requires.file))
+    ∙ sym (left_step w c.args.handle c.args.file c.requires.file c.requires.sound.formed c.requires.unchanged)

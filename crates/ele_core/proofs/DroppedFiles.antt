@@ -1,0 +1,86 @@
+-- What the drop of a file leaves of the rows, the keys and the book.
+use Rattle.std.proofs.Common.{◌≡◌, ℕ, ◌+◌, ◌<◌, ◌≤◌, Bool, true, false, not, ◌&&◌, cond, List, [], ◌∷◌, Option, Some, None, refl, ap, sym, ◌∙◌, arith}
+use Rattle.std.specs.Prelude.{find, filter}
+use Rattle.std.specs.List.{AllByRecursion}
+use Rattle.std.specs.Option.{option_map, option_map_or}
+use Rattle.std.proofs.lemmas.Bool.Decides.{nat_tests}
+use Rattle.ele_core.proofs.Booked.{booked, same_kind, same_usage}
+use Rattle.ele_core.specs.Inside.{world_of, IsSound}
+use Rattle.ele_core.specs.Tracked.{told_by, IsBooked}
+use Rattle.ele_core.specs.declared.rows.Rows.{Rows}
+use Rattle.ele_files.specs.Held.{Held, rows_of}
+use Rattle.ele_lists.specs.Lists.{remove_first}
+use Rattle.ele_lists.proofs.Cuts.{remove_first-unfound}
+use Rattle.ele_lists.proofs.Edits.{all-weaker, not_found}
+use Rattle.ele_lists.proofs.Filters.{filter-all}
+use Rattle.ele_policy.specs.declared.policy.Kind.{Kind}
+use Rattle.ele_policy.specs.declared.policy.Policy.{Policy}
+use Rattle.ele_policy.specs.Policy.{kind_of}
+use Rattle.ele_usage.specs.declared.usage.Usage.{Usage}
+use Rattle.ele_usage.specs.Book.{Book, sums_of}
+use Rattle.ele_usage.specs.OnlyAt.{only_at}
+use Rattle.ele_usage.specs.Sums.{plus, IsWithin}
+use Rattle.ele_world.specs.Change.{DropIdle, is_idle, without_file, after_change}
+use Rattle.ele_world.specs.Usage.{usage_of}
+use Rattle.ele_world.specs.WellFormed.{IsNameRow, IsThere, Names, IsWellFormed}
+use Rattle.ele_world.specs.World.{World, is_file, is_target_file, next_of, policy_of}
+use Rattle.ele_world.specs.declared.rows.FileRow.{FileRow}
+use Rattle.ele_world.specs.declared.rows.Target.{Target}
+use Rattle.ele_world.specs.declared.rows.Target.TheVariants.{File, Directory}
+use Rattle.ele_world.proofs.Dropped.{dropped, stays_named}
+use Rattle.ele_world.proofs.DropUsage.{one_file, dropped_at}
+use Rattle.ele_world.proofs.Usages.{only_at_is, usage_same}
+
+-- ---- a file that isn't there
+
+no_row : (files : List FileRow) (file : ℕ) → policy_of files file ≡ None → AllByRecursion (λ row. is_file file row ≡ false) files
+no_row [] file none = tt
+no_row (row ∷ files) file none = elim (is_file file row) as (λ b. is_file file row ≡ b → option_map (λ (row : FileRow). row.policy) (cond b (Some row) (find (is_file file) files)) ≡ None → AllByRecursion (λ row. is_file file row ≡ false) (row ∷ files)) [
+  | true ↦ λ e none. absurd cc
+  | false ↦ λ e none. (e, no_row files file none)
+] refl none
+
+module _ (w : World) (file : ℕ) (k : IsWellFormed w) (none : policy_of w.files file ≡ None) where
+  other_target : (target : Target) → IsThere w.files target → not (is_target_file file target) ≡ true
+  other_target (Directory d) there = refl
+  other_target (File id) there = elim (not (is_target_file file (File id))) as (λ b. not (is_target_file file (File id)) ≡ b → b ≡ true) [
+    | true ↦ λ e. refl
+    | false ↦ λ e.
+        let same : id ≡ file = grind (arith, nat_tests) in
+        let nothing : next_of w.files file ≡ 0 = rw (not_found (is_file file) w.files (no_row w.files file none)) refl in
+        let is : 0 < next_of w.files file = rw same at there in
+        absurd (omega (arith, nothing, is))
+  ] refl
+
+  -- nothing of it goes
+  pub absent_stays : w ≡ after_change w (DropIdle file)
+  absent_stays = dropped (λ v. w ≡ v) w file (λ idle. sym (rw (
+    remove_first-unfound (is_file file) w.files (no_row w.files file none),
+    filter-all (stays_named file) w.names (all-weaker (IsNameRow w.files w.now) (λ row. stays_named file row ≡ true) w.names (λ row is. other_target row.target is.there) (k.holds Names).each)
+  ) refl)) (λ busy. refl)
+
+-- ---- the book
+
+without_as_many : (a b c : Usage) → plus a c ≡ plus b c → a ≡ b
+without_as_many a b c same =
+    let files = ap (λ (u : Usage). u.files) same in
+    let versions = ap (λ (u : Usage). u.versions) same in
+    let bytes = ap (λ (u : Usage). u.bytes) same in
+    let blocks = ap (λ (u : Usage). u.blocks) same in
+    same_usage a b (omega (arith, files)) (omega (arith, versions)) (omega (arith, bytes)) (omega (arith, blocks))
+
+module _ (rows : Rows) (file : ℕ) (policy : Policy) (sound : IsSound rows) (filed : policy_of rows.files.files file ≡ Some policy) (idle : is_idle (world_of rows) file ≡ true) where
+  -- its kind has it
+  pub dropped_within : IsWithin one_file (sums_of rows.book (kind_of policy))
+  dropped_within =
+      let kind = kind_of policy in
+      let own : only_at kind one_file kind ≡ one_file = only_at_is kind kind one_file ∙ rw (same_kind kind) refl in
+      let had : plus (usage_of (without_file (world_of rows) file) kind) one_file ≡ sums_of rows.book kind = ap (plus (usage_of (without_file (world_of rows) file) kind)) (sym own) ∙ dropped_at (world_of rows) file policy filed idle kind ∙ sym (booked rows sound.tracked kind) in
+      rw (← had) (record { files = omega arith; versions = omega arith; bytes = omega arith; blocks = omega arith })
+
+  -- and has what the others of its kind use, once it is off
+  pub dropped_book : (book : Book) → ((k : Kind) → plus (sums_of book k) (only_at (kind_of policy) one_file k) ≡ sums_of rows.book k) → IsBooked (rows_of (without_file (world_of rows) file)) book
+  dropped_book book taken k =
+      without_as_many (sums_of book k) (usage_of (without_file (world_of rows) file) k) (only_at (kind_of policy) one_file k)
+      (taken k ∙ booked rows sound.tracked k ∙ sym (dropped_at (world_of rows) file policy filed idle k))
+      ∙ usage_same (told_by (rows_of (without_file (world_of rows) file))) (without_file (world_of rows) file) refl refl refl k

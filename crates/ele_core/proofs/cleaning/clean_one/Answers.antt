@@ -1,0 +1,10 @@
+use Rattle.std.proofs.Common.{sym, ◌∙◌}
+use Rattle.ele_core.proofs.Removed.{removed_keeps}
+use Rattle.ele_core.specs.Inside.{world_of}
+use Rattle.ele_core.proofs.cleaning.clean_one.Goals as goal
+
+pub drop_idle-requires : goal.drop_idle-requires
+drop_idle-requires c = record {
+  formed = removed_keeps (world_of c.args.rows.now) (world_of c.remove.new.rows) c.in-Some.key (sym c.due_first.ensures ∙ c.in-Some.is) c.remove.ensures.world c.requires.sound.formed;
+  tracked = c.remove.ensures.tracked;
+}

@@ -1,0 +1,30 @@
+use Rattle.std.proofs.Common.{◌≡◌, true, refl, ap, sym, subst, ◌∙◌, arith}
+use Rattle.ele_core.proofs.DroppedFiles.{absent_stays, dropped_within, dropped_book}
+use Rattle.ele_core.specs.Inside.{world_of}
+use Rattle.ele_core.specs.Queued.{IsQueued}
+use Rattle.ele_world.specs.Change.{DropIdle, is_idle, without_file, after_change}
+use Rattle.ele_world.specs.Due.{is_moment}
+use Rattle.ele_world.specs.World.{World}
+use Rattle.ele_world.proofs.DropViews.{ripe_at_dropped}
+use Rattle.ele_core.proofs.dropping.drop_idle.Goals as goal
+
+pub returns-in_default-clause-world : goal.returns-in_default-clause-world
+returns-in_default-clause-world c = absent_stays (world_of c.args.rows.now) c.args.file c.requires.formed (sym c.policy_of.ensures ∙ c.in_default.is)
+
+pub sub-requires : goal.sub-requires
+sub-requires c =
+    let idle : is_idle (world_of c.args.rows.now) c.args.file ≡ true = grind (arith, c.is_live.ensures, c.if-is_live.false, c.is_bare.ensures, c.if-not-is_bare.false) in
+    rw c.kind.ensures (dropped_within c.args.rows.now c.args.file c.in-Some.policy c.requires (sym c.policy_of.ensures ∙ c.in-Some.is) idle)
+
+pub returns-clause-tracked : goal.returns-clause-tracked
+returns-clause-tracked c =
+    let rows = c.args.rows.now in
+    let w = world_of rows in
+    let idle : is_idle w c.args.file ≡ true = grind (arith, c.is_live.ensures, c.if-is_live.false, c.is_bare.ensures, c.if-not-is_bare.false) in
+    let filed = sym c.policy_of.ensures ∙ c.in-Some.is in
+    let gone : after_change w (DropIdle c.args.file) ≡ without_file w c.args.file = rw idle refl in
+    rw (c.drop_file.ensures, c.drop_file-2.ensures) (record {
+      queue = subst (λ (v : World). IsQueued v rows.queue) gone (λ k. c.requires.tracked.queue k ∙ ap (is_moment k.ripe) (sym (ripe_at_dropped w c.args.file k.file k.number)));
+      book = dropped_book rows c.args.file c.in-Some.policy c.requires filed idle c.sub.new.self (rw (← c.kind.ensures) c.sub.ensures.each);
+      bounds = c.requires.tracked.bounds;
+    })
