@@ -12,3 +12,4 @@ pub mod Removed
 pub mod Passing
 pub mod ClosedSteps
 pub mod ClosedSums
+pub mod Revived
