@@ -1,0 +1,17 @@
+use Rattle.std.proofs.Common.{Ok, ◌∙◌, rules, tests}
+use Rattle.std.proofs.lemmas.Iterator.{items_from_collect}
+use Rattle.std.proofs.lemmas.Iterator.Adapters.{YieldsList-from_vec}
+use Rattle.std.proofs.lemmas.Iterator.Consumers.{YieldsList-from_filter_map}
+use Rattle.std.specs.declared.alloc.AllocError.{AllocError}
+use Rattle.ele_core.specs.Inside.{world_of}
+use Rattle.ele_world.specs.Restorable.{returning_name}
+use Rattle.ele_world.proofs.Newest.{restorable_is}
+use Rattle.ele_core.proofs.restoring.restorable.Goals as goal
+
+pub returns : goal.returns
+returns c =
+    let w = world_of c.args.rows.now in
+    let dead = c.in_ok-dead.dead in
+    c.from_vec.ensures
+    ∙ items_from_collect {E = AllocError} (Ok c.in_ok-names.names) c.in_ok-names.ensures.ran (YieldsList-from_filter_map _ (returning_name w) (YieldsList-from_vec dead.items (cc) (cc)) c.filter_map.ensures.closure (λ x r q k. search (rules, tests)))
+    ∙ restorable_is w dead.items c.in_ok-dead.ensures.sorted c.in_ok-dead.ensures.found
