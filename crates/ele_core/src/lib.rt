@@ -55,9 +55,10 @@ use ele_names::Names;
 use ele_policy::Interval;
 use ele_usage::UsageBook;
 pub use ele_world::{
-    ByteList, Cell, Counts, DeadName, DeadNameList, DirId, DirectoryRow, DraftRow, Event, FileId, FileRow, Flat, Handle,
-    HandleRow, Key, KeyList, Kind, Limits, ListOf, Moment, Name, NameRow, NoMemory, PassEnd, Path,
-    Policy, Reads, Refusal, Reply, Source, Stop, Target, Usage, VersionNo, VersionRow, Which,
+    ByteList, Cell, Counts, DeadName, DeadNameList, DirId, DirectoryRow, DraftRow, Event, FileId,
+    FileRow, Flat, Handle, HandleRow, Key, KeyList, Kind, Limits, ListOf, Moment, Name, NameRow,
+    NoMemory, PassEnd, Path, Policy, Reads, Refusal, Reply, Source, Stop, Target, Usage, VersionNo,
+    VersionRow, Which,
 };
 use std::alloc::Global;
 use std::marker::Model;
