@@ -5,7 +5,6 @@ pub mod Asked
 pub mod Appended
 pub mod NewNames
 pub mod LinkedNames
-pub mod DirectoryNames
 pub mod Made
 pub mod Kept
 pub mod Fresh

@@ -76,7 +76,8 @@ fn move_name(
     requires stands { live_target rows.old.names from.now.0 from.now.1 ≡ Some target.now }
     requires free { is_some (live_target rows.old.names to.now.0 to.now.1) ≡ false }
     ensures ok { OnOk result (world_of rows.new
-        ≡ after_change (world_of rows.old) (MoveName from.now.0 from.now.1 to.now.0 to.now.1 target.now)) }
+        ≡ after_change (world_of rows.old)
+        (MoveName from.now.0 from.now.1 to.now.0 to.now.1 target.now)) }
     ensures err { OnErr result (world_of rows.new ≡ world_of rows.old) }
     ensures tracked { IsTracked rows.new }
 {
