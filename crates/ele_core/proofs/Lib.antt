@@ -13,3 +13,4 @@ pub mod Passing
 pub mod ClosedSteps
 pub mod ClosedSums
 pub mod DroppedFiles
+pub mod Unlinked
