@@ -56,7 +56,7 @@ module _ (w : World) (file : ℕ) (k : IsWellFormed w) (none : policy_of w.files
   pub absent_stays : w ≡ after_change w (DropIdle file)
   absent_stays = dropped (λ v. w ≡ v) w file (λ idle. sym (rw (
     remove_first-unfound (is_file file) w.files (no_row w.files file none),
-    filter-all (stays_named file) w.names (all-weaker (IsNameRow w.files w.now) (λ row. stays_named file row ≡ true) w.names (λ row is. other_target row.target is.there) (k.holds Names).each)
+    filter-all (stays_named file) w.names (all-weaker (IsNameRow w.files w.now) (λ row. stays_named file row ≡ true) w.names (λ row is. other_target row.target is.there) (k.holds Names).each),
   ) refl)) (λ busy. refl)
 
 -- ---- the book

@@ -14,3 +14,4 @@ pub mod ClosedSteps
 pub mod ClosedSums
 pub mod DroppedFiles
 pub mod Revived
+pub mod Unlinked

@@ -40,6 +40,23 @@ fn end_last_name(
     Ok(())
 }
 
+/// The file's name dies, and with its last one its current version ends.
+fn end_name(rows: &mut Rows, directory: DirId, name: &Name, file: FileId) -> Result<(), NoMemory>
+    requires sound { IsSound rows.old }
+    requires meter { rows.old.meter ≡ 0 }
+    requires stands { live_target rows.old.names directory name.now ≡ Some (File file) }
+    ensures ok { OnOk result (world_of rows.new
+        ≡ after_change (world_of rows.old) (EndFileName directory name.now file)) }
+    ensures err { OnErr result (world_of rows.new ≡ world_of rows.old) }
+    ensures tracked { IsTracked rows.new }
+{
+    if rows.names.names_of(file) == 1 {
+        return end_last_name(rows, directory, name, file);
+    }
+    rows.names.kill(directory, name, rows.moment);
+    Ok(())
+}
+
 /// The name of the file at the path dies, and with its last one its current version ends.
 pub fn unlink(rows: &mut Rows, path: &Path) -> Result<Reply, NoMemory>
     requires sound { IsSound rows.old }
@@ -57,10 +74,6 @@ pub fn unlink(rows: &mut Rows, path: &Path) -> Result<Reply, NoMemory>
         Ok(file) => file,
         Err(refusal) => return Ok(Reply::Refused(refusal)),
     };
-    if rows.names.names_of(file) == 1 {
-        end_last_name(rows, directory, &name, file)?;
-    } else {
-        rows.names.kill(directory, &name, rows.moment);
-    }
+    end_name(rows, directory, &name, file)?;
     Ok(Reply::Done)
 }

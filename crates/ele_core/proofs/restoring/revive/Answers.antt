@@ -7,6 +7,7 @@ use Rattle.ele_core.proofs.Revived.{revived_owed, revived_queue, revived_rows, r
 use Rattle.ele_core.specs.Inside.{world_of}
 use Rattle.ele_world.specs.World.{next_of}
 use Rattle.ele_world.specs.declared.rows.Target.TheVariants.{File}
+use Rattle.ele_world.proofs.Revivals.{revived_moments}
 use Rattle.ele_core.proofs.restoring.revive.Goals as goal
 
 pub next_number-requires : goal.next_number-requires
@@ -50,7 +51,7 @@ returns-clause-ok c =
 
 pub returns-clause-tracked : goal.returns-clause-tracked
 returns-clause-tracked c = record {
-  queue = revived_queue c.args.rows.now c.args.directory c.args.name c.args.file c.requires.sound c.requires.may ? _ (returns-clause-ok c);
+  queue = revived_queue c.args.rows.now c.args.directory c.args.name c.args.file c.requires.sound c.requires.may (revived_moments (world_of c.args.rows.now) c.args.directory c.args.name c.args.file c.requires.may c.requires.sound.formed) _ (returns-clause-ok c);
   book = c.follow_blocks.ensures;
   bounds = c.requires.sound.tracked.bounds;
 }

@@ -1,0 +1,99 @@
+-- What the end of a file's name leaves of the keys and of the book.
+use Rattle.std.proofs.Common.{◌≡◌, ℕ, ◌+◌, ◌-◌, ◌<◌, ◌==◌, true, false, [], ◌∷◌, List, Option, Some, None, is_none, refl, ap, sym, subst, ◌∙◌, arith}
+use Rattle.std.specs.Prelude.{find, nat_lt, option_and_then}
+use Rattle.std.specs.List.{count_by}
+use Rattle.std.specs.Option.{option_map}
+use Rattle.std.proofs.lemmas.Bool.Decides.{nat_tests}
+use Rattle.ele_core.proofs.Following.{entry_follows}
+use Rattle.ele_core.specs.Queued.{IsQueued, IsRekeyed, former_moment}
+use Rattle.ele_core.specs.Tracked.{told_by, IsBooked}
+use Rattle.ele_due.specs.declared.key.Key.{Key}
+use Rattle.ele_files.specs.Held.{Held, current_ended}
+use Rattle.ele_lists.proofs.Edits.{all-found, found_passes}
+use Rattle.ele_lists.proofs.Sums.{any-count, count-update_first}
+use Rattle.ele_policy.specs.Ripe.{Beside, ripe_by}
+use Rattle.ele_usage.specs.Book.{Book}
+use Rattle.ele_world.specs.Change.{EndFileName, after_change, with_end, without_name}
+use Rattle.ele_world.specs.Due.{ripe_at, is_moment}
+use Rattle.ele_world.specs.NameRows.{dies}
+use Rattle.ele_world.specs.Walk.{is_live_name, live_target}
+use Rattle.ele_world.specs.WellFormed.{IsNameRow, IsThere, Names, IsWellFormed}
+use Rattle.ele_world.specs.World.{World, is_live, is_live_name_of, is_version, next_of, policy_of}
+use Rattle.ele_world.specs.declared.rows.NameRow.{NameRow}
+use Rattle.ele_world.specs.declared.rows.Target.TheVariants.{File}
+use Rattle.ele_world.proofs.Currents.{HasCurrent, has_current}
+use Rattle.ele_world.proofs.EndUsage.{usage_ended}
+use Rattle.ele_world.proofs.NameMoments.{ended_moment, live_moments, no_moment, other_moments}
+use Rattle.ele_world.proofs.Walks.{target_live}
+
+-- an end that is set changes nothing of the book
+pub ended_book : (h : Held) (file now : ℕ) (book : Book) → IsBooked h book → IsBooked (current_ended h file now) book
+ended_book h file now book booked k = booked k ∙ sym (usage_ended (told_by h) (is_version file (next_of h.files file - 1)) now k)
+
+module _ (w : World) (directory : ℕ) (name : List ℕ) (file : ℕ) (stands : live_target w.names directory name ≡ Some (File file)) where
+  record IsNamed : Type 0 where
+    row : NameRow
+    found : find (is_live_name directory name) w.names ≡ Some row
+    own : row.target ≡ File file
+
+  named : IsNamed
+  named = by (find (is_live_name directory name) w.names) refl stands where
+    by : (o : Option NameRow) → find (is_live_name directory name) w.names ≡ o → option_map (λ (row : NameRow). row.target) o ≡ Some (File file) → IsNamed
+    by None found is = absurd cc
+    by (Some row) found is = record { row = row; found = found; own = cc }
+
+  pub file_there : IsWellFormed w → 0 < next_of w.files file
+  file_there k =
+      let n = named in
+      let is : IsNameRow w.files w.now n.row = all-found (is_live_name directory name) (IsNameRow w.files w.now) w.names n.row n.found (k.holds Names).each in
+      subst (IsThere w.files) n.own is.there
+
+  -- ---- how many names are left
+
+  one_less : count_by (is_live_name_of file) (without_name w directory name).names + 1 ≡ count_by (is_live_name_of file) w.names
+  one_less =
+      let n = named in
+      let passes = found_passes (is_live_name directory name) w.names n.row n.found in
+      let alive : is_none n.row.death ≡ true = grind (arith, nat_tests) in
+      let itself : (file == file) ≡ true = grind (arith, nat_tests) in
+      count-update_first (is_live_name_of file) (is_live_name directory name) (dies w.now) w.names n.row n.found (rw (n.own, itself) alive) (rw (n.own, itself) refl)
+
+  pub last_ends : count_by (is_live_name_of file) w.names ≡ 1 → is_live (without_name w directory name) file ≡ false
+  last_ends last =
+      let none : count_by (is_live_name_of file) (without_name w directory name).names ≡ 0 = omega (arith, one_less, last) in
+      any-count (is_live_name_of file) (without_name w directory name).names ∙ rw none refl
+
+  pub others_live : (count_by (is_live_name_of file) w.names ≡ 1 → ⊥) → is_live (without_name w directory name) file ≡ true
+  others_live more =
+      let left = count_by (is_live_name_of file) (without_name w directory name).names in
+      any-count (is_live_name_of file) (without_name w directory name).names
+      ∙ elim (nat_lt 0 left) as (λ b. nat_lt 0 left ≡ b → b ≡ true) [
+        | true ↦ λ e. refl
+        | false ↦ λ e. absurd (more (let none : left ≡ 0 = grind (arith, nat_tests) in omega (arith, one_less, none)))
+      ] refl
+
+  -- ---- while others are left
+
+  pub other_name_ends : is_live (without_name w directory name) file ≡ true → after_change w (EndFileName directory name file) ≡ without_name w directory name
+  other_name_ends live = rw live refl
+
+  pub kept_queue : is_live (without_name w directory name) file ≡ true → (queue : List Key) → IsQueued w queue → IsQueued (without_name w directory name) queue
+  kept_queue live queue queued = subst (λ (v : World). IsQueued v queue) (other_name_ends live) (λ k. queued k ∙ ap (is_moment k.ripe) (sym (live_moments w directory name file live k.file k.number)))
+
+  -- ---- with the last one
+
+  module _ (dead : is_live (without_name w directory name) file ≡ false) where
+    pub last_name_ends : after_change w (EndFileName directory name file) ≡ record (without_name w directory name) { versions = with_end w file }
+    last_name_ends = rw dead refl
+
+    pub ended_queue : IsWellFormed w → (queue after : List Key) → IsQueued w queue → IsRekeyed file (next_of w.files file - 1) None (former_moment w.files w.versions file w.now) queue after
+        → IsQueued (record (without_name w directory name) { versions = with_end w file }) after
+    ended_queue k queue after queued edited =
+        let current : HasCurrent w file = has_current w file k (target_live w.names directory name (File file) stands) in
+        let beside : Beside = record { newer = w.now ∷ []; live = false } in
+        let v = after_change w (EndFileName directory name file) in
+        let still : is_live v file ≡ false = dead in
+        let former : former_moment w.files w.versions file w.now ≡ option_and_then (λ policy. ripe_by policy current.row.closed beside w.now) (policy_of w.files file) = rw (current.found, current.no_end, current.own) refl in
+        let moment : ripe_at v file (next_of w.files file - 1) ≡ former_moment w.files w.versions file w.now = ended_moment w directory name file current beside still ∙ sym former in
+        subst (λ (u : World). IsQueued u after) last_name_ends
+        (entry_follows w v queue after queued file (next_of w.files file - 1) (other_moments w directory name file) (rw (no_moment w directory name file current, moment) edited))
