@@ -4,12 +4,6 @@ use Rattle.ele_world.specs.declared.event.Event.TheVariants.{Undelete}
 use Rattle.ele_world.proofs.Allowed.{allowed}
 use Rattle.ele_core.proofs.restoring.undelete.Goals as goal
 
-pub add_name-requires-clause-may : goal.add_name-requires-clause-may
-add_name-requires-clause-may c =
-    let found = c.in-Ok.ensures in
-    let may = allowed (world_of c.args.rows.now) (Undelete c.args.path.now) c.requires.sound.formed (c.in-Ok.found.0, c.in-Ok.found.1) found.place found.free c.in-Ok.found.2 found.last (rw found.returns refl) in
-    (may.0 (sym c.in_default.ensures) (sym c.if-are_names_full.ensures)).0
-
 pub revive-requires-clause-may : goal.revive-requires-clause-may
 revive-requires-clause-may c =
     let found = c.in-Ok.ensures in
