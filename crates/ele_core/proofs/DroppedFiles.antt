@@ -1,15 +1,14 @@
 -- What the drop of a file leaves of the rows, the keys and the book.
-use Rattle.std.proofs.Common.{◌≡◌, ℕ, ◌+◌, ◌<◌, ◌≤◌, Bool, true, false, not, ◌&&◌, cond, List, [], ◌∷◌, Option, Some, None, refl, ap, sym, ◌∙◌, arith}
-use Rattle.std.specs.Prelude.{find, filter}
+use Rattle.std.proofs.Common.{◌≡◌, ℕ, ◌<◌, true, false, not, cond, List, [], ◌∷◌, Some, None, refl, ap, sym, ◌∙◌, arith}
+use Rattle.std.specs.Prelude.{find}
 use Rattle.std.specs.List.{AllByRecursion}
-use Rattle.std.specs.Option.{option_map, option_map_or}
+use Rattle.std.specs.Option.{option_map}
 use Rattle.std.proofs.lemmas.Bool.Decides.{nat_tests}
 use Rattle.ele_core.proofs.Booked.{booked, same_kind, same_usage}
 use Rattle.ele_core.specs.Inside.{world_of, IsSound}
 use Rattle.ele_core.specs.Tracked.{told_by, IsBooked}
 use Rattle.ele_core.specs.declared.rows.Rows.{Rows}
-use Rattle.ele_files.specs.Held.{Held, rows_of}
-use Rattle.ele_lists.specs.Lists.{remove_first}
+use Rattle.ele_files.specs.Held.{rows_of}
 use Rattle.ele_lists.proofs.Cuts.{remove_first-unfound}
 use Rattle.ele_lists.proofs.Edits.{all-weaker, not_found}
 use Rattle.ele_lists.proofs.Filters.{filter-all}
