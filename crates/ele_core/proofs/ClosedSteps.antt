@@ -94,14 +94,12 @@ module _ (w : World) (handle file : ℕ) (of_file : file_by w.handles handle ≡
   -- the file that the handle writes has a draft
   drafted_by : IsWellFormed w → has_draft w file ≡ true
   drafted_by formed = by (find (is_handle handle) w.handles) refl of_file where
-    of_row : (row : HandleRow) → IsReadable w.drafts row.reads → file_written (Ok row.reads) ≡ Ok file → has_draft w file ≡ true
-    of_row row there is = read row.reads there is where
-      read : (reads : Reads) → IsReadable w.drafts reads → file_written (Ok reads) ≡ Ok file → has_draft w file ≡ true
-      read (Draft other) there is = let same : other ≡ file = cc in subst (λ f. has_draft w f ≡ true) same there
+    read : (reads : Reads) → IsReadable w.drafts reads → file_written (Ok reads) ≡ Ok file → has_draft w file ≡ true
+    read (Draft other) there is = let same : other ≡ file = cc in subst (λ f. has_draft w f ≡ true) same there
 
     by : (o : Option HandleRow) → find (is_handle handle) w.handles ≡ o → file_written (option_map_or (λ (row : HandleRow). Ok row.reads) o (Err NoHandle)) ≡ Ok file → has_draft w file ≡ true
     by None found is = absurd cc
-    by (Some row) found is = of_row row (all-found (is_handle handle) (IsHandle w.made.handles w.drafts) w.handles row found (formed.holds Handles).each).readable is
+    by (Some row) found is = read row.reads (all-found (is_handle handle) (IsHandle w.made.handles w.drafts) w.handles row found (formed.holds Handles).each).readable is
 
   abbrev shut : World
   shut = after_changes w (ShutHandle handle ∷ [])
