@@ -5,7 +5,11 @@ use std::test::Fail;
 
 /// Whether a core finds memory for what it is asked.
 fn finds_memory(core: &Core) -> bool {
-    core.due().is_ok() && core.flat().is_ok_and(|flat| flat.due().is_ok())
+    core.due().is_ok()
+        && core.restorable().is_ok()
+        && core
+            .flat()
+            .is_ok_and(|flat| flat.due().is_ok() && flat.restorable().is_ok())
 }
 
 #[test]

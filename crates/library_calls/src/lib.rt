@@ -9,6 +9,8 @@ mod ends;
 #[cfg(test)]
 mod lines;
 #[cfg(test)]
+mod names;
+#[cfg(test)]
 mod pieces;
 #[cfg(test)]
 mod rooms;
