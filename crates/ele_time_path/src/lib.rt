@@ -4,8 +4,10 @@
 
 mod fault;
 mod path;
+mod path_at;
 mod tagged;
 
 pub use fault::PathFault;
 pub use path::Path;
+pub use path_at::PathAt;
 pub use tagged::{Tag, TaggedPath};

@@ -9,7 +9,7 @@ use Rattle.ele_policy.specs.declared.policy.Policy.{Policy}
 use Rattle.ele_world.specs.declared.rows.DirectoryRow.{DirectoryRow}
 use Rattle.ele_world.specs.declared.rows.DraftRow.{DraftRow}
 use Rattle.ele_world.specs.declared.rows.FileRow.{FileRow}
-use Rattle.ele_world.specs.declared.rows.Reads.TheVariants.{Draft}
+use Rattle.ele_world.specs.declared.rows.Reads.{Reads}
 use Rattle.ele_world.specs.declared.rows.Target.{Target}
 use Rattle.ele_world.specs.declared.rows.Target.TheVariants.{File, Directory}
 use Rattle.ele_world.specs.declared.rows.VersionRow.{VersionRow}
@@ -34,7 +34,7 @@ pub data Change : Type 0 where
   WriteDraft : (file offset : ℕ) → (bytes : List ℕ) → Change
   TruncateDraft : (file size : ℕ) → Change
   EndDraft : (file : ℕ) → Change
-  OpenHandle : (number file : ℕ) → Change
+  OpenHandle : (number : ℕ) → (reads : Reads) → Change
   ShutHandle : (number : ℕ) → Change
   DropIdle : (file : ℕ) → Change
 
@@ -160,8 +160,8 @@ after_change w (StartDraft file) = record w { drafts = insert_before (is_draft_a
 after_change w (WriteDraft file offset bytes) = record w { drafts = update_first (is_draft file) (changed_by (next_of w.files file) offset bytes) w.drafts }
 after_change w (TruncateDraft file size) = record w { drafts = update_first (is_draft file) (fitted_by (next_of w.files file) size) w.drafts }
 after_change w (EndDraft file) = record w { drafts = remove_first (is_draft file) w.drafts }
-after_change w (OpenHandle number file) = record w {
-  handles = w.handles ++ record { number = number; reads = Draft file } ∷ [];
+after_change w (OpenHandle number reads) = record w {
+  handles = w.handles ++ record { number = number; reads = reads } ∷ [];
   made = record w.made { handles = number };
 }
 after_change w (ShutHandle number) = record w { handles = remove_first (is_handle number) w.handles }

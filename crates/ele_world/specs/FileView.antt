@@ -1,22 +1,42 @@
 -- One file as its policy sees it: all that the fate of its versions depends on.
-use Rattle.std.specs.Prelude.{ℕ, ◌==◌, nat_lt, Bool, false, not, ◌&&◌, List, Option, filter, find, map, option_and_then}
+use Rattle.std.specs.Prelude.{ℕ, ◌==◌, nat_lt, Bool, false, not, ◌&&◌, List, Option, Some, None, filter, find, map, option_and_then, if◌then◌else◌}
+use Rattle.std.specs.List.{list_any, filter_map}
 use Rattle.std.specs.Option.{option_map_or}
 use Rattle.ele_policy.specs.declared.policy.Policy.{Policy}
 use Rattle.ele_policy.specs.Ripe.{Beside, is_due_by, candidates, earliest_of}
+use Rattle.ele_world.specs.declared.rows.HandleRow.{HandleRow}
+use Rattle.ele_world.specs.declared.rows.Reads.{Reads}
+use Rattle.ele_world.specs.declared.rows.Reads.TheVariants.{Draft, Version}
 use Rattle.ele_world.specs.declared.rows.VersionRow.{VersionRow}
 use Rattle.ele_world.specs.World.{World, policy_of, is_live}
 
--- its policy, if the file is there; its held versions by number; and whether it is live
+-- its policy, if the file is there; its held versions by number; whether it is live; and the numbers of the versions that
+-- handles read
 pub record FileView : Type 0 where
   pub policy : Option Policy
   pub rows : List VersionRow
   pub live : Bool
+  pub pinned : List ℕ
 
 abbrev pub is_version_of : ℕ → VersionRow → Bool
 is_version_of file row = row.file == file
 
+-- the number of the file's version that is read, if one is
+abbrev pub number_read : ℕ → Reads → Option ℕ
+number_read file (Draft written) = None
+number_read file (Version read number) = if read == file then Some number else None
+
+-- the numbers of the file's versions that handles read
+abbrev pub numbers_read : List HandleRow → ℕ → List ℕ
+numbers_read rows file = filter_map (λ row. number_read file row.reads) rows
+
 abbrev pub view_of : World → ℕ → FileView
-view_of w file = record { policy = policy_of w.files file; rows = filter (is_version_of file) w.versions; live = is_live w file }
+view_of w file = record {
+  policy = policy_of w.files file;
+  rows = filter (is_version_of file) w.versions;
+  live = is_live w file;
+  pinned = numbers_read w.handles file;
+}
 
 abbrev pub is_newer : VersionRow → VersionRow → Bool
 is_newer row other = nat_lt row.number other.number
@@ -28,9 +48,9 @@ closings rows = map (λ row. row.closed) rows
 abbrev pub beside : FileView → VersionRow → Beside
 beside v row = record { newer = closings (filter (is_newer row) v.rows); live = v.live }
 
--- nothing protects a version yet, at any moment
+-- the version is open: a handle reads it
 abbrev pub is_protected : FileView → VersionRow → ℕ → Bool
-is_protected v row at = false
+is_protected v row at = list_any (λ number. number == row.number) v.pinned
 
 -- the version has ended at that moment or before it, isn't protected then, and the file's policy lets it go
 abbrev pub due_in : FileView → VersionRow → ℕ → Bool

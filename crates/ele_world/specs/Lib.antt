@@ -6,6 +6,8 @@ pub mod Walk
 pub mod NameRows
 pub mod WalkAt
 pub mod FileView
+pub mod Tagged
+pub mod Told
 pub mod Due
 pub mod Scan
 pub mod Usage
@@ -28,6 +30,11 @@ pub mod NoIdleStays
 pub mod CloseKeeps
 pub mod OnlyDueLeave
 pub mod HeldStays
+pub mod OpenStays
+pub mod RevertKeeps
+pub mod Ever
+pub mod OneLife
+pub mod ReadsAsClosed
 pub mod PassLeavesKept
 pub mod UsageFits
 pub mod RipeMoments

@@ -1,7 +1,7 @@
 -- An event that is refused changes nothing, and neither does one that only asks.
 use Rattle.std.specs.Prelude.{◌≡◌, Bool, true, false}
 use Rattle.ele_world.specs.declared.event.Event.{Event}
-use Rattle.ele_world.specs.declared.event.Event.TheVariants.{Read, Restorable, Due, UsageAll}
+use Rattle.ele_world.specs.declared.event.Event.TheVariants.{Read, Stat, Versions, List, Restorable, Due, UsageAll}
 use Rattle.ele_world.specs.declared.refusal.Refusal.{Refusal}
 use Rattle.ele_world.specs.declared.reply.Reply.TheVariants.{Refused}
 use Rattle.ele_world.specs.Step.{step}
@@ -13,6 +13,9 @@ RefusedStays = (w : World) (event : Event) (refusal : Refusal) → (step w event
 -- the event only asks
 abbrev pub asks : Event → Bool
 asks (Read source) = true
+asks (Stat tagged) = true
+asks (Versions at) = true
+asks (List at) = true
 asks Restorable = true
 asks Due = true
 asks UsageAll = true

@@ -2,7 +2,7 @@
 use Rattle.std.specs.Prelude.{◌≡◌, ℕ, suc, zero, ◌<◌, ◌≤◌, List, [], ◌∷◌, None, IsSome}
 use Rattle.ele_moment.specs.Last.{last_moment}
 use Rattle.ele_world.specs.declared.event.Event.{Event}
-use Rattle.ele_world.specs.declared.event.Event.TheVariants.{Clock, Tick, MakeDir, RemoveDir, Create, Link, Unlink, Rename, Undelete, OpenWrite, Write, Truncate, Close, SetDefault, CleanOne, Read, Restorable, Due, UsageAll}
+use Rattle.ele_world.specs.declared.event.Event.TheVariants.{Clock, Tick, MakeDir, RemoveDir, Create, Link, Unlink, Rename, Undelete, OpenWrite, OpenRead, Write, Truncate, Close, Revert, SetDefault, CleanOne, Read, Stat, Versions, List as ListNames, Restorable, Due, UsageAll}
 use Rattle.ele_world.specs.Scan.{first_due}
 use Rattle.ele_world.specs.Step.{step, clean_step}
 use Rattle.ele_policy.specs.Policy.{IsPolicy}
@@ -25,12 +25,17 @@ IsEvent (Unlink path) = Unit {0}
 IsEvent (Rename from to) = Unit {0}
 IsEvent (Undelete path) = Unit {0}
 IsEvent (OpenWrite path) = Unit {0}
+IsEvent (OpenRead tagged) = Unit {0}
 IsEvent (Write handle offset bytes) = Unit {0}
 IsEvent (Truncate handle size) = Unit {0}
 IsEvent (Close handle) = Unit {0}
+IsEvent (Revert path number) = Unit {0}
 IsEvent (SetDefault path policy) = IsPolicy policy
 IsEvent CleanOne = Unit {0}
 IsEvent (Read source) = Unit {0}
+IsEvent (Stat tagged) = Unit {0}
+IsEvent (Versions at) = Unit {0}
+IsEvent (ListNames at) = Unit {0}
 IsEvent Restorable = Unit {0}
 IsEvent Due = Unit {0}
 IsEvent UsageAll = Unit {0}

@@ -14,12 +14,12 @@ use Rattle.ele_world.specs.declared.rows.FileRow.{FileRow}
 use Rattle.ele_world.specs.declared.rows.HandleRow.{HandleRow}
 use Rattle.ele_world.specs.declared.rows.NameRow.{NameRow}
 use Rattle.ele_world.specs.declared.rows.Reads.{Reads}
-use Rattle.ele_world.specs.declared.rows.Reads.TheVariants.{Draft}
+use Rattle.ele_world.specs.declared.rows.Reads.TheVariants.{Draft, Version}
 use Rattle.ele_world.specs.declared.rows.Target.{Target}
 use Rattle.ele_world.specs.declared.rows.Target.TheVariants.{File, Directory}
 use Rattle.ele_world.specs.declared.rows.VersionRow.{VersionRow}
 use Rattle.ele_world.specs.NameRows.{is_name_of_directory, is_live_directory}
-use Rattle.ele_world.specs.World.{World, root, is_directory, next_of, is_live_name_of, is_live, is_draft, is_version_after}
+use Rattle.ele_world.specs.World.{World, root, is_directory, next_of, is_live_name_of, is_live, is_version, is_draft, is_version_after}
 
 -- no count is above its limit, and each of so many rows and drafts was counted
 pub record AreCounted (made : Counts) (limits : Bounds) (files names versions drafts : ℕ) : Type 0 where
@@ -142,11 +142,21 @@ pub record AreDrafts (files : List FileRow) (now : ℕ) (rows : List DraftRow) :
   pub each : AllByRecursion (IsDraft files now) rows
   pub placed : AllLater (λ earlier later. earlier.file < later.file) rows
 
--- what is read is there: a file has the draft
+-- a draft that is read is there
 abbrev pub IsReadable : List DraftRow → Reads → Type 0
 IsReadable drafts (Draft file) = list_any (is_draft file) drafts ≡ true
+IsReadable drafts (Version file number) = Unit {0}
 
--- a handle's number was given, and what it reads is there
+-- a version that is read is held
+abbrev pub IsHeldRead : List VersionRow → Reads → Type 0
+IsHeldRead versions (Draft file) = Unit {0}
+IsHeldRead versions (Version file number) = list_any (is_version file number) versions ≡ true
+
+-- so are all that handles read
+abbrev pub AreHeldRead : List VersionRow → List HandleRow → Type 0
+AreHeldRead versions rows = AllByRecursion (λ row. IsHeldRead versions row.reads) rows
+
+-- a handle's number was given, and a draft that it writes is there
 pub record IsHandle (made : ℕ) (drafts : List DraftRow) (row : HandleRow) : Type 0 where
   pub numbered : 1 ≤ row.number
   pub given : row.number ≤ made
@@ -184,6 +194,7 @@ pub data Part : Type 0 where
   Versions : Part
   Drafts : Part
   Handles : Part
+  Readers : Part
   Current : Part
   Ended : Part
 
@@ -199,6 +210,7 @@ Holds w Tree = AllLater AreOthers w.names
 Holds w Versions = AreVersions w.files w.now w.versions
 Holds w Drafts = AreDrafts w.files w.now w.drafts
 Holds w Handles = AreHandles w.made.handles w.drafts w.handles
+Holds w Readers = AreHeldRead w.versions w.handles
 Holds w Current = HaveCurrent w
 Holds w Ended = HaveEnded w
 

@@ -7,7 +7,7 @@ use Rattle.ele_policy.specs.declared.policy.Policy.TheVariants.{Safe}
 use Rattle.ele_world.specs.Bounds.{Bounds}
 use Rattle.ele_world.specs.declared.flat.Flat.{Flat}
 use Rattle.ele_world.specs.declared.refusal.Refusal.{Refusal}
-use Rattle.ele_world.specs.declared.refusal.Refusal.TheVariants.{NoHandle}
+use Rattle.ele_world.specs.declared.refusal.Refusal.TheVariants.{NoHandle, NotWriter}
 use Rattle.ele_world.specs.declared.rows.DirectoryRow.{DirectoryRow}
 use Rattle.ele_world.specs.declared.rows.FileRow.{FileRow}
 use Rattle.ele_world.specs.declared.rows.NameRow.{NameRow}
@@ -17,7 +17,7 @@ use Rattle.ele_world.specs.declared.rows.VersionRow.{VersionRow}
 use Rattle.ele_world.specs.declared.rows.DraftRow.{DraftRow}
 use Rattle.ele_world.specs.declared.rows.HandleRow.{HandleRow}
 use Rattle.ele_world.specs.declared.rows.Reads.{Reads}
-use Rattle.ele_world.specs.declared.rows.Reads.TheVariants.{Draft}
+use Rattle.ele_world.specs.declared.rows.Reads.TheVariants.{Draft, Version}
 
 -- all rows and counts, seen as plain lists and numbers
 abbrev pub World : Type 0
@@ -53,6 +53,10 @@ is_file id row = row.id == id
 
 abbrev pub policy_of : List FileRow → ℕ → Option Policy
 policy_of rows id = option_map (λ row. row.policy) (find (is_file id) rows)
+
+-- the policy that governs the file
+abbrev pub policy_for : List FileRow → ℕ → Policy
+policy_for rows id = option_map_or (λ row. row.policy) (find (is_file id) rows) (Safe 86400)
 
 -- the number that the file's next version gets
 abbrev pub next_of : List FileRow → ℕ → ℕ
@@ -93,9 +97,19 @@ is_handle number row = row.number == number
 -- a handle that reads this writes the file
 abbrev pub writes : ℕ → Reads → Bool
 writes file (Draft written) = written == file
+writes file (Version read number) = false
 
 abbrev pub is_writer : ℕ → HandleRow → Bool
 is_writer file row = writes file row.reads
+
+-- a handle that reads this reads the file's version with that number
+abbrev pub reads_version : ℕ → ℕ → Reads → Bool
+reads_version file number (Draft written) = false
+reads_version file number (Version read other) = (read == file) && (other == number)
+
+-- the version is open: some handle reads it
+abbrev pub is_open : List HandleRow → ℕ → ℕ → Bool
+is_open rows file number = list_any (λ row. reads_version file number row.reads) rows
 
 -- what is read through the handle, or why nothing is
 abbrev pub reads_by : List HandleRow → ℕ → Result Reads Refusal
@@ -105,6 +119,7 @@ reads_by rows number = option_map_or (λ row. Ok row.reads) (find (is_handle num
 abbrev pub file_written : Result Reads Refusal → Result ℕ Refusal
 file_written (Err refusal) = Err refusal
 file_written (Ok (Draft file)) = Ok file
+file_written (Ok (Version file number)) = Err NotWriter
 
 -- the file that is written through the handle, or why there is none
 abbrev pub file_by : List HandleRow → ℕ → Result ℕ Refusal

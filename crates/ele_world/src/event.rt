@@ -1,13 +1,15 @@
 //! Events: the commands that a world takes.
 use ele_lists::ByteList;
-use ele_moment::{Handle, Moment};
+use ele_moment::{Handle, Moment, VersionNo};
 use ele_policy::Policy;
-use ele_time_path::Path;
+use ele_time_path::{Path, PathAt, TaggedPath};
 
 /// What is read.
-#[derive(Clone, Copy, Debug, PartialEq, Eq)]
+#[derive(Debug, Drop, PartialEq, Eq)]
 pub enum Source {
-    /// What the handle reads: one that writes reads its file's draft.
+    /// The version that the path and its tag mean.
+    Tagged(TaggedPath),
+    /// What the handle reads: a version, or, where it writes, its file's draft.
     Of(Handle),
 }
 
@@ -35,18 +37,28 @@ pub enum Event {
     Undelete(Path),
     /// A handle is opened by which the file at the path is written.
     OpenWrite(Path),
+    /// A handle is opened by which the version is read that the path and its tag mean.
+    OpenRead(TaggedPath),
     /// The bytes are written through the handle, from that offset on.
     Write(Handle, u64, ByteList),
     /// The draft under the handle gets so many bytes.
     Truncate(Handle, u64),
     /// The handle is closed; the last one of a changed draft makes it a version.
     Close(Handle),
+    /// The file at the path gets a version more, with the content of the one with that number.
+    Revert(Path, VersionNo),
     /// Files that are made in the directory at the path from now on get that policy.
     SetDefault(Path, Policy),
     /// The first due version is removed.
     CleanOne,
     /// Asks for bytes.
     Read(Source),
+    /// Asks of what version or directory the path and its tag mean when it was made, how long it is, and for its policy.
+    Stat(TaggedPath),
+    /// Asks which versions are held of the file that the path names, or named at its moment.
+    Versions(PathAt),
+    /// Asks which names stand in the directory that the path names, or stood there at its moment.
+    List(PathAt),
     /// Asks which names may come back.
     Restorable,
     /// Asks which versions are due.

@@ -20,15 +20,16 @@ pub use ele_due::Key;
 pub use ele_lists::{ByteList, ListOf};
 pub use ele_moment::{DirId, FileId, Handle, Moment, Name, NoMemory, VersionNo};
 pub use ele_policy::{Interval, Kind, Policy};
-pub use ele_time_path::Path;
+pub use ele_time_path::{Path, PathAt, Tag, TaggedPath};
 pub use ele_usage::Usage;
 pub use event::{Event, Source};
 pub use flat::Flat;
 pub use limits::{Counts, Limits};
-pub use list::{DeadNameList, KeyList};
+pub use list::{DeadNameList, KeyList, NameList, StampsList};
 pub use pass::PassEnd;
 pub use refusal::{Refusal, Stop, Which};
 pub use reply::Reply;
 pub use rows::{
-    DeadName, DirectoryRow, DraftRow, FileRow, HandleRow, NameRow, Reads, Target, VersionRow,
+    DeadName, DirectoryRow, DraftRow, FileRow, FileStat, HandleRow, NameRow, Reads, Stamps, Target,
+    VersionRow,
 };

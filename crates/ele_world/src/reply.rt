@@ -1,6 +1,7 @@
 //! Replies: what a command answers.
-use crate::list::{DeadNameList, KeyList};
+use crate::list::{DeadNameList, KeyList, NameList, StampsList};
 use crate::refusal::Refusal;
+use crate::rows::{DirectoryRow, FileStat};
 use ele_due::Key;
 use ele_lists::ByteList;
 use ele_moment::{DirId, FileId, Handle, Moment, VersionNo};
@@ -21,6 +22,14 @@ pub enum Reply {
     Closed(Option<VersionNo>),
     Removed(Key),
     Bytes(ByteList),
+    /// A version, and the policy that governs its file.
+    FileStat(FileStat),
+    /// A directory, and the policy that it gives.
+    DirStat(DirectoryRow),
+    /// Versions of one file, by number.
+    Rows(StampsList),
+    /// What names stand for, or stood for, by the bytes of the names.
+    NameList(NameList),
     /// The names that may come back.
     RestoreList(DeadNameList),
     DueList(KeyList),

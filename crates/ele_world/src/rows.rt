@@ -63,6 +63,24 @@ pub struct VersionRow {
     pub cells: ListOf<Cell>,
 }
 
+/// A version's number, its moments, and how many bytes it has.
+#[derive(Clone, Copy, Debug, PartialEq, Eq)]
+pub struct Stamps {
+    pub number: VersionNo,
+    pub opened: Moment,
+    pub closed: Moment,
+    pub ended: Option<Moment>,
+    pub length: u64,
+}
+
+/// A file's version, and the policy that governs the file.
+#[derive(Clone, Copy, Debug, PartialEq, Eq)]
+pub struct FileStat {
+    pub file: FileId,
+    pub stamps: Stamps,
+    pub policy: Policy,
+}
+
 /// The version that the writers of a file are making.
 #[derive(Debug, Drop, PartialEq, Eq)]
 pub struct DraftRow {
@@ -77,6 +95,8 @@ pub struct DraftRow {
 pub enum Reads {
     /// The file's draft, which the handle writes too.
     Draft(FileId),
+    /// The file's version with that number.
+    Version(FileId, VersionNo),
 }
 
 /// An open handle, and what is read through it.

@@ -1,0 +1,28 @@
+-- A read of a held version gives the bytes that it had when it closed, whatever was written, renamed, reverted or cleaned since.
+use Rattle.std.specs.Prelude.{◌≡◌, ℕ, List, Some, Ok, find}
+use Rattle.std.specs.List.{AllByRecursion}
+use Rattle.ele_content.specs.Content.{content_of}
+use Rattle.ele_time_path.specs.declared.tagged.TaggedPath.{TaggedPath}
+use Rattle.ele_world.specs.declared.event.Event.{Event}
+use Rattle.ele_world.specs.declared.event.Event.TheVariants.{Read}
+use Rattle.ele_world.specs.declared.event.Source.TheVariants.{Tagged, Of}
+use Rattle.ele_world.specs.declared.reply.Reply.TheVariants.{Bytes}
+use Rattle.ele_world.specs.declared.rows.Reads.TheVariants.{Version}
+use Rattle.ele_world.specs.declared.rows.VersionRow.{VersionRow}
+use Rattle.ele_world.specs.Bounds.{Bounds, AreBounds}
+use Rattle.ele_world.specs.Run.{run_of, IsEvent}
+use Rattle.ele_world.specs.Step.{step}
+use Rattle.ele_world.specs.Tagged.{version_at}
+use Rattle.ele_world.specs.World.{World, fresh_world, is_version, reads_by}
+
+-- a read of the version gives the row's bytes, by whatever path and tag, and by whatever handle
+pub record ReadsRow (w : World) (row : VersionRow) : Type 0 where
+  pub tagged : (tagged : TaggedPath) (held : VersionRow) → version_at w tagged ≡ Ok held → held.file ≡ row.file → held.number ≡ row.number
+      → (step w (Read (Tagged tagged))).0 ≡ Bytes (content_of row.cells)
+  pub handle : (handle : ℕ) → reads_by w.handles handle ≡ Ok (Version row.file row.number) → (step w (Read (Of handle))).0 ≡ Bytes (content_of row.cells)
+
+-- so does a read after any events of a version as it stood before them
+abbrev pub ReadsAsClosed : Type 0
+ReadsAsClosed =
+    (limits : Bounds) (before after : List Event) → AreBounds limits → AllByRecursion IsEvent before → AllByRecursion IsEvent after
+    → let w = run_of (fresh_world limits) before in AllByRecursion (ReadsRow (run_of w after)) w.versions
