@@ -45,6 +45,7 @@ pub mod CleanKeepsKeys
 pub mod Passes
 pub mod DueKeys
 pub mod Newest
+pub mod Listed
 pub mod SlotPlaces
 pub mod SumRows
 pub mod Splits
