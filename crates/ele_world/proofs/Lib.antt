@@ -1,4 +1,5 @@
 pub mod Elements
+pub mod Readers
 pub mod Files
 pub mod Versions
 pub mod Walks
@@ -34,6 +35,7 @@ pub mod RipeAt
 pub mod Plain
 pub mod NameMoments
 pub mod Revivals
+pub mod Meant
 pub mod Allowed
 pub mod StepKeeps
 pub mod Moves
