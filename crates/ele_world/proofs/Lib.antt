@@ -34,12 +34,15 @@ pub mod DueRows
 pub mod RipeAt
 pub mod Plain
 pub mod NameMoments
+pub mod OpenMoments
 pub mod Revivals
 pub mod Meant
 pub mod Allowed
 pub mod StepKeeps
 pub mod Moves
 pub mod Stays
+pub mod OpenStays
+pub mod Reverts
 pub mod Refused
 pub mod Returned
 pub mod Cleans
