@@ -20,12 +20,11 @@ nothing_beside = record { newer = []; live = false }
 -- the ripe moment of a version by what it depends on: whether a handle reads it, its file's policy, and its row
 pub ripe_at_plain : (w : World) (file number : ℕ) (stands : Beside) → ripe_at w file number ≡ cond (is_open w.handles file number) None (option_and_then (λ row. plain_ripe (policy_of w.files file) row.closed stands row.ended) (find (is_version file number) w.versions))
 ripe_at_plain w file number stands = ripe_at_is w file number ∙ by (find (is_version file number) w.versions) refl where
-  none : (b : Bool) → None ≡ cond b None None
-  none true = refl
-  none false = refl
-
   by : (o : Option VersionRow) → find (is_version file number) w.versions ≡ o → option_and_then (ripe_of w) o ≡ cond (is_open w.handles file number) None (option_and_then (λ row. plain_ripe (policy_of w.files file) row.closed stands row.ended) o)
-  by None e = none (is_open w.handles file number)
+  by None e = elim (is_open w.handles file number) as (λ b. ◌≡◌ {A = Option ℕ} None (cond b None None)) [
+    | true ↦ refl
+    | false ↦ refl
+  ]
   by (Some row) e =
       let passes = found_passes (is_version file number) w.versions row e in
       let own : row.file ≡ file = grind (arith, nat_tests) in

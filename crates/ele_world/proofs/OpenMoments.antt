@@ -1,10 +1,8 @@
 -- Which ripe moments change where handles come and go: that of a version that a handle reads, and no other.
-use Rattle.std.proofs.Common.{◌≡◌, ℕ, ◌==◌, ◌&&◌, ◌||◌, Bool, true, false, cond, List, [], ◌∷◌, ◌++◌, Option, Some, None, refl, ap, sym, ◌∙◌, arith, find}
-use Rattle.std.specs.Prelude.{Ok, Err, option_and_then}
-use Rattle.std.specs.List.{list_any}
+use Rattle.std.proofs.Common.{◌≡◌, ℕ, ◌||◌, Bool, true, false, [], ◌∷◌, Some, None, refl, ap, sym, ◌∙◌, find}
+use Rattle.std.specs.Prelude.{Ok, Err}
 use Rattle.std.specs.Option.{option_map_or}
-use Rattle.std.proofs.lemmas.Bool.Decides.{nat_tests}
-use Rattle.std.proofs.lemmas.List.Elements.{list_any-append}
+use Rattle.std.proofs.lemmas.List.Folds.{list_any-append}
 use Rattle.ele_lists.specs.Lists.{remove_first}
 use Rattle.ele_lists.proofs.Edits.{list_any-remove_first}
 use Rattle.ele_policy.specs.Ripe.{Beside}
@@ -13,8 +11,7 @@ use Rattle.ele_world.specs.Due.{ripe_at}
 use Rattle.ele_world.specs.declared.refusal.Refusal.TheVariants.{NoHandle}
 use Rattle.ele_world.specs.declared.rows.HandleRow.{HandleRow}
 use Rattle.ele_world.specs.declared.rows.Reads.{Reads}
-use Rattle.ele_world.specs.declared.rows.Reads.TheVariants.{Draft, Version}
-use Rattle.ele_world.specs.World.{World, is_handle, is_open, policy_of, reads_by, reads_version}
+use Rattle.ele_world.specs.World.{World, is_handle, is_open, reads_by, reads_version}
 use Rattle.ele_world.proofs.NameMoments.{found_moment, ripe_at_plain}
 
 nothing_beside : Beside

@@ -3,7 +3,7 @@ use Rattle.std.proofs.Common.{◌≡◌, ℕ, ◌-◌, ◌<◌, Some, refl, sym,
 use Rattle.ele_lists.specs.Lists.{update_first}
 use Rattle.ele_world.specs.Change.{next_version, numbered_on, with_version}
 use Rattle.ele_world.specs.RevertKeeps.{CopiesVersion, RevertKeeps}
-use Rattle.ele_world.specs.Step.{plan, step}
+use Rattle.ele_world.specs.Step.{plan}
 use Rattle.ele_world.specs.WellFormed.{Names, Versions}
 use Rattle.ele_world.specs.World.{World, is_file, is_version, next_of}
 use Rattle.ele_world.specs.declared.event.Event.TheVariants.{Revert}
