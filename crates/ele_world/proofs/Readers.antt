@@ -1,6 +1,7 @@
 -- Versions that handles read.
 use Rattle.std.proofs.Common.{◌≡◌, ℕ, Bool, true, false, cond, ◌==◌, ◌||◌, ◌&&◌, List, [], ◌∷◌, Some, None, refl, ap, ◌∙◌}
 use Rattle.std.specs.List.{list_any, cons_option}
+use Rattle.std.proofs.lemmas.Bool.Decides.{nat_tests}
 use Rattle.ele_lists.proofs.Edits.{all-weaker}
 use Rattle.ele_world.specs.FileView.{number_read, numbers_read}
 use Rattle.ele_world.specs.WellFormed.{IsHeldRead, AreHeldRead}
@@ -31,3 +32,19 @@ read_on versions after rows on all = all-weaker (λ row. IsHeldRead versions row
   by : (reads : Reads) → IsHeldRead versions reads → IsHeldRead after reads
   by (Draft file) h = h
   by (Version file number) h = on file number h
+
+-- so what isn't held isn't read
+pub unread_unheld : (versions : List VersionRow) (rows : List HandleRow) (file number : ℕ) → AreHeldRead versions rows → list_any (is_version file number) versions ≡ false → is_open rows file number ≡ false
+unread_unheld versions [] file number all none = refl
+unread_unheld versions (row ∷ rows) file number all none = by row.reads all.0 (unread_unheld versions rows file number all.1 none) where
+  of : (read other : ℕ) (b c : Bool) → (read == file) ≡ b → (other == number) ≡ c → list_any (is_version read other) versions ≡ true → (b && c) ≡ false
+  of read other false c e f held = refl
+  of read other true false e f held = refl
+  of read other true true e f held =
+      let file_is : read ≡ file = grind (arith, nat_tests) in
+      let number_is : other ≡ number = grind (arith, nat_tests) in
+      sym (rw (file_is, number_is) at held) ∙ none
+
+  by : (reads : Reads) → IsHeldRead versions reads → is_open rows file number ≡ false → (reads_version file number reads || is_open rows file number) ≡ false
+  by (Draft written) held rest = rest
+  by (Version read other) held rest = rw (of read other (read == file) (other == number) refl refl held, rest) refl
