@@ -1,27 +1,29 @@
 -- Which keys the versions have, once a file has its next version: two came, and all others stayed.
 use Rattle.std.proofs.Common.{◌≡◌, ℕ, ◌==◌, ◌-◌, ◌<◌, Bool, true, false, cond, not, ◌&&◌, ◌||◌, List, [], ◌∷◌, Option, Some, None, refl, ap, sym, ◌∙◌, arith}
-use Rattle.std.specs.Prelude.{find, option_and_then}
-use Rattle.std.specs.List.{AllByRecursion}
+use Rattle.std.specs.Prelude.{find, is_some, unwrap_or, option_and_then}
+use Rattle.std.specs.List.{AllByRecursion, list_any}
 use Rattle.std.specs.Option.{option_map}
 use Rattle.std.proofs.lemmas.Bool.{false≢true}
 use Rattle.std.proofs.lemmas.Bool.Decides.{nat_tests}
 use Rattle.ele_content.specs.declared.cell.Cell.{Cell}
 use Rattle.ele_core.proofs.Following.{follows}
-use Rattle.ele_core.specs.Queued.{IsQueued, is_entry, is_either, moment_at_end, former_moment, own_moment}
+use Rattle.ele_core.specs.Queued.{IsQueued, is_entry, is_new, moment_at_end, former_moment, own_moment, new_keys}
 use Rattle.ele_due.specs.declared.key.Key.{Key}
 use Rattle.ele_due.specs.HasKey.{has_key}
+use Rattle.ele_files.specs.Held.{rows_of}
 use Rattle.ele_lists.specs.Lists.{update_first, insert_before}
 use Rattle.ele_lists.proofs.Edits.{all-weaker, all-update_first, find-insert_before, not_found}
 use Rattle.ele_policy.specs.declared.policy.Policy.{Policy}
-use Rattle.ele_policy.specs.Ripe.{Beside}
+use Rattle.ele_policy.specs.Ripe.{Beside, ripe_by}
 use Rattle.ele_world.specs.declared.rows.FileRow.{FileRow}
 use Rattle.ele_world.specs.declared.rows.VersionRow.{VersionRow}
 use Rattle.ele_world.specs.Change.{ended_at, numbered_on, next_version, with_version}
-use Rattle.ele_world.specs.Due.{ripe_of, ripe_at, is_moment}
-use Rattle.ele_world.specs.FileView.{view_of}
-use Rattle.ele_world.specs.WellFormed.{IsVersion, IsWellFormed, Versions}
-use Rattle.ele_world.specs.World.{World, is_file, is_live, is_version, is_version_after, next_of, policy_of}
-use Rattle.ele_world.proofs.Plain.{plain_ripe, ripe_is_plain}
+use Rattle.ele_world.specs.Due.{ripe_at, is_moment}
+use Rattle.ele_world.specs.WellFormed.{IsVersion, IsWellFormed, Readers, Versions}
+use Rattle.ele_world.specs.World.{World, is_file, is_live, is_open, is_version, is_version_after, next_of, policy_of}
+use Rattle.ele_world.proofs.NameMoments.{found_moment, ripe_at_plain}
+use Rattle.ele_world.proofs.Plain.{plain_ripe}
+use Rattle.ele_world.proofs.Readers.{unread_unheld}
 use Rattle.ele_world.proofs.RipeAt.{ripe_at_is}
 
 -- ---- what is found
@@ -57,6 +59,11 @@ policies-numbered files file id = elim (id == file) as (λ b. (id == file) ≡ b
   by None = refl
   by (Some row) = refl
 
+-- no row that passes is found
+none-any : {X : Type 0} (t : X → Bool) (xs : List X) → AllByRecursion (λ x. t x ≡ false) xs → list_any t xs ≡ false
+none-any t [] all = refl
+none-any t (x ∷ xs) all = rw (all.0, none-any t xs all.1) refl
+
 abbrev alone : List ℕ → Beside
 alone newer = record { newer = newer; live = false }
 
@@ -76,13 +83,12 @@ module _ (w : World) (file opened : ℕ) (cells : List Cell) (k : IsWellFormed w
   abbrev pub appended : World
   appended = with_version w file opened cells
 
-  plain_after : (row : VersionRow) (newer : List ℕ) → ripe_of appended row ≡ plain_ripe (policy_of w.files row.file) row.closed (alone newer) row.ended
-  unfolding ripe_of
-  plain_after row newer = ripe_is_plain (view_of appended row.file) row (alone newer) ∙ ap (λ p. plain_ripe p row.closed (alone newer) row.ended) (policies-numbered w.files file row.file)
+  -- what stands beside the version before the new one
+  abbrev stands : Beside
+  stands = alone (w.now ∷ [])
 
-  plain_before : (row : VersionRow) (newer : List ℕ) → ripe_of w row ≡ plain_ripe (policy_of w.files row.file) row.closed (alone newer) row.ended
-  unfolding ripe_of
-  plain_before row newer = ripe_is_plain (view_of w row.file) row (alone newer)
+  policies : (id : ℕ) → policy_of appended.files id ≡ policy_of w.files id
+  policies id = policies-numbered w.files file id
 
   not_next : AllByRecursion (λ row. is_version file next row ≡ false) w.versions
   not_next = all-weaker (IsVersion w.files w.now) (λ row. is_version file next row ≡ false) w.versions (λ row is. by row (row.file == file) refl is) (k.holds Versions).each where
@@ -99,17 +105,17 @@ module _ (w : World) (file opened : ℕ) (cells : List Cell) (k : IsWellFormed w
   own_is : ripe_at appended file next ≡ own_moment w.files file w.now (is_live w file)
   own_is =
       let is : is_version file next new ≡ true = grind (arith, nat_tests) in
-      ripe_at_is appended file next
-      ∙ ap (option_and_then (ripe_of appended)) (find-inserted (is_version_after file next) (is_version file next) new ended is
-      (all-update_first last (λ row. is_version file next row ≡ false) (λ row. is_version file next row ≡ false) (ended_at w.now) w.versions (λ row h. h) (λ row h. h) not_next))
-      ∙ plain_after new []
-      ∙ elim (is_live w file) as (λ b. plain_ripe (policy_of w.files file) w.now (alone []) (cond b None (Some w.now)) ≡ own_moment w.files file w.now b) [
+      let found : find (is_version file next) appended.versions ≡ Some new = find-inserted (is_version_after file next) (is_version file next) new ended is
+              (all-update_first last (λ row. is_version file next row ≡ false) (λ row. is_version file next row ≡ false) (ended_at w.now) w.versions (λ row h. h) (λ row h. h) not_next) in
+      let unread : is_open w.handles file next ≡ false = unread_unheld w.versions w.handles file next (k.holds Readers) (none-any (is_version file next) w.versions not_next) in
+      ripe_at_plain appended file next (alone [])
+      ∙ rw (unread, found, policies file) (elim (is_live w file) as (λ b. plain_ripe (policy_of w.files file) w.now (alone []) (cond b None (Some w.now)) ≡ own_moment w.files file w.now b) [
         | true ↦ elim (policy_of w.files file) as (λ p. plain_ripe p w.now (alone []) None ≡ None) [
           | None ↦ refl
           | Some policy ↦ refl
         ]
         | false ↦ refl
-      ]
+      ])
 
   -- the one before it
   found_last : find last (insert_before (is_version_after file next) new ended) ≡ option_map (ended_at w.now) (find last w.versions)
@@ -120,40 +126,40 @@ module _ (w : World) (file opened : ℕ) (cells : List Cell) (k : IsWellFormed w
   abbrev IsMoved : ℕ → Option ℕ → Option ℕ → Option ℕ → Type 0
   IsMoved m after came before = (is_moment m after ≡ (is_moment m came || is_moment m before)) × (is_moment m came ≡ true → is_moment m before ≡ false)
 
-  last_is : (m : ℕ) → IsMoved m (ripe_at appended file (next - 1)) (former_moment w.files w.versions file w.now) (ripe_at w file (next - 1))
-  last_is m = rw (ripe_at_is appended file (next - 1), ripe_at_is w file (next - 1), found_last) (by (find last w.versions)) where
+  last_is : (m : ℕ) → IsMoved m (ripe_at appended file (next - 1)) (former_moment (rows_of w) file w.now) (ripe_at w file (next - 1))
+  last_is m = rw (ripe_at_plain appended file (next - 1) stands, ripe_at_plain w file (next - 1) stands, found_last, policies file) (by (is_open w.handles file (next - 1)) (find last w.versions)) where
     or_false : (b : Bool) → b ≡ (b || false)
     or_false true = refl
     or_false false = refl
 
-    ends : (row : VersionRow) (e : Option ℕ) → row.ended ≡ e → IsMoved m (ripe_of appended (ended_at w.now row)) (moment_at_end w.files w.now row) (ripe_of w row)
-    ends row None e = rw (plain_after (ended_at w.now row) (w.now ∷ []), plain_before row [], e) (rw (none (policy_of w.files row.file)) ((or_false _, λ h. refl))) where
-      none : (p : Option Policy) → plain_ripe p row.closed (alone []) None ≡ None
-      none None = refl
-      none (Some policy) = refl
-    ends row (Some at) e = rw (plain_after (ended_at w.now row) [], plain_before row [], e) (refl, λ h. absurd (false≢true h))
+    p : Option Policy
+    p = policy_of w.files file
 
-    by : (o : Option VersionRow) → IsMoved m (option_and_then (ripe_of appended) (option_map (ended_at w.now) o)) (option_and_then (moment_at_end w.files w.now) o) (option_and_then (ripe_of w) o)
-    by None = (refl, λ h. refl)
-    by (Some row) = ends row row.ended refl
+    none : (p : Option Policy) (closed : ℕ) → plain_ripe p closed stands None ≡ None
+    none None closed = refl
+    none (Some policy) closed = refl
+
+    ends : (closed : ℕ) (e : Option ℕ) → IsMoved m (plain_ripe p closed stands (Some (unwrap_or e w.now))) (cond (is_some e) None (option_and_then (λ policy. ripe_by policy closed stands w.now) p)) (plain_ripe p closed stands e)
+    ends closed None = rw (none p closed) (or_false _, λ h. refl)
+    ends closed (Some at) = (refl, λ h. absurd (false≢true h))
+
+    by : (b : Bool) (o : Option VersionRow) → IsMoved m (cond b None (option_and_then (λ (row : VersionRow). plain_ripe p row.closed stands row.ended) (option_map (ended_at w.now) o))) (cond b None (option_and_then (moment_at_end w.files file w.now) o)) (cond b None (option_and_then (λ (row : VersionRow). plain_ripe p row.closed stands row.ended) o))
+    by true o = (refl, λ h. refl)
+    by false None = (refl, λ h. refl)
+    by false (Some row) = ends row.closed row.ended
 
   -- and all others
   others : (f n : ℕ) → ((f == file) && ((n == next - 1) || (n == next))) ≡ false → ripe_at appended f n ≡ ripe_at w f n
   others f n apart =
       let not_new : is_version f n new ≡ false = grind (arith, nat_tests) in
-      ripe_at_is appended f n
-      ∙ ap (option_and_then (ripe_of appended)) (find-insert_before (is_version_after file next) (is_version f n) new ended not_new
+      found_moment w appended f n (policies f) refl
+      (find-insert_before (is_version_after file next) (is_version f n) new ended not_new
       ∙ find-update_other last (is_version f n) (ended_at w.now) w.versions (λ row h. (grind (arith, nat_tests), grind (arith, nat_tests))))
-      ∙ by (find (is_version f n) w.versions)
-      ∙ sym (ripe_at_is w f n) where
-        by : (o : Option VersionRow) → option_and_then (ripe_of appended) o ≡ option_and_then (ripe_of w) o
-        by None = refl
-        by (Some row) = plain_after row [] ∙ sym (plain_before row [])
 
   -- ---- the queue
 
   abbrev comes : Key → Bool
-  comes j = is_either file next (former_moment w.files w.versions file w.now) (own_moment w.files file w.now (is_live w file)) j
+  comes j = is_new (new_keys (rows_of w) file w.now (is_live w file)) j
 
   module _ (queue after : List Key) (queued : IsQueued w queue) where
     -- with the two keys it has those of all versions
@@ -161,7 +167,7 @@ module _ (w : World) (file opened : ℕ) (cells : List Cell) (k : IsWellFormed w
     appended_queue edited = follows w appended queue after queued (λ f n. (f == file) && ((n == next - 1) || (n == next))) others
         (λ j. edited j ∙ by j (j.file == file) (j.number == next - 1) (j.number == next) refl refl refl) where
           by : (j : Key) (a b c : Bool) → (j.file == file) ≡ a → (j.number == next - 1) ≡ b → (j.number == next) ≡ c
-              → ((((a && b) && is_moment j.ripe (former_moment w.files w.versions file w.now)) || ((a && c) && is_moment j.ripe (own_moment w.files file w.now (is_live w file)))) || has_key j queue)
+              → ((((a && b) && is_moment j.ripe (former_moment (rows_of w) file w.now)) || ((a && c) && is_moment j.ripe (own_moment w.files file w.now (is_live w file)))) || has_key j queue)
               ≡ cond (a && (b || c)) (is_moment j.ripe (ripe_at appended j.file j.number)) (has_key j queue)
           by j false b c f l n = refl
           by j true false false f l n = refl
@@ -169,7 +175,7 @@ module _ (w : World) (file opened : ℕ) (cells : List Cell) (k : IsWellFormed w
           by j true true false f l n =
               let file_is : j.file ≡ file = grind (arith, nat_tests) in
               let number_is : j.number ≡ next - 1 = grind (arith, nat_tests) in
-              rw (queued j, file_is, number_is) (swapped (is_moment j.ripe (former_moment w.files w.versions file w.now)) (is_moment j.ripe (ripe_at w file (next - 1))) ∙ sym (last_is j.ripe).0) where
+              rw (queued j, file_is, number_is) (swapped (is_moment j.ripe (former_moment (rows_of w) file w.now)) (is_moment j.ripe (ripe_at w file (next - 1))) ∙ sym (last_is j.ripe).0) where
                 swapped : (a b : Bool) → ((a || false) || b) ≡ (a || b)
                 swapped true b = refl
                 swapped false b = refl
@@ -185,7 +191,7 @@ module _ (w : World) (file opened : ℕ) (cells : List Cell) (k : IsWellFormed w
     comes_absent : (j : Key) → comes j ≡ true → has_key j queue ≡ false
     comes_absent j is = queued j ∙ by j (j.file == file) (j.number == next - 1) (j.number == next) refl refl refl is where
       by : (j : Key) (a b c : Bool) → (j.file == file) ≡ a → (j.number == next - 1) ≡ b → (j.number == next) ≡ c
-          → (((a && b) && is_moment j.ripe (former_moment w.files w.versions file w.now)) || ((a && c) && is_moment j.ripe (own_moment w.files file w.now (is_live w file)))) ≡ true → is_moment j.ripe (ripe_at w j.file j.number) ≡ false
+          → (((a && b) && is_moment j.ripe (former_moment (rows_of w) file w.now)) || ((a && c) && is_moment j.ripe (own_moment w.files file w.now (is_live w file)))) ≡ true → is_moment j.ripe (ripe_at w j.file j.number) ≡ false
       by j false b c f l n is = absurd (false≢true is)
       by j true false false f l n is = absurd (false≢true is)
       by j true b true f l n is =
@@ -195,7 +201,7 @@ module _ (w : World) (file opened : ℕ) (cells : List Cell) (k : IsWellFormed w
       by j true true false f l n is =
           let file_is : j.file ≡ file = grind (arith, nat_tests) in
           let number_is : j.number ≡ next - 1 = grind (arith, nat_tests) in
-          rw (file_is, number_is) ((last_is j.ripe).1 (either (is_moment j.ripe (former_moment w.files w.versions file w.now)) is)) where
+          rw (file_is, number_is) ((last_is j.ripe).1 (either (is_moment j.ripe (former_moment (rows_of w) file w.now)) is)) where
             either : (a : Bool) → (a || false) ≡ true → a ≡ true
             either true h = refl
             either false h = h
@@ -207,5 +213,5 @@ module _ (w : World) (file opened : ℕ) (cells : List Cell) (k : IsWellFormed w
       back true q absent = sym (absent refl)
       back false q absent = refl
 
-    pub refused : ((j : Key) → (is_entry file (next - 1) (former_moment w.files w.versions file w.now) j ≡ true → has_key j queue ≡ false) → has_key j after ≡ has_key j queue) → IsQueued w after
+    pub refused : ((j : Key) → (is_entry file (next - 1) (former_moment (rows_of w) file w.now) j ≡ true → has_key j queue ≡ false) → has_key j after ≡ has_key j queue) → IsQueued w after
     refused edited j = edited j (λ is. comes_absent j (rw is refl)) ∙ queued j

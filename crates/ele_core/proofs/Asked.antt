@@ -5,24 +5,22 @@ use Rattle.std.specs.List.{filter_map}
 use Rattle.std.specs.Option.{option_map, option_map_or, ForSome}
 use Rattle.std.proofs.lemmas.Bool.Decides.{nat_tests}
 use Rattle.ele_core.specs.Inside.{world_of, IsSound}
-use Rattle.ele_core.specs.Queued.{moment_at_end, former_moment}
+use Rattle.ele_core.specs.Queued.{moment_at_end, former_moment, moment_of, free_moment}
 use Rattle.ele_core.specs.declared.rows.Rows.{Rows}
 use Rattle.ele_due.specs.declared.key.Key.{Key}
 use Rattle.ele_due.specs.HasKey.{has_key}
 use Rattle.ele_due.specs.InOrder.{in_order}
 use Rattle.ele_due.specs.Key.{is_ripe_by, if_ripe}
-use Rattle.ele_files.specs.Asked.{stamps_of}
 use Rattle.ele_files.specs.Held.{Held}
-use Rattle.ele_files.specs.declared.stamps.Stamps.{Stamps}
-use Rattle.ele_lists.proofs.Edits.{found_passes}
 use Rattle.ele_policy.specs.Ripe.{Beside, ripe_by}
+use Rattle.ele_world.specs.declared.rows.Stamps.{Stamps}
 use Rattle.ele_world.specs.declared.rows.VersionRow.{VersionRow}
-use Rattle.ele_world.specs.Due.{is_due, ripe_of, ripe_at}
-use Rattle.ele_world.specs.FileView.{view_of}
+use Rattle.ele_world.specs.Due.{is_due, ripe_at}
 use Rattle.ele_world.specs.Scan.{due_key, scan, first_due}
-use Rattle.ele_world.specs.World.{World, policy_of, next_of, is_version}
-use Rattle.ele_world.proofs.Plain.{ripe_is_plain}
-use Rattle.ele_world.proofs.RipeAt.{ripe_at_is, is_due_is, scan_members}
+use Rattle.ele_world.specs.Told.{stamps_of}
+use Rattle.ele_world.specs.World.{World, is_open, policy_of, next_of, is_version}
+use Rattle.ele_world.proofs.NameMoments.{ripe_at_plain}
+use Rattle.ele_world.proofs.RipeAt.{is_due_is, scan_members}
 
 -- the due rows have the keys of the queue that are ripe
 pub due_keys : (rows : Rows) → IsSound rows → (k : Key) → has_key k (filter_map (due_key (world_of rows)) rows.files.versions) ≡ (is_ripe_by rows.moment k && has_key k rows.queue)
@@ -54,26 +52,23 @@ due_by_key rows file number sound = is_due_is (world_of rows) file number sound.
 abbrev nothing_beside : Beside
 nothing_beside = record { newer = []; live = false }
 
--- the ripe moment of a version by what is told of it
-pub ripe_told : (rows : Rows) (file number : ℕ) → ripe_at (world_of rows) file number ≡ option_and_then (λ (stamps : Stamps). option_and_then (λ policy. option_and_then (ripe_by policy stamps.closed nothing_beside) stamps.ended) (policy_of rows.files.files file)) (option_map stamps_of (find (is_version file number) rows.files.versions))
-unfolding ripe_of
-ripe_told rows file number = ripe_at_is (world_of rows) file number ∙ by (find (is_version file number) rows.files.versions) refl where
-  by : (o : Option VersionRow) → find (is_version file number) rows.files.versions ≡ o → option_and_then (ripe_of (world_of rows)) o ≡ option_and_then (λ (stamps : Stamps). option_and_then (λ policy. option_and_then (ripe_by policy stamps.closed nothing_beside) stamps.ended) (policy_of rows.files.files file)) (option_map stamps_of o)
-  by None found = refl
-  by (Some row) found =
-      let passes = found_passes (is_version file number) rows.files.versions row found in
-      let of_file : row.file ≡ file = grind (arith, nat_tests) in
-      ripe_is_plain (view_of (world_of rows) row.file) row nothing_beside ∙ rw of_file refl
+-- the ripe moment of a version that no handle reads, by what is told of it
+pub free_told : (h : Held) (file number : ℕ) → free_moment h file number ≡ option_and_then (λ (stamps : Stamps). option_and_then (λ policy. option_and_then (ripe_by policy stamps.closed nothing_beside) stamps.ended) (policy_of h.files file)) (option_map stamps_of (find (is_version file number) h.versions))
+free_told h file number = by (find (is_version file number) h.versions) where
+  by : (o : Option VersionRow) → option_and_then (moment_of h.files file) o ≡ option_and_then (λ (stamps : Stamps). option_and_then (λ policy. option_and_then (ripe_by policy stamps.closed nothing_beside) stamps.ended) (policy_of h.files file)) (option_map stamps_of o)
+  by None = refl
+  by (Some row) = refl
+
+pub ripe_told : (rows : Rows) (file number : ℕ) → ripe_at (world_of rows) file number ≡ cond (is_open rows.files.handles file number) None (free_moment rows.files file number)
+ripe_told rows file number = ripe_at_plain (world_of rows) file number nothing_beside
 
 -- what comes with the next version, by what is told of the version before it
-pub former_told : (h : Held) (file now : ℕ) → former_moment h.files h.versions file now ≡ option_and_then (λ (stamps : Stamps). cond (is_some stamps.ended) None (option_and_then (λ policy. ripe_by policy stamps.closed (record { newer = now ∷ []; live = false }) now) (policy_of h.files file))) (option_map stamps_of (find (is_version file (next_of h.files file - 1)) h.versions))
-former_told h file now = by (find (is_version file (next_of h.files file - 1)) h.versions) refl where
-  by : (o : Option VersionRow) → find (is_version file (next_of h.files file - 1)) h.versions ≡ o → option_and_then (moment_at_end h.files now) o ≡ option_and_then (λ (stamps : Stamps). cond (is_some stamps.ended) None (option_and_then (λ policy. ripe_by policy stamps.closed (record { newer = now ∷ []; live = false }) now) (policy_of h.files file))) (option_map stamps_of o)
-  by None found = refl
-  by (Some row) found =
-      let passes = found_passes (is_version file (next_of h.files file - 1)) h.versions row found in
-      let of_file : row.file ≡ file = grind (arith, nat_tests) in
-      rw of_file refl
+pub former_told : (h : Held) (file now : ℕ) → is_open h.handles file (next_of h.files file - 1) ≡ false
+    → former_moment h file now ≡ option_and_then (λ (stamps : Stamps). cond (is_some stamps.ended) None (option_and_then (λ policy. ripe_by policy stamps.closed (record { newer = now ∷ []; live = false }) now) (policy_of h.files file))) (option_map stamps_of (find (is_version file (next_of h.files file - 1)) h.versions))
+former_told h file now unread = rw unread (by (find (is_version file (next_of h.files file - 1)) h.versions)) where
+  by : (o : Option VersionRow) → option_and_then (moment_at_end h.files file now) o ≡ option_and_then (λ (stamps : Stamps). cond (is_some stamps.ended) None (option_and_then (λ policy. ripe_by policy stamps.closed (record { newer = now ∷ []; live = false }) now) (policy_of h.files file))) (option_map stamps_of o)
+  by None = refl
+  by (Some row) = refl
 
 pub told_past : (o : Option VersionRow) (stamps : Stamps) (now : ℕ) → ForSome o (λ row. row.closed ≤ now) → option_map stamps_of o ≡ Some stamps → stamps.closed ≤ now
 told_past None stamps now past told = absurd cc

@@ -1,5 +1,5 @@
 -- What closing a handle leaves, as the step of the world has it.
-use Rattle.std.proofs.Common.{◌≡◌, ◌≤◌, ◌<◌, ◌^◌, ℕ, Bool, true, false, cond, [], ◌∷◌, length, is_some, Option, Some, None, Result, Ok, Err, refl, ap, sym, subst, ◌∙◌, arith}
+use Rattle.std.proofs.Common.{◌≡◌, ◌≤◌, ◌<◌, ◌^◌, ◌-◌, ℕ, List, Bool, true, false, cond, [], ◌∷◌, length, is_some, Option, Some, None, Result, Ok, Err, refl, ap, sym, subst, ◌∙◌, arith}
 use Rattle.std.specs.Prelude.{find, IfSome}
 use Rattle.std.proofs.lemmas.Bool.{false≢true}
 use Rattle.std.specs.List.{AllByRecursion}
@@ -8,8 +8,10 @@ use Rattle.std.specs.Result.{result_ok}
 use Rattle.std.proofs.lemmas.Bool.Decides.{nat_tests}
 use Rattle.ele_content.specs.Content.{content_of}
 use Rattle.ele_core.specs.Inside.{IsSound}
+use Rattle.ele_core.specs.Queued.{IsQueued, new_keys}
 use Rattle.ele_core.specs.Tracked.{told_by}
 use Rattle.ele_core.specs.declared.rows.Rows.{Rows}
+use Rattle.ele_due.specs.declared.key.Key.{Key}
 use Rattle.ele_files.specs.Closing.{changed_opening, finishing, last_draft, leaving, left_by, left_of, opening_by, IsPast}
 use Rattle.ele_files.specs.Held.{Held, changed_at, rows_of, with_rows}
 use Rattle.ele_lists.proofs.Edits.{found_passes, all-found, all-weaker}
@@ -22,17 +24,20 @@ use Rattle.ele_world.specs.declared.rows.DraftRow.{DraftRow}
 use Rattle.ele_world.specs.declared.rows.FileRow.{FileRow}
 use Rattle.ele_world.specs.declared.rows.HandleRow.{HandleRow}
 use Rattle.ele_world.specs.declared.rows.Reads.{Reads}
-use Rattle.ele_world.specs.declared.rows.Reads.TheVariants.{Draft}
+use Rattle.ele_world.specs.declared.rows.Reads.TheVariants.{Draft, Version}
 use Rattle.ele_world.specs.declared.rows.VersionRow.{VersionRow}
 use Rattle.ele_world.specs.Change.{EndDraft, ShutHandle, Append, DropIdle, after_change, after_changes}
 use Rattle.ele_world.specs.Plan.{found_outcome}
-use Rattle.ele_world.specs.Step.{has_other_writer, step}
-use Rattle.ele_world.specs.WellFormed.{IsDraft, IsFile, IsHandle, IsReadable, IsVersion, Counted, Drafts, Files, Handles, Versions, IsWellFormed}
+use Rattle.ele_world.specs.Step.{draft_read, has_other_writer, step}
+use Rattle.ele_world.specs.WellFormed.{IsDraft, IsFile, IsHandle, IsVersion, Counted, Drafts, Files, Handles, Versions, IsWellFormed}
 use Rattle.ele_world.specs.Whole.{ChangesOnly}
 use Rattle.ele_world.proofs.Dropped.{dropped}
 use Rattle.ele_world.proofs.Keeps.{all_keep}
 use Rattle.ele_world.proofs.Others.{drafts-removed}
-use Rattle.ele_world.specs.World.{World, file_by, file_written, has_draft, is_draft, is_handle, next_of}
+use Rattle.ele_world.specs.World.{World, file_by, file_written, has_draft, is_draft, is_handle, next_of, reads_by}
+use Rattle.ele_world.specs.Due.{is_moment}
+use Rattle.ele_world.proofs.OpenMoments.{open_still, shut_others}
+use Rattle.ele_world.proofs.OpenStays.{has_row}
 
 -- the step, by what the file's draft is, and by the file that the handle writes
 abbrev draft_step : World → ℕ → ℕ → Option DraftRow → Reply × World
@@ -41,11 +46,24 @@ draft_step w handle file found = option_map_or (λ draft.
     (Closed (Some (next_of w.files file)), after_changes w (ShutHandle handle ∷ EndDraft file ∷ Append file draft.opened draft.cells ∷ []))
     (Closed None, after_changes w (ShutHandle handle ∷ EndDraft file ∷ DropIdle file ∷ []))) found (Closed None, after_changes w (ShutHandle handle ∷ []))
 
-abbrev close_of : World → ℕ → Result ℕ Refusal → Reply × World
-close_of w handle found = found_outcome w found (λ file.
-    cond (has_other_writer w handle file) (Closed None, after_changes w (ShutHandle handle ∷ [])) (draft_step w handle file (find (is_draft file) w.drafts)))
+abbrev file_step : World → ℕ → ℕ → Reply × World
+file_step w handle file = cond (has_other_writer w handle file) (Closed None, after_changes w (ShutHandle handle ∷ [])) (draft_step w handle file (find (is_draft file) w.drafts))
 
-module _ (w : World) (handle file : ℕ) (of_file : file_by w.handles handle ≡ Ok file) where
+abbrev close_of : World → ℕ → Result Reads Refusal → Reply × World
+close_of w handle found = found_outcome w found (λ read. option_map_or (file_step w handle) (draft_read read) (Closed None, after_changes w (ShutHandle handle ∷ [])))
+
+-- a handle that reads a version just goes
+pub unread_step : (w : World) (handle file number : ℕ) → reads_by w.handles handle ≡ Ok (Version file number) → step w (Close handle) ≡ (Closed None, after_change w (ShutHandle handle))
+unread_step w handle file number reads = ap (close_of w handle) reads
+
+-- one that reads a draft writes the file
+pub writes_file : (w : World) (handle file : ℕ) → reads_by w.handles handle ≡ Ok (Draft file) → file_by w.handles handle ≡ Ok file
+writes_file w handle file reads = ap file_written reads
+
+module _ (w : World) (handle file : ℕ) (reads : reads_by w.handles handle ≡ Ok (Draft file)) where
+  of_file : file_by w.handles handle ≡ Ok file
+  of_file = writes_file w handle file reads
+
   opening : (o : Option ℕ) → opening_by (rows_of w) handle ≡ o → changed_opening (last_draft (rows_of w) handle file) ≡ o
   opening o is = sym (ap (λ r. option_and_then (λ id. changed_opening (last_draft (rows_of w) handle id)) (result_ok r)) of_file) ∙ is
 
@@ -73,7 +91,7 @@ module _ (w : World) (handle file : ℕ) (of_file : file_by w.handles handle ≡
           record { draft = draft; alone = alone; found = found; changed = both.0; its_opening = both.1 }
 
     pub finished_step : step w (Close handle) ≡ (Closed (Some (next_of w.files file)), after_changes w (finishing (rows_of w) handle file opened))
-    finished_step = let f = is_final in ap (close_of w handle) of_file ∙ rw (f.alone, f.found, f.changed, f.its_opening) refl
+    finished_step = let f = is_final in ap (close_of w handle) reads ∙ rw (f.alone, f.found, f.changed, f.its_opening) refl
 
     pub drafted : is_some (find (is_draft file) w.drafts) ≡ true
     drafted = rw is_final.found refl
@@ -93,13 +111,10 @@ module _ (w : World) (handle file : ℕ) (of_file : file_by w.handles handle ≡
 
   -- the file that the handle writes has a draft
   drafted_by : IsWellFormed w → has_draft w file ≡ true
-  drafted_by formed = by (find (is_handle handle) w.handles) refl of_file where
-    read : (reads : Reads) → IsReadable w.drafts reads → file_written (Ok reads) ≡ Ok file → has_draft w file ≡ true
-    read (Draft other) there is = let same : other ≡ file = cc in subst (λ f. has_draft w f ≡ true) same there
-
-    by : (o : Option HandleRow) → find (is_handle handle) w.handles ≡ o → file_written (option_map_or (λ (row : HandleRow). Ok row.reads) o (Err NoHandle)) ≡ Ok file → has_draft w file ≡ true
-    by None found is = absurd cc
-    by (Some row) found is = read row.reads (all-found (is_handle handle) (IsHandle w.made.handles w.drafts) w.handles row found (formed.holds Handles).each).readable is
+  drafted_by formed =
+      let its = has_row w handle (Draft file) reads in
+      let row : IsHandle w.made.handles w.drafts its.row = all-found (is_handle handle) (IsHandle w.made.handles w.drafts) w.handles its.row its.found (formed.holds Handles).each in
+      rw its.its at row.readable
 
   abbrev shut : World
   shut = after_changes w (ShutHandle handle ∷ [])
@@ -109,7 +124,7 @@ module _ (w : World) (handle file : ℕ) (of_file : file_by w.handles handle ≡
   stays formed = dropped (λ v. v ≡ shut) shut file (λ idle. absurd (false≢true (sym idle.undrafted ∙ drafted_by formed))) (λ busy. refl)
 
   pub left_step : IsWellFormed w → opening_by (rows_of w) handle ≡ None → step w (Close handle) ≡ (Closed None, after_change (after_changes w (leaving handle file goes)) (DropIdle file))
-  left_step formed opens = ap (close_of w handle) of_file ∙ by (has_other_writer w handle file) (find (is_draft file) w.drafts) (opening None opens) where
+  left_step formed opens = ap (close_of w handle) reads ∙ by (has_other_writer w handle file) (find (is_draft file) w.drafts) (opening None opens) where
     of_change : (draft : DraftRow) (c : Bool) → draft.changed ≡ c → cond c (Some draft.opened) None ≡ None → draft_step w handle file (Some draft) ≡ (Closed None, after_change (after_changes w (leaving handle file true)) (DropIdle file))
     of_change draft true e is = absurd cc
     of_change draft false e is = rw e refl
@@ -131,7 +146,7 @@ module _ (w : World) (handle file : ℕ) (of_file : file_by w.handles handle ≡
     by false alone (Some draft) = all_keep (Close handle) w w (ShutHandle handle ∷ EndDraft file ∷ []) tt (tt, (alone, tt)) formed
 
   left_at : left_by (rows_of w) handle ≡ changed_at (rows_of w) 0 (leaving handle file goes)
-  left_at = ap (λ r. left_of (rows_of w) handle (result_ok r)) of_file
+  left_at = ap (left_of (rows_of w) handle) reads
 
   pub left_world : with_rows w (left_by (rows_of w) handle) ≡ after_changes w (leaving handle file goes)
   left_world = ap (with_rows w) left_at ∙ by goes where
@@ -150,6 +165,29 @@ module _ (w : World) (handle file : ℕ) (of_file : file_by w.handles handle ≡
     by : (b : Bool) → IsLeft (changed_at (rows_of w) 0 (leaving handle file b))
     by true = record { files = refl; versions = refl; changes = record { kinds = λ k id. refl; files = λ k. refl; versions = refl; drafts = drafts-removed file w.drafts } }
     by false = record { files = refl; versions = refl; changes = record { kinds = λ k id. refl; files = λ k. refl; versions = refl; drafts = refl } }
+
+  -- the keys stay, whoever writes
+  pub left_queue : (queue : List Key) → IsQueued w queue → IsQueued (after_changes w (leaving handle file goes)) queue
+  left_queue queue queued = by goes where
+    by : (b : Bool) → IsQueued (after_changes w (leaving handle file b)) queue
+    by true k = queued k ∙ ap (is_moment k.ripe) (sym (shut_others w handle (Draft file) reads k.file k.number refl))
+    by false k = queued k ∙ ap (is_moment k.ripe) (sym (shut_others w handle (Draft file) reads k.file k.number refl))
+
+  -- ---- before the draft becomes a version
+
+  -- the handle and the draft have gone
+  abbrev pub over : World
+  over = after_changes w (ShutHandle handle ∷ EndDraft file ∷ [])
+
+  pub over_keeps : has_other_writer w handle file ≡ false → IsWellFormed w → IsWellFormed over
+  over_keeps alone formed = all_keep (Close handle) w w (ShutHandle handle ∷ EndDraft file ∷ []) tt (tt, (alone, tt)) formed
+
+  pub over_queue : (queue : List Key) → IsQueued w queue → IsQueued over queue
+  over_queue queue queued k = queued k ∙ ap (is_moment k.ripe) (sym (shut_others w handle (Draft file) reads k.file k.number refl))
+
+  -- the same keys come
+  pub over_keys : (live : Bool) → new_keys (rows_of over) file w.now live ≡ new_keys (rows_of w) file w.now live
+  over_keys live = rw (open_still w handle (Draft file) reads file (next_of w.files file - 1) refl) refl
 
 -- ---- what is told of the file and of the draft
 

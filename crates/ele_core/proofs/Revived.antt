@@ -11,7 +11,7 @@ use Rattle.ele_core.specs.Inside.{world_of, IsSound}
 use Rattle.ele_core.specs.Queued.{IsQueued}
 use Rattle.ele_core.specs.Tracked.{blocks_of, IsOwed}
 use Rattle.ele_core.specs.declared.rows.Rows.{Rows}
-use Rattle.ele_files.specs.Asked.{stamps_of}
+use Rattle.ele_world.specs.Told.{stamps_of}
 use Rattle.ele_files.specs.Held.{Held, Became, cells_of_version, rows_after, rows_of}
 use Rattle.ele_lists.proofs.Cuts.{any-found}
 use Rattle.ele_lists.proofs.Edits.{all-found, found_passes}

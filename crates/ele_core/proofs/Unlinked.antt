@@ -1,5 +1,5 @@
 -- What the end of a file's name leaves of the keys and of the book.
-use Rattle.std.proofs.Common.{◌≡◌, ℕ, ◌+◌, ◌-◌, ◌<◌, ◌==◌, true, false, [], ◌∷◌, List, Option, Some, None, is_none, refl, ap, sym, subst, ◌∙◌, arith}
+use Rattle.std.proofs.Common.{◌≡◌, ℕ, ◌+◌, ◌-◌, ◌<◌, ◌==◌, true, false, cond, [], ◌∷◌, List, Option, Some, None, is_none, refl, ap, sym, subst, ◌∙◌, arith}
 use Rattle.std.specs.Prelude.{find, nat_lt, option_and_then}
 use Rattle.std.specs.List.{count_by}
 use Rattle.std.specs.Option.{option_map}
@@ -8,7 +8,7 @@ use Rattle.ele_core.proofs.Following.{entry_follows}
 use Rattle.ele_core.specs.Queued.{IsQueued, IsRekeyed, former_moment}
 use Rattle.ele_core.specs.Tracked.{told_by, IsBooked}
 use Rattle.ele_due.specs.declared.key.Key.{Key}
-use Rattle.ele_files.specs.Held.{Held, current_ended}
+use Rattle.ele_files.specs.Held.{Held, current_ended, rows_of}
 use Rattle.ele_lists.proofs.Edits.{all-found, found_passes}
 use Rattle.ele_lists.proofs.Sums.{any-count, count-update_first}
 use Rattle.ele_policy.specs.Ripe.{Beside, ripe_by}
@@ -18,7 +18,7 @@ use Rattle.ele_world.specs.Due.{ripe_at, is_moment}
 use Rattle.ele_world.specs.NameRows.{dies}
 use Rattle.ele_world.specs.Walk.{is_live_name, live_target}
 use Rattle.ele_world.specs.WellFormed.{IsNameRow, IsThere, Names, IsWellFormed}
-use Rattle.ele_world.specs.World.{World, is_live, is_live_name_of, is_version, next_of, policy_of}
+use Rattle.ele_world.specs.World.{World, is_live, is_live_name_of, is_open, is_version, next_of, policy_of}
 use Rattle.ele_world.specs.declared.rows.NameRow.{NameRow}
 use Rattle.ele_world.specs.declared.rows.Target.TheVariants.{File}
 use Rattle.ele_world.proofs.Currents.{HasCurrent, has_current}
@@ -86,14 +86,14 @@ module _ (w : World) (directory : ℕ) (name : List ℕ) (file : ℕ) (stands : 
     pub last_name_ends : after_change w (EndFileName directory name file) ≡ record (without_name w directory name) { versions = with_end w file }
     last_name_ends = rw dead refl
 
-    pub ended_queue : IsWellFormed w → (queue after : List Key) → IsQueued w queue → IsRekeyed file (next_of w.files file - 1) None (former_moment w.files w.versions file w.now) queue after
+    pub ended_queue : IsWellFormed w → (queue after : List Key) → IsQueued w queue → IsRekeyed file (next_of w.files file - 1) None (former_moment (rows_of w) file w.now) queue after
         → IsQueued (record (without_name w directory name) { versions = with_end w file }) after
     ended_queue k queue after queued edited =
         let current : HasCurrent w file = has_current w file k (target_live w.names directory name (File file) stands) in
         let beside : Beside = record { newer = w.now ∷ []; live = false } in
         let v = after_change w (EndFileName directory name file) in
         let still : is_live v file ≡ false = dead in
-        let former : former_moment w.files w.versions file w.now ≡ option_and_then (λ policy. ripe_by policy current.row.closed beside w.now) (policy_of w.files file) = rw (current.found, current.no_end, current.own) refl in
-        let moment : ripe_at v file (next_of w.files file - 1) ≡ former_moment w.files w.versions file w.now = ended_moment w directory name file current beside still ∙ sym former in
+        let former : former_moment (rows_of w) file w.now ≡ cond (is_open w.handles file (next_of w.files file - 1)) None (option_and_then (λ policy. ripe_by policy current.row.closed beside w.now) (policy_of w.files file)) = rw (current.found, current.no_end) refl in
+        let moment : ripe_at v file (next_of w.files file - 1) ≡ former_moment (rows_of w) file w.now = ended_moment w directory name file current beside still ∙ sym former in
         subst (λ (u : World). IsQueued u after) last_name_ends
         (entry_follows w v queue after queued file (next_of w.files file - 1) (other_moments w directory name file) (rw (no_moment w directory name file current, moment) edited))

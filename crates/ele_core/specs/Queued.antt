@@ -32,18 +32,19 @@ is_either file number former own k = is_entry file (number - 1) former k || is_e
 abbrev pub is_new : NewKeys → Key → Bool
 is_new keys k = is_either keys.file keys.number keys.former keys.own k
 
--- the ripe moment of a row that ends then, as the next version closes; none where it had ended, for then it keeps what it has
-abbrev pub moment_at_end : List FileRow → ℕ → VersionRow → Option ℕ
-moment_at_end files now row =
+-- the ripe moment of a row of the file that ends then, as the next version closes; none where it had ended, for then it keeps
+-- what it has
+abbrev pub moment_at_end : List FileRow → ℕ → ℕ → VersionRow → Option ℕ
+moment_at_end files file now row =
     if is_some row.ended then None
-    else option_and_then (λ policy. ripe_by policy row.closed (record { newer = now ∷ []; live = false }) now) (policy_of files row.file)
+    else option_and_then (λ policy. ripe_by policy row.closed (record { newer = now ∷ []; live = false }) now) (policy_of files file)
 
 -- that of the version before the file's next one; none where a handle reads it
 abbrev pub former_moment : Held → ℕ → ℕ → Option ℕ
 former_moment h file now =
     let last = next_of h.files file - 1 in
     if is_open h.handles file last then None
-    else option_and_then (moment_at_end h.files now) (find (is_version file last) h.versions)
+    else option_and_then (moment_at_end h.files file now) (find (is_version file last) h.versions)
 
 -- that of the file's next version, which closes now and ends at once where the file isn't live
 abbrev pub own_moment : List FileRow → ℕ → ℕ → Bool → Option ℕ
@@ -62,11 +63,11 @@ new_keys h file now live = record {
 
 -- ---- what a handle touches that reads a version
 
--- the ripe moment that the row has while no handle reads it
-abbrev pub moment_of : List FileRow → VersionRow → Option ℕ
-moment_of files row =
-    option_and_then (λ policy. option_and_then (ripe_by policy row.closed (record { newer = []; live = false })) row.ended) (policy_of files row.file)
+-- the ripe moment that a row of the file has while no handle reads it
+abbrev pub moment_of : List FileRow → ℕ → VersionRow → Option ℕ
+moment_of files file row =
+    option_and_then (λ policy. option_and_then (ripe_by policy row.closed (record { newer = []; live = false })) row.ended) (policy_of files file)
 
 -- that of the version, if it is held
 abbrev pub free_moment : Held → ℕ → ℕ → Option ℕ
-free_moment h file number = option_and_then (moment_of h.files) (find (is_version file number) h.versions)
+free_moment h file number = option_and_then (moment_of h.files file) (find (is_version file number) h.versions)

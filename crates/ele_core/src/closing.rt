@@ -5,14 +5,14 @@ ghost use Rattle.ele_files.specs.Closing.{opening_by};
 ghost use Rattle.ele_files.specs.Held.{cells_of_draft};
 ghost use Rattle.ele_world.specs.Step.{step};
 ghost use Rattle.ele_world.specs.declared.event.Event.TheVariants as event;
-ghost use Rattle.ele_world.specs.declared.rows.Reads.TheVariants.{Version};
-ghost use Rattle.ele_world.specs.World.{is_draft, file_by, reads_by};
+ghost use Rattle.ele_world.specs.declared.rows.Reads.TheVariants.{Draft, Version};
+ghost use Rattle.ele_world.specs.World.{is_draft, reads_by};
 ghost use Rattle.ele_core.specs.Inside.{world_of, IsTracked, IsSound};
 
 use crate::appending::{add_version, new_keys};
 use crate::book::{blocks, follow_blocks};
 use crate::dropping::drop_idle;
-use crate::keys::{free_moment, put};
+use crate::keys::{free_moment, put, take};
 use crate::rows::Rows;
 use ele_files::Files;
 use ele_world::{FileId, Handle, Moment, NoMemory, Reads, Reply, VersionNo};
@@ -32,7 +32,7 @@ fn draft_bytes(files: &Files, file: FileId) -> u64
 fn finish(rows: &mut Rows, handle: Handle, file: FileId, opened: Moment) -> Result<Reply, NoMemory>
     requires sound { IsSound rows.old }
     requires meter { rows.old.meter ≡ 0 }
-    requires file { file_by rows.old.files.handles handle ≡ Ok file }
+    requires reads { reads_by rows.old.files.handles handle ≡ Ok (Draft file) }
     requires changed { opening_by rows.old.files handle ≡ Some opened }
     ensures step { IfOk result
         (λ reply. (reply, world_of rows.new) ≡ step (world_of rows.old) (event.Close handle)) }
@@ -66,7 +66,7 @@ fn finish(rows: &mut Rows, handle: Handle, file: FileId, opened: Moment) -> Resu
 fn leave(rows: &mut Rows, handle: Handle, file: FileId) -> Reply
     requires sound { IsSound rows.old }
     requires meter { rows.old.meter ≡ 0 }
-    requires file { file_by rows.old.files.handles handle ≡ Ok file }
+    requires reads { reads_by rows.old.files.handles handle ≡ Ok (Draft file) }
     requires unchanged { opening_by rows.old.files handle ≡ None }
     ensures step { (result, world_of rows.new) ≡ step (world_of rows.old) (event.Close handle) }
     ensures tracked { IsTracked rows.new }
@@ -78,8 +78,8 @@ fn leave(rows: &mut Rows, handle: Handle, file: FileId) -> Reply
     Reply::Closed(None)
 }
 
-/// A handle that reads a version is closed. With the last one that reads it the version's key comes again, where it has one; it
-/// comes before the handle goes, so that where it is refused nothing has changed.
+/// A handle that reads a version is closed. With the last one that reads it the version's key comes again, where it has one. The
+/// key comes before the handle goes, so that one that is refused leaves all as it was, and goes again while others read.
 fn unread(
     rows: &mut Rows,
     handle: Handle,
@@ -87,17 +87,19 @@ fn unread(
     number: VersionNo,
 ) -> Result<Reply, NoMemory>
     requires sound { IsSound rows.old }
+    requires meter { rows.old.meter ≡ 0 }
     requires reads { reads_by rows.old.files.handles handle ≡ Ok (Version file number) }
     ensures step { IfOk result
         (λ reply. (reply, world_of rows.new) ≡ step (world_of rows.old) (event.Close handle)) }
     ensures err { OnErr result (world_of rows.new ≡ world_of rows.old) }
     ensures tracked { IsTracked rows.new }
 {
-    if rows.files.is_last_reader(handle) {
-        let moment = free_moment(&rows.files, file, number, &mut rows.meter);
-        put(&mut rows.queue, file, number, moment)?;
-    }
+    let moment = free_moment(&rows.files, file, number, &mut rows.meter);
+    put(&mut rows.queue, file, number, moment)?;
     rows.files.leave(handle);
+    if rows.files.is_open(file, number) {
+        take(&mut rows.queue, file, number, moment);
+    }
     Ok(Reply::Closed(None))
 }
 

@@ -13,14 +13,14 @@ use Rattle.ele_policy.specs.Ripe.{Beside, ripe_by}
 use Rattle.ele_world.specs.declared.rows.VersionRow.{VersionRow}
 use Rattle.ele_world.specs.Change.{ended_at, next_version, with_end, with_version}
 use Rattle.ele_world.specs.Due.{ripe_of, ripe_at}
-use Rattle.ele_world.specs.WellFormed.{IsVersion, IsWellFormed, Versions}
-use Rattle.ele_world.specs.World.{World, is_live, is_open, is_version, is_version_after, next_of, policy_of}
+use Rattle.ele_world.specs.WellFormed.{IsVersion, IsWellFormed, Readers, Versions}
+use Rattle.ele_world.specs.World.{World, is_held, is_live, is_open, is_version, is_version_after, next_of, policy_of}
 use Rattle.ele_world.proofs.Closes.{new_found, none_next}
 use Rattle.ele_world.proofs.Elements.{find-updated, one_of}
 use Rattle.ele_world.proofs.Files.{policies-numbered}
 use Rattle.ele_world.proofs.NameMoments.{found_moment, ripe_at_plain}
 use Rattle.ele_world.proofs.Plain.{plain_ripe}
-use Rattle.ele_world.proofs.Readers.{open_held}
+use Rattle.ele_world.proofs.Readers.{unread_unheld}
 use Rattle.ele_world.proofs.RipeAt.{ripe_at_is}
 
 module _ (w : World) (file opened : ℕ) (cells : List Cell) (k : IsWellFormed w) where
@@ -39,14 +39,17 @@ module _ (w : World) (file opened : ℕ) (cells : List Cell) (k : IsWellFormed w
   not_there : AllByRecursion (λ row. is_version file next row ≡ false) w.versions
   not_there = all-weaker (IsVersion w.files w.now) (λ row. is_version file next row ≡ false) w.versions (λ row is. none_next w.files w.now file row is) (k.holds Versions).each
 
+  not_held : is_held w file next ≡ false
+  not_held = by (is_held w file next) refl where
+    by : (b : Bool) → is_held w file next ≡ b → b ≡ false
+    by true held =
+        let one = one_of (is_version file next) (λ row. is_version file next row ≡ false) w.versions not_there held in
+        absurd (false≢true (sym one.2 ∙ one.1))
+    by false none = refl
+
   -- no handle reads the new one yet, as it wasn't there
   pub next_unread : is_open w.handles file next ≡ false
-  next_unread = by (is_open w.handles file next) refl where
-    by : (b : Bool) → is_open w.handles file next ≡ b → b ≡ false
-    by true is_read =
-        let one = one_of (is_version file next) (λ row. is_version file next row ≡ false) w.versions not_there (open_held w k file next is_read) in
-        absurd (false≢true (sym one.2 ∙ one.1))
-    by false is_read = refl
+  next_unread = unread_unheld w.versions w.handles file next (k.holds Readers) not_held
 
   pub next_before : ripe_at w file next ≡ None
   next_before = ripe_at_is w file next ∙ ap (option_and_then (ripe_of w)) (not_found (is_version file next) w.versions not_there)

@@ -1,16 +1,15 @@
 -- Versions that handles read.
-use Rattle.std.proofs.Common.{◌≡◌, ℕ, Bool, true, false, cond, ◌==◌, ◌||◌, ◌&&◌, List, [], ◌∷◌, Some, None, refl, ap, subst, ◌∙◌, arith}
+use Rattle.std.proofs.Common.{arith, sym, ◌≡◌, ℕ, Bool, true, false, cond, ◌==◌, ◌||◌, ◌&&◌, List, [], ◌∷◌, Some, None, refl, ap, ◌∙◌}
 use Rattle.std.specs.List.{list_any, cons_option}
 use Rattle.std.proofs.lemmas.Bool.Decides.{nat_tests}
 use Rattle.ele_lists.proofs.Edits.{all-weaker}
 use Rattle.ele_world.specs.FileView.{number_read, numbers_read}
-use Rattle.ele_world.specs.WellFormed.{IsHeldRead, AreHeldRead, IsWellFormed, Readers}
-use Rattle.ele_world.specs.World.{World, is_held, is_open, is_version, reads_version}
+use Rattle.ele_world.specs.WellFormed.{IsHeldRead, AreHeldRead}
+use Rattle.ele_world.specs.World.{is_open, is_version, reads_version}
 use Rattle.ele_world.specs.declared.rows.HandleRow.{HandleRow}
 use Rattle.ele_world.specs.declared.rows.Reads.{Reads}
 use Rattle.ele_world.specs.declared.rows.Reads.TheVariants.{Draft, Version}
 use Rattle.ele_world.specs.declared.rows.VersionRow.{VersionRow}
-use Rattle.ele_world.proofs.Elements.{one_of}
 
 -- a version is open if its number is among those of its file that are read
 pub numbers_are : (rows : List HandleRow) (file number : ℕ) → list_any (λ n. n == number) (numbers_read rows file) ≡ is_open rows file number
@@ -34,15 +33,18 @@ read_on versions after rows on all = all-weaker (λ row. IsHeldRead versions row
   by (Draft file) h = h
   by (Version file number) h = on file number h
 
--- an open version is held
-pub open_held : (w : World) → IsWellFormed w → (file number : ℕ) → is_open w.handles file number ≡ true → is_held w file number ≡ true
-open_held w k file number is_read = by one.0.reads one.1 one.2 where
-  one : (row : HandleRow) × (reads_version file number row.reads ≡ true) × IsHeldRead w.versions row.reads
-  one = one_of (λ row. reads_version file number row.reads) (λ row. IsHeldRead w.versions row.reads) w.handles (k.holds Readers) is_read
+-- so what isn't held isn't read
+pub unread_unheld : (versions : List VersionRow) (rows : List HandleRow) (file number : ℕ) → AreHeldRead versions rows → list_any (is_version file number) versions ≡ false → is_open rows file number ≡ false
+unread_unheld versions [] file number all none = refl
+unread_unheld versions (row ∷ rows) file number all none = by row.reads all.0 (unread_unheld versions rows file number all.1 none) where
+  of : (read other : ℕ) (b c : Bool) → (read == file) ≡ b → (other == number) ≡ c → list_any (is_version read other) versions ≡ true → (b && c) ≡ false
+  of read other false c e f held = refl
+  of read other true false e f held = refl
+  of read other true true e f held =
+      let file_is : read ≡ file = grind (arith, nat_tests) in
+      let number_is : other ≡ number = grind (arith, nat_tests) in
+      sym (rw (file_is, number_is) at held) ∙ none
 
-  by : (reads : Reads) → reads_version file number reads ≡ true → IsHeldRead w.versions reads → is_held w file number ≡ true
-  by (Draft written) is held = absurd cc
-  by (Version read other) is held =
-      let own : read ≡ file = grind (arith, nat_tests) in
-      let its : other ≡ number = grind (arith, nat_tests) in
-      subst (λ f. is_held w f number ≡ true) own (subst (λ n. is_held w read n ≡ true) its held)
+  by : (reads : Reads) → IsHeldRead versions reads → is_open rows file number ≡ false → (reads_version file number reads || is_open rows file number) ≡ false
+  by (Draft written) held rest = rest
+  by (Version read other) held rest = rw (of read other (read == file) (other == number) refl refl held, rest) refl
