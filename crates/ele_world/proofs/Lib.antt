@@ -57,3 +57,4 @@ pub mod KeptDrops
 pub mod DropViews
 pub mod DropUsage
 pub mod NoIdle
+pub mod ReadsBack
