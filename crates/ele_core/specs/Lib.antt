@@ -6,3 +6,4 @@ pub mod Queued
 pub mod Tracked
 pub mod Inside
 pub mod Faults
+pub mod Told

@@ -3,11 +3,12 @@ use Rattle.std.specs.Prelude.{◌≡◌, ℕ, ◌-◌, ◌==◌, Bool, false, no
 use Rattle.ele_core.specs.declared.keys.NewKeys.{NewKeys}
 use Rattle.ele_due.specs.declared.key.Key.{Key}
 use Rattle.ele_due.specs.HasKey.{has_key}
+use Rattle.ele_files.specs.Held.{Held}
 use Rattle.ele_policy.specs.Ripe.{ripe_by}
 use Rattle.ele_world.specs.declared.rows.FileRow.{FileRow}
 use Rattle.ele_world.specs.declared.rows.VersionRow.{VersionRow}
 use Rattle.ele_world.specs.Due.{ripe_at, is_moment}
-use Rattle.ele_world.specs.World.{World, policy_of, next_of, is_version}
+use Rattle.ele_world.specs.World.{World, policy_of, next_of, is_open, is_version}
 
 -- the queue has the key of each version that has a ripe moment, and no other
 abbrev pub IsQueued : World → List Key → Type 0
@@ -37,13 +38,35 @@ moment_at_end files now row =
     if is_some row.ended then None
     else option_and_then (λ policy. ripe_by policy row.closed (record { newer = now ∷ []; live = false }) now) (policy_of files row.file)
 
--- that of the version before the file's next one
-abbrev pub former_moment : List FileRow → List VersionRow → ℕ → ℕ → Option ℕ
-former_moment files versions file now =
-    option_and_then (moment_at_end files now) (find (is_version file (next_of files file - 1)) versions)
+-- that of the version before the file's next one; none where a handle reads it
+abbrev pub former_moment : Held → ℕ → ℕ → Option ℕ
+former_moment h file now =
+    let last = next_of h.files file - 1 in
+    if is_open h.handles file last then None
+    else option_and_then (moment_at_end h.files now) (find (is_version file last) h.versions)
 
 -- that of the file's next version, which closes now and ends at once where the file isn't live
 abbrev pub own_moment : List FileRow → ℕ → ℕ → Bool → Option ℕ
 own_moment files file now live =
     if live then None
     else option_and_then (λ policy. ripe_by policy now (record { newer = []; live = false }) now) (policy_of files file)
+
+-- the keys of both
+abbrev pub new_keys : Held → ℕ → ℕ → Bool → NewKeys
+new_keys h file now live = record {
+  file = file;
+  number = next_of h.files file;
+  former = former_moment h file now;
+  own = own_moment h.files file now live;
+}
+
+-- ---- what a handle touches that reads a version
+
+-- the ripe moment that the row has while no handle reads it
+abbrev pub moment_of : List FileRow → VersionRow → Option ℕ
+moment_of files row =
+    option_and_then (λ policy. option_and_then (ripe_by policy row.closed (record { newer = []; live = false })) row.ended) (policy_of files row.file)
+
+-- that of the version, if it is held
+abbrev pub free_moment : Held → ℕ → ℕ → Option ℕ
+free_moment h file number = option_and_then (moment_of h.files) (find (is_version file number) h.versions)

@@ -13,10 +13,9 @@ ghost use Rattle.ele_world.specs.World.{is_version};
 
 use crate::book::{blocks, follow_blocks, take_version};
 use crate::dropping::drop_idle;
-use crate::keys::take;
+use crate::keys::{free_moment, take};
 use crate::rows::Rows;
 use ele_files::Meter;
-use ele_policy::ripe;
 use ele_world::{FileId, Key, KeyList, ListOf, Moment, NoMemory, PassEnd, Reply, VersionNo};
 
 /// Whether the version is held and due now.
@@ -32,17 +31,16 @@ pub fn is_due(rows: &Rows, file: FileId, number: VersionNo) -> bool
     is_ripe(&key, rows.moment) && rows.queue.holds(&key)
 }
 
-/// The moment from which on the version is due; none where it isn't held, or never due.
+/// The moment from which on the version is due; none where it isn't held, where a handle reads it, or where it is never due.
 #[tactic(auto, using(crate::proofs::Asked::ripe_told))]
 fn ripe_moment(rows: &Rows, file: FileId, number: VersionNo) -> Option<Moment>
     requires { IsSound rows.now }
     ensures { result ≡ ripe_at (world_of rows.now) file number }
 {
-    let mut meter = Meter::new();
-    let stamps = rows.files.stamps(file, number, &mut meter)?;
-    let policy = rows.files.policy_of(file)?;
-    // The next version's closing isn't read for this: no policy yet looks at what stands beside a version.
-    ripe(&policy, stamps.closed, stamps.ended?, None)
+    if rows.files.is_open(file, number) {
+        return None;
+    }
+    free_moment(&rows.files, file, number, &mut Meter::new())
 }
 
 /// The keys of the versions that are due now, in order.

@@ -1,75 +1,21 @@
 //! The event that closes a handle, and may make its draft a version.
-ghost use Rattle.std.specs.Prelude.{◌≡◌, ◌≤◌, ◌<◌, ◌-◌, ◌+◌, ◌^◌, true, Some, None, Ok, IfOk, OnErr, find, is_some, length, if◌then◌else◌};
-ghost use Rattle.std.specs.Option.{ForSome};
+ghost use Rattle.std.specs.Prelude.{◌≡◌, Some, None, Ok, IfOk, OnErr, find, is_some, length};
 ghost use Rattle.ele_content.specs.Content.{content_of};
 ghost use Rattle.ele_files.specs.Closing.{opening_by};
 ghost use Rattle.ele_files.specs.Held.{cells_of_draft};
-ghost use Rattle.ele_policy.specs.declared.policy.Kind.{Kind};
-ghost use Rattle.ele_usage.specs.Book.{sums_of};
-ghost use Rattle.ele_usage.specs.Sums.{nothing, plus, Fits};
 ghost use Rattle.ele_world.specs.Step.{step};
 ghost use Rattle.ele_world.specs.declared.event.Event.TheVariants as event;
-ghost use Rattle.ele_world.specs.Usage.{is_file_of};
-ghost use Rattle.ele_world.specs.World.{next_of, is_draft, is_version, file_by};
+ghost use Rattle.ele_world.specs.declared.rows.Reads.TheVariants.{Version};
+ghost use Rattle.ele_world.specs.World.{is_draft, file_by, reads_by};
 ghost use Rattle.ele_core.specs.Inside.{world_of, IsTracked, IsSound};
-ghost use Rattle.ele_core.specs.Queued.{former_moment, own_moment};
-ghost use Rattle.ele_core.specs.Tracked.{one_version};
 
-use crate::book::{blocks, follow_blocks, one_version};
+use crate::appending::{add_version, new_keys};
+use crate::book::{blocks, follow_blocks};
 use crate::dropping::drop_idle;
-use crate::keys::NewKeys;
+use crate::keys::{free_moment, put};
 use crate::rows::Rows;
-use ele_files::{Files, Meter};
-use ele_policy::ripe;
-use ele_usage::UsageBook;
-use ele_world::{FileId, Handle, Moment, NoMemory, Reply, VersionNo};
-
-/// The ripe moment that the version before the file's next one gets, which ends now; none where it isn't held or has ended.
-#[tactic(auto, using(crate::proofs::Asked::former_told))]
-pub fn former_moment(
-    files: &Files,
-    file: FileId,
-    next: VersionNo,
-    now: Moment,
-    meter: &mut Meter,
-) -> Option<Moment>
-    requires next { next ≡ next_of files.now.files file }
-    requires past { ForSome
-        (find (is_version file (next_of files.now.files file - 1)) files.now.versions)
-        (λ row. row.closed ≤ now) }
-    requires meter { meter.old < 2 ^ 60 }
-    ensures moment { result ≡ former_moment files.now.files files.now.versions file now }
-    ensures read { meter.new ≤ meter.old + 1 }
-{
-    let stamps = files.stamps(file, next.before(), meter)?;
-    if stamps.ended.is_some() {
-        return None;
-    }
-    let policy = files.policy_of(file)?;
-    ripe(&policy, stamps.closed, now, Some(now))
-}
-
-/// The ripe moment of the file's next version, which closes now; none where it doesn't end at once.
-fn own_moment(files: &Files, file: FileId, now: Moment, is_live: bool) -> Option<Moment>
-    ensures { result ≡ own_moment files.now.files file now is_live }
-{
-    if is_live {
-        return None;
-    }
-    let policy = files.policy_of(file)?;
-    ripe(&policy, now, now, None)
-}
-
-/// The number of the file's next version; the file is there.
-pub fn next_number(files: &Files, file: FileId) -> VersionNo
-    requires { 0 < next_of files.now.files file }
-    ensures { result ≡ next_of files.now.files file }
-{
-    let Some(number) = files.next_of(file) else {
-        unreachable!()
-    };
-    number
-}
+use ele_files::Files;
+use ele_world::{FileId, Handle, Moment, NoMemory, Reads, Reply, VersionNo};
 
 /// How many bytes the file's draft has; it has one.
 fn draft_bytes(files: &Files, file: FileId) -> u64
@@ -80,17 +26,6 @@ fn draft_bytes(files: &Files, file: FileId) -> u64
         unreachable!()
     };
     bytes
-}
-
-/// The book has one version more for the kind of the file, of so many bytes.
-pub fn add_version(book: &mut UsageBook, files: &Files, file: FileId, bytes: u64)
-    requires { (k : Kind) → Fits (plus (sums_of book.old k) (one_version bytes)) }
-    ensures { (k : Kind) → sums_of book.new k ≡ plus (sums_of book.old k)
-        (if is_file_of files.now.files k file then one_version bytes else nothing) }
-{
-    if let Some(policy) = files.policy_of(file) {
-        book.add(policy.kind(), one_version(bytes));
-    }
 }
 
 /// The last handle of a changed draft is closed, which becomes the file's next version.
@@ -105,18 +40,12 @@ fn finish(rows: &mut Rows, handle: Handle, file: FileId, opened: Moment) -> Resu
     ensures tracked { IsTracked rows.new }
 {
     let is_live = rows.names.is_live(file);
-    let next = next_number(&rows.files, file);
-    let keys = NewKeys {
-        file,
-        number: next,
-        former: former_moment(&rows.files, file, next, rows.moment, &mut rows.meter),
-        own: own_moment(&rows.files, file, rows.moment, is_live),
-    };
+    let now = rows.moment;
+    let keys = new_keys(&rows.files, file, now, is_live, &mut rows.meter);
     let before = blocks(&rows.files);
     let bytes = draft_bytes(&rows.files, file);
     // All keys come before the version does, so that one that is refused is still without trace.
     keys.put(&mut rows.queue)?;
-    let now = rows.moment;
     let finished = rows
         .files
         .finish(handle, file, opened, now, is_live, &mut rows.meter);
@@ -149,7 +78,30 @@ fn leave(rows: &mut Rows, handle: Handle, file: FileId) -> Reply
     Reply::Closed(None)
 }
 
-/// Closes the handle. With a file's last handle its draft goes: a changed one becomes the file's next version, which ends
+/// A handle that reads a version is closed. With the last one that reads it the version's key comes again, where it has one; it
+/// comes before the handle goes, so that where it is refused nothing has changed.
+fn unread(
+    rows: &mut Rows,
+    handle: Handle,
+    file: FileId,
+    number: VersionNo,
+) -> Result<Reply, NoMemory>
+    requires sound { IsSound rows.old }
+    requires reads { reads_by rows.old.files.handles handle ≡ Ok (Version file number) }
+    ensures step { IfOk result
+        (λ reply. (reply, world_of rows.new) ≡ step (world_of rows.old) (event.Close handle)) }
+    ensures err { OnErr result (world_of rows.new ≡ world_of rows.old) }
+    ensures tracked { IsTracked rows.new }
+{
+    if rows.files.is_last_reader(handle) {
+        let moment = free_moment(&rows.files, file, number, &mut rows.meter);
+        put(&mut rows.queue, file, number, moment)?;
+    }
+    rows.files.leave(handle);
+    Ok(Reply::Closed(None))
+}
+
+/// Closes the handle. With a file's last writer its draft goes: a changed one becomes the file's next version, which ends
 /// at once where the file isn't live, and the version before that ends. Refused: `NoHandle`. Where memory is refused, the
 /// world stays.
 pub fn close(rows: &mut Rows, handle: Handle) -> Result<Reply, NoMemory>
@@ -160,8 +112,9 @@ pub fn close(rows: &mut Rows, handle: Handle) -> Result<Reply, NoMemory>
     ensures err { OnErr result (world_of rows.new ≡ world_of rows.old) }
     ensures tracked { IsTracked rows.new }
 {
-    let file = match rows.files.file_by(handle) {
-        Ok(file) => file,
+    let file = match rows.files.reads_by(handle) {
+        Ok(Reads::Draft(file)) => file,
+        Ok(Reads::Version(file, number)) => return unread(rows, handle, file, number),
         Err(refusal) => return Ok(Reply::Refused(refusal)),
     };
     match rows.files.changed_draft(handle) {

@@ -1,10 +1,12 @@
 //! How the queue of keys follows the files: keys come and go by the version that they are of.
-ghost use Rattle.std.specs.Prelude.{◌≡◌, ◌-◌, ◌||◌, ◌&&◌, not, false, true, None, OnOk, OnErr};
+ghost use Rattle.std.specs.Prelude.{◌≡◌, ◌<◌, ◌≤◌, ◌+◌, ◌^◌, ◌-◌, ◌||◌, ◌&&◌, not, false, true, None, OnOk, OnErr};
 ghost use Rattle.ele_due.specs.declared.key.Key.{Key};
 ghost use Rattle.ele_due.specs.HasKey.{has_key};
-ghost use Rattle.ele_core.specs.Queued.{IsRekeyed, is_entry, is_new};
+ghost use Rattle.ele_core.specs.Queued.{IsRekeyed, free_moment, is_entry, is_new};
 
 use ele_due::DueQueue;
+use ele_files::{Files, Meter};
+use ele_policy::ripe;
 use ele_world::{FileId, Key, Moment, NoMemory, VersionNo};
 
 /// Puts in the key of the version with that moment, if there is one.
@@ -30,6 +32,23 @@ pub fn take(queue: &mut DueQueue, file: FileId, number: VersionNo, moment: Optio
     if let Some(ripe) = moment {
         let _was = queue.remove(&Key { ripe, file, number });
     }
+}
+
+/// The ripe moment that the version has while no handle reads it; none where it isn't held, has no end, or is never due.
+pub fn free_moment(
+    files: &Files,
+    file: FileId,
+    number: VersionNo,
+    meter: &mut Meter,
+) -> Option<Moment>
+    requires { meter.old < 2 ^ 60 }
+    ensures moment { result ≡ free_moment files.now file number }
+    ensures read { meter.new ≤ meter.old + 1 }
+{
+    let stamps = files.stamps(file, number, meter)?;
+    let policy = files.policy_of(file)?;
+    // The next version's closing isn't read for this: no policy yet looks at what stands beside a version.
+    ripe(&policy, stamps.closed, stamps.ended?, None)
 }
 
 /// The keys that come with a version: that of the version before it in its file, which ends, and its own.

@@ -17,6 +17,7 @@ ghost use Rattle.ele_core.specs.Reads.{IsRead};
 ghost use Rattle.ele_core.specs.Ready.{takes_no_memory};
 ghost use Rattle.ele_core.specs.Stopped.{is_stopped};
 
+mod appending;
 mod asking;
 mod book;
 mod cleaning;
@@ -31,12 +32,13 @@ mod lookups;
 mod names;
 mod opening;
 mod restoring;
+mod reverting;
 mod rows;
 mod unlinking;
 mod walk;
 mod writing;
 
-use crate::asking::{read, usage};
+use crate::asking::{list, read, stat, usage, versions};
 use crate::cleaning::{clean_one, due, due_first, is_due, pass};
 use crate::clock::{clock, tick};
 use crate::closing::close;
@@ -44,8 +46,9 @@ use crate::defaults::set_default;
 use crate::directories::{make_dir, remove_dir};
 use crate::links::{link, rename};
 use crate::names::create;
-use crate::opening::open_write;
+use crate::opening::{open_read, open_write};
 use crate::restoring::{restorable, undelete};
+use crate::reverting::revert;
 use crate::rows::{Made, ROOT, Rows};
 use crate::unlinking::unlink;
 use crate::writing::{truncate, write};
@@ -56,8 +59,9 @@ use ele_policy::Interval;
 use ele_usage::UsageBook;
 pub use ele_world::{
     ByteList, Cell, Counts, DeadName, DeadNameList, DirId, DirectoryRow, DraftRow, Event, FileId,
-    FileRow, Flat, Handle, HandleRow, Key, KeyList, Kind, Limits, ListOf, Moment, Name, NameRow,
-    NoMemory, PassEnd, Path, Policy, Reads, Refusal, Reply, Source, Stop, Target, Usage, VersionNo,
+    FileRow, FileStat, Flat, Handle, HandleRow, Key, KeyList, Kind, Limits, ListOf, Moment, Name, NameList, NameRow,
+    NoMemory, PassEnd, Path, PathAt, Policy, Reads, Refusal, Reply, Source, Stamps, StampsList, Stop, Tag,
+    TaggedPath, Target, Usage, VersionNo,
     VersionRow, Which,
 };
 use std::alloc::Global;
@@ -103,12 +107,17 @@ fn answer(rows: &mut Rows, event: &Event) -> Result<Reply, NoMemory>
         Event::Rename(from, to) => rename(rows, from, to),
         Event::Undelete(path) => undelete(rows, path),
         Event::OpenWrite(path) => open_write(rows, path),
+        Event::OpenRead(tagged) => open_read(rows, tagged),
         Event::Write(handle, offset, bytes) => write(rows, *handle, *offset, bytes.as_slice()),
         Event::Truncate(handle, size) => truncate(rows, *handle, *size),
         Event::Close(handle) => close(rows, *handle),
+        Event::Revert(path, number) => revert(rows, path, *number),
         Event::SetDefault(path, policy) => Ok(set_default(rows, path, *policy)),
         Event::CleanOne => Ok(clean_one(rows)),
-        Event::Read(source) => read(rows, *source),
+        Event::Read(source) => read(rows, source),
+        Event::Stat(tagged) => Ok(stat(rows, tagged)),
+        Event::Versions(at) => versions(rows, at),
+        Event::List(at) => list(rows, at),
         Event::Restorable => Ok(Reply::RestoreList(restorable(rows)?)),
         Event::Due => Ok(Reply::DueList(due(rows)?)),
         Event::UsageAll => Ok(Reply::UsageList(usage(rows))),
@@ -151,8 +160,8 @@ impl Core {
 
     /// Takes the event: answers it, and makes its change.
     ///
-    /// `NoMemory` where memory is refused, and then the world is as it was. `clock`, `tick`, `rmdir`, `default`, `clean`
-    /// and `usage` take none.
+    /// `NoMemory` where memory is refused, and then the world is as it was. `clock`, `tick`, `rmdir`, `default`, `clean`,
+    /// `stat` and `usage` take none.
     pub fn apply(&mut self, event: &Event) -> Result<Reply, NoMemory>
         ensures step { IfOk result
             (λ reply. (reply, self.new.world) ≡ step self.old.world event.now) }

@@ -13,7 +13,7 @@ ghost use Rattle.ele_world.proofs.May.{MayRevive};
 ghost use Rattle.ele_core.specs.Inside.{world_of, IsTracked, IsSound};
 
 use crate::book::{blocks, follow_blocks};
-use crate::closing::{add_version, next_number};
+use crate::appending::{add_version, next_number};
 use crate::links::add_name;
 use crate::rows::{Rows, are_names_full, is_full};
 use ele_files::{Files, Meter};

@@ -9,7 +9,7 @@ ghost use Rattle.ele_world.specs.declared.event.Event.TheVariants as event;
 ghost use Rattle.ele_world.specs.declared.rows.Target.TheVariants.{File};
 ghost use Rattle.ele_core.specs.Inside.{world_of, IsTracked, IsSound};
 
-use crate::closing::{former_moment, next_number};
+use crate::appending::{former_moment, next_number};
 use crate::keys::put;
 use crate::rows::Rows;
 use crate::walk::file_now;

@@ -1,5 +1,5 @@
 use Rattle.ele_core.proofs.ClosedSteps.{number_told, untold}
-use Rattle.ele_core.proofs.closing.next_number.Goals as goal
+use Rattle.ele_core.proofs.appending.next_number.Goals as goal
 
 pub unreachable-requires : goal.unreachable-requires
 unreachable-requires c = untold _ c.in_default.ensures c.requires

@@ -5,7 +5,7 @@ use Rattle.ele_core.proofs.Asked.{former_told, told_past}
 use Rattle.ele_files.specs.Asked.{stamps_of}
 use Rattle.ele_policy.specs.Ripe.{Beside}
 use Rattle.ele_world.specs.World.{is_version, next_of}
-use Rattle.ele_core.proofs.closing.former_moment.Goals as goal
+use Rattle.ele_core.proofs.appending.former_moment.Goals as goal
 
 pub returns-in_err-policy-clause-moment : goal.returns-in_err-policy-clause-moment
 returns-in_err-policy-clause-moment c =

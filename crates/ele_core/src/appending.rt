@@ -1,0 +1,104 @@
+//! What follows a version that a file gets: its keys, and what it uses.
+ghost use Rattle.std.specs.Prelude.{◌≡◌, ◌≤◌, ◌<◌, ◌-◌, ◌+◌, ◌^◌, find, if◌then◌else◌};
+ghost use Rattle.std.specs.Option.{ForSome};
+ghost use Rattle.ele_policy.specs.declared.policy.Kind.{Kind};
+ghost use Rattle.ele_usage.specs.Book.{sums_of};
+ghost use Rattle.ele_usage.specs.Sums.{nothing, plus, Fits};
+ghost use Rattle.ele_world.specs.Usage.{is_file_of};
+ghost use Rattle.ele_world.specs.World.{next_of, is_version};
+ghost use Rattle.ele_core.specs.Queued.{former_moment, own_moment, new_keys};
+ghost use Rattle.ele_core.specs.Tracked.{one_version};
+
+use crate::book::one_version;
+use crate::keys::NewKeys;
+use ele_files::{Files, Meter};
+use ele_policy::ripe;
+use ele_usage::UsageBook;
+use ele_world::{FileId, Moment, VersionNo};
+
+/// The number of the file's next version; the file is there.
+pub fn next_number(files: &Files, file: FileId) -> VersionNo
+    requires { 0 < next_of files.now.files file }
+    ensures { result ≡ next_of files.now.files file }
+{
+    let Some(number) = files.next_of(file) else {
+        unreachable!()
+    };
+    number
+}
+
+/// The ripe moment that the version before the file's next one gets, which ends now; none where it isn't held or has ended, or
+/// where a handle reads it.
+#[tactic(auto, using(crate::proofs::Asked::former_told))]
+pub fn former_moment(
+    files: &Files,
+    file: FileId,
+    next: VersionNo,
+    now: Moment,
+    meter: &mut Meter,
+) -> Option<Moment>
+    requires next { next ≡ next_of files.now.files file }
+    requires past { ForSome
+        (find (is_version file (next_of files.now.files file - 1)) files.now.versions)
+        (λ row. row.closed ≤ now) }
+    requires meter { meter.old < 2 ^ 60 }
+    ensures moment { result ≡ former_moment files.now file now }
+    ensures read { meter.new ≤ meter.old + 1 }
+{
+    if files.is_open(file, next.before()) {
+        return None;
+    }
+    let stamps = files.stamps(file, next.before(), meter)?;
+    if stamps.ended.is_some() {
+        return None;
+    }
+    let policy = files.policy_of(file)?;
+    ripe(&policy, stamps.closed, now, Some(now))
+}
+
+/// The ripe moment of the file's next version, which closes now; none where it doesn't end at once.
+fn own_moment(files: &Files, file: FileId, now: Moment, is_live: bool) -> Option<Moment>
+    ensures { result ≡ own_moment files.now.files file now is_live }
+{
+    if is_live {
+        return None;
+    }
+    let policy = files.policy_of(file)?;
+    ripe(&policy, now, now, None)
+}
+
+/// The keys that come with the file's next version, which closes now.
+pub fn new_keys(
+    files: &Files,
+    file: FileId,
+    now: Moment,
+    is_live: bool,
+    meter: &mut Meter,
+) -> NewKeys
+    requires there { 0 < next_of files.now.files file }
+    requires past { ForSome
+        (find (is_version file (next_of files.now.files file - 1)) files.now.versions)
+        (λ row. row.closed ≤ now) }
+    requires meter { meter.old < 2 ^ 60 }
+    ensures keys { result ≡ new_keys files.now file now is_live }
+    ensures read { meter.new ≤ meter.old + 1 }
+{
+    let number = next_number(files, file);
+    NewKeys {
+        file,
+        number,
+        former: former_moment(files, file, number, now, meter),
+        own: own_moment(files, file, now, is_live),
+    }
+}
+
+/// The book has one version more for the kind of the file, of so many bytes.
+pub fn add_version(book: &mut UsageBook, files: &Files, file: FileId, bytes: u64)
+    requires { (k : Kind) → Fits (plus (sums_of book.old k) (one_version bytes)) }
+    ensures { (k : Kind) → sums_of book.new k ≡ plus (sums_of book.old k)
+        (if is_file_of files.now.files k file then one_version bytes else nothing) }
+{
+    if let Some(policy) = files.policy_of(file) {
+        book.add(policy.kind(), one_version(bytes));
+    }
+}
