@@ -64,3 +64,5 @@ pub mod DropViews
 pub mod DropUsage
 pub mod NoIdle
 pub mod ReadsBack
+pub mod Known
+pub mod Covered

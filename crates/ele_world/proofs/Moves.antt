@@ -21,7 +21,7 @@ use Rattle.ele_world.proofs.May.{May, MayTake}
 -- ---- a number that was given isn't given again
 
 -- where it is of the file, the row numbers on behind the version
-abbrev IsBehind : ℕ → ℕ → FileRow → Type 0
+abbrev pub IsBehind : ℕ → ℕ → FileRow → Type 0
 IsBehind file number row = row.id ≡ file → number < row.next
 
 -- the file's number was given, and its row, if it is still there, numbers on behind the version
