@@ -66,3 +66,4 @@ pub mod NoIdle
 pub mod ReadsBack
 pub mod Known
 pub mod Covered
+pub mod OneLife
