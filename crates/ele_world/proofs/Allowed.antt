@@ -1,5 +1,5 @@
 -- The changes of each event may be made, each in its turn.
-use Rattle.std.proofs.Common.{◌≡◌, ℕ, ◌<◌, true, List, [], ◌∷◌, Option, Some, None, refl, subst, ap, arith}
+use Rattle.std.proofs.Common.{◌≡◌, ℕ, ◌<◌, true, List, [], ◌∷◌, Option, Some, None, refl, subst, arith}
 use Rattle.std.specs.Prelude.{find, is_some, nat_le, Ok, false}
 use Rattle.std.specs.List.{list_any, AllByRecursion}
 use Rattle.std.specs.Option.{option_map_or}
@@ -50,12 +50,12 @@ pub takes : (w : World) (key : Key) → IsWellFormed w → first_due w ≡ Some 
 takes w key k first =
     let due = first_is_due w key (k.holds Versions).placed first in
     record { clean = refl; row = due.row; found = due.found; due = due.due; ended = due_has_ended w due.row w.now due.due; unread = unread due.row due.found due.due; same = refl } where
-  unread : (row : VersionRow) → find (is_version key.file key.number) w.versions ≡ Some row → is_due_at w row w.now ≡ true → is_open w.handles key.file key.number ≡ false
-  unread row found due =
-      let passes = found_passes (is_version key.file key.number) w.versions row found in
-      let own : row.file ≡ key.file = grind (arith, nat_tests) in
-      let number : row.number ≡ key.number = grind (arith, nat_tests) in
-      rw (← own, ← number) (due_is_unread w row w.now due)
+      unread : (row : VersionRow) → find (is_version key.file key.number) w.versions ≡ Some row → is_due_at w row w.now ≡ true → is_open w.handles key.file key.number ≡ false
+      unread row found due =
+          let passes = found_passes (is_version key.file key.number) w.versions row found in
+          let own : row.file ≡ key.file = grind (arith, nat_tests) in
+          let number : row.number ≡ key.number = grind (arith, nat_tests) in
+          rw (← own, ← number) (due_is_unread w row w.now due)
 
 -- the draft becomes a version, once the last handle and the draft have gone
 finishes : (w : World) (handle file : ℕ) (draft : DraftRow) → IsWellFormed w → find (is_draft file) w.drafts ≡ Some draft → MayAppend (after_changes w (ShutHandle handle ∷ EndDraft file ∷ [])) file draft.opened draft.cells

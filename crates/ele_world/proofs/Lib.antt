@@ -35,6 +35,7 @@ pub mod RipeAt
 pub mod Plain
 pub mod NameMoments
 pub mod OpenMoments
+pub mod AppendMoments
 pub mod Revivals
 pub mod Meant
 pub mod Allowed

@@ -1,10 +1,11 @@
 -- Which ripe moments change where names come, go or move: with a file's last name that of its last version, and no other.
-use Rattle.std.proofs.Common.{◌≡◌, ℕ, ◌-◌, Bool, true, false, ◌==◌, ◌&&◌, List, Option, Some, None, refl, ap, sym, ◌∙◌, arith, [], cond}
+use Rattle.std.proofs.Common.{◌≡◌, ℕ, ◌-◌, Bool, true, false, ◌==◌, ◌&&◌, List, Option, Some, None, refl, ap, sym, ◌∙◌, arith, cond}
 use Rattle.std.specs.Prelude.{find, option_and_then}
 use Rattle.std.proofs.lemmas.Bool.Decides.{nat_tests}
 use Rattle.ele_lists.proofs.Edits.{found_passes}
 use Rattle.ele_lists.proofs.Found.{find-update_other}
 use Rattle.ele_policy.specs.Ripe.{Beside, ripe_by}
+use Rattle.ele_policy.proofs.Waits.{nothing_beside}
 use Rattle.ele_world.specs.Change.{ended_at, with_end, after_change, EndFileName}
 use Rattle.ele_world.specs.declared.rows.VersionRow.{VersionRow}
 use Rattle.ele_world.specs.Due.{ripe_of, ripe_at}
@@ -14,18 +15,14 @@ use Rattle.ele_world.proofs.Currents.{HasCurrent, last_ends}
 use Rattle.ele_world.proofs.Plain.{ripe_of_is, plain_ripe}
 use Rattle.ele_world.proofs.RipeAt.{ripe_at_is, unended}
 
-abbrev nothing_beside : Beside
-nothing_beside = record { newer = []; live = false }
-
 -- the ripe moment of a version by what it depends on: whether a handle reads it, its file's policy, and its row
 pub ripe_at_plain : (w : World) (file number : ℕ) (stands : Beside) → ripe_at w file number ≡ cond (is_open w.handles file number) None (option_and_then (λ row. plain_ripe (policy_of w.files file) row.closed stands row.ended) (find (is_version file number) w.versions))
 ripe_at_plain w file number stands = ripe_at_is w file number ∙ by (find (is_version file number) w.versions) refl where
-  none : (b : Bool) → None ≡ cond b None None
-  none true = refl
-  none false = refl
-
   by : (o : Option VersionRow) → find (is_version file number) w.versions ≡ o → option_and_then (ripe_of w) o ≡ cond (is_open w.handles file number) None (option_and_then (λ row. plain_ripe (policy_of w.files file) row.closed stands row.ended) o)
-  by None e = none (is_open w.handles file number)
+  by None e = elim (is_open w.handles file number) as (λ b. ◌≡◌ {A = Option ℕ} None (cond b None None)) [
+    | true ↦ refl
+    | false ↦ refl
+  ]
   by (Some row) e =
       let passes = found_passes (is_version file number) w.versions row e in
       let own : row.file ≡ file = grind (arith, nat_tests) in

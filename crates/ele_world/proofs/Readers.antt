@@ -1,14 +1,16 @@
 -- Versions that handles read.
-use Rattle.std.proofs.Common.{◌≡◌, ℕ, Bool, true, false, cond, ◌==◌, ◌||◌, ◌&&◌, eqb, List, [], ◌∷◌, Option, Some, None, refl, ap, ◌∙◌}
-use Rattle.std.specs.List.{AllByRecursion, list_any, filter_map, cons_option}
+use Rattle.std.proofs.Common.{◌≡◌, ℕ, Bool, true, false, cond, ◌==◌, ◌||◌, ◌&&◌, List, [], ◌∷◌, Some, None, refl, ap, subst, ◌∙◌, arith}
+use Rattle.std.specs.List.{list_any, cons_option}
+use Rattle.std.proofs.lemmas.Bool.Decides.{nat_tests}
 use Rattle.ele_lists.proofs.Edits.{all-weaker}
 use Rattle.ele_world.specs.FileView.{number_read, numbers_read}
-use Rattle.ele_world.specs.WellFormed.{IsHeldRead, AreHeldRead}
-use Rattle.ele_world.specs.World.{is_open, is_version, reads_version}
+use Rattle.ele_world.specs.WellFormed.{IsHeldRead, AreHeldRead, IsWellFormed, Readers}
+use Rattle.ele_world.specs.World.{World, is_held, is_open, is_version, reads_version}
 use Rattle.ele_world.specs.declared.rows.HandleRow.{HandleRow}
 use Rattle.ele_world.specs.declared.rows.Reads.{Reads}
 use Rattle.ele_world.specs.declared.rows.Reads.TheVariants.{Draft, Version}
 use Rattle.ele_world.specs.declared.rows.VersionRow.{VersionRow}
+use Rattle.ele_world.proofs.Elements.{one_of}
 
 -- a version is open if its number is among those of its file that are read
 pub numbers_are : (rows : List HandleRow) (file number : ℕ) → list_any (λ n. n == number) (numbers_read rows file) ≡ is_open rows file number
@@ -31,3 +33,16 @@ read_on versions after rows on all = all-weaker (λ row. IsHeldRead versions row
   by : (reads : Reads) → IsHeldRead versions reads → IsHeldRead after reads
   by (Draft file) h = h
   by (Version file number) h = on file number h
+
+-- an open version is held
+pub open_held : (w : World) → IsWellFormed w → (file number : ℕ) → is_open w.handles file number ≡ true → is_held w file number ≡ true
+open_held w k file number is_read = by one.0.reads one.1 one.2 where
+  one : (row : HandleRow) × (reads_version file number row.reads ≡ true) × IsHeldRead w.versions row.reads
+  one = one_of (λ row. reads_version file number row.reads) (λ row. IsHeldRead w.versions row.reads) w.handles (k.holds Readers) is_read
+
+  by : (reads : Reads) → reads_version file number reads ≡ true → IsHeldRead w.versions reads → is_held w file number ≡ true
+  by (Draft written) is held = absurd cc
+  by (Version read other) is held =
+      let own : read ≡ file = grind (arith, nat_tests) in
+      let its : other ≡ number = grind (arith, nat_tests) in
+      subst (λ f. is_held w f number ≡ true) own (subst (λ n. is_held w read n ≡ true) its held)

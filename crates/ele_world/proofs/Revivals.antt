@@ -5,7 +5,7 @@ use Rattle.std.specs.List.{AllByRecursion, list_any}
 use Rattle.std.proofs.lemmas.Bool.{false≢true}
 use Rattle.std.proofs.lemmas.Bool.Decides.{nat_tests}
 use Rattle.ele_lists.proofs.Cuts.{update_first-same}
-use Rattle.ele_lists.proofs.Edits.{all-found, all-weaker, find-insert_before, not_found}
+use Rattle.ele_lists.proofs.Edits.{all-found, find-insert_before}
 use Rattle.ele_world.specs.Change.{after_change, Revive, current_cells, ended_at, next_version, with_end, with_name}
 use Rattle.ele_world.specs.Due.{ripe_of, ripe_at}
 use Rattle.ele_world.specs.FileView.{view_of}
@@ -14,7 +14,8 @@ use Rattle.ele_world.specs.Whole.{ChangesOnly}
 use Rattle.ele_world.specs.World.{World, next_of, is_live_name_of, is_version, is_version_after}
 use Rattle.ele_world.specs.declared.rows.Target.TheVariants.{File}
 use Rattle.ele_world.specs.declared.rows.VersionRow.{VersionRow}
-use Rattle.ele_world.proofs.Closes.{none_next, new_found}
+use Rattle.ele_world.proofs.AppendMoments.{next_before}
+use Rattle.ele_world.proofs.Closes.{new_found}
 use Rattle.ele_world.proofs.Created.{named_live}
 use Rattle.ele_world.proofs.Files.{policies-numbered}
 use Rattle.ele_world.proofs.KeptRevived.{last_is}
@@ -61,18 +62,13 @@ module _ (w : World) (directory : ℕ) (name : List ℕ) (file : ℕ) (may : May
       ∙ ap (option_and_then (ripe_of revived)) (new_found named file each w.now (current_cells w file))
       ∙ unended (view_of revived file) new (rw (named_live w directory name file) refl)
 
-  moment_before : ripe_at w file next ≡ None
-  moment_before =
-      ripe_at_is w file next
-      ∙ ap (option_and_then (ripe_of w)) (not_found (is_version file next) w.versions (all-weaker (IsVersion w.files w.now) (λ row. is_version file next row ≡ false) w.versions (λ row is. none_next w.files w.now file row is) each))
-
   pub revived_moments : (f n : ℕ) → ripe_at revived f n ≡ ripe_at w f n
   revived_moments f n = by (is_version f n new) refl where
     by : (b : Bool) → is_version f n new ≡ b → ripe_at revived f n ≡ ripe_at w f n
     by true e =
         let file_is : f ≡ file = grind (arith, nat_tests) in
         let number_is : n ≡ next = grind (arith, nat_tests) in
-        rw (file_is, number_is) (new_moment ∙ sym moment_before)
+        rw (file_is, number_is) (new_moment ∙ sym (next_before w file w.now (current_cells w file) k))
     by false e =
         found_moment w revived f n (policies-numbered w.files file f) refl
         (find-insert_before (is_version_after file next) (is_version f n) new (with_end named file) e ∙ ap (find (is_version f n)) none_ends)

@@ -41,12 +41,7 @@ fn is_open(handles: &[HandleRow], file: FileId, number: VersionNo) -> bool
 }
 
 /// The version's key, if it is due at the moment.
-fn due_key(
-    now: Moment,
-    files: &[FileRow],
-    handles: &[HandleRow],
-    row: &VersionRow,
-) -> Option<Key>
+fn due_key(now: Moment, files: &[FileRow], handles: &[HandleRow], row: &VersionRow) -> Option<Key>
     ensures { (w : World) → w.now ≡ now → w.files ≡ files.now → w.handles ≡ handles.now
         → result ≡ due_key w row.now }
 {

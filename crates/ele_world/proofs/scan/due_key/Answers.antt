@@ -1,7 +1,6 @@
 use Rattle.std.proofs.Common.{◌≡◌, sym, ◌∙◌, ap, arith, false, None}
 use Rattle.ele_policy.proofs.Waits.{nothing_beside, nothing_is_nearest}
-use Rattle.ele_world.specs.World.{World, is_open, policy_of}
-use Rattle.ele_world.specs.declared.rows.HandleRow.{HandleRow}
+use Rattle.ele_world.specs.World.{is_open, policy_of}
 use Rattle.ele_world.proofs.DueKeys.{due_key-open, due_key-unfiled, due_key-unended, due_key-never, due_key-later, due_key-ripe}
 use Rattle.ele_world.proofs.scan.due_key.Goals as goal
 
