@@ -1,5 +1,5 @@
 -- At each moment that a name covers a version of its file lived, and a change keeps that.
-use Rattle.std.proofs.Common.{◌≡◌, ℕ, ◌<◌, ◌≤◌, nat_lt, Bool, true, false, cond, ◌&&◌, ◌||◌, ◌==◌, ◌++◌, IfSome, List, [], ◌∷◌, Option, Some, None, refl, sym, ap, subst, ◌∙◌, arith, inl, inr, ◌⊎◌, is_none}
+use Rattle.std.proofs.Common.{◌≡◌, ℕ, ◌<◌, ◌≤◌, nat_lt, Bool, true, false, cond, ◌&&◌, ◌||◌, ◌==◌, ◌++◌, IfSome, List, [], ◌∷◌, Option, Some, None, refl, arith, inl, inr, ◌⊎◌, is_none}
 use Rattle.std.specs.Prelude.{find, nat_le}
 use Rattle.std.specs.List.{AllByRecursion, list_any}
 use Rattle.std.specs.Option.{option_map_or}
@@ -10,9 +10,8 @@ use Rattle.ele_lists.proofs.Alls.{all-filter}
 use Rattle.ele_lists.proofs.Edits.{all-both, all-push, all-weaker}
 use Rattle.ele_world.specs.Change.{Change, Time, MakeDirectory, EndName, AddName, MoveName, EndFileName, Revive, MakeFile, DropIdle, after_change}
 use Rattle.ele_world.specs.NameRows.{born_row, covers, dies}
-use Rattle.ele_world.specs.Tagged.{lives_at}
 use Rattle.ele_world.specs.Walk.{is_live_name}
-use Rattle.ele_world.specs.WellFormed.{AllLater, ArePlaced, IsNameRow, Names, Versions, IsWellFormed}
+use Rattle.ele_world.specs.WellFormed.{IsNameRow, Names, Versions, IsWellFormed}
 use Rattle.ele_world.specs.World.{World, is_live, is_live_name_of, is_version}
 use Rattle.ele_world.specs.declared.event.Event.{Event}
 use Rattle.ele_world.specs.declared.rows.NameRow.{NameRow}
@@ -22,8 +21,7 @@ use Rattle.ele_world.specs.declared.rows.VersionRow.{VersionRow}
 use Rattle.ele_world.proofs.Currents.{has_current}
 use Rattle.ele_world.proofs.Dropped.{dropped, stays_named}
 use Rattle.ele_world.proofs.KeptRevived.{last_is}
-use Rattle.ele_world.proofs.Known.{Known, known_in, HadLife, IsCovered, AreKnown, becomes, gone_known, placed_on}
-use Rattle.ele_world.proofs.May.{May}
+use Rattle.ele_world.proofs.Known.{Known, known_in, HadLife, IsCovered, AreKnown, IsTurn, becomes, gone_known, placed_on}
 use Rattle.ele_world.proofs.NameParts.{still_none}
 
 -- ---- moments before now, and now and later
@@ -79,24 +77,22 @@ current_covers w known k held = all-weaker (λ name. IsNameRow w.files w.now nam
     (CoveredFrom w.now (HadLife known)) w.names
     (λ name h file moment own covered late. life file moment late (h.1 file (undying name file moment own covered late h.0.dead)))
     (all-both (IsNameRow w.files w.now) (λ name. (file : ℕ) → is_live_name_of file name ≡ true → is_live w file ≡ true) w.names (k.holds Names).each (counted_live w.names)) where
-  undying : (name : NameRow) (file moment : ℕ) → name.target ≡ File file → covers moment name ≡ true → w.now ≤ moment → IfSome name.death (λ death. (name.birth ≤ death) × (death ≤ w.now)) → is_live_name_of file name ≡ true
-  undying name file moment own covered late dead = rw own (by name.death covered dead) where
-    by : (o : Option ℕ) → (nat_le name.birth moment && option_map_or (λ death. nat_lt moment death) o true) ≡ true → IfSome o (λ death. (name.birth ≤ death) × (death ≤ w.now)) → ((file == file) && is_none o) ≡ true
-    by None covered dead = grind (arith, nat_tests)
-    by (Some death) covered dead = absurd (let by_now = dead.1 in grind (arith, nat_tests))
+      undying : (name : NameRow) (file moment : ℕ) → name.target ≡ File file → covers moment name ≡ true → w.now ≤ moment → IfSome name.death (λ death. (name.birth ≤ death) × (death ≤ w.now)) → is_live_name_of file name ≡ true
+      undying name file moment own covered late dead = rw own (by name.death covered dead) where
+        by : (o : Option ℕ) → (nat_le name.birth moment && option_map_or (λ death. nat_lt moment death) o true) ≡ true → IfSome o (λ death. (name.birth ≤ death) × (death ≤ w.now)) → ((file == file) && is_none o) ≡ true
+        by None covered dead = grind (arith, nat_tests)
+        by (Some death) covered dead = absurd (let by_now = dead.1 in grind (arith, nat_tests))
 
-  life : (file moment : ℕ) → w.now ≤ moment → is_live w file ≡ true → HadLife known file moment
-  life file moment late live =
-      let current = has_current w file k live in
-      let last = last_is w file current.row (k.holds Versions).each current.found in
-      let closed = last.is.closed in
-      record { row = current.row; stood = held file current.row.number current.row (rw last.number current.found); lived = rw current.no_end (grind (arith, nat_tests)) }
+      life : (file moment : ℕ) → w.now ≤ moment → is_live w file ≡ true → HadLife known file moment
+      life file moment late live =
+          let current = has_current w file k live in
+          let last = last_is w file current.row (k.holds Versions).each current.found in
+          let closed = last.is.closed in
+          record { row = current.row; stood = held file current.row.number current.row (rw last.number current.found); lived = rw current.no_end (grind (arith, nat_tests)) }
 
 -- ---- a change
 
-module _ (event : Event) (first w : World) (change : Change) (before : Known) (placed : AllLater ArePlaced first.versions)
-    (first_held : (file number : ℕ) (row : VersionRow) → find (is_version file number) first.versions ≡ Some row → before file number ≡ Some row)
-    (k : IsWellFormed w) (k' : IsWellFormed (after_change w change)) (may : May event first w change) (s : AreKnown w (known_in w before)) where
+module _ (event : Event) (first w : World) (change : Change) (before : Known) (t : IsTurn event first w change before) where
   abbrev known : Known
   known = known_in (after_change w change) before
 
@@ -105,34 +101,29 @@ module _ (event : Event) (first w : World) (change : Change) (before : Known) (p
 
   life_on : (file moment : ℕ) → moment < w.now → HadLife (known_in w before) file moment → HadLife known file moment
   life_on file moment less life =
-      let now = becomes event first w change before placed first_held k k' may s file life.row.number life.row life.stood in
+      let now = becomes event first w change before t file life.row.number life.row life.stood in
       record { row = now.row; stood = rw now.on.number now.is; lived = now.on.lives moment less life.lived }
 
   covered_on : (after_change w change).now ≤ w.now → AllByRecursion (IsCovered known) (after_change w change).names
   covered_on same = all-weaker (λ name. CoveredBefore w.now (HadLife known) name × CoveredFrom (after_change w change).now (HadLife known) name) (IsCovered known) (after_change w change).names
       (λ name h file moment own covered. by file moment (h.0 file moment own covered) (h.1 file moment own covered) (cases_lt moment w.now))
       (all-both (CoveredBefore w.now (HadLife known)) (CoveredFrom (after_change w change).now (HadLife known)) (after_change w change).names
-          (change_covered w change (HadLife known) (all-weaker (IsCovered (known_in w before)) (CoveredBefore w.now (HadLife known)) w.names (λ name h file moment own covered less. life_on file moment less (h file moment own covered)) s.covered))
-          (current_covers (after_change w change) known k' held)) where
-    by : (file moment : ℕ) → (moment < w.now → HadLife known file moment) → ((after_change w change).now ≤ moment → HadLife known file moment) → (moment < w.now) ⊎ (w.now ≤ moment) → HadLife known file moment
-    by file moment past now (inl less) = past less
-    by file moment past now (inr late) = now (omega (arith, late, same))
+      (change_covered w change (HadLife known) (all-weaker (IsCovered (known_in w before)) (CoveredBefore w.now (HadLife known)) w.names (λ name h file moment own covered less. life_on file moment less (h file moment own covered)) t.known.covered))
+      (current_covers (after_change w change) known t.formed_after held)) where
+        by : (file moment : ℕ) → (moment < w.now → HadLife known file moment) → ((after_change w change).now ≤ moment → HadLife known file moment) → (moment < w.now) ⊎ (w.now ≤ moment) → HadLife known file moment
+        by file moment past now (inl less) = past less
+        by file moment past now (inr late) = now (omega (arith, late, same))
 
--- the clock covers no more than names did
-all_covered : (event : Event) (first w : World) (change : Change) (before : Known) → AllLater ArePlaced first.versions
-    → ((file number : ℕ) (row : VersionRow) → find (is_version file number) first.versions ≡ Some row → before file number ≡ Some row)
-    → IsWellFormed w → IsWellFormed (after_change w change) → May event first w change → AreKnown w (known_in w before) → AllByRecursion (IsCovered (known_in (after_change w change) before)) (after_change w change).names
-all_covered event first w (Time to) before placed first_held k k' may s = s.covered
-all_covered event first w (DropIdle of) before placed first_held k k' may s =
-    covered_on event first w (DropIdle of) before placed first_held k k' may s (dropped (λ v. v.now ≤ w.now) w of (λ idle. omega arith) (λ busy. omega arith))
-all_covered event first w change before placed first_held k k' may s = covered_on event first w change before placed first_held k k' may s (omega arith)
+-- where the time goes on, names and versions stay
+all_covered : (event : Event) (first w : World) (change : Change) (before : Known) → IsTurn event first w change before → AllByRecursion (IsCovered (known_in (after_change w change) before)) (after_change w change).names
+all_covered event first w (Time to) before t = t.known.covered
+all_covered event first w (DropIdle of) before t = covered_on event first w (DropIdle of) before t (dropped (λ v. v.now ≤ w.now) w of (λ idle. omega arith) (λ busy. omega arith))
+all_covered event first w change before t = covered_on event first w change before t (omega arith)
 
-pub change_known : (event : Event) (first w : World) (change : Change) (before : Known) → AllLater ArePlaced first.versions
-    → ((file number : ℕ) (row : VersionRow) → find (is_version file number) first.versions ≡ Some row → before file number ≡ Some row)
-    → IsWellFormed w → IsWellFormed (after_change w change) → May event first w change → AreKnown w (known_in w before) → AreKnown (after_change w change) (known_in (after_change w change) before)
-change_known event first w change before placed first_held k k' may s = record {
-  held = held event first w change before placed first_held k k' may s;
-  gone = gone_known event first w change before placed first_held k k' may s;
-  placed = placed_on event first w change before placed first_held k k' may s;
-  covered = all_covered event first w change before placed first_held k k' may s;
+pub change_known : (event : Event) (first w : World) (change : Change) (before : Known) → IsTurn event first w change before → AreKnown (after_change w change) (known_in (after_change w change) before)
+change_known event first w change before t = record {
+  held = held event first w change before t;
+  gone = gone_known event first w change before t;
+  placed = placed_on event first w change before t;
+  covered = all_covered event first w change before t;
 }

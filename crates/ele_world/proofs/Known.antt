@@ -1,31 +1,24 @@
 -- What a history knows of versions: those that are held, and those that were removed as they last stood. One change.
-use Rattle.std.proofs.Common.{◌≡◌, ℕ, ◌+◌, ◌-◌, ◌<◌, ◌≤◌, nat_lt, Bool, true, false, cond, ◌&&◌, ◌||◌, List, [], ◌∷◌, Option, Some, None, IfSome, refl, ap, sym, subst, ◌∙◌, arith, eqb, ◌⊎◌, inl, inr, is_none}
+use Rattle.std.proofs.Common.{◌≡◌, ℕ, ◌+◌, ◌-◌, ◌<◌, ◌≤◌, nat_lt, true, false, cond, ◌&&◌, List, [], Option, Some, None, refl, ap, sym, subst, ◌∙◌, arith, is_none}
 use Rattle.std.specs.Prelude.{find, nat_le, unwrap_or}
-use Rattle.std.specs.List.{AllByRecursion, list_any}
-use Rattle.std.specs.Option.{option_map, option_map_or, option_or}
-use Rattle.std.proofs.lemmas.Bool.{false≢true, cases_lt}
+use Rattle.std.specs.List.{AllByRecursion}
+use Rattle.std.specs.Option.{option_map_or, option_or}
+use Rattle.std.proofs.lemmas.Bool.{false≢true}
 use Rattle.std.proofs.lemmas.Bool.Decides.{nat_tests}
 use Rattle.ele_content.specs.declared.cell.Cell.{Cell}
-use Rattle.ele_lists.specs.Lists.{update_first}
-use Rattle.ele_lists.proofs.Alls.{all-filter}
-use Rattle.ele_lists.proofs.Edits.{all-any, all-both, all-found, all-insert_before, all-not_found, all-push, all-remove_first, all-update_first, all-weaker, found_passes}
-use Rattle.ele_world.specs.Change.{current_cells, Change, Time, MakeDirectory, EndName, AddName, MoveName, EndFileName, Revive, MakeFile, Append, Take, DropIdle, after_change, ended_at, next_version, with_end, with_file, with_name, with_version, without_name}
-use Rattle.ele_world.specs.NameRows.{born_row, covers, dies}
+use Rattle.ele_lists.proofs.Edits.{all-found, all-insert_before, all-not_found, all-remove_first, all-update_first, all-weaker, found_passes}
+use Rattle.ele_world.specs.Change.{current_cells, Change, Time, EndFileName, Revive, MakeFile, Append, Take, DropIdle, after_change, ended_at, next_version, with_end, with_file, with_name, with_version, without_name}
+use Rattle.ele_world.specs.NameRows.{covers}
 use Rattle.ele_world.specs.Tagged.{lives_at}
-use Rattle.ele_world.specs.Walk.{is_live_name}
-use Rattle.ele_world.specs.WellFormed.{AllLater, ArePlaced, IsNameRow, IsVersion, Names, Versions, IsWellFormed}
-use Rattle.ele_world.specs.World.{World, is_file, is_live, is_live_name_of, is_version, is_version_after, next_of}
+use Rattle.ele_world.specs.WellFormed.{AllLater, ArePlaced, IsVersion, Versions, IsWellFormed}
+use Rattle.ele_world.specs.World.{World, is_live, is_version, is_version_after, next_of}
 use Rattle.ele_world.specs.declared.event.Event.{Event}
-use Rattle.ele_world.specs.declared.rows.FileRow.{FileRow}
 use Rattle.ele_world.specs.declared.rows.NameRow.{NameRow}
-use Rattle.ele_world.specs.declared.rows.Target.TheVariants.{File, Directory}
+use Rattle.ele_world.specs.declared.rows.Target.TheVariants.{File}
 use Rattle.ele_world.specs.declared.rows.VersionRow.{VersionRow}
-use Rattle.ele_world.proofs.Currents.{has_current}
-use Rattle.ele_world.proofs.Dropped.{dropped, dropped_versions}
-use Rattle.ele_world.proofs.KeptRevived.{last_is}
+use Rattle.ele_world.proofs.Dropped.{dropped}
 use Rattle.ele_world.proofs.May.{May, MayTake}
 use Rattle.ele_world.proofs.Moves.{IsBehind, IsPast, change_past, Moves, Same, Ended, Taken, change_moves}
-use Rattle.ele_world.proofs.NameParts.{still_none}
 use Rattle.ele_world.proofs.Stays.{held_past}
 use Rattle.ele_world.proofs.Versions.{IsEndedBy}
 
@@ -116,70 +109,35 @@ pub record Becomes (now : ℕ) (old : VersionRow) (found : Option VersionRow) : 
   pub is : found ≡ Some row
   pub on : IsOn now old row
 
--- a version that a change brings: it closes now, and its number is above all that were given
-abbrev IsNew : ℕ → (ℕ → Type 0) → ℕ → ℕ → VersionRow → Type 0
-IsNew now given file number row = is_version file number row ≡ true → (row.closed ≡ now) × ((other : ℕ) → given other → other < number)
-
+-- a version that a change brings closes then
 module _ (file number : ℕ) where
-  abbrev IsOther : VersionRow → Type 0
-  IsOther row = is_version file number row ≡ false
+  abbrev ClosesAt : ℕ → VersionRow → Type 0
+  ClosesAt now row = is_version file number row ≡ true → row.closed ≡ now
 
-  other_new : (now : ℕ) (given : ℕ → Type 0) (row : VersionRow) → IsOther row → IsNew now given file number row
-  other_new now given row other is = absurd (false≢true (sym other ∙ is))
+  new_closes : (w : World) (of opened : ℕ) (cells : List Cell) → AllByRecursion (ClosesAt w.now) (with_end w of) → AllByRecursion (ClosesAt w.now) (with_version w of opened cells).versions
+  new_closes w of opened cells = all-insert_before (is_version_after of (next_of w.files of)) (ClosesAt w.now) (next_version w of opened cells) (with_end w of) (λ is. refl)
 
-  others_new : (now : ℕ) (given : ℕ → Type 0) (rows : List VersionRow) → AllByRecursion IsOther rows → AllByRecursion (IsNew now given file number) rows
-  others_new now given rows none = all-weaker IsOther (IsNew now given file number) rows (other_new now given) none
+  ended_closes : (w : World) (of : ℕ) → AllByRecursion (ClosesAt w.now) w.versions → AllByRecursion (ClosesAt w.now) (with_end w of)
+  ended_closes w of = all-update_first (is_version of (next_of w.files of - 1)) (ClosesAt w.now) (ClosesAt w.now) (ended_at w.now) w.versions (λ row h. h) (λ row h. h)
 
-  ends_new : (w : World) (given : ℕ → Type 0) (of : ℕ) → AllByRecursion IsOther w.versions → AllByRecursion (IsNew w.now given file number) (with_end w of)
-  ends_new w given of = all-update_first (is_version of (next_of w.files of - 1)) IsOther (IsNew w.now given file number) (ended_at w.now) w.versions (λ row other. other_new w.now given (ended_at w.now row) other) (other_new w.now given)
-
-  appended_new : (w : World) (given : ℕ → Type 0) (of opened : ℕ) (cells : List Cell) → (of ≡ file → next_of w.files of ≡ number → (other : ℕ) → given other → other < number)
-      → AllByRecursion IsOther w.versions → AllByRecursion (IsNew w.now given file number) (with_version w of opened cells).versions
-  appended_new w given of opened cells above none =
-      all-insert_before (is_version_after of (next_of w.files of)) (IsNew w.now given file number) (next_version w of opened cells) (with_end w of)
-          (λ is. (refl, above (grind (arith, nat_tests)) (grind (arith, nat_tests)))) (ends_new w given of none)
-
-  -- what was given is below the next number
-  below_next : (files : List FileRow) (other : ℕ) → 0 < next_of files file → AllByRecursion (IsBehind file other) files → other < next_of files file
-  below_next files other there behind = by (find (is_file file) files) refl there where
-    by : (o : Option FileRow) → find (is_file file) files ≡ o → 0 < option_map_or (λ (row : FileRow). row.next) o 0 → other < option_map_or (λ (row : FileRow). row.next) o 0
-    by None e there = absurd (omega (arith, there))
-    by (Some row) e there = let passes = found_passes (is_file file) files row e in all-found (is_file file) (IsBehind file other) files row e behind (grind (arith, nat_tests))
-
-  above : (w : World) (of : ℕ) → of ≡ file → next_of w.files of ≡ number → 0 < next_of w.files of → (other : ℕ) → IsPast w file other → other < number
-  above w of own next there other past =
-      let there' : 0 < next_of w.files file = subst (λ f. 0 < next_of w.files f) own there in
-      let next' : next_of w.files file ≡ number = subst (λ f. next_of w.files f ≡ number) own next in
-      let less : other < next_of w.files file = below_next w.files other there' past.past in
-      omega (arith, less, next')
-
-  change_new : (event : Event) (first w : World) (change : Change) → IsWellFormed w → May event first w change → AllByRecursion IsOther w.versions → AllByRecursion (IsNew (after_change w change).now (λ other. IsPast w file other) file number) (after_change w change).versions
-  change_new event first w (MakeFile directory name id policy) k may none =
-      appended_new (with_name (with_file w id policy) directory name (File id)) (λ other. IsPast w file other) id w.now [] (λ own next other past. absurd (omega (arith, own, past.given, may.next))) none
-  change_new event first w (Append of opened cells) k may none =
-      appended_new w (λ other. IsPast w file other) of opened cells (λ own next other past. above w of own next may.there other past) none
-  change_new event first w (Revive directory name of) k may none =
-      let last = last_is w of may.last (k.holds Versions).each may.held in
-      let less : may.last.number < next_of w.files of = subst (λ f. may.last.number < next_of w.files f) last.own last.is.numbered in
-      appended_new (with_name w directory name (File of)) (λ other. IsPast w file other) of w.now (current_cells w of) (λ own next other past. above w of own next (omega (arith, less)) other past) none
-  change_new event first w (EndFileName directory name of) k may none =
-      let nameless = without_name w directory name in
-      elim (is_live nameless of) as (λ b. AllByRecursion (IsNew w.now (λ other. IsPast w file other) file number) (cond b w.versions (with_end nameless of))) [
-        | true ↦ others_new w.now (λ other. IsPast w file other) w.versions none
-        | false ↦ ends_new nameless (λ other. IsPast w file other) of none
-      ]
-  change_new event first w (Take of taken) k may none = all-remove_first (is_version of taken) (IsNew w.now (λ other. IsPast w file other) file number) w.versions (others_new w.now (λ other. IsPast w file other) w.versions none)
-  change_new event first w (DropIdle of) k may none =
-      let kept = others_new w.now (λ other. IsPast w file other) w.versions none in
-      dropped (λ v. AllByRecursion (IsNew v.now (λ other. IsPast w file other) file number) v.versions) w of (λ idle. kept) (λ busy. kept)
-  change_new event first w change k may none = others_new (after_change w change).now (λ other. IsPast w file other) w.versions none
+  change_closes : (w : World) (change : Change) → ((now : ℕ) → AllByRecursion (ClosesAt now) w.versions) → AllByRecursion (ClosesAt (after_change w change).now) (after_change w change).versions
+  change_closes w (MakeFile directory name id policy) all = let v = with_name (with_file w id policy) directory name (File id) in new_closes v id w.now [] (ended_closes v id (all w.now))
+  change_closes w (Append of opened cells) all = new_closes w of opened cells (ended_closes w of (all w.now))
+  change_closes w (Revive directory name of) all = let v = with_name w directory name (File of) in new_closes v of w.now (current_cells w of) (ended_closes v of (all w.now))
+  change_closes w (EndFileName directory name of) all = elim (is_live (without_name w directory name) of) as (λ b. AllByRecursion (ClosesAt w.now) (cond b w.versions (with_end w of))) [
+    | true ↦ all w.now
+    | false ↦ ended_closes w of (all w.now)
+  ]
+  change_closes w (Take of taken) all = all-remove_first (is_version of taken) (ClosesAt w.now) w.versions (all w.now)
+  change_closes w (DropIdle of) all = dropped (λ v. AllByRecursion (ClosesAt v.now) v.versions) w of (λ idle. all w.now) (λ busy. all w.now)
+  change_closes w change all = all (after_change w change).now
 
 -- ---- one change
 
 -- so it was known and is the same or ended, or it is new
 data From (w u : World) (known : Known) (file number : ℕ) (row : VersionRow) : Type 0 where
   Was : (old : VersionRow) → known file number ≡ Some old → IsOn w.now old row → From w u known file number row
-  New : find (is_version file number) u.versions ≡ Some row → row.closed ≡ u.now → ((other : ℕ) → IsPast w file other → other < number) → From w u known file number row
+  New : known file number ≡ None → find (is_version file number) u.versions ≡ Some row → row.closed ≡ u.now → From w u known file number row
 
 -- the time never goes back
 change_later : (event : Event) (first w : World) (change : Change) → May event first w change → w.now ≤ (after_change w change).now
@@ -187,20 +145,27 @@ change_later event first w (Time to) may = may.0
 change_later event first w (DropIdle of) may = dropped (λ v. w.now ≤ v.now) w of (λ idle. omega arith) (λ busy. omega arith)
 change_later event first w change may = omega arith
 
-module _ (event : Event) (first w : World) (change : Change) (before : Known) (placed : AllLater ArePlaced first.versions)
-    (first_held : (file number : ℕ) (row : VersionRow) → find (is_version file number) first.versions ≡ Some row → before file number ≡ Some row)
-    (k : IsWellFormed w) (k' : IsWellFormed (after_change w change)) (may : May event first w change) (s : AreKnown w (known_in w before)) where
+-- a change by an event, in a world where the versions are known
+pub record IsTurn (event : Event) (first w : World) (change : Change) (before : Known) : Type 0 where
+  pub placed : AllLater ArePlaced first.versions
+  pub first_held : (file number : ℕ) (row : VersionRow) → find (is_version file number) first.versions ≡ Some row → before file number ≡ Some row
+  pub formed : IsWellFormed w
+  pub formed_after : IsWellFormed (after_change w change)
+  pub may : May event first w change
+  pub known : AreKnown w (known_in w before)
+
+module _ (event : Event) (first w : World) (change : Change) (before : Known) (t : IsTurn event first w change before) where
   abbrev after : World
   after = after_change w change
 
   moves : (file number : ℕ) → IsPast w file number → Moves event first w.now w.versions file number (find (is_version file number) w.versions) (find (is_version file number) after.versions)
-  moves file number past = change_moves event first file number w change placed may past
+  moves file number past = change_moves event first file number w change t.placed t.may past
 
   taken_row : (file number : ℕ) (row : VersionRow) (v : World) (take : MayTake event first v file number) → w.versions ≡ v.versions → find (is_version file number) w.versions ≡ Some row → take.row ≡ row
   taken_row file number row v take same is = let was = take.found in let found = rw (same, take.same) at is in cc
 
   pub becomes : (file number : ℕ) (old : VersionRow) → known_in w before file number ≡ Some old → Becomes w.now old (known_in after before file number)
-  becomes file number old is = by (find (is_version file number) w.versions) refl (moves file number (known_past w (known_in w before) file number old k s is)) where
+  becomes file number old is = by (find (is_version file number) w.versions) refl (moves file number (known_past w (known_in w before) file number old t.formed t.known is)) where
     by : (o : Option VersionRow) → find (is_version file number) w.versions ≡ o → Moves event first w.now w.versions file number (find (is_version file number) w.versions) (find (is_version file number) after.versions) → Becomes w.now old (known_in after before file number)
     by o e (Same same) = record { row = old; is = rw same is; on = same_on w.now old }
     by None e (Ended ended) = record { row = old; is = (let none = rw e at ended in let was = rw e at is in rw none was); on = same_on w.now old }
@@ -213,7 +178,7 @@ module _ (event : Event) (first w : World) (change : Change) (before : Known) (p
         let was = rw e at is in
         let one : row ≡ old = cc in
         let own : take.row ≡ row = taken_row file number row v take same e in
-        record { row = old; is = rw none (rw (first_held file number take.row take.found, own, one) refl); on = same_on w.now old }
+        record { row = old; is = rw none (rw (t.first_held file number take.row take.found, own, one) refl); on = same_on w.now old }
 
   from : (file number : ℕ) (row : VersionRow) → known_in after before file number ≡ Some row → From w after (known_in w before) file number row
   from file number row is = by (known_in w before file number) refl where
@@ -222,9 +187,10 @@ module _ (event : Event) (first w : World) (change : Change) (before : Known) (p
     new None e none None f is = absurd cc
     new None e none (Some found) f is =
         let same : found ≡ row = cc in
-        let found' : find (is_version file number) after.versions ≡ Some row = f ∙ ap (λ r. Some r) same in
-        let its = all-found (is_version file number) (IsNew after.now (λ other. IsPast w file other) file number) after.versions row found' (change_new file number event first w change k may (all-not_found (is_version file number) w.versions e)) (found_passes (is_version file number) after.versions row found') in
-        New found' its.0 its.1
+        let here : find (is_version file number) after.versions ≡ Some row = f ∙ ap (λ r. Some r) same in
+        let others = all-not_found (is_version file number) w.versions e in
+        let closes = change_closes file number w change (λ now. all-weaker (λ row. is_version file number row ≡ false) (ClosesAt file number now) w.versions (λ row other is. absurd (false≢true (sym other ∙ is))) others) in
+        New (rw e none) here (all-found (is_version file number) (ClosesAt file number after.now) after.versions row here closes (found_passes (is_version file number) after.versions row here))
 
     by : (o : Option VersionRow) → known_in w before file number ≡ o → From w after (known_in w before) file number row
     by (Some old) e = let is_on = becomes file number old e in let now = is_on.is in let same : is_on.row ≡ row = cc in Was old e (subst (IsOn w.now old) same is_on.on)
@@ -237,16 +203,16 @@ module _ (event : Event) (first w : World) (change : Change) (before : Known) (p
     taken held e (Ended ended) = absurd (let some = rw e at ended in cc)
     taken held e (Taken v take same gone) =
         let own : take.row ≡ held = taken_row file number held v take same e in
-        let known = first_held file number take.row take.found in
+        let known = t.first_held file number take.row take.found in
         let one : take.row ≡ row = cc in
-        subst (IsEndedBy w.now) one (ended_row w take.row (rw own (held_row w file number held k e).is) take.ended)
+        subst (IsEndedBy w.now) one (ended_row w take.row (rw own (held_row w file number held t.formed e).is) take.ended)
 
     on : IsEndedBy w.now row → IsPast w file number → IsGone after file number row
-    on ended past = record { ended = record { ended = ended.ended; is = ended.is; by_now = omega (arith, ended.by_now, change_later event first w change may) }; past = change_past event first w change file number may past }
+    on ended past = record { ended = record { ended = ended.ended; is = ended.is; by_now = omega (arith, ended.by_now, change_later event first w change t.may) }; past = change_past event first w change file number t.may past }
 
     by : (o : Option VersionRow) → find (is_version file number) w.versions ≡ o → IsGone after file number row
-    by None e = let gone = s.gone file number row e (rw e is) in on gone.ended gone.past
-    by (Some held) e = let past = found_past w file number held k e in on (taken held e (moves file number past)) past
+    by None e = let gone = t.known.gone file number row e (rw e is) in on gone.ended gone.past
+    by (Some held) e = let past = found_past w file number held t.formed e in on (taken held e (moves file number past)) past
 
   pub gone_known : (file number : ℕ) (row : VersionRow) → find (is_version file number) after.versions ≡ None → known_in after before file number ≡ Some row → IsGone after file number row
   gone_known file number row none is = gone_on file number row none (let was = rw none at is in was)
@@ -255,7 +221,7 @@ module _ (event : Event) (first w : World) (change : Change) (before : Known) (p
   before_new : (file number later : ℕ) (row next : VersionRow) → known_in after before file number ≡ Some row → find (is_version file later) after.versions ≡ Some next → number < later → IsEndedBy after.now row
   before_new file number later row next is new less = by (find (is_version file number) after.versions) refl where
     last : IsHeldRow after file later next
-    last = held_row after file later next k' new
+    last = held_row after file later next t.formed_after new
 
     has_end : (o : Option ℕ) → row.ended ≡ o → IsHeldRow after file number row → IsEndedBy after.now row
     has_end None e it =
@@ -270,11 +236,23 @@ module _ (event : Event) (first w : World) (change : Change) (before : Known) (p
     by (Some held) e =
         let was = rw e at is in
         let same : held ≡ row = cc in
-        has_end row.ended refl (subst (IsHeldRow after file number) same (held_row after file number held k' e))
+        has_end row.ended refl (subst (IsHeldRow after file number) same (held_row after file number held t.formed_after e))
+
+  -- a new version's number wasn't given
+  not_given : (file number : ℕ) (row : VersionRow) → known_in w before file number ≡ None → find (is_version file number) after.versions ≡ Some row → IsPast w file number → ⊥
+  not_given file number row none found past = by (find (is_version file number) w.versions) refl (moves file number past) where
+    by : (o : Option VersionRow) → find (is_version file number) w.versions ≡ o → Moves event first w.now w.versions file number (find (is_version file number) w.versions) (find (is_version file number) after.versions) → ⊥
+    by (Some held) e m = let some = rw e at none in absurd cc
+    by None e (Same same) = absurd cc
+    by None e (Ended ended) = let gone = rw e at ended in absurd cc
+    by None e (Taken v take same gone) = absurd cc
 
   pub placed_on : (file number later : ℕ) (row next : VersionRow) → known_in after before file number ≡ Some row → known_in after before file later ≡ Some next → number < later → IsEndedBy next.closed row
   placed_on file number later row next is next_is less = by (from file later next next_is) (from file number row is) where
     by : From w after (known_in w before) file later next → From w after (known_in w before) file number row → IsEndedBy next.closed row
-    by (New found closed above) from_row = rw closed (before_new file number later row next is found less)
-    by (Was old_next e on) (New found closed above) = absurd (let more = above later (known_past w (known_in w before) file later old_next k s e) in omega (arith, more, less))
-    by (Was old_next e on) (Was old f on_row) = rw on.closed (on_row.ended old_next.closed (s.placed file number later old old_next f e less))
+    by (New none found closed) from_row = rw closed (before_new file number later row next is found less)
+    by (Was old_next e on) (New none found closed) =
+        let it = held_row after file number row t.formed_after found in
+        let past = known_past w (known_in w before) file later old_next t.formed t.known e in
+        absurd (not_given file number row none found (record { given = past.given; first = omega (arith, it.numbered, it.is.first); past = all-weaker (IsBehind file later) (IsBehind file number) w.files (λ of behind own. let more = behind own in omega (arith, more, less)) past.past }))
+    by (Was old_next e on) (Was old f on_row) = rw on.closed (on_row.ended old_next.closed (t.known.placed file number later old old_next f e less))

@@ -1,8 +1,8 @@
 -- In a run one version of a file lived at each moment that a name of the file covers.
-use Rattle.std.proofs.Common.{◌≡◌, ℕ, ◌<◌, ◌≤◌, nat_lt, Bool, true, false, ◌&&◌, ◌==◌, List, [], ◌∷◌, Option, Some, None, refl, ap, sym, subst, ◌∙◌, arith, ◌⊎◌, inl, inr}
-use Rattle.std.specs.Prelude.{find, nat_le, Ok, Err}
+use Rattle.std.proofs.Common.{◌≡◌, ℕ, ◌<◌, ◌≤◌, true, false, List, [], ◌∷◌, Option, Some, None, refl, ap, sym, subst, ◌∙◌, arith, ◌⊎◌, inl, inr}
+use Rattle.std.specs.Prelude.{find, Ok, Err}
 use Rattle.std.specs.List.{AllByRecursion}
-use Rattle.std.specs.Option.{option_map_or, option_or}
+use Rattle.std.specs.Option.{option_or}
 use Rattle.std.proofs.lemmas.Bool.{false≢true, cases_lt}
 use Rattle.std.proofs.lemmas.Bool.Decides.{nat_tests}
 use Rattle.ele_lists.proofs.Cuts.{any-found as first_passing}
@@ -38,12 +38,14 @@ same_known w known other same s = record {
   covered = all-weaker (IsCovered known) (IsCovered other) w.names (λ name h file moment own covered. let life = h file moment own covered in record { row = life.row; stood = same file life.row.number ∙ life.stood; lived = life.lived }) s.covered;
 }
 
--- what is held is known
-held_known : (w : World) (known : Known) → AreKnown w known → (file number : ℕ) → known_in w known file number ≡ known file number
-held_known w known s file number = by (find (is_version file number) w.versions) refl where
-  by : (o : Option VersionRow) → find (is_version file number) w.versions ≡ o → option_or o (known file number) ≡ known file number
-  by None e = refl
-  by (Some row) e = sym (s.held file number row e)
+-- what is known twice is known
+known_once : (o p : Option VersionRow) → option_or o (option_or o p) ≡ option_or o p
+known_once None p = refl
+known_once (Some row) p = refl
+
+known_rest : (o p q : Option VersionRow) → option_or (option_or o p) q ≡ option_or o (option_or p q)
+known_rest None p q = refl
+known_rest (Some row) p q = refl
 
 all_known : (event : Event) (first w : World) (changes : List Change) (before : Known) → AllLater ArePlaced first.versions
     → ((file number : ℕ) (row : VersionRow) → find (is_version file number) first.versions ≡ Some row → before file number ≡ Some row)
@@ -51,41 +53,30 @@ all_known : (event : Event) (first w : World) (changes : List Change) (before : 
 all_known event first w [] before placed first_held is k may s = s
 all_known event first w (change ∷ changes) before placed first_held is k may s =
     let k' = change_keeps event first w change is may.0 k in
-    all_known event first (after_change w change) changes before placed first_held is k' may.1 (change_known event first w change before placed first_held k k' may.0 s)
-
-step_known : (w : World) (event : Event) (known : Known) → IsEvent event → IsWellFormed w → AreKnown w known → AreKnown ((step w event).1) (known_in ((step w event).1) known)
-step_known w event known is k s =
-    let by = reached event w (plan w event) (allowed w event k) in
-    rw by.is (all_known event w w by.changes known (k.holds Versions).placed s.held is k by.may (same_known w known (known_in w known) (held_known w known s) s))
+    all_known event first (after_change w change) changes before placed first_held is k' may.1
+    (change_known event first w change before (record { placed = placed; first_held = first_held; formed = k; formed_after = k'; may = may.0; known = s }))
 
 -- ---- runs
 
--- what never stood isn't held at first
-never_held : (w : World) (events : List Event) (file number : ℕ) → last_stood w events file number ≡ None → find (is_version file number) w.versions ≡ None
-never_held w [] file number e = e
-never_held w (event ∷ events) file number e = by (last_stood ((step w event).1) events file number) e where
-  by : (o : Option VersionRow) → option_or o (find (is_version file number) w.versions) ≡ None → find (is_version file number) w.versions ≡ None
-  by None e = e
-  by (Some row) e = absurd cc
-
 abbrev known_after : World → List Event → Known → Known
-known_after w events known file number = option_or (last_stood w events file number) (known file number)
+known_after w events before file number = option_or (last_stood w events file number) (before file number)
 
-run_known : (w : World) (events : List Event) (known : Known) → AllByRecursion IsEvent events → IsWellFormed w → AreKnown w known → AreKnown (run_of w events) (known_after w events known)
-run_known w [] known are k s = same_known w known (known_in w known) (held_known w known s) s
-run_known w (event ∷ events) known are k s =
-    same_known (run_of v events) (known_after v events (known_in v known)) (known_after w (event ∷ events) known) same
-        (run_known v events (known_in v known) are.1 (step_keeps w event are.0 k) (step_known w event known are.0 k s)) where
-  v : World
-  v = (step w event).1
+run_known : (w : World) (events : List Event) (before : Known) → AllByRecursion IsEvent events → IsWellFormed w → AreKnown w (known_in w before) → AreKnown (run_of w events) (known_after w events before)
+run_known w [] before are k s = s
+run_known w (event ∷ events) before are k s =
+    let by = reached event w (plan w event) (allowed w event k) in
+    let v = (step w event).1 in
+    let known = known_in w before in
+    let again : AreKnown w (known_in w known) = same_known w known (known_in w known) (λ file number. known_once (find (is_version file number) w.versions) (before file number)) s in
+    let then : AreKnown v (known_in v known) = rw by.is (all_known event w w by.changes known (k.holds Versions).placed s.held are.0 k by.may again) in
+    same_known (run_of v events) (known_after v events known) (known_after w (event ∷ events) before)
+    (λ file number. known_rest (last_stood v events file number) (find (is_version file number) w.versions) (before file number))
+    (run_known v events known are.1 (step_keeps w event are.0 k) then)
 
-  same : (file number : ℕ) → known_after w (event ∷ events) known file number ≡ known_after v events (known_in v known) file number
-  same file number = by (last_stood v events file number) refl where
-    by : (o : Option VersionRow) → last_stood v events file number ≡ o → option_or (option_or o (find (is_version file number) w.versions)) (known file number) ≡ option_or o (option_or (find (is_version file number) v.versions) (known file number))
-    by None e = rw (never_held v events file number e) (held_known w known s file number)
-    by (Some row) e = refl
+abbrev nothing : Known
+nothing file number = None
 
-fresh_known : (limits : Bounds) → AreKnown (fresh_world limits) (λ file number. None)
+fresh_known : (limits : Bounds) → AreKnown (fresh_world limits) (known_in (fresh_world limits) nothing)
 fresh_known limits = record {
   held = λ file number row found. absurd cc;
   gone = λ file number row none is. absurd cc;
@@ -99,8 +90,9 @@ or_none (Some row) = refl
 
 ever_known : (limits : Bounds) (events : List Event) → AreBounds limits → AllByRecursion IsEvent events → AreKnown (run_of (fresh_world limits) events) (last_stood (fresh_world limits) events)
 ever_known limits events bounds are =
-    same_known (run_of (fresh_world limits) events) (known_after (fresh_world limits) events (λ file number. None)) (last_stood (fresh_world limits) events) (λ file number. or_none (last_stood (fresh_world limits) events file number))
-        (run_known (fresh_world limits) events (λ file number. None) are (fresh_is limits bounds) (fresh_known limits))
+    let first = fresh_world limits in
+    same_known (run_of first events) (known_after first events nothing) (last_stood first events) (λ file number. or_none (last_stood first events file number))
+    (run_known first events nothing are (fresh_is limits bounds) (fresh_known limits))
 
 -- ---- one life
 
@@ -167,4 +159,4 @@ one_life limits events bounds are =
     let k = run_keeps first events are (fresh_is limits bounds) in
     let s = ever_known limits events bounds are in
     all-weaker (IsCovered (last_stood first events)) (NamesOneLife first events) (run_of first events).names
-        (λ name h file moment own covered. has_one_life first events k s file moment (h file moment own covered)) s.covered
+    (λ name h file moment own covered. has_one_life first events k s file moment (h file moment own covered)) s.covered
