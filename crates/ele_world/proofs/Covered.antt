@@ -1,6 +1,6 @@
 -- At each moment that a name covers a version of its file lived, and a change keeps that.
 use Rattle.std.proofs.Common.{◌≡◌, ℕ, ◌<◌, ◌≤◌, nat_lt, Bool, true, false, cond, ◌&&◌, ◌||◌, ◌==◌, ◌++◌, IfSome, List, [], ◌∷◌, Option, Some, None, refl, arith, inl, inr, ◌⊎◌, is_none}
-use Rattle.std.specs.Prelude.{find, nat_le}
+use Rattle.std.specs.Prelude.{nat_le}
 use Rattle.std.specs.List.{AllByRecursion, list_any}
 use Rattle.std.specs.Option.{option_map_or}
 use Rattle.std.proofs.lemmas.Bool.{false≢true, cases_lt}
@@ -12,7 +12,7 @@ use Rattle.ele_world.specs.Change.{Change, Time, MakeDirectory, EndName, AddName
 use Rattle.ele_world.specs.NameRows.{born_row, covers, dies}
 use Rattle.ele_world.specs.Walk.{is_live_name}
 use Rattle.ele_world.specs.WellFormed.{IsNameRow, Names, Versions, IsWellFormed}
-use Rattle.ele_world.specs.World.{World, is_live, is_live_name_of, is_version}
+use Rattle.ele_world.specs.World.{World, is_live, is_live_name_of}
 use Rattle.ele_world.specs.declared.event.Event.{Event}
 use Rattle.ele_world.specs.declared.rows.NameRow.{NameRow}
 use Rattle.ele_world.specs.declared.rows.Target.{Target}
@@ -22,6 +22,7 @@ use Rattle.ele_world.proofs.Currents.{has_current}
 use Rattle.ele_world.proofs.Dropped.{dropped, stays_named}
 use Rattle.ele_world.proofs.KeptRevived.{last_is}
 use Rattle.ele_world.proofs.Known.{Known, known_in, HadLife, IsCovered, AreKnown, IsTurn, becomes, gone_known, placed_on}
+use Rattle.ele_world.proofs.Moves.{row_of}
 use Rattle.ele_world.proofs.NameParts.{still_none}
 
 -- ---- moments before now, and now and later
@@ -71,7 +72,7 @@ counted_live (row ∷ rows) = ((λ file live. rw live refl), all-weaker _ _ rows
   more true e = refl
   more false e = e
 
-current_covers : (w : World) (known : Known) → IsWellFormed w → ((file number : ℕ) (row : VersionRow) → find (is_version file number) w.versions ≡ Some row → known file number ≡ Some row)
+current_covers : (w : World) (known : Known) → IsWellFormed w → ((file number : ℕ) (row : VersionRow) → row_of w file number ≡ Some row → known file number ≡ Some row)
     → AllByRecursion (CoveredFrom w.now (HadLife known)) w.names
 current_covers w known k held = all-weaker (λ name. IsNameRow w.files w.now name × ((file : ℕ) → is_live_name_of file name ≡ true → is_live w file ≡ true))
     (CoveredFrom w.now (HadLife known)) w.names
@@ -96,7 +97,7 @@ module _ (event : Event) (first w : World) (change : Change) (before : Known) (t
   abbrev known : Known
   known = known_in (after_change w change) before
 
-  held : (file number : ℕ) (row : VersionRow) → find (is_version file number) (after_change w change).versions ≡ Some row → known file number ≡ Some row
+  held : (file number : ℕ) (row : VersionRow) → row_of (after_change w change) file number ≡ Some row → known file number ≡ Some row
   held file number row found = rw found refl
 
   life_on : (file moment : ℕ) → moment < w.now → HadLife (known_in w before) file moment → HadLife known file moment

@@ -1,8 +1,8 @@
 -- What a history knows of versions: those that are held, and those that were removed as they last stood. One change.
-use Rattle.std.proofs.Common.{◌≡◌, ℕ, ◌+◌, ◌-◌, ◌<◌, ◌≤◌, nat_lt, true, false, cond, ◌&&◌, List, [], Option, Some, None, refl, ap, sym, subst, ◌∙◌, arith, is_none}
+use Rattle.std.proofs.Common.{◌≡◌, ℕ, ◌-◌, ◌<◌, ◌≤◌, nat_lt, true, false, cond, ◌&&◌, List, [], Option, Some, None, refl, ap, sym, subst, ◌∙◌, arith, is_none}
 use Rattle.std.specs.Prelude.{find, nat_le, unwrap_or}
 use Rattle.std.specs.List.{AllByRecursion}
-use Rattle.std.specs.Option.{option_map_or, option_or}
+use Rattle.std.specs.Option.{option_map_or, option_or, option_map}
 use Rattle.std.proofs.lemmas.Bool.{false≢true}
 use Rattle.std.proofs.lemmas.Bool.Decides.{nat_tests}
 use Rattle.ele_content.specs.declared.cell.Cell.{Cell}
@@ -17,10 +17,10 @@ use Rattle.ele_world.specs.declared.rows.NameRow.{NameRow}
 use Rattle.ele_world.specs.declared.rows.Target.TheVariants.{File}
 use Rattle.ele_world.specs.declared.rows.VersionRow.{VersionRow}
 use Rattle.ele_world.proofs.Dropped.{dropped}
-use Rattle.ele_world.proofs.May.{May, MayTake}
-use Rattle.ele_world.proofs.Moves.{IsBehind, IsPast, change_past, Moves, Same, Ended, Taken, change_moves}
+use Rattle.ele_world.proofs.May.{May}
+use Rattle.ele_world.proofs.Moves.{IsBehind, IsPast, change_past, Moves, row_of, Same, Ended, Taken, change_moves}
 use Rattle.ele_world.proofs.Stays.{held_past}
-use Rattle.ele_world.proofs.Versions.{IsEndedBy}
+use Rattle.ele_world.proofs.Versions.{IsEndedBy, other_ended}
 
 -- each version that closed, as it last stood
 abbrev pub Known : Type 0
@@ -28,7 +28,7 @@ Known = (file number : ℕ) → Option VersionRow
 
 -- as it is held, or else as it was known before
 abbrev pub known_in : World → Known → Known
-known_in w before file number = option_or (find (is_version file number) w.versions) (before file number)
+known_in w before file number = option_or (row_of w file number) (before file number)
 
 -- a version of the file that lived at the moment
 pub record HadLife (known : Known) (file moment : ℕ) : Type 0 where
@@ -46,10 +46,18 @@ pub record IsGone (w : World) (file number : ℕ) (row : VersionRow) : Type 0 wh
   pub past : IsPast w file number
 
 pub record AreKnown (w : World) (known : Known) : Type 0 where
-  pub held : (file number : ℕ) (row : VersionRow) → find (is_version file number) w.versions ≡ Some row → known file number ≡ Some row
-  pub gone : (file number : ℕ) (row : VersionRow) → find (is_version file number) w.versions ≡ None → known file number ≡ Some row → IsGone w file number row
+  pub held : (file number : ℕ) (row : VersionRow) → row_of w file number ≡ Some row → known file number ≡ Some row
+  pub gone : (file number : ℕ) (row : VersionRow) → row_of w file number ≡ None → known file number ≡ Some row → IsGone w file number row
   pub placed : (file number later : ℕ) (row next : VersionRow) → known file number ≡ Some row → known file later ≡ Some next → number < later → IsEndedBy next.closed row
   pub covered : AllByRecursion (IsCovered known) w.names
+
+neither : (o p : Option VersionRow) → option_or o p ≡ None → (o ≡ None) × (p ≡ None)
+neither None p e = (refl, e)
+neither (Some row) p e = absurd cc
+
+pub or_none : (o : Option VersionRow) → o ≡ option_or o None
+or_none None = refl
+or_none (Some row) = refl
 
 -- ---- a version that is held
 
@@ -58,12 +66,12 @@ pub record IsHeldRow (w : World) (file number : ℕ) (row : VersionRow) : Type 0
   pub numbered : row.number ≡ number
   pub is : IsVersion w.files w.now row
 
-pub held_row : (w : World) (file number : ℕ) (row : VersionRow) → IsWellFormed w → find (is_version file number) w.versions ≡ Some row → IsHeldRow w file number row
+pub held_row : (w : World) (file number : ℕ) (row : VersionRow) → IsWellFormed w → row_of w file number ≡ Some row → IsHeldRow w file number row
 held_row w file number row k found =
     let passes = found_passes (is_version file number) w.versions row found in
     record { own = grind (arith, nat_tests); numbered = grind (arith, nat_tests); is = all-found (is_version file number) (IsVersion w.files w.now) w.versions row found (k.holds Versions).each }
 
-found_past : (w : World) (file number : ℕ) (row : VersionRow) → IsWellFormed w → find (is_version file number) w.versions ≡ Some row → IsPast w file number
+found_past : (w : World) (file number : ℕ) (row : VersionRow) → IsWellFormed w → row_of w file number ≡ Some row → IsPast w file number
 found_past w file number row k found =
     let it = held_row w file number row k found in
     subst (λ f. IsPast w f number) it.own (subst (λ n. IsPast w row.file n) it.numbered (held_past w row k it.is))
@@ -76,8 +84,8 @@ ended_row w row is ended = by row.ended refl where
   by (Some at) e = record { ended = at; is = e; by_now = (let bound = rw e at is.ended in bound.1) }
 
 known_past : (w : World) (known : Known) (file number : ℕ) (row : VersionRow) → IsWellFormed w → AreKnown w known → known file number ≡ Some row → IsPast w file number
-known_past w known file number row k s is = by (find (is_version file number) w.versions) refl where
-  by : (o : Option VersionRow) → find (is_version file number) w.versions ≡ o → IsPast w file number
+known_past w known file number row k s is = by (row_of w file number) refl where
+  by : (o : Option VersionRow) → row_of w file number ≡ o → IsPast w file number
   by None e = (s.gone file number row e is).past
   by (Some held) e = found_past w file number held k e
 
@@ -137,7 +145,7 @@ module _ (file number : ℕ) where
 -- so it was known and is the same or ended, or it is new
 data From (w u : World) (known : Known) (file number : ℕ) (row : VersionRow) : Type 0 where
   Was : (old : VersionRow) → known file number ≡ Some old → IsOn w.now old row → From w u known file number row
-  New : known file number ≡ None → find (is_version file number) u.versions ≡ Some row → row.closed ≡ u.now → From w u known file number row
+  New : row_of w file number ≡ None → row_of u file number ≡ Some row → row.closed ≡ u.now → From w u known file number row
 
 -- the time never goes back
 change_later : (event : Event) (first w : World) (change : Change) → May event first w change → w.now ≤ (after_change w change).now
@@ -145,10 +153,16 @@ change_later event first w (Time to) may = may.0
 change_later event first w (DropIdle of) may = dropped (λ v. w.now ≤ v.now) w of (λ idle. omega arith) (λ busy. omega arith)
 change_later event first w change may = omega arith
 
+-- what becomes of a version whose number was given, by what was known of it
+data Turned (w : World) (known was is : Option VersionRow) : Type 0 where
+  Stays : is ≡ was → Turned w known was is
+  Ends : (row : VersionRow) → was ≡ Some row → is ≡ Some (ended_at w.now row) → Turned w known was is
+  Goes : (row : VersionRow) → was ≡ Some row → is ≡ None → known ≡ Some row → IsEndedBy w.now row → Turned w known was is
+
 -- a change by an event, in a world where the versions are known
 pub record IsTurn (event : Event) (first w : World) (change : Change) (before : Known) : Type 0 where
   pub placed : AllLater ArePlaced first.versions
-  pub first_held : (file number : ℕ) (row : VersionRow) → find (is_version file number) first.versions ≡ Some row → before file number ≡ Some row
+  pub first_held : (file number : ℕ) (row : VersionRow) → row_of first file number ≡ Some row → before file number ≡ Some row
   pub formed : IsWellFormed w
   pub formed_after : IsWellFormed (after_change w change)
   pub may : May event first w change
@@ -158,94 +172,76 @@ module _ (event : Event) (first w : World) (change : Change) (before : Known) (t
   abbrev after : World
   after = after_change w change
 
-  moves : (file number : ℕ) → IsPast w file number → Moves event first w.now w.versions file number (find (is_version file number) w.versions) (find (is_version file number) after.versions)
-  moves file number past = change_moves event first file number w change t.placed t.may past
+  abbrev Turning : ℕ → ℕ → Type 0
+  Turning file number = Turned w (before file number) (row_of w file number) (row_of after file number)
 
-  taken_row : (file number : ℕ) (row : VersionRow) (v : World) (take : MayTake event first v file number) → w.versions ≡ v.versions → find (is_version file number) w.versions ≡ Some row → take.row ≡ row
-  taken_row file number row v take same is = let was = take.found in let found = rw (same, take.same) at is in cc
+  turned : (file number : ℕ) → IsPast w file number → Turning file number
+  turned file number past = by (row_of w file number) refl (change_moves event first file number w change t.placed t.may past) where
+    by : (o : Option VersionRow) → row_of w file number ≡ o → Moves event first w.now w.versions file number (row_of w file number) (row_of after file number) → Turning file number
+    by o e (Same same) = Stays same
+    by None e (Ended ended) = Stays (ended ∙ ap (option_map (ended_at w.now)) e ∙ sym e)
+    by (Some row) e (Ended ended) = Ends row e (ended ∙ ap (option_map (ended_at w.now)) e)
+    by o e (Taken v take same none) =
+        let found : row_of w file number ≡ Some take.row = ap (find (is_version file number)) (same ∙ take.same) ∙ take.found in
+        Goes take.row found none (t.first_held file number take.row take.found) (ended_row w take.row (held_row w file number take.row t.formed found).is take.ended)
 
   pub becomes : (file number : ℕ) (old : VersionRow) → known_in w before file number ≡ Some old → Becomes w.now old (known_in after before file number)
-  becomes file number old is = by (find (is_version file number) w.versions) refl (moves file number (known_past w (known_in w before) file number old t.formed t.known is)) where
-    by : (o : Option VersionRow) → find (is_version file number) w.versions ≡ o → Moves event first w.now w.versions file number (find (is_version file number) w.versions) (find (is_version file number) after.versions) → Becomes w.now old (known_in after before file number)
-    by o e (Same same) = record { row = old; is = rw same is; on = same_on w.now old }
-    by None e (Ended ended) = record { row = old; is = (let none = rw e at ended in let was = rw e at is in rw none was); on = same_on w.now old }
-    by (Some row) e (Ended ended) =
-        let was = rw e at is in
-        let one : row ≡ old = cc in
-        record { row = ended_at w.now old; is = rw (ended, e, one) refl; on = ended_on w.now old }
-    by None e (Taken v take same none) = absurd (let found = take.found in let nothing = rw (same, take.same) at e in cc)
-    by (Some row) e (Taken v take same none) =
-        let was = rw e at is in
-        let one : row ≡ old = cc in
-        let own : take.row ≡ row = taken_row file number row v take same e in
-        record { row = old; is = rw none (rw (t.first_held file number take.row take.found, own, one) refl); on = same_on w.now old }
+  becomes file number old is = by (turned file number (known_past w (known_in w before) file number old t.formed t.known is)) where
+    by : Turning file number → Becomes w.now old (known_in after before file number)
+    by (Stays e) = record { row = old; is = rw e is; on = same_on w.now old }
+    by (Ends row e ended) = let was = rw e at is in let one : row ≡ old = cc in record { row = ended_at w.now old; is = rw (ended, one) refl; on = ended_on w.now old }
+    by (Goes row e none known ended) = let was = rw e at is in let one : row ≡ old = cc in record { row = old; is = rw (none, known, one) refl; on = same_on w.now old }
+
+  -- a new version's number wasn't given
+  not_given : (file number : ℕ) (row : VersionRow) → row_of w file number ≡ None → row_of after file number ≡ Some row → IsPast w file number → ⊥
+  not_given file number row none found past = by (turned file number past) where
+    by : Turning file number → ⊥
+    by (Stays e) = absurd cc
+    by (Ends row e ended) = absurd cc
+    by (Goes row e gone known ended) = absurd cc
 
   from : (file number : ℕ) (row : VersionRow) → known_in after before file number ≡ Some row → From w after (known_in w before) file number row
   from file number row is = by (known_in w before file number) refl where
-    new : (o : Option VersionRow) → find (is_version file number) w.versions ≡ o → option_or o (before file number) ≡ None → (p : Option VersionRow) → find (is_version file number) after.versions ≡ p → option_or p (before file number) ≡ Some row → From w after (known_in w before) file number row
-    new (Some held) e none p f is = absurd cc
-    new None e none None f is = absurd cc
-    new None e none (Some found) f is =
-        let same : found ≡ row = cc in
-        let here : find (is_version file number) after.versions ≡ Some row = f ∙ ap (λ r. Some r) same in
-        let others = all-not_found (is_version file number) w.versions e in
-        let closes = change_closes file number w change (λ now. all-weaker (λ row. is_version file number row ≡ false) (ClosesAt file number now) w.versions (λ row other is. absurd (false≢true (sym other ∙ is))) others) in
-        New (rw e none) here (all-found (is_version file number) (ClosesAt file number after.now) after.versions row here closes (found_passes (is_version file number) after.versions row here))
-
     by : (o : Option VersionRow) → known_in w before file number ≡ o → From w after (known_in w before) file number row
-    by (Some old) e = let is_on = becomes file number old e in let now = is_on.is in let same : is_on.row ≡ row = cc in Was old e (subst (IsOn w.now old) same is_on.on)
-    by None e = new (find (is_version file number) w.versions) refl e (find (is_version file number) after.versions) refl is
+    by (Some old) e = let next = becomes file number old e in let now = next.is in let same : next.row ≡ row = cc in Was old e (subst (IsOn w.now old) same next.on)
+    by None e =
+        let none = neither (row_of w file number) (before file number) e in
+        let here : row_of after file number ≡ Some row = or_none (row_of after file number) ∙ subst (λ o. option_or (row_of after file number) o ≡ Some row) none.1 is in
+        let others = all-not_found (is_version file number) w.versions none.0 in
+        let closes = change_closes file number w change (λ now. all-weaker (λ row. is_version file number row ≡ false) (ClosesAt file number now) w.versions (λ row other is. absurd (false≢true (sym other ∙ is))) others) in
+        New none.0 here (all-found (is_version file number) (ClosesAt file number after.now) after.versions row here closes (found_passes (is_version file number) after.versions row here))
 
-  gone_on : (file number : ℕ) (row : VersionRow) → find (is_version file number) after.versions ≡ None → before file number ≡ Some row → IsGone after file number row
-  gone_on file number row none is = by (find (is_version file number) w.versions) refl where
-    taken : (held : VersionRow) → find (is_version file number) w.versions ≡ Some held → Moves event first w.now w.versions file number (find (is_version file number) w.versions) (find (is_version file number) after.versions) → IsEndedBy w.now row
-    taken held e (Same same) = absurd cc
-    taken held e (Ended ended) = absurd (let some = rw e at ended in cc)
-    taken held e (Taken v take same gone) =
-        let own : take.row ≡ held = taken_row file number held v take same e in
-        let known = t.first_held file number take.row take.found in
-        let one : take.row ≡ row = cc in
-        subst (IsEndedBy w.now) one (ended_row w take.row (rw own (held_row w file number held t.formed e).is) take.ended)
+  pub gone_known : (file number : ℕ) (row : VersionRow) → row_of after file number ≡ None → known_in after before file number ≡ Some row → IsGone after file number row
+  gone_known file number row none is = by (row_of w file number) refl where
+    known : before file number ≡ Some row
+    known = let was = rw none at is in was
 
-    on : IsEndedBy w.now row → IsPast w file number → IsGone after file number row
-    on ended past = record { ended = record { ended = ended.ended; is = ended.is; by_now = omega (arith, ended.by_now, change_later event first w change t.may) }; past = change_past event first w change file number t.may past }
+    on : IsPast w file number → IsEndedBy w.now row → IsGone after file number row
+    on past ended = record { ended = record { ended = ended.ended; is = ended.is; by_now = omega (arith, ended.by_now, change_later event first w change t.may) }; past = change_past event first w change file number t.may past }
 
-    by : (o : Option VersionRow) → find (is_version file number) w.versions ≡ o → IsGone after file number row
-    by None e = let gone = t.known.gone file number row e (rw e is) in on gone.ended gone.past
-    by (Some held) e = let past = found_past w file number held t.formed e in on (taken held e (moves file number past)) past
+    taken : Turning file number → (held : VersionRow) → row_of w file number ≡ Some held → IsEndedBy w.now row
+    taken (Stays e) held found = absurd cc
+    taken (Ends other e ended) held found = absurd cc
+    taken (Goes other e gone was ended) held found = let one : other ≡ row = cc in subst (IsEndedBy w.now) one ended
 
-  pub gone_known : (file number : ℕ) (row : VersionRow) → find (is_version file number) after.versions ≡ None → known_in after before file number ≡ Some row → IsGone after file number row
-  gone_known file number row none is = gone_on file number row none (let was = rw none at is in was)
+    by : (o : Option VersionRow) → row_of w file number ≡ o → IsGone after file number row
+    by None e = let gone = t.known.gone file number row e (rw e known) in on gone.past gone.ended
+    by (Some held) e = let past = found_past w file number held t.formed e in on past (taken (turned file number past) held e)
 
   -- a version before a new one has ended
-  before_new : (file number later : ℕ) (row next : VersionRow) → known_in after before file number ≡ Some row → find (is_version file later) after.versions ≡ Some next → number < later → IsEndedBy after.now row
-  before_new file number later row next is new less = by (find (is_version file number) after.versions) refl where
+  before_new : (file number later : ℕ) (row next : VersionRow) → known_in after before file number ≡ Some row → row_of after file later ≡ Some next → number < later → IsEndedBy after.now row
+  before_new file number later row next is new less = by (row_of after file number) refl where
     last : IsHeldRow after file later next
     last = held_row after file later next t.formed_after new
 
-    has_end : (o : Option ℕ) → row.ended ≡ o → IsHeldRow after file number row → IsEndedBy after.now row
-    has_end None e it =
-        let more = it.is.open_end e in
-        let numbered : next.number < next_of after.files file = subst (λ f. next.number < next_of after.files f) last.own last.is.numbered in
-        let more' : row.number + 1 ≡ next_of after.files file = subst (λ f. row.number + 1 ≡ next_of after.files f) it.own more in
-        absurd (omega (arith, numbered, more', it.numbered, last.numbered, less))
-    has_end (Some at) e it = ended_row after row it.is (rw e refl)
-
-    by : (o : Option VersionRow) → find (is_version file number) after.versions ≡ o → IsEndedBy after.now row
+    by : (o : Option VersionRow) → row_of after file number ≡ o → IsEndedBy after.now row
     by None e = (gone_known file number row e is).ended
     by (Some held) e =
         let was = rw e at is in
         let same : held ≡ row = cc in
-        has_end row.ended refl (subst (IsHeldRow after file number) same (held_row after file number held t.formed_after e))
-
-  -- a new version's number wasn't given
-  not_given : (file number : ℕ) (row : VersionRow) → known_in w before file number ≡ None → find (is_version file number) after.versions ≡ Some row → IsPast w file number → ⊥
-  not_given file number row none found past = by (find (is_version file number) w.versions) refl (moves file number past) where
-    by : (o : Option VersionRow) → find (is_version file number) w.versions ≡ o → Moves event first w.now w.versions file number (find (is_version file number) w.versions) (find (is_version file number) after.versions) → ⊥
-    by (Some held) e m = let some = rw e at none in absurd cc
-    by None e (Same same) = absurd cc
-    by None e (Ended ended) = let gone = rw e at ended in absurd cc
-    by None e (Taken v take same gone) = absurd cc
+        let it = held_row after file number held t.formed_after e in
+        let numbered : next.number < next_of after.files held.file = rw it.own (subst (λ f. next.number < next_of after.files f) last.own last.is.numbered) in
+        subst (IsEndedBy after.now) same (other_ended after.files after.now held it.is (λ more. absurd (omega (arith, numbered, more, it.numbered, last.numbered, less))))
 
   pub placed_on : (file number later : ℕ) (row next : VersionRow) → known_in after before file number ≡ Some row → known_in after before file later ≡ Some next → number < later → IsEndedBy next.closed row
   placed_on file number later row next is next_is less = by (from file later next next_is) (from file number row is) where

@@ -76,7 +76,8 @@ pub data Moves (event : Event) (first : World) (now : ℕ) (rows : List VersionR
   Ended : after ≡ option_map (ended_at now) before → Moves event first now rows file number before after
   Taken : (w : World) → MayTake event first w file number → rows ≡ w.versions → after ≡ None → Moves event first now rows file number before after
 
-abbrev row_of : World → ℕ → ℕ → Option VersionRow
+-- the version's row, if it is held
+abbrev pub row_of : World → ℕ → ℕ → Option VersionRow
 row_of w file number = find (is_version file number) w.versions
 
 -- a change of an element where p passes, that t doesn't see, changes the one found or none

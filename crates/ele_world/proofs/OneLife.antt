@@ -23,7 +23,8 @@ use Rattle.ele_world.specs.declared.rows.VersionRow.{VersionRow}
 use Rattle.ele_world.proofs.Allowed.{allowed}
 use Rattle.ele_world.proofs.Covered.{change_known}
 use Rattle.ele_world.proofs.Keeps.{change_keeps, reached}
-use Rattle.ele_world.proofs.Known.{Known, known_in, HadLife, IsCovered, AreKnown}
+use Rattle.ele_world.proofs.Known.{Known, known_in, HadLife, IsCovered, AreKnown, or_none}
+use Rattle.ele_world.proofs.Moves.{row_of}
 use Rattle.ele_world.proofs.May.{MayAll}
 use Rattle.ele_world.proofs.StepKeeps.{fresh_is, step_keeps, run_keeps}
 use Rattle.ele_world.proofs.Versions.{IsEndedBy, IsFound, all_found}
@@ -48,7 +49,7 @@ known_rest None p q = refl
 known_rest (Some row) p q = refl
 
 all_known : (event : Event) (first w : World) (changes : List Change) (before : Known) → AllLater ArePlaced first.versions
-    → ((file number : ℕ) (row : VersionRow) → find (is_version file number) first.versions ≡ Some row → before file number ≡ Some row)
+    → ((file number : ℕ) (row : VersionRow) → row_of first file number ≡ Some row → before file number ≡ Some row)
     → IsEvent event → IsWellFormed w → MayAll event first w changes → AreKnown w (known_in w before) → AreKnown (after_changes w changes) (known_in (after_changes w changes) before)
 all_known event first w [] before placed first_held is k may s = s
 all_known event first w (change ∷ changes) before placed first_held is k may s =
@@ -67,10 +68,10 @@ run_known w (event ∷ events) before are k s =
     let by = reached event w (plan w event) (allowed w event k) in
     let v = (step w event).1 in
     let known = known_in w before in
-    let again : AreKnown w (known_in w known) = same_known w known (known_in w known) (λ file number. known_once (find (is_version file number) w.versions) (before file number)) s in
+    let again : AreKnown w (known_in w known) = same_known w known (known_in w known) (λ file number. known_once (row_of w file number) (before file number)) s in
     let then : AreKnown v (known_in v known) = rw by.is (all_known event w w by.changes known (k.holds Versions).placed s.held are.0 k by.may again) in
     same_known (run_of v events) (known_after v events known) (known_after w (event ∷ events) before)
-    (λ file number. known_rest (last_stood v events file number) (find (is_version file number) w.versions) (before file number))
+    (λ file number. known_rest (last_stood v events file number) (row_of w file number) (before file number))
     (run_known v events known are.1 (step_keeps w event are.0 k) then)
 
 abbrev nothing : Known
@@ -83,10 +84,6 @@ fresh_known limits = record {
   placed = λ file number later row next is next_is less. absurd cc;
   covered = tt;
 }
-
-or_none : (o : Option VersionRow) → o ≡ option_or o None
-or_none None = refl
-or_none (Some row) = refl
 
 ever_known : (limits : Bounds) (events : List Event) → AreBounds limits → AllByRecursion IsEvent events → AreKnown (run_of (fresh_world limits) events) (last_stood (fresh_world limits) events)
 ever_known limits events bounds are =
@@ -112,22 +109,22 @@ module _ (first : World) (events : List Event) (k : IsWellFormed (run_of first e
     by (inr more) (inr less) = omega (arith, more, less)
 
   -- a version that is found for the moment is this one
-  found_is : (row : VersionRow) → find (had_life file moment) w.versions ≡ Some row → (row ≡ life.row) × (find (is_version file life.row.number) w.versions ≡ Some row)
+  found_is : (row : VersionRow) → find (had_life file moment) w.versions ≡ Some row → (row ≡ life.row) × (row_of w file life.row.number ≡ Some row)
   found_is row found =
       let passes = found_passes (had_life file moment) w.versions row found in
       let own : row.file ≡ file = grind (arith, nat_tests) in
       let lives : lives_at moment row ≡ true = grind (arith, nat_tests) in
-      let itself : find (is_version row.file row.number) w.versions ≡ Some row = all-found (had_life file moment) (IsFound w.versions) w.versions row found (all_found w.versions (k.holds Versions).placed) in
-      let here : find (is_version file row.number) w.versions ≡ Some row = subst (λ f. find (is_version f row.number) w.versions ≡ Some row) own itself in
+      let itself : row_of w row.file row.number ≡ Some row = all-found (had_life file moment) (IsFound w.versions) w.versions row found (all_found w.versions (k.holds Versions).placed) in
+      let here : row_of w file row.number ≡ Some row = subst (λ f. row_of w f row.number ≡ Some row) own itself in
       let number : row.number ≡ life.row.number = only row.number row (s.held file row.number row here) lives in
-      let there : find (is_version file life.row.number) w.versions ≡ Some row = subst (λ n. find (is_version file n) w.versions ≡ Some row) number here in
+      let there : row_of w file life.row.number ≡ Some row = subst (λ n. row_of w file n ≡ Some row) number here in
       let was = life.stood in
       let is = s.held file life.row.number row there in
       (cc, there)
 
   held_reads : is_held w file life.row.number ≡ true → version_living w.versions file moment ≡ Ok life.row
   held_reads held = by (find (had_life file moment) w.versions) refl where
-    one : (row : VersionRow) × (find (is_version file life.row.number) w.versions ≡ Some row)
+    one : (row : VersionRow) × (row_of w file life.row.number ≡ Some row)
     one = first_passing (is_version file life.row.number) w.versions held
 
     by : (o : Option VersionRow) → find (had_life file moment) w.versions ≡ o → held_or_forgotten o (last_number (had_closed file moment) w.versions) ≡ Ok life.row
