@@ -64,3 +64,7 @@ pub mod KeptDrops
 pub mod DropViews
 pub mod DropUsage
 pub mod NoIdle
+pub mod ReadsBack
+pub mod Known
+pub mod Covered
+pub mod OneLife

@@ -21,7 +21,7 @@ use Rattle.ele_world.proofs.May.{May, MayTake}
 -- ---- a number that was given isn't given again
 
 -- where it is of the file, the row numbers on behind the version
-abbrev IsBehind : ℕ → ℕ → FileRow → Type 0
+abbrev pub IsBehind : ℕ → ℕ → FileRow → Type 0
 IsBehind file number row = row.id ≡ file → number < row.next
 
 -- the file's number was given, and its row, if it is still there, numbers on behind the version
@@ -71,12 +71,13 @@ change_past event first w change file number may is = record { given = is.given;
 
 -- ---- the row
 
-pub data Moves (event : Event) (first : World) (file number : ℕ) (before after : Option VersionRow) : Type 0 where
-  Same : after ≡ before → Moves event first file number before after
-  Ended : (now : ℕ) → after ≡ option_map (ended_at now) before → Moves event first file number before after
-  Taken : (w : World) → MayTake event first w file number → after ≡ None → Moves event first file number before after
+pub data Moves (event : Event) (first : World) (now : ℕ) (rows : List VersionRow) (file number : ℕ) (before after : Option VersionRow) : Type 0 where
+  Same : after ≡ before → Moves event first now rows file number before after
+  Ended : after ≡ option_map (ended_at now) before → Moves event first now rows file number before after
+  Taken : (w : World) → MayTake event first w file number → rows ≡ w.versions → after ≡ None → Moves event first now rows file number before after
 
-abbrev row_of : World → ℕ → ℕ → Option VersionRow
+-- the version's row, if it is held
+abbrev pub row_of : World → ℕ → ℕ → Option VersionRow
 row_of w file number = find (is_version file number) w.versions
 
 -- a change of an element where p passes, that t doesn't see, changes the one found or none
@@ -103,16 +104,16 @@ removed_gone file number (x ∷ xs) placed = elim (is_version file number x) as 
 
 module _ (event : Event) (first : World) (file number : ℕ) where
   abbrev MovesTo : World → List VersionRow → Type 0
-  MovesTo w rows = Moves event first file number (row_of w file number) (find (is_version file number) rows)
+  MovesTo w rows = Moves event first w.now w.versions file number (row_of w file number) (find (is_version file number) rows)
 
   ends : (w : World) (of : ℕ) → MovesTo w (with_end w of)
   ends w of = elim (found_updated (is_version of (next_of w.files of - 1)) (is_version file number) (ended_at w.now) w.versions (λ x. refl)) [
     | inl same ↦ Same same
-    | inr ended ↦ Ended w.now ended
+    | inr ended ↦ Ended ended
   ]
 
   appends : (w : World) (of opened : ℕ) (cells : List Cell) → is_version file number (next_version w of opened cells) ≡ false → MovesTo w (with_version w of opened cells).versions
-  appends w of opened cells other = subst (λ o. Moves event first file number (row_of w file number) o) (sym (find-insert_before (is_version_after of (next_of w.files of)) (is_version file number) (next_version w of opened cells) (with_end w of) other)) (ends w of)
+  appends w of opened cells other = subst (λ o. Moves event first w.now w.versions file number (row_of w file number) o) (sym (find-insert_before (is_version_after of (next_of w.files of)) (is_version file number) (next_version w of opened cells) (with_end w of) other)) (ends w of)
 
   pub change_moves : (w : World) (change : Change) → AllLater ArePlaced first.versions → May event first w change → IsPast w file number → MovesTo w (after_change w change).versions
   change_moves w (MakeFile directory name id policy) placed may is =
@@ -136,8 +137,8 @@ module _ (event : Event) (first : World) (file number : ℕ) where
     by true true e f =
         let file_is : of ≡ file = grind (arith, nat_tests) in
         let number_is : taken ≡ number = grind (arith, nat_tests) in
-        subst (λ g. Moves event first g number (row_of w g number) (find (is_version g number) (remove_first (is_version of taken) w.versions))) file_is
-        (subst (λ n. Moves event first of n (row_of w of n) (find (is_version of n) (remove_first (is_version of taken) w.versions))) number_is (Taken w may gone))
+        subst (λ g. Moves event first w.now w.versions g number (row_of w g number) (find (is_version g number) (remove_first (is_version of taken) w.versions))) file_is
+        (subst (λ n. Moves event first w.now w.versions of n (row_of w of n) (find (is_version of n) (remove_first (is_version of taken) w.versions))) number_is (Taken w may refl gone))
     by true false e f = Same (find-remove_first (is_version of taken) (is_version file number) w.versions (λ x passes. grind (arith, nat_tests)))
     by false c e f = Same (find-remove_first (is_version of taken) (is_version file number) w.versions (λ x passes. grind (arith, nat_tests)))
   change_moves w change placed may is = Same refl

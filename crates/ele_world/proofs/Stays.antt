@@ -31,16 +31,16 @@ record IsStill (row : VersionRow) (found : Option VersionRow) : Type 0 where
 abbrev StillOrDue : Event → World → VersionRow → Option VersionRow → Type 0
 StillOrDue event first row found = IsStill row found ⊎ ((event ≡ CleanOne) × (is_due_at first row first.now ≡ true) × (found ≡ None))
 
-moved : (event : Event) (first : World) (row : VersionRow) (before after : Option VersionRow) → IsFound first.versions row → StillOrDue event first row before → Moves event first row.file row.number before after → StillOrDue event first row after
-moved event first row before after found (inl still) (Same e) = inl (record { after = still.after; is = e ∙ still.is; same = still.same })
-moved event first row before after found (inl still) (Ended now e) = inl (record {
+moved : (event : Event) (first : World) (now : ℕ) (rows : List VersionRow) (row : VersionRow) (before after : Option VersionRow) → IsFound first.versions row → StillOrDue event first row before → Moves event first now rows row.file row.number before after → StillOrDue event first row after
+moved event first now rows row before after found (inl still) (Same e) = inl (record { after = still.after; is = e ∙ still.is; same = still.same })
+moved event first now rows row before after found (inl still) (Ended e) = inl (record {
   after = ended_at now still.after;
   is = e ∙ ap (option_map (ended_at now)) still.is;
   same = record { opened = still.same.opened; closed = still.same.closed; cells = still.same.cells; ended = λ at f. ap (λ (o : Option ℕ). Some (unwrap_or o now)) (still.same.ended at f) };
 })
-moved event first row before after found (inr gone) (Same e) = inr (gone.0, gone.1, e ∙ gone.2)
-moved event first row before after found (inr gone) (Ended now e) = inr (gone.0, gone.1, e ∙ ap (option_map (ended_at now)) gone.2)
-moved event first row before after found was (Taken w may none) =
+moved event first now rows row before after found (inr gone) (Same e) = inr (gone.0, gone.1, e ∙ gone.2)
+moved event first now rows row before after found (inr gone) (Ended e) = inr (gone.0, gone.1, e ∙ ap (option_map (ended_at now)) gone.2)
+moved event first now rows row before after found was (Taken w may same none) =
     let taken = may.found in
     let one : may.row ≡ row = cc in
     inr (may.clean, subst (λ r. is_due_at first r first.now ≡ true) one may.due, none)
@@ -49,18 +49,21 @@ follow : (event : Event) (first w : World) (row : VersionRow) (changes : List Ch
 follow event first w row [] found placed may past was = was
 follow event first w row (change ∷ changes) found placed may past was = follow event first (after_change w change) row changes found placed may.1
     (change_past event first w change row.file row.number may.0 past)
-    (moved event first row _ _ found was (change_moves event first row.file row.number w change placed may.0 past))
+    (moved event first w.now w.versions row _ _ found was (change_moves event first row.file row.number w change placed may.0 past))
+
+-- the number of a version that is held was given
+pub held_past : (w : World) (row : VersionRow) → IsWellFormed w → IsVersion w.files w.now row → IsPast w row.file row.number
+held_past w row k is = record {
+  given = next_of-given w.made.files w.made.versions w.files row.file (k.holds Files).each (omega (arith, is.numbered));
+  first = is.first;
+  past = all_behind w.files row.file row.number (k.holds Files).placed is.numbered;
+}
 
 row_stays : (w : World) (event : Event) (row : VersionRow) → IsWellFormed w → IsVersion w.files w.now row → IsFound w.versions row → StillOrDue event w row (find (is_version row.file row.number) ((step w event).1).versions)
 row_stays w event row k is found =
     let by = reached event w (plan w event) (allowed w event k) in
-    let past : IsPast w row.file row.number = record {
-      given = next_of-given w.made.files w.made.versions w.files row.file (k.holds Files).each (omega (arith, is.numbered));
-      first = is.first;
-      past = all_behind w.files row.file row.number (k.holds Files).placed is.numbered;
-    } in
     let start : IsStill row (find (is_version row.file row.number) w.versions) = record { after = row; is = found; same = record { opened = refl; closed = refl; cells = refl; ended = λ at e. e } } in
-    rw by.is (follow event w w row by.changes found (k.holds Versions).placed by.may past (inl start))
+    rw by.is (follow event w w row by.changes found (k.holds Versions).placed by.may (held_past w row k is) (inl start))
 
 -- ---- both laws
 

@@ -39,7 +39,7 @@ ends now row h = record { ended = unwrap_or row.ended now; is = refl; by_now = b
   by (Some e) h = h.1
 
 -- of a file's rows all but the last have ended
-other_ended : (files : List FileRow) (now : ℕ) (row : VersionRow) → IsVersion files now row → (row.number + 1 ≡ next_of files row.file → ⊥) → IsEndedBy now row
+pub other_ended : (files : List FileRow) (now : ℕ) (row : VersionRow) → IsVersion files now row → (row.number + 1 ≡ next_of files row.file → ⊥) → IsEndedBy now row
 other_ended files now row h not_last = by row.ended refl where
   by : (o : Option ℕ) → row.ended ≡ o → IsEndedBy now row
   by None e = absurd (not_last (h.open_end e))

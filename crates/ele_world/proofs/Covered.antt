@@ -1,0 +1,130 @@
+-- At each moment that a name covers a version of its file lived, and a change keeps that.
+use Rattle.std.proofs.Common.{◌≡◌, ℕ, ◌<◌, ◌≤◌, nat_lt, Bool, true, false, cond, ◌&&◌, ◌||◌, ◌==◌, ◌++◌, IfSome, List, [], ◌∷◌, Option, Some, None, refl, arith, inl, inr, ◌⊎◌, is_none}
+use Rattle.std.specs.Prelude.{nat_le}
+use Rattle.std.specs.List.{AllByRecursion, list_any}
+use Rattle.std.specs.Option.{option_map_or}
+use Rattle.std.proofs.lemmas.Bool.{false≢true, cases_lt}
+use Rattle.std.proofs.lemmas.Bool.Decides.{nat_tests}
+use Rattle.ele_lists.specs.Lists.{update_first}
+use Rattle.ele_lists.proofs.Alls.{all-filter}
+use Rattle.ele_lists.proofs.Edits.{all-both, all-push, all-weaker}
+use Rattle.ele_world.specs.Change.{Change, Time, MakeDirectory, EndName, AddName, MoveName, EndFileName, Revive, MakeFile, DropIdle, after_change}
+use Rattle.ele_world.specs.NameRows.{born_row, covers, dies}
+use Rattle.ele_world.specs.Walk.{is_live_name}
+use Rattle.ele_world.specs.WellFormed.{IsNameRow, Names, Versions, IsWellFormed}
+use Rattle.ele_world.specs.World.{World, is_live, is_live_name_of}
+use Rattle.ele_world.specs.declared.event.Event.{Event}
+use Rattle.ele_world.specs.declared.rows.NameRow.{NameRow}
+use Rattle.ele_world.specs.declared.rows.Target.{Target}
+use Rattle.ele_world.specs.declared.rows.Target.TheVariants.{File, Directory}
+use Rattle.ele_world.specs.declared.rows.VersionRow.{VersionRow}
+use Rattle.ele_world.proofs.Currents.{has_current}
+use Rattle.ele_world.proofs.Dropped.{dropped, stays_named}
+use Rattle.ele_world.proofs.KeptRevived.{last_is}
+use Rattle.ele_world.proofs.Known.{Known, known_in, HadLife, IsCovered, AreKnown, IsTurn, becomes, gone_known, placed_on}
+use Rattle.ele_world.proofs.Moves.{row_of}
+use Rattle.ele_world.proofs.NameParts.{still_none}
+
+-- ---- moments before now, and now and later
+
+module _ (now : ℕ) (life : ℕ → ℕ → Type 0) where
+  abbrev CoveredBefore : NameRow → Type 0
+  CoveredBefore name = (file moment : ℕ) → name.target ≡ File file → covers moment name ≡ true → moment < now → life file moment
+
+  abbrev CoveredFrom : NameRow → Type 0
+  CoveredFrom name = (file moment : ℕ) → name.target ≡ File file → covers moment name ≡ true → now ≤ moment → life file moment
+
+  -- a name that dies now covered them before
+  covered_still : (row : NameRow) (moment : ℕ) → is_none row.death ≡ true → covers moment (dies now row) ≡ true → covers moment row ≡ true
+  covered_still row moment live covered = by row.death live where
+    by : (o : Option ℕ) → is_none o ≡ true → (nat_le row.birth moment && option_map_or (λ death. nat_lt moment death) o true) ≡ true
+    by None live = grind (arith, nat_tests)
+    by (Some death) live = absurd (false≢true live)
+
+  died : (directory : ℕ) (name : List ℕ) (rows : List NameRow) → AllByRecursion CoveredBefore rows → AllByRecursion CoveredBefore (update_first (is_live_name directory name) (dies now) rows)
+  died directory name [] all = tt
+  died directory name (row ∷ rows) all = elim (is_live_name directory name row) as (λ b. is_live_name directory name row ≡ b → AllByRecursion CoveredBefore (cond b (dies now row ∷ rows) (row ∷ update_first (is_live_name directory name) (dies now) rows))) [
+    | true ↦ λ e. ((λ file moment own covered less. all.0 file moment own (covered_still row moment (still_none directory name row e) covered) less), all.1)
+    | false ↦ λ e. (all.0, died directory name rows all.1)
+  ] refl
+
+  born : (directory : ℕ) (name : List ℕ) (target : Target) (rows : List NameRow) → AllByRecursion CoveredBefore rows → AllByRecursion CoveredBefore (rows ++ born_row directory name target now ∷ [])
+  born directory name target rows all = all-push CoveredBefore rows (born_row directory name target now) all (λ file moment own covered less. absurd (let late : (nat_le now moment && true) ≡ true = covered in grind (arith, nat_tests)))
+
+change_covered : (w : World) (change : Change) (life : ℕ → ℕ → Type 0) → AllByRecursion (CoveredBefore w.now life) w.names → AllByRecursion (CoveredBefore w.now life) (after_change w change).names
+change_covered w (MakeDirectory directory name id policy) life all = born w.now life directory name (Directory id) w.names all
+change_covered w (EndName directory name) life all = died w.now life directory name w.names all
+change_covered w (AddName directory name target) life all = born w.now life directory name target w.names all
+change_covered w (MoveName from old to new target) life all = born w.now life to new target (update_first (is_live_name from old) (dies w.now) w.names) (died w.now life from old w.names all)
+change_covered w (EndFileName directory name of) life all = died w.now life directory name w.names all
+change_covered w (Revive directory name of) life all = born w.now life directory name (File of) w.names all
+change_covered w (MakeFile directory name id policy) life all = born w.now life directory name (File id) w.names all
+change_covered w (DropIdle of) life all = dropped (λ v. AllByRecursion (CoveredBefore w.now life) v.names) w of (λ idle. all-filter (CoveredBefore w.now life) (stays_named of) w.names all) (λ busy. all)
+change_covered w change life all = all
+
+-- ---- now and later
+
+-- a name that has no death is a live name of its file
+counted_live : (rows : List NameRow) → AllByRecursion (λ name. (file : ℕ) → is_live_name_of file name ≡ true → list_any (is_live_name_of file) rows ≡ true) rows
+counted_live [] = tt
+counted_live (row ∷ rows) = ((λ file live. rw live refl), all-weaker _ _ rows (λ name h file live. more (is_live_name_of file row) (h file live)) (counted_live rows)) where
+  more : (a : Bool) {b : Bool} → b ≡ true → (a || b) ≡ true
+  more true e = refl
+  more false e = e
+
+current_covers : (w : World) (known : Known) → IsWellFormed w → ((file number : ℕ) (row : VersionRow) → row_of w file number ≡ Some row → known file number ≡ Some row)
+    → AllByRecursion (CoveredFrom w.now (HadLife known)) w.names
+current_covers w known k held = all-weaker (λ name. IsNameRow w.files w.now name × ((file : ℕ) → is_live_name_of file name ≡ true → is_live w file ≡ true))
+    (CoveredFrom w.now (HadLife known)) w.names
+    (λ name h file moment own covered late. life file moment late (h.1 file (undying name file moment own covered late h.0.dead)))
+    (all-both (IsNameRow w.files w.now) (λ name. (file : ℕ) → is_live_name_of file name ≡ true → is_live w file ≡ true) w.names (k.holds Names).each (counted_live w.names)) where
+      undying : (name : NameRow) (file moment : ℕ) → name.target ≡ File file → covers moment name ≡ true → w.now ≤ moment → IfSome name.death (λ death. (name.birth ≤ death) × (death ≤ w.now)) → is_live_name_of file name ≡ true
+      undying name file moment own covered late dead = rw own (by name.death covered dead) where
+        by : (o : Option ℕ) → (nat_le name.birth moment && option_map_or (λ death. nat_lt moment death) o true) ≡ true → IfSome o (λ death. (name.birth ≤ death) × (death ≤ w.now)) → ((file == file) && is_none o) ≡ true
+        by None covered dead = grind (arith, nat_tests)
+        by (Some death) covered dead = absurd (let by_now = dead.1 in grind (arith, nat_tests))
+
+      life : (file moment : ℕ) → w.now ≤ moment → is_live w file ≡ true → HadLife known file moment
+      life file moment late live =
+          let current = has_current w file k live in
+          let last = last_is w file current.row (k.holds Versions).each current.found in
+          let closed = last.is.closed in
+          record { row = current.row; stood = held file current.row.number current.row (rw last.number current.found); lived = rw current.no_end (grind (arith, nat_tests)) }
+
+-- ---- a change
+
+module _ (event : Event) (first w : World) (change : Change) (before : Known) (t : IsTurn event first w change before) where
+  abbrev known : Known
+  known = known_in (after_change w change) before
+
+  held : (file number : ℕ) (row : VersionRow) → row_of (after_change w change) file number ≡ Some row → known file number ≡ Some row
+  held file number row found = rw found refl
+
+  life_on : (file moment : ℕ) → moment < w.now → HadLife (known_in w before) file moment → HadLife known file moment
+  life_on file moment less life =
+      let now = becomes event first w change before t file life.row.number life.row life.stood in
+      record { row = now.row; stood = rw now.on.number now.is; lived = now.on.lives moment less life.lived }
+
+  covered_on : (after_change w change).now ≤ w.now → AllByRecursion (IsCovered known) (after_change w change).names
+  covered_on same = all-weaker (λ name. CoveredBefore w.now (HadLife known) name × CoveredFrom (after_change w change).now (HadLife known) name) (IsCovered known) (after_change w change).names
+      (λ name h file moment own covered. by file moment (h.0 file moment own covered) (h.1 file moment own covered) (cases_lt moment w.now))
+      (all-both (CoveredBefore w.now (HadLife known)) (CoveredFrom (after_change w change).now (HadLife known)) (after_change w change).names
+      (change_covered w change (HadLife known) (all-weaker (IsCovered (known_in w before)) (CoveredBefore w.now (HadLife known)) w.names (λ name h file moment own covered less. life_on file moment less (h file moment own covered)) t.known.covered))
+      (current_covers (after_change w change) known t.formed_after held)) where
+        by : (file moment : ℕ) → (moment < w.now → HadLife known file moment) → ((after_change w change).now ≤ moment → HadLife known file moment) → (moment < w.now) ⊎ (w.now ≤ moment) → HadLife known file moment
+        by file moment past now (inl less) = past less
+        by file moment past now (inr late) = now (omega (arith, late, same))
+
+-- where the time goes on, names and versions stay
+all_covered : (event : Event) (first w : World) (change : Change) (before : Known) → IsTurn event first w change before → AllByRecursion (IsCovered (known_in (after_change w change) before)) (after_change w change).names
+all_covered event first w (Time to) before t = t.known.covered
+all_covered event first w (DropIdle of) before t = covered_on event first w (DropIdle of) before t (dropped (λ v. v.now ≤ w.now) w of (λ idle. omega arith) (λ busy. omega arith))
+all_covered event first w change before t = covered_on event first w change before t (omega arith)
+
+pub change_known : (event : Event) (first w : World) (change : Change) (before : Known) → IsTurn event first w change before → AreKnown (after_change w change) (known_in (after_change w change) before)
+change_known event first w change before t = record {
+  held = held event first w change before t;
+  gone = gone_known event first w change before t;
+  placed = placed_on event first w change before t;
+  covered = all_covered event first w change before t;
+}

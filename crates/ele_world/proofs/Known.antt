@@ -1,0 +1,254 @@
+-- What a history knows of versions: those that are held, and those that were removed as they last stood. One change.
+use Rattle.std.proofs.Common.{◌≡◌, ℕ, ◌-◌, ◌<◌, ◌≤◌, nat_lt, true, false, cond, ◌&&◌, List, [], Option, Some, None, refl, ap, sym, subst, ◌∙◌, arith, is_none}
+use Rattle.std.specs.Prelude.{find, nat_le, unwrap_or}
+use Rattle.std.specs.List.{AllByRecursion}
+use Rattle.std.specs.Option.{option_map_or, option_or, option_map}
+use Rattle.std.proofs.lemmas.Bool.{false≢true}
+use Rattle.std.proofs.lemmas.Bool.Decides.{nat_tests}
+use Rattle.ele_content.specs.declared.cell.Cell.{Cell}
+use Rattle.ele_lists.proofs.Edits.{all-found, all-insert_before, all-not_found, all-remove_first, all-update_first, all-weaker, found_passes}
+use Rattle.ele_world.specs.Change.{current_cells, Change, Time, EndFileName, Revive, MakeFile, Append, Take, DropIdle, after_change, ended_at, next_version, with_end, with_file, with_name, with_version, without_name}
+use Rattle.ele_world.specs.NameRows.{covers}
+use Rattle.ele_world.specs.Tagged.{lives_at}
+use Rattle.ele_world.specs.WellFormed.{AllLater, ArePlaced, IsVersion, Versions, IsWellFormed}
+use Rattle.ele_world.specs.World.{World, is_live, is_version, is_version_after, next_of}
+use Rattle.ele_world.specs.declared.event.Event.{Event}
+use Rattle.ele_world.specs.declared.rows.NameRow.{NameRow}
+use Rattle.ele_world.specs.declared.rows.Target.TheVariants.{File}
+use Rattle.ele_world.specs.declared.rows.VersionRow.{VersionRow}
+use Rattle.ele_world.proofs.Dropped.{dropped}
+use Rattle.ele_world.proofs.May.{May}
+use Rattle.ele_world.proofs.Moves.{IsBehind, IsPast, change_past, Moves, row_of, Same, Ended, Taken, change_moves}
+use Rattle.ele_world.proofs.Stays.{held_past}
+use Rattle.ele_world.proofs.Versions.{IsEndedBy, other_ended}
+
+-- each version that closed, as it last stood
+abbrev pub Known : Type 0
+Known = (file number : ℕ) → Option VersionRow
+
+-- as it is held, or else as it was known before
+abbrev pub known_in : World → Known → Known
+known_in w before file number = option_or (row_of w file number) (before file number)
+
+-- a version of the file that lived at the moment
+pub record HadLife (known : Known) (file moment : ℕ) : Type 0 where
+  pub row : VersionRow
+  pub stood : known file row.number ≡ Some row
+  pub lived : lives_at moment row ≡ true
+
+-- there is one at each moment that the name covers
+abbrev pub IsCovered : Known → NameRow → Type 0
+IsCovered known name = (file moment : ℕ) → name.target ≡ File file → covers moment name ≡ true → HadLife known file moment
+
+-- a version that isn't held any more had ended, and its number isn't given again
+pub record IsGone (w : World) (file number : ℕ) (row : VersionRow) : Type 0 where
+  pub ended : IsEndedBy w.now row
+  pub past : IsPast w file number
+
+pub record AreKnown (w : World) (known : Known) : Type 0 where
+  pub held : (file number : ℕ) (row : VersionRow) → row_of w file number ≡ Some row → known file number ≡ Some row
+  pub gone : (file number : ℕ) (row : VersionRow) → row_of w file number ≡ None → known file number ≡ Some row → IsGone w file number row
+  pub placed : (file number later : ℕ) (row next : VersionRow) → known file number ≡ Some row → known file later ≡ Some next → number < later → IsEndedBy next.closed row
+  pub covered : AllByRecursion (IsCovered known) w.names
+
+neither : (o p : Option VersionRow) → option_or o p ≡ None → (o ≡ None) × (p ≡ None)
+neither None p e = (refl, e)
+neither (Some row) p e = absurd cc
+
+pub or_none : (o : Option VersionRow) → o ≡ option_or o None
+or_none None = refl
+or_none (Some row) = refl
+
+-- ---- a version that is held
+
+pub record IsHeldRow (w : World) (file number : ℕ) (row : VersionRow) : Type 0 where
+  pub own : row.file ≡ file
+  pub numbered : row.number ≡ number
+  pub is : IsVersion w.files w.now row
+
+pub held_row : (w : World) (file number : ℕ) (row : VersionRow) → IsWellFormed w → row_of w file number ≡ Some row → IsHeldRow w file number row
+held_row w file number row k found =
+    let passes = found_passes (is_version file number) w.versions row found in
+    record { own = grind (arith, nat_tests); numbered = grind (arith, nat_tests); is = all-found (is_version file number) (IsVersion w.files w.now) w.versions row found (k.holds Versions).each }
+
+found_past : (w : World) (file number : ℕ) (row : VersionRow) → IsWellFormed w → row_of w file number ≡ Some row → IsPast w file number
+found_past w file number row k found =
+    let it = held_row w file number row k found in
+    subst (λ f. IsPast w f number) it.own (subst (λ n. IsPast w row.file n) it.numbered (held_past w row k it.is))
+
+-- its end, if it has one, has come
+ended_row : (w : World) (row : VersionRow) → IsVersion w.files w.now row → is_none row.ended ≡ false → IsEndedBy w.now row
+ended_row w row is ended = by row.ended refl where
+  by : (o : Option ℕ) → row.ended ≡ o → IsEndedBy w.now row
+  by None e = absurd (false≢true (sym ended ∙ ap is_none e))
+  by (Some at) e = record { ended = at; is = e; by_now = (let bound = rw e at is.ended in bound.1) }
+
+known_past : (w : World) (known : Known) (file number : ℕ) (row : VersionRow) → IsWellFormed w → AreKnown w known → known file number ≡ Some row → IsPast w file number
+known_past w known file number row k s is = by (row_of w file number) refl where
+  by : (o : Option VersionRow) → row_of w file number ≡ o → IsPast w file number
+  by None e = (s.gone file number row e is).past
+  by (Some held) e = found_past w file number held k e
+
+-- ---- what becomes of a version
+
+-- it is the same, or it ended at the moment
+pub record IsOn (now : ℕ) (old row : VersionRow) : Type 0 where
+  pub closed : row.closed ≡ old.closed
+  pub number : row.number ≡ old.number
+  pub ended : (at : ℕ) → IsEndedBy at old → IsEndedBy at row
+  pub lives : (moment : ℕ) → moment < now → lives_at moment old ≡ true → lives_at moment row ≡ true
+
+same_on : (now : ℕ) (row : VersionRow) → IsOn now row row
+same_on now row = record { closed = refl; number = refl; ended = λ at h. h; lives = λ moment less h. h }
+
+ended_on : (now : ℕ) (row : VersionRow) → IsOn now row (ended_at now row)
+ended_on now row = record {
+  closed = refl;
+  number = refl;
+  ended = λ at h. record { ended = h.ended; is = ap (λ (o : Option ℕ). Some (unwrap_or o now)) h.is; by_now = h.by_now };
+  lives = λ moment less h. by moment row.ended less h;
+} where
+  by : (moment : ℕ) (o : Option ℕ) → moment < now → (nat_le row.closed moment && option_map_or (λ ended. nat_lt moment ended) o true) ≡ true → (nat_le row.closed moment && nat_lt moment (unwrap_or o now)) ≡ true
+  by moment None less h = grind (arith, nat_tests)
+  by moment (Some at) less h = h
+
+pub record Becomes (now : ℕ) (old : VersionRow) (found : Option VersionRow) : Type 0 where
+  pub row : VersionRow
+  pub is : found ≡ Some row
+  pub on : IsOn now old row
+
+-- a version that a change brings closes then
+module _ (file number : ℕ) where
+  abbrev ClosesAt : ℕ → VersionRow → Type 0
+  ClosesAt now row = is_version file number row ≡ true → row.closed ≡ now
+
+  new_closes : (w : World) (of opened : ℕ) (cells : List Cell) → AllByRecursion (ClosesAt w.now) (with_end w of) → AllByRecursion (ClosesAt w.now) (with_version w of opened cells).versions
+  new_closes w of opened cells = all-insert_before (is_version_after of (next_of w.files of)) (ClosesAt w.now) (next_version w of opened cells) (with_end w of) (λ is. refl)
+
+  ended_closes : (w : World) (of : ℕ) → AllByRecursion (ClosesAt w.now) w.versions → AllByRecursion (ClosesAt w.now) (with_end w of)
+  ended_closes w of = all-update_first (is_version of (next_of w.files of - 1)) (ClosesAt w.now) (ClosesAt w.now) (ended_at w.now) w.versions (λ row h. h) (λ row h. h)
+
+  change_closes : (w : World) (change : Change) → ((now : ℕ) → AllByRecursion (ClosesAt now) w.versions) → AllByRecursion (ClosesAt (after_change w change).now) (after_change w change).versions
+  change_closes w (MakeFile directory name id policy) all = let v = with_name (with_file w id policy) directory name (File id) in new_closes v id w.now [] (ended_closes v id (all w.now))
+  change_closes w (Append of opened cells) all = new_closes w of opened cells (ended_closes w of (all w.now))
+  change_closes w (Revive directory name of) all = let v = with_name w directory name (File of) in new_closes v of w.now (current_cells w of) (ended_closes v of (all w.now))
+  change_closes w (EndFileName directory name of) all = elim (is_live (without_name w directory name) of) as (λ b. AllByRecursion (ClosesAt w.now) (cond b w.versions (with_end w of))) [
+    | true ↦ all w.now
+    | false ↦ ended_closes w of (all w.now)
+  ]
+  change_closes w (Take of taken) all = all-remove_first (is_version of taken) (ClosesAt w.now) w.versions (all w.now)
+  change_closes w (DropIdle of) all = dropped (λ v. AllByRecursion (ClosesAt v.now) v.versions) w of (λ idle. all w.now) (λ busy. all w.now)
+  change_closes w change all = all (after_change w change).now
+
+-- ---- one change
+
+-- so it was known and is the same or ended, or it is new
+data From (w u : World) (known : Known) (file number : ℕ) (row : VersionRow) : Type 0 where
+  Was : (old : VersionRow) → known file number ≡ Some old → IsOn w.now old row → From w u known file number row
+  New : row_of w file number ≡ None → row_of u file number ≡ Some row → row.closed ≡ u.now → From w u known file number row
+
+-- the time never goes back
+change_later : (event : Event) (first w : World) (change : Change) → May event first w change → w.now ≤ (after_change w change).now
+change_later event first w (Time to) may = may.0
+change_later event first w (DropIdle of) may = dropped (λ v. w.now ≤ v.now) w of (λ idle. omega arith) (λ busy. omega arith)
+change_later event first w change may = omega arith
+
+-- what becomes of a version whose number was given, by what was known of it
+data Turned (w : World) (known was is : Option VersionRow) : Type 0 where
+  Stays : is ≡ was → Turned w known was is
+  Ends : (row : VersionRow) → was ≡ Some row → is ≡ Some (ended_at w.now row) → Turned w known was is
+  Goes : (row : VersionRow) → was ≡ Some row → is ≡ None → known ≡ Some row → IsEndedBy w.now row → Turned w known was is
+
+-- a change by an event, in a world where the versions are known
+pub record IsTurn (event : Event) (first w : World) (change : Change) (before : Known) : Type 0 where
+  pub placed : AllLater ArePlaced first.versions
+  pub first_held : (file number : ℕ) (row : VersionRow) → row_of first file number ≡ Some row → before file number ≡ Some row
+  pub formed : IsWellFormed w
+  pub formed_after : IsWellFormed (after_change w change)
+  pub may : May event first w change
+  pub known : AreKnown w (known_in w before)
+
+module _ (event : Event) (first w : World) (change : Change) (before : Known) (t : IsTurn event first w change before) where
+  abbrev after : World
+  after = after_change w change
+
+  abbrev Turning : ℕ → ℕ → Type 0
+  Turning file number = Turned w (before file number) (row_of w file number) (row_of after file number)
+
+  turned : (file number : ℕ) → IsPast w file number → Turning file number
+  turned file number past = by (row_of w file number) refl (change_moves event first file number w change t.placed t.may past) where
+    by : (o : Option VersionRow) → row_of w file number ≡ o → Moves event first w.now w.versions file number (row_of w file number) (row_of after file number) → Turning file number
+    by o e (Same same) = Stays same
+    by None e (Ended ended) = Stays (ended ∙ ap (option_map (ended_at w.now)) e ∙ sym e)
+    by (Some row) e (Ended ended) = Ends row e (ended ∙ ap (option_map (ended_at w.now)) e)
+    by o e (Taken v take same none) =
+        let found : row_of w file number ≡ Some take.row = ap (find (is_version file number)) (same ∙ take.same) ∙ take.found in
+        Goes take.row found none (t.first_held file number take.row take.found) (ended_row w take.row (held_row w file number take.row t.formed found).is take.ended)
+
+  pub becomes : (file number : ℕ) (old : VersionRow) → known_in w before file number ≡ Some old → Becomes w.now old (known_in after before file number)
+  becomes file number old is = by (turned file number (known_past w (known_in w before) file number old t.formed t.known is)) where
+    by : Turning file number → Becomes w.now old (known_in after before file number)
+    by (Stays e) = record { row = old; is = rw e is; on = same_on w.now old }
+    by (Ends row e ended) = let was = rw e at is in let one : row ≡ old = cc in record { row = ended_at w.now old; is = rw (ended, one) refl; on = ended_on w.now old }
+    by (Goes row e none known ended) = let was = rw e at is in let one : row ≡ old = cc in record { row = old; is = rw (none, known, one) refl; on = same_on w.now old }
+
+  -- a new version's number wasn't given
+  not_given : (file number : ℕ) (row : VersionRow) → row_of w file number ≡ None → row_of after file number ≡ Some row → IsPast w file number → ⊥
+  not_given file number row none found past = by (turned file number past) where
+    by : Turning file number → ⊥
+    by (Stays e) = absurd cc
+    by (Ends row e ended) = absurd cc
+    by (Goes row e gone known ended) = absurd cc
+
+  from : (file number : ℕ) (row : VersionRow) → known_in after before file number ≡ Some row → From w after (known_in w before) file number row
+  from file number row is = by (known_in w before file number) refl where
+    by : (o : Option VersionRow) → known_in w before file number ≡ o → From w after (known_in w before) file number row
+    by (Some old) e = let next = becomes file number old e in let now = next.is in let same : next.row ≡ row = cc in Was old e (subst (IsOn w.now old) same next.on)
+    by None e =
+        let none = neither (row_of w file number) (before file number) e in
+        let here : row_of after file number ≡ Some row = or_none (row_of after file number) ∙ subst (λ o. option_or (row_of after file number) o ≡ Some row) none.1 is in
+        let others = all-not_found (is_version file number) w.versions none.0 in
+        let closes = change_closes file number w change (λ now. all-weaker (λ row. is_version file number row ≡ false) (ClosesAt file number now) w.versions (λ row other is. absurd (false≢true (sym other ∙ is))) others) in
+        New none.0 here (all-found (is_version file number) (ClosesAt file number after.now) after.versions row here closes (found_passes (is_version file number) after.versions row here))
+
+  pub gone_known : (file number : ℕ) (row : VersionRow) → row_of after file number ≡ None → known_in after before file number ≡ Some row → IsGone after file number row
+  gone_known file number row none is = by (row_of w file number) refl where
+    known : before file number ≡ Some row
+    known = let was = rw none at is in was
+
+    on : IsPast w file number → IsEndedBy w.now row → IsGone after file number row
+    on past ended = record { ended = record { ended = ended.ended; is = ended.is; by_now = omega (arith, ended.by_now, change_later event first w change t.may) }; past = change_past event first w change file number t.may past }
+
+    taken : Turning file number → (held : VersionRow) → row_of w file number ≡ Some held → IsEndedBy w.now row
+    taken (Stays e) held found = absurd cc
+    taken (Ends other e ended) held found = absurd cc
+    taken (Goes other e gone was ended) held found = let one : other ≡ row = cc in subst (IsEndedBy w.now) one ended
+
+    by : (o : Option VersionRow) → row_of w file number ≡ o → IsGone after file number row
+    by None e = let gone = t.known.gone file number row e (rw e known) in on gone.past gone.ended
+    by (Some held) e = let past = found_past w file number held t.formed e in on past (taken (turned file number past) held e)
+
+  -- a version before a new one has ended
+  before_new : (file number later : ℕ) (row next : VersionRow) → known_in after before file number ≡ Some row → row_of after file later ≡ Some next → number < later → IsEndedBy after.now row
+  before_new file number later row next is new less = by (row_of after file number) refl where
+    last : IsHeldRow after file later next
+    last = held_row after file later next t.formed_after new
+
+    by : (o : Option VersionRow) → row_of after file number ≡ o → IsEndedBy after.now row
+    by None e = (gone_known file number row e is).ended
+    by (Some held) e =
+        let was = rw e at is in
+        let same : held ≡ row = cc in
+        let it = held_row after file number held t.formed_after e in
+        let numbered : next.number < next_of after.files held.file = rw it.own (subst (λ f. next.number < next_of after.files f) last.own last.is.numbered) in
+        subst (IsEndedBy after.now) same (other_ended after.files after.now held it.is (λ more. absurd (omega (arith, numbered, more, it.numbered, last.numbered, less))))
+
+  pub placed_on : (file number later : ℕ) (row next : VersionRow) → known_in after before file number ≡ Some row → known_in after before file later ≡ Some next → number < later → IsEndedBy next.closed row
+  placed_on file number later row next is next_is less = by (from file later next next_is) (from file number row is) where
+    by : From w after (known_in w before) file later next → From w after (known_in w before) file number row → IsEndedBy next.closed row
+    by (New none found closed) from_row = rw closed (before_new file number later row next is found less)
+    by (Was old_next e on) (New none found closed) =
+        let it = held_row after file number row t.formed_after found in
+        let past = known_past w (known_in w before) file later old_next t.formed t.known e in
+        absurd (not_given file number row none found (record { given = past.given; first = omega (arith, it.numbered, it.is.first); past = all-weaker (IsBehind file later) (IsBehind file number) w.files (λ of behind own. let more = behind own in omega (arith, more, less)) past.past }))
+    by (Was old_next e on) (Was old f on_row) = rw on.closed (on_row.ended old_next.closed (t.known.placed file number later old old_next f e less))

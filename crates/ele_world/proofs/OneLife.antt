@@ -1,0 +1,159 @@
+-- In a run one version of a file lived at each moment that a name of the file covers.
+use Rattle.std.proofs.Common.{◌≡◌, ℕ, ◌<◌, ◌≤◌, true, false, List, [], ◌∷◌, Option, Some, None, refl, ap, sym, subst, ◌∙◌, arith, ◌⊎◌, inl, inr}
+use Rattle.std.specs.Prelude.{find, Ok, Err}
+use Rattle.std.specs.List.{AllByRecursion}
+use Rattle.std.specs.Option.{option_or}
+use Rattle.std.proofs.lemmas.Bool.{false≢true, cases_lt}
+use Rattle.std.proofs.lemmas.Bool.Decides.{nat_tests}
+use Rattle.ele_lists.proofs.Cuts.{any-found as first_passing}
+use Rattle.ele_lists.proofs.Edits.{all-found, all-not_found, all-weaker, found_passes}
+use Rattle.ele_lists.proofs.Found.{any-found}
+use Rattle.ele_world.specs.Bounds.{Bounds, AreBounds}
+use Rattle.ele_world.specs.Change.{Change, after_change, after_changes}
+use Rattle.ele_world.specs.Ever.{last_stood}
+use Rattle.ele_world.specs.OneLife.{HasOneLife, NamesOneLife, OneLife}
+use Rattle.ele_world.specs.Run.{run_of, IsEvent}
+use Rattle.ele_world.specs.Step.{plan, step}
+use Rattle.ele_world.specs.Tagged.{had_closed, had_life, held_or_forgotten, last_number, lives_at, version_living}
+use Rattle.ele_world.specs.WellFormed.{AllLater, ArePlaced, Versions, IsWellFormed}
+use Rattle.ele_world.specs.World.{World, fresh_world, is_held, is_version}
+use Rattle.ele_world.specs.declared.event.Event.{Event}
+use Rattle.ele_world.specs.declared.refusal.Refusal.TheVariants.{Forgotten}
+use Rattle.ele_world.specs.declared.rows.VersionRow.{VersionRow}
+use Rattle.ele_world.proofs.Allowed.{allowed}
+use Rattle.ele_world.proofs.Covered.{change_known}
+use Rattle.ele_world.proofs.Keeps.{change_keeps, reached}
+use Rattle.ele_world.proofs.Known.{Known, known_in, HadLife, IsCovered, AreKnown, or_none}
+use Rattle.ele_world.proofs.Moves.{row_of}
+use Rattle.ele_world.proofs.May.{MayAll}
+use Rattle.ele_world.proofs.StepKeeps.{fresh_is, step_keeps, run_keeps}
+use Rattle.ele_world.proofs.Versions.{IsEndedBy, IsFound, all_found}
+
+-- ---- events
+
+same_known : (w : World) (known other : Known) → ((file number : ℕ) → other file number ≡ known file number) → AreKnown w known → AreKnown w other
+same_known w known other same s = record {
+  held = λ file number row found. same file number ∙ s.held file number row found;
+  gone = λ file number row none is. s.gone file number row none (sym (same file number) ∙ is);
+  placed = λ file number later row next is next_is less. s.placed file number later row next (sym (same file number) ∙ is) (sym (same file later) ∙ next_is) less;
+  covered = all-weaker (IsCovered known) (IsCovered other) w.names (λ name h file moment own covered. let life = h file moment own covered in record { row = life.row; stood = same file life.row.number ∙ life.stood; lived = life.lived }) s.covered;
+}
+
+-- what is known twice is known
+known_once : (o p : Option VersionRow) → option_or o (option_or o p) ≡ option_or o p
+known_once None p = refl
+known_once (Some row) p = refl
+
+known_rest : (o p q : Option VersionRow) → option_or (option_or o p) q ≡ option_or o (option_or p q)
+known_rest None p q = refl
+known_rest (Some row) p q = refl
+
+all_known : (event : Event) (first w : World) (changes : List Change) (before : Known) → AllLater ArePlaced first.versions
+    → ((file number : ℕ) (row : VersionRow) → row_of first file number ≡ Some row → before file number ≡ Some row)
+    → IsEvent event → IsWellFormed w → MayAll event first w changes → AreKnown w (known_in w before) → AreKnown (after_changes w changes) (known_in (after_changes w changes) before)
+all_known event first w [] before placed first_held is k may s = s
+all_known event first w (change ∷ changes) before placed first_held is k may s =
+    let k' = change_keeps event first w change is may.0 k in
+    all_known event first (after_change w change) changes before placed first_held is k' may.1
+    (change_known event first w change before (record { placed = placed; first_held = first_held; formed = k; formed_after = k'; may = may.0; known = s }))
+
+-- ---- runs
+
+abbrev known_after : World → List Event → Known → Known
+known_after w events before file number = option_or (last_stood w events file number) (before file number)
+
+run_known : (w : World) (events : List Event) (before : Known) → AllByRecursion IsEvent events → IsWellFormed w → AreKnown w (known_in w before) → AreKnown (run_of w events) (known_after w events before)
+run_known w [] before are k s = s
+run_known w (event ∷ events) before are k s =
+    let by = reached event w (plan w event) (allowed w event k) in
+    let v = (step w event).1 in
+    let known = known_in w before in
+    let again : AreKnown w (known_in w known) = same_known w known (known_in w known) (λ file number. known_once (row_of w file number) (before file number)) s in
+    let then : AreKnown v (known_in v known) = rw by.is (all_known event w w by.changes known (k.holds Versions).placed s.held are.0 k by.may again) in
+    same_known (run_of v events) (known_after v events known) (known_after w (event ∷ events) before)
+    (λ file number. known_rest (last_stood v events file number) (row_of w file number) (before file number))
+    (run_known v events known are.1 (step_keeps w event are.0 k) then)
+
+abbrev nothing : Known
+nothing file number = None
+
+fresh_known : (limits : Bounds) → AreKnown (fresh_world limits) (known_in (fresh_world limits) nothing)
+fresh_known limits = record {
+  held = λ file number row found. absurd cc;
+  gone = λ file number row none is. absurd cc;
+  placed = λ file number later row next is next_is less. absurd cc;
+  covered = tt;
+}
+
+ever_known : (limits : Bounds) (events : List Event) → AreBounds limits → AllByRecursion IsEvent events → AreKnown (run_of (fresh_world limits) events) (last_stood (fresh_world limits) events)
+ever_known limits events bounds are =
+    let first = fresh_world limits in
+    same_known (run_of first events) (known_after first events nothing) (last_stood first events) (λ file number. or_none (last_stood first events file number))
+    (run_known first events nothing are (fresh_is limits bounds) (fresh_known limits))
+
+-- ---- one life
+
+-- of two versions the one that had ended when the other closed doesn't live with it
+not_both : (moment : ℕ) (row next : VersionRow) → IsEndedBy next.closed row → lives_at moment row ≡ true → lives_at moment next ≡ true → ⊥
+not_both moment row next ended lives lives_next = let by_then = ended.by_now in let until = rw ended.is at lives in grind (arith, nat_tests)
+
+module _ (first : World) (events : List Event) (k : IsWellFormed (run_of first events)) (s : AreKnown (run_of first events) (last_stood first events)) (file moment : ℕ) (life : HadLife (last_stood first events) file moment) where
+  abbrev w : World
+  w = run_of first events
+
+  only : (number : ℕ) (other : VersionRow) → last_stood first events file number ≡ Some other → lives_at moment other ≡ true → number ≡ life.row.number
+  only number other stood lives = by (cases_lt number life.row.number) (cases_lt life.row.number number) where
+    by : (number < life.row.number) ⊎ (life.row.number ≤ number) → (life.row.number < number) ⊎ (number ≤ life.row.number) → number ≡ life.row.number
+    by (inl less) h = absurd (not_both moment other life.row (s.placed file number life.row.number other life.row stood life.stood less) lives life.lived)
+    by (inr more) (inl less) = absurd (not_both moment life.row other (s.placed file life.row.number number life.row other life.stood stood less) life.lived lives)
+    by (inr more) (inr less) = omega (arith, more, less)
+
+  -- a version that is found for the moment is this one
+  found_is : (row : VersionRow) → find (had_life file moment) w.versions ≡ Some row → (row ≡ life.row) × (row_of w file life.row.number ≡ Some row)
+  found_is row found =
+      let passes = found_passes (had_life file moment) w.versions row found in
+      let own : row.file ≡ file = grind (arith, nat_tests) in
+      let lives : lives_at moment row ≡ true = grind (arith, nat_tests) in
+      let itself : row_of w row.file row.number ≡ Some row = all-found (had_life file moment) (IsFound w.versions) w.versions row found (all_found w.versions (k.holds Versions).placed) in
+      let here : row_of w file row.number ≡ Some row = subst (λ f. row_of w f row.number ≡ Some row) own itself in
+      let number : row.number ≡ life.row.number = only row.number row (s.held file row.number row here) lives in
+      let there : row_of w file life.row.number ≡ Some row = subst (λ n. row_of w file n ≡ Some row) number here in
+      let was = life.stood in
+      let is = s.held file life.row.number row there in
+      (cc, there)
+
+  held_reads : is_held w file life.row.number ≡ true → version_living w.versions file moment ≡ Ok life.row
+  held_reads held = by (find (had_life file moment) w.versions) refl where
+    one : (row : VersionRow) × (row_of w file life.row.number ≡ Some row)
+    one = first_passing (is_version file life.row.number) w.versions held
+
+    by : (o : Option VersionRow) → find (had_life file moment) w.versions ≡ o → held_or_forgotten o (last_number (had_closed file moment) w.versions) ≡ Ok life.row
+    by None e =
+        let stood = s.held file life.row.number one.0 one.1 in
+        let was = life.stood in
+        let same : one.0 ≡ life.row = cc in
+        let passes = found_passes (is_version file life.row.number) w.versions one.0 one.1 in
+        let fails = all-found (is_version file life.row.number) (λ row. had_life file moment row ≡ false) w.versions one.0 one.1 (all-not_found (had_life file moment) w.versions e) in
+        let lives : lives_at moment one.0 ≡ true = rw same life.lived in
+        absurd (let no : true ≡ false = grind (arith, nat_tests) in false≢true (sym no))
+    by (Some row) e = ap Ok (found_is row e).0
+
+  gone_forgotten : is_held w file life.row.number ≡ false → (before : Option ℕ) × (version_living w.versions file moment ≡ Err (Forgotten before))
+  gone_forgotten gone = (last_number (had_closed file moment) w.versions, by (find (had_life file moment) w.versions) refl) where
+    by : (o : Option VersionRow) → find (had_life file moment) w.versions ≡ o → held_or_forgotten o (last_number (had_closed file moment) w.versions) ≡ Err (Forgotten (last_number (had_closed file moment) w.versions))
+    by None e = refl
+    by (Some row) e =
+        let found = (found_is row e).1 in
+        let held = any-found (is_version file life.row.number) (is_version file life.row.number) w.versions row found (found_passes (is_version file life.row.number) w.versions row found) in
+        absurd (false≢true (sym gone ∙ held))
+
+  has_one_life : HasOneLife first events file moment
+  has_one_life = record { row = life.row; stood = life.stood; lived = life.lived; only = only; held = held_reads; gone = gone_forgotten }
+
+pub one_life : OneLife
+one_life limits events bounds are =
+    let first = fresh_world limits in
+    let k = run_keeps first events are (fresh_is limits bounds) in
+    let s = ever_known limits events bounds are in
+    all-weaker (IsCovered (last_stood first events)) (NamesOneLife first events) (run_of first events).names
+    (λ name h file moment own covered. has_one_life first events k s file moment (h file moment own covered)) s.covered

@@ -1,0 +1,88 @@
+-- A version that is held has the cells that it had when it closed.
+use Rattle.std.proofs.Common.{◌≡◌, ℕ, List, [], ◌∷◌, Option, Some, None, IfSome, refl, subst}
+use Rattle.std.specs.Prelude.{find, Ok}
+use Rattle.std.specs.List.{AllByRecursion}
+use Rattle.ele_content.specs.declared.cell.Cell.{Cell}
+use Rattle.ele_content.specs.Content.{content_of}
+use Rattle.ele_lists.proofs.Edits.{all-found, all-weaker, all-both}
+use Rattle.ele_time_path.specs.declared.tagged.TaggedPath.{TaggedPath}
+use Rattle.ele_world.specs.Change.{Change, after_change, after_changes}
+use Rattle.ele_world.specs.ReadsAsClosed.{ReadsRow}
+use Rattle.ele_world.specs.Run.{run_of, IsEvent}
+use Rattle.ele_world.specs.Step.{plan, step}
+use Rattle.ele_world.specs.Tagged.{version_at}
+use Rattle.ele_world.specs.WellFormed.{AllLater, ArePlaced, IsVersion, Versions, Readers, IsHeldRead, IsWellFormed}
+use Rattle.ele_world.specs.World.{World, is_version, reads_by, is_handle}
+use Rattle.ele_world.specs.declared.event.Event.{Event}
+use Rattle.ele_world.specs.declared.event.Event.TheVariants.{Read}
+use Rattle.ele_world.specs.declared.event.Source.TheVariants.{Tagged, Of}
+use Rattle.ele_world.specs.declared.reply.Reply.TheVariants.{Bytes}
+use Rattle.ele_world.specs.declared.rows.Reads.TheVariants.{Version}
+use Rattle.ele_world.specs.declared.rows.VersionRow.{VersionRow}
+use Rattle.ele_world.proofs.Allowed.{allowed}
+use Rattle.ele_world.proofs.Keeps.{reached}
+use Rattle.ele_world.proofs.May.{MayAll}
+use Rattle.ele_lists.proofs.Cuts.{any-found}
+use Rattle.ele_world.proofs.Meant.{is_at}
+use Rattle.ele_world.proofs.OpenStays.{has_row}
+use Rattle.ele_world.proofs.Moves.{IsPast, change_past, Moves, Same, Ended, Taken, change_moves}
+use Rattle.ele_world.proofs.Stays.{held_past}
+use Rattle.ele_world.proofs.StepKeeps.{step_keeps, run_keeps}
+use Rattle.ele_world.proofs.Versions.{IsFound, all_found}
+
+-- ---- its cells stay
+
+abbrev HaveCells : List Cell → Option VersionRow → Type 0
+HaveCells cells found = IfSome found (λ row. row.cells ≡ cells)
+
+-- the version's number was given, and where it is held it has the cells
+record IsFixed (w : World) (file number : ℕ) (cells : List Cell) : Type 0 where
+  past : IsPast w file number
+  same : HaveCells cells (find (is_version file number) w.versions)
+
+module _ (event : Event) (first : World) (placed : AllLater ArePlaced first.versions) (file number : ℕ) (cells : List Cell) where
+  moved : (now : ℕ) (rows : List VersionRow) (before after : Option VersionRow) → HaveCells cells before → Moves event first now rows file number before after → HaveCells cells after
+  moved now rows before after have (Same e) = rw e have
+  moved now rows None after have (Ended e) = rw e tt
+  moved now rows (Some row) after have (Ended e) = rw e have
+  moved now rows before after have (Taken w may same e) = rw e tt
+
+  all_fixed : (w : World) (changes : List Change) → MayAll event first w changes → IsFixed w file number cells → IsFixed (after_changes w changes) file number cells
+  all_fixed w [] may fixed = fixed
+  all_fixed w (change ∷ changes) may fixed = all_fixed (after_change w change) changes may.1 (record {
+    past = change_past event first w change file number may.0 fixed.past;
+    same = moved w.now w.versions _ _ fixed.same (change_moves event first file number w change placed may.0 fixed.past);
+  })
+
+run_fixed : (w : World) (events : List Event) (file number : ℕ) (cells : List Cell) → AllByRecursion IsEvent events → IsWellFormed w → IsFixed w file number cells → IsFixed (run_of w events) file number cells
+run_fixed w [] file number cells are k fixed = fixed
+run_fixed w (event ∷ events) file number cells are k fixed =
+    let by = reached event w (plan w event) (allowed w event k) in
+    run_fixed ((step w event).1) events file number cells are.1 (step_keeps w event are.0 k)
+    (rw by.is (all_fixed event w (k.holds Versions).placed file number cells w by.changes by.may fixed))
+
+-- ---- what is read
+
+module _ (w : World) (k : IsWellFormed w) (row : VersionRow) (fixed : IsFixed w row.file row.number row.cells) where
+  cells_of : (held : VersionRow) → find (is_version row.file row.number) w.versions ≡ Some held → held.cells ≡ row.cells
+  cells_of held found = subst (HaveCells row.cells) found fixed.same
+
+  tagged_reads : (tagged : TaggedPath) (held : VersionRow) → version_at w tagged ≡ Ok held → held.file ≡ row.file → held.number ≡ row.number → (step w (Read (Tagged tagged))).0 ≡ Bytes (content_of row.cells)
+  tagged_reads tagged held meant own number =
+      let at = is_at w tagged held meant in
+      let is : IsFound w.versions held = all-found at.passes (IsFound w.versions) w.versions held at.found (all_found w.versions (k.holds Versions).placed) in
+      rw (meant, cells_of held (rw (← own, ← number) is)) refl
+
+  handle_reads : (handle : ℕ) → reads_by w.handles handle ≡ Ok (Version row.file row.number) → (step w (Read (Of handle))).0 ≡ Bytes (content_of row.cells)
+  handle_reads handle reads =
+      let its = has_row w handle (Version row.file row.number) reads in
+      let held = any-found (is_version row.file row.number) w.versions (subst (IsHeldRead w.versions) its.its (all-found (is_handle handle) (λ by. IsHeldRead w.versions by.reads) w.handles its.row its.found (k.holds Readers))) in
+      rw (reads, held.1, cells_of held.0 held.1) refl
+
+pub reads_as_closed : (w : World) (events : List Event) → AllByRecursion IsEvent events → IsWellFormed w → AllByRecursion (ReadsRow (run_of w events)) w.versions
+reads_as_closed w events are k = all-weaker (λ row. IsVersion w.files w.now row × IsFound w.versions row) (ReadsRow (run_of w events)) w.versions
+    (λ row h.
+    let then = run_keeps w events are k in
+    let fixed = run_fixed w events row.file row.number row.cells are k (record { past = held_past w row k h.0; same = rw h.1 refl }) in
+    record { tagged = tagged_reads (run_of w events) then row fixed; handle = handle_reads (run_of w events) then row fixed })
+    (all-both (IsVersion w.files w.now) (IsFound w.versions) w.versions (k.holds Versions).each (all_found w.versions (k.holds Versions).placed))
