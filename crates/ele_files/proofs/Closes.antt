@@ -13,7 +13,7 @@ use Rattle.ele_files.specs.Inside.{draft_in, handle_in, held_in, Keeps, file_row
 use Rattle.ele_files.specs.declared.file.File.{File}
 use Rattle.ele_files.proofs.Drafts.{same_drafts, dropped, drafts_apart, its_file}
 use Rattle.ele_files.proofs.Looks.{IsSeen}
-use Rattle.ele_files.proofs.Rows.{draft-found, handle_file-shown, left-shown, no-file, next-found, its_id, file_past}
+use Rattle.ele_files.proofs.Rows.{draft-found, reads_of, reads_by-shown, handle_file-shown, left-shown, no-file, next-found, its_id, file_past}
 use Rattle.ele_files.proofs.Stock.{draft_lives, draft_apart}
 use Rattle.ele_lists.specs.Lists.{remove_first}
 use Rattle.ele_lists.proofs.Cuts.{remove_first-unfound}
@@ -31,6 +31,7 @@ use Rattle.ele_world.specs.Change.{ShutHandle, EndDraft, after_changes}
 use Rattle.ele_world.specs.World.{World, file_by, next_of}
 use Rattle.ele_sessions.specs.Sessions as sessions
 use Rattle.ele_world.specs.World as world
+use Rattle.ele_sessions.specs.declared.reads.Reads.TheVariants as session_reads
 
 -- the map that comes out with the handle
 abbrev pub given : AllSessions → ℕ → Option Layout
@@ -82,7 +83,7 @@ module _ (s : Store) (files : List File) (ss : AllSessions) (handle : ℕ) where
 
     module _ (t : Store) where
       pub leaves : IsGivenUp s t (given ss handle) → IsSeen t files (closed ss handle) (left_by shown handle)
-      leaves = rw (handle_file-shown ss.handles handle) (by (sessions.handle_file ss.handles handle)) where
+      leaves = rw (reads_by-shown ss.handles handle) (by (sessions.handle_file ss.handles handle)) where
         stays : (file : ℕ) (b : Bool) → left_drafts b file ss.drafts ≡ ss.drafts → t ≡ s → IsSeen t files (without_handle ss handle file b) (changed_at shown 0 (leaving handle file false))
         stays file b drafts gone = record {
           keeps = rw gone (same_drafts s files ss (without_handle ss handle file b) drafts kept);
@@ -96,7 +97,7 @@ module _ (s : Store) (files : List File) (ss : AllSessions) (handle : ℕ) where
             let seen = dropped s t files ss (without_handle ss handle file false) kept file d found gone refl in
             record { keeps = seen.keeps; shows = seen.shows ∙ rw handles_left refl }
 
-        by : (o : Option ℕ) → IsGivenUp s t (option_and_then (λ answer. answer.1) (closing_of ss handle o)) → IsSeen t files (closed_of ss handle o) (left_of shown handle o)
+        by : (o : Option ℕ) → IsGivenUp s t (option_and_then (λ answer. answer.1) (closing_of ss handle o)) → IsSeen t files (closed_of ss handle o) (left_of shown handle (reads_of (option_map session_reads.Draft o)))
         by None gone = record { keeps = rw gone kept; shows = rw gone refl }
         by (Some file) gone = rw (last_shown file) (ends file (list_any (is_writer file) (left_handles ss handle)) (find (is_draft file) ss.drafts) refl gone)
 

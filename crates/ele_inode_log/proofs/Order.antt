@@ -1,18 +1,19 @@
 -- Rows in order, after each change, and which of them lives at a moment.
-use Rattle.std.proofs.Common.{◌≡◌, ℕ, ◌<◌, ◌≤◌, Bool, true, false, cond, ◌&&◌, List, [], ◌∷◌, ◌++◌, reverse, Option, Some, None, refl, ap, ◌∙◌, arith}
-use Rattle.std.specs.Prelude.{find, nat_lt, IfSome, IsSomeAnd}
-use Rattle.std.specs.Option.{option_and_then, option_or, option_map_or, ForSome}
-use Rattle.std.specs.List.{AllByRecursion}
+use Rattle.std.proofs.Common.{◌≡◌, ℕ, ◌<◌, ◌≤◌, Bool, true, false, cond, ◌&&◌, List, [], ◌∷◌, ◌++◌, reverse, Option, Some, None, refl, sym, ap, ◌∙◌, arith}
+use Rattle.std.specs.Prelude.{find, nat_lt, is_some, IfSome, IsSomeAnd}
+use Rattle.std.specs.Option.{option_or, option_map_or, ForSome}
+use Rattle.std.specs.List.{AllByRecursion, list_any}
 use Rattle.std.proofs.lemmas.Bool.Decides.{nat_tests}
 use Rattle.ele_inode_log.specs.declared.row.VersionRow.{VersionRow}
 use Rattle.ele_inode_log.specs.Rows.{AllLater, AreInOrder, Precedes, EndsInTime, CanEndAt, last_of, update_last, ended_at, has_closed_by, ends_after, lives_at}
-use Rattle.ele_inode_log.specs.LogInside.{unless_ended}
+use Rattle.ele_lists.specs.Last.{last_passing, passing}
 use Rattle.ele_lists.specs.Lists.{remove_first}
 use Rattle.ele_lists.specs.Chunks.{Sinks}
 use Rattle.ele_lists.specs.Keys.{Rises}
-use Rattle.ele_lists.proofs.Edits.{all-weaker, all-both, all-found, found_passes, later-push, all-remove_first, later-remove_first}
-use Rattle.ele_lists.proofs.Alls.{all-append, all-reverse, later-weaker}
-use Rattle.ele_lists.proofs.Ends.{later-update_last, find_last-cons}
+use Rattle.ele_lists.proofs.Edits.{all-weaker, all-both, later-push, all-remove_first, later-remove_first}
+use Rattle.ele_lists.proofs.Alls.{all-append, later-weaker}
+use Rattle.ele_lists.proofs.Ends.{later-update_last, find_last-cons, find_last-is_some}
+use Rattle.ele_lists.proofs.Lasts.{find_last}
 
 pub closes_first : (earlier later : VersionRow) → EndsInTime earlier → Precedes earlier later → earlier.closed ≤ later.closed
 closes_first earlier later ends precedes = between earlier.ended ends precedes.ended where
@@ -74,26 +75,17 @@ ended_by moment row later precedes closed = at row.ended precedes.ended where
   at None h = absurd h
   at (Some ended) h = grind (arith, nat_tests, closed, h)
 
+-- a search from the end finds the last row that passes
+pub last-reversed : (p : VersionRow → Bool) (rows : List VersionRow) → find p (reverse rows) ≡ last_passing p rows
+last-reversed p [] = refl
+last-reversed p (row ∷ rows) = find_last-cons p row rows ∙ ap (λ o. option_or o (cond (p row) (Some row) None)) (last-reversed p rows)
+
+pub last-is_some : (p : VersionRow → Bool) (rows : List VersionRow) → is_some (last_passing p rows) ≡ list_any p rows
+last-is_some p rows = ap is_some (sym (last-reversed p rows)) ∙ find_last-is_some p rows
+
 -- if a version lives at the moment, it is the last that had closed by then
-pub lives-is_last : (moment : ℕ) (rows : List VersionRow) → AllLater Precedes rows → find (lives_at moment) rows ≡ option_and_then (unless_ended moment) (find (has_closed_by moment) (reverse rows))
-lives-is_last moment [] order = refl
-lives-is_last moment (row ∷ rows) order =
-    rw (find_last-cons (has_closed_by moment) row rows) (at (lives-is_last moment rows order.1) (find (has_closed_by moment) (reverse rows)) refl)
-  where
-    at : find (lives_at moment) rows ≡ option_and_then (unless_ended moment) (find (has_closed_by moment) (reverse rows)) → (o : Option VersionRow) → find (has_closed_by moment) (reverse rows) ≡ o → find (lives_at moment) (row ∷ rows) ≡ option_and_then (unless_ended moment) (option_or o (cond (has_closed_by moment row) (Some row) None))
-    at rest (Some last) is =
-        let precedes : Precedes row last = all-found (has_closed_by moment) (Precedes row) (reverse rows) last is (all-reverse (Precedes row) rows order.0) in
-        let over : ends_after moment row ≡ false = ended_by moment row last precedes (found_passes (has_closed_by moment) (reverse rows) last is) in
-        rw over (elim (has_closed_by moment row) as (λ b. cond (b && false) (Some row) (find (lives_at moment) rows) ≡ unless_ended moment last) [
-          | true ↦ rest ∙ ap (option_and_then (unless_ended moment)) is
-          | false ↦ rest ∙ ap (option_and_then (unless_ended moment)) is
-        ])
-    at rest None is =
-        let none : find (lives_at moment) rows ≡ None = rest ∙ ap (option_and_then (unless_ended moment)) is in
-        elim (has_closed_by moment row) as (λ b. cond (b && ends_after moment row) (Some row) (find (lives_at moment) rows) ≡ option_and_then (unless_ended moment) (cond b (Some row) None)) [
-          | true ↦ ap (cond (ends_after moment row) (Some row)) none
-          | false ↦ none
-        ]
+pub lives-is_last : (moment : ℕ) (rows : List VersionRow) → AllLater Precedes rows → find (lives_at moment) rows ≡ passing (ends_after moment) (last_passing (has_closed_by moment) rows)
+lives-is_last moment rows order = find_last (has_closed_by moment) (ends_after moment) rows (later-weaker Precedes (λ row later. has_closed_by moment row ≡ true → has_closed_by moment later ≡ true → ends_after moment row ≡ false) rows (λ row later precedes both closed. ended_by moment row later precedes closed) order)
 
 and_left : (a b : Bool) → (a && b) ≡ true → a ≡ true
 and_left true b h = refl

@@ -1,10 +1,10 @@
 //! The held versions of one file.
 //! A contract sees the list of their rows by number, and for how many more there is memory.
-ghost use Rattle.std.specs.Prelude.{◌≡◌, ◌<◌, ◌≤◌, ◌+◌, ◌==◌, ◌^◌, [], ◌∷◌, ◌++◌, OnOk, OnErr, IfErr, IsOk, IsTrue, ◌↔◌, All, IsSomeAnd, find, filter, reverse, length, is_some, if◌then◌else◌};
-ghost use Rattle.std.specs.Option.{ForSome, option_copied, option_map, option_and_then};
+ghost use Rattle.std.specs.Prelude.{◌≡◌, ◌<◌, ◌≤◌, ◌+◌, ◌==◌, ◌^◌, [], ◌∷◌, ◌++◌, OnOk, OnErr, IfErr, IsOk, IsTrue, ◌↔◌, All, IsSomeAnd, find, filter, length, is_some, if◌then◌else◌};
+ghost use Rattle.std.specs.Option.{ForSome, option_copied, option_map};
 ghost use Rattle.std.specs.List.{list_any};
-ghost use Rattle.ele_inode_log.specs.Rows.{HeldRows, AreInOrder, Precedes, EndsInTime, CanEndAt, last_of, update_last, is_numbered, is_other, is_after, is_before, has_closed_by, lives_at, ended_at};
-ghost use Rattle.ele_inode_log.specs.LogInside.{unless_ended};
+ghost use Rattle.ele_inode_log.specs.Rows.{HeldRows, AreInOrder, Precedes, EndsInTime, CanEndAt, last_of, update_last, is_numbered, is_other, is_after, is_before, has_closed_by, ends_after, lives_at, ended_at};
+ghost use Rattle.ele_lists.specs.Last.{last_passing, passing};
 
 use crate::meter::Meter;
 use crate::row::{ClosedBy, EndsAt, VersionRow};
@@ -116,7 +116,7 @@ impl InodeLog {
     /// The last row with a lesser number.
     pub fn prev_held(&self, number: VersionNo, meter: &mut Meter) -> Option<&VersionRow>
         requires { meter.old < 2 ^ 63 }
-        ensures row { option_copied result ≡ find (is_before number) (reverse self.now.rows) }
+        ensures row { option_copied result ≡ last_passing (is_before number) self.now.rows }
         ensures read { meter.new ≡ meter.old + (if is_some result then 1 else 0) }
     {
         counted(self.rows.last_before(&BeforeKey(number.0)), meter)
@@ -135,6 +135,17 @@ impl InodeLog {
         Some(row)
     }
 
+    /// The last row of a version that had closed by the moment.
+    pub fn closed_by(&self, moment: Moment, meter: &mut Meter) -> Option<&VersionRow>
+        requires { meter.old < 2 ^ 63 }
+        ensures row { option_copied result
+            ≡ last_passing (has_closed_by moment) self.now.rows }
+        ensures order { AreInOrder self.now.rows }
+        ensures read { meter.new ≡ meter.old + (if is_some result then 1 else 0) }
+    {
+        counted(self.rows.last_before(&ClosedBy(moment)), meter)
+    }
+
     /// The number of the version in whose life the moment lies: it had closed by then, and ended
     /// after that or not at all. No two versions live at one moment. A row is read where one had
     /// closed.
@@ -147,15 +158,14 @@ impl InodeLog {
         ensures read { meter.new ≡ meter.old
             + (if list_any (has_closed_by moment) self.now.rows then 1 else 0) }
     {
-        let last = self.rows.last_before(&ClosedBy(moment));
-        number_at(counted(last, meter), moment)
+        number_at(self.closed_by(moment, meter), moment)
     }
 }
 
 /// The number of the row, if the moment is before its end.
 fn number_at(row: Option<&VersionRow>, moment: Moment) -> Option<VersionNo>
     ensures { result ≡ option_map (λ row. row.number)
-        (option_and_then (unless_ended moment) (option_copied row.entry)) }
+        (passing (ends_after moment) (option_copied row.entry)) }
 {
     let row = row?;
     match row.ended {

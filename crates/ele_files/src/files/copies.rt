@@ -15,7 +15,7 @@ use ele_blocks::{BlockMap, BlockStore};
 use ele_inode_log::{Meter, VersionRow as LogRow};
 use ele_lists::ListOf;
 use ele_moment::{NoMemory, VersionNo};
-use ele_world::{Cell, DraftRow, FileRow, HandleRow, Reads, VersionRow};
+use ele_world::{Cell, DraftRow, FileRow, HandleRow, VersionRow};
 use std::alloc::Global;
 
 impl Files {
@@ -78,7 +78,7 @@ impl Files {
         for handle in self.sessions.handles() {
             rows.push(HandleRow {
                 number: handle.number,
-                reads: Reads::Draft(handle.file),
+                reads: ele_world::Reads::Draft(handle.file),
             })?;
         }
         Ok(ListOf::from_vec(rows))
@@ -104,7 +104,7 @@ fn copy_cells(alloc: Global, store: &BlockStore, map: &BlockMap) -> Result<ListO
 }
 
 /// The file's first row with a greater number.
-fn next_row(file: &File, behind: VersionNo) -> Option<&LogRow>
+pub fn next_row(file: &File, behind: VersionNo) -> Option<&LogRow>
     ensures { option_copied result ≡ find (is_after behind) file.now.log.rows }
 {
     let mut meter = Meter::new();
