@@ -6,13 +6,14 @@ ghost use Rattle.ele_world.specs.Usage.{usages};
 ghost use Rattle.ele_world.specs.declared.event.Event.TheVariants as event;
 ghost use Rattle.ele_world.specs.declared.event.Source.TheVariants as source;
 ghost use Rattle.ele_world.specs.declared.rows.Target.TheVariants.{File, Directory};
-ghost use Rattle.ele_world.specs.World.{next_of};
+ghost use Rattle.ele_world.specs.World.{next_of, policy_for};
 ghost use Rattle.ele_core.specs.Inside.{world_of, IsTracked, IsSound};
 ghost use Rattle.ele_core.specs.Told.{told};
 
 use crate::lookups::default_of;
 use crate::rows::Rows;
 use crate::walk::{directory_in, file_in, version_at, walk_meant, walk_then};
+use ele_files::Files;
 use ele_policy::{Interval, Policy};
 use ele_usage::Usage;
 use ele_world::{
@@ -84,10 +85,23 @@ pub fn stat(rows: &mut Rows, tagged: &TaggedPath) -> Reply
     ensures tracked { IsTracked rows.new }
 {
     let tag = tagged.tag();
-    match walk_meant(rows, tagged.path(), tag) {
-        Ok(Target::File(file)) => stat_file(rows, file, tag),
-        Ok(Target::Directory(id)) => stat_directory(rows, id, tag),
-        Err(refusal) => Reply::Refused(refusal),
+    let target = match walk_meant(rows, tagged.path(), tag) {
+        Ok(target) => target,
+        Err(refusal) => return Reply::Refused(refusal),
+    };
+    match target {
+        Target::File(file) => stat_file(rows, file, tag),
+        Target::Directory(id) => stat_directory(rows, id, tag),
+    }
+}
+
+/// The policy that governs the file.
+fn policy_for(files: &Files, file: FileId) -> Policy
+    ensures { result ≡ policy_for files.now.files file }
+{
+    match files.policy_of(file) {
+        Some(policy) => policy,
+        None => Policy::Safe(Interval::DAY),
     }
 }
 
@@ -98,10 +112,7 @@ fn stat_file(rows: &mut Rows, file: FileId, tag: Tag) -> Reply
     ensures told { result ≡ told (stat_of (world_of rows.old) (File file) tag) }
     ensures rows { rows.new ≡ record rows.old { meter = rows.new.meter } }
 {
-    let policy = match rows.files.policy_of(file) {
-        Some(policy) => policy,
-        None => Policy::Safe(Interval::DAY),
-    };
+    let policy = policy_for(&rows.files, file);
     match rows.files.version_meant(file, tag, &mut rows.meter) {
         Ok(stamps) => Reply::FileStat(FileStat {
             file,

@@ -1,5 +1,5 @@
 //! The event that closes a handle, and may make its draft a version.
-ghost use Rattle.std.specs.Prelude.{◌≡◌, Some, None, Ok, IfOk, OnErr, find, is_some, length};
+ghost use Rattle.std.specs.Prelude.{◌≡◌, true, Some, None, Ok, IfOk, OnErr, find, is_some, length};
 ghost use Rattle.ele_content.specs.Content.{content_of};
 ghost use Rattle.ele_files.specs.Closing.{opening_by};
 ghost use Rattle.ele_files.specs.Held.{cells_of_draft};
@@ -98,9 +98,26 @@ fn unread(
     put(&mut rows.queue, file, number, moment)?;
     rows.files.leave(handle);
     if rows.files.is_open(file, number) {
-        take(&mut rows.queue, file, number, moment);
+        let others = free_moment(&rows.files, file, number, &mut rows.meter);
+        take(&mut rows.queue, file, number, others);
     }
     Ok(Reply::Closed(None))
+}
+
+/// A handle that writes a file is closed.
+fn unwrite(rows: &mut Rows, handle: Handle, file: FileId) -> Result<Reply, NoMemory>
+    requires sound { IsSound rows.old }
+    requires meter { rows.old.meter ≡ 0 }
+    requires reads { reads_by rows.old.files.handles handle ≡ Ok (Draft file) }
+    ensures step { IfOk result
+        (λ reply. (reply, world_of rows.new) ≡ step (world_of rows.old) (event.Close handle)) }
+    ensures err { OnErr result (world_of rows.new ≡ world_of rows.old) }
+    ensures tracked { IsTracked rows.new }
+{
+    match rows.files.changed_draft(handle) {
+        Some(opened) => finish(rows, handle, file, opened),
+        None => Ok(leave(rows, handle, file)),
+    }
 }
 
 /// Closes the handle. With a file's last writer its draft goes: a changed one becomes the file's next version, which ends
@@ -114,13 +131,12 @@ pub fn close(rows: &mut Rows, handle: Handle) -> Result<Reply, NoMemory>
     ensures err { OnErr result (world_of rows.new ≡ world_of rows.old) }
     ensures tracked { IsTracked rows.new }
 {
-    let file = match rows.files.reads_by(handle) {
-        Ok(Reads::Draft(file)) => file,
-        Ok(Reads::Version(file, number)) => return unread(rows, handle, file, number),
+    let reads = match rows.files.reads_by(handle) {
+        Ok(reads) => reads,
         Err(refusal) => return Ok(Reply::Refused(refusal)),
     };
-    match rows.files.changed_draft(handle) {
-        Some(opened) => finish(rows, handle, file, opened),
-        None => Ok(leave(rows, handle, file)),
+    match reads {
+        Reads::Draft(file) => unwrite(rows, handle, file),
+        Reads::Version(file, number) => unread(rows, handle, file, number),
     }
 }
