@@ -18,7 +18,7 @@ use Rattle.ele_policy.specs.Ripe.{Beside, ripe_by}
 use Rattle.ele_world.specs.declared.rows.FileRow.{FileRow}
 use Rattle.ele_world.specs.declared.rows.VersionRow.{VersionRow}
 use Rattle.ele_world.specs.Change.{ended_at, numbered_on, next_version, with_version}
-use Rattle.ele_world.specs.Due.{ripe_at, is_moment}
+use Rattle.ele_world.specs.Due.{ripe_of, ripe_at, is_moment}
 use Rattle.ele_world.specs.WellFormed.{IsVersion, IsWellFormed, Readers, Versions}
 use Rattle.ele_world.specs.World.{World, is_file, is_live, is_open, is_version, is_version_after, next_of, policy_of}
 use Rattle.ele_world.proofs.NameMoments.{found_moment, ripe_at_plain}

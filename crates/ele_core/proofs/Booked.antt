@@ -129,7 +129,7 @@ opened_owed rows file now before tracked is after =
       number : ℕ
       number = rows.files.opened + 1
 
-      either : (b : Bool) → changed_at rows.files rows.moment (cond b (OpenHandle number file ∷ []) (StartDraft file ∷ OpenHandle number file ∷ [])) ≡ record (with_handle rows file) { drafts = cond b rows.files.drafts (insert_before (is_draft_after file) (new_draft (world_of rows) file) rows.files.drafts) }
+      either : (b : Bool) → changed_at rows.files rows.moment (cond b (OpenHandle number (Draft file) ∷ []) (StartDraft file ∷ OpenHandle number (Draft file) ∷ [])) ≡ record (with_handle rows file) { drafts = cond b rows.files.drafts (insert_before (is_draft_after file) (new_draft (world_of rows) file) rows.files.drafts) }
       either true = refl
       either false = refl
 

@@ -23,7 +23,8 @@ use Rattle.ele_world.specs.Change.{ended_at, next_version, with_end}
 use Rattle.ele_world.specs.Usage.{usage_of, is_file_of, bytes_in}
 use Rattle.ele_world.specs.WellFormed.{IsDraft, Drafts}
 use Rattle.ele_world.specs.Whole.{ChangesOnly}
-use Rattle.ele_world.specs.World.{World, file_by, is_draft, is_version, is_version_after, next_of}
+use Rattle.ele_world.specs.declared.rows.Reads.TheVariants.{Draft}
+use Rattle.ele_world.specs.World.{World, reads_by, file_by, is_draft, is_version, is_version_after, next_of}
 use Rattle.ele_world.proofs.Others.{drafts-removed, versions-finished, kinds-numbered, files-numbered}
 use Rattle.ele_lists.proofs.Sums.{sum_by-insert_before, sum_by-update_same}
 
@@ -81,8 +82,8 @@ module _ (rows : Rows) (handle file opened : ℕ) where
   finished_owed tracked after book bytes before is long same added =
       subst (λ (h : Held). IsOwed h book file before) (sym is) (version_owed rows file v finished changes refl tracked book bytes before long same (subst (λ (h : Held). HasAdded h file rows.book book bytes) is added))
 
-pub left_owed : (rows : Rows) (handle file : ℕ) (of_file : file_by rows.files.handles handle ≡ Ok file) (after : Held) (before : ℕ) → IsTracked rows → before ≡ blocks_of rows.files → IsLeft (world_of rows) handle file of_file after → IsOwed after rows.book file before
-left_owed rows handle file of_file after before tracked same is = drafts_owed rows file after before tracked same is.versions is.changes
+pub left_owed : (rows : Rows) (handle file : ℕ) (reads : reads_by rows.files.handles handle ≡ Ok (Draft file)) (after : Held) (before : ℕ) → IsTracked rows → before ≡ blocks_of rows.files → IsLeft (world_of rows) handle file reads after → IsOwed after rows.book file before
+left_owed rows handle file reads after before tracked same is = drafts_owed rows file after before tracked same is.versions is.changes
 
 -- ---- bounds
 

@@ -14,7 +14,7 @@ use Rattle.ele_world.specs.World.{World}
 abbrev pub no_files : Held
 no_files = record { files = []; versions = []; drafts = []; handles = []; opened = 0 }
 
-pub no_keys : (w : World) (h : Held) (queue : List Key) → h ≡ no_files → queue ≡ [] → IsQueued (record w { files = h.files; versions = h.versions }) queue
+pub no_keys : (w : World) (h : Held) (queue : List Key) → h ≡ no_files → queue ≡ [] → IsQueued (record w { files = h.files; versions = h.versions; handles = h.handles }) queue
 unfolding ripe_numbered
 no_keys w h queue files keys k = rw (files, keys) refl
 

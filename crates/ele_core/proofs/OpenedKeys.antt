@@ -1,0 +1,72 @@
+-- Which keys the versions have, once a handle was opened or closed.
+use Rattle.std.proofs.Common.{◌≡◌, ℕ, ◌+◌, Bool, true, false, cond, not, ◌&&◌, ◌||◌, ◌==◌, List, [], ◌∷◌, Option, Some, None, refl, ap, sym, ◌∙◌, arith}
+use Rattle.std.specs.List.{list_any}
+use Rattle.std.proofs.lemmas.Bool.Decides.{nat_tests}
+use Rattle.ele_core.proofs.Asked.{ripe_told}
+use Rattle.ele_core.proofs.Following.{entry_follows}
+use Rattle.ele_core.specs.Inside.{world_of}
+use Rattle.ele_core.specs.Queued.{IsQueued, IsRekeyed, free_moment}
+use Rattle.ele_core.specs.declared.rows.Rows.{Rows}
+use Rattle.ele_due.specs.declared.key.Key.{Key}
+use Rattle.ele_due.specs.HasKey.{has_key}
+use Rattle.ele_files.specs.Held.{Held, changed_at, opened_by, rows_of, with_rows}
+use Rattle.ele_world.specs.Change.{OpenHandle, ShutHandle, StartDraft, after_change}
+use Rattle.ele_world.specs.Due.{ripe_at, is_moment}
+use Rattle.ele_world.specs.World.{World, is_draft, is_handle, is_open, reads_by, reads_version}
+use Rattle.ele_world.specs.declared.rows.Reads.TheVariants.{Draft, Version}
+use Rattle.ele_world.proofs.NameMoments.{ripe_at_plain}
+use Rattle.ele_world.proofs.OpenMoments.{open_more, open_still, opened_others, opened_own, shut_others, shut_own}
+
+-- a handle that writes touches no key
+pub opened_queue : (rows : Rows) (file : ℕ) → IsQueued (world_of rows) rows.queue → IsQueued (with_rows (world_of rows) (opened_by rows.files file rows.moment)) rows.queue
+opened_queue rows file queued = by (list_any (is_draft file) rows.files.drafts) where
+  number : ℕ
+  number = rows.files.opened + 1
+
+  by : (b : Bool) → IsQueued (with_rows (world_of rows) (changed_at rows.files rows.moment (cond b (OpenHandle number (Draft file) ∷ []) (StartDraft file ∷ OpenHandle number (Draft file) ∷ [])))) rows.queue
+  by true k = queued k ∙ ap (is_moment k.ripe) (sym (opened_others (world_of rows) number (Draft file) k.file k.number refl))
+  by false k = queued k ∙ ap (is_moment k.ripe) (sym (opened_others (world_of rows) number (Draft file) k.file k.number refl))
+
+-- ---- a version that a handle reads, or read
+
+module _ (w : World) (file number : ℕ) (queue : List Key) (queued : IsQueued w queue) (free : Option ℕ) (told : ripe_at w file number ≡ cond (is_open w.handles file number) None free) where
+  abbrev its : Key → Bool
+  its k = (k.file == file) && (k.number == number)
+
+  -- while it is open it has no key
+  unkeyed : is_open w.handles file number ≡ true → (k : Key) → its k ≡ true → has_key k queue ≡ false
+  unkeyed is_read k own =
+      let file_is : k.file ≡ file = grind (arith, nat_tests) in
+      let number_is : k.number ≡ number = grind (arith, nat_tests) in
+      queued k ∙ rw (file_is, number_is, told, is_read) refl
+
+  -- so to take its free moment's key is to take the key that it has
+  pub taken_key : (after : List Key) → IsRekeyed file number free None queue after → IsRekeyed file number (ripe_at w file number) None queue after
+  taken_key after edited k = rw told (by (is_open w.handles file number) refl (its k) refl) where
+    by : (b : Bool) → is_open w.handles file number ≡ b → (e : Bool) → its k ≡ e → has_key k after ≡ ((e && false) || (not (e && is_moment k.ripe (cond b None free)) && has_key k queue))
+    by false is_read e own = rw (← own) (edited k)
+    by true is_read false own = edited k ∙ rw own refl
+    by true is_read true own = edited k ∙ rw (own, unkeyed is_read k own) (none (is_moment k.ripe free)) where
+      none : (b : Bool) → (false || (not b && false)) ≡ false
+      none true = refl
+      none false = refl
+
+  -- and to put it and take it again is nothing
+  pub put_back : is_open w.handles file number ≡ true → (between after : List Key) → IsRekeyed file number None free queue between → IsRekeyed file number free None between after → (k : Key) → has_key k after ≡ has_key k queue
+  put_back is_read between after came went k = went k ∙ rw (came k) (by (its k) refl (is_moment k.ripe free)) where
+    by : (e : Bool) → its k ≡ e → (m : Bool) → ((e && false) || (not (e && m) && ((e && m) || (not (e && false) && has_key k queue)))) ≡ has_key k queue
+    by false own m = refl
+    by true own true = sym (unkeyed is_read k own)
+    by true own false = refl
+
+-- a handle that reads takes the key
+pub read_queue : (rows : Rows) (handle file number : ℕ) (after : List Key) → IsQueued (world_of rows) rows.queue → IsRekeyed file number (free_moment rows.files file number) None rows.queue after
+    → IsQueued (after_change (world_of rows) (OpenHandle handle (Version file number))) after
+read_queue rows handle file number after queued edited =
+    let w = world_of rows in
+    let v = after_change w (OpenHandle handle (Version file number)) in
+    let own : reads_version file number (Version file number) ≡ true = grind (arith, nat_tests) in
+    entry_follows w v rows.queue after queued file number (λ f n apart. opened_others w handle (Version file number) f n (apart_reads f n apart))
+    (rw (opened_own w handle (Version file number) file number own) (taken_key w file number rows.queue queued (free_moment rows.files file number) (ripe_told rows file number) after edited)) where
+      apart_reads : (f n : ℕ) → ((f == file) && (n == number)) ≡ false → reads_version f n (Version file number) ≡ false
+      apart_reads f n apart = grind (arith, nat_tests)
