@@ -1,11 +1,14 @@
 -- What the closing of a handle comes to.
-use Rattle.std.specs.Prelude.{ℕ, ◌≤◌, Bool, true, false, List, [], ◌∷◌, Option, Some, None, IfSome, is_some, find, option_and_then, if◌then◌else◌}
+use Rattle.std.specs.Prelude.{ℕ, ◌≤◌, Bool, true, false, List, [], ◌∷◌, Option, Some, None, Result, Ok, Err, IfSome, is_some, find, option_and_then, if◌then◌else◌}
 use Rattle.std.specs.List.{list_any}
 use Rattle.ele_lists.specs.Lists.{remove_first}
+use Rattle.ele_world.specs.declared.refusal.Refusal.{Refusal}
+use Rattle.ele_world.specs.declared.rows.Reads.{Reads}
+use Rattle.ele_world.specs.declared.rows.Reads.TheVariants as reads
 use Rattle.ele_world.specs.declared.rows.VersionRow.{VersionRow}
 use Rattle.ele_world.specs.declared.rows.DraftRow.{DraftRow}
 use Rattle.ele_world.specs.Change.{Change, ShutHandle, EndDraft, Append}
-use Rattle.ele_world.specs.World.{is_draft, is_handle, is_writer}
+use Rattle.ele_world.specs.World.{is_draft, is_handle, is_writer, reads_by}
 use Rattle.ele_files.specs.Held.{Held, changed_at, handle_file, cells_of_draft}
 
 -- the draft that goes with the handle: that of its file, where no other handle writes it
@@ -26,13 +29,15 @@ abbrev pub leaving : ℕ → ℕ → Bool → List Change
 leaving handle file true = ShutHandle handle ∷ EndDraft file ∷ []
 leaving handle file false = ShutHandle handle ∷ []
 
-abbrev pub left_of : Held → ℕ → Option ℕ → Held
-left_of h handle None = h
-left_of h handle (Some file) = changed_at h 0 (leaving handle file (is_some (last_draft h handle file)))
+-- a handle that reads a version goes alone
+abbrev pub left_of : Held → ℕ → Result Reads Refusal → Held
+left_of h handle (Err refusal) = h
+left_of h handle (Ok (reads.Draft file)) = changed_at h 0 (leaving handle file (is_some (last_draft h handle file)))
+left_of h handle (Ok (reads.Version file number)) = changed_at h 0 (ShutHandle handle ∷ [])
 
 -- all that is left where the handle goes and no version is made
 abbrev pub left_by : Held → ℕ → Held
-left_by h handle = left_of h handle (handle_file h.handles handle)
+left_by h handle = left_of h handle (reads_by h.handles handle)
 
 -- the handle goes and the draft, and what the draft held is the file's next version
 abbrev pub finishing : Held → ℕ → ℕ → ℕ → List Change

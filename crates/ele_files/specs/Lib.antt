@@ -1,5 +1,5 @@
 pub mod Held
 pub mod Closing
-pub mod Asked
 pub mod Inside
 pub mod Appending
+pub mod Meant

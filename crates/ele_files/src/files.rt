@@ -1,16 +1,17 @@
 //! The files of one world, with their drafts and handles.
 //! A contract sees the flat rows of all of them.
-ghost use Rattle.std.specs.Prelude.{◌≡◌, ◌<◌, ◌≤◌, ◌+◌, ◌-◌, ◌^◌, [], All, OnOk, OnErr, IfOk, IfNone, IsOkUnless, IsErrOf, length, find, is_some, position, if◌then◌else◌};
+ghost use Rattle.std.specs.Prelude.{◌≡◌, ◌<◌, ◌≤◌, ◌+◌, ◌-◌, ◌^◌, true, [], ◌∷◌, All, OnOk, OnErr, IfOk, IfNone, IsOkUnless, IsErrOf, length, find, is_some, position, if◌then◌else◌};
 ghost use Rattle.std.specs.List.{AllByRecursion, list_any};
 ghost use Rattle.std.specs.Option.{ForSome, option_copied, option_map, option_map_or};
 ghost use Rattle.ele_content.specs.Content.{content_of};
 ghost use Rattle.ele_content.specs.Place.{different, is_place};
-ghost use Rattle.ele_files.specs.Asked.{stamps_of};
-ghost use Rattle.ele_files.specs.Held.{Held, GotFile, opened_by, without};
+ghost use Rattle.ele_files.specs.Held.{Held, GotFile, changed_at, opened_by, without};
 ghost use Rattle.ele_files.specs.Inside.{is_id};
 ghost use Rattle.ele_inode_log.specs.Rows.{is_numbered};
 ghost use Rattle.ele_lists.specs.Lists.{AllLater};
 ghost use Rattle.ele_sessions.specs.Changes.{write_refusal_of, truncate_refusal_of};
+ghost use Rattle.ele_world.specs.Change.{OpenHandle};
+ghost use Rattle.ele_world.specs.declared.rows.Reads.TheVariants.{Version};
 ghost use Rattle.ele_world.specs.Usage.{places};
 ghost use Rattle.ele_world.specs.World.{policy_of, next_of, is_version, is_draft};
 
@@ -19,6 +20,7 @@ mod closing;
 mod copies;
 mod dropping;
 mod restoring;
+mod versions;
 mod writing;
 
 use crate::boxed::BoxedFile;
@@ -150,6 +152,18 @@ impl Files {
         let map = first_map(held, &empty, meter);
         self.sessions
             .open_write(&mut self.store, file, held.next, now, map)
+    }
+
+    /// A handle that reads the version, which is held. Where memory is refused, all is as it was.
+    pub fn open_read(&mut self, file: FileId, number: VersionNo) -> Result<Handle, NoMemory>
+        requires held { list_any (is_version file number) self.old.versions ≡ true }
+        requires room { self.old.opened < 2 ^ 63 }
+        ensures handle { IfOk result (λ handle. handle ≡ self.old.opened + 1) }
+        ensures ok { OnOk result (self.new ≡ changed_at self.old 0
+            (OpenHandle (self.old.opened + 1) (Version file number) ∷ [])) }
+        ensures err { OnErr result (self.new ≡ self.old) }
+    {
+        self.sessions.open_read(file, number)
     }
 
     /// Takes out the version, and answers how many bytes it had; none where it isn't held.

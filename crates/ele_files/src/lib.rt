@@ -5,9 +5,8 @@
 mod boxed;
 mod file;
 mod files;
-mod stamps;
+mod meant;
 
 pub use ele_inode_log::Meter;
 pub use ele_sessions::SessionFault;
 pub use files::Files;
-pub use stamps::Stamps;

@@ -1,4 +1,3 @@
 pub mod Found
-pub mod Counts
 pub mod Keepings
 pub mod Order

@@ -10,21 +10,27 @@ use Rattle.ele_policy.specs.declared.policy.Policy.TheVariants.{Safe}
 use Rattle.ele_lists.specs.Lists.{insert_before}
 use Rattle.ele_world.specs.Change.{new_draft, EndDraft, ShutHandle, after_changes}
 use Rattle.ele_world.specs.NameRows.{is_live_in}
+use Rattle.ele_time_path.specs.declared.tagged.Tag.TheVariants as tag
+use Rattle.ele_world.specs.Due.{is_due_at}
 use Rattle.ele_world.specs.Scan.{first_due}
 use Rattle.ele_world.specs.Step.{plan}
+use Rattle.ele_world.specs.Tagged.{version_meant}
 use Rattle.ele_world.specs.Walk.{live_target, directory_now, parent_now, walk_now}
 use Rattle.ele_policy.specs.Policy.{IsPolicy}
-use Rattle.ele_world.specs.WellFormed.{AreWrittenBy, IsDraft, Counted, Directories, Names, Versions, Drafts, IsWellFormed}
-use Rattle.ele_world.specs.World.{World, is_directory, default_of, next_of, is_draft, is_draft_after}
+use Rattle.ele_world.specs.WellFormed.{AreWrittenBy, IsDraft, IsVersion, Counted, Directories, Names, Versions, Drafts, IsWellFormed}
+use Rattle.ele_world.specs.World.{World, is_directory, default_of, is_open, is_version, next_of, is_draft, is_draft_after}
 use Rattle.ele_world.specs.declared.event.Event.{Event}
-use Rattle.ele_world.specs.declared.event.Event.TheVariants.{Clock, Tick, MakeDir, RemoveDir, Create, Link, Unlink, Rename, Undelete, OpenWrite, Write, Truncate, Close, SetDefault, CleanOne, Read, Restorable, Due, UsageAll}
-use Rattle.ele_world.specs.declared.event.Source.TheVariants.{Of}
+use Rattle.ele_world.specs.declared.event.Event.TheVariants.{Clock, Tick, MakeDir, RemoveDir, Create, Link, Unlink, Rename, Undelete, OpenWrite, OpenRead, Write, Truncate, Close, Revert, SetDefault, CleanOne, Read, Stat, Versions as VersionsOf, List as ListNames, Restorable, Due, UsageAll}
+use Rattle.ele_world.specs.declared.event.Source.TheVariants.{Tagged, Of}
 use Rattle.ele_world.specs.declared.rows.DirectoryRow.{DirectoryRow}
 use Rattle.ele_world.specs.declared.rows.DraftRow.{DraftRow}
-use Rattle.ele_world.proofs.DueRows.{first_is_due, due_has_ended}
+use Rattle.ele_world.specs.declared.rows.VersionRow.{VersionRow}
+use Rattle.ele_world.proofs.DueRows.{first_is_due, due_has_ended, due_is_unread}
 use Rattle.ele_world.proofs.Homes.{parent_home}
 use Rattle.ele_world.proofs.Lost.{may_add, may_revive}
-use Rattle.ele_world.proofs.May.{MayName, MayEnd, MayAppend, MayTake, MayPlan}
+use Rattle.ele_world.proofs.May.{HasRoom, MayName, MayEnd, MayAppend, MayTake, MayPlan}
+use Rattle.ele_world.proofs.Meant.{is_meant, meant_held, is_at}
+use Rattle.ele_world.proofs.Writers.{written_more}
 use Rattle.ele_world.proofs.Walks.{file_there, last_leads, file_live, file_of, last_names}
 use Rattle.ele_world.specs.declared.rows.Target.TheVariants.{File}
 
@@ -43,7 +49,13 @@ begun w file = let own : is_draft file (new_draft w file) ≡ true = grind (arit
 pub takes : (w : World) (key : Key) → IsWellFormed w → first_due w ≡ Some key → MayTake CleanOne w w key.file key.number
 takes w key k first =
     let due = first_is_due w key (k.holds Versions).placed first in
-    record { clean = refl; row = due.row; found = due.found; due = due.due; ended = due_has_ended w due.row w.now due.due; same = refl }
+    record { clean = refl; row = due.row; found = due.found; due = due.due; ended = due_has_ended w due.row w.now due.due; unread = unread due.row due.found due.due; same = refl } where
+  unread : (row : VersionRow) → find (is_version key.file key.number) w.versions ≡ Some row → is_due_at w row w.now ≡ true → is_open w.handles key.file key.number ≡ false
+  unread row found due =
+      let passes = found_passes (is_version key.file key.number) w.versions row found in
+      let own : row.file ≡ key.file = grind (arith, nat_tests) in
+      let number : row.number ≡ key.number = grind (arith, nat_tests) in
+      rw (← own, ← number) (due_is_unread w row w.now due)
 
 -- the draft becomes a version, once the last handle and the draft have gone
 finishes : (w : World) (handle file : ℕ) (draft : DraftRow) → IsWellFormed w → find (is_draft file) w.drafts ≡ Some draft → MayAppend (after_changes w (ShutHandle handle ∷ EndDraft file ∷ [])) file draft.opened draft.cells
@@ -57,6 +69,14 @@ finishes w handle file draft k found =
       content = is.content;
       written = subst (λ f. AreWrittenBy (next_of w.files f) draft.cells) own is.written;
     }
+
+-- a version that is held may come again
+reverts : (w : World) (file number : ℕ) (row : VersionRow) → IsWellFormed w → 0 < next_of w.files file → version_meant w.files w.versions file (tag.Number number) ≡ Ok row → HasRoom w → MayAppend w file w.now row.cells
+reverts w file number row k there meant room =
+    let its = is_meant w.files w.versions file (tag.Number number) row meant in
+    let is : IsVersion w.files w.now row = all-found its.passes (IsVersion w.files w.now) w.versions row its.found (k.holds Versions).each in
+    let less : row.number < next_of w.files file = subst (λ f. row.number < next_of w.files f) its.own is.numbered in
+    record { there = there; by_now = omega arith; room = room; content = is.content; written = written_more row.number (next_of w.files file) row.cells (omega (arith, less)) is.written }
 
 -- a path's last name isn't live, and may be made
 pub may_name : (w : World) (path : List (List ℕ)) (at : ℕ × List ℕ) → IsWellFormed w → parent_now w.names path ≡ Ok at → is_some (live_target w.names at.0 at.1) ≡ false → nat_le w.limits.names w.made.names ≡ false → MayName w at.0 at.1
@@ -88,24 +108,33 @@ allowed w (Undelete path) k = λ at found free lost last returns. (
   λ file nameless drafts names versions. (may_revive w at lost file (may_name w path at k found free names) nameless returns (grind (arith, nat_tests)), tt),
 )
 allowed w (OpenWrite path) k = λ file found handles. (
-  λ has. (record { next = refl; room = grind (arith, nat_tests); drafted = has }, tt),
+  λ has. (record { next = refl; room = grind (arith, nat_tests); drafted = has; held = tt }, tt),
   λ none versions. (
     record { there = file_there w.files w.now w.names path file (k.holds Names).each found; none = none; room = grind (arith, nat_tests) },
-    (record { next = refl; room = grind (arith, nat_tests); drafted = begun w file }, tt),
+    (record { next = refl; room = grind (arith, nat_tests); drafted = begun w file; held = tt }, tt),
   ),
 )
+allowed w (OpenRead tagged) k = λ row found handles. (record { next = refl; room = grind (arith, nat_tests); drafted = tt; held = meant_held w row.file row (is_at w tagged row found) }, tt)
 allowed w (Write handle offset bytes) k = λ file found. (λ none. tt, λ some fits. (grind (arith, nat_tests), tt))
 allowed w (Truncate handle size) k = λ file found fits. (grind (arith, nat_tests), tt)
-allowed w (Close handle) k = λ file found. (
-  λ other. (tt, tt),
-  λ last. (
-    λ none. (tt, tt),
-    λ draft drafted. (λ changed. (tt, (last, (finishes w handle file draft k drafted, tt))), λ same. (tt, (last, (tt, tt)))),
+allowed w (Close handle) k = λ read found. (
+  λ reader. (tt, tt),
+  λ file writes. (
+    λ other. (tt, tt),
+    λ last. (
+      λ none. (tt, tt),
+      λ draft drafted. (λ changed. (tt, (last, (finishes w handle file draft k drafted, tt))), λ same. (tt, (last, (tt, tt)))),
+    ),
   ),
 )
+allowed w (Revert path number) k = λ file found row meant drafts versions. (reverts w file number row k (file_there w.files w.now w.names path file (k.holds Names).each found) meant (grind (arith, nat_tests)), tt)
 allowed w (SetDefault path policy) k = λ directory found. (λ is. is, tt)
 allowed w CleanOne k = (λ none. tt, λ key first. (takes w key k first, (tt, tt)))
-allowed w (Read (Of handle)) k = λ reads found. tt
+allowed w (Read (Of handle)) k = λ read found. tt
+allowed w (Read (Tagged tagged)) k = λ row found. tt
+allowed w (Stat tagged) k = λ target found told is. tt
+allowed w (VersionsOf at) k = λ file found. tt
+allowed w (ListNames at) k = λ directory found. tt
 allowed w Restorable k = tt
 allowed w Due k = tt
 allowed w UsageAll k = tt

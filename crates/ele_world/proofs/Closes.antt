@@ -1,6 +1,6 @@
 -- A close that tells of a version has made it of all that was written.
-use Rattle.std.proofs.Common.{◌≡◌, ℕ, ◌-◌, ◌<◌, Bool, true, false, List, Some, refl, ap, subst, arith, eqb}
-use Rattle.std.specs.Prelude.{find}
+use Rattle.std.proofs.Common.{◌≡◌, ℕ, ◌-◌, ◌<◌, Bool, true, false, List, Some, refl, ap, subst, ◌∙◌, arith, eqb}
+use Rattle.std.specs.Prelude.{find, Ok}
 use Rattle.std.specs.Option.{option_map}
 use Rattle.std.specs.List.{AllByRecursion}
 use Rattle.std.proofs.lemmas.Bool.Decides.{nat_tests}
@@ -8,12 +8,14 @@ use Rattle.ele_lists.proofs.Edits.{all-update_first}
 use Rattle.ele_lists.proofs.Found.{find-inserted}
 use Rattle.ele_world.specs.Change.{ended_at, next_version, with_end, with_version}
 use Rattle.ele_world.specs.CloseKeeps.{KeepsDraft}
-use Rattle.ele_world.specs.Step.{plan, step}
+use Rattle.ele_world.specs.Step.{draft_read, plan, step}
 use Rattle.ele_world.specs.WellFormed.{IsVersion, Versions, IsWellFormed}
-use Rattle.ele_world.specs.World.{World, next_of, is_version, is_version_after}
+use Rattle.ele_world.specs.World.{World, next_of, is_version, is_version_after, file_by, file_written, reads_by}
 use Rattle.ele_world.specs.declared.event.Event.TheVariants.{Close}
 use Rattle.ele_world.specs.declared.reply.Reply.TheVariants as reply
 use Rattle.ele_world.specs.declared.rows.FileRow.{FileRow}
+use Rattle.ele_world.specs.declared.rows.Reads.{Reads}
+use Rattle.ele_world.specs.declared.rows.Reads.TheVariants.{Draft, Version}
 use Rattle.ele_world.specs.declared.rows.VersionRow.{VersionRow}
 use Rattle.ele_world.proofs.Outcomes.{in_all}
 
@@ -35,25 +37,33 @@ module _ (w : World) (file : ℕ) (each : AllByRecursion (IsVersion w.files w.no
       (all-update_first (is_version file (next_of w.files file - 1)) (IsVersion w.files w.now) (λ row. is_version file (next_of w.files file) row ≡ false) (ended_at w.now) w.versions
       (λ row h. none_next w.files w.now file row h) (λ row h. none_next w.files w.now file row h) each)
 
+-- the file whose draft is read through the handle is written through it
+writes_file : (w : World) (handle file : ℕ) (read : Reads) → reads_by w.handles handle ≡ Ok read → draft_read read ≡ Some file → file_by w.handles handle ≡ Ok file
+writes_file w handle file (Draft other) is of = ap file_written is ∙ ap Ok (cc)
+writes_file w handle file (Version other number) is of = absurd cc
+
 pub close_keeps : (w : World) (handle number : ℕ) → IsWellFormed w → (step w (Close handle)).0 ≡ reply.Closed (Some number) → KeepsDraft w handle number ((step w (Close handle)).1)
 close_keeps w handle number k = in_all w (λ answer. answer.0 ≡ reply.Closed (Some number) → KeepsDraft w handle number (answer.1)) (plan w (Close handle)) (
   λ refusal e. absurd cc,
-  λ file writes. (
-    λ other e. absurd cc,
-    λ last. (
-      λ e. absurd cc,
-      λ draft found. (
-        λ changed e.
-            let same : next_of w.files file ≡ number = cc in
-            record {
-              file = file;
-              draft = draft;
-              written = writes;
-              drafted = found;
-              kept = subst (λ n. option_map (λ (row : VersionRow). row.cells) (find (is_version file n) (with_version w file draft.opened draft.cells).versions) ≡ Some draft.cells) same
-                  (ap (option_map (λ (row : VersionRow). row.cells)) (new_found w file (k.holds Versions).each draft.opened draft.cells));
-            },
-        λ stays e. absurd cc,
+  λ read reads. (
+    λ e. absurd cc,
+    λ file its. (
+      λ other e. absurd cc,
+      λ last. (
+        λ e. absurd cc,
+        λ draft found. (
+          λ changed e.
+              let same : next_of w.files file ≡ number = cc in
+              record {
+                file = file;
+                draft = draft;
+                written = writes_file w handle file read reads its;
+                drafted = found;
+                kept = subst (λ n. option_map (λ (row : VersionRow). row.cells) (find (is_version file n) (with_version w file draft.opened draft.cells).versions) ≡ Some draft.cells) same
+                    (ap (option_map (λ (row : VersionRow). row.cells)) (new_found w file (k.holds Versions).each draft.opened draft.cells));
+              },
+          λ stays e. absurd cc,
+        ),
       ),
     ),
   ),

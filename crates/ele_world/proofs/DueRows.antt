@@ -1,5 +1,5 @@
 -- The first key of the scan is that of a due row.
-use Rattle.std.proofs.Common.{◌≡◌, ℕ, Bool, true, false, cond, List, [], ◌∷◌, Option, Some, None, refl, ap, ◌∙◌}
+use Rattle.std.proofs.Common.{◌≡◌, ℕ, Bool, true, false, cond, not, ◌&&◌, List, [], ◌∷◌, Option, Some, None, refl, ap, sym, ◌∙◌}
 use Rattle.std.specs.Prelude.{find, is_none, slice_get, fold}
 use Rattle.std.specs.declared.cmp.Ordering.{Ordering}
 use Rattle.std.specs.declared.cmp.Ordering.TheVariants.{Less, Equal, Greater}
@@ -12,10 +12,11 @@ use Rattle.ele_policy.specs.declared.policy.Policy.{Policy}
 use Rattle.ele_due.specs.declared.key.Key.{Key}
 use Rattle.ele_world.specs.declared.rows.VersionRow.{VersionRow}
 use Rattle.ele_world.specs.Due.{is_due_at, ripe_of}
-use Rattle.ele_world.specs.FileView.{view_of, beside}
+use Rattle.ele_world.specs.FileView.{view_of, beside, is_protected}
 use Rattle.ele_world.specs.Scan.{key_cmp, key_of, due_key, scan, first_due}
 use Rattle.ele_world.specs.WellFormed.{AllLater, ArePlaced}
-use Rattle.ele_world.specs.World.{World, is_version, policy_of}
+use Rattle.ele_world.specs.World.{World, is_open, is_version, policy_of}
+use Rattle.ele_world.proofs.Readers.{numbers_are}
 use Rattle.ele_world.proofs.Versions.{IsFound, all_found}
 
 -- the key is that of a held row that is due
@@ -64,11 +65,23 @@ first_of Q (x ∷ xs) key h all = let same : x ≡ key = cc in rw (← same) all
 pub first_is_due : (w : World) (key : Key) → AllLater ArePlaced w.versions → first_due w ≡ Some key → IsDueKey w key
 first_is_due w key placed h = first_of (IsDueKey w) (scan w) key h (scan_due w placed)
 
+abbrev due_if : World → VersionRow → ℕ → Bool → Option Policy → Option ℕ → Bool
+due_if w row at b p o = not b && option_map_or (λ policy. option_map_or (λ ended. is_due_by policy row.closed (beside (view_of w row.file) row) ended at) o false) p false
+
 -- what is due has ended
 pub due_has_ended : (w : World) (row : VersionRow) (at : ℕ) → is_due_at w row at ≡ true → is_none row.ended ≡ false
 unfolding is_due_at
-due_has_ended w row at h = by (policy_of w.files row.file) row.ended h where
-  by : (p : Option Policy) (o : Option ℕ) → option_map_or (λ policy. option_map_or (λ ended. is_due_by policy row.closed (beside (view_of w row.file) row) ended at) o false) p false ≡ true → is_none o ≡ false
-  by None o h = absurd (false≢true h)
-  by (Some policy) None h = absurd (false≢true h)
-  by (Some policy) (Some ended) h = refl
+due_has_ended w row at h = by (is_protected (view_of w row.file) row at) (policy_of w.files row.file) row.ended h where
+  by : (b : Bool) (p : Option Policy) (o : Option ℕ) → due_if w row at b p o ≡ true → is_none o ≡ false
+  by true p o h = absurd (false≢true h)
+  by false None o h = absurd (false≢true h)
+  by false (Some policy) None h = absurd (false≢true h)
+  by false (Some policy) (Some ended) h = refl
+
+-- and isn't open
+pub due_is_unread : (w : World) (row : VersionRow) (at : ℕ) → is_due_at w row at ≡ true → is_open w.handles row.file row.number ≡ false
+unfolding is_due_at
+due_is_unread w row at h = sym (numbers_are w.handles row.file row.number) ∙ by (is_protected (view_of w row.file) row at) h where
+  by : (b : Bool) → due_if w row at b (policy_of w.files row.file) row.ended ≡ true → b ≡ false
+  by true h = absurd (false≢true h)
+  by false h = refl

@@ -35,12 +35,12 @@ change_keeps event first w (EndFileName directory name file) is may k = end_file
 change_keeps event first w (Revive directory name file) is may k = revive_keeps w directory name file may k
 change_keeps event first w (MakeFile directory name id policy) is may k = make_keeps w directory name id policy may k
 change_keeps event first w (Append file opened cells) is may k = append_keeps w file opened cells may k
-change_keeps event first w (Take file number) is may k = take_keeps w file number (taken_ended event first w file number may) k
+change_keeps event first w (Take file number) is may k = take_keeps w file number (taken_ended event first w file number may) may.unread k
 change_keeps event first w (StartDraft file) is may k = start_keeps w file may k
 change_keeps event first w (WriteDraft file offset bytes) is may k = write_keeps w file offset bytes may k
 change_keeps event first w (TruncateDraft file size) is may k = truncate_keeps w file size may k
 change_keeps event first w (EndDraft file) is may k = end_keeps w file may k
-change_keeps event first w (OpenHandle number file) is may k = open_keeps w number file may k
+change_keeps event first w (OpenHandle number reads) is may k = open_keeps w number reads may k
 change_keeps event first w (ShutHandle number) is may k = shut_keeps w number k
 change_keeps event first w (DropIdle file) is may k = drop_keeps w file k
 

@@ -10,12 +10,12 @@ use Rattle.ele_lists.specs.Lists.{update_first, remove_first, insert_before}
 use Rattle.ele_lists.proofs.Edits.{all-push, all-weaker, all-both, later-push, all-remove_first, all-insert_before, later-update_first, later-remove_first, later-insert_before, length-update_first, length-insert_before, length-remove_first-le, all-found, all-none, found_passes, list_any-update_first, list_any-insert_before, list_any-remove_first}
 use Rattle.ele_world.specs.Change.{current_cells, new_draft, changed_by, fitted_by, after_change, StartDraft, WriteDraft, TruncateDraft, EndDraft, OpenHandle, ShutHandle}
 use Rattle.ele_world.proofs.May.{MayStart, MayOpen}
-use Rattle.ele_world.specs.WellFormed.{IsContent, AreWrittenBy, IsVersion, IsDraft, IsReadable, IsHandle, Part, Counted, Versions, Drafts, Handles, Holds, IsWellFormed}
+use Rattle.ele_world.specs.WellFormed.{IsContent, AreWrittenBy, IsVersion, IsDraft, IsReadable, IsHeldRead, IsHandle, Part, Counted, Versions, Drafts, Handles, Readers, Holds, IsWellFormed}
 use Rattle.ele_world.specs.World.{World, next_of, is_version, is_draft, is_draft_after, is_handle, writes, is_writer}
 use Rattle.ele_world.specs.declared.rows.DraftRow.{DraftRow}
 use Rattle.ele_world.specs.declared.rows.HandleRow.{HandleRow}
 use Rattle.ele_world.specs.declared.rows.Reads.{Reads}
-use Rattle.ele_world.specs.declared.rows.Reads.TheVariants.{Draft}
+use Rattle.ele_world.specs.declared.rows.Reads.TheVariants.{Draft, Version}
 use Rattle.ele_world.specs.declared.rows.VersionRow.{VersionRow}
 use Rattle.ele_world.proofs.Writers.{changed_written, fitted_written, written_more}
 
@@ -40,6 +40,7 @@ start_keeps w file may k = record { holds = by } where
   current = current_is w file k
 
   readable : (reads : Reads) → IsReadable w.drafts reads → IsReadable (insert_before (is_draft_after file) (new_draft w file) w.drafts) reads
+  readable (Version of number) there = tt
   readable (Draft id) there = list_any-insert_before (is_draft_after file) (is_draft id) (new_draft w file) w.drafts ∙ ap (λ b. is_draft id (new_draft w file) || b) there ∙ or_true (is_draft id (new_draft w file))
 
   by : (part : Part) → Holds (after_change w (StartDraft file)) part
@@ -81,6 +82,7 @@ all-changed p P f (x ∷ xs) changes all = elim (p x) as (λ b. p x ≡ b → Al
 edit_keeps : (w : World) (file : ℕ) (f : DraftRow → DraftRow) → ((row : DraftRow) → (f row).file ≡ row.file) → ((row : DraftRow) → row.file ≡ file → IsDraft w.files w.now row → IsDraft w.files w.now (f row)) → IsWellFormed w → IsWellFormed (record w { drafts = update_first (is_draft file) f w.drafts })
 edit_keeps w file f same edits k = record { holds = by } where
   readable : (reads : Reads) → IsReadable w.drafts reads → IsReadable (update_first (is_draft file) f w.drafts) reads
+  readable (Version of number) there = tt
   readable (Draft id) there = list_any-update_first (is_draft file) (is_draft id) f w.drafts (λ x e. ap (λ (i : ℕ). eqb i id) (same x)) ∙ there
 
   by : (part : Part) → Holds (record w { drafts = update_first (is_draft file) f w.drafts }) part
@@ -153,6 +155,7 @@ truncate_keeps w file size fits k = edit_keeps w file (fitted_by number size) (s
 pub end_keeps : (w : World) (file : ℕ) → list_any (is_writer file) w.handles ≡ false → IsWellFormed w → IsWellFormed (after_change w (EndDraft file))
 end_keeps w file unwritten k = record { holds = by } where
   readable : (reads : Reads) → writes file reads ≡ false → IsReadable w.drafts reads → IsReadable (remove_first (is_draft file) w.drafts) reads
+  readable (Version of number) other there = tt
   readable (Draft id) other there = list_any-remove_first (is_draft file) (is_draft id) w.drafts (λ x found. let passes = found_passes (is_draft file) w.drafts x found in grind (arith, nat_tests)) ∙ there
 
   by : (part : Part) → Holds (after_change w (EndDraft file)) part
@@ -179,12 +182,12 @@ end_keeps w file unwritten k = record { holds = by } where
 
 -- ---- handles
 
-pub open_keeps : (w : World) (number file : ℕ) → MayOpen w number file → IsWellFormed w → IsWellFormed (after_change w (OpenHandle number file))
-open_keeps w number file may k = record { holds = by } where
+pub open_keeps : (w : World) (number : ℕ) (reads : Reads) → MayOpen w number reads → IsWellFormed w → IsWellFormed (after_change w (OpenHandle number reads))
+open_keeps w number reads may k = record { holds = by } where
   handle : HandleRow
-  handle = record { number = number; reads = Draft file }
+  handle = record { number = number; reads = reads }
 
-  by : (part : Part) → Holds (after_change w (OpenHandle number file)) part
+  by : (part : Part) → Holds (after_change w (OpenHandle number reads)) part
   by Counted = let c = k.holds Counted in record {
     files_made = c.files_made;
     names_made = c.names_made;
@@ -201,6 +204,7 @@ open_keeps w number file may k = record { holds = by } where
     placed = later-push (λ earlier later. earlier.number < later.number) w.handles handle (k.holds Handles).placed
         (all-weaker (IsHandle w.made.handles w.drafts) (λ row. row.number < number) w.handles (λ row h. omega (arith, h.given, may.next)) (k.holds Handles).each);
   }
+  by Readers = all-push (λ row. IsHeldRead w.versions row.reads) w.handles handle (k.holds Readers) may.held
   by part = k.holds part
 
 pub shut_keeps : (w : World) (number : ℕ) → IsWellFormed w → IsWellFormed (after_change w (ShutHandle number))
@@ -210,4 +214,5 @@ shut_keeps w number k = record { holds = by } where
     each = all-remove_first (is_handle number) (IsHandle w.made.handles w.drafts) w.handles (k.holds Handles).each;
     placed = later-remove_first (is_handle number) (λ earlier later. earlier.number < later.number) w.handles (k.holds Handles).placed;
   }
+  by Readers = all-remove_first (is_handle number) (λ row. IsHeldRead w.versions row.reads) w.handles (k.holds Readers)
   by part = k.holds part

@@ -3,15 +3,16 @@ use Rattle.std.proofs.Common.{◌≡◌, ℕ, ◌-◌, Bool, true, false, cond, 
 use Rattle.std.specs.List.{list_any, AllByRecursion}
 use Rattle.std.proofs.lemmas.Bool.{false≢true}
 use Rattle.std.proofs.lemmas.Bool.Decides.{nat_tests}
-use Rattle.ele_lists.proofs.Edits.{all-none, length-update_first, all-weaker, all-both, all-update_first}
+use Rattle.ele_lists.proofs.Edits.{all-none, length-update_first, list_any-update_first, all-weaker, all-both, all-update_first}
 use Rattle.ele_world.specs.Change.{after_change, ended_at, with_end, without_name, AddName, EndFileName}
 use Rattle.ele_world.specs.declared.rows.NameRow.{NameRow}
 use Rattle.ele_world.specs.declared.rows.Target.{Target}
 use Rattle.ele_world.specs.declared.rows.Target.TheVariants.{File, Directory}
 use Rattle.ele_world.specs.NameRows.{born_row, is_live_directory, is_live_in}
 use Rattle.ele_world.specs.Walk.{live_target}
-use Rattle.ele_world.specs.WellFormed.{Part, Counted, Names, Homes, Tree, Versions, Current, Holds, IsWellFormed, is_current, HaveEnded, IsOfLive, Ended}
+use Rattle.ele_world.specs.WellFormed.{Part, Counted, Names, Homes, Tree, Versions, Readers, Current, Holds, IsWellFormed, is_current, HaveEnded, IsOfLive, Ended}
 use Rattle.ele_world.specs.World.{World, next_of, is_live, is_live_name_of, is_version}
+use Rattle.ele_world.proofs.Readers.{read_on}
 use Rattle.ele_world.proofs.Homes.{any_less, homes_more, ended_more}
 use Rattle.ele_world.proofs.KeptDirectories.{HoldsWith, with_ends, end_name_holds}
 use Rattle.ele_world.proofs.KeptVersions.{versions_ended, current_ended}
@@ -77,6 +78,7 @@ with_end_keeps w file dead holds = record { holds = by } where
     version_rows = omega (arith, c.version_rows, length-update_first (is_version file last) (ended_at w.now) w.versions);
   }
   by Versions = versions_ended w.files w.now (is_version file last) w.versions (holds Versions)
+  by Readers = read_on w.versions (with_end w file) w.handles (λ f n held. list_any-update_first (is_version file last) (is_version f n) (ended_at w.now) w.versions (λ row e. refl) ∙ held) (holds Readers)
   by Current = λ other live. current other (file == other) refl live
   by Ended = all-weaker (λ row. (row.file ≡ file → IsEndedBy w.now row) × ((row.file == file) ≡ false → IsOfLive w.names row)) (IsOfLive w.names) (with_end w file) (λ row h. of_live row h.0 h.1 (row.file == file) refl)
       (all-both _ _ (with_end w file) (file_ended w.files w.now file w.versions (holds Versions).placed (holds Versions).each)

@@ -12,8 +12,9 @@ use Rattle.ele_world.specs.Change.{governed_by, after_change, Time, Govern, Make
 use Rattle.ele_world.specs.NameRows.{is_name_of_directory}
 use Rattle.ele_world.specs.Walk.{live_target}
 use Rattle.ele_policy.specs.Policy.{IsPolicy}
-use Rattle.ele_world.specs.WellFormed.{has_directory, IsDirectoryThere, IsHoused, IsFile, IsNameRow, AreApart, IsVersion, ArePlaced, IsDraft, is_current, HaveCurrent, Part, Now, Counted, Directories, Files, Names, Homes, Versions, Drafts, Current, Holds, IsWellFormed, Tree, IsOfLive, Ended}
-use Rattle.ele_world.specs.World.{World, root, is_directory, next_of, is_live, is_live_name_of, is_target_file}
+use Rattle.ele_world.specs.WellFormed.{has_directory, IsDirectoryThere, IsHoused, IsFile, IsNameRow, AreApart, IsVersion, ArePlaced, IsDraft, is_current, HaveCurrent, Part, Now, Counted, Directories, Files, Names, Homes, Versions, Drafts, Readers, Current, Holds, IsWellFormed, Tree, IsOfLive, Ended}
+use Rattle.ele_world.specs.World.{World, root, is_directory, next_of, is_live, is_live_name_of, is_target_file, is_version}
+use Rattle.ele_world.proofs.Readers.{read_on}
 use Rattle.ele_world.specs.declared.rows.DirectoryRow.{DirectoryRow}
 use Rattle.ele_world.specs.declared.rows.DraftRow.{DraftRow}
 use Rattle.ele_world.specs.declared.rows.FileRow.{FileRow}
@@ -23,7 +24,7 @@ use Rattle.ele_world.specs.declared.rows.Target.TheVariants.{File, Directory}
 use Rattle.ele_world.specs.declared.rows.VersionRow.{VersionRow}
 use Rattle.ele_world.proofs.Created.{new_file, new_name, first_version, created, made_is}
 use Rattle.ele_world.proofs.Files.{next_of-push, next_of-push_other, next_of-given, next_of-new, there-push}
-use Rattle.ele_world.proofs.Homes.{homes_more, ended_more, any_last}
+use Rattle.ele_world.proofs.Homes.{any_more, homes_more, ended_more, any_last}
 use Rattle.ele_world.proofs.May.{MayMake}
 use Rattle.ele_world.proofs.Writers.{written_more}
 use Rattle.ele_world.proofs.NameParts.{all_apart, names_more, tree_more}
@@ -170,6 +171,7 @@ module _ (w : World) (directory : ℕ) (name : List ℕ) (policy : Policy) where
           (λ row h. let same = next_of-push w.files new row.file h.there in record { there = omega (arith, h.there, same); opened = h.opened; content = h.content; written = written_more (next_of w.files row.file) (next_of files row.file) row.cells (omega (arith, same)) h.written }) (k.holds Drafts).each;
       placed = (k.holds Drafts).placed;
     }
+    by Readers = read_on w.versions (w.versions ++ first_version w id ∷ []) w.handles (λ f n held. any_more (is_version f n) w.versions (first_version w id) held) (k.holds Readers)
     by Current = created_current w new named (first_version w id) (new_next ∙ omega arith) (k.holds Files).each (k.holds Current) refl refl refl
     by Ended = all-push (IsOfLive (w.names ++ named ∷ [])) w.versions (first_version w id) (ended_more w.names named w.versions (k.holds Ended))
         (λ _. let own : is_live_name_of id named ≡ true = grind (arith, nat_tests) in any_last (is_live_name_of id) w.names named own)

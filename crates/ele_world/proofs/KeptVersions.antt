@@ -1,15 +1,18 @@
 -- The making and the removal of a version keep a world well formed.
-use Rattle.std.proofs.Common.{◌≡◌, ◌≢◌, ℕ, ◌+◌, ◌-◌, ◌<◌, ◌≤◌, Bool, true, false, cond, List, Option, Some, None, IfSome, refl, ap, sym, subst, ◌∙◌, arith, eqb, ◌==◌}
+use Rattle.std.proofs.Common.{◌≡◌, ◌≢◌, ℕ, ◌+◌, ◌-◌, ◌<◌, ◌≤◌, Bool, true, false, cond, ◌||◌, List, Option, Some, None, IfSome, refl, ap, sym, subst, ◌∙◌, arith, eqb, ◌==◌}
 use Rattle.std.specs.Prelude.{find, unwrap_or, is_none}
 use Rattle.std.specs.List.{list_any, AllByRecursion}
 use Rattle.std.proofs.lemmas.Bool.{false≢true}
 use Rattle.std.proofs.lemmas.Bool.Decides.{nat_tests}
 use Rattle.ele_content.specs.declared.cell.Cell.{Cell}
-use Rattle.ele_lists.specs.Lists.{update_first}
-use Rattle.ele_lists.proofs.Edits.{all-weaker, all-both, all-update_first, all-remove_first, all-insert_before, later-update_first, later-remove_first, later-insert_before, length-update_first, length-insert_before, length-remove_first-le, list_any-update_first, list_any-insert_before, list_any-remove_first}
+use Rattle.ele_lists.specs.Lists.{remove_first, update_first}
+use Rattle.ele_lists.proofs.Edits.{all-none, all-weaker, all-both, found_passes, all-update_first, all-remove_first, all-insert_before, later-update_first, later-remove_first, later-insert_before, length-update_first, length-insert_before, length-remove_first-le, list_any-update_first, list_any-insert_before, list_any-remove_first}
 use Rattle.ele_world.specs.Change.{numbered_on, ended_at, next_version, with_end, with_version, after_change, Take}
-use Rattle.ele_world.specs.WellFormed.{IsFile, IsNameRow, IsVersion, ArePlaced, IsDraft, is_current, HaveCurrent, Part, Counted, Files, Names, Versions, Drafts, Current, Holds, IsWellFormed, AreVersions, IsOfLive, Ended}
-use Rattle.ele_world.specs.World.{World, next_of, is_file, is_live, is_version, is_version_after}
+use Rattle.ele_world.specs.WellFormed.{IsFile, IsNameRow, IsVersion, ArePlaced, IsDraft, is_current, HaveCurrent, IsHeldRead, Part, Counted, Files, Names, Versions, Drafts, Readers, Current, Holds, IsWellFormed, AreVersions, IsOfLive, Ended}
+use Rattle.ele_world.specs.World.{World, next_of, is_file, is_live, is_open, is_version, is_version_after, reads_version}
+use Rattle.ele_world.specs.declared.rows.Reads.{Reads}
+use Rattle.ele_world.specs.declared.rows.Reads.TheVariants.{Draft, Version}
+use Rattle.ele_world.proofs.Readers.{read_on}
 use Rattle.ele_world.specs.declared.rows.FileRow.{FileRow}
 use Rattle.ele_world.specs.declared.rows.VersionRow.{VersionRow}
 use Rattle.ele_world.proofs.Files.{next_of-numbered_on, next_of-numbered_other, next_of-numbered_le, there-numbered_on}
@@ -184,6 +187,11 @@ module _ (w : World) (file opened : ℕ) (cells : List Cell) (may : MayAppend w 
           (λ row h. let le = next_of-numbered_le w.files file row.file in record { there = omega (arith, h.there, le); opened = h.opened; content = h.content; written = written_more (next_of w.files row.file) (next_of files row.file) row.cells le h.written }) (holds Drafts).each;
       placed = (holds Drafts).placed;
     }
+    by Readers = read_on w.versions (with_version w file opened cells).versions w.handles
+        (λ f n held. list_any-insert_before (is_version_after file next) (is_version f n) new (with_end w file) ∙ or_held (is_version f n new) (list_any-update_first p (is_version f n) (ended_at w.now) w.versions (λ row e. refl) ∙ held)) (holds Readers) where
+          or_held : (b : Bool) {c : Bool} → c ≡ true → (b || c) ≡ true
+          or_held true e = refl
+          or_held false e = e
     by Current = current_after (holds Current)
     by Ended = all-insert_before (is_version_after file next) (IsOfLive w.names) new (with_end w file) (new_live (is_live w file) refl)
         (all-update_first p (IsOfLive w.names) (IsOfLive w.names) (ended_at w.now) w.versions (λ row h none. absurd cc) (λ row h. h) (holds Ended)) where
@@ -197,8 +205,13 @@ module _ (w : World) (file opened : ℕ) (cells : List Cell) (may : MayAppend w 
 
 -- ---- a version that has ended goes
 
-pub take_keeps : (w : World) (file number : ℕ) → ((row : VersionRow) → find (is_version file number) w.versions ≡ Some row → is_none row.ended ≡ false) → IsWellFormed w → IsWellFormed (after_change w (Take file number))
-take_keeps w file number ended k = record { holds = by } where
+pub take_keeps : (w : World) (file number : ℕ) → ((row : VersionRow) → find (is_version file number) w.versions ≡ Some row → is_none row.ended ≡ false) → is_open w.handles file number ≡ false → IsWellFormed w → IsWellFormed (after_change w (Take file number))
+take_keeps w file number ended unread k = record { holds = by } where
+  -- a handle reads another version, and that is still held
+  still : (reads : Reads) → reads_version file number reads ≡ false → IsHeldRead w.versions reads → IsHeldRead (remove_first (is_version file number) w.versions) reads
+  still (Draft of) other h = h
+  still (Version of n) other h = list_any-remove_first (is_version file number) (is_version of n) w.versions (λ row found. let passes = found_passes (is_version file number) w.versions row found in grind (arith, nat_tests)) ∙ h
+
   not_current : (other : ℕ) (row : VersionRow) → is_none row.ended ≡ false → is_current other (next_of w.files other) row ≡ false
   not_current other row e = rw e (grind (arith, nat_tests))
 
@@ -216,6 +229,9 @@ take_keeps w file number ended k = record { holds = by } where
     each = all-remove_first (is_version file number) (IsVersion w.files w.now) w.versions (k.holds Versions).each;
     placed = later-remove_first (is_version file number) ArePlaced w.versions (k.holds Versions).placed;
   }
+  by Readers = all-weaker (λ row. (reads_version file number row.reads ≡ false) × IsHeldRead w.versions row.reads) (λ row. IsHeldRead (remove_first (is_version file number) w.versions) row.reads) w.handles
+      (λ row h. still row.reads h.0 h.1)
+      (all-both (λ row. reads_version file number row.reads ≡ false) (λ row. IsHeldRead w.versions row.reads) w.handles (all-none (λ row. reads_version file number row.reads) w.handles unread) (k.holds Readers))
   by Current = λ other live. list_any-remove_first (is_version file number) (is_current other (next_of w.files other)) w.versions
       (λ row found. not_current other row (ended row found)) ∙ k.holds Current other live
   by Ended = all-remove_first (is_version file number) (IsOfLive w.names) w.versions (k.holds Ended)

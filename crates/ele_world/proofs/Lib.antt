@@ -1,4 +1,5 @@
 pub mod Elements
+pub mod Readers
 pub mod Files
 pub mod Versions
 pub mod Walks
@@ -33,11 +34,15 @@ pub mod DueRows
 pub mod RipeAt
 pub mod Plain
 pub mod NameMoments
+pub mod OpenMoments
 pub mod Revivals
+pub mod Meant
 pub mod Allowed
 pub mod StepKeeps
 pub mod Moves
 pub mod Stays
+pub mod OpenStays
+pub mod Reverts
 pub mod Refused
 pub mod Returned
 pub mod Cleans
@@ -45,6 +50,7 @@ pub mod CleanKeepsKeys
 pub mod Passes
 pub mod DueKeys
 pub mod Newest
+pub mod Listed
 pub mod SlotPlaces
 pub mod SumRows
 pub mod Splits

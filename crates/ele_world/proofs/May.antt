@@ -12,10 +12,11 @@ use Rattle.ele_world.specs.Plan.{Plan, Tell, Make, Unless, When, Need, IfFound}
 use Rattle.ele_world.specs.Run.{IsEvent}
 use Rattle.ele_world.specs.Walk.{live_target}
 use Rattle.ele_policy.specs.Policy.{IsPolicy}
-use Rattle.ele_world.specs.WellFormed.{IsThere, IsDirectoryThere, has_directory, is_reached, IsContent, AreWrittenBy}
-use Rattle.ele_world.specs.World.{World, next_of, is_version, is_live, current_of, is_draft, has_draft, is_writer}
+use Rattle.ele_world.specs.WellFormed.{IsThere, IsDirectoryThere, has_directory, is_reached, IsContent, AreWrittenBy, IsReadable, IsHeldRead}
+use Rattle.ele_world.specs.World.{World, next_of, is_version, is_live, current_of, is_open, has_draft, is_writer}
 use Rattle.ele_world.specs.declared.event.Event.{Event}
 use Rattle.ele_world.specs.declared.event.Event.TheVariants.{CleanOne}
+use Rattle.ele_world.specs.declared.rows.Reads.{Reads}
 use Rattle.ele_world.specs.declared.rows.Target.{Target}
 use Rattle.ele_world.specs.declared.rows.Target.TheVariants.{File, Directory}
 use Rattle.ele_world.specs.declared.rows.VersionRow.{VersionRow}
@@ -87,6 +88,7 @@ pub record MayTake (event : Event) (first w : World) (file number : ℕ) : Type 
   pub found : find (is_version file number) first.versions ≡ Some row
   pub due : is_due_at first row first.now ≡ true
   pub ended : is_none row.ended ≡ false
+  pub unread : is_open w.handles file number ≡ false
   pub same : w.versions ≡ first.versions
 
 pub record MayStart (w : World) (file : ℕ) : Type 0 where
@@ -94,10 +96,11 @@ pub record MayStart (w : World) (file : ℕ) : Type 0 where
   pub none : has_draft w file ≡ false
   pub room : HasRoom w
 
-pub record MayOpen (w : World) (number file : ℕ) : Type 0 where
+pub record MayOpen (w : World) (number : ℕ) (reads : Reads) : Type 0 where
   pub next : number ≡ w.made.handles + 1
   pub room : w.made.handles < w.limits.handles
-  pub drafted : list_any (is_draft file) w.drafts ≡ true
+  pub drafted : IsReadable w.drafts reads
+  pub held : IsHeldRead w.versions reads
 
 -- the change, by an event and from the world before the event's first change
 abbrev pub May : Event → World → World → Change → Type 0
@@ -116,7 +119,7 @@ May event first w (StartDraft file) = MayStart w file
 May event first w (WriteDraft file offset bytes) = offset + length bytes ≤ longest_content
 May event first w (TruncateDraft file size) = size ≤ longest_content
 May event first w (EndDraft file) = list_any (is_writer file) w.handles ≡ false
-May event first w (OpenHandle number file) = MayOpen w number file
+May event first w (OpenHandle number reads) = MayOpen w number reads
 May event first w (ShutHandle number) = Unit {0}
 May event first w (DropIdle file) = Unit {0}
 

@@ -20,8 +20,8 @@ use Rattle.ele_world.specs.Step.{plan, step}
 use Rattle.ele_world.specs.WellFormed.{is_current, Files, Current, IsWellFormed}
 use Rattle.ele_world.specs.World.{World, default_of, is_file, is_version, is_version_after, is_draft, is_draft_after, is_live, has_draft, next_of}
 use Rattle.ele_world.specs.declared.event.Event.{Event}
-use Rattle.ele_world.specs.declared.event.Event.TheVariants.{Clock, Tick, MakeDir, RemoveDir, Create, Link, Unlink, Rename, Undelete, OpenWrite, Write, Truncate, Close, SetDefault, CleanOne, Read, Restorable, Due, UsageAll}
-use Rattle.ele_world.specs.declared.event.Source.TheVariants.{Of}
+use Rattle.ele_world.specs.declared.event.Event.TheVariants.{Clock, Tick, MakeDir, RemoveDir, Create, Link, Unlink, Rename, Undelete, OpenWrite, OpenRead, Write, Truncate, Close, Revert, SetDefault, CleanOne, Read, Stat, Versions, List as ListNames, Restorable, Due, UsageAll}
+use Rattle.ele_world.specs.declared.event.Source.TheVariants.{Tagged, Of}
 use Rattle.ele_world.specs.declared.rows.DraftRow.{DraftRow}
 use Rattle.ele_world.specs.declared.rows.FileRow.{FileRow}
 use Rattle.ele_world.specs.declared.rows.Target.TheVariants.{File}
@@ -154,23 +154,32 @@ tidy w (Undelete path) k all = λ at parent free lost last may. (
       let named = with_name w at.0 at.1 (File file) in versioned named file w.now (current_cells w file) (all_but named file all),
 )
 tidy w (OpenWrite path) k all = λ file found handles. (λ has. all, λ none versions. begun w file all)
+tidy w (OpenRead tagged) k all = λ row found handles. all
 tidy w (Write handle offset bytes) k all = λ file found. (λ none. tt, λ some fits. edited w file (changed_by (next_of w.files file) offset bytes) (λ row. refl) all)
 tidy w (Truncate handle size) k all = λ file found fits. edited w file (fitted_by (next_of w.files file) size) (same_file (next_of w.files file) size) all
-tidy w (Close handle) k all = λ file found. (
-  λ other. all,
-  λ last. (
-    all,
-    λ draft drafted.
-        let shut = after_change w (ShutHandle handle) in
-        let u = after_change shut (EndDraft file) in (
-          λ changed. versioned u file draft.opened draft.cells (ended shut file all),
-          λ same. idle_gone u file (end_keeps shut file last (shut_keeps w handle k)) (ended shut file all),
-        ),
+tidy w (Close handle) k all = λ read found. (
+  all,
+  λ file writes. (
+    λ other. all,
+    λ last. (
+      all,
+      λ draft drafted.
+          let shut = after_change w (ShutHandle handle) in
+          let u = after_change shut (EndDraft file) in (
+            λ changed. versioned u file draft.opened draft.cells (ended shut file all),
+            λ same. idle_gone u file (end_keeps shut file last (shut_keeps w handle k)) (ended shut file all),
+          ),
+    ),
   ),
 )
+tidy w (Revert path number) k all = λ file found row meant drafts versions. versioned w file w.now row.cells (all_but w file all)
 tidy w (SetDefault path policy) k all = λ directory found. all
 tidy w CleanOne k all = (tt, λ key first. idle_gone (after_change w (Take key.file key.number)) key.file (change_keeps CleanOne w w (Take key.file key.number) tt (takes w key k first) k) (taken w key.file key.number all))
-tidy w (Read (Of handle)) k all = λ reads found. tt
+tidy w (Read (Of handle)) k all = λ read found. tt
+tidy w (Read (Tagged tagged)) k all = λ row found. tt
+tidy w (Stat tagged) k all = λ target found told is. tt
+tidy w (Versions at) k all = λ file found. tt
+tidy w (ListNames at) k all = λ directory found. tt
 tidy w Restorable k all = tt
 tidy w Due k all = tt
 tidy w UsageAll k all = tt

@@ -6,8 +6,8 @@ use Rattle.ele_world.specs.Plan.{Plan, Tell, Make, Unless, When, Need, IfFound, 
 use Rattle.ele_world.specs.Step.{plan, step}
 use Rattle.ele_world.specs.World.{World}
 use Rattle.ele_world.specs.declared.event.Event.{Event}
-use Rattle.ele_world.specs.declared.event.Event.TheVariants.{Clock, Tick, MakeDir, RemoveDir, Create, Link, Unlink, Rename, Undelete, OpenWrite, Write, Truncate, Close, SetDefault, CleanOne, Read, Restorable, Due, UsageAll}
-use Rattle.ele_world.specs.declared.event.Source.TheVariants.{Of}
+use Rattle.ele_world.specs.declared.event.Event.TheVariants.{Clock, Tick, MakeDir, RemoveDir, Create, Link, Unlink, Rename, Undelete, OpenWrite, OpenRead, Write, Truncate, Close, Revert, SetDefault, CleanOne, Read, Stat, Versions, List as ListNames, Restorable, Due, UsageAll}
+use Rattle.ele_world.specs.declared.event.Source.TheVariants.{Tagged, Of}
 use Rattle.ele_world.specs.declared.refusal.Refusal.{Refusal}
 use Rattle.ele_world.specs.declared.reply.Reply.{Reply}
 use Rattle.ele_world.specs.declared.reply.Reply.TheVariants.{Refused}
@@ -36,12 +36,18 @@ fair w (Unlink path) = λ at file. (refl, refl)
 fair w (Rename from to) = λ old moved at. (refl, refl)
 fair w (Undelete path) = λ at lost. ((refl, refl), λ file. (refl, refl))
 fair w (OpenWrite path) = λ file. ((refl, refl), (refl, refl))
+fair w (OpenRead tagged) = λ row. (refl, refl)
 fair w (Write handle offset bytes) = λ file. (tt, (refl, refl))
 fair w (Truncate handle size) = λ file. (refl, refl)
-fair w (Close handle) = λ file. ((refl, refl), ((refl, refl), λ draft. ((refl, refl), (refl, refl))))
+fair w (Close handle) = λ read. ((refl, refl), λ file. ((refl, refl), ((refl, refl), λ draft. ((refl, refl), (refl, refl)))))
+fair w (Revert path number) = λ file row. (refl, refl)
 fair w (SetDefault path policy) = λ directory. (refl, refl)
 fair w CleanOne = (tt, λ key. (refl, refl))
-fair w (Read (Of handle)) = λ file. tt
+fair w (Read (Of handle)) = λ read. tt
+fair w (Read (Tagged tagged)) = λ row. tt
+fair w (Stat tagged) = λ target told. tt
+fair w (Versions at) = λ file. tt
+fair w (ListNames at) = λ directory. tt
 fair w Restorable = tt
 fair w Due = tt
 fair w UsageAll = tt

@@ -74,7 +74,7 @@ module _ (w : World) (directory : ℕ) (name : List ℕ) (file : ℕ) (may : May
         let number_is : n ≡ next = grind (arith, nat_tests) in
         rw (file_is, number_is) (new_moment ∙ sym moment_before)
     by false e =
-        found_moment w revived (policies-numbered w.files file) f n
+        found_moment w revived f n (policies-numbered w.files file f) refl
         (find-insert_before (is_version_after file next) (is_version f n) new (with_end named file) e ∙ ap (find (is_version f n)) none_ends)
 
 -- ---- usage

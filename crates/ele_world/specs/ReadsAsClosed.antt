@@ -1,5 +1,5 @@
 -- A read of a held version gives the bytes that it had when it closed, whatever was written, renamed, reverted or cleaned since.
-use Rattle.std.specs.Prelude.{◌≡◌, ℕ, List, Some, Ok, find}
+use Rattle.std.specs.Prelude.{◌≡◌, ℕ, List, Ok}
 use Rattle.std.specs.List.{AllByRecursion}
 use Rattle.ele_content.specs.Content.{content_of}
 use Rattle.ele_time_path.specs.declared.tagged.TaggedPath.{TaggedPath}
@@ -13,7 +13,7 @@ use Rattle.ele_world.specs.Bounds.{Bounds, AreBounds}
 use Rattle.ele_world.specs.Run.{run_of, IsEvent}
 use Rattle.ele_world.specs.Step.{step}
 use Rattle.ele_world.specs.Tagged.{version_at}
-use Rattle.ele_world.specs.World.{World, fresh_world, is_version, reads_by}
+use Rattle.ele_world.specs.World.{World, fresh_world, reads_by}
 
 -- a read of the version gives the row's bytes, by whatever path and tag, and by whatever handle
 pub record ReadsRow (w : World) (row : VersionRow) : Type 0 where

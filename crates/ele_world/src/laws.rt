@@ -10,11 +10,9 @@ ghost use Rattle.ele_world.specs.NoIdleStays.{NoIdleStays, NoIdleStaysInRuns};
 ghost use Rattle.ele_world.specs.RemoveDirEnds.{RemoveDirEnds};
 ghost use Rattle.ele_world.specs.HeldStays.{HeldStays, HeldStaysInRuns};
 ghost use Rattle.ele_world.specs.NothingChanges.{RefusedStays, AskingStays};
-ghost use Rattle.ele_world.specs.OneLife.{OneLife};
 ghost use Rattle.ele_world.specs.OpenStays.{OpenStays};
 ghost use Rattle.ele_world.specs.OnlyDueLeave.{OnlyDueLeave, OnlyDueLeaveInRuns};
 ghost use Rattle.ele_world.specs.PassLeavesKept.{PassLeavesKept, PassLeavesKeptInRuns};
-ghost use Rattle.ele_world.specs.ReadsAsClosed.{ReadsAsClosed};
 ghost use Rattle.ele_world.specs.RemovalOrder.{RemovalOrder};
 ghost use Rattle.ele_world.specs.RenameLeads.{RenameLeads};
 ghost use Rattle.ele_world.specs.RevertKeeps.{RevertKeeps};
@@ -126,17 +124,6 @@ pub fn open_stays()
 /// A revert gives the file a current version with the cells of the one that was named.
 pub fn revert_keeps()
     ensures { RevertKeeps }
-{}
-
-/// In every run, of all versions of a file that ever closed exactly one lived at each moment that a name of the file covers. A
-/// read at the moment finds it while it is held, and is refused as `Forgotten` once it was removed.
-pub fn one_life()
-    ensures { OneLife }
-{}
-
-/// A read of a held version gives the bytes that it had when it closed, whatever has happened since.
-pub fn reads_as_closed()
-    ensures { ReadsAsClosed }
 {}
 
 /// An undisturbed finished pass leaves exactly the versions that the scan at its start kept.

@@ -1,37 +1,36 @@
-//! What is asked of files, versions, drafts and handles.
+//! What is asked of files, drafts and handles.
 //! A contract sees each answer as a look at the rows.
-ghost use Rattle.std.specs.Prelude.{◌≡◌, ◌<◌, ◌+◌, ◌^◌, Ok, IfOk, length, find, is_some, if◌then◌else◌};
+ghost use Rattle.std.specs.Prelude.{◌≡◌, Ok, IfOk, length, find};
 ghost use Rattle.std.specs.List.{list_any};
 ghost use Rattle.std.specs.Option.{option_map};
 ghost use Rattle.ele_content.specs.Content.{content_of};
-ghost use Rattle.ele_files.specs.Asked.{stamps_of};
 ghost use Rattle.ele_files.specs.Held.{cells_of_draft};
 ghost use Rattle.ele_files.specs.Inside.{reads_in};
-ghost use Rattle.ele_world.specs.World.{policy_of, is_file, is_version, is_draft, reads_by, file_written, file_by};
+ghost use Rattle.ele_world.specs.World.{policy_of, is_file, is_draft, is_open, reads_by, file_written, file_by};
 
 use crate::files::{Files, file_of};
-use crate::stamps::Stamps;
-use ele_inode_log::Meter;
 use ele_lists::{ByteList, ListOf};
 use ele_moment::{FileId, Handle, NoMemory, VersionNo};
 use ele_policy::Policy;
 use ele_world::{Reads, Refusal};
 
 /// What a handle of the sessions reads, as its row says it.
-fn reads_in(reads: ele_sessions::Reads) -> Reads
+pub fn reads_in(reads: ele_sessions::Reads) -> Reads
     ensures { result ≡ reads_in reads }
 {
     match reads {
         ele_sessions::Reads::Draft(file) => Reads::Draft(file),
+        ele_sessions::Reads::Version(file, number) => Reads::Version(file, number),
     }
 }
 
-/// The file that a handle writes that reads this.
+/// The file that a handle writes that reads this. Refused: `NotWriter`, where that is a version.
 fn file_written(reads: Reads) -> Result<FileId, Refusal>
     ensures { result ≡ file_written (Ok reads) }
 {
     match reads {
         Reads::Draft(file) => Ok(file),
+        Reads::Version(_, _) => Err(Refusal::NotWriter),
     }
 }
 
@@ -52,23 +51,6 @@ impl Files {
         Some(held.next)
     }
 
-    /// The version's moments and its length; none where it isn't held.
-    pub fn stamps(&self, file: FileId, number: VersionNo, meter: &mut Meter) -> Option<Stamps>
-        requires { meter.old < 2 ^ 62 }
-        ensures value { result
-            ≡ option_map stamps_of (find (is_version file number) self.now.versions) }
-        ensures read { meter.new ≡ meter.old + (if is_some result then 1 else 0) }
-    {
-        let held = file_of(&self.files, file)?;
-        let row = held.log.get(number, meter)?;
-        Some(Stamps {
-            opened: row.opened,
-            closed: row.closed,
-            ended: row.ended,
-            length: row.cells.length(),
-        })
-    }
-
     /// What is read through the handle. Refused: `NoHandle`, where no open handle has that number.
     pub fn reads_by(&self, handle: Handle) -> Result<Reads, Refusal>
         ensures { result ≡ reads_by self.now.handles handle }
@@ -79,7 +61,7 @@ impl Files {
         }
     }
 
-    /// The file that is written through the handle. Refused: `NoHandle`.
+    /// The file that is written through the handle. Refused: `NoHandle`, `NotWriter`.
     pub fn file_by(&self, handle: Handle) -> Result<FileId, Refusal>
         ensures { result ≡ file_by self.now.handles handle }
     {
@@ -87,6 +69,13 @@ impl Files {
             Ok(reads) => file_written(reads),
             Err(refusal) => Err(refusal),
         }
+    }
+
+    /// Whether the version is open: some handle reads it. This looks at no handle.
+    pub fn is_open(&self, file: FileId, number: VersionNo) -> bool
+        ensures { result ≡ is_open self.now.handles file number }
+    {
+        self.sessions.pins(file, number)
     }
 
     /// How many handles were ever opened.

@@ -50,7 +50,7 @@ fn give_up(store: &mut BlockStore, map: Option<BlockMap>)
 
 impl Files {
     /// When the draft was opened that is to become a version as the handle closes: that of the file which it writes, where no
-    /// other handle does and the draft was changed. None where closing it makes no version.
+    /// other handle does and the draft was changed. None where closing it makes no version, as that of a handle that reads one.
     pub fn changed_draft(&self, handle: Handle) -> Option<Moment>
         ensures { result ≡ opening_by self.now handle }
     {
@@ -58,7 +58,8 @@ impl Files {
     }
 
     /// The handle goes, and no version is made: while others write the file its draft stays, and with
-    /// the last handle it vanishes. A number that no open handle has does nothing.
+    /// the last handle it vanishes. Of a handle that reads a version nothing stays behind. A number
+    /// that no open handle has does nothing.
     pub fn leave(&mut self, handle: Handle)
         ensures { self.new ≡ left_by self.old handle }
     {

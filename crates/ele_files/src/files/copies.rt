@@ -11,11 +11,12 @@ ghost use Rattle.ele_inode_log.specs.Rows.{is_after};
 
 use crate::file::File;
 use crate::files::Files;
+use crate::files::asking::reads_in;
 use ele_blocks::{BlockMap, BlockStore};
 use ele_inode_log::{Meter, VersionRow as LogRow};
 use ele_lists::ListOf;
 use ele_moment::{NoMemory, VersionNo};
-use ele_world::{Cell, DraftRow, FileRow, HandleRow, Reads, VersionRow};
+use ele_world::{Cell, DraftRow, FileRow, HandleRow, VersionRow};
 use std::alloc::Global;
 
 impl Files {
@@ -78,7 +79,7 @@ impl Files {
         for handle in self.sessions.handles() {
             rows.push(HandleRow {
                 number: handle.number,
-                reads: Reads::Draft(handle.file),
+                reads: reads_in(handle.reads),
             })?;
         }
         Ok(ListOf::from_vec(rows))
@@ -104,7 +105,7 @@ fn copy_cells(alloc: Global, store: &BlockStore, map: &BlockMap) -> Result<ListO
 }
 
 /// The file's first row with a greater number.
-fn next_row(file: &File, behind: VersionNo) -> Option<&LogRow>
+pub fn next_row(file: &File, behind: VersionNo) -> Option<&LogRow>
     ensures { option_copied result ≡ find (is_after behind) file.now.log.rows }
 {
     let mut meter = Meter::new();

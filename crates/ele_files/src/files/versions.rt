@@ -1,0 +1,109 @@
+//! What is asked of versions.
+//! A contract sees each answer as a look at the rows.
+ghost use Rattle.std.specs.Prelude.{◌≡◌, ◌<◌, ◌≤◌, ◌+◌, ◌^◌, IfOk, OnOk, filter, find, map, is_some, if◌then◌else◌};
+ghost use Rattle.std.specs.Option.{option_map};
+ghost use Rattle.std.specs.Result.{result_map_both};
+ghost use Rattle.ele_content.specs.Content.{content_of};
+ghost use Rattle.ele_files.specs.Held.{cells_of_version};
+ghost use Rattle.ele_files.specs.Inside.{IsFileKept};
+ghost use Rattle.ele_files.specs.Meant.{stamps_in};
+ghost use Rattle.ele_world.specs.FileView.{is_version_of};
+ghost use Rattle.ele_world.specs.Tagged.{version_meant};
+ghost use Rattle.ele_world.specs.Told.{stamps_of};
+ghost use Rattle.ele_world.specs.World.{is_version, next_of};
+
+use crate::file::File;
+use crate::files::copies::next_row;
+use crate::files::{Files, file_of};
+use crate::meant::stamps_of;
+use ele_inode_log::Meter;
+use ele_lists::{ByteList, ListOf};
+use ele_moment::{FileId, NoMemory, VersionNo};
+use ele_world::{Refusal, Stamps, StampsList, Tag};
+use std::alloc::Global;
+
+impl Files {
+    /// The version's number, its moments and its length; none where it isn't held.
+    pub fn stamps(&self, file: FileId, number: VersionNo, meter: &mut Meter) -> Option<Stamps>
+        requires { meter.old < 2 ^ 62 }
+        ensures value { result
+            ≡ option_map stamps_of (find (is_version file number) self.now.versions) }
+        ensures read { meter.new ≡ meter.old + (if is_some result then 1 else 0) }
+    {
+        let held = file_of(&self.files, file)?;
+        let row = held.log.get(number, meter)?;
+        Some(stamps_of(row))
+    }
+
+    /// The file's version that the tag means; without one it is that before the next. Refused: `NoVersion` for a number that no
+    /// version got, and `Forgotten` where it isn't held any more, with the last number that is held from before it.
+    pub fn version_meant(
+        &self,
+        file: FileId,
+        tag: Tag,
+        meter: &mut Meter,
+    ) -> Result<Stamps, Refusal>
+        requires there { 0 < next_of self.now.files file }
+        requires meter { meter.old < 2 ^ 62 }
+        ensures value { result ≡ result_map_both stamps_of (λ refusal. refusal)
+            (version_meant self.now.files self.now.versions file tag) }
+        ensures read { meter.new ≤ meter.old + 1 }
+    {
+        let Some(held) = file_of(&self.files, file) else {
+            unreachable!()
+        };
+        held.meant(tag, meter)
+    }
+
+    /// The bytes of the version; none where it isn't held.
+    pub fn version_content(
+        &self,
+        file: FileId,
+        number: VersionNo,
+        meter: &mut Meter,
+    ) -> Result<ByteList, NoMemory>
+        requires { meter.old < 2 ^ 62 }
+        ensures bytes { IfOk result
+            (λ bytes. bytes ≡ content_of (cells_of_version self.now file number)) }
+        ensures read { meter.new ≤ meter.old + 1 }
+    {
+        let Some(held) = file_of(&self.files, file) else {
+            return Ok(ListOf::new(self.alloc));
+        };
+        match held.log.get(number, meter) {
+            Some(row) => {
+                let bytes = row.cells.content(&self.store)?;
+                Ok(ListOf::from_vec(bytes))
+            }
+            None => Ok(ListOf::new(self.alloc)),
+        }
+    }
+
+    /// What is told of all held versions of the file, by number.
+    pub fn stamps_of_file(&self, file: FileId) -> Result<StampsList, NoMemory>
+        ensures { IfOk result
+            (λ list. list ≡ map stamps_of (filter (is_version_of file) self.now.versions)) }
+    {
+        match file_of(&self.files, file) {
+            Some(held) => {
+                let list = log_stamps(self.alloc, held)?;
+                Ok(ListOf::from_vec(list))
+            }
+            None => Ok(ListOf::new(self.alloc)),
+        }
+    }
+}
+
+/// What is told of all rows of the file's log.
+fn log_stamps(alloc: Global, file: &File) -> Result<Vec<Stamps>, NoMemory>
+    requires { IsFileKept file.now }
+    ensures { IfOk result (λ list. list.items ≡ map stamps_in file.now.log.rows) }
+{
+    let mut list = Vec::with_capacity(alloc, file.log.len())?;
+    let mut behind = VersionNo(0);
+    while let Some(row) = next_row(file, behind) {
+        behind = row.number;
+        list.push(stamps_of(row))?;
+    }
+    Ok(list)
+}

@@ -1,0 +1,72 @@
+//! The version of one file that a tag means.
+//! A contract sees a look-up among the rows of its log.
+ghost use Rattle.std.specs.Prelude.{◌≡◌, ◌<◌, ◌≤◌, ◌+◌, ◌^◌};
+ghost use Rattle.ele_files.specs.Meant.{stamps_in, row_numbered, row_living, row_meant};
+
+use crate::file::File;
+use ele_inode_log::{Meter, VersionRow};
+use ele_moment::{Moment, VersionNo};
+use ele_world::{Refusal, Stamps, Tag};
+
+/// The row's number, its moments, and how many bytes it has.
+pub fn stamps_of(row: &VersionRow) -> Stamps
+    ensures { result ≡ stamps_in row.now }
+{
+    Stamps {
+        number: row.number,
+        opened: row.opened,
+        closed: row.closed,
+        ended: row.ended,
+        length: row.cells.length(),
+    }
+}
+
+impl File {
+    /// The version of that number. Refused: `Forgotten`, with the last number that is held from before it.
+    fn numbered(&self, number: VersionNo, meter: &mut Meter) -> Result<Stamps, Refusal>
+        requires { meter.old < 2 ^ 62 }
+        ensures value { result ≡ row_numbered self.now number }
+        ensures read { meter.new ≤ meter.old + 1 }
+    {
+        if let Some(row) = self.log.get(number, meter) {
+            return Ok(stamps_of(row));
+        }
+        let before = self.log.prev_held(number, meter);
+        Err(Refusal::Forgotten(before.map(|row| row.number)))
+    }
+
+    /// The version that lived at the moment. Refused: `Forgotten`, with the number of the last one that is held of those that had
+    /// closed by then.
+    fn living(&self, moment: Moment, meter: &mut Meter) -> Result<Stamps, Refusal>
+        requires { meter.old < 2 ^ 62 }
+        ensures value { result ≡ row_living self.now moment }
+        ensures read { meter.new ≤ meter.old + 1 }
+    {
+        let Some(row) = self.log.closed_by(moment, meter) else {
+            return Err(Refusal::Forgotten(None));
+        };
+        match row.ended {
+            Some(ended) if ended <= moment => Err(Refusal::Forgotten(Some(row.number))),
+            _ => Ok(stamps_of(row)),
+        }
+    }
+
+    /// The version that the tag means; without one it is the version before the next. Refused: `NoVersion` for a number that
+    /// no version got, `Forgotten`.
+    pub fn meant(&self, tag: Tag, meter: &mut Meter) -> Result<Stamps, Refusal>
+        requires { meter.old < 2 ^ 62 }
+        ensures value { result ≡ row_meant self.now tag }
+        ensures read { meter.new ≤ meter.old + 1 }
+    {
+        match tag {
+            Tag::Now => self.numbered(self.next.before(), meter),
+            Tag::At(moment) => self.living(moment, meter),
+            Tag::Number(number) => {
+                if number.0 == 0 || number.0 >= self.next.0 {
+                    return Err(Refusal::NoVersion);
+                }
+                self.numbered(number, meter)
+            }
+        }
+    }
+}

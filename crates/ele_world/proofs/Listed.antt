@@ -1,0 +1,93 @@
+-- The listing of a directory at a moment, by what each name stood for then.
+use Rattle.std.proofs.Common.{◌≡◌, ℕ, ◌≤◌, ◌==◌, Bool, true, false, cond, ◌&&◌, List, [], ◌∷◌, fold, Option, Some, None, refl, ap, sym, ◌∙◌, filter, find, nat_lt, arith}
+use Rattle.std.specs.List.{AllByRecursion}
+use Rattle.std.specs.List.Sorted.{IsStrictlySortedBy}
+use Rattle.std.specs.Map.{keys_of, lookup}
+use Rattle.std.specs.BTreeMap.{insert_entry, is_at}
+use Rattle.std.specs.Option.{option_map, option_map_or, option_or}
+use Rattle.std.specs.Ordering.{nat_cmp}
+use Rattle.std.specs.Cmp.Lexicographic.{slice_cmp, nat_list_cmp_total}
+use Rattle.std.specs.Str.{bytes_eq}
+use Rattle.std.proofs.lemmas.Bool.Decides.{nat_tests}
+use Rattle.std.proofs.lemmas.Map.Lookups.{exact_bytes}
+use Rattle.std.proofs.lemmas.Map.Text.{is_eq-slice_cmp}
+use Rattle.std.proofs.lemmas.Slice.Eq.{bytes_eq-Decides}
+use Rattle.ele_lists.specs.Lists.{AllLater}
+use Rattle.ele_lists.proofs.Edits.{all-weaker, not_found}
+use Rattle.ele_lists.proofs.Entries.{entries_same, sorted-insert_entry, lookup-insert_entry}
+use Rattle.ele_world.specs.NameRows.{covers, is_named, lives_past, target_at}
+use Rattle.ele_world.specs.Told.{stood_in, listing}
+use Rattle.ele_world.specs.WellFormed.{AreApart}
+use Rattle.ele_world.specs.declared.rows.NameRow.{NameRow}
+use Rattle.ele_world.specs.declared.rows.Target.{Target}
+
+abbrev Entry : Type 0
+Entry = List ℕ × Target
+
+abbrev more : List Entry → NameRow → List Entry
+more listed row = insert_entry (slice_cmp nat_cmp) listed row.name row.target
+
+listed_sorted : (rows : List NameRow) (listed : List Entry) → IsStrictlySortedBy (slice_cmp nat_cmp) (keys_of listed) → IsStrictlySortedBy (slice_cmp nat_cmp) (keys_of (fold more listed rows))
+listed_sorted [] listed up = up
+listed_sorted (row ∷ rows) listed up = listed_sorted rows (more listed row) (sorted-insert_entry nat_list_cmp_total listed row.name row.target up)
+
+-- a name that was dead by the other's birth doesn't cover what that covers
+over : (o : Option ℕ) (death b t : ℕ) → o ≡ Some death → death ≤ b → b ≤ t → option_map_or (λ death. nat_lt t death) o true ≡ true → true ≡ false
+over o death b t is le up lives = let no : option_map_or (λ (death : ℕ). nat_lt t death) o true ≡ false = rw is (grind (arith, nat_tests)) in sym lives ∙ no
+
+module _ (d t : ℕ) where
+  -- a row of the name that covers the moment
+  abbrev stood : List ℕ → NameRow → Bool
+  stood n row = is_named d n row && covers t row
+
+  -- behind such a row there is no other
+  alone : (n : List ℕ) (row : NameRow) (rows : List NameRow) → stood n row ≡ true → AllByRecursion (AreApart row) rows → find (stood n) rows ≡ None
+  alone n row rows is apart = not_found (stood n) rows (all-weaker (AreApart row) (λ other. stood n other ≡ false) rows (λ other far. by other (stood n other) refl far) apart) where
+    by : (other : NameRow) (b : Bool) → stood n other ≡ b → AreApart row other → b ≡ false
+    by other false e far = refl
+    by other true e far =
+        let here : row.directory ≡ other.directory = grind (arith, nat_tests) in
+        let this : row.name ≡ n = (bytes_eq-Decides row.name n).0 (grind (arith, nat_tests)) in
+        let that : other.name ≡ n = (bytes_eq-Decides other.name n).0 (grind (arith, nat_tests)) in
+        let dead = far here (this ∙ sym that) in
+        let born : other.birth ≤ t = grind (arith, nat_tests) in
+        let lives : lives_past t row ≡ true = grind (arith, nat_tests) in
+        over row.death dead.0 other.birth t dead.1 dead.2 born lives
+
+  listed_found : (n : List ℕ) (rows : List NameRow) (listed : List Entry) → AllLater AreApart rows
+      → lookup (is_at (slice_cmp nat_cmp n)) (fold more listed (filter (stood_in d t) rows)) ≡ option_or (target_at rows t d n) (lookup (is_at (slice_cmp nat_cmp n)) listed)
+  listed_found n [] listed apart = refl
+  listed_found n (row ∷ rows) listed apart = by (λ l. listed_found n rows l apart.1) (row.directory == d) (covers t row) (bytes_eq row.name n) refl refl refl where
+    at_name : List Entry → Option Target
+    at_name entries = lookup (is_at (slice_cmp nat_cmp n)) entries
+
+    last : (c : Bool) → (row.directory == d) ≡ true → covers t row ≡ true → bytes_eq row.name n ≡ c
+        → option_or (target_at rows t d n) (cond c (Some row.target) (at_name listed)) ≡ option_or (option_map (λ (row : NameRow). row.target) (cond (c && true) (Some row) (find (stood n) rows))) (at_name listed)
+    last false ea eb e = refl
+    last true ea eb e = rw (alone n row rows (rw (ea, e, eb) refl) apart.0) refl
+
+    by : ((l : List Entry) → at_name (fold more l (filter (stood_in d t) rows)) ≡ option_or (target_at rows t d n) (at_name l))
+        → (a b c : Bool) → (row.directory == d) ≡ a → covers t row ≡ b → bytes_eq row.name n ≡ c
+        → at_name (fold more listed (cond (a && b) (row ∷ filter (stood_in d t) rows) (filter (stood_in d t) rows))) ≡ option_or (option_map (λ (row : NameRow). row.target) (cond ((a && c) && b) (Some row) (find (stood n) rows))) (at_name listed)
+    by rest false b c ea eb ec = rest listed
+    by rest true false true ea eb ec = rest listed
+    by rest true false false ea eb ec = rest listed
+    by rest true true c ea eb ec =
+        rest (more listed row)
+        ∙ ap (option_or (target_at rows t d n)) (lookup-insert_entry nat_list_cmp_total n listed row.name row.target ∙ ap (λ b. cond b (Some row.target) (at_name listed)) (is_eq-slice_cmp row.name n ∙ ec))
+        ∙ last c ea eb ec
+
+in_order : (rows : List NameRow) → IsStrictlySortedBy (slice_cmp nat_cmp) (keys_of (fold more [] rows))
+unfolding IsStrictlySortedBy
+in_order rows = listed_sorted rows [] tt
+
+-- entries in order that tell of each name what it stood for are the listing
+pub listing_is : (rows : List NameRow) (d t : ℕ) (items : List (List ℕ × Target)) → AllLater AreApart rows → IsStrictlySortedBy (slice_cmp nat_cmp) (keys_of items)
+    → ((n : List ℕ) → lookup (is_at (slice_cmp nat_cmp n)) items ≡ target_at rows t d n) → items ≡ listing rows d t
+unfolding listing
+listing_is rows d t items apart up found =
+    entries_same nat_list_cmp_total exact_bytes items (fold more [] (filter (stood_in d t) rows)) up (in_order (filter (stood_in d t) rows))
+    (λ n. found n ∙ none (target_at rows t d n) ∙ sym (listed_found d t n rows [] apart)) where
+      none : (o : Option Target) → o ≡ option_or o None
+      none None = refl
+      none (Some target) = refl

@@ -1,0 +1,61 @@
+-- The version that a tag means is one of its file that is held.
+use Rattle.std.proofs.Common.{◌≡◌, ℕ, ◌-◌, Bool, true, false, cond, ◌&&◌, nat_lt, List, Option, Some, None, arith, find, subst, sym}
+use Rattle.std.specs.Prelude.{Result, Ok, Err}
+use Rattle.std.proofs.lemmas.Bool.Decides.{nat_tests}
+use Rattle.ele_lists.proofs.Edits.{found_passes}
+use Rattle.ele_lists.proofs.Found.{any-found}
+use Rattle.ele_time_path.specs.declared.tagged.Tag.{Tag}
+use Rattle.ele_time_path.specs.declared.tagged.Tag.TheVariants as tag
+use Rattle.ele_time_path.specs.declared.tagged.TaggedPath.{TaggedPath}
+use Rattle.ele_world.specs.Tagged.{had_life, held_or_forgotten, version_meant, version_numbered, version_found, version_at, walk_meant}
+use Rattle.ele_world.specs.Walk.{file_at}
+use Rattle.ele_world.specs.World.{World, is_held, is_version, next_of}
+use Rattle.ele_world.specs.declared.refusal.Refusal.{Refusal}
+use Rattle.ele_world.specs.declared.refusal.Refusal.TheVariants.{NoVersion}
+use Rattle.ele_world.specs.declared.rows.FileRow.{FileRow}
+use Rattle.ele_world.specs.declared.rows.VersionRow.{VersionRow}
+
+-- it was found by a test that only the file's versions pass
+pub record IsMeant (versions : List VersionRow) (file : ℕ) (row : VersionRow) : Type 0 where
+  pub passes : VersionRow → Bool
+  pub found : find passes versions ≡ Some row
+  pub own : row.file ≡ file
+
+found_of : (found : Option VersionRow) (before : Option ℕ) (row : VersionRow) → held_or_forgotten found before ≡ Ok row → found ≡ Some row
+found_of None before row is = absurd cc
+found_of (Some held) before row is = cc
+
+pub numbered_found : (versions : List VersionRow) (file number : ℕ) (row : VersionRow) → version_numbered versions file number ≡ Ok row → find (is_version file number) versions ≡ Some row
+numbered_found versions file number row is = found_of (find (is_version file number) versions) _ row is
+
+numbered : (versions : List VersionRow) (file number : ℕ) (row : VersionRow) → version_numbered versions file number ≡ Ok row → IsMeant versions file row
+numbered versions file number row is =
+    let found = numbered_found versions file number row is in
+    let passes = found_passes (is_version file number) versions row found in
+    record { passes = is_version file number; found = found; own = grind (arith, nat_tests) }
+
+-- a number that was made
+pub made_of : (files : List FileRow) (versions : List VersionRow) (file number : ℕ) (row : VersionRow) → version_meant files versions file (tag.Number number) ≡ Ok row → version_numbered versions file number ≡ Ok row
+made_of files versions file number row is = by (nat_lt 0 number && nat_lt number (next_of files file)) is where
+  by : (b : Bool) → cond b (version_numbered versions file number) (Err NoVersion) ≡ Ok row → version_numbered versions file number ≡ Ok row
+  by true is = is
+  by false is = absurd cc
+
+pub is_meant : (files : List FileRow) (versions : List VersionRow) (file : ℕ) (t : Tag) (row : VersionRow) → version_meant files versions file t ≡ Ok row → IsMeant versions file row
+is_meant files versions file tag.Now row is = numbered versions file (next_of files file - 1) row is
+is_meant files versions file (tag.At moment) row is =
+    let found = found_of (find (had_life file moment) versions) _ row is in
+    let passes = found_passes (had_life file moment) versions row found in
+    record { passes = had_life file moment; found = found; own = grind (arith, nat_tests) }
+is_meant files versions file (tag.Number number) row is = numbered versions file number row (made_of files versions file number row is)
+
+pub meant_held : (w : World) (file : ℕ) (row : VersionRow) → IsMeant w.versions file row → is_held w row.file row.number ≡ true
+meant_held w file row is = any-found is.passes (is_version row.file row.number) w.versions row is.found (grind (arith, nat_tests))
+
+pub is_found : (w : World) (found : Result ℕ Refusal) (t : Tag) (row : VersionRow) → version_found w found t ≡ Ok row → IsMeant w.versions row.file row
+is_found w (Err refusal) t row is = absurd cc
+is_found w (Ok file) t row is = let meant = is_meant w.files w.versions file t row is in subst (λ f. IsMeant w.versions f row) (sym meant.own) meant
+
+-- the version that a tagged path means
+pub is_at : (w : World) (tagged : TaggedPath) (row : VersionRow) → version_at w tagged ≡ Ok row → IsMeant w.versions row.file row
+is_at w tagged row is = is_found w (file_at (walk_meant w tagged.path tagged.tag)) tagged.tag row is

@@ -1,0 +1,55 @@
+-- Which ripe moments change where handles come and go: that of a version that a handle reads, and no other.
+use Rattle.std.proofs.Common.{◌≡◌, ℕ, ◌||◌, Bool, true, false, [], ◌∷◌, Some, None, refl, ap, sym, ◌∙◌, find}
+use Rattle.std.specs.Prelude.{Ok, Err}
+use Rattle.std.specs.Option.{option_map_or}
+use Rattle.std.proofs.lemmas.List.Folds.{list_any-append}
+use Rattle.ele_lists.specs.Lists.{remove_first}
+use Rattle.ele_lists.proofs.Edits.{list_any-remove_first}
+use Rattle.ele_policy.specs.Ripe.{Beside}
+use Rattle.ele_world.specs.Change.{after_change, OpenHandle, ShutHandle}
+use Rattle.ele_world.specs.Due.{ripe_at}
+use Rattle.ele_world.specs.declared.refusal.Refusal.TheVariants.{NoHandle}
+use Rattle.ele_world.specs.declared.rows.HandleRow.{HandleRow}
+use Rattle.ele_world.specs.declared.rows.Reads.{Reads}
+use Rattle.ele_world.specs.World.{World, is_handle, is_open, reads_by, reads_version}
+use Rattle.ele_world.proofs.NameMoments.{found_moment, ripe_at_plain}
+
+nothing_beside : Beside
+nothing_beside = record { newer = []; live = false }
+
+module _ (w : World) (number : ℕ) (reads : Reads) where
+  -- a handle more that reads this opens just what it reads
+  pub open_more : (f n : ℕ) → is_open (after_change w (OpenHandle number reads)).handles f n ≡ (is_open w.handles f n || reads_version f n reads)
+  open_more f n =
+      list_any-append (λ row. reads_version f n row.reads) w.handles (record { number = number; reads = reads } ∷ [])
+      ∙ ap (λ b. is_open w.handles f n || b) (or_false (reads_version f n reads)) where
+        or_false : (b : Bool) → (b || false) ≡ b
+        or_false true = refl
+        or_false false = refl
+
+  -- no other moment changes
+  pub opened_others : (f n : ℕ) → reads_version f n reads ≡ false → ripe_at (after_change w (OpenHandle number reads)) f n ≡ ripe_at w f n
+  opened_others f n other = found_moment w (after_change w (OpenHandle number reads)) f n refl (open_more f n ∙ rw other (or_false (is_open w.handles f n))) refl where
+    or_false : (b : Bool) → (b || false) ≡ b
+    or_false true = refl
+    or_false false = refl
+
+  -- and what it reads has none
+  pub opened_own : (f n : ℕ) → reads_version f n reads ≡ true → ripe_at (after_change w (OpenHandle number reads)) f n ≡ None
+  opened_own f n own = ripe_at_plain (after_change w (OpenHandle number reads)) f n nothing_beside ∙ rw (open_more f n, own, or_true (is_open w.handles f n)) refl where
+    or_true : (b : Bool) → (b || true) ≡ true
+    or_true true = refl
+    or_true false = refl
+
+module _ (w : World) (number : ℕ) (reads : Reads) (is : reads_by w.handles number ≡ Ok reads) where
+  -- the handle's row reads this
+  found_reads : (row : HandleRow) → find (is_handle number) w.handles ≡ Some row → row.reads ≡ reads
+  found_reads row found = let same : option_map_or (λ (r : HandleRow). Ok r.reads) (Some row) (Err NoHandle) ≡ Ok reads = ap (λ o. option_map_or (λ (r : HandleRow). Ok r.reads) o (Err NoHandle)) (sym found) ∙ is in cc
+
+  -- what else was open is so without the handle
+  pub open_still : (f n : ℕ) → reads_version f n reads ≡ false → is_open (remove_first (is_handle number) w.handles) f n ≡ is_open w.handles f n
+  open_still f n other = list_any-remove_first (is_handle number) (λ row. reads_version f n row.reads) w.handles (λ row found. rw (found_reads row found) other)
+
+  -- and has the moment that it had
+  pub shut_others : (f n : ℕ) → reads_version f n reads ≡ false → ripe_at (after_change w (ShutHandle number)) f n ≡ ripe_at w f n
+  shut_others f n other = found_moment w (after_change w (ShutHandle number)) f n refl (open_still f n other) refl

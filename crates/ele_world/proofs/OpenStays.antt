@@ -1,0 +1,51 @@
+-- A version that a handle reads is held after any event.
+use Rattle.std.proofs.Common.{◌≡◌, inl, inr, ℕ, true, Option, Some, None, refl, sym, subst, ◌∙◌, arith, find}
+use Rattle.std.specs.Prelude.{Ok, Err}
+use Rattle.std.specs.Option.{option_map_or}
+use Rattle.std.proofs.lemmas.Bool.{false≢true}
+use Rattle.std.proofs.lemmas.Bool.Decides.{nat_tests}
+use Rattle.ele_lists.proofs.Cuts.{any-found as first_passing}
+use Rattle.ele_lists.proofs.Edits.{all-found, found_passes}
+use Rattle.ele_lists.proofs.Found.{any-found}
+use Rattle.ele_world.specs.OnlyDueLeave.{StaysOrWasDue}
+use Rattle.ele_world.specs.OpenStays.{OpenStays}
+use Rattle.ele_world.specs.Step.{step}
+use Rattle.ele_world.specs.WellFormed.{IsHeldRead, Readers}
+use Rattle.ele_world.specs.World.{World, is_handle, is_held, is_open, is_version, reads_by, reads_version}
+use Rattle.ele_world.specs.declared.refusal.Refusal.TheVariants.{NoHandle}
+use Rattle.ele_world.specs.declared.rows.HandleRow.{HandleRow}
+use Rattle.ele_world.specs.declared.rows.Reads.{Reads}
+use Rattle.ele_world.specs.declared.rows.Reads.TheVariants.{Version}
+use Rattle.ele_world.specs.declared.rows.VersionRow.{VersionRow}
+use Rattle.ele_world.proofs.DueRows.{due_is_unread}
+use Rattle.ele_world.proofs.Stays.{only_due_leave}
+
+-- the handle's row
+pub record HasRow (w : World) (handle : ℕ) (reads : Reads) : Type 0 where
+  pub row : HandleRow
+  pub found : find (is_handle handle) w.handles ≡ Some row
+  pub its : row.reads ≡ reads
+
+pub has_row : (w : World) (handle : ℕ) (reads : Reads) → reads_by w.handles handle ≡ Ok reads → HasRow w handle reads
+has_row w handle reads is = by (find (is_handle handle) w.handles) refl is where
+  by : (o : Option HandleRow) → find (is_handle handle) w.handles ≡ o → option_map_or (λ (row : HandleRow). Ok row.reads) o (Err NoHandle) ≡ Ok reads → HasRow w handle reads
+  by None found is = absurd cc
+  by (Some row) found is = record { row = row; found = found; its = cc }
+
+pub open_stays : OpenStays
+open_stays w event handle file number k is = by (all-found (is_version file number) (StaysOrWasDue w event) w.versions first.0 first.1 (only_due_leave w event k)) where
+  its : HasRow w handle (Version file number)
+  its = has_row w handle (Version file number) is
+
+  first : (row : VersionRow) × (find (is_version file number) w.versions ≡ Some row)
+  first = first_passing (is_version file number) w.versions (subst (IsHeldRead w.versions) its.its (all-found (is_handle handle) (λ row. IsHeldRead w.versions row.reads) w.handles its.row its.found (k.holds Readers)))
+
+  is_read : is_open w.handles file number ≡ true
+  is_read = any-found (is_handle handle) (λ row. reads_version file number row.reads) w.handles its.row its.found (rw its.its (grind (arith, nat_tests)))
+
+  own : (first.0.file ≡ file) × (first.0.number ≡ number)
+  own = let passes = found_passes (is_version file number) w.versions first.0 first.1 in (grind (arith, nat_tests), grind (arith, nat_tests))
+
+  by : StaysOrWasDue w event first.0 → is_held ((step w event).1) file number ≡ true
+  by (inl still) = subst (λ f. is_held ((step w event).1) f number ≡ true) own.0 (subst (λ n. is_held ((step w event).1) first.0.file n ≡ true) own.1 still)
+  by (inr due) = absurd (false≢true (sym (due_is_unread w first.0 w.now due.1) ∙ rw (own.0, own.1) is_read))

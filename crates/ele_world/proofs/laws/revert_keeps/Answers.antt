@@ -1,0 +1,5 @@
+use Rattle.ele_world.proofs.Reverts.{revert_keeps}
+use Rattle.ele_world.proofs.laws.revert_keeps.Goals as goal
+
+pub returns : goal.returns
+returns c = λ w path number made k told. revert_keeps w path number made k told
