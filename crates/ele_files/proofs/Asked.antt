@@ -1,24 +1,25 @@
 -- What is answered of versions, drafts and handles, as the rows show it.
-use Rattle.std.proofs.Common.{◌≡◌, ℕ, Bool, true, false, cond, ◌||◌, List, [], ◌∷◌, length, map, Option, Some, None, is_some, refl, sym, ap, ◌∙◌}
+use Rattle.std.proofs.Common.{◌≡◌, ◌<◌, arith, ℕ, Bool, true, false, cond, ◌||◌, List, [], ◌∷◌, length, map, Option, Some, None, is_some, refl, sym, ap, ◌∙◌}
 use Rattle.std.specs.List.{find, flat_map, list_any}
 use Rattle.std.specs.Option.{option_map, option_map_or, option_copied}
 use Rattle.std.specs.Borrow.{Bor}
 use Rattle.ele_blocks.specs.Layout.{Layout, shown}
 use Rattle.ele_blocks.specs.LivesIn.{LivesIn}
 use Rattle.ele_blocks.specs.Store.{Store}
-use Rattle.ele_files.specs.Asked.{stamps_of}
-use Rattle.ele_files.specs.Held.{Held, cells_of_draft}
-use Rattle.ele_files.specs.Inside.{Keeps, is_id, rows_in, draft_in, held_in}
+use Rattle.ele_files.specs.Meant.{stamps_in}
+use Rattle.ele_world.specs.Told.{stamps_of}
+use Rattle.ele_files.specs.Held.{Held, cells_of_draft, cells_of_version}
+use Rattle.ele_files.specs.Inside.{Keeps, file_row, is_id, rows_in, draft_in, held_in}
 use Rattle.ele_files.specs.declared.file.File.{File}
 use Rattle.ele_files.proofs.Stock.{draft_lives, row_lives}
-use Rattle.ele_files.proofs.Rows.{version-of, version-none, draft-found, any-draft}
+use Rattle.ele_files.proofs.Rows.{next-found, version-of, version-none, draft-found, any-draft}
 use Rattle.ele_inode_log.specs.declared.row.VersionRow as log
 use Rattle.ele_inode_log.specs.Rows.{is_numbered}
 use Rattle.ele_sessions.specs.Sessions as sessions
 use Rattle.ele_sessions.specs.Sessions.{Draft, AllSessions}
 use Rattle.ele_content.specs.Content.{content_of}
 use Rattle.ele_world.specs.declared.rows.DraftRow.{DraftRow}
-use Rattle.ele_world.specs.World.{is_version, is_draft}
+use Rattle.ele_world.specs.World.{is_version, is_draft, next_of}
 
 -- a test passes somewhere if something is found
 pub any-found : {X : Type 0} (p : X → Bool) (xs : List X) → is_some (find p xs) ≡ list_any p xs
@@ -37,8 +38,24 @@ module _ (s : Store) (file number : ℕ) (files : List File) (a : AllSessions) (
     pub stamps-no_row : find (is_numbered number) f.log.rows ≡ None → option_map stamps_of (find (is_version file number) (flat_map (rows_in s) files)) ≡ None
     stamps-no_row none = rw (version-of s file number files kept.rise f found, none) refl
 
-    pub stamps-is : (row : log.VersionRow) (n : ℕ) → find (is_numbered number) f.log.rows ≡ Some row → n ≡ row.cells.size → option_map stamps_of (find (is_version file number) (flat_map (rows_in s) files)) ≡ Some (record { opened = row.opened; closed = row.closed; ended = row.ended; length = n })
-    stamps-is row n is long = rw (version-of s file number files kept.rise f found, is, kept.laws.long s row.cells (row_lives s files a kept file (is_numbered number) f row found is), long) refl
+    pub stamps-is : (row : log.VersionRow) → find (is_numbered number) f.log.rows ≡ Some row → option_map stamps_of (find (is_version file number) (flat_map (rows_in s) files)) ≡ Some (stamps_in row)
+    stamps-is row is = rw (version-of s file number files kept.rise f found, is, kept.laws.long s row.cells (row_lives s files a kept file (is_numbered number) f row found is)) refl
+
+-- the cells of a version
+module _ (s : Store) (file number : ℕ) (files : List File) (a : AllSessions) (kept : Keeps s files a) where
+  pub cells-none : find (is_id file) files ≡ None → cells_of_version (held_in s files a) file number ≡ []
+  cells-none none = rw (version-none s file number files kept.rise none) refl
+
+  module _ (f : File) (found : find (is_id file) files ≡ Some f) where
+    pub cells-no_row : find (is_numbered number) f.log.rows ≡ None → cells_of_version (held_in s files a) file number ≡ []
+    cells-no_row none = rw (version-of s file number files kept.rise f found, none) refl
+
+    pub cells-is : (row : log.VersionRow) → find (is_numbered number) f.log.rows ≡ Some row → cells_of_version (held_in s files a) file number ≡ shown s row.cells
+    cells-is row is = rw (version-of s file number files kept.rise f found, is) refl
+
+-- a file that has a next number is there
+pub no_file : (files : List File) (file : ℕ) → find (is_id file) files ≡ None → 0 < next_of (map file_row files) file → ⊥
+no_file files file none there = let zero = next-found files file None none in omega (arith, zero, there)
 
 -- the draft of a file
 copied : (o : Option (Bor Layout)) → is_some (option_copied o) ≡ is_some o

@@ -14,7 +14,9 @@ use Rattle.ele_blocks.specs.Store.{Store, bytes_at, owners_at}
 use Rattle.ele_blocks.specs.Stock.{StockLaws}
 use Rattle.ele_inode_log.specs.declared.row.VersionRow.{VersionRow}
 use Rattle.ele_files.specs.Inside.{IsFileKept, IsRowOf, row_in, draft_in}
+use Rattle.ele_files.specs.Meant.{stamps_in}
 use Rattle.ele_files.specs.declared.file.File.{File}
+use Rattle.ele_world.specs.declared.rows.Stamps.{Stamps}
 use Rattle.ele_inode_log.specs.Rows.{is_after, Precedes}
 use Rattle.ele_inode_log.specs.declared.row.VersionRow as log
 use Rattle.ele_lists.proofs.Alls.{all-got, later-weaker}
@@ -115,7 +117,7 @@ module _ (laws : StockLaws) (s : Store) (m : Layout) (lives : LivesIn s m) (k : 
       next ∙ ap (λ (c : Cell). map (cell_of s) (take k (slots_of s m)) ++ c ∷ []) made
 
 -- the rows of a log
-module _ (s : Store) (f : File) (kept : IsFileKept f) where
+module _ (f : File) (kept : IsFileKept f) where
   rise : AllLater (λ (x y : log.VersionRow). x.number < y.number) f.log.rows
   rise = later-weaker Precedes (λ (x y : log.VersionRow). x.number < y.number) f.log.rows (λ x y p. p.number) kept.order.order
 
@@ -123,11 +125,15 @@ module _ (s : Store) (f : File) (kept : IsFileKept f) where
   log-all = filter-all (is_after 0) f.log.rows (all-weaker (IsRowOf f.next) (λ row. is_after 0 row ≡ true) f.log.rows (λ row is. let h = is.first in grind (arith, nat_tests)) kept.rows)
 
   module _ (behind : ℕ) (row : log.VersionRow) (found : Some row ≡ find (is_after behind) f.log.rows) where
+    -- what is told of the rows behind begins with the row
+    pub told-next : (told : List Stamps) → told ++ map stamps_in (filter (is_after behind) f.log.rows) ≡ map stamps_in f.log.rows → (told ++ stamps_in row ∷ []) ++ map stamps_in (filter (is_after row.number) f.log.rows) ≡ map stamps_in f.log.rows
+    told-next told h = rw append_assoc (ap (λ xs. told ++ map stamps_in xs) (sym (left-behind behind f.log.rows row rise (sym found))) ∙ h)
+
     pub log-fewer : length (filter (is_after row.number) f.log.rows) < length (filter (is_after behind) f.log.rows)
     log-fewer = let left = left-behind behind f.log.rows row rise (sym found) in rw left (omega arith)
 
-    pub log-next : (rows all : List world.VersionRow) (cells : List Cell) → cells ≡ shown s row.cells → rows ++ map (row_in s f.id) (filter (is_after behind) f.log.rows) ≡ all → (rows ++ record { file = f.id; number = row.number; opened = row.opened; closed = row.closed; ended = row.ended; cells = cells } ∷ []) ++ map (row_in s f.id) (filter (is_after row.number) f.log.rows) ≡ all
-    log-next rows all cells is h =
+    pub log-next : (s : Store) (rows all : List world.VersionRow) (cells : List Cell) → cells ≡ shown s row.cells → rows ++ map (row_in s f.id) (filter (is_after behind) f.log.rows) ≡ all → (rows ++ record { file = f.id; number = row.number; opened = row.opened; closed = row.closed; ended = row.ended; cells = cells } ∷ []) ++ map (row_in s f.id) (filter (is_after row.number) f.log.rows) ≡ all
+    log-next s rows all cells is h =
         let left = left-behind behind f.log.rows row rise (sym found) in
         let h' : rows ++ row_in s f.id row ∷ map (row_in s f.id) (filter (is_after row.number) f.log.rows) ≡ all = ap (λ xs. rows ++ map (row_in s f.id) xs) (sym left) ∙ h in
         rw (is, append_assoc) h'

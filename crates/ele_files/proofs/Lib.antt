@@ -12,6 +12,7 @@ pub mod Openings
 pub mod Restores
 pub mod Drops
 pub mod Asked
+pub mod Tagged
 pub mod Copies
 pub mod Names
 pub mod Closes

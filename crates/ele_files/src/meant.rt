@@ -1,6 +1,7 @@
 //! The version of one file that a tag means.
 //! A contract sees a look-up among the rows of its log.
 ghost use Rattle.std.specs.Prelude.{◌≡◌, ◌<◌, ◌≤◌, ◌+◌, ◌^◌};
+ghost use Rattle.ele_inode_log.specs.Rows.{ends_after};
 ghost use Rattle.ele_files.specs.Meant.{stamps_in, row_numbered, row_living, row_meant};
 
 use crate::file::File;
@@ -18,6 +19,16 @@ pub fn stamps_of(row: &VersionRow) -> Stamps
         closed: row.closed,
         ended: row.ended,
         length: row.cells.length(),
+    }
+}
+
+/// Whether the row ended after the moment, or has no end.
+fn ends_after(row: &VersionRow, moment: Moment) -> bool
+    ensures { result ≡ ends_after moment row.now }
+{
+    match row.ended {
+        Some(ended) => moment < ended,
+        None => true,
     }
 }
 
@@ -45,9 +56,10 @@ impl File {
         let Some(row) = self.log.closed_by(moment, meter) else {
             return Err(Refusal::Forgotten(None));
         };
-        match row.ended {
-            Some(ended) if ended <= moment => Err(Refusal::Forgotten(Some(row.number))),
-            _ => Ok(stamps_of(row)),
+        if ends_after(row, moment) {
+            Ok(stamps_of(row))
+        } else {
+            Err(Refusal::Forgotten(Some(row.number)))
         }
     }
 

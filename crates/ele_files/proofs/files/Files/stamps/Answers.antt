@@ -1,4 +1,4 @@
-use Rattle.std.proofs.Common.{sym, ◌∙◌}
+use Rattle.std.proofs.Common.{Some, ap, sym, ◌∙◌}
 use Rattle.ele_files.proofs.Asked.{stamps-none, stamps-no_row, stamps-is}
 use Rattle.ele_files.proofs.files.Files.stamps.Goals as goal
 
@@ -18,4 +18,4 @@ pub returns-clause-value : goal.returns-clause-value
 returns-clause-value c =
     let i = c.self.inside in
     let found = sym (rw c.deref.ensures.value at c.in_ok-held.ensures) in
-    rw (← c.self.view_is) (sym (stamps-is i.store c.args.file c.args.number i.files.items i.sessions c.self.invariant c.in_ok-held.held.now found c.in_ok-row.row.now c.length.result (sym c.in_ok-row.ensures.row) c.length.ensures))
+    ap Some c.stamps_of.ensures ∙ rw (← c.self.view_is) (sym (stamps-is i.store c.args.file c.args.number i.files.items i.sessions c.self.invariant c.in_ok-held.held.now found c.in_ok-row.row.now (sym c.in_ok-row.ensures.row)))

@@ -13,19 +13,19 @@ use Rattle.ele_lists.proofs.Filters.{filter-none}
 pub loop-row-init : goal.loop-row-init
 loop-row-init c =
     let f = c.args.file.now in
-    ap (λ xs. c.args.rows.now.items ++ map (row_in c.args.store.now f.id) xs) (log-all c.args.store.now f c.requires.kept)
+    ap (λ xs. c.args.rows.now.items ++ map (row_in c.args.store.now f.id) xs) (log-all f c.requires.kept)
 
 pub copy_cells-requires-clause-lives : goal.copy_cells-requires-clause-lives
 copy_cells-requires-clause-lives c = all-found (is_after c.loop-row.behind) (λ (row : VersionRow). LivesIn c.args.store.now row.cells) c.args.file.now.log.rows c.in-Some.row.now (sym c.in-Some.ensures) c.requires.lives
 
 pub loop-row-smaller : goal.loop-row-smaller
-loop-row-smaller c = log-fewer c.args.store.now c.args.file.now c.requires.kept c.loop-row.behind c.in-Some.row.now c.in-Some.ensures
+loop-row-smaller c = log-fewer c.args.file.now c.requires.kept c.loop-row.behind c.in-Some.row.now c.in-Some.ensures
 
 pub loop-row-preserved : goal.loop-row-preserved
 loop-row-preserved c =
     let f = c.args.file.now in
     ap (λ rows. rows ++ map (row_in c.args.store.now f.id) (filter (is_after c.in-Some.row.now.number) f.log.rows)) c.in_ok-push.ensures.items
-    ∙ log-next c.args.store.now f c.requires.kept c.loop-row.behind c.in-Some.row.now c.in-Some.ensures c.loop-row.rows.items (c.args.rows.now.items ++ rows_in c.args.store.now f) c.in_ok-cells.cells c.in_ok-cells.ensures c.loop-row.invariant
+    ∙ log-next f c.requires.kept c.loop-row.behind c.in-Some.row.now c.in-Some.ensures c.args.store.now c.loop-row.rows.items (c.args.rows.now.items ++ rows_in c.args.store.now f) c.in_ok-cells.cells c.in_ok-cells.ensures c.loop-row.invariant
 
 pub returns : goal.returns
 returns c =

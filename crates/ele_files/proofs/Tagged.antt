@@ -1,0 +1,134 @@
+-- The row of a log that lived at a moment, and the version that a tag means, as the log shows it.
+use Rattle.std.proofs.Common.{◌≡◌, ℕ, ◌≤◌, ◌-◌, ◌&&◌, eqb, nat_le, nat_lt, Bool, true, false, cond, List, [], ◌∷◌, map, filter, Option, Some, None, Result, Ok, Err, refl, ap, sym, ◌∙◌, arith, find}
+use Rattle.std.specs.List.{AllByRecursion, flat_map}
+use Rattle.std.specs.Option.{IsSomeAnd, option_map, option_map_or, option_or}
+use Rattle.std.specs.Result.{result_map_both}
+use Rattle.std.proofs.lemmas.Bool.{false≢true}
+use Rattle.std.proofs.lemmas.Bool.Decides.{nat_tests}
+use Rattle.ele_blocks.specs.LivesIn.{LivesIn}
+use Rattle.ele_blocks.specs.Store.{Store}
+use Rattle.ele_files.specs.Inside.{Keeps, file_row, is_id, row_in, rows_in}
+use Rattle.ele_files.specs.Meant.{row_living, row_meant, row_numbered, stamps_in, told_or_forgotten}
+use Rattle.ele_files.specs.declared.file.File.{File}
+use Rattle.ele_files.proofs.Rows.{file_of, next-found, tagged}
+use Rattle.ele_files.proofs.Stock.{logs_live, row_lives}
+use Rattle.ele_inode_log.specs.declared.row.VersionRow as log
+use Rattle.ele_inode_log.specs.Rows.{AreInOrder, Precedes, ends_after, has_closed_by, is_before, is_numbered, lives_at}
+use Rattle.ele_lists.specs.Last.{last_passing, passing}
+use Rattle.ele_lists.proofs.Alls.{later-weaker}
+use Rattle.ele_lists.proofs.Buckets.{filter-buckets}
+use Rattle.ele_lists.proofs.Edits.{all-found, found_passes}
+use Rattle.ele_lists.proofs.Filters.{find-filter}
+use Rattle.ele_lists.proofs.Lasts.{find_last}
+use Rattle.ele_lists.proofs.Shown.{find-map}
+use Rattle.ele_sessions.specs.Sessions.{AllSessions}
+use Rattle.ele_time_path.specs.declared.tagged.Tag.{Tag}
+use Rattle.ele_time_path.specs.declared.tagged.Tag.TheVariants as tag
+use Rattle.ele_world.specs.FileView.{is_version_of}
+use Rattle.ele_world.specs.Tagged as world
+use Rattle.ele_world.specs.Tagged.{had_closed, had_life, held_or_forgotten, last_number, version_living, version_meant, version_numbered}
+use Rattle.ele_world.specs.Told.{stamps_of}
+use Rattle.ele_world.specs.World.{is_version}
+use Rattle.ele_world.specs.declared.refusal.Refusal.{Refusal}
+use Rattle.ele_world.specs.declared.refusal.Refusal.TheVariants.{NoVersion}
+use Rattle.ele_world.specs.declared.rows.VersionRow.{VersionRow}
+
+-- a row that ended by the closing of another doesn't live when that one had closed
+over : (o : Option ℕ) (closed t : ℕ) → IsSomeAnd o (λ ended. ended ≤ closed) → nat_le closed t ≡ true → option_map_or (λ ended. nat_lt t ended) o true ≡ false
+over None closed t ended by = absurd ended
+over (Some ended) closed t le by = grind (arith, nat_tests)
+
+-- so the last that had closed lives, or none does
+pub living_is : (t : ℕ) (rows : List log.VersionRow) → AreInOrder rows → find (lives_at t) rows ≡ passing (ends_after t) (last_passing (has_closed_by t) rows)
+living_is t rows in_order = find_last (has_closed_by t) (ends_after t) rows
+    (later-weaker Precedes (λ x y. has_closed_by t x ≡ true → has_closed_by t y ≡ true → ends_after t x ≡ false) rows (λ x y before a b. over x.ended y.closed t before.ended b) in_order.order)
+
+-- so what the log tells of the moment follows from the last that had closed
+pub living_told : (f : File) (t : ℕ) (o : Option log.VersionRow) → AreInOrder f.log.rows → o ≡ last_passing (has_closed_by t) f.log.rows → row_living f t ≡ told_or_forgotten (passing (ends_after t) o) o
+living_told f t o in_order is = rw (living_is t f.log.rows in_order, is) refl
+
+-- ---- the last that passes, through a filter and a map
+
+last-filter : {X : Type 0} (p q : X → Bool) (xs : List X) → ((x : X) → p x ≡ true → q x ≡ true) → last_passing p (filter q xs) ≡ last_passing p xs
+last-filter p q [] own = refl
+last-filter {X} p q (x ∷ xs) own = by (last-filter p q xs own) (q x) (p x) refl refl where
+  by : last_passing p (filter q xs) ≡ last_passing p xs → (b c : Bool) → q x ≡ b → p x ≡ c → last_passing p (cond b (x ∷ filter q xs) (filter q xs)) ≡ option_or (last_passing p xs) (cond c (Some x) None)
+  by rest true c e f = rw (f, rest) refl
+  by rest false true e f = absurd (false≢true (sym e ∙ own x f))
+  by rest false false e f = rest ∙ none (last_passing p xs) where
+    none : (o : Option X) → o ≡ option_or o None
+    none None = refl
+    none (Some y) = refl
+
+last-map : {X Y : Type 0} (p : Y → Bool) (h : X → Y) (q : X → Bool) (xs : List X) → ((x : X) → p (h x) ≡ q x) → last_passing p (map h xs) ≡ option_map h (last_passing q xs)
+last-map p h q [] same = refl
+last-map p h q (x ∷ xs) same = rw (last-map p h q xs same, same x) (by (last_passing q xs) (q x)) where
+  by : (o : Option _) (b : Bool) → option_or (option_map h o) (cond b (Some (h x)) None) ≡ option_map h (option_or o (cond b (Some x) None))
+  by None true = refl
+  by None false = refl
+  by (Some y) b = refl
+
+-- ---- the world's look-ups, as those of the log
+
+module _ (s : Store) (files : List File) (a : AllSessions) (kept : Keeps s files a) (file : ℕ) (f : File) (found : find (is_id file) files ≡ Some f) where
+  abbrev versions : List VersionRow
+  versions = flat_map (rows_in s) files
+
+  -- the file's versions are what its log shows
+  pub own_rows : filter (is_version_of file) versions ≡ rows_in s f
+  own_rows = filter-buckets (λ (f : File). f.id) (rows_in s) file_of (tagged s) file files kept.rise ∙ ap (λ o. option_map_or (rows_in s) o []) found
+
+  own : eqb f.id file ≡ true
+  own = found_passes (is_id file) files f found
+
+  find_shown : (p : VersionRow → Bool) (q : log.VersionRow → Bool) → ((row : VersionRow) → p row ≡ true → is_version_of file row ≡ true) → ((row : log.VersionRow) → p (row_in s f.id row) ≡ q row)
+      → find p versions ≡ option_map (row_in s f.id) (find q f.log.rows)
+  find_shown p q its same =
+      sym (find-filter p (is_version_of file) versions its) ∙ ap (find p) own_rows ∙ find-map (row_in s f.id) p f.log.rows ∙ ap (option_map (row_in s f.id)) (find-same (λ row. p (row_in s f.id row)) q f.log.rows same) where
+        find-same : (p q : log.VersionRow → Bool) (xs : List log.VersionRow) → ((x : log.VersionRow) → p x ≡ q x) → find p xs ≡ find q xs
+        find-same p q [] same = refl
+        find-same p q (x ∷ xs) same = rw (same x, find-same p q xs same) refl
+
+  last_shown : (p : VersionRow → Bool) (q : log.VersionRow → Bool) → ((row : VersionRow) → p row ≡ true → is_version_of file row ≡ true) → ((row : log.VersionRow) → p (row_in s f.id row) ≡ q row)
+      → last_number p versions ≡ option_map (λ (row : log.VersionRow). row.number) (last_passing q f.log.rows)
+  last_shown p q its same =
+      ap (option_map (λ (row : VersionRow). row.number)) (sym (last-filter p (is_version_of file) versions its) ∙ ap (last_passing p) own_rows ∙ last-map p (row_in s f.id) q f.log.rows same)
+      ∙ by (last_passing q f.log.rows) where
+        by : (o : Option log.VersionRow) → option_map (λ (row : VersionRow). row.number) (option_map (row_in s f.id) o) ≡ option_map (λ (row : log.VersionRow). row.number) o
+        by None = refl
+        by (Some row) = refl
+
+  told : (q r : log.VersionRow → Bool) (o : Option log.VersionRow) → find q f.log.rows ≡ o
+      → result_map_both stamps_of (λ (refusal : Refusal). refusal) (held_or_forgotten (option_map (row_in s f.id) o) (option_map (λ (row : log.VersionRow). row.number) (last_passing r f.log.rows))) ≡ told_or_forgotten o (last_passing r f.log.rows)
+  told q r None is = refl
+  told q r (Some row) is = rw (kept.laws.long s row.cells (row_lives s files a kept file q f row found is)) refl
+
+  numbered_shown : (number : ℕ) → result_map_both stamps_of (λ (refusal : Refusal). refusal) (version_numbered versions file number) ≡ row_numbered f number
+  numbered_shown number =
+      rw (find_shown (is_version file number) (is_numbered number) (λ row e. grind (arith, nat_tests)) (λ row. rw own refl), last_shown (world.is_before file number) (is_before number) (λ row e. grind (arith, nat_tests)) (λ row. rw own refl))
+      (told (is_numbered number) (is_before number) (find (is_numbered number) f.log.rows) refl)
+
+  living_shown : (moment : ℕ) → result_map_both stamps_of (λ (refusal : Refusal). refusal) (version_living versions file moment) ≡ row_living f moment
+  living_shown moment =
+      rw (find_shown (had_life file moment) (lives_at moment) (λ row e. grind (arith, nat_tests)) (λ row. rw own refl), last_shown (had_closed file moment) (has_closed_by moment) (λ row e. grind (arith, nat_tests)) (λ row. rw own refl))
+      (told (lives_at moment) (has_closed_by moment) (find (lives_at moment) f.log.rows) refl)
+
+  -- what the tag means of the file
+  pub meant_shown : (t : Tag) → result_map_both stamps_of (λ (refusal : Refusal). refusal) (version_meant (map file_row files) versions file t) ≡ row_meant f t
+  meant_shown tag.Now = rw (next-found files file (Some f) found) (numbered_shown (f.next - 1))
+  meant_shown (tag.At moment) = living_shown moment
+  meant_shown (tag.Number number) = rw (next-found files file (Some f) found) (by (nat_lt 0 number && nat_lt number f.next)) where
+    by : (b : Bool) → result_map_both stamps_of (λ (refusal : Refusal). refusal) (cond b (version_numbered versions file number) (Err NoVersion)) ≡ cond b (row_numbered f number) (Err NoVersion)
+    by true = numbered_shown number
+    by false = refl
+
+  -- what is told of each
+  pub list_shown : map stamps_of (filter (is_version_of file) versions) ≡ map stamps_in f.log.rows
+  list_shown = ap (map stamps_of) own_rows ∙ each f.log.rows (all-found (is_id file) (λ f. AllByRecursion (λ (row : log.VersionRow). LivesIn s row.cells) f.log.rows) files f found (logs_live s files a kept)) where
+    each : (rows : List log.VersionRow) → AllByRecursion (λ (row : log.VersionRow). LivesIn s row.cells) rows → map stamps_of (map (row_in s f.id) rows) ≡ map stamps_in rows
+    each [] all = refl
+    each (row ∷ rows) all = rw (kept.laws.long s row.cells all.0, each rows all.1) refl
+
+-- a file that isn't there has none
+pub none_shown : (s : Store) (files : List File) (a : AllSessions) (kept : Keeps s files a) (file : ℕ) → find (is_id file) files ≡ None → filter (is_version_of file) (flat_map (rows_in s) files) ≡ []
+none_shown s files a kept file none = filter-buckets (λ (f : File). f.id) (rows_in s) file_of (tagged s) file files kept.rise ∙ ap (λ o. option_map_or (rows_in s) o []) none

@@ -1,0 +1,6 @@
+use Rattle.std.proofs.Common.{sym, ◌∙◌}
+use Rattle.ele_files.proofs.Rows.{open-shown}
+use Rattle.ele_files.proofs.files.Files.is_open.Goals as goal
+
+pub returns : goal.returns
+returns c = c.pins.ensures ∙ rw (← c.self.view_is) (sym (open-shown c.self.inside.sessions.handles c.args.file c.args.number))

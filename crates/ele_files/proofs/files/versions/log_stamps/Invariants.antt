@@ -1,0 +1,11 @@
+use Rattle.std.proofs.Common.{◌≡◌, ◌++◌, map, length}
+use Rattle.std.specs.List.{filter}
+use Rattle.ele_files.specs.Meant.{stamps_in}
+use Rattle.ele_inode_log.specs.Rows.{is_after}
+use Rattle.ele_files.proofs.files.versions.log_stamps.Given as goal
+
+abbrev pub invariant-loop-row : goal.invariant-loop-row
+invariant-loop-row l = l.list.items ++ map stamps_in (filter (is_after l.behind) l.file.log.rows) ≡ map stamps_in l.file.log.rows
+
+abbrev pub decreases-loop-row : goal.decreases-loop-row
+decreases-loop-row l = length (filter (is_after l.behind) l.file.log.rows)
