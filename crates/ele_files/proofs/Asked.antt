@@ -9,7 +9,7 @@ use Rattle.ele_blocks.specs.Store.{Store}
 use Rattle.ele_files.specs.Meant.{stamps_in}
 use Rattle.ele_world.specs.Told.{stamps_of}
 use Rattle.ele_files.specs.Held.{Held, cells_of_draft, cells_of_version}
-use Rattle.ele_files.specs.Inside.{Keeps, file_row, handle_in, is_id, rows_in, draft_in, held_in}
+use Rattle.ele_files.specs.Inside.{Keeps, file_row, is_id, rows_in, draft_in, held_in}
 use Rattle.ele_files.specs.declared.file.File.{File}
 use Rattle.ele_files.proofs.Stock.{draft_lives, row_lives}
 use Rattle.ele_files.proofs.Rows.{next-found, version-of, version-none, draft-found, any-draft}
@@ -17,10 +17,9 @@ use Rattle.ele_inode_log.specs.declared.row.VersionRow as log
 use Rattle.ele_inode_log.specs.Rows.{is_numbered}
 use Rattle.ele_sessions.specs.Sessions as sessions
 use Rattle.ele_sessions.specs.Sessions.{Draft, AllSessions}
-use Rattle.ele_sessions.specs.declared.entries.OpenHandle.{OpenHandle}
 use Rattle.ele_content.specs.Content.{content_of}
 use Rattle.ele_world.specs.declared.rows.DraftRow.{DraftRow}
-use Rattle.ele_world.specs.World.{is_open, is_version, is_draft, next_of}
+use Rattle.ele_world.specs.World.{is_version, is_draft, next_of}
 
 -- a test passes somewhere if something is found
 pub any-found : {X : Type 0} (p : X → Bool) (xs : List X) → is_some (find p xs) ≡ list_any p xs
@@ -87,8 +86,3 @@ draft_shown s files ss kept file o is = rw is (by (sessions.draft_of ss file) re
         cells = rw (draft-found s file ss.drafts, found) refl;
         long = rw (draft-found s file ss.drafts, found) (ap (λ n. Some n) (kept.laws.long s d.layout lives));
       }
-
--- no handle reads a version
-pub none_open : (handles : List OpenHandle) (file number : ℕ) → is_open (map handle_in handles) file number ≡ false
-none_open [] file number = refl
-none_open (h ∷ handles) file number = none_open handles file number

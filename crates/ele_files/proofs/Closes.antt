@@ -13,7 +13,7 @@ use Rattle.ele_files.specs.Inside.{draft_in, handle_in, held_in, Keeps, file_row
 use Rattle.ele_files.specs.declared.file.File.{File}
 use Rattle.ele_files.proofs.Drafts.{same_drafts, dropped, drafts_apart, its_file}
 use Rattle.ele_files.proofs.Looks.{IsSeen}
-use Rattle.ele_files.proofs.Rows.{draft-found, reads_of, reads_by-shown, handle_file-shown, left-shown, no-file, next-found, its_id, file_past}
+use Rattle.ele_files.proofs.Rows.{draft-found, handle_file-shown, reads_by-shown, reads_of, left-shown, no-file, next-found, its_id, file_past}
 use Rattle.ele_files.proofs.Stock.{draft_lives, draft_apart}
 use Rattle.ele_lists.specs.Lists.{remove_first}
 use Rattle.ele_lists.proofs.Cuts.{remove_first-unfound}
@@ -30,8 +30,9 @@ use Rattle.ele_sessions.specs.Order.{Rises}
 use Rattle.ele_world.specs.Change.{ShutHandle, EndDraft, after_changes}
 use Rattle.ele_world.specs.World.{World, file_by, next_of}
 use Rattle.ele_sessions.specs.Sessions as sessions
+use Rattle.ele_sessions.specs.declared.reads.Reads.{Reads}
+use Rattle.ele_sessions.specs.declared.reads.Reads.TheVariants as reads
 use Rattle.ele_world.specs.World as world
-use Rattle.ele_sessions.specs.declared.reads.Reads.TheVariants as session_reads
 
 -- the map that comes out with the handle
 abbrev pub given : AllSessions → ℕ → Option Layout
@@ -54,7 +55,7 @@ module _ (s : Store) (files : List File) (ss : AllSessions) (handle : ℕ) where
   -- ---- what is asked before
 
   pub opening_shown : opening_of (option_map (λ answer. answer.0) (closing ss handle)) ≡ opening_by shown handle
-  opening_shown = rw (handle_file-shown ss.handles handle) (by (sessions.handle_file ss.handles handle)) where
+  opening_shown = rw (handle_file-shown ss.handles handle) (by (sessions.reads_by ss.handles handle)) where
     ends : (b : Bool) (o : Option Draft) → opening_of (Some (file_closing b o).0) ≡ changed_opening (cond b None (option_map (draft_in s) o))
     ends true o = refl
     ends false None = refl
@@ -63,27 +64,29 @@ module _ (s : Store) (files : List File) (ss : AllSessions) (handle : ℕ) where
       of_change true d e = rw e refl
       of_change false d e = rw e refl
 
-    by : (o : Option ℕ) → opening_of (option_map (λ answer. answer.0) (closing_of ss handle o)) ≡ option_and_then (λ file. changed_opening (last_draft shown handle file)) o
+    by : (o : Option Reads) → opening_of (option_map (λ answer. answer.0) (closing_of ss handle o)) ≡ option_and_then (λ file. changed_opening (last_draft shown handle file)) (result_ok (sessions.file_written o))
     by None = refl
-    by (Some file) = rw (last_shown file) (ends (list_any (is_writer file) (left_handles ss handle)) (find (is_draft file) ss.drafts))
+    by (Some (reads.Version file version)) = refl
+    by (Some (reads.Draft file)) = rw (last_shown file) (ends (list_any (is_writer file) (left_handles ss handle)) (find (is_draft file) ss.drafts))
 
   -- ---- the handle is left
 
   module _ (kept : Keeps s files ss) where
     pub given_lives : (m : Layout) → given ss handle ≡ Some m → LivesIn s m
-    given_lives m = by (sessions.handle_file ss.handles handle) where
+    given_lives m = by (sessions.reads_by ss.handles handle) where
       ends : (file : ℕ) (b : Bool) (o : Option Draft) → find (is_draft file) ss.drafts ≡ o → (file_closing b o).1 ≡ Some m → LivesIn s m
       ends file true o found is = absurd cc
       ends file false None found is = absurd cc
       ends file false (Some d) found is = let same : d.layout ≡ m = cc in rw (← same) (draft_lives s files ss kept file d found)
 
-      by : (o : Option ℕ) → option_and_then (λ answer. answer.1) (closing_of ss handle o) ≡ Some m → LivesIn s m
+      by : (o : Option Reads) → option_and_then (λ answer. answer.1) (closing_of ss handle o) ≡ Some m → LivesIn s m
       by None is = absurd cc
-      by (Some file) is = ends file (list_any (is_writer file) (left_handles ss handle)) (find (is_draft file) ss.drafts) refl is
+      by (Some (reads.Version file version)) is = absurd cc
+      by (Some (reads.Draft file)) is = ends file (list_any (is_writer file) (left_handles ss handle)) (find (is_draft file) ss.drafts) refl is
 
     module _ (t : Store) where
       pub leaves : IsGivenUp s t (given ss handle) → IsSeen t files (closed ss handle) (left_by shown handle)
-      leaves = rw (reads_by-shown ss.handles handle) (by (sessions.handle_file ss.handles handle)) where
+      leaves = rw (reads_by-shown ss.handles handle) (by (sessions.reads_by ss.handles handle)) where
         stays : (file : ℕ) (b : Bool) → left_drafts b file ss.drafts ≡ ss.drafts → t ≡ s → IsSeen t files (without_handle ss handle file b) (changed_at shown 0 (leaving handle file false))
         stays file b drafts gone = record {
           keeps = rw gone (same_drafts s files ss (without_handle ss handle file b) drafts kept);
@@ -97,9 +100,13 @@ module _ (s : Store) (files : List File) (ss : AllSessions) (handle : ℕ) where
             let seen = dropped s t files ss (without_handle ss handle file false) kept file d found gone refl in
             record { keeps = seen.keeps; shows = seen.shows ∙ rw handles_left refl }
 
-        by : (o : Option ℕ) → IsGivenUp s t (option_and_then (λ answer. answer.1) (closing_of ss handle o)) → IsSeen t files (closed_of ss handle o) (left_of shown handle (reads_of (option_map session_reads.Draft o)))
+        by : (o : Option Reads) → IsGivenUp s t (option_and_then (λ answer. answer.1) (closing_of ss handle o)) → IsSeen t files (closed_of ss handle o) (left_of shown handle (reads_of o))
         by None gone = record { keeps = rw gone kept; shows = rw gone refl }
-        by (Some file) gone = rw (last_shown file) (ends file (list_any (is_writer file) (left_handles ss handle)) (find (is_draft file) ss.drafts) refl gone)
+        by (Some (reads.Version file version)) gone = record {
+          keeps = rw gone (same_drafts s files ss (record ss { handles = left_handles ss handle }) refl kept);
+          shows = rw (gone, handles_left) refl;
+        }
+        by (Some (reads.Draft file)) gone = rw (last_shown file) (ends file (list_any (is_writer file) (left_handles ss handle)) (find (is_draft file) ss.drafts) refl gone)
 
 -- ---- a version is made of the draft
 
@@ -127,6 +134,13 @@ module _ (s : Store) (files : List File) (ss : AllSessions) (handle file opened 
         of_file : sessions.handle_file ss.handles handle ≡ Some file
         of_file = sym (handle_file-shown ss.handles handle) ∙ ap result_ok writes
 
+        of_draft : sessions.reads_by ss.handles handle ≡ Some (reads.Draft file)
+        of_draft = of_reads (sessions.reads_by ss.handles handle) of_file where
+          of_reads : (o : Option Reads) → result_ok (sessions.file_written o) ≡ Some file → o ≡ Some (reads.Draft file)
+          of_reads None is = absurd cc
+          of_reads (Some (reads.Version f version)) is = absurd cc
+          of_reads (Some (reads.Draft f)) is = let same : f ≡ file = cc in ap (λ n. Some (reads.Draft n)) same
+
         then : (d : Draft) (c : Bool) → cond c (Some d.opened) None ≡ Some opened → d.opened ≡ opened
         then d true is = cc
         then d false is = absurd cc
@@ -138,8 +152,8 @@ module _ (s : Store) (files : List File) (ss : AllSessions) (handle file opened 
           draft = d;
           found = found;
           its_opening = then d d.changed is;
-          out = ap (λ o. option_and_then (λ a. a.1) (closing_of ss handle o)) of_file ∙ rw (alone, found) refl;
-          left = ap (closed_of ss handle) of_file ∙ rw alone refl;
+          out = ap (λ o. option_and_then (λ a. a.1) (closing_of ss handle o)) of_draft ∙ rw (alone, found) refl;
+          left = ap (closed_of ss handle) of_draft ∙ rw alone refl;
         }
 
   abbrev d : Draft

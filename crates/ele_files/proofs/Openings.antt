@@ -11,7 +11,7 @@ use Rattle.ele_blocks.specs.Owes.{Moves}
 use Rattle.ele_blocks.specs.Stock.{Tagged, Stays, empty_layout}
 use Rattle.ele_blocks.specs.Store.{Store}
 use Rattle.ele_files.specs.declared.file.File.{File}
-use Rattle.ele_files.specs.Held.{opened_by, first_draft}
+use Rattle.ele_files.specs.Held.{Held, changed_at, opened_by, first_draft}
 use Rattle.ele_files.specs.Inside.{IsRowOf, IsFileKept, IsDraftKept, Keeps, is_id, file_row, row_in, rows_in, draft_in, handle_in, held_in, row_stock, file_stock, draft_stock, stock_of}
 use Rattle.ele_files.proofs.Copied.{row_copied, row_same}
 use Rattle.ele_files.proofs.Drafts.{same_drafts}
@@ -27,6 +27,9 @@ use Rattle.ele_lists.proofs.Shown.{insert_before-map}
 use Rattle.ele_sessions.specs.Opening.{new_draft, with_draft, Opens}
 use Rattle.ele_sessions.specs.Opening as opening
 use Rattle.ele_sessions.specs.Sessions.{Draft, AllSessions, is_draft, is_draft_after}
+use Rattle.ele_sessions.specs.declared.reads.Reads.TheVariants as session
+use Rattle.ele_world.specs.Change.{OpenHandle}
+use Rattle.ele_world.specs.declared.rows.Reads.TheVariants as world_reads
 use Rattle.ele_world.specs.World.{next_of, is_version}
 use Rattle.ele_world.specs.World as world
 
@@ -128,7 +131,7 @@ module _ (s : Store) (files : List File) (a : AllSessions) (kept : Keeps s files
     opened : (there : Bool) → list_any (is_draft file) a.drafts ≡ there → MatchBool there (t ≡ s) (Moves s t [] (first_map f ∷ [])) → IsSeen t files (opening.opened_by a new) (opened_by (held_in s files a) file at)
     opened true e h = rw h (record {
       keeps = same_drafts s files a (opening.opened_by a new) (rw e refl) kept;
-      shows = rw (map-append handle_in a.handles (record { number = a.opened + 1; file = file } ∷ []), any-draft s file a.drafts, e) refl;
+      shows = rw (map-append handle_in a.handles (record { number = a.opened + 1; reads = session.Draft file } ∷ []), any-draft s file a.drafts, e) refl;
     })
     opened false e h = record {
       keeps = record {
@@ -138,7 +141,7 @@ module _ (s : Store) (files : List File) (a : AllSessions) (kept : Keeps s files
         files_kept = kept.files_kept;
         drafts_kept = rw e (all-insert_before (is_draft_after file) (IsDraftKept files) new a.drafts new_kept kept.drafts_kept);
       };
-      shows = rw (map-append handle_in a.handles (record { number = a.opened + 1; file = file } ∷ []), any-draft s file a.drafts, e, versions_on h, drafts_on h) refl;
+      shows = rw (map-append handle_in a.handles (record { number = a.opened + 1; reads = session.Draft file } ∷ []), any-draft s file a.drafts, e, versions_on h, drafts_on h) refl;
     }
 
     -- whatever the call answers
@@ -146,3 +149,18 @@ module _ (s : Store) (files : List File) (a : AllSessions) (kept : Keeps s files
         → Keeps t files b × OnOk r (held_in t files b ≡ opened_by (held_in s files a) file at)
     opens m is (Ok x) done moved left store = let seen = opened (list_any (is_draft file) a.drafts) refl (rw is at moved) in rw (done, is) (seen.keeps, seen.shows)
     opens m is (Err e) done moved left store = (rw (store, left) kept, tt)
+
+-- a handle that reads a version comes
+module _ (s : Store) (files : List File) (a b : AllSessions) (kept : Keeps s files a) (file number : ℕ) where
+  abbrev with_reader : Held
+  with_reader = changed_at (held_in s files a) 0 (OpenHandle (a.opened + 1) (world_reads.Version file number) ∷ [])
+
+  reader_seen : IsSeen s files (opening.reader_opened a file number) with_reader
+  reader_seen = record {
+    keeps = same_drafts s files a (opening.reader_opened a file number) refl kept;
+    shows = rw (map-append handle_in a.handles (record { number = a.opened + 1; reads = session.Version file number } ∷ [])) refl;
+  }
+
+  pub reader_opens : {T E : Type 0} (r : Result T E) → OnOk r (b ≡ opening.reader_opened a file number) → OnErr r (b ≡ a) → Keeps s files b × OnOk r (held_in s files b ≡ with_reader)
+  reader_opens (Ok x) done left = rw done (reader_seen.keeps, reader_seen.shows)
+  reader_opens (Err e) done left = (rw left kept, tt)

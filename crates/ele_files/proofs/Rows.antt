@@ -1,13 +1,13 @@
 -- What the rows show of the files, drafts and handles behind them.
-use Rattle.std.proofs.Common.{◌≡◌, ◌≢◌, ℕ, ◌-◌, ◌<◌, true, false, eqb, List, map, get_or, Option, Some, None, Result, Ok, Err, refl, sym, ap, ◌∙◌, arith}
+use Rattle.std.proofs.Common.{◌≡◌, ◌≢◌, ℕ, ◌-◌, ◌<◌, Bool, true, false, eqb, List, [], ◌∷◌, map, get_or, Option, Some, None, Result, Ok, Err, refl, sym, ap, ◌∙◌, arith}
 use Rattle.std.specs.List.{find, position, list_any, flat_map, AllByRecursion}
 use Rattle.std.specs.Option.{option_map, option_map_or, option_and_then, ok_or}
-use Rattle.std.specs.Result.{result_ok}
+use Rattle.std.specs.Result.{result_ok, result_map_both}
 use Rattle.std.proofs.lemmas.Bool.{false≢true}
 use Rattle.std.proofs.lemmas.Bool.Decides.{nat_tests}
 use Rattle.ele_files.specs.Appending.{IsRowPast, ended_by, ended_rows}
 use Rattle.ele_files.specs.Closing.{IsPast}
-use Rattle.ele_files.specs.Held.{handle_file}
+use Rattle.ele_files.specs.Held.{handle_file, fault_of, file_or_fault}
 use Rattle.ele_files.specs.Inside.{is_id, file_row, row_in, rows_in, draft_in, reads_in, handle_in}
 use Rattle.ele_files.specs.declared.file.File.{File}
 use Rattle.ele_blocks.specs.Store.{Store}
@@ -30,7 +30,7 @@ use Rattle.ele_world.specs.declared.refusal.Refusal.TheVariants.{NoHandle}
 use Rattle.ele_world.specs.declared.rows.HandleRow.{HandleRow}
 use Rattle.ele_world.specs.declared.rows.Reads.{Reads}
 use Rattle.ele_world.specs.declared.rows.VersionRow.{VersionRow}
-use Rattle.ele_world.specs.World.{is_file, is_version, is_draft, is_handle, is_writer, file_written, reads_by, policy_of, next_of}
+use Rattle.ele_world.specs.World.{is_file, is_version, is_draft, is_handle, is_writer, is_open, writes, reads_version, file_written, reads_by, policy_of, next_of}
 
 -- ---- files
 
@@ -112,17 +112,40 @@ undrafted s file ds none = all-weaker (λ (d : Draft). sessions.is_draft file d 
 abbrev pub reads_of : Option session.Reads → Result Reads Refusal
 reads_of o = ok_or (option_map reads_in o) NoHandle
 
-pub reads_by-shown : (hs : List OpenHandle) (number : ℕ) → reads_by (map handle_in hs) number ≡ reads_of (option_map session_reads.Draft (sessions.handle_file hs number))
+pub reads_by-shown : (hs : List OpenHandle) (number : ℕ) → reads_by (map handle_in hs) number ≡ reads_of (sessions.reads_by hs number)
 reads_by-shown hs number = ap (λ (o : Option HandleRow). option_map_or (λ row. Ok row.reads) o (Err NoHandle)) (find-map handle_in (is_handle number) hs) ∙ by (find (sessions.is_handle number) hs) where
-  by : (o : Option OpenHandle) → option_map_or (λ row. Ok row.reads) (option_map handle_in o) (Err NoHandle) ≡ reads_of (option_map session_reads.Draft (option_map (λ (h : OpenHandle). h.file) o))
+  by : (o : Option OpenHandle) → option_map_or (λ row. Ok row.reads) (option_map handle_in o) (Err NoHandle) ≡ reads_of (option_map (λ (h : OpenHandle). h.reads) o)
   by None = refl
   by (Some h) = refl
 
 pub handle_file-shown : (hs : List OpenHandle) (number : ℕ) → handle_file (map handle_in hs) number ≡ sessions.handle_file hs number
-handle_file-shown hs number = ap (λ r. result_ok (file_written r)) (reads_by-shown hs number) ∙ by (sessions.handle_file hs number) where
-  by : (o : Option ℕ) → result_ok (file_written (reads_of (option_map session_reads.Draft o))) ≡ o
+handle_file-shown hs number = ap (λ r. result_ok (file_written r)) (reads_by-shown hs number) ∙ by (sessions.reads_by hs number) where
+  by : (o : Option session.Reads) → result_ok (file_written (reads_of o)) ≡ result_ok (sessions.file_written o)
   by None = refl
-  by (Some file) = refl
+  by (Some (session_reads.Draft file)) = refl
+  by (Some (session_reads.Version file n)) = refl
+
+pub fault-shown : (hs : List OpenHandle) (number : ℕ) → file_or_fault (map handle_in hs) number ≡ sessions.file_by hs number
+fault-shown hs number = ap (λ r. result_map_both (λ file. file) fault_of (file_written r)) (reads_by-shown hs number) ∙ by (sessions.reads_by hs number) where
+  by : (o : Option session.Reads) → result_map_both (λ file. file) fault_of (file_written (reads_of o)) ≡ sessions.file_written o
+  by None = refl
+  by (Some (session_reads.Draft file)) = refl
+  by (Some (session_reads.Version file n)) = refl
+
+-- a test of what handles read
+module _ (p : Reads → Bool) (q : session.Reads → Bool) (same : (what : session.Reads) → p (reads_in what) ≡ q what) where
+  any-read : (hs : List OpenHandle) → list_any (λ (row : HandleRow). p row.reads) (map handle_in hs) ≡ list_any (λ (h : OpenHandle). q h.reads) hs
+  any-read [] = refl
+  any-read (h ∷ hs) = rw (same h.reads, any-read hs) refl
 
 pub left-shown : (hs : List OpenHandle) (number file : ℕ) → list_any (is_writer file) (remove_first (is_handle number) (map handle_in hs)) ≡ list_any (sessions.is_writer file) (remove_first (sessions.is_handle number) hs)
-left-shown hs number file = ap (list_any (is_writer file)) (remove_first-map handle_in (is_handle number) (sessions.is_handle number) (λ x. refl) hs) ∙ any-map handle_in (is_writer file) (remove_first (sessions.is_handle number) hs)
+left-shown hs number file = ap (list_any (is_writer file)) (remove_first-map handle_in (is_handle number) (sessions.is_handle number) (λ x. refl) hs) ∙ any-read (writes file) (sessions.writes file) same (remove_first (sessions.is_handle number) hs) where
+  same : (what : session.Reads) → writes file (reads_in what) ≡ sessions.writes file what
+  same (session_reads.Draft other) = refl
+  same (session_reads.Version other n) = refl
+
+pub open-shown : (hs : List OpenHandle) (file number : ℕ) → is_open (map handle_in hs) file number ≡ list_any (sessions.is_reader file number) hs
+open-shown hs file number = any-read (reads_version file number) (sessions.reads_version file number) same hs where
+  same : (what : session.Reads) → reads_version file number (reads_in what) ≡ sessions.reads_version file number what
+  same (session_reads.Draft other) = refl
+  same (session_reads.Version other n) = refl

@@ -1,5 +1,5 @@
 -- The row of a log that lived at a moment, and the version that a tag means, as the log shows it.
-use Rattle.std.proofs.Common.{◌≡◌, ℕ, ◌≤◌, ◌-◌, ◌&&◌, eqb, nat_le, nat_lt, Bool, true, false, cond, List, [], ◌∷◌, map, filter, Option, Some, None, Result, Ok, Err, refl, ap, sym, ◌∙◌, arith, find}
+use Rattle.std.proofs.Common.{◌≡◌, ℕ, ◌≤◌, ◌-◌, ◌&&◌, eqb, nat_le, nat_lt, Bool, true, false, cond, List, [], ◌∷◌, map, filter, Option, Some, None, Err, refl, ap, sym, ◌∙◌, arith, find}
 use Rattle.std.specs.List.{AllByRecursion, flat_map}
 use Rattle.std.specs.Option.{IsSomeAnd, option_map, option_map_or, option_or}
 use Rattle.std.specs.Result.{result_map_both}

@@ -45,9 +45,10 @@ draft_in s d = record { file = d.file; opened = d.opened; cells = shown s d.layo
 
 abbrev pub reads_in : session.Reads → Reads
 reads_in (session_reads.Draft file) = reads.Draft file
+reads_in (session_reads.Version file number) = reads.Version file number
 
 abbrev pub handle_in : OpenHandle → HandleRow
-handle_in h = record { number = h.number; reads = reads.Draft h.file }
+handle_in h = record { number = h.number; reads = reads_in h.reads }
 
 abbrev pub held_in : Store → List File → AllSessions → Held
 held_in s files sessions = record {

@@ -163,8 +163,7 @@ impl Files {
             (OpenHandle (self.old.opened + 1) (Version file number) ∷ [])) }
         ensures err { OnErr result (self.new ≡ self.old) }
     {
-        // TEMPORARY
-        Err(NoMemory)
+        self.sessions.open_read(file, number)
     }
 
     /// Takes out the version, and answers how many bytes it had; none where it isn't held.

@@ -1,203 +1,116 @@
 -- That the fields keep their order and counts when a handle comes or goes.
-use Rattle.std.proofs.Common.{◌≡◌, ℕ, ◌+◌, ◌<◌, ◌≤◌, ◌^◌, Bool, true, false, cond, eqb, nat_lt, ◌||◌, List, [], ◌∷◌, ◌++◌, length, Option, Some, None, refl, sym, ◌∙◌, arith}
-use Rattle.std.specs.List.{AllByRecursion, list_any, find}
+use Rattle.std.proofs.Common.{◌≡◌, ℕ, ◌+◌, ◌-◌, true, false, MatchBool, Ok, cond, nat_lt, List, [], ◌∷◌, ◌++◌, Option, Some, None, refl, sym, ap, ◌∙◌, arith}
+use Rattle.std.specs.List.{list_any, find}
 use Rattle.std.proofs.lemmas.List.{length-append}
 use Rattle.std.proofs.lemmas.Bool.Decides.{nat_tests}
-use Rattle.std.specs.Option.{option_map}
-use Rattle.ele_sessions.specs.Closes.{closing, file_closing}
+use Rattle.ele_lists.specs.Lists.{remove_first}
+use Rattle.ele_lists.specs.Tally.{counted}
+use Rattle.ele_lists.specs.declared.tally.Tally.{Tally}
+use Rattle.ele_lists.proofs.Cuts.{remove_first-unfound}
+use Rattle.ele_lists.proofs.Edits.{all-not_found, length-remove_first-le}
+use Rattle.ele_blocks.specs.Changes.{IsResized}
+use Rattle.ele_blocks.specs.Layout.{Layout}
+use Rattle.ele_blocks.specs.Store.{Store}
+use Rattle.ele_sessions.specs.Changes.{RewritesDraft, Resizes, has_length}
+use Rattle.ele_sessions.specs.Closes.{left_drafts}
+use Rattle.ele_sessions.specs.Kept.{Keeps, reads_eq, reading}
+use Rattle.ele_sessions.specs.Orderly.{AreOrderly}
+use Rattle.ele_sessions.specs.Sessions.{Draft, AllSessions, is_handle, is_writer, is_reader, is_draft, reads_by, file_by}
 use Rattle.ele_sessions.specs.declared.entries.OpenHandle.{OpenHandle}
-use Rattle.ele_sessions.specs.Inside.{Writers, number_in, is_of, is_after, more, fewer, joined, stays, left}
-use Rattle.ele_sessions.specs.Kept.{Keeps, writing, IsCounted}
-use Rattle.ele_lists.specs.Lists.{update_first, remove_first, insert_before}
-use Rattle.ele_sessions.specs.Order.{Rises}
-use Rattle.ele_sessions.specs.Sessions.{AllSessions, is_handle, is_writer, is_draft, handle_file}
-use Rattle.ele_lists.proofs.Edits.{all-push, all-weaker, all-both, all-none, all-insert_before, all-remove_first, all-found, found_passes, later-push, later-update_first, later-remove_first, later-insert_before, list_any-update_first, list_any-insert_before, list_any-remove_first, length-remove_first-le}
-use Rattle.ele_lists.proofs.Cuts.{any-found}
-use Rattle.ele_sessions.proofs.Counts.{writing-push, writing-remove, writing-none, writing-some, writing-le, writing-undrafted, all-others, counted-update, counted-remove}
+use Rattle.ele_sessions.specs.declared.reads.Reads.{Reads}
+use Rattle.ele_sessions.specs.declared.reads.Reads.TheVariants as reads
+use Rattle.ele_sessions.proofs.Counts.{reading-push, reading-left, any-writer, any-reader}
+use Rattle.ele_sessions.proofs.Orders.{reader_left, writer_left, its_draft, rewritten}
 
-abbrev pub file_of : Writers → ℕ
-file_of w = w.file
+-- the handle of that number, by what is read through it
+pub record IsRead (hs : List OpenHandle) (number : ℕ) (what : Reads) : Type 0 where
+  pub handle : OpenHandle
+  pub found : find (is_handle number) hs ≡ Some handle
+  pub is : handle.reads ≡ what
 
-module _ (ws : List Writers) (hs : List OpenHandle) (opened : ℕ) (keeps : Keeps ws hs opened) where
-  -- no file has more writers than were ever opened
-  pub few_writers : opened < 2 ^ 63 → AllByRecursion (λ w. w.writers < 2 ^ 63) ws
-  few_writers small = all-weaker (IsCounted hs) (λ w. w.writers < 2 ^ 63) ws (λ w counted. omega (arith, counted.1, writing-le w.file hs, keeps.few)) keeps.counted
+pub read_by : (hs : List OpenHandle) (number : ℕ) (what : Reads) → Some what ≡ reads_by hs number → IsRead hs number what
+read_by hs number what is = by (find (is_handle number) hs) refl where
+  by : (o : Option OpenHandle) → find (is_handle number) hs ≡ o → IsRead hs number what
+  by None e = absurd (let h = rw e at is in cc)
+  by (Some h) e = record { handle = h; found = e; is = let h' = rw e at is in cc }
 
-  -- one handle more
-  module _ (file : ℕ) where
-    abbrev new : OpenHandle
-    new = record { number = opened + 1; file = file }
+-- a file that is written through the handle
+pub written_by : (hs : List OpenHandle) (number file : ℕ) → Ok file ≡ file_by hs number → Some (reads.Draft file) ≡ reads_by hs number
+written_by hs number file is = by (reads_by hs number) refl where
+  by : (o : Option Reads) → reads_by hs number ≡ o → Some (reads.Draft file) ≡ reads_by hs number
+  by None e = absurd (let h = rw e at is in cc)
+  by (Some (reads.Draft f)) e = let h = rw e at is in let same : file ≡ f = cc in ap (λ n. Some (reads.Draft n)) same ∙ sym e
+  by (Some (reads.Version f n)) e = absurd (let h = rw e at is in cc)
 
-    abbrev first : Writers
-    first = record { file = file; writers = 1 }
+pub none_left : (hs : List OpenHandle) (number : ℕ) → None ≡ reads_by hs number → remove_first (is_handle number) hs ≡ hs
+none_left hs number none = remove_first-unfound (is_handle number) hs (all-not_found (is_handle number) hs (by (find (is_handle number) hs) refl)) where
+  by : (o : Option OpenHandle) → find (is_handle number) hs ≡ o → find (is_handle number) hs ≡ None
+  by None e = e
+  by (Some h) e = absurd (let h' = rw e at none in cc)
 
-    others : (w : Writers) → IsCounted hs w → eqb w.file file ≡ false → IsCounted (hs ++ new ∷ []) w
-    others w counted apart =
-        let flip : eqb file w.file ≡ false = grind (arith, nat_tests) in
-        let pushed = writing-push w.file hs new in
-        let pushed' = rw flip at pushed in
-        (counted.0, omega (arith, counted.1))
+module _ (s : AllSessions) (counts : Tally Reads) (keeps : Keeps s counts) where
+  pub entered_keeps : (h : OpenHandle) (ds : List Draft) (ready counts' : Tally Reads) → AreOrderly (record { drafts = ds; handles = s.handles ++ h ∷ []; opened = s.opened + 1 }) → ((what : Reads) → counted reads_eq ready what ≡ counted reads_eq counts what) → ((what : Reads) → counted reads_eq counts' what ≡ counted reads_eq ready what + cond (reads_eq h.reads what) 1 0) → Keeps (record { drafts = ds; handles = s.handles ++ h ∷ []; opened = s.opened + 1 }) counts'
+  entered_keeps h ds ready counts' orderly same more = record {
+    orderly = orderly;
+    few = omega (arith, length-append s.handles (h ∷ []), keeps.few);
+    counted = λ what. omega (arith, same what, more what, keeps.counted what, reading-push what s.handles h);
+  }
 
-    pushed_file : writing file (hs ++ new ∷ []) ≡ writing file hs + 1
-    pushed_file = let same : eqb file file ≡ true = grind (arith, nat_tests) in rw same at (writing-push file hs new)
+  pub pinned : (file number : ℕ) → nat_lt 0 (counted reads_eq counts (reads.Version file number)) ≡ list_any (is_reader file number) s.handles
+  pinned file number = ap (nat_lt 0) (keeps.counted (reads.Version file number)) ∙ any-reader file number s.handles
 
-    numbers_on : Rises number_in (hs ++ new ∷ [])
-    numbers_on = later-push (λ x y. x.number < y.number) hs new keeps.numbers_rise (all-weaker (λ h. h.number ≤ opened) (λ h. h.number < opened + 1) hs (λ h le. omega arith) keeps.below)
+  -- another map for a draft
+  pub rewritten_keeps : (ds : List Draft) (file : ℕ) (Made : Draft → Layout → Type 0) → RewritesDraft s.drafts ds file Made → Keeps (record s { drafts = ds }) counts
+  rewritten_keeps ds file Made h = rw h.made (record { orderly = rewritten s keeps.orderly file h.layout; few = keeps.few; counted = keeps.counted })
 
-    below_on : AllByRecursion (λ h. h.number ≤ opened + 1) (hs ++ new ∷ [])
-    below_on = all-push (λ h. h.number ≤ opened + 1) hs new (all-weaker (λ h. h.number ≤ opened) (λ h. h.number ≤ opened + 1) hs (λ h le. omega arith) keeps.below) (omega arith)
-
-    few_on : length (hs ++ new ∷ []) ≤ opened + 1
-    few_on = omega (arith, length-append hs (new ∷ []), keeps.few)
-
-    module _ (there : list_any (is_of file) ws ≡ true) where
-      more_any : (f : ℕ) → list_any (is_of f) (update_first (is_of file) more ws) ≡ list_any (is_of f) ws
-      more_any f = list_any-update_first (is_of file) (is_of f) more ws (λ x e. refl)
-
-      more_keeps : Keeps (update_first (is_of file) more ws) (hs ++ new ∷ []) (opened + 1)
-      more_keeps = record {
-        files_rise = later-update_first (is_of file) (λ x y. x.file < y.file) more ws (λ x y r. r) (λ x y r. r) keeps.files_rise;
-        numbers_rise = numbers_on;
-        below = below_on;
-        few = few_on;
-        counted = counted-update hs (hs ++ new ∷ []) file others more ws (λ w counted same. (omega arith, rw same (omega (arith, pushed_file, (let c : w.writers ≡ writing file hs = rw same at counted.1 in c))))) keeps.files_rise keeps.counted;
-        drafted = all-push (λ h. list_any (is_of h.file) (update_first (is_of file) more ws) ≡ true) hs new (all-weaker (λ h. list_any (is_of h.file) ws ≡ true) (λ h. list_any (is_of h.file) (update_first (is_of file) more ws) ≡ true) hs (λ h e. more_any h.file ∙ e) keeps.drafted) (more_any file ∙ there);
-      }
-
-    module _ (missing : list_any (is_of file) ws ≡ false) where
-      apart : AllByRecursion (λ w. eqb w.file file ≡ false) ws
-      apart = all-none (is_of file) ws missing
-
-      first_any : (f : ℕ) → list_any (is_of f) (insert_before (is_after file) first ws) ≡ (eqb file f || list_any (is_of f) ws)
-      first_any f = list_any-insert_before (is_after file) (is_of f) first ws
-
-      first_keeps : Keeps (insert_before (is_after file) first ws) (hs ++ new ∷ []) (opened + 1)
-      first_keeps = record {
-        files_rise = later-insert_before (is_after file) (λ x y. x.file < y.file) (λ w. eqb w.file file ≡ false) first ws (λ x other no. grind (arith, nat_tests)) (λ x other passes. grind (arith, nat_tests)) (λ x z passes lt. grind (arith, nat_tests)) apart keeps.files_rise;
-        numbers_rise = numbers_on;
-        below = below_on;
-        few = few_on;
-        counted = all-insert_before (is_after file) (IsCounted (hs ++ new ∷ [])) first ws (omega arith, omega (arith, pushed_file, writing-undrafted file ws hs keeps.drafted missing)) (all-weaker (λ w. IsCounted hs w × (eqb w.file file ≡ false)) (IsCounted (hs ++ new ∷ [])) ws (λ w both. others w both.0 both.1) (all-both (IsCounted hs) (λ w. eqb w.file file ≡ false) ws keeps.counted apart));
-        drafted = all-push (λ h. list_any (is_of h.file) (insert_before (is_after file) first ws) ≡ true) hs new (all-weaker (λ h. list_any (is_of h.file) ws ≡ true) (λ h. list_any (is_of h.file) (insert_before (is_after file) first ws) ≡ true) hs (λ h e. rw (first_any h.file, e) (or_true (eqb file h.file))) keeps.drafted) (rw (first_any file, (let same : eqb file file ≡ true = grind (arith, nat_tests) in same)) refl);
-      } where
-        or_true : (b : Bool) → (b || true) ≡ true
-        or_true true = refl
-        or_true false = refl
-
-    pub joined_keeps : Keeps (joined file ws) (hs ++ new ∷ []) (opened + 1)
-    joined_keeps = elim (list_any (is_of file) ws) as (λ b. list_any (is_of file) ws ≡ b → Keeps (cond b (update_first (is_of file) more ws) (insert_before (is_after file) first ws)) (hs ++ new ∷ []) (opened + 1)) [
-      | true ↦ λ e. more_keeps e
-      | false ↦ λ e. first_keeps e
-    ] refl
-
-  -- a file that a handle writes has a draft
-  pub file_drafted : (number file : ℕ) → handle_file hs number ≡ Some file → list_any (is_of file) ws ≡ true
-  file_drafted number file h = by (find (is_handle number) hs) refl where
-    by : (o : Option OpenHandle) → find (is_handle number) hs ≡ o → list_any (is_of file) ws ≡ true
-    by None e = absurd (let h' = rw e at h in cc)
-    by (Some x) e =
-        let h' = rw e at h in
-        let same : x.file ≡ file = cc in
-        rw (← same) (all-found (is_handle number) (λ x. list_any (is_of x.file) ws ≡ true) hs x e keeps.drafted)
+  pub resized_keeps : (t u : Store) (ds : List Draft) (file size : ℕ) → Resizes t u s.drafts ds file size → Keeps (record s { drafts = ds }) counts
+  resized_keeps t u ds file size = elim (has_length size (find (is_draft file) s.drafts)) as (λ b. MatchBool b ((ds ≡ s.drafts) × (u ≡ t)) (RewritesDraft s.drafts ds file (λ was. IsResized t u was.number size was.layout)) → Keeps (record s { drafts = ds }) counts) [
+    | true ↦ λ h. rw h.0 keeps
+    | false ↦ λ h. rewritten_keeps ds file (λ was. IsResized t u was.number size was.layout) h
+  ]
 
   -- one handle fewer
-  module _ (number : ℕ) (h : OpenHandle) (found : find (is_handle number) hs ≡ Some h) where
+  module _ (number : ℕ) (what : Reads) (read : Some what ≡ reads_by s.handles number) where
     abbrev rest : List OpenHandle
-    rest = remove_first (is_handle number) hs
+    rest = remove_first (is_handle number) s.handles
 
-    pub is_drafted : list_any (is_of h.file) ws ≡ true
-    is_drafted = all-found (is_handle number) (λ x. list_any (is_of x.file) ws ≡ true) hs h found keeps.drafted
+    its : IsRead s.handles number what
+    its = read_by s.handles number what read
 
-    its : (w : Writers) × (find (is_of h.file) ws ≡ Some w)
-    its = any-found (is_of h.file) ws is_drafted
+    fewer_by : (other : Reads) → reading other rest + cond (reads_eq what other) 1 0 ≡ reading other s.handles
+    fewer_by other = rw (← its.is) (reading-left other number s.handles its.handle its.found)
 
-    its_count : its.0.writers ≡ writing h.file rest + 1
-    its_count =
-        let counted : IsCounted hs its.0 = all-found (is_of h.file) (IsCounted hs) ws its.0 its.1 keeps.counted in
-        let passes = found_passes (is_of h.file) ws its.0 its.1 in
-        let same : its.0.file ≡ h.file = grind (arith, nat_tests) in
-        let count : its.0.writers ≡ writing h.file hs = rw same at counted.1 in
-        omega (arith, count, left_file)
-      where
-        left_file : writing h.file hs ≡ writing h.file rest + 1
-        left_file = let same : eqb h.file h.file ≡ true = grind (arith, nat_tests) in rw same at (writing-remove h.file number hs h found)
+    module _ (counts' : Tally Reads) (fewer : (other : Reads) → counted reads_eq counts' other ≡ counted reads_eq counts other - cond (reads_eq what other) 1 0) where
+      counted_left : (other : Reads) → counted reads_eq counts' other ≡ reading other rest
+      counted_left other = omega (arith, fewer other, keeps.counted other, fewer_by other)
 
-    left_file : writing h.file hs ≡ writing h.file rest + 1
-    left_file = let same : eqb h.file h.file ≡ true = grind (arith, nat_tests) in rw same at (writing-remove h.file number hs h found)
+      left_keeps : (ds : List Draft) → AreOrderly (record s { drafts = ds; handles = rest }) → Keeps (record s { drafts = ds; handles = rest }) counts'
+      left_keeps ds orderly = record {
+        orderly = orderly;
+        few = omega (arith, length-remove_first-le (is_handle number) s.handles, keeps.few);
+        counted = counted_left;
+      }
 
-    stays_is : stays h.file ws ≡ nat_lt 1 (writing h.file rest + 1)
-    stays_is = rw (its.1, its_count) refl
+      pub reader_keeps : (file version : ℕ) → what ≡ reads.Version file version → Keeps (record s { handles = rest }) counts'
+      reader_keeps file version is = left_keeps s.drafts (reader_left s keeps.orderly number its.handle its.found file version (its.is ∙ is))
 
-    -- the draft stays as long as another handle writes the file
-    pub stays_while : stays h.file ws ≡ list_any (is_writer h.file) rest
-    stays_while = stays_is ∙ by (nat_lt 0 (writing h.file rest)) refl where
-      by : (b : Bool) → nat_lt 0 (writing h.file rest) ≡ b → nat_lt 1 (writing h.file rest + 1) ≡ list_any (is_writer h.file) rest
-      by true e =
-          let some : 0 < writing h.file rest = grind (arith, nat_tests) in
-          let passes : nat_lt 1 (writing h.file rest + 1) ≡ true = grind (arith, nat_tests) in
-          passes ∙ sym (writing-some h.file rest some)
-      by false e =
-          let none : writing h.file rest ≡ 0 = grind (arith, nat_tests) in
-          let fails : nat_lt 1 (writing h.file rest + 1) ≡ false = grind (arith, nat_tests) in
-          fails ∙ sym (writing-none h.file rest none)
+      pub writer_keeps : (file : ℕ) → what ≡ reads.Draft file → Keeps (record s { drafts = left_drafts (list_any (is_writer file) rest) file s.drafts; handles = rest }) counts'
+      writer_keeps file is = left_keeps (left_drafts (list_any (is_writer file) rest) file s.drafts) (writer_left s keeps.orderly number its.handle its.found file (its.is ∙ is))
 
-    others_stay : (w : Writers) → IsCounted hs w → eqb w.file h.file ≡ false → IsCounted rest w
-    others_stay w counted other =
-        let flip : eqb h.file w.file ≡ false = grind (arith, nat_tests) in
-        let removed = rw flip at (writing-remove w.file number hs h found) in
-        (counted.0, omega (arith, counted.1))
+      -- whether the draft stays, as the counts tell it once the handle is gone
+      pub stays_now : (file : ℕ) → nat_lt 0 (counted reads_eq counts' (reads.Draft file)) ≡ list_any (is_writer file) rest
+      stays_now file = ap (nat_lt 0) (counted_left (reads.Draft file)) ∙ any-writer file rest
 
-    numbers_left : Rises number_in rest
-    numbers_left = later-remove_first (is_handle number) (λ x y. x.number < y.number) hs keeps.numbers_rise
+    module _ (file : ℕ) (is : what ≡ reads.Draft file) where
+      pub draft_there : list_any (is_draft file) s.drafts ≡ true
+      draft_there = its_draft s keeps.orderly number its.handle its.found file (its.is ∙ is)
 
-    below_left : AllByRecursion (λ x. x.number ≤ opened) rest
-    below_left = all-remove_first (is_handle number) (λ x. x.number ≤ opened) hs keeps.below
-
-    few_left : length rest ≤ opened
-    few_left = omega (arith, length-remove_first-le (is_handle number) hs, keeps.few)
-
-    fewer_any : (f : ℕ) → list_any (is_of f) (update_first (is_of h.file) fewer ws) ≡ list_any (is_of f) ws
-    fewer_any f = list_any-update_first (is_of h.file) (is_of f) fewer ws (λ x e. refl)
-
-    drafted_left : AllByRecursion (λ x. list_any (is_of x.file) ws ≡ true) rest
-    drafted_left = all-remove_first (is_handle number) (λ x. list_any (is_of x.file) ws ≡ true) hs keeps.drafted
-
-    fewer_keeps : 0 < writing h.file rest → Keeps (update_first (is_of h.file) fewer ws) rest opened
-    fewer_keeps some = record {
-      files_rise = later-update_first (is_of h.file) (λ x y. x.file < y.file) fewer ws (λ x y r. r) (λ x y r. r) keeps.files_rise;
-      numbers_rise = numbers_left;
-      below = below_left;
-      few = few_left;
-      counted = counted-update hs rest h.file others_stay fewer ws (λ w counted same. let c : w.writers ≡ writing h.file hs = rw same at counted.1 in (omega (arith, left_file), rw same (omega (arith, left_file)))) keeps.files_rise keeps.counted;
-      drafted = all-weaker (λ x. list_any (is_of x.file) ws ≡ true) (λ x. list_any (is_of x.file) (update_first (is_of h.file) fewer ws) ≡ true) rest (λ x e. fewer_any x.file ∙ e) drafted_left;
-    }
-
-    gone_any : (f : ℕ) → eqb f h.file ≡ false → list_any (is_of f) (remove_first (is_of h.file) ws) ≡ list_any (is_of f) ws
-    gone_any f other = list_any-remove_first (is_of h.file) (is_of f) ws (λ x is. let passes = found_passes (is_of h.file) ws x is in grind (arith, nat_tests))
-
-    gone_keeps : writing h.file rest ≡ 0 → Keeps (remove_first (is_of h.file) ws) rest opened
-    gone_keeps none = record {
-      files_rise = later-remove_first (is_of h.file) (λ x y. x.file < y.file) ws keeps.files_rise;
-      numbers_rise = numbers_left;
-      below = below_left;
-      few = few_left;
-      counted = counted-remove hs rest h.file others_stay ws keeps.files_rise keeps.counted;
-      drafted = all-weaker (λ x. (list_any (is_of x.file) ws ≡ true) × (eqb x.file h.file ≡ false)) (λ x. list_any (is_of x.file) (remove_first (is_of h.file) ws) ≡ true) rest (λ x both. gone_any x.file both.1 ∙ both.0) (all-both (λ x. list_any (is_of x.file) ws ≡ true) (λ x. eqb x.file h.file ≡ false) rest drafted_left (all-others h.file rest none));
-    }
-
-    pub left_keeps : Keeps (left h.file ws) rest opened
-    left_keeps = rw stays_is (by (nat_lt 1 (writing h.file rest + 1)) refl) where
-      by : (b : Bool) → nat_lt 1 (writing h.file rest + 1) ≡ b → Keeps (cond b (update_first (is_of h.file) fewer ws) (remove_first (is_of h.file) ws)) rest opened
-      by true e = fewer_keeps (grind (arith, nat_tests))
-      by false e = gone_keeps (grind (arith, nat_tests))
-
--- what closing a handle would answer
-pub peeked : (s : AllSessions) (ws : List Writers) (number file : ℕ) → Keeps ws s.handles s.opened → handle_file s.handles number ≡ Some file → option_map (λ answer. answer.0) (closing s number) ≡ Some (file_closing (stays file ws) (find (is_draft file) s.drafts)).0
-peeked s ws number file keeps h = by (find (is_handle number) s.handles) refl where
-  by : (o : Option OpenHandle) → find (is_handle number) s.handles ≡ o → option_map (λ answer. answer.0) (closing s number) ≡ Some (file_closing (stays file ws) (find (is_draft file) s.drafts)).0
-  by None e = absurd (let h' = rw e at h in cc)
-  by (Some x) e =
-      let h' = rw e at h in
-      let same : x.file ≡ file = cc in
-      let stay = stays_while ws s.handles s.opened keeps number x e in
-      rw (← same, e, stay) refl
+      -- and before
+      pub stays_then : nat_lt 1 (counted reads_eq counts (reads.Draft file)) ≡ list_any (is_writer file) rest
+      stays_then =
+          let own : reads_eq (reads.Draft file) (reads.Draft file) ≡ true = grind (arith, nat_tests) in
+          let left : reading (reads.Draft file) rest + 1 ≡ reading (reads.Draft file) s.handles = rw (is, own) at (fewer_by (reads.Draft file)) in
+          ap (nat_lt 1) (keeps.counted (reads.Draft file) ∙ sym left) ∙ (one_less (reading (reads.Draft file) rest) ∙ any-writer file rest)
+        where
+          one_less : (n : ℕ) → nat_lt 1 (n + 1) ≡ nat_lt 0 n
+          one_less n = grind (arith, nat_tests)

@@ -1,4 +1,4 @@
 pub mod Found
 pub mod Counts
+pub mod Orders
 pub mod Keepings
-pub mod Order

@@ -1,5 +1,5 @@
 -- What writes and truncates answer, and what they make of a draft.
-use Rattle.std.specs.Prelude.{◌≡◌, ℕ, ◌+◌, ◌==◌, nat_lt, true, false, Bool, MatchBool, List, [], ◌∷◌, length, Option, Some, None, find, if◌then◌else◌}
+use Rattle.std.specs.Prelude.{◌≡◌, ℕ, ◌+◌, ◌==◌, nat_lt, true, false, Bool, MatchBool, List, [], ◌∷◌, length, Option, Some, None, Result, Ok, Err, find, if◌then◌else◌}
 use Rattle.std.specs.Option.{IsSomeAnd, option_map_or}
 use Rattle.ele_content.specs.Content.{longest_content}
 use Rattle.ele_blocks.specs.Changes.{IsWritten, IsResized}
@@ -8,25 +8,25 @@ use Rattle.ele_blocks.specs.Store.{Store}
 use Rattle.ele_sessions.specs.declared.fault.SessionFault.{SessionFault}
 use Rattle.ele_sessions.specs.declared.fault.SessionFault.TheVariants as fault
 use Rattle.ele_lists.specs.Lists.{update_first}
-use Rattle.ele_sessions.specs.Sessions.{Draft, AllSessions, is_draft, handle_file, draft_by}
+use Rattle.ele_sessions.specs.Sessions.{Draft, AllSessions, is_draft, file_by, handle_file, draft_by}
 
 -- why a write is refused, whatever memory there is
-abbrev pub write_refusal_of : Option ℕ → ℕ → List ℕ → Option SessionFault
-write_refusal_of None offset bytes = Some fault.NoHandle
-write_refusal_of (Some file) offset [] = None
-write_refusal_of (Some file) offset (byte ∷ bytes) =
+abbrev pub write_refusal_of : Result ℕ SessionFault → ℕ → List ℕ → Option SessionFault
+write_refusal_of (Err fault) offset bytes = Some fault
+write_refusal_of (Ok file) offset [] = None
+write_refusal_of (Ok file) offset (byte ∷ bytes) =
     if nat_lt longest_content (offset + length (byte ∷ bytes)) then Some fault.TooBig else None
 
 abbrev pub write_refusal : AllSessions → ℕ → ℕ → List ℕ → Option SessionFault
-write_refusal s handle offset bytes = write_refusal_of (handle_file s.handles handle) offset bytes
+write_refusal s handle offset bytes = write_refusal_of (file_by s.handles handle) offset bytes
 
 -- why a truncate is refused, whatever memory there is
-abbrev pub truncate_refusal_of : Option ℕ → ℕ → Option SessionFault
-truncate_refusal_of None size = Some fault.NoHandle
-truncate_refusal_of (Some file) size = if nat_lt longest_content size then Some fault.TooBig else None
+abbrev pub truncate_refusal_of : Result ℕ SessionFault → ℕ → Option SessionFault
+truncate_refusal_of (Err fault) size = Some fault
+truncate_refusal_of (Ok file) size = if nat_lt longest_content size then Some fault.TooBig else None
 
 abbrev pub truncate_refusal : AllSessions → ℕ → ℕ → Option SessionFault
-truncate_refusal s handle size = truncate_refusal_of (handle_file s.handles handle) size
+truncate_refusal s handle size = truncate_refusal_of (file_by s.handles handle) size
 
 -- the draft with another map, and changed
 abbrev pub rewritten_by : Layout → Draft → Draft

@@ -3,10 +3,12 @@ use Rattle.std.specs.Prelude.{ℕ, Bool, List, Option, Some, None, find, if◌th
 use Rattle.std.specs.List.{list_any}
 use Rattle.ele_blocks.specs.Layout.{Layout}
 use Rattle.ele_sessions.specs.declared.closing.Closing.{Closing}
-use Rattle.ele_sessions.specs.declared.closing.Closing.TheVariants.{StillOpen, Clean, Changed}
+use Rattle.ele_sessions.specs.declared.closing.Closing.TheVariants.{StillOpen, Clean, Changed, Unread}
 use Rattle.ele_sessions.specs.declared.entries.OpenHandle.{OpenHandle}
+use Rattle.ele_sessions.specs.declared.reads.Reads.{Reads}
+use Rattle.ele_sessions.specs.declared.reads.Reads.TheVariants as reads
 use Rattle.ele_lists.specs.Lists.{remove_first}
-use Rattle.ele_sessions.specs.Sessions.{Draft, AllSessions, is_draft, is_handle, is_writer, handle_file}
+use Rattle.ele_sessions.specs.Sessions.{Draft, AllSessions, is_draft, is_handle, is_writer, reads_by}
 
 -- the handles that are left
 abbrev pub left_handles : AllSessions → ℕ → List OpenHandle
@@ -25,25 +27,28 @@ ending_of (Some draft) = ending draft
 abbrev pub file_closing : Bool → Option Draft → Closing × Option Layout
 file_closing stays draft = if stays then (StillOpen, None) else ending_of draft
 
-abbrev pub closing_of : AllSessions → ℕ → Option ℕ → Option (Closing × Option Layout)
+-- a handle that read a version leaves nothing behind
+abbrev pub closing_of : AllSessions → ℕ → Option Reads → Option (Closing × Option Layout)
 closing_of s handle None = None
-closing_of s handle (Some file) =
+closing_of s handle (Some (reads.Draft file)) =
     Some (file_closing (list_any (is_writer file) (left_handles s handle)) (find (is_draft file) s.drafts))
+closing_of s handle (Some (reads.Version file number)) = Some (Unread file number, None)
 
 -- what closing the handle answers; none where there is no such handle
 abbrev pub closing : AllSessions → ℕ → Option (Closing × Option Layout)
-closing s handle = closing_of s handle (handle_file s.handles handle)
+closing s handle = closing_of s handle (reads_by s.handles handle)
 
 abbrev pub left_drafts : Bool → ℕ → List Draft → List Draft
 left_drafts stays file drafts = if stays then drafts else remove_first (is_draft file) drafts
 
-abbrev pub closed_of : AllSessions → ℕ → Option ℕ → AllSessions
+abbrev pub closed_of : AllSessions → ℕ → Option Reads → AllSessions
 closed_of s handle None = s
-closed_of s handle (Some file) = record s {
+closed_of s handle (Some (reads.Draft file)) = record s {
   drafts = left_drafts (list_any (is_writer file) (left_handles s handle)) file s.drafts;
   handles = left_handles s handle;
 }
+closed_of s handle (Some (reads.Version file number)) = record s { handles = left_handles s handle }
 
 -- all that is left when the handle is closed
 abbrev pub closed : AllSessions → ℕ → AllSessions
-closed s handle = closed_of s handle (handle_file s.handles handle)
+closed s handle = closed_of s handle (reads_by s.handles handle)

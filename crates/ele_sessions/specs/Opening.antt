@@ -5,6 +5,9 @@ use Rattle.ele_blocks.specs.Layout.{Layout}
 use Rattle.ele_blocks.specs.Owes.{Moves}
 use Rattle.ele_blocks.specs.Store.{Store}
 use Rattle.ele_lists.specs.Lists.{insert_before}
+use Rattle.ele_sessions.specs.declared.entries.OpenHandle.{OpenHandle}
+use Rattle.ele_sessions.specs.declared.reads.Reads.{Reads}
+use Rattle.ele_sessions.specs.declared.reads.Reads.TheVariants as reads
 use Rattle.ele_sessions.specs.Sessions.{Draft, AllSessions, is_draft, is_draft_after}
 
 -- a draft that is opened now, with that map's content
@@ -17,13 +20,22 @@ abbrev pub with_draft : Draft → List Draft → List Draft
 with_draft new drafts =
     if list_any (is_draft new.file) drafts then drafts else insert_before (is_draft_after new.file) new drafts
 
+-- the handles with the next one, by which that is read
+abbrev pub with_handle : AllSessions → Reads → List OpenHandle
+with_handle s what = s.handles ++ record { number = s.opened + 1; reads = what } ∷ []
+
 -- one more handle, by which the file of the draft is written
 abbrev pub opened_by : AllSessions → Draft → AllSessions
 opened_by s new = record {
   drafts = with_draft new s.drafts;
-  handles = s.handles ++ record { number = s.opened + 1; file = new.file } ∷ [];
+  handles = with_handle s (reads.Draft new.file);
   opened = s.opened + 1;
 }
+
+-- one more handle, by which the version is read
+abbrev pub reader_opened : AllSessions → ℕ → ℕ → AllSessions
+reader_opened s file number =
+    record s { handles = with_handle s (reads.Version file number); opened = s.opened + 1 }
 
 -- a draft that starts owns a copy of the map, and where one is there, the store is as it was
 abbrev pub Opens : Store → Store → List Draft → ℕ → Layout → Type 0

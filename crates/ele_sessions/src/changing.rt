@@ -7,7 +7,7 @@ ghost use Rattle.ele_content.specs.Content.{longest_content};
 ghost use Rattle.ele_blocks.specs.Changes.{IsWritten};
 ghost use Rattle.ele_blocks.specs.LivesIn.{LivesIn};
 ghost use Rattle.ele_sessions.specs.Changes.{RewritesDraft, Resizes, has_length};
-ghost use Rattle.ele_sessions.specs.Inside.{drafts_of, writers_of, file_in, is_of};
+ghost use Rattle.ele_sessions.specs.Inside.{drafts_of, file_in};
 ghost use Rattle.ele_sessions.specs.Order.{Rises};
 ghost use Rattle.ele_sessions.specs.Sessions.{is_draft};
 
@@ -24,14 +24,13 @@ pub fn write_draft(
     bytes: &[u8],
 ) -> Result<(), NoMemory>
     requires rise { Rises file_in drafts.old.items }
-    requires there { list_any (is_of file) (writers_of drafts.old.items) ≡ true }
+    requires there { list_any (is_draft file) (drafts_of drafts.old.items) ≡ true }
     requires lives { ForSome (find (is_draft file) (drafts_of drafts.old.items))
         (λ draft. LivesIn store.old draft.layout) }
     requires fits { offset + length bytes.now ≤ longest_content }
     ensures made { OnOk result
         (RewritesDraft (drafts_of drafts.old.items) (drafts_of drafts.new.items) file
         (λ was. IsWritten store.old store.new was.number offset bytes.now was.layout)) }
-    ensures writers { writers_of drafts.new.items ≡ writers_of drafts.old.items }
     ensures err { OnErr result (drafts_of drafts.new.items ≡ drafts_of drafts.old.items) }
     ensures err_store { OnErr result (store.new ≡ store.old) }
 {
@@ -52,7 +51,7 @@ pub fn truncate_draft(
     size: u64,
 ) -> Result<(), NoMemory>
     requires rise { Rises file_in drafts.old.items }
-    requires there { list_any (is_of file) (writers_of drafts.old.items) ≡ true }
+    requires there { list_any (is_draft file) (drafts_of drafts.old.items) ≡ true }
     requires lives { ForSome (find (is_draft file) (drafts_of drafts.old.items))
         (λ draft. LivesIn store.old draft.layout) }
     requires fits { size ≤ longest_content }
@@ -60,7 +59,6 @@ pub fn truncate_draft(
         → IsOk result }
     ensures made { OnOk result (Resizes store.old store.new
         (drafts_of drafts.old.items) (drafts_of drafts.new.items) file size) }
-    ensures writers { writers_of drafts.new.items ≡ writers_of drafts.old.items }
     ensures err { OnErr result (drafts_of drafts.new.items ≡ drafts_of drafts.old.items) }
     ensures err_store { OnErr result (store.new ≡ store.old) }
 {

@@ -1,6 +1,6 @@
 //! What follows when a handle is closed.
-//! A contract sees the variants, with files and moments as their numbers.
-use ele_moment::{FileId, Moment};
+//! A contract sees the variants, with files, versions and moments as their numbers.
+use ele_moment::{FileId, Moment, VersionNo};
 
 /// What the closing of a handle comes to.
 #[derive(Clone, Copy, Debug, PartialEq, Eq)]
@@ -11,4 +11,6 @@ pub enum Closing {
     Clean(FileId),
     /// The draft goes, and was changed: it was opened at that moment.
     Changed(FileId, Moment),
+    /// The handle read that version, and wrote nothing.
+    Unread(FileId, VersionNo),
 }

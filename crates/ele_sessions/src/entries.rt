@@ -1,28 +1,32 @@
 //! The drafts by file id and the handles by number, each found by a binary search.
 //! A contract sees the lists of both.
-ghost use Rattle.std.specs.Prelude.{◌≡◌, IfOk, IfErr};
+ghost use Rattle.std.specs.Prelude.{◌≡◌, ◌<◌, ◌+◌, ◌^◌, [], ◌∷◌, ◌++◌, Some, IfOk, IfErr, vec_len, vec_capacity, if◌then◌else◌};
+ghost use Rattle.ele_lists.specs.Tally.{counted, room};
+ghost use Rattle.ele_sessions.specs.declared.reads.Reads.{Reads};
 ghost use Rattle.ele_sessions.specs.Inside.{IsAt, IsGap, file_in, number_in};
+ghost use Rattle.ele_sessions.specs.Kept.{reads_eq};
 ghost use Rattle.ele_sessions.specs.Order.{Rises};
-ghost use Rattle.ele_sessions.specs.Sessions.{handle_file};
+ghost use Rattle.ele_sessions.specs.Sessions.{is_handle, reads_by, file_written, file_by};
+ghost use Rattle.ele_lists.specs.Lists.{remove_first};
 
 use crate::draft::Draft;
-use ele_lists::Keyed;
+use crate::fault::SessionFault;
+use crate::reads::Reads;
+use ele_lists::{Keyed, Tally, put};
 use ele_moment::{FileId, Handle};
 
-/// A file's draft, and how many handles write it. The draft lies apart, so that few bytes move when
-/// another draft comes or goes.
+/// A file's draft. It lies apart, so that few bytes move when another draft comes or goes.
 #[derive(Debug, Drop)]
 pub struct Entry {
     pub file: FileId,
-    pub writers: u64,
     pub draft: Box<Draft>,
 }
 
-/// An open handle, and the file that it writes.
+/// An open handle, and what it reads.
 #[derive(Clone, Copy, Debug)]
 pub struct OpenHandle {
     pub number: Handle,
-    pub file: FileId,
+    pub reads: Reads,
 }
 
 impl Keyed for Entry {
@@ -59,13 +63,59 @@ pub fn handle_place(handles: &[OpenHandle], number: Handle) -> Result<usize, usi
     ele_lists::place_of(handles, number.0)
 }
 
-/// The file that is written through the handle.
-pub fn file_by(handles: &[OpenHandle], number: Handle) -> Option<FileId>
-    requires { Rises number_in handles.now }
-    ensures { result ≡ handle_file handles.now number }
+/// One handle more, in reserved room. It is counted with those that read the same.
+pub fn enter(handles: &mut Vec<OpenHandle>, counts: &mut Tally<Reads>, handle: &OpenHandle)
+    requires room { vec_len handles.old < vec_capacity handles.old }
+    requires counts_room { 0 < room counts.old }
+    requires fits { counted reads_eq counts.old handle.now.reads + 1 < 2 ^ 64 }
+    ensures handles { handles.new.items ≡ handles.old.items ++ handle.now ∷ [] }
+    ensures counts { (what : Reads) → counted reads_eq counts.new what
+        ≡ counted reads_eq counts.old what + (if reads_eq handle.now.reads what then 1 else 0) }
+{
+    put(handles, *handle);
+    counts.add(handle.reads);
+}
+
+/// The handle of that number goes. The answer is what was read through it, if there was one.
+pub fn take_handle(handles: &mut Vec<OpenHandle>, number: Handle) -> Option<Reads>
+    requires { Rises number_in handles.old.items }
+    ensures reads { result ≡ reads_by handles.old.items number }
+    ensures left { handles.new.items ≡ remove_first (is_handle number) handles.old.items }
 {
     let Ok(at) = handle_place(handles, number) else {
         return None;
     };
-    Some(handles[at].file)
+    Some(handles.remove(at).reads)
+}
+
+/// What is read through the handle.
+pub fn reads_by(handles: &[OpenHandle], number: Handle) -> Option<Reads>
+    requires { Rises number_in handles.now }
+    ensures { result ≡ reads_by handles.now number }
+{
+    let Ok(at) = handle_place(handles, number) else {
+        return None;
+    };
+    Some(handles[at].reads)
+}
+
+/// The file that a handle writes that reads this. Faults: `NotWriter`.
+fn file_written(reads: Reads) -> Result<FileId, SessionFault>
+    ensures { result ≡ file_written (Some reads) }
+{
+    match reads {
+        Reads::Draft(file) => Ok(file),
+        Reads::Version(_, _) => Err(SessionFault::NotWriter),
+    }
+}
+
+/// The file that is written through the handle. Faults: `NoHandle`, `NotWriter`.
+pub fn file_by(handles: &[OpenHandle], number: Handle) -> Result<FileId, SessionFault>
+    requires { Rises number_in handles.now }
+    ensures { result ≡ file_by handles.now number }
+{
+    match reads_by(handles, number) {
+        Some(reads) => file_written(reads),
+        None => Err(SessionFault::NoHandle),
+    }
 }

@@ -9,7 +9,7 @@ pub enum SessionFault {
     /// No open handle has that number.
     #[error("no such handle")]
     NoHandle,
-    /// The handle reads a version. No handle does yet, so this doesn't come yet.
+    /// The handle reads a version.
     #[error("the handle doesn't write")]
     NotWriter,
     /// The content would have more than 1,048,576 bytes.

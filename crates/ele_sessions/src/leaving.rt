@@ -1,9 +1,9 @@
 //! One writer of a file fewer, with whom the draft may go.
-//! A contract sees the list of drafts, and how many write each file.
+//! A contract sees the list of drafts.
 ghost use Rattle.std.specs.Prelude.{◌≡◌, true, find, Some};
 ghost use Rattle.std.specs.List.{list_any};
 ghost use Rattle.ele_sessions.specs.Closes.{ending, file_closing, left_drafts};
-ghost use Rattle.ele_sessions.specs.Inside.{draft_in, drafts_of, writers_of, file_in, is_of, stays, left};
+ghost use Rattle.ele_sessions.specs.Inside.{draft_in, drafts_of, file_in};
 ghost use Rattle.ele_sessions.specs.Order.{Rises};
 ghost use Rattle.ele_sessions.specs.Sessions.{is_draft};
 
@@ -23,41 +23,36 @@ fn ending(entry: &Entry) -> Closing
     }
 }
 
-/// What it would come to if one writer of the file closed.
-pub fn peek(drafts: &[Entry], file: FileId) -> Closing
+/// What it would come to if a writer of the file closed, and others stayed or none.
+pub fn peek(drafts: &[Entry], file: FileId, stays: bool) -> Closing
     requires rise { Rises file_in drafts.now }
-    requires there { list_any (is_of file) (writers_of drafts.now) ≡ true }
-    ensures { result ≡ (file_closing (stays file (writers_of drafts.now))
-        (find (is_draft file) (drafts_of drafts.now))).0 }
+    requires there { list_any (is_draft file) (drafts_of drafts.now) ≡ true }
+    ensures { result ≡ (file_closing stays (find (is_draft file) (drafts_of drafts.now))).0 }
 {
-    let Ok(at) = place_of(drafts, file) else {
-        unreachable!()
-    };
-    let entry = &drafts[at];
-    if entry.writers > 1 {
+    if stays {
         return Closing::StillOpen;
     }
-    ending(entry)
-}
-
-/// One writer of the file closes: the draft goes with the last one, and its map comes out.
-pub fn leave(drafts: &mut Vec<Entry>, file: FileId) -> (Closing, Option<BlockMap>)
-    requires rise { Rises file_in drafts.old.items }
-    requires there { list_any (is_of file) (writers_of drafts.old.items) ≡ true }
-    ensures answer { result ≡ file_closing (stays file (writers_of drafts.old.items))
-        (find (is_draft file) (drafts_of drafts.old.items)) }
-    ensures drafts { drafts_of drafts.new.items
-        ≡ left_drafts (stays file (writers_of drafts.old.items)) file (drafts_of drafts.old.items) }
-    ensures writers { writers_of drafts.new.items ≡ left file (writers_of drafts.old.items) }
-{
     let Ok(at) = place_of(drafts, file) else {
         unreachable!()
     };
-    let entry = &mut drafts[at];
-    if entry.writers > 1 {
-        entry.writers -= 1;
+    ending(&drafts[at])
+}
+
+/// A writer of the file closes: where no other stays the draft goes, and its map comes out.
+pub fn leave(drafts: &mut Vec<Entry>, file: FileId, stays: bool) -> (Closing, Option<BlockMap>)
+    requires rise { Rises file_in drafts.old.items }
+    requires there { list_any (is_draft file) (drafts_of drafts.old.items) ≡ true }
+    ensures answer { result
+        ≡ file_closing stays (find (is_draft file) (drafts_of drafts.old.items)) }
+    ensures drafts { drafts_of drafts.new.items
+        ≡ left_drafts stays file (drafts_of drafts.old.items) }
+{
+    if stays {
         return (Closing::StillOpen, None);
     }
+    let Ok(at) = place_of(drafts, file) else {
+        unreachable!()
+    };
     let entry = drafts.remove(at);
     let closing = ending(&entry);
     let draft = Box::into_inner(entry.draft);

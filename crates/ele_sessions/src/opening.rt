@@ -1,10 +1,9 @@
 //! One more writer of a file, who starts its draft or joins it.
-//! A contract sees the list of drafts, and how many write each file.
-ghost use Rattle.std.specs.Prelude.{◌≡◌, ◌<◌, ◌^◌, ◌+◌, [], ◌∷◌, true, OnOk, OnErr};
-ghost use Rattle.std.specs.List.{AllByRecursion, list_any};
+//! A contract sees the list of drafts.
+ghost use Rattle.std.specs.Prelude.{◌≡◌, [], ◌∷◌, OnOk, OnErr};
 ghost use Rattle.ele_blocks.specs.LivesIn.{LivesIn};
 ghost use Rattle.ele_blocks.specs.Owes.{Moves, IsUncrowded};
-ghost use Rattle.ele_sessions.specs.Inside.{IsGap, drafts_of, writers_of, file_in, is_of, is_after, joined};
+ghost use Rattle.ele_sessions.specs.Inside.{IsGap, drafts_of, file_in};
 ghost use Rattle.ele_lists.specs.Lists.{insert_before};
 ghost use Rattle.ele_sessions.specs.Opening.{new_draft, with_draft, Opens};
 ghost use Rattle.ele_sessions.specs.Order.{Rises};
@@ -41,9 +40,6 @@ fn start(
     ensures drafts { OnOk result (drafts_of drafts.new.items
         ≡ insert_before (is_draft_after coming.file)
         (new_draft coming.file coming.number coming.opened map.now) (drafts_of drafts.old.items)) }
-    ensures writers { OnOk result (writers_of drafts.new.items
-        ≡ insert_before (is_after coming.file) (record { file = coming.file; writers = 1 })
-        (writers_of drafts.old.items)) }
     ensures moves { OnOk result (Moves store.old store.new [] (map.now ∷ [])) }
     ensures err { OnErr result (drafts.new.items ≡ drafts.old.items) }
     ensures err_store { OnErr result (store.new ≡ store.old) }
@@ -64,7 +60,6 @@ fn start(
         at,
         Entry {
             file: coming.file,
-            writers: 1,
             draft,
         },
     );
@@ -81,25 +76,18 @@ pub fn join(
     map: &BlockMap,
 ) -> Result<(), NoMemory>
     requires rise { Rises file_in drafts.old.items }
-    requires room { AllByRecursion (λ w. w.writers < 2 ^ 63) (writers_of drafts.old.items) }
     requires lives { LivesIn store.old map.now }
     requires few { IsUncrowded store.old }
     ensures drafts { OnOk result (drafts_of drafts.new.items
         ≡ with_draft (new_draft coming.file coming.number coming.opened map.now)
         (drafts_of drafts.old.items)) }
-    ensures writers { OnOk result
-        (writers_of drafts.new.items ≡ joined coming.file (writers_of drafts.old.items)) }
     ensures opens { OnOk result
         (Opens store.old store.new (drafts_of drafts.old.items) coming.file map.now) }
     ensures err { OnErr result (drafts.new.items ≡ drafts.old.items) }
     ensures err_store { OnErr result (store.new ≡ store.old) }
 {
-    match place_of(drafts, coming.file) {
-        Ok(at) => {
-            let entry = &mut drafts[at];
-            entry.writers += 1;
-        }
-        Err(at) => start(alloc, drafts, store, at, coming, map)?,
+    if let Err(at) = place_of(drafts, coming.file) {
+        start(alloc, drafts, store, at, coming, map)?;
     }
     Ok(())
 }

@@ -8,19 +8,20 @@ ghost use Rattle.ele_blocks.specs.Owes.{IsUncrowded};
 ghost use Rattle.ele_sessions.specs.Orderly.{AreOrderly};
 ghost use Rattle.ele_sessions.specs.Changes.{write_refusal, truncate_refusal, Writes, Truncates, Stays, has_length};
 ghost use Rattle.ele_sessions.specs.Closes.{closing, closed};
-ghost use Rattle.ele_sessions.specs.Opening.{new_draft, opened_by, Opens};
+ghost use Rattle.ele_sessions.specs.Opening.{new_draft, opened_by, reader_opened, Opens};
 ghost use Rattle.ele_sessions.specs.Sessions.{handle_file, draft_by};
 
 mod asking;
 
 use crate::changing::{truncate_draft, write_draft};
 use crate::closing::Closing;
-use crate::entries::{Entry, OpenHandle, file_by, handle_place};
+use crate::entries::{Entry, OpenHandle, enter, file_by, take_handle};
 use crate::fault::SessionFault;
 use crate::leaving::leave;
 use crate::opening::{Coming, join};
+use crate::reads::Reads;
 use ele_blocks::{BlockMap, BlockStore};
-use ele_lists::put;
+use ele_lists::Tally;
 use ele_moment::{FileId, Handle, Moment, NoMemory, VersionNo};
 use std::alloc::Global;
 use std::marker::Model;
@@ -37,10 +38,11 @@ fn fits(offset: u64, len: usize) -> bool
 
 /// Drafts and handles of all files. Whoever ends them closes each handle and keeps or gives up the map
 /// that comes out, or its blocks stay in the store.
-#[derive(Debug, Drop)]
+#[derive(Drop)]
 pub struct Sessions {
     drafts: Vec<Entry>,
     handles: Vec<OpenHandle>,
+    counts: Tally<Reads>,
     opened: u64,
     alloc: Global,
 }
@@ -65,6 +67,7 @@ impl Sessions {
         Sessions {
             drafts: Vec::new(alloc),
             handles: Vec::new(alloc),
+            counts: Tally::new(alloc),
             opened: 0,
             alloc,
         }
@@ -92,6 +95,7 @@ impl Sessions {
         ensures err_store { OnErr result (store.new ≡ store.old) }
     {
         self.handles.reserve(1)?;
+        self.counts.reserve()?;
         let coming = Coming {
             file,
             number,
@@ -100,14 +104,38 @@ impl Sessions {
         join(self.alloc, &mut self.drafts, store, coming, map)?;
         self.opened += 1;
         let number = Handle(self.opened);
-        put(&mut self.handles, OpenHandle { number, file });
+        let handle = OpenHandle {
+            number,
+            reads: Reads::Draft(file),
+        };
+        enter(&mut self.handles, &mut self.counts, &handle);
+        Ok(number)
+    }
+
+    /// A handle that reads the version. Where memory is refused, the sessions are as they were.
+    pub fn open_read(&mut self, file: FileId, version: VersionNo) -> Result<Handle, NoMemory>
+        requires { self.old.opened < 2 ^ 63 }
+        ensures handle { IfOk result (λ handle. handle ≡ self.old.opened + 1) }
+        ensures sessions { OnOk result (self.new ≡ reader_opened self.old file version) }
+        ensures err { OnErr result (self.new ≡ self.old) }
+    {
+        self.handles.reserve(1)?;
+        self.counts.reserve()?;
+        self.opened += 1;
+        let number = Handle(self.opened);
+        let handle = OpenHandle {
+            number,
+            reads: Reads::Version(file, version),
+        };
+        enter(&mut self.handles, &mut self.counts, &handle);
         Ok(number)
     }
 
     /// Writes the bytes from the offset on into the draft under the handle; zeros fill it up to the
     /// offset where it ends before. Even equal bytes mark the draft changed. No bytes change nothing,
     /// whatever the offset. Faults, in this order: `NoHandle` where no open handle has that number,
-    /// `TooBig` where the bytes would end past 1,048,576, `NoMemory`. A fault leaves all as it was.
+    /// `NotWriter` where it reads a version, `TooBig` where the bytes would end past 1,048,576,
+    /// `NoMemory`. A fault leaves all as it was.
     pub fn write(
         &mut self,
         store: &mut BlockStore,
@@ -127,9 +155,7 @@ impl Sessions {
         ensures orderly { AreOrderly self.old }
         ensures err { OnErr result (Stays store.old store.new self.old self.new) }
     {
-        let Some(file) = file_by(&self.handles, handle) else {
-            return Err(SessionFault::NoHandle);
-        };
+        let file = file_by(&self.handles, handle)?;
         if bytes.is_empty() {
             return Ok(());
         }
@@ -142,8 +168,8 @@ impl Sessions {
 
     /// Makes the content of the draft under the handle so many bytes long, and marks it changed;
     /// where it has that length, nothing is changed. Faults, in this order: `NoHandle` where no open
-    /// handle has that number, `TooBig` for more than 1,048,576 bytes, `NoMemory`. A fault leaves all
-    /// as it was.
+    /// handle has that number, `NotWriter` where it reads a version, `TooBig` for more than 1,048,576
+    /// bytes, `NoMemory`. A fault leaves all as it was.
     pub fn truncate(
         &mut self,
         store: &mut BlockStore,
@@ -162,9 +188,7 @@ impl Sessions {
         ensures orderly { AreOrderly self.old }
         ensures err { OnErr result (Stays store.old store.new self.old self.new) }
     {
-        let Some(file) = file_by(&self.handles, handle) else {
-            return Err(SessionFault::NoHandle);
-        };
+        let file = file_by(&self.handles, handle)?;
         if size > LONGEST {
             return Err(SessionFault::TooBig);
         }
@@ -173,16 +197,23 @@ impl Sessions {
     }
 
     /// Closes the handle; none where no open handle has that number. With the last handle of a file
-    /// its draft goes, and its map comes out: whoever takes it gives it up or keeps it.
+    /// its draft goes, and its map comes out: whoever takes it gives it up or keeps it. A handle that
+    /// read a version just goes.
     pub fn close(&mut self, handle: Handle) -> Option<(Closing, Option<BlockMap>)>
         ensures answer { result ≡ closing self.old handle }
         ensures sessions { self.new ≡ closed self.old handle }
         ensures orderly { AreOrderly self.old }
     {
-        let Ok(at) = handle_place(&self.handles, handle) else {
-            return None;
-        };
-        let file = self.handles.remove(at).file;
-        Some(leave(&mut self.drafts, file))
+        match take_handle(&mut self.handles, handle)? {
+            Reads::Draft(file) => {
+                self.counts.take(Reads::Draft(file));
+                let stays = self.counts.count(Reads::Draft(file)) > 0;
+                Some(leave(&mut self.drafts, file, stays))
+            }
+            Reads::Version(file, number) => {
+                self.counts.take(Reads::Version(file, number));
+                Some((Closing::Unread(file, number), None))
+            }
+        }
     }
 }

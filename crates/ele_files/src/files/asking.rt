@@ -20,6 +20,7 @@ pub fn reads_in(reads: ele_sessions::Reads) -> Reads
 {
     match reads {
         ele_sessions::Reads::Draft(file) => Reads::Draft(file),
+        ele_sessions::Reads::Version(file, number) => Reads::Version(file, number),
     }
 }
 
@@ -74,9 +75,7 @@ impl Files {
     pub fn is_open(&self, file: FileId, number: VersionNo) -> bool
         ensures { result ≡ is_open self.now.handles file number }
     {
-        // TEMPORARY
-        let _opened = self.sessions.handles_opened();
-        false
+        self.sessions.pins(file, number)
     }
 
     /// How many handles were ever opened.

@@ -11,6 +11,7 @@ ghost use Rattle.ele_inode_log.specs.Rows.{is_after};
 
 use crate::file::File;
 use crate::files::Files;
+use crate::files::asking::reads_in;
 use ele_blocks::{BlockMap, BlockStore};
 use ele_inode_log::{Meter, VersionRow as LogRow};
 use ele_lists::ListOf;
@@ -78,7 +79,7 @@ impl Files {
         for handle in self.sessions.handles() {
             rows.push(HandleRow {
                 number: handle.number,
-                reads: ele_world::Reads::Draft(handle.file),
+                reads: reads_in(handle.reads),
             })?;
         }
         Ok(ListOf::from_vec(rows))

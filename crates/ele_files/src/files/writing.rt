@@ -2,7 +2,7 @@
 //! A contract sees the list of drafts, in which one has other cells.
 ghost use Rattle.std.specs.Prelude.{◌≡◌, [], OnOk, OnErr, IfNone, IsOk, IsOkUnless, IsErrOf, IsSome, IsTrue};
 ghost use Rattle.std.specs.Option.{ForSome};
-ghost use Rattle.ele_files.specs.Held.{handle_file, written_by, fitted, has_length};
+ghost use Rattle.ele_files.specs.Held.{handle_file, file_or_fault, written_by, fitted, has_length};
 ghost use Rattle.ele_sessions.specs.Changes.{write_refusal_of, truncate_refusal_of};
 ghost use Rattle.ele_sessions.specs.declared.fault.SessionFault.TheVariants as SessionFault;
 
@@ -13,13 +13,14 @@ use ele_sessions::SessionFault;
 impl Files {
     /// Writes the bytes from the offset on into the draft under the handle; zeros fill it up to the
     /// offset where it ends before. No bytes change nothing. Faults, in this order: `NoHandle`,
-    /// `TooBig` where the bytes would end past 1,048,576, `NoMemory`; a fault leaves all as it was.
+    /// `NotWriter` where it reads a version, `TooBig` where the bytes would end past 1,048,576,
+    /// `NoMemory`; a fault leaves all as it was.
     pub fn write(&mut self, handle: Handle, offset: u64, bytes: &[u8]) -> Result<(), SessionFault>
         ensures refused { ForSome
-            (write_refusal_of (handle_file self.old.handles handle) offset bytes.now)
+            (write_refusal_of (file_or_fault self.old.handles handle) offset bytes.now)
             (λ fault. IsErrOf result fault) }
         ensures otherwise { IfNone
-            (write_refusal_of (handle_file self.old.handles handle) offset bytes.now)
+            (write_refusal_of (file_or_fault self.old.handles handle) offset bytes.now)
             (IsOkUnless result SessionFault.NoMemory) }
         ensures idle { IsSome (handle_file self.old.handles handle)
             → bytes.now ≡ [] → IsOk result }
@@ -30,14 +31,14 @@ impl Files {
     }
 
     /// Makes the draft under the handle so many bytes long; one of that length stays. Faults, in
-    /// this order: `NoHandle`, `TooBig` for more than 1,048,576 bytes, `NoMemory`; a fault leaves
-    /// all as it was.
+    /// this order: `NoHandle`, `NotWriter` where it reads a version, `TooBig` for more than 1,048,576
+    /// bytes, `NoMemory`; a fault leaves all as it was.
     pub fn truncate(&mut self, handle: Handle, size: u64) -> Result<(), SessionFault>
         ensures refused { ForSome
-            (truncate_refusal_of (handle_file self.old.handles handle) size)
+            (truncate_refusal_of (file_or_fault self.old.handles handle) size)
             (λ fault. IsErrOf result fault) }
         ensures otherwise { IfNone
-            (truncate_refusal_of (handle_file self.old.handles handle) size)
+            (truncate_refusal_of (file_or_fault self.old.handles handle) size)
             (IsOkUnless result SessionFault.NoMemory) }
         ensures idle { IsTrue (has_length self.old handle size) → IsOk result }
         ensures ok { OnOk result (self.new ≡ fitted self.old handle size) }

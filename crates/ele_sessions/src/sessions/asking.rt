@@ -1,20 +1,20 @@
 //! What is asked of the sessions.
 //! A contract sees each answer as a look-up in drafts or handles.
 ghost use Rattle.std.specs.Prelude.{◌≡◌, length, slice_get};
+ghost use Rattle.std.specs.List.{list_any};
 ghost use Rattle.std.specs.Option.{option_map, option_copied};
 ghost use Rattle.ele_sessions.specs.Closes.{closing};
-ghost use Rattle.ele_sessions.specs.declared.reads.Reads.TheVariants as reads;
 ghost use Rattle.ele_sessions.specs.Orderly.{AreOrderly};
-ghost use Rattle.ele_sessions.specs.Sessions.{handle_file, draft_of};
+ghost use Rattle.ele_sessions.specs.Sessions.{reads_by, is_reader, draft_of};
 
 use crate::closing::Closing;
 use crate::draft::Draft;
-use crate::entries::{OpenHandle, file_by, place_of};
+use crate::entries::{OpenHandle, place_of, reads_by};
 use crate::leaving::peek;
 use crate::reads::Reads;
 use crate::sessions::Sessions;
 use ele_blocks::BlockMap;
-use ele_moment::{FileId, Handle, Moment};
+use ele_moment::{FileId, Handle, Moment, VersionNo};
 
 impl Sessions {
     /// How many handles were ever opened.
@@ -36,17 +36,27 @@ impl Sessions {
     pub fn peek_close(&self, handle: Handle) -> Option<Closing>
         ensures { result ≡ option_map (λ answer. answer.0) (closing self.now handle) }
     {
-        let file = file_by(&self.handles, handle)?;
-        Some(peek(&self.drafts, file))
+        match reads_by(&self.handles, handle)? {
+            Reads::Draft(file) => {
+                let stays = self.counts.count(Reads::Draft(file)) > 1;
+                Some(peek(&self.drafts, file, stays))
+            }
+            Reads::Version(file, number) => Some(Closing::Unread(file, number)),
+        }
     }
 
     /// What is read through the handle; none where no open handle has that number.
     pub fn read(&self, handle: Handle) -> Option<Reads>
-        ensures { result
-            ≡ option_map (λ file. reads.Draft file) (handle_file self.now.handles handle) }
+        ensures { result ≡ reads_by self.now.handles handle }
     {
-        let file = file_by(&self.handles, handle)?;
-        Some(Reads::Draft(file))
+        reads_by(&self.handles, handle)
+    }
+
+    /// Whether some open handle reads the version.
+    pub fn pins(&self, file: FileId, number: VersionNo) -> bool
+        ensures { result ≡ list_any (is_reader file number) self.now.handles }
+    {
+        self.counts.count(Reads::Version(file, number)) > 0
     }
 
     /// The map of the file's draft; none where no handle writes the file.

@@ -3,7 +3,7 @@ use Rattle.std.proofs.lemmas.Bool.{false≢true}
 use Rattle.std.proofs.lemmas.Bool.Decides.{nat_tests}
 use Rattle.ele_sessions.specs.Inside.{IsAt, IsGap, file_in, draft_in}
 use Rattle.ele_blocks.specs.Changes.{IsResized}
-use Rattle.ele_sessions.proofs.Found.{not_missing, found_draft, length_found, writers_stay, drafts_stay, rewrites, on_err}
+use Rattle.ele_sessions.proofs.Found.{not_missing, found_draft, length_found, drafts_stay, rewrites, on_err}
 use Rattle.ele_sessions.proofs.changing.truncate_draft.Goals as goal
 
 pub unreachable-requires : goal.unreachable-requires
@@ -30,16 +30,6 @@ returns-in_err-truncate-clause-idle c =
     let other : eqb c.index_mut-entry.result.now.draft.value.map.size c.args.size ≡ false = grind (arith, nat_tests, length) in
     let fails = length_found _ _ _ _ at c.index_mut-entry.ensures.value c.args.size ∙ other in
     λ has. absurd (false≢true (sym fails ∙ has))
-
-pub returns-in_err-truncate-clause-writers : goal.returns-in_err-truncate-clause-writers
-returns-in_err-truncate-clause-writers c =
-    let at : IsAt file_in c.args.file c.args.drafts.now.items c.in-Ok.at = rw c.deref.ensures.value at c.in-Ok.ensures.found in
-    writers_stay _ _ _ _ at c.index_mut-entry.ensures.value _ refl
-
-pub returns-clause-writers : goal.returns-clause-writers
-returns-clause-writers c =
-    let at : IsAt file_in c.args.file c.args.drafts.now.items c.in-Ok.at = rw c.deref.ensures.value at c.in-Ok.ensures.found in
-    writers_stay _ _ _ _ at c.index_mut-entry.ensures.value _ refl
 
 pub returns-in_err-truncate-clause-err : goal.returns-in_err-truncate-clause-err
 returns-in_err-truncate-clause-err c =

@@ -1,7 +1,7 @@
 use Rattle.std.proofs.Common.{refl}
 use Rattle.ele_sessions.specs.Inside.{IsAt, IsGap, file_in, draft_in}
 use Rattle.ele_blocks.specs.Changes.{IsWritten}
-use Rattle.ele_sessions.proofs.Found.{not_missing, found_draft, writers_stay, drafts_stay, rewrites, on_err}
+use Rattle.ele_sessions.proofs.Found.{not_missing, found_draft, drafts_stay, rewrites, on_err}
 use Rattle.ele_sessions.proofs.changing.write_draft.Goals as goal
 
 pub unreachable-requires : goal.unreachable-requires
@@ -13,16 +13,6 @@ pub write-requires-clause-lives : goal.write-requires-clause-lives
 write-requires-clause-lives c =
     let at : IsAt file_in c.args.file c.args.drafts.now.items c.in-Ok.at = rw c.deref.ensures.value at c.in-Ok.ensures.found in
     rw c.deref_mut.ensures.value (c.requires.lives (draft_in c.index_mut-entry.result.now) (found_draft _ _ _ _ at c.index_mut-entry.ensures.value))
-
-pub returns-in_err-write-clause-writers : goal.returns-in_err-write-clause-writers
-returns-in_err-write-clause-writers c =
-    let at : IsAt file_in c.args.file c.args.drafts.now.items c.in-Ok.at = rw c.deref.ensures.value at c.in-Ok.ensures.found in
-    writers_stay _ _ _ _ at c.index_mut-entry.ensures.value _ refl
-
-pub returns-clause-writers : goal.returns-clause-writers
-returns-clause-writers c =
-    let at : IsAt file_in c.args.file c.args.drafts.now.items c.in-Ok.at = rw c.deref.ensures.value at c.in-Ok.ensures.found in
-    writers_stay _ _ _ _ at c.index_mut-entry.ensures.value _ refl
 
 pub returns-clause-made : goal.returns-clause-made
 returns-clause-made c =

@@ -1,4 +1,4 @@
-use Rattle.ele_files.proofs.Rows.{handle_file-shown}
+use Rattle.ele_files.proofs.Rows.{fault-shown}
 use Rattle.ele_files.proofs.Drafts.{draft_by_lives, cut, length_seen}
 use Rattle.ele_files.proofs.files.Files.truncate.Goals as goal
 
@@ -9,10 +9,10 @@ pub invariant_of-self : goal.invariant_of-self
 invariant_of-self c = (cut _ _ _ c.self.invariant _ _ c.truncate.ensures.orderly _ _ _ c.truncate.ensures.truncates c.truncate.ensures.err).0
 
 pub returns-clause-refused : goal.returns-clause-refused
-returns-clause-refused c = rw (← c.self.view_is, handle_file-shown) c.truncate.ensures.refused
+returns-clause-refused c = rw (← c.self.view_is, fault-shown) c.truncate.ensures.refused
 
 pub returns-clause-otherwise : goal.returns-clause-otherwise
-returns-clause-otherwise c = rw (← c.self.view_is, handle_file-shown) c.truncate.ensures.otherwise
+returns-clause-otherwise c = rw (← c.self.view_is, fault-shown) c.truncate.ensures.otherwise
 
 pub returns-clause-ok : goal.returns-clause-ok
 returns-clause-ok c = rw (← c.self.view_is) (cut _ _ _ c.self.invariant _ _ c.truncate.ensures.orderly _ _ _ c.truncate.ensures.truncates c.truncate.ensures.err).1

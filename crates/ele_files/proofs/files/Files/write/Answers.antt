@@ -1,4 +1,4 @@
-use Rattle.ele_files.proofs.Rows.{handle_file-shown}
+use Rattle.ele_files.proofs.Rows.{handle_file-shown, fault-shown}
 use Rattle.ele_files.proofs.Drafts.{draft_by_lives, wrote}
 use Rattle.ele_files.proofs.files.Files.write.Goals as goal
 
@@ -9,10 +9,10 @@ pub invariant_of-self : goal.invariant_of-self
 invariant_of-self c = (wrote _ _ _ c.self.invariant _ _ c.write.ensures.orderly _ _ _ _ c.write.ensures.writes c.write.ensures.err).0
 
 pub returns-clause-refused : goal.returns-clause-refused
-returns-clause-refused c = rw (← c.self.view_is, handle_file-shown) c.write.ensures.refused
+returns-clause-refused c = rw (← c.self.view_is, fault-shown) c.write.ensures.refused
 
 pub returns-clause-otherwise : goal.returns-clause-otherwise
-returns-clause-otherwise c = rw (← c.self.view_is, handle_file-shown) c.write.ensures.otherwise
+returns-clause-otherwise c = rw (← c.self.view_is, fault-shown) c.write.ensures.otherwise
 
 pub returns-clause-ok : goal.returns-clause-ok
 returns-clause-ok c = rw (← c.self.view_is) (wrote _ _ _ c.self.invariant _ _ c.write.ensures.orderly _ _ _ _ c.write.ensures.writes c.write.ensures.err).1

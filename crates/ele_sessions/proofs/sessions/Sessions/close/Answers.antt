@@ -1,57 +1,44 @@
-use Rattle.std.proofs.Common.{sym}
-use Rattle.ele_sessions.specs.Inside.{IsAt, IsGap, number_in, writers_in, writers_of, stays}
-use Rattle.ele_sessions.specs.Kept.{sessions_of}
-use Rattle.ele_sessions.proofs.Found.{found_handle, removed_handle, no_handle, closes, closed_is, closes_none, closed_none}
-use Rattle.ele_sessions.proofs.Keepings.{left_keeps, stays_while, is_drafted, file_of}
+use Rattle.std.proofs.Common.{◌≡◌, nat_lt, ap, ◌∙◌}
+use Rattle.std.specs.List.{list_any}
 use Rattle.ele_lists.proofs.ShownAt.{rises-map}
-use Rattle.ele_sessions.proofs.Order.{kept_orderly}
+use Rattle.ele_sessions.specs.Closes.{closing_of, closed_of, left_handles}
+use Rattle.ele_sessions.specs.Inside.{draft_in}
+use Rattle.ele_sessions.specs.Kept.{sessions_of}
+use Rattle.ele_sessions.specs.Sessions.{Draft, is_writer}
+use Rattle.ele_sessions.proofs.Keepings.{none_left, reader_keeps, writer_keeps, stays_now, draft_there}
 use Rattle.ele_sessions.proofs.sessions.Sessions.close.Goals as goal
 
-pub returns-in_default-clause-answer : goal.returns-in_default-clause-answer
-returns-in_default-clause-answer c =
-    let gap : IsGap number_in c.args.handle c.self.inside.handles.items c.in_default.field-0 = rw c.deref.ensures.value at c.in_default.ensures.gap in
-    rw (← c.self.view_is) (sym (closes_none (sessions_of c.self.inside) c.args.handle (no_handle _ _ _ gap)))
+pub invariant_of-self : goal.invariant_of-self
+invariant_of-self c = rw (c.in_err-file.ensures.left, none_left c.self.inside.handles.items c.args.handle c.in_err-file.ensures.reads) c.self.invariant
 
-pub returns-in_default-clause-sessions : goal.returns-in_default-clause-sessions
-returns-in_default-clause-sessions c =
-    let gap : IsGap number_in c.args.handle c.self.inside.handles.items c.in_default.field-0 = rw c.deref.ensures.value at c.in_default.ensures.gap in
-    rw (← c.self.view_is) (sym (closed_none (sessions_of c.self.inside) c.args.handle (no_handle _ _ _ gap)))
+pub returns-in_err-file-clause-sessions : goal.returns-in_err-file-clause-sessions
+returns-in_err-file-clause-sessions c =
+    let s = sessions_of c.self.inside in
+    rw (← c.self.view_is, c.in_err-file.ensures.left, none_left c.self.inside.handles.items c.args.handle c.in_err-file.ensures.reads) (ap (closed_of s c.args.handle) c.in_err-file.ensures.reads)
 
 pub leave-requires-clause-rise : goal.leave-requires-clause-rise
-leave-requires-clause-rise c = rises-map writers_in file_of c.self.inside.drafts.items c.self.invariant.files_rise
+leave-requires-clause-rise c = rises-map draft_in (λ (d : Draft). d.file) c.self.inside.drafts.items c.self.invariant.orderly.drafts_rise
 
 pub leave-requires-clause-there : goal.leave-requires-clause-there
-leave-requires-clause-there c =
-    let at : IsAt number_in c.args.handle c.self.inside.handles.items c.in-Ok.at = rw c.deref.ensures.value at c.in-Ok.ensures.found in
-    let found = found_handle _ _ _ c.remove-file.result at c.remove-file.ensures.value in
-    is_drafted _ _ _ c.self.invariant c.args.handle c.remove-file.result found
+leave-requires-clause-there c = draft_there (sessions_of c.self.inside) c.self.inside.counts c.self.invariant c.args.handle c.in_ok-file.field-0 c.in_ok-file.ensures.reads c.in-Draft.file c.in-Draft.is
 
-pub invariant_of-self : goal.invariant_of-self
-invariant_of-self c =
-    let at : IsAt number_in c.args.handle c.self.inside.handles.items c.in-Ok.at = rw c.deref.ensures.value at c.in-Ok.ensures.found in
-    let found = found_handle _ _ _ c.remove-file.result at c.remove-file.ensures.value in
-    let removed = removed_handle c.self.inside.handles.items c.args.handle c.in-Ok.at at in
-    rw (c.leave.ensures.writers, c.remove-file.ensures.items, removed) (left_keeps _ _ _ c.self.invariant c.args.handle c.remove-file.result found)
+pub invariant_of-self-in-Draft : goal.invariant_of-self-in-Draft
+invariant_of-self-in-Draft c =
+    let s = sessions_of c.self.inside in
+    let stay : nat_lt 0 c.count-stays.result ≡ list_any (is_writer c.in-Draft.file) (left_handles s c.args.handle) = ap (nat_lt 0) c.count-stays.ensures ∙ stays_now s c.self.inside.counts c.self.invariant c.args.handle c.in_ok-file.field-0 c.in_ok-file.ensures.reads c.take.new.self (rw c.in-Draft.is c.take.ensures) c.in-Draft.file in
+    rw (c.leave.ensures.drafts, c.in_ok-file.ensures.left, stay) (writer_keeps s c.self.inside.counts c.self.invariant c.args.handle c.in_ok-file.field-0 c.in_ok-file.ensures.reads c.take.new.self (rw c.in-Draft.is c.take.ensures) c.in-Draft.file c.in-Draft.is)
 
-pub returns-clause-answer : goal.returns-clause-answer
-returns-clause-answer c =
-    let at : IsAt number_in c.args.handle c.self.inside.handles.items c.in-Ok.at = rw c.deref.ensures.value at c.in-Ok.ensures.found in
-    let found = found_handle _ _ _ c.remove-file.result at c.remove-file.ensures.value in
-    let others = stays c.remove-file.result.file (writers_of c.self.inside.drafts.items) in
-    let stay = stays_while _ _ _ c.self.invariant c.args.handle c.remove-file.result found in
-    rw (← c.self.view_is, c.leave.ensures.answer) (sym (closes (sessions_of c.self.inside) c.args.handle c.remove-file.result others found stay))
+pub invariant_of-self-in-Version : goal.invariant_of-self-in-Version
+invariant_of-self-in-Version c = rw c.in_ok-file.ensures.left (reader_keeps (sessions_of c.self.inside) c.self.inside.counts c.self.invariant c.args.handle c.in_ok-file.field-0 c.in_ok-file.ensures.reads c.take-in-Version.new.self (rw c.in-Version.is c.take-in-Version.ensures) c.in-Version.file c.in-Version.number c.in-Version.is)
 
-pub returns-clause-sessions : goal.returns-clause-sessions
-returns-clause-sessions c =
-    let at : IsAt number_in c.args.handle c.self.inside.handles.items c.in-Ok.at = rw c.deref.ensures.value at c.in-Ok.ensures.found in
-    let found = found_handle _ _ _ c.remove-file.result at c.remove-file.ensures.value in
-    let others = stays c.remove-file.result.file (writers_of c.self.inside.drafts.items) in
-    let stay = stays_while _ _ _ c.self.invariant c.args.handle c.remove-file.result found in
-    let removed = removed_handle c.self.inside.handles.items c.args.handle c.in-Ok.at at in
-    rw (← c.self.view_is, c.leave.ensures.drafts, c.remove-file.ensures.items, removed) (sym (closed_is (sessions_of c.self.inside) c.args.handle c.remove-file.result others found stay))
+pub returns-in-Draft-clause-answer : goal.returns-in-Draft-clause-answer
+returns-in-Draft-clause-answer c =
+    let s = sessions_of c.self.inside in
+    let stay : nat_lt 0 c.count-stays.result ≡ list_any (is_writer c.in-Draft.file) (left_handles s c.args.handle) = ap (nat_lt 0) c.count-stays.ensures ∙ stays_now s c.self.inside.counts c.self.invariant c.args.handle c.in_ok-file.field-0 c.in_ok-file.ensures.reads c.take.new.self (rw c.in-Draft.is c.take.ensures) c.in-Draft.file in
+    rw (← c.self.view_is, c.leave.ensures.answer, stay) (rw c.in-Draft.is at (ap (closing_of s c.args.handle) c.in_ok-file.ensures.reads))
 
-pub returns-clause-orderly : goal.returns-clause-orderly
-returns-clause-orderly c = rw (← c.self.view_is) (kept_orderly c.self.inside c.self.invariant)
-
-pub returns-in_default-clause-orderly : goal.returns-in_default-clause-orderly
-returns-in_default-clause-orderly c = rw (← c.self.view_is) (kept_orderly c.self.inside c.self.invariant)
+pub returns-in-Draft-clause-sessions : goal.returns-in-Draft-clause-sessions
+returns-in-Draft-clause-sessions c =
+    let s = sessions_of c.self.inside in
+    let stay : nat_lt 0 c.count-stays.result ≡ list_any (is_writer c.in-Draft.file) (left_handles s c.args.handle) = ap (nat_lt 0) c.count-stays.ensures ∙ stays_now s c.self.inside.counts c.self.invariant c.args.handle c.in_ok-file.field-0 c.in_ok-file.ensures.reads c.take.new.self (rw c.in-Draft.is c.take.ensures) c.in-Draft.file in
+    rw (← c.self.view_is, c.leave.ensures.drafts, c.in_ok-file.ensures.left, stay) (rw c.in-Draft.is at (ap (closed_of s c.args.handle) c.in_ok-file.ensures.reads))

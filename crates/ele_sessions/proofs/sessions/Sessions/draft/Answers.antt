@@ -1,12 +1,12 @@
 use Rattle.std.proofs.Common.{refl}
-use Rattle.ele_sessions.specs.Inside.{IsAt, IsGap, file_in, writers_in}
+use Rattle.ele_sessions.specs.Inside.{IsAt, IsGap, file_in, draft_in}
 use Rattle.ele_sessions.proofs.Found.{found_draft, missing_draft}
-use Rattle.ele_sessions.proofs.Keepings.{file_of}
+use Rattle.ele_sessions.specs.Sessions.{Draft}
 use Rattle.ele_lists.proofs.ShownAt.{rises-map}
 use Rattle.ele_sessions.proofs.sessions.Sessions.draft.Goals as goal
 
 pub place_of-requires : goal.place_of-requires
-place_of-requires c = rw c.deref.ensures.value (rises-map writers_in file_of c.self.inside.drafts.items c.self.invariant.files_rise)
+place_of-requires c = rw c.deref.ensures.value (rises-map draft_in (λ (d : Draft). d.file) c.self.inside.drafts.items c.self.invariant.orderly.drafts_rise)
 
 pub returns-in_default : goal.returns-in_default
 returns-in_default c =

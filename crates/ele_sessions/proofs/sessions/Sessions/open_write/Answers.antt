@@ -1,16 +1,18 @@
-use Rattle.ele_sessions.specs.Inside.{writers_in}
-use Rattle.ele_sessions.proofs.Keepings.{few_writers, joined_keeps, file_of}
+use Rattle.std.proofs.Common.{refl}
 use Rattle.ele_lists.proofs.ShownAt.{rises-map}
+use Rattle.ele_sessions.specs.Inside.{draft_in}
+use Rattle.ele_sessions.specs.Kept.{sessions_of}
+use Rattle.ele_sessions.specs.Opening.{new_draft}
+use Rattle.ele_sessions.specs.Sessions.{Draft}
+use Rattle.ele_sessions.proofs.Keepings.{entered_keeps}
+use Rattle.ele_sessions.proofs.Orders.{writer_entered}
 use Rattle.ele_sessions.proofs.sessions.Sessions.open_write.Goals as goal
 
 pub join-requires-clause-rise : goal.join-requires-clause-rise
-join-requires-clause-rise c = rises-map writers_in file_of c.self.inside.drafts.items c.self.invariant.files_rise
-
-pub join-requires-clause-room : goal.join-requires-clause-room
-join-requires-clause-room c =
-    few_writers _ _ _ c.self.invariant (rw (← c.self.view_is) at c.requires.room)
+join-requires-clause-rise c = rises-map draft_in (λ (d : Draft). d.file) c.self.inside.drafts.items c.self.invariant.orderly.drafts_rise
 
 pub invariant_of-self-2 : goal.invariant_of-self-2
 invariant_of-self-2 c =
-    let kept = joined_keeps _ _ _ c.self.invariant c.args.file in
-    rw (c.in_ok-join.ensures.writers, c.put.ensures.items, c.reserve.ensures.items) kept
+    let s = sessions_of c.self.inside in
+    let orderly = writer_entered s c.self.invariant.orderly _ refl (new_draft c.args.file c.args.number c.args.opened c.args.map.now) refl in
+    rw (c.enter.ensures.handles, c.reserve.ensures.items, c.in_ok-join.ensures.drafts) (entered_keeps s c.self.inside.counts c.self.invariant _ _ c.reserve-2.new.self c.enter.new.counts orderly c.reserve-2.ensures.same c.enter.ensures.counts)

@@ -1,20 +1,25 @@
-use Rattle.std.proofs.Common.{◌≡◌, sym, Some}
-use Rattle.ele_sessions.specs.Inside.{writers_in, writers_of}
-use Rattle.ele_sessions.specs.Kept.{sessions_of}
-use Rattle.ele_sessions.specs.Sessions.{handle_file}
-use Rattle.ele_sessions.proofs.Keepings.{file_drafted, file_of, peeked}
+use Rattle.std.proofs.Common.{◌≡◌, nat_lt, ap, ◌∙◌}
+use Rattle.std.specs.List.{list_any}
+use Rattle.std.specs.Option.{option_map}
 use Rattle.ele_lists.proofs.ShownAt.{rises-map}
+use Rattle.ele_sessions.specs.Closes.{closing_of, left_handles}
+use Rattle.ele_sessions.specs.Inside.{draft_in}
+use Rattle.ele_sessions.specs.Kept.{sessions_of}
+use Rattle.ele_sessions.specs.Sessions.{Draft, is_writer}
+use Rattle.ele_sessions.proofs.Keepings.{stays_then, draft_there}
 use Rattle.ele_sessions.proofs.sessions.Sessions.peek_close.Goals as goal
 
 pub peek-requires-clause-rise : goal.peek-requires-clause-rise
-peek-requires-clause-rise c = rw c.deref-2.ensures.value (rises-map writers_in file_of c.self.inside.drafts.items c.self.invariant.files_rise)
+peek-requires-clause-rise c = rw c.deref-in-Draft.ensures.value (rises-map draft_in (λ (d : Draft). d.file) c.self.inside.drafts.items c.self.invariant.orderly.drafts_rise)
 
 pub peek-requires-clause-there : goal.peek-requires-clause-there
 peek-requires-clause-there c =
-    let is : handle_file c.self.inside.handles.items c.args.handle ≡ Some c.in_ok-file.file = sym (rw c.deref.ensures.value at c.in_ok-file.ensures) in
-    rw c.deref-2.ensures.value (file_drafted _ _ _ c.self.invariant c.args.handle c.in_ok-file.file is)
+    let reads = rw c.deref.ensures.value at c.in_ok-file.ensures in
+    rw c.deref-in-Draft.ensures.value (draft_there (sessions_of c.self.inside) c.self.inside.counts c.self.invariant c.args.handle c.in_ok-file.field-0 reads c.in-Draft.file c.in-Draft.is)
 
-pub returns : goal.returns
-returns c =
-    let is : handle_file c.self.inside.handles.items c.args.handle ≡ Some c.in_ok-file.file = sym (rw c.deref.ensures.value at c.in_ok-file.ensures) in
-    rw (← c.self.view_is, c.peek.ensures, c.deref-2.ensures.value) (sym (peeked (sessions_of c.self.inside) (writers_of c.self.inside.drafts.items) c.args.handle c.in_ok-file.file c.self.invariant is))
+pub returns-in-Draft : goal.returns-in-Draft
+returns-in-Draft c =
+    let s = sessions_of c.self.inside in
+    let reads = rw c.deref.ensures.value at c.in_ok-file.ensures in
+    let stay : nat_lt 1 c.count-stays.result ≡ list_any (is_writer c.in-Draft.file) (left_handles s c.args.handle) = ap (nat_lt 1) c.count-stays.ensures ∙ stays_then s c.self.inside.counts c.self.invariant c.args.handle c.in_ok-file.field-0 reads c.in-Draft.file c.in-Draft.is in
+    rw (← c.self.view_is, c.peek.ensures, stay, c.deref-in-Draft.ensures.value) (rw c.in-Draft.is at (ap (λ o. option_map (λ answer. answer.0) (closing_of s c.args.handle o)) reads))

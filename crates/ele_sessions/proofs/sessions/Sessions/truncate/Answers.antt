@@ -1,27 +1,16 @@
-use Rattle.std.proofs.Common.{◌≡◌, Some}
-use Rattle.ele_sessions.specs.Inside.{writers_in}
-use Rattle.ele_sessions.specs.Sessions.{handle_file}
-use Rattle.ele_sessions.proofs.Keepings.{file_drafted, file_of}
+use Rattle.std.proofs.Common.{refl}
 use Rattle.ele_lists.proofs.ShownAt.{rises-map}
-use Rattle.ele_sessions.proofs.Order.{kept_orderly}
+use Rattle.ele_sessions.specs.Inside.{draft_in}
+use Rattle.ele_sessions.specs.Kept.{sessions_of}
+use Rattle.ele_sessions.specs.Sessions.{Draft}
+use Rattle.ele_sessions.proofs.Keepings.{written_by, draft_there, resized_keeps}
 use Rattle.ele_sessions.proofs.sessions.Sessions.truncate.Goals as goal
 
 pub truncate_draft-requires-clause-rise : goal.truncate_draft-requires-clause-rise
-truncate_draft-requires-clause-rise c = rises-map writers_in file_of c.self.inside.drafts.items c.self.invariant.files_rise
+truncate_draft-requires-clause-rise c = rises-map draft_in (λ (d : Draft). d.file) c.self.inside.drafts.items c.self.invariant.orderly.drafts_rise
 
 pub truncate_draft-requires-clause-there : goal.truncate_draft-requires-clause-there
-truncate_draft-requires-clause-there c =
-    let is : handle_file c.self.inside.handles.items c.args.handle ≡ Some c.in-Some.file = cc in
-    file_drafted _ _ _ c.self.invariant c.args.handle c.in-Some.file is
+truncate_draft-requires-clause-there c = draft_there (sessions_of c.self.inside) c.self.inside.counts c.self.invariant c.args.handle _ (written_by c.self.inside.handles.items c.args.handle c.in_ok-file.file (rw c.deref.ensures.value at c.in_ok-file.ensures)) c.in_ok-file.file refl
 
-pub returns-clause-orderly : goal.returns-clause-orderly
-returns-clause-orderly c = rw (← c.self.view_is) (kept_orderly c.self.inside c.self.invariant)
-
-pub returns-in_default-clause-orderly : goal.returns-in_default-clause-orderly
-returns-in_default-clause-orderly c = rw (← c.self.view_is) (kept_orderly c.self.inside c.self.invariant)
-
-pub returns-in_err-truncate_draft-clause-orderly : goal.returns-in_err-truncate_draft-clause-orderly
-returns-in_err-truncate_draft-clause-orderly c = rw (← c.self.view_is) (kept_orderly c.self.inside c.self.invariant)
-
-pub returns-then-size-gt-LONGEST-clause-orderly : goal.returns-then-size-gt-LONGEST-clause-orderly
-returns-then-size-gt-LONGEST-clause-orderly c = rw (← c.self.view_is) (kept_orderly c.self.inside c.self.invariant)
+pub invariant_of-self-2 : goal.invariant_of-self-2
+invariant_of-self-2 c = resized_keeps (sessions_of c.self.inside) c.self.inside.counts c.self.invariant _ _ _ c.in_ok-file.file c.args.size c.in_ok-truncate_draft.ensures.made

@@ -1,0 +1,161 @@
+-- That drafts and handles stay orderly when a handle comes or goes.
+use Rattle.std.proofs.Common.{◌≡◌, ℕ, ◌+◌, ◌<◌, ◌≤◌, Bool, true, false, cond, not, eqb, ◌||◌, List, [], ◌∷◌, ◌++◌, Some, refl, sym, ◌∙◌, arith}
+use Rattle.std.specs.List.{AllByRecursion, list_any, find, filter}
+use Rattle.std.proofs.lemmas.Bool.Decides.{nat_tests}
+use Rattle.ele_blocks.specs.Layout.{Layout}
+use Rattle.ele_lists.specs.Lists.{update_first, remove_first, insert_before}
+use Rattle.ele_lists.proofs.Alls.{filter-passes}
+use Rattle.ele_lists.proofs.Edits.{all-push, all-weaker, all-both, all-none, all-update_first, all-insert_before, all-remove_first, all-found, found_passes, later-push, later-update_first, later-remove_first, later-insert_before, list_any-update_first, list_any-insert_before, list_any-remove_first}
+use Rattle.ele_lists.proofs.Keys.{remove_first-key}
+use Rattle.ele_sessions.specs.Changes.{rewritten_by}
+use Rattle.ele_sessions.specs.Closes.{left_drafts}
+use Rattle.ele_sessions.specs.Opening.{with_draft}
+use Rattle.ele_sessions.specs.Order.{Rises}
+use Rattle.ele_sessions.specs.Orderly.{IsReadable, AreOrderly}
+use Rattle.ele_sessions.specs.Sessions.{Draft, AllSessions, is_draft, is_draft_after, is_handle, writes, is_writer}
+use Rattle.ele_sessions.specs.declared.entries.OpenHandle.{OpenHandle}
+use Rattle.ele_sessions.specs.declared.reads.Reads.{Reads}
+use Rattle.ele_sessions.specs.declared.reads.Reads.TheVariants as reads
+
+abbrev IsWritten : List OpenHandle → Draft → Type 0
+IsWritten hs d = list_any (is_writer d.file) hs ≡ true
+
+or_true : (a : Bool) → (a || true) ≡ true
+or_true true = refl
+or_true false = refl
+
+not_true : (b : Bool) → not b ≡ true → b ≡ false
+not_true true h = absurd cc
+not_true false h = refl
+
+any-more : {X : Type 0} (p : X → Bool) (xs : List X) (x : X) → list_any p xs ≡ true → list_any p (xs ++ x ∷ []) ≡ true
+any-more p [] x h = absurd cc
+any-more p (y ∷ ys) x h = elim (p y) as (λ b. (b || list_any p ys) ≡ true → (b || list_any p (ys ++ x ∷ [])) ≡ true) [
+  | true ↦ λ e. refl
+  | false ↦ λ e. any-more p ys x e
+] h
+
+any-last : {X : Type 0} (p : X → Bool) (xs : List X) (x : X) → p x ≡ true → list_any p (xs ++ x ∷ []) ≡ true
+any-last p [] x h = rw h refl
+any-last p (y ∷ ys) x h = rw (any-last p ys x h) (or_true (p y))
+
+-- the drafts with a new one, unless its file has one
+module _ (new : Draft) (ds : List Draft) (rise : Rises (λ (d : Draft). d.file) ds) where
+  with-rise : Rises (λ (d : Draft). d.file) (with_draft new ds)
+  with-rise = elim (list_any (is_draft new.file) ds) as (λ b. list_any (is_draft new.file) ds ≡ b → Rises (λ (d : Draft). d.file) (cond b ds (insert_before (is_draft_after new.file) new ds))) [
+    | true ↦ λ e. rise
+    | false ↦ λ e. later-insert_before (is_draft_after new.file) (λ (x y : Draft). x.file < y.file) (λ (d : Draft). is_draft new.file d ≡ false) new ds (λ x other no. grind (arith, nat_tests)) (λ x other passes. grind (arith, nat_tests)) (λ x z passes lt. grind (arith, nat_tests)) (all-none (is_draft new.file) ds e) rise
+  ] refl
+
+  with-all : (P : Draft → Type 0) → P new → AllByRecursion P ds → AllByRecursion P (with_draft new ds)
+  with-all P h all = elim (list_any (is_draft new.file) ds) as (λ b. AllByRecursion P (cond b ds (insert_before (is_draft_after new.file) new ds))) [
+    | true ↦ all
+    | false ↦ all-insert_before (is_draft_after new.file) P new ds h all
+  ]
+
+  with-any : (f : ℕ) → list_any (is_draft f) ds ≡ true → list_any (is_draft f) (with_draft new ds) ≡ true
+  with-any f there = elim (list_any (is_draft new.file) ds) as (λ b. list_any (is_draft f) (cond b ds (insert_before (is_draft_after new.file) new ds)) ≡ true) [
+    | true ↦ there
+    | false ↦ rw (list_any-insert_before (is_draft_after new.file) (is_draft f) new ds, there) (or_true (is_draft f new))
+  ]
+
+  with-own : list_any (is_draft new.file) (with_draft new ds) ≡ true
+  with-own = elim (list_any (is_draft new.file) ds) as (λ b. list_any (is_draft new.file) ds ≡ b → list_any (is_draft new.file) (cond b ds (insert_before (is_draft_after new.file) new ds)) ≡ true) [
+    | true ↦ λ e. e
+    | false ↦ λ e. let own : is_draft new.file new ≡ true = grind (arith, nat_tests) in rw (list_any-insert_before (is_draft_after new.file) (is_draft new.file) new ds, own) refl
+  ] refl
+
+module _ (s : AllSessions) (orderly : AreOrderly s) where
+  -- one handle more
+  module _ (h : OpenHandle) (next : h.number ≡ s.opened + 1) where
+    entered : (ds : List Draft) → Rises (λ (d : Draft). d.file) ds → ((what : Reads) → IsReadable s.drafts what → IsReadable ds what) → IsReadable ds h.reads → AllByRecursion (IsWritten (s.handles ++ h ∷ [])) ds → AreOrderly (record { drafts = ds; handles = s.handles ++ h ∷ []; opened = s.opened + 1 })
+    entered ds rise on its written = record {
+      drafts_rise = rise;
+      handles_rise = later-push (λ (x y : OpenHandle). x.number < y.number) s.handles h orderly.handles_rise (all-weaker (λ (x : OpenHandle). x.number ≤ s.opened) (λ (x : OpenHandle). x.number < h.number) s.handles (λ x le. omega (arith, next)) orderly.opened);
+      opened = all-push (λ (x : OpenHandle). x.number ≤ s.opened + 1) s.handles h (all-weaker (λ (x : OpenHandle). x.number ≤ s.opened) (λ (x : OpenHandle). x.number ≤ s.opened + 1) s.handles (λ x le. omega arith) orderly.opened) (omega (arith, next));
+      drafted = all-push (λ (x : OpenHandle). IsReadable ds x.reads) s.handles h (all-weaker (λ (x : OpenHandle). IsReadable s.drafts x.reads) (λ (x : OpenHandle). IsReadable ds x.reads) s.handles (λ x. on x.reads) orderly.drafted) its;
+      written = written;
+    }
+
+    still_written : AllByRecursion (IsWritten (s.handles ++ h ∷ [])) s.drafts
+    still_written = all-weaker (IsWritten s.handles) (IsWritten (s.handles ++ h ∷ [])) s.drafts (λ d w. any-more (is_writer d.file) s.handles h w) orderly.written
+
+    pub reader_entered : (file number : ℕ) → h.reads ≡ reads.Version file number → AreOrderly (record s { handles = s.handles ++ h ∷ []; opened = s.opened + 1 })
+    reader_entered file number is = entered s.drafts orderly.drafts_rise (λ what r. r) (rw is tt) still_written
+
+    pub writer_entered : (new : Draft) → h.reads ≡ reads.Draft new.file → AreOrderly (record { drafts = with_draft new s.drafts; handles = s.handles ++ h ∷ []; opened = s.opened + 1 })
+    writer_entered new is = entered (with_draft new s.drafts) (with-rise new s.drafts orderly.drafts_rise) on (rw is (with-own new s.drafts orderly.drafts_rise)) (with-all new s.drafts orderly.drafts_rise (IsWritten (s.handles ++ h ∷ [])) own still_written) where
+      on : (what : Reads) → IsReadable s.drafts what → IsReadable (with_draft new s.drafts) what
+      on (reads.Draft file) there = with-any new s.drafts orderly.drafts_rise file there
+      on (reads.Version file number) there = tt
+
+      own : IsWritten (s.handles ++ h ∷ []) new
+      own = let writes : is_writer new.file h ≡ true = rw is (let e : eqb new.file new.file ≡ true = grind (arith, nat_tests) in e) in any-last (is_writer new.file) s.handles h writes
+
+  -- one handle fewer
+  module _ (number : ℕ) (h : OpenHandle) (found : find (is_handle number) s.handles ≡ Some h) where
+    abbrev rest : List OpenHandle
+    rest = remove_first (is_handle number) s.handles
+
+    left : (ds : List Draft) → Rises (λ (d : Draft). d.file) ds → AllByRecursion (λ (x : OpenHandle). IsReadable ds x.reads) rest → AllByRecursion (IsWritten rest) ds → AreOrderly (record s { drafts = ds; handles = rest })
+    left ds rise drafted written = record {
+      drafts_rise = rise;
+      handles_rise = later-remove_first (is_handle number) (λ (x y : OpenHandle). x.number < y.number) s.handles orderly.handles_rise;
+      opened = all-remove_first (is_handle number) (λ (x : OpenHandle). x.number ≤ s.opened) s.handles orderly.opened;
+      drafted = drafted;
+      written = written;
+    }
+
+    drafted_left : AllByRecursion (λ (x : OpenHandle). IsReadable s.drafts x.reads) rest
+    drafted_left = all-remove_first (is_handle number) (λ (x : OpenHandle). IsReadable s.drafts x.reads) s.handles orderly.drafted
+
+    -- what the handle doesn't write is written by others
+    others : (file : ℕ) → is_writer file h ≡ false → list_any (is_writer file) rest ≡ list_any (is_writer file) s.handles
+    others file none = list_any-remove_first (is_handle number) (is_writer file) s.handles (λ x is. let e = sym found ∙ is in let same : h ≡ x = cc in rw (← same) none)
+
+    pub reader_left : (file version : ℕ) → h.reads ≡ reads.Version file version → AreOrderly (record s { handles = rest })
+    reader_left file version is = left s.drafts orderly.drafts_rise drafted_left (all-weaker (IsWritten s.handles) (IsWritten rest) s.drafts (λ d w. others d.file (rw is refl) ∙ w) orderly.written)
+
+    module _ (file : ℕ) (is : h.reads ≡ reads.Draft file) where
+      pub its_draft : list_any (is_draft file) s.drafts ≡ true
+      its_draft = let there = all-found (is_handle number) (λ (x : OpenHandle). IsReadable s.drafts x.reads) s.handles h found orderly.drafted in rw is at there
+
+      still : (d : Draft) → eqb d.file file ≡ false → IsWritten s.handles d → IsWritten rest d
+      still d apart w = others d.file (rw is (let e : eqb file d.file ≡ false = grind (arith, nat_tests) in e)) ∙ w
+
+      stays : list_any (is_writer file) rest ≡ true → AreOrderly (record s { handles = rest })
+      stays more = left s.drafts orderly.drafts_rise drafted_left (all-weaker (IsWritten s.handles) (IsWritten rest) s.drafts (λ d w. by d (eqb d.file file) refl w) orderly.written) where
+        by : (d : Draft) (b : Bool) → eqb d.file file ≡ b → IsWritten s.handles d → IsWritten rest d
+        by d true e w = let same : d.file ≡ file = grind (arith, nat_tests) in rw same more
+        by d false e w = still d e w
+
+      abbrev fewer : List Draft
+      fewer = remove_first (is_draft file) s.drafts
+
+      goes : list_any (is_writer file) rest ≡ false → AreOrderly (record s { drafts = fewer; handles = rest })
+      goes none = left fewer (later-remove_first (is_draft file) (λ (x y : Draft). x.file < y.file) s.drafts orderly.drafts_rise) (all-weaker (λ (x : OpenHandle). IsReadable s.drafts x.reads × (is_writer file x ≡ false)) (λ (x : OpenHandle). IsReadable fewer x.reads) rest (λ x both. on x.reads both.0 both.1) (all-both (λ (x : OpenHandle). IsReadable s.drafts x.reads) (λ (x : OpenHandle). is_writer file x ≡ false) rest drafted_left (all-none (is_writer file) rest none))) (all-weaker (λ (d : Draft). IsWritten s.handles d × (eqb d.file file ≡ false)) (IsWritten rest) fewer (λ d both. still d both.1 both.0) (all-both (IsWritten s.handles) (λ (d : Draft). eqb d.file file ≡ false) fewer (all-remove_first (is_draft file) (IsWritten s.handles) s.drafts orderly.written) apart)) where
+        on : (what : Reads) → IsReadable s.drafts what → writes file what ≡ false → IsReadable fewer what
+        on (reads.Draft f) there other = list_any-remove_first (is_draft file) (is_draft f) s.drafts (λ x found. let passes = found_passes (is_draft file) s.drafts x found in grind (arith, nat_tests)) ∙ there
+        on (reads.Version f n) there other = tt
+
+        apart : AllByRecursion (λ (d : Draft). eqb d.file file ≡ false) fewer
+        apart = rw (remove_first-key (λ (d : Draft). d.file) file s.drafts orderly.drafts_rise) (all-weaker (λ (d : Draft). not (eqb d.file file) ≡ true) (λ (d : Draft). eqb d.file file ≡ false) (filter (λ (d : Draft). not (eqb d.file file)) s.drafts) (λ d. not_true (eqb d.file file)) (filter-passes (λ (d : Draft). not (eqb d.file file)) s.drafts))
+
+      pub writer_left : AreOrderly (record s { drafts = left_drafts (list_any (is_writer file) rest) file s.drafts; handles = rest })
+      writer_left = elim (list_any (is_writer file) rest) as (λ b. list_any (is_writer file) rest ≡ b → AreOrderly (record s { drafts = cond b s.drafts fewer; handles = rest })) [
+        | true ↦ λ e. stays e
+        | false ↦ λ e. goes e
+      ] refl
+
+  -- another map for a draft
+  pub rewritten : (file : ℕ) (layout : Layout) → AreOrderly (record s { drafts = update_first (is_draft file) (rewritten_by layout) s.drafts })
+  rewritten file layout = record {
+    drafts_rise = later-update_first (is_draft file) (λ (x y : Draft). x.file < y.file) (rewritten_by layout) s.drafts (λ x y r. r) (λ x y r. r) orderly.drafts_rise;
+    handles_rise = orderly.handles_rise;
+    opened = orderly.opened;
+    drafted = all-weaker (λ (x : OpenHandle). IsReadable s.drafts x.reads) (λ (x : OpenHandle). IsReadable (update_first (is_draft file) (rewritten_by layout) s.drafts) x.reads) s.handles (λ x. on x.reads) orderly.drafted;
+    written = all-update_first (is_draft file) (IsWritten s.handles) (IsWritten s.handles) (rewritten_by layout) s.drafts (λ d w. w) (λ d w. w) orderly.written;
+  } where
+    on : (what : Reads) → IsReadable s.drafts what → IsReadable (update_first (is_draft file) (rewritten_by layout) s.drafts) what
+    on (reads.Draft f) there = list_any-update_first (is_draft file) (is_draft f) (rewritten_by layout) s.drafts (λ x e. refl) ∙ there
+    on (reads.Version f n) there = tt
