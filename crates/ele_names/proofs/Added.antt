@@ -15,10 +15,11 @@ use Rattle.ele_names.specs.declared.lives.Lives.{Lives}
 use Rattle.ele_names.specs.declared.names.Names.TheInside.{Inside}
 use Rattle.ele_names.specs.declared.places.Places.{Places}
 use Rattle.ele_names.specs.declared.table.Table.{Table}
-use Rattle.ele_names.specs.Counted.{AreCounted}
+use Rattle.ele_names.specs.Counted.{AreCounted, AreNumbered}
 use Rattle.ele_names.specs.Kept.{IsKept, rows_of}
 use Rattle.ele_names.specs.Placed.{ArePlaced}
 use Rattle.ele_names.specs.Rows.{Follows}
+use Rattle.ele_names.proofs.Live.{numbered_same}
 
 -- the places are of whatever has the same rows
 pub placed_same : (at to : ℕ → Option NameRow) (places : Places) → ((s : ℕ) → to s ≡ at s) → ArePlaced at places → ArePlaced to places
@@ -35,8 +36,8 @@ module _ (a : Inside) (kept : IsKept a.table a.made a.lives) where
   fresh = not_yet a.made es kept.below
 
   -- with places and counts that say the same
-  pub kept_over : (places : Places) (lives : Lives) → ArePlaced (value_at es) places → AreCounted (rows_of a.table) lives → IsKept (record { rows = a.table.rows; places = places }) a.made lives
-  kept_over places lives placed counts = record {
+  pub kept_over : (places : Places) (lives : Lives) → ArePlaced (value_at es) places → AreCounted (rows_of a.table) lives → AreNumbered (value_at es) lives → IsKept (record { rows = a.table.rows; places = places }) a.made lives
+  kept_over places lives placed counts numbered = record {
     is_table = record {
       rising = kept.is_table.rising;
       short = kept.is_table.short;
@@ -48,6 +49,7 @@ module _ (a : Inside) (kept : IsKept a.table a.made a.lives) where
     few = kept.few;
     fits = kept.fits;
     counts = counts;
+    numbered = numbered;
   }
 
   module _ (row : NameRow) where
@@ -59,8 +61,9 @@ module _ (a : Inside) (kept : IsKept a.table a.made a.lives) where
         → ((s : ℕ) → value_at t.rows.entries s ≡ cond (is_at (nat_cmp a.made) s) (Some row) (value_at es s))
         → a.made + 1 < 2 ^ 64 → row.birth ≤ last_moment → AllByRecursion (λ earlier. Follows earlier row) (rows_of a.table)
         → ArePlaced (λ s. cond (is_at (nat_cmp a.made) s) (Some row) (value_at es s)) t.places → AreCounted (rows_of a.table ++ row ∷ []) lives
+        → AreNumbered (λ s. cond (is_at (nat_cmp a.made) s) (Some row) (value_at es s)) lives
         → IsKept t (a.made + 1) lives
-    kept_pushed t lives is rising at fits born follows placed counts = record {
+    kept_pushed t lives is rising at fits born follows placed counts numbered = record {
       is_table = record {
         rising = rising;
         short = all-weaker (λ k. k < a.made + 1) (λ k. k < 2 ^ 64) (keys_of t.rows.entries) (λ k h. omega arith) all_below;
@@ -72,6 +75,7 @@ module _ (a : Inside) (kept : IsKept a.table a.made a.lives) where
       few = rw rows_are (let few = kept.few in omega (arith, length-append (rows_of a.table) (row ∷ [])));
       fits = fits;
       counts = rw rows_are counts;
+      numbered = numbered_same (λ s. cond (is_at (nat_cmp a.made) s) (Some row) (value_at es s)) (value_at t.rows.entries) lives lives at (λ d n. refl) numbered;
     } where
       rows_are : rows_of t ≡ rows_of a.table ++ row ∷ []
       rows_are = ap values_of is ∙ rows_pushed

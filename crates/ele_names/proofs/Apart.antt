@@ -1,5 +1,5 @@
 -- Rows of one name are over when a later one is born, so the newest decides.
-use Rattle.std.proofs.Common.{◌≡◌, ℕ, ◌≤◌, Bool, true, false, ◌&&◌, ◌==◌, nat_le, nat_lt, List, [], ◌∷◌, Some, None, Option, is_none, is_some, refl, ap, sym, ◌∙◌, arith, find, cond}
+use Rattle.std.proofs.Common.{◌≡◌, ℕ, ◌≤◌, Bool, true, false, ◌&&◌, ◌==◌, nat_le, nat_lt, List, [], ◌∷◌, Some, Option, is_none, refl, ap, sym, ◌∙◌, arith, find, cond}
 use Rattle.std.specs.List.{AllByRecursion}
 use Rattle.std.specs.Option.{option_map_or}
 use Rattle.std.specs.Str.{bytes_eq}
@@ -34,6 +34,26 @@ same_name d n row other a b =
     let that = split (other.directory == d) (bytes_eq other.name n) b in
     (equal row.directory d this.0 ∙ sym (equal other.directory d that.0), (bytes_eq-Decides row.name n).0 this.1 ∙ sym ((bytes_eq-Decides other.name n).0 that.1))
 
+pub named_live : (d : ℕ) (n : List ℕ) (row : NameRow) → is_named d n row ≡ true → is_none row.death ≡ true → is_live_name d n row ≡ true
+named_live d n row = all (row.directory == d) (bytes_eq row.name n) (is_none row.death) where
+  all : (a b c : Bool) → (a && b) ≡ true → c ≡ true → (a && (b && c)) ≡ true
+  all true b c h k = rw (h, k) refl
+  all false b c h k = h
+
+pub named_dead : (d : ℕ) (n : List ℕ) (row : NameRow) → (is_named d n row ≡ true → is_none row.death ≡ false) → is_live_name d n row ≡ false
+named_dead d n row = any (row.directory == d) (bytes_eq row.name n) (is_none row.death) where
+  any : (a b c : Bool) → ((a && b) ≡ true → c ≡ false) → (a && (b && c)) ≡ false
+  any true true c h = h refl
+  any true false c h = refl
+  any false b c h = refl
+
+pub named_and_live : (d : ℕ) (n : List ℕ) (row : NameRow) → is_live_name d n row ≡ true → (is_named d n row ≡ true) × (is_none row.death ≡ true)
+named_and_live d n row = all (row.directory == d) (bytes_eq row.name n) (is_none row.death) where
+  all : (a b c : Bool) → (a && (b && c)) ≡ true → ((a && b) ≡ true) × (c ≡ true)
+  all true true c h = (refl, h)
+  all true false c h = absurd (false≢true h)
+  all false b c h = absurd (false≢true h)
+
 find_same : {X : Type 0} (p q : X → Bool) (xs : List X) → ((x : X) → p x ≡ q x) → find p xs ≡ find q xs
 find_same p q [] same = refl
 find_same p q (x ∷ xs) same = rw (same x) (ap (λ o. cond (q x) (Some x) o) (find_same p q xs same))
@@ -46,15 +66,6 @@ over : (o : Option ℕ) (death b t : ℕ) → o ≡ Some death → death ≤ b �
 over o death b t is le up = rw is (grind (arith, nat_tests))
 
 module _ (d : ℕ) (n : List ℕ) (rows : List NameRow) (apart : AllLater Follows rows) where
-  -- the live row is the newest, if that is live
-  pub live_is_newest : (newest : Option NameRow) → newest ≡ last_passing (is_named d n) rows → find (is_live_name d n) rows ≡ passing (λ row. is_none row.death) newest
-  live_is_newest newest is =
-      find_same (is_live_name d n) (λ row. is_named d n row && is_none row.death) rows (λ row. regroup (row.directory == d) (bytes_eq row.name n) (is_none row.death))
-      ∙ find_last (is_named d n) (λ row. is_none row.death) rows
-      (later-weaker Follows (λ x y. is_named d n x ≡ true → is_named d n y ≡ true → is_none x.death ≡ false) rows
-      (λ x y follows a b. let same = same_name d n x y a b in rw (follows.apart same.0 same.1).1 refl) apart)
-      ∙ ap (passing (λ row. is_none row.death)) (sym is)
-
   -- the row that covers a moment is the newest by then, if it lives on
   pub covering_is_newest : (t : ℕ) (newest : Option NameRow) → newest ≡ last_passing (is_born_by d n t) rows → find (λ row. is_named d n row && covers t row) rows ≡ passing (lives_past t) newest
   covering_is_newest t newest is =
@@ -76,7 +87,3 @@ born_by_end d n (row ∷ rows) all = rw (born_by_end d n rows all.1, same (is_na
   same : (a : Bool) (b : ℕ) → b ≤ last_moment → (a && nat_le b 18446744073709551615) ≡ a
   same true b h = grind (arith, nat_tests)
   same false b h = refl
-
-pub still_live : (o : Option ℕ) → is_some o ≡ false → is_none o ≡ true
-still_live (Some e) h = absurd cc
-still_live None h = refl

@@ -1,14 +1,21 @@
--- Counts of live rows, where one comes or goes.
-use Rattle.std.proofs.Common.{◌≡◌, ℕ, ◌==◌, ◌&&◌, Bool, true, false, cond, not, nat_lt, is_none, List, ◌∷◌, ◌++◌, refl, sym, ap, ◌∙◌, arith}
-use Rattle.std.specs.List.{count_by, list_any}
-use Rattle.ele_lists.proofs.Edits.{all-any}
+-- Live rows and counts of them, where one comes or goes.
+use Rattle.std.proofs.Common.{◌≡◌, ℕ, ◌==◌, ◌&&◌, Bool, true, false, cond, not, nat_lt, is_none, List, [], ◌∷◌, ◌++◌, Some, None, refl, sym, ap, ◌∙◌, arith}
+use Rattle.std.specs.List.{count_by, list_any, AllByRecursion}
+use Rattle.std.proofs.lemmas.Bool.{true≢false}
+use Rattle.ele_lists.specs.Lists.{AllLater}
+use Rattle.ele_lists.proofs.Alls.{all-append, later-around}
+use Rattle.ele_lists.proofs.Edits.{all-any, all-weaker}
 use Rattle.ele_lists.proofs.Sums.{sum_by-around, sum_by-same, any-count}
 use Rattle.ele_world.specs.declared.rows.NameRow.{NameRow}
 use Rattle.ele_world.specs.declared.rows.Target.{Target}
 use Rattle.ele_world.specs.declared.rows.Target.TheVariants.{File, Directory}
 use Rattle.ele_world.specs.NameRows.{is_live_in, is_target_directory, is_live_directory}
 use Rattle.std.proofs.lemmas.Bool.Decides.{nat_tests}
+use Rattle.ele_world.specs.NameRows.{is_named}
+use Rattle.ele_world.specs.Walk.{is_live_name, live_target}
 use Rattle.ele_names.specs.Counted.{is_live_of, Leaves}
+use Rattle.ele_names.specs.Rows.{Follows}
+use Rattle.ele_names.proofs.Apart.{named_and_live, named_dead, same_name}
 use Rattle.ele_names.specs.Spots.{target_eq}
 
 -- what a test counts of one row that is live, or dead
@@ -20,18 +27,65 @@ pub dead_one : (a b : Bool) → b ≡ false → ◌≡◌ {A = ℕ} (cond (a && 
 dead_one true b h = rw h refl
 dead_one false b h = refl
 
-pub leaves_without : (row : NameRow) (before behind : List NameRow) → Leaves row (before ++ row ∷ behind) (before ++ behind)
-leaves_without row before behind = record {
-  in_directory = λ d. sym (sum_by-around (λ row. cond (is_live_in d row) 1 0) before row behind);
-  of_target = λ t. sym (sum_by-around (λ row. cond (is_live_of t row) 1 0) before row behind);
-}
+-- what is live of a name, without a row that isn't
+target_around : (d : ℕ) (n : List ℕ) (before : List NameRow) (row : NameRow) (behind : List NameRow) → is_live_name d n row ≡ false → live_target (before ++ row ∷ behind) d n ≡ live_target (before ++ behind) d n
+target_around d n [] row behind h = rw h refl
+target_around d n (b ∷ before) row behind h = elim (is_live_name d n b) as (λ t. is_live_name d n b ≡ t → live_target (b ∷ before ++ row ∷ behind) d n ≡ live_target (b ∷ before ++ behind) d n) [
+  | true ↦ λ e. rw e refl
+  | false ↦ λ e. rw e (target_around d n before row behind h)
+] refl
 
--- a dead row in its place
-pub leaves_dead : (row dead : NameRow) → is_none dead.death ≡ false → (before behind : List NameRow) → Leaves row (before ++ row ∷ behind) (before ++ dead ∷ behind)
-leaves_dead row dead died before behind = record {
-  in_directory = λ d. omega (arith, sum_by-around (λ row. cond (is_live_in d row) 1 0) before row behind, sum_by-around (λ row. cond (is_live_in d row) 1 0) before dead behind, dead_one (dead.directory == d) (is_none dead.death) died);
-  of_target = λ t. omega (arith, sum_by-around (λ row. cond (is_live_of t row) 1 0) before row behind, sum_by-around (λ row. cond (is_live_of t row) 1 0) before dead behind, dead_one (target_eq dead.target t) (is_none dead.death) died);
-}
+none_named : (d : ℕ) (n : List ℕ) (rows : List NameRow) → AllByRecursion (λ row. is_live_name d n row ≡ false) rows → live_target rows d n ≡ None
+none_named d n [] none = refl
+none_named d n (row ∷ rows) none = rw none.0 (none_named d n rows none.1)
+
+module _ (row : NameRow) (before behind : List NameRow) (apart : AllLater Follows (before ++ row ∷ behind)) where
+  module _ (d : ℕ) (n : List ℕ) where
+    its_name : is_live_name d n row ≡ true → (is_named d n row ≡ true) × (is_none row.death ≡ true)
+    its_name = named_and_live d n row
+
+    earlier : is_live_name d n row ≡ true → AllByRecursion (λ b. is_live_name d n b ≡ false) before
+    earlier is = all-weaker (λ b. Follows b row) (λ b. is_live_name d n b ≡ false) before
+        (λ b follows. named_dead d n b (λ named. let same = same_name d n b row named (its_name is).0 in rw (follows.apart same.0 same.1).1 refl))
+        (later-around Follows before row behind apart).0
+
+    later : is_live_name d n row ≡ true → AllByRecursion (λ b. is_live_name d n b ≡ false) behind
+    later is = all-weaker (Follows row) (λ b. is_live_name d n b ≡ false) behind
+        (λ b follows. named_dead d n b (λ named.
+        let same = same_name d n row b (its_name is).0 named in
+        let dead : is_none row.death ≡ false = rw (follows.apart same.0 same.1).1 refl in
+        absurd (true≢false (sym (its_name is).1 ∙ dead))))
+        (later-around Follows before row behind apart).1
+
+    stands : (xs : List NameRow) → AllByRecursion (λ b. is_live_name d n b ≡ false) xs → is_live_name d n row ≡ true → live_target (xs ++ row ∷ behind) d n ≡ Some row.target
+    stands [] none is = rw is refl
+    stands (x ∷ xs) none is = rw none.0 (stands xs none.1 is)
+
+    its : is_live_name d n row ≡ true → live_target (before ++ row ∷ behind) d n ≡ Some row.target
+    its is = stands before (earlier is) is
+
+    named : live_target (before ++ behind) d n ≡ cond (is_live_name d n row) None (live_target (before ++ row ∷ behind) d n)
+    named = elim (is_live_name d n row) as (λ t. is_live_name d n row ≡ t → live_target (before ++ behind) d n ≡ cond t None (live_target (before ++ row ∷ behind) d n)) [
+      | true ↦ λ is. none_named d n (before ++ behind) (all-append (λ b. is_live_name d n b ≡ false) before behind (earlier is) (later is))
+      | false ↦ λ is. sym (target_around d n before row behind is)
+    ] refl
+
+  pub leaves_without : Leaves row (before ++ row ∷ behind) (before ++ behind)
+  leaves_without = record {
+    named = named;
+    its = its;
+    in_directory = λ d. sym (sum_by-around (λ row. cond (is_live_in d row) 1 0) before row behind);
+    of_target = λ t. sym (sum_by-around (λ row. cond (is_live_of t row) 1 0) before row behind);
+  }
+
+  -- a dead row in its place
+  pub leaves_dead : (dead : NameRow) → is_none dead.death ≡ false → Leaves row (before ++ row ∷ behind) (before ++ dead ∷ behind)
+  leaves_dead dead died = record {
+    named = λ d n. target_around d n before dead behind (named_dead d n dead (λ _. died)) ∙ named d n;
+    its = its;
+    in_directory = λ d. omega (arith, sum_by-around (λ row. cond (is_live_in d row) 1 0) before row behind, sum_by-around (λ row. cond (is_live_in d row) 1 0) before dead behind, dead_one (dead.directory == d) (is_none dead.death) died);
+    of_target = λ t. omega (arith, sum_by-around (λ row. cond (is_live_of t row) 1 0) before row behind, sum_by-around (λ row. cond (is_live_of t row) 1 0) before dead behind, dead_one (target_eq dead.target t) (is_none dead.death) died);
+  }
 
 -- nothing passes where the count is 0
 pub none_counted : {X : Type 0} (p : X → Bool) (xs : List X) → not (list_any p xs) ≡ (count_by p xs == 0)

@@ -1,7 +1,6 @@
 -- A row between others that dies, or leaves.
-use Rattle.std.proofs.Common.{◌≡◌, ℕ, ◌≤◌, ◌<◌, ◌^◌, Bool, true, false, cond, not, ◌&&◌, ◌==◌, List, [], ◌∷◌, ◌++◌, length, filter, Some, None, Option, is_none, refl, sym, ap, ◌∙◌, arith, length-append}
+use Rattle.std.proofs.Common.{◌≡◌, ℕ, ◌≤◌, ◌<◌, ◌^◌, Bool, true, false, cond, not, List, [], ◌∷◌, ◌++◌, length, filter, Some, None, Option, is_none, refl, sym, ap, ◌∙◌, arith, length-append}
 use Rattle.std.specs.List.Sorted.{IsStrictlySortedBy}
-use Rattle.std.specs.Str.{bytes_eq}
 use Rattle.std.specs.Ordering.{nat_cmp}
 use Rattle.std.specs.BTreeMap.{is_at, insert_entry}
 use Rattle.std.specs.Map.{keys_of, values_of, remove_entry}
@@ -30,27 +29,14 @@ use Rattle.ele_world.specs.Walk.{is_live_name}
 use Rattle.ele_names.specs.declared.lives.Lives.{Lives}
 use Rattle.ele_names.specs.declared.names.Names.TheInside.{Inside}
 use Rattle.ele_names.specs.declared.table.Table.{Table}
-use Rattle.ele_names.specs.Counted.{AreCounted, Leaves}
+use Rattle.ele_names.specs.Counted.{AreCounted, AreNumbered, Leaves}
 use Rattle.ele_names.specs.Kept.{IsKept, rows_of}
 use Rattle.ele_names.specs.Placed.{ArePlaced}
 use Rattle.ele_names.specs.Rows.{Follows, dies}
 use Rattle.ele_names.specs.Spots.{is_other, target_cmp, target_eq}
 use Rattle.ele_names.proofs.Added.{placed_same}
-use Rattle.ele_names.proofs.Apart.{same_name}
+use Rattle.ele_names.proofs.Apart.{named_dead, named_live, same_name}
 use Rattle.ele_names.proofs.Counts.{leaves_without, leaves_dead}
-
-named_live : (d : ℕ) (n : List ℕ) (row : NameRow) → is_named d n row ≡ true → is_none row.death ≡ true → is_live_name d n row ≡ true
-named_live d n row = all (row.directory == d) (bytes_eq row.name n) (is_none row.death) where
-  all : (a b c : Bool) → (a && b) ≡ true → c ≡ true → (a && (b && c)) ≡ true
-  all true b c h k = rw (h, k) refl
-  all false b c h k = h
-
-named_dead : (d : ℕ) (n : List ℕ) (row : NameRow) → (is_named d n row ≡ true → is_none row.death ≡ false) → is_live_name d n row ≡ false
-named_dead d n row = any (row.directory == d) (bytes_eq row.name n) (is_none row.death) where
-  any : (a b c : Bool) → ((a && b) ≡ true → c ≡ false) → (a && (b && c)) ≡ false
-  any true true c h = h refl
-  any true false c h = refl
-  any false b c h = refl
 
 filter_between : {X : Type 0} (p : X → Bool) (before : List X) (x : X) (behind : List X) → p x ≡ false → filter p (before ++ x ∷ behind) ≡ filter p (before ++ behind)
 filter_between p [] x behind h = rw h refl
@@ -102,8 +88,9 @@ module _ (a : Inside) (kept : IsKept a.table a.made a.lives) where
           → IsStrictlySortedBy nat_cmp (keys_of t.rows.entries)
           → ((k : ℕ) → value_at t.rows.entries k ≡ cond (is_at (nat_cmp s) k) (Some (dies moment row)) (value_at es k))
           → ((was now : List NameRow) → Leaves row was now → AreCounted was a.lives → AreCounted now lives)
+          → ((at to : ℕ → Option NameRow) (serial : ℕ) → at serial ≡ Some row → ((s : ℕ) → is_at (nat_cmp serial) s ≡ false → to s ≡ at s) → AreNumbered at a.lives → AreNumbered to lives)
           → IsKept t a.made lives
-      kept_dead t lives places is rising now counts = record {
+      kept_dead t lives places is rising now counts numbered = record {
         is_table = record {
           rising = rising;
           short = rw keys_are kept.is_table.short;
@@ -117,7 +104,8 @@ module _ (a : Inside) (kept : IsKept a.table a.made a.lives) where
         below = rw keys_are kept.below;
         few = rw rows_are (let few = kept.few in let same = ap length c.values in omega (arith, length-append c.before (row ∷ c.behind), length-append c.before (dies moment row ∷ c.behind)));
         fits = kept.fits;
-        counts = rw rows_are (counts (rows_of a.table) (c.before ++ dies moment row ∷ c.behind) (rw c.values (leaves_dead row (dies moment row) refl c.before c.behind)) kept.counts);
+        counts = rw rows_are (counts (rows_of a.table) (c.before ++ dies moment row ∷ c.behind) (rw c.values (leaves_dead row c.before c.behind (rw c.values at kept.is_table.apart) (dies moment row) refl)) kept.counts);
+        numbered = numbered (value_at es) (value_at t.rows.entries) s at (λ k e. now k ∙ rw e refl) kept.numbered;
       } where
         rows_are : rows_of t ≡ c.before ++ dies moment row ∷ c.behind
         rows_are = ap values_of is ∙ c.set (dies moment row)
@@ -139,8 +127,9 @@ module _ (a : Inside) (kept : IsKept a.table a.made a.lives) where
         → ((k : ℕ) → value_at t.rows.entries k ≡ cond (is_at (nat_cmp s) k) None (value_at es k))
         → ((at : ℕ → Option NameRow) → at s ≡ Some row → ArePlaced at a.table.places → ArePlaced (λ k. cond (is_at (nat_cmp s) k) None (at k)) t.places)
         → ((was now : List NameRow) → Leaves row was now → AreCounted was a.lives → AreCounted now lives)
+        → ((at to : ℕ → Option NameRow) (serial : ℕ) → at serial ≡ Some row → ((s : ℕ) → is_at (nat_cmp serial) s ≡ false → to s ≡ at s) → AreNumbered at a.lives → AreNumbered to lives)
         → IsKept t a.made lives
-    kept_without t lives is rising now placed counts = record {
+    kept_without t lives is rising now placed counts numbered = record {
       is_table = record {
         rising = rising;
         short = rw is (all_keys_without (λ k. k < 2 ^ 64) (is_at (nat_cmp s)) es kept.is_table.short);
@@ -151,7 +140,8 @@ module _ (a : Inside) (kept : IsKept a.table a.made a.lives) where
       below = rw is (all_keys_without (λ k. k < a.made) (is_at (nat_cmp s)) es kept.below);
       few = rw rows_are (let few = kept.few in let same = ap length c.values in omega (arith, length-append c.before (row ∷ c.behind), length-append c.before c.behind));
       fits = kept.fits;
-      counts = rw rows_are (counts (rows_of a.table) (c.before ++ c.behind) (rw c.values (leaves_without row c.before c.behind)) kept.counts);
+      counts = rw rows_are (counts (rows_of a.table) (c.before ++ c.behind) (rw c.values (leaves_without row c.before c.behind (rw c.values at kept.is_table.apart))) kept.counts);
+      numbered = numbered (value_at es) (value_at t.rows.entries) s at (λ k e. now k ∙ rw e refl) kept.numbered;
     } where
       rows_are : rows_of t ≡ c.before ++ c.behind
       rows_are = ap values_of is ∙ c.without

@@ -13,7 +13,7 @@ use Rattle.ele_names.specs.declared.lives.Lives.{Lives}
 use Rattle.ele_names.specs.declared.table.Table.{Table}
 use Rattle.ele_names.specs.Rows.{Follows}
 use Rattle.ele_names.specs.Placed.{ArePlaced}
-use Rattle.ele_names.specs.Counted.{AreCounted}
+use Rattle.ele_names.specs.Counted.{AreCounted, AreNumbered}
 
 -- the rows, in order of making
 abbrev pub rows_of : Table → List NameRow
@@ -31,10 +31,11 @@ pub record IsTable (table : Table) : Type 0 where
   pub apart : AllLater Follows (rows_of table)
   pub placed : ArePlaced (value_at table.rows.entries) table.places
 
--- each serial number is below the next one, and the live rows are counted
+-- each serial number is below the next one, and the live rows are known and counted
 pub record IsKept (table : Table) (made : ℕ) (lives : Lives) : Type 0 where
   pub is_table : IsTable table
   pub below : AllByRecursion (λ serial. serial < made) (keys_of table.rows.entries)
   pub few : length (rows_of table) ≤ made
   pub fits : made < 2 ^ 64
   pub counts : AreCounted (rows_of table) lives
+  pub numbered : AreNumbered (value_at table.rows.entries) lives

@@ -4,3 +4,4 @@ pub mod Spots
 pub mod Placed
 pub mod Counted
 pub mod Kept
+pub mod Stops

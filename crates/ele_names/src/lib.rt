@@ -11,4 +11,4 @@ mod walk;
 
 pub use ele_world::{NameRow, Target};
 pub use names::Names;
-pub use walk::{parent_now, resolve_at, resolve_now, stands_in};
+pub use walk::{parent_now, placed_now, resolve_at, resolve_now, stands_in};

@@ -1,6 +1,6 @@
 //! All name rows.
 //! A contract sees them as their list in order of making.
-ghost use Rattle.std.specs.Prelude.{◌≡◌, ℕ, ◌+◌, ◌<◌, ◌^◌, ◌++◌, ◌∷◌, [], List, false, not, map, filter, length, slice_get, IsTrue, IsSome, IfOk, OnOk, OnErr};
+ghost use Rattle.std.specs.Prelude.{◌≡◌, ℕ, ◌+◌, ◌<◌, ◌^◌, ◌++◌, ◌∷◌, [], List, Some, None, true, false, not, map, filter, is_none, length, slice_get, IsTrue, IsSome, IfSome, IfNone, IfOk, OnOk, OnErr};
 ghost use Rattle.std.specs.BTreeMap.{is_at};
 ghost use Rattle.std.specs.Cmp.Lexicographic.{slice_cmp};
 ghost use Rattle.std.specs.List.{count_by, list_any, AllByRecursion};
@@ -9,14 +9,17 @@ ghost use Rattle.std.specs.Map.{keys_of, lookup};
 ghost use Rattle.std.specs.Option.{option_map, option_to_list};
 ghost use Rattle.std.specs.Ordering.{nat_cmp};
 ghost use Rattle.ele_lists.specs.Lists.{update_first};
-ghost use Rattle.ele_world.specs.NameRows.{target_at, last_dead, is_live_in, is_live_directory};
+ghost use Rattle.ele_lists.specs.Serial.{value_at};
+ghost use Rattle.ele_world.specs.NameRows.{is_named, target_at, last_dead, is_live_in, is_live_directory};
 ghost use Rattle.ele_world.specs.Walk.{is_live_name, live_target};
 ghost use Rattle.ele_world.specs.World.{is_live_name_of, is_target_file};
+ghost use Rattle.ele_names.specs.Counted.{AreCounted, AreNumbered};
+ghost use Rattle.ele_names.specs.Kept.{rows_of};
 ghost use Rattle.ele_names.specs.Listed.{by_name, name_cmp};
 ghost use Rattle.ele_names.specs.Rows.{born_row, dies, Follows};
 ghost use Rattle.ele_names.specs.Spots.{at_spot, dead_at_spot, entry_at, name_at, is_other};
 
-use crate::lives::Lives;
+use crate::lives::{Live, Lives};
 use crate::spot::Spot;
 use crate::table::{Table, lives_past};
 use ele_moment::{DirId, FileId, Moment, Name, NoMemory};
@@ -91,7 +94,7 @@ impl Names {
             self.table.places.leave(&row, serial);
             return Err(NoMemory);
         }
-        self.lives.enter(&row);
+        self.lives.enter(&row, serial);
         self.made = made;
         Ok(())
     }
@@ -116,7 +119,7 @@ impl Names {
         ensures { self.new
             ≡ update_first (is_live_name directory name.now) (dies moment) self.old }
     {
-        let Some((serial, live)) = self.table.live(directory, name) else {
+        let Some((serial, live)) = live_row(&self.table, &self.lives, directory, name) else {
             unreachable!()
         };
         let dead = NameRow {
@@ -159,7 +162,7 @@ impl Names {
     pub fn live(&self, directory: DirId, name: &Name) -> Option<Target>
         ensures { result ≡ live_target self.now directory name.now }
     {
-        target_of(&self.table.live(directory, name))
+        target_of(self.lives.live(directory, name))
     }
 
     /// What the newest row of the name stands for, if that row is dead.
@@ -289,12 +292,26 @@ impl Names {
     }
 }
 
-// What the row stands for.
-fn target_of(found: &Option<(u64, NameRow)>) -> Option<Target>
-    ensures { result ≡ option_map (λ row. row.target) (option_map (λ e. e.1) found.now) }
+// The live row of the name, with its serial number.
+fn live_row(table: &Table, lives: &Lives, directory: DirId, name: &Name) -> Option<(u64, NameRow)>
+    requires counted { AreCounted (rows_of table.now) lives.now }
+    requires numbered { AreNumbered (value_at table.now.rows.entries) lives.now }
+    ensures none { IfNone result (live_target (rows_of table.now) directory name.now ≡ None) }
+    ensures serial { IfSome result (λ e. value_at table.now.rows.entries e.0 ≡ Some e.1) }
+    ensures live { IfSome result
+        (λ e. (is_named directory name.now e.1 ≡ true) × (is_none e.1.death ≡ true)) }
+{
+    let live = lives.live(directory, name)?;
+    let row = table.rows.get(&live.serial)?;
+    Some((live.serial, *row))
+}
+
+// What the live row's name stands for.
+fn target_of(found: Option<Live>) -> Option<Target>
+    ensures { result ≡ option_map (λ live. live.target) found }
 {
     match found {
-        Some(found) => Some(found.1.target),
+        Some(live) => Some(live.target),
         None => None,
     }
 }

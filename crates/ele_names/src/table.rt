@@ -1,13 +1,12 @@
 //! The rows by serial number, with their places, and the look-ups in them.
 //! A contract sees the rows as their list in order of serial numbers.
-ghost use Rattle.std.specs.Prelude.{◌≡◌, ℕ, Some, [], find, is_none, true, false, IfSome, IfNone};
+ghost use Rattle.std.specs.Prelude.{◌≡◌, ℕ, Some, [], false, IfSome, IfNone};
 ghost use Rattle.std.specs.declared.cmp.Ordering.TheVariants.{Less};
 ghost use Rattle.std.specs.Option.{option_map};
 ghost use Rattle.ele_lists.specs.Index.{has, IsNextGroup};
 ghost use Rattle.ele_lists.specs.Last.{last_passing};
 ghost use Rattle.ele_lists.specs.Serial.{value_at};
 ghost use Rattle.ele_world.specs.NameRows.{is_named, lives_past};
-ghost use Rattle.ele_world.specs.Walk.{is_live_name};
 ghost use Rattle.ele_names.specs.Kept.{IsTable, rows_of, is_born_by};
 ghost use Rattle.ele_names.specs.Spots.{spot_cmp};
 ghost use Rattle.ele_names.specs.declared.spot.Spot.{Spot};
@@ -62,23 +61,6 @@ impl Table {
         ensures serial { IfSome result (λ e. value_at self.now.rows.entries e.0 ≡ Some e.1) }
     {
         self.newest_by(directory, name, u64::MAX)
-    }
-
-    /// The live row of the name, with its serial number.
-    pub fn live(&self, directory: DirId, name: &Name) -> Option<(u64, NameRow)>
-        requires { IsTable self.now }
-        ensures found { option_map (λ e. e.1) result
-            ≡ find (is_live_name directory name.now) (rows_of self.now) }
-        ensures serial { IfSome result (λ e. value_at self.now.rows.entries e.0 ≡ Some e.1) }
-        ensures live { IfSome result
-            (λ e. (is_named directory name.now e.1 ≡ true) × (is_none e.1.death ≡ true)) }
-    {
-        let (serial, row) = self.newest(directory, name)?;
-        if row.death.is_none() {
-            Some((serial, row))
-        } else {
-            None
-        }
     }
 
     /// The next spot of the same directory at which a row stands.

@@ -1,10 +1,11 @@
 //! Where a path leads, now or at an earlier moment.
 //! A contract sees the names as their rows, and a walk as the world's words say it.
-ghost use Rattle.std.specs.Prelude.{◌≡◌};
+ghost use Rattle.std.specs.Prelude.{◌≡◌, ◌⊎◌, Ok, Err, IfOk, IfErr};
 ghost use Rattle.ele_world.specs.Walk.{walk_now, parent_now, comes_through, stands_in};
 ghost use Rattle.ele_world.specs.WalkAt.{walk_at, walk_covering};
 ghost use Rattle.ele_world.specs.World.{root};
 ghost use Rattle.ele_world.specs.declared.rows.Target.TheVariants.{Directory};
+ghost use Rattle.ele_names.specs.Stops.{StopsAtPlace};
 
 use crate::names::Names;
 use ele_moment::{DirId, Moment, Name};
@@ -48,6 +49,21 @@ pub fn parent_now(names: &Names, path: &Path) -> Result<(DirId, Name), Refusal>
     match walk(names, &path[..path.len() - 1])? {
         Target::Directory(directory) => Ok((directory, *name)),
         Target::File(_) => Err(Refusal::NotDirectory),
+    }
+}
+
+/// The directory that the path's last name stands in, that name, and what it stands for, by one walk
+/// where `parent_now` and then `resolve_now` take two. It refuses as the first of them that refuses.
+pub fn placed_now(names: &Names, path: &Path) -> Result<(DirId, Name, Target), Refusal>
+    ensures place { IfOk result (λ found. parent_now names.now path.now ≡ Ok (found.0, found.1)) }
+    ensures leads { IfOk result (λ found. walk_now names.now path.now ≡ Ok found.2) }
+    ensures refusal { IfErr result (λ refusal. (parent_now names.now path.now ≡ Err refusal)
+        ⊎ StopsAtPlace names.now path.now refusal) }
+{
+    let (directory, name) = parent_now(names, path)?;
+    match names.live(directory, &name) {
+        Some(target) => Ok((directory, name, target)),
+        None => Err(Refusal::NoEntry),
     }
 }
 

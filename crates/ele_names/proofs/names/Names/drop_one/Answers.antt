@@ -8,7 +8,7 @@ returns-in_default-clause-none c = rw (← c.self.view_is) (λ _. none_of_target
 pub invariant_of-self : goal.invariant_of-self
 invariant_of-self c =
     kept_without c.self.inside c.self.invariant c.in-Some.serial c.in-Some-remove.row (sym c.in-Some-remove.ensures.value) _ _
-    c.in-Some-remove.ensures.entries c.in-Some-remove.ensures.ordered c.in-Some-remove.ensures.updates.0 c.leave.ensures c.leave-2.ensures
+    c.in-Some-remove.ensures.entries c.in-Some-remove.ensures.ordered c.in-Some-remove.ensures.updates.0 c.leave.ensures c.leave-2.ensures.counted c.leave-2.ensures.numbered
 
 pub returns-clause-others : goal.returns-clause-others
 returns-clause-others c = rw (← c.self.view_is, c.in-Some-remove.ensures.entries)

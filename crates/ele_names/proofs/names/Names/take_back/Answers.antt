@@ -9,7 +9,7 @@ pub invariant_of-self : goal.invariant_of-self
 invariant_of-self c =
     kept_without c.self.inside c.self.invariant c.in-Some.serial c.in-Some.row c.in-Some.ensures.value _ _
     (sym (ap (remove_entry (is_at (nat_cmp c.in-Some.serial))) c.in-Some.ensures.removal ∙ without_last c.in-Some.serial c.in-Some.row _ c.in-Some.ensures.all_below))
-    c.in-Some.ensures.ordered c.in-Some.ensures.updates.0 c.leave.ensures c.leave-2.ensures
+    c.in-Some.ensures.ordered c.in-Some.ensures.updates.0 c.leave.ensures c.leave-2.ensures.counted c.leave-2.ensures.numbered
 
 pub returns : goal.returns
 returns c = λ rows newest are. last_gone rows newest _ _ c.in-Some.serial c.in-Some.row c.in-Some.ensures.removal (c.self.view_is ∙ are)

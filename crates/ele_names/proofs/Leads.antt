@@ -1,0 +1,29 @@
+-- Where a path leads, by the place of its last name.
+use Rattle.std.proofs.Common.{◌≡◌, ℕ, List, [], ◌∷◌, Ok, Err, Some, None, ap, ◌∙◌, refl}
+use Rattle.std.specs.Option.{option_map_or}
+use Rattle.ele_world.specs.declared.refusal.Refusal.TheVariants.{NoEntry}
+use Rattle.ele_world.specs.declared.rows.NameRow.{NameRow}
+use Rattle.ele_world.specs.declared.rows.Target.{Target}
+use Rattle.ele_world.specs.declared.rows.Target.TheVariants.{Directory}
+use Rattle.ele_world.specs.Walk.{live_target, parent_now, walk_now}
+use Rattle.ele_world.specs.World.{root}
+use Rattle.ele_world.proofs.Walks.{parent_is, walk-on}
+use Rattle.ele_names.specs.Stops.{StopsAtPlace}
+
+-- a path leads to what its last name stands for
+pub leads_by_place : (rows : List NameRow) (path : List (List ℕ)) (at : ℕ × List ℕ) → parent_now rows path ≡ Ok at → walk_now rows path ≡ option_map_or (λ target. Ok target) (live_target rows at.0 at.1) (Err NoEntry)
+leads_by_place rows path at found =
+    let parent = parent_is rows path at found in
+    ap (walk_now rows) parent.whole ∙ walk-on rows (Directory root) (Directory at.0) parent.front (at.1 ∷ []) parent.leads
+
+module _ (rows : List NameRow) (path : List (List ℕ)) (directory : ℕ) (name : List ℕ) (found : parent_now rows path ≡ Ok (directory, name)) where
+  pub leads_to : (target : Target) → Some target ≡ live_target rows directory name → walk_now rows path ≡ Ok target
+  leads_to target is = leads_by_place rows path (directory, name) found ∙ rw (← is) refl
+
+  pub stops_at : None ≡ live_target rows directory name → StopsAtPlace rows path NoEntry
+  stops_at is = record {
+    directory = directory;
+    name = name;
+    place = found;
+    stops = leads_by_place rows path (directory, name) found ∙ rw (← is) refl;
+  }
