@@ -66,7 +66,7 @@ const ROWS: [&str; 55] = [
 ];
 
 /// Scripts under limits of their own: events, files, directories, names, versions, handles, groups, members, marks.
-const LIMITED: [(&str, [u64; 9]); 14] = [
+const LIMITED: [(&str, [u64; 9]); 16] = [
     ("full_history", [1, 9, 9, 9, 9, 9, 9, 9, 9]),
     ("pass_fills_the_history", [6, 9, 9, 9, 9, 9, 9, 9, 9]),
     (
@@ -89,7 +89,9 @@ const LIMITED: [(&str, [u64; 9]); 14] = [
     ),
     ("versions_limit", [99, 9, 9, 9, 2, 9, 9, 9, 9]),
     ("versions_limit_of_undelete", [9, 9, 9, 9, 2, 9, 9, 9, 9]),
+    ("versions_limit_of_revert", [9, 9, 9, 9, 2, 9, 9, 9, 9]),
     ("handles_limit", [9, 9, 9, 9, 9, 1, 9, 9, 9]),
+    ("handles_limit_of_readers", [9, 9, 9, 9, 9, 1, 9, 9, 9]),
 ];
 
 /// What the script prints.
