@@ -1,17 +1,16 @@
 -- The command in front of words.
 use Rattle.std.proofs.Common.{◌≡◌, ℕ, Bool, true, false, cond, List, [], ◌∷◌, ◌++◌, length, refl, sym, ap, ◌∙◌, Option, Some, None, IfSome, Result, Ok, Err, ◌⊎◌, inl, inr, subst}
 use Rattle.std.specs.Prelude.{codes, IfOk, IfErr}
-use Rattle.std.specs.List.{list_any}
 use Rattle.std.specs.Str.{bytes_eq}
 use Rattle.std.specs.Cmp.Lexicographic.{bytes_decides}
 use Rattle.ele_script.specs.declared.command.Command.{Command}
-use Rattle.ele_script.specs.declared.command.Command.TheVariants.{Clock, Tick, MakeDir, RemoveDir, Create, Link, Unlink, Rename, Undelete, OpenWrite, Write, Truncate, Close, Default, Clean, Read, Restorable, Due, Usage, Pass}
+use Rattle.ele_script.specs.declared.command.Command.TheVariants.{Clock, Tick, MakeDir, RemoveDir, Create, Link, Unlink, Rename, Undelete, OpenWrite, OpenRead, Write, Truncate, Close, Revert, Default, Clean, Read, Stat, Versions, ListNames, Restorable, Due, Usage, Pass}
 use Rattle.ele_script.specs.declared.fault.LineFault.{LineFault}
 use Rattle.ele_script.specs.declared.fault.LineFault.TheVariants.{Syntax, NoMemory}
 use Rattle.ele_script.specs.declared.reading.Line.{Line}
 use Rattle.ele_script.specs.Spells.{SpellsBehind, SpellsWords}
 use Rattle.ele_script.specs.Command.{command_words, kinds_behind}
-use Rattle.ele_script.specs.Memory.{takes_memory, TakesMemory}
+use Rattle.ele_script.specs.Memory.{behind_takes, TakesMemory}
 use Rattle.ele_script.specs.CommandOf.{command_of, one_word_command, directory_command, name_command, question_command, open_command, second_of, before}
 use Rattle.ele_script.specs.FirstFault.{FitsCommand, IsFaultBehind, miscounted, bad_word, IsFaultOfWords, no_command, of_word}
 
@@ -28,12 +27,17 @@ command_of-words Unlink arguments = refl
 command_of-words Rename arguments = refl
 command_of-words Undelete arguments = refl
 command_of-words OpenWrite arguments = refl
+command_of-words OpenRead arguments = refl
 command_of-words Write arguments = refl
 command_of-words Truncate arguments = refl
 command_of-words Close arguments = refl
+command_of-words Revert arguments = refl
 command_of-words Default arguments = refl
 command_of-words Clean arguments = refl
 command_of-words Read arguments = refl
+command_of-words Stat arguments = refl
+command_of-words Versions arguments = refl
+command_of-words ListNames arguments = refl
 command_of-words Restorable arguments = refl
 command_of-words Due arguments = refl
 command_of-words Usage arguments = refl
@@ -52,7 +56,7 @@ question_is : (word : List ℕ) → IfSome (question_command word) (λ command. 
 unfolding question_command
 question_is word =
     let P : Command → Type 0 = λ command. command_words command ≡ word ∷ [] in
-    chain P _ Read _ (same word (codes "read")) (chain P _ Due _ (same word (codes "due")) (chain P _ Usage _ (same word (codes "usage")) tt))
+    chain P _ Read _ (same word (codes "read")) (chain P _ Stat _ (same word (codes "stat")) (chain P _ Versions _ (same word (codes "versions")) (chain P _ ListNames _ (same word (codes "list")) (chain P _ Due _ (same word (codes "due")) (chain P _ Usage _ (same word (codes "usage")) tt)))))
 
 name_is : (word : List ℕ) → IfSome (name_command word) (λ command. command_words command ≡ word ∷ [])
 unfolding name_command
@@ -70,12 +74,13 @@ one_word_is : (word : List ℕ) → IfSome (one_word_command word) (λ command. 
 unfolding one_word_command
 one_word_is word =
     let P : Command → Type 0 = λ command. command_words command ≡ word ∷ [] in
-    chain P _ Clock _ (same word (codes "clock")) (chain P _ Tick _ (same word (codes "tick")) (chain P _ Create _ (same word (codes "create")) (chain P _ Write _ (same word (codes "write")) (chain P _ Truncate _ (same word (codes "truncate")) (chain P _ Close _ (same word (codes "close")) (chain P _ Default _ (same word (codes "default")) (chain P _ Clean _ (same word (codes "clean")) (chain P _ Pass _ (same word (codes "pass")) (directory_is word)))))))))
+    chain P _ Clock _ (same word (codes "clock")) (chain P _ Tick _ (same word (codes "tick")) (chain P _ Create _ (same word (codes "create")) (chain P _ Write _ (same word (codes "write")) (chain P _ Truncate _ (same word (codes "truncate")) (chain P _ Close _ (same word (codes "close")) (chain P _ Revert _ (same word (codes "revert")) (chain P _ Default _ (same word (codes "default")) (chain P _ Clean _ (same word (codes "clean")) (chain P _ Pass _ (same word (codes "pass")) (directory_is word))))))))))
 
 open_is : (word : List ℕ) → IfSome (open_command word) (λ command. command_words command ≡ codes "open" ∷ word ∷ [])
 unfolding open_command
 open_is word =
-    chain (λ command. command_words command ≡ codes "open" ∷ word ∷ []) _ OpenWrite None (λ test. ap (λ words. codes "open" ∷ words) (same word (codes "write") test)) tt
+    let P : Command → Type 0 = λ command. command_words command ≡ codes "open" ∷ word ∷ [] in
+    chain P _ OpenWrite _ (λ test. ap (λ words. codes "open" ∷ words) (same word (codes "write") test)) (chain P _ OpenRead None (λ test. ap (λ words. codes "open" ∷ words) (same word (codes "read") test)) tt)
 
 behind : (words front rest : List (List ℕ)) (r : Option Command) → words ≡ front ++ rest → IfSome r (λ command. command_words command ≡ front) → IfSome (before rest r) (λ x. words ≡ command_words x.0 ++ x.1)
 behind words front rest None are is = tt
@@ -137,7 +142,7 @@ spelled_words words command arguments (Ok asked) found h = record {
 spelled_words words command arguments (Err fault) found h = tt
 
 -- and memory that reading them wants, the words want
-pub memory_of_words : (words : List (List ℕ)) (command : Command) (arguments : List (List ℕ)) (r : Result Line LineFault) → command_of words ≡ Some (command, arguments) → (r ≡ Err NoMemory → list_any takes_memory (kinds_behind command) ≡ true) → r ≡ Err NoMemory → TakesMemory words
+pub memory_of_words : (words : List (List ℕ)) (command : Command) (arguments : List (List ℕ)) (r : Result Line LineFault) → command_of words ≡ Some (command, arguments) → (r ≡ Err NoMemory → behind_takes command arguments ≡ true) → r ≡ Err NoMemory → TakesMemory words
 memory_of_words words command arguments r found takes is =
     record { command = command; arguments = arguments; are = are words command arguments found; takes = takes is }
 

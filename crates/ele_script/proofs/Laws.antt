@@ -3,14 +3,13 @@ use Rattle.std.proofs.Common.{◌≡◌, ◌≢◌, ℕ, ◌≤◌, true, true�
 use Rattle.std.specs.Prelude.{IfOk, IfErr}
 use Rattle.ele_world.specs.declared.event.Event.{Event}
 use Rattle.ele_world.specs.declared.event.Event.TheVariants as event
-use Rattle.ele_world.specs.declared.event.Source.TheVariants.{Of}
 use Rattle.ele_script.specs.declared.reading.Line.{Line}
 use Rattle.ele_script.specs.declared.reading.Line.TheVariants as asks
 use Rattle.ele_script.specs.declared.command.Command.{Command}
-use Rattle.ele_script.specs.declared.command.Command.TheVariants.{Clock, Tick, MakeDir, RemoveDir, Create, Link, Unlink, Rename, Undelete, OpenWrite, Write, Truncate, Close, Default, Clean, Read, Restorable, Due, Usage, Pass}
+use Rattle.ele_script.specs.declared.command.Command.TheVariants.{Clock, Tick, MakeDir, RemoveDir, Create, Link, Unlink, Rename, Undelete, OpenWrite, OpenRead, Write, Truncate, Close, Revert, Default, Clean, Read, Stat, Versions, ListNames, Restorable, Due, Usage, Pass}
 use Rattle.ele_script.specs.declared.fault.LineFault.{LineFault}
 use Rattle.ele_script.specs.declared.fault.LineFault.TheVariants.{NoMemory}
-use Rattle.ele_script.specs.Value.{WordKind, Value, Number, Moment, Path, Bytes, Policy, word_kind}
+use Rattle.ele_script.specs.Value.{WordKind, Value, Number, Moment, Path, Tagged, Timed, Source, Bytes, Policy, word_kind}
 use Rattle.ele_script.specs.Command.{kinds_behind}
 use Rattle.ele_script.specs.Words.{words_of, is_worded}
 use Rattle.ele_script.specs.Spells.{line_parts, SpellsValues, SpellsWords, SpellsLine, Spells}
@@ -36,12 +35,17 @@ kinds_fit (asks.Event (event.Unlink path)) = refl
 kinds_fit (asks.Event (event.Rename from to)) = refl
 kinds_fit (asks.Event (event.Undelete path)) = refl
 kinds_fit (asks.Event (event.OpenWrite path)) = refl
+kinds_fit (asks.Event (event.OpenRead tagged)) = refl
 kinds_fit (asks.Event (event.Write handle offset bytes)) = refl
 kinds_fit (asks.Event (event.Truncate handle size)) = refl
 kinds_fit (asks.Event (event.Close handle)) = refl
+kinds_fit (asks.Event (event.Revert path number)) = refl
 kinds_fit (asks.Event (event.SetDefault path policy)) = refl
 kinds_fit (asks.Event event.CleanOne) = refl
-kinds_fit (asks.Event (event.Read (Of handle))) = refl
+kinds_fit (asks.Event (event.Read source)) = refl
+kinds_fit (asks.Event (event.Stat tagged)) = refl
+kinds_fit (asks.Event (event.Versions timed)) = refl
+kinds_fit (asks.Event (event.List timed)) = refl
 kinds_fit (asks.Event event.Restorable) = refl
 kinds_fit (asks.Event event.Due) = refl
 kinds_fit (asks.Event event.UsageAll) = refl
@@ -59,12 +63,17 @@ line_of (Unlink, Path path ∷ []) = Some (asks.Event (event.Unlink path))
 line_of (Rename, Path from ∷ Path to ∷ []) = Some (asks.Event (event.Rename from to))
 line_of (Undelete, Path path ∷ []) = Some (asks.Event (event.Undelete path))
 line_of (OpenWrite, Path path ∷ []) = Some (asks.Event (event.OpenWrite path))
+line_of (OpenRead, Tagged tagged ∷ []) = Some (asks.Event (event.OpenRead tagged))
 line_of (Write, Number handle ∷ Number offset ∷ Bytes bytes ∷ []) = Some (asks.Event (event.Write handle offset bytes))
 line_of (Truncate, Number handle ∷ Number size ∷ []) = Some (asks.Event (event.Truncate handle size))
 line_of (Close, Number handle ∷ []) = Some (asks.Event (event.Close handle))
+line_of (Revert, Path path ∷ Number number ∷ []) = Some (asks.Event (event.Revert path number))
 line_of (Default, Path path ∷ Policy policy ∷ []) = Some (asks.Event (event.SetDefault path policy))
 line_of (Clean, []) = Some (asks.Event event.CleanOne)
-line_of (Read, Number handle ∷ []) = Some (asks.Event (event.Read (Of handle)))
+line_of (Read, Source source ∷ []) = Some (asks.Event (event.Read source))
+line_of (Stat, Tagged tagged ∷ []) = Some (asks.Event (event.Stat tagged))
+line_of (Versions, Timed timed ∷ []) = Some (asks.Event (event.Versions timed))
+line_of (ListNames, Timed timed ∷ []) = Some (asks.Event (event.List timed))
 line_of (Restorable, []) = Some (asks.Event event.Restorable)
 line_of (Due, []) = Some (asks.Event event.Due)
 line_of (Usage, []) = Some (asks.Event event.UsageAll)
@@ -83,12 +92,17 @@ parts_back (asks.Event (event.Unlink path)) = refl
 parts_back (asks.Event (event.Rename from to)) = refl
 parts_back (asks.Event (event.Undelete path)) = refl
 parts_back (asks.Event (event.OpenWrite path)) = refl
+parts_back (asks.Event (event.OpenRead tagged)) = refl
 parts_back (asks.Event (event.Write handle offset bytes)) = refl
 parts_back (asks.Event (event.Truncate handle size)) = refl
 parts_back (asks.Event (event.Close handle)) = refl
+parts_back (asks.Event (event.Revert path number)) = refl
 parts_back (asks.Event (event.SetDefault path policy)) = refl
 parts_back (asks.Event event.CleanOne) = refl
-parts_back (asks.Event (event.Read (Of handle))) = refl
+parts_back (asks.Event (event.Read source)) = refl
+parts_back (asks.Event (event.Stat tagged)) = refl
+parts_back (asks.Event (event.Versions timed)) = refl
+parts_back (asks.Event (event.List timed)) = refl
 parts_back (asks.Event event.Restorable) = refl
 parts_back (asks.Event event.Due) = refl
 parts_back (asks.Event event.UsageAll) = refl

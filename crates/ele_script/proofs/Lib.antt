@@ -3,5 +3,7 @@ pub mod Lines
 pub mod Commands
 pub mod Behind
 pub mod Words
+pub mod Moments
+pub mod PathWords
 pub mod Values
 pub mod Laws

@@ -1,9 +1,9 @@
 -- The bytes of a line, word after word.
-use Rattle.std.proofs.Common.{arith, ◌==◌, true, ◌≡◌, ℕ, ◌+◌, ◌<◌, ◌≤◌, List, [], ◌∷◌, ◌++◌, length, map, take, drop, get_or, ◌/◌, ◌%◌, refl, sym, ap, ◌∙◌, append_assoc}
+use Rattle.std.proofs.Common.{arith, ◌==◌, true, ◌≡◌, ℕ, ◌+◌, ◌<◌, List, [], ◌∷◌, ◌++◌, length, map, take, drop, get_or, ◌/◌, ◌%◌, refl, sym, ap, ◌∙◌, append_assoc}
 use Rattle.std.specs.Prelude.{codes}
 use Rattle.std.proofs.lemmas.Bool.{eqb-true}
 use Rattle.std.proofs.lemmas.Fmt.{decimal_digit}
-use Rattle.std.proofs.lemmas.List.{drop_more, drop_all, append-nil, take-append-drop}
+use Rattle.std.proofs.lemmas.List.{drop_more, append-nil, take-append-drop}
 use Rattle.ele_usage.specs.declared.usage.Usage.{Usage}
 use Rattle.std.specs.List.{join_with_byte, flat_map}
 use Rattle.hex.specs.Hex.{encode_with, encode_lower, lower_digits}
@@ -19,13 +19,20 @@ line_is first [] = refl
 line_is first (word ∷ words) =
     append_assoc first (32 ∷ join_with_byte 32 (word ∷ words)) (10 ∷ []) ∙ ap (λ (rest : List ℕ). first ++ 32 ∷ rest) (line_is word words)
 
--- at a word, it and its space are next
-pub behind_here : {A : Type 0} (v : A → List ℕ) (xs : List A) (i : ℕ) (d : A) → i < length xs → behind_word (map v (drop i xs)) ≡ (32 ∷ v (get_or xs i d)) ++ behind_word (map v (drop (i + 1) xs))
-behind_here {A} v xs i d lt = ap (λ (ys : List A). behind_word (map v ys)) (drop_more xs i d lt)
+-- words are the first, and a space and a word for each other
+pub words_are : {A : Type 0} (v : A → List ℕ) (first : List ℕ) (xs : List A) → join_with_byte 32 (first ∷ map v xs) ≡ first ++ flat_map (λ x. 32 ∷ v x) xs
+words_are {A} v first [] = sym (append-nil first)
+words_are {A} v first (x ∷ xs) = ap (λ (rest : List ℕ). first ++ 32 ∷ rest) (words_are v (v x) xs)
 
--- behind the last word, the line feed is next
-pub behind_end : {A : Type 0} (v : A → List ℕ) (xs : List A) (i : ℕ) → length xs ≤ i → behind_word (map v (drop i xs)) ≡ 10 ∷ []
-behind_end {A} v xs i le = ap (λ (ys : List A). behind_word (map v ys)) (drop_all i xs le)
+-- a line is its words but the last, and then the last
+pub last_word : (first last : List ℕ) (words : List (List ℕ)) → line_text (first ∷ words ++ last ∷ []) ≡ join_with_byte 32 (first ∷ words) ++ ((32 ∷ last) ++ 10 ∷ [])
+last_word first last [] = append_assoc first (32 ∷ last) (10 ∷ [])
+last_word first last (word ∷ words) =
+    append_assoc first (32 ∷ join_with_byte 32 (word ∷ words ++ last ∷ [])) (10 ∷ []) ∙ ap (λ (rest : List ℕ). first ++ 32 ∷ rest) (last_word word last words) ∙ sym (append_assoc first (32 ∷ join_with_byte 32 (word ∷ words)) ((32 ∷ last) ++ 10 ∷ []))
+
+-- at a place, what stands there is next
+pub here : {A : Type 0} (line : A → List ℕ) (xs : List A) (i : ℕ) (d : A) → i < length xs → flat_map line (drop i xs) ≡ line (get_or xs i d) ++ flat_map line (drop (i + 1) xs)
+here {A} line xs i d lt = ap (λ (ys : List A). flat_map line ys) (drop_more xs i d lt)
 
 -- at an item, its line is next
 pub lines_here : {A : Type 0} (line : A → List ℕ) (xs : List A) (i : ℕ) (x : A) → i < length xs → x ≡ get_or xs i x → flat_map line (drop i xs) ≡ line x ++ flat_map line (drop (i + 1) xs)

@@ -1,69 +1,30 @@
 -- Words and what they stand for: each one value of a kind.
 use Rattle.std.specs.Str.{bytes_eq}
 use Rattle.std.specs.Cmp.Lexicographic.{bytes_decides}
-use Rattle.std.proofs.Common.{false, true≢false, ◌≡◌, ◌++◌, ℕ, ◌<◌, ◌≤◌, List, length, refl, sym, ap, subst, ◌∙◌, arith, inl, inr, Option, Some, None, Ok, Err, Result, pos}
+use Rattle.std.proofs.Common.{false, true≢false, ◌≡◌, ◌++◌, ℕ, List, refl, sym, ap, subst, ◌∙◌, inl, inr, Option, Some, None, Ok, Err, Result}
 use Rattle.std.specs.Prelude.{codes, IfErr}
 use Rattle.std.specs.Option.{ok_or}
 use Rattle.std.specs.Result.{result_ok}
-use Rattle.std.proofs.lemmas.Fmt.{decimal_injective}
-use Rattle.std.proofs.lemmas.Int.{ints}
-use Rattle.ele_moment.specs.declared.timestamp.Fields.{Fields}
 use Rattle.ele_moment.specs.Number.{SpellsNumber}
-use Rattle.ele_moment.specs.Spelled.{SpellsMoment, SpellsTimestamp, IsTimestamp, IsWorth, timestamp_text, last_moment}
-use Rattle.ele_moment.proofs.Timestamps.{fields_again}
-use Rattle.ele_moment.proofs.Moments.{short_number}
-use Rattle.std.proofs.lemmas.Bool.Decides.{nat_tests}
+use Rattle.ele_moment.specs.Spelled.{SpellsMoment}
 use Rattle.hex.specs.Hex.{decode_of}
 use Rattle.std.specs.Option.{option_map}
-use Rattle.ele_moment.specs.ReadFields.{fields_of}
 use Rattle.ele_time_path.proofs.Spelled.{one_path, spelled_faultless}
+use Rattle.ele_time_path.proofs.PathsAt.{at_faultless, one_at_fault}
+use Rattle.ele_script.proofs.Moments.{one_number, one_moment}
+use Rattle.ele_script.proofs.PathWords.{one_tagged, one_timed, one_source, faultless_tagged, faultless_source, one_tagged_word, one_source_fault}
 use Rattle.ele_script.specs.declared.fault.LineFault.{LineFault}
 use Rattle.ele_script.specs.declared.fault.LineFault.TheVariants.{BadMoment, Syntax}
 use Rattle.ele_policy.specs.declared.policy.Policy.{Policy as AnyPolicy}
 use Rattle.ele_policy.specs.declared.policy.Policy.TheVariants.{One, Safe}
 use Rattle.ele_policy.specs.Interval.{IsInterval}
 use Rattle.ele_script.specs.PolicyWord.{IsSafeWord, SpellsPolicy, IsPolicyForm, one, safe, IsPolicyFault, formless, no_interval}
-use Rattle.ele_script.specs.Value.{WordKind, NumberWord, MomentWord, PathWord, BytesWord, PolicyWord, Value, Number, Moment, Path, Bytes, Policy, word_kind, SpellsBytes, SpellsValue}
-use Rattle.ele_script.specs.LineFault.{fault_of_path}
+use Rattle.ele_script.specs.Value.{WordKind, NumberWord, MomentWord, PathWord, TaggedWord, TimedWord, SourceWord, BytesWord, PolicyWord, Value, Number, Moment, Path, Tagged, Timed, Source, Bytes, Policy, word_kind, SpellsBytes, SpellsValue}
+use Rattle.ele_script.specs.LineFault.{fault_of_path, fault_of_path_at}
 use Rattle.ele_script.specs.FirstFault.{IsOfKind, IsWordFault}
-
--- a word stands for one number
-one_number : (word : List ℕ) (m n : ℕ) → SpellsNumber word m → SpellsNumber word n → m ≡ n
-one_number word m n a b = decimal_injective m n a.fits b.fits (sym a.digits ∙ b.digits)
-
--- a date and time is worth one moment
-one_worth : (f : Fields) (m n : ℕ) → IsWorth f m → IsWorth f n → m ≡ n
-one_worth f m n a b =
-    let day : pos a.0 ≡ pos b.0 = sym a.1 ∙ b.1 in
-    let same : a.0 ≡ b.0 = omega (arith, ints) in
-    omega (arith, same, a.2, b.2)
 
 some_is : {A : Type 0} {x y : A} → ◌≡◌ {A = Option A} (Some x) (Some y) → x ≡ y
 some_is h = cc
-
-fields_of-text : (f : Fields) → IsTimestamp f → fields_of (timestamp_text f) ≡ Some f
-fields_of-text f is =
-    let most = is.date.day_in.1 in
-    let day : f.day < 100 = grind (arith, nat_tests) in
-    fields_again f (omega (arith, is.date.year_in.1)) (omega (arith, is.date.month_in.1)) day (omega (arith, is.hour)) (omega (arith, is.minute)) (omega (arith, is.second))
-
-one_timestamp : (word : List ℕ) (m n : ℕ) → SpellsTimestamp word m → SpellsTimestamp word n → m ≡ n
-one_timestamp word m n a b =
-    let same : a.fields ≡ b.fields = some_is (sym (fields_of-text a.fields a.is) ∙ ap fields_of (sym a.text ∙ b.text) ∙ fields_of-text b.fields b.is) in
-    one_worth a.fields m n a.worth (subst (λ f. IsWorth f n) (sym same) b.worth)
-
-no_both : {P : Type 0} (word : List ℕ) (m n : ℕ) → m ≤ last_moment → SpellsNumber word m → SpellsTimestamp word n → P
-no_both word m n le a b =
-    let short = short_number word m le a in
-    let long : length word ≡ 20 = ap length b.text in
-    absurd (omega (arith, short, long))
-
-one_moment : (word : List ℕ) (m n : ℕ) → SpellsMoment word m → SpellsMoment word n → m ≡ n
-one_moment word m n a b =
-    elim a.form [
-      | inl number ↦ elim b.form [ inl other ↦ one_number word m n number other | inr stamp ↦ no_both word m n a.in_range number stamp ]
-      | inr stamp ↦ elim b.form [ inl number ↦ no_both word n m b.in_range number stamp | inr other ↦ one_timestamp word m n stamp other ]
-    ]
 
 ok_is : {A E : Type 0} {x y : A} → ◌≡◌ {A = Result A E} (Ok x) (Ok y) → x ≡ y
 ok_is h = cc
@@ -120,6 +81,9 @@ pub one_value : (word : List ℕ) (a b : Value) → word_kind a ≡ word_kind b 
 one_value word (Number m) (Number n) k a b = ap Number (one_number word m n a b)
 one_value word (Moment m) (Moment n) k a b = ap Moment (one_moment word m n a b)
 one_value word (Path m) (Path n) k a b = ap Path (one_path word m n a b)
+one_value word (Tagged x) (Tagged y) k a b = ap Tagged (one_tagged word x y a b)
+one_value word (Timed x) (Timed y) k a b = ap Timed (one_timed word x y a b)
+one_value word (Source x) (Source y) k a b = ap Source (one_source word x y a b)
 one_value word (Bytes m) (Bytes n) k a b = ap Bytes (one_bytes word m n a b)
 one_value word (Policy m) (Policy n) k a b = ap Policy (one_policy word m n a b)
 one_value word _ _ k a b = absurd cc
@@ -133,6 +97,12 @@ faultless_word NumberWord word fault is bad = bad.1 is
 faultless_word MomentWord word fault is bad = bad.1 is
 faultless_word PathWord word fault (Path names, k, is) bad = none_is (ap (λ o. option_map fault_of_path o) (sym (spelled_faultless word names is)) ∙ bad)
 faultless_word PathWord word fault (value, k, is) bad = absurd cc
+faultless_word TaggedWord word fault (Tagged value, k, is) bad = faultless_tagged word value fault is bad
+faultless_word TaggedWord word fault (value, k, is) bad = absurd cc
+faultless_word TimedWord word fault (Timed value, k, is) bad = at_faultless word value bad.0 is bad.1
+faultless_word TimedWord word fault (value, k, is) bad = absurd cc
+faultless_word SourceWord word fault (Source value, k, is) bad = faultless_source word value fault is bad
+faultless_word SourceWord word fault (value, k, is) bad = absurd cc
 faultless_word BytesWord word fault is bad = bad.1 is
 faultless_word PolicyWord word fault (Policy policy, k, is) bad = faultless_policy word policy fault is bad
 faultless_word PolicyWord word fault (value, k, is) bad = absurd cc
@@ -142,6 +112,9 @@ pub one_word_fault : (kind : WordKind) (word : List ℕ) (a b : LineFault) → I
 one_word_fault NumberWord word a b x y = x.0 ∙ sym y.0
 one_word_fault MomentWord word a b x y = x.0 ∙ sym y.0
 one_word_fault PathWord word a b x y = some_is (sym x ∙ y)
+one_word_fault TaggedWord word a b x y = one_tagged_word word a b x y
+one_word_fault TimedWord word a b x y = x.2 ∙ ap fault_of_path_at (one_at_fault word x.0 y.0 x.1 y.1) ∙ sym y.2
+one_word_fault SourceWord word a b x y = one_source_fault word a b x y
 one_word_fault BytesWord word a b x y = x.0 ∙ sym y.0
 one_word_fault PolicyWord word a b x y = one_policy_fault word a b x y
 

@@ -10,7 +10,7 @@ use Rattle.std.proofs.lemmas.List.Quantifiers.{position-Some}
 use Rattle.std.proofs.lemmas.List.Splits.{length-slice_split}
 use Rattle.std.proofs.lemmas.List.Sums.{prefix_len_passes}
 use Rattle.ele_script.specs.declared.command.Command.{Command}
-use Rattle.ele_script.specs.declared.command.Command.TheVariants.{Clock, Tick, MakeDir, RemoveDir, Create, Link, Unlink, Rename, Undelete, OpenWrite, Write, Truncate, Close, Default, Clean, Read, Restorable, Due, Usage, Pass}
+use Rattle.ele_script.specs.declared.command.Command.TheVariants.{Clock, Tick, MakeDir, RemoveDir, Create, Link, Unlink, Rename, Undelete, OpenWrite, OpenRead, Write, Truncate, Close, Revert, Default, Clean, Read, Stat, Versions, ListNames, Restorable, Due, Usage, Pass}
 use Rattle.ele_script.specs.declared.fault.LineFault.TheVariants.{Syntax}
 use Rattle.ele_script.specs.Command.{command_words, kinds_behind}
 use Rattle.ele_script.specs.FirstFault.{IsFaultOfWords, no_command, IsFirstFault, not_worded, of_words}
@@ -173,12 +173,17 @@ most_words Unlink = lit≤ tt
 most_words Rename = lit≤ tt
 most_words Undelete = lit≤ tt
 most_words OpenWrite = lit≤ tt
+most_words OpenRead = lit≤ tt
 most_words Write = lit≤ tt
 most_words Truncate = lit≤ tt
 most_words Close = lit≤ tt
+most_words Revert = lit≤ tt
 most_words Default = lit≤ tt
 most_words Clean = lit≤ tt
 most_words Read = lit≤ tt
+most_words Stat = lit≤ tt
+most_words Versions = lit≤ tt
+most_words ListNames = lit≤ tt
 most_words Restorable = lit≤ tt
 most_words Due = lit≤ tt
 most_words Usage = lit≤ tt

@@ -1,8 +1,8 @@
 -- The commands: their words, and the kinds of words behind them.
 use Rattle.std.specs.Prelude.{ℕ, List, [], ◌∷◌, codes}
-use Rattle.ele_script.specs.Value.{WordKind, NumberWord, MomentWord, PathWord, BytesWord, PolicyWord}
+use Rattle.ele_script.specs.Value.{WordKind, NumberWord, MomentWord, PathWord, TaggedWord, TimedWord, SourceWord, BytesWord, PolicyWord}
 use Rattle.ele_script.specs.declared.command.Command.{Command}
-use Rattle.ele_script.specs.declared.command.Command.TheVariants.{Clock, Tick, MakeDir, RemoveDir, Create, Link, Unlink, Rename, Undelete, OpenWrite, Write, Truncate, Close, Default, Clean, Read, Restorable, Due, Usage, Pass}
+use Rattle.ele_script.specs.declared.command.Command.TheVariants.{Clock, Tick, MakeDir, RemoveDir, Create, Link, Unlink, Rename, Undelete, OpenWrite, OpenRead, Write, Truncate, Close, Revert, Default, Clean, Read, Stat, Versions, ListNames, Restorable, Due, Usage, Pass}
 
 -- the words that name a command
 abbrev pub command_words : Command → List (List ℕ)
@@ -16,12 +16,17 @@ command_words Unlink = codes "unlink" ∷ []
 command_words Rename = codes "rename" ∷ []
 command_words Undelete = codes "undelete" ∷ []
 command_words OpenWrite = codes "open" ∷ codes "write" ∷ []
+command_words OpenRead = codes "open" ∷ codes "read" ∷ []
 command_words Write = codes "write" ∷ []
 command_words Truncate = codes "truncate" ∷ []
 command_words Close = codes "close" ∷ []
+command_words Revert = codes "revert" ∷ []
 command_words Default = codes "default" ∷ []
 command_words Clean = codes "clean" ∷ []
 command_words Read = codes "read" ∷ []
+command_words Stat = codes "stat" ∷ []
+command_words Versions = codes "versions" ∷ []
+command_words ListNames = codes "list" ∷ []
 command_words Restorable = codes "restorable" ∷ []
 command_words Due = codes "due" ∷ []
 command_words Usage = codes "usage" ∷ []
@@ -39,12 +44,17 @@ kinds_behind Unlink = PathWord ∷ []
 kinds_behind Rename = PathWord ∷ PathWord ∷ []
 kinds_behind Undelete = PathWord ∷ []
 kinds_behind OpenWrite = PathWord ∷ []
+kinds_behind OpenRead = TaggedWord ∷ []
 kinds_behind Write = NumberWord ∷ NumberWord ∷ BytesWord ∷ []
 kinds_behind Truncate = NumberWord ∷ NumberWord ∷ []
 kinds_behind Close = NumberWord ∷ []
+kinds_behind Revert = PathWord ∷ NumberWord ∷ []
 kinds_behind Default = PathWord ∷ PolicyWord ∷ []
 kinds_behind Clean = []
-kinds_behind Read = NumberWord ∷ []
+kinds_behind Read = SourceWord ∷ []
+kinds_behind Stat = TaggedWord ∷ []
+kinds_behind Versions = TimedWord ∷ []
+kinds_behind ListNames = TimedWord ∷ []
 kinds_behind Restorable = []
 kinds_behind Due = []
 kinds_behind Usage = []

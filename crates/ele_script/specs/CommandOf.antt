@@ -3,12 +3,15 @@ use Rattle.std.specs.Prelude.{ℕ, List, [], ◌∷◌, Option, Some, None, code
 use Rattle.std.specs.Option.{option_map}
 use Rattle.std.specs.Str.{bytes_eq}
 use Rattle.ele_script.specs.declared.command.Command.{Command}
-use Rattle.ele_script.specs.declared.command.Command.TheVariants.{Clock, Tick, MakeDir, RemoveDir, Create, Link, Unlink, Rename, Undelete, OpenWrite, Write, Truncate, Close, Default, Clean, Read, Restorable, Due, Usage, Pass}
+use Rattle.ele_script.specs.declared.command.Command.TheVariants.{Clock, Tick, MakeDir, RemoveDir, Create, Link, Unlink, Rename, Undelete, OpenWrite, OpenRead, Write, Truncate, Close, Revert, Default, Clean, Read, Stat, Versions, ListNames, Restorable, Due, Usage, Pass}
 
 -- the command of one word that asks a question
 unfoldable pub question_command : List ℕ → Option Command
 question_command word =
     if bytes_eq word (codes "read") then Some Read else
+    if bytes_eq word (codes "stat") then Some Stat else
+    if bytes_eq word (codes "versions") then Some Versions else
+    if bytes_eq word (codes "list") then Some ListNames else
     if bytes_eq word (codes "due") then Some Due else
     if bytes_eq word (codes "usage") then Some Usage else
     None
@@ -39,6 +42,7 @@ one_word_command word =
     if bytes_eq word (codes "write") then Some Write else
     if bytes_eq word (codes "truncate") then Some Truncate else
     if bytes_eq word (codes "close") then Some Close else
+    if bytes_eq word (codes "revert") then Some Revert else
     if bytes_eq word (codes "default") then Some Default else
     if bytes_eq word (codes "clean") then Some Clean else
     if bytes_eq word (codes "pass") then Some Pass else
@@ -46,7 +50,10 @@ one_word_command word =
 
 -- the command of two words whose first is `open`
 unfoldable pub open_command : List ℕ → Option Command
-open_command word = if bytes_eq word (codes "write") then Some OpenWrite else None
+open_command word =
+    if bytes_eq word (codes "write") then Some OpenWrite else
+    if bytes_eq word (codes "read") then Some OpenRead else
+    None
 
 -- a command, and the words behind it
 abbrev pub before : List (List ℕ) → Option Command → Option (Command × List (List ℕ))

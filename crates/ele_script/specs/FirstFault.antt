@@ -6,8 +6,9 @@ use Rattle.ele_script.specs.declared.command.Command.{Command}
 use Rattle.ele_script.specs.declared.fault.LineFault.{LineFault}
 use Rattle.ele_script.specs.declared.fault.LineFault.TheVariants.{BadMoment, Syntax, LineTooLong}
 use Rattle.ele_script.specs.LineFault.{fault_of_path}
-use Rattle.ele_script.specs.Value.{WordKind, NumberWord, MomentWord, PathWord, BytesWord, PolicyWord, Value, word_kind, SpellsValue}
+use Rattle.ele_script.specs.Value.{WordKind, NumberWord, MomentWord, PathWord, TaggedWord, TimedWord, SourceWord, BytesWord, PolicyWord, Value, word_kind, SpellsValue}
 use Rattle.ele_script.specs.PolicyWord.{IsPolicyFault}
+use Rattle.ele_script.specs.PathWord.{IsTaggedWordFault, IsTimedWordFault, IsSourceFault}
 use Rattle.ele_script.specs.Command.{command_words, kinds_behind}
 use Rattle.ele_script.specs.Words.{words_of, is_worded}
 use Rattle.ele_script.specs.Spells.{SpellsLine}
@@ -24,6 +25,9 @@ abbrev pub IsWordFault : WordKind → List ℕ → LineFault → Type 0
 IsWordFault NumberWord word fault = (fault ≡ Syntax) × ¬ IsOfKind NumberWord word
 IsWordFault MomentWord word fault = (fault ≡ BadMoment) × ¬ IsOfKind MomentWord word
 IsWordFault PathWord word fault = option_map fault_of_path (path_fault word) ≡ Some fault
+IsWordFault TaggedWord word fault = IsTaggedWordFault word fault
+IsWordFault TimedWord word fault = IsTimedWordFault word fault
+IsWordFault SourceWord word fault = IsSourceFault word fault
 IsWordFault BytesWord word fault = (fault ≡ Syntax) × ¬ IsOfKind BytesWord word
 IsWordFault PolicyWord word fault = IsPolicyFault word fault
 

@@ -1,4 +1,5 @@
 pub mod PolicyWord
+pub mod PathWord
 pub mod Value
 pub mod Command
 pub mod CommandOf

@@ -2,6 +2,8 @@
 use Rattle.std.specs.Prelude.{ℕ, List, codes}
 use Rattle.ele_time_path.specs.declared.fault.PathFault.{PathFault}
 use Rattle.ele_time_path.specs.declared.fault.PathFault.TheVariants as path
+use Rattle.ele_time_path.specs.declared.fault.PathAtFault.{PathAtFault}
+use Rattle.ele_time_path.specs.declared.fault.PathAtFault.TheVariants as timed
 use Rattle.ele_world.specs.Answers.{stop_answer}
 use Rattle.ele_world.specs.declared.refusal.Stop.TheVariants as stop
 use Rattle.ele_script.specs.declared.fault.LineFault.{LineFault}
@@ -28,6 +30,11 @@ fault_of_path path.BadName = BadName
 fault_of_path path.BadPath = BadPath
 fault_of_path path.BadMoment = BadMoment
 fault_of_path path.NoMemory = NoMemory
+
+-- and of one whose path at a moment has it
+abbrev pub fault_of_path_at : PathAtFault → LineFault
+fault_of_path_at (timed.Path fault) = fault_of_path fault
+fault_of_path_at timed.Numbered = Syntax
 
 abbrev pub write_fault_answer : ℕ × List ℕ
 write_fault_answer = (35, codes "WriteFault")

@@ -2,20 +2,30 @@
 use Rattle.std.specs.Prelude.{◌≡◌, ℕ, List, ◌++◌, Bool, true, false}
 use Rattle.std.specs.List.{list_any}
 use Rattle.ele_script.specs.declared.command.Command.{Command}
-use Rattle.ele_script.specs.Value.{WordKind, NumberWord, MomentWord, PathWord, BytesWord, PolicyWord}
+use Rattle.ele_script.specs.declared.command.Command.TheVariants.{Read}
+use Rattle.ele_script.specs.Value.{WordKind, NumberWord, MomentWord, PathWord, TaggedWord, TimedWord, SourceWord, BytesWord, PolicyWord}
+use Rattle.ele_script.specs.PathWord.{begins_path}
 use Rattle.ele_script.specs.Command.{command_words, kinds_behind}
 
--- a path and bytes take memory, and nothing else does
+-- paths and bytes take memory, and nothing else does; a source may be a path
 abbrev pub takes_memory : WordKind → Bool
 takes_memory NumberWord = false
 takes_memory MomentWord = false
 takes_memory PathWord = true
+takes_memory TaggedWord = true
+takes_memory TimedWord = true
+takes_memory SourceWord = true
 takes_memory BytesWord = true
 takes_memory PolicyWord = false
+
+-- a path or bytes stand behind the command; behind `read` the word is looked at
+abbrev pub behind_takes : Command → List (List ℕ) → Bool
+behind_takes Read arguments = list_any begins_path arguments
+behind_takes command arguments = list_any takes_memory (kinds_behind command)
 
 -- the words begin with a command behind which a path or bytes stand
 pub record TakesMemory (words : List (List ℕ)) : Type 0 where
   pub command : Command
   pub arguments : List (List ℕ)
   pub are : words ≡ command_words command ++ arguments
-  pub takes : list_any takes_memory (kinds_behind command) ≡ true
+  pub takes : behind_takes command arguments ≡ true

@@ -10,8 +10,13 @@ use Rattle.ele_world.specs.declared.refusal.Refusal.{Refusal}
 use Rattle.ele_world.specs.declared.refusal.Refusal.TheVariants as refusal
 use Rattle.ele_world.specs.declared.refusal.Stop.{Stop}
 use Rattle.ele_world.specs.declared.reply.Reply.{Reply}
-use Rattle.ele_world.specs.declared.reply.Reply.TheVariants.{Done, Nothing, Now, Directory, File, Handle, Version, Closed, Removed, Bytes, RestoreList, DueList, UsageList, Refused}
+use Rattle.ele_world.specs.declared.reply.Reply.TheVariants.{Done, Nothing, Now, Directory, File, Handle, Version, Closed, Removed, Bytes, FileStat, DirStat, Rows, NameList, RestoreList, DueList, UsageList, Refused}
+use Rattle.ele_policy.specs.declared.policy.Policy.{Policy}
+use Rattle.ele_policy.specs.declared.policy.Policy.TheVariants as policy
 use Rattle.ele_world.specs.declared.rows.DeadName.{DeadName}
+use Rattle.ele_world.specs.declared.rows.DirectoryRow.{DirectoryRow}
+use Rattle.ele_world.specs.declared.rows.FileStat.{FileStat as AnyFileStat}
+use Rattle.ele_world.specs.declared.rows.Stamps.{Stamps}
 use Rattle.ele_world.specs.declared.rows.Target.{Target}
 use Rattle.ele_world.specs.declared.rows.Target.TheVariants as target
 use Rattle.ele_usage.specs.declared.usage.Usage.{Usage}
@@ -56,10 +61,49 @@ target_words (target.Directory directory) = codes "directory" ∷ decimal direct
 abbrev pub restorable_line : DeadName → List ℕ
 restorable_line dead = line_text (codes "-" ∷ decimal dead.directory ∷ dead.name ∷ target_words dead.target)
 
+-- the line of a name of a directory, and what it stands for
+abbrev pub name_line : List ℕ × Target → List ℕ
+name_line named = line_text (codes "-" ∷ named.0 ∷ target_words named.1)
+
+-- the text of names: how many, and a line for each
+abbrev pub names_text : List (List ℕ × Target) → List ℕ
+names_text names = line_text (codes "ok names" ∷ decimal (length names) ∷ []) ++ flat_map name_line names
+
 -- the text of names that may come back: how many, and a line for each
 abbrev pub restorable_text : List DeadName → List ℕ
 restorable_text names =
     line_text (codes "ok restorable" ∷ decimal (length names) ∷ []) ++ flat_map restorable_line names
+
+-- the word of an end: its moment, or `-` for none
+abbrev pub end_word : Option ℕ → List ℕ
+end_word None = codes "-"
+end_word (Some moment) = decimal moment
+
+-- the word of a policy
+abbrev pub policy_word : Policy → List ℕ
+policy_word policy.One = codes "one"
+policy_word (policy.Safe seconds) = codes "safe:" ++ decimal seconds
+
+-- the text of a file's version, with the policy of the file
+abbrev pub file_text : AnyFileStat → List ℕ
+file_text stat =
+    line_text (codes "ok file" ∷ decimal stat.file ∷ codes "version" ∷ decimal stat.stamps.number ∷ codes "opened" ∷ decimal stat.stamps.opened ∷ codes "closed" ∷ decimal stat.stamps.closed
+    ∷ codes "ended" ∷ end_word stat.stamps.ended ∷ codes "length" ∷ decimal stat.stamps.length ∷ codes "policy" ∷ policy_word stat.policy ∷ [])
+
+-- the text of a directory, with the policy that it gives
+abbrev pub directory_text : DirectoryRow → List ℕ
+directory_text row =
+    line_text (codes "ok directory" ∷ decimal row.id ∷ codes "default" ∷ policy_word row.default ∷ [])
+
+-- the line of a version: its number, when it was opened, closed and ended, and its length
+abbrev pub version_line : Stamps → List ℕ
+version_line stamps =
+    line_text (codes "-" ∷ decimal stamps.number ∷ decimal stamps.opened ∷ decimal stamps.closed ∷ end_word stamps.ended ∷ decimal stamps.length ∷ [])
+
+-- the text of versions: how many, and a line for each
+abbrev pub versions_text : List Stamps → List ℕ
+versions_text versions =
+    line_text (codes "ok versions" ∷ decimal (length versions) ∷ []) ++ flat_map version_line versions
 
 -- the line of a key that is due
 abbrev pub due_line : Key → List ℕ
@@ -109,6 +153,10 @@ IsReplyText (Version number) text = text ≡ line_text (codes "ok version" ∷ d
 IsReplyText (Closed made) text = text ≡ closed_text made
 IsReplyText (Removed key) text = text ≡ line_text (codes "ok removed" ∷ key_words key)
 IsReplyText (Bytes bytes) text = text ≡ bytes_text bytes
+IsReplyText (FileStat stat) text = text ≡ file_text stat
+IsReplyText (DirStat row) text = text ≡ directory_text row
+IsReplyText (Rows versions) text = text ≡ versions_text versions
+IsReplyText (NameList names) text = text ≡ names_text names
 IsReplyText (RestoreList names) text = text ≡ restorable_text names
 IsReplyText (DueList keys) text = text ≡ due_text keys
 IsReplyText (UsageList usages) text = text ≡ usage_text usages

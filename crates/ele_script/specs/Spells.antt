@@ -2,12 +2,11 @@
 use Rattle.std.specs.Prelude.{◌≡◌, ℕ, ◌≤◌, List, [], ◌∷◌, ◌++◌, length, true}
 use Rattle.ele_world.specs.declared.event.Event.{Event}
 use Rattle.ele_world.specs.declared.event.Event.TheVariants as event
-use Rattle.ele_world.specs.declared.event.Source.TheVariants.{Of}
 use Rattle.ele_script.specs.declared.command.Command.{Command}
-use Rattle.ele_script.specs.declared.command.Command.TheVariants.{Clock, Tick, MakeDir, RemoveDir, Create, Link, Unlink, Rename, Undelete, OpenWrite, Write, Truncate, Close, Default, Clean, Read, Restorable, Due, Usage, Pass}
+use Rattle.ele_script.specs.declared.command.Command.TheVariants.{Clock, Tick, MakeDir, RemoveDir, Create, Link, Unlink, Rename, Undelete, OpenWrite, OpenRead, Write, Truncate, Close, Revert, Default, Clean, Read, Stat, Versions, ListNames, Restorable, Due, Usage, Pass}
 use Rattle.ele_script.specs.declared.reading.Line.{Line}
 use Rattle.ele_script.specs.declared.reading.Line.TheVariants as asks
-use Rattle.ele_script.specs.Value.{Value, Number, Moment, Path, Bytes, Policy, SpellsValue}
+use Rattle.ele_script.specs.Value.{Value, Number, Moment, Path, Tagged, Timed, Source, Bytes, Policy, SpellsValue}
 use Rattle.ele_script.specs.Command.{command_words}
 use Rattle.ele_script.specs.Words.{words_of, is_worded}
 
@@ -23,12 +22,17 @@ parts_of (event.Unlink path) = (Unlink, Path path ∷ [])
 parts_of (event.Rename from to) = (Rename, Path from ∷ Path to ∷ [])
 parts_of (event.Undelete path) = (Undelete, Path path ∷ [])
 parts_of (event.OpenWrite path) = (OpenWrite, Path path ∷ [])
+parts_of (event.OpenRead tagged) = (OpenRead, Tagged tagged ∷ [])
 parts_of (event.Write handle offset bytes) = (Write, Number handle ∷ Number offset ∷ Bytes bytes ∷ [])
 parts_of (event.Truncate handle size) = (Truncate, Number handle ∷ Number size ∷ [])
 parts_of (event.Close handle) = (Close, Number handle ∷ [])
+parts_of (event.Revert path number) = (Revert, Path path ∷ Number number ∷ [])
 parts_of (event.SetDefault path policy) = (Default, Path path ∷ Policy policy ∷ [])
 parts_of event.CleanOne = (Clean, [])
-parts_of (event.Read (Of handle)) = (Read, Number handle ∷ [])
+parts_of (event.Read source) = (Read, Source source ∷ [])
+parts_of (event.Stat tagged) = (Stat, Tagged tagged ∷ [])
+parts_of (event.Versions timed) = (Versions, Timed timed ∷ [])
+parts_of (event.List timed) = (ListNames, Timed timed ∷ [])
 parts_of event.Restorable = (Restorable, [])
 parts_of event.Due = (Due, [])
 parts_of event.UsageAll = (Usage, [])

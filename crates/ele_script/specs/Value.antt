@@ -5,6 +5,12 @@ use Rattle.ele_moment.specs.Number.{SpellsNumber}
 use Rattle.ele_moment.specs.Spelled.{SpellsMoment}
 use Rattle.ele_policy.specs.declared.policy.Policy.{Policy as AnyPolicy}
 use Rattle.ele_time_path.specs.Path.{SpellsPath}
+use Rattle.ele_time_path.specs.Tagged.{SpellsTaggedPath}
+use Rattle.ele_time_path.specs.PathAt.{SpellsPathAt}
+use Rattle.ele_time_path.specs.declared.tagged.TaggedPath.{TaggedPath}
+use Rattle.ele_time_path.specs.declared.path_at.PathAt.{PathAt}
+use Rattle.ele_world.specs.declared.event.Source.{Source as AnySource}
+use Rattle.ele_world.specs.declared.event.Source.TheVariants as source
 use Rattle.ele_script.specs.PolicyWord.{SpellsPolicy}
 
 -- the kinds of words behind a command
@@ -12,6 +18,9 @@ pub data WordKind : Type 0 where
   NumberWord : WordKind
   MomentWord : WordKind
   PathWord : WordKind
+  TaggedWord : WordKind
+  TimedWord : WordKind
+  SourceWord : WordKind
   BytesWord : WordKind
   PolicyWord : WordKind
 
@@ -20,6 +29,9 @@ pub data Value : Type 0 where
   Number : ℕ → Value
   Moment : ℕ → Value
   Path : List (List ℕ) → Value
+  Tagged : TaggedPath → Value
+  Timed : PathAt → Value
+  Source : AnySource → Value
   Bytes : List ℕ → Value
   Policy : AnyPolicy → Value
 
@@ -28,6 +40,9 @@ abbrev pub word_kind : Value → WordKind
 word_kind (Number n) = NumberWord
 word_kind (Moment m) = MomentWord
 word_kind (Path names) = PathWord
+word_kind (Tagged tagged) = TaggedWord
+word_kind (Timed timed) = TimedWord
+word_kind (Source source) = SourceWord
 word_kind (Bytes bytes) = BytesWord
 word_kind (Policy policy) = PolicyWord
 
@@ -35,10 +50,18 @@ word_kind (Policy policy) = PolicyWord
 abbrev pub SpellsBytes : List ℕ → List ℕ → Type 0
 SpellsBytes word bytes = ((word ≡ codes "-") × (bytes ≡ [])) ⊎ ((0 < length word) × (decode_of word ≡ Ok bytes))
 
+-- the word is a path with a tag, or the number of a handle
+abbrev pub SpellsSource : List ℕ → AnySource → Type 0
+SpellsSource word (source.Tagged tagged) = SpellsTaggedPath word tagged
+SpellsSource word (source.Of handle) = SpellsNumber word handle
+
 -- the word stands for the value
 abbrev pub SpellsValue : List ℕ → Value → Type 0
 SpellsValue word (Number n) = SpellsNumber word n
 SpellsValue word (Moment m) = SpellsMoment word m
 SpellsValue word (Path names) = SpellsPath word names
+SpellsValue word (Tagged tagged) = SpellsTaggedPath word tagged
+SpellsValue word (Timed timed) = SpellsPathAt word timed
+SpellsValue word (Source source) = SpellsSource word source
 SpellsValue word (Bytes bytes) = SpellsBytes word bytes
 SpellsValue word (Policy policy) = SpellsPolicy word policy

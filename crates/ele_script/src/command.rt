@@ -16,12 +16,17 @@ pub(crate) enum Command {
     Rename,
     Undelete,
     OpenWrite,
+    OpenRead,
     Write,
     Truncate,
     Close,
+    Revert,
     Default,
     Clean,
     Read,
+    Stat,
+    Versions,
+    ListNames,
     Restorable,
     Due,
     Usage,
@@ -64,6 +69,9 @@ fn read_one(word: &[u8]) -> Option<Command>
     }
     if word == b"close".as_slice() {
         return Some(Command::Close);
+    }
+    if word == b"revert".as_slice() {
+        return Some(Command::Revert);
     }
     if word == b"default".as_slice() {
         return Some(Command::Default);
@@ -122,6 +130,15 @@ fn read_question(word: &[u8]) -> Option<Command>
     if word == b"read".as_slice() {
         return Some(Command::Read);
     }
+    if word == b"stat".as_slice() {
+        return Some(Command::Stat);
+    }
+    if word == b"versions".as_slice() {
+        return Some(Command::Versions);
+    }
+    if word == b"list".as_slice() {
+        return Some(Command::ListNames);
+    }
     if word == b"due".as_slice() {
         return Some(Command::Due);
     }
@@ -138,6 +155,9 @@ fn read_open(word: &[u8]) -> Option<Command>
 {
     if word == b"write".as_slice() {
         return Some(Command::OpenWrite);
+    }
+    if word == b"read".as_slice() {
+        return Some(Command::OpenRead);
     }
     None
 }

@@ -1,9 +1,9 @@
 //! What is wrong with a line, and a writer that refuses. A contract sees each fault as itself.
 ghost use Rattle.std.specs.Prelude.{◌≡◌};
-ghost use Rattle.ele_script.specs.LineFault.{fault_number, fault_name, write_fault_number, write_fault_name, fault_of_path};
+ghost use Rattle.ele_script.specs.LineFault.{fault_number, fault_name, write_fault_number, write_fault_name, fault_of_path, fault_of_path_at};
 ghost use Rattle.ele_script.specs.declared.fault.LineFault.TheVariants.{BadLadder, NoMemory};
 
-use ele_time_path::PathFault;
+use ele_time_path::{PathAtFault, PathFault};
 use std::alloc::AllocError;
 use thiserror::Error;
 
@@ -90,6 +90,17 @@ impl From<PathFault> for LineFault {
             PathFault::BadPath => LineFault::BadPath,
             PathFault::BadMoment => LineFault::BadMoment,
             PathFault::NoMemory => LineFault::NoMemory,
+        }
+    }
+}
+
+impl From<PathAtFault> for LineFault {
+    ghost from_gives = { λ timed fault. fault ≡ fault_of_path_at timed };
+
+    fn from(fault: PathAtFault) -> LineFault {
+        match fault {
+            PathAtFault::Path(fault) => LineFault::from(fault),
+            PathAtFault::Numbered => LineFault::Syntax,
         }
     }
 }

@@ -2,6 +2,7 @@
 //! more. A contract sees lines and replies as bytes.
 #![tactic(auto)]
 
+mod asking;
 mod command;
 mod fault;
 mod output;
@@ -9,6 +10,7 @@ mod paths;
 mod putting;
 mod reading;
 mod refusal;
+mod rows;
 mod word;
 mod writing;
 

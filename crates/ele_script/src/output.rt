@@ -1,6 +1,7 @@
 //! Bytes on their way to a writer, which takes them many at a time. A contract sees a writer as the
 //! bytes that it is known to hold, and an output as the bytes that are held for it.
 ghost use Rattle.std.specs.Prelude.{◌≡◌, ◌∷◌, [], map, OnOk, OnErr};
+ghost use Rattle.std.specs.List.{join_with_byte};
 ghost use Rattle.std.specs.Io.KnownBytes.{Appends};
 ghost use Rattle.ele_script.specs.Front.{AppendsFront};
 ghost use Rattle.ele_script.specs.Outlet.{outlet, HandsOver, Puts};
@@ -107,11 +108,26 @@ pub(crate) fn put_line<W: Write>(
         (outlet (W.contents writer.new) output.new)
         (line_text (first.now ∷ map (λ word. word.now) words.now)) result }
 {
+    put_words(first, words, output, writer)?;
+    output.put(b"\n", writer)
+}
+
+/// Puts words with a space between each two.
+pub(crate) fn put_words<W: Write>(
+    first: &[u8],
+    words: &[&[u8]],
+    output: &mut Output,
+    writer: &mut W,
+) -> Result<(), WriteFault>
+    ensures { Puts (outlet (W.contents writer.old) output.old)
+        (outlet (W.contents writer.new) output.new)
+        (join_with_byte 32 (first.now ∷ map (λ word. word.now) words.now)) result }
+{
     output.put(first, writer)?;
     for word in words {
         put_word(word, output, writer)?;
     }
-    output.put(b"\n", writer)
+    Ok(())
 }
 
 /// Puts a space and a word.

@@ -1,4 +1,4 @@
-//! Reading what stands behind a command that takes paths alone. A contract sees words as their bytes,
+//! Reading what stands behind a command about what a path names. A contract sees words as their bytes,
 //! and an event as itself.
 ghost use Rattle.std.specs.Prelude.{◌≡◌, ◌∷◌, [], ◌⊎◌, map, IfOk, IfErr};
 ghost use Rattle.ele_time_path.specs.Path.{SpellsPath};
@@ -11,7 +11,7 @@ use crate::fault::LineFault;
 use crate::reading::Line;
 use crate::word;
 use ele_time_path::Path;
-use ele_world::Event;
+use ele_world::{Event, VersionNo};
 use std::alloc::Global;
 
 /// `mkdir P`, of which the command is read.
@@ -118,6 +118,44 @@ pub(crate) fn open_write(alloc: Global, arguments: &[&[u8]]) -> Result<Line, Lin
         return Err(LineFault::Syntax);
     };
     Ok(Line::Event(Event::OpenWrite(word::path(alloc, path)?)))
+}
+
+/// `open read T`, of which the command is read.
+pub(crate) fn open_read(alloc: Global, arguments: &[&[u8]]) -> Result<Line, LineFault>
+    ensures found { IfOk result
+        (SpellsBehind Command.OpenRead (map (λ word. word.now) arguments.now)) }
+    ensures fault { IfErr result (λ fault. (fault ≡ LineFault.NoMemory)
+        ⊎ IsFaultBehind Command.OpenRead (map (λ word. word.now) arguments.now) fault) }
+{
+    let [tagged] = arguments else {
+        return Err(LineFault::Syntax);
+    };
+    Ok(Line::Event(Event::OpenRead(word::tagged(alloc, tagged)?)))
+}
+
+/// `revert P V`, of which the command is read.
+pub(crate) fn revert(alloc: Global, arguments: &[&[u8]]) -> Result<Line, LineFault>
+    ensures found { IfOk result
+        (SpellsBehind Command.Revert (map (λ word. word.now) arguments.now)) }
+    ensures fault { IfErr result (λ fault. (fault ≡ LineFault.NoMemory)
+        ⊎ IsFaultBehind Command.Revert (map (λ word. word.now) arguments.now) fault) }
+{
+    match arguments {
+        [path, number] => revert_of(alloc, path, number),
+        _ => Err(LineFault::Syntax),
+    }
+}
+
+/// `revert P V`, of which the command is read and the words are counted.
+fn revert_of(alloc: Global, path: &[u8], number: &[u8]) -> Result<Line, LineFault>
+    ensures found { IfOk result
+        (SpellsBehind Command.Revert (path.now ∷ number.now ∷ [])) }
+    ensures fault { IfErr result (λ fault. (fault ≡ LineFault.NoMemory)
+        ⊎ IsFaultBehind Command.Revert (path.now ∷ number.now ∷ []) fault) }
+{
+    let path = word::path(alloc, path)?;
+    let number = VersionNo(word::number(number)?);
+    Ok(Line::Event(Event::Revert(path, number)))
 }
 
 /// Two paths, the first of which is read first.

@@ -8,6 +8,7 @@ ghost use Rattle.hex.specs.Hex.{encode_lower};
 use crate::fault::{LineFault, WriteFault};
 use crate::output::{Output, put_line};
 use crate::refusal::put_refusal;
+use crate::rows::{put_directory, put_file, put_names, put_versions};
 use ele_world::{DeadName, Key, PassEnd, Reply, Stop, Target, Usage, VersionNo};
 use itoa::Buffer;
 use std::io::Write;
@@ -83,6 +84,10 @@ pub fn put_answer<W: Write>(
         Reply::Closed(made) => put_closed(*made, output, writer),
         Reply::Removed(key) => put_key(b"ok removed", *key, output, writer),
         Reply::Bytes(bytes) => put_bytes(bytes.as_slice(), output, writer),
+        Reply::FileStat(stat) => put_file(stat, output, writer),
+        Reply::DirStat(row) => put_directory(row, output, writer),
+        Reply::Rows(versions) => put_versions(versions.as_slice(), output, writer),
+        Reply::NameList(names) => put_names(names.as_slice(), output, writer),
         Reply::RestoreList(names) => put_dead_names(names.as_slice(), output, writer),
         Reply::DueList(keys) => put_keys(keys.as_slice(), output, writer),
         Reply::UsageList(usages) => put_usages(usages, output, writer),
@@ -119,7 +124,7 @@ fn put_closed<W: Write>(
     }
 }
 
-fn put_number<W: Write>(
+pub(crate) fn put_number<W: Write>(
     first: &[u8],
     number: u64,
     output: &mut Output,

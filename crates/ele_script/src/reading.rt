@@ -1,19 +1,21 @@
 //! Reading lines. A contract sees a line as its bytes, and an event as itself.
 ghost use Rattle.std.specs.Prelude.{◌≡◌, ◌<◌, ◌∷◌, [], ◌⊎◌, ℕ, map, length, true, false, IfOk, IfErr, IfSome, IsSome, None, Ok, Err};
-ghost use Rattle.std.specs.List.{list_any, position};
-ghost use Rattle.ele_script.specs.Command.{kinds_behind};
-ghost use Rattle.ele_script.specs.Memory.{takes_memory, TakesMemory};
+ghost use Rattle.std.specs.List.{position};
+ghost use Rattle.ele_script.specs.Memory.{behind_takes, TakesMemory};
 ghost use Rattle.ele_script.specs.Words.{words_of, is_worded, ends_word};
 ghost use Rattle.ele_script.specs.Spells.{Spells, SpellsLine, SpellsWords, SpellsBehind};
 ghost use Rattle.ele_script.specs.EventOf.{event_of};
 ghost use Rattle.ele_script.specs.FirstFault.{IsFirstFault, IsEventFault, IsFaultOfWords, IsFaultBehind};
 
+use crate::asking::{due, list, read, restorable, stat, usage, versions};
 use crate::command::{Command, read_command};
 use crate::fault::LineFault;
-use crate::paths::{create, link, make_dir, open_write, remove_dir, rename, undelete, unlink};
+use crate::paths::{
+    create, link, make_dir, open_read, open_write, remove_dir, rename, revert, undelete, unlink,
+};
 use crate::word;
 use arrayvec::ArrayVec;
-use ele_world::{Event, Handle, Source};
+use ele_world::{Event, Handle};
 use std::alloc::Global;
 
 /// What a line of a script asks for.
@@ -147,7 +149,7 @@ fn line_behind(alloc: Global, command: Command, arguments: &[&[u8]]) -> Result<L
     ensures fault { IfErr result (λ fault. (fault ≡ LineFault.NoMemory)
         ⊎ IsFaultBehind command (map (λ word. word.now) arguments.now) fault) }
     ensures memory { result ≡ Err LineFault.NoMemory
-        → list_any takes_memory (kinds_behind command) ≡ true }
+        → behind_takes command (map (λ word. word.now) arguments.now) ≡ true }
 {
     match command {
         Command::Clock => clock(arguments),
@@ -160,12 +162,17 @@ fn line_behind(alloc: Global, command: Command, arguments: &[&[u8]]) -> Result<L
         Command::Rename => rename(alloc, arguments),
         Command::Undelete => undelete(alloc, arguments),
         Command::OpenWrite => open_write(alloc, arguments),
+        Command::OpenRead => open_read(alloc, arguments),
         Command::Write => write(alloc, arguments),
         Command::Truncate => truncate(arguments),
         Command::Close => close(arguments),
+        Command::Revert => revert(alloc, arguments),
         Command::Default => set_default(alloc, arguments),
         Command::Clean => clean(arguments),
-        Command::Read => read(arguments),
+        Command::Read => read(alloc, arguments),
+        Command::Stat => stat(alloc, arguments),
+        Command::Versions => versions(alloc, arguments),
+        Command::ListNames => list(alloc, arguments),
         Command::Restorable => restorable(arguments),
         Command::Due => due(arguments),
         Command::Usage => usage(arguments),
@@ -297,58 +304,6 @@ fn clean(arguments: &[&[u8]]) -> Result<Line, LineFault>
         return Err(LineFault::Syntax);
     }
     Ok(Line::Event(Event::CleanOne))
-}
-
-/// `read H`, of which the command is read.
-fn read(arguments: &[&[u8]]) -> Result<Line, LineFault>
-    ensures found { IfOk result
-        (SpellsBehind Command.Read (map (λ word. word.now) arguments.now)) }
-    ensures fault { IfErr result
-        (IsFaultBehind Command.Read (map (λ word. word.now) arguments.now)) }
-{
-    let [handle] = arguments else {
-        return Err(LineFault::Syntax);
-    };
-    Ok(Line::Event(Event::Read(Source::Of(Handle(word::number(handle)?)))))
-}
-
-/// `restorable`, of which the command is read.
-fn restorable(arguments: &[&[u8]]) -> Result<Line, LineFault>
-    ensures found { IfOk result
-        (SpellsBehind Command.Restorable (map (λ word. word.now) arguments.now)) }
-    ensures fault { IfErr result
-        (IsFaultBehind Command.Restorable (map (λ word. word.now) arguments.now)) }
-{
-    if !arguments.is_empty() {
-        return Err(LineFault::Syntax);
-    }
-    Ok(Line::Event(Event::Restorable))
-}
-
-/// `due`, of which the command is read.
-fn due(arguments: &[&[u8]]) -> Result<Line, LineFault>
-    ensures found { IfOk result
-        (SpellsBehind Command.Due (map (λ word. word.now) arguments.now)) }
-    ensures fault { IfErr result
-        (IsFaultBehind Command.Due (map (λ word. word.now) arguments.now)) }
-{
-    if !arguments.is_empty() {
-        return Err(LineFault::Syntax);
-    }
-    Ok(Line::Event(Event::Due))
-}
-
-/// `usage`, of which the command is read.
-fn usage(arguments: &[&[u8]]) -> Result<Line, LineFault>
-    ensures found { IfOk result
-        (SpellsBehind Command.Usage (map (λ word. word.now) arguments.now)) }
-    ensures fault { IfErr result
-        (IsFaultBehind Command.Usage (map (λ word. word.now) arguments.now)) }
-{
-    if !arguments.is_empty() {
-        return Err(LineFault::Syntax);
-    }
-    Ok(Line::Event(Event::UsageAll))
 }
 
 /// `pass N`, of which the command is read.

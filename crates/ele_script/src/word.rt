@@ -1,17 +1,20 @@
 //! The words behind a command. A contract sees a word as its bytes, and what it spells as itself.
-ghost use Rattle.std.specs.Prelude.{◌≡◌, ◌⊎◌, ℕ, IfOk, IfErr, IfSome, IfNone};
+ghost use Rattle.std.specs.Prelude.{◌≡◌, ◌⊎◌, ℕ, true, Err, IfOk, IfErr, IfSome, IfNone};
 ghost use Rattle.ele_moment.specs.Number.{SpellsNumber};
 ghost use Rattle.ele_moment.specs.Spelled.{SpellsMoment};
 ghost use Rattle.ele_time_path.specs.Path.{SpellsPath};
-ghost use Rattle.ele_script.specs.Value.{NumberWord, MomentWord, PathWord, BytesWord, PolicyWord, SpellsBytes};
+ghost use Rattle.ele_time_path.specs.Tagged.{SpellsTaggedPath};
+ghost use Rattle.ele_time_path.specs.PathAt.{SpellsPathAt};
+ghost use Rattle.ele_script.specs.Value.{NumberWord, MomentWord, PathWord, TaggedWord, TimedWord, SourceWord, BytesWord, PolicyWord, SpellsBytes, SpellsSource};
 ghost use Rattle.ele_script.specs.PolicyWord.{SpellsPolicy, IsSafeWord};
+ghost use Rattle.ele_script.specs.PathWord.{begins_path};
 ghost use Rattle.ele_script.specs.FirstFault.{IsWordFault};
 
 use crate::fault::LineFault;
 use ele_moment::{Moment, read_number};
 use ele_policy::{Interval, Policy};
-use ele_time_path::Path;
-use ele_world::ByteList;
+use ele_time_path::{Path, PathAt, TaggedPath};
+use ele_world::{ByteList, Handle, Source};
 use std::alloc::Global;
 
 /// A number.
@@ -37,6 +40,47 @@ pub(crate) fn path(alloc: Global, word: &[u8]) -> Result<Path, LineFault>
         (λ fault. (fault ≡ LineFault.NoMemory) ⊎ IsWordFault PathWord word.now fault) }
 {
     Ok(Path::read(alloc, word)?)
+}
+
+/// A path with a tag.
+pub(crate) fn tagged(alloc: Global, word: &[u8]) -> Result<TaggedPath, LineFault>
+    ensures found { IfOk result (SpellsTaggedPath word.now) }
+    ensures fault { IfErr result
+        (λ fault. (fault ≡ LineFault.NoMemory) ⊎ IsWordFault TaggedWord word.now fault) }
+{
+    Ok(TaggedPath::read(alloc, word)?)
+}
+
+/// A path at a moment.
+pub(crate) fn path_at(alloc: Global, word: &[u8]) -> Result<PathAt, LineFault>
+    ensures found { IfOk result (SpellsPathAt word.now) }
+    ensures fault { IfErr result
+        (λ fault. (fault ≡ LineFault.NoMemory) ⊎ IsWordFault TimedWord word.now fault) }
+{
+    Ok(PathAt::read(alloc, word)?)
+}
+
+/// A path with a tag, which begins with a slash, or else a handle.
+pub(crate) fn source(alloc: Global, word: &[u8]) -> Result<Source, LineFault>
+    ensures found { IfOk result (SpellsSource word.now) }
+    ensures fault { IfErr result
+        (λ fault. (fault ≡ LineFault.NoMemory) ⊎ IsWordFault SourceWord word.now fault) }
+    ensures memory { result ≡ Err LineFault.NoMemory → begins_path word.now ≡ true }
+{
+    if begins_path(word) {
+        return Ok(Source::Tagged(tagged(alloc, word)?));
+    }
+    Ok(Source::Of(Handle(number(word)?)))
+}
+
+/// Whether a slash stands in front.
+fn begins_path(word: &[u8]) -> bool
+    ensures { result ≡ begins_path word.now }
+{
+    match word {
+        [first, ..] => *first == b'/',
+        [] => false,
+    }
 }
 
 /// Bytes: `-` for none, or hexadecimal digits.

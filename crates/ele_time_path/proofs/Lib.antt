@@ -3,3 +3,4 @@ pub mod Pieces
 pub mod Spelled
 pub mod Tags
 pub mod TaggedFaults
+pub mod PathsAt

@@ -2,4 +2,5 @@ pub mod Path
 pub mod FirstFault
 pub mod Tagged
 pub mod TaggedFault
+pub mod PathAt
 pub mod Begins

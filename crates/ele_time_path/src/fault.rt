@@ -1,6 +1,7 @@
 //! Why a word is no path, or no path with a tag. A contract sees a fault as the fault.
 ghost use Rattle.std.specs.Prelude.{◌≡◌};
 ghost use Rattle.ele_time_path.specs.declared.fault.PathFault.TheVariants.{NoMemory};
+ghost use Rattle.ele_time_path.specs.declared.fault.PathAtFault.TheVariants.{Path};
 
 use std::alloc::AllocFailed;
 use thiserror::Error;
@@ -28,5 +29,24 @@ impl<T: Drop> From<AllocFailed<T>> for PathFault {
 
     fn from(_refused: AllocFailed<T>) -> PathFault {
         PathFault::NoMemory
+    }
+}
+
+/// Why a word was not read as a path at a moment.
+#[derive(Clone, Copy, Debug, PartialEq, Eq, Error)]
+pub enum PathAtFault {
+    /// It is no path, or no path with a tag.
+    #[error("not a path at a moment")]
+    Path(PathFault),
+    /// `#` stands behind the path.
+    #[error("a number behind a path")]
+    Numbered,
+}
+
+impl From<PathFault> for PathAtFault {
+    ghost from_gives = { λ path fault. fault ≡ Path path };
+
+    fn from(fault: PathFault) -> PathAtFault {
+        PathAtFault::Path(fault)
     }
 }

@@ -7,7 +7,7 @@ mod path;
 mod path_at;
 mod tagged;
 
-pub use fault::PathFault;
+pub use fault::{PathAtFault, PathFault};
 pub use path::Path;
 pub use path_at::PathAt;
 pub use tagged::{Tag, TaggedPath};

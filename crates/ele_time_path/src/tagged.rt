@@ -66,7 +66,7 @@ impl TaggedPath {
 }
 
 // How many bytes stand before the first mark of a tag, or in all.
-fn path_length(word: &[u8]) -> usize
+pub(crate) fn path_length(word: &[u8]) -> usize
     ensures { result ≡ position_or_len is_mark word.now }
 {
     match mark_in(word) {

@@ -7,7 +7,7 @@ use ele_world::Limits;
 use std::fs;
 
 /// The scripts under the largest limits, each NAME.script with its NAME.output.
-const ROWS: [&str; 37] = [
+const ROWS: [&str; 55] = [
     "first_run",
     "empty_script",
     "write_of_no_bytes",
@@ -45,10 +45,28 @@ const ROWS: [&str; 37] = [
     "a_draft_is_read",
     "many_versions_of_a_file",
     "passes_and_their_budgets",
+    "a_session_that_writes_nothing",
+    "a_draft_beside_closed_versions",
+    "two_versions_closed_at_one_moment",
+    "a_read_at_the_moment_of_an_end",
+    "a_renamed_file_is_read_at_moments",
+    "a_name_given_to_another_file",
+    "a_renamed_directory_at_moments",
+    "a_link_comes_back_and_is_listed",
+    "stats_and_lists_at_moments",
+    "the_future_is_refused_first",
+    "a_removed_version_is_forgotten",
+    "forgotten_with_and_without_a_number",
+    "two_readers_of_a_version",
+    "a_reader_keeps_a_version_of_an_unlinked_file",
+    "a_reader_outlives_the_last_name",
+    "a_reader_does_not_write",
+    "a_file_is_reverted",
+    "reverts_and_drafts",
 ];
 
 /// Scripts under limits of their own: events, files, directories, names, versions, handles, groups, members, marks.
-const LIMITED: [(&str, [u64; 9]); 14] = [
+const LIMITED: [(&str, [u64; 9]); 16] = [
     ("full_history", [1, 9, 9, 9, 9, 9, 9, 9, 9]),
     ("pass_fills_the_history", [6, 9, 9, 9, 9, 9, 9, 9, 9]),
     (
@@ -71,7 +89,9 @@ const LIMITED: [(&str, [u64; 9]); 14] = [
     ),
     ("versions_limit", [99, 9, 9, 9, 2, 9, 9, 9, 9]),
     ("versions_limit_of_undelete", [9, 9, 9, 9, 2, 9, 9, 9, 9]),
+    ("versions_limit_of_revert", [9, 9, 9, 9, 2, 9, 9, 9, 9]),
     ("handles_limit", [9, 9, 9, 9, 9, 1, 9, 9, 9]),
+    ("handles_limit_of_readers", [9, 9, 9, 9, 9, 1, 9, 9, 9]),
 ];
 
 /// What the script prints.

@@ -1,23 +1,10 @@
-use Rattle.std.proofs.Common.{map, arith}
-use Rattle.ele_script.proofs.Known.{front_more, puts_err_at, puts_last, sent_none, sent_more, sent_front}
-use Rattle.ele_script.proofs.Lines.{line_is, behind_here, behind_end}
+use Rattle.std.proofs.Common.{◌∷◌, []}
+use Rattle.ele_script.proofs.Known.{front_more, puts_err_at, puts_then}
 use Rattle.ele_script.proofs.output.put_line.Goals as goal
 
-pub returns-in_err-put : goal.returns-in_err-put
-returns-in_err-put g c =
-    puts_err_at _ _ _ c.from_residual.result c.from_residual.ensures.0 (rw (line_is c.args.first.now (map (λ word. word.now) c.args.words.now)) (front_more _ _ c.args.first.now _ c.in_err-put.ensures))
-
-pub loop-word-init : goal.loop-word-init
-loop-word-init g c = sent_more _ _ _ _ _ _ _ (sent_none _ _) (line_is c.args.first.now (map (λ word. word.now) c.args.words.now)) c.in_ok-put.ensures
-
-pub returns-in_err-put_word : goal.returns-in_err-put_word
-returns-in_err-put_word g c =
-    puts_err_at _ _ _ c.from_residual-in_err-put_word.result c.from_residual-in_err-put_word.ensures.0 (sent_front _ _ _ _ _ _ _ c.loop-word.invariant (behind_here (λ word. word.now) c.args.words.now c.loop-word.word-index _ (omega arith)) c.in_err-put_word.ensures)
-
-pub loop-word-preserved : goal.loop-word-preserved
-loop-word-preserved g c =
-    sent_more _ _ _ _ _ _ _ c.loop-word.invariant (behind_here (λ word. word.now) c.args.words.now c.loop-word.word-index _ (omega arith)) c.in_ok-put_word.ensures
+pub returns-in_err-put_words : goal.returns-in_err-put_words
+returns-in_err-put_words g c =
+    puts_err_at _ _ _ c.from_residual.result c.from_residual.ensures.0 (front_more _ _ _ (10 ∷ []) c.in_err-put_words.ensures)
 
 pub returns : goal.returns
-returns g c =
-    puts_last _ _ _ _ _ _ c.put-2.result c.loop-word.invariant (behind_end (λ word. word.now) c.args.words.now c.loop-word.word-index c.loop-word-test.false) c.put-2.ensures
+returns g c = puts_then _ _ _ _ (10 ∷ []) c.put.result c.in_ok-put_words.ensures c.put.ensures

@@ -1,0 +1,49 @@
+-- Words of numbers and moments: each one number or one moment.
+use Rattle.std.proofs.Common.{◌≡◌, ℕ, ◌<◌, ◌≤◌, List, length, sym, ap, subst, ◌∙◌, arith, inl, inr, Option, Some, pos}
+use Rattle.std.proofs.lemmas.Fmt.{decimal_injective}
+use Rattle.std.proofs.lemmas.Int.{ints}
+use Rattle.std.proofs.lemmas.Bool.Decides.{nat_tests}
+use Rattle.ele_moment.specs.declared.timestamp.Fields.{Fields}
+use Rattle.ele_moment.specs.Number.{SpellsNumber}
+use Rattle.ele_moment.specs.ReadFields.{fields_of}
+use Rattle.ele_moment.specs.Spelled.{SpellsMoment, SpellsTimestamp, IsTimestamp, IsWorth, timestamp_text, last_moment}
+use Rattle.ele_moment.proofs.Timestamps.{fields_again}
+use Rattle.ele_moment.proofs.Moments.{short_number}
+
+-- a word stands for one number
+pub one_number : (word : List ℕ) (m n : ℕ) → SpellsNumber word m → SpellsNumber word n → m ≡ n
+one_number word m n a b = decimal_injective m n a.fits b.fits (sym a.digits ∙ b.digits)
+
+-- a date and time is worth one moment
+one_worth : (f : Fields) (m n : ℕ) → IsWorth f m → IsWorth f n → m ≡ n
+one_worth f m n a b =
+    let day : pos a.0 ≡ pos b.0 = sym a.1 ∙ b.1 in
+    let same : a.0 ≡ b.0 = omega (arith, ints) in
+    omega (arith, same, a.2, b.2)
+
+some_is : {A : Type 0} {x y : A} → ◌≡◌ {A = Option A} (Some x) (Some y) → x ≡ y
+some_is h = cc
+
+fields_of-text : (f : Fields) → IsTimestamp f → fields_of (timestamp_text f) ≡ Some f
+fields_of-text f is =
+    let most = is.date.day_in.1 in
+    let day : f.day < 100 = grind (arith, nat_tests) in
+    fields_again f (omega (arith, is.date.year_in.1)) (omega (arith, is.date.month_in.1)) day (omega (arith, is.hour)) (omega (arith, is.minute)) (omega (arith, is.second))
+
+one_timestamp : (word : List ℕ) (m n : ℕ) → SpellsTimestamp word m → SpellsTimestamp word n → m ≡ n
+one_timestamp word m n a b =
+    let same : a.fields ≡ b.fields = some_is (sym (fields_of-text a.fields a.is) ∙ ap fields_of (sym a.text ∙ b.text) ∙ fields_of-text b.fields b.is) in
+    one_worth a.fields m n a.worth (subst (λ f. IsWorth f n) (sym same) b.worth)
+
+no_both : {P : Type 0} (word : List ℕ) (m n : ℕ) → m ≤ last_moment → SpellsNumber word m → SpellsTimestamp word n → P
+no_both word m n le a b =
+    let short = short_number word m le a in
+    let long : length word ≡ 20 = ap length b.text in
+    absurd (omega (arith, short, long))
+
+pub one_moment : (word : List ℕ) (m n : ℕ) → SpellsMoment word m → SpellsMoment word n → m ≡ n
+one_moment word m n a b =
+    elim a.form [
+      | inl number ↦ elim b.form [ inl other ↦ one_number word m n number other | inr stamp ↦ no_both word m n a.in_range number stamp ]
+      | inr stamp ↦ elim b.form [ inl number ↦ no_both word n m b.in_range number stamp | inr other ↦ one_timestamp word m n stamp other ]
+    ]

@@ -1,0 +1,26 @@
+-- What is wrong with a word where a path stands with a tag or at a moment, or a handle in its place.
+use Rattle.std.specs.Prelude.{◌≡◌, ℕ, ◌==◌, Bool, true, false, List, [], ◌∷◌}
+use Rattle.ele_moment.specs.Number.{SpellsNumber}
+use Rattle.ele_time_path.specs.TaggedFault.{IsTaggedFault}
+use Rattle.ele_time_path.specs.PathAt.{IsPathAtFault}
+use Rattle.ele_time_path.specs.declared.fault.PathFault.{PathFault}
+use Rattle.ele_time_path.specs.declared.fault.PathAtFault.{PathAtFault}
+use Rattle.ele_script.specs.declared.fault.LineFault.{LineFault}
+use Rattle.ele_script.specs.declared.fault.LineFault.TheVariants.{Syntax}
+use Rattle.ele_script.specs.LineFault.{fault_of_path, fault_of_path_at}
+
+abbrev pub IsTaggedWordFault : List ℕ → LineFault → Type 0
+IsTaggedWordFault word fault = (bad : PathFault) × IsTaggedFault word bad × (fault ≡ fault_of_path bad)
+
+abbrev pub IsTimedWordFault : List ℕ → LineFault → Type 0
+IsTimedWordFault word fault = (bad : PathAtFault) × IsPathAtFault word bad × (fault ≡ fault_of_path_at bad)
+
+-- a slash (47) stands in front
+abbrev pub begins_path : List ℕ → Bool
+begins_path [] = false
+begins_path (byte ∷ bytes) = byte == 47
+
+-- a word with a slash in front is at fault as a path with a tag, and any other is no number
+pub data IsSourceFault (word : List ℕ) (fault : LineFault) : Type 0 where
+  of_tagged : begins_path word ≡ true → IsTaggedWordFault word fault → IsSourceFault word fault
+  of_handle : begins_path word ≡ false → ((handle : ℕ) → ¬ SpellsNumber word handle) → fault ≡ Syntax → IsSourceFault word fault

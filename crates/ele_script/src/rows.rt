@@ -1,0 +1,209 @@
+//! Putting what is told of versions, directories and names. A contract sees each as itself, and the
+//! output with its writer as an outlet.
+ghost use Rattle.std.specs.Prelude.{◌≡◌, ◌∷◌, [], ◌++◌, map, decimal, codes};
+ghost use Rattle.ele_script.specs.Outlet.{outlet, Puts};
+ghost use Rattle.ele_script.specs.Printed.{line_text, end_word, policy_word, file_text, directory_text, version_line, versions_text, name_line, names_text};
+
+use crate::fault::WriteFault;
+use crate::output::{Output, put_line, put_words};
+use crate::putting::put_number;
+use ele_moment::{Moment, Name};
+use ele_policy::Policy;
+use ele_world::{DirectoryRow, FileStat, Stamps, Target};
+use itoa::Buffer;
+use std::io::Write;
+
+/// Puts the line of a file's version.
+pub(crate) fn put_file<W: Write>(
+    stat: &FileStat,
+    output: &mut Output,
+    writer: &mut W,
+) -> Result<(), WriteFault>
+    ensures { Puts (outlet (W.contents writer.old) output.old)
+        (outlet (W.contents writer.new) output.new) (file_text stat.now) result }
+{
+    let stamps = stat.stamps;
+    let mut file = Buffer::new();
+    let mut number = Buffer::new();
+    let mut opened = Buffer::new();
+    let mut closed = Buffer::new();
+    let mut ended = Buffer::new();
+    let mut length = Buffer::new();
+    let file = file.format(stat.file.0).as_bytes();
+    let number = number.format(stamps.number.0).as_bytes();
+    let opened = opened.format(stamps.opened.seconds()).as_bytes();
+    let closed = closed.format(stamps.closed.seconds()).as_bytes();
+    let ended = end_digits(stamps.ended, &mut ended);
+    let length = length.format(stamps.length).as_bytes();
+    let words: [&[u8]; 12] = [
+        file, b"version", number, b"opened", opened, b"closed", closed, b"ended", ended, b"length",
+        length, b"policy",
+    ];
+    put_with_policy(b"ok file", &words, stat.policy, output, writer)
+}
+
+/// Puts the line of a directory.
+pub(crate) fn put_directory<W: Write>(
+    row: &DirectoryRow,
+    output: &mut Output,
+    writer: &mut W,
+) -> Result<(), WriteFault>
+    ensures { Puts (outlet (W.contents writer.old) output.old)
+        (outlet (W.contents writer.new) output.new) (directory_text row.now) result }
+{
+    let mut directory = Buffer::new();
+    let directory = directory.format(row.id.0).as_bytes();
+    put_with_policy(
+        b"ok directory",
+        &[directory, b"default"],
+        row.default,
+        output,
+        writer,
+    )
+}
+
+/// Puts the line of these words and a policy.
+fn put_with_policy<W: Write>(
+    first: &[u8],
+    words: &[&[u8]],
+    policy: Policy,
+    output: &mut Output,
+    writer: &mut W,
+) -> Result<(), WriteFault>
+    ensures { Puts (outlet (W.contents writer.old) output.old)
+        (outlet (W.contents writer.new) output.new)
+        (line_text (first.now ∷ map (λ word. word.now) words.now ++ policy_word policy ∷ []))
+        result }
+{
+    put_words(first, words, output, writer)?;
+    put_policy(policy, output, writer)
+}
+
+/// Puts a policy as the last word of a line.
+fn put_policy<W: Write>(
+    policy: Policy,
+    output: &mut Output,
+    writer: &mut W,
+) -> Result<(), WriteFault>
+    ensures { Puts (outlet (W.contents writer.old) output.old)
+        (outlet (W.contents writer.new) output.new)
+        ((32 ∷ policy_word policy) ++ 10 ∷ []) result }
+{
+    match policy {
+        Policy::One => output.put(b" one\n", writer),
+        Policy::Safe(interval) => put_safe(interval.seconds(), output, writer),
+    }
+}
+
+/// Puts `safe:` and so many seconds as the last word of a line.
+fn put_safe<W: Write>(seconds: u64, output: &mut Output, writer: &mut W) -> Result<(), WriteFault>
+    ensures { Puts (outlet (W.contents writer.old) output.old)
+        (outlet (W.contents writer.new) output.new)
+        ((codes " safe:" ++ decimal seconds) ++ 10 ∷ []) result }
+{
+    let mut digits = Buffer::new();
+    output.put(b" safe:", writer)?;
+    put_line(digits.format(seconds).as_bytes(), &[], output, writer)
+}
+
+/// An end in text.
+fn end_digits<'d>(ended: Option<Moment>, digits: &'d mut Buffer) -> &'d [u8]
+    ensures { result.now ≡ end_word ended }
+{
+    match ended {
+        Some(moment) => digits.format(moment.seconds()).as_bytes(),
+        None => b"-",
+    }
+}
+
+pub(crate) fn put_versions<W: Write>(
+    versions: &[Stamps],
+    output: &mut Output,
+    writer: &mut W,
+) -> Result<(), WriteFault>
+    ensures { Puts (outlet (W.contents writer.old) output.old)
+        (outlet (W.contents writer.new) output.new) (versions_text versions.now) result }
+{
+    put_number(b"ok versions", versions.len() as u64, output, writer)?;
+    for stamps in versions {
+        put_version(stamps, output, writer)?;
+    }
+    Ok(())
+}
+
+/// Puts the line of a version among those of its file.
+fn put_version<W: Write>(
+    stamps: &Stamps,
+    output: &mut Output,
+    writer: &mut W,
+) -> Result<(), WriteFault>
+    ensures { Puts (outlet (W.contents writer.old) output.old)
+        (outlet (W.contents writer.new) output.new) (version_line stamps.now) result }
+{
+    let mut number = Buffer::new();
+    let mut opened = Buffer::new();
+    let mut closed = Buffer::new();
+    let mut ended = Buffer::new();
+    let mut length = Buffer::new();
+    let number = number.format(stamps.number.0).as_bytes();
+    let opened = opened.format(stamps.opened.seconds()).as_bytes();
+    let closed = closed.format(stamps.closed.seconds()).as_bytes();
+    let ended = end_digits(stamps.ended, &mut ended);
+    let length = length.format(stamps.length).as_bytes();
+    put_line(
+        b"-",
+        &[number, opened, closed, ended, length],
+        output,
+        writer,
+    )
+}
+
+pub(crate) fn put_names<W: Write>(
+    names: &[(Name, Target)],
+    output: &mut Output,
+    writer: &mut W,
+) -> Result<(), WriteFault>
+    ensures { Puts (outlet (W.contents writer.old) output.old)
+        (outlet (W.contents writer.new) output.new) (names_text names.now) result }
+{
+    put_number(b"ok names", names.len() as u64, output, writer)?;
+    for named in names {
+        put_name(named, output, writer)?;
+    }
+    Ok(())
+}
+
+/// Puts the line of a name of a directory.
+fn put_name<W: Write>(
+    named: &(Name, Target),
+    output: &mut Output,
+    writer: &mut W,
+) -> Result<(), WriteFault>
+    ensures { Puts (outlet (W.contents writer.old) output.old)
+        (outlet (W.contents writer.new) output.new) (name_line named.now) result }
+{
+    let name = named.0.bytes();
+    match named.1 {
+        Target::File(file) => put_named_target(name, b"file", file.0, output, writer),
+        Target::Directory(directory) => {
+            put_named_target(name, b"directory", directory.0, output, writer)
+        }
+    }
+}
+
+/// Puts the line of a name that stands for a target of this kind and number.
+fn put_named_target<W: Write>(
+    name: &[u8],
+    kind: &[u8],
+    target: u64,
+    output: &mut Output,
+    writer: &mut W,
+) -> Result<(), WriteFault>
+    ensures { Puts (outlet (W.contents writer.old) output.old)
+        (outlet (W.contents writer.new) output.new)
+        (line_text (codes "-" ∷ name.now ∷ kind.now ∷ decimal target ∷ [])) result }
+{
+    let mut number = Buffer::new();
+    let number = number.format(target).as_bytes();
+    put_line(b"-", &[name, kind, number], output, writer)
+}
