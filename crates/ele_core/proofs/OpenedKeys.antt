@@ -1,5 +1,5 @@
 -- Which keys the versions have, once a handle was opened or closed.
-use Rattle.std.proofs.Common.{◌≡◌, ℕ, ◌+◌, Bool, true, false, cond, not, ◌&&◌, ◌||◌, ◌==◌, List, [], ◌∷◌, Option, Some, None, refl, ap, sym, ◌∙◌, arith}
+use Rattle.std.proofs.Common.{◌≡◌, ℕ, ◌+◌, Bool, true, false, cond, not, ◌&&◌, ◌||◌, ◌==◌, List, [], ◌∷◌, Option, Some, None, Ok, refl, ap, sym, ◌∙◌, arith}
 use Rattle.std.specs.List.{list_any}
 use Rattle.std.proofs.lemmas.Bool.Decides.{nat_tests}
 use Rattle.ele_core.proofs.Asked.{ripe_told}
@@ -14,8 +14,13 @@ use Rattle.ele_world.specs.Change.{OpenHandle, ShutHandle, StartDraft, after_cha
 use Rattle.ele_world.specs.Due.{ripe_at, is_moment}
 use Rattle.ele_world.specs.World.{World, is_draft, is_handle, is_open, reads_by, reads_version}
 use Rattle.ele_world.specs.declared.rows.Reads.TheVariants.{Draft, Version}
-use Rattle.ele_world.proofs.NameMoments.{ripe_at_plain}
-use Rattle.ele_world.proofs.OpenMoments.{open_more, open_still, opened_others, opened_own, shut_others, shut_own}
+use Rattle.ele_world.proofs.OpenMoments.{opened_others, opened_own, read_moment, shut_others, shut_own}
+use Rattle.ele_world.proofs.OpenStays.{has_row}
+use Rattle.ele_lists.proofs.Found.{any-found}
+use Rattle.ele_policy.specs.Ripe.{Beside}
+
+abbrev nothing_beside : Beside
+nothing_beside = record { newer = []; live = false }
 
 -- a handle that writes touches no key
 pub opened_queue : (rows : Rows) (file : ℕ) → IsQueued (world_of rows) rows.queue → IsQueued (with_rows (world_of rows) (opened_by rows.files file rows.moment)) rows.queue
@@ -70,3 +75,47 @@ read_queue rows handle file number after queued edited =
     (rw (opened_own w handle (Version file number) file number own) (taken_key w file number rows.queue queued (free_moment rows.files file number) (ripe_told rows file number) after edited)) where
       apart_reads : (f n : ℕ) → ((f == file) && (n == number)) ≡ false → reads_version f n (Version file number) ≡ false
       apart_reads f n apart = grind (arith, nat_tests)
+
+-- the close of a handle that read gives it back, unless another reads on
+module _ (rows : Rows) (handle file number : ℕ) (reads : reads_by rows.files.handles handle ≡ Ok (Version file number)) (queued : IsQueued (world_of rows) rows.queue) where
+  abbrev w : World
+  w = world_of rows
+
+  abbrev v : World
+  v = after_change w (ShutHandle handle)
+
+  abbrev free : Option ℕ
+  free = free_moment rows.files file number
+
+  told : ripe_at w file number ≡ cond (is_open w.handles file number) None free
+  told = ripe_told rows file number
+
+  is_read : is_open w.handles file number ≡ true
+  is_read =
+      let its = has_row w handle (Version file number) reads in
+      any-found (is_handle handle) (λ row. reads_version file number row.reads) w.handles its.row its.found (rw its.its (grind (arith, nat_tests)))
+
+  others : (f n : ℕ) → ((f == file) && (n == number)) ≡ false → ripe_at v f n ≡ ripe_at w f n
+  others f n apart = shut_others w handle (Version file number) reads f n (grind (arith, nat_tests))
+
+  before : ripe_at w file number ≡ None
+  before = told ∙ rw is_read refl
+
+  -- the last one has closed
+  pub unread_queue : (after : List Key) → is_open v.handles file number ≡ false → IsRekeyed file number None free rows.queue after → IsQueued v after
+  unread_queue after unread came =
+      let own : ripe_at v file number ≡ free = shut_own w handle file number nothing_beside ∙ rw unread refl in
+      entry_follows w v rows.queue after queued file number others (rw (before, own) came)
+
+  -- another reads on
+  pub read_on_queue : (between after : List Key) → is_open v.handles file number ≡ true → IsRekeyed file number None free rows.queue between → IsRekeyed file number free None between after → IsQueued v after
+  read_on_queue between after still came went =
+      let own : ripe_at v file number ≡ None = read_moment v file number still in
+      entry_follows w v rows.queue after queued file number others
+      (rw (before, own) (λ k. put_back w file number rows.queue queued free told is_read between after came went k ∙ by (its_key k) (has_key k rows.queue))) where
+        its_key : Key → Bool
+        its_key k = (k.file == file) && (k.number == number)
+
+        by : (e h : Bool) → h ≡ ((e && false) || (not (e && false) && h))
+        by true h = refl
+        by false h = refl

@@ -97,10 +97,11 @@ fn unread(
     let moment = free_moment(&rows.files, file, number, &mut rows.meter);
     put(&mut rows.queue, file, number, moment)?;
     rows.files.leave(handle);
-    if rows.files.is_open(file, number) {
-        let others = free_moment(&rows.files, file, number, &mut rows.meter);
-        take(&mut rows.queue, file, number, others);
+    if !rows.files.is_open(file, number) {
+        return Ok(Reply::Closed(None));
     }
+    let moment = free_moment(&rows.files, file, number, &mut rows.meter);
+    take(&mut rows.queue, file, number, moment);
     Ok(Reply::Closed(None))
 }
 

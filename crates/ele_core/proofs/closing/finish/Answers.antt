@@ -82,7 +82,7 @@ pub returns-in-Err-clause-tracked : goal.returns-in-Err-clause-tracked
 returns-in-Err-clause-tracked c = rw c.in-Err.ensures.err (record {
   queue = taken_back (world_of c.args.rows.now) c.args.file 0 [] c.requires.sound.formed (file_there (world_of c.args.rows.now) c.args.handle c.args.file c.requires.reads c.args.opened c.requires.changed c.requires.sound.formed) c.args.rows.now.queue c.take.new.queue c.requires.sound.tracked.queue
       (λ j. c.take.ensures j ∙ ap (λ b. not (is_new c.new_keys-keys.result j) && b) (c.in_ok-put.ensures.ok j)
-      ∙ ap (λ keys. not (is_new keys j) && (is_new keys j || has_key j c.args.rows.now.queue)) (c.new_keys-keys.ensures.keys ∙ ap (new_keys c.args.rows.now.files c.args.file c.args.rows.now.moment) c.is_live-is_live.ensures)));
+      ∙ ap (λ keys. not (is_new keys j) && (is_new keys j || has_key j c.args.rows.now.queue)) (c.new_keys-keys.ensures.keys ∙ ap (new_keys c.args.rows.now.files c.args.file c.args.rows.now.moment) c.is_live-is_live.ensures));
   book = c.requires.sound.tracked.book;
   bounds = c.requires.sound.tracked.bounds;
 })
