@@ -1,7 +1,7 @@
--- The row of a log that lived at a moment, and the version that a tag means, as the log shows it.
-use Rattle.std.proofs.Common.{◌≡◌, ℕ, ◌≤◌, ◌-◌, ◌&&◌, eqb, nat_le, nat_lt, Bool, true, false, cond, List, [], ◌∷◌, map, filter, Option, Some, None, Err, refl, ap, sym, ◌∙◌, arith, find}
+-- The version that a tag means, as the log of its file shows it.
+use Rattle.std.proofs.Common.{◌≡◌, ℕ, ◌-◌, ◌&&◌, eqb, nat_lt, Bool, true, false, cond, List, [], ◌∷◌, map, filter, Option, Some, None, Err, refl, ap, sym, ◌∙◌, arith, find}
 use Rattle.std.specs.List.{AllByRecursion, flat_map}
-use Rattle.std.specs.Option.{IsSomeAnd, option_map, option_map_or, option_or}
+use Rattle.std.specs.Option.{option_map, option_map_or, option_or}
 use Rattle.std.specs.Result.{result_map_both}
 use Rattle.std.proofs.lemmas.Bool.{false≢true}
 use Rattle.std.proofs.lemmas.Bool.Decides.{nat_tests}
@@ -13,13 +13,11 @@ use Rattle.ele_files.specs.declared.file.File.{File}
 use Rattle.ele_files.proofs.Rows.{file_of, next-found, tagged}
 use Rattle.ele_files.proofs.Stock.{logs_live, row_lives}
 use Rattle.ele_inode_log.specs.declared.row.VersionRow as log
-use Rattle.ele_inode_log.specs.Rows.{AreInOrder, Precedes, ends_after, has_closed_by, is_before, is_numbered, lives_at}
-use Rattle.ele_lists.specs.Last.{last_passing, passing}
-use Rattle.ele_lists.proofs.Alls.{later-weaker}
+use Rattle.ele_inode_log.specs.Rows.{has_closed_by, is_before, is_numbered, lives_at}
+use Rattle.ele_lists.specs.Last.{last_passing}
 use Rattle.ele_lists.proofs.Buckets.{filter-buckets}
 use Rattle.ele_lists.proofs.Edits.{all-found, found_passes}
 use Rattle.ele_lists.proofs.Filters.{find-filter}
-use Rattle.ele_lists.proofs.Lasts.{find_last}
 use Rattle.ele_lists.proofs.Shown.{find-map}
 use Rattle.ele_sessions.specs.Sessions.{AllSessions}
 use Rattle.ele_time_path.specs.declared.tagged.Tag.{Tag}
@@ -32,20 +30,6 @@ use Rattle.ele_world.specs.World.{is_version}
 use Rattle.ele_world.specs.declared.refusal.Refusal.{Refusal}
 use Rattle.ele_world.specs.declared.refusal.Refusal.TheVariants.{NoVersion}
 use Rattle.ele_world.specs.declared.rows.VersionRow.{VersionRow}
-
--- a row that ended by the closing of another doesn't live when that one had closed
-over : (o : Option ℕ) (closed t : ℕ) → IsSomeAnd o (λ ended. ended ≤ closed) → nat_le closed t ≡ true → option_map_or (λ ended. nat_lt t ended) o true ≡ false
-over None closed t ended by = absurd ended
-over (Some ended) closed t le by = grind (arith, nat_tests)
-
--- so the last that had closed lives, or none does
-pub living_is : (t : ℕ) (rows : List log.VersionRow) → AreInOrder rows → find (lives_at t) rows ≡ passing (ends_after t) (last_passing (has_closed_by t) rows)
-living_is t rows in_order = find_last (has_closed_by t) (ends_after t) rows
-    (later-weaker Precedes (λ x y. has_closed_by t x ≡ true → has_closed_by t y ≡ true → ends_after t x ≡ false) rows (λ x y before a b. over x.ended y.closed t before.ended b) in_order.order)
-
--- so what the log tells of the moment follows from the last that had closed
-pub living_told : (f : File) (t : ℕ) (o : Option log.VersionRow) → AreInOrder f.log.rows → o ≡ last_passing (has_closed_by t) f.log.rows → row_living f t ≡ told_or_forgotten (passing (ends_after t) o) o
-living_told f t o in_order is = rw (living_is t f.log.rows in_order, is) refl
 
 -- ---- the last that passes, through a filter and a map
 

@@ -135,11 +135,14 @@ impl InodeLog {
         Some(row)
     }
 
-    /// The last row of a version that had closed by the moment.
+    /// The last row of a version that had closed by the moment. If any version lives at the moment,
+    /// it is this one.
     pub fn closed_by(&self, moment: Moment, meter: &mut Meter) -> Option<&VersionRow>
         requires { meter.old < 2 ^ 63 }
         ensures row { option_copied result
             ≡ last_passing (has_closed_by moment) self.now.rows }
+        ensures lives { find (lives_at moment) self.now.rows
+            ≡ passing (ends_after moment) (option_copied result) }
         ensures order { AreInOrder self.now.rows }
         ensures read { meter.new ≡ meter.old + (if is_some result then 1 else 0) }
     {

@@ -1,20 +1,16 @@
 use Rattle.std.proofs.Common.{◌+◌, cond, Option, ap, sym, ◌∙◌}
 use Rattle.std.specs.Prelude.{is_some}
 use Rattle.std.specs.Option.{option_map}
-use Rattle.ele_lists.specs.Last.{passing}
 use Rattle.ele_lists.proofs.Alls.{all-place}
 use Rattle.ele_lists.proofs.Shown.{is_some-copied}
 use Rattle.ele_inode_log.specs.declared.row.VersionRow.{VersionRow}
-use Rattle.ele_inode_log.specs.Rows.{has_closed_by, ends_after}
-use Rattle.ele_inode_log.proofs.Order.{last-is_some, lives-is_last, lives_alone}
+use Rattle.ele_inode_log.specs.Rows.{has_closed_by}
+use Rattle.ele_inode_log.proofs.Order.{last-is_some, lives_alone}
 use Rattle.ele_inode_log.proofs.log.InodeLog.at.Goals as goal
 
 -- the version that the search for the last closing gives
 pub returns-clause-number : goal.returns-clause-number
-returns-clause-number c =
-    c.number_at.ensures
-    ∙ ap (λ (o : Option VersionRow). option_map (λ row. row.number) (passing (ends_after c.args.moment) o)) c.closed_by.ensures.row
-    ∙ ap (λ (o : Option VersionRow). option_map (λ row. row.number) o) (sym (lives-is_last c.args.moment c.args.self.now.rows c.closed_by.ensures.order.order))
+returns-clause-number c = c.number_at.ensures ∙ ap (λ (o : Option VersionRow). option_map (λ row. row.number) o) (sym c.closed_by.ensures.lives)
 
 pub returns-clause-only : goal.returns-clause-only
 returns-clause-only c = λ k d h lives.
