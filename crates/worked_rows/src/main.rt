@@ -7,7 +7,7 @@ use ele_world::Limits;
 use std::fs;
 
 /// The scripts under the largest limits, each NAME.script with its NAME.output.
-const ROWS: [&str; 55] = [
+const ROWS: [&str; 56] = [
     "first_run",
     "empty_script",
     "write_of_no_bytes",
@@ -21,6 +21,7 @@ const ROWS: [&str; 55] = [
     "directories",
     "a_path_of_32_directories",
     "a_new_directory_takes_the_policy_of_its_parent",
+    "a_forgotten_version_is_refused",
     "a_file_comes_back",
     "names_come_back",
     "names_that_come_and_go",
