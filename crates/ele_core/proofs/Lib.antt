@@ -15,3 +15,4 @@ pub mod ClosedSums
 pub mod DroppedFiles
 pub mod Revived
 pub mod Unlinked
+pub mod ToldVersions
