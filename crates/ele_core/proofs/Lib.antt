@@ -16,3 +16,4 @@ pub mod DroppedFiles
 pub mod Revived
 pub mod Unlinked
 pub mod OpenedKeys
+pub mod ToldVersions

@@ -6,6 +6,7 @@ ghost use Rattle.ele_world.specs.Usage.{usages};
 ghost use Rattle.ele_world.specs.declared.event.Event.TheVariants as event;
 ghost use Rattle.ele_world.specs.declared.event.Source.TheVariants as source;
 ghost use Rattle.ele_world.specs.declared.rows.Target.TheVariants.{File, Directory};
+ghost use Rattle.ele_world.specs.WellFormed.{IsThere};
 ghost use Rattle.ele_world.specs.World.{next_of, policy_for};
 ghost use Rattle.ele_core.specs.Inside.{world_of, IsTracked, IsSound};
 ghost use Rattle.ele_core.specs.Told.{told};
@@ -84,11 +85,21 @@ pub fn stat(rows: &mut Rows, tagged: &TaggedPath) -> Reply
     ensures step { (result, world_of rows.new) ≡ step (world_of rows.old) (event.Stat tagged.now) }
     ensures tracked { IsTracked rows.new }
 {
-    let tag = tagged.tag();
-    let target = match walk_meant(rows, tagged.path(), tag) {
-        Ok(target) => target,
-        Err(refusal) => return Reply::Refused(refusal),
-    };
+    let found = walk_meant(rows, tagged.path(), tagged.tag());
+    match found {
+        Ok(target) => stat_target(rows, target, tagged.tag()),
+        Err(refusal) => Reply::Refused(refusal),
+    }
+}
+
+/// What is told of what a path led to.
+fn stat_target(rows: &mut Rows, target: Target, tag: Tag) -> Reply
+    requires sound { IsSound rows.old }
+    requires there { IsThere rows.old.files.files target }
+    requires meter { rows.old.meter ≡ 0 }
+    ensures told { result ≡ told (stat_of (world_of rows.old) target tag) }
+    ensures rows { rows.new ≡ record rows.old { meter = rows.new.meter } }
+{
     match target {
         Target::File(file) => stat_file(rows, file, tag),
         Target::Directory(id) => stat_directory(rows, id, tag),

@@ -1,0 +1,125 @@
+-- Where a path leads by the names of any moment, and what is told of the version that its tag means.
+use Rattle.std.proofs.Common.{◌≡◌, ℕ, ◌<◌, Bool, true, false, cond, ◌&&◌, List, [], ◌∷◌, length, Option, Some, None, Result, Ok, Err, refl, ap, sym, subst, ◌∙◌, nat_lt}
+use Rattle.std.specs.Prelude.{find, unwrap_or}
+use Rattle.std.specs.List.{AllByRecursion}
+use Rattle.std.specs.Option.{option_map, option_map_or}
+use Rattle.std.specs.Result.{result_map_both}
+use Rattle.ele_content.specs.Content.{content_of}
+use Rattle.ele_core.specs.Told.{found_of, told}
+use Rattle.ele_lists.specs.Lists.{AllLater}
+use Rattle.ele_lists.proofs.Edits.{all-found}
+use Rattle.ele_time_path.specs.declared.path_at.PathAt.{PathAt}
+use Rattle.ele_time_path.specs.declared.tagged.Tag.{Tag}
+use Rattle.ele_time_path.specs.declared.tagged.Tag.TheVariants as tag
+use Rattle.ele_time_path.specs.declared.tagged.TaggedPath.{TaggedPath}
+use Rattle.ele_world.specs.NameRows.{covers, is_named, target_at}
+use Rattle.ele_world.specs.Plan.{found_outcome}
+use Rattle.ele_world.specs.Step.{step, version_cells}
+use Rattle.ele_world.specs.Tagged.{version_at, version_found, version_meant, walk_meant, walk_then, moment_of}
+use Rattle.ele_world.specs.Told.{file_stat, listing, stamps_of}
+use Rattle.ele_world.specs.Walk.{directory_in, file_at, walk_now}
+use Rattle.ele_world.specs.WalkAt.{walk_at, walk_covering}
+use Rattle.ele_world.specs.WellFormed.{ArePlaced, IsNameRow, IsThere}
+use Rattle.ele_world.specs.World.{World, is_version, policy_for, root}
+use Rattle.ele_world.specs.declared.event.Event.TheVariants.{List as ListNames, Read}
+use Rattle.ele_world.specs.declared.event.Source.TheVariants.{Tagged}
+use Rattle.ele_world.specs.declared.refusal.Refusal.{Refusal}
+use Rattle.ele_world.specs.declared.refusal.Refusal.TheVariants.{Future, NoEntry}
+use Rattle.ele_world.specs.declared.reply.Reply.{Reply}
+use Rattle.ele_world.specs.declared.reply.Reply.TheVariants.{Bytes, FileStat, NameList}
+use Rattle.ele_world.specs.declared.rows.NameRow.{NameRow}
+use Rattle.ele_world.specs.declared.rows.Stamps.{Stamps}
+use Rattle.ele_world.specs.declared.rows.Target.{Target}
+use Rattle.ele_world.specs.declared.rows.Target.TheVariants.{File, Directory}
+use Rattle.ele_world.specs.declared.rows.VersionRow.{VersionRow}
+use Rattle.ele_world.proofs.Meant.{is_at, is_meant}
+use Rattle.ele_world.proofs.Versions.{IsFound, all_found}
+use Rattle.ele_world.proofs.Walks.{file_there}
+
+-- ---- where a path leads is there
+
+module _ (w : World) (each : AllByRecursion (IsNameRow w.files w.now) w.names) where
+  covered_there : (moment directory : ℕ) (name : List ℕ) (target : Target) → target_at w.names moment directory name ≡ Some target → IsThere w.files target
+  covered_there moment directory name target h = by (find (λ row. is_named directory name row && covers moment row) w.names) refl h where
+    by : (o : Option NameRow) → find (λ row. is_named directory name row && covers moment row) w.names ≡ o → option_map (λ (row : NameRow). row.target) o ≡ Some target → IsThere w.files target
+    by None e h = absurd cc
+    by (Some row) e h =
+        let same : row.target ≡ target = cc in
+        let is : IsNameRow w.files w.now row = all-found (λ row. is_named directory name row && covers moment row) (IsNameRow w.files w.now) w.names row e each in
+        subst (IsThere w.files) same is.there
+
+  walked_there : (moment : ℕ) (at target : Target) (names : List (List ℕ)) → IsThere w.files at → walk_covering w.names moment at names ≡ Ok target → IsThere w.files target
+  walked_there moment at target [] so h = let same : at ≡ target = cc in subst (IsThere w.files) same so
+  walked_there moment (File file) target (name ∷ names) so h = absurd cc
+  walked_there moment (Directory directory) target (name ∷ names) so h =
+      go (λ next so. walked_there moment next target names so) (target_at w.names moment directory name) refl h where
+        go : ((next : Target) → IsThere w.files next → walk_covering w.names moment next names ≡ Ok target → IsThere w.files target) → (o : Option Target) → target_at w.names moment directory name ≡ o → option_map_or (λ target. walk_covering w.names moment target names) o (Err NoEntry) ≡ Ok target → IsThere w.files target
+        go onward None e h = absurd cc
+        go onward (Some next) e h = onward next (covered_there moment directory name next e) h
+
+  now_there : (path : List (List ℕ)) (target : Target) → walk_now w.names path ≡ Ok target → IsThere w.files target
+  now_there path (File file) h = file_there w.files w.now w.names path file each (ap file_at h)
+  now_there path (Directory directory) h = tt
+
+  pub meant_there : (path : List (List ℕ)) (t : Tag) (target : Target) → walk_meant w path t ≡ Ok target → IsThere w.files target
+  meant_there path tag.Now target h = now_there path target h
+  meant_there path (tag.Number number) target h = now_there path target h
+  meant_there path (tag.At moment) target h = by (nat_lt w.now moment) h where
+    by : (b : Bool) → cond b (Err Future) (walk_covering w.names moment (Directory root) path) ≡ Ok target → IsThere w.files target
+    by true h = absurd cc
+    by false h = walked_there moment (Directory root) target path tt h
+
+-- ---- the version that is meant, by its stamps
+
+pub told_found : (w : World) (found : Result ℕ Refusal) (t : Tag) (file : ℕ) (stamps : Stamps) → found ≡ Ok file → Ok stamps ≡ result_map_both stamps_of (λ refusal. refusal) (version_meant w.files w.versions file t) → Ok (file, stamps) ≡ found_of (version_found w found t)
+told_found w found t file stamps leads is = rw leads (by (version_meant w.files w.versions file t) refl is) where
+  by : (r : Result VersionRow Refusal) → version_meant w.files w.versions file t ≡ r → Ok stamps ≡ result_map_both stamps_of (λ refusal. refusal) r → ◌≡◌ {A = Result (ℕ × Stamps) Refusal} (Ok (file, stamps)) (found_of r)
+  by (Err refusal) e is = absurd cc
+  by (Ok row) e is =
+      let own = (is_meant w.files w.versions file t row e).own in
+      let same : stamps ≡ stamps_of row = cc in
+      rw (own, same) refl
+
+pub told_stat : (w : World) (t : Tag) (file : ℕ) (stamps : Stamps) → Ok stamps ≡ result_map_both stamps_of (λ refusal. refusal) (version_meant w.files w.versions file t) → FileStat (record { file = file; stamps = stamps; policy = policy_for w.files file }) ≡ told (file_stat w (version_meant w.files w.versions file t))
+told_stat w t file stamps is = by (version_meant w.files w.versions file t) refl is where
+  by : (r : Result VersionRow Refusal) → version_meant w.files w.versions file t ≡ r → Ok stamps ≡ result_map_both stamps_of (λ refusal. refusal) r → FileStat (record { file = file; stamps = stamps; policy = policy_for w.files file }) ≡ told (file_stat w r)
+  by (Err refusal) e is = absurd cc
+  by (Ok row) e is =
+      let own = (is_meant w.files w.versions file t row e).own in
+      let same : stamps ≡ stamps_of row = cc in
+      rw (own, same) refl
+
+pub record IsTold (w : World) (tagged : TaggedPath) (found : ℕ × Stamps) : Type 0 where
+  pub row : VersionRow
+  pub meant : version_at w tagged ≡ Ok row
+  pub is : found ≡ (row.file, stamps_of row)
+
+pub told_row : (w : World) (tagged : TaggedPath) (found : ℕ × Stamps) → Ok found ≡ found_of (version_at w tagged) → IsTold w tagged found
+told_row w tagged found h = by (version_at w tagged) refl h where
+  by : (r : Result VersionRow Refusal) → version_at w tagged ≡ r → Ok found ≡ found_of r → IsTold w tagged found
+  by (Err refusal) e h = absurd cc
+  by (Ok row) e h = record { row = row; meant = e; is = cc }
+
+-- it is the one that is found by its file and number
+pub found_itself : (versions : List VersionRow) (passes : VersionRow → Bool) (row : VersionRow) → AllLater ArePlaced versions → find passes versions ≡ Some row → find (is_version row.file row.number) versions ≡ Some row
+found_itself versions passes row placed found = all-found passes (IsFound versions) versions row found (all_found versions placed)
+
+-- what is read of it are its bytes
+module _ (w : World) (tagged : TaggedPath) (placed : AllLater ArePlaced w.versions) where
+  row_bytes : (found : ℕ × Stamps) (told : IsTold w tagged found) → content_of (version_cells w found.0 found.1.number) ≡ content_of told.row.cells
+  row_bytes found told =
+      let meant = is_at w tagged told.row told.meant in
+      let itself = found_itself w.versions meant.passes told.row placed meant.found in
+      ap (λ (f : ℕ × Stamps). content_of (version_cells w f.0 f.1.number)) told.is
+      ∙ ap (λ o. content_of (option_map_or (λ (row : VersionRow). row.cells) o [])) itself
+
+  pub told_read : (found : ℕ × Stamps) (bytes : List ℕ) → Ok found ≡ found_of (version_at w tagged) → bytes ≡ content_of (version_cells w found.0 found.1.number) → (v : World) → v ≡ w → (Bytes bytes, v) ≡ step w (Read (Tagged tagged))
+  told_read found bytes h is v same =
+      let told = told_row w tagged found h in
+      let read : bytes ≡ content_of told.row.cells = is ∙ row_bytes found told in
+      rw (told.meant, read, same) refl
+
+-- ---- what is listed
+
+pub told_list : (w : World) (at : PathAt) (directory : ℕ) (items : List (List ℕ × Target)) → directory_in (walk_then w at) ≡ Ok directory → items ≡ listing w.names directory (moment_of w at) → (NameList items, w) ≡ step w (ListNames at)
+told_list w at directory items leads is = rw (leads, is) refl
