@@ -17,3 +17,4 @@ pub mod Revived
 pub mod Unlinked
 pub mod OpenedKeys
 pub mod ToldVersions
+pub mod Reverted

@@ -1,58 +1,85 @@
-use Rattle.std.proofs.Common.{rules, ◌≡◌, ◌<◌, ◌^◌, true, false, Some, IfOk, OnOk, OnErr, find, ℕ, ◌+◌, ◌-◌, ◌*◌, ◌≤◌, length, ◌/◌, ◌%◌, Bool, nat_eq, nat_lt, List, [], ◌∷◌, ◌++◌, slice_index_or, slice_set, bit_and, bit_or, Fits, w8, w32, w64, Bor, MutBor}
-use Rattle.std.specs.Option.{option_map}
+use Rattle.std.proofs.Common.{◌≡◌, ◌&&◌, ◌||◌, not, true, [], refl, sym, ap, subst, ◌∙◌, arith}
+use Rattle.ele_core.proofs.Appended.{appended_queue, refused, taken_back}
+use Rattle.ele_core.proofs.Bounded.{rows_few, versions_few}
+use Rattle.ele_core.proofs.ClosedSteps.{former_past, numbered, past}
+use Rattle.ele_core.proofs.ClosedSums.{added_fits, version_fits}
+use Rattle.ele_core.proofs.Reverted.{became_rows, held_long, held_there, restored_owed}
+use Rattle.ele_core.proofs.Revived.{version_short}
+use Rattle.ele_core.specs.Inside.{world_of}
+use Rattle.ele_core.specs.Queued.{is_new, new_keys}
+use Rattle.ele_due.specs.HasKey.{has_key}
 use Rattle.ele_files.specs.Held.{cells_of_version}
-use Rattle.ele_world.specs.Change.{Append, after_change}
-use Rattle.ele_world.specs.Step.{step, versions_made}
-use Rattle.ele_world.specs.Told.{stamps_of}
-use Rattle.ele_world.specs.World.{has_draft, is_live, is_version, next_of}
-use Rattle.ele_world.specs.declared.event.Event.TheVariants as event
-use Rattle.ele_core.specs.Inside.{world_of, IsTracked, IsSound}
+use Rattle.ele_world.specs.World.{is_live}
 use Rattle.ele_core.proofs.reverting.bring_back.Goals as goal
 
--- src/reverting.rt:35:16
 pub new_keys-keys-requires-clause-there : goal.new_keys-keys-requires-clause-there
-new_keys-keys-requires-clause-there c = ?
+new_keys-keys-requires-clause-there c = held_there c.args.rows.now c.args.file c.args.stamps.now.number c.args.stamps.now c.requires.sound c.requires.held
 
--- src/reverting.rt:35:16
 pub new_keys-keys-requires-clause-past : goal.new_keys-keys-requires-clause-past
-new_keys-keys-requires-clause-past c = ?
+new_keys-keys-requires-clause-past c = former_past c.args.rows.now c.requires.sound _
 
--- src/reverting.rt:38:5
 pub returns-in_err-put-clause-tracked : goal.returns-in_err-put-clause-tracked
-returns-in_err-put-clause-tracked c = ?
+returns-in_err-put-clause-tracked c = record {
+  queue = refused (world_of c.args.rows.now) c.args.file 0 [] c.requires.sound.formed (held_there c.args.rows.now c.args.file c.args.stamps.now.number c.args.stamps.now c.requires.sound c.requires.held) c.args.rows.now.queue c.put.new.queue c.requires.sound.tracked.queue
+      (rw c.new_keys-keys.ensures.keys at c.in_err-put.ensures.err);
+  book = c.requires.sound.tracked.book;
+  bounds = c.requires.sound.tracked.bounds;
+}
 
--- src/reverting.rt:39:9
 pub restore-restored-requires-clause-few : goal.restore-restored-requires-clause-few
-restore-restored-requires-clause-few c = ?
+restore-restored-requires-clause-few c = omega (arith, rows_few c.args.rows.now c.requires.sound)
 
--- src/reverting.rt:39:9
 pub restore-restored-requires-clause-numbered : goal.restore-restored-requires-clause-numbered
-restore-restored-requires-clause-numbered c = ?
+restore-restored-requires-clause-numbered c = numbered c.args.rows.now c.requires.sound
 
--- src/reverting.rt:39:9
 pub restore-restored-requires-clause-past : goal.restore-restored-requires-clause-past
-restore-restored-requires-clause-past c = ?
+restore-restored-requires-clause-past c = past c.args.rows.now c.requires.sound
 
--- src/reverting.rt:46:13
 pub returns-in-Err-clause-tracked : goal.returns-in-Err-clause-tracked
-returns-in-Err-clause-tracked c = ?
+returns-in-Err-clause-tracked c = rw c.in-Err.ensures.err (record {
+  queue = taken_back (world_of c.args.rows.now) c.args.file 0 [] c.requires.sound.formed (held_there c.args.rows.now c.args.file c.args.stamps.now.number c.args.stamps.now c.requires.sound c.requires.held) c.args.rows.now.queue c.take.new.queue c.requires.sound.tracked.queue
+      (λ j. c.take.ensures j ∙ ap (λ b. not (is_new c.new_keys-keys.result j) && b) (c.in_ok-put.ensures.ok j)
+      ∙ ap (λ keys. not (is_new keys j) && (is_new keys j || has_key j c.args.rows.now.queue)) (c.new_keys-keys.ensures.keys ∙ ap (new_keys c.args.rows.now.files c.args.file c.args.rows.now.moment) (sym c.requires.live)));
+  book = c.requires.sound.tracked.book;
+  bounds = c.requires.sound.tracked.bounds;
+})
 
--- src/reverting.rt:49:5
 pub add_version-requires : goal.add_version-requires
-add_version-requires c = ?
+add_version-requires c =
+    version_fits c.args.rows.now c.requires.sound c.args.stamps.now.length c.blocks-before.result
+    (version_short c.args.rows.now c.requires.sound c.args.file c.args.stamps.now.number c.args.stamps.now.length (held_long c.args.rows.now c.args.file c.args.stamps.now.number c.args.stamps.now c.requires.sound c.requires.held))
+    c.blocks-before.ensures.value c.blocks-before.ensures.bound
 
--- src/reverting.rt:50:5
 pub follow_blocks-requires-clause-owed : goal.follow_blocks-requires-clause-owed
-follow_blocks-requires-clause-owed c = ?
+follow_blocks-requires-clause-owed c =
+    let rows = c.args.rows.now in
+    let stamps = c.args.stamps.now in
+    restored_owed rows c.args.file stamps.number stamps c.requires.sound c.requires.held c.restore-restored.new.self c.add_version.new.book c.blocks-before.result
+    (became_rows rows c.args.file stamps.number stamps c.requires.sound c.requires.held c.requires.live c.restore-restored.new.self c.in-Ok.ensures.ok) c.blocks-before.ensures.value c.add_version.ensures
 
--- src/reverting.rt:50:5
 pub follow_blocks-requires-clause-fits : goal.follow_blocks-requires-clause-fits
-follow_blocks-requires-clause-fits c = ?
+follow_blocks-requires-clause-fits c =
+    added_fits c.args.rows.now c.restore-restored.new.self c.args.file c.add_version.new.book c.args.stamps.now.length c.requires.sound
+    (version_short c.args.rows.now c.requires.sound c.args.file c.args.stamps.now.number c.args.stamps.now.length (held_long c.args.rows.now c.args.file c.args.stamps.now.number c.args.stamps.now c.requires.sound c.requires.held)) c.add_version.ensures
 
--- src/reverting.rt:19:1
 pub returns-clause-ok : goal.returns-clause-ok
-returns-clause-ok c = ?
+returns-clause-ok c =
+    let rows = c.args.rows.now in
+    let stamps = c.args.stamps.now in
+    rw (became_rows rows c.args.file stamps.number stamps c.requires.sound c.requires.held c.requires.live c.restore-restored.new.self c.in-Ok.ensures.ok) refl
 
--- src/reverting.rt:19:1
 pub returns-clause-tracked : goal.returns-clause-tracked
-returns-clause-tracked c = ?
+returns-clause-tracked c =
+    let rows = c.args.rows.now in
+    let w = world_of rows in
+    let stamps = c.args.stamps.now in
+    let after = became_rows rows c.args.file stamps.number stamps c.requires.sound c.requires.held c.requires.live c.restore-restored.new.self c.in-Ok.ensures.ok in
+    record {
+      queue = rw after (appended_queue w c.args.file rows.moment (cells_of_version rows.files c.args.file stamps.number) c.requires.sound.formed (held_there rows c.args.file stamps.number stamps c.requires.sound c.requires.held) rows.queue c.put.new.queue c.requires.sound.tracked.queue
+          (λ j. c.in_ok-put.ensures.ok j ∙ ap (λ keys. is_new keys j || has_key j rows.queue) (c.new_keys-keys.ensures.keys ∙ ap (new_keys rows.files c.args.file rows.moment) (sym c.requires.live))));
+      book = c.follow_blocks.ensures;
+      bounds = c.requires.sound.tracked.bounds;
+    }
+
+pub overflow_add-rows : goal.overflow_add-rows
+overflow_add-rows c = omega (arith, versions_few c.args.rows.now c.requires.sound)

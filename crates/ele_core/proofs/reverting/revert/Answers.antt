@@ -1,26 +1,27 @@
-use Rattle.std.proofs.Common.{rules, ◌≡◌, ◌<◌, ◌^◌, true, false, Some, IfOk, OnOk, OnErr, find, ℕ, ◌+◌, ◌-◌, ◌*◌, ◌≤◌, length, ◌/◌, ◌%◌, Bool, nat_eq, nat_lt, List, [], ◌∷◌, ◌++◌, slice_index_or, slice_set, bit_and, bit_or, Fits, w8, w32, w64, Bor, MutBor}
-use Rattle.std.specs.Option.{option_map}
-use Rattle.ele_files.specs.Held.{cells_of_version}
-use Rattle.ele_world.specs.Change.{Append, after_change}
-use Rattle.ele_world.specs.Step.{step, versions_made}
-use Rattle.ele_world.specs.Told.{stamps_of}
-use Rattle.ele_world.specs.World.{has_draft, is_live, is_version, next_of}
-use Rattle.ele_world.specs.declared.event.Event.TheVariants as event
-use Rattle.ele_core.specs.Inside.{world_of, IsTracked, IsSound}
+use Rattle.std.proofs.Common.{◌≡◌, Ok, refl, sym, ap, ◌∙◌}
+use Rattle.ele_core.proofs.Reverted.{is_numbered, numbered_held, reverted_step}
+use Rattle.ele_core.specs.Inside.{world_of}
+use Rattle.ele_world.specs.Walk.{file_now}
+use Rattle.ele_world.specs.WellFormed.{Names}
+use Rattle.ele_world.proofs.Walks.{file_live, file_there}
 use Rattle.ele_core.proofs.reverting.revert.Goals as goal
 
--- src/reverting.rt:68:9
 pub version_meant-meant-requires-clause-there : goal.version_meant-meant-requires-clause-there
-version_meant-meant-requires-clause-there c = ?
+version_meant-meant-requires-clause-there c =
+    let w = world_of c.args.rows.now in
+    file_there w.files w.now w.names c.args.path.now c.in-Ok.file (c.requires.sound.formed.holds Names).each (sym c.file_now.ensures ∙ c.in-Ok.is)
 
--- src/reverting.rt:81:18
 pub bring_back-requires-clause-live : goal.bring_back-requires-clause-live
-bring_back-requires-clause-live c = ?
+bring_back-requires-clause-live c = file_live c.args.rows.now.names c.args.path.now c.in-Ok.file (sym c.file_now.ensures ∙ c.in-Ok.is)
 
--- src/reverting.rt:81:18
 pub bring_back-requires-clause-held : goal.bring_back-requires-clause-held
-bring_back-requires-clause-held c = ?
+bring_back-requires-clause-held c =
+    let w = world_of c.args.rows.now in
+    numbered_held w c.args.path.now c.in-Ok.file c.args.number c.in-Ok-meant.stamps (is_numbered w c.in-Ok.file c.args.number c.in-Ok-meant.stamps (sym c.in-Ok-meant.is ∙ c.version_meant-meant.ensures.value))
 
--- src/reverting.rt:56:1
 pub returns-clause-step : goal.returns-clause-step
-returns-clause-step c = ?
+returns-clause-step c =
+    let w = world_of c.args.rows.now in
+    let is = is_numbered w c.in-Ok.file c.args.number c.in-Ok-meant.stamps (sym c.in-Ok-meant.is ∙ c.version_meant-meant.ensures.value) in
+    rw (c.in_ok-number.ensures.number, c.in_ok-number.ensures.ok)
+    (sym (reverted_step w c.args.path.now c.in-Ok.file c.args.number c.in-Ok-meant.stamps is c.args.rows.now.files refl (sym c.file_now.ensures ∙ c.in-Ok.is) (sym c.has_draft.ensures ∙ c.if-has_draft.false) (sym c.is_full.ensures ∙ c.if-is_full.false)))

@@ -1,0 +1,119 @@
+-- A file that gets a version more, with the cells of one that is held.
+use Rattle.std.proofs.Common.{◌≡◌, ◌<◌, ◌-◌, ℕ, true, List, length, Result, Ok, Err, Option, Some, None, false, nat_le, refl, sym, ap, subst, ◌∙◌, arith, find, [], ◌∷◌}
+use Rattle.std.specs.Option.{option_map, option_map_or}
+use Rattle.std.specs.Result.{result_map_both}
+use Rattle.std.proofs.lemmas.Bool.Decides.{nat_tests}
+use Rattle.ele_content.specs.Content.{content_of}
+use Rattle.ele_content.specs.declared.cell.Cell.{Cell}
+use Rattle.ele_core.proofs.ClosedSums.{HasAdded, version_owed}
+use Rattle.ele_core.specs.Inside.{world_of, IsSound}
+use Rattle.ele_core.specs.Tracked.{IsOwed, blocks_of, told_by}
+use Rattle.ele_core.specs.declared.rows.Rows.{Rows}
+use Rattle.ele_files.specs.Held.{Became, Held, cells_of_version, rows_of}
+use Rattle.ele_lists.proofs.Edits.{all-found, found_passes}
+use Rattle.ele_time_path.specs.declared.tagged.Tag.TheVariants as tag
+use Rattle.ele_usage.specs.Book.{Book}
+use Rattle.ele_world.proofs.Others.{kinds-numbered, files-numbered, versions-finished}
+use Rattle.ele_world.specs.Change.{Append, after_change, next_version, with_version}
+use Rattle.ele_world.specs.Step.{step, versions_made}
+use Rattle.ele_world.specs.Tagged.{version_meant}
+use Rattle.ele_world.specs.Told.{stamps_of}
+use Rattle.ele_world.specs.WellFormed.{IsVersion, Versions}
+use Rattle.ele_world.specs.Whole.{ChangesOnly}
+use Rattle.ele_world.specs.World.{World, has_draft, is_live, is_version, next_of}
+use Rattle.ele_world.specs.Walk.{file_now}
+use Rattle.ele_world.specs.declared.event.Event.TheVariants.{Revert}
+use Rattle.ele_world.specs.declared.refusal.Refusal.{Refusal}
+use Rattle.ele_world.specs.declared.reply.Reply.TheVariants.{Version}
+use Rattle.ele_world.proofs.Meant.{made_of, numbered_found}
+use Rattle.ele_world.specs.declared.rows.Stamps.{Stamps}
+use Rattle.ele_world.specs.declared.rows.VersionRow.{VersionRow}
+
+module _ (rows : Rows) (file number : ℕ) (stamps : Stamps) (sound : IsSound rows) (held : option_map stamps_of (find (is_version file number) rows.files.versions) ≡ Some stamps) where
+  abbrev w : World
+  w = world_of rows
+
+  abbrev cells : List Cell
+  cells = cells_of_version rows.files file number
+
+  abbrev appended : World
+  appended = with_version w file w.now cells
+
+  record HasRow : Type 0 where
+    row : VersionRow
+    found : find (is_version file number) rows.files.versions ≡ Some row
+    its : stamps_of row ≡ stamps
+
+  has_row : HasRow
+  has_row = by (find (is_version file number) rows.files.versions) refl held where
+    by : (o : Option VersionRow) → find (is_version file number) rows.files.versions ≡ o → option_map stamps_of o ≡ Some stamps → HasRow
+    by None found told = absurd cc
+    by (Some row) found told = record { row = row; found = found; its = cc }
+
+  pub held_there : 0 < next_of rows.files.files file
+  held_there =
+      let h = has_row in
+      let is : IsVersion rows.files.files rows.moment h.row = all-found (is_version file number) (IsVersion rows.files.files rows.moment) rows.files.versions h.row h.found (sound.formed.holds Versions).each in
+      let passes = found_passes (is_version file number) rows.files.versions h.row h.found in
+      let own : h.row.file ≡ file = grind (arith, nat_tests) in
+      let numbered = rw own at is.numbered in
+      omega (arith, numbered)
+
+  -- its length is that of its cells
+  pub held_long : stamps.length ≡ length (content_of cells)
+  held_long =
+      let h = has_row in
+      sym (ap (λ (t : Stamps). t.length) h.its) ∙ sym (ap (λ o. length (content_of (option_map_or (λ (row : VersionRow). row.cells) o []))) h.found)
+
+  changes : ChangesOnly file (told_by rows.files) (told_by (rows_of appended))
+  changes =
+      let next = next_of rows.files.files file in
+      record {
+        kinds = λ k id. kinds-numbered rows.files.files file k id;
+        files = λ k. files-numbered rows.files.files file k;
+        versions = versions-finished file next (next - 1) rows.moment (next_version w file w.now cells) rows.files.versions refl;
+        drafts = refl;
+      }
+
+  -- the files as the world with that version has them
+  pub became_rows : is_live w file ≡ true → (after : Held) → Became rows.files w.now file true (Append file w.now cells ∷ []) after → after ≡ rows_of appended
+  became_rows live after became = became w refl live
+
+  pub restored_owed : (after : Held) (book : Book) (before : ℕ) → after ≡ rows_of appended → before ≡ blocks_of rows.files → HasAdded after file rows.book book stamps.length → IsOwed after book file before
+  restored_owed after book before is same added =
+      subst (λ (h : Held). IsOwed h book file before) (sym is)
+      (version_owed rows file (rows_of appended) (next_version w file w.now cells) changes refl sound.tracked book stamps.length before held_long same (subst (λ (h : Held). HasAdded h file rows.book book stamps.length) is added))
+
+-- ---- the version that a revert names
+
+-- the file's row of that number, with these stamps
+pub record IsNumbered (w : World) (file number : ℕ) (stamps : Stamps) : Type 0 where
+  pub row : VersionRow
+  pub meant : version_meant w.files w.versions file (tag.Number number) ≡ Ok row
+  pub found : find (is_version file number) w.versions ≡ Some row
+  pub its : stamps_of row ≡ stamps
+  pub own : stamps.number ≡ number
+
+pub is_numbered : (w : World) (file number : ℕ) (stamps : Stamps) → Ok stamps ≡ result_map_both stamps_of (λ (refusal : Refusal). refusal) (version_meant w.files w.versions file (tag.Number number)) → IsNumbered w file number stamps
+is_numbered w file number stamps told = by (version_meant w.files w.versions file (tag.Number number)) refl told where
+  by : (r : Result VersionRow Refusal) → version_meant w.files w.versions file (tag.Number number) ≡ r → Ok stamps ≡ result_map_both stamps_of (λ (refusal : Refusal). refusal) r → IsNumbered w file number stamps
+  by (Err refusal) is told = absurd cc
+  by (Ok row) is told =
+      let found = numbered_found w.versions file number row (made_of w.files w.versions file number row is) in
+      let passes = found_passes (is_version file number) w.versions row found in
+      let same : stamps_of row ≡ stamps = cc in
+      let numbered : row.number ≡ number = grind (arith, nat_tests) in
+      record { row = row; meant = is; found = found; its = same; own = sym (ap (λ (t : Stamps). t.number) same) ∙ numbered }
+
+module _ (w : World) (path : List (List ℕ)) (file number : ℕ) (stamps : Stamps) (is : IsNumbered w file number stamps) where
+  -- so it is held
+  pub numbered_held : option_map stamps_of (find (is_version file stamps.number) w.versions) ≡ Some stamps
+  numbered_held = subst (λ n. option_map stamps_of (find (is_version file n) w.versions) ≡ Some stamps) (sym is.own) (rw is.found (ap Some is.its))
+
+  numbered_cells : (h : Held) → h.versions ≡ w.versions → cells_of_version h file stamps.number ≡ is.row.cells
+  numbered_cells h same = subst (λ n. cells_of_version h file n ≡ is.row.cells) (sym is.own) (rw (same, is.found) refl)
+
+  -- and its cells come again
+  pub reverted_step : (h : Held) → h.versions ≡ w.versions → file_now w.names path ≡ Ok file → has_draft w file ≡ false → nat_le w.limits.versions (versions_made w) ≡ false
+      → step w (Revert path number) ≡ (Version (next_of w.files file), after_change w (Append file w.now (cells_of_version h file stamps.number)))
+  reverted_step h same named undrafted room = rw (numbered_cells h same, named, is.meant, undrafted, room) refl
