@@ -123,3 +123,8 @@ module _ (w : World) (tagged : TaggedPath) (placed : AllLater ArePlaced w.versio
 
 pub told_list : (w : World) (at : PathAt) (directory : ℕ) (items : List (List ℕ × Target)) → directory_in (walk_then w at) ≡ Ok directory → items ≡ listing w.names directory (moment_of w at) → (NameList items, w) ≡ step w (ListNames at)
 told_list w at directory items leads is = rw (leads, is) refl
+
+-- what is told, or why nothing is, leaves the world
+pub told_outcome : (w : World) (r : Result Reply Refusal) → (told r, w) ≡ found_outcome w r (λ reply. (reply, w))
+told_outcome w (Ok reply) = refl
+told_outcome w (Err refusal) = refl
