@@ -106,7 +106,7 @@ module _ (w : World) (file opened : ℕ) (cells : List Cell) (k : IsWellFormed w
   own_is =
       let is : is_version file next new ≡ true = grind (arith, nat_tests) in
       let found : find (is_version file next) appended.versions ≡ Some new = find-inserted (is_version_after file next) (is_version file next) new ended is
-              (all-update_first last (λ row. is_version file next row ≡ false) (λ row. is_version file next row ≡ false) (ended_at w.now) w.versions (λ row h. h) (λ row h. h) not_next) in
+      (all-update_first last (λ row. is_version file next row ≡ false) (λ row. is_version file next row ≡ false) (ended_at w.now) w.versions (λ row h. h) (λ row h. h) not_next) in
       let unread : is_open w.handles file next ≡ false = unread_unheld w.versions w.handles file next (k.holds Readers) (none-any (is_version file next) w.versions not_next) in
       ripe_at_plain appended file next (alone [])
       ∙ rw (unread, found, policies file) (elim (is_live w file) as (λ b. plain_ripe (policy_of w.files file) w.now (alone []) (cond b None (Some w.now)) ≡ own_moment w.files file w.now b) [

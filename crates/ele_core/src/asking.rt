@@ -18,8 +18,8 @@ use ele_files::Files;
 use ele_policy::{Interval, Policy};
 use ele_usage::Usage;
 use ele_world::{
-    DirId, DirectoryRow, FileId, FileStat, Handle, ListOf, NoMemory, PathAt, Reads, Refusal, Reply, Source,
-    Tag, TaggedPath, Target,
+    DirId, DirectoryRow, FileId, FileStat, Handle, ListOf, NoMemory, PathAt, Reads, Refusal, Reply,
+    Source, Tag, TaggedPath, Target,
 };
 
 /// The bytes of what is read.

@@ -12,8 +12,8 @@ ghost use Rattle.ele_world.specs.declared.reply.Reply.TheVariants as reply;
 ghost use Rattle.ele_world.proofs.May.{MayRevive};
 ghost use Rattle.ele_core.specs.Inside.{world_of, IsTracked, IsSound};
 
-use crate::book::{blocks, follow_blocks};
 use crate::appending::{add_version, next_number};
+use crate::book::{blocks, follow_blocks};
 use crate::links::add_name;
 use crate::rows::{Rows, are_names_full, is_full};
 use ele_files::{Files, Meter};

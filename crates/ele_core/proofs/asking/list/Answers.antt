@@ -13,7 +13,7 @@ pub returns : goal.returns
 returns c =
     let w = world_of c.args.rows.now in
     let listed : c.in_ok-names.names.items ≡ listing w.names c.in-Ok-directory.directory c.unwrap_or-moment.result
-        = listing_is w.names c.in-Ok-directory.directory c.unwrap_or-moment.result c.in_ok-names.names.items (c.requires.formed.holds Names).lives c.in_ok-names.ensures.sorted c.in_ok-names.ensures.found in
+    = listing_is w.names c.in-Ok-directory.directory c.unwrap_or-moment.result c.in_ok-names.names.items (c.requires.formed.holds Names).lives c.in_ok-names.ensures.sorted c.in_ok-names.ensures.found in
     let leads : directory_in (walk_then w c.args.at.now) ≡ Ok c.in-Ok-directory.directory = elim c.match-walk_then.branch [
       | in-Ok v ↦ ap directory_in (sym c.walk_then.ensures ∙ v.in-Ok.is) ∙ sym v.directory_in-directory.ensures ∙ sym v.directory-is ∙ c.in-Ok-directory.is
       | in-Err v ↦ ap directory_in (sym c.walk_then.ensures ∙ v.in-Err.is) ∙ sym v.directory-is ∙ c.in-Ok-directory.is
