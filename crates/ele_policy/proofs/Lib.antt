@@ -1,2 +1,8 @@
 -- for the crates above: from when on a policy lets a version go, and that it goes as before beside fewer
 pub mod Waits
+-- the earliest of moments
+pub mod Earliest
+-- spans lie in wider ones
+mod Nesting
+-- ladders in their fields
+mod Rungs

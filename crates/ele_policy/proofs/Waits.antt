@@ -1,42 +1,162 @@
 -- A policy lets a version go from one age on, which the nearest newer closing tells.
-use Rattle.std.proofs.Common.{◌≡◌, ℕ, ◌+◌, ◌-◌, ◌≤◌, ◌&&◌, Bool, true, false, cond, List, [], ◌∷◌, ◌++◌, Option, Some, None, refl, ap, sym, ◌∙◌, arith}
-use Rattle.std.specs.Prelude.{nat_le, option_and_then}
-use Rattle.std.specs.Option.{option_map_or}
+use Rattle.std.proofs.Common.{◌≡◌, ℕ, ◌+◌, ◌-◌, ◌≤◌, ◌==◌, ◌&&◌, ◌||◌, Bool, true, false, cond, List, [], ◌∷◌, ◌++◌, Option, Some, None, refl, ap, sym, subst, ◌∙◌, arith, zero, suc}
+use Rattle.std.specs.Prelude.{nat_le, find, slice_get, option_and_then, IfSome, IfNone}
+use Rattle.std.specs.List.{list_any, sum_by}
+use Rattle.std.specs.Option.{option_map, option_map_or}
 use Rattle.std.proofs.lemmas.Bool.Decides.{nat_tests}
+use Rattle.std.proofs.lemmas.List.Sums.{sum_by-cons}
+use Rattle.ele_lists.proofs.Anys.{any-weaker, any-without, any-with}
+use Rattle.ele_lists.specs.Lists.{AllLater}
 use Rattle.ele_moment.specs.Last.{last_moment}
 use Rattle.ele_policy.specs.declared.policy.Policy.{Policy}
-use Rattle.ele_policy.specs.declared.policy.Policy.TheVariants.{One, Safe}
-use Rattle.ele_policy.specs.Ripe.{Beside, IsNearest, lets_go, is_due_by, ripe_by}
+use Rattle.ele_policy.specs.declared.policy.Policy.TheVariants.{One, All, Safe, Landmarks}
+use Rattle.ele_policy.specs.Ladder.{Rung, ground, climbs, level_of, rung_at, shares}
+use Rattle.ele_policy.specs.Policy.{IsPolicy}
+use Rattle.ele_policy.specs.Ripe.{Beside, IsNearest, alone, lets_go, is_due_by, candidates, earliest_of, ripe_by}
+use Rattle.ele_policy.specs.Wait.{has_newer, wait, in_time, ripe_after}
+use Rattle.ele_policy.proofs.Earliest.{earliest_from, earliest_same, is_candidate, never_due}
+use Rattle.ele_policy.proofs.Nesting.{climbed, nests, nearest_decides, shares_on}
+
+-- ---- the highest rung that an age has reached
+
+rung_of : Option Rung → List Rung → ℕ → Option Rung
+rung_of below [] age = below
+rung_of below (rung ∷ higher) age = cond (nat_le rung.0 age) (rung_of (Some rung) higher age) below
+
+abbrev has_reached : ℕ → Rung → ℕ
+has_reached age rung = cond (nat_le rung.0 age) 1 0
+
+none_reached : (low : Rung) (rungs : List Rung) (age : ℕ) → climbs low rungs ≡ true → nat_le low.0 age ≡ false → level_of rungs age ≡ 0
+none_reached low [] age up young = refl
+none_reached low (rung ∷ rungs) age up young =
+    let older = (climbed low rung rungs up).0.older in
+    let younger : nat_le rung.0 age ≡ false = grind (arith, nat_tests) in
+    let rest = none_reached rung rungs age (climbed low rung rungs up).1 younger in
+    sum_by-cons (has_reached age) rung rungs ∙ rw (younger, rest) refl
+
+at_level : Option Rung → List Rung → ℕ → Option Rung
+at_level below rungs zero = below
+at_level below rungs (suc place) = slice_get rungs place
+
+one_higher : (below : Option Rung) (rung : Rung) (rungs : List Rung) (level : ℕ) → at_level below (rung ∷ rungs) (1 + level) ≡ at_level (Some rung) rungs level
+unfolding at_level
+one_higher below rung rungs level = ap (at_level below (rung ∷ rungs)) (let next : 1 + level ≡ suc level = omega arith in next) ∙ by level where
+  by : (level : ℕ) → at_level below (rung ∷ rungs) (suc level) ≡ at_level (Some rung) rungs level
+  by zero = refl
+  by (suc place) = refl
+
+rung_is : (low : Rung) (below : Option Rung) (rungs : List Rung) (age : ℕ) → climbs low rungs ≡ true → at_level below rungs (level_of rungs age) ≡ rung_of below rungs age
+unfolding at_level rung_of
+rung_is low below [] age up = refl
+rung_is low below (rung ∷ rungs) age up = ap (at_level below (rung ∷ rungs)) (sum_by-cons (has_reached age) rung rungs) ∙ elim (nat_le rung.0 age) as (λ b. nat_le rung.0 age ≡ b → at_level below (rung ∷ rungs) (cond b 1 0 + level_of rungs age) ≡ cond b (rung_of (Some rung) rungs age) below) [
+  | true ↦ λ e. one_higher below rung rungs (level_of rungs age) ∙ rung_is rung (Some rung) rungs age (climbed low rung rungs up).1
+  | false ↦ λ e. rw (none_reached rung rungs age (climbed low rung rungs up).1 e) refl
+] refl
+
+highest : (rungs : List Rung) (age : ℕ) → climbs ground rungs ≡ true → rung_at rungs (level_of rungs age) ≡ rung_of None rungs age
+unfolding at_level
+highest rungs age up = by (level_of rungs age) ∙ rung_is ground None rungs age up where
+  by : (level : ℕ) → rung_at rungs level ≡ at_level None rungs level
+  by zero = refl
+  by (suc place) = refl
+
+-- ---- tests of rungs
 
 -- whether an age, if there is one, is reached
 abbrev pub reached : Option ℕ → ℕ → Bool
 reached wait age = option_map_or (λ least. nat_le least age) wait false
 
--- how long after its end a version is let go that closed then
-abbrev pub wait : Policy → ℕ → Option ℕ → Option ℕ
-wait One closed nearest = Some 0
-wait (Safe interval) closed nearest = Some interval
+abbrev first_age : (Rung → Bool) → List Rung → Option ℕ
+first_age test rungs = option_map (λ rung. rung.0) (find test rungs)
 
-pub lets_go_from : (policy : Policy) (closed : ℕ) (nearest : Option ℕ) (beside : Beside) (age : ℕ) → IsNearest closed nearest beside → lets_go policy closed beside age ≡ reached (wait policy closed nearest) age
-lets_go_from One closed nearest beside age is = grind (arith, nat_tests)
-lets_go_from (Safe interval) closed nearest beside age is = refl
+-- a test that goes on passing further up
+abbrev GoesOn : (Rung → Bool) → Type 0
+GoesOn test = (low high : Rung) (rungs : List Rung) → climbs low (high ∷ rungs) ≡ true → test low ≡ true → test high ≡ true
 
--- the moment, if it isn't past the last one
-abbrev in_time : ℕ → Option ℕ
-in_time at = cond (nat_le at last_moment) (Some at) None
+module _ (test : Rung → Bool) (on : GoesOn test) where
+  passes : (low : Rung) (rungs : List Rung) (age : ℕ) → climbs low rungs ≡ true → test low ≡ true → option_map_or test (rung_of (Some low) rungs age) false ≡ true
+  unfolding rung_of
+  passes low [] age up here = here
+  passes low (rung ∷ rungs) age up here = elim (nat_le rung.0 age) as (λ b. option_map_or test (cond b (rung_of (Some rung) rungs age) (Some low)) false ≡ true) [
+    | true ↦ passes rung rungs age (climbed low rung rungs up).1 (on low rung rungs up here)
+    | false ↦ here
+  ]
 
--- so the ripe moment comes so long after the end
-pub ripe_is : (policy : Policy) (closed ended : ℕ) (nearest : Option ℕ) (beside : Beside) → IsNearest closed nearest beside → ripe_by policy closed beside ended ≡ option_and_then (λ age. in_time (ended + age)) (wait policy closed nearest)
+  -- no rung is reached before those below it are passed
+  too_young : (low : Rung) (rungs : List Rung) (age : ℕ) → climbs low rungs ≡ true → age ≤ low.0 → reached (first_age test rungs) age ≡ false
+  too_young low [] age up h = refl
+  too_young low (rung ∷ rungs) age up h =
+      let older = (climbed low rung rungs up).0.older in
+      elim (test rung) as (λ b. reached (option_map (λ rung. rung.0) (cond b (Some rung) (find test rungs))) age ≡ false) [
+        | true ↦ grind (arith, nat_tests)
+        | false ↦ too_young rung rungs age (climbed low rung rungs up).1 (omega arith)
+      ]
+
+  -- the highest rung passes from the age of the first that does
+  from_age : (low : Rung) (below : Option Rung) (rungs : List Rung) (age : ℕ) → climbs low rungs ≡ true → option_map_or test below false ≡ false → option_map_or test (rung_of below rungs age) false ≡ reached (first_age test rungs) age
+  unfolding rung_of
+  from_age low below [] age up fails = fails
+  from_age low below (rung ∷ rungs) age up fails = elim (nat_le rung.0 age) as (λ a. nat_le rung.0 age ≡ a → option_map_or test (cond a (rung_of (Some rung) rungs age) below) false ≡ reached (first_age test (rung ∷ rungs)) age) [
+    | true ↦ λ old. elim (test rung) as (λ b. test rung ≡ b → option_map_or test (rung_of (Some rung) rungs age) false ≡ reached (option_map (λ rung. rung.0) (cond b (Some rung) (find test rungs))) age) [
+      | true ↦ λ e. passes rung rungs age (climbed low rung rungs up).1 e ∙ sym old
+      | false ↦ λ e. from_age rung (Some rung) rungs age (climbed low rung rungs up).1 e
+    ] refl
+    | false ↦ λ young. fails ∙ sym (elim (test rung) as (λ b. reached (option_map (λ rung. rung.0) (cond b (Some rung) (find test rungs))) age ≡ false) [
+      | true ↦ young
+      | false ↦ too_young rung rungs age (climbed low rung rungs up).1 (grind (arith, nat_tests))
+    ])
+  ] refl
+
+  -- so at a level from one age on
+  from_level : (rungs : List Rung) (age : ℕ) → climbs ground rungs ≡ true → option_map_or test (rung_at rungs (level_of rungs age)) false ≡ reached (first_age test rungs) age
+  from_level rungs age up = ap (λ o. option_map_or test o false) (highest rungs age up) ∙ from_age ground None rungs age up refl
+
+  -- and at a later age still
+  stays : (rungs : List Rung) (early late : ℕ) → climbs ground rungs ≡ true → early ≤ late → option_map_or test (rung_at rungs (level_of rungs early)) false ≡ true → option_map_or test (rung_at rungs (level_of rungs late)) false ≡ true
+  stays rungs early late up le h = from_level rungs late up ∙ by (first_age test rungs) (sym (from_level rungs early up) ∙ h) where
+    by : (o : Option ℕ) → reached o early ≡ true → reached o late ≡ true
+    by None h = h
+    by (Some least) h = grind (arith, nat_tests)
+
+-- ---- one age, and so one moment
+
+shared_on : (a b : ℕ) → GoesOn (shares a b)
+shared_on a b low high rungs up h = nests low high a b (climbed low high rungs up).0 h
+
+newer_on : (closed : ℕ) (newer : List ℕ) → GoesOn (has_newer closed newer)
+newer_on closed newer low high rungs up h = any-weaker (λ n. shares closed n low) (λ n. shares closed n high) newer (λ n. shared_on closed n low high rungs up) h
+
+pub lets_go_from : (policy : Policy) (closed : ℕ) (beside : Beside) (age : ℕ) → IsPolicy policy → lets_go policy closed beside age ≡ reached (wait policy closed beside.newer) age
+lets_go_from One closed beside age given = grind (arith, nat_tests)
+lets_go_from All closed beside age given = refl
+lets_go_from (Safe interval) closed beside age given = refl
+lets_go_from (Landmarks rungs) closed beside age given = from_level (has_newer closed beside.newer) (newer_on closed beside.newer) rungs age given.climbing
+
+-- the moment so long after the end is one of those at which the version may become due
+may_wait : (policy : Policy) (closed ended age : ℕ) (newer : List ℕ) → wait policy closed newer ≡ Some age → list_any (λ at. at == ended + age) (candidates policy ended) ≡ true
+may_wait One closed ended age newer is = let same : age ≡ 0 = cc in grind (arith, nat_tests)
+may_wait All closed ended age newer is = absurd cc
+may_wait (Safe interval) closed ended age newer is = let same : interval ≡ age = cc in grind (arith, nat_tests)
+may_wait (Landmarks rungs) closed ended age newer is = is_candidate (has_newer closed newer) ended age rungs is
+
+pub ripe_is : (policy : Policy) (closed ended : ℕ) (beside : Beside) → IsPolicy policy → ripe_by policy closed beside ended ≡ ripe_after policy closed ended beside.newer
 unfolding ripe_by
-ripe_is One closed ended nearest beside is = grind (arith, nat_tests)
-ripe_is (Safe interval) closed ended nearest beside is = grind (arith, nat_tests)
+ripe_is policy closed ended beside given =
+    earliest_same (is_due_by policy closed beside ended) (λ at. nat_le ended at && reached (wait policy closed beside.newer) (at - ended))
+    (λ at fits. ap (λ b. nat_le ended at && b) (lets_go_from policy closed beside (at - ended) given)) (candidates policy ended)
+    ∙ by (wait policy closed beside.newer) refl where
+      by : (o : Option ℕ) → wait policy closed beside.newer ≡ o → earliest_of (λ at. nat_le ended at && reached o (at - ended)) (candidates policy ended) ≡ option_and_then (λ age. in_time (ended + age)) o
+      by None is = earliest_same (λ at. nat_le ended at && false) (λ at. false) (λ at fits. grind (arith, nat_tests)) (candidates policy ended) ∙ never_due (candidates policy ended)
+      by (Some age) is =
+          earliest_same (λ at. nat_le ended at && nat_le age (at - ended)) (nat_le (ended + age)) (λ at fits. grind (arith, nat_tests)) (candidates policy ended)
+          ∙ earliest_from (ended + age) (candidates policy ended) (may_wait policy closed ended age beside.newer is)
 
 -- and from it on the version is due
-pub due_from : (policy : Policy) (closed ended at : ℕ) (nearest : Option ℕ) (beside : Beside) → IsNearest closed nearest beside → at ≤ last_moment → is_due_by policy closed beside ended at ≡ option_map_or (λ m. nat_le m at) (ripe_by policy closed beside ended) false
-due_from policy closed ended at nearest beside is fits =
-    ap (λ b. nat_le ended at && b) (lets_go_from policy closed nearest beside (at - ended) is)
-    ∙ by (wait policy closed nearest)
-    ∙ ap (λ o. option_map_or (λ m. nat_le m at) o false) (sym (ripe_is policy closed ended nearest beside is)) where
+pub due_from : (policy : Policy) (closed ended at : ℕ) (beside : Beside) → IsPolicy policy → at ≤ last_moment → is_due_by policy closed beside ended at ≡ option_map_or (λ m. nat_le m at) (ripe_by policy closed beside ended) false
+due_from policy closed ended at beside given fits =
+    ap (λ b. nat_le ended at && b) (lets_go_from policy closed beside (at - ended) given)
+    ∙ by (wait policy closed beside.newer)
+    ∙ ap (λ o. option_map_or (λ m. nat_le m at) o false) (sym (ripe_is policy closed ended beside given)) where
       by : (o : Option ℕ) → (nat_le ended at && reached o (at - ended)) ≡ option_map_or (λ m. nat_le m at) (option_and_then (λ age. in_time (ended + age)) o) false
       by None = elim (nat_le ended at) as (λ b. (b && false) ≡ false) [
         | true ↦ refl
@@ -47,27 +167,95 @@ due_from policy closed ended at nearest beside is fits =
 -- ---- other versions beside it
 
 -- a version that is let go itself may be missing: one that has been ended as long goes as before
-pub lets_go_without : (policy : Policy) (live : Bool) (xs : List ℕ) (gone : ℕ) (ys : List ℕ) (closed age gone_age : ℕ) → gone_age ≤ age → lets_go policy gone (record { newer = ys; live = live }) gone_age ≡ true → lets_go policy closed (record { newer = xs ++ gone ∷ ys; live = live }) age ≡ lets_go policy closed (record { newer = xs ++ ys; live = live }) age
-lets_go_without One live xs gone ys closed age gone_age longer goes = refl
-lets_go_without (Safe interval) live xs gone ys closed age gone_age longer goes = refl
+pub lets_go_without : (policy : Policy) (live : Bool) (xs : List ℕ) (gone : ℕ) (ys : List ℕ) (closed age gone_age : ℕ) → IsPolicy policy → gone_age ≤ age → lets_go policy gone (record { newer = ys; live = live }) gone_age ≡ true → lets_go policy closed (record { newer = xs ++ gone ∷ ys; live = live }) age ≡ lets_go policy closed (record { newer = xs ++ ys; live = live }) age
+lets_go_without One live xs gone ys closed age gone_age given longer goes = refl
+lets_go_without All live xs gone ys closed age gone_age given longer goes = refl
+lets_go_without (Safe interval) live xs gone ys closed age gone_age given longer goes = refl
+lets_go_without (Landmarks rungs) live xs gone ys closed age gone_age given longer goes = by (rung_at rungs (level_of rungs age)) (stays (has_newer gone ys) (newer_on gone ys) rungs gone_age age given.climbing longer goes) where
+  by : (o : Option Rung) → option_map_or (has_newer gone ys) o false ≡ true → option_map_or (has_newer closed (xs ++ gone ∷ ys)) o false ≡ option_map_or (has_newer closed (xs ++ ys)) o false
+  by None h = refl
+  by (Some rung) h = any-without (λ n. shares closed n rung) xs gone ys (λ same. any-weaker (λ n. shares gone n rung) (λ n. shares closed n rung) ys (λ n. shares_on rung closed gone n same) h)
 
 -- and one that goes beside fewer goes beside more
 pub lets_go_fewer : (policy : Policy) (live : Bool) (xs : List ℕ) (more : ℕ) (ys : List ℕ) (closed age : ℕ) → lets_go policy closed (record { newer = xs ++ ys; live = live }) age ≡ true → lets_go policy closed (record { newer = xs ++ more ∷ ys; live = live }) age ≡ true
 lets_go_fewer One live xs more ys closed age goes = goes
+lets_go_fewer All live xs more ys closed age goes = goes
 lets_go_fewer (Safe interval) live xs more ys closed age goes = goes
+lets_go_fewer (Landmarks rungs) live xs more ys closed age goes = by (rung_at rungs (level_of rungs age)) goes where
+  by : (o : Option Rung) → option_map_or (has_newer closed (xs ++ ys)) o false ≡ true → option_map_or (has_newer closed (xs ++ more ∷ ys)) o false ≡ true
+  by None h = h
+  by (Some rung) h = any-with (λ n. shares closed n rung) xs more ys h
 
--- Keep One and Keep Safe look at the age alone
-abbrev pub nothing_beside : Beside
-nothing_beside = record { newer = []; live = false }
+-- ---- told by the nearest newer closing alone
 
-pub nothing_is_nearest : (closed : ℕ) → IsNearest closed None nothing_beside
-nothing_is_nearest closed = record { in_order = (tt, tt); first = refl }
+-- the wait is the same
+pub nearest_tells : (policy : Policy) (closed : ℕ) (nearest : Option ℕ) (beside : Beside) → IsNearest closed nearest beside → wait policy closed beside.newer ≡ wait policy closed (alone nearest).newer
+nearest_tells policy closed nearest beside is = by policy nearest beside.newer is.in_order is.first where
+  same_found : (f g : Rung → Bool) (rungs : List Rung) → ((rung : Rung) → f rung ≡ g rung) → find f rungs ≡ find g rungs
+  same_found f g [] same = refl
+  same_found f g (rung ∷ rungs) same = rw (same rung, same_found f g rungs same) refl
 
-pub due_alone : (policy : Policy) (closed ended at : ℕ) (beside : Beside) → is_due_by policy closed beside ended at ≡ is_due_by policy closed nothing_beside ended at
-due_alone One closed ended at beside = refl
-due_alone (Safe interval) closed ended at beside = refl
+  by : (policy : Policy) (nearest : Option ℕ) (newer : List ℕ) → AllLater ◌≤◌ (closed ∷ newer) → slice_get newer 0 ≡ nearest → wait policy closed newer ≡ wait policy closed (alone nearest).newer
+  by One nearest newer later first = refl
+  by All nearest newer later first = refl
+  by (Safe interval) nearest newer later first = refl
+  by (Landmarks rungs) None [] later first = refl
+  by (Landmarks rungs) (Some n) [] later first = absurd cc
+  by (Landmarks rungs) None (x ∷ more) later first = absurd cc
+  by (Landmarks rungs) (Some n) (x ∷ more) later first =
+      let same : x ≡ n = cc in
+      ap (option_map (λ (rung : Rung). rung.0)) (same_found (has_newer closed (x ∷ more)) (has_newer closed (n ∷ [])) rungs
+        (λ rung. nearest_decides rung closed x more later ∙ rw same (or_false (shares closed n rung)))) where
+          or_false : (b : Bool) → b ≡ (b || false)
+          or_false true = refl
+          or_false false = refl
 
-pub ripe_alone : (policy : Policy) (closed ended : ℕ) (beside : Beside) → ripe_by policy closed beside ended ≡ ripe_by policy closed nothing_beside ended
-unfolding ripe_by
-ripe_alone One closed ended beside = refl
-ripe_alone (Safe interval) closed ended beside = refl
+-- and so is the ripe moment
+pub ripe_nearest : (policy : Policy) (closed ended : ℕ) (nearest : Option ℕ) (beside : Beside) → IsPolicy policy → IsNearest closed nearest beside → ripe_by policy closed beside ended ≡ ripe_by policy closed (alone nearest) ended
+ripe_nearest policy closed ended nearest beside given is =
+    ripe_is policy closed ended beside given
+    ∙ ap (option_and_then (λ age. in_time (ended + age))) (nearest_tells policy closed nearest beside is)
+    ∙ sym (ripe_is policy closed ended (alone nearest) given)
+
+-- beside all that the nearest tells of, the version is due from the ripe moment on, or never
+due_nearest : (policy : Policy) (closed ended at : ℕ) (nearest wait_is : Option ℕ) (beside : Beside) → IsPolicy policy → IsNearest closed nearest beside → wait policy closed (alone nearest).newer ≡ wait_is → is_due_by policy closed beside ended at ≡ (nat_le ended at && reached wait_is (at - ended))
+due_nearest policy closed ended at nearest wait_is beside given near is =
+    ap (λ b. nat_le ended at && b) (lets_go_from policy closed beside (at - ended) given ∙ ap (λ o. reached o (at - ended)) (nearest_tells policy closed nearest beside near ∙ is))
+
+abbrev pub DueFrom : Policy → ℕ → ℕ → Option ℕ → Option ℕ → Type 0
+DueFrom policy closed ended nearest ripe = IfSome ripe (λ m. (beside : Beside) → IsNearest closed nearest beside → (at : ℕ) → is_due_by policy closed beside ended at ≡ nat_le m at)
+
+abbrev pub NeverDue : Policy → ℕ → ℕ → Option ℕ → Option ℕ → Type 0
+NeverDue policy closed ended nearest ripe = IfNone ripe ((beside : Beside) → IsNearest closed nearest beside → (at : ℕ) → at ≤ last_moment → is_due_by policy closed beside ended at ≡ false)
+
+pub ripe_from : (policy : Policy) (closed ended : ℕ) (nearest : Option ℕ) → IsPolicy policy → DueFrom policy closed ended nearest (ripe_by policy closed (alone nearest) ended)
+ripe_from policy closed ended nearest given = subst (DueFrom policy closed ended nearest) (sym (ripe_is policy closed ended (alone nearest) given)) (by (wait policy closed (alone nearest).newer) refl) where
+  by : (o : Option ℕ) → wait policy closed (alone nearest).newer ≡ o → DueFrom policy closed ended nearest (option_and_then (λ age. in_time (ended + age)) o)
+  by None is = tt
+  by (Some age) is = elim (nat_le (ended + age) last_moment) as (λ b. DueFrom policy closed ended nearest (cond b (Some (ended + age)) None)) [
+    | true ↦ λ beside near at. due_nearest policy closed ended at nearest (Some age) beside given near is ∙ grind (arith, nat_tests)
+    | false ↦ tt
+  ]
+
+pub ripe_never : (policy : Policy) (closed ended : ℕ) (nearest : Option ℕ) → IsPolicy policy → NeverDue policy closed ended nearest (ripe_by policy closed (alone nearest) ended)
+ripe_never policy closed ended nearest given = subst (NeverDue policy closed ended nearest) (sym (ripe_is policy closed ended (alone nearest) given)) (by (wait policy closed (alone nearest).newer) refl) where
+  by : (o : Option ℕ) → wait policy closed (alone nearest).newer ≡ o → NeverDue policy closed ended nearest (option_and_then (λ age. in_time (ended + age)) o)
+  by None is = λ beside near at fits. due_nearest policy closed ended at nearest None beside given near is ∙ grind (arith, nat_tests)
+  by (Some age) is = elim (nat_le (ended + age) last_moment) as (λ b. nat_le (ended + age) last_moment ≡ b → NeverDue policy closed ended nearest (cond b (Some (ended + age)) None)) [
+    | true ↦ λ early. tt
+    | false ↦ λ late beside near at fits. due_nearest policy closed ended at nearest (Some age) beside given near is ∙ grind (arith, nat_tests)
+  ] refl
+
+-- a version that ripens without a newer one ripens then beside one
+pub ripe_keeps : (policy : Policy) (closed ended m nearest : ℕ) → IsPolicy policy → ripe_by policy closed (alone None) ended ≡ Some m → ripe_by policy closed (alone (Some nearest)) ended ≡ Some m
+ripe_keeps policy closed ended m nearest given is =
+    ripe_is policy closed ended (alone (Some nearest)) given ∙ by policy (sym (ripe_is policy closed ended (alone None) given) ∙ is) where
+      none : (rungs : List Rung) → find (has_newer closed []) rungs ≡ None
+      none [] = refl
+      none (rung ∷ rungs) = none rungs
+
+      by : (policy : Policy) → ripe_after policy closed ended [] ≡ Some m → ripe_after policy closed ended (nearest ∷ []) ≡ Some m
+      by One h = h
+      by All h = h
+      by (Safe interval) h = h
+      by (Landmarks rungs) h = absurd (let no = none rungs in cc)

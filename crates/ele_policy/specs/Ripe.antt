@@ -1,20 +1,31 @@
 -- When a policy lets a version go that has ended.
-use Rattle.std.specs.Prelude.{◌≡◌, ℕ, ◌+◌, ◌-◌, ◌≤◌, min, nat_le, Bool, true, ◌&&◌, List, [], ◌∷◌, Option, Some, None, slice_get, if◌then◌else◌}
+use Rattle.std.specs.Prelude.{◌≡◌, ℕ, ◌+◌, ◌-◌, ◌≤◌, min, nat_le, Bool, true, false, ◌&&◌, List, [], ◌∷◌, map, Option, Some, None, slice_get, if◌then◌else◌}
+use Rattle.std.specs.List.{list_any}
 use Rattle.std.specs.Option.{option_map_or}
 use Rattle.ele_moment.specs.Last.{last_moment}
 use Rattle.ele_lists.specs.Lists.{AllLater}
 use Rattle.ele_policy.specs.declared.policy.Policy.{Policy}
-use Rattle.ele_policy.specs.declared.policy.Policy.TheVariants.{One, Safe}
+use Rattle.ele_policy.specs.declared.policy.Policy.TheVariants.{One, All, Safe, Landmarks}
+use Rattle.ele_policy.specs.Ladder.{level_of, rung_at, shares}
 
 -- what stands beside a version in its file: when the newer held ones closed, in order, and whether the file is live
 pub record Beside : Type 0 where
   pub newer : List ℕ
   pub live : Bool
 
--- whether the policy lets a version go that closed then and has been ended for so many seconds
+-- what is told of a version by its nearest newer one alone
+abbrev pub alone : Option ℕ → Beside
+alone None = record { newer = []; live = false }
+alone (Some nearest) = record { newer = nearest ∷ []; live = false }
+
+-- whether the policy lets a version go that closed then and has been ended for so many seconds: under a ladder one with a newer
+-- one in its span, at the level of its age
 abbrev pub lets_go : Policy → ℕ → Beside → ℕ → Bool
 lets_go One closed beside age = true
+lets_go All closed beside age = false
 lets_go (Safe interval) closed beside age = nat_le interval age
+lets_go (Landmarks rungs) closed beside age =
+    option_map_or (λ rung. list_any (λ newer. shares closed newer rung) beside.newer) (rung_at rungs (level_of rungs age)) false
 
 -- whether, by the policy alone, a version that closed and ended then is due at the moment
 abbrev pub is_due_by : Policy → ℕ → Beside → ℕ → ℕ → Bool
@@ -23,7 +34,9 @@ is_due_by policy closed beside ended at = nat_le ended at && lets_go policy clos
 -- the moments at which it may become due
 abbrev pub candidates : Policy → ℕ → List ℕ
 candidates One ended = ended ∷ []
+candidates All ended = []
 candidates (Safe interval) ended = (ended + interval) ∷ []
+candidates (Landmarks rungs) ended = map (λ rung. ended + rung.0) rungs
 
 -- the earliest of the moments at which the test holds, none past the last moment
 abbrev pub earliest_of : (ℕ → Bool) → List ℕ → Option ℕ

@@ -1,8 +1,14 @@
 //! What is true of every policy. A law is the contract of a function that does nothing.
 ghost use Rattle.ele_policy.specs.LetsGoFrom.{LetsGoFrom};
+ghost use Rattle.ele_policy.specs.SharesNest.{SharesNest};
 
 /// A policy lets a version go from one age on, or never, and what stands beside the version tells which age by the nearest
 /// newer closing alone.
 pub fn lets_go_from()
     ensures { LetsGoFrom }
+{}
+
+/// Two moments that share a span of a ladder share one of each higher rung.
+pub fn shares_nest()
+    ensures { SharesNest }
 {}

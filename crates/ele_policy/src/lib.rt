@@ -1,12 +1,14 @@
 //! When a version may be forgotten: the policies that a file can have.
-//! A contract sees a policy as plain data, and an interval as its seconds.
+//! A contract sees a policy as plain data, an interval as its seconds, and a ladder as the list of its pairs.
 #![tactic(auto)]
 
 mod interval;
+mod ladder;
 pub mod laws;
 mod policy;
 mod ripening;
 
 pub use interval::{BadLadder, Interval};
+pub use ladder::Ladder;
 pub use policy::{Kind, Policy};
-pub use ripening::ripe;
+pub use ripening::{ripe, ripe_beside};

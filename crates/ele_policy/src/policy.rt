@@ -4,6 +4,7 @@ ghost use Rattle.std.specs.Prelude.{◌≡◌};
 ghost use Rattle.ele_policy.specs.Policy.{kind_of, IsPolicy};
 
 use crate::interval::Interval;
+use crate::ladder::Ladder;
 
 /// The four kinds of policy, in the order in which usage is told.
 #[derive(Clone, Copy, Debug, PartialEq, Eq, Hash)]
@@ -19,12 +20,16 @@ pub enum Kind {
 }
 
 /// Which versions of a file that have ended are due, and from when on.
-#[derive(Clone, Copy, Debug, PartialEq, Eq, Hash)]
+#[derive(Clone, Copy, Debug, PartialEq, Eq)]
 pub enum Policy {
     /// Each is due as soon as it has ended.
     One,
+    /// None is ever due.
+    All,
     /// Each is due once it has been ended for the interval.
     Safe(Interval),
+    /// One is due once, at the level of its age, a newer one lies in its span.
+    Landmarks(Ladder),
 }
 
 impl Policy {
@@ -34,7 +39,9 @@ impl Policy {
     {
         match self {
             Policy::One => Kind::One,
+            Policy::All => Kind::All,
             Policy::Safe(_) => Kind::Safe,
+            Policy::Landmarks(_) => Kind::Landmarks,
         }
     }
 
@@ -43,9 +50,12 @@ impl Policy {
         ensures { IsPolicy self.now }
     {
         match self {
-            Policy::One => {}
+            Policy::One | Policy::All => {}
             Policy::Safe(interval) => {
                 interval.seconds();
+            }
+            Policy::Landmarks(ladder) => {
+                ladder.pairs();
             }
         }
     }

@@ -28,6 +28,7 @@ pub data Change : Type 0 where
   EndFileName : (directory : ℕ) → (name : List ℕ) → (file : ℕ) → Change
   Revive : (directory : ℕ) → (name : List ℕ) → (file : ℕ) → Change
   MakeFile : (directory : ℕ) → (name : List ℕ) → (id : ℕ) → (policy : Policy) → Change
+  PutUnder : (file : ℕ) → (policy : Policy) → Change
   Append : (file opened : ℕ) → (cells : List Cell) → Change
   Take : (file number : ℕ) → Change
   StartDraft : (file : ℕ) → Change
@@ -56,6 +57,10 @@ with_file w id policy = record w {
   files = w.files ++ record { id = id; policy = policy; next = 1 } ∷ [];
   made = record w.made { files = id };
 }
+
+-- the file has that policy, with all its versions
+abbrev pub put_under : Policy → FileRow → FileRow
+put_under policy row = record row { policy = policy }
 
 -- a name of the target, from now on
 abbrev pub with_name : World → ℕ → List ℕ → Target → World
@@ -154,6 +159,7 @@ after_change w (EndFileName directory name file) = ended_if_nameless (without_na
 after_change w (Revive directory name file) = with_version (with_name w directory name (File file)) file w.now (current_cells w file)
 -- a new file, its name, and its first version, which is empty
 after_change w (MakeFile directory name id policy) = with_version (with_name (with_file w id policy) directory name (File id)) id w.now []
+after_change w (PutUnder file policy) = record w { files = update_first (is_file file) (put_under policy) w.files }
 after_change w (Append file opened cells) = with_version w file opened cells
 after_change w (Take file number) = record w { versions = remove_first (is_version file number) w.versions }
 after_change w (StartDraft file) = record w { drafts = insert_before (is_draft_after file) (new_draft w file) w.drafts }

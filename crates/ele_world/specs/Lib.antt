@@ -6,6 +6,7 @@ pub mod Walk
 pub mod NameRows
 pub mod WalkAt
 pub mod FileView
+pub mod Neighbours
 pub mod Tagged
 pub mod Told
 pub mod Due

@@ -2,7 +2,7 @@
 use Rattle.std.specs.Prelude.{◌≡◌, ℕ, suc, zero, ◌<◌, ◌≤◌, List, [], ◌∷◌, None, IsSome}
 use Rattle.ele_moment.specs.Last.{last_moment}
 use Rattle.ele_world.specs.declared.event.Event.{Event}
-use Rattle.ele_world.specs.declared.event.Event.TheVariants.{Clock, Tick, MakeDir, RemoveDir, Create, Link, Unlink, Rename, Undelete, OpenWrite, OpenRead, Write, Truncate, Close, Revert, SetDefault, CleanOne, Read, Stat, Versions, List as ListNames, Restorable, Due, UsageAll}
+use Rattle.ele_world.specs.declared.event.Event.TheVariants.{Clock, Tick, MakeDir, RemoveDir, Create, Link, Unlink, Rename, Undelete, OpenWrite, OpenRead, Write, Truncate, Close, Revert, SetPolicy, SetDefault, CleanOne, Read, Stat, Versions, List as ListNames, Restorable, Due, UsageAll}
 use Rattle.ele_world.specs.Scan.{first_due}
 use Rattle.ele_world.specs.Step.{step, clean_step}
 use Rattle.ele_policy.specs.Policy.{IsPolicy}
@@ -30,6 +30,7 @@ IsEvent (Write handle offset bytes) = Unit {0}
 IsEvent (Truncate handle size) = Unit {0}
 IsEvent (Close handle) = Unit {0}
 IsEvent (Revert path number) = Unit {0}
+IsEvent (SetPolicy path policy) = IsPolicy policy
 IsEvent (SetDefault path policy) = IsPolicy policy
 IsEvent CleanOne = Unit {0}
 IsEvent (Read source) = Unit {0}

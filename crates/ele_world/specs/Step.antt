@@ -8,7 +8,7 @@ use Rattle.ele_moment.specs.Last.{last_moment}
 use Rattle.ele_lists.specs.Lists.{remove_first}
 use Rattle.ele_time_path.specs.declared.tagged.Tag.TheVariants as tag
 use Rattle.ele_world.specs.declared.event.Event.{Event}
-use Rattle.ele_world.specs.declared.event.Event.TheVariants.{Clock, Tick, MakeDir, RemoveDir, Create, Link, Unlink, Rename, Undelete, OpenWrite, OpenRead, Write, Truncate, Close, Revert, SetDefault, CleanOne, Read, Stat, Versions, List as ListNames, Restorable, Due, UsageAll}
+use Rattle.ele_world.specs.declared.event.Event.TheVariants.{Clock, Tick, MakeDir, RemoveDir, Create, Link, Unlink, Rename, Undelete, OpenWrite, OpenRead, Write, Truncate, Close, Revert, SetPolicy, SetDefault, CleanOne, Read, Stat, Versions, List as ListNames, Restorable, Due, UsageAll}
 use Rattle.ele_world.specs.declared.event.Source.TheVariants.{Tagged, Of}
 use Rattle.ele_world.specs.declared.refusal.Refusal.TheVariants.{ClockBack, ClockEnd, Exists, NotEmpty, IntoItself, TooBig, Drafting, NotRestorable, Full}
 use Rattle.ele_world.specs.declared.refusal.Which.TheVariants as which
@@ -17,7 +17,7 @@ use Rattle.ele_world.specs.declared.reply.Reply.TheVariants.{Done, Nothing, Now,
 use Rattle.ele_world.specs.declared.rows.Reads.{Reads}
 use Rattle.ele_world.specs.declared.rows.Reads.TheVariants as reads
 use Rattle.ele_world.specs.declared.rows.Target.TheVariants as target
-use Rattle.ele_world.specs.Change.{Time, Govern, MakeDirectory, EndName, AddName, MoveName, EndFileName, Revive, MakeFile, Append, Take, StartDraft, WriteDraft, TruncateDraft, EndDraft, OpenHandle, ShutHandle, DropIdle}
+use Rattle.ele_world.specs.Change.{Time, Govern, MakeDirectory, EndName, AddName, MoveName, EndFileName, Revive, MakeFile, PutUnder, Append, Take, StartDraft, WriteDraft, TruncateDraft, EndDraft, OpenHandle, ShutHandle, DropIdle}
 use Rattle.ele_world.specs.FileView.{is_version_of}
 use Rattle.ele_world.specs.NameRows.{is_live_in}
 use Rattle.ele_world.specs.Plan.{Plan, Tell, Make, Unless, When, Need, IfFound, outcome}
@@ -161,6 +161,9 @@ plan w (Revert path number) =
     Unless (has_draft w file) Drafting
     (Unless (nat_le w.limits.versions (versions_made w)) (Full which.Versions)
     (Make (Version (next_of w.files file)) (Append file w.now row.cells ∷ [])))))
+-- the file has the policy from now on, with all its versions
+plan w (SetPolicy path policy) =
+    Need (file_now w.names path) (λ file. Make Done (PutUnder file policy ∷ []))
 -- files that are made in the directory from now on get the policy
 plan w (SetDefault path policy) =
     Need (directory_now w.names path) (λ directory. Make Done (Govern directory policy ∷ []))

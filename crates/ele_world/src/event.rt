@@ -47,6 +47,8 @@ pub enum Event {
     Close(Handle),
     /// The file at the path gets a version more, with the content of the one with that number.
     Revert(Path, VersionNo),
+    /// The file at the path has that policy from now on.
+    SetPolicy(Path, Policy),
     /// Files that are made in the directory at the path from now on get that policy.
     SetDefault(Path, Policy),
     /// The first due version is removed.

@@ -1,0 +1,184 @@
+//! Ladders: how much less is kept of versions the longer ago they ended.
+//! A contract sees a ladder as the list of its pairs of an age and a width.
+ghost use Rattle.std.specs.Prelude.{◌≡◌, ◌↔◌, ◌+◌, ◌<◌, ◌≤◌, ◌&&◌, ◌∷◌, [], IsOk, IfOk, Some, find, length, nat_eq, position};
+ghost use Rattle.std.specs.Option.{option_map};
+ghost use Rattle.std.specs.Cmp.{partial_equiv_from_equiv, and_equiv, on_equiv, nat_eq_equiv};
+ghost use Rattle.std.specs.Cmp.Lexicographic.{pointwise, lists_equiv};
+ghost use Rattle.ele_policy.specs.Ladder.{IsLadder, climbs, ground, is_above, level_of, rung_at, shares, span_of};
+ghost use Rattle.ele_policy.specs.Wait.{has_newer};
+
+use crate::interval::BadLadder;
+use ele_moment::Moment;
+use std::marker::Model;
+
+/// One to eight pairs of an age and a width, in seconds. The ages rise from at least 1, each width is at least 1 and divides
+/// the next, and no number exceeds 253402300799. From an age on, one version is kept of each span of the width beside it. It
+/// is kept in place, so that it takes no memory.
+#[derive(Clone, Copy, Debug)]
+pub struct Ladder {
+    rungs: [(u64, u64); Ladder::LONGEST],
+    count: usize,
+}
+
+impl Model for Ladder {
+    ghost use Rattle.std.specs.Prelude.{List, ℕ};
+
+    ghost Value = { List (ℕ × ℕ) };
+
+    ghost use Rattle.ele_policy.specs.Places.{rungs_of, fields_of, IsFilled, fields_of-rungs_of};
+
+    ghost view = { rungs_of };
+
+    ghost invariant = { IsFilled };
+
+    ghost inverse = { fields_of };
+
+    ghost inverse_ok = { fields_of-rungs_of };
+}
+
+// Whether the second rung may stand next above the first one.
+fn is_above(low: (u64, u64), high: (u64, u64)) -> bool
+    requires { 0 < low.1 }
+    ensures { result ≡ is_above low high }
+{
+    let (low_age, low_width) = low;
+    let (age, width) = high;
+    low_age < age
+        && age <= Ladder::LAST
+        && 0 < width
+        && width <= Ladder::LAST
+        && width.is_multiple_of(low_width)
+}
+
+// Whether each rung may stand next above the one before it, and the first above the ground.
+fn climbs(rungs: &[(u64, u64)]) -> bool
+    ensures { result ≡ climbs ground rungs.now }
+{
+    let mut low = (0, 1);
+    for rung in rungs {
+        if !is_above(low, *rung) {
+            return false;
+        }
+        low = *rung;
+    }
+    true
+}
+
+// The number of the rung's span in which the moment lies; no ladder has a width of 0.
+fn span_of(rung: &(u64, u64), moment: Moment) -> u64
+    ensures { result ≡ span_of rung.now moment }
+{
+    moment.seconds().checked_div(rung.1).unwrap_or(0)
+}
+
+// Whether both moments lie in one span of the rung.
+fn shares(rung: &(u64, u64), a: Moment, b: Moment) -> bool
+    ensures { result ≡ shares a b rung.now }
+{
+    span_of(rung, a) == span_of(rung, b)
+}
+
+// Whether one of the newer closings lies in the span of the closing.
+fn has_newer(rung: &(u64, u64), closed: Moment, newer: &[Moment]) -> bool
+    ensures { result ≡ has_newer closed newer.now rung.now }
+{
+    newer.iter().any(|other| shares(rung, closed, *other))
+}
+
+// The place of the lowest rung of which both moments lie in one span.
+fn place_shared(rungs: &[(u64, u64)], a: Moment, b: Moment) -> Option<usize>
+    ensures { result ≡ position (shares a b) rungs.now }
+{
+    rungs.iter().position(|rung| shares(rung, a, b))
+}
+
+impl Ladder {
+    // Rungs of the longest ladder.
+    const LONGEST: usize = 8;
+
+    const LAST: u64 = 253402300799;
+
+    /// The ladder of these pairs of an age and a width. `BadLadder` where they are no ladder.
+    pub fn new(pairs: &[(u64, u64)]) -> Result<Ladder, BadLadder>
+        ensures valid { IsOk result ↔ IsLadder pairs.now }
+        ensures value { IfOk result (λ ladder. ladder ≡ pairs.now) }
+    {
+        if pairs.is_empty() || pairs.len() > Ladder::LONGEST || !climbs(pairs) {
+            return Err(BadLadder);
+        }
+        let mut rungs = [(0, 0); Ladder::LONGEST];
+        rungs[..pairs.len()].copy_from_slice(pairs);
+        Ok(Ladder {
+            rungs,
+            count: pairs.len(),
+        })
+    }
+
+    /// One version an hour from a day on, one a day from a week on, and one a week from 30 days on.
+    pub fn standard() -> Ladder
+        ensures { result ≡ (86400, 3600) ∷ (604800, 86400) ∷ (2592000, 604800) ∷ [] }
+    {
+        let mut rungs = [(0, 0); Ladder::LONGEST];
+        rungs[0] = (86400, 3600);
+        rungs[1] = (604800, 86400);
+        rungs[2] = (2592000, 604800);
+        Ladder { rungs, count: 3 }
+    }
+
+    /// The pairs of an age and a width, lowest first.
+    pub fn pairs(&self) -> &[(u64, u64)]
+        ensures value { result.now ≡ self.now }
+        ensures ladder { IsLadder self.now }
+    {
+        &self.rungs[..self.count]
+    }
+
+    /// The level of an age in seconds: how many ages of the ladder it has reached.
+    pub fn level(&self, age: u64) -> usize
+        ensures { result ≡ level_of self.now age }
+    {
+        self.pairs().iter().filter(|rung| rung.0 <= age).count()
+    }
+
+    /// The number of the span of that level in which a version closed; the first level is 1.
+    pub fn span(&self, level: usize, closed: Moment) -> u64
+        requires first { 1 ≤ level }
+        requires last { level ≤ length self.now }
+        ensures { Some result ≡ option_map (λ rung. span_of rung closed) (rung_at self.now level) }
+    {
+        span_of(&self.pairs()[level - 1], closed)
+    }
+
+    /// The lowest level, from 1 on, at which both moments lie in one span.
+    pub fn shared_level(&self, a: Moment, b: Moment) -> Option<usize>
+        ensures { result ≡ option_map (λ place. place + 1) (position (shares a b) self.now) }
+    {
+        let place = place_shared(self.pairs(), a, b)?;
+        Some(place + 1)
+    }
+
+    /// The age of the lowest rung of which some newer closing lies in the span of the closing.
+    pub fn shared_age(&self, closed: Moment, newer: &[Moment]) -> Option<u64>
+        ensures { result ≡ option_map (λ rung. rung.0) (find (has_newer closed newer.now) self.now) }
+    {
+        let rung = self
+            .pairs()
+            .iter()
+            .find(|rung| has_newer(rung, closed, newer))?;
+        Some(rung.0)
+    }
+}
+
+impl PartialEq for Ladder {
+    ghost eq = { pointwise (λ x y. nat_eq x.0 y.0 && nat_eq x.1 y.1) };
+
+    ghost laws = { partial_equiv_from_equiv (lists_equiv (and_equiv (on_equiv (λ t. t.0) nat_eq_equiv) (on_equiv (λ t. t.1) nat_eq_equiv))) };
+
+    fn eq(&self, other: &Ladder) -> bool {
+        self.pairs() == other.pairs()
+    }
+}
+
+impl Eq for Ladder {
+    ghost laws = { lists_equiv (and_equiv (on_equiv (λ t. t.0) nat_eq_equiv) (on_equiv (λ t. t.1) nat_eq_equiv)) };
+}
