@@ -35,7 +35,10 @@ pub mod RipeAt
 pub mod Plain
 pub mod NameMoments
 pub mod OpenMoments
+pub mod Neighbours
 pub mod AppendMoments
+pub mod PolicyMoments
+pub mod PolicyUsage
 pub mod Revivals
 pub mod Meant
 pub mod Allowed

@@ -1,0 +1,18 @@
+-- Which ripe moments change where a file gets another policy: those of its own versions, and no other.
+use Rattle.std.proofs.Common.{◌≡◌, ℕ, ◌<◌, ◌==◌, true, false, cond, Option, Some, None, refl, ap, sym, ◌∙◌}
+use Rattle.ele_policy.specs.declared.policy.Policy.{Policy}
+use Rattle.ele_policy.specs.Policy.{IsPolicy}
+use Rattle.ele_world.specs.Change.{PutUnder, after_change}
+use Rattle.ele_world.specs.Due.{ripe_at}
+use Rattle.ele_world.specs.Neighbours.{moment_under}
+use Rattle.ele_world.specs.WellFormed.{IsWellFormed}
+use Rattle.ele_world.specs.World.{World, is_open, next_of}
+
+module _ (w : World) (file : ℕ) (policy : Policy) (k : IsWellFormed w) where
+  -- those of other files stay
+  pub policy_others : (f n : ℕ) → (f == file) ≡ false → ripe_at (after_change w (PutUnder file policy)) f n ≡ ripe_at w f n
+  policy_others f n other = ?
+
+  -- the file's own are those under the policy
+  pub policy_own : IsPolicy policy → 0 < next_of w.files file → (n : ℕ) → ripe_at (after_change w (PutUnder file policy)) file n ≡ cond (is_open w.handles file n) None (moment_under (Some policy) w.versions file n)
+  policy_own is there n = ?
