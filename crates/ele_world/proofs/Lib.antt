@@ -32,7 +32,6 @@ pub mod Removal
 pub mod RemovalOrder
 pub mod DueRows
 pub mod RipeAt
-pub mod Plain
 pub mod NameMoments
 pub mod OpenMoments
 pub mod Neighbours

@@ -1,11 +1,12 @@
 -- Whichever due row is taken out of a file, every other row is due as before, at each moment at which the row was due.
 use Rattle.std.proofs.Common.{◌≡◌, ℕ, ◌-◌, ◌≤◌, Bool, true, false, not, ◌&&◌, List, [], ◌∷◌, ◌++◌, Option, Some, None, refl, ap, sym, subst, ◌∙◌, filter, arith, ◌⊎◌, inl, inr}
-use Rattle.std.specs.Prelude.{nat_le}
+use Rattle.std.specs.Prelude.{nat_le, IfSome}
 use Rattle.std.specs.Option.{option_map_or}
 use Rattle.std.proofs.lemmas.Bool.{false≢true}
 use Rattle.std.proofs.lemmas.Bool.Decides.{nat_tests}
 use Rattle.ele_lists.specs.Lists.{AllLater}
 use Rattle.ele_policy.specs.declared.policy.Policy.{Policy}
+use Rattle.ele_policy.specs.Policy.{IsPolicy}
 use Rattle.ele_policy.specs.Ripe.{Beside, is_due_by, lets_go}
 use Rattle.ele_policy.proofs.Waits.{lets_go_without, lets_go_fewer}
 use Rattle.ele_world.specs.declared.rows.VersionRow.{VersionRow}
@@ -64,7 +65,7 @@ beside_more v row at xs more ys = by v.policy row.ended where
       let parts = both (nat_le ended at) (lets_go policy row.closed (newer_at v (xs ++ ys)) (at - ended)) halves.1 in
       rw (halves.0, parts.0) (lets_go_fewer policy v.live xs more ys row.closed (at - ended) parts.1)
 
-module _ (v : FileView) (xs : List VersionRow) (row : VersionRow) (ys : List VersionRow) (placed : AllLater Precedes (xs ++ row ∷ ys)) (life : IsLife row) where
+module _ (v : FileView) (xs : List VersionRow) (row : VersionRow) (ys : List VersionRow) (placed : AllLater Precedes (xs ++ row ∷ ys)) (life : IsLife row) (governed : IfSome v.policy IsPolicy) where
   before_stays : (x : VersionRow) (at : ℕ) → Precedes x row → due_in (with_rows v (xs ++ row ∷ ys)) row at ≡ true → due_in (with_rows v (xs ++ row ∷ ys)) x at ≡ due_in (with_rows v (xs ++ ys)) x at
   before_stays x at before due =
       ap (due_beside v x at) (ap closings (newer_before x xs row ys placed before) ∙ closings-append (filter (is_newer x) xs) (row ∷ ys))
@@ -74,10 +75,11 @@ module _ (v : FileView) (xs : List VersionRow) (row : VersionRow) (ys : List Ver
         without own =
             let lasts = rw own.is_ended at life in
             let by_then = before.by_then in
+            let given : IsPolicy own.policy = rw own.governed at governed in
             let longer : at - own.ended ≤ at - before.ended = omega (arith, by_then, lasts) in
             rw (own.governed, before.is_ended)
             (ap (λ b. not (is_protected v x at) && (nat_le before.ended at && b))
-            (lets_go_without own.policy v.live (closings (filter (is_newer x) xs)) row.closed (closings ys) x.closed (at - before.ended) (at - own.ended) longer own.goes))
+            (lets_go_without own.policy v.live (closings (filter (is_newer x) xs)) row.closed (closings ys) x.closed (at - before.ended) (at - own.ended) given longer own.goes))
 
   -- on whichever side of the row it stands
   pub others_stay : (x : VersionRow) (at : ℕ) → Precedes x row ⊎ Precedes row x → due_in (with_rows v (xs ++ row ∷ ys)) row at ≡ true → due_in (with_rows v (xs ++ row ∷ ys)) x at ≡ due_in (with_rows v (xs ++ ys)) x at

@@ -14,7 +14,7 @@ use Rattle.ele_world.specs.World.{World}
 use Rattle.ele_lists.proofs.Alls.{all-append, all-around, later-around}
 use Rattle.ele_lists.proofs.Filters.{filter-same_all}
 use Rattle.ele_world.proofs.Removal.{with_rows, others_stay, no_more_due}
-use Rattle.ele_world.proofs.Views.{IsLife, Precedes, precedes, view_is, lives_of, placed_of, own_rows, other_rows}
+use Rattle.ele_world.proofs.Views.{IsLife, IsView, Precedes, precedes, view_is, lives_of, placed_of, own_rows, other_rows}
 
 abbrev pub left : World → List VersionRow → World
 left w rows = record w { versions = rows }
@@ -36,8 +36,11 @@ module _ (w : World) (before : List VersionRow) (row : VersionRow) (behind : Lis
   abbrev with_own : List VersionRow → FileView
   with_own rows = with_rows (view_of w row.file) rows
 
+  own_is : IsView (view_of (left w (before ++ row ∷ behind)) row.file)
+  own_is = view_is (left w (before ++ row ∷ behind)) k row.file
+
   own_placed : AllLater Precedes (own before ++ row ∷ own behind)
-  own_placed = subst (AllLater Precedes) (own_rows before row behind) (view_is (left w (before ++ row ∷ behind)) k row.file).placed
+  own_placed = subst (AllLater Precedes) (own_rows before row behind) own_is.placed
 
   life : IsLife row
   life = (all-around IsLife before row behind (lives_of (left w (before ++ row ∷ behind)) k)).1
@@ -59,11 +62,11 @@ module _ (w : World) (before : List VersionRow) (row : VersionRow) (behind : Lis
 
   pub stays : (at : ℕ) → now_due at row ≡ true → (x : VersionRow) → IsBeside row x → then_due at x ≡ now_due at x
   unfolding is_due_at
-  stays at due x side = seen (λ now then. then ≡ now) (λ b. refl) at x (λ same. sym (others_stay (view_of w row.file) (own before) row (own behind) own_placed life x at (side same)
+  stays at due x side = seen (λ now then. then ≡ now) (λ b. refl) at x (λ same. sym (others_stay (view_of w row.file) (own before) row (own behind) own_placed life own_is.governed x at (side same)
       (subst (λ rows. due_in (with_own rows) row at ≡ true) (own_rows before row behind) due)))
 
   pub no_more : (at : ℕ) (x : VersionRow) → IsBeside row x → then_due at x ≡ true → now_due at x ≡ true
-  no_more at x side = seen (λ now then. then ≡ true → now ≡ true) (λ b h. h) at x (λ same. no_more_due (view_of w row.file) (own before) row (own behind) own_placed life x at (side same))
+  no_more at x side = seen (λ now then. then ≡ true → now ≡ true) (λ b h. h) at x (λ same. no_more_due (view_of w row.file) (own before) row (own behind) own_placed life own_is.governed x at (side same))
 
   pub sides : AllByRecursion (IsBeside row) (before ++ behind)
   sides =

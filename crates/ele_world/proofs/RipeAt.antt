@@ -10,6 +10,7 @@ use Rattle.ele_due.specs.Key.{is_key, is_ripe_by}
 use Rattle.ele_lists.specs.Lists.{AllLater}
 use Rattle.ele_lists.proofs.Edits.{found_passes, all-found}
 use Rattle.ele_moment.specs.Last.{last_moment}
+use Rattle.ele_policy.proofs.Earliest.{earliest_same}
 use Rattle.ele_policy.specs.declared.policy.Policy.{Policy}
 use Rattle.ele_policy.specs.Ripe.{candidates, earliest_of}
 use Rattle.ele_world.specs.declared.rows.VersionRow.{VersionRow}
@@ -49,15 +50,6 @@ is_due_is w file number k = by (find (is_version file number) w.versions) refl �
   by (Some row) e = all-found (is_version file number) (IsDueFromRipe w) w.versions row e (due_from_ripe w k) w.now (now_of w k)
 
 -- ---- the ripe moment is told by the moments at which the version is due
-
-earliest_same : (d e : ℕ → Bool) → ((at : ℕ) → at ≤ last_moment → d at ≡ e at) → (moments : List ℕ) → earliest_of d moments ≡ earliest_of e moments
-earliest_same d e same [] = refl
-earliest_same d e same (at ∷ moments) =
-    ap (λ o. cond (nat_le at last_moment && d at) (Some (option_map_or (min at) o at)) o) (earliest_same d e same moments)
-    ∙ ap (λ b. cond b (Some (option_map_or (min at) (earliest_of e moments) at)) (earliest_of e moments)) (by (nat_le at last_moment) refl) where
-      by : (b : Bool) → nat_le at last_moment ≡ b → (b && d at) ≡ (b && e at)
-      by true h = same at (grind (arith, nat_tests))
-      by false h = refl
 
 pub ripe_same : (v u : FileView) (row : VersionRow) → u.policy ≡ v.policy → ((at : ℕ) → at ≤ last_moment → due_in u row at ≡ due_in v row at) → ripe_in u row ≡ ripe_in v row
 ripe_same v u row policy same = ap (option_and_then (λ p. option_and_then (λ ended. earliest_of (due_in u row) (candidates p ended)) row.ended)) policy ∙ by v.policy row.ended where

@@ -1,18 +1,21 @@
 -- A file's rows in a well-formed world, and which are newer than one of them, by its place.
-use Rattle.std.proofs.Common.{◌≡◌, ℕ, ◌<◌, ◌≤◌, true, false, List, [], ◌∷◌, ◌++◌, Some, refl, ap, sym, subst, ◌∙◌, filter, arith, slice_get}
-use Rattle.std.specs.Prelude.{IfSome}
+use Rattle.std.proofs.Common.{◌≡◌, ℕ, ◌<◌, ◌≤◌, true, false, cond, List, [], ◌∷◌, ◌++◌, Some, refl, ap, sym, subst, ◌∙◌, filter, arith, slice_get}
+use Rattle.std.specs.Prelude.{IfSome, find}
 use Rattle.std.specs.List.{AllByRecursion}
+use Rattle.std.specs.Option.{option_map}
 use Rattle.std.proofs.lemmas.List.Elements.{filter-append}
 use Rattle.std.proofs.lemmas.Option.{IfSome_then}
 use Rattle.std.proofs.lemmas.Bool.Decides.{nat_tests}
 use Rattle.ele_moment.specs.Last.{last_moment}
 use Rattle.ele_lists.specs.Lists.{AllLater}
 use Rattle.ele_lists.proofs.Edits.{all-weaker}
+use Rattle.ele_policy.specs.Policy.{IsPolicy}
 use Rattle.ele_policy.specs.Ripe.{IsNearest}
+use Rattle.ele_world.specs.declared.rows.FileRow.{FileRow}
 use Rattle.ele_world.specs.declared.rows.VersionRow.{VersionRow}
 use Rattle.ele_world.specs.FileView.{FileView, view_of, is_version_of, is_newer, closings, beside}
-use Rattle.ele_world.specs.WellFormed.{Now, Versions, IsVersion, ArePlaced, IsWellFormed}
-use Rattle.ele_world.specs.World.{World}
+use Rattle.ele_world.specs.WellFormed.{Now, Files, Versions, IsFile, IsVersion, ArePlaced, IsWellFormed}
+use Rattle.ele_world.specs.World.{World, is_file, policy_of}
 use Rattle.ele_lists.proofs.Alls.{all-filter, later-filter, later-around}
 use Rattle.ele_lists.proofs.Filters.{filter-all, filter-none}
 
@@ -33,8 +36,9 @@ precedes x y placed same =
     let own = placed.ended same in
     record { number = grind (arith, nat_tests); ended = own.0; is_ended = own.1; by_then = own.2 }
 
--- what is true of each file's rows
+-- what is true of each file's policy and rows
 pub record IsView (v : FileView) : Type 0 where
+  pub governed : IfSome v.policy IsPolicy
   pub lives : AllByRecursion IsLife v.rows
   pub placed : AllLater Precedes v.rows
 
@@ -49,11 +53,26 @@ lives_of w k = all-weaker (IsVersion w.files w.now) IsLife w.versions (λ row is
 pub placed_of : (w : World) → IsWellFormed w → AllLater ArePlaced w.versions
 placed_of w k = (k.holds Versions).placed
 
-pub view_is : (w : World) → IsWellFormed w → (file : ℕ) → IsView (view_of w file)
-view_is w k file = record {
-  lives = all-filter IsLife (is_version_of file) w.versions (lives_of w k);
-  placed = later-filter ArePlaced Precedes (is_version_of file) w.versions (λ x y own other placed. precedes x y placed (grind (arith, nat_tests))) (placed_of w k);
+pub policies_of : (w : World) → IsWellFormed w → AllByRecursion (λ row. IsPolicy row.policy) w.files
+policies_of w k = all-weaker (IsFile w.made.files w.made.versions) (λ row. IsPolicy row.policy) w.files (λ row is. is.policy) (k.holds Files).each
+
+pub policy_is : (files : List FileRow) (file : ℕ) → AllByRecursion (λ row. IsPolicy row.policy) files → IfSome (policy_of files file) IsPolicy
+policy_is [] file all = tt
+policy_is (x ∷ xs) file all = elim (is_file file x) as (λ b. IfSome (option_map (λ (row : FileRow). row.policy) (cond b (Some x) (find (is_file file) xs))) IsPolicy) [
+  | true ↦ all.0
+  | false ↦ policy_is xs file all.1
+]
+
+-- each file of a world is so whose rows are
+pub view_in : (w : World) (file : ℕ) → AllByRecursion (λ row. IsPolicy row.policy) w.files → AllByRecursion IsLife w.versions → AllLater ArePlaced w.versions → IsView (view_of w file)
+view_in w file policies lives placed = record {
+  governed = policy_is w.files file policies;
+  lives = all-filter IsLife (is_version_of file) w.versions lives;
+  placed = later-filter ArePlaced Precedes (is_version_of file) w.versions (λ x y own other placed. precedes x y placed (grind (arith, nat_tests))) placed;
 }
+
+pub view_is : (w : World) → IsWellFormed w → (file : ℕ) → IsView (view_of w file)
+view_is w k file = view_in w file (policies_of w k) (lives_of w k) (placed_of w k)
 
 -- ---- the newer rows
 
@@ -124,6 +143,12 @@ pub own_rows : (before : List VersionRow) (row : VersionRow) (behind : List Vers
 own_rows before row behind =
     let own : is_version_of row.file row ≡ true = grind (arith, nat_tests) in
     filter-append (is_version_of row.file) before (row ∷ behind) ∙ rw own refl
+
+-- so what stands beside a version of a world is as its policy wants it
+pub nearest_of : (w : World) (before : List VersionRow) (row : VersionRow) (behind : List VersionRow) → IsView (view_of w row.file) → w.versions ≡ before ++ row ∷ behind
+    → IsNearest row.closed (slice_get (beside (view_of w row.file) row).newer 0) (beside (view_of w row.file) row)
+nearest_of w before row behind view whole =
+    nearest_is (view_of w row.file) view (filter (is_version_of row.file) before) row (filter (is_version_of row.file) behind) (ap (filter (is_version_of row.file)) whole ∙ own_rows before row behind)
 
 -- of another file
 pub other_rows : (file : ℕ) (before : List VersionRow) (row : VersionRow) (behind : List VersionRow) → is_version_of file row ≡ false → filter (is_version_of file) (before ++ row ∷ behind) ≡ filter (is_version_of file) (before ++ behind)
