@@ -1,16 +1,28 @@
 -- A version's ripe moment: none while a handle reads it, and else what its policy, its own moments and its next held neighbour tell.
-use Rattle.std.proofs.Common.{◌≡◌, ℕ, true, false, cond, List, Option, None, refl, ap, sym, ◌∙◌}
-use Rattle.std.specs.Prelude.{find}
+use Rattle.std.proofs.Common.{◌≡◌, ℕ, ◌&&◌, Bool, true, false, not, cond, List, [], ◌∷◌, ◌++◌, Option, Some, None, refl, ap, sym, subst, ◌∙◌, arith, filter, slice_get}
+use Rattle.std.specs.Prelude.{find, option_and_then, IfSome}
 use Rattle.std.specs.List.{AllByRecursion}
+use Rattle.std.specs.Option.{option_map, option_map_or}
+use Rattle.std.proofs.lemmas.Bool.Decides.{nat_tests}
+use Rattle.std.proofs.lemmas.Option.{slice_get-map}
+use Rattle.ele_lists.proofs.Cuts.{find-cut}
+use Rattle.ele_lists.proofs.Filters.{find-filter_both}
 use Rattle.ele_lists.specs.Lists.{AllLater}
+use Rattle.ele_policy.proofs.Earliest.{never_due}
+use Rattle.ele_policy.proofs.Waits.{ripe_nearest}
+use Rattle.ele_policy.specs.declared.policy.Policy.{Policy}
 use Rattle.ele_policy.specs.Policy.{IsPolicy}
+use Rattle.ele_policy.specs.Ripe.{IsNearest, is_due_by, candidates, earliest_of, ripe_by}
 use Rattle.ele_world.specs.declared.rows.FileRow.{FileRow}
 use Rattle.ele_world.specs.declared.rows.VersionRow.{VersionRow}
-use Rattle.ele_world.specs.Due.{ripe_at}
-use Rattle.ele_world.specs.Neighbours.{next_closing, free_moment}
+use Rattle.ele_world.specs.Due.{ripe_of, ripe_at}
+use Rattle.ele_world.specs.FileView.{FileView, view_of, is_version_of, is_newer, beside, is_protected, ripe_in}
+use Rattle.ele_world.specs.Neighbours.{near_moment, next_closing, free_moment}
 use Rattle.ele_world.specs.WellFormed.{ArePlaced, IsWellFormed}
 use Rattle.ele_world.specs.World.{World, is_open, is_version, policy_of}
-use Rattle.ele_world.proofs.Views.{IsLife}
+use Rattle.ele_world.proofs.Readers.{numbers_are}
+use Rattle.ele_world.proofs.RipeAt.{ripe_at_is}
+use Rattle.ele_world.proofs.Views.{IsLife, policies_of, lives_of, placed_of, view_in, nearest_of}
 
 -- what ripe moments rest on: the policies are policies, and each file's versions stand in order
 pub record AreInOrder (files : List FileRow) (versions : List VersionRow) : Type 0 where
@@ -19,14 +31,69 @@ pub record AreInOrder (files : List FileRow) (versions : List VersionRow) : Type
   pub placed : AllLater ArePlaced versions
 
 pub in_order_of : (w : World) → IsWellFormed w → AreInOrder w.files w.versions
-in_order_of w k = ?
+in_order_of w k = record { policies = policies_of w k; lives = lives_of w k; placed = placed_of w k }
+
+slice_get-filter : {X : Type 0} (p : X → Bool) (xs : List X) → slice_get (filter p xs) 0 ≡ find p xs
+slice_get-filter p [] = refl
+slice_get-filter p (x ∷ xs) = elim (p x) as (λ b. slice_get (cond b (x ∷ filter p xs) (filter p xs)) 0 ≡ cond b (Some x) (find p xs)) [
+  | true ↦ refl
+  | false ↦ slice_get-filter p xs
+]
+
+-- the nearest of the closings beside it is that of the next held version
+nearest_closing : (w : World) (row : VersionRow) → slice_get (beside (view_of w row.file) row).newer 0 ≡ next_closing w.versions row.file row.number
+nearest_closing w row =
+    slice_get-map (λ (x : VersionRow). x.closed) (filter (is_newer row) (filter (is_version_of row.file) w.versions)) 0
+    ∙ ap (option_map (λ (x : VersionRow). x.closed)) (slice_get-filter (is_newer row) (filter (is_version_of row.file) w.versions) ∙ find-filter_both (is_newer row) (is_version_of row.file) w.versions)
+
+-- what a held version's moment is, by whether it is protected, and by its file's policy and its end
+abbrev moment_if : Bool → Option Policy → Option ℕ → VersionRow → Option ℕ → Option ℕ
+moment_if b policy nearest row ended = cond b None (option_and_then (near_moment policy nearest row.closed) ended)
+
+ripe_in_near : (v : FileView) (row : VersionRow) (nearest : Option ℕ) → IfSome v.policy IsPolicy → IsNearest row.closed nearest (beside v row) → ripe_in v row ≡ moment_if (is_protected v row 0) v.policy nearest row row.ended
+unfolding ripe_by
+ripe_in_near v row nearest governed near = by (is_protected v row 0) v.policy row.ended governed where
+  by : (b : Bool) (p : Option Policy) (e : Option ℕ) → IfSome p IsPolicy
+      → option_and_then (λ policy. option_and_then (λ ended. earliest_of (λ at. not b && option_map_or (λ policy. option_map_or (λ ended. is_due_by policy row.closed (beside v row) ended at) e false) p false) (candidates policy ended)) e) p ≡ moment_if b p nearest row e
+  by true None e given = refl
+  by true (Some policy) None given = refl
+  by true (Some policy) (Some ended) given = never_due (candidates policy ended)
+  by false None None given = refl
+  by false None (Some ended) given = refl
+  by false (Some policy) None given = refl
+  by false (Some policy) (Some ended) given = ripe_nearest policy row.closed ended nearest (beside v row) given near
+
+ripe_of_near : (w : World) → AreInOrder w.files w.versions → (before : List VersionRow) (row : VersionRow) (behind : List VersionRow) → w.versions ≡ before ++ row ∷ behind
+    → ripe_of w row ≡ moment_if (is_open w.handles row.file row.number) (policy_of w.files row.file) (next_closing w.versions row.file row.number) row row.ended
+unfolding ripe_of
+ripe_of_near w ordered before row behind whole =
+    let view = view_in w row.file ordered.policies ordered.lives ordered.placed in
+    let policy = policy_of w.files row.file in
+    let next = next_closing w.versions row.file row.number in
+    ripe_in_near (view_of w row.file) row next view.governed (subst (λ n. IsNearest row.closed n (beside (view_of w row.file) row)) (nearest_closing w row) (nearest_of w before row behind view whole))
+    ∙ ap (λ b. moment_if b policy next row row.ended) (numbers_are w.handles row.file row.number)
 
 pub ripe_at_near : (w : World) (file number : ℕ) → AreInOrder w.files w.versions → ripe_at w file number ≡ cond (is_open w.handles file number) None (free_moment w.files w.versions file number)
-ripe_at_near w file number ordered = ?
+ripe_at_near w file number ordered = ripe_at_is w file number ∙ by (find (is_version file number) w.versions) refl where
+  by : (o : Option VersionRow) → find (is_version file number) w.versions ≡ o
+      → option_and_then (ripe_of w) o ≡ cond (is_open w.handles file number) None (option_and_then (λ row. option_and_then (near_moment (policy_of w.files file) (next_closing w.versions file number) row.closed) row.ended) o)
+  by None e = elim (is_open w.handles file number) as (λ b. ◌≡◌ {A = Option ℕ} None (cond b None None)) [
+    | true ↦ refl
+    | false ↦ refl
+  ]
+  by (Some row) e =
+      let cut = find-cut (is_version file number) w.versions row e in
+      let passes = cut.passes in
+      let own : row.file ≡ file = grind (arith, nat_tests) in
+      let its : row.number ≡ number = grind (arith, nat_tests) in
+      ripe_of_near w ordered cut.before row cut.behind cut.whole
+      ∙ ap (λ f. moment_if (is_open w.handles f row.number) (policy_of w.files f) (next_closing w.versions f row.number) row row.ended) own
+      ∙ ap (λ n. moment_if (is_open w.handles file n) (policy_of w.files file) (next_closing w.versions file n) row row.ended) its
 
 -- so it is the same in two worlds in which these are
 pub found_moment : (w v : World) (file number : ℕ) → AreInOrder w.files w.versions → AreInOrder v.files v.versions
     → policy_of v.files file ≡ policy_of w.files file → is_open v.handles file number ≡ is_open w.handles file number
     → next_closing v.versions file number ≡ next_closing w.versions file number
     → find (is_version file number) v.versions ≡ find (is_version file number) w.versions → ripe_at v file number ≡ ripe_at w file number
-found_moment w v file number before after policy opens next same = ?
+found_moment w v file number before after policy opens next same =
+    ripe_at_near v file number after ∙ rw (policy, opens, next, same) refl ∙ sym (ripe_at_near w file number before)
