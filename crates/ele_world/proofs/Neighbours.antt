@@ -1,13 +1,14 @@
 -- A version's ripe moment: none while a handle reads it, and else what its policy, its own moments and its next held neighbour tell.
-use Rattle.std.proofs.Common.{◌≡◌, ℕ, ◌&&◌, Bool, true, false, not, cond, List, [], ◌∷◌, ◌++◌, Option, Some, None, refl, ap, sym, subst, ◌∙◌, arith, filter, slice_get}
-use Rattle.std.specs.Prelude.{find, option_and_then, IfSome}
+use Rattle.std.proofs.Common.{◌≡◌, ℕ, ◌+◌, ◌<◌, ◌≤◌, ◌==◌, ◌&&◌, Bool, true, false, not, cond, List, [], ◌∷◌, ◌++◌, Option, Some, None, refl, ap, sym, subst, ◌∙◌, arith, filter, slice_get}
+use Rattle.std.specs.Prelude.{find, nat_lt, option_and_then, IfSome}
 use Rattle.std.specs.List.{AllByRecursion}
 use Rattle.std.specs.Option.{option_map, option_map_or}
 use Rattle.std.proofs.lemmas.Bool.Decides.{nat_tests}
 use Rattle.std.proofs.lemmas.Option.{slice_get-map}
 use Rattle.ele_lists.proofs.Cuts.{find-cut}
 use Rattle.ele_lists.proofs.Filters.{find-filter_both}
-use Rattle.ele_lists.specs.Lists.{AllLater}
+use Rattle.ele_lists.specs.Lists.{AllLater, update_first}
+use Rattle.ele_lists.proofs.Edits.{all-weaker, not_found}
 use Rattle.ele_policy.proofs.Earliest.{never_due}
 use Rattle.ele_policy.proofs.Waits.{ripe_nearest}
 use Rattle.ele_policy.specs.declared.policy.Policy.{Policy}
@@ -15,14 +16,15 @@ use Rattle.ele_policy.specs.Policy.{IsPolicy}
 use Rattle.ele_policy.specs.Ripe.{IsNearest, is_due_by, candidates, earliest_of, ripe_by}
 use Rattle.ele_world.specs.declared.rows.FileRow.{FileRow}
 use Rattle.ele_world.specs.declared.rows.VersionRow.{VersionRow}
+use Rattle.ele_world.specs.Change.{ended_at}
 use Rattle.ele_world.specs.Due.{ripe_of, ripe_at}
 use Rattle.ele_world.specs.FileView.{FileView, view_of, is_version_of, is_newer, beside, is_protected, ripe_in}
-use Rattle.ele_world.specs.Neighbours.{near_moment, next_closing, free_moment}
-use Rattle.ele_world.specs.WellFormed.{ArePlaced, IsWellFormed}
-use Rattle.ele_world.specs.World.{World, is_open, is_version, policy_of}
+use Rattle.ele_world.specs.Neighbours.{is_newer_of, near_moment, next_closing, free_moment}
+use Rattle.ele_world.specs.WellFormed.{ArePlaced, AreVersions, IsVersion, Versions, IsWellFormed}
+use Rattle.ele_world.specs.World.{World, is_open, is_version, next_of, policy_of}
 use Rattle.ele_world.proofs.Readers.{numbers_are}
 use Rattle.ele_world.proofs.RipeAt.{ripe_at_is}
-use Rattle.ele_world.proofs.Views.{IsLife, policies_of, lives_of, placed_of, view_in, nearest_of}
+use Rattle.ele_world.proofs.Views.{IsLife, policies_of, lives_in, view_in, nearest_of}
 
 -- what ripe moments rest on: the policies are policies, and each file's versions stand in order
 pub record AreInOrder (files : List FileRow) (versions : List VersionRow) : Type 0 where
@@ -30,8 +32,11 @@ pub record AreInOrder (files : List FileRow) (versions : List VersionRow) : Type
   pub lives : AllByRecursion IsLife versions
   pub placed : AllLater ArePlaced versions
 
+pub versions_in_order : (files : List FileRow) (now : ℕ) (versions : List VersionRow) → AllByRecursion (λ row. IsPolicy row.policy) files → AreVersions files now versions → AreInOrder files versions
+versions_in_order files now versions policies are = record { policies = policies; lives = lives_in files now versions are.each; placed = are.placed }
+
 pub in_order_of : (w : World) → IsWellFormed w → AreInOrder w.files w.versions
-in_order_of w k = record { policies = policies_of w k; lives = lives_of w k; placed = placed_of w k }
+in_order_of w k = versions_in_order w.files w.now w.versions (policies_of w k) (k.holds Versions)
 
 slice_get-filter : {X : Type 0} (p : X → Bool) (xs : List X) → slice_get (filter p xs) 0 ≡ find p xs
 slice_get-filter p [] = refl
@@ -97,3 +102,35 @@ pub found_moment : (w v : World) (file number : ℕ) → AreInOrder w.files w.ve
     → find (is_version file number) v.versions ≡ find (is_version file number) w.versions → ripe_at v file number ≡ ripe_at w file number
 found_moment w v file number before after policy opens next same =
     ripe_at_near v file number after ∙ rw (policy, opens, next, same) refl ∙ sym (ripe_at_near w file number before)
+
+-- ---- the next held version
+
+-- an end leaves it where it is
+pub next_closing-ended : (p : VersionRow → Bool) (now : ℕ) (rows : List VersionRow) (file number : ℕ) → next_closing (update_first p (ended_at now) rows) file number ≡ next_closing rows file number
+next_closing-ended p now [] file number = refl
+next_closing-ended p now (x ∷ xs) file number =
+    let closing = option_map (λ (row : VersionRow). row.closed) in
+    elim (p x) as (λ b. closing (find (is_newer_of file number) (cond b (ended_at now x ∷ xs) (x ∷ update_first p (ended_at now) xs))) ≡ closing (find (is_newer_of file number) (x ∷ xs))) [
+      | true ↦ elim (is_newer_of file number x) as (λ b. closing (cond b (Some (ended_at now x)) (find (is_newer_of file number) xs)) ≡ closing (cond b (Some x) (find (is_newer_of file number) xs))) [
+        | true ↦ refl
+        | false ↦ refl
+      ]
+      | false ↦ elim (is_newer_of file number x) as (λ b. closing (cond b (Some x) (find (is_newer_of file number) (update_first p (ended_at now) xs))) ≡ closing (cond b (Some x) (find (is_newer_of file number) xs))) [
+        | true ↦ refl
+        | false ↦ next_closing-ended p now xs file number
+      ]
+    ]
+
+-- none is behind the file's last version
+isnt_past : (files : List FileRow) (now file number : ℕ) → next_of files file ≤ number + 1 → (row : VersionRow) → IsVersion files now row → is_newer_of file number row ≡ false
+isnt_past files now file number past row is = by (row.file == file) refl where
+  by : (b : Bool) → (row.file == file) ≡ b → (b && nat_lt number row.number) ≡ false
+  by true e =
+      let own : row.file ≡ file = grind (arith, nat_tests) in
+      let before : row.number < next_of files file = subst (λ f. row.number < next_of files f) own is.numbered in
+      grind (arith, nat_tests)
+  by false e = refl
+
+pub none_past : (files : List FileRow) (now : ℕ) (rows : List VersionRow) (file number : ℕ) → AllByRecursion (IsVersion files now) rows → next_of files file ≤ number + 1 → next_closing rows file number ≡ None
+none_past files now rows file number each past = ap (option_map (λ (row : VersionRow). row.closed))
+    (not_found (is_newer_of file number) rows (all-weaker (IsVersion files now) (λ row. is_newer_of file number row ≡ false) rows (isnt_past files now file number past) each))

@@ -47,8 +47,11 @@ pub record IsView (v : FileView) : Type 0 where
 pub now_of : (w : World) → IsWellFormed w → w.now ≤ last_moment
 now_of w k = k.holds Now
 
+pub lives_in : (files : List FileRow) (now : ℕ) (rows : List VersionRow) → AllByRecursion (IsVersion files now) rows → AllByRecursion IsLife rows
+lives_in files now rows = all-weaker (IsVersion files now) IsLife rows (λ row is. IfSome_then row.ended is.ended (λ ended life. life.0))
+
 pub lives_of : (w : World) → IsWellFormed w → AllByRecursion IsLife w.versions
-lives_of w k = all-weaker (IsVersion w.files w.now) IsLife w.versions (λ row is. IfSome_then row.ended is.ended (λ ended life. life.0)) (k.holds Versions).each
+lives_of w k = lives_in w.files w.now w.versions (k.holds Versions).each
 
 pub placed_of : (w : World) → IsWellFormed w → AllLater ArePlaced w.versions
 placed_of w k = (k.holds Versions).placed
