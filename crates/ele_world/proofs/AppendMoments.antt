@@ -1,17 +1,28 @@
 -- Which ripe moments change where a file has a version more: that of its newest held one, which ends unless it had, and gets a
 -- neighbour, and the new one's own.
-use Rattle.std.proofs.Common.{◌≡◌, ℕ, ◌<◌, ◌==◌, Bool, true, false, cond, ◌&&◌, ◌||◌, List, Option, Some, None, refl, ap, sym, ◌∙◌}
-use Rattle.std.specs.Prelude.{option_and_then, unwrap_or}
-use Rattle.std.specs.List.{AllByRecursion}
+use Rattle.std.proofs.Common.{◌≡◌, ℕ, ◌+◌, ◌-◌, ◌<◌, ◌≤◌, ◌==◌, Bool, true, false, cond, ◌&&◌, ◌||◌, List, [], ◌∷◌, Option, Some, None, refl, ap, sym, subst, ◌∙◌, arith}
+use Rattle.std.specs.Prelude.{find, nat_lt, option_and_then, unwrap_or}
+use Rattle.std.specs.List.{AllByRecursion, list_any}
 use Rattle.std.specs.Option.{option_map_or}
+use Rattle.std.proofs.lemmas.Bool.Decides.{nat_tests}
 use Rattle.ele_content.specs.declared.cell.Cell.{Cell}
+use Rattle.ele_lists.proofs.Edits.{all-weaker, not_found}
 use Rattle.ele_policy.specs.Policy.{IsPolicy}
 use Rattle.ele_world.specs.declared.rows.VersionRow.{VersionRow}
-use Rattle.ele_world.specs.Change.{with_version}
-use Rattle.ele_world.specs.Due.{ripe_at}
-use Rattle.ele_world.specs.Neighbours.{near_moment, newest_of}
-use Rattle.ele_world.specs.WellFormed.{AreHeldRead, AreVersions, IsWellFormed}
-use Rattle.ele_world.specs.World.{World, is_live, is_open, next_of, policy_of}
+use Rattle.ele_world.specs.Change.{with_version, ended_at, next_version}
+use Rattle.ele_world.specs.Due.{ripe_of, ripe_at}
+use Rattle.ele_world.specs.FileView.{is_version_of}
+use Rattle.ele_world.specs.Neighbours.{is_newer_of, near_moment, newest_of, next_closing}
+use Rattle.ele_world.specs.WellFormed.{AreHeldRead, AreVersions, IsVersion, Readers, Versions, IsWellFormed}
+use Rattle.ele_world.specs.World.{World, is_live, is_open, is_version, next_of, policy_of}
+use Rattle.ele_world.proofs.Closes.{new_found, none_next}
+use Rattle.ele_world.proofs.Files.{policies-numbered}
+use Rattle.ele_world.proofs.Neighbours.{AreInOrder, found_moment, next_closing-ended, ripe_at_near, versions_in_order}
+use Rattle.ele_world.proofs.NewestHeld as held
+use Rattle.ele_world.proofs.NewestHeld.{IsNewest, found_still, newest_ended, next_behind, next_in_order, next_other, next_still, none_behind, none_held, none_still}
+use Rattle.ele_world.proofs.Readers.{unread_unheld}
+use Rattle.ele_world.proofs.RipeAt.{ripe_at_is}
+use Rattle.ele_world.proofs.Views.{policies_of}
 
 -- what is known of a world whose file may get a version
 pub record MayGrow (w : World) (file : ℕ) : Type 0 where
@@ -21,11 +32,18 @@ pub record MayGrow (w : World) (file : ℕ) : Type 0 where
   pub policies : AllByRecursion (λ row. IsPolicy row.policy) w.files
 
 pub may_grow : (w : World) (file : ℕ) → IsWellFormed w → 0 < next_of w.files file → MayGrow w file
-may_grow w file k there = ?
+may_grow w file k there = record { there = there; versions = k.holds Versions; readers = k.holds Readers; policies = policies_of w k }
 
 -- the next version of the file and its newest held one
 abbrev pub touches : List VersionRow → ℕ → ℕ → ℕ → ℕ → Bool
 touches versions file next f n = (f == file) && ((n == next) || option_map_or (λ row. n == row.number) (newest_of versions file) false)
+
+unheld_moment : (w : World) (file number : ℕ) → AllByRecursion (λ row. is_version file number row ≡ false) w.versions → ripe_at w file number ≡ None
+unheld_moment w file number none = ripe_at_is w file number ∙ ap (option_and_then (ripe_of w)) (not_found (is_version file number) w.versions none)
+
+any_none : {X : Type 0} (p : X → Bool) (xs : List X) → AllByRecursion (λ x. p x ≡ false) xs → list_any p xs ≡ false
+any_none p [] all = refl
+any_none p (x ∷ xs) all = rw all.0 (any_none p xs all.1)
 
 module _ (w : World) (file opened : ℕ) (cells : List Cell) (k : MayGrow w file) where
   abbrev next : ℕ
@@ -34,25 +52,74 @@ module _ (w : World) (file opened : ℕ) (cells : List Cell) (k : MayGrow w file
   abbrev appended : World
   appended = with_version w file opened cells
 
+  policy : policy_of appended.files file ≡ policy_of w.files file
+  policy = policies-numbered w.files file file
+
+  ordered : AreInOrder w.files w.versions
+  ordered = versions_in_order w.files w.now w.versions k.policies k.versions
+
+  then_ordered : AreInOrder appended.files appended.versions
+  then_ordered = next_in_order w file opened cells k.versions k.policies
+
+  none_there : AllByRecursion (λ row. is_version file next row ≡ false) w.versions
+  none_there = all-weaker (IsVersion w.files w.now) (λ row. is_version file next row ≡ false) w.versions (none_next w.files w.now file) k.versions.each
+
   pub next_before : ripe_at w file next ≡ None
-  next_before = ?
+  next_before = unheld_moment w file next none_there
 
   -- it has its moment where it ends at once
   pub next_after : ripe_at appended file next ≡ cond (is_live w file) None (near_moment (policy_of w.files file) None w.now w.now)
-  next_after = ?
+  next_after =
+      let unread = unread_unheld w.versions w.handles file next k.readers (any_none (is_version file next) w.versions none_there) in
+      ripe_at_near appended file next then_ordered
+      ∙ rw (unread, new_found w file k.versions.each opened cells, policy, none_behind w file opened cells k.versions) (by (is_live w file)) where
+        by : (b : Bool) → option_and_then (near_moment (policy_of w.files file) None w.now) (cond b None (Some w.now)) ≡ cond b None (near_moment (policy_of w.files file) None w.now w.now)
+        by true = refl
+        by false = refl
 
   -- the newest held one isn't the next one
   pub newest_before : (row : VersionRow) → newest_of w.versions file ≡ Some row → row.number < next
-  newest_before row is = ?
+  newest_before row is = (held.newest_is w file k.versions row is).before
 
   -- it had a moment if it had ended, without a newer one beside it
   pub newest_was : (row : VersionRow) → newest_of w.versions file ≡ Some row → ripe_at w file row.number ≡ cond (is_open w.handles file row.number) None (option_and_then (near_moment (policy_of w.files file) None row.closed) row.ended)
-  newest_was row is = ?
+  newest_was row is =
+      let newest = held.newest_is w file k.versions row is in
+      ripe_at_near w file row.number ordered ∙ rw (newest.found, not_found (is_newer_of file row.number) w.versions newest.most) refl
 
   -- and has one with the new version beside it
   pub newest_is : (row : VersionRow) → newest_of w.versions file ≡ Some row → ripe_at appended file row.number ≡ cond (is_open w.handles file row.number) None (near_moment (policy_of w.files file) (Some w.now) row.closed (unwrap_or row.ended w.now))
-  newest_is row is = ?
+  newest_is row is =
+      let newest = held.newest_is w file k.versions row is in
+      ripe_at_near appended file row.number then_ordered ∙ rw (newest_ended w file opened cells k.versions row newest, policy, next_behind w file opened cells k.versions row newest) refl
+
+  stays_unheld : (n : ℕ) → (n == next) ≡ false → AllByRecursion (λ row. is_version file n row ≡ false) w.versions → ripe_at appended file n ≡ ripe_at w file n
+  stays_unheld n other none = unheld_moment appended file n (none_still w file opened cells k.versions n other none) ∙ sym (unheld_moment w file n none)
+
+  stays_older : (row : VersionRow) → newest_of w.versions file ≡ Some row → (n : ℕ) → (n == next) ≡ false → (n == row.number) ≡ false → ripe_at appended file n ≡ ripe_at w file n
+  stays_older row is n new newest = by (nat_lt n row.number) refl where
+    its : IsNewest w file row
+    its = held.newest_is w file k.versions row is
+
+    by : (b : Bool) → nat_lt n row.number ≡ b → ripe_at appended file n ≡ ripe_at w file n
+    by true e =
+        let older : n < row.number = grind (arith, nat_tests) in
+        let before = its.before in
+        found_moment w appended file n ordered then_ordered policy refl (next_still w file opened cells k.versions row its n older)
+        (found_still w file opened cells k.versions file n (grind (arith, nat_tests)) (grind (arith, nat_tests)))
+    by false e = stays_unheld n new (all-weaker (λ x. is_newer_of file row.number x ≡ false) (λ x. is_version file n x ≡ false) w.versions (λ x h. grind (arith, nat_tests)) its.most)
 
   -- all others stay
   pub others_after : (f n : ℕ) → touches w.versions file next f n ≡ false → ripe_at appended f n ≡ ripe_at w f n
-  others_after f n apart = ?
+  others_after f n apart = by (f == file) (newest_of w.versions file) refl refl apart where
+    by : (b : Bool) (o : Option VersionRow) → (f == file) ≡ b → newest_of w.versions file ≡ o → (b && ((n == next) || option_map_or (λ row. n == row.number) o false)) ≡ false → ripe_at appended f n ≡ ripe_at w f n
+    by false o e found apart =
+        found_moment w appended f n ordered then_ordered (policies-numbered w.files file f) refl (next_other w file opened cells k.versions f n e)
+        (found_still w file opened cells k.versions f n (grind (arith, nat_tests)) (rw e refl))
+    by true None e found apart =
+        let own : f ≡ file = grind (arith, nat_tests) in
+        let held = none_held w file k.versions found in
+        rw own (stays_unheld n (grind (arith, nat_tests)) (all-weaker (λ x. is_version_of file x ≡ false) (λ x. is_version file n x ≡ false) w.versions (λ x h. grind (arith, nat_tests)) held))
+    by true (Some row) e found apart =
+        let own : f ≡ file = grind (arith, nat_tests) in
+        rw own (stays_older row found n (grind (arith, nat_tests)) (grind (arith, nat_tests)))

@@ -10,8 +10,8 @@ use Rattle.ele_world.specs.Due.{ripe_at}
 use Rattle.ele_world.specs.declared.refusal.Refusal.TheVariants.{NoHandle}
 use Rattle.ele_world.specs.declared.rows.HandleRow.{HandleRow}
 use Rattle.ele_world.specs.declared.rows.Reads.{Reads}
-use Rattle.ele_world.specs.World.{World, is_handle, is_open, reads_by, reads_version}
 use Rattle.ele_world.specs.Neighbours.{free_moment}
+use Rattle.ele_world.specs.World.{World, is_handle, is_open, reads_by, reads_version}
 use Rattle.ele_world.proofs.Neighbours.{AreInOrder, found_moment, ripe_at_near}
 
 -- an open version has none

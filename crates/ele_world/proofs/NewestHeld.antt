@@ -1,0 +1,222 @@
+-- The newest held version of a file, and the place at which its next one comes in.
+use Rattle.std.proofs.Common.{◌≡◌, ℕ, ◌+◌, ◌-◌, ◌<◌, ◌≤◌, ◌==◌, Bool, true, false, cond, ◌&&◌, ◌||◌, List, [], ◌∷◌, Option, Some, None, IfSome, refl, ap, sym, subst, ◌∙◌, arith}
+use Rattle.std.specs.Prelude.{find, nat_lt, unwrap_or}
+use Rattle.std.specs.List.{AllByRecursion, list_any}
+use Rattle.std.specs.Option.{option_map, option_or}
+use Rattle.std.proofs.lemmas.Bool.{false≢true}
+use Rattle.std.proofs.lemmas.Bool.Decides.{nat_tests}
+use Rattle.ele_content.specs.declared.cell.Cell.{Cell}
+use Rattle.ele_lists.specs.Last.{last_passing}
+use Rattle.ele_lists.specs.Lists.{AllLater, insert_before}
+use Rattle.ele_lists.proofs.Alls.{later-weaker}
+use Rattle.ele_lists.proofs.Edits.{all-both, all-insert_before, all-update_first, all-weaker, find-insert_before, later-insert_before, list_any-update_first}
+use Rattle.ele_lists.proofs.Found.{any-found, find-inserted, find-update_other}
+use Rattle.ele_lists.proofs.Lasts.{last_has}
+use Rattle.ele_policy.specs.Policy.{IsPolicy}
+use Rattle.ele_world.specs.Change.{ended_at, next_version, numbered_on, with_end, with_version}
+use Rattle.ele_world.specs.FileView.{is_version_of}
+use Rattle.ele_world.specs.Neighbours.{is_newer_of, newest_of, next_closing}
+use Rattle.ele_world.specs.WellFormed.{ArePlaced, AreVersions, IsVersion}
+use Rattle.ele_world.specs.World.{World, is_file, is_live, is_version, is_version_after, next_of}
+use Rattle.ele_world.specs.declared.rows.VersionRow.{VersionRow}
+use Rattle.ele_world.proofs.Elements.{find-updated}
+use Rattle.ele_world.proofs.KeptVersions.{versions_ended}
+use Rattle.ele_world.proofs.Neighbours.{AreInOrder, next_closing-ended, none_past}
+use Rattle.ele_world.proofs.Versions.{IsEndedBy, IsFound, all_found, file_ended, other_ended}
+use Rattle.ele_world.proofs.Views.{IsLife, lives_in}
+
+last-none : {X : Type 0} (p : X → Bool) (xs : List X) → last_passing p xs ≡ None → AllByRecursion (λ x. p x ≡ false) xs
+last-none p [] none = tt
+last-none {X} p (x ∷ xs) none = by (last_passing p xs) (p x) refl refl (last-none p xs) none where
+  by : (o : Option X) (b : Bool) → last_passing p xs ≡ o → p x ≡ b → (last_passing p xs ≡ None → AllByRecursion (λ x. p x ≡ false) xs) → option_or o (cond b (Some x) None) ≡ None → AllByRecursion (λ x. p x ≡ false) (x ∷ xs)
+  by (Some y) b e f rest h = absurd cc
+  by None true e f rest h = absurd cc
+  by None false e f rest h = (f, rest e)
+
+-- what is found is so still where an element comes in behind it
+find-insert_behind : {X : Type 0} (p q : X → Bool) (y : X) (xs : List X) → AllByRecursion (λ x. q x ≡ true → p x ≡ false) xs → AllLater (λ x z. p x ≡ true → p z ≡ true) xs → list_any q xs ≡ true → find q (insert_before p y xs) ≡ find q xs
+find-insert_behind p q y [] apart later some = absurd (false≢true some)
+find-insert_behind {X} p q y (x ∷ xs) apart later some = elim (p x) as (λ b. p x ≡ b → find q (cond b (y ∷ x ∷ xs) (x ∷ insert_before p y xs)) ≡ find q (x ∷ xs)) [
+  | true ↦ λ e. absurd (false≢true (sym (none (x ∷ xs) apart (e, all-weaker (λ z. p x ≡ true → p z ≡ true) (λ z. p z ≡ true) xs (λ z on. on e) later.0)) ∙ some))
+  | false ↦ λ e. elim (q x) as (λ b. (b || list_any q xs) ≡ true → cond b (Some x) (find q (insert_before p y xs)) ≡ cond b (Some x) (find q xs)) [
+    | true ↦ λ more. refl
+    | false ↦ λ more. find-insert_behind p q y xs apart.1 later.1 more
+  ] some
+] refl where
+  none : (zs : List X) → AllByRecursion (λ z. q z ≡ true → p z ≡ false) zs → AllByRecursion (λ z. p z ≡ true) zs → list_any q zs ≡ false
+  none [] apart all = refl
+  none (z ∷ zs) apart all = by (q z) refl (none zs apart.1 all.1) where
+    by : (b : Bool) → q z ≡ b → list_any q zs ≡ false → (b || list_any q zs) ≡ false
+    by true e rest = absurd (false≢true (sym (apart.0 e) ∙ all.0))
+    by false e rest = rest
+
+-- ---- the newest
+
+-- no version of the file has a greater number
+abbrev IsNoNewer : ℕ → ℕ → VersionRow → Type 0
+IsNoNewer file number x = is_newer_of file number x ≡ false
+
+newest_most : (file : ℕ) (rows : List VersionRow) (row : VersionRow) → AllLater ArePlaced rows → newest_of rows file ≡ Some row → AllByRecursion (IsNoNewer file row.number) rows
+newest_most file [] row placed is = absurd cc
+newest_most file (x ∷ xs) row placed is = by (newest_of xs file) (is_version_of file x) refl refl (newest_most file xs row placed.1) is where
+  by : (o : Option VersionRow) (b : Bool) → newest_of xs file ≡ o → is_version_of file x ≡ b → (newest_of xs file ≡ Some row → AllByRecursion (IsNoNewer file row.number) xs) → option_or o (cond b (Some x) None) ≡ Some row → AllByRecursion (IsNoNewer file row.number) (x ∷ xs)
+  by (Some y) b e f rest h =
+      let found : newest_of xs file ≡ Some row = e ∙ h in
+      let has = last_has (is_version_of file) (ArePlaced x) xs row placed.0 found in
+      let after = has.0.after in
+      let own = has.1 in
+      (grind (arith, nat_tests), rest found)
+  by None true e f rest h =
+      let same : x ≡ row = cc in
+      subst (λ (r : VersionRow). AllByRecursion (IsNoNewer file r.number) (x ∷ xs)) same
+      (grind (arith, nat_tests), all-weaker (λ z. is_version_of file z ≡ false) (IsNoNewer file x.number) xs (λ z other. grind (arith, nat_tests)) (last-none (is_version_of file) xs e))
+  by None false e f rest h = absurd cc
+
+pub record IsNewest (w : World) (file : ℕ) (row : VersionRow) : Type 0 where
+  pub own : row.file ≡ file
+  pub is : IsVersion w.files w.now row
+  pub before : row.number < next_of w.files file
+  pub found : find (is_version file row.number) w.versions ≡ Some row
+  pub most : AllByRecursion (λ x. is_newer_of file row.number x ≡ false) w.versions
+
+module _ (w : World) (file : ℕ) (are : AreVersions w.files w.now w.versions) where
+  pub newest_is : (row : VersionRow) → newest_of w.versions file ≡ Some row → IsNewest w file row
+  newest_is row newest =
+      let has = last_has (is_version_of file) (λ x. IsVersion w.files w.now x × IsFound w.versions x) w.versions row (all-both (IsVersion w.files w.now) (IsFound w.versions) w.versions are.each (all_found w.versions are.placed)) newest in
+      let passes = has.1 in
+      let own : row.file ≡ file = grind (arith, nat_tests) in
+      record {
+        own = own;
+        is = has.0.0;
+        before = subst (λ f. row.number < next_of w.files f) own has.0.0.numbered;
+        found = subst (λ f. find (is_version f row.number) w.versions ≡ Some row) own has.0.1;
+        most = newest_most file w.versions row are.placed newest;
+      }
+
+  pub none_held : newest_of w.versions file ≡ None → AllByRecursion (λ x. is_version_of file x ≡ false) w.versions
+  none_held none = last-none (is_version_of file) w.versions none
+
+-- ---- the next one
+
+module _ (w : World) (file opened : ℕ) (cells : List Cell) (are : AreVersions w.files w.now w.versions) where
+  abbrev next : ℕ
+  next = next_of w.files file
+
+  abbrev new : VersionRow
+  new = next_version w file opened cells
+
+  abbrev appended : World
+  appended = with_version w file opened cells
+
+  abbrev p : VersionRow → Bool
+  p = is_version file (next - 1)
+
+  abbrev behind : VersionRow → Bool
+  behind = is_version_after file next
+
+  ended : AreVersions w.files w.now (with_end w file)
+  ended = versions_ended w.files w.now p w.versions are
+
+  -- all stands in order
+  abbrev IsOld : VersionRow → Type 0
+  IsOld row = (row.file ≡ file → IsEndedBy w.now row) × IsVersion w.files w.now row
+
+  numbered : (row : VersionRow) → IsOld row → row.file ≡ file → row.number < next
+  numbered row old own = subst (λ f. row.number < next_of w.files f) own old.1.numbered
+
+  after_old : (row : VersionRow) → IsOld row → behind row ≡ false → ArePlaced row new
+  after_old row old isnt = record {
+    after = by (row.file == file) refl;
+    ended = λ own. let was = old.0 own in (was.ended, was.is, was.by_now);
+  } where
+    by : (b : Bool) → (row.file == file) ≡ b → is_version_after row.file row.number new ≡ true
+    by true e = let less = numbered row old (grind (arith, nat_tests)) in grind (arith, nat_tests)
+    by false e = grind (arith, nat_tests)
+
+  before_old : (row : VersionRow) → IsOld row → behind row ≡ true → ArePlaced new row
+  before_old row old is = record {
+    after = is;
+    ended = λ own. let less = numbered row old (sym own) in absurd (false≢true (grind (arith, nat_tests)));
+  }
+
+  stands_behind : (x z : VersionRow) → behind x ≡ true → ArePlaced x z → behind z ≡ true
+  stands_behind x z is placed = let after = placed.after in grind (arith, nat_tests)
+
+  placed : AllLater ArePlaced appended.versions
+  placed = later-insert_before behind ArePlaced IsOld new (with_end w file) after_old before_old stands_behind
+      (all-both (λ row. row.file ≡ file → IsEndedBy w.now row) (IsVersion w.files w.now) (with_end w file) (file_ended w.files w.now file w.versions are.placed are.each) ended.each) ended.placed
+
+  life : (b : Bool) → IfSome (cond b None (Some w.now)) (λ ended. w.now ≤ ended)
+  life true = tt
+  life false = omega arith
+
+  pub next_in_order : AllByRecursion (λ row. IsPolicy row.policy) w.files → AreInOrder appended.files appended.versions
+  next_in_order policies = record {
+    policies = all-update_first (is_file file) (λ row. IsPolicy row.policy) (λ row. IsPolicy row.policy) numbered_on w.files (λ row given. given) (λ row given. given) policies;
+    lives = all-insert_before behind IsLife new (with_end w file) (life (is_live w file)) (lives_in w.files w.now (with_end w file) ended.each);
+    placed = placed;
+  }
+
+  -- each other version is found as before, but that its file's last one ends
+  pub found_after : (f n : ℕ) → is_version f n new ≡ false → find (is_version f n) appended.versions ≡ find (is_version f n) (with_end w file)
+  found_after f n apart = find-insert_before behind (is_version f n) new (with_end w file) apart
+
+  pub found_still : (f n : ℕ) → is_version f n new ≡ false → ((f == file) && (n + 1 == next)) ≡ false → find (is_version f n) appended.versions ≡ find (is_version f n) w.versions
+  found_still f n apart last = found_after f n apart ∙ find-update_other p (is_version f n) (ended_at w.now) w.versions (λ row h. (grind (arith, nat_tests), grind (arith, nat_tests)))
+
+  -- so is what stands behind a version of another file
+  pub next_other : (f n : ℕ) → (f == file) ≡ false → next_closing appended.versions f n ≡ next_closing w.versions f n
+  next_other f n other =
+      ap (option_map (λ (row : VersionRow). row.closed)) (find-insert_before behind (is_newer_of f n) new (with_end w file) (grind (arith, nat_tests)))
+      ∙ next_closing-ended p w.now w.versions f n
+
+  -- and what wasn't held isn't
+  pub none_still : (n : ℕ) → (n == next) ≡ false → AllByRecursion (λ row. is_version file n row ≡ false) w.versions → AllByRecursion (λ row. is_version file n row ≡ false) appended.versions
+  none_still n other none = all-insert_before behind (λ row. is_version file n row ≡ false) new (with_end w file) (grind (arith, nat_tests))
+      (all-update_first p (λ row. is_version file n row ≡ false) (λ row. is_version file n row ≡ false) (ended_at w.now) w.versions (λ row h. h) (λ row h. h) none)
+
+  -- the new one is the newest
+  pub none_behind : next_closing appended.versions file next ≡ None
+  none_behind =
+      ap (option_map (λ (row : VersionRow). row.closed)) (find-insert_before behind (is_newer_of file next) new (with_end w file) (grind (arith, nat_tests)))
+      ∙ none_past w.files w.now (with_end w file) file next ended.each (omega arith)
+
+  -- and stands next behind the former newest, which has an end
+  module _ (row : VersionRow) (newest : IsNewest w file row) where
+    pub newest_ended : find (is_version file row.number) appended.versions ≡ Some (ended_at w.now row)
+    newest_ended =
+        let before = newest.before in
+        found_after file row.number (grind (arith, nat_tests)) ∙ by (row.number == next - 1) refl where
+          of : (o : Option ℕ) → row.ended ≡ o → (row.number + 1 ≡ next_of w.files row.file → ⊥) → row ≡ ended_at w.now row
+          of None is not_last = absurd (not_last (newest.is.open_end is))
+          of (Some at) is not_last = ap (λ (o : Option ℕ). record row { ended = o }) (rw is refl)
+
+          by : (b : Bool) → (row.number == next - 1) ≡ b → find (is_version file row.number) (with_end w file) ≡ Some (ended_at w.now row)
+          by true e =
+              let same : row.number ≡ next - 1 = grind (arith, nat_tests) in
+              rw same (find-updated p (ended_at w.now) w.versions (λ x. refl)) ∙ ap (option_map (ended_at w.now)) (subst (λ n. find (is_version file n) w.versions ≡ Some row) same newest.found)
+          by false e =
+              find-update_other p (is_version file row.number) (ended_at w.now) w.versions (λ x h. (grind (arith, nat_tests), grind (arith, nat_tests)))
+              ∙ newest.found
+              ∙ ap Some (of row.ended refl (λ last. let last' : row.number + 1 ≡ next = last ∙ ap (next_of w.files) newest.own in absurd (false≢true (grind (arith, nat_tests)))))
+
+    pub next_behind : next_closing appended.versions file row.number ≡ Some w.now
+    next_behind =
+        let before = newest.before in
+        ap (option_map (λ (x : VersionRow). x.closed)) (find-inserted behind (is_newer_of file row.number) new (with_end w file) (grind (arith, nat_tests))
+          (all-update_first p (IsNoNewer file row.number) (IsNoNewer file row.number) (ended_at w.now) w.versions (λ x h. h) (λ x h. h) newest.most))
+
+    -- what stands behind an older one is as before
+    pub next_still : (n : ℕ) → n < row.number → next_closing appended.versions file n ≡ next_closing w.versions file n
+    next_still n older =
+        let before = newest.before in
+        ap (option_map (λ (x : VersionRow). x.closed)) (find-insert_behind behind (is_newer_of file n) new (with_end w file)
+          (all-weaker (IsVersion w.files w.now) (λ x. is_newer_of file n x ≡ true → behind x ≡ false) (with_end w file) (λ x is h. isnt_behind x is h) ended.each)
+          (later-weaker ArePlaced (λ x z. behind x ≡ true → behind z ≡ true) (with_end w file) (λ x z placed is. stands_behind x z is placed) ended.placed)
+          (list_any-update_first p (is_newer_of file n) (ended_at w.now) w.versions (λ x h. refl) ∙ any-found (is_version file row.number) (is_newer_of file n) w.versions row newest.found (let own = newest.own in grind (arith, nat_tests))))
+        ∙ next_closing-ended p w.now w.versions file n where
+          isnt_behind : (x : VersionRow) → IsVersion w.files w.now x → is_newer_of file n x ≡ true → behind x ≡ false
+          isnt_behind x is h =
+              let own : x.file ≡ file = grind (arith, nat_tests) in
+              let less : x.number < next = subst (λ f. x.number < next_of w.files f) own is.numbered in
+              grind (arith, nat_tests)
