@@ -1,61 +1,96 @@
 -- The scan, one row after another.
-use Rattle.std.proofs.Common.{◌≡◌, ℕ, ◌+◌, ◌<◌, Bool, true, false, cond, List, [], ◌∷◌, length, get_or, take, Option, Some, None, ◌≤◌, refl, ◌∙◌, arith, leb, fold}
+use Rattle.std.proofs.Common.{◌≡◌, ℕ, ◌+◌, ◌<◌, ◌≤◌, ◌&&◌, Bool, true, false, cond, List, [], ◌∷◌, length, get_or, take, Option, Some, None, refl, ap, sym, ◌∙◌, arith, fold, filter, ◌⊎◌, inl, inr}
+use Rattle.std.specs.Prelude.{nat_le, IfSome, option_and_then}
 use Rattle.std.specs.List.{filter_map, cons_option}
 use Rattle.std.proofs.lemmas.List.{take_more}
 use Rattle.std.proofs.lemmas.List.Elements.{filter_map-append}
 use Rattle.std.proofs.lemmas.Grind.{fold-append}
 use Rattle.std.specs.BTreeSet.{insert_key}
-use Rattle.std.specs.Option.{option_map}
+use Rattle.std.specs.Option.{option_map, option_map_or}
 use Rattle.std.proofs.lemmas.Bool.Decides.{nat_tests}
-use Rattle.ele_policy.specs.declared.policy.Policy.{Policy}
-use Rattle.ele_policy.specs.Ripe.{is_due_by, ripe_by}
-use Rattle.ele_policy.proofs.Waits.{nothing_beside, due_alone}
-use Rattle.ele_world.specs.declared.rows.VersionRow.{VersionRow}
 use Rattle.ele_due.specs.declared.key.Key.{Key}
-use Rattle.ele_world.specs.Due.{is_due_at}
-use Rattle.ele_world.specs.FileView.{view_of, beside, is_protected}
+use Rattle.ele_lists.proofs.Filters.{filter-both}
+use Rattle.ele_moment.specs.Last.{last_moment}
+use Rattle.ele_policy.specs.declared.policy.Policy.{Policy}
+use Rattle.ele_policy.specs.declared.policy.Policy.TheVariants.{One, All, Safe}
+use Rattle.ele_policy.specs.Policy.{IsPolicy}
+use Rattle.ele_policy.specs.Ripe.{Beside, ripe_by}
+use Rattle.ele_world.specs.declared.rows.VersionRow.{VersionRow}
+use Rattle.ele_world.specs.Due.{is_due_at, ripe_of}
+use Rattle.ele_world.specs.FileView.{view_of, is_version_of, is_newer, beside, closings}
+use Rattle.ele_world.specs.Neighbours.{is_newer_of}
+use Rattle.ele_world.specs.RipeMoments.{IsDueFromRipe}
 use Rattle.ele_world.specs.Scan.{in_order, key_cmp, due_key, key_of}
-use Rattle.ele_world.specs.World.{World, is_open, policy_of}
-use Rattle.ele_world.proofs.Plain.{ripe_of_is}
+use Rattle.ele_world.specs.World.{World, is_live, is_open, policy_of}
 use Rattle.ele_world.proofs.Readers.{numbers_are}
+use Rattle.ele_world.proofs.RipeAt.{unended}
+use Rattle.ele_world.proofs.RipeMoments.{due_from_ripe_of, free_ripe, protected_ripe}
 
--- a row that a handle reads
-pub due_key-open : (w : World) (row : VersionRow) → is_open w.handles row.file row.number ≡ true → due_key w row ≡ None
-unfolding due_key is_due_at
-due_key-open w row is = let read = numbers_are w.handles row.file row.number ∙ is in rw read refl
+-- ---- no policy but a ladder looks at what stands beside a version
 
-module _ (w : World) (row : VersionRow) (unread : is_open w.handles row.file row.number ≡ false) where
-  free : is_protected (view_of w row.file) row w.now ≡ false
-  free = numbers_are w.handles row.file row.number ∙ unread
+pub looks_at_none : (policy : Policy) → (policy ≡ One) ⊎ ((policy ≡ All) ⊎ ((interval : ℕ) × (policy ≡ Safe interval)))
+    → (closed ended : ℕ) (stands other : Beside) → ripe_by policy closed stands ended ≡ ripe_by policy closed other ended
+unfolding ripe_by
+looks_at_none policy (inl is) closed ended stands other = rw is refl
+looks_at_none policy (inr (inl is)) closed ended stands other = rw is refl
+looks_at_none policy (inr (inr is)) closed ended stands other = rw is.1 refl
 
-  -- a row whose file is missing
-  pub due_key-unfiled : policy_of w.files row.file ≡ None → due_key w row ≡ None
-  unfolding due_key is_due_at
-  due_key-unfiled filed = rw (free, filed) refl
+-- ---- a row's ripe moment, and that it is due from then on
 
-  -- a row that hasn't ended
-  pub due_key-unended : (policy : Policy) → policy_of w.files row.file ≡ Some policy → row.ended ≡ None → due_key w row ≡ None
-  unfolding due_key is_due_at
-  due_key-unended policy filed end = rw (free, filed, end) refl
+-- the closings of the newer versions of its file
+abbrev pub newer_than : List VersionRow → VersionRow → List ℕ
+newer_than versions row = closings (filter (is_newer_of row.file row.number) versions)
 
-  -- a row whose file and end are known; its policy looks at nothing beside it
-  due_key-some : (policy : Policy) (ended : ℕ) (due : Bool) (ripe : Option ℕ) → policy_of w.files row.file ≡ Some policy → row.ended ≡ Some ended → is_due_by policy row.closed nothing_beside ended w.now ≡ due → ripe_by policy row.closed nothing_beside ended ≡ ripe → due_key w row ≡ cond due (option_map (key_of row) ripe) None
-  unfolding due_key is_due_at
-  due_key-some policy ended due ripe filed end is_due is_ripe =
-      let stands = beside (view_of w row.file) row in
-      rw (ripe_of_is w row nothing_beside, unread, free, filed, end, due_alone policy row.closed ended w.now stands ∙ is_due, is_ripe) refl
+abbrev pub IsRipeOf : World → VersionRow → Option ℕ → Type 0
+IsRipeOf w row ripe = (ripe ≡ ripe_of w row) × IsDueFromRipe w row
 
-  -- a row that never ripens
-  pub due_key-never : (policy : Policy) (ended : ℕ) → policy_of w.files row.file ≡ Some policy → row.ended ≡ Some ended → ripe_by policy row.closed nothing_beside ended ≡ None → is_due_by policy row.closed nothing_beside ended w.now ≡ false → due_key w row ≡ None
-  due_key-never policy ended filed end ripe due = due_key-some policy ended false None filed end due ripe
+module _ (w : World) (row : VersionRow) where
+  -- of one that a handle reads
+  pub ripe-open : is_open w.handles row.file row.number ≡ true → IsRipeOf w row None
+  unfolding ripe_of is_due_at
+  ripe-open is =
+      let read = numbers_are w.handles row.file row.number ∙ is in
+      let none = protected_ripe (view_of w row.file) row read in
+      (sym none, λ at fits. rw (none, read) refl)
 
-  -- a row that ripens later than now
-  pub due_key-later : (policy : Policy) (ended ripe : ℕ) → policy_of w.files row.file ≡ Some policy → row.ended ≡ Some ended → ripe_by policy row.closed nothing_beside ended ≡ Some ripe → is_due_by policy row.closed nothing_beside ended w.now ≡ leb ripe w.now → w.now < ripe → due_key w row ≡ None
-  due_key-later policy ended ripe filed end is due later = due_key-some policy ended false (Some ripe) filed end (due ∙ grind (arith, nat_tests)) is
+  -- of one whose file is missing
+  pub ripe-unfiled : policy_of w.files row.file ≡ None → IsRipeOf w row None
+  unfolding ripe_of
+  ripe-unfiled filed = (rw filed refl, due_from_ripe_of w row (rw filed tt))
 
-  -- a row that was ripe by now
-  pub due_key-ripe : (policy : Policy) (ended ripe : ℕ) → policy_of w.files row.file ≡ Some policy → row.ended ≡ Some ended → ripe_by policy row.closed nothing_beside ended ≡ Some ripe → is_due_by policy row.closed nothing_beside ended w.now ≡ leb ripe w.now → ripe ≤ w.now → due_key w row ≡ Some (key_of row ripe)
-  due_key-ripe policy ended ripe filed end is due by = due_key-some policy ended true (Some ripe) filed end (due ∙ grind (arith, nat_tests)) is
+  module _ (unread : is_open w.handles row.file row.number ≡ false) where
+    -- of one that hasn't ended
+    pub ripe-unended : (policy : Policy) → policy_of w.files row.file ≡ Some policy → row.ended ≡ None → IsRipeOf w row None
+    unfolding ripe_of is_due_at
+    ripe-unended policy filed end =
+        let free = numbers_are w.handles row.file row.number ∙ unread in
+        let none = unended (view_of w row.file) row end in
+        (sym none, λ at fits. rw (none, free, filed, end) refl)
+
+    -- of one whose file and end are known
+
+    pub ripe-told : (policy : Policy) (ended : ℕ) (ripe : Option ℕ) → policy_of w.files row.file ≡ Some policy → IsPolicy policy → row.ended ≡ Some ended
+        → ((live : Bool) → ripe ≡ ripe_by policy row.closed (record { newer = newer_than w.versions row; live = live }) ended) → IsRipeOf w row ripe
+    unfolding ripe_of
+    ripe-told policy ended ripe filed given end is =
+        let live = is_live w row.file in
+        let newer : newer_than w.versions row ≡ (beside (view_of w row.file) row).newer = sym (ap closings (filter-both (is_newer row) (is_version_of row.file) w.versions)) in
+        (is live
+        ∙ ap (λ newer. ripe_by policy row.closed (record { newer = newer; live = live }) ended) newer
+        ∙ sym (free_ripe (view_of w row.file) row policy ended (numbers_are w.handles row.file row.number ∙ unread) filed end),
+        due_from_ripe_of w row (rw filed given))
+
+-- ---- and its key
+
+pub due_key-is : (w : World) (row : VersionRow) (ripe : Option ℕ) → w.now ≤ last_moment → IsRipeOf w row ripe → due_key w row ≡ option_and_then (λ m. cond (nat_le m w.now) (Some (key_of row m)) None) ripe
+unfolding due_key
+due_key-is w row ripe fits is =
+    ap (λ b. cond b (option_map (key_of row) (ripe_of w row)) None) (is.1 w.now fits)
+    ∙ ap (λ o. cond (option_map_or (λ m. nat_le m w.now) o false) (option_map (key_of row) o) None) (sym is.0)
+    ∙ by ripe where
+      by : (o : Option ℕ) → cond (option_map_or (λ m. nat_le m w.now) o false) (option_map (key_of row) o) None ≡ option_and_then (λ m. cond (nat_le m w.now) (Some (key_of row m)) None) o
+      by None = refl
+      by (Some m) = refl
 
 -- one more row
 pub in_order_more : (h : VersionRow → Option Key) (xs : List VersionRow) (i : ℕ) (x : VersionRow) → i < length xs → x ≡ get_or xs i x → in_order (filter_map h (take (i + 1) xs)) ≡ fold (insert_key key_cmp) (in_order (filter_map h (take i xs))) (cons_option (h x) [])

@@ -13,7 +13,7 @@ use Rattle.ele_world.specs.Due.{is_due_at, ripe_of}
 use Rattle.ele_world.specs.FileView.{FileView, view_of, is_version_of, beside, is_protected, due_in, ripe_in}
 use Rattle.ele_world.specs.RipeMoments.{IsDueFromRipe, DueFromRipe, RipeIsAnswer, RipeIsAnswered}
 use Rattle.ele_world.specs.WellFormed.{IsWellFormed}
-use Rattle.ele_world.specs.World.{World}
+use Rattle.ele_world.specs.World.{World, policy_of}
 use Rattle.ele_lists.proofs.Alls.{all-split}
 use Rattle.ele_lists.proofs.Edits.{all-any}
 use Rattle.ele_world.proofs.Views.{view_is, nearest_of}
@@ -36,13 +36,29 @@ due_from_ripe_in v row at governed fits = by (is_protected v row at) v.policy ro
   by false (Some policy) None given = refl
   by false (Some policy) (Some ended) given = due_from policy row.closed ended at (beside v row) given fits
 
-pub due_from_ripe : DueFromRipe
+-- of any rows, whose policies are such as can be given
+pub due_from_ripe_of : (w : World) (row : VersionRow) → IfSome (policy_of w.files row.file) IsPolicy → IsDueFromRipe w row
 unfolding is_due_at ripe_of
-due_from_ripe w k = all-any (IsDueFromRipe w) w.versions (λ row at fits. due_from_ripe_in (view_of w row.file) row at (view_is w k row.file).governed fits)
+due_from_ripe_of w row governed at fits = due_from_ripe_in (view_of w row.file) row at governed fits
+
+pub due_from_ripe : DueFromRipe
+due_from_ripe w k = all-any (IsDueFromRipe w) w.versions (λ row. due_from_ripe_of w row (view_is w k row.file).governed)
+
+-- a protected version has none
+pub protected_ripe : (v : FileView) (row : VersionRow) → is_protected v row 0 ≡ true → ripe_in v row ≡ None
+protected_ripe v row is = subst (λ b. ripe_if b v row v.policy row.ended ≡ None) (sym is) (by v.policy row.ended) where
+  by : (p : Option Policy) (e : Option ℕ) → ripe_if true v row p e ≡ None
+  by None e = refl
+  by (Some policy) None = refl
+  by (Some policy) (Some ended) = never_due (candidates policy ended)
+
+-- and any other one what its policy tells
+pub free_ripe : (v : FileView) (row : VersionRow) (policy : Policy) (ended : ℕ) → is_protected v row 0 ≡ false → v.policy ≡ Some policy → row.ended ≡ Some ended → ripe_in v row ≡ ripe_by policy row.closed (beside v row) ended
+unfolding ripe_by
+free_ripe v row policy ended free filed ends = subst (λ b. ripe_if b v row v.policy row.ended ≡ ripe_by policy row.closed (beside v row) ended) (sym free) (rw (filed, ends) refl)
 
 pub ripe_is_answered : RipeIsAnswered
-unfolding ripe_of ripe_by
+unfolding ripe_of
 ripe_is_answered w k = all-split (RipeIsAnswer w) w.versions (λ before row behind whole policy ended answer filed ends free is.
     let v = view_of w row.file in
-    subst (λ b. ripe_if b v row v.policy row.ended ≡ answer) (sym (free 0))
-    (rw (filed, ends) (sym (is (beside v row) (nearest_of w before row behind (view_is w k row.file) whole)))))
+    free_ripe v row policy ended (free 0) filed ends ∙ sym (is (beside v row) (nearest_of w before row behind (view_is w k row.file) whole)))

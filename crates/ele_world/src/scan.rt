@@ -1,7 +1,12 @@
 //! The scan: the keys of the versions that are due, found by a look at every row.
-ghost use Rattle.std.specs.Prelude.{◌≡◌, IfOk, OnOk, OnErr, fold, []};
+ghost use Rattle.std.specs.Prelude.{◌≡◌, Bool, IfOk, OnOk, OnErr, filter, fold, []};
 ghost use Rattle.std.specs.List.{cons_option};
 ghost use Rattle.std.specs.BTreeSet.{insert_key};
+ghost use Rattle.ele_policy.specs.Ripe.{ripe_by};
+ghost use Rattle.ele_world.specs.Due.{ripe_of};
+ghost use Rattle.ele_world.specs.FileView.{closings};
+ghost use Rattle.ele_world.specs.Neighbours.{is_newer_of};
+ghost use Rattle.ele_world.specs.RipeMoments.{IsDueFromRipe};
 ghost use Rattle.ele_world.specs.Scan.{key_cmp, due_key, scan};
 ghost use Rattle.ele_world.specs.World.{World, is_open, policy_of, reads_version};
 
@@ -11,7 +16,8 @@ use crate::rows::{FileRow, HandleRow, Reads, VersionRow};
 use ele_due::Key;
 use ele_lists::ListOf;
 use ele_moment::{FileId, Moment, NoMemory, VersionNo};
-use ele_policy::{Policy, ripe};
+use ele_policy::{Policy, ripe_beside};
+use std::alloc::Global;
 use std::collections::BTreeSet;
 
 /// The file's policy, if it is there.
@@ -40,27 +46,103 @@ fn is_open(handles: &[HandleRow], file: FileId, number: VersionNo) -> bool
         .any(|row| reads_version(row.reads, file, number))
 }
 
-/// The version's key, if it is due at the moment.
-fn due_key(now: Moment, files: &[FileRow], handles: &[HandleRow], row: &VersionRow) -> Option<Key>
-    ensures { (w : World) → w.now ≡ now → w.files ≡ files.now → w.handles ≡ handles.now
-        → result ≡ due_key w row.now }
+/// Whether the other version is a newer one of the row's file.
+fn is_newer(row: &VersionRow, other: &VersionRow) -> bool
+    ensures { result ≡ is_newer_of row.now.file row.now.number other.now }
+{
+    other.file == row.file && other.number > row.number
+}
+
+/// When the newer versions of the row's file closed.
+fn newer_closings(
+    versions: &[VersionRow],
+    row: &VersionRow,
+    alloc: Global,
+) -> Result<Vec<Moment>, NoMemory>
+    ensures { IfOk result (λ newer. newer.items
+        ≡ closings (filter (is_newer_of row.now.file row.now.number) versions.now)) }
+{
+    Ok(versions
+        .iter()
+        .filter(|other| is_newer(row, other))
+        .map(|other| other.closed)
+        .collect(alloc)?)
+}
+
+/// When the policy lets the version go that ended then. In plain rows, which nobody checked, any
+/// newer one may tell.
+fn ripe_by(
+    policy: &Policy,
+    versions: &[VersionRow],
+    row: &VersionRow,
+    ended: Moment,
+    alloc: Global,
+) -> Result<Option<Moment>, NoMemory>
+    ensures { IfOk result (λ ripe. (live : Bool) → ripe ≡ ripe_by policy.now row.now.closed (record {
+        newer = closings (filter (is_newer_of row.now.file row.now.number) versions.now);
+        live = live;
+    }) ended) }
+{
+    match policy {
+        Policy::Landmarks(_) => {
+            let newer = newer_closings(versions, row, alloc)?;
+            Ok(ripe_beside(policy, row.closed, ended, &newer))
+        }
+        // They look at nothing beside a version.
+        Policy::One | Policy::All | Policy::Safe(_) => {
+            Ok(ripe_beside(policy, row.closed, ended, &[]))
+        }
+    }
+}
+
+/// The version's ripe moment.
+fn ripe_of(
+    files: &[FileRow],
+    versions: &[VersionRow],
+    handles: &[HandleRow],
+    row: &VersionRow,
+    alloc: Global,
+) -> Result<Option<Moment>, NoMemory>
+    ensures { IfOk result (λ ripe. (w : World) → w.files ≡ files.now → w.versions ≡ versions.now
+        → w.handles ≡ handles.now → (ripe ≡ ripe_of w row.now) × IsDueFromRipe w row.now) }
 {
     if is_open(handles, row.file, row.number) {
-        return None;
+        return Ok(None);
     }
+    let Some(policy) = policy_of(files, row.file) else {
+        return Ok(None);
+    };
+    let Some(ended) = row.ended else {
+        return Ok(None);
+    };
+    policy.is_given();
+    ripe_by(&policy, versions, row, ended, alloc)
+}
+
+/// The version's key, if it is due at the moment.
+fn due_key(
+    now: Moment,
+    files: &[FileRow],
+    versions: &[VersionRow],
+    handles: &[HandleRow],
+    row: &VersionRow,
+    alloc: Global,
+) -> Result<Option<Key>, NoMemory>
+    ensures { IfOk result (λ key. (w : World) → w.now ≡ now → w.files ≡ files.now
+        → w.versions ≡ versions.now → w.handles ≡ handles.now → key ≡ due_key w row.now) }
+{
     let at = now.seconds();
-    let policy = policy_of(files, row.file)?;
-    let ended = row.ended?;
-    // In plain rows, which nobody checked, the next one may be any. These policies look at nothing beside a version.
-    let ripe = ripe(&policy, row.closed, ended, None)?;
+    let Some(ripe) = ripe_of(files, versions, handles, row, alloc)? else {
+        return Ok(None);
+    };
     if ripe.seconds() > at {
-        return None;
+        return Ok(None);
     }
-    Some(Key {
+    Ok(Some(Key {
         ripe,
         file: row.file,
         number: row.number,
-    })
+    }))
 }
 
 /// Adds the key, if there is one.
@@ -80,11 +162,14 @@ pub fn due(world: &Flat) -> Result<KeyList, NoMemory>
     ensures { IfOk result (λ keys. keys ≡ scan world.entry.now) }
 {
     let files = world.files.as_slice();
+    let versions = world.versions.as_slice();
     let handles = world.handles.as_slice();
-    let mut keys = BTreeSet::new(world.versions.allocator());
-    for row in world.versions.as_slice() {
-        add_key(&mut keys, due_key(world.now, files, handles, row))?;
+    let alloc = world.versions.allocator();
+    let mut keys = BTreeSet::new(alloc);
+    for row in versions {
+        let key = due_key(world.now, files, versions, handles, row, alloc)?;
+        add_key(&mut keys, key)?;
     }
-    let listed: Vec<Key> = keys.iter().copied().collect(world.versions.allocator())?;
+    let listed: Vec<Key> = keys.iter().copied().collect(alloc)?;
     Ok(ListOf::from_vec(listed))
 }
