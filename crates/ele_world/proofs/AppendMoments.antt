@@ -1,7 +1,7 @@
 -- Which ripe moments change where a file has a version more: that of its newest held one, which ends unless it had, and gets a
 -- neighbour, and the new one's own.
-use Rattle.std.proofs.Common.{◌≡◌, ℕ, ◌+◌, ◌-◌, ◌<◌, ◌≤◌, ◌==◌, Bool, true, false, cond, ◌&&◌, ◌||◌, List, [], ◌∷◌, Option, Some, None, refl, ap, sym, subst, ◌∙◌, arith}
-use Rattle.std.specs.Prelude.{find, nat_lt, option_and_then, unwrap_or}
+use Rattle.std.proofs.Common.{◌≡◌, ℕ, ◌-◌, ◌<◌, ◌==◌, Bool, true, false, cond, ◌&&◌, ◌||◌, List, [], ◌∷◌, Option, Some, None, refl, ap, sym, ◌∙◌, arith}
+use Rattle.std.specs.Prelude.{nat_lt, option_and_then, unwrap_or}
 use Rattle.std.specs.List.{AllByRecursion, list_any}
 use Rattle.std.specs.Option.{option_map_or}
 use Rattle.std.proofs.lemmas.Bool.Decides.{nat_tests}
@@ -9,17 +9,16 @@ use Rattle.ele_content.specs.declared.cell.Cell.{Cell}
 use Rattle.ele_lists.proofs.Edits.{all-weaker, not_found}
 use Rattle.ele_policy.specs.Policy.{IsPolicy}
 use Rattle.ele_world.specs.declared.rows.VersionRow.{VersionRow}
-use Rattle.ele_world.specs.Change.{with_version, ended_at, next_version}
+use Rattle.ele_world.specs.Change.{with_version}
 use Rattle.ele_world.specs.Due.{ripe_of, ripe_at}
 use Rattle.ele_world.specs.FileView.{is_version_of}
-use Rattle.ele_world.specs.Neighbours.{is_newer_of, near_moment, newest_of, next_closing}
+use Rattle.ele_world.specs.Neighbours.{is_newer_of, near_moment, newest_of}
 use Rattle.ele_world.specs.WellFormed.{AreHeldRead, AreVersions, IsVersion, Readers, Versions, IsWellFormed}
 use Rattle.ele_world.specs.World.{World, is_live, is_open, is_version, next_of, policy_of}
 use Rattle.ele_world.proofs.Closes.{new_found, none_next}
 use Rattle.ele_world.proofs.Files.{policies-numbered}
-use Rattle.ele_world.proofs.Neighbours.{AreInOrder, found_moment, next_closing-ended, ripe_at_near, versions_in_order}
-use Rattle.ele_world.proofs.NewestHeld as held
-use Rattle.ele_world.proofs.NewestHeld.{IsNewest, found_still, newest_ended, next_behind, next_in_order, next_other, next_still, none_behind, none_held, none_still}
+use Rattle.ele_world.proofs.Neighbours.{AreInOrder, found_moment, ripe_at_near, versions_in_order}
+use Rattle.ele_world.proofs.NewestHeld.{IsNewest, found_still, newest_ended, newest_held, next_behind, next_in_order, next_other, next_still, none_behind, none_held, none_still}
 use Rattle.ele_world.proofs.Readers.{unread_unheld}
 use Rattle.ele_world.proofs.RipeAt.{ripe_at_is}
 use Rattle.ele_world.proofs.Views.{policies_of}
@@ -79,18 +78,18 @@ module _ (w : World) (file opened : ℕ) (cells : List Cell) (k : MayGrow w file
 
   -- the newest held one isn't the next one
   pub newest_before : (row : VersionRow) → newest_of w.versions file ≡ Some row → row.number < next
-  newest_before row is = (held.newest_is w file k.versions row is).before
+  newest_before row is = (newest_held w file k.versions row is).before
 
   -- it had a moment if it had ended, without a newer one beside it
   pub newest_was : (row : VersionRow) → newest_of w.versions file ≡ Some row → ripe_at w file row.number ≡ cond (is_open w.handles file row.number) None (option_and_then (near_moment (policy_of w.files file) None row.closed) row.ended)
   newest_was row is =
-      let newest = held.newest_is w file k.versions row is in
+      let newest = newest_held w file k.versions row is in
       ripe_at_near w file row.number ordered ∙ rw (newest.found, not_found (is_newer_of file row.number) w.versions newest.most) refl
 
   -- and has one with the new version beside it
   pub newest_is : (row : VersionRow) → newest_of w.versions file ≡ Some row → ripe_at appended file row.number ≡ cond (is_open w.handles file row.number) None (near_moment (policy_of w.files file) (Some w.now) row.closed (unwrap_or row.ended w.now))
   newest_is row is =
-      let newest = held.newest_is w file k.versions row is in
+      let newest = newest_held w file k.versions row is in
       ripe_at_near appended file row.number then_ordered ∙ rw (newest_ended w file opened cells k.versions row newest, policy, next_behind w file opened cells k.versions row newest) refl
 
   stays_unheld : (n : ℕ) → (n == next) ≡ false → AllByRecursion (λ row. is_version file n row ≡ false) w.versions → ripe_at appended file n ≡ ripe_at w file n
@@ -99,7 +98,7 @@ module _ (w : World) (file opened : ℕ) (cells : List Cell) (k : MayGrow w file
   stays_older : (row : VersionRow) → newest_of w.versions file ≡ Some row → (n : ℕ) → (n == next) ≡ false → (n == row.number) ≡ false → ripe_at appended file n ≡ ripe_at w file n
   stays_older row is n new newest = by (nat_lt n row.number) refl where
     its : IsNewest w file row
-    its = held.newest_is w file k.versions row is
+    its = newest_held w file k.versions row is
 
     by : (b : Bool) → nat_lt n row.number ≡ b → ripe_at appended file n ≡ ripe_at w file n
     by true e =

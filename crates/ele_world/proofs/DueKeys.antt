@@ -1,13 +1,12 @@
 -- The scan, one row after another.
-use Rattle.std.proofs.Common.{◌≡◌, ℕ, ◌+◌, ◌<◌, ◌≤◌, ◌&&◌, Bool, true, false, cond, List, [], ◌∷◌, length, get_or, take, Option, Some, None, refl, ap, sym, ◌∙◌, arith, fold, filter, ◌⊎◌, inl, inr}
-use Rattle.std.specs.Prelude.{nat_le, IfSome, option_and_then}
+use Rattle.std.proofs.Common.{◌≡◌, ℕ, ◌+◌, ◌<◌, ◌≤◌, Bool, true, false, cond, List, [], ◌∷◌, length, get_or, take, Option, Some, None, refl, ap, sym, ◌∙◌, fold, filter, ◌⊎◌, inl, inr}
+use Rattle.std.specs.Prelude.{nat_le, option_and_then}
 use Rattle.std.specs.List.{filter_map, cons_option}
 use Rattle.std.proofs.lemmas.List.{take_more}
 use Rattle.std.proofs.lemmas.List.Elements.{filter_map-append}
 use Rattle.std.proofs.lemmas.Grind.{fold-append}
 use Rattle.std.specs.BTreeSet.{insert_key}
 use Rattle.std.specs.Option.{option_map, option_map_or}
-use Rattle.std.proofs.lemmas.Bool.Decides.{nat_tests}
 use Rattle.ele_due.specs.declared.key.Key.{Key}
 use Rattle.ele_lists.proofs.Filters.{filter-both}
 use Rattle.ele_moment.specs.Last.{last_moment}
@@ -74,11 +73,12 @@ module _ (w : World) (row : VersionRow) where
     unfolding ripe_of
     ripe-told policy ended ripe filed given end is =
         let live = is_live w row.file in
-        let newer : newer_than w.versions row ≡ (beside (view_of w row.file) row).newer = sym (ap closings (filter-both (is_newer row) (is_version_of row.file) w.versions)) in
-        (is live
-        ∙ ap (λ newer. ripe_by policy row.closed (record { newer = newer; live = live }) ended) newer
-        ∙ sym (free_ripe (view_of w row.file) row policy ended (numbers_are w.handles row.file row.number ∙ unread) filed end),
-        due_from_ripe_of w row (rw filed given))
+        let newer : newer_than w.versions row ≡ (beside (view_of w row.file) row).newer = sym (ap closings (filter-both (is_newer row) (is_version_of row.file) w.versions)) in (
+          is live
+              ∙ ap (λ newer. ripe_by policy row.closed (record { newer = newer; live = live }) ended) newer
+              ∙ sym (free_ripe (view_of w row.file) row policy ended (numbers_are w.handles row.file row.number ∙ unread) filed end),
+          due_from_ripe_of w row (rw filed given),
+        )
 
 -- ---- and its key
 

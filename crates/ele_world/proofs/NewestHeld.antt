@@ -1,6 +1,6 @@
 -- The newest held version of a file, and the place at which its next one comes in.
 use Rattle.std.proofs.Common.{◌≡◌, ℕ, ◌+◌, ◌-◌, ◌<◌, ◌≤◌, ◌==◌, Bool, true, false, cond, ◌&&◌, ◌||◌, List, [], ◌∷◌, Option, Some, None, IfSome, refl, ap, sym, subst, ◌∙◌, arith}
-use Rattle.std.specs.Prelude.{find, nat_lt, unwrap_or}
+use Rattle.std.specs.Prelude.{find}
 use Rattle.std.specs.List.{AllByRecursion, list_any}
 use Rattle.std.specs.Option.{option_map, option_or}
 use Rattle.std.proofs.lemmas.Bool.{false≢true}
@@ -22,7 +22,7 @@ use Rattle.ele_world.specs.declared.rows.VersionRow.{VersionRow}
 use Rattle.ele_world.proofs.Elements.{find-updated}
 use Rattle.ele_world.proofs.KeptVersions.{versions_ended}
 use Rattle.ele_world.proofs.Neighbours.{AreInOrder, next_closing-ended, none_past}
-use Rattle.ele_world.proofs.Versions.{IsEndedBy, IsFound, all_found, file_ended, other_ended}
+use Rattle.ele_world.proofs.Versions.{IsEndedBy, IsFound, all_found, file_ended}
 use Rattle.ele_world.proofs.Views.{IsLife, lives_in}
 
 last-none : {X : Type 0} (p : X → Bool) (xs : List X) → last_passing p xs ≡ None → AllByRecursion (λ x. p x ≡ false) xs
@@ -80,8 +80,8 @@ pub record IsNewest (w : World) (file : ℕ) (row : VersionRow) : Type 0 where
   pub most : AllByRecursion (λ x. is_newer_of file row.number x ≡ false) w.versions
 
 module _ (w : World) (file : ℕ) (are : AreVersions w.files w.now w.versions) where
-  pub newest_is : (row : VersionRow) → newest_of w.versions file ≡ Some row → IsNewest w file row
-  newest_is row newest =
+  pub newest_held : (row : VersionRow) → newest_of w.versions file ≡ Some row → IsNewest w file row
+  newest_held row newest =
       let has = last_has (is_version_of file) (λ x. IsVersion w.files w.now x × IsFound w.versions x) w.versions row (all-both (IsVersion w.files w.now) (IsFound w.versions) w.versions are.each (all_found w.versions are.placed)) newest in
       let passes = has.1 in
       let own : row.file ≡ file = grind (arith, nat_tests) in
@@ -204,16 +204,16 @@ module _ (w : World) (file opened : ℕ) (cells : List Cell) (are : AreVersions 
     next_behind =
         let before = newest.before in
         ap (option_map (λ (x : VersionRow). x.closed)) (find-inserted behind (is_newer_of file row.number) new (with_end w file) (grind (arith, nat_tests))
-          (all-update_first p (IsNoNewer file row.number) (IsNoNewer file row.number) (ended_at w.now) w.versions (λ x h. h) (λ x h. h) newest.most))
+        (all-update_first p (IsNoNewer file row.number) (IsNoNewer file row.number) (ended_at w.now) w.versions (λ x h. h) (λ x h. h) newest.most))
 
     -- what stands behind an older one is as before
     pub next_still : (n : ℕ) → n < row.number → next_closing appended.versions file n ≡ next_closing w.versions file n
     next_still n older =
         let before = newest.before in
         ap (option_map (λ (x : VersionRow). x.closed)) (find-insert_behind behind (is_newer_of file n) new (with_end w file)
-          (all-weaker (IsVersion w.files w.now) (λ x. is_newer_of file n x ≡ true → behind x ≡ false) (with_end w file) (λ x is h. isnt_behind x is h) ended.each)
-          (later-weaker ArePlaced (λ x z. behind x ≡ true → behind z ≡ true) (with_end w file) (λ x z placed is. stands_behind x z is placed) ended.placed)
-          (list_any-update_first p (is_newer_of file n) (ended_at w.now) w.versions (λ x h. refl) ∙ any-found (is_version file row.number) (is_newer_of file n) w.versions row newest.found (let own = newest.own in grind (arith, nat_tests))))
+        (all-weaker (IsVersion w.files w.now) (λ x. is_newer_of file n x ≡ true → behind x ≡ false) (with_end w file) (λ x is h. isnt_behind x is h) ended.each)
+        (later-weaker ArePlaced (λ x z. behind x ≡ true → behind z ≡ true) (with_end w file) (λ x z placed is. stands_behind x z is placed) ended.placed)
+        (list_any-update_first p (is_newer_of file n) (ended_at w.now) w.versions (λ x h. refl) ∙ any-found (is_version file row.number) (is_newer_of file n) w.versions row newest.found (let own = newest.own in grind (arith, nat_tests))))
         ∙ next_closing-ended p w.now w.versions file n where
           isnt_behind : (x : VersionRow) → IsVersion w.files w.now x → is_newer_of file n x ≡ true → behind x ≡ false
           isnt_behind x is h =

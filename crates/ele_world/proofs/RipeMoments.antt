@@ -1,18 +1,17 @@
 -- A held version is due from its ripe moment on, which its next held version tells.
-use Rattle.std.proofs.Common.{◌≡◌, ℕ, ◌≤◌, ◌&&◌, Bool, true, false, not, ◌++◌, ◌∷◌, List, Option, Some, None, refl, ap, sym, subst, ◌∙◌, filter, slice_get}
+use Rattle.std.proofs.Common.{◌≡◌, ℕ, ◌≤◌, ◌&&◌, Bool, true, false, not, Option, Some, None, refl, ap, sym, subst, ◌∙◌}
 use Rattle.std.specs.Prelude.{nat_le, option_and_then, IfSome}
 use Rattle.std.specs.Option.{option_map_or}
 use Rattle.ele_moment.specs.Last.{last_moment}
 use Rattle.ele_policy.specs.declared.policy.Policy.{Policy}
-use Rattle.ele_policy.specs.Ripe.{IsNearest, is_due_by, candidates, earliest_of, ripe_by}
+use Rattle.ele_policy.specs.Ripe.{is_due_by, candidates, earliest_of, ripe_by}
 use Rattle.ele_policy.proofs.Earliest.{never_due}
 use Rattle.ele_policy.proofs.Waits.{due_from}
 use Rattle.ele_policy.specs.Policy.{IsPolicy}
 use Rattle.ele_world.specs.declared.rows.VersionRow.{VersionRow}
 use Rattle.ele_world.specs.Due.{is_due_at, ripe_of}
-use Rattle.ele_world.specs.FileView.{FileView, view_of, is_version_of, beside, is_protected, due_in, ripe_in}
+use Rattle.ele_world.specs.FileView.{FileView, view_of, beside, is_protected, due_in, ripe_in}
 use Rattle.ele_world.specs.RipeMoments.{IsDueFromRipe, DueFromRipe, RipeIsAnswer, RipeIsAnswered}
-use Rattle.ele_world.specs.WellFormed.{IsWellFormed}
 use Rattle.ele_world.specs.World.{World, policy_of}
 use Rattle.ele_lists.proofs.Alls.{all-split}
 use Rattle.ele_lists.proofs.Edits.{all-any}

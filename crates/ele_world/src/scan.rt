@@ -62,11 +62,13 @@ fn newer_closings(
     ensures { IfOk result (λ newer. newer.items
         ≡ closings (filter (is_newer_of row.now.file row.now.number) versions.now)) }
 {
-    Ok(versions
-        .iter()
-        .filter(|other| is_newer(row, other))
-        .map(|other| other.closed)
-        .collect(alloc)?)
+    Ok(
+        versions
+            .iter()
+            .filter(|other| is_newer(row, other))
+            .map(|other| other.closed)
+            .collect(alloc)?,
+    )
 }
 
 /// When the policy lets the version go that ended then. In plain rows, which nobody checked, any
@@ -79,8 +81,8 @@ fn ripe_by(
     alloc: Global,
 ) -> Result<Option<Moment>, NoMemory>
     ensures { IfOk result (λ ripe. (live : Bool) → ripe ≡ ripe_by policy.now row.now.closed (record {
-        newer = closings (filter (is_newer_of row.now.file row.now.number) versions.now);
-        live = live;
+      newer = closings (filter (is_newer_of row.now.file row.now.number) versions.now);
+      live = live;
     }) ended) }
 {
     match policy {
