@@ -1,5 +1,5 @@
 -- Elements that pass a test, and a change of one of them.
-use Rattle.std.proofs.Common.{◌≡◌, Bool, true, false, cond, ◌||◌, List, [], ◌∷◌, Some, refl, sym, ◌∙◌}
+use Rattle.std.proofs.Common.{◌≡◌, Bool, true, false, cond, ◌||◌, List, [], ◌∷◌, Option, Some, refl, sym, ◌∙◌}
 use Rattle.std.specs.Prelude.{find}
 use Rattle.std.specs.List.{AllByRecursion, list_any}
 use Rattle.std.specs.Option.{option_map}
@@ -22,6 +22,20 @@ find-updated p f (x ∷ xs) keeps = elim (p x) as (λ b. p x ≡ b → find p (c
   | true ↦ λ e. rw (keeps x, e) refl
   | false ↦ λ e. rw e (find-updated p f xs keeps)
 ] refl
+
+-- what sees no change sees the same found
+pub find-update_still : {X Y : Type 0} (p t : X → Bool) (sees : Option X → Y) (f : X → X) (xs : List X) → ((x : X) → t (f x) ≡ t x) → ((x : X) → sees (Some (f x)) ≡ sees (Some x)) → sees (find t (update_first p f xs)) ≡ sees (find t xs)
+find-update_still p t sees f [] keeps same = refl
+find-update_still p t sees f (x ∷ xs) keeps same = elim (p x) as (λ b. sees (find t (cond b (f x ∷ xs) (x ∷ update_first p f xs))) ≡ sees (find t (x ∷ xs))) [
+  | true ↦ rw (keeps x) (elim (t x) as (λ b. sees (cond b (Some (f x)) (find t xs)) ≡ sees (cond b (Some x) (find t xs))) [
+    | true ↦ same x
+    | false ↦ refl
+  ])
+  | false ↦ elim (t x) as (λ b. sees (cond b (Some x) (find t (update_first p f xs))) ≡ sees (cond b (Some x) (find t xs))) [
+    | true ↦ refl
+    | false ↦ find-update_still p t sees f xs keeps same
+  ]
+]
 
 -- once the only element that passes t, which p finds, is changed, none passes t
 pub none_left : {X : Type 0} (p t : X → Bool) (f : X → X) (xs : List X) (x : X) → find p xs ≡ Some x → t x ≡ true → ((x : X) → t (f x) ≡ false) → AllLater (λ x y. t x ≡ true → t y ≡ false) xs → AllByRecursion (λ x. t x ≡ false) (update_first p f xs)

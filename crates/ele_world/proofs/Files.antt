@@ -1,5 +1,5 @@
--- The next number of a file, after changes of the file rows.
-use Rattle.std.proofs.Common.{◌≡◌, ◌≢◌, ℕ, ◌+◌, ◌<◌, ◌≤◌, true, false, cond, List, [], ◌∷◌, ◌++◌, Some, refl, arith}
+-- The next number and the policy of a file, after changes of the file rows.
+use Rattle.std.proofs.Common.{◌≡◌, ◌≢◌, ◌==◌, ℕ, ◌+◌, ◌<◌, ◌≤◌, true, false, cond, List, [], ◌∷◌, ◌++◌, Some, refl, ap, arith}
 use Rattle.std.specs.Prelude.{find}
 use Rattle.std.specs.List.{AllByRecursion}
 use Rattle.std.specs.Option.{option_map, option_map_or}
@@ -8,9 +8,12 @@ use Rattle.ele_world.specs.declared.rows.FileRow.{FileRow}
 use Rattle.ele_world.specs.declared.rows.Target.{Target}
 use Rattle.ele_world.specs.declared.rows.Target.TheVariants.{File, Directory}
 use Rattle.ele_lists.specs.Lists.{update_first}
-use Rattle.ele_world.specs.Change.{numbered_on}
+use Rattle.ele_lists.proofs.Found.{find-update_other}
+use Rattle.ele_policy.specs.declared.policy.Policy.{Policy}
+use Rattle.ele_world.specs.Change.{numbered_on, put_under}
 use Rattle.ele_world.specs.WellFormed.{IsFile, IsThere}
 use Rattle.ele_world.specs.World.{is_file, next_of, policy_of}
+use Rattle.ele_world.proofs.Elements.{find-update_still}
 
 -- a file that is there keeps its number when rows are added behind
 pub next_of-push : (files : List FileRow) (row : FileRow) (file : ℕ) → 0 < next_of files file → next_of (files ++ row ∷ []) file ≡ next_of files file
@@ -77,19 +80,25 @@ next_of-numbered_le (x ∷ xs) file other = elim (is_file file x) as (λ b. next
   ]
 ]
 
--- each file keeps its policy
+-- a file that numbers on keeps its policy, and one that has another policy its number
 pub policies-numbered : (files : List FileRow) (file id : ℕ) → policy_of (update_first (is_file file) numbered_on files) id ≡ policy_of files id
-policies-numbered [] file id = refl
-policies-numbered (x ∷ xs) file id = elim (is_file file x) as (λ b. policy_of (cond b (numbered_on x ∷ xs) (x ∷ update_first (is_file file) numbered_on xs)) id ≡ policy_of (x ∷ xs) id) [
-  | true ↦ elim (is_file id x) as (λ b. option_map (λ (row : FileRow). row.policy) (cond b (Some (numbered_on x)) (find (is_file id) xs)) ≡ option_map (λ (row : FileRow). row.policy) (cond b (Some x) (find (is_file id) xs))) [
-    | true ↦ refl
-    | false ↦ refl
-  ]
-  | false ↦ elim (is_file id x) as (λ b. option_map (λ (row : FileRow). row.policy) (cond b (Some x) (find (is_file id) (update_first (is_file file) numbered_on xs))) ≡ option_map (λ (row : FileRow). row.policy) (cond b (Some x) (find (is_file id) xs))) [
-    | true ↦ refl
-    | false ↦ policies-numbered xs file id
-  ]
-]
+policies-numbered files file id = find-update_still (is_file file) (is_file id) (option_map (λ row. row.policy)) numbered_on files (λ row. refl) (λ row. refl)
+
+pub next_of-put_under : (files : List FileRow) (file id : ℕ) (policy : Policy) → next_of (update_first (is_file file) (put_under policy) files) id ≡ next_of files id
+next_of-put_under files file id policy = find-update_still (is_file file) (is_file id) (λ o. option_map_or (λ row. row.next) o 0) (put_under policy) files (λ row. refl) (λ row. refl)
+
+-- its policy is that one, where it is there
+pub policy_of-put_under : (files : List FileRow) (file : ℕ) (policy : Policy) → 0 < next_of files file → policy_of (update_first (is_file file) (put_under policy) files) file ≡ Some policy
+policy_of-put_under [] file policy there = absurd (omega arith)
+policy_of-put_under (x ∷ xs) file policy there = elim (is_file file x) as (λ b. is_file file x ≡ b → policy_of (cond b (put_under policy x ∷ xs) (x ∷ update_first (is_file file) (put_under policy) xs)) file ≡ Some policy) [
+  | true ↦ λ e. rw e refl
+  | false ↦ λ e. rw e (policy_of-put_under xs file policy (rw e at there))
+] refl
+
+-- and each other file keeps its own
+pub policy_of-put_other : (files : List FileRow) (file other : ℕ) (policy : Policy) → (other == file) ≡ false → policy_of (update_first (is_file file) (put_under policy) files) other ≡ policy_of files other
+policy_of-put_other files file other policy apart =
+    ap (option_map (λ (row : FileRow). row.policy)) (find-update_other (is_file file) (is_file other) (put_under policy) files (λ row own. let no : is_file other row ≡ false = grind (arith, nat_tests) in (no, no)))
 
 -- a target stays there
 pub there-push : (files : List FileRow) (row : FileRow) (target : Target) → IsThere files target → IsThere (files ++ row ∷ []) target
@@ -99,3 +108,7 @@ there-push files row (Directory directory) h = tt
 pub there-numbered_on : (files : List FileRow) (file : ℕ) (target : Target) → IsThere files target → IsThere (update_first (is_file file) numbered_on files) target
 there-numbered_on files file (File other) h = omega (arith, h, next_of-numbered_le files file other)
 there-numbered_on files file (Directory directory) h = tt
+
+pub there-put_under : (files : List FileRow) (file : ℕ) (policy : Policy) (target : Target) → IsThere files target → IsThere (update_first (is_file file) (put_under policy) files) target
+there-put_under files file policy (File other) h = rw (next_of-put_under files file other policy) h
+there-put_under files file policy (Directory directory) h = tt

@@ -1,7 +1,7 @@
 -- Each change that may be made keeps a world well formed, and so do all changes of a plan.
 use Rattle.std.proofs.Common.{◌≡◌, ℕ, true, false, List, [], ◌∷◌, Some, None, Ok, Err, refl, is_none}
 use Rattle.std.specs.Prelude.{find}
-use Rattle.ele_world.specs.Change.{Change, Time, Govern, MakeDirectory, EndName, AddName, MoveName, EndFileName, Revive, MakeFile, Append, Take, StartDraft, WriteDraft, TruncateDraft, EndDraft, OpenHandle, ShutHandle, DropIdle, after_change, after_changes}
+use Rattle.ele_world.specs.Change.{Change, Time, Govern, MakeDirectory, EndName, AddName, MoveName, EndFileName, Revive, MakeFile, PutUnder, Append, Take, StartDraft, WriteDraft, TruncateDraft, EndDraft, OpenHandle, ShutHandle, DropIdle, after_change, after_changes}
 use Rattle.ele_world.specs.Plan.{Plan, Tell, Make, Unless, When, Need, IfFound, outcome}
 use Rattle.ele_world.specs.Run.{IsEvent}
 use Rattle.ele_world.specs.WellFormed.{IsWellFormed}
@@ -10,7 +10,7 @@ use Rattle.ele_world.specs.declared.event.Event.{Event}
 use Rattle.ele_world.specs.declared.rows.VersionRow.{VersionRow}
 use Rattle.ele_world.proofs.KeptDrafts.{start_keeps, write_keeps, truncate_keeps, end_keeps, open_keeps, shut_keeps}
 use Rattle.ele_world.proofs.KeptDirectories.{make_directory_keeps, end_name_keeps}
-use Rattle.ele_world.proofs.KeptNames.{time_keeps, govern_keeps, make_keeps}
+use Rattle.ele_world.proofs.KeptNames.{time_keeps, govern_keeps, put_under_keeps, make_keeps}
 use Rattle.ele_world.proofs.KeptDrops.{drop_keeps}
 use Rattle.ele_world.proofs.KeptRevived.{revive_keeps}
 use Rattle.ele_world.proofs.KeptVersions.{append_keeps, take_keeps}
@@ -34,6 +34,7 @@ change_keeps event first w (MoveName from old to new target) is may k = move_nam
 change_keeps event first w (EndFileName directory name file) is may k = end_file_name_keeps w directory name file may k
 change_keeps event first w (Revive directory name file) is may k = revive_keeps w directory name file may k
 change_keeps event first w (MakeFile directory name id policy) is may k = make_keeps w directory name id policy may k
+change_keeps event first w (PutUnder file policy) is may k = put_under_keeps w file policy (may is) k
 change_keeps event first w (Append file opened cells) is may k = append_keeps w file opened cells may k
 change_keeps event first w (Take file number) is may k = take_keeps w file number (taken_ended event first w file number may) may.unread k
 change_keeps event first w (StartDraft file) is may k = start_keeps w file may k

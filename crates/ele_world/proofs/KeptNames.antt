@@ -1,4 +1,4 @@
--- The clock, the policies of directories and the making of a file keep a world well formed.
+-- The clock, policies and the making of a file keep a world well formed.
 use Rattle.std.proofs.Common.{◌≡◌, ℕ, ◌+◌, ◌<◌, ◌≤◌, Bool, true, false, ◌==◌, ◌&&◌, ◌||◌, List, [], ◌∷◌, ◌++◌, length-append, Option, Some, None, IfSome, refl, ap, sym, subst, ◌∙◌, arith, eqb}
 use Rattle.std.specs.Prelude.{is_some, is_none}
 use Rattle.std.specs.List.{AllByRecursion, list_any}
@@ -8,12 +8,12 @@ use Rattle.ele_moment.specs.Last.{last_moment}
 use Rattle.ele_lists.specs.Lists.{update_first}
 use Rattle.ele_lists.proofs.Edits.{all-push, all-weaker, all-update_first, later-push, later-update_first, length-update_first, list_any-update_first}
 use Rattle.ele_policy.specs.declared.policy.Policy.{Policy}
-use Rattle.ele_world.specs.Change.{governed_by, after_change, Time, Govern, MakeFile}
+use Rattle.ele_world.specs.Change.{governed_by, put_under, after_change, Time, Govern, MakeFile, PutUnder}
 use Rattle.ele_world.specs.NameRows.{is_name_of_directory}
 use Rattle.ele_world.specs.Walk.{live_target}
 use Rattle.ele_policy.specs.Policy.{IsPolicy}
 use Rattle.ele_world.specs.WellFormed.{has_directory, IsDirectoryThere, IsHoused, IsFile, IsNameRow, AreApart, IsVersion, ArePlaced, IsDraft, is_current, HaveCurrent, Part, Now, Counted, Directories, Files, Names, Homes, Versions, Drafts, Readers, Current, Holds, IsWellFormed, Tree, IsOfLive, Ended}
-use Rattle.ele_world.specs.World.{World, root, is_directory, next_of, is_live, is_live_name_of, is_target_file, is_version}
+use Rattle.ele_world.specs.World.{World, root, is_directory, is_file, next_of, is_live, is_live_name_of, is_target_file, is_version}
 use Rattle.ele_world.proofs.Readers.{read_on}
 use Rattle.ele_world.specs.declared.rows.DirectoryRow.{DirectoryRow}
 use Rattle.ele_world.specs.declared.rows.DraftRow.{DraftRow}
@@ -23,7 +23,7 @@ use Rattle.ele_world.specs.declared.rows.Target.{Target}
 use Rattle.ele_world.specs.declared.rows.Target.TheVariants.{File, Directory}
 use Rattle.ele_world.specs.declared.rows.VersionRow.{VersionRow}
 use Rattle.ele_world.proofs.Created.{new_file, new_name, first_version, created, made_is}
-use Rattle.ele_world.proofs.Files.{next_of-push, next_of-push_other, next_of-given, next_of-new, there-push}
+use Rattle.ele_world.proofs.Files.{next_of-push, next_of-push_other, next_of-given, next_of-new, next_of-put_under, there-push, there-put_under}
 use Rattle.ele_world.proofs.Homes.{any_more, homes_more, ended_more, any_last}
 use Rattle.ele_world.proofs.May.{MayMake}
 use Rattle.ele_world.proofs.Writers.{written_more}
@@ -55,7 +55,8 @@ time_keeps w to fits le k = record { holds = by } where
   by Drafts = record { each = all-weaker (IsDraft w.files w.now) (IsDraft w.files to) w.drafts (λ row h. draft_later w.files w.now to row le h) (k.holds Drafts).each; placed = (k.holds Drafts).placed }
   by part = k.holds part
 
--- a directory has another policy
+-- ---- a directory or a file has another policy
+
 pub govern_keeps : (w : World) (directory : ℕ) (policy : Policy) → IsPolicy policy → IsWellFormed w → IsWellFormed (after_change w (Govern directory policy))
 govern_keeps w directory policy is k = record { holds = by } where
   by : (part : Part) → Holds (after_change w (Govern directory policy)) part
@@ -80,6 +81,47 @@ govern_keeps w directory policy is k = record { holds = by } where
     there : (target : Target) → IsDirectoryThere w.directories target → IsDirectoryThere governed target
     there (File file) h = tt
     there (Directory id) h = still id h
+  by part = k.holds part
+
+pub put_under_keeps : (w : World) (file : ℕ) (policy : Policy) → IsPolicy policy → IsWellFormed w → IsWellFormed (after_change w (PutUnder file policy))
+put_under_keeps w file policy is k = record { holds = by } where
+  files : List FileRow
+  files = update_first (is_file file) (put_under policy) w.files
+
+  next : (id : ℕ) → next_of files id ≡ next_of w.files id
+  next id = next_of-put_under w.files file id policy
+
+  by : (part : Part) → Holds (after_change w (PutUnder file policy)) part
+  by Counted = let c = k.holds Counted in record {
+    files_made = c.files_made;
+    names_made = c.names_made;
+    versions_made = c.versions_made;
+    handles_made = c.handles_made;
+    file_rows = omega (arith, c.file_rows, length-update_first (is_file file) (put_under policy) w.files);
+    name_rows = c.name_rows;
+    version_rows = c.version_rows;
+  }
+  by Files = record {
+    each = all-update_first (is_file file) (IsFile w.made.files w.made.versions) (IsFile w.made.files w.made.versions) (put_under policy) w.files
+        (λ row h. record { numbered = h.numbered; given = h.given; first = h.first; next = h.next; policy = is }) (λ row h. h) (k.holds Files).each;
+    placed = later-update_first (is_file file) (λ earlier later. earlier.id < later.id) (put_under policy) w.files (λ x y h. h) (λ x y h. h) (k.holds Files).placed;
+  }
+  by Names = record {
+    each = all-weaker (IsNameRow w.files w.now) (IsNameRow files w.now) w.names (λ row h. record { there = there-put_under w.files file policy row.target h.there; born = h.born; dead = h.dead }) (k.holds Names).each;
+    lives = (k.holds Names).lives;
+  }
+  by Versions = record {
+    each = all-weaker (IsVersion w.files w.now) (IsVersion files w.now) w.versions
+        (λ row h. record { first = h.first; numbered = rw (next row.file) h.numbered; opened = h.opened; closed = h.closed; ended = h.ended; open_end = λ none. h.open_end none ∙ sym (next row.file); content = h.content; written = h.written })
+        (k.holds Versions).each;
+    placed = (k.holds Versions).placed;
+  }
+  by Drafts = record {
+    each = all-weaker (IsDraft w.files w.now) (IsDraft files w.now) w.drafts
+        (λ row h. record { there = rw (next row.file) h.there; opened = h.opened; content = h.content; written = rw (next row.file) h.written }) (k.holds Drafts).each;
+    placed = (k.holds Drafts).placed;
+  }
+  by Current = λ id live. rw (next id) (k.holds Current id live)
   by part = k.holds part
 
 -- ---- a file is made

@@ -5,7 +5,7 @@ use Rattle.ele_content.specs.declared.cell.Cell.{Cell}
 use Rattle.ele_content.specs.Content.{longest_content}
 use Rattle.ele_moment.specs.Last.{last_moment}
 use Rattle.ele_policy.specs.declared.policy.Policy.{Policy}
-use Rattle.ele_world.specs.Change.{Change, Time, Govern, MakeDirectory, EndName, AddName, MoveName, EndFileName, Revive, MakeFile, Append, Take, StartDraft, WriteDraft, TruncateDraft, EndDraft, OpenHandle, ShutHandle, DropIdle, after_change}
+use Rattle.ele_world.specs.Change.{Change, Time, Govern, MakeDirectory, EndName, AddName, MoveName, EndFileName, Revive, MakeFile, PutUnder, Append, Take, StartDraft, WriteDraft, TruncateDraft, EndDraft, OpenHandle, ShutHandle, DropIdle, after_change}
 use Rattle.ele_world.specs.Due.{is_due_at}
 use Rattle.ele_world.specs.NameRows.{is_live_in, is_live_directory}
 use Rattle.ele_world.specs.Plan.{Plan, Tell, Make, Unless, When, Need, IfFound}
@@ -113,6 +113,7 @@ May event first w (MoveName from old to new target) = MayMove w from old to new 
 May event first w (EndFileName directory name file) = live_target w.names directory name ≡ Some (File file)
 May event first w (Revive directory name file) = MayRevive w directory name file
 May event first w (MakeFile directory name id policy) = MayMake w directory name id policy
+May event first w (PutUnder file policy) = IsEvent event → IsPolicy policy
 May event first w (Append file opened cells) = MayAppend w file opened cells
 May event first w (Take file number) = MayTake event first w file number
 May event first w (StartDraft file) = MayStart w file

@@ -8,7 +8,7 @@ use Rattle.std.proofs.lemmas.Bool.Decides.{nat_tests}
 use Rattle.ele_content.specs.declared.cell.Cell.{Cell}
 use Rattle.ele_lists.specs.Lists.{update_first, remove_first}
 use Rattle.ele_lists.proofs.Edits.{all-weaker, not_found, find-insert_before, find-remove_first, all-push, all-update_first, all-remove_first, all-found, found_passes}
-use Rattle.ele_world.specs.Change.{Change, MakeFile, Append, Take, after_change, ended_at, next_version, with_end, with_file, with_name, with_version, EndFileName, Revive, DropIdle, without_name, current_cells, numbered_on}
+use Rattle.ele_world.specs.Change.{Change, MakeFile, PutUnder, Append, Take, after_change, ended_at, next_version, with_end, with_file, with_name, with_version, EndFileName, Revive, DropIdle, without_name, current_cells, numbered_on, put_under}
 use Rattle.ele_world.specs.WellFormed.{AllLater, ArePlaced}
 use Rattle.ele_world.specs.World.{World, next_of, is_version, is_version_after, is_live, is_file}
 use Rattle.ele_world.specs.declared.event.Event.{Event}
@@ -63,6 +63,8 @@ change_past event first w (MakeFile directory name id policy) file number may is
       first = is.first;
       past = past_numbered (w.files ++ new ∷ []) id file number (all-push (IsBehind file number) w.files new is.past (λ same. absurd (omega (arith, same, is.given, may.next))));
     }
+change_past event first w (PutUnder of policy) file number may is =
+    record { given = is.given; first = is.first; past = all-update_first (is_file of) (IsBehind file number) (IsBehind file number) (put_under policy) w.files (λ row h. h) (λ row h. h) is.past }
 change_past event first w (Append of opened cells) file number may is = record { given = is.given; first = is.first; past = past_numbered w.files of file number is.past }
 change_past event first w (Revive directory name of) file number may is = record { given = is.given; first = is.first; past = past_numbered w.files of file number is.past }
 change_past event first w (DropIdle of) file number may is =

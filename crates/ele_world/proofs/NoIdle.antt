@@ -12,7 +12,7 @@ use Rattle.ele_lists.proofs.Edits.{all-push, all-weaker, all-both, all-update_fi
 use Rattle.ele_lists.proofs.Found.{any-found}
 use Rattle.ele_lists.proofs.Keys.{remove_first-key}
 use Rattle.ele_policy.specs.declared.policy.Policy.{Policy}
-use Rattle.ele_world.specs.Change.{Take, MakeFile, EndFileName, EndDraft, DropIdle, ShutHandle, StartDraft, after_change, is_idle, ended_at, numbered_on, next_version, new_draft, current_cells, changed_by, fitted_by, with_file, with_name, without_name, with_end, with_version, without_file}
+use Rattle.ele_world.specs.Change.{Take, MakeFile, PutUnder, EndFileName, EndDraft, DropIdle, ShutHandle, StartDraft, after_change, is_idle, ended_at, numbered_on, put_under, next_version, new_draft, current_cells, changed_by, fitted_by, with_file, with_name, without_name, with_end, with_version, without_file}
 use Rattle.ele_world.specs.FileView.{is_version_of}
 use Rattle.ele_world.specs.NoIdleStays.{HasNoIdle, NoIdleStays}
 use Rattle.ele_world.specs.Run.{run_of, IsEvent}
@@ -20,7 +20,7 @@ use Rattle.ele_world.specs.Step.{plan, step}
 use Rattle.ele_world.specs.WellFormed.{is_current, Files, Current, IsWellFormed}
 use Rattle.ele_world.specs.World.{World, default_of, is_file, is_version, is_version_after, is_draft, is_draft_after, is_live, has_draft, next_of}
 use Rattle.ele_world.specs.declared.event.Event.{Event}
-use Rattle.ele_world.specs.declared.event.Event.TheVariants.{Clock, Tick, MakeDir, RemoveDir, Create, Link, Unlink, Rename, Undelete, OpenWrite, OpenRead, Write, Truncate, Close, Revert, SetDefault, CleanOne, Read, Stat, Versions, List as ListNames, Restorable, Due, UsageAll}
+use Rattle.ele_world.specs.declared.event.Event.TheVariants.{Clock, Tick, MakeDir, RemoveDir, Create, Link, Unlink, Rename, Undelete, OpenWrite, OpenRead, Write, Truncate, Close, Revert, SetPolicy, SetDefault, CleanOne, Read, Stat, Versions, List as ListNames, Restorable, Due, UsageAll}
 use Rattle.ele_world.specs.declared.event.Source.TheVariants.{Tagged, Of}
 use Rattle.ele_world.specs.declared.rows.DraftRow.{DraftRow}
 use Rattle.ele_world.specs.declared.rows.FileRow.{FileRow}
@@ -77,6 +77,9 @@ module _ (w : World) (file opened : ℕ) (cells : List Cell) where
 made : (w : World) (directory : ℕ) (name : List ℕ) (id : ℕ) (policy : Policy) → AreBusy w → AreBusy (after_change w (MakeFile directory name id policy))
 made w directory name id policy all = versioned (with_name (with_file w id policy) directory name (File id)) id w.now []
     (all-push (λ row. (row.id == id) ≡ false → has_rows w row.id ≡ true) w.files (record { id = id; policy = policy; next = 1 }) (all_but w id all) (λ apart. absurd (let own : (id == id) ≡ true = grind (arith, nat_tests) in false≢true (sym apart ∙ own))))
+
+put : (w : World) (file : ℕ) (policy : Policy) → AreBusy w → AreBusy (after_change w (PutUnder file policy))
+put w file policy = all-update_first (is_file file) (λ row. has_rows w row.id ≡ true) (λ row. has_rows w row.id ≡ true) (put_under policy) w.files (λ row h. h) (λ row h. h)
 
 nameless : (w : World) (directory : ℕ) (name : List ℕ) (file : ℕ) → AreBusy w → AreBusy (after_change w (EndFileName directory name file))
 nameless w directory name file all = elim (is_live u file) as (λ b. AreBusy (record u { versions = cond b w.versions (with_end u file) })) [
@@ -173,6 +176,7 @@ tidy w (Close handle) k all = λ read found. (
   ),
 )
 tidy w (Revert path number) k all = λ file found row meant drafts versions. versioned w file w.now row.cells (all_but w file all)
+tidy w (SetPolicy path policy) k all = λ file found. put w file policy all
 tidy w (SetDefault path policy) k all = λ directory found. all
 tidy w CleanOne k all = (tt, λ key first. idle_gone (after_change w (Take key.file key.number)) key.file (change_keeps CleanOne w w (Take key.file key.number) tt (takes w key k first) k) (taken w key.file key.number all))
 tidy w (Read (Of handle)) k all = λ read found. tt

@@ -1,18 +1,25 @@
 -- Which ripe moments change where a file gets another policy: those of its own versions, and no other.
-use Rattle.std.proofs.Common.{◌≡◌, ℕ, ◌<◌, ◌==◌, true, false, cond, Option, Some, None, refl, ap, sym, ◌∙◌}
+use Rattle.std.proofs.Common.{◌≡◌, ℕ, ◌<◌, ◌==◌, false, cond, Option, Some, None, ap, ◌∙◌}
 use Rattle.ele_policy.specs.declared.policy.Policy.{Policy}
 use Rattle.ele_policy.specs.Policy.{IsPolicy}
 use Rattle.ele_world.specs.Change.{PutUnder, after_change}
 use Rattle.ele_world.specs.Due.{ripe_at}
+use Rattle.ele_world.specs.FileView.{view_of, ripe_numbered}
 use Rattle.ele_world.specs.Neighbours.{moment_under}
 use Rattle.ele_world.specs.WellFormed.{IsWellFormed}
 use Rattle.ele_world.specs.World.{World, is_open, next_of}
+use Rattle.ele_world.proofs.Files.{policy_of-put_under, policy_of-put_other}
+use Rattle.ele_world.proofs.KeptNames.{put_under_keeps}
+use Rattle.ele_world.proofs.Neighbours.{in_order_of, ripe_at_near}
 
 module _ (w : World) (file : ℕ) (policy : Policy) (k : IsWellFormed w) where
   -- those of other files stay
   pub policy_others : (f n : ℕ) → (f == file) ≡ false → ripe_at (after_change w (PutUnder file policy)) f n ≡ ripe_at w f n
-  policy_others f n other = ?
+  policy_others f n other = ap (λ (o : Option Policy). ripe_numbered (record (view_of w f) { policy = o }) n) (policy_of-put_other w.files file f policy other)
 
   -- the file's own are those under the policy
   pub policy_own : IsPolicy policy → 0 < next_of w.files file → (n : ℕ) → ripe_at (after_change w (PutUnder file policy)) file n ≡ cond (is_open w.handles file n) None (moment_under (Some policy) w.versions file n)
-  policy_own is there n = ?
+  policy_own is there n =
+      let v = after_change w (PutUnder file policy) in
+      ripe_at_near v file n (in_order_of v (put_under_keeps w file policy is k))
+      ∙ ap (λ o. cond (is_open w.handles file n) None (moment_under o w.versions file n)) (policy_of-put_under w.files file policy there)

@@ -6,7 +6,7 @@ use Rattle.ele_world.specs.Plan.{Plan, Tell, Make, Unless, When, Need, IfFound, 
 use Rattle.ele_world.specs.Step.{plan, step}
 use Rattle.ele_world.specs.World.{World}
 use Rattle.ele_world.specs.declared.event.Event.{Event}
-use Rattle.ele_world.specs.declared.event.Event.TheVariants.{Clock, Tick, MakeDir, RemoveDir, Create, Link, Unlink, Rename, Undelete, OpenWrite, OpenRead, Write, Truncate, Close, Revert, SetDefault, CleanOne, Read, Stat, Versions, List as ListNames, Restorable, Due, UsageAll}
+use Rattle.ele_world.specs.declared.event.Event.TheVariants.{Clock, Tick, MakeDir, RemoveDir, Create, Link, Unlink, Rename, Undelete, OpenWrite, OpenRead, Write, Truncate, Close, Revert, SetPolicy, SetDefault, CleanOne, Read, Stat, Versions, List as ListNames, Restorable, Due, UsageAll}
 use Rattle.ele_world.specs.declared.event.Source.TheVariants.{Tagged, Of}
 use Rattle.ele_world.specs.declared.refusal.Refusal.{Refusal}
 use Rattle.ele_world.specs.declared.reply.Reply.{Reply}
@@ -41,6 +41,7 @@ fair w (Write handle offset bytes) = λ file. (tt, (refl, refl))
 fair w (Truncate handle size) = λ file. (refl, refl)
 fair w (Close handle) = λ read. ((refl, refl), λ file. ((refl, refl), ((refl, refl), λ draft. ((refl, refl), (refl, refl)))))
 fair w (Revert path number) = λ file row. (refl, refl)
+fair w (SetPolicy path policy) = λ file. (refl, refl)
 fair w (SetDefault path policy) = λ directory. (refl, refl)
 fair w CleanOne = (tt, λ key. (refl, refl))
 fair w (Read (Of handle)) = λ read. tt

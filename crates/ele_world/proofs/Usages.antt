@@ -65,7 +65,7 @@ module _ {X : Type 0} (file_of : X → ℕ) where
 
 -- a sum over the rows of the files that pass, beside the sum over all
 module _ (m : List VersionRow → List DraftRow → ℕ) (s : Splits m) (file : ℕ) (t : ℕ → Bool) where
-  passing_sum : (versions : List VersionRow) (drafts : List DraftRow) → m (filter (λ r. t r.file) versions) (filter (λ r. t r.file) drafts) ≡ cond (t file) (m (filter (λ r. eqb r.file file) versions) (filter (λ r. eqb r.file file) drafts)) 0 + m (filter (λ r. t r.file) (filter (λ r. not (eqb r.file file)) versions)) (filter (λ r. t r.file) (filter (λ r. not (eqb r.file file)) drafts))
+  pub passing_sum : (versions : List VersionRow) (drafts : List DraftRow) → m (filter (λ r. t r.file) versions) (filter (λ r. t r.file) drafts) ≡ cond (t file) (m (filter (λ r. eqb r.file file) versions) (filter (λ r. eqb r.file file) drafts)) 0 + m (filter (λ r. t r.file) (filter (λ r. not (eqb r.file file)) versions)) (filter (λ r. t r.file) (filter (λ r. not (eqb r.file file)) drafts))
   passing_sum versions drafts =
       s.both (λ id. eqb id file) (filter (λ r. t r.file) versions) (filter (λ r. t r.file) drafts)
       ∙ (rw (
