@@ -13,6 +13,7 @@ pub mod Restores
 pub mod Drops
 pub mod Asked
 pub mod Tagged
+pub mod Neighbours
 pub mod Copies
 pub mod Names
 pub mod Closes

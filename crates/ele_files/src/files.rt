@@ -19,6 +19,8 @@ mod asking;
 mod closing;
 mod copies;
 mod dropping;
+mod governing;
+mod neighbours;
 mod restoring;
 mod versions;
 mod writing;
