@@ -5,6 +5,7 @@ pub mod Exchanges
 pub mod Endings
 pub mod Places
 pub mod Ends
+pub mod Governing
 pub mod Appends
 pub mod Drafts
 pub mod Copied
