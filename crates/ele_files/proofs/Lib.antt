@@ -16,5 +16,6 @@ pub mod Asked
 pub mod Tagged
 pub mod Neighbours
 pub mod Copies
+pub mod Counted
 pub mod Names
 pub mod Closes

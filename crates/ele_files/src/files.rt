@@ -22,6 +22,7 @@ mod dropping;
 mod governing;
 mod neighbours;
 mod restoring;
+mod usage;
 mod versions;
 mod writing;
 
