@@ -1,11 +1,11 @@
 -- A file has another policy, and all else stays.
-use Rattle.std.proofs.Common.{◌≡◌, ◌<◌, ℕ, Bool, true, false, cond, eqb, List, [], ◌∷◌, ◌++◌, map, find, get_or, Option, Some, None, refl, ap, sym, ◌∙◌}
+use Rattle.std.proofs.Common.{◌≡◌, ◌<◌, ℕ, Bool, true, false, cond, eqb, List, [], ◌∷◌, ◌++◌, map, find, get_or, Some, None, refl, ap, sym, ◌∙◌}
 use Rattle.std.proofs.Math.ListN.{set}
-use Rattle.std.specs.List.{AllByRecursion, flat_map, position}
+use Rattle.std.specs.List.{flat_map, position}
 use Rattle.std.specs.Option.{option_map, option_map_or}
 use Rattle.ele_blocks.specs.Store.{Store}
 use Rattle.ele_files.specs.Held.{changed_at}
-use Rattle.ele_files.specs.Inside.{IsDraftKept, IsFileKept, Keeps, draft_stock, file_row, file_stock, held_in, is_id, rows_in}
+use Rattle.ele_files.specs.Inside.{IsDraftKept, IsFileKept, Keeps, file_row, file_stock, held_in, is_id, rows_in}
 use Rattle.ele_files.specs.declared.file.File.{File}
 use Rattle.ele_files.proofs.Looks.{IsSeen}
 use Rattle.ele_files.proofs.Rows.{file_row-found, no-file}

@@ -1,4 +1,4 @@
-use Rattle.std.proofs.Common.{[], Some, None, map, subst, sym, ap, refl, ◌∙◌}
+use Rattle.std.proofs.Common.{[], subst, sym, ap, refl, ◌∙◌}
 use Rattle.std.specs.Option.{option_map_or}
 use Rattle.std.proofs.lemmas.Result.{on_ok_weaker}
 use Rattle.ele_blocks.specs.Layout.{shown}

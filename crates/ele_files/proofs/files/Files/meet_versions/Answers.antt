@@ -1,6 +1,5 @@
-use Rattle.std.proofs.Common.{List, [], subst, sym, ap, ◌∙◌}
+use Rattle.std.proofs.Common.{List, [], subst, sym}
 use Rattle.std.proofs.lemmas.Result.{on_ok_weaker}
-use Rattle.ele_content.specs.Place.{Place}
 use Rattle.ele_files.specs.Met.{Meets}
 use Rattle.ele_files.proofs.Counted.{meets_none, own_kept, own_lives, own_places}
 use Rattle.ele_files.proofs.Tagged.{none_shown}

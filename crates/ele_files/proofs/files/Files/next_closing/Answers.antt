@@ -1,4 +1,4 @@
-use Rattle.std.proofs.Common.{Some, ap, sym, ◌∙◌}
+use Rattle.std.proofs.Common.{ap, sym, ◌∙◌}
 use Rattle.std.specs.Option.{option_map}
 use Rattle.ele_files.proofs.Neighbours.{closing_none, closing_shown}
 use Rattle.ele_inode_log.specs.declared.row.VersionRow as log

@@ -1,6 +1,3 @@
-use Rattle.std.proofs.Common.{◌≡◌, ◌++◌, [], filter, length, subst, sym, ap, refl, ◌∙◌}
-use Rattle.ele_content.specs.Place.{different, is_place}
-use Rattle.ele_files.specs.Met.{Counts}
 use Rattle.ele_files.proofs.Counted.{none_count, usage_counts}
 use Rattle.ele_files.proofs.files.Files.usage_of.Goals as goal
 

@@ -1,4 +1,4 @@
-use Rattle.std.proofs.Common.{◌++◌, ℕ, List, map, take, subst, sym, arith}
+use Rattle.std.proofs.Common.{◌++◌, List, map, take, subst, sym, arith}
 use Rattle.std.specs.List.{slice_get}
 use Rattle.std.proofs.lemmas.Option.{slice_get_past}
 use Rattle.ele_blocks.specs.Layout.{cell_of, slots_of}
