@@ -125,6 +125,9 @@ module _ (f : File) (kept : IsFileKept f) where
   log-all = filter-all (is_after 0) f.log.rows (all-weaker (IsRowOf f.next) (λ row. is_after 0 row ≡ true) f.log.rows (λ row is. let h = is.first in grind (arith, nat_tests)) kept.rows)
 
   module _ (behind : ℕ) (row : log.VersionRow) (found : Some row ≡ find (is_after behind) f.log.rows) where
+    pub log-left : filter (is_after behind) f.log.rows ≡ row ∷ filter (is_after row.number) f.log.rows
+    log-left = left-behind behind f.log.rows row rise (sym found)
+
     -- what is told of the rows behind begins with the row
     pub told-next : (told : List Stamps) → told ++ map stamps_in (filter (is_after behind) f.log.rows) ≡ map stamps_in f.log.rows → (told ++ stamps_in row ∷ []) ++ map stamps_in (filter (is_after row.number) f.log.rows) ≡ map stamps_in f.log.rows
     told-next told h = rw append_assoc (ap (λ xs. told ++ map stamps_in xs) (sym (left-behind behind f.log.rows row rise (sym found))) ∙ h)

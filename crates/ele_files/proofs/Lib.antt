@@ -5,6 +5,7 @@ pub mod Exchanges
 pub mod Endings
 pub mod Places
 pub mod Ends
+pub mod Governing
 pub mod Appends
 pub mod Drafts
 pub mod Copied
@@ -13,6 +14,8 @@ pub mod Restores
 pub mod Drops
 pub mod Asked
 pub mod Tagged
+pub mod Neighbours
 pub mod Copies
+pub mod Counted
 pub mod Names
 pub mod Closes

@@ -44,7 +44,7 @@ last-filter {X} p q (x ∷ xs) own = by (last-filter p q xs own) (q x) (p x) ref
     none None = refl
     none (Some y) = refl
 
-last-map : {X Y : Type 0} (p : Y → Bool) (h : X → Y) (q : X → Bool) (xs : List X) → ((x : X) → p (h x) ≡ q x) → last_passing p (map h xs) ≡ option_map h (last_passing q xs)
+pub last-map : {X Y : Type 0} (p : Y → Bool) (h : X → Y) (q : X → Bool) (xs : List X) → ((x : X) → p (h x) ≡ q x) → last_passing p (map h xs) ≡ option_map h (last_passing q xs)
 last-map p h q [] same = refl
 last-map p h q (x ∷ xs) same = rw (last-map p h q xs same, same x) (by (last_passing q xs) (q x)) where
   by : (o : Option _) (b : Bool) → option_or (option_map h o) (cond b (Some (h x)) None) ≡ option_map h (option_or o (cond b (Some x) None))
@@ -62,10 +62,10 @@ module _ (s : Store) (files : List File) (a : AllSessions) (kept : Keeps s files
   pub own_rows : filter (is_version_of file) versions ≡ rows_in s f
   own_rows = filter-buckets (λ (f : File). f.id) (rows_in s) file_of (tagged s) file files kept.rise ∙ ap (λ o. option_map_or (rows_in s) o []) found
 
-  own : eqb f.id file ≡ true
+  pub own : eqb f.id file ≡ true
   own = found_passes (is_id file) files f found
 
-  find_shown : (p : VersionRow → Bool) (q : log.VersionRow → Bool) → ((row : VersionRow) → p row ≡ true → is_version_of file row ≡ true) → ((row : log.VersionRow) → p (row_in s f.id row) ≡ q row)
+  pub find_shown : (p : VersionRow → Bool) (q : log.VersionRow → Bool) → ((row : VersionRow) → p row ≡ true → is_version_of file row ≡ true) → ((row : log.VersionRow) → p (row_in s f.id row) ≡ q row)
       → find p versions ≡ option_map (row_in s f.id) (find q f.log.rows)
   find_shown p q its same =
       sym (find-filter p (is_version_of file) versions its) ∙ ap (find p) own_rows ∙ find-map (row_in s f.id) p f.log.rows ∙ ap (option_map (row_in s f.id)) (find-same (λ row. p (row_in s f.id row)) q f.log.rows same) where

@@ -3,3 +3,4 @@ pub mod Closing
 pub mod Inside
 pub mod Appending
 pub mod Meant
+pub mod Met

@@ -19,7 +19,10 @@ mod asking;
 mod closing;
 mod copies;
 mod dropping;
+mod governing;
+mod neighbours;
 mod restoring;
+mod usage;
 mod versions;
 mod writing;
 

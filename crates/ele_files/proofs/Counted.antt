@@ -1,0 +1,201 @@
+-- The places of a file's maps, counted by the slots that were met.
+use Rattle.std.proofs.Common.{◌≡◌, ℕ, ◌+◌, ◌*◌, ◌<◌, ◌≤◌, ◌^◌, Bool, true, false, not, ◌&&◌, ◌||◌, cond, eqb, List, [], ◌∷◌, ◌++◌, map, take, length, Option, Some, None, refl, sym, ap, subst, ◌∙◌, arith, append_assoc}
+use Rattle.std.specs.List.{AllByRecursion, filter, find, flat_map, list_any, slice_get}
+use Rattle.std.specs.Option.{option_map, option_map_or}
+use Rattle.std.proofs.lemmas.Bool.Decides.{nat_tests}
+use Rattle.std.proofs.lemmas.List.{append-nil, length-map, length-take-le}
+use Rattle.std.proofs.lemmas.List.Concat.{flat_map_single}
+use Rattle.std.proofs.lemmas.List.Folds.{list_any-append}
+use Rattle.std.proofs.lemmas.List.Sums.{sum-map, sum_by-cons}
+use Rattle.ele_blocks.specs.declared.slot.Slot.{Slot}
+use Rattle.ele_blocks.specs.Layout.{Layout, cell_of, shown, slots_of}
+use Rattle.ele_blocks.specs.LivesIn.{LivesIn}
+use Rattle.ele_blocks.specs.Stock.{StockLaws}
+use Rattle.ele_blocks.specs.Store.{Store, bytes_at}
+use Rattle.ele_content.specs.declared.cell.Cell.{Cell}
+use Rattle.ele_content.specs.Content.{content_of}
+use Rattle.ele_content.specs.Place.{Place, different, is_place}
+use Rattle.ele_files.specs.Inside.{IsFileKept, Keeps, draft_in, is_id, row_in, rows_in}
+use Rattle.ele_files.specs.Met.{Counts, Meets, is_key, log_bytes, log_places}
+use Rattle.ele_files.specs.declared.file.File.{File}
+use Rattle.ele_files.proofs.Copies.{cell-next}
+use Rattle.ele_files.proofs.Rows.{its_id}
+use Rattle.ele_files.proofs.Stock.{logs_live}
+use Rattle.ele_files.proofs.Tagged.{own_rows}
+use Rattle.ele_inode_log.specs.declared.row.VersionRow as log
+use Rattle.ele_lists.specs.Lists.{AllLater}
+use Rattle.ele_lists.proofs.Buckets.{filter-buckets}
+use Rattle.ele_lists.proofs.Edits.{all-found, all-weaker, found_passes}
+use Rattle.ele_lists.proofs.Sums.{length-split, sum_by-map, sum_by-same}
+use Rattle.ele_sessions.specs.Sessions as sessions
+use Rattle.ele_sessions.specs.Sessions.{AllSessions, Draft, draft_of}
+use Rattle.ele_world.specs.declared.Usage.{Usage}
+use Rattle.ele_world.specs.FileView.{is_version_of}
+use Rattle.ele_world.specs.NewPlaces.{is_among}
+use Rattle.ele_world.specs.Usage.{bytes_in, file_usage, places, places_from}
+use Rattle.ele_world.specs.World.{is_draft}
+use Rattle.ele_world.specs.declared.rows.DraftRow.{DraftRow}
+use Rattle.ele_world.specs.declared.rows.VersionRow.{VersionRow}
+
+-- ---- different places
+
+same_place : (x y : Place) → is_place x y ≡ true → (x.file ≡ y.file) × (x.slot ≡ y.slot) × (x.writer ≡ y.writer)
+same_place x y h = (grind (arith, nat_tests), grind (arith, nat_tests), grind (arith, nat_tests))
+
+is_same : (x y : Place) → is_place x y ≡ true → x ≡ y
+is_same x y h =
+    let same = same_place x y h in
+    rw (same.0, same.1, same.2) refl
+
+turned : (x y : Place) → is_place x y ≡ is_place y x
+turned x y = grind (arith, nat_tests)
+
+-- a place behind others counts unless it is one of them
+different-push : (places : List Place) (place : Place) → different is_place (places ++ place ∷ []) ≡ different is_place places + cond (is_among places place) 0 1
+different-push [] place = refl
+different-push (x ∷ xs) place =
+    rw (list_any-append (λ y. is_place y x) xs (place ∷ []), different-push xs place, turned x place) (by (is_place place x) (is_among xs x) (is_among xs place) alike) where
+      alike : is_place place x ≡ true → is_among xs place ≡ is_among xs x
+      alike h = ap (is_among xs) (is_same place x h)
+
+      by : (b c d : Bool) → (b ≡ true → d ≡ c) → cond (c || (b || false)) 0 1 + (different is_place xs + cond d 0 1) ≡ cond c 0 1 + different is_place xs + cond (b || d) 0 1
+      by true true d same = rw (same refl) (omega arith)
+      by true false d same = rw (same refl) (omega arith)
+      by false true d same = omega arith
+      by false false d same = omega arith
+
+-- ---- one slot more
+
+module _ (file slot writer : ℕ) where
+  abbrev met : Place
+  met = record { file = file; slot = slot; writer = writer }
+
+  pub met_next : (was now : List (ℕ × ℕ)) (added : Bool) → added ≡ not (list_any (is_key slot writer) was) → length now ≡ length was + cond added 1 0
+      → ((key : ℕ × ℕ) → list_any (is_key key.0 key.1) now ≡ cond (is_key slot writer key) true (list_any (is_key key.0 key.1) was))
+      → (before places : List Place) → Counts file was (before ++ places) → Counts file now (before ++ (places ++ met ∷ []))
+  met_next was now added is long has before places counts = subst (Counts file now) (append_assoc before places (met ∷ [])) (record {
+    count = long ∙ rw (is, counts.has slot writer) (one (is_among (before ++ places) met)) ∙ sym (different-push (before ++ places) met);
+    has = λ s w. has (s, w) ∙ rw (counts.has s w, list_any-append (λ p. is_place p (record { file = file; slot = s; writer = w })) (before ++ places) (met ∷ [])) (either (is_key slot writer (s, w)) (is_among (before ++ places) (record { file = file; slot = s; writer = w })));
+  }) where
+    one : (b : Bool) → length was + cond (not b) 1 0 ≡ different is_place (before ++ places) + cond b 0 1
+    one true = rw counts.count refl
+    one false = rw counts.count refl
+
+    itself : eqb file file ≡ true
+    itself = grind (arith, nat_tests)
+
+    either : (b c : Bool) → cond b true c ≡ (c || ((eqb file file && b) || false))
+    either true true = refl
+    either true false = rw itself refl
+    either false true = refl
+    either false false = rw itself refl
+
+-- ---- the slots of a map
+
+-- nothing was met
+pub meets_none : (file : ℕ) (keys : List (ℕ × ℕ)) → Meets file keys keys []
+meets_none file keys before counts = subst (Counts file keys) (sym (append-nil before)) counts
+
+-- one after the other
+pub meets_then : (file : ℕ) (was then now : List (ℕ × ℕ)) (places more : List Place) → Meets file was then places → Meets file then now more → Meets file was now (places ++ more)
+meets_then file was then now places more first second before counts = subst (Counts file now) (append_assoc before places more) (second (before ++ places) (first before counts))
+
+places_from-push : (file first : ℕ) (cells : List Cell) (cell : Cell) → places_from file first (cells ++ cell ∷ []) ≡ places_from file first cells ++ record { file = file; slot = first + length cells; writer = cell.writer } ∷ []
+places_from-push file first [] cell =
+    let at : first ≡ first + 0 = omega arith in
+    ap (λ n. record { file = file; slot = n; writer = cell.writer } ∷ []) at
+places_from-push file first (c ∷ cells) cell =
+    let at : first + 1 + length cells ≡ first + length (c ∷ cells) = omega arith in
+    ap (λ ps. record { file = file; slot = first; writer = c.writer } ∷ ps) (places_from-push file (first + 1) cells cell ∙ ap (λ n. places_from file (first + 1) cells ++ record { file = file; slot = n; writer = cell.writer } ∷ []) at)
+
+module _ (laws : StockLaws) (s : Store) (m : Layout) (lives : LivesIn s m) (k : ℕ) (cell : ℕ × ℕ) (got : Some cell ≡ option_map (λ (x : Slot). (x.writer, x.block)) (slice_get (slots_of s m) k)) (within : k ≤ length (slots_of s m)) (file : ℕ) where
+  abbrev so_far : List Cell
+  so_far = map (cell_of s) (take k (slots_of s m))
+
+  pub places-next : places_from file 0 (map (cell_of s) (take (k + 1) (slots_of s m))) ≡ places_from file 0 so_far ++ record { file = file; slot = k; writer = cell.0 } ∷ []
+  places-next =
+      let at : 0 + length so_far ≡ k = omega (arith, length-map (take k (slots_of s m)) (cell_of s), length-take-le k (slots_of s m) within) in
+      let next = places_from-push file 0 so_far (record { writer = cell.0; bytes = bytes_at s cell.1 }) in
+      ap (places_from file 0) (cell-next laws s m lives k cell got (bytes_at s cell.1) refl) ∙ next ∙ ap (λ n. places_from file 0 so_far ++ record { file = file; slot = n; writer = cell.0 } ∷ []) at
+
+-- ---- the bytes of a log
+
+abbrev LogLives : Store → List log.VersionRow → Type 0
+LogLives s rows = AllByRecursion (λ (row : log.VersionRow). LivesIn s row.cells) rows
+
+pub bytes_few : StockLaws → (s : Store) (rows : List log.VersionRow) → LogLives s rows → log_bytes rows ≤ length rows * 1048576
+bytes_few laws s [] lives = omega arith
+bytes_few laws s (row ∷ rows) lives = omega (arith, sum_by-cons (λ (r : log.VersionRow). r.cells.size) row rows, laws.short s row.cells lives.0, bytes_few laws s rows lives.1)
+
+pub bytes_shown : StockLaws → (s : Store) (file : ℕ) (rows : List log.VersionRow) → LogLives s rows → log_bytes rows ≡ bytes_in (map (row_in s file) rows)
+bytes_shown laws s file rows lives =
+    let bytes : VersionRow → ℕ = λ row. length (content_of row.cells) in
+    sum_by-same (λ (row : log.VersionRow). row.cells.size) (λ row. bytes (row_in s file row)) rows (all-weaker (λ (row : log.VersionRow). LivesIn s row.cells) (λ row. row.cells.size ≡ bytes (row_in s file row)) rows (λ row lives. sym (laws.long s row.cells lives)) lives)
+    ∙ sym (sum_by-map bytes (row_in s file) rows) ∙ sym (sum-map bytes (map (row_in s file) rows))
+
+pub places_shown : (s : Store) (file : ℕ) (rows : List log.VersionRow) → log_places s rows file ≡ flat_map (λ (row : VersionRow). places_from row.file 0 row.cells) (map (row_in s file) rows)
+places_shown s file [] = refl
+places_shown s file (row ∷ rows) = ap (λ ps. places_from file 0 (shown s row.cells) ++ ps) (places_shown s file rows)
+
+-- ---- the rows of one file
+
+abbrev row_places : VersionRow → List Place
+row_places row = places_from row.file 0 row.cells
+
+abbrev draft_row_places : DraftRow → List Place
+draft_row_places row = places_from row.file 0 row.cells
+
+abbrev usage_by : ℕ → ℕ → ℕ → Usage
+usage_by count bytes blocks = record { files = 1; versions = count; bytes = bytes; blocks = blocks }
+
+module _ (s : Store) (files : List File) (a : AllSessions) (kept : Keeps s files a) (file : ℕ) where
+  abbrev own : List VersionRow
+  own = filter (is_version_of file) (flat_map (rows_in s) files)
+
+  module _ (f : File) (found : find (is_id file) files ≡ Some f) where
+    pub own_kept : IsFileKept f
+    own_kept = all-found (is_id file) IsFileKept files f found kept.files_kept
+
+    pub own_lives : LogLives s f.log.rows
+    own_lives = all-found (is_id file) (λ (f : File). LogLives s f.log.rows) files f found (logs_live s files a kept)
+
+    shows : own ≡ rows_in s f
+    shows = own_rows s files a kept file f found
+
+    pub own_count : length own ≡ length f.log.rows
+    own_count = ap length shows ∙ length-map f.log.rows (row_in s f.id)
+
+    pub own_bytes : log_bytes f.log.rows ≡ bytes_in own
+    own_bytes = bytes_shown kept.laws s f.id f.log.rows own_lives ∙ ap bytes_in (sym shows)
+
+    pub own_few : length (flat_map (rows_in s) files) ≤ 2 ^ 40 → log_bytes f.log.rows < 2 ^ 64
+    own_few few = omega (arith, few, bytes_few kept.laws s f.log.rows own_lives, own_count, length-split (is_version_of file) (flat_map (rows_in s) files))
+
+    pub own_places : log_places s f.log.rows file ≡ places own []
+    own_places = ap (log_places s f.log.rows) (sym (its_id files file f found)) ∙ places_shown s f.id f.log.rows ∙ ap (flat_map row_places) (sym shows) ∙ sym (append-nil (flat_map row_places own))
+
+-- a file has one draft at most
+pub draft_places : (s : Store) (a : AllSessions) (file : ℕ) → AllLater (λ (x y : Draft). x.file < y.file) a.drafts → flat_map draft_row_places (filter (is_draft file) (map (draft_in s) a.drafts)) ≡ option_map_or (λ m. places_from file 0 (shown s m)) (option_map (λ (d : Draft). d.layout) (draft_of a file)) []
+draft_places s a file rise =
+    ap (flat_map draft_row_places) (ap (filter (is_draft file)) (sym (flat_map_single (draft_in s) a.drafts)) ∙ filter-buckets (λ (d : Draft). d.file) (λ d. draft_in s d ∷ []) (λ (row : DraftRow). row.file) (λ d. (refl, tt)) file a.drafts rise)
+    ∙ by (draft_of a file) refl where
+      by : (o : Option Draft) → draft_of a file ≡ o → flat_map draft_row_places (option_map_or (λ d. draft_in s d ∷ []) o []) ≡ option_map_or (λ m. places_from file 0 (shown s m)) (option_map (λ (d : Draft). d.layout) o) []
+      by None is = refl
+      by (Some d) is =
+          let e = found_passes (sessions.is_draft file) a.drafts d is in
+          let same : d.file ≡ file = grind (arith, nat_tests) in
+          append-nil (places_from d.file 0 (shown s d.layout)) ∙ ap (λ n. places_from n 0 (shown s d.layout)) same
+
+-- ---- what the file uses
+
+pub none_count : (file : ℕ) (keys : List (ℕ × ℕ)) → keys ≡ [] → Counts file keys []
+none_count file keys none = rw none (record { count = refl; has = λ slot writer. refl })
+
+module _ (versions : List VersionRow) (drafts : List DraftRow) (file : ℕ) (none then now : List (ℕ × ℕ)) (start : Counts file none []) (first : Meets file none then (places (filter (is_version_of file) versions) [])) (second : Meets file then now (places [] (filter (is_draft file) drafts))) where
+  met_all : length now ≡ different is_place (places (filter (is_version_of file) versions) (filter (is_draft file) drafts))
+  met_all =
+      (second (places (filter (is_version_of file) versions) []) (first [] start)).count
+      ∙ ap (λ ps. different is_place (ps ++ flat_map draft_row_places (filter (is_draft file) drafts))) (append-nil (flat_map row_places (filter (is_version_of file) versions)))
+
+  pub usage_counts : (count bytes blocks : ℕ) → count ≡ length (filter (is_version_of file) versions) → bytes ≡ bytes_in (filter (is_version_of file) versions) → blocks ≡ length now → usage_by count bytes blocks ≡ file_usage versions drafts file
+  usage_counts count bytes blocks counts sums meets = rw (counts, sums, meets, met_all) refl

@@ -1,0 +1,68 @@
+-- A file's newest version and its next closing, as its log shows them.
+use Rattle.std.proofs.Common.{◌≡◌, ℕ, Bool, true, false, cond, List, [], ◌∷◌, map, filter, Option, Some, None, refl, ap, sym, ◌∙◌, arith, find}
+use Rattle.std.specs.List.{flat_map}
+use Rattle.std.specs.Option.{option_map, option_or}
+use Rattle.std.proofs.lemmas.Bool.Decides.{nat_tests}
+use Rattle.ele_blocks.specs.Store.{Store}
+use Rattle.ele_files.specs.Inside.{IsFileKept, IsRowOf, Keeps, is_id, row_in, rows_in}
+use Rattle.ele_files.specs.Meant.{stamps_in}
+use Rattle.ele_files.specs.declared.file.File.{File}
+use Rattle.ele_files.proofs.Tagged.{find_shown, last-map, list_shown, none_shown, own}
+use Rattle.ele_inode_log.specs.declared.row.VersionRow as log
+use Rattle.ele_inode_log.specs.Rows.{is_after, is_before}
+use Rattle.ele_lists.specs.Last.{last_passing}
+use Rattle.ele_lists.proofs.Edits.{all-found, all-weaker}
+use Rattle.ele_lists.proofs.Filters.{filter-all, find-filter}
+use Rattle.ele_sessions.specs.Sessions.{AllSessions}
+use Rattle.ele_world.specs.FileView.{is_version_of}
+use Rattle.ele_world.specs.Neighbours.{is_newer_of, newest_of, next_closing}
+use Rattle.ele_world.specs.Told.{stamps_of}
+use Rattle.ele_world.specs.declared.rows.VersionRow.{VersionRow}
+
+-- the last of all that pass
+abbrev last : {X : Type 0} → List X → Option X
+last xs = last_passing (λ _. true) xs
+
+last-kept : {X : Type 0} (p : X → Bool) (xs : List X) → last (filter p xs) ≡ last_passing p xs
+last-kept p [] = refl
+last-kept {X} p (x ∷ xs) = by (last-kept p xs) (p x) where
+  none : (o : Option X) → o ≡ option_or o None
+  none None = refl
+  none (Some y) = refl
+
+  by : last (filter p xs) ≡ last_passing p xs → (b : Bool) → last (cond b (x ∷ filter p xs) (filter p xs)) ≡ option_or (last_passing p xs) (cond b (Some x) None)
+  by rest true = ap (λ o. option_or o (Some x)) rest
+  by rest false = rest ∙ none (last_passing p xs)
+
+module _ (s : Store) (files : List File) (a : AllSessions) (kept : Keeps s files a) (file : ℕ) where
+  abbrev versions : List VersionRow
+  versions = flat_map (rows_in s) files
+
+  -- the last of what is told of the file's versions
+  newest_told : option_map stamps_of (newest_of versions file) ≡ last (map stamps_of (filter (is_version_of file) versions))
+  newest_told = ap (option_map stamps_of) (sym (last-kept (is_version_of file) versions)) ∙ sym (last-map (λ _. true) stamps_of (λ _. true) (filter (is_version_of file) versions) (λ row. refl))
+
+  pub newest_none : find (is_id file) files ≡ None → option_map stamps_of (newest_of versions file) ≡ None
+  newest_none none = newest_told ∙ ap (λ rows. last (map stamps_of rows)) (none_shown s files a kept file none)
+
+  pub closing_none : (number : ℕ) → find (is_id file) files ≡ None → next_closing versions file number ≡ None
+  closing_none number none = ap (option_map (λ (row : VersionRow). row.closed)) (sym (find-filter (is_newer_of file number) (is_version_of file) versions (λ row e. grind (arith, nat_tests))) ∙ ap (find (is_newer_of file number)) (none_shown s files a kept file none))
+
+  module _ (f : File) (found : find (is_id file) files ≡ Some f) where
+    -- all rows are before the next number
+    before_next : filter (is_before f.next) f.log.rows ≡ f.log.rows
+    before_next = filter-all (is_before f.next) f.log.rows (all-weaker (IsRowOf f.next) (λ row. is_before f.next row ≡ true) f.log.rows (λ row is. let h = is.number in grind (arith, nat_tests)) (all-found (is_id file) IsFileKept files f found kept.files_kept).rows)
+
+    pub newest_shown : option_map stamps_of (newest_of versions file) ≡ option_map stamps_in (last_passing (is_before f.next) f.log.rows)
+    newest_shown =
+        newest_told ∙ ap last (list_shown s files a kept file f found)
+        ∙ last-map (λ _. true) stamps_in (λ _. true) f.log.rows (λ row. refl)
+        ∙ ap (option_map stamps_in) (ap last (sym before_next) ∙ last-kept (is_before f.next) f.log.rows)
+
+    pub closing_shown : (number : ℕ) → next_closing versions file number ≡ option_map (λ (row : log.VersionRow). row.closed) (find (is_after number) f.log.rows)
+    closing_shown number =
+        ap (option_map (λ (row : VersionRow). row.closed)) (find_shown s files a kept file f found (is_newer_of file number) (is_after number) (λ row e. grind (arith, nat_tests)) (λ row. rw (own s files a kept file f found) refl))
+        ∙ by (find (is_after number) f.log.rows) where
+          by : (o : Option log.VersionRow) → option_map (λ (row : VersionRow). row.closed) (option_map (row_in s f.id) o) ≡ option_map (λ (row : log.VersionRow). row.closed) o
+          by None = refl
+          by (Some row) = refl

@@ -1,0 +1,20 @@
+//! The policy of a file, from now on.
+//! A contract sees the rows of all files before and after.
+ghost use Rattle.std.specs.Prelude.{◌≡◌, [], ◌∷◌};
+ghost use Rattle.ele_files.specs.Held.{changed_at};
+ghost use Rattle.ele_world.specs.Change.{PutUnder};
+
+use crate::files::{Files, place_of};
+use ele_moment::FileId;
+use ele_policy::Policy;
+
+impl Files {
+    /// The file has that policy from now on. A number that no file has does nothing.
+    pub fn put_under(&mut self, file: FileId, policy: Policy)
+        ensures { self.new ≡ changed_at self.old 0 (PutUnder file policy ∷ []) }
+    {
+        if let Some(at) = place_of(&self.files, file) {
+            self.files[at].get_mut().policy = policy;
+        }
+    }
+}

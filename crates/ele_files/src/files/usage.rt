@@ -1,0 +1,138 @@
+//! What one file uses.
+//! A contract sees sums over the file's versions, and how many different places these and its draft have.
+ghost use Rattle.std.specs.Prelude.{◌≡◌, ℕ, ◌<◌, ◌≤◌, ◌^◌, [], IfOk, OnOk, filter, length};
+ghost use Rattle.std.specs.List.{AllByRecursion};
+ghost use Rattle.ele_blocks.specs.Layout.{shown};
+ghost use Rattle.ele_blocks.specs.LivesIn.{LivesIn};
+ghost use Rattle.ele_blocks.specs.Stock.{StockLaws};
+ghost use Rattle.ele_content.specs.Place.{different, is_place};
+ghost use Rattle.ele_files.specs.Inside.{IsFileKept};
+ghost use Rattle.ele_files.specs.Met.{Meets, log_bytes, log_places};
+ghost use Rattle.ele_world.specs.FileView.{is_version_of};
+ghost use Rattle.ele_world.specs.Usage.{bytes_in, file_usage, places, places_from};
+ghost use Rattle.ele_world.specs.World.{is_draft};
+
+use crate::file::File;
+use crate::files::copies::next_row;
+use crate::files::{Files, file_of};
+use ele_blocks::{BlockMap, BlockStore};
+use ele_moment::{FileId, NoMemory, VersionNo};
+use ele_world::Usage;
+use std::collections::HashSet;
+
+/// Meets the slots of the map.
+fn meet(met: &mut HashSet<(usize, u64)>, store: &BlockStore, map: &BlockMap) -> Result<(), NoMemory>
+    requires laws { StockLaws }
+    requires lives { LivesIn store.now map.now }
+    ensures { OnOk result ((file : ℕ) → Meets file met.old.keys met.new.keys
+        (places_from file 0 (shown store.now map.now))) }
+{
+    for slot in 0..map.slots() {
+        let Some(cell) = map.cell(store, slot) else {
+            unreachable!()
+        };
+        let (writer, _block) = cell;
+        let _new = met.insert((slot, writer.0))?;
+    }
+    Ok(())
+}
+
+/// Meets the slots of all versions in the file's log.
+fn meet_log(
+    met: &mut HashSet<(usize, u64)>,
+    store: &BlockStore,
+    file: &File,
+) -> Result<(), NoMemory>
+    requires laws { StockLaws }
+    requires kept { IsFileKept file.now }
+    requires lives { AllByRecursion (λ row. LivesIn store.now row.cells) file.now.log.rows }
+    ensures { OnOk result ((id : ℕ) → Meets id met.old.keys met.new.keys
+        (log_places store.now file.now.log.rows id)) }
+{
+    let mut behind = VersionNo(0);
+    while let Some(row) = next_row(file, behind) {
+        behind = row.number;
+        meet(met, store, &row.cells)?;
+    }
+    Ok(())
+}
+
+/// How many bytes the versions in the file's log have.
+fn log_bytes(file: &File) -> u64
+    requires kept { IsFileKept file.now }
+    requires few { log_bytes file.now.log.rows < 2 ^ 64 }
+    ensures { result ≡ log_bytes file.now.log.rows }
+{
+    let mut bytes = 0;
+    let mut behind = VersionNo(0);
+    while let Some(row) = next_row(file, behind) {
+        behind = row.number;
+        bytes += row.cells.length();
+    }
+    bytes
+}
+
+impl Files {
+    /// How many versions of the file are held.
+    fn versions_of(&self, file: FileId) -> u64
+        ensures { result ≡ length (filter (is_version_of file) self.now.versions) }
+    {
+        match file_of(&self.files, file) {
+            Some(held) => held.log.len() as u64,
+            None => 0,
+        }
+    }
+
+    /// How many bytes the file's versions have.
+    fn bytes_of(&self, file: FileId) -> u64
+        requires few { length self.now.versions ≤ 2 ^ 40 }
+        ensures { result ≡ bytes_in (filter (is_version_of file) self.now.versions) }
+    {
+        match file_of(&self.files, file) {
+            Some(held) => log_bytes(held),
+            None => 0,
+        }
+    }
+
+    /// Meets the slots of the file's versions.
+    fn meet_versions(&self, met: &mut HashSet<(usize, u64)>, file: FileId) -> Result<(), NoMemory>
+        ensures { OnOk result (Meets file met.old.keys met.new.keys
+            (places (filter (is_version_of file) self.now.versions) [])) }
+    {
+        match file_of(&self.files, file) {
+            Some(held) => meet_log(met, &self.store, held),
+            None => Ok(()),
+        }
+    }
+
+    /// Meets the slots of the file's draft, if it has one.
+    fn meet_draft(&self, met: &mut HashSet<(usize, u64)>, file: FileId) -> Result<(), NoMemory>
+        ensures { OnOk result (Meets file met.old.keys met.new.keys
+            (places [] (filter (is_draft file) self.now.drafts))) }
+    {
+        // This tells that drafts rise by file, so that a file has one at most.
+        let _open = self.sessions.drafts_open();
+        match self.sessions.draft(file) {
+            Some(map) => meet(met, &self.store, map),
+            None => Ok(()),
+        }
+    }
+
+    /// What the file uses: one file, its held versions and their bytes, and how many different blocks these and its draft have.
+    /// NoMemory where the blocks can't be counted for want of memory. It looks at each slot of each of its versions.
+    pub fn usage_of(&self, file: FileId) -> Result<Usage, NoMemory>
+        requires few { length self.now.versions ≤ 2 ^ 40 }
+        ensures { IfOk result
+            (λ usage. usage ≡ file_usage self.now.versions self.now.drafts file) }
+    {
+        let mut met = HashSet::new(self.alloc);
+        self.meet_versions(&mut met, file)?;
+        self.meet_draft(&mut met, file)?;
+        Ok(Usage {
+            files: 1,
+            versions: self.versions_of(file),
+            bytes: self.bytes_of(file),
+            blocks: met.len() as u64,
+        })
+    }
+}
