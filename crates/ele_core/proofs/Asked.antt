@@ -2,24 +2,24 @@
 use Rattle.std.proofs.Common.{◌≡◌, ℕ, ◌==◌, Bool, true, false, ◌&&◌, List, [], ◌∷◌, cond, ◌-◌, ◌≤◌, Option, Some, None, is_some, refl, ap, sym, subst, ◌∙◌, arith}
 use Rattle.std.specs.Prelude.{find, nat_le, option_and_then, slice_get}
 use Rattle.std.specs.List.{filter_map}
-use Rattle.std.specs.Option.{option_map, option_map_or, ForSome}
+use Rattle.std.specs.Option.{option_map, option_map_or}
 use Rattle.std.proofs.lemmas.Bool.Decides.{nat_tests}
 use Rattle.ele_core.specs.Inside.{world_of, IsSound}
-use Rattle.ele_core.specs.Queued.{moment_at_end, former_moment, moment_of, free_moment}
+use Rattle.ele_core.specs.Queued.{former_moment, gained_moment}
 use Rattle.ele_core.specs.declared.rows.Rows.{Rows}
 use Rattle.ele_due.specs.declared.key.Key.{Key}
 use Rattle.ele_due.specs.HasKey.{has_key}
 use Rattle.ele_due.specs.InOrder.{in_order}
 use Rattle.ele_due.specs.Key.{is_ripe_by, if_ripe}
 use Rattle.ele_files.specs.Held.{Held}
-use Rattle.ele_policy.specs.Ripe.{Beside, ripe_by}
 use Rattle.ele_world.specs.declared.rows.Stamps.{Stamps}
 use Rattle.ele_world.specs.declared.rows.VersionRow.{VersionRow}
 use Rattle.ele_world.specs.Due.{is_due, ripe_at}
+use Rattle.ele_world.specs.Neighbours.{free_moment, newest_of}
 use Rattle.ele_world.specs.Scan.{due_key, scan, first_due}
 use Rattle.ele_world.specs.Told.{stamps_of}
-use Rattle.ele_world.specs.World.{World, is_open, policy_of, next_of, is_version}
-use Rattle.ele_world.proofs.NameMoments.{ripe_at_plain}
+use Rattle.ele_world.specs.World.{World, is_open, policy_of}
+use Rattle.ele_world.proofs.Neighbours.{in_order_of, ripe_at_near}
 use Rattle.ele_world.proofs.RipeAt.{is_due_is, scan_members}
 
 -- the due rows have the keys of the queue that are ripe
@@ -49,27 +49,19 @@ due_by_key rows file number sound = is_due_is (world_of rows) file number sound.
         and_true true = refl
         and_true false = refl
 
-abbrev nothing_beside : Beside
-nothing_beside = record { newer = []; live = false }
+-- the ripe moment of a version, by whether a handle reads it
+pub ripe_told : (rows : Rows) (file number : ℕ) → IsSound rows → ripe_at (world_of rows) file number ≡ cond (is_open rows.files.handles file number) None (free_moment rows.files.files rows.files.versions file number)
+ripe_told rows file number sound = ripe_at_near (world_of rows) file number (in_order_of (world_of rows) sound.formed)
 
--- the ripe moment of a version that no handle reads, by what is told of it
-pub free_told : (h : Held) (file number : ℕ) → free_moment h file number ≡ option_and_then (λ (stamps : Stamps). option_and_then (λ policy. option_and_then (ripe_by policy stamps.closed nothing_beside) stamps.ended) (policy_of h.files file)) (option_map stamps_of (find (is_version file number) h.versions))
-free_told h file number = by (find (is_version file number) h.versions) where
-  by : (o : Option VersionRow) → option_and_then (moment_of h.files file) o ≡ option_and_then (λ (stamps : Stamps). option_and_then (λ policy. option_and_then (ripe_by policy stamps.closed nothing_beside) stamps.ended) (policy_of h.files file)) (option_map stamps_of o)
-  by None = refl
-  by (Some row) = refl
+-- what comes with the next version, by what is told of the newest one
+pub former_told : (h : Held) (file now : ℕ) (newest : Stamps) → option_map stamps_of (newest_of h.versions file) ≡ Some newest
+    → former_moment h file now ≡ cond (is_open h.handles file newest.number) None (gained_moment (policy_of h.files file) now newest.closed newest.ended)
+former_told h file now newest told = by (newest_of h.versions file) told where
+  by : (o : Option VersionRow) → option_map stamps_of o ≡ Some newest → option_and_then (λ row. cond (is_open h.handles file row.number) None (gained_moment (policy_of h.files file) now row.closed row.ended)) o ≡ cond (is_open h.handles file newest.number) None (gained_moment (policy_of h.files file) now newest.closed newest.ended)
+  by None told = absurd cc
+  by (Some row) told = let same : stamps_of row ≡ newest = cc in ap (λ (s : Stamps). cond (is_open h.handles file s.number) None (gained_moment (policy_of h.files file) now s.closed s.ended)) same
 
-pub ripe_told : (rows : Rows) (file number : ℕ) → ripe_at (world_of rows) file number ≡ cond (is_open rows.files.handles file number) None (free_moment rows.files file number)
-ripe_told rows file number = ripe_at_plain (world_of rows) file number nothing_beside
-
--- what comes with the next version, by what is told of the version before it
-pub former_told : (h : Held) (file now : ℕ) → is_open h.handles file (next_of h.files file - 1) ≡ false
-    → former_moment h file now ≡ option_and_then (λ (stamps : Stamps). cond (is_some stamps.ended) None (option_and_then (λ policy. ripe_by policy stamps.closed (record { newer = now ∷ []; live = false }) now) (policy_of h.files file))) (option_map stamps_of (find (is_version file (next_of h.files file - 1)) h.versions))
-former_told h file now unread = rw unread (by (find (is_version file (next_of h.files file - 1)) h.versions)) where
-  by : (o : Option VersionRow) → option_and_then (moment_at_end h.files file now) o ≡ option_and_then (λ (stamps : Stamps). cond (is_some stamps.ended) None (option_and_then (λ policy. ripe_by policy stamps.closed (record { newer = now ∷ []; live = false }) now) (policy_of h.files file))) (option_map stamps_of o)
-  by None = refl
-  by (Some row) = refl
-
-pub told_past : (o : Option VersionRow) (stamps : Stamps) (now : ℕ) → ForSome o (λ row. row.closed ≤ now) → option_map stamps_of o ≡ Some stamps → stamps.closed ≤ now
-told_past None stamps now past told = absurd cc
-told_past (Some row) stamps now past told = let same : stamps_of row ≡ stamps = cc in subst (λ (t : Stamps). t.closed ≤ now) same (past row refl)
+-- a file that isn't there has no policy, and so no moment
+pub ungoverned : (now closed : ℕ) (ended : Option ℕ) → gained_moment None now closed ended ≡ None
+ungoverned now closed None = refl
+ungoverned now closed (Some at) = refl

@@ -8,7 +8,8 @@ use Rattle.std.specs.Result.{result_ok}
 use Rattle.std.proofs.lemmas.Bool.Decides.{nat_tests}
 use Rattle.ele_content.specs.Content.{content_of}
 use Rattle.ele_core.specs.Inside.{IsSound}
-use Rattle.ele_core.specs.Queued.{IsQueued, new_keys}
+use Rattle.ele_core.specs.declared.keys.NewKeys.{NewKeys}
+use Rattle.ele_core.specs.Queued.{IsQueued, gained_moment, new_keys}
 use Rattle.ele_core.specs.Tracked.{told_by}
 use Rattle.ele_core.specs.declared.rows.Rows.{Rows}
 use Rattle.ele_due.specs.declared.key.Key.{Key}
@@ -34,9 +35,11 @@ use Rattle.ele_world.specs.Whole.{ChangesOnly}
 use Rattle.ele_world.proofs.Dropped.{dropped}
 use Rattle.ele_world.proofs.Keeps.{all_keep}
 use Rattle.ele_world.proofs.Others.{drafts-removed}
-use Rattle.ele_world.specs.World.{World, file_by, file_written, has_draft, is_draft, is_handle, next_of, reads_by}
+use Rattle.ele_world.specs.World.{World, file_by, file_written, has_draft, is_draft, is_handle, is_open, next_of, policy_of, reads_by}
 use Rattle.ele_world.specs.Due.{is_moment}
+use Rattle.ele_world.proofs.Neighbours.{AreInOrder, in_order_of}
 use Rattle.ele_world.proofs.OpenMoments.{open_still, shut_others}
+use Rattle.ele_world.specs.Neighbours.{newest_of}
 use Rattle.ele_world.proofs.OpenStays.{has_row}
 
 -- the step, by what the file's draft is, and by the file that the handle writes
@@ -167,11 +170,14 @@ module _ (w : World) (handle file : ℕ) (reads : reads_by w.handles handle ≡ 
     by false = record { files = refl; versions = refl; changes = record { kinds = λ k id. refl; files = λ k. refl; versions = refl; drafts = refl } }
 
   -- the keys stay, whoever writes
-  pub left_queue : (queue : List Key) → IsQueued w queue → IsQueued (after_changes w (leaving handle file goes)) queue
-  left_queue queue queued = by goes where
+  pub left_queue : IsWellFormed w → (queue : List Key) → IsQueued w queue → IsQueued (after_changes w (leaving handle file goes)) queue
+  left_queue formed queue queued = by goes where
+    ordered : AreInOrder w.files w.versions
+    ordered = in_order_of w formed
+
     by : (b : Bool) → IsQueued (after_changes w (leaving handle file b)) queue
-    by true k = queued k ∙ ap (is_moment k.ripe) (sym (shut_others w handle (Draft file) reads k.file k.number refl))
-    by false k = queued k ∙ ap (is_moment k.ripe) (sym (shut_others w handle (Draft file) reads k.file k.number refl))
+    by true k = queued k ∙ ap (is_moment k.ripe) (sym (shut_others w handle (Draft file) reads ordered k.file k.number refl))
+    by false k = queued k ∙ ap (is_moment k.ripe) (sym (shut_others w handle (Draft file) reads ordered k.file k.number refl))
 
   -- ---- before the draft becomes a version
 
@@ -182,12 +188,15 @@ module _ (w : World) (handle file : ℕ) (reads : reads_by w.handles handle ≡ 
   pub over_keeps : has_other_writer w handle file ≡ false → IsWellFormed w → IsWellFormed over
   over_keeps alone formed = all_keep (Close handle) w w (ShutHandle handle ∷ EndDraft file ∷ []) tt (tt, (alone, tt)) formed
 
-  pub over_queue : (queue : List Key) → IsQueued w queue → IsQueued over queue
-  over_queue queue queued k = queued k ∙ ap (is_moment k.ripe) (sym (shut_others w handle (Draft file) reads k.file k.number refl))
+  pub over_queue : IsWellFormed w → (queue : List Key) → IsQueued w queue → IsQueued over queue
+  over_queue formed queue queued k = queued k ∙ ap (is_moment k.ripe) (sym (shut_others w handle (Draft file) reads (in_order_of w formed) k.file k.number refl))
 
   -- the same keys come
   pub over_keys : (live : Bool) → new_keys (rows_of over) file w.now live ≡ new_keys (rows_of w) file w.now live
-  over_keys live = rw (open_still w handle (Draft file) reads file (next_of w.files file - 1) refl) refl
+  over_keys live = ap (λ (o : Option ℕ). let keys : NewKeys = record (new_keys (rows_of w) file w.now live) { former = o } in keys) (by (newest_of w.versions file)) where
+    by : (o : Option VersionRow) → option_and_then (λ (row : VersionRow). cond (is_open over.handles file row.number) None (gained_moment (policy_of w.files file) w.now row.closed row.ended)) o ≡ option_and_then (λ (row : VersionRow). cond (is_open w.handles file row.number) None (gained_moment (policy_of w.files file) w.now row.closed row.ended)) o
+    by None = refl
+    by (Some row) = rw (open_still w handle (Draft file) reads file row.number refl) refl
 
 -- ---- what is told of the file and of the draft
 

@@ -1,4 +1,5 @@
 pub mod Following
+pub mod Governed
 pub mod Bounded
 pub mod Booked
 pub mod Asked

@@ -4,33 +4,37 @@ use Rattle.std.specs.List.{list_any}
 use Rattle.std.proofs.lemmas.Bool.Decides.{nat_tests}
 use Rattle.ele_core.proofs.Asked.{ripe_told}
 use Rattle.ele_core.proofs.Following.{entry_follows}
-use Rattle.ele_core.specs.Inside.{world_of}
-use Rattle.ele_core.specs.Queued.{IsQueued, IsRekeyed, free_moment}
+use Rattle.ele_core.specs.Inside.{world_of, IsSound}
+use Rattle.ele_core.specs.Queued.{IsQueued, IsRekeyed}
 use Rattle.ele_core.specs.declared.rows.Rows.{Rows}
 use Rattle.ele_due.specs.declared.key.Key.{Key}
 use Rattle.ele_due.specs.HasKey.{has_key}
 use Rattle.ele_files.specs.Held.{Held, changed_at, opened_by, rows_of, with_rows}
 use Rattle.ele_world.specs.Change.{OpenHandle, ShutHandle, StartDraft, after_change}
 use Rattle.ele_world.specs.Due.{ripe_at, is_moment}
+use Rattle.ele_world.specs.Neighbours.{free_moment}
+use Rattle.ele_world.proofs.Neighbours.{AreInOrder, in_order_of}
 use Rattle.ele_world.specs.World.{World, is_draft, is_handle, is_open, reads_by, reads_version}
 use Rattle.ele_world.specs.declared.rows.Reads.TheVariants.{Draft, Version}
 use Rattle.ele_world.proofs.OpenMoments.{opened_others, opened_own, read_moment, shut_others, shut_own}
 use Rattle.ele_world.proofs.OpenStays.{has_row}
 use Rattle.ele_lists.proofs.Found.{any-found}
-use Rattle.ele_policy.specs.Ripe.{Beside}
-
-abbrev nothing_beside : Beside
-nothing_beside = record { newer = []; live = false }
 
 -- a handle that writes touches no key
-pub opened_queue : (rows : Rows) (file : ℕ) → IsQueued (world_of rows) rows.queue → IsQueued (with_rows (world_of rows) (opened_by rows.files file rows.moment)) rows.queue
-opened_queue rows file queued = by (list_any (is_draft file) rows.files.drafts) where
+pub opened_queue : (rows : Rows) (file : ℕ) → IsSound rows → IsQueued (with_rows (world_of rows) (opened_by rows.files file rows.moment)) rows.queue
+opened_queue rows file sound = by (list_any (is_draft file) rows.files.drafts) where
   number : ℕ
   number = rows.files.opened + 1
 
+  ordered : AreInOrder rows.files.files rows.files.versions
+  ordered = in_order_of (world_of rows) sound.formed
+
+  queued : IsQueued (world_of rows) rows.queue
+  queued = sound.tracked.queue
+
   by : (b : Bool) → IsQueued (with_rows (world_of rows) (changed_at rows.files rows.moment (cond b (OpenHandle number (Draft file) ∷ []) (StartDraft file ∷ OpenHandle number (Draft file) ∷ [])))) rows.queue
-  by true k = queued k ∙ ap (is_moment k.ripe) (sym (opened_others (world_of rows) number (Draft file) k.file k.number refl))
-  by false k = queued k ∙ ap (is_moment k.ripe) (sym (opened_others (world_of rows) number (Draft file) k.file k.number refl))
+  by true k = queued k ∙ ap (is_moment k.ripe) (sym (opened_others (world_of rows) number (Draft file) ordered k.file k.number refl))
+  by false k = queued k ∙ ap (is_moment k.ripe) (sym (opened_others (world_of rows) number (Draft file) ordered k.file k.number refl))
 
 -- ---- a version that a handle reads, or read
 
@@ -65,19 +69,27 @@ module _ (w : World) (file number : ℕ) (queue : List Key) (queued : IsQueued w
     by true own false = refl
 
 -- a handle that reads takes the key
-pub read_queue : (rows : Rows) (handle file number : ℕ) (after : List Key) → IsQueued (world_of rows) rows.queue → IsRekeyed file number (free_moment rows.files file number) None rows.queue after
+pub read_queue : (rows : Rows) (handle file number : ℕ) (after : List Key) → IsSound rows → IsRekeyed file number (free_moment rows.files.files rows.files.versions file number) None rows.queue after
     → IsQueued (after_change (world_of rows) (OpenHandle handle (Version file number))) after
-read_queue rows handle file number after queued edited =
+read_queue rows handle file number after sound edited =
+    let queued = sound.tracked.queue in
+    let ordered = in_order_of (world_of rows) sound.formed in
     let w = world_of rows in
     let v = after_change w (OpenHandle handle (Version file number)) in
     let own : reads_version file number (Version file number) ≡ true = grind (arith, nat_tests) in
-    entry_follows w v rows.queue after queued file number (λ f n apart. opened_others w handle (Version file number) f n (apart_reads f n apart))
-    (rw (opened_own w handle (Version file number) file number own) (taken_key w file number rows.queue queued (free_moment rows.files file number) (ripe_told rows file number) after edited)) where
+    entry_follows w v rows.queue after queued file number (λ f n apart. opened_others w handle (Version file number) ordered f n (apart_reads f n apart))
+    (rw (opened_own w handle (Version file number) ordered file number own) (taken_key w file number rows.queue queued (free_moment rows.files.files rows.files.versions file number) (ripe_told rows file number sound) after edited)) where
       apart_reads : (f n : ℕ) → ((f == file) && (n == number)) ≡ false → reads_version f n (Version file number) ≡ false
       apart_reads f n apart = grind (arith, nat_tests)
 
 -- the close of a handle that read gives it back, unless another reads on
-module _ (rows : Rows) (handle file number : ℕ) (reads : reads_by rows.files.handles handle ≡ Ok (Version file number)) (queued : IsQueued (world_of rows) rows.queue) where
+module _ (rows : Rows) (handle file number : ℕ) (reads : reads_by rows.files.handles handle ≡ Ok (Version file number)) (sound : IsSound rows) where
+  queued : IsQueued (world_of rows) rows.queue
+  queued = sound.tracked.queue
+
+  ordered : AreInOrder rows.files.files rows.files.versions
+  ordered = in_order_of (world_of rows) sound.formed
+
   abbrev w : World
   w = world_of rows
 
@@ -85,10 +97,10 @@ module _ (rows : Rows) (handle file number : ℕ) (reads : reads_by rows.files.h
   v = after_change w (ShutHandle handle)
 
   abbrev free : Option ℕ
-  free = free_moment rows.files file number
+  free = free_moment rows.files.files rows.files.versions file number
 
   told : ripe_at w file number ≡ cond (is_open w.handles file number) None free
-  told = ripe_told rows file number
+  told = ripe_told rows file number sound
 
   is_read : is_open w.handles file number ≡ true
   is_read =
@@ -96,7 +108,7 @@ module _ (rows : Rows) (handle file number : ℕ) (reads : reads_by rows.files.h
       any-found (is_handle handle) (λ row. reads_version file number row.reads) w.handles its.row its.found (rw its.its (grind (arith, nat_tests)))
 
   others : (f n : ℕ) → ((f == file) && (n == number)) ≡ false → ripe_at v f n ≡ ripe_at w f n
-  others f n apart = shut_others w handle (Version file number) reads f n (grind (arith, nat_tests))
+  others f n apart = shut_others w handle (Version file number) reads ordered f n (grind (arith, nat_tests))
 
   before : ripe_at w file number ≡ None
   before = told ∙ rw is_read refl
@@ -104,13 +116,13 @@ module _ (rows : Rows) (handle file number : ℕ) (reads : reads_by rows.files.h
   -- the last one has closed
   pub unread_queue : (after : List Key) → is_open v.handles file number ≡ false → IsRekeyed file number None free rows.queue after → IsQueued v after
   unread_queue after unread came =
-      let own : ripe_at v file number ≡ free = shut_own w handle file number nothing_beside ∙ rw unread refl in
+      let own : ripe_at v file number ≡ free = shut_own w handle file number ordered ∙ rw unread refl in
       entry_follows w v rows.queue after queued file number others (rw (before, own) came)
 
   -- another reads on
   pub read_on_queue : (between after : List Key) → is_open v.handles file number ≡ true → IsRekeyed file number None free rows.queue between → IsRekeyed file number free None between after → IsQueued v after
   read_on_queue between after still came went =
-      let own : ripe_at v file number ≡ None = read_moment v file number still in
+      let own : ripe_at v file number ≡ None = read_moment v file number ordered still in
       entry_follows w v rows.queue after queued file number others
       (rw (before, own) (λ k. put_back w file number rows.queue queued free told is_read between after came went k ∙ by (its_key k) (has_key k rows.queue))) where
         its_key : Key → Bool

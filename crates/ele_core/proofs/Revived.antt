@@ -1,17 +1,21 @@
 -- A file that has a name again, and a version like its last one.
-use Rattle.std.proofs.Common.{◌≡◌, ℕ, ◌-◌, ◌<◌, ◌≤◌, Bool, true, false, cond, ◌||◌, List, [], ◌∷◌, length, Option, Some, None, is_some, refl, ap, sym, subst, ◌∙◌, arith}
+use Rattle.std.proofs.Common.{◌≡◌, ℕ, ◌-◌, ◌<◌, ◌≤◌, Bool, true, false, cond, not, ◌&&◌, ◌||◌, List, [], ◌∷◌, length, Option, Some, None, is_some, refl, ap, sym, subst, ◌∙◌, arith}
 use Rattle.std.specs.Prelude.{find}
 use Rattle.std.specs.List.{list_any}
 use Rattle.std.specs.Option.{option_map, option_map_or}
 use Rattle.std.proofs.lemmas.Bool.Decides.{nat_tests}
 use Rattle.ele_content.specs.Content.{content_of, longest_content}
+use Rattle.ele_core.proofs.Appended.{appended_queue, taken_back, refused}
 use Rattle.ele_core.proofs.Booked.{retold}
 use Rattle.ele_core.proofs.ClosedSums.{HasAdded, version_owed}
 use Rattle.ele_core.specs.Inside.{world_of, IsSound}
-use Rattle.ele_core.specs.Queued.{IsQueued}
+use Rattle.ele_core.specs.declared.keys.NewKeys.{NewKeys}
+use Rattle.ele_core.specs.Queued.{IsQueued, is_entry, is_new, new_keys}
 use Rattle.ele_core.specs.Tracked.{blocks_of, IsOwed}
 use Rattle.ele_core.specs.declared.rows.Rows.{Rows}
 use Rattle.ele_world.specs.Told.{stamps_of}
+use Rattle.ele_due.specs.declared.key.Key.{Key}
+use Rattle.ele_due.specs.HasKey.{has_key}
 use Rattle.ele_files.specs.Held.{Held, Became, cells_of_version, rows_after, rows_of}
 use Rattle.ele_lists.proofs.Cuts.{any-found}
 use Rattle.ele_lists.proofs.Edits.{all-found, found_passes}
@@ -19,14 +23,17 @@ use Rattle.ele_usage.specs.Book.{Book}
 use Rattle.ele_world.specs.Change.{Append, Revive, after_change, current_cells, next_version, with_name}
 use Rattle.ele_world.specs.Due.{ripe_at, is_moment}
 use Rattle.ele_world.specs.WellFormed.{IsVersion, Versions, IsWellFormed}
-use Rattle.ele_world.specs.World.{World, is_held, is_version, next_of}
+use Rattle.ele_world.specs.World.{World, is_held, is_live, is_version, next_of}
 use Rattle.ele_world.specs.declared.rows.FileRow.{FileRow}
 use Rattle.ele_world.specs.declared.rows.Target.TheVariants.{File}
 use Rattle.ele_world.specs.declared.rows.VersionRow.{VersionRow}
 use Rattle.ele_world.proofs.Created.{named_live}
 use Rattle.ele_world.proofs.KeptRevived.{again}
 use Rattle.ele_world.proofs.May.{MayRevive}
-use Rattle.ele_world.proofs.Revivals.{changes_revived}
+use Rattle.ele_world.proofs.AppendMoments.{MayGrow}
+use Rattle.ele_world.proofs.NameMoments.{moments_stay}
+use Rattle.ele_world.proofs.Neighbours.{in_order_of}
+use Rattle.ele_world.proofs.Revivals.{changes_revived, named_grows}
 
 -- ---- whether the last version is held
 
@@ -87,6 +94,36 @@ module _ (rows : Rows) (directory : ℕ) (name : List ℕ) (file : ℕ) (sound :
       (version_owed rows file (rows_of revived) (next_version named file w.now (current_cells w file)) (retold file w revived (changes_revived w directory name file)) refl sound.tracked book bytes before
       (long ∙ ap (λ (n : ℕ). length (content_of (cells_of_version rows.files file n))) last) same (subst (λ (h : Held). HasAdded h file rows.book book bytes) is added))
 
-  -- no key comes or goes
-  pub revived_queue : ((f n : ℕ) → ripe_at revived f n ≡ ripe_at w f n) → (v : World) → v ≡ revived → IsQueued v rows.queue
-  revived_queue stays v is = subst (λ (u : World). IsQueued u rows.queue) (sym is) (λ j. sound.tracked.queue j ∙ ap (is_moment j.ripe) (sym (stays j.file j.number)))
+  -- ---- the keys
+
+  grows : MayGrow named file
+  grows = named_grows w directory name file may sound.formed
+
+  -- a name more changes no moment
+  same_moments : (f n : ℕ) → ripe_at named f n ≡ ripe_at w f n
+  same_moments f n = moments_stay w named (in_order_of w sound.formed) refl refl refl f n
+
+  queue_named : IsQueued named rows.queue
+  queue_named j = sound.tracked.queue j ∙ ap (is_moment j.ripe) (sym (same_moments j.file j.number))
+
+  unnamed : (queue : List Key) → IsQueued named queue → IsQueued w queue
+  unnamed queue queued j = queued j ∙ ap (is_moment j.ripe) (same_moments j.file j.number)
+
+  abbrev keys : NewKeys
+  keys = new_keys rows.files file rows.moment true
+
+  keys_named : new_keys (rows_of named) file named.now (is_live named file) ≡ keys
+  keys_named = ap (new_keys rows.files file rows.moment) (named_live w directory name file)
+
+  pub revived_queue : (after : List Key) → ((j : Key) → has_key j after ≡ (is_new keys j || has_key j rows.queue)) → (v : World) → v ≡ revived → IsQueued v after
+  revived_queue after came v is = subst (λ (u : World). IsQueued u after) (sym is)
+      (appended_queue named file w.now (current_cells w file) grows rows.queue after queue_named (λ j. came j ∙ ap (λ (k : NewKeys). is_new k j || has_key j rows.queue) (sym keys_named)))
+
+  -- where they go again, or one of them was refused
+  pub revived_back : (after : List Key) → ((j : Key) → has_key j after ≡ (not (is_new keys j) && (is_new keys j || has_key j rows.queue))) → IsQueued w after
+  revived_back after went = unnamed after
+      (taken_back named file w.now (current_cells w file) grows rows.queue after queue_named (λ j. went j ∙ ap (λ (k : NewKeys). not (is_new k j) && (is_new k j || has_key j rows.queue)) (sym keys_named)))
+
+  pub revived_refused : (after : List Key) → ((j : Key) → (is_entry file keys.newest keys.former j ≡ true → has_key j rows.queue ≡ false) → has_key j after ≡ has_key j rows.queue) → IsQueued w after
+  revived_refused after stays = unnamed after (refused named file w.now (current_cells w file) grows rows.queue after queue_named
+      (subst (λ (k : NewKeys). (j : Key) → (is_entry file k.newest k.former j ≡ true → has_key j rows.queue ≡ false) → has_key j after ≡ has_key j rows.queue) (sym keys_named) stays))

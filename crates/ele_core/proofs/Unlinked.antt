@@ -5,13 +5,13 @@ use Rattle.std.specs.List.{count_by}
 use Rattle.std.specs.Option.{option_map}
 use Rattle.std.proofs.lemmas.Bool.Decides.{nat_tests}
 use Rattle.ele_core.proofs.Following.{entry_follows}
-use Rattle.ele_core.specs.Queued.{IsQueued, IsRekeyed, former_moment}
+use Rattle.ele_core.specs.Queued.{IsQueued, IsRekeyed, end_moment}
+use Rattle.ele_world.specs.Neighbours.{near_moment}
 use Rattle.ele_core.specs.Tracked.{told_by, IsBooked}
 use Rattle.ele_due.specs.declared.key.Key.{Key}
 use Rattle.ele_files.specs.Held.{Held, current_ended, rows_of}
 use Rattle.ele_lists.proofs.Edits.{all-found, found_passes}
 use Rattle.ele_lists.proofs.Sums.{any-count, count-update_first}
-use Rattle.ele_policy.specs.Ripe.{Beside, ripe_by}
 use Rattle.ele_usage.specs.Book.{Book}
 use Rattle.ele_world.specs.Change.{EndFileName, after_change, with_end, without_name}
 use Rattle.ele_world.specs.Due.{ripe_at, is_moment}
@@ -77,8 +77,8 @@ module _ (w : World) (directory : ℕ) (name : List ℕ) (file : ℕ) (stands : 
   pub other_name_ends : is_live (without_name w directory name) file ≡ true → after_change w (EndFileName directory name file) ≡ without_name w directory name
   other_name_ends live = rw live refl
 
-  pub kept_queue : is_live (without_name w directory name) file ≡ true → (queue : List Key) → IsQueued w queue → IsQueued (without_name w directory name) queue
-  kept_queue live queue queued = subst (λ (v : World). IsQueued v queue) (other_name_ends live) (λ k. queued k ∙ ap (is_moment k.ripe) (sym (live_moments w directory name file live k.file k.number)))
+  pub kept_queue : IsWellFormed w → is_live (without_name w directory name) file ≡ true → (queue : List Key) → IsQueued w queue → IsQueued (without_name w directory name) queue
+  kept_queue formed live queue queued = subst (λ (v : World). IsQueued v queue) (other_name_ends live) (λ k. queued k ∙ ap (is_moment k.ripe) (sym (live_moments w directory name file formed live k.file k.number)))
 
   -- ---- with the last one
 
@@ -86,14 +86,13 @@ module _ (w : World) (directory : ℕ) (name : List ℕ) (file : ℕ) (stands : 
     pub last_name_ends : after_change w (EndFileName directory name file) ≡ record (without_name w directory name) { versions = with_end w file }
     last_name_ends = rw dead refl
 
-    pub ended_queue : IsWellFormed w → (queue after : List Key) → IsQueued w queue → IsRekeyed file (next_of w.files file - 1) None (former_moment (rows_of w) file w.now) queue after
+    pub ended_queue : IsWellFormed w → (queue after : List Key) → IsQueued w queue → IsRekeyed file (next_of w.files file - 1) None (end_moment (rows_of w) file w.now) queue after
         → IsQueued (record (without_name w directory name) { versions = with_end w file }) after
     ended_queue k queue after queued edited =
         let current : HasCurrent w file = has_current w file k (target_live w.names directory name (File file) stands) in
-        let beside : Beside = record { newer = w.now ∷ []; live = false } in
         let v = after_change w (EndFileName directory name file) in
         let still : is_live v file ≡ false = dead in
-        let former : former_moment (rows_of w) file w.now ≡ cond (is_open w.handles file (next_of w.files file - 1)) None (option_and_then (λ policy. ripe_by policy current.row.closed beside w.now) (policy_of w.files file)) = rw (current.found, current.no_end) refl in
-        let moment : ripe_at v file (next_of w.files file - 1) ≡ former_moment (rows_of w) file w.now = ended_moment w directory name file current beside still ∙ sym former in
+        let ends : end_moment (rows_of w) file w.now ≡ cond (is_open w.handles file (next_of w.files file - 1)) None (near_moment (policy_of w.files file) None current.row.closed w.now) = rw (current.found, current.no_end) refl in
+        let moment : ripe_at v file (next_of w.files file - 1) ≡ end_moment (rows_of w) file w.now = ended_moment w directory name file current k still ∙ sym ends in
         subst (λ (u : World). IsQueued u after) last_name_ends
-        (entry_follows w v queue after queued file (next_of w.files file - 1) (other_moments w directory name file) (rw (no_moment w directory name file current, moment) edited))
+        (entry_follows w v queue after queued file (next_of w.files file - 1) (other_moments w directory name file k) (rw (no_moment w directory name file current, moment) edited))

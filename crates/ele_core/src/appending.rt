@@ -1,20 +1,22 @@
 //! What follows a version that a file gets: its keys, and what it uses.
-ghost use Rattle.std.specs.Prelude.{◌≡◌, ◌≤◌, ◌<◌, ◌-◌, ◌+◌, ◌^◌, find, if◌then◌else◌};
-ghost use Rattle.std.specs.Option.{ForSome};
+ghost use Rattle.std.specs.Prelude.{◌≡◌, ◌≤◌, ◌<◌, ◌+◌, ◌^◌, Some, None, is_some, option_and_then, if◌then◌else◌};
+ghost use Rattle.std.specs.Option.{option_map};
 ghost use Rattle.ele_policy.specs.declared.policy.Kind.{Kind};
 ghost use Rattle.ele_usage.specs.Book.{sums_of};
 ghost use Rattle.ele_usage.specs.Sums.{nothing, plus, Fits};
+ghost use Rattle.ele_world.specs.Neighbours.{near_moment, newest_of};
+ghost use Rattle.ele_world.specs.Told.{stamps_of};
 ghost use Rattle.ele_world.specs.Usage.{is_file_of};
-ghost use Rattle.ele_world.specs.World.{next_of, is_version};
-ghost use Rattle.ele_core.specs.Queued.{former_moment, own_moment, new_keys};
+ghost use Rattle.ele_world.specs.World.{next_of};
+ghost use Rattle.ele_core.specs.Queued.{end_moment, former_moment, gained_moment, own_moment, new_keys};
 ghost use Rattle.ele_core.specs.Tracked.{one_version};
 
 use crate::book::one_version;
 use crate::keys::NewKeys;
 use ele_files::{Files, Meter};
-use ele_policy::ripe;
+use ele_policy::{Policy, ripe};
 use ele_usage::UsageBook;
-use ele_world::{FileId, Moment, VersionNo};
+use ele_world::{FileId, Moment, Stamps, VersionNo};
 
 /// The number of the file's next version; the file is there.
 pub fn next_number(files: &Files, file: FileId) -> VersionNo
@@ -27,33 +29,40 @@ pub fn next_number(files: &Files, file: FileId) -> VersionNo
     number
 }
 
-/// The ripe moment that the version before the file's next one gets, which ends now; none where it isn't held or has ended, or
-/// where a handle reads it.
-#[tactic(auto, using(crate::proofs::Asked::former_told))]
-pub fn former_moment(
-    files: &Files,
-    file: FileId,
-    next: VersionNo,
-    now: Moment,
-    meter: &mut Meter,
-) -> Option<Moment>
-    requires next { next ≡ next_of files.now.files file }
-    requires past { ForSome
-        (find (is_version file (next_of files.now.files file - 1)) files.now.versions)
-        (λ row. row.closed ≤ now) }
-    requires meter { meter.old < 2 ^ 60 }
-    ensures moment { result ≡ former_moment files.now file now }
-    ensures read { meter.new ≤ meter.old + 1 }
+/// Whether the policy has a ripe moment for a version without a newer one.
+fn ripens_alone(policy: &Policy, stamps: &Stamps) -> bool
+    ensures { result ≡ is_some (option_and_then
+        (near_moment (Some policy.now) None stamps.now.closed) stamps.now.ended) }
 {
-    if files.is_open(file, next.before()) {
+    match stamps.ended {
+        Some(ended) => ripe(policy, stamps.closed, ended, None).is_some(),
+        None => false,
+    }
+}
+
+/// The ripe moment that the version of these stamps gets as the next one closes now; none where it keeps the one that it had
+/// alone, as it does under every policy that looks at no other version.
+fn gained_moment(policy: &Policy, stamps: &Stamps, now: Moment) -> Option<Moment>
+    ensures { result
+        ≡ gained_moment (Some policy.now) now stamps.now.closed stamps.now.ended }
+{
+    if ripens_alone(policy, stamps) {
         return None;
     }
-    let stamps = files.stamps(file, next.before(), meter)?;
-    if stamps.ended.is_some() {
+    ripe(policy, stamps.closed, stamps.ended.unwrap_or(now), Some(now))
+}
+
+/// The ripe moment that the file's newest held version gets, of which these are the stamps, as the next one closes now; none
+/// where a handle reads it.
+fn former_moment(files: &Files, file: FileId, newest: &Stamps, now: Moment) -> Option<Moment>
+    requires { option_map stamps_of (newest_of files.now.versions file) ≡ Some newest.now }
+    ensures { result ≡ former_moment files.now file now }
+{
+    if files.is_open(file, newest.number) {
         return None;
     }
     let policy = files.policy_of(file)?;
-    ripe(&policy, stamps.closed, now, Some(now))
+    gained_moment(&policy, newest, now)
 }
 
 /// The ripe moment of the file's next version, which closes now; none where it doesn't end at once.
@@ -76,20 +85,53 @@ pub fn new_keys(
     meter: &mut Meter,
 ) -> NewKeys
     requires there { 0 < next_of files.now.files file }
-    requires past { ForSome
-        (find (is_version file (next_of files.now.files file - 1)) files.now.versions)
-        (λ row. row.closed ≤ now) }
     requires meter { meter.old < 2 ^ 60 }
     ensures keys { result ≡ new_keys files.now file now is_live }
     ensures read { meter.new ≤ meter.old + 1 }
 {
     let number = next_number(files, file);
-    NewKeys {
-        file,
-        number,
-        former: former_moment(files, file, number, now, meter),
-        own: own_moment(files, file, now, is_live),
+    let own = own_moment(files, file, now, is_live);
+    match files.newest(file, meter) {
+        Some(newest) => NewKeys {
+            file,
+            newest: newest.number,
+            number,
+            former: former_moment(files, file, &newest, now),
+            own,
+        },
+        None => NewKeys {
+            file,
+            newest: VersionNo(0),
+            number,
+            former: None,
+            own,
+        },
     }
+}
+
+/// The ripe moment that the version before the file's next one gets, which ends now; none where it isn't held or has ended, or
+/// where a handle reads it.
+pub fn end_moment(
+    files: &Files,
+    file: FileId,
+    next: VersionNo,
+    now: Moment,
+    meter: &mut Meter,
+) -> Option<Moment>
+    requires next { next ≡ next_of files.now.files file }
+    requires meter { meter.old < 2 ^ 60 }
+    ensures moment { result ≡ end_moment files.now file now }
+    ensures read { meter.new ≤ meter.old + 1 }
+{
+    if files.is_open(file, next.before()) {
+        return None;
+    }
+    let stamps = files.stamps(file, next.before(), meter)?;
+    if stamps.ended.is_some() {
+        return None;
+    }
+    let policy = files.policy_of(file)?;
+    ripe(&policy, stamps.closed, now, None)
 }
 
 /// The book has one version more for the kind of the file, of so many bytes.

@@ -1,12 +1,13 @@
 //! How the queue of keys follows the files: keys come and go by the version that they are of.
-ghost use Rattle.std.specs.Prelude.{◌≡◌, ◌<◌, ◌≤◌, ◌+◌, ◌^◌, ◌-◌, ◌||◌, ◌&&◌, not, false, true, None, OnOk, OnErr};
+ghost use Rattle.std.specs.Prelude.{◌≡◌, ◌<◌, ◌≤◌, ◌+◌, ◌^◌, ◌||◌, ◌&&◌, not, false, true, Some, None, OnOk, OnErr};
 ghost use Rattle.ele_due.specs.declared.key.Key.{Key};
 ghost use Rattle.ele_due.specs.HasKey.{has_key};
-ghost use Rattle.ele_core.specs.Queued.{IsRekeyed, free_moment, is_entry, is_new};
+ghost use Rattle.ele_world.specs.Neighbours.{free_moment, moment_under};
+ghost use Rattle.ele_core.specs.Queued.{IsRekeyed, is_entry, is_new};
 
 use ele_due::DueQueue;
 use ele_files::{Files, Meter};
-use ele_policy::ripe;
+use ele_policy::{Policy, ripe};
 use ele_world::{FileId, Key, Moment, NoMemory, VersionNo};
 
 /// Puts in the key of the version with that moment, if there is one.
@@ -34,6 +35,50 @@ pub fn take(queue: &mut DueQueue, file: FileId, number: VersionNo, moment: Optio
     }
 }
 
+/// Puts in all the keys, or none where memory is refused; none of them is there.
+pub fn put_all(queue: &mut DueQueue, keys: &[Key]) -> Result<(), NoMemory>
+    ensures ok { OnOk result
+        ((k : Key) → has_key k queue.new ≡ (has_key k keys.now || has_key k queue.old)) }
+    ensures err { OnErr result
+        ((k : Key) → has_key k queue.new ≡ (not (has_key k keys.now) && has_key k queue.old)) }
+{
+    for key in keys {
+        if let Err(refused) = queue.insert(*key) {
+            take_all(queue, keys);
+            return Err(refused);
+        }
+    }
+    Ok(())
+}
+
+/// Takes out all the keys.
+pub fn take_all(queue: &mut DueQueue, keys: &[Key])
+    ensures { (k : Key) → has_key k queue.new ≡ (not (has_key k keys.now) && has_key k queue.old) }
+{
+    for key in keys {
+        let _was = queue.remove(key);
+    }
+}
+
+/// The ripe moment that the version would have under the policy while no handle reads it; none where it isn't held, has no end, or
+/// would never be due.
+pub fn moment_under(
+    files: &Files,
+    policy: &Policy,
+    file: FileId,
+    number: VersionNo,
+    meter: &mut Meter,
+) -> Option<Moment>
+    requires { meter.old < 2 ^ 59 }
+    ensures moment { result ≡ moment_under (Some policy.now) files.now.versions file number }
+    ensures read { meter.new ≤ meter.old + 2 }
+{
+    let stamps = files.stamps(file, number, meter)?;
+    let ended = stamps.ended?;
+    let next_closed = files.next_closing(file, number, meter);
+    ripe(policy, stamps.closed, ended, next_closed)
+}
+
 /// The ripe moment that the version has while no handle reads it; none where it isn't held, has no end, or is never due.
 pub fn free_moment(
     files: &Files,
@@ -41,20 +86,19 @@ pub fn free_moment(
     number: VersionNo,
     meter: &mut Meter,
 ) -> Option<Moment>
-    requires { meter.old < 2 ^ 60 }
-    ensures moment { result ≡ free_moment files.now file number }
-    ensures read { meter.new ≤ meter.old + 1 }
+    requires { meter.old < 2 ^ 59 }
+    ensures moment { result ≡ free_moment files.now.files files.now.versions file number }
+    ensures read { meter.new ≤ meter.old + 2 }
 {
-    let stamps = files.stamps(file, number, meter)?;
     let policy = files.policy_of(file)?;
-    // The next version's closing isn't read for this: no policy yet looks at what stands beside a version.
-    ripe(&policy, stamps.closed, stamps.ended?, None)
+    moment_under(files, &policy, file, number, meter)
 }
 
-/// The keys that come with a version: that of the version before it in its file, which ends, and its own.
+/// The keys that come with a version: that of the file's newest held one, which may have ended before or ends now, and its own.
 #[derive(Clone, Copy)]
 pub struct NewKeys {
     pub file: FileId,
+    pub newest: VersionNo,
     pub number: VersionNo,
     pub former: Option<Moment>,
     pub own: Option<Moment>,
@@ -66,15 +110,14 @@ impl NewKeys {
         ensures ok { OnOk result ((k : Key) → has_key k queue.new
             ≡ (is_new self.now k || has_key k queue.old)) }
         ensures err { OnErr result ((k : Key)
-            → (is_entry self.now.file (self.now.number - 1) self.now.former k ≡ true
+            → (is_entry self.now.file self.now.newest self.now.former k ≡ true
             → has_key k queue.old ≡ false) → has_key k queue.new ≡ has_key k queue.old) }
     {
-        let before = self.number.before();
-        put(queue, self.file, before, self.former)?;
+        put(queue, self.file, self.newest, self.former)?;
         match put(queue, self.file, self.number, self.own) {
             Ok(()) => Ok(()),
             Err(refused) => {
-                take(queue, self.file, before, self.former);
+                take(queue, self.file, self.newest, self.former);
                 Err(refused)
             }
         }
@@ -86,6 +129,6 @@ impl NewKeys {
             ≡ (not (is_new self.now k) && has_key k queue.old) }
     {
         take(queue, self.file, self.number, self.own);
-        take(queue, self.file, self.number.before(), self.former);
+        take(queue, self.file, self.newest, self.former);
     }
 }

@@ -31,6 +31,7 @@ mod links;
 mod lookups;
 mod names;
 mod opening;
+mod policies;
 mod restoring;
 mod reverting;
 mod rows;
@@ -47,6 +48,7 @@ use crate::directories::{make_dir, remove_dir};
 use crate::links::{link, rename};
 use crate::names::create;
 use crate::opening::{open_read, open_write};
+use crate::policies::set_policy;
 use crate::restoring::{restorable, undelete};
 use crate::reverting::revert;
 use crate::rows::{Made, ROOT, Rows};
@@ -59,7 +61,7 @@ use ele_policy::Interval;
 use ele_usage::UsageBook;
 pub use ele_world::{
     ByteList, Cell, Counts, DeadName, DeadNameList, DirId, DirectoryRow, DraftRow, Event, FileId,
-    FileRow, FileStat, Flat, Handle, HandleRow, Key, KeyList, Kind, Limits, ListOf, Moment, Name,
+    FileRow, FileStat, Flat, Handle, HandleRow, Key, KeyList, Kind, Ladder, Limits, ListOf, Moment, Name,
     NameList, NameRow, NoMemory, PassEnd, Path, PathAt, Policy, Reads, Refusal, Reply, Source,
     Stamps, StampsList, Stop, Tag, TaggedPath, Target, Usage, VersionNo, VersionRow, Which,
 };
@@ -111,6 +113,7 @@ fn answer(rows: &mut Rows, event: &Event) -> Result<Reply, NoMemory>
         Event::Truncate(handle, size) => truncate(rows, *handle, *size),
         Event::Close(handle) => close(rows, *handle),
         Event::Revert(path, number) => revert(rows, path, *number),
+        Event::SetPolicy(path, policy) => set_policy(rows, path, *policy),
         Event::SetDefault(path, policy) => Ok(set_default(rows, path, *policy)),
         Event::CleanOne => Ok(clean_one(rows)),
         Event::Read(source) => read(rows, source),

@@ -12,7 +12,7 @@ ghost use Rattle.ele_world.specs.declared.reply.Reply.TheVariants as reply;
 ghost use Rattle.ele_world.proofs.May.{MayRevive};
 ghost use Rattle.ele_core.specs.Inside.{world_of, IsTracked, IsSound};
 
-use crate::appending::{add_version, next_number};
+use crate::appending::{add_version, new_keys, next_number};
 use crate::book::{blocks, follow_blocks};
 use crate::links::add_name;
 use crate::rows::{Rows, are_names_full, is_full};
@@ -91,13 +91,19 @@ fn revive(
     let bytes = version_bytes(&rows.files, file, last, &mut rows.meter);
     let before = blocks(&rows.files);
     let now = rows.moment;
-    rows.names.add(directory, name, Target::File(file), now)?;
-    // The last version has ended, so that no key comes or goes.
+    let keys = new_keys(&rows.files, file, now, true, &mut rows.meter);
+    // All keys and the name come before the version does, so that one that is refused is still without trace.
+    keys.put(&mut rows.queue)?;
+    if let Err(refused) = rows.names.add(directory, name, Target::File(file), now) {
+        keys.take(&mut rows.queue);
+        return Err(refused);
+    }
     let restored = rows.files.restore(file, last, now, true, &mut rows.meter);
     let number = match restored {
         Ok(number) => number,
         Err(refused) => {
             rows.names.take_back();
+            keys.take(&mut rows.queue);
             return Err(refused);
         }
     };

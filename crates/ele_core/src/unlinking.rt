@@ -9,7 +9,7 @@ ghost use Rattle.ele_world.specs.declared.event.Event.TheVariants as event;
 ghost use Rattle.ele_world.specs.declared.rows.Target.TheVariants.{File};
 ghost use Rattle.ele_core.specs.Inside.{world_of, IsTracked, IsSound};
 
-use crate::appending::{former_moment, next_number};
+use crate::appending::{end_moment, next_number};
 use crate::keys::put;
 use crate::rows::Rows;
 use crate::walk::file_now;
@@ -33,7 +33,7 @@ fn end_last_name(
     ensures tracked { IsTracked rows.new }
 {
     let next = next_number(&rows.files, file);
-    let moment = former_moment(&rows.files, file, next, rows.moment, &mut rows.meter);
+    let moment = end_moment(&rows.files, file, next, rows.moment, &mut rows.meter);
     put(&mut rows.queue, file, next.before(), moment)?;
     rows.names.kill(directory, name, rows.moment);
     rows.files.end_current(file, rows.moment, &mut rows.meter);

@@ -4,7 +4,7 @@ ghost use Rattle.std.specs.Prelude.{◌≡◌, ◌≤◌, ℕ, Bool, false, nat_
 ghost use Rattle.std.specs.Option.{option_map_or};
 ghost use Rattle.ele_moment.specs.Last.{last_moment};
 ghost use Rattle.ele_policy.specs.Policy.{IsPolicy};
-ghost use Rattle.ele_policy.specs.Ripe.{Beside, IsNearest, IsRipe, is_due_by, ripe_by};
+ghost use Rattle.ele_policy.specs.Ripe.{Beside, IsNearest, IsRipe, alone, is_due_by, ripe_by};
 ghost use Rattle.ele_policy.specs.Wait.{wait, ripe_after};
 
 use crate::policy::Policy;
@@ -63,6 +63,7 @@ pub fn ripe(
     next_closed: Option<Moment>,
 ) -> Option<Moment>
     ensures value { IsRipe policy.now closed ended next_closed result }
+    ensures near { result ≡ ripe_by policy.now closed (alone next_closed) ended }
     ensures from_then { IfSome result
         (λ m. (beside : Beside) → IsNearest closed next_closed beside
         → (at : ℕ) → is_due_by policy.now closed beside ended at ≡ nat_le m at) }

@@ -1,6 +1,6 @@
 use Rattle.std.proofs.Common.{◌≡◌, ◌&&◌, ◌||◌, not, [], refl, sym, ap, ◌∙◌, arith}
 use Rattle.ele_core.proofs.Bounded.{versions_few}
-use Rattle.ele_core.proofs.ClosedSteps.{drafted, file_there, finished_step, is_final, over, over_keeps, over_keys, over_queue, past, numbered, former_past, writes_file}
+use Rattle.ele_core.proofs.ClosedSteps.{drafted, file_there, finished_step, is_final, over, over_keeps, over_keys, over_queue, past, numbered, writes_file}
 use Rattle.ele_core.proofs.Appended.{appended_queue, taken_back, refused}
 use Rattle.ele_core.proofs.ClosedSums.{finished_owed, draft_short, version_fits, added_fits}
 use Rattle.ele_core.specs.Inside.{world_of}
@@ -8,6 +8,7 @@ use Rattle.ele_core.specs.Queued.{is_new, new_keys}
 use Rattle.ele_due.specs.HasKey.{has_key}
 use Rattle.ele_files.specs.Held.{cells_of_draft}
 use Rattle.ele_world.specs.World.{is_live}
+use Rattle.ele_world.proofs.AppendMoments.{may_grow}
 use Rattle.ele_core.proofs.closing.finish.Goals as goal
 
 pub new_keys-keys-requires-clause-there : goal.new_keys-keys-requires-clause-there
@@ -15,9 +16,6 @@ new_keys-keys-requires-clause-there c = file_there (world_of c.args.rows.now) c.
 
 pub draft_bytes-bytes-requires : goal.draft_bytes-bytes-requires
 draft_bytes-bytes-requires c = drafted (world_of c.args.rows.now) c.args.handle c.args.file c.requires.reads c.args.opened c.requires.changed
-
-pub new_keys-keys-requires-clause-past : goal.new_keys-keys-requires-clause-past
-new_keys-keys-requires-clause-past c = former_past c.args.rows.now c.requires.sound _
 
 pub finish-finished-requires-clause-numbered : goal.finish-finished-requires-clause-numbered
 finish-finished-requires-clause-numbered c = numbered c.args.rows.now c.requires.sound
@@ -59,8 +57,8 @@ returns-clause-tracked c =
     let formed = over_keeps w c.args.handle c.args.file c.requires.reads final.alone c.requires.sound.formed in
     record {
       queue = rw (c.in-Ok.ensures.ok w refl (sym c.is_live-is_live.ensures))
-          (appended_queue (over w c.args.handle c.args.file c.requires.reads) c.args.file c.args.opened (cells_of_draft rows.files c.args.file) formed (file_there w c.args.handle c.args.file c.requires.reads c.args.opened c.requires.changed c.requires.sound.formed) rows.queue c.put.new.queue
-          (over_queue w c.args.handle c.args.file c.requires.reads rows.queue c.requires.sound.tracked.queue)
+          (appended_queue (over w c.args.handle c.args.file c.requires.reads) c.args.file c.args.opened (cells_of_draft rows.files c.args.file) (may_grow (over w c.args.handle c.args.file c.requires.reads) c.args.file formed (file_there w c.args.handle c.args.file c.requires.reads c.args.opened c.requires.changed c.requires.sound.formed)) rows.queue c.put.new.queue
+          (over_queue w c.args.handle c.args.file c.requires.reads c.requires.sound.formed rows.queue c.requires.sound.tracked.queue)
           (λ j. c.in_ok-put.ensures.ok j ∙ ap (λ keys. is_new keys j || has_key j rows.queue) (told ∙ sym (over_keys w c.args.handle c.args.file c.requires.reads (is_live w c.args.file)))));
       book = c.follow_blocks.ensures;
       bounds = c.requires.sound.tracked.bounds;
@@ -72,7 +70,7 @@ overflow_add-rows c = omega (arith, versions_few c.args.rows.now c.requires.soun
 -- where memory is refused, to a key or to the version
 pub returns-in_err-put-clause-tracked : goal.returns-in_err-put-clause-tracked
 returns-in_err-put-clause-tracked c = record {
-  queue = refused (world_of c.args.rows.now) c.args.file 0 [] c.requires.sound.formed (file_there (world_of c.args.rows.now) c.args.handle c.args.file c.requires.reads c.args.opened c.requires.changed c.requires.sound.formed) c.args.rows.now.queue c.put.new.queue c.requires.sound.tracked.queue
+  queue = refused (world_of c.args.rows.now) c.args.file 0 [] (may_grow (world_of c.args.rows.now) c.args.file c.requires.sound.formed (file_there (world_of c.args.rows.now) c.args.handle c.args.file c.requires.reads c.args.opened c.requires.changed c.requires.sound.formed)) c.args.rows.now.queue c.put.new.queue c.requires.sound.tracked.queue
       (rw c.new_keys-keys.ensures.keys at c.in_err-put.ensures.err);
   book = c.requires.sound.tracked.book;
   bounds = c.requires.sound.tracked.bounds;
@@ -80,7 +78,7 @@ returns-in_err-put-clause-tracked c = record {
 
 pub returns-in-Err-clause-tracked : goal.returns-in-Err-clause-tracked
 returns-in-Err-clause-tracked c = rw c.in-Err.ensures.err (record {
-  queue = taken_back (world_of c.args.rows.now) c.args.file 0 [] c.requires.sound.formed (file_there (world_of c.args.rows.now) c.args.handle c.args.file c.requires.reads c.args.opened c.requires.changed c.requires.sound.formed) c.args.rows.now.queue c.take.new.queue c.requires.sound.tracked.queue
+  queue = taken_back (world_of c.args.rows.now) c.args.file 0 [] (may_grow (world_of c.args.rows.now) c.args.file c.requires.sound.formed (file_there (world_of c.args.rows.now) c.args.handle c.args.file c.requires.reads c.args.opened c.requires.changed c.requires.sound.formed)) c.args.rows.now.queue c.take.new.queue c.requires.sound.tracked.queue
       (λ j. c.take.ensures j ∙ ap (λ b. not (is_new c.new_keys-keys.result j) && b) (c.in_ok-put.ensures.ok j)
       ∙ ap (λ keys. not (is_new keys j) && (is_new keys j || has_key j c.args.rows.now.queue)) (c.new_keys-keys.ensures.keys ∙ ap (new_keys c.args.rows.now.files c.args.file c.args.rows.now.moment) c.is_live-is_live.ensures));
   book = c.requires.sound.tracked.book;

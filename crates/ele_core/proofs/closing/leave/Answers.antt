@@ -24,7 +24,7 @@ drop_idle-requires c =
     let w = world_of c.args.rows.now in
     record {
       formed = subst IsWellFormed (sym (ap (with_rows w) c.leave.ensures ∙ left_world w c.args.handle c.args.file c.requires.reads)) (left_keeps w c.args.handle c.args.file c.requires.reads c.requires.sound.formed);
-      tracked = record { queue = subst (λ v. IsQueued v c.args.rows.now.queue) (sym (ap (with_rows w) c.leave.ensures ∙ left_world w c.args.handle c.args.file c.requires.reads)) (left_queue w c.args.handle c.args.file c.requires.reads c.args.rows.now.queue c.requires.sound.tracked.queue); book = c.follow_blocks.ensures; bounds = c.requires.sound.tracked.bounds };
+      tracked = record { queue = subst (λ v. IsQueued v c.args.rows.now.queue) (sym (ap (with_rows w) c.leave.ensures ∙ left_world w c.args.handle c.args.file c.requires.reads)) (left_queue w c.args.handle c.args.file c.requires.reads c.requires.sound.formed c.args.rows.now.queue c.requires.sound.tracked.queue); book = c.follow_blocks.ensures; bounds = c.requires.sound.tracked.bounds };
     }
 
 pub returns-clause-step : goal.returns-clause-step

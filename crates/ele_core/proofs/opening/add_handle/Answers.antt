@@ -18,7 +18,7 @@ open_write-requires-clause-few c = omega (arith, rows_few c.args.rows.now c.requ
 
 pub returns-clause-tracked : goal.returns-clause-tracked
 returns-clause-tracked c = record {
-  queue = subst (λ h. IsQueued (with_rows (world_of c.args.rows.now) h) c.args.rows.now.queue) (sym c.in_ok-number.ensures.ok) (opened_queue c.args.rows.now c.args.file c.requires.sound.tracked.queue);
+  queue = subst (λ h. IsQueued (with_rows (world_of c.args.rows.now) h) c.args.rows.now.queue) (sym c.in_ok-number.ensures.ok) (opened_queue c.args.rows.now c.args.file c.requires.sound);
   book = c.follow_blocks.ensures;
   bounds = c.requires.sound.tracked.bounds;
 }

@@ -12,7 +12,7 @@ returns-clause-tracked c =
     let rows = c.args.rows.now in
     record {
       queue = subst (λ h. IsQueued (with_rows (world_of rows) h) c.take.new.queue) (sym c.in_ok-handle.ensures.ok)
-          (read_queue rows (rows.files.opened + 1) c.args.file c.args.number c.take.new.queue c.requires.sound.tracked.queue (subst (λ m. IsRekeyed c.args.file c.args.number m None rows.queue c.take.new.queue) c.free_moment-moment.ensures.moment c.take.ensures));
+          (read_queue rows (rows.files.opened + 1) c.args.file c.args.number c.take.new.queue c.requires.sound (subst (λ m. IsRekeyed c.args.file c.args.number m None rows.queue c.take.new.queue) c.free_moment-moment.ensures.moment c.take.ensures));
       book = subst (λ h. IsBooked h rows.book) (sym c.in_ok-handle.ensures.ok) c.requires.sound.tracked.book;
       bounds = c.requires.sound.tracked.bounds;
     }

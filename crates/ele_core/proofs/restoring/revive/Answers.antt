@@ -1,13 +1,14 @@
-use Rattle.std.proofs.Common.{◌≡◌, ◌-◌, refl, ap, ◌∙◌, arith}
+use Rattle.std.proofs.Common.{◌≡◌, ◌-◌, ◌&&◌, ◌||◌, not, refl, ap, ◌∙◌, arith}
+use Rattle.ele_core.specs.Queued.{is_new}
+use Rattle.ele_due.specs.HasKey.{has_key}
 use Rattle.ele_core.proofs.Bounded.{rows_few}
 use Rattle.ele_core.proofs.ClosedSteps.{numbered, past}
 use Rattle.ele_core.proofs.ClosedSums.{added_fits, version_fits}
 use Rattle.ele_core.proofs.NewNames.{follows_new}
-use Rattle.ele_core.proofs.Revived.{revived_owed, revived_queue, revived_rows, revived_there, version_short}
+use Rattle.ele_core.proofs.Revived.{revived_back, revived_owed, revived_queue, revived_refused, revived_rows, revived_there, version_short}
 use Rattle.ele_core.specs.Inside.{world_of}
 use Rattle.ele_world.specs.World.{next_of}
 use Rattle.ele_world.specs.declared.rows.Target.TheVariants.{File}
-use Rattle.ele_world.proofs.Revivals.{revived_moments}
 use Rattle.ele_core.proofs.restoring.revive.Goals as goal
 
 pub next_number-requires : goal.next_number-requires
@@ -47,11 +48,39 @@ pub returns-clause-ok : goal.returns-clause-ok
 returns-clause-ok c =
     let last : c.before-last.result ≡ next_of c.args.rows.now.files.files c.args.file - 1 = c.before-last.ensures ∙ ap (λ n. n - 1) c.next_number.ensures in
     let after = revived_rows c.args.rows.now c.args.directory c.args.name c.args.file c.requires.sound c.requires.may c.restore-restored.new.self c.before-last.result last c.in-Ok.ensures.ok in
-    rw (after, c.in_ok-add.ensures.ok) refl
+    rw (after, c.in_default.ensures.ok) refl
 
 pub returns-clause-tracked : goal.returns-clause-tracked
 returns-clause-tracked c = record {
-  queue = revived_queue c.args.rows.now c.args.directory c.args.name c.args.file c.requires.sound c.requires.may (revived_moments (world_of c.args.rows.now) c.args.directory c.args.name c.args.file c.requires.may c.requires.sound.formed) _ (returns-clause-ok c);
+  queue = revived_queue c.args.rows.now c.args.directory c.args.name c.args.file c.requires.sound c.requires.may c.put.new.queue (rw c.new_keys-keys.ensures.keys at c.in_ok-put.ensures.ok) _ (returns-clause-ok c);
   book = c.follow_blocks.ensures;
   bounds = c.requires.sound.tracked.bounds;
 }
+
+pub new_keys-keys-requires-clause-there : goal.new_keys-keys-requires-clause-there
+new_keys-keys-requires-clause-there c = revived_there c.args.rows.now c.args.directory c.args.name c.args.file c.requires.sound c.requires.may
+
+pub returns-in_err-put-clause-tracked : goal.returns-in_err-put-clause-tracked
+returns-in_err-put-clause-tracked c = record {
+  queue = revived_refused c.args.rows.now c.args.directory c.args.name c.args.file c.requires.sound c.requires.may c.put.new.queue (rw c.new_keys-keys.ensures.keys at c.in_err-put.ensures.err);
+  book = c.requires.sound.tracked.book;
+  bounds = c.requires.sound.tracked.bounds;
+}
+
+pub returns-in-Err-clause-tracked : goal.returns-in-Err-clause-tracked
+returns-in-Err-clause-tracked c = rw c.in-Err.ensures.err (record {
+  queue = revived_back c.args.rows.now c.args.directory c.args.name c.args.file c.requires.sound c.requires.may c.take.new.queue
+      (λ j. c.take.ensures j ∙ ap (λ b. not (is_new c.new_keys-keys.result j) && b) (c.in_ok-put.ensures.ok j)
+      ∙ ap (λ keys. not (is_new keys j) && (is_new keys j || has_key j c.args.rows.now.queue)) c.new_keys-keys.ensures.keys);
+  book = c.requires.sound.tracked.book;
+  bounds = c.requires.sound.tracked.bounds;
+})
+
+pub returns-in-Err-restored-clause-tracked : goal.returns-in-Err-restored-clause-tracked
+returns-in-Err-restored-clause-tracked c = rw (c.in-Err-restored.ensures.err, c.take_back.ensures c.args.rows.now.names _ c.in_default.ensures.ok) (record {
+  queue = revived_back c.args.rows.now c.args.directory c.args.name c.args.file c.requires.sound c.requires.may c.take-in-Err-restored.new.queue
+      (λ j. c.take-in-Err-restored.ensures j ∙ ap (λ b. not (is_new c.new_keys-keys.result j) && b) (c.in_ok-put.ensures.ok j)
+      ∙ ap (λ keys. not (is_new keys j) && (is_new keys j || has_key j c.args.rows.now.queue)) c.new_keys-keys.ensures.keys);
+  book = c.requires.sound.tracked.book;
+  bounds = c.requires.sound.tracked.bounds;
+})

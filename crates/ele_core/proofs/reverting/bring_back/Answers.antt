@@ -1,7 +1,7 @@
 use Rattle.std.proofs.Common.{◌≡◌, ◌&&◌, ◌||◌, not, true, [], refl, sym, ap, subst, ◌∙◌, arith}
 use Rattle.ele_core.proofs.Appended.{appended_queue, refused, taken_back}
 use Rattle.ele_core.proofs.Bounded.{rows_few, versions_few}
-use Rattle.ele_core.proofs.ClosedSteps.{former_past, numbered, past}
+use Rattle.ele_core.proofs.ClosedSteps.{numbered, past}
 use Rattle.ele_core.proofs.ClosedSums.{added_fits, version_fits}
 use Rattle.ele_core.proofs.Reverted.{became_rows, held_long, held_there, restored_owed}
 use Rattle.ele_core.proofs.Revived.{version_short}
@@ -9,18 +9,16 @@ use Rattle.ele_core.specs.Inside.{world_of}
 use Rattle.ele_core.specs.Queued.{is_new, new_keys}
 use Rattle.ele_due.specs.HasKey.{has_key}
 use Rattle.ele_files.specs.Held.{cells_of_version}
+use Rattle.ele_world.proofs.AppendMoments.{may_grow}
 use Rattle.ele_world.specs.World.{is_live}
 use Rattle.ele_core.proofs.reverting.bring_back.Goals as goal
 
 pub new_keys-keys-requires-clause-there : goal.new_keys-keys-requires-clause-there
 new_keys-keys-requires-clause-there c = held_there c.args.rows.now c.args.file c.args.stamps.now.number c.args.stamps.now c.requires.sound c.requires.held
 
-pub new_keys-keys-requires-clause-past : goal.new_keys-keys-requires-clause-past
-new_keys-keys-requires-clause-past c = former_past c.args.rows.now c.requires.sound _
-
 pub returns-in_err-put-clause-tracked : goal.returns-in_err-put-clause-tracked
 returns-in_err-put-clause-tracked c = record {
-  queue = refused (world_of c.args.rows.now) c.args.file 0 [] c.requires.sound.formed (held_there c.args.rows.now c.args.file c.args.stamps.now.number c.args.stamps.now c.requires.sound c.requires.held) c.args.rows.now.queue c.put.new.queue c.requires.sound.tracked.queue
+  queue = refused (world_of c.args.rows.now) c.args.file 0 [] (may_grow (world_of c.args.rows.now) c.args.file c.requires.sound.formed (held_there c.args.rows.now c.args.file c.args.stamps.now.number c.args.stamps.now c.requires.sound c.requires.held)) c.args.rows.now.queue c.put.new.queue c.requires.sound.tracked.queue
       (rw c.new_keys-keys.ensures.keys at c.in_err-put.ensures.err);
   book = c.requires.sound.tracked.book;
   bounds = c.requires.sound.tracked.bounds;
@@ -37,7 +35,7 @@ restore-restored-requires-clause-past c = past c.args.rows.now c.requires.sound
 
 pub returns-in-Err-clause-tracked : goal.returns-in-Err-clause-tracked
 returns-in-Err-clause-tracked c = rw c.in-Err.ensures.err (record {
-  queue = taken_back (world_of c.args.rows.now) c.args.file 0 [] c.requires.sound.formed (held_there c.args.rows.now c.args.file c.args.stamps.now.number c.args.stamps.now c.requires.sound c.requires.held) c.args.rows.now.queue c.take.new.queue c.requires.sound.tracked.queue
+  queue = taken_back (world_of c.args.rows.now) c.args.file 0 [] (may_grow (world_of c.args.rows.now) c.args.file c.requires.sound.formed (held_there c.args.rows.now c.args.file c.args.stamps.now.number c.args.stamps.now c.requires.sound c.requires.held)) c.args.rows.now.queue c.take.new.queue c.requires.sound.tracked.queue
       (λ j. c.take.ensures j ∙ ap (λ b. not (is_new c.new_keys-keys.result j) && b) (c.in_ok-put.ensures.ok j)
       ∙ ap (λ keys. not (is_new keys j) && (is_new keys j || has_key j c.args.rows.now.queue)) (c.new_keys-keys.ensures.keys ∙ ap (new_keys c.args.rows.now.files c.args.file c.args.rows.now.moment) (sym c.requires.live)));
   book = c.requires.sound.tracked.book;
@@ -75,7 +73,7 @@ returns-clause-tracked c =
     let stamps = c.args.stamps.now in
     let after = became_rows rows c.args.file stamps.number stamps c.requires.sound c.requires.held c.requires.live c.restore-restored.new.self c.in-Ok.ensures.ok in
     record {
-      queue = rw after (appended_queue w c.args.file rows.moment (cells_of_version rows.files c.args.file stamps.number) c.requires.sound.formed (held_there rows c.args.file stamps.number stamps c.requires.sound c.requires.held) rows.queue c.put.new.queue c.requires.sound.tracked.queue
+      queue = rw after (appended_queue w c.args.file rows.moment (cells_of_version rows.files c.args.file stamps.number) (may_grow w c.args.file c.requires.sound.formed (held_there rows c.args.file stamps.number stamps c.requires.sound c.requires.held)) rows.queue c.put.new.queue c.requires.sound.tracked.queue
           (λ j. c.in_ok-put.ensures.ok j ∙ ap (λ keys. is_new keys j || has_key j rows.queue) (c.new_keys-keys.ensures.keys ∙ ap (new_keys rows.files c.args.file rows.moment) (sym c.requires.live))));
       book = c.follow_blocks.ensures;
       bounds = c.requires.sound.tracked.bounds;

@@ -1,14 +1,11 @@
 use Rattle.std.proofs.Common.{sym}
-use Rattle.ele_core.proofs.ClosedSteps.{former_past, past}
+use Rattle.ele_core.proofs.ClosedSteps.{past}
 use Rattle.ele_core.proofs.Unlinked.{file_there, last_ends, last_name_ends, ended_book, ended_queue}
 use Rattle.ele_core.specs.Inside.{world_of}
 use Rattle.ele_core.proofs.unlinking.end_last_name.Goals as goal
 
 pub next_number-next-requires : goal.next_number-next-requires
 next_number-next-requires c = file_there (world_of c.args.rows.now) c.args.directory c.args.name.now c.args.file c.requires.stands c.requires.sound.formed
-
-pub former_moment-moment-requires-clause-past : goal.former_moment-moment-requires-clause-past
-former_moment-moment-requires-clause-past c = former_past c.args.rows.now c.requires.sound _
 
 pub end_current-requires-clause-past : goal.end_current-requires-clause-past
 end_current-requires-clause-past c = past c.args.rows.now c.requires.sound
@@ -26,7 +23,7 @@ returns-clause-tracked c =
     let dead = last_ends w c.args.directory c.args.name.now c.args.file c.requires.stands c.requires.last in
     rw (c.kill.ensures, c.end_current.ensures.rows) (record {
       queue = ended_queue w c.args.directory c.args.name.now c.args.file c.requires.stands dead c.requires.sound.formed rows.queue c.put.new.queue c.requires.sound.tracked.queue
-          (rw (← c.former_moment-moment.ensures.moment, ← c.next_number-next.ensures, ← c.before-2.ensures) c.in_ok-put.ensures.ok);
+          (rw (← c.end_moment-moment.ensures.moment, ← c.next_number-next.ensures, ← c.before-2.ensures) c.in_ok-put.ensures.ok);
       book = ended_book rows.files c.args.file rows.moment rows.book c.requires.sound.tracked.book;
       bounds = c.requires.sound.tracked.bounds;
     })

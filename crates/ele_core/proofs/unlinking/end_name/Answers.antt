@@ -15,7 +15,7 @@ returns-clause-tracked c =
     let w = world_of rows in
     let live = others_live w c.args.directory c.args.name.now c.args.file c.requires.stands (λ one. c.if-names_of-eq1.false (c.names_of.ensures ∙ one)) in
     rw c.kill.ensures (record {
-      queue = kept_queue w c.args.directory c.args.name.now c.args.file c.requires.stands live rows.queue c.requires.sound.tracked.queue;
+      queue = kept_queue w c.args.directory c.args.name.now c.args.file c.requires.stands c.requires.sound.formed live rows.queue c.requires.sound.tracked.queue;
       book = c.requires.sound.tracked.book;
       bounds = c.requires.sound.tracked.bounds;
     })

@@ -27,3 +27,9 @@ returns-in-None-clause-from_then c = rw c.in-None.is
 pub returns-in-None-clause-never : goal.returns-in-None-clause-never
 returns-in-None-clause-never c = rw c.in-None.is
     (subst (NeverDue c.args.policy.now c.args.closed c.args.ended None) (sym (c.ripe_beside-in-None.ensures.value false)) (ripe_never c.args.policy.now c.args.closed c.args.ended None c.is_given.ensures))
+
+pub returns-in-Some-clause-near : goal.returns-in-Some-clause-near
+returns-in-Some-clause-near c = rw c.in-Some.is (c.ripe_beside.ensures.value false)
+
+pub returns-in-None-clause-near : goal.returns-in-None-clause-near
+returns-in-None-clause-near c = rw c.in-None.is (c.ripe_beside-in-None.ensures.value false)
