@@ -1,29 +1,43 @@
 -- The keys and the book, once a file has another policy.
 use Rattle.std.proofs.Common.{◌≡◌, ℕ, ◌<◌, ◌==◌, Bool, true, false, cond, not, ◌&&◌, ◌||◌, List, [], ◌∷◌, Option, Some, None, refl, ap, sym, subst, ◌∙◌, arith, filter, map}
-use Rattle.std.specs.Prelude.{find, option_and_then}
-use Rattle.std.specs.List.{cons_option, filter_map, list_any}
+use Rattle.std.specs.Prelude.{find, option_and_then, IfOk, Ok, Err, Result}
+use Rattle.std.specs.List.{AllByRecursion, cons_option, filter_map, list_any}
 use Rattle.std.specs.Option.{option_map, option_map_or}
 use Rattle.std.proofs.lemmas.Bool.{false≢true}
 use Rattle.std.proofs.lemmas.Bool.Decides.{nat_tests}
+use Rattle.ele_core.proofs.Booked.{and_nothing, booked, same_kind, same_usage}
 use Rattle.ele_core.proofs.Following.{follows}
+use Rattle.ele_core.specs.Inside.{world_of, IsSound}
 use Rattle.ele_core.specs.Queued.{IsQueued, is_under, key_under, unread_under}
+use Rattle.ele_core.specs.Tracked.{told_by, IsBooked}
+use Rattle.ele_core.specs.declared.rows.Rows.{Rows}
 use Rattle.ele_due.specs.declared.key.Key.{Key}
 use Rattle.ele_due.specs.HasKey.{has_key}
 use Rattle.ele_due.specs.Key.{is_key}
-use Rattle.ele_files.specs.Held.{Held, rows_of}
+use Rattle.ele_files.specs.Held.{Held, changed_at, rows_of}
 use Rattle.ele_lists.proofs.Edits.{found_passes}
 use Rattle.ele_lists.proofs.Found.{any-found}
+use Rattle.ele_policy.specs.declared.policy.Kind.{Kind}
+use Rattle.ele_policy.specs.declared.policy.Kind.TheVariants as kind
 use Rattle.ele_policy.specs.declared.policy.Policy.{Policy}
-use Rattle.ele_policy.specs.Policy.{IsPolicy}
+use Rattle.ele_policy.specs.Policy.{IsPolicy, is_kind, kind_of}
+use Rattle.ele_usage.specs.declared.usage.Usage.{Usage}
+use Rattle.ele_usage.specs.Book.{Book, sums_of}
+use Rattle.ele_usage.specs.OnlyAt.{only_at}
+use Rattle.ele_usage.specs.Sums.{nothing, plus, Fits, IsWithin}
 use Rattle.ele_world.specs.declared.rows.Stamps.{Stamps}
 use Rattle.ele_world.specs.declared.rows.VersionRow.{VersionRow}
 use Rattle.ele_world.specs.Change.{PutUnder, after_change}
 use Rattle.ele_world.specs.Due.{ripe_at, is_moment}
 use Rattle.ele_world.specs.FileView.{is_version_of}
 use Rattle.ele_world.specs.Told.{stamps_of}
-use Rattle.ele_world.specs.WellFormed.{IsWellFormed}
+use Rattle.ele_world.specs.Usage.{file_usage, usage_of, usages}
+use Rattle.ele_world.specs.WellFormed.{Bounded, IsWellFormed}
 use Rattle.ele_world.specs.World.{World, is_open, is_version, next_of, policy_of}
 use Rattle.ele_world.proofs.Neighbours.{in_order_of, ripe_at_near}
+use Rattle.ele_world.proofs.KeptNames.{put_under_keeps}
+use Rattle.ele_world.proofs.Usages.{usage_same, usages_fit}
+use Rattle.ele_world.proofs.PolicyUsage.{file_within, policy_usage}
 use Rattle.ele_world.proofs.PolicyMoments.{policy_others, policy_own}
 
 -- ---- the keys of a file's versions
@@ -119,6 +133,10 @@ module _ (h : Held) (file : ℕ) (policy other : Policy) where
       | false ↦ refl
     ]
 
+pub then_ok : {A E : Type 0} {P Q : A → Type 0} (r : Result A E) → IfOk r P → ((a : A) → P a → Q a) → IfOk r Q
+then_ok (Ok a) is then = then a is
+then_ok (Err e) is then = is
+
 -- ---- the queue
 
 module _ (w : World) (file : ℕ) (was policy : Policy) (k : IsWellFormed w) (filed : policy_of w.files file ≡ Some was) (there : 0 < next_of w.files file) (given : IsPolicy policy) where
@@ -163,3 +181,63 @@ module _ (w : World) (file : ℕ) (was policy : Policy) (k : IsWellFormed w) (fi
       by : (b : Bool) → (j.file == file) ≡ b → (not (b && (is_moment j.ripe (unread_under policy h file j.number) && not (is_moment j.ripe (unread_under was h file j.number)))) && has_key j queue) ≡ has_key j queue
       by false other = refl
       by true own = rw (had j own) (same (is_moment j.ripe (unread_under policy h file j.number)) (is_moment j.ripe (unread_under was h file j.number)))
+
+-- ---- the book
+
+plus-cancel : (a b x : Usage) → plus a x ≡ plus b x → a ≡ b
+plus-cancel a b x e =
+    same_usage a b (omega (arith, ap (λ (u : Usage). u.files) e)) (omega (arith, ap (λ (u : Usage). u.versions) e)) (omega (arith, ap (λ (u : Usage). u.bytes) e)) (omega (arith, ap (λ (u : Usage). u.blocks) e))
+
+kinds_apart : (a b : Kind) → (a ≡ b → ⊥) → is_kind a b ≡ false
+kinds_apart kind.One kind.One other = absurd (other refl)
+kinds_apart kind.One kind.All other = refl
+kinds_apart kind.One kind.Safe other = refl
+kinds_apart kind.One kind.Landmarks other = refl
+kinds_apart kind.All kind.One other = refl
+kinds_apart kind.All kind.All other = absurd (other refl)
+kinds_apart kind.All kind.Safe other = refl
+kinds_apart kind.All kind.Landmarks other = refl
+kinds_apart kind.Safe kind.One other = refl
+kinds_apart kind.Safe kind.All other = refl
+kinds_apart kind.Safe kind.Safe other = absurd (other refl)
+kinds_apart kind.Safe kind.Landmarks other = refl
+kinds_apart kind.Landmarks kind.One other = refl
+kinds_apart kind.Landmarks kind.All other = refl
+kinds_apart kind.Landmarks kind.Safe other = refl
+kinds_apart kind.Landmarks kind.Landmarks other = absurd (other refl)
+
+fits_at : (w : World) → AllByRecursion Fits (usages w) → (k : Kind) → Fits (usage_of w k)
+fits_at w all kind.One = all.0
+fits_at w all kind.All = all.1.0
+fits_at w all kind.Safe = all.1.1.0
+fits_at w all kind.Landmarks = all.1.1.1.0
+
+module _ (rows : Rows) (file : ℕ) (was policy : Policy) (sound : IsSound rows) (filed : policy_of rows.files.files file ≡ Some was) (given : IsPolicy policy) where
+  abbrev uses : Usage
+  uses = file_usage rows.files.versions rows.files.drafts file
+
+  abbrev now : World
+  now = after_change (world_of rows) (PutUnder file policy)
+
+  -- the kind that the file leaves has what it uses
+  pub uses_within : IsWithin uses (sums_of rows.book (kind_of was))
+  uses_within = subst (IsWithin uses) (sym (booked rows sound.tracked (kind_of was))) (file_within (world_of rows) file was policy sound.formed filed)
+
+  -- and the one to which it comes has room for it
+  pub uses_fit : (kind_of was ≡ kind_of policy → ⊥) → Fits (plus (sums_of rows.book (kind_of policy)) uses)
+  uses_fit other =
+      let formed = put_under_keeps (world_of rows) file policy given sound.formed in
+      let moves = policy_usage (world_of rows) file was policy sound.formed filed (kind_of policy) in
+      let leaves : only_at (kind_of was) uses (kind_of policy) ≡ nothing = rw (kinds_apart (kind_of was) (kind_of policy) other) refl in
+      let comes : only_at (kind_of policy) uses (kind_of policy) ≡ uses = rw (same_kind (kind_of policy)) refl in
+      let is : usage_of now (kind_of policy) ≡ plus (sums_of rows.book (kind_of policy)) uses =
+      sym (and_nothing (usage_of now (kind_of policy))) ∙ ap (plus (usage_of now (kind_of policy))) (sym leaves) ∙ moves
+      ∙ ap (plus (usage_of (world_of rows) (kind_of policy))) comes ∙ ap (λ (u : Usage). plus u uses) (sym (booked rows sound.tracked (kind_of policy))) in
+      subst Fits is (fits_at now (usages_fit now formed (formed.holds Bounded)) (kind_of policy))
+
+  -- once it has moved the book follows
+  pub governed_book : (book : Book) → ((k : Kind) → plus (sums_of book k) (only_at (kind_of was) uses k) ≡ plus (sums_of rows.book k) (only_at (kind_of policy) uses k)) → IsBooked (changed_at rows.files 0 (PutUnder file policy ∷ [])) book
+  governed_book book moved k =
+      plus-cancel (sums_of book k) (usage_of now k) (only_at (kind_of was) uses k)
+      (moved k ∙ ap (λ (u : Usage). plus u (only_at (kind_of policy) uses k)) (booked rows sound.tracked k) ∙ sym (policy_usage (world_of rows) file was policy sound.formed filed k))
+      ∙ usage_same (told_by (changed_at rows.files 0 (PutUnder file policy ∷ []))) now refl refl refl k

@@ -14,11 +14,13 @@ use Rattle.ele_world.specs.Walk.{is_live_name, live_target}
 use Rattle.ele_world.specs.World.{World}
 use Rattle.ele_world.specs.declared.rows.NameRow.{NameRow}
 use Rattle.ele_world.specs.declared.rows.Target.{Target}
+use Rattle.ele_world.specs.WellFormed.{IsWellFormed}
 use Rattle.ele_world.proofs.NameMoments.{moments_stay}
+use Rattle.ele_world.proofs.Neighbours.{in_order_of}
 
 -- the queue stays right where files and versions stay
-pub queue_stays : (w v : World) → v.files ≡ w.files → v.versions ≡ w.versions → v.handles ≡ w.handles → (queue : List Key) → IsQueued w queue → IsQueued v queue
-queue_stays w v files versions handles queue queued k = queued k ∙ ap (is_moment k.ripe) (sym (moments_stay w v files versions handles k.file k.number))
+pub queue_stays : (w v : World) → IsWellFormed w → v.files ≡ w.files → v.versions ≡ w.versions → v.handles ≡ w.handles → (queue : List Key) → IsQueued w queue → IsQueued v queue
+queue_stays w v formed files versions handles queue queued k = queued k ∙ ap (is_moment k.ripe) (sym (moments_stay w v (in_order_of w formed) files versions handles k.file k.number))
 
 module _ (rows : List NameRow) (from : ℕ) (old : List ℕ) (to : ℕ) (new : List ℕ) (target : Target) (now : ℕ) (stands : live_target rows from old ≡ Some target) (free : is_some (live_target rows to new) ≡ false) where
   abbrev named : NameRow

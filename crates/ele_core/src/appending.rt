@@ -49,7 +49,12 @@ fn gained_moment(policy: &Policy, stamps: &Stamps, now: Moment) -> Option<Moment
     if ripens_alone(policy, stamps) {
         return None;
     }
-    ripe(policy, stamps.closed, stamps.ended.unwrap_or(now), Some(now))
+    ripe(
+        policy,
+        stamps.closed,
+        stamps.ended.unwrap_or(now),
+        Some(now),
+    )
 }
 
 /// The ripe moment that the file's newest held version gets, of which these are the stamps, as the next one closes now; none

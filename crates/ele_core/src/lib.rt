@@ -61,9 +61,9 @@ use ele_policy::Interval;
 use ele_usage::UsageBook;
 pub use ele_world::{
     ByteList, Cell, Counts, DeadName, DeadNameList, DirId, DirectoryRow, DraftRow, Event, FileId,
-    FileRow, FileStat, Flat, Handle, HandleRow, Key, KeyList, Kind, Ladder, Limits, ListOf, Moment, Name,
-    NameList, NameRow, NoMemory, PassEnd, Path, PathAt, Policy, Reads, Refusal, Reply, Source,
-    Stamps, StampsList, Stop, Tag, TaggedPath, Target, Usage, VersionNo, VersionRow, Which,
+    FileRow, FileStat, Flat, Handle, HandleRow, Key, KeyList, Kind, Ladder, Limits, ListOf, Moment,
+    Name, NameList, NameRow, NoMemory, PassEnd, Path, PathAt, Policy, Reads, Refusal, Reply,
+    Source, Stamps, StampsList, Stop, Tag, TaggedPath, Target, Usage, VersionNo, VersionRow, Which,
 };
 use std::alloc::Global;
 use std::marker::Model;

@@ -20,12 +20,7 @@ use ele_world::{FileId, Key, Moment, NoMemory, Path, Reply, Stamps, VersionNo};
 use std::alloc::Global;
 
 /// The ripe moment that the version has under the policy; none where a handle reads it.
-fn unread_under(
-    files: &Files,
-    policy: &Policy,
-    file: FileId,
-    number: VersionNo,
-) -> Option<Moment>
+fn unread_under(files: &Files, policy: &Policy, file: FileId, number: VersionNo) -> Option<Moment>
     ensures { result ≡ unread_under policy.now files.now file number }
 {
     if files.is_open(file, number) {
@@ -116,6 +111,7 @@ pub fn set_policy(rows: &mut Rows, path: &Path, policy: Policy) -> Result<Reply,
     ensures step { IfOk result (λ reply.
         (reply, world_of rows.new) ≡ step (world_of rows.old) (event.SetPolicy path.now policy)) }
     ensures err { OnErr result (world_of rows.new ≡ world_of rows.old) }
+    ensures valid { IsPolicy policy }
     ensures tracked { IsTracked rows.new }
 {
     policy.is_given();

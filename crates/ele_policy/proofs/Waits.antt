@@ -205,10 +205,10 @@ nearest_tells policy closed nearest beside is = by policy nearest beside.newer i
   by (Landmarks rungs) (Some n) (x ∷ more) later first =
       let same : x ≡ n = cc in
       ap (option_map (λ (rung : Rung). rung.0)) (same_found (has_newer closed (x ∷ more)) (has_newer closed (n ∷ [])) rungs
-        (λ rung. nearest_decides rung closed x more later ∙ rw same (or_false (shares closed n rung)))) where
-          or_false : (b : Bool) → b ≡ (b || false)
-          or_false true = refl
-          or_false false = refl
+      (λ rung. nearest_decides rung closed x more later ∙ rw same (or_false (shares closed n rung)))) where
+        or_false : (b : Bool) → b ≡ (b || false)
+        or_false true = refl
+        or_false false = refl
 
 -- and so is the ripe moment
 pub ripe_nearest : (policy : Policy) (closed ended : ℕ) (nearest : Option ℕ) (beside : Beside) → IsPolicy policy → IsNearest closed nearest beside → ripe_by policy closed beside ended ≡ ripe_by policy closed (alone nearest) ended

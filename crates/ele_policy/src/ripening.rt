@@ -23,12 +23,7 @@ fn wait(policy: &Policy, closed: Moment, newer: &[Moment]) -> Option<u64>
 }
 
 // The moment that comes so long after the end.
-fn ripe_after(
-    policy: &Policy,
-    closed: Moment,
-    ended: Moment,
-    newer: &[Moment],
-) -> Option<Moment>
+fn ripe_after(policy: &Policy, closed: Moment, ended: Moment, newer: &[Moment]) -> Option<Moment>
     ensures value { result ≡ ripe_after policy.now closed ended newer.now }
     ensures given { IsPolicy policy.now }
 {
