@@ -5,5 +5,7 @@ pub mod Behind
 pub mod Words
 pub mod Moments
 pub mod PathWords
+pub mod PairWords
+pub mod Policies
 pub mod Values
 pub mod Laws

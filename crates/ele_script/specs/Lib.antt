@@ -1,4 +1,5 @@
 pub mod PolicyWord
+pub mod KeptPairs
 pub mod PathWord
 pub mod Value
 pub mod Command

@@ -6,6 +6,7 @@ mod asking;
 mod command;
 mod fault;
 mod output;
+mod pairs;
 mod paths;
 mod putting;
 mod reading;
