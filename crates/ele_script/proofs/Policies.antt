@@ -1,5 +1,5 @@
 -- Words of policies: each one policy, or at one fault.
-use Rattle.std.proofs.Common.{zero, suc, ◌≡◌, ℕ, ◌<◌, ◌≤◌, ◌==◌, cond, false, true≢false, List, [], ◌∷◌, ◌++◌, length, take, refl, sym, ap, subst, ◌∙◌, arith, Option, Some, None, inl, inr}
+use Rattle.std.proofs.Common.{◌≡◌, ℕ, ◌==◌, cond, false, true≢false, List, [], ◌∷◌, ◌++◌, refl, sym, ap, subst, ◌∙◌, arith, Option, Some, None, inl, inr}
 use Rattle.std.specs.Prelude.{codes}
 use Rattle.std.specs.Str.{bytes_eq}
 use Rattle.std.specs.Cmp.Lexicographic.{bytes_decides}
@@ -132,11 +132,6 @@ formless_word word not_one not_all not_standard no_safe no_pairs =
     ] in
     formless no_form refl
 
-short_take : (n : ℕ) (ps : List Rung) → length (take n ps) < n → take n ps ≡ ps
-short_take zero ps few = absurd (omega (arith, few))
-short_take (suc n) [] few = refl
-short_take (suc n) (p ∷ ps) few = ap (λ (rs : List Rung). p ∷ rs) (short_take n ps (omega (arith, few)))
-
 -- if these pairs are a ladder, the first nine are all
 pub whole_ladder : (word : List ℕ) (kept : List Rung) → (keeps : KeepsLadder word kept) → IsLadder keeps.pairs → keeps.pairs ≡ kept
 whole_ladder word kept keeps is = sym (keeps.first ∙ take_all 9 keeps.pairs (omega (arith, is.short)))
@@ -145,10 +140,3 @@ whole_ladder word kept keeps is = sym (keeps.first ∙ take_all 9 keeps.pairs (o
 pub refused_ladder : (word : List ℕ) (kept : List Rung) → KeepsLadder word kept → ¬ IsLadder kept → IsPolicyFault word BadLadder
 refused_ladder word kept keeps none =
     no_ladder keeps.pairs keeps.is (λ is. none (subst IsLadder (whole_ladder word kept keeps is) is)) refl
-
--- and if they are one, they are all
-pub kept_ladder : (word : List ℕ) (kept : List Rung) → KeepsLadder word kept → IsLadder kept → IsLadderWord word kept
-kept_ladder word kept keeps is =
-    let few : length kept ≤ 8 = is.short in
-    let same : kept ≡ keeps.pairs = keeps.first ∙ short_take 9 keeps.pairs (omega (arith, few, ap length keeps.first)) in
-    subst (λ (ps : List Rung). IsLadderWord word ps) (sym same) keeps.is
