@@ -7,5 +7,6 @@ pub mod Moments
 pub mod PathWords
 pub mod PairWords
 pub mod Policies
+pub mod PolicyBack
 pub mod Values
 pub mod Laws

@@ -13,3 +13,5 @@ pub mod FirstFault
 pub mod Front
 pub mod Outlet
 pub mod Printed
+pub mod OnePolicy
+pub mod PolicyBack

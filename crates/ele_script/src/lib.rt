@@ -8,6 +8,7 @@ mod fault;
 mod output;
 mod pairs;
 mod paths;
+pub mod policy_laws;
 mod putting;
 mod reading;
 mod refusal;
