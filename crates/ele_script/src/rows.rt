@@ -1,5 +1,5 @@
-//! Putting what is told of versions, directories and names. A contract sees each as itself, and the
-//! output with its writer as an outlet.
+//! Putting what is told of versions, directories and names, and the policies in it. A contract sees
+//! each as itself, and the output with its writer as an outlet.
 ghost use Rattle.std.specs.Prelude.{◌≡◌, ◌∷◌, [], ◌++◌, map, decimal, codes};
 ghost use Rattle.ele_script.specs.Outlet.{outlet, Puts};
 ghost use Rattle.std.specs.List.{join_with_byte};

@@ -115,7 +115,17 @@ fn moments_share_a_level_of_a_ladder(rt: HostRuntime) -> Result<(), Fail> {
     let ladder = Ladder::standard();
     assert_eq!(rt; ladder.shared_level(Moment::START, moment(3599)?), Some(1));
     assert_eq!(rt; ladder.shared_level(Moment::START, moment(3600)?), Some(2));
-    let pairs = [(1, 1), (2, 1), (3, 1), (4, 1), (5, 1), (6, 1), (7, 1), (8, 1), (9, 1)];
+    let pairs = [
+        (1, 1),
+        (2, 1),
+        (3, 1),
+        (4, 1),
+        (5, 1),
+        (6, 1),
+        (7, 1),
+        (8, 1),
+        (9, 1),
+    ];
     assert_eq!(rt; Ladder::new(&pairs), Err(BadLadder));
     assert!(rt; Ladder::new(&pairs[..8]).is_ok());
     Ok(())
