@@ -7,7 +7,7 @@ use ele_world::Limits;
 use std::fs;
 
 /// The scripts under the largest limits, each NAME.script with its NAME.output.
-const ROWS: [&str; 73] = [
+const ROWS: [&str; 75] = [
     "first_run",
     "empty_script",
     "write_of_no_bytes",
@@ -81,6 +81,8 @@ const ROWS: [&str; 73] = [
     "bad_policy_words",
     "refused_policies",
     "a_directory_gives_its_ladder",
+    "landmarks_among_files_of_other_policies",
+    "landmarks_keep_the_last_version_of_a_lost_file",
 ];
 
 /// Scripts under limits of their own: events, files, directories, names, versions, handles, groups, members, marks.
