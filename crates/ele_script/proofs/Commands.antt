@@ -4,7 +4,7 @@ use Rattle.std.specs.Prelude.{codes, IfOk, IfErr}
 use Rattle.std.specs.Str.{bytes_eq}
 use Rattle.std.specs.Cmp.Lexicographic.{bytes_decides}
 use Rattle.ele_script.specs.declared.command.Command.{Command}
-use Rattle.ele_script.specs.declared.command.Command.TheVariants.{Clock, Tick, MakeDir, RemoveDir, Create, Link, Unlink, Rename, Undelete, OpenWrite, OpenRead, Write, Truncate, Close, Revert, Default, Clean, Read, Stat, Versions, ListNames, Restorable, Due, Usage, Pass}
+use Rattle.ele_script.specs.declared.command.Command.TheVariants.{Clock, Tick, MakeDir, RemoveDir, Create, Link, Unlink, Rename, Undelete, OpenWrite, OpenRead, Write, Truncate, Close, Revert, SetPolicy, Default, Clean, Read, Stat, Versions, ListNames, Restorable, Due, Usage, Pass}
 use Rattle.ele_script.specs.declared.fault.LineFault.{LineFault}
 use Rattle.ele_script.specs.declared.fault.LineFault.TheVariants.{Syntax, NoMemory}
 use Rattle.ele_script.specs.declared.reading.Line.{Line}
@@ -32,6 +32,7 @@ command_of-words Write arguments = refl
 command_of-words Truncate arguments = refl
 command_of-words Close arguments = refl
 command_of-words Revert arguments = refl
+command_of-words SetPolicy arguments = refl
 command_of-words Default arguments = refl
 command_of-words Clean arguments = refl
 command_of-words Read arguments = refl
@@ -74,7 +75,7 @@ one_word_is : (word : List ℕ) → IfSome (one_word_command word) (λ command. 
 unfolding one_word_command
 one_word_is word =
     let P : Command → Type 0 = λ command. command_words command ≡ word ∷ [] in
-    chain P _ Clock _ (same word (codes "clock")) (chain P _ Tick _ (same word (codes "tick")) (chain P _ Create _ (same word (codes "create")) (chain P _ Write _ (same word (codes "write")) (chain P _ Truncate _ (same word (codes "truncate")) (chain P _ Close _ (same word (codes "close")) (chain P _ Revert _ (same word (codes "revert")) (chain P _ Default _ (same word (codes "default")) (chain P _ Clean _ (same word (codes "clean")) (chain P _ Pass _ (same word (codes "pass")) (directory_is word))))))))))
+    chain P _ Clock _ (same word (codes "clock")) (chain P _ Tick _ (same word (codes "tick")) (chain P _ Create _ (same word (codes "create")) (chain P _ Write _ (same word (codes "write")) (chain P _ Truncate _ (same word (codes "truncate")) (chain P _ Close _ (same word (codes "close")) (chain P _ Revert _ (same word (codes "revert")) (chain P _ SetPolicy _ (same word (codes "policy")) (chain P _ Default _ (same word (codes "default")) (chain P _ Clean _ (same word (codes "clean")) (chain P _ Pass _ (same word (codes "pass")) (directory_is word)))))))))))
 
 open_is : (word : List ℕ) → IfSome (open_command word) (λ command. command_words command ≡ codes "open" ∷ word ∷ [])
 unfolding open_command

@@ -6,7 +6,7 @@ use Rattle.ele_world.specs.declared.event.Event.TheVariants as event
 use Rattle.ele_script.specs.declared.reading.Line.{Line}
 use Rattle.ele_script.specs.declared.reading.Line.TheVariants as asks
 use Rattle.ele_script.specs.declared.command.Command.{Command}
-use Rattle.ele_script.specs.declared.command.Command.TheVariants.{Clock, Tick, MakeDir, RemoveDir, Create, Link, Unlink, Rename, Undelete, OpenWrite, OpenRead, Write, Truncate, Close, Revert, Default, Clean, Read, Stat, Versions, ListNames, Restorable, Due, Usage, Pass}
+use Rattle.ele_script.specs.declared.command.Command.TheVariants.{Clock, Tick, MakeDir, RemoveDir, Create, Link, Unlink, Rename, Undelete, OpenWrite, OpenRead, Write, Truncate, Close, Revert, SetPolicy, Default, Clean, Read, Stat, Versions, ListNames, Restorable, Due, Usage, Pass}
 use Rattle.ele_script.specs.declared.fault.LineFault.{LineFault}
 use Rattle.ele_script.specs.declared.fault.LineFault.TheVariants.{NoMemory}
 use Rattle.ele_script.specs.Value.{WordKind, Value, Number, Moment, Path, Tagged, Timed, Source, Bytes, Policy, word_kind}
@@ -40,6 +40,7 @@ kinds_fit (asks.Event (event.Write handle offset bytes)) = refl
 kinds_fit (asks.Event (event.Truncate handle size)) = refl
 kinds_fit (asks.Event (event.Close handle)) = refl
 kinds_fit (asks.Event (event.Revert path number)) = refl
+kinds_fit (asks.Event (event.SetPolicy path policy)) = refl
 kinds_fit (asks.Event (event.SetDefault path policy)) = refl
 kinds_fit (asks.Event event.CleanOne) = refl
 kinds_fit (asks.Event (event.Read source)) = refl
@@ -68,6 +69,7 @@ line_of (Write, Number handle ∷ Number offset ∷ Bytes bytes ∷ []) = Some (
 line_of (Truncate, Number handle ∷ Number size ∷ []) = Some (asks.Event (event.Truncate handle size))
 line_of (Close, Number handle ∷ []) = Some (asks.Event (event.Close handle))
 line_of (Revert, Path path ∷ Number number ∷ []) = Some (asks.Event (event.Revert path number))
+line_of (SetPolicy, Path path ∷ Policy policy ∷ []) = Some (asks.Event (event.SetPolicy path policy))
 line_of (Default, Path path ∷ Policy policy ∷ []) = Some (asks.Event (event.SetDefault path policy))
 line_of (Clean, []) = Some (asks.Event event.CleanOne)
 line_of (Read, Source source ∷ []) = Some (asks.Event (event.Read source))
@@ -97,6 +99,7 @@ parts_back (asks.Event (event.Write handle offset bytes)) = refl
 parts_back (asks.Event (event.Truncate handle size)) = refl
 parts_back (asks.Event (event.Close handle)) = refl
 parts_back (asks.Event (event.Revert path number)) = refl
+parts_back (asks.Event (event.SetPolicy path policy)) = refl
 parts_back (asks.Event (event.SetDefault path policy)) = refl
 parts_back (asks.Event event.CleanOne) = refl
 parts_back (asks.Event (event.Read source)) = refl

@@ -5,5 +5,8 @@ pub mod Behind
 pub mod Words
 pub mod Moments
 pub mod PathWords
+pub mod PairWords
+pub mod Policies
+pub mod PolicyBack
 pub mod Values
 pub mod Laws

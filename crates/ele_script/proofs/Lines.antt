@@ -4,10 +4,11 @@ use Rattle.std.specs.Prelude.{codes}
 use Rattle.std.proofs.lemmas.Bool.{eqb-true}
 use Rattle.std.proofs.lemmas.Fmt.{decimal_digit}
 use Rattle.std.proofs.lemmas.List.{drop_more, append-nil, take-append-drop}
+use Rattle.ele_policy.specs.Ladder.{Rung}
 use Rattle.ele_usage.specs.declared.usage.Usage.{Usage}
-use Rattle.std.specs.List.{join_with_byte, flat_map}
+use Rattle.std.specs.List.{join_with_byte, flat_map, IsFirstAndRest}
 use Rattle.hex.specs.Hex.{encode_with, encode_lower, lower_digits}
-use Rattle.ele_script.specs.Printed.{line_text, bytes_text, kind_words, usage_line, usage_lines}
+use Rattle.ele_script.specs.Printed.{line_text, pair_word, bytes_text, kind_words, usage_line, usage_lines}
 
 -- what follows a word of a line
 abbrev pub behind_word : List (List ℕ) → List ℕ
@@ -19,10 +20,14 @@ line_is first [] = refl
 line_is first (word ∷ words) =
     append_assoc first (32 ∷ join_with_byte 32 (word ∷ words)) (10 ∷ []) ∙ ap (λ (rest : List ℕ). first ++ 32 ∷ rest) (line_is word words)
 
--- words are the first, and a space and a word for each other
-pub words_are : {A : Type 0} (v : A → List ℕ) (first : List ℕ) (xs : List A) → join_with_byte 32 (first ∷ map v xs) ≡ first ++ flat_map (λ x. 32 ∷ v x) xs
-words_are {A} v first [] = sym (append-nil first)
-words_are {A} v first (x ∷ xs) = ap (λ (rest : List ℕ). first ++ 32 ∷ rest) (words_are v (v x) xs)
+-- joined words are the first, and the byte between them and a word for each other
+pub joined_are : {A : Type 0} (byte : ℕ) (v : A → List ℕ) (first : List ℕ) (xs : List A) → join_with_byte byte (first ∷ map v xs) ≡ first ++ flat_map (λ x. byte ∷ v x) xs
+joined_are {A} byte v first [] = sym (append-nil first)
+joined_are {A} byte v first (x ∷ xs) = ap (λ (rest : List ℕ). first ++ byte ∷ rest) (joined_are byte v (v x) xs)
+
+-- the words of pairs are that of the first, and a comma and a word for each other
+pub pairs_are : (pairs : List Rung) (first : Rung) (rest : List Rung) → IsFirstAndRest pairs first rest → join_with_byte 44 (map pair_word pairs) ≡ pair_word first ++ flat_map (λ (pair : Rung). 44 ∷ pair_word pair) rest
+pairs_are pairs first rest is = rw is.0 (joined_are 44 pair_word (pair_word first) rest)
 
 -- a line is its words but the last, and then the last
 pub last_word : (first last : List ℕ) (words : List (List ℕ)) → line_text (first ∷ words ++ last ∷ []) ≡ join_with_byte 32 (first ∷ words) ++ ((32 ∷ last) ++ 10 ∷ [])

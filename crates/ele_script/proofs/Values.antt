@@ -1,11 +1,8 @@
 -- Words and what they stand for: each one value of a kind.
-use Rattle.std.specs.Str.{bytes_eq}
-use Rattle.std.specs.Cmp.Lexicographic.{bytes_decides}
-use Rattle.std.proofs.Common.{false, true≢false, ◌≡◌, ◌++◌, ℕ, List, refl, sym, ap, subst, ◌∙◌, inl, inr, Option, Some, None, Ok, Err, Result}
+use Rattle.std.proofs.Common.{◌≡◌, ℕ, List, refl, sym, ap, subst, ◌∙◌, inl, inr, Option, Some, None, Ok, Err, Result}
 use Rattle.std.specs.Prelude.{codes, IfErr}
 use Rattle.std.specs.Option.{ok_or}
 use Rattle.std.specs.Result.{result_ok}
-use Rattle.ele_moment.specs.Number.{SpellsNumber}
 use Rattle.ele_moment.specs.Spelled.{SpellsMoment}
 use Rattle.hex.specs.Hex.{decode_of}
 use Rattle.std.specs.Option.{option_map}
@@ -14,11 +11,8 @@ use Rattle.ele_time_path.proofs.PathsAt.{at_faultless, one_at_fault}
 use Rattle.ele_script.proofs.Moments.{one_number, one_moment}
 use Rattle.ele_script.proofs.PathWords.{one_tagged, one_timed, one_source, faultless_tagged, faultless_source, one_tagged_word, one_source_fault}
 use Rattle.ele_script.specs.declared.fault.LineFault.{LineFault}
-use Rattle.ele_script.specs.declared.fault.LineFault.TheVariants.{BadMoment, Syntax}
-use Rattle.ele_policy.specs.declared.policy.Policy.{Policy as AnyPolicy}
-use Rattle.ele_policy.specs.declared.policy.Policy.TheVariants.{One, Safe}
-use Rattle.ele_policy.specs.Interval.{IsInterval}
-use Rattle.ele_script.specs.PolicyWord.{IsSafeWord, SpellsPolicy, IsPolicyForm, one, safe, IsPolicyFault, formless, no_interval}
+use Rattle.ele_script.specs.declared.fault.LineFault.TheVariants.{BadMoment}
+use Rattle.ele_script.proofs.Policies.{one_policy, faultless_policy, one_policy_fault}
 use Rattle.ele_script.specs.Value.{WordKind, NumberWord, MomentWord, PathWord, TaggedWord, TimedWord, SourceWord, BytesWord, PolicyWord, Value, Number, Moment, Path, Tagged, Timed, Source, Bytes, Policy, word_kind, SpellsBytes, SpellsValue}
 use Rattle.ele_script.specs.LineFault.{fault_of_path, fault_of_path_at}
 use Rattle.ele_script.specs.FirstFault.{IsOfKind, IsWordFault}
@@ -41,40 +35,6 @@ one_bytes word a b (inl x) (inl y) = x.1 ∙ sym y.1
 one_bytes word a b (inl x) (inr y) = absurd (no_dash word b x.0 y.1)
 one_bytes word a b (inr x) (inl y) = absurd (no_dash word a y.0 x.1)
 one_bytes word a b (inr x) (inr y) = ok_is (sym x.1 ∙ y.1)
-
-behind_safe : (a b : List ℕ) → codes "safe:" ++ a ≡ codes "safe:" ++ b → a ≡ b
-behind_safe a b h = cc
-
--- `safe:` and a number are one number
-one_safe : (word : List ℕ) (m n : ℕ) → IsSafeWord word m → IsSafeWord word n → m ≡ n
-one_safe word m n a b =
-    let same : a.digits ≡ b.digits = behind_safe a.digits b.digits (sym a.are ∙ b.are) in
-    one_number b.digits m n (subst (λ digits. SpellsNumber digits m) same a.number) b.number
-
-not_both : (digits : List ℕ) → codes "one" ≡ codes "safe:" ++ digits → ⊥
-not_both digits h = cc
-
-one_policy : (word : List ℕ) (a b : AnyPolicy) → SpellsPolicy word a → SpellsPolicy word b → a ≡ b
-one_policy word One One a b = refl
-one_policy word One (Safe n) a b = absurd (not_both b.0.digits (sym a ∙ b.0.are))
-one_policy word (Safe m) One a b = absurd (not_both a.0.digits (sym b ∙ a.0.are))
-one_policy word (Safe m) (Safe n) a b = ap Safe (one_safe word m n a.0 b.0)
-
--- a policy's word has the form of one
-has_form : (word : List ℕ) (policy : AnyPolicy) → SpellsPolicy word policy → IsPolicyForm word
-has_form word One is = one is
-has_form word (Safe n) is = safe n is.0
-
-faultless_policy : (word : List ℕ) (policy : AnyPolicy) (fault : LineFault) → SpellsPolicy word policy → IsPolicyFault word fault → ⊥
-faultless_policy word policy fault is (formless none syntax) = none (has_form word policy is)
-faultless_policy word One fault is (no_interval n form none ladder) = not_both form.digits (sym is ∙ form.are)
-faultless_policy word (Safe m) fault is (no_interval n form none ladder) = none (subst IsInterval (one_safe word m n is.0 form) is.1)
-
-one_policy_fault : (word : List ℕ) (a b : LineFault) → IsPolicyFault word a → IsPolicyFault word b → a ≡ b
-one_policy_fault word a b (formless none x) (formless also y) = x ∙ sym y
-one_policy_fault word a b (formless none x) (no_interval n form bad y) = absurd (none (safe n form))
-one_policy_fault word a b (no_interval n form bad x) (formless none y) = absurd (none (safe n form))
-one_policy_fault word a b (no_interval n form bad x) (no_interval m other worse y) = x ∙ sym y
 
 -- a word stands for one value of a kind
 pub one_value : (word : List ℕ) (a b : Value) → word_kind a ≡ word_kind b → SpellsValue word a → SpellsValue word b → a ≡ b
@@ -128,12 +88,3 @@ moment_fault word (Ok m) r only is = subst (λ r. IfErr r (IsWordFault MomentWor
 moment_fault word (Err e) r only is =
     let no : IsOfKind MomentWord word → ⊥ = λ h. let m = moment_of word h in absurd_ok (only m.0 m.1) in
     subst (λ r. IfErr r (IsWordFault MomentWord word)) (sym is) (refl, no)
-
--- what is neither `one` nor `safe:` and a number has no form
-pub formless_word : (word : List ℕ) → bytes_eq word (codes "one") ≡ false → ((seconds : ℕ) → ¬ IsSafeWord word seconds) → IsPolicyFault word Syntax
-formless_word word other none =
-    let no_form : IsPolicyForm word → ⊥ = λ form. elim form [
-      | one is ↦ true≢false (sym ((bytes_decides word (codes "one")).1 is) ∙ other)
-      | safe seconds is ↦ none seconds is
-    ] in
-    formless no_form refl

@@ -2,7 +2,7 @@
 use Rattle.std.specs.Prelude.{ℕ, List, [], ◌∷◌, codes}
 use Rattle.ele_script.specs.Value.{WordKind, NumberWord, MomentWord, PathWord, TaggedWord, TimedWord, SourceWord, BytesWord, PolicyWord}
 use Rattle.ele_script.specs.declared.command.Command.{Command}
-use Rattle.ele_script.specs.declared.command.Command.TheVariants.{Clock, Tick, MakeDir, RemoveDir, Create, Link, Unlink, Rename, Undelete, OpenWrite, OpenRead, Write, Truncate, Close, Revert, Default, Clean, Read, Stat, Versions, ListNames, Restorable, Due, Usage, Pass}
+use Rattle.ele_script.specs.declared.command.Command.TheVariants.{Clock, Tick, MakeDir, RemoveDir, Create, Link, Unlink, Rename, Undelete, OpenWrite, OpenRead, Write, Truncate, Close, Revert, SetPolicy, Default, Clean, Read, Stat, Versions, ListNames, Restorable, Due, Usage, Pass}
 
 -- the words that name a command
 abbrev pub command_words : Command → List (List ℕ)
@@ -21,6 +21,7 @@ command_words Write = codes "write" ∷ []
 command_words Truncate = codes "truncate" ∷ []
 command_words Close = codes "close" ∷ []
 command_words Revert = codes "revert" ∷ []
+command_words SetPolicy = codes "policy" ∷ []
 command_words Default = codes "default" ∷ []
 command_words Clean = codes "clean" ∷ []
 command_words Read = codes "read" ∷ []
@@ -49,6 +50,7 @@ kinds_behind Write = NumberWord ∷ NumberWord ∷ BytesWord ∷ []
 kinds_behind Truncate = NumberWord ∷ NumberWord ∷ []
 kinds_behind Close = NumberWord ∷ []
 kinds_behind Revert = PathWord ∷ NumberWord ∷ []
+kinds_behind SetPolicy = PathWord ∷ PolicyWord ∷ []
 kinds_behind Default = PathWord ∷ PolicyWord ∷ []
 kinds_behind Clean = []
 kinds_behind Read = SourceWord ∷ []

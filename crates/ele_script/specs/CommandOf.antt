@@ -3,7 +3,7 @@ use Rattle.std.specs.Prelude.{ℕ, List, [], ◌∷◌, Option, Some, None, code
 use Rattle.std.specs.Option.{option_map}
 use Rattle.std.specs.Str.{bytes_eq}
 use Rattle.ele_script.specs.declared.command.Command.{Command}
-use Rattle.ele_script.specs.declared.command.Command.TheVariants.{Clock, Tick, MakeDir, RemoveDir, Create, Link, Unlink, Rename, Undelete, OpenWrite, OpenRead, Write, Truncate, Close, Revert, Default, Clean, Read, Stat, Versions, ListNames, Restorable, Due, Usage, Pass}
+use Rattle.ele_script.specs.declared.command.Command.TheVariants.{Clock, Tick, MakeDir, RemoveDir, Create, Link, Unlink, Rename, Undelete, OpenWrite, OpenRead, Write, Truncate, Close, Revert, SetPolicy, Default, Clean, Read, Stat, Versions, ListNames, Restorable, Due, Usage, Pass}
 
 -- the command of one word that asks a question
 unfoldable pub question_command : List ℕ → Option Command
@@ -43,6 +43,7 @@ one_word_command word =
     if bytes_eq word (codes "truncate") then Some Truncate else
     if bytes_eq word (codes "close") then Some Close else
     if bytes_eq word (codes "revert") then Some Revert else
+    if bytes_eq word (codes "policy") then Some SetPolicy else
     if bytes_eq word (codes "default") then Some Default else
     if bytes_eq word (codes "clean") then Some Clean else
     if bytes_eq word (codes "pass") then Some Pass else

@@ -1,4 +1,5 @@
 pub mod PolicyWord
+pub mod KeptPairs
 pub mod PathWord
 pub mod Value
 pub mod Command
@@ -12,3 +13,5 @@ pub mod FirstFault
 pub mod Front
 pub mod Outlet
 pub mod Printed
+pub mod OnePolicy
+pub mod PolicyBack

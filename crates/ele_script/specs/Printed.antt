@@ -1,5 +1,5 @@
 -- Replies in text.
-use Rattle.std.specs.Prelude.{◌≡◌, ℕ, List, [], ◌∷◌, ◌++◌, length, codes, Option, Some, None, Result, Ok, Err}
+use Rattle.std.specs.Prelude.{◌≡◌, ℕ, List, [], ◌∷◌, ◌++◌, length, map, codes, Option, Some, None, Result, Ok, Err}
 use Rattle.std.specs.Fmt.{decimal}
 use Rattle.std.specs.List.{flat_map, join_with_byte}
 use Rattle.std.specs.Io.KnownBytes.{Appends}
@@ -11,6 +11,7 @@ use Rattle.ele_world.specs.declared.refusal.Refusal.TheVariants as refusal
 use Rattle.ele_world.specs.declared.refusal.Stop.{Stop}
 use Rattle.ele_world.specs.declared.reply.Reply.{Reply}
 use Rattle.ele_world.specs.declared.reply.Reply.TheVariants.{Done, Nothing, Now, Directory, File, Handle, Version, Closed, Removed, Bytes, FileStat, DirStat, Rows, NameList, RestoreList, DueList, UsageList, Refused}
+use Rattle.ele_policy.specs.Ladder.{Rung}
 use Rattle.ele_policy.specs.declared.policy.Policy.{Policy}
 use Rattle.ele_policy.specs.declared.policy.Policy.TheVariants as policy
 use Rattle.ele_world.specs.declared.rows.DeadName.{DeadName}
@@ -79,10 +80,16 @@ abbrev pub end_word : Option ℕ → List ℕ
 end_word None = codes "-"
 end_word (Some moment) = decimal moment
 
--- the word of a policy
+-- the word of an age and a width, with a slash (47) between them
+abbrev pub pair_word : Rung → List ℕ
+pair_word pair = decimal pair.0 ++ 47 ∷ decimal pair.1
+
+-- the word of a policy; the pairs of a ladder have a comma (44) between each two
 abbrev pub policy_word : Policy → List ℕ
 policy_word policy.One = codes "one"
+policy_word policy.All = codes "all"
 policy_word (policy.Safe seconds) = codes "safe:" ++ decimal seconds
+policy_word (policy.Landmarks rungs) = codes "landmarks:" ++ join_with_byte 44 (map pair_word rungs)
 
 -- the text of a file's version, with the policy of the file
 abbrev pub file_text : AnyFileStat → List ℕ

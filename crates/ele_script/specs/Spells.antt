@@ -3,7 +3,7 @@ use Rattle.std.specs.Prelude.{◌≡◌, ℕ, ◌≤◌, List, [], ◌∷◌, �
 use Rattle.ele_world.specs.declared.event.Event.{Event}
 use Rattle.ele_world.specs.declared.event.Event.TheVariants as event
 use Rattle.ele_script.specs.declared.command.Command.{Command}
-use Rattle.ele_script.specs.declared.command.Command.TheVariants.{Clock, Tick, MakeDir, RemoveDir, Create, Link, Unlink, Rename, Undelete, OpenWrite, OpenRead, Write, Truncate, Close, Revert, Default, Clean, Read, Stat, Versions, ListNames, Restorable, Due, Usage, Pass}
+use Rattle.ele_script.specs.declared.command.Command.TheVariants.{Clock, Tick, MakeDir, RemoveDir, Create, Link, Unlink, Rename, Undelete, OpenWrite, OpenRead, Write, Truncate, Close, Revert, SetPolicy, Default, Clean, Read, Stat, Versions, ListNames, Restorable, Due, Usage, Pass}
 use Rattle.ele_script.specs.declared.reading.Line.{Line}
 use Rattle.ele_script.specs.declared.reading.Line.TheVariants as asks
 use Rattle.ele_script.specs.Value.{Value, Number, Moment, Path, Tagged, Timed, Source, Bytes, Policy, SpellsValue}
@@ -27,6 +27,7 @@ parts_of (event.Write handle offset bytes) = (Write, Number handle ∷ Number of
 parts_of (event.Truncate handle size) = (Truncate, Number handle ∷ Number size ∷ [])
 parts_of (event.Close handle) = (Close, Number handle ∷ [])
 parts_of (event.Revert path number) = (Revert, Path path ∷ Number number ∷ [])
+parts_of (event.SetPolicy path policy) = (SetPolicy, Path path ∷ Policy policy ∷ [])
 parts_of (event.SetDefault path policy) = (Default, Path path ∷ Policy policy ∷ [])
 parts_of event.CleanOne = (Clean, [])
 parts_of (event.Read source) = (Read, Source source ∷ [])

@@ -21,6 +21,7 @@ pub(crate) enum Command {
     Truncate,
     Close,
     Revert,
+    SetPolicy,
     Default,
     Clean,
     Read,
@@ -72,6 +73,9 @@ fn read_one(word: &[u8]) -> Option<Command>
     }
     if word == b"revert".as_slice() {
         return Some(Command::Revert);
+    }
+    if word == b"policy".as_slice() {
+        return Some(Command::SetPolicy);
     }
     if word == b"default".as_slice() {
         return Some(Command::Default);

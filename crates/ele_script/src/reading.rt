@@ -167,6 +167,7 @@ fn line_behind(alloc: Global, command: Command, arguments: &[&[u8]]) -> Result<L
         Command::Truncate => truncate(arguments),
         Command::Close => close(arguments),
         Command::Revert => revert(alloc, arguments),
+        Command::SetPolicy => set_policy(alloc, arguments),
         Command::Default => set_default(alloc, arguments),
         Command::Clean => clean(arguments),
         Command::Read => read(alloc, arguments),
@@ -267,6 +268,30 @@ fn close(arguments: &[&[u8]]) -> Result<Line, LineFault>
         return Err(LineFault::Syntax);
     };
     Ok(Line::Event(Event::Close(Handle(word::number(handle)?))))
+}
+
+/// `policy P POL`, of which the command is read.
+fn set_policy(alloc: Global, arguments: &[&[u8]]) -> Result<Line, LineFault>
+    ensures found { IfOk result
+        (SpellsBehind Command.SetPolicy (map (λ word. word.now) arguments.now)) }
+    ensures fault { IfErr result (λ fault. (fault ≡ LineFault.NoMemory)
+        ⊎ IsFaultBehind Command.SetPolicy (map (λ word. word.now) arguments.now) fault) }
+{
+    match arguments {
+        [path, policy] => set_policy_of(alloc, path, policy),
+        _ => Err(LineFault::Syntax),
+    }
+}
+
+/// `policy P POL`, of which the command is read and the words are counted.
+fn set_policy_of(alloc: Global, path: &[u8], policy: &[u8]) -> Result<Line, LineFault>
+    ensures found { IfOk result
+        (SpellsBehind Command.SetPolicy (path.now ∷ policy.now ∷ [])) }
+    ensures fault { IfErr result (λ fault. (fault ≡ LineFault.NoMemory)
+        ⊎ IsFaultBehind Command.SetPolicy (path.now ∷ policy.now ∷ []) fault) }
+{
+    let path = word::path(alloc, path)?;
+    Ok(Line::Event(Event::SetPolicy(path, word::policy(policy)?)))
 }
 
 /// `default P POL`, of which the command is read.

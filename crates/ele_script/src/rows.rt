@@ -1,14 +1,15 @@
-//! Putting what is told of versions, directories and names. A contract sees each as itself, and the
-//! output with its writer as an outlet.
+//! Putting what is told of versions, directories and names, and the policies in it. A contract sees
+//! each as itself, and the output with its writer as an outlet.
 ghost use Rattle.std.specs.Prelude.{◌≡◌, ◌∷◌, [], ◌++◌, map, decimal, codes};
 ghost use Rattle.ele_script.specs.Outlet.{outlet, Puts};
-ghost use Rattle.ele_script.specs.Printed.{line_text, end_word, policy_word, file_text, directory_text, version_line, versions_text, name_line, names_text};
+ghost use Rattle.std.specs.List.{join_with_byte};
+ghost use Rattle.ele_script.specs.Printed.{line_text, end_word, pair_word, policy_word, file_text, directory_text, version_line, versions_text, name_line, names_text};
 
 use crate::fault::WriteFault;
 use crate::output::{Output, put_line, put_words};
 use crate::putting::put_number;
 use ele_moment::{Moment, Name};
-use ele_policy::Policy;
+use ele_policy::{Ladder, Policy};
 use ele_world::{DirectoryRow, FileStat, Stamps, Target};
 use itoa::Buffer;
 use std::io::Write;
@@ -39,7 +40,7 @@ pub(crate) fn put_file<W: Write>(
         file, b"version", number, b"opened", opened, b"closed", closed, b"ended", ended, b"length",
         length, b"policy",
     ];
-    put_with_policy(b"ok file", &words, stat.policy, output, writer)
+    put_with_policy(b"ok file", &words, &stat.policy, output, writer)
 }
 
 /// Puts the line of a directory.
@@ -56,7 +57,7 @@ pub(crate) fn put_directory<W: Write>(
     put_with_policy(
         b"ok directory",
         &[directory, b"default"],
-        row.default,
+        &row.default,
         output,
         writer,
     )
@@ -66,13 +67,13 @@ pub(crate) fn put_directory<W: Write>(
 fn put_with_policy<W: Write>(
     first: &[u8],
     words: &[&[u8]],
-    policy: Policy,
+    policy: &Policy,
     output: &mut Output,
     writer: &mut W,
 ) -> Result<(), WriteFault>
     ensures { Puts (outlet (W.contents writer.old) output.old)
         (outlet (W.contents writer.new) output.new)
-        (line_text (first.now ∷ map (λ word. word.now) words.now ++ policy_word policy ∷ []))
+        (line_text (first.now ∷ map (λ word. word.now) words.now ++ policy_word policy.now ∷ []))
         result }
 {
     put_words(first, words, output, writer)?;
@@ -81,17 +82,19 @@ fn put_with_policy<W: Write>(
 
 /// Puts a policy as the last word of a line.
 fn put_policy<W: Write>(
-    policy: Policy,
+    policy: &Policy,
     output: &mut Output,
     writer: &mut W,
 ) -> Result<(), WriteFault>
     ensures { Puts (outlet (W.contents writer.old) output.old)
         (outlet (W.contents writer.new) output.new)
-        ((32 ∷ policy_word policy) ++ 10 ∷ []) result }
+        ((32 ∷ policy_word policy.now) ++ 10 ∷ []) result }
 {
     match policy {
         Policy::One => output.put(b" one\n", writer),
+        Policy::All => output.put(b" all\n", writer),
         Policy::Safe(interval) => put_safe(interval.seconds(), output, writer),
+        Policy::Landmarks(ladder) => put_ladder(ladder, output, writer),
     }
 }
 
@@ -104,6 +107,70 @@ fn put_safe<W: Write>(seconds: u64, output: &mut Output, writer: &mut W) -> Resu
     let mut digits = Buffer::new();
     output.put(b" safe:", writer)?;
     put_line(digits.format(seconds).as_bytes(), &[], output, writer)
+}
+
+/// Puts `landmarks:` and the pairs of a ladder as the last word of a line.
+fn put_ladder<W: Write>(
+    ladder: &Ladder,
+    output: &mut Output,
+    writer: &mut W,
+) -> Result<(), WriteFault>
+    ensures { Puts (outlet (W.contents writer.old) output.old)
+        (outlet (W.contents writer.new) output.new)
+        ((codes " landmarks:" ++ join_with_byte 44 (map pair_word ladder.now)) ++ 10 ∷ []) result }
+{
+    output.put(b" landmarks:", writer)?;
+    put_pairs(ladder.pairs(), output, writer)?;
+    output.put(b"\n", writer)
+}
+
+/// Puts pairs with a comma between each two.
+fn put_pairs<W: Write>(
+    pairs: &[(u64, u64)],
+    output: &mut Output,
+    writer: &mut W,
+) -> Result<(), WriteFault>
+    ensures { Puts (outlet (W.contents writer.old) output.old)
+        (outlet (W.contents writer.new) output.new)
+        (join_with_byte 44 (map pair_word pairs.now)) result }
+{
+    let Some((first, rest)) = pairs.split_first() else {
+        return Ok(());
+    };
+    put_pair(b"", first, output, writer)?;
+    for pair in rest {
+        put_pair(b",", pair, output, writer)?;
+    }
+    Ok(())
+}
+
+/// Puts what stands before a pair, and the pair.
+fn put_pair<W: Write>(
+    before: &[u8],
+    pair: &(u64, u64),
+    output: &mut Output,
+    writer: &mut W,
+) -> Result<(), WriteFault>
+    ensures { Puts (outlet (W.contents writer.old) output.old)
+        (outlet (W.contents writer.new) output.new) (before.now ++ pair_word pair.now) result }
+{
+    output.put(before, writer)?;
+    put_number_word(pair.0, output, writer)?;
+    output.put(b"/", writer)?;
+    put_number_word(pair.1, output, writer)
+}
+
+/// Puts a number.
+fn put_number_word<W: Write>(
+    number: u64,
+    output: &mut Output,
+    writer: &mut W,
+) -> Result<(), WriteFault>
+    ensures { Puts (outlet (W.contents writer.old) output.old)
+        (outlet (W.contents writer.new) output.new) (decimal number) result }
+{
+    let mut digits = Buffer::new();
+    output.put(digits.format(number).as_bytes(), writer)
 }
 
 /// An end in text.

@@ -11,8 +11,9 @@ ghost use Rattle.ele_script.specs.PathWord.{begins_path};
 ghost use Rattle.ele_script.specs.FirstFault.{IsWordFault};
 
 use crate::fault::LineFault;
+use crate::pairs::ladder_pairs;
 use ele_moment::{Moment, read_number};
-use ele_policy::{Interval, Policy};
+use ele_policy::{Interval, Ladder, Policy};
 use ele_time_path::{Path, PathAt, TaggedPath};
 use ele_world::{ByteList, Handle, Source};
 use std::alloc::Global;
@@ -110,10 +111,19 @@ pub(crate) fn policy(word: &[u8]) -> Result<Policy, LineFault>
     if word == b"one".as_slice() {
         return Ok(Policy::One);
     }
-    let Some(seconds) = safe_number(word) else {
+    if word == b"all".as_slice() {
+        return Ok(Policy::All);
+    }
+    if word == b"landmarks".as_slice() {
+        return Ok(Policy::Landmarks(Ladder::standard()));
+    }
+    if let Some(seconds) = safe_number(word) {
+        return Ok(Policy::Safe(Interval::new(seconds)?));
+    }
+    let Some(pairs) = ladder_pairs(word) else {
         return Err(LineFault::Syntax);
     };
-    Ok(Policy::Safe(Interval::new(seconds)?))
+    Ok(Policy::Landmarks(Ladder::new(pairs.as_slice())?))
 }
 
 /// The number behind `safe:`.

@@ -7,6 +7,7 @@ use ele_blocks::{BlockMap, BlockStore};
 use ele_due::{DueQueue, Key};
 use ele_inode_log::{InodeLog, Meter, VersionRow};
 use ele_moment::{FileId, Handle, Moment, VersionNo};
+use ele_policy::{BadLadder, Ladder};
 use ele_sessions::{Closing, Sessions};
 use std::alloc::Global;
 use std::test::Fail;
@@ -106,5 +107,26 @@ fn a_key_is_ripe_from_its_moment_on(rt: HostRuntime) -> Result<(), Fail> {
     queue.insert(key)?;
     assert_eq!(rt; queue.until(moment(4)?)?.len(), 0);
     assert_eq!(rt; queue.until(moment(5)?)?.as_slice(), [key].as_slice());
+    Ok(())
+}
+
+#[test]
+fn moments_share_a_level_of_a_ladder(rt: HostRuntime) -> Result<(), Fail> {
+    let ladder = Ladder::standard();
+    assert_eq!(rt; ladder.shared_level(Moment::START, moment(3599)?), Some(1));
+    assert_eq!(rt; ladder.shared_level(Moment::START, moment(3600)?), Some(2));
+    let pairs = [
+        (1, 1),
+        (2, 1),
+        (3, 1),
+        (4, 1),
+        (5, 1),
+        (6, 1),
+        (7, 1),
+        (8, 1),
+        (9, 1),
+    ];
+    assert_eq!(rt; Ladder::new(&pairs), Err(BadLadder));
+    assert!(rt; Ladder::new(&pairs[..8]).is_ok());
     Ok(())
 }

@@ -7,7 +7,7 @@ use ele_world::Limits;
 use std::fs;
 
 /// The scripts under the largest limits, each NAME.script with its NAME.output.
-const ROWS: [&str; 56] = [
+const ROWS: [&str; 75] = [
     "first_run",
     "empty_script",
     "write_of_no_bytes",
@@ -64,6 +64,25 @@ const ROWS: [&str; 56] = [
     "a_reader_does_not_write",
     "a_file_is_reverted",
     "reverts_and_drafts",
+    "landmarks_let_one_of_a_span_go",
+    "landmarks_level_by_level",
+    "a_reader_keeps_a_version_of_a_span",
+    "refused_ladders_and_the_longest_content",
+    "a_policy_changes_what_is_due",
+    "landmarks_at_the_second_of_an_age",
+    "landmarks_at_the_ends_of_spans",
+    "landmarks_pass_several_levels_at_once",
+    "landmarks_of_spans_of_a_second",
+    "landmarks_to_the_end_of_time",
+    "the_standard_landmarks",
+    "each_policy_in_turn",
+    "a_reader_in_the_middle_of_a_span",
+    "landmarks_of_a_file_without_a_name",
+    "bad_policy_words",
+    "refused_policies",
+    "a_directory_gives_its_ladder",
+    "landmarks_among_files_of_other_policies",
+    "landmarks_keep_the_last_version_of_a_lost_file",
 ];
 
 /// Scripts under limits of their own: events, files, directories, names, versions, handles, groups, members, marks.

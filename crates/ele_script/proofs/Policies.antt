@@ -1,0 +1,142 @@
+-- Words of policies: each one policy, or at one fault.
+use Rattle.std.proofs.Common.{◌≡◌, ℕ, ◌==◌, cond, false, true≢false, List, [], ◌∷◌, ◌++◌, refl, sym, ap, subst, ◌∙◌, arith, Option, Some, None, inl, inr}
+use Rattle.std.specs.Prelude.{codes}
+use Rattle.std.specs.Str.{bytes_eq}
+use Rattle.std.specs.Cmp.Lexicographic.{bytes_decides}
+use Rattle.std.proofs.lemmas.List.{take_all}
+use Rattle.ele_moment.specs.Number.{SpellsNumber}
+use Rattle.ele_policy.specs.declared.policy.Kind.{Kind}
+use Rattle.ele_policy.specs.declared.policy.Kind.TheVariants as kind
+use Rattle.ele_policy.specs.declared.policy.Policy.{Policy}
+use Rattle.ele_policy.specs.declared.policy.Policy.TheVariants.{One, All, Safe, Landmarks}
+use Rattle.ele_policy.specs.Interval.{IsInterval}
+use Rattle.ele_policy.specs.Ladder.{Rung, IsLadder}
+use Rattle.ele_policy.specs.Policy.{kind_of}
+use Rattle.ele_script.specs.declared.fault.LineFault.{LineFault}
+use Rattle.ele_script.specs.declared.fault.LineFault.TheVariants.{BadLadder, Syntax}
+use Rattle.ele_script.specs.KeptPairs.{KeepsLadder}
+use Rattle.ele_script.specs.PolicyWord.{IsSafeWord, SpellsPairs, IsLadderWord, SpellsPolicy, IsPolicyForm, one, all, safe, standard, ladder, IsPolicyFault, formless, no_interval, no_ladder, parts_of}
+use Rattle.ele_script.proofs.Moments.{one_number}
+use Rattle.ele_script.proofs.PairWords.{one_pairs}
+
+some_is : {A : Type 0} {x y : A} → ◌≡◌ {A = Option A} (Some x) (Some y) → x ≡ y
+some_is h = cc
+
+behind_safe : (a b : List ℕ) → codes "safe:" ++ a ≡ codes "safe:" ++ b → a ≡ b
+behind_safe a b h = cc
+
+-- `safe:` and a number are one number
+one_safe : (word : List ℕ) (m n : ℕ) → IsSafeWord word m → IsSafeWord word n → m ≡ n
+one_safe word m n a b =
+    let same : a.digits ≡ b.digits = behind_safe a.digits b.digits (sym a.are ∙ b.are) in
+    one_number b.digits m n (subst (λ digits. SpellsNumber digits m) same a.number) b.number
+
+behind_landmarks : (a b : List ℕ) → codes "landmarks:" ++ a ≡ codes "landmarks:" ++ b → a ≡ b
+behind_landmarks a b h = cc
+
+-- `landmarks:` and pairs are these pairs
+one_ladder : (word : List ℕ) (ps qs : List Rung) → IsLadderWord word ps → IsLadderWord word qs → ps ≡ qs
+one_ladder word ps qs a b =
+    let same : a.text ≡ b.text = behind_landmarks a.text b.text (sym a.are ∙ b.are) in
+    one_pairs (parts_of b.text) ps qs (subst (λ text. SpellsPairs text ps) same a.spelled) b.spelled
+
+unpaired : (text : List ℕ) → codes "landmarks" ≡ codes "landmarks:" ++ text → ⊥
+unpaired text h = cc
+
+-- the kind of policy that a word begins as
+abbrev kind_in : List ℕ → Option Kind
+kind_in [] = None
+kind_in (byte ∷ bytes) =
+    cond (byte == 111) (Some kind.One) (cond (byte == 97) (Some kind.All) (cond (byte == 115) (Some kind.Safe) (Some kind.Landmarks)))
+
+safe_kind : (word : List ℕ) (n : ℕ) → IsSafeWord word n → kind_in word ≡ Some kind.Safe
+safe_kind word n is = ap kind_in is.are
+
+ladder_kind : (word : List ℕ) (pairs : List Rung) → IsLadderWord word pairs → kind_in word ≡ Some kind.Landmarks
+ladder_kind word pairs is = ap kind_in is.are
+
+policy_kind : (word : List ℕ) (policy : Policy) → SpellsPolicy word policy → kind_in word ≡ Some (kind_of policy)
+policy_kind word One is = ap kind_in is
+policy_kind word All is = ap kind_in is
+policy_kind word (Safe n) is = safe_kind word n is.0
+policy_kind word (Landmarks rungs) (inl is) = ap kind_in is.0
+policy_kind word (Landmarks rungs) (inr is) = ladder_kind word rungs is.0
+
+one_landmarks : (word : List ℕ) (ps qs : List Rung) → SpellsPolicy word (Landmarks ps) → SpellsPolicy word (Landmarks qs) → ps ≡ qs
+one_landmarks word ps qs (inl a) (inl b) = a.1 ∙ sym b.1
+one_landmarks word ps qs (inl a) (inr b) = absurd (unpaired b.0.text (sym a.0 ∙ b.0.are))
+one_landmarks word ps qs (inr a) (inl b) = absurd (unpaired a.0.text (sym b.0 ∙ a.0.are))
+one_landmarks word ps qs (inr a) (inr b) = one_ladder word ps qs a.0 b.0
+
+one_of_kind : (word : List ℕ) (a b : Policy) → kind_of a ≡ kind_of b → SpellsPolicy word a → SpellsPolicy word b → a ≡ b
+one_of_kind word One One k a b = refl
+one_of_kind word All All k a b = refl
+one_of_kind word (Safe m) (Safe n) k a b = ap Safe (one_safe word m n a.0 b.0)
+one_of_kind word (Landmarks ps) (Landmarks qs) k a b = ap Landmarks (one_landmarks word ps qs a b)
+one_of_kind word _ _ k a b = absurd cc
+
+-- a word is one policy
+pub one_policy : (word : List ℕ) (a b : Policy) → SpellsPolicy word a → SpellsPolicy word b → a ≡ b
+one_policy word a b is also = one_of_kind word a b (some_is (sym (policy_kind word a is) ∙ policy_kind word b also)) is also
+
+-- a policy's word has the form of one
+has_form : (word : List ℕ) (policy : Policy) → SpellsPolicy word policy → IsPolicyForm word
+has_form word One is = one is
+has_form word All is = all is
+has_form word (Safe n) is = safe n is.0
+has_form word (Landmarks rungs) (inl is) = standard is.0
+has_form word (Landmarks rungs) (inr is) = ladder rungs is.0
+
+not_safe : (word : List ℕ) (policy : Policy) (n : ℕ) → kind_of policy ≡ kind.Safe → SpellsPolicy word policy → IsSafeWord word n → ¬ IsInterval n → ⊥
+not_safe word (Safe m) n k is form none = none (subst IsInterval (one_safe word m n is.0 form) is.1)
+not_safe word _ n k is form none = absurd cc
+
+not_ladder : (word : List ℕ) (policy : Policy) (pairs : List Rung) → kind_of policy ≡ kind.Landmarks → SpellsPolicy word policy → IsLadderWord word pairs → ¬ IsLadder pairs → ⊥
+not_ladder word (Landmarks rungs) pairs k (inl is) form none = unpaired form.text (sym is.0 ∙ form.are)
+not_ladder word (Landmarks rungs) pairs k (inr is) form none = none (subst IsLadder (one_ladder word rungs pairs is.0 form) is.1)
+not_ladder word _ pairs k is form none = absurd cc
+
+-- a word that is a policy has no fault
+pub faultless_policy : (word : List ℕ) (policy : Policy) (fault : LineFault) → SpellsPolicy word policy → IsPolicyFault word fault → ⊥
+faultless_policy word policy fault is (formless none syntax) = none (has_form word policy is)
+faultless_policy word policy fault is (no_interval n form none bad) =
+    not_safe word policy n (some_is (sym (policy_kind word policy is) ∙ safe_kind word n form)) is form none
+faultless_policy word policy fault is (no_ladder pairs form none bad) =
+    not_ladder word policy pairs (some_is (sym (policy_kind word policy is) ∙ ladder_kind word pairs form)) is form none
+
+-- and any other has one
+pub one_policy_fault : (word : List ℕ) (a b : LineFault) → IsPolicyFault word a → IsPolicyFault word b → a ≡ b
+one_policy_fault word a b (formless none x) (formless also y) = x ∙ sym y
+one_policy_fault word a b (formless none x) (no_interval n form bad y) = absurd (none (safe n form))
+one_policy_fault word a b (formless none x) (no_ladder pairs form bad y) = absurd (none (ladder pairs form))
+one_policy_fault word a b (no_interval n form bad x) (formless none y) = absurd (none (safe n form))
+one_policy_fault word a b (no_interval n form bad x) (no_interval m other worse y) = x ∙ sym y
+one_policy_fault word a b (no_interval n form bad x) (no_ladder pairs other worse y) = x ∙ sym y
+one_policy_fault word a b (no_ladder pairs form bad x) (formless none y) = absurd (none (ladder pairs form))
+one_policy_fault word a b (no_ladder pairs form bad x) (no_interval m other worse y) = x ∙ sym y
+one_policy_fault word a b (no_ladder pairs form bad x) (no_ladder others other worse y) = x ∙ sym y
+
+differs : (word text : List ℕ) → bytes_eq word text ≡ false → word ≡ text → ⊥
+differs word text other is = true≢false (sym ((bytes_decides word text).1 is) ∙ other)
+
+-- what is none of the plain words, nor `safe:` or `landmarks:` and numbers, has no form
+pub formless_word : (word : List ℕ) → bytes_eq word (codes "one") ≡ false → bytes_eq word (codes "all") ≡ false → bytes_eq word (codes "landmarks") ≡ false → ((seconds : ℕ) → ¬ IsSafeWord word seconds) → ((pairs : List Rung) → ¬ IsLadderWord word pairs)
+    → IsPolicyFault word Syntax
+formless_word word not_one not_all not_standard no_safe no_pairs =
+    let no_form : IsPolicyForm word → ⊥ = λ form. elim form [
+      | one is ↦ differs word (codes "one") not_one is
+      | all is ↦ differs word (codes "all") not_all is
+      | safe seconds is ↦ no_safe seconds is
+      | standard is ↦ differs word (codes "landmarks") not_standard is
+      | ladder pairs is ↦ no_pairs pairs is
+    ] in
+    formless no_form refl
+
+-- if these pairs are a ladder, the first nine are all
+pub whole_ladder : (word : List ℕ) (kept : List Rung) → (keeps : KeepsLadder word kept) → IsLadder keeps.pairs → keeps.pairs ≡ kept
+whole_ladder word kept keeps is = sym (keeps.first ∙ take_all 9 keeps.pairs (omega (arith, is.short)))
+
+-- if the first nine pairs are no ladder, all are none
+pub refused_ladder : (word : List ℕ) (kept : List Rung) → KeepsLadder word kept → ¬ IsLadder kept → IsPolicyFault word BadLadder
+refused_ladder word kept keeps none =
+    no_ladder keeps.pairs keeps.is (λ is. none (subst IsLadder (whole_ladder word kept keeps is) is)) refl

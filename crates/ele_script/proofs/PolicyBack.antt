@@ -1,0 +1,77 @@
+-- The words by which policies are printed spell them.
+use Rattle.std.proofs.Common.{◌≡◌, ℕ, ◌<◌, ◌≤◌, ◌==◌, ◌&&◌, Bool, true, false, List, [], ◌∷◌, length, map, refl, ap, ◌∙◌, arith, inr, length-append}
+use Rattle.std.specs.Prelude.{All}
+use Rattle.std.specs.List.{AllZip, join_with_byte, slice_split}
+use Rattle.std.specs.Fmt.{decimal}
+use Rattle.std.proofs.lemmas.Bool.Decides.{nat_tests}
+use Rattle.std.proofs.lemmas.List.Elements.{All-append, All-cons}
+use Rattle.std.proofs.lemmas.List.Splits.{slice_split_none, slice_split_at}
+use Rattle.ele_moment.specs.Last.{last_moment}
+use Rattle.ele_moment.specs.Number.{SpellsNumber}
+use Rattle.ele_policy.specs.declared.policy.Policy.TheVariants.{One, All as KeepAll, Safe, Landmarks}
+use Rattle.ele_policy.specs.Ladder.{Rung, IsLadder, climbs, ground, is_above}
+use Rattle.ele_script.specs.PolicyBack.{PolicyBack}
+use Rattle.ele_script.specs.PolicyWord.{SpellsPair, SpellsPairs}
+use Rattle.ele_script.specs.Printed.{pair_word}
+use Rattle.ele_script.proofs.PairWords.{number_unmarked, parts_are}
+
+-- a number up to the last moment is spelled by its digits
+spelled : (n : ℕ) → n ≤ last_moment → SpellsNumber (decimal n) n
+spelled n le = record { fits = omega (arith, le); digits = refl }
+
+both : (a b : Bool) → (a && b) ≡ true → (a ≡ true) × (b ≡ true)
+both true b h = (refl, h)
+both false b h = absurd cc
+
+-- the numbers of a rung are no greater than the last moment
+record IsShort (rung : Rung) : Type 0 where
+  age : rung.0 ≤ last_moment
+  width : rung.1 ≤ last_moment
+
+short : (low rung : Rung) → is_above low rung ≡ true → IsShort rung
+short low rung h = record { age = grind (arith, nat_tests); width = grind (arith, nat_tests) }
+
+spelled_pair : (low rung : Rung) → is_above low rung ≡ true → SpellsPair (pair_word rung) rung
+spelled_pair low rung h =
+    let is = short low rung h in
+    record { age = decimal rung.0; width = decimal rung.1; are = refl; age_is = spelled rung.0 is.age; width_is = spelled rung.1 is.width }
+
+spelled_pairs : (low : Rung) (rungs : List Rung) → climbs low rungs ≡ true → AllZip SpellsPair (map pair_word rungs) rungs
+spelled_pairs low [] up = tt
+spelled_pairs low (rung ∷ rungs) up =
+    let parts = both (is_above low rung) (climbs rung rungs) up in
+    (spelled_pair low rung parts.0, spelled_pairs rung rungs parts.1)
+
+-- no comma stands in the word of a pair
+whole_pair : (word : List ℕ) (rung : Rung) → SpellsPair word rung → All (λ byte. (byte == 44) ≡ false) word
+whole_pair word rung is =
+    let age = number_unmarked 44 (omega arith) is.age rung.0 is.age_is in
+    let width = number_unmarked 44 (omega arith) is.width rung.1 is.width_is in
+    rw is.are (All-append (λ byte. (byte == 44) ≡ false) is.age (47 ∷ is.width) age (All-cons (λ byte. (byte == 44) ≡ false) 47 is.width refl width))
+
+-- joined words of pairs are cut into these
+cut_pairs : (first : Rung) (rungs : List Rung) → AllZip SpellsPair (map pair_word (first ∷ rungs)) (first ∷ rungs) → slice_split (λ byte. byte == 44) (join_with_byte 44 (map pair_word (first ∷ rungs))) ≡ map pair_word (first ∷ rungs)
+cut_pairs first [] are = slice_split_none _ (pair_word first) (whole_pair (pair_word first) first are.0)
+cut_pairs first (next ∷ rungs) are =
+    slice_split_at (λ byte. byte == 44) (pair_word first) 44 (join_with_byte 44 (map pair_word (next ∷ rungs))) (whole_pair (pair_word first) first are.0) refl
+    ∙ ap (λ (words : List (List ℕ)). pair_word first ∷ words) (cut_pairs next rungs are.1)
+
+is_some : (n : ℕ) → 0 < n → (n == 0) ≡ false
+is_some n lt = grind (arith, nat_tests)
+
+some_bytes : (first : Rung) (rungs : List Rung) → 0 < length (join_with_byte 44 (map pair_word (first ∷ rungs)))
+some_bytes first [] = omega (arith, length-append (decimal first.0) (47 ∷ decimal first.1))
+some_bytes first (next ∷ rungs) = omega (arith, length-append (pair_word first) (44 ∷ join_with_byte 44 (map pair_word (next ∷ rungs))))
+
+joined_pairs : (rungs : List Rung) → IsLadder rungs → SpellsPairs (join_with_byte 44 (map pair_word rungs)) rungs
+joined_pairs [] is = absurd (omega (arith, is.some))
+joined_pairs (first ∷ rungs) is =
+    let are = spelled_pairs ground (first ∷ rungs) is.climbing in
+    let text = join_with_byte 44 (map pair_word (first ∷ rungs)) in
+    rw (parts_are text (is_some (length text) (some_bytes first rungs)), cut_pairs first rungs are) are
+
+pub policy_back : PolicyBack
+policy_back One is = refl
+policy_back KeepAll is = refl
+policy_back (Safe seconds) is = (record { digits = decimal seconds; are = refl; number = spelled seconds is.fits }, is)
+policy_back (Landmarks rungs) is = inr (record { text = join_with_byte 44 (map pair_word rungs); are = refl; spelled = joined_pairs rungs is }, is)

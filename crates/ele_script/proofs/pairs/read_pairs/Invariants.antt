@@ -1,0 +1,7 @@
+use Rattle.std.proofs.Common.{map}
+use Rattle.ele_script.specs.KeptPairs.{Keeps}
+use Rattle.ele_script.proofs.pairs.read_pairs.Given as goal
+
+-- the parts so far are pairs, and the first of them are kept
+abbrev pub invariant-loop-part : goal.invariant-loop-part
+invariant-loop-part l = Keeps (map (λ part. part.now) l.yielded) l.pairs.items

@@ -1,0 +1,54 @@
+//! Reading the pairs of a ladder. A contract sees a pair as its two numbers.
+ghost use Rattle.std.specs.Prelude.{◌≡◌, ◌==◌, ℕ, List, IfSome, IfNone};
+ghost use Rattle.std.specs.List.{position};
+ghost use Rattle.ele_policy.specs.Ladder.{Rung};
+ghost use Rattle.ele_script.specs.KeptPairs.{KeepsLadder, KeepsPairs};
+ghost use Rattle.ele_script.specs.PolicyWord.{IsLadderWord, SpellsPair, SpellsPairs};
+
+use arrayvec::ArrayVec;
+use ele_moment::read_number;
+
+/// One more than the longest ladder has, so that too many pairs are told from few enough.
+const MOST_PAIRS: usize = 9;
+
+/// The first pairs behind `landmarks:`, if all that stands there is pairs.
+pub(crate) fn ladder_pairs(word: &[u8]) -> Option<ArrayVec<(u64, u64), MOST_PAIRS>>
+    ensures some { IfSome result (λ pairs. KeepsLadder word.now pairs.items) }
+    ensures none { IfNone result ((pairs : List Rung) → ¬ IsLadderWord word.now pairs) }
+{
+    read_pairs(word.strip_prefix(b"landmarks:")?)
+}
+
+/// The first pairs of a text, if it is pairs with a comma between each two.
+fn read_pairs(text: &[u8]) -> Option<ArrayVec<(u64, u64), MOST_PAIRS>>
+    ensures some { IfSome result (λ pairs. KeepsPairs text.now pairs.items) }
+    ensures none { IfNone result ((pairs : List Rung) → ¬ SpellsPairs text.now pairs) }
+{
+    let mut pairs = ArrayVec::new();
+    if text.is_empty() {
+        return Some(pairs);
+    }
+    for part in text.split(|byte| *byte == b',') {
+        let pair = read_pair(part)?;
+        if !pairs.is_full() {
+            pairs.push(pair);
+        }
+    }
+    Some(pairs)
+}
+
+/// Two numbers with a slash between them.
+fn read_pair(word: &[u8]) -> Option<(u64, u64)>
+    ensures some { IfSome result (SpellsPair word.now) }
+    ensures none { IfNone result ((pair : Rung) → ¬ SpellsPair word.now pair) }
+{
+    let (age, behind) = word.split_at(slash_in(word)?);
+    Some((read_number(age)?, read_number(behind.split_at(1).1)?))
+}
+
+/// Where the first slash stands.
+fn slash_in(word: &[u8]) -> Option<usize>
+    ensures { result ≡ position (λ byte. byte == 47) word.now }
+{
+    word.iter().position(|byte| *byte == b'/')
+}

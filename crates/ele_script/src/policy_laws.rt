@@ -1,0 +1,13 @@
+//! What is true of the words of policies. A law is the contract of a function that does nothing.
+ghost use Rattle.ele_script.specs.OnePolicy.{OnePolicy};
+ghost use Rattle.ele_script.specs.PolicyBack.{PolicyBack};
+
+/// No word spells two policies.
+pub fn one_policy()
+    ensures { OnePolicy }
+{}
+
+/// The word by which a policy is printed spells it.
+pub fn policy_back()
+    ensures { PolicyBack }
+{}
