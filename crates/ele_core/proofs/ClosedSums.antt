@@ -24,7 +24,7 @@ use Rattle.ele_world.specs.Usage.{usage_of, is_file_of, bytes_in}
 use Rattle.ele_world.specs.WellFormed.{IsDraft, Drafts}
 use Rattle.ele_world.specs.Whole.{ChangesOnly}
 use Rattle.ele_world.specs.declared.rows.Reads.TheVariants.{Draft}
-use Rattle.ele_world.specs.World.{World, reads_by, file_by, is_draft, is_version, is_version_after, next_of}
+use Rattle.ele_world.specs.World.{World, reads_by, is_draft, is_version, is_version_after, next_of}
 use Rattle.ele_world.proofs.Others.{drafts-removed, versions-finished, kinds-numbered, files-numbered}
 use Rattle.ele_lists.proofs.Sums.{sum_by-insert_before, sum_by-update_same}
 

@@ -1,5 +1,5 @@
 -- Which keys the versions have, once a handle was opened or closed.
-use Rattle.std.proofs.Common.{◌≡◌, ℕ, ◌+◌, Bool, true, false, cond, not, ◌&&◌, ◌||◌, ◌==◌, List, [], ◌∷◌, Option, Some, None, Ok, refl, ap, sym, ◌∙◌, arith}
+use Rattle.std.proofs.Common.{◌≡◌, ℕ, ◌+◌, Bool, true, false, cond, not, ◌&&◌, ◌||◌, ◌==◌, List, [], ◌∷◌, Option, None, Ok, refl, ap, sym, ◌∙◌, arith}
 use Rattle.std.specs.List.{list_any}
 use Rattle.std.proofs.lemmas.Bool.Decides.{nat_tests}
 use Rattle.ele_core.proofs.Asked.{ripe_told}
@@ -9,7 +9,7 @@ use Rattle.ele_core.specs.Queued.{IsQueued, IsRekeyed}
 use Rattle.ele_core.specs.declared.rows.Rows.{Rows}
 use Rattle.ele_due.specs.declared.key.Key.{Key}
 use Rattle.ele_due.specs.HasKey.{has_key}
-use Rattle.ele_files.specs.Held.{Held, changed_at, opened_by, rows_of, with_rows}
+use Rattle.ele_files.specs.Held.{changed_at, opened_by, with_rows}
 use Rattle.ele_world.specs.Change.{OpenHandle, ShutHandle, StartDraft, after_change}
 use Rattle.ele_world.specs.Due.{ripe_at, is_moment}
 use Rattle.ele_world.specs.Neighbours.{free_moment}

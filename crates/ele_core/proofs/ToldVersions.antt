@@ -1,6 +1,6 @@
 -- Where a path leads by the names of any moment, and what is told of the version that its tag means.
-use Rattle.std.proofs.Common.{◌≡◌, ℕ, ◌<◌, Bool, true, false, cond, ◌&&◌, List, [], ◌∷◌, length, Option, Some, None, Result, Ok, Err, refl, ap, sym, subst, ◌∙◌, nat_lt}
-use Rattle.std.specs.Prelude.{find, unwrap_or}
+use Rattle.std.proofs.Common.{◌≡◌, ℕ, Bool, true, false, cond, ◌&&◌, List, [], ◌∷◌, Option, Some, None, Result, Ok, Err, refl, ap, subst, ◌∙◌, nat_lt}
+use Rattle.std.specs.Prelude.{find}
 use Rattle.std.specs.List.{AllByRecursion}
 use Rattle.std.specs.Option.{option_map, option_map_or}
 use Rattle.std.specs.Result.{result_map_both}
@@ -18,7 +18,7 @@ use Rattle.ele_world.specs.Step.{step, version_cells}
 use Rattle.ele_world.specs.Tagged.{version_at, version_found, version_meant, walk_meant, walk_then, moment_of}
 use Rattle.ele_world.specs.Told.{file_stat, listing, stamps_of}
 use Rattle.ele_world.specs.Walk.{directory_in, file_at, walk_now}
-use Rattle.ele_world.specs.WalkAt.{walk_at, walk_covering}
+use Rattle.ele_world.specs.WalkAt.{walk_covering}
 use Rattle.ele_world.specs.WellFormed.{ArePlaced, IsNameRow, IsThere}
 use Rattle.ele_world.specs.World.{World, is_version, policy_for, root}
 use Rattle.ele_world.specs.declared.event.Event.TheVariants.{List as ListNames, Read}

@@ -1,10 +1,10 @@
 -- Ladders in their fields, and what their levels share.
-use Rattle.std.proofs.Common.{◌≡◌, ℕ, ◌≤◌, ◌<◌, true, false, zero, suc, List, [], ◌∷◌, ◌++◌, drop, length, refl, arith}
+use Rattle.std.proofs.Common.{◌≡◌, ℕ, ◌≤◌, true, false, zero, suc, List, [], ◌∷◌, ◌++◌, drop, length, refl, arith}
 use Rattle.std.specs.Prelude.{replicate, slice_get}
 use Rattle.std.specs.Option.{option_map_or}
 use Rattle.std.proofs.Math.Seq.{take-append_seam}
 use Rattle.std.proofs.lemmas.List.{drop-replicate, length-replicate, length-append}
-use Rattle.ele_policy.specs.Ladder.{Rung, IsLadder, climbs, ground, rung_at, shares}
+use Rattle.ele_policy.specs.Ladder.{Rung, IsLadder, climbs, ground, shares}
 use Rattle.ele_policy.specs.Places.{IsFilled}
 use Rattle.ele_policy.specs.SharesNest.{SharesNest}
 use Rattle.ele_policy.proofs.Nesting.{climbed, nests}

@@ -1,4 +1,4 @@
-use Rattle.std.proofs.Common.{◌≡◌, None, true, false, refl, sym, ◌∙◌}
+use Rattle.std.proofs.Common.{refl, sym, ◌∙◌}
 use Rattle.ele_core.proofs.Asked.{former_told, ungoverned}
 use Rattle.ele_core.proofs.appending.former_moment.Goals as goal
 

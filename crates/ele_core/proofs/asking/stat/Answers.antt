@@ -1,7 +1,6 @@
-use Rattle.std.proofs.Common.{◌≡◌, Ok, Err, Result, refl, sym, ap, ◌∙◌}
+use Rattle.std.proofs.Common.{◌≡◌, Ok, sym, ◌∙◌}
 use Rattle.ele_core.proofs.ToldVersions.{meant_there, told_outcome}
 use Rattle.ele_core.specs.Inside.{world_of}
-use Rattle.ele_core.specs.Told.{told}
 use Rattle.ele_world.specs.Tagged.{walk_meant}
 use Rattle.ele_world.specs.Told.{stat_of}
 use Rattle.ele_world.specs.WellFormed.{Names}

@@ -1,4 +1,4 @@
-use Rattle.std.proofs.Common.{◌≡◌, [], ◌∷◌, None, Some, true, false, ap, subst, sym, ◌∙◌}
+use Rattle.std.proofs.Common.{◌≡◌, [], ◌∷◌, None, ap, subst, sym, ◌∙◌}
 use Rattle.ele_core.proofs.OpenedKeys.{read_on_queue, unread_queue}
 use Rattle.ele_core.specs.Inside.{world_of}
 use Rattle.ele_core.specs.Queued.{IsQueued, IsRekeyed}

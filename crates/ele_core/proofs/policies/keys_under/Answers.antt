@@ -1,4 +1,4 @@
-use Rattle.std.proofs.Common.{sym, ap, ◌∙◌}
+use Rattle.std.proofs.Common.{ap, ◌∙◌}
 use Rattle.std.specs.List.{filter_map}
 use Rattle.ele_core.specs.Queued.{key_under}
 use Rattle.ele_core.proofs.Governed.{keys_told, then_ok}

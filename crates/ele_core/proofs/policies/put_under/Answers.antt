@@ -1,14 +1,8 @@
-use Rattle.std.proofs.Common.{◌≡◌, ◌||◌, ◌&&◌, not, [], ◌∷◌, Some, refl, ap, sym, subst, ◌∙◌, arith}
+use Rattle.std.proofs.Common.{◌≡◌, ◌||◌, ◌&&◌, not, Some, refl, ap, sym, ◌∙◌, arith}
 use Rattle.ele_core.proofs.Bounded.{rows_few}
 use Rattle.ele_core.proofs.Governed.{governed_book, governed_queue, ungoverned_queue, uses_fit, uses_within}
 use Rattle.ele_core.specs.Inside.{world_of}
-use Rattle.ele_core.specs.Queued.{is_under}
-use Rattle.ele_core.specs.Tracked.{IsBooked}
 use Rattle.ele_due.specs.HasKey.{has_key}
-use Rattle.ele_policy.specs.Policy.{kind_of}
-use Rattle.ele_usage.specs.Book.{sums_of}
-use Rattle.ele_usage.specs.OnlyAt.{only_at}
-use Rattle.ele_usage.specs.Sums.{plus, Fits, IsWithin}
 use Rattle.ele_world.specs.World.{policy_of}
 use Rattle.ele_core.proofs.policies.put_under.Goals as goal
 

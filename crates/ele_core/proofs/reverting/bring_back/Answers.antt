@@ -1,4 +1,4 @@
-use Rattle.std.proofs.Common.{◌≡◌, ◌&&◌, ◌||◌, not, true, [], refl, sym, ap, subst, ◌∙◌, arith}
+use Rattle.std.proofs.Common.{◌&&◌, ◌||◌, not, [], refl, sym, ap, ◌∙◌, arith}
 use Rattle.ele_core.proofs.Appended.{appended_queue, refused, taken_back}
 use Rattle.ele_core.proofs.Bounded.{rows_few, versions_few}
 use Rattle.ele_core.proofs.ClosedSteps.{numbered, past}
@@ -10,7 +10,6 @@ use Rattle.ele_core.specs.Queued.{is_new, new_keys}
 use Rattle.ele_due.specs.HasKey.{has_key}
 use Rattle.ele_files.specs.Held.{cells_of_version}
 use Rattle.ele_world.proofs.AppendMoments.{may_grow}
-use Rattle.ele_world.specs.World.{is_live}
 use Rattle.ele_core.proofs.reverting.bring_back.Goals as goal
 
 pub new_keys-keys-requires-clause-there : goal.new_keys-keys-requires-clause-there

@@ -1,7 +1,6 @@
-use Rattle.std.proofs.Common.{◌≡◌, Ok, refl, sym, ap, ◌∙◌}
+use Rattle.std.proofs.Common.{refl, sym, ◌∙◌}
 use Rattle.ele_core.proofs.Reverted.{is_numbered, numbered_held, reverted_step}
 use Rattle.ele_core.specs.Inside.{world_of}
-use Rattle.ele_world.specs.Walk.{file_now}
 use Rattle.ele_world.specs.WellFormed.{Names}
 use Rattle.ele_world.proofs.Walks.{file_live, file_there}
 use Rattle.ele_core.proofs.reverting.revert.Goals as goal

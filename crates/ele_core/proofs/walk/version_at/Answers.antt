@@ -1,4 +1,4 @@
-use Rattle.std.proofs.Common.{◌≡◌, Ok, sym, ap, ◌∙◌}
+use Rattle.std.proofs.Common.{Ok, sym, ap, ◌∙◌}
 use Rattle.ele_core.specs.Inside.{world_of}
 use Rattle.ele_core.proofs.ToldVersions.{meant_there, told_found}
 use Rattle.ele_world.specs.Tagged.{walk_meant}

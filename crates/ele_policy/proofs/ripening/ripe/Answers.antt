@@ -1,6 +1,5 @@
 use Rattle.std.proofs.Common.{sym, subst, ◌∙◌}
-use Rattle.std.specs.Prelude.{ℕ, Bool, nat_le, true, false, Option, Some, None, IfSome, IfNone}
-use Rattle.ele_policy.specs.Ripe.{alone}
+use Rattle.std.specs.Prelude.{false, Some, None}
 use Rattle.ele_policy.proofs.Waits.{ripe_nearest, ripe_from, ripe_never, DueFrom, NeverDue}
 use Rattle.ele_policy.proofs.ripening.ripe.Goals as goal
 
