@@ -11,6 +11,7 @@ pub mod Kept
 pub mod Fresh
 pub mod Removed
 pub mod Passing
+pub mod Placed
 pub mod ClosedSteps
 pub mod ClosedSums
 pub mod DroppedFiles

@@ -9,9 +9,8 @@ ghost use Rattle.ele_core.specs.Inside.{world_of, IsTracked, IsSound};
 
 use crate::lookups::default_of;
 use crate::rows::{Rows, are_names_full};
-use crate::walk::directory_now;
 use ele_lists::put;
-use ele_names::parent_now;
+use ele_names::{parent_now, placed_now};
 use ele_world::{DirId, DirectoryRow, Name, NoMemory, Path, Refusal, Reply, Target, Which};
 
 /// A directory is made in another, with that one's policy, once nothing refuses it.
@@ -70,13 +69,12 @@ pub fn remove_dir(rows: &mut Rows, path: &Path) -> Reply
         ≡ step (world_of rows.old) (event.RemoveDir path.now) }
     ensures tracked { IsTracked rows.new }
 {
-    let (home, name) = match parent_now(&rows.names, path) {
-        Ok(at) => at,
+    let (home, name, target) = match placed_now(&rows.names, path) {
+        Ok(found) => found,
         Err(refusal) => return Reply::Refused(refusal),
     };
-    let directory = match directory_now(&rows.names, path) {
-        Ok(directory) => directory,
-        Err(refusal) => return Reply::Refused(refusal),
+    let Target::Directory(directory) = target else {
+        return Reply::Refused(Refusal::NotDirectory);
     };
     if !rows.names.is_empty(directory) {
         return Reply::Refused(Refusal::NotEmpty);

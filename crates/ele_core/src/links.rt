@@ -8,7 +8,7 @@ ghost use Rattle.ele_core.specs.Inside.{world_of, IsTracked, IsSound};
 
 use crate::rows::{Rows, are_names_full};
 use crate::walk::file_now;
-use ele_names::{Names, parent_now, resolve_now, stands_in};
+use ele_names::{Names, parent_now, placed_now, stands_in};
 use ele_world::{DirId, Name, NoMemory, Path, Refusal, Reply, Target, Which};
 
 /// What is there gets a name more, once nothing refuses it.
@@ -96,12 +96,8 @@ pub fn rename(rows: &mut Rows, from: &Path, to: &Path) -> Result<Reply, NoMemory
     ensures err { OnErr result (world_of rows.new ≡ world_of rows.old) }
     ensures tracked { IsTracked rows.new }
 {
-    let old = match parent_now(&rows.names, from) {
-        Ok(at) => at,
-        Err(refusal) => return Ok(Reply::Refused(refusal)),
-    };
-    let moved = match resolve_now(&rows.names, from) {
-        Ok(target) => target,
+    let (directory, name, moved) = match placed_now(&rows.names, from) {
+        Ok(found) => found,
         Err(refusal) => return Ok(Reply::Refused(refusal)),
     };
     let new = match parent_now(&rows.names, to) {
@@ -117,6 +113,6 @@ pub fn rename(rows: &mut Rows, from: &Path, to: &Path) -> Result<Reply, NoMemory
     if are_names_full(rows) {
         return Ok(Reply::Refused(Refusal::Full(Which::Names)));
     }
-    move_name(rows, &old, &new, &moved)?;
+    move_name(rows, &(directory, name), &new, &moved)?;
     Ok(Reply::Done)
 }

@@ -12,9 +12,8 @@ ghost use Rattle.ele_core.specs.Inside.{world_of, IsTracked, IsSound};
 use crate::appending::{end_moment, next_number};
 use crate::keys::put;
 use crate::rows::Rows;
-use crate::walk::file_now;
-use ele_names::parent_now;
-use ele_world::{DirId, FileId, Name, NoMemory, Path, Reply};
+use ele_names::placed_now;
+use ele_world::{DirId, FileId, Name, NoMemory, Path, Refusal, Reply, Target};
 
 /// The only name of the file dies, and its current version ends.
 fn end_last_name(
@@ -66,13 +65,12 @@ pub fn unlink(rows: &mut Rows, path: &Path) -> Result<Reply, NoMemory>
     ensures err { OnErr result (world_of rows.new ≡ world_of rows.old) }
     ensures tracked { IsTracked rows.new }
 {
-    let (directory, name) = match parent_now(&rows.names, path) {
-        Ok(at) => at,
+    let (directory, name, target) = match placed_now(&rows.names, path) {
+        Ok(found) => found,
         Err(refusal) => return Ok(Reply::Refused(refusal)),
     };
-    let file = match file_now(&rows.names, path) {
-        Ok(file) => file,
-        Err(refusal) => return Ok(Reply::Refused(refusal)),
+    let Target::File(file) = target else {
+        return Ok(Reply::Refused(Refusal::IsDirectory));
     };
     end_name(rows, directory, &name, file)?;
     Ok(Reply::Done)

@@ -1,10 +1,14 @@
-use Rattle.std.proofs.Common.{sym, ◌∙◌}
-use Rattle.ele_world.proofs.Walks.{file_of, last_names}
-use Rattle.ele_world.specs.Walk.{walk_now}
+use Rattle.std.proofs.Common.{Ok, refl, sym, ap, ◌∙◌}
 use Rattle.ele_world.specs.declared.rows.Target.TheVariants.{File}
+use Rattle.ele_core.proofs.Placed.{placed_refused}
+use Rattle.ele_core.specs.Inside.{world_of}
+use Rattle.ele_world.proofs.Walks.{last_names}
+use Rattle.ele_world.specs.Walk.{file_at}
 use Rattle.ele_core.proofs.unlinking.unlink.Goals as goal
+
+pub returns-in-Err-clause-step : goal.returns-in-Err-clause-step
+returns-in-Err-clause-step c = sym (placed_refused (world_of c.args.rows.now) c.args.path.now c.in-Err.refusal file_at _ refl c.in-Err.ensures.refusal)
 
 pub end_name-requires-clause-stands : goal.end_name-requires-clause-stands
 end_name-requires-clause-stands c =
-    let names = c.args.rows.now.names in
-    last_names names c.args.path.now c.in-Ok.at (File c.in-Ok-file_now.file) (sym c.parent_now.ensures ∙ c.in-Ok.is) (file_of (walk_now names c.args.path.now) c.in-Ok-file_now.file (sym c.file_now.ensures ∙ c.in-Ok-file_now.is))
+    last_names c.args.rows.now.names c.args.path.now (c.in-Ok.found.0, c.in-Ok.found.1) (File c.in-File.file) c.in-Ok.ensures.place (c.in-Ok.ensures.leads ∙ ap Ok c.in-File.is)
