@@ -9,6 +9,8 @@ mod ends;
 #[cfg(test)]
 mod lines;
 #[cfg(test)]
+mod million;
+#[cfg(test)]
 mod names;
 #[cfg(test)]
 mod pieces;
