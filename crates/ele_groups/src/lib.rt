@@ -1,0 +1,11 @@
+//! Groups of files, and the moments at which they were marked.
+//! A contract sees them as the list of their rows in order of making.
+#![tactic(auto)]
+
+mod fault;
+mod group;
+mod marks;
+mod taken;
+
+pub use fault::GroupFault;
+pub use group::Group;
