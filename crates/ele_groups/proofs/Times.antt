@@ -11,33 +11,13 @@ use Rattle.std.proofs.lemmas.Bool.{true≢false, false≢true}
 use Rattle.std.proofs.lemmas.Bool.Decides.{nat_tests}
 use Rattle.std.proofs.lemmas.List.Folds.{list_any-append}
 use Rattle.ele_lists.specs.Lists.{AllLater, remove_first}
-use Rattle.ele_lists.proofs.Edits.{later-push, later-remove_first, all-none, list_any-remove_first, found_passes}
+use Rattle.ele_lists.proofs.Edits.{later-push, later-remove_first, all-none}
 use Rattle.ele_world.specs.GroupRows.{covers_moment}
-use Rattle.ele_groups.specs.Timed.{AreApart, AreTimed}
+use Rattle.ele_groups.specs.Timed.{AreTimed}
+use Rattle.ele_groups.proofs.Apart.{is_same, gone, others}
 
 same_at : (k t : ℕ) → is_at (nat_cmp k) t ≡ (k == t)
 same_at k t = grind (arith, nat_tests)
-
-is_same : (x y : ℕ) → (x == y) ≡ true → x ≡ y
-is_same x y h = grind (arith, nat_tests)
-
-turned : (x y : ℕ) → (x == y) ≡ (y == x)
-turned x y = grind (arith, nat_tests)
-
-pub none_equal : (k : ℕ) (xs : List ℕ) → AllByRecursion (λ y. (k == y) ≡ false) xs → list_any (λ x. x == k) xs ≡ false
-none_equal k [] all = refl
-none_equal k (x ∷ xs) all = rw (turned x k, all.0) (none_equal k xs all.1)
-
--- and once taken out, no more
-pub gone : (k : ℕ) (xs : List ℕ) → AreApart xs → list_any (λ x. x == k) (remove_first (λ x. x == k) xs) ≡ false
-gone k [] apart = refl
-gone k (x ∷ xs) apart = elim (x == k) as (λ b. (x == k) ≡ b → list_any (λ x. x == k) (cond b xs (x ∷ remove_first (λ x. x == k) xs)) ≡ false) [
-  | true ↦ λ e. let same = is_same x k e in rw (← same) (none_equal x xs apart.0)
-  | false ↦ λ e. rw e (gone k xs apart.1)
-] refl
-
-pub others : (k t : ℕ) (xs : List ℕ) → (k == t) ≡ false → list_any (λ x. x == t) (remove_first (λ x. x == k) xs) ≡ list_any (λ x. x == t) xs
-others k t xs apart = list_any-remove_first (λ x. x == k) (λ x. x == t) xs (λ x found. let same = is_same x k (found_passes (λ x. x == k) xs x found) in rw same apart)
 
 choice : (b : Bool) (c : Bool) → cond b true c ≡ (c || (b || false))
 choice true true = refl

@@ -1,2 +1,4 @@
 pub mod Timed
 pub mod Except
+pub mod Faults
+pub mod Kept

@@ -19,6 +19,15 @@ pub struct Except {
     pub mark: Option<Moment>,
 }
 
+/// When a version was current, from `closed` until `ended` or until now, and what is left out of the
+/// marks of that time.
+#[derive(Clone, Copy, Debug)]
+pub struct Span {
+    pub closed: Moment,
+    pub ended: Option<Moment>,
+    pub except: Option<Except>,
+}
+
 /// A group. It has no file twice.
 #[derive(Drop)]
 pub struct Group {
@@ -125,17 +134,16 @@ impl Group {
         self.marks.remove(mark);
     }
 
-    /// Whether a mark that isn't left out lies within the moments: not before `closed`, and before
-    /// `ended`.
-    pub fn covers(&self, closed: Moment, ended: Option<Moment>, except: &Option<Except>) -> bool
-        ensures { result ≡ has_covering_but except.now closed ended self.now }
+    /// Whether a mark that isn't left out lies within the span.
+    pub fn covers(&self, span: &Span) -> bool
+        ensures { result ≡ has_covering_but span.now.except span.now.closed span.now.ended self.now }
     {
-        match except {
-            Some(except) if except.name == self.name => match except.mark {
-                Some(mark) => self.marks.covers_without(mark, closed, ended),
+        match &span.except {
+            Some(except) if self.name == except.name => match except.mark {
+                Some(mark) => self.marks.covers_without(mark, span.closed, span.ended),
                 None => false,
             },
-            _ => self.marks.covers(closed, ended),
+            _ => self.marks.covers(span.closed, span.ended),
         }
     }
 }

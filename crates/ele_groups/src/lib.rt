@@ -4,8 +4,10 @@
 
 mod fault;
 mod group;
+mod groups;
 mod marks;
+mod rows;
 mod taken;
 
 pub use fault::GroupFault;
-pub use group::Group;
+pub use groups::Groups;
