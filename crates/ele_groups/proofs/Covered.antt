@@ -1,5 +1,5 @@
 -- Whether a mark covers, those of the group left out.
-use Rattle.std.proofs.Common.{◌≡◌, ℕ, Bool, true, false, ◌&&◌, not, List, [], ◌∷◌, Option, Some, None, refl}
+use Rattle.std.proofs.Common.{◌≡◌, ℕ, Bool, true, false, ◌&&◌, not, List, [], ◌∷◌, Option, None, refl}
 use Rattle.std.specs.List.{list_any}
 use Rattle.ele_world.specs.declared.rows.GroupRow.{GroupRow}
 use Rattle.ele_world.specs.GroupRows.{covers_moment, is_group, is_left_out, has_covering_without}

@@ -1,5 +1,5 @@
 -- The group of a name, by its serial number.
-use Rattle.std.proofs.Common.{◌≡◌, ℕ, ◌==◌, ◌+◌, ◌<◌, ◌≤◌, ◌^◌, Bool, true, false, cond, ◌||◌, ◌&&◌, not, List, [], ◌∷◌, ◌++◌, Option, Some, None, is_some, refl, sym, ap, ◌∙◌, arith, length}
+use Rattle.std.proofs.Common.{◌≡◌, ℕ, ◌==◌, ◌+◌, ◌<◌, ◌≤◌, ◌^◌, Bool, true, false, cond, ◌&&◌, List, [], ◌∷◌, ◌++◌, Option, Some, None, is_some, refl, sym, ap, ◌∙◌, arith}
 use Rattle.std.specs.Prelude.{find}
 use Rattle.std.specs.BTreeMap.{is_at, insert_entry}
 use Rattle.std.specs.List.{list_any, AllByRecursion}
@@ -21,7 +21,7 @@ use Rattle.ele_lists.proofs.Cuts.{update_first-unfound, remove_first-unfound}
 use Rattle.ele_lists.proofs.Serials.{pushed, not_yet, not_true, all_keys_without}
 use Rattle.ele_world.specs.declared.rows.GroupRow.{GroupRow}
 use Rattle.ele_world.specs.GroupRows.{is_group, is_member, new_group}
-use Rattle.ele_groups.specs.Kept.{AreKept, AreNumbered, ArePlaced, changed_at, has_name, has_file}
+use Rattle.ele_groups.specs.Kept.{AreKept, ArePlaced, changed_at, has_name, has_file}
 use Rattle.ele_groups.proofs.Changed.{Entries, IsOne, one, any_value, no_value, changed_keys, changed_same, same_serial}
 
 pub none_any : (p : GroupRow → Bool) (rows : List GroupRow) → AllByRecursion (λ row. p row ≡ false) rows → list_any p rows ≡ false

@@ -1,16 +1,16 @@
 -- Marks and their times, after a change, and within bounds.
-use Rattle.std.proofs.Common.{◌≡◌, ℕ, ◌==◌, ◌≤◌, ◌<◌, Bool, true, false, cond, not, ◌||◌, ◌&&◌, List, [], ◌∷◌, ◌++◌, Option, Some, None, is_some, IsTrue, refl, sym, ap, ◌∙◌, arith, ◌⊎◌, ◌+◌}
+use Rattle.std.proofs.Common.{◌≡◌, ℕ, ◌==◌, ◌≤◌, Bool, true, false, cond, not, ◌||◌, ◌&&◌, List, [], ◌∷◌, ◌++◌, Option, Some, None, is_some, refl, sym, ap, ◌∙◌, arith, ◌+◌}
 use Rattle.std.specs.Prelude.{min, max, nat_lt}
 use Rattle.std.specs.BTreeMap.{is_at}
 use Rattle.std.specs.BTreeSet.{BTreeSet, contains}
-use Rattle.std.specs.List.{list_any, AllByRecursion}
+use Rattle.std.specs.List.{list_any}
 use Rattle.std.specs.Option.{MatchOption}
 use Rattle.std.specs.Ordering.{nat_cmp, is_gt}
 use Rattle.std.specs.declared.cmp.Ordering.TheVariants.{Less}
 use Rattle.std.proofs.lemmas.Bool.{true≢false, false≢true}
 use Rattle.std.proofs.lemmas.Bool.Decides.{nat_tests}
 use Rattle.std.proofs.lemmas.List.Folds.{list_any-append}
-use Rattle.ele_lists.specs.Lists.{AllLater, remove_first}
+use Rattle.ele_lists.specs.Lists.{remove_first}
 use Rattle.ele_lists.proofs.Edits.{later-push, later-remove_first, all-none}
 use Rattle.ele_world.specs.GroupRows.{covers_moment}
 use Rattle.ele_groups.specs.Timed.{AreTimed}

@@ -5,28 +5,13 @@ ghost use Rattle.ele_world.specs.GroupRows.{new_group, is_member, has_mark, has_
 ghost use Rattle.ele_groups.specs.Except.{has_covering_but};
 
 use crate::marks::Marks;
+use crate::span::Span;
 use crate::taken::take_out;
 use ele_lists::ListOf;
 use ele_moment::{FileId, Moment, Name, NoMemory};
 use ele_world::GroupRow;
 use std::alloc::Global;
 use std::marker::Model;
-
-/// A mark of one group, or all marks of it, that a question leaves out.
-#[derive(Clone, Copy, Debug)]
-pub struct Except {
-    pub name: Name,
-    pub mark: Option<Moment>,
-}
-
-/// When a version was current, from `closed` until `ended` or until now, and what is left out of the
-/// marks of that time.
-#[derive(Clone, Copy, Debug)]
-pub struct Span {
-    pub closed: Moment,
-    pub ended: Option<Moment>,
-    pub except: Option<Except>,
-}
 
 /// A group. It has no file twice.
 #[derive(Drop)]

@@ -13,12 +13,16 @@ ghost use Rattle.ele_lists.specs.Serial.{value_at};
 ghost use Rattle.ele_world.specs.GroupRows.{group_named, has_group, has_member, is_marked_at, members_of, marks_of, is_member, with_group, without_group, with_member, without_member, with_mark, without_mark, forgotten, is_marked, is_marked_without};
 ghost use Rattle.ele_groups.specs.Except.{has_covering_but, is_marked_but};
 ghost use Rattle.ele_groups.specs.Faults.{make_fault, drop_fault, add_fault, remove_fault, mark_fault, unmark_fault, Fails, answer_of};
+ghost use Rattle.ele_groups.specs.Rows.{row_of};
 ghost use Rattle.ele_groups.specs.Kept.{has_file, is_place_of, ArePlaced, IsLastBy, IsLastBelow};
 ghost use Rattle.ele_world.specs.declared.rows.GroupRow.{GroupRow as Row};
 
+use crate::covering::covers;
 use crate::fault::GroupFault;
-use crate::group::{Except, Group, Span};
+use crate::group::Group;
+use crate::places::{last_by, leave, stands_at};
 use crate::rows::{add_to, mark_at, remove_from, unmark_at};
+use crate::span::{Except, Span};
 use ele_lists::{Index, ListOf};
 use ele_moment::{FileId, Moment, Name, NoMemory};
 use ele_world::GroupRow;
@@ -241,6 +245,17 @@ impl Groups {
         self.rows.len()
     }
 
+    /// The name, the files and the marks of the group at that place in order of making. It passes over
+    /// the groups before it.
+    pub fn group(&self, place: usize) -> Option<(&Name, &[FileId], &[Moment])>
+        ensures some { IfSome result (λ group. slice_get self.now place
+            ≡ Some (row_of group.0.now group.1.now group.2.now)) }
+        ensures none { IfNone result (slice_get self.now place ≡ None) }
+    {
+        let group = self.rows.values().nth(place)?;
+        Some((group.name(), group.members(), group.marks()))
+    }
+
     /// A copy of all rows, in order of making.
     pub fn rows(&self) -> Result<ListOf<GroupRow>, NoMemory>
         ensures { IfOk result (λ rows. rows ≡ self.now) }
@@ -378,83 +393,4 @@ fn serial_of(serials: &HashMap<Name, u64>, name: &Name) -> Option<u64>
     ensures { result ≡ get bytes_eq serials.now name.now }
 {
     serials.get(name).copied()
-}
-
-// Whether the group of that serial number has a mark within the span that isn't left out.
-fn covers_at(rows: &BTreeMap<u64, Group>, serial: u64, span: &Span) -> bool
-    ensures { result
-        ≡ option_map_or (has_covering_but span.now.except span.now.closed span.now.ended)
-        (value_at rows.now.entries serial) false }
-{
-    match rows.get(&serial) {
-        Some(group) => group.covers(span),
-        None => false,
-    }
-}
-
-// Whether a group that has the file has a mark within the span that isn't left out. It goes over the
-// file's groups, last to first; the serial number is above all.
-fn covers(
-    rows: &BTreeMap<u64, Group>,
-    places: &Index<FileId>,
-    serial: u64,
-    file: FileId,
-    span: &Span,
-) -> bool
-    requires rising { IsStrictlySortedBy nat_cmp (keys_of rows.now.entries) }
-    requires above { AllByRecursion (λ s. s < serial) (keys_of rows.now.entries) }
-    requires placed { ArePlaced (value_at rows.now.entries) places.now }
-    ensures { result ≡ is_marked_but span.now.except (values_of rows.now.entries) file
-        span.now.closed span.now.ended }
-{
-    let mut below = serial;
-    while let Some(serial) = last_below(places, file, below) {
-        if covers_at(rows, serial, span) {
-            return true;
-        }
-        below = serial;
-    }
-    false
-}
-
-// Whether the file has the group of that serial number.
-fn stands_at(places: &Index<FileId>, file: FileId, serial: u64) -> bool
-    ensures { (at : ℕ → Option Row) → ArePlaced at places.now
-        → result ≡ has_file file (at serial) }
-{
-    match last_by(places, file, serial) {
-        Some(last) => last == serial,
-        None => false,
-    }
-}
-
-// The last of the file's groups up to that serial number.
-fn last_by(places: &Index<FileId>, file: FileId, serial: u64) -> Option<u64>
-    ensures some { IfSome result (λ last. (at : ℕ → Option Row) → ArePlaced at places.now
-        → IsLastBy at file serial last) }
-    ensures none { IfNone result ((at : ℕ → Option Row) → ArePlaced at places.now
-        → (t : ℕ) → t ≤ serial → has_file file (at t) ≡ false) }
-{
-    let (_, last) = places.last(file, serial)?;
-    Some(last)
-}
-
-// The last of them below it.
-fn last_below(places: &Index<FileId>, file: FileId, serial: u64) -> Option<u64>
-    ensures some { IfSome result (λ last. (at : ℕ → Option Row) → ArePlaced at places.now
-        → IsLastBelow at file serial last) }
-    ensures none { IfNone result ((at : ℕ → Option Row) → ArePlaced at places.now
-        → (t : ℕ) → t < serial → has_file file (at t) ≡ false) }
-{
-    last_by(places, file, serial.checked_sub(1)?)
-}
-
-// Takes the files of one group from their places.
-fn leave(places: &mut Index<FileId>, files: &[FileId], serial: u64)
-    ensures { (q r s : ℕ) → has nat_cmp places.new q r s
-        ≡ (has nat_cmp places.old q r s && not (is_place_of files.now serial q r s)) }
-{
-    for file in files {
-        places.remove(*file, serial, serial);
-    }
 }

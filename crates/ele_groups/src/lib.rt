@@ -2,11 +2,14 @@
 //! A contract sees them as the list of their rows in order of making.
 #![tactic(auto)]
 
+mod covering;
 mod fault;
 mod group;
 mod groups;
 mod marks;
+mod places;
 mod rows;
+mod span;
 mod taken;
 
 pub use fault::GroupFault;

@@ -11,11 +11,7 @@ use ele_moment::{FileId, Moment, NoMemory};
 use std::collections::BTreeMap;
 
 /// Adds the file to the group.
-pub fn add_to(
-    rows: &mut BTreeMap<u64, Group>,
-    serial: u64,
-    file: FileId,
-) -> Result<(), NoMemory>
+pub fn add_to(rows: &mut BTreeMap<u64, Group>, serial: u64, file: FileId) -> Result<(), NoMemory>
     requires { has_file file (value_at rows.old.entries serial) ≡ false }
     ensures ok { OnOk result
         (rows.new.entries ≡ changed_at serial (adds file) rows.old.entries) }
@@ -40,11 +36,7 @@ pub fn remove_from(rows: &mut BTreeMap<u64, Group>, serial: u64, file: FileId)
 }
 
 /// Adds the mark to the group.
-pub fn mark_at(
-    rows: &mut BTreeMap<u64, Group>,
-    serial: u64,
-    mark: Moment,
-) -> Result<(), NoMemory>
+pub fn mark_at(rows: &mut BTreeMap<u64, Group>, serial: u64, mark: Moment) -> Result<(), NoMemory>
     requires { option_map_or (has_mark mark) (value_at rows.old.entries serial) false ≡ false }
     ensures ok { OnOk result
         (rows.new.entries ≡ changed_at serial (marks mark) rows.old.entries) }

@@ -1,4 +1,4 @@
-use Rattle.std.proofs.Common.{sym, refl, ap, ◌∙◌, ◌≡◌, ◌<◌, false, arith}
+use Rattle.std.proofs.Common.{refl, arith}
 use Rattle.std.specs.Map.{values_of}
 use Rattle.ele_lists.specs.Serial.{value_at}
 use Rattle.ele_world.specs.GroupRows.{forgets, is_member}

@@ -1,8 +1,5 @@
-use Rattle.std.proofs.Common.{sym, refl, ap, ◌∙◌, ◌≡◌, false}
-use Rattle.std.specs.Map.{values_of}
-use Rattle.ele_lists.specs.Serial.{value_at}
+use Rattle.std.proofs.Common.{sym, refl}
 use Rattle.ele_world.specs.GroupRows.{adds}
-use Rattle.ele_groups.specs.Kept.{has_file}
 use Rattle.ele_groups.proofs.Named.{kept_changed, kept_over, changed_rows, unchanged_rows, found_at, named_row}
 use Rattle.ele_groups.proofs.Placed.{placed_come, placed_same, placed_undone}
 use Rattle.ele_groups.proofs.groups.Groups.insert_member.Goals as goal

@@ -10,7 +10,7 @@ pub unreachable-requires : goal.unreachable-requires
 unreachable-requires c = let row = named_row _ _ _ _ c.self.invariant c.args.name.now c.in-Some.serial (sym c.in-Some.ensures.value) in let both : None ≡ Some row.0 = c.in_default-remove.ensures.value ∙ row.1 in absurd cc
 
 pub invariant_of-self-2 : goal.invariant_of-self-2
-invariant_of-self-2 c = 
+invariant_of-self-2 c =
     kept_without _ _ _ _ c.self.invariant c.args.name.now _ c.in-Some.serial _ _ c.in-Some-remove.ensures.entries c.in-Some-remove.ensures.ordered c.in-Some-remove.ensures.updates.0
     c.in-Some.ensures.updates.0 (sym c.in-Some.ensures.value)
     (placed_without c.in-Some.serial c.in-Some-remove.group _ _ _ _ c.self.invariant.placed (sym c.in-Some-remove.ensures.value) c.in-Some-remove.ensures.updates.0 (rw c.members.ensures at c.leave.ensures))

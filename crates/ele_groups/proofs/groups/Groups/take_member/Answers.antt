@@ -1,4 +1,4 @@
-use Rattle.std.proofs.Common.{sym, refl, ap, ◌∙◌, false}
+use Rattle.std.proofs.Common.{sym, refl}
 use Rattle.ele_world.specs.GroupRows.{removes}
 use Rattle.ele_groups.proofs.Named.{kept_changed, changed_rows, unchanged_rows}
 use Rattle.ele_groups.proofs.Placed.{placed_gone}

@@ -1,4 +1,3 @@
-use Rattle.std.proofs.Common.{◌≡◌, ◌∙◌, sym}
 use Rattle.ele_groups.proofs.Times.{timed_with}
 use Rattle.ele_groups.proofs.marks.Marks.add.Goals as goal
 

@@ -1,4 +1,4 @@
-use Rattle.std.proofs.Common.{◌≡◌, ◌∙◌, sym, Some, arith, ◌≤◌, refl}
+use Rattle.std.proofs.Common.{sym, Some}
 use Rattle.ele_world.specs.GroupRows.{covers_moment}
 use Rattle.ele_groups.proofs.Times.{answered, within, is_within, none_between, not_less}
 use Rattle.ele_groups.proofs.marks.Marks.lies_between.Goals as goal

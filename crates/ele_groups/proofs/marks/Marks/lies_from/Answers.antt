@@ -1,4 +1,4 @@
-use Rattle.std.proofs.Common.{◌≡◌, ◌∙◌, sym, None}
+use Rattle.std.proofs.Common.{None}
 use Rattle.ele_world.specs.GroupRows.{covers_moment}
 use Rattle.ele_groups.proofs.Times.{answered, from_on, is_from_on}
 use Rattle.ele_groups.proofs.marks.Marks.lies_from.Goals as goal

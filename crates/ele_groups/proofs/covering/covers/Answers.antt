@@ -1,4 +1,4 @@
-use Rattle.std.proofs.Common.{◌≡◌, ◌<◌, sym, ◌∙◌, refl, arith}
+use Rattle.std.proofs.Common.{◌<◌, sym, ◌∙◌, refl, arith}
 use Rattle.std.specs.Map.{keys_of, values_of}
 use Rattle.ele_lists.specs.Serial.{value_at}
 use Rattle.ele_lists.proofs.Edits.{all-weaker}
@@ -7,7 +7,7 @@ use Rattle.ele_world.specs.GroupRows.{is_member}
 use Rattle.ele_groups.specs.Except.{has_covering_but, is_marked_row}
 use Rattle.ele_groups.proofs.Changed.{any_value, no_value, both_hold, fails_first, by_bound}
 use Rattle.ele_groups.proofs.Named.{none_any}
-use Rattle.ele_groups.proofs.groups.covers.Goals as goal
+use Rattle.ele_groups.proofs.covering.covers.Goals as goal
 
 pub loop-serial-init : goal.loop-serial-init
 loop-serial-init c = λ s le. rw (not_yet s c.args.rows.now.entries (all-weaker (λ k. k < c.args.serial) (λ k. k < s) (keys_of c.args.rows.now.entries) (λ k h. omega arith) c.requires.above)) refl

@@ -1,7 +1,7 @@
 use Rattle.std.proofs.Common.{take}
 use Rattle.std.proofs.lemmas.List.{take_more}
 use Rattle.ele_groups.proofs.Placed.{left_more}
-use Rattle.ele_groups.proofs.groups.leave.Goals as goal
+use Rattle.ele_groups.proofs.places.leave.Goals as goal
 
 pub loop-file-preserved : goal.loop-file-preserved
 loop-file-preserved c = rw (take_more c.args.files.now c.loop-file.file-index c.file-item.result c.loop-file-test.true, ← c.file-item.is)

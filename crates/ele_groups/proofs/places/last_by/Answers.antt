@@ -1,6 +1,6 @@
-use Rattle.std.proofs.Common.{◌≡◌, sym, ◌∙◌, arith}
+use Rattle.std.proofs.Common.{sym, ◌∙◌, arith}
 use Rattle.ele_groups.proofs.Placed.{stands, last_is}
-use Rattle.ele_groups.proofs.groups.last_by.Goals as goal
+use Rattle.ele_groups.proofs.places.last_by.Goals as goal
 
 pub returns-in_err-last-clause-none : goal.returns-in_err-last-clause-none
 returns-in_err-last-clause-none c = rw c.from_residual.ensures
