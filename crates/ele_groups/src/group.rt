@@ -1,7 +1,7 @@
 //! One group: its name, its files in order of adding, and its marks.
 //! A contract sees it as its row.
-ghost use Rattle.std.specs.Prelude.{◌≡◌, ◌==◌, ◌&&◌, ◌||◌, not, ℕ, false, OnOk, OnErr, IfOk};
-ghost use Rattle.ele_world.specs.GroupRows.{new_group, is_member, has_mark, has_covering, adds, removes, forgets, marks, unmarks};
+ghost use Rattle.std.specs.Prelude.{◌≡◌, ◌==◌, ◌&&◌, not, ℕ, false, OnOk, OnErr, IfOk};
+ghost use Rattle.ele_world.specs.GroupRows.{new_group, is_member, has_mark, adds, removes, forgets, marks, unmarks};
 ghost use Rattle.ele_groups.specs.Except.{has_covering_but};
 
 use crate::marks::Marks;

@@ -1,21 +1,13 @@
 //! All groups.
 //! A contract sees them as the list of their rows in order of making.
-ghost use Rattle.std.specs.Prelude.{◌≡◌, ℕ, ◌+◌, ◌<◌, ◌≤◌, ◌==◌, ◌&&◌, [], List, Option, Some, None, true, false, not, length, filter, slice_get, IsTrue, IsSome, IfSome, IfNone, IfOk, IfErr, OnOk, OnErr};
+ghost use Rattle.std.specs.Prelude.{◌≡◌, ◌<◌, [], Some, None, false, length, filter, slice_get, IsTrue, IfSome, IfNone, IfOk, IfErr, OnOk, OnErr};
 ghost use Rattle.std.specs.HashMap.{get};
-ghost use Rattle.std.specs.List.{AllByRecursion};
-ghost use Rattle.std.specs.List.Sorted.{IsStrictlySortedBy};
-ghost use Rattle.std.specs.Map.{keys_of, values_of};
-ghost use Rattle.std.specs.Option.{option_copied, option_map_or};
-ghost use Rattle.std.specs.Ordering.{nat_cmp};
+ghost use Rattle.std.specs.Map.{values_of};
+ghost use Rattle.std.specs.Option.{option_copied};
 ghost use Rattle.std.specs.Str.{bytes_eq};
-ghost use Rattle.ele_lists.specs.Index.{has};
-ghost use Rattle.ele_lists.specs.Serial.{value_at};
 ghost use Rattle.ele_world.specs.GroupRows.{group_named, has_group, has_member, is_marked_at, members_of, marks_of, is_member, with_group, without_group, with_member, without_member, with_mark, without_mark, forgotten, is_marked, is_marked_without};
-ghost use Rattle.ele_groups.specs.Except.{has_covering_but, is_marked_but};
 ghost use Rattle.ele_groups.specs.Faults.{make_fault, drop_fault, add_fault, remove_fault, mark_fault, unmark_fault, Fails, answer_of};
 ghost use Rattle.ele_groups.specs.Rows.{row_of};
-ghost use Rattle.ele_groups.specs.Kept.{has_file, is_place_of, ArePlaced, IsLastBy, IsLastBelow};
-ghost use Rattle.ele_world.specs.declared.rows.GroupRow.{GroupRow as Row};
 
 use crate::covering::covers;
 use crate::fault::GroupFault;
@@ -295,6 +287,7 @@ impl Groups {
         self.rows.get(&serial)
     }
 
+    // This and the five below make the changes, once no fault stands against them.
     fn insert_group(&mut self, name: &Name) -> Result<(), NoMemory>
         requires { has_group self.old name.now ≡ false }
         ensures ok { OnOk result (self.new ≡ with_group name.now self.old) }
@@ -327,7 +320,7 @@ impl Groups {
         leave(&mut self.places, group.members(), serial);
     }
 
-    // The file stands at its place first, since that may be refused.
+    // The place comes first: it can be taken back without memory.
     fn insert_member(&mut self, name: &Name, file: FileId) -> Result<(), NoMemory>
         requires { has_member self.old name.now file ≡ false }
         ensures ok { OnOk result (self.new ≡ with_member name.now file self.old) }

@@ -3,7 +3,7 @@
 ghost use Rattle.std.specs.Prelude.{◌≡◌, ◌==◌, ◌∷◌, ◌++◌, ◌&&◌, [], Some, None, not, false, OnOk, OnErr};
 ghost use Rattle.std.specs.List.{list_any};
 ghost use Rattle.ele_lists.specs.Lists.{remove_first};
-ghost use Rattle.ele_world.specs.GroupRows.{covers_moment, is_left_out};
+ghost use Rattle.ele_world.specs.GroupRows.{covers_moment};
 
 use crate::taken::take_out;
 use ele_lists::put;

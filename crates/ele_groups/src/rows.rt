@@ -1,6 +1,6 @@
 //! Changes of the group of one serial number.
 //! A contract sees the groups as their rows by serial number.
-ghost use Rattle.std.specs.Prelude.{◌≡◌, ◌==◌, ◌&&◌, not, ℕ, true, false, OnOk, OnErr};
+ghost use Rattle.std.specs.Prelude.{◌≡◌, ◌==◌, ◌&&◌, not, ℕ, false, OnOk, OnErr};
 ghost use Rattle.std.specs.Option.{option_map_or};
 ghost use Rattle.ele_lists.specs.Serial.{value_at};
 ghost use Rattle.ele_world.specs.GroupRows.{has_mark, adds, removes, forgets, marks, unmarks};
