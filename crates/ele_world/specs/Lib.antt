@@ -4,6 +4,7 @@ pub mod Answers
 pub mod World
 pub mod Walk
 pub mod NameRows
+pub mod GroupRows
 pub mod WalkAt
 pub mod FileView
 pub mod Neighbours

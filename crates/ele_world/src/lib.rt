@@ -30,6 +30,6 @@ pub use pass::PassEnd;
 pub use refusal::{Refusal, Stop, Which};
 pub use reply::Reply;
 pub use rows::{
-    DeadName, DirectoryRow, DraftRow, FileRow, FileStat, HandleRow, NameRow, Reads, Stamps, Target,
-    VersionRow,
+    DeadName, DirectoryRow, DraftRow, FileRow, FileStat, GroupRow, HandleRow, NameRow, Reads,
+    Stamps, Target, VersionRow,
 };

@@ -105,3 +105,11 @@ pub struct HandleRow {
     pub number: Handle,
     pub reads: Reads,
 }
+
+/// A group: its files in order of adding, and the moments at which it was marked in order of making.
+#[derive(Debug, Drop, PartialEq, Eq)]
+pub struct GroupRow {
+    pub name: Name,
+    pub members: ListOf<FileId>,
+    pub marks: ListOf<Moment>,
+}

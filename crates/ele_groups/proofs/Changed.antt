@@ -1,0 +1,149 @@
+-- A row changed at its serial number, or taken out.
+use Rattle.std.proofs.Common.{◌≡◌, ℕ, ◌<◌, ◌≤◌, Bool, true, false, cond, ◌||◌, ◌&&◌, List, [], ◌∷◌, Option, Some, None, refl, ap, arith, inl, inr}
+use Rattle.std.specs.Prelude.{find, nat_lt, Result, Ok, Err, OnOk, OnErr}
+use Rattle.std.specs.BTreeMap.{is_at}
+use Rattle.std.specs.List.{list_any, AllByRecursion}
+use Rattle.std.specs.Map.{keys_of, values_of, set_value, remove_entry}
+use Rattle.std.specs.Option.{option_map, option_map_or}
+use Rattle.std.specs.Ordering.{nat_cmp}
+use Rattle.std.proofs.lemmas.Bool.{false≢true}
+use Rattle.std.proofs.lemmas.Bool.Decides.{nat_tests}
+use Rattle.ele_lists.specs.Lists.{update_first, remove_first}
+use Rattle.ele_lists.specs.Serial.{value_at}
+use Rattle.ele_lists.proofs.Serials.{IsRising, after_head, head_or_later, rest_rises, not_true}
+use Rattle.ele_lists.proofs.Indexed.{at_itself}
+use Rattle.ele_world.specs.declared.rows.GroupRow.{GroupRow}
+use Rattle.ele_groups.specs.Kept.{changed_at}
+
+pub same_serial : (a b : ℕ) → is_at (nat_cmp a) b ≡ true → a ≡ b
+same_serial a b h = grind (arith, nat_tests)
+
+apart_above : (a b : ℕ) → a < b → is_at (nat_cmp b) a ≡ false
+apart_above a b h = grind (arith, nat_tests)
+
+turn : (a b : ℕ) → is_at (nat_cmp a) b ≡ false → is_at (nat_cmp b) a ≡ false
+turn a b h = grind (arith, nat_tests)
+
+abbrev pub Entries : Type 0
+Entries = List (ℕ × GroupRow)
+
+module _ (serial : ℕ) (f : GroupRow → GroupRow) where
+  -- a write of the row with f done to it
+  pub written : (es : Entries) (v : GroupRow) → value_at es serial ≡ Some v → set_value (is_at (nat_cmp serial)) es (f v) ≡ changed_at serial f es
+  written [] v there = refl
+  written (e ∷ es) v there = elim (is_at (nat_cmp serial) e.0) as (λ b. is_at (nat_cmp serial) e.0 ≡ b → cond b ((e.0, f v) ∷ es) (e ∷ set_value (is_at (nat_cmp serial)) es (f v)) ≡ cond b ((e.0, f e.1) ∷ es) (e ∷ changed_at serial f es)) [
+    | true ↦ λ i. let h : Some e.1 ≡ Some v = rw i at there in let same : e.1 ≡ v = cc in rw same refl
+    | false ↦ λ i. ap (λ (l : Entries). e ∷ l) (written es v (rw i at there))
+  ] refl
+
+  pub unwritten : (es : Entries) → value_at es serial ≡ None → es ≡ changed_at serial f es
+  unwritten [] there = refl
+  unwritten (e ∷ es) there = elim (is_at (nat_cmp serial) e.0) as (λ b. is_at (nat_cmp serial) e.0 ≡ b → e ∷ es ≡ cond b ((e.0, f e.1) ∷ es) (e ∷ changed_at serial f es)) [
+    | true ↦ λ i. let h : Some e.1 ≡ None = rw i at there in absurd cc
+    | false ↦ λ i. ap (λ (l : Entries). e ∷ l) (unwritten es (rw i at there))
+  ] refl
+
+  pub changed_keys : (es : Entries) → keys_of (changed_at serial f es) ≡ keys_of es
+  changed_keys [] = refl
+  changed_keys (e ∷ es) = elim (is_at (nat_cmp serial) e.0) as (λ b. keys_of (cond b ((e.0, f e.1) ∷ es) (e ∷ changed_at serial f es)) ≡ keys_of (e ∷ es)) [
+    | true ↦ refl
+    | false ↦ ap (λ (l : List ℕ). e.0 ∷ l) (changed_keys es)
+  ]
+
+  -- there f is done to the row
+  pub changed_here : (es : Entries) → value_at (changed_at serial f es) serial ≡ option_map f (value_at es serial)
+  changed_here [] = refl
+  changed_here (e ∷ es) = elim (is_at (nat_cmp serial) e.0) as (λ b. is_at (nat_cmp serial) e.0 ≡ b → value_at (cond b ((e.0, f e.1) ∷ es) (e ∷ changed_at serial f es)) serial ≡ option_map f (cond b (Some e.1) (value_at es serial))) [
+    | true ↦ λ i. rw i refl
+    | false ↦ λ i. rw i (changed_here es)
+  ] refl
+
+  -- and elsewhere nothing
+  pub changed_elsewhere : (es : Entries) (t : ℕ) → is_at (nat_cmp serial) t ≡ false → value_at (changed_at serial f es) t ≡ value_at es t
+  changed_elsewhere [] t apart = refl
+  changed_elsewhere (e ∷ es) t apart = elim (is_at (nat_cmp serial) e.0) as (λ b. is_at (nat_cmp serial) e.0 ≡ b → value_at (cond b ((e.0, f e.1) ∷ es) (e ∷ changed_at serial f es)) t ≡ value_at (e ∷ es) t) [
+    | true ↦ λ i. let same = same_serial serial e.0 i in rw (← same, turn serial t apart) refl
+    | false ↦ λ i. ap (λ (o : Option GroupRow). cond (is_at (nat_cmp t) e.0) (Some e.1) o) (changed_elsewhere es t apart)
+  ] refl
+
+  -- a test of the rows that sees no change
+  pub changed_same : (p : GroupRow → Bool) → ((row : GroupRow) → p (f row) ≡ p row) → (es : Entries) (t : ℕ) → option_map_or p (value_at (changed_at serial f es) t) false ≡ option_map_or p (value_at es t) false
+  changed_same p same es t = elim (is_at (nat_cmp serial) t) as (λ b. is_at (nat_cmp serial) t ≡ b → option_map_or p (value_at (changed_at serial f es) t) false ≡ option_map_or p (value_at es t) false) [
+    | true ↦ λ i. let here = same_serial serial t i in rw (← here, changed_here es) (mapped (value_at es serial))
+    | false ↦ λ i. rw (changed_elsewhere es t i) refl
+  ] refl where
+    mapped : (o : Option GroupRow) → option_map_or p (option_map f o) false ≡ option_map_or p o false
+    mapped None = refl
+    mapped (Some row) = same row
+
+-- the only row that passes, and what a change of it or its removal leaves
+pub record IsOne (p : GroupRow → Bool) (es : Entries) (serial : ℕ) (v : GroupRow) : Type 0 where
+  pub found : find p (values_of es) ≡ Some v
+  pub changed : (f : GroupRow → GroupRow) → values_of (changed_at serial f es) ≡ update_first p f (values_of es)
+  pub removed : values_of (remove_entry (is_at (nat_cmp serial)) es) ≡ remove_first p (values_of es)
+
+module _ (p : GroupRow → Bool) where
+  pub one : (es : Entries) (s : ℕ) (v : GroupRow) → IsRising es → value_at es s ≡ Some v → p v ≡ true → ((t : ℕ) (w : GroupRow) → value_at es t ≡ Some w → p w ≡ true → t ≡ s) → IsOne p es s v
+  one [] s v up there passes only = absurd cc
+  one (e ∷ es) s v up there passes only = elim (head_or_later e es s v up there) as (λ _. IsOne p (e ∷ es) s v) [
+    | inl is ↦
+        let own : is_at (nat_cmp s) e.0 ≡ true = rw is.0 (at_itself e.0) in
+        let holds : p e.1 ≡ true = rw is.1 passes in
+        record { found = rw (holds, is.1) refl; changed = λ f. rw (own, holds) refl; removed = rw (own, holds) refl }
+    | inr later ↦
+        let apart : is_at (nat_cmp s) e.0 ≡ false = apart_above e.0 s later.0 in
+        let fails : p e.1 ≡ false = not_true (p e.1) (λ holds. let same = only e.0 e.1 (rw (at_itself e.0) refl) holds in let lt = later.0 in omega (arith, same, lt)) in
+        let rest = one es s v (rest_rises e es up) later.1 passes (λ t w h. only t w (after_head e es t w up h).1) in
+        record {
+          found = rw fails rest.found;
+          changed = λ f. rw (apart, fails) (ap (λ (l : List GroupRow). e.1 ∷ l) (rest.changed f));
+          removed = rw (apart, fails) (ap (λ (l : List GroupRow). e.1 ∷ l) rest.removed);
+        }
+  ]
+
+  -- some row passes
+  pub any_value : (es : Entries) (s : ℕ) → option_map_or p (value_at es s) false ≡ true → list_any p (values_of es) ≡ true
+  any_value [] s h = absurd (false≢true h)
+  any_value (e ∷ es) s h = elim (is_at (nat_cmp s) e.0) as (λ b. is_at (nat_cmp s) e.0 ≡ b → list_any p (values_of (e ∷ es)) ≡ true) [
+    | true ↦ λ i. let holds : p e.1 ≡ true = rw i at h in rw holds refl
+    | false ↦ λ i. rw (any_value es s (rw i at h)) (or_true (p e.1))
+  ] refl where
+    or_true : (b : Bool) → (b || true) ≡ true
+    or_true true = refl
+    or_true false = refl
+
+  -- or none does
+  pub no_value : (es : Entries) → IsRising es → ((s : ℕ) → option_map_or p (value_at es s) false ≡ false) → AllByRecursion (λ row. p row ≡ false) (values_of es)
+  no_value [] up none = tt
+  no_value (e ∷ es) up none = (rw (at_itself e.0) at (none e.0), no_value es (rest_rises e es up) (λ s. behind s (value_at es s) refl)) where
+    behind : (s : ℕ) (o : Option GroupRow) → value_at es s ≡ o → option_map_or p o false ≡ false
+    behind s None is = refl
+    behind s (Some w) is = rw (after_head e es s w up is).1 at (none s)
+
+-- what follows from a success or a failure
+pub ok_then : {X E A B : Type 0} (r : Result X E) → OnOk r A → (A → B) → OnOk r B
+ok_then (Ok x) h then = then h
+ok_then (Err e) h then = tt
+
+pub err_then : {X E A B : Type 0} (r : Result X E) → OnErr r A → (A → B) → OnErr r B
+err_then (Ok x) h then = tt
+err_then (Err e) h then = then h
+
+pub either_way : {X E A B C : Type 0} (r : Result X E) → OnOk r A → OnErr r B → (A → C) → (B → C) → C
+either_way (Ok x) a b then other = then a
+either_way (Err e) a b then other = other b
+
+-- two tests of a row that may be missing
+pub both_hold : (p q : GroupRow → Bool) (o : Option GroupRow) → option_map_or p o false ≡ true → option_map_or q o false ≡ true → option_map_or (λ row. p row && q row) o false ≡ true
+both_hold p q None a b = a
+both_hold p q (Some row) a b = rw a b
+
+pub fails_first : (p q : GroupRow → Bool) (o : Option GroupRow) → option_map_or p o false ≡ false → option_map_or (λ row. p row && q row) o false ≡ false
+fails_first p q None a = refl
+fails_first p q (Some row) a = rw a refl
+
+pub by_bound : {A : Type 0} (s below : ℕ) → (s < below → A) → (below ≤ s → A) → A
+by_bound {A = A} s below less other = cases (nat_lt s below) refl where
+  cases : (b : Bool) → nat_lt s below ≡ b → A
+  cases true e = less (grind (arith, nat_tests))
+  cases false e = other (grind (arith, nat_tests))

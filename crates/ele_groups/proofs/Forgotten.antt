@@ -1,0 +1,58 @@
+-- A file taken out of the groups that have it.
+use Rattle.std.proofs.Common.{◌≡◌, ℕ, ◌==◌, ◌<◌, true, false, cond, ◌||◌, not, List, [], ◌∷◌, length, refl, ap, arith}
+use Rattle.std.specs.Prelude.{filter}
+use Rattle.std.specs.BTreeMap.{is_at}
+use Rattle.std.specs.List.{list_any, AllByRecursion}
+use Rattle.std.specs.Map.{values_of}
+use Rattle.std.specs.Ordering.{nat_cmp}
+use Rattle.std.proofs.lemmas.Bool.{true≢false, false≢true}
+use Rattle.ele_lists.specs.Serial.{value_at}
+use Rattle.ele_world.specs.declared.rows.GroupRow.{GroupRow}
+use Rattle.ele_world.specs.GroupRows.{forgets, forgotten, is_member}
+use Rattle.ele_groups.specs.Kept.{changed_at, has_file}
+use Rattle.ele_groups.proofs.Changed.{Entries}
+
+module _ (file : ℕ) where
+  all_others : (xs : List ℕ) → list_any (λ member. member == file) xs ≡ false → filter (λ member. not (member == file)) xs ≡ xs
+  all_others [] none = refl
+  all_others (x ∷ xs) none = elim (x == file) as (λ b. (b || list_any (λ member. member == file) xs) ≡ false → cond (not b) (x ∷ filter (λ member. not (member == file)) xs) (filter (λ member. not (member == file)) xs) ≡ x ∷ xs) [
+    | true ↦ λ h. absurd (true≢false h)
+    | false ↦ λ h. ap (λ ys. x ∷ ys) (all_others xs h)
+  ] none
+
+  none_left : (xs : List ℕ) → list_any (λ member. member == file) (filter (λ member. not (member == file)) xs) ≡ false
+  none_left [] = refl
+  none_left (x ∷ xs) = elim (x == file) as (λ b. (x == file) ≡ b → list_any (λ member. member == file) (cond (not b) (x ∷ filter (λ member. not (member == file)) xs) (filter (λ member. not (member == file)) xs)) ≡ false) [
+    | true ↦ λ e. none_left xs
+    | false ↦ λ e. rw e (none_left xs)
+  ] refl
+
+  -- what no group has is forgotten
+  pub none_forgotten : (rows : List GroupRow) → AllByRecursion (λ row. is_member file row ≡ false) rows → forgotten file rows ≡ rows
+  none_forgotten [] none = refl
+  none_forgotten (row ∷ rows) none = rw (none_forgotten rows none.1) (ap (λ (l : List ℕ). record row { members = l } ∷ rows) (all_others row.members none.0))
+
+  forgets_again : (row : GroupRow) → forgets file (forgets file row) ≡ forgets file row
+  forgets_again row = ap (λ (l : List ℕ). record row { members = l }) (all_others (filter (λ member. not (member == file)) row.members) (none_left row.members))
+
+  module _ (s : ℕ) where
+    -- one group forgets it first
+    pub forgotten_first : (es : Entries) → forgotten file (values_of (changed_at s (forgets file) es)) ≡ forgotten file (values_of es)
+    forgotten_first [] = refl
+    forgotten_first (e ∷ es) = elim (is_at (nat_cmp s) e.0) as (λ b. forgotten file (values_of (cond b ((e.0, forgets file e.1) ∷ es) (e ∷ changed_at s (forgets file) es))) ≡ forgotten file (values_of (e ∷ es))) [
+      | true ↦ ap (λ (row : GroupRow). row ∷ forgotten file (values_of es)) (forgets_again e.1)
+      | false ↦ ap (λ (l : List GroupRow). forgets file e.1 ∷ l) (forgotten_first es)
+    ]
+
+    -- and then fewer have it
+    pub fewer_have : (es : Entries) → has_file file (value_at es s) ≡ true → length (filter (is_member file) (values_of (changed_at s (forgets file) es))) < length (filter (is_member file) (values_of es))
+    fewer_have [] here = absurd (false≢true here)
+    fewer_have (e ∷ es) here = elim (is_at (nat_cmp s) e.0) as (λ b. is_at (nat_cmp s) e.0 ≡ b → length (filter (is_member file) (values_of (cond b ((e.0, forgets file e.1) ∷ es) (e ∷ changed_at s (forgets file) es)))) < length (filter (is_member file) (values_of (e ∷ es)))) [
+      | true ↦ λ i. let has : is_member file e.1 ≡ true = rw i at here in rw (has, none_left e.1.members) (omega arith)
+      | false ↦ λ i.
+          let rest = fewer_have es (rw i at here) in
+          elim (is_member file e.1) as (λ b. length (cond b (e.1 ∷ filter (is_member file) (values_of (changed_at s (forgets file) es))) (filter (is_member file) (values_of (changed_at s (forgets file) es)))) < length (cond b (e.1 ∷ filter (is_member file) (values_of es)) (filter (is_member file) (values_of es)))) [
+            | true ↦ omega (arith, rest)
+            | false ↦ rest
+          ]
+    ] refl

@@ -1,0 +1,7 @@
+mod Apart
+mod Times
+mod Covered
+mod Changed
+mod Placed
+mod Named
+mod Forgotten

@@ -1,0 +1,130 @@
+-- Marks and their times, after a change, and within bounds.
+use Rattle.std.proofs.Common.{◌≡◌, ℕ, ◌==◌, ◌≤◌, Bool, true, false, cond, not, ◌||◌, ◌&&◌, List, [], ◌∷◌, ◌++◌, Option, Some, None, is_some, refl, sym, ap, ◌∙◌, arith, ◌+◌}
+use Rattle.std.specs.Prelude.{min, max, nat_lt}
+use Rattle.std.specs.BTreeMap.{is_at}
+use Rattle.std.specs.BTreeSet.{BTreeSet, contains}
+use Rattle.std.specs.List.{list_any}
+use Rattle.std.specs.Option.{MatchOption}
+use Rattle.std.specs.Ordering.{nat_cmp, is_gt}
+use Rattle.std.specs.declared.cmp.Ordering.TheVariants.{Less}
+use Rattle.std.proofs.lemmas.Bool.{true≢false, false≢true}
+use Rattle.std.proofs.lemmas.Bool.Decides.{nat_tests}
+use Rattle.std.proofs.lemmas.List.Folds.{list_any-append}
+use Rattle.ele_lists.specs.Lists.{remove_first}
+use Rattle.ele_lists.proofs.Edits.{later-push, later-remove_first, all-none}
+use Rattle.ele_world.specs.GroupRows.{covers_moment}
+use Rattle.ele_groups.specs.Timed.{AreTimed}
+use Rattle.ele_groups.proofs.Apart.{is_same, gone, others}
+
+same_at : (k t : ℕ) → is_at (nat_cmp k) t ≡ (k == t)
+same_at k t = grind (arith, nat_tests)
+
+choice : (b : Bool) (c : Bool) → cond b true c ≡ (c || (b || false))
+choice true true = refl
+choice true false = refl
+choice false true = refl
+choice false false = refl
+
+module _ (made : List ℕ) (times new : BTreeSet ℕ) (timed : AreTimed made times) (mark : ℕ) where
+  pub timed_with : (k : ℕ) → k ≡ mark → list_any (λ x. x == mark) made ≡ false → ((t : ℕ) → contains nat_cmp new t ≡ cond (is_at (nat_cmp k) t) true (contains nat_cmp times t)) → AreTimed (made ++ mark ∷ []) new
+  timed_with k is fresh changed = record {
+    apart = later-push (λ x y. (x == y) ≡ false) made mark timed.apart (all-none (λ x. x == mark) made fresh);
+    same = λ t. changed t ∙ rw (is, same_at mark t, timed.same t, list_any-append (λ x. x == t) made (mark ∷ [])) (choice (mark == t) (list_any (λ x. x == t) made));
+  }
+
+  pub timed_without : (k : ℕ) → k ≡ mark → ((t : ℕ) → contains nat_cmp new t ≡ cond (is_at (nat_cmp k) t) false (contains nat_cmp times t)) → AreTimed (remove_first (λ x. x == mark) made) new
+  timed_without k is changed = record {
+    apart = later-remove_first (λ x. x == mark) (λ x y. (x == y) ≡ false) made timed.apart;
+    same = λ t. changed t ∙ rw (is, same_at mark t) (elim (mark == t) as (λ b. (mark == t) ≡ b → cond b false (contains nat_cmp times t) ≡ list_any (λ x. x == t) (remove_first (λ x. x == mark) made)) [
+      | true ↦ λ e. let same = is_same mark t e in rw (← same) (sym (gone mark made timed.apart))
+      | false ↦ λ e. timed.same t ∙ sym (others mark t made e)
+    ] refl);
+  }
+
+module _ (p : ℕ → Bool) where
+  any_at : (k : ℕ) (xs : List ℕ) → list_any (λ x. x == k) xs ≡ true → p k ≡ true → list_any p xs ≡ true
+  any_at k [] h passes = absurd (false≢true h)
+  any_at k (x ∷ xs) h passes = elim (x == k) as (λ b. (x == k) ≡ b → (p x || list_any p xs) ≡ true) [
+    | true ↦ λ e. let same = is_same x k e in rw (same, passes) refl
+    | false ↦ λ e. rw (any_at k xs (rw e at h) passes) (or_true (p x))
+  ] refl where
+    or_true : (b : Bool) → (b || true) ≡ true
+    or_true true = refl
+    or_true false = refl
+
+  none_at : (xs : List ℕ) → ((k : ℕ) → p k ≡ true → list_any (λ x. x == k) xs ≡ false) → list_any p xs ≡ false
+  none_at [] none = refl
+  none_at (x ∷ xs) none = elim (p x) as (λ b. p x ≡ b → (b || list_any p xs) ≡ false) [
+    | true ↦ λ e. absurd (true≢false (rw (itself x) at (none x e)))
+    | false ↦ λ e. none_at xs (λ k passes. rest (x == k) (list_any (λ x. x == k) xs) (none k passes))
+  ] refl where
+    itself : (x : ℕ) → (x == x) ≡ true
+    itself x = grind (arith, nat_tests)
+
+    rest : (b c : Bool) → (b || c) ≡ false → c ≡ false
+    rest true c h = absurd (true≢false h)
+    rest false c h = h
+
+  module _ (made : List ℕ) (times : BTreeSet ℕ) (timed : AreTimed made times) where
+    -- whether a time was found that passes
+    pub answered : {X : Type 0} {A : Type 0} {P : X → Type 0} (o : Option X) → MatchOption o A P
+        → (A → (k : ℕ) → p k ≡ true → contains nat_cmp times k ≡ false)
+        → ((x : X) → P x → (k : ℕ) × (p k ≡ true) × (contains nat_cmp times k ≡ true))
+        → is_some o ≡ list_any p made
+    answered None is none some = sym (none_at made (λ k passes. sym (timed.same k) ∙ none is k passes))
+    answered (Some x) is none some = let found = some x is in sym (any_at found.0 made (sym (timed.same found.0) ∙ found.2) found.1)
+
+-- which times lie within bounds
+pub within : (from until k : ℕ) → covers_moment from (Some until) k ≡ true → (is_gt (nat_cmp from k) ≡ false) × (nat_cmp k until ≡ Less)
+within from until k h = grind (arith, nat_tests)
+
+pub is_within : (from until k : ℕ) → is_gt (nat_cmp from k) ≡ false → nat_cmp k until ≡ Less → covers_moment from (Some until) k ≡ true
+is_within from until k a b = grind (arith, nat_tests)
+
+pub from_on : (from k : ℕ) → covers_moment from None k ≡ true → is_gt (nat_cmp from k) ≡ false
+from_on from k h = grind (arith, nat_tests)
+
+pub is_from_on : (from k : ℕ) → is_gt (nat_cmp from k) ≡ false → covers_moment from None k ≡ true
+is_from_on from k a = grind (arith, nat_tests)
+
+nothing_between : (from until k : ℕ) → until ≤ from → covers_moment from (Some until) k ≡ false
+nothing_between from until k h = grind (arith, nat_tests)
+
+pub none_between : (from until : ℕ) (xs : List ℕ) → until ≤ from → list_any (covers_moment from (Some until)) xs ≡ false
+none_between from until [] h = refl
+none_between from until (x ∷ xs) h = rw (nothing_between from until x h) (none_between from until xs h)
+
+pub not_less : (a b : ℕ) → b ≤ a → nat_lt a b ≡ false
+not_less a b h = grind (arith, nat_tests)
+
+-- two spans beside a moment
+pub two_spans : (left closed : ℕ) (ended : Option ℕ) (a b : ℕ → Bool) (xs : List ℕ) → ((k : ℕ) → (a k || b k) ≡ (covers_moment closed ended k && not (k == left)))
+    → (list_any a xs || list_any b xs) ≡ list_any (λ k. covers_moment closed ended k && not (k == left)) xs
+two_spans left closed ended a b [] each = refl
+two_spans left closed ended a b (x ∷ xs) each = swap (a x) (list_any a xs) (b x) (list_any b xs) ∙ ap (λ t. t || (list_any a xs || list_any b xs)) (each x) ∙ ap (λ t. (covers_moment closed ended x && not (x == left)) || t) (two_spans left closed ended a b xs each) where
+  swap : (p q r s : Bool) → ((p || q) || (r || s)) ≡ ((p || r) || (q || s))
+  swap true q r s = refl
+  swap false true true s = refl
+  swap false true false s = refl
+  swap false false true s = refl
+  swap false false false s = refl
+
+spans_until : (left closed ended k : ℕ) → (covers_moment closed (Some (min left ended)) k || covers_moment (max closed (left + 1)) (Some ended) k) ≡ (covers_moment closed (Some ended) k && not (k == left))
+spans_until left closed ended k = grind (arith, nat_tests)
+
+spans_from : (left closed k : ℕ) → (covers_moment closed (Some left) k || covers_moment (max closed (left + 1)) None k) ≡ (covers_moment closed None k && not (k == left))
+spans_from left closed k = grind (arith, nat_tests)
+
+module _ (left closed : ℕ) (xs : List ℕ) where
+  pub until_without : (ended : ℕ) → (list_any (covers_moment closed (Some (min left ended))) xs || list_any (covers_moment (max closed (left + 1)) (Some ended)) xs) ≡ list_any (λ k. covers_moment closed (Some ended) k && not (k == left)) xs
+  until_without ended = two_spans left closed (Some ended) (covers_moment closed (Some (min left ended))) (covers_moment (max closed (left + 1)) (Some ended)) xs (spans_until left closed ended)
+
+  pub from_without : (list_any (covers_moment closed (Some left)) xs || list_any (covers_moment (max closed (left + 1)) None) xs) ≡ list_any (λ k. covers_moment closed None k && not (k == left)) xs
+  from_without = two_spans left closed None (covers_moment closed (Some left)) (covers_moment (max closed (left + 1)) None) xs (spans_from left closed)
+
+-- the first of two answers, or the second
+pub first_answer : (r a b whole : Bool) → r ≡ a → r ≡ true → (a || b) ≡ whole → r ≡ whole
+first_answer r a b whole is held either = let a_true : a ≡ true = sym is ∙ held in held ∙ (rw a_true at either)
+
+pub second_answer : (q r a b whole : Bool) → q ≡ a → q ≡ false → r ≡ b → (a || b) ≡ whole → r ≡ whole
+second_answer q r a b whole is fails next either = let a_false : a ≡ false = sym is ∙ fails in next ∙ (rw a_false at either)

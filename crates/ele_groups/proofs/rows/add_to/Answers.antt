@@ -1,0 +1,21 @@
+use Rattle.std.proofs.Common.{◌∙◌, sym, ap}
+use Rattle.std.specs.BTreeMap.{is_at}
+use Rattle.std.specs.Map.{set_value}
+use Rattle.std.specs.Ordering.{nat_cmp}
+use Rattle.std.proofs.lemmas.Map.Steps.{set_value_same}
+use Rattle.ele_world.specs.GroupRows.{adds}
+use Rattle.ele_groups.proofs.Changed.{written, unwritten, ok_then, err_then}
+use Rattle.ele_groups.proofs.rows.add_to.Goals as goal
+
+pub returns-in-Some-clause-ok : goal.returns-in-Some-clause-ok
+returns-in-Some-clause-ok c = let es = c.args.rows.now.entries in
+    ok_then c.add.result c.add.ensures.ok (λ is. (c.get_mut.follows.holds c.add.new.self).0 ∙ ap (set_value (is_at (nat_cmp c.args.serial)) es) is
+    ∙ written c.args.serial (adds c.args.file) es c.in-Some.group.now (sym c.in-Some.ensures.value))
+
+pub returns-in-Some-clause-err : goal.returns-in-Some-clause-err
+returns-in-Some-clause-err c = let es = c.args.rows.now.entries in
+    err_then c.add.result c.add.ensures.err (λ is. (c.get_mut.follows.holds c.add.new.self).0 ∙ ap (set_value (is_at (nat_cmp c.args.serial)) es) is
+    ∙ set_value_same (is_at (nat_cmp c.args.serial)) es c.in-Some.group.now (sym c.in-Some.ensures.value))
+
+pub returns-in-None-clause-ok : goal.returns-in-None-clause-ok
+returns-in-None-clause-ok c = rw c.get_mut.follows.holds-at-none (unwritten c.args.serial (adds c.args.file) c.args.rows.now.entries (sym c.in-None.ensures.value))

@@ -1,0 +1,15 @@
+use Rattle.std.proofs.Common.{◌∙◌, sym, ap}
+use Rattle.std.specs.BTreeMap.{is_at}
+use Rattle.std.specs.Map.{set_value}
+use Rattle.std.specs.Ordering.{nat_cmp}
+use Rattle.ele_world.specs.GroupRows.{unmarks}
+use Rattle.ele_groups.proofs.Changed.{written, unwritten}
+use Rattle.ele_groups.proofs.rows.unmark_at.Goals as goal
+
+pub returns-in-Some : goal.returns-in-Some
+returns-in-Some c = let es = c.args.rows.now.entries in
+    (c.get_mut.follows.holds c.unmark.new.self).0 ∙ ap (set_value (is_at (nat_cmp c.args.serial)) es) c.unmark.ensures
+    ∙ written c.args.serial (unmarks c.args.mark) es c.in-Some.group.now (sym c.in-Some.ensures.value)
+
+pub returns-in_default : goal.returns-in_default
+returns-in_default c = rw c.get_mut.follows.holds-at-none (unwritten c.args.serial (unmarks c.args.mark) c.args.rows.now.entries (sym c.in_default.ensures.value))

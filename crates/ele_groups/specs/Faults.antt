@@ -1,0 +1,43 @@
+-- Which changes of groups are refused, and why.
+use Rattle.std.specs.Prelude.{◌≡◌, ℕ, List, Option, Some, None, Result, Ok, Err, ◌⊎◌, if◌then◌else◌}
+use Rattle.ele_world.specs.declared.rows.GroupRow.{GroupRow}
+use Rattle.ele_world.specs.GroupRows.{has_group, has_member, is_marked_at}
+use Rattle.ele_groups.specs.declared.fault.GroupFault.{GroupFault}
+use Rattle.ele_groups.specs.declared.fault.GroupFault.TheVariants as fault
+
+-- a new group of that name
+abbrev pub make_fault : List GroupRow → List ℕ → Option GroupFault
+make_fault rows name = if has_group rows name then Some fault.GroupExists else None
+
+-- no group of that name
+abbrev pub drop_fault : List GroupRow → List ℕ → Option GroupFault
+drop_fault rows name = if has_group rows name then None else Some fault.NoGroup
+
+-- the file in that group
+abbrev pub add_fault : List GroupRow → List ℕ → ℕ → Option GroupFault
+add_fault rows name file =
+    if has_group rows name then (if has_member rows name file then Some fault.AlreadyMember else None) else Some fault.NoGroup
+
+-- that group without the file
+abbrev pub remove_fault : List GroupRow → List ℕ → ℕ → Option GroupFault
+remove_fault rows name file =
+    if has_group rows name then (if has_member rows name file then None else Some fault.NotMember) else Some fault.NoGroup
+
+-- a mark of that group
+abbrev pub mark_fault : List GroupRow → List ℕ → ℕ → Option GroupFault
+mark_fault rows name mark =
+    if has_group rows name then (if is_marked_at rows name mark then Some fault.MarkExists else None) else Some fault.NoGroup
+
+-- that group without the mark
+abbrev pub unmark_fault : List GroupRow → List ℕ → ℕ → Option GroupFault
+unmark_fault rows name mark =
+    if has_group rows name then (if is_marked_at rows name mark then None else Some fault.NoMark) else Some fault.NoGroup
+
+-- the fault that there is, or want of memory where there is none
+abbrev pub Fails : Option GroupFault → GroupFault → Type 0
+Fails found answer = (found ≡ Some answer) ⊎ ((found ≡ None) × (answer ≡ fault.NoMemory))
+
+-- the fault that there is, or done
+abbrev pub answer_of : Option GroupFault → Result Unit GroupFault
+answer_of None = Ok tt
+answer_of (Some answer) = Err answer

@@ -1,0 +1,5 @@
+pub mod Timed
+pub mod Except
+pub mod Faults
+pub mod Kept
+pub mod Rows

@@ -1,0 +1,7 @@
+-- A row by its parts.
+use Rattle.std.specs.Prelude.{ℕ, List}
+use Rattle.ele_world.specs.declared.rows.GroupRow.{GroupRow}
+
+-- the group of that name, with those files and those marks
+abbrev pub row_of : List ℕ → List ℕ → List ℕ → GroupRow
+row_of name members marks = record { name = name; members = members; marks = marks }

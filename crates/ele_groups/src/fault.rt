@@ -1,0 +1,28 @@
+//! Why groups refuse a change. A contract sees plain data.
+use thiserror::Error;
+
+/// Why a change of groups is refused; all of them are as they were.
+#[derive(Clone, Copy, Debug, PartialEq, Eq, Error)]
+pub enum GroupFault {
+    /// No group has the name.
+    #[error("no such group")]
+    NoGroup,
+    /// A group has the name already.
+    #[error("the group exists")]
+    GroupExists,
+    /// The group has the file already.
+    #[error("the file is in the group")]
+    AlreadyMember,
+    /// The group doesn't have the file.
+    #[error("the file is not in the group")]
+    NotMember,
+    /// The group was marked at that moment already.
+    #[error("the mark exists")]
+    MarkExists,
+    /// The group wasn't marked at that moment.
+    #[error("no such mark")]
+    NoMark,
+    /// There is no memory for the change.
+    #[error("out of memory")]
+    NoMemory,
+}

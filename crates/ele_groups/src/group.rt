@@ -1,0 +1,134 @@
+//! One group: its name, its files in order of adding, and its marks.
+//! A contract sees it as its row.
+ghost use Rattle.std.specs.Prelude.{◌≡◌, ◌==◌, ◌&&◌, not, ℕ, false, OnOk, OnErr, IfOk};
+ghost use Rattle.ele_world.specs.GroupRows.{new_group, is_member, has_mark, adds, removes, forgets, marks, unmarks};
+ghost use Rattle.ele_groups.specs.Except.{has_covering_but};
+
+use crate::marks::Marks;
+use crate::span::Span;
+use crate::taken::take_out;
+use ele_lists::ListOf;
+use ele_moment::{FileId, Moment, Name, NoMemory};
+use ele_world::GroupRow;
+use std::alloc::Global;
+use std::marker::Model;
+
+/// A group. It has no file twice.
+#[derive(Drop)]
+pub struct Group {
+    name: Name,
+    members: Vec<FileId>,
+    marks: Marks,
+}
+
+impl Model for Group {
+    ghost use Rattle.ele_world.specs.declared.rows.GroupRow.{GroupRow};
+    ghost use Rattle.ele_groups.specs.Timed.{AreApart};
+
+    ghost Value = { GroupRow };
+
+    ghost view = { λ group. record { name = group.name; members = group.members.items; marks = group.marks } };
+
+    ghost invariant = { λ group. AreApart group.members.items };
+}
+
+impl Group {
+    /// A group without files and marks. It takes no memory.
+    pub fn new(name: Name, alloc: Global) -> Group
+        ensures { result ≡ new_group name }
+    {
+        Group {
+            name,
+            members: Vec::new(alloc),
+            marks: Marks::new(alloc),
+        }
+    }
+
+    /// Its name.
+    pub fn name(&self) -> &Name
+        ensures { result.now ≡ self.now.name }
+    {
+        &self.name
+    }
+
+    /// Its files in order of adding.
+    pub fn members(&self) -> &[FileId]
+        ensures { result.now ≡ self.now.members }
+    {
+        &self.members
+    }
+
+    /// Its marks in order of making.
+    pub fn marks(&self) -> &[Moment]
+        ensures { result.now ≡ self.now.marks }
+    {
+        self.marks.as_slice()
+    }
+
+    /// A copy of its row.
+    pub fn row(&self, alloc: Global) -> Result<GroupRow, NoMemory>
+        ensures { IfOk result (λ row. row ≡ self.now) }
+    {
+        Ok(GroupRow {
+            name: self.name,
+            members: ListOf::from_vec(Vec::from_slice(alloc, &self.members)?),
+            marks: ListOf::from_vec(Vec::from_slice(alloc, self.marks.as_slice())?),
+        })
+    }
+
+    /// Adds a file behind the others.
+    pub fn add(&mut self, file: FileId) -> Result<(), NoMemory>
+        requires { is_member file self.old ≡ false }
+        ensures ok { OnOk result (self.new ≡ adds file self.old) }
+        ensures err { OnErr result (self.new ≡ self.old) }
+    {
+        self.members.push(file)?;
+        Ok(())
+    }
+
+    /// Takes out the file, wherever it stands. It takes no memory.
+    pub fn remove(&mut self, file: FileId)
+        ensures removes { self.new ≡ removes file self.old }
+        ensures forgets { self.new ≡ forgets file self.old }
+        ensures members { (other : ℕ) → is_member other self.new
+            ≡ (is_member other self.old && not (file == other)) }
+    {
+        take_out(&mut self.members, &file);
+    }
+
+    /// Whether it was marked at the moment.
+    pub fn has_mark(&self, mark: Moment) -> bool
+        ensures { result ≡ has_mark mark self.now }
+    {
+        self.marks.has(mark)
+    }
+
+    /// Adds a mark behind the others.
+    pub fn mark(&mut self, mark: Moment) -> Result<(), NoMemory>
+        requires { has_mark mark self.old ≡ false }
+        ensures ok { OnOk result (self.new ≡ marks mark self.old) }
+        ensures err { OnErr result (self.new ≡ self.old) }
+    {
+        self.marks.add(mark)
+    }
+
+    /// Takes out the mark. It takes no memory.
+    pub fn unmark(&mut self, mark: Moment)
+        ensures { self.new ≡ unmarks mark self.old }
+    {
+        self.marks.remove(mark);
+    }
+
+    /// Whether a mark that isn't left out lies within the span.
+    pub fn covers(&self, span: &Span) -> bool
+        ensures { result ≡ has_covering_but span.now.except span.now.closed span.now.ended self.now }
+    {
+        match &span.except {
+            Some(except) if self.name == except.name => match except.mark {
+                Some(mark) => self.marks.covers_without(mark, span.closed, span.ended),
+                None => false,
+            },
+            _ => self.marks.covers(span.closed, span.ended),
+        }
+    }
+}

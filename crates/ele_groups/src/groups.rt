@@ -1,0 +1,389 @@
+//! All groups.
+//! A contract sees them as the list of their rows in order of making.
+ghost use Rattle.std.specs.Prelude.{◌≡◌, ◌<◌, [], Some, None, false, length, filter, slice_get, IsTrue, IfSome, IfNone, IfOk, IfErr, OnOk, OnErr};
+ghost use Rattle.std.specs.HashMap.{get};
+ghost use Rattle.std.specs.Map.{values_of};
+ghost use Rattle.std.specs.Option.{option_copied};
+ghost use Rattle.std.specs.Str.{bytes_eq};
+ghost use Rattle.ele_world.specs.GroupRows.{group_named, has_group, has_member, is_marked_at, members_of, marks_of, is_member, with_group, without_group, with_member, without_member, with_mark, without_mark, forgotten, is_marked, is_marked_without};
+ghost use Rattle.ele_groups.specs.Faults.{make_fault, drop_fault, add_fault, remove_fault, mark_fault, unmark_fault, Fails, answer_of};
+ghost use Rattle.ele_groups.specs.Rows.{row_of};
+
+use crate::covering::covers;
+use crate::fault::GroupFault;
+use crate::group::Group;
+use crate::places::{last_by, leave, stands_at};
+use crate::rows::{add_to, mark_at, remove_from, unmark_at};
+use crate::span::{Except, Span};
+use ele_lists::{Index, ListOf};
+use ele_moment::{FileId, Moment, Name, NoMemory};
+use ele_world::GroupRow;
+use std::alloc::Global;
+use std::collections::{BTreeMap, HashMap};
+use std::marker::Model;
+
+/// All groups, each with a serial number in order of making; the number of each name, and the numbers
+/// of each file's groups.
+#[derive(Drop)]
+pub struct Groups {
+    rows: BTreeMap<u64, Group>,
+    made: u64,
+    serials: HashMap<Name, u64>,
+    places: Index<FileId>,
+    alloc: Global,
+}
+
+impl Model for Groups {
+    ghost use Rattle.std.specs.Prelude.{List};
+    ghost use Rattle.std.specs.Map.{values_of};
+    ghost use Rattle.ele_world.specs.declared.rows.GroupRow.{GroupRow};
+    ghost use Rattle.std.specs.HashMap.{get};
+    ghost use Rattle.std.specs.Str.{bytes_eq};
+    ghost use Rattle.ele_groups.specs.Kept.{AreKept};
+
+    ghost Value = { List GroupRow };
+
+    ghost view = { λ groups. values_of groups.rows.entries };
+
+    ghost invariant = { λ groups. AreKept groups.rows.entries groups.made (λ name. get bytes_eq groups.serials name) groups.places };
+}
+
+impl Groups {
+    /// No groups. It takes no memory; later calls take theirs from `alloc`.
+    pub fn new(alloc: Global) -> Groups
+        ensures { result ≡ [] }
+    {
+        Groups {
+            rows: BTreeMap::new(alloc),
+            made: 0,
+            serials: HashMap::new(alloc),
+            places: Index::new(alloc),
+            alloc,
+        }
+    }
+
+    /// Makes a group, which has no file and no mark. `NoMemory` where there is no room for it, or no
+    /// serial number: 2^64 groups were made then.
+    pub fn make(&mut self, name: &Name) -> Result<(), GroupFault>
+        ensures allowed { OnOk result (make_fault self.old name.now ≡ None) }
+        ensures made { OnOk result (self.new ≡ with_group name.now self.old) }
+        ensures fault { IfErr result (Fails (make_fault self.old name.now)) }
+        ensures unchanged { OnErr result (self.new ≡ self.old) }
+    {
+        if self.has_group(name) {
+            return Err(GroupFault::GroupExists);
+        }
+        match self.insert_group(name) {
+            Ok(()) => Ok(()),
+            Err(NoMemory) => Err(GroupFault::NoMemory),
+        }
+    }
+
+    /// Drops a group with its marks. It takes no memory.
+    pub fn drop_group(&mut self, name: &Name) -> Result<(), GroupFault>
+        ensures answer { result ≡ answer_of (drop_fault self.old name.now) }
+        ensures dropped { OnOk result (self.new ≡ without_group name.now self.old) }
+        ensures unchanged { OnErr result (self.new ≡ self.old) }
+    {
+        if !self.has_group(name) {
+            return Err(GroupFault::NoGroup);
+        }
+        self.take_group(name);
+        Ok(())
+    }
+
+    /// Adds a file to a group, behind the files that it has.
+    pub fn add(&mut self, name: &Name, file: FileId) -> Result<(), GroupFault>
+        ensures allowed { OnOk result (add_fault self.old name.now file ≡ None) }
+        ensures added { OnOk result (self.new ≡ with_member name.now file self.old) }
+        ensures fault { IfErr result (Fails (add_fault self.old name.now file)) }
+        ensures unchanged { OnErr result (self.new ≡ self.old) }
+    {
+        if !self.has_group(name) {
+            return Err(GroupFault::NoGroup);
+        }
+        if self.is_member(name, file) {
+            return Err(GroupFault::AlreadyMember);
+        }
+        match self.insert_member(name, file) {
+            Ok(()) => Ok(()),
+            Err(NoMemory) => Err(GroupFault::NoMemory),
+        }
+    }
+
+    /// Takes a file out of a group. It takes no memory.
+    pub fn remove(&mut self, name: &Name, file: FileId) -> Result<(), GroupFault>
+        ensures answer { result ≡ answer_of (remove_fault self.old name.now file) }
+        ensures removed { OnOk result (self.new ≡ without_member name.now file self.old) }
+        ensures unchanged { OnErr result (self.new ≡ self.old) }
+    {
+        if !self.has_group(name) {
+            return Err(GroupFault::NoGroup);
+        }
+        if !self.is_member(name, file) {
+            return Err(GroupFault::NotMember);
+        }
+        self.take_member(name, file);
+        Ok(())
+    }
+
+    /// Marks a group at a moment, behind the marks that it has.
+    pub fn mark(&mut self, name: &Name, moment: Moment) -> Result<(), GroupFault>
+        ensures allowed { OnOk result (mark_fault self.old name.now moment ≡ None) }
+        ensures marked { OnOk result (self.new ≡ with_mark name.now moment self.old) }
+        ensures fault { IfErr result (Fails (mark_fault self.old name.now moment)) }
+        ensures unchanged { OnErr result (self.new ≡ self.old) }
+    {
+        if !self.has_group(name) {
+            return Err(GroupFault::NoGroup);
+        }
+        if self.has_mark(name, moment) {
+            return Err(GroupFault::MarkExists);
+        }
+        match self.insert_mark(name, moment) {
+            Ok(()) => Ok(()),
+            Err(NoMemory) => Err(GroupFault::NoMemory),
+        }
+    }
+
+    /// Takes a mark out of a group. It takes no memory.
+    pub fn unmark(&mut self, name: &Name, moment: Moment) -> Result<(), GroupFault>
+        ensures answer { result ≡ answer_of (unmark_fault self.old name.now moment) }
+        ensures unmarked { OnOk result (self.new ≡ without_mark name.now moment self.old) }
+        ensures unchanged { OnErr result (self.new ≡ self.old) }
+    {
+        if !self.has_group(name) {
+            return Err(GroupFault::NoGroup);
+        }
+        if !self.has_mark(name, moment) {
+            return Err(GroupFault::NoMark);
+        }
+        self.take_mark(name, moment);
+        Ok(())
+    }
+
+    /// Takes the file out of every group. It takes no memory.
+    pub fn forget_file(&mut self, file: FileId)
+        ensures { self.new ≡ forgotten file self.old }
+    {
+        while self.forget_one(file) {}
+    }
+
+    /// Whether a group that has the file has a mark within the moments: not before `closed`, and
+    /// before `ended`, if there is an end.
+    pub fn covering(&self, file: FileId, closed: Moment, ended: Option<Moment>) -> bool
+        ensures { result ≡ is_marked self.now file closed ended }
+    {
+        let except = None;
+        let span = Span {
+            closed,
+            ended,
+            except,
+        };
+        covers(&self.rows, &self.places, self.made, file, &span)
+    }
+
+    /// Whether one has, that mark of that group left out, or the whole group where no mark is named.
+    pub fn covering_without(
+        &self,
+        name: &Name,
+        mark: Option<Moment>,
+        file: FileId,
+        closed: Moment,
+        ended: Option<Moment>,
+    ) -> bool
+        ensures { result ≡ is_marked_without self.now name.now mark file closed ended }
+    {
+        let except = Some(Except { name: *name, mark });
+        let span = Span {
+            closed,
+            ended,
+            except,
+        };
+        covers(&self.rows, &self.places, self.made, file, &span)
+    }
+
+    /// Whether there is a group of that name.
+    pub fn has_group(&self, name: &Name) -> bool
+        ensures { result ≡ has_group self.now name.now }
+    {
+        self.serials.contains_key(name)
+    }
+
+    /// Whether the group of that name has the file.
+    pub fn is_member(&self, name: &Name, file: FileId) -> bool
+        ensures { result ≡ has_member self.now name.now file }
+    {
+        match serial_of(&self.serials, name) {
+            Some(serial) => stands_at(&self.places, file, serial),
+            None => false,
+        }
+    }
+
+    /// Whether the group of that name was marked at the moment.
+    pub fn has_mark(&self, name: &Name, moment: Moment) -> bool
+        ensures { result ≡ is_marked_at self.now name.now moment }
+    {
+        match self.named(name) {
+            Some(group) => group.has_mark(moment),
+            None => false,
+        }
+    }
+
+    /// How many groups there are.
+    pub fn len(&self) -> usize
+        ensures { result ≡ length self.now }
+    {
+        self.rows.len()
+    }
+
+    /// The name, the files and the marks of the group at that place in order of making. It passes over
+    /// the groups before it.
+    pub fn group(&self, place: usize) -> Option<(&Name, &[FileId], &[Moment])>
+        ensures some { IfSome result (λ group. slice_get self.now place
+            ≡ Some (row_of group.0.now group.1.now group.2.now)) }
+        ensures none { IfNone result (slice_get self.now place ≡ None) }
+    {
+        let group = self.rows.values().nth(place)?;
+        Some((group.name(), group.members(), group.marks()))
+    }
+
+    /// A copy of all rows, in order of making.
+    pub fn rows(&self) -> Result<ListOf<GroupRow>, NoMemory>
+        ensures { IfOk result (λ rows. rows ≡ self.now) }
+    {
+        let mut rows = Vec::new(self.alloc);
+        for group in self.rows.values() {
+            rows.push(group.row(self.alloc)?)?;
+        }
+        Ok(ListOf::from_vec(rows))
+    }
+
+    /// A copy of the group's files, in order of adding; none where there is no such group.
+    pub fn members(&self, name: &Name) -> Result<Vec<FileId>, NoMemory>
+        ensures { IfOk result (λ files. files.items ≡ members_of self.now name.now) }
+    {
+        match self.named(name) {
+            Some(group) => Ok(Vec::from_slice(self.alloc, group.members())?),
+            None => Ok(Vec::new(self.alloc)),
+        }
+    }
+
+    /// A copy of the group's marks, in order of making; none where there is no such group.
+    pub fn marks(&self, name: &Name) -> Result<Vec<Moment>, NoMemory>
+        ensures { IfOk result (λ marks. marks.items ≡ marks_of self.now name.now) }
+    {
+        match self.named(name) {
+            Some(group) => Ok(Vec::from_slice(self.alloc, group.marks())?),
+            None => Ok(Vec::new(self.alloc)),
+        }
+    }
+
+    // The group of that name.
+    fn named(&self, name: &Name) -> Option<&Group>
+        ensures { option_copied result ≡ group_named self.now name.now }
+    {
+        let serial = serial_of(&self.serials, name)?;
+        self.rows.get(&serial)
+    }
+
+    // This and the five below make the changes, once no fault stands against them.
+    fn insert_group(&mut self, name: &Name) -> Result<(), NoMemory>
+        requires { has_group self.old name.now ≡ false }
+        ensures ok { OnOk result (self.new ≡ with_group name.now self.old) }
+        ensures err { OnErr result (self.new ≡ self.old) }
+    {
+        let serial = self.made;
+        let Some(made) = serial.checked_add(1) else {
+            return Err(NoMemory);
+        };
+        self.serials.reserve(1)?;
+        if let Err(_refused) = self.rows.insert(serial, Group::new(*name, self.alloc)) {
+            return Err(NoMemory);
+        }
+        if let Err(_refused) = self.serials.insert(*name, serial) {
+            unreachable!()
+        }
+        self.made = made;
+        Ok(())
+    }
+
+    fn take_group(&mut self, name: &Name)
+        ensures { self.new ≡ without_group name.now self.old }
+    {
+        let Some(serial) = self.serials.remove(name) else {
+            return;
+        };
+        let Some(group) = self.rows.remove(&serial) else {
+            unreachable!()
+        };
+        leave(&mut self.places, group.members(), serial);
+    }
+
+    // The place comes first: it can be taken back without memory.
+    fn insert_member(&mut self, name: &Name, file: FileId) -> Result<(), NoMemory>
+        requires { has_member self.old name.now file ≡ false }
+        ensures ok { OnOk result (self.new ≡ with_member name.now file self.old) }
+        ensures err { OnErr result (self.new ≡ self.old) }
+    {
+        let Some(serial) = serial_of(&self.serials, name) else {
+            return Ok(());
+        };
+        self.places.insert(file, serial, serial)?;
+        if let Err(_refused) = add_to(&mut self.rows, serial, file) {
+            self.places.remove(file, serial, serial);
+            return Err(NoMemory);
+        }
+        Ok(())
+    }
+
+    fn take_member(&mut self, name: &Name, file: FileId)
+        ensures { self.new ≡ without_member name.now file self.old }
+    {
+        if let Some(serial) = serial_of(&self.serials, name) {
+            remove_from(&mut self.rows, serial, file);
+            self.places.remove(file, serial, serial);
+        }
+    }
+
+    fn insert_mark(&mut self, name: &Name, moment: Moment) -> Result<(), NoMemory>
+        requires { is_marked_at self.old name.now moment ≡ false }
+        ensures ok { OnOk result (self.new ≡ with_mark name.now moment self.old) }
+        ensures err { OnErr result (self.new ≡ self.old) }
+    {
+        match serial_of(&self.serials, name) {
+            Some(serial) => mark_at(&mut self.rows, serial, moment),
+            None => Ok(()),
+        }
+    }
+
+    fn take_mark(&mut self, name: &Name, moment: Moment)
+        ensures { self.new ≡ without_mark name.now moment self.old }
+    {
+        if let Some(serial) = serial_of(&self.serials, name) {
+            unmark_at(&mut self.rows, serial, moment);
+        }
+    }
+
+    // Takes the file out of one group that has it, and answers whether one had.
+    fn forget_one(&mut self, file: FileId) -> bool
+        ensures others { forgotten file self.new ≡ forgotten file self.old }
+        ensures fewer { IsTrue result
+            → length (filter (is_member file) self.new) < length (filter (is_member file) self.old) }
+        ensures none { result ≡ false → forgotten file self.new ≡ self.new }
+    {
+        let Some(serial) = last_by(&self.places, file, u64::MAX) else {
+            return false;
+        };
+        remove_from(&mut self.rows, serial, file);
+        self.places.remove(file, serial, serial);
+        true
+    }
+}
+
+// The serial number of the group of that name.
+fn serial_of(serials: &HashMap<Name, u64>, name: &Name) -> Option<u64>
+    ensures { result ≡ get bytes_eq serials.now name.now }
+{
+    serials.get(name).copied()
+}

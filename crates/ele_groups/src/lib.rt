@@ -1,0 +1,16 @@
+//! Groups of files, and the moments at which they were marked.
+//! A contract sees them as the list of their rows in order of making.
+#![tactic(auto)]
+
+mod covering;
+mod fault;
+mod group;
+mod groups;
+mod marks;
+mod places;
+mod rows;
+mod span;
+mod taken;
+
+pub use fault::GroupFault;
+pub use groups::Groups;

@@ -1,0 +1,121 @@
+-- What rows of groups say of a name, a file or a moment, and what changes of groups make of them.
+use Rattle.std.specs.Prelude.{ℕ, ◌==◌, ◌&&◌, nat_le, nat_lt, not, Bool, true, false, List, [], ◌∷◌, ◌++◌, Option, Some, None, find, filter, map}
+use Rattle.std.specs.List.{list_any}
+use Rattle.std.specs.Option.{option_map_or}
+use Rattle.std.specs.Str.{bytes_eq}
+use Rattle.ele_lists.specs.Lists.{update_first, remove_first}
+use Rattle.ele_world.specs.declared.rows.GroupRow.{GroupRow}
+
+-- a new group, which has no file and no mark
+abbrev pub new_group : List ℕ → GroupRow
+new_group name = record { name = name; members = []; marks = [] }
+
+-- the group has that name
+abbrev pub is_group : List ℕ → GroupRow → Bool
+is_group name row = bytes_eq row.name name
+
+-- the group has the file
+abbrev pub is_member : ℕ → GroupRow → Bool
+is_member file row = list_any (λ member. member == file) row.members
+
+-- the group was marked at the moment
+abbrev pub has_mark : ℕ → GroupRow → Bool
+has_mark mark row = list_any (λ made. made == mark) row.marks
+
+-- the group of that name
+abbrev pub group_named : List GroupRow → List ℕ → Option GroupRow
+group_named rows name = find (is_group name) rows
+
+-- some group has that name
+abbrev pub has_group : List GroupRow → List ℕ → Bool
+has_group rows name = list_any (is_group name) rows
+
+-- the group of that name has that file
+abbrev pub has_member : List GroupRow → List ℕ → ℕ → Bool
+has_member rows name file = option_map_or (is_member file) (group_named rows name) false
+
+-- the group of that name was marked at the moment
+abbrev pub is_marked_at : List GroupRow → List ℕ → ℕ → Bool
+is_marked_at rows name mark = option_map_or (has_mark mark) (group_named rows name) false
+
+-- the files of the group of that name, none where there is no such group
+abbrev pub members_of : List GroupRow → List ℕ → List ℕ
+members_of rows name = option_map_or (λ row. row.members) (group_named rows name) []
+
+-- the marks of the group of that name, none where there is no such group
+abbrev pub marks_of : List GroupRow → List ℕ → List ℕ
+marks_of rows name = option_map_or (λ row. row.marks) (group_named rows name) []
+
+-- the group with one file more
+abbrev pub adds : ℕ → GroupRow → GroupRow
+adds file row = record row { members = row.members ++ file ∷ [] }
+
+-- the group without the file
+abbrev pub removes : ℕ → GroupRow → GroupRow
+removes file row = record row { members = remove_first (λ member. member == file) row.members }
+
+-- the group with one mark more
+abbrev pub marks : ℕ → GroupRow → GroupRow
+marks mark row = record row { marks = row.marks ++ mark ∷ [] }
+
+-- the group without the mark
+abbrev pub unmarks : ℕ → GroupRow → GroupRow
+unmarks mark row = record row { marks = remove_first (λ made. made == mark) row.marks }
+
+-- with a new group behind the others
+abbrev pub with_group : List ℕ → List GroupRow → List GroupRow
+with_group name rows = rows ++ new_group name ∷ []
+
+-- without the group of that name
+abbrev pub without_group : List ℕ → List GroupRow → List GroupRow
+without_group name rows = remove_first (is_group name) rows
+
+-- with the file in the group of that name
+abbrev pub with_member : List ℕ → ℕ → List GroupRow → List GroupRow
+with_member name file rows = update_first (is_group name) (adds file) rows
+
+-- without the file in the group of that name
+abbrev pub without_member : List ℕ → ℕ → List GroupRow → List GroupRow
+without_member name file rows = update_first (is_group name) (removes file) rows
+
+-- with the mark in the group of that name
+abbrev pub with_mark : List ℕ → ℕ → List GroupRow → List GroupRow
+with_mark name mark rows = update_first (is_group name) (marks mark) rows
+
+-- without the mark in the group of that name
+abbrev pub without_mark : List ℕ → ℕ → List GroupRow → List GroupRow
+without_mark name mark rows = update_first (is_group name) (unmarks mark) rows
+
+-- the group without the file, wherever it stands
+abbrev pub forgets : ℕ → GroupRow → GroupRow
+forgets file row = record row { members = filter (λ member. not (member == file)) row.members }
+
+-- every group without the file
+abbrev pub forgotten : ℕ → List GroupRow → List GroupRow
+forgotten file rows = map (forgets file) rows
+
+-- what was current from the one moment until the other, or still is, was current at the mark
+abbrev pub covers_moment : ℕ → Option ℕ → ℕ → Bool
+covers_moment closed ended mark = nat_le closed mark && option_map_or (λ end. nat_lt mark end) ended true
+
+-- some mark of the group covers
+abbrev pub has_covering : ℕ → Option ℕ → GroupRow → Bool
+has_covering closed ended row = list_any (covers_moment closed ended) row.marks
+
+-- some group that has the file has a mark that covers
+abbrev pub is_marked : List GroupRow → ℕ → ℕ → Option ℕ → Bool
+is_marked rows file closed ended = list_any (λ row. is_member file row && has_covering closed ended row) rows
+
+-- the mark is left out: it is the one, or where none is named any of the group's
+abbrev pub is_left_out : Option ℕ → ℕ → Bool
+is_left_out left mark = option_map_or (λ one. mark == one) left true
+
+-- some mark of the group covers, those left out aside
+abbrev pub has_covering_without : List ℕ → Option ℕ → ℕ → Option ℕ → GroupRow → Bool
+has_covering_without name left closed ended row =
+    list_any (λ mark. covers_moment closed ended mark && not (is_group name row && is_left_out left mark)) row.marks
+
+-- some group that has the file has a mark that covers, without that mark of that group, or without the whole group
+abbrev pub is_marked_without : List GroupRow → List ℕ → Option ℕ → ℕ → ℕ → Option ℕ → Bool
+is_marked_without rows name left file closed ended =
+    list_any (λ row. is_member file row && has_covering_without name left closed ended row) rows
