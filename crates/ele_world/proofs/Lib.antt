@@ -38,6 +38,7 @@ pub mod Neighbours
 pub mod NewestHeld
 pub mod AppendMoments
 pub mod PolicyMoments
+pub mod GroupMoments
 pub mod PolicyUsage
 pub mod Revivals
 pub mod Meant

@@ -14,6 +14,7 @@ use Rattle.ele_world.specs.declared.rows.Target.{Target}
 use Rattle.ele_world.specs.declared.rows.Target.TheVariants.{File, Directory}
 use Rattle.ele_world.specs.declared.rows.VersionRow.{VersionRow}
 use Rattle.ele_world.specs.FileView.{is_version_of}
+use Rattle.ele_world.specs.GroupRows.{with_group, without_group, with_member, without_member, with_mark, without_mark, forgotten}
 use Rattle.ele_world.specs.NameRows.{born_row, dies}
 use Rattle.ele_world.specs.Walk.{is_live_name}
 use Rattle.ele_world.specs.World.{World, is_directory, is_file, next_of, is_version, is_version_after, is_target_file, is_live, current_of, is_draft, has_draft, is_draft_after, is_handle}
@@ -38,6 +39,12 @@ pub data Change : Type 0 where
   OpenHandle : (number : ℕ) → (reads : Reads) → Change
   ShutHandle : (number : ℕ) → Change
   DropIdle : (file : ℕ) → Change
+  MakeGroup : (name : List ℕ) → Change
+  DropGroup : (name : List ℕ) → Change
+  AddMember : (name : List ℕ) → (file : ℕ) → Change
+  RemoveMember : (name : List ℕ) → (file : ℕ) → Change
+  AddMark : (name : List ℕ) → (mark : ℕ) → Change
+  RemoveMark : (name : List ℕ) → (mark : ℕ) → Change
 
 -- ---- directories, files and names
 
@@ -77,11 +84,12 @@ without_name w directory name = record w { names = update_first (is_live_name di
 abbrev pub is_idle : World → ℕ → Bool
 is_idle w file = not (is_live w file) && (not (list_any (is_version_of file) w.versions) && not (has_draft w file))
 
--- the file goes, and its dead names with it
+-- the file goes, and its dead names with it, and leaves its groups
 abbrev pub without_file : World → ℕ → World
 without_file w file = record w {
   files = remove_first (is_file file) w.files;
   names = filter (λ row. not (is_target_file file row.target)) w.names;
+  groups = forgotten file w.groups;
 }
 
 -- ---- versions
@@ -173,6 +181,15 @@ after_change w (OpenHandle number reads) = record w {
 after_change w (ShutHandle number) = record w { handles = remove_first (is_handle number) w.handles }
 -- the file goes if nothing is left of it
 after_change w (DropIdle file) = if is_idle w file then without_file w file else w
+after_change w (MakeGroup name) = record w { groups = with_group name w.groups; made = record w.made { groups = w.made.groups + 1 } }
+after_change w (DropGroup name) = record w { groups = without_group name w.groups }
+after_change w (AddMember name file) = record w {
+  groups = with_member name file w.groups;
+  made = record w.made { members = w.made.members + 1 };
+}
+after_change w (RemoveMember name file) = record w { groups = without_member name file w.groups }
+after_change w (AddMark name mark) = record w { groups = with_mark name mark w.groups; made = record w.made { marks = w.made.marks + 1 } }
+after_change w (RemoveMark name mark) = record w { groups = without_mark name mark w.groups }
 
 -- one after the other
 abbrev pub after_changes : World → List Change → World

@@ -1,5 +1,5 @@
 -- One file as its policy sees it: all that the fate of its versions depends on.
-use Rattle.std.specs.Prelude.{ℕ, ◌==◌, nat_lt, Bool, false, not, ◌&&◌, List, Option, Some, None, filter, find, map, option_and_then, if◌then◌else◌}
+use Rattle.std.specs.Prelude.{ℕ, ◌==◌, nat_lt, Bool, false, not, ◌&&◌, ◌||◌, List, Option, Some, None, filter, find, map, option_and_then, if◌then◌else◌}
 use Rattle.std.specs.List.{list_any, filter_map}
 use Rattle.std.specs.Option.{option_map_or}
 use Rattle.ele_policy.specs.declared.policy.Policy.{Policy}
@@ -8,15 +8,17 @@ use Rattle.ele_world.specs.declared.rows.HandleRow.{HandleRow}
 use Rattle.ele_world.specs.declared.rows.Reads.{Reads}
 use Rattle.ele_world.specs.declared.rows.Reads.TheVariants.{Draft, Version}
 use Rattle.ele_world.specs.declared.rows.VersionRow.{VersionRow}
+use Rattle.ele_world.specs.GroupRows.{covers_moment, marks_over}
 use Rattle.ele_world.specs.World.{World, policy_of, is_live}
 
--- its policy, if the file is there; its held versions by number; whether it is live; and the numbers of the versions that
--- handles read
+-- its policy, if the file is there; its held versions by number; whether it is live; the numbers of the versions that handles
+-- read; and the moments at which groups that have it were marked
 pub record FileView : Type 0 where
   pub policy : Option Policy
   pub rows : List VersionRow
   pub live : Bool
   pub pinned : List ℕ
+  pub marks : List ℕ
 
 abbrev pub is_version_of : ℕ → VersionRow → Bool
 is_version_of file row = row.file == file
@@ -36,6 +38,7 @@ view_of w file = record {
   rows = filter (is_version_of file) w.versions;
   live = is_live w file;
   pinned = numbers_read w.handles file;
+  marks = marks_over w.groups file;
 }
 
 abbrev pub is_newer : VersionRow → VersionRow → Bool
@@ -48,9 +51,9 @@ closings rows = map (λ row. row.closed) rows
 abbrev pub beside : FileView → VersionRow → Beside
 beside v row = record { newer = closings (filter (is_newer row) v.rows); live = v.live }
 
--- the version is open: a handle reads it
+-- the version is open, as a handle reads it, or marked: it was current at one of the marks
 abbrev pub is_protected : FileView → VersionRow → ℕ → Bool
-is_protected v row at = list_any (λ number. number == row.number) v.pinned
+is_protected v row at = list_any (λ number. number == row.number) v.pinned || list_any (covers_moment row.closed row.ended) v.marks
 
 -- the version has ended at that moment or before it, isn't protected then, and the file's policy lets it go
 abbrev pub due_in : FileView → VersionRow → ℕ → Bool

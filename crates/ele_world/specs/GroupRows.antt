@@ -1,6 +1,6 @@
 -- What rows of groups say of a name, a file or a moment, and what changes of groups make of them.
 use Rattle.std.specs.Prelude.{ℕ, ◌==◌, ◌&&◌, nat_le, nat_lt, not, Bool, true, false, List, [], ◌∷◌, ◌++◌, Option, Some, None, find, filter, map}
-use Rattle.std.specs.List.{list_any}
+use Rattle.std.specs.List.{flat_map, list_any}
 use Rattle.std.specs.Option.{option_map_or}
 use Rattle.std.specs.Str.{bytes_eq}
 use Rattle.ele_lists.specs.Lists.{update_first, remove_first}
@@ -105,6 +105,10 @@ has_covering closed ended row = list_any (covers_moment closed ended) row.marks
 -- some group that has the file has a mark that covers
 abbrev pub is_marked : List GroupRow → ℕ → ℕ → Option ℕ → Bool
 is_marked rows file closed ended = list_any (λ row. is_member file row && has_covering closed ended row) rows
+
+-- the moments at which groups that have the file were marked
+abbrev pub marks_over : List GroupRow → ℕ → List ℕ
+marks_over rows file = flat_map (λ row. row.marks) (filter (is_member file) rows)
 
 -- the mark is left out: it is the one, or where none is named any of the group's
 abbrev pub is_left_out : Option ℕ → ℕ → Bool

@@ -33,6 +33,7 @@ pub mod CloseKeeps
 pub mod OnlyDueLeave
 pub mod HeldStays
 pub mod OpenStays
+pub mod MarkedStays
 pub mod RevertKeeps
 pub mod Ever
 pub mod OneLife

@@ -1,7 +1,7 @@
 -- An event that is refused changes nothing, and neither does one that only asks.
 use Rattle.std.specs.Prelude.{◌≡◌, Bool, true, false}
 use Rattle.ele_world.specs.declared.event.Event.{Event}
-use Rattle.ele_world.specs.declared.event.Event.TheVariants.{Read, Stat, Versions, List, Restorable, Due, UsageAll}
+use Rattle.ele_world.specs.declared.event.Event.TheVariants.{Read, Stat, Versions, List, Restorable, Due, UsageAll, GroupsAll}
 use Rattle.ele_world.specs.declared.refusal.Refusal.{Refusal}
 use Rattle.ele_world.specs.declared.reply.Reply.TheVariants.{Refused}
 use Rattle.ele_world.specs.Step.{step}
@@ -19,6 +19,7 @@ asks (List at) = true
 asks Restorable = true
 asks Due = true
 asks UsageAll = true
+asks GroupsAll = true
 asks event = false
 
 abbrev pub AskingStays : Type 0

@@ -2,7 +2,7 @@
 use Rattle.std.specs.Prelude.{◌≡◌, ℕ, suc, zero, ◌<◌, ◌≤◌, List, [], ◌∷◌, None, IsSome}
 use Rattle.ele_moment.specs.Last.{last_moment}
 use Rattle.ele_world.specs.declared.event.Event.{Event}
-use Rattle.ele_world.specs.declared.event.Event.TheVariants.{Clock, Tick, MakeDir, RemoveDir, Create, Link, Unlink, Rename, Undelete, OpenWrite, OpenRead, Write, Truncate, Close, Revert, SetPolicy, SetDefault, CleanOne, Read, Stat, Versions, List as ListNames, Restorable, Due, UsageAll}
+use Rattle.ele_world.specs.declared.event.Event.TheVariants.{Clock, Tick, MakeDir, RemoveDir, Create, Link, Unlink, Rename, Undelete, OpenWrite, OpenRead, Write, Truncate, Close, Revert, SetPolicy, SetDefault, GroupMake, GroupDrop, GroupAdd, GroupRemove, Mark, Unmark, CleanOne, Read, Stat, Versions, List as ListNames, Restorable, Due, UsageAll, GroupsAll}
 use Rattle.ele_world.specs.Scan.{first_due}
 use Rattle.ele_world.specs.Step.{step, clean_step}
 use Rattle.ele_policy.specs.Policy.{IsPolicy}
@@ -32,6 +32,12 @@ IsEvent (Close handle) = Unit {0}
 IsEvent (Revert path number) = Unit {0}
 IsEvent (SetPolicy path policy) = IsPolicy policy
 IsEvent (SetDefault path policy) = IsPolicy policy
+IsEvent (GroupMake name) = Unit {0}
+IsEvent (GroupDrop name) = Unit {0}
+IsEvent (GroupAdd name path) = Unit {0}
+IsEvent (GroupRemove name path) = Unit {0}
+IsEvent (Mark name mark) = Unit {0}
+IsEvent (Unmark name mark) = Unit {0}
 IsEvent CleanOne = Unit {0}
 IsEvent (Read source) = Unit {0}
 IsEvent (Stat tagged) = Unit {0}
@@ -40,6 +46,7 @@ IsEvent (ListNames at) = Unit {0}
 IsEvent Restorable = Unit {0}
 IsEvent Due = Unit {0}
 IsEvent UsageAll = Unit {0}
+IsEvent GroupsAll = Unit {0}
 
 -- the world after so many clean events
 abbrev pub after_cleans : ℕ → World → World

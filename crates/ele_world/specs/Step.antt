@@ -8,17 +8,18 @@ use Rattle.ele_moment.specs.Last.{last_moment}
 use Rattle.ele_lists.specs.Lists.{remove_first}
 use Rattle.ele_time_path.specs.declared.tagged.Tag.TheVariants as tag
 use Rattle.ele_world.specs.declared.event.Event.{Event}
-use Rattle.ele_world.specs.declared.event.Event.TheVariants.{Clock, Tick, MakeDir, RemoveDir, Create, Link, Unlink, Rename, Undelete, OpenWrite, OpenRead, Write, Truncate, Close, Revert, SetPolicy, SetDefault, CleanOne, Read, Stat, Versions, List as ListNames, Restorable, Due, UsageAll}
+use Rattle.ele_world.specs.declared.event.Event.TheVariants.{Clock, Tick, MakeDir, RemoveDir, Create, Link, Unlink, Rename, Undelete, OpenWrite, OpenRead, Write, Truncate, Close, Revert, SetPolicy, SetDefault, GroupMake, GroupDrop, GroupAdd, GroupRemove, Mark, Unmark, CleanOne, Read, Stat, Versions, List as ListNames, Restorable, Due, UsageAll, GroupsAll}
 use Rattle.ele_world.specs.declared.event.Source.TheVariants.{Tagged, Of}
-use Rattle.ele_world.specs.declared.refusal.Refusal.TheVariants.{ClockBack, ClockEnd, Exists, NotEmpty, IntoItself, TooBig, Drafting, NotRestorable, Full}
+use Rattle.ele_world.specs.declared.refusal.Refusal.TheVariants.{ClockBack, ClockEnd, Exists, NotEmpty, IntoItself, TooBig, Drafting, NotRestorable, NoGroup, GroupExists, NoMark, MarkExists, NotPast, AlreadyMember, NotMember, Full}
 use Rattle.ele_world.specs.declared.refusal.Which.TheVariants as which
 use Rattle.ele_world.specs.declared.reply.Reply.{Reply}
-use Rattle.ele_world.specs.declared.reply.Reply.TheVariants.{Done, Nothing, Now, Directory, File, Handle, Version, Closed, Removed, Bytes, Rows, NameList, RestoreList, DueList, UsageList}
+use Rattle.ele_world.specs.declared.reply.Reply.TheVariants.{Done, Nothing, Now, Directory, File, Handle, Version, Closed, Removed, Bytes, Rows, NameList, RestoreList, DueList, UsageList, GroupList}
 use Rattle.ele_world.specs.declared.rows.Reads.{Reads}
 use Rattle.ele_world.specs.declared.rows.Reads.TheVariants as reads
 use Rattle.ele_world.specs.declared.rows.Target.TheVariants as target
-use Rattle.ele_world.specs.Change.{Time, Govern, MakeDirectory, EndName, AddName, MoveName, EndFileName, Revive, MakeFile, PutUnder, Append, Take, StartDraft, WriteDraft, TruncateDraft, EndDraft, OpenHandle, ShutHandle, DropIdle}
+use Rattle.ele_world.specs.Change.{Time, Govern, MakeDirectory, EndName, AddName, MoveName, EndFileName, Revive, MakeFile, PutUnder, Append, Take, StartDraft, WriteDraft, TruncateDraft, EndDraft, OpenHandle, ShutHandle, DropIdle, MakeGroup, DropGroup, AddMember, RemoveMember, AddMark, RemoveMark}
 use Rattle.ele_world.specs.FileView.{is_version_of}
+use Rattle.ele_world.specs.GroupRows.{has_group, has_member, is_marked_at}
 use Rattle.ele_world.specs.NameRows.{is_live_in}
 use Rattle.ele_world.specs.Plan.{Plan, Tell, Make, Unless, When, Need, IfFound, outcome}
 use Rattle.ele_world.specs.Restorable.{may_return, last_target, nameless, restorable}
@@ -167,6 +168,38 @@ plan w (SetPolicy path policy) =
 -- files that are made in the directory from now on get the policy
 plan w (SetDefault path policy) =
     Need (directory_now w.names path) (λ directory. Make Done (Govern directory policy ∷ []))
+-- a group of that name
+plan w (GroupMake name) =
+    Unless (has_group w.groups name) GroupExists
+    (Unless (nat_le w.limits.groups w.made.groups) (Full which.Groups)
+    (Make Done (MakeGroup name ∷ [])))
+-- the group goes with its marks
+plan w (GroupDrop name) = Unless (not (has_group w.groups name)) NoGroup (Make Done (DropGroup name ∷ []))
+-- the group has the file, also for the marks that it has
+plan w (GroupAdd name path) =
+    Unless (not (has_group w.groups name)) NoGroup
+    (Need (file_now w.names path) (λ file.
+    Unless (has_member w.groups name file) AlreadyMember
+    (Unless (nat_le w.limits.members w.made.members) (Full which.Members)
+    (Make Done (AddMember name file ∷ [])))))
+-- the group has the file no longer
+plan w (GroupRemove name path) =
+    Unless (not (has_group w.groups name)) NoGroup
+    (Need (file_now w.names path) (λ file.
+    Unless (not (has_member w.groups name file)) NotMember
+    (Make Done (RemoveMember name file ∷ []))))
+-- the group is marked at a moment that has passed
+plan w (Mark name mark) =
+    Unless (not (has_group w.groups name)) NoGroup
+    (Unless (nat_le w.now mark) NotPast
+    (Unless (is_marked_at w.groups name mark) MarkExists
+    (Unless (nat_le w.limits.marks w.made.marks) (Full which.Marks)
+    (Make Done (AddMark name mark ∷ [])))))
+-- the group is marked no longer at the moment
+plan w (Unmark name mark) =
+    Unless (not (has_group w.groups name)) NoGroup
+    (Unless (not (is_marked_at w.groups name mark)) NoMark
+    (Make Done (RemoveMark name mark ∷ [])))
 -- the first version of the scan goes, and with it a file of which nothing else is left
 plan w CleanOne =
     IfFound (first_due w) (Tell Nothing) (λ key. Make (Removed key) (Take key.file key.number ∷ DropIdle key.file ∷ []))
@@ -185,6 +218,7 @@ plan w (ListNames at) =
 plan w Restorable = Tell (RestoreList (restorable w))
 plan w Due = Tell (DueList (scan w))
 plan w UsageAll = Tell (UsageList (usages w))
+plan w GroupsAll = Tell (GroupList w.groups)
 
 -- the reply to an event, and the world after it
 abbrev pub step : World → Event → Reply × World

@@ -1,6 +1,7 @@
 -- What is true of every world of a run, in parts: each takes only what it speaks of.
 use Rattle.std.specs.Prelude.{◌≡◌, ℕ, ◌+◌, ◌==◌, ◌<◌, ◌≤◌, ◌&&◌, ◌||◌, Bool, true, false, List, length, IfSome, Some, None, is_none}
 use Rattle.std.specs.List.{list_any, AllByRecursion}
+use Rattle.std.specs.Str.{bytes_eq}
 use Rattle.ele_content.specs.declared.cell.Cell.{Cell}
 use Rattle.ele_content.specs.Content.{content_of, longest_content, fill_slots}
 use Rattle.ele_moment.specs.Last.{last_moment}
@@ -11,6 +12,7 @@ use Rattle.ele_world.specs.declared.limits.Counts.{Counts}
 use Rattle.ele_world.specs.declared.rows.DirectoryRow.{DirectoryRow}
 use Rattle.ele_world.specs.declared.rows.DraftRow.{DraftRow}
 use Rattle.ele_world.specs.declared.rows.FileRow.{FileRow}
+use Rattle.ele_world.specs.declared.rows.GroupRow.{GroupRow}
 use Rattle.ele_world.specs.declared.rows.HandleRow.{HandleRow}
 use Rattle.ele_world.specs.declared.rows.NameRow.{NameRow}
 use Rattle.ele_world.specs.declared.rows.Reads.{Reads}
@@ -27,6 +29,9 @@ pub record AreCounted (made : Counts) (limits : Bounds) (files names versions dr
   pub names_made : made.names ≤ limits.names
   pub versions_made : made.versions + drafts ≤ limits.versions
   pub handles_made : made.handles ≤ limits.handles
+  pub groups_made : made.groups ≤ limits.groups
+  pub members_made : made.members ≤ limits.members
+  pub marks_made : made.marks ≤ limits.marks
   pub file_rows : files ≤ made.files
   pub name_rows : names ≤ made.names
   pub version_rows : versions ≤ made.versions
@@ -182,6 +187,19 @@ IsOfLive names row = row.ended ≡ None → list_any (is_live_name_of row.file) 
 abbrev pub HaveEnded : World → Type 0
 HaveEnded w = AllByRecursion (IsOfLive w.names) w.versions
 
+-- a group's files are there, and none is in it twice; its marks had passed when they were made, and none is made twice
+pub record IsGroup (files : List FileRow) (now : ℕ) (row : GroupRow) : Type 0 where
+  pub there : AllByRecursion (λ member. 0 < next_of files member) row.members
+  pub apart : AllLater (λ earlier later. (earlier == later) ≡ false) row.members
+  pub past : AllByRecursion (λ mark. mark < now) row.marks
+  pub once : AllLater (λ earlier later. (earlier == later) ≡ false) row.marks
+
+-- no two groups have one name, and each was counted
+pub record AreGroups (made : ℕ) (files : List FileRow) (now : ℕ) (rows : List GroupRow) : Type 0 where
+  pub each : AllByRecursion (IsGroup files now) rows
+  pub named : AllLater (λ earlier later. bytes_eq earlier.name later.name ≡ false) rows
+  pub counted : length rows ≤ made
+
 pub data Part : Type 0 where
   Now : Part
   Bounded : Part
@@ -197,6 +215,7 @@ pub data Part : Type 0 where
   Readers : Part
   Current : Part
   Ended : Part
+  Groups : Part
 
 abbrev pub Holds : World → Part → Type 0
 Holds w Now = w.now ≤ last_moment
@@ -213,6 +232,7 @@ Holds w Handles = AreHandles w.made.handles w.drafts w.handles
 Holds w Readers = AreHeldRead w.versions w.handles
 Holds w Current = HaveCurrent w
 Holds w Ended = HaveEnded w
+Holds w Groups = AreGroups w.made.groups w.files w.now w.groups
 
 -- each part holds
 pub record IsWellFormed (w : World) : Type 0 where

@@ -37,7 +37,8 @@ fresh_world limits = record {
   versions = [];
   drafts = [];
   handles = [];
-  made = record { files = 0; directories = 0; names = 0; versions = 0; handles = 0 };
+  groups = [];
+  made = record { files = 0; directories = 0; names = 0; versions = 0; handles = 0; groups = 0; members = 0; marks = 0 };
   limits = limits;
 }
 

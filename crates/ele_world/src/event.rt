@@ -1,6 +1,6 @@
 //! Events: the commands that a world takes.
 use ele_lists::ByteList;
-use ele_moment::{Handle, Moment, VersionNo};
+use ele_moment::{Handle, Moment, Name, VersionNo};
 use ele_policy::Policy;
 use ele_time_path::{Path, PathAt, TaggedPath};
 
@@ -51,6 +51,18 @@ pub enum Event {
     SetPolicy(Path, Policy),
     /// Files that are made in the directory at the path from now on get that policy.
     SetDefault(Path, Policy),
+    /// A group of that name is made, without files and marks.
+    GroupMake(Name),
+    /// The group goes, and its marks with it.
+    GroupDrop(Name),
+    /// The group gets the file at the path.
+    GroupAdd(Name, Path),
+    /// The group loses the file at the path.
+    GroupRemove(Name, Path),
+    /// The group is marked at the moment, which has passed: what was current then of its files isn't removed.
+    Mark(Name, Moment),
+    /// The group loses the mark.
+    Unmark(Name, Moment),
     /// The first due version is removed.
     CleanOne,
     /// Asks for bytes.
@@ -67,4 +79,6 @@ pub enum Event {
     Due,
     /// Asks what the files of each kind of policy use.
     UsageAll,
+    /// Asks which groups there are, with their files and marks.
+    GroupsAll,
 }

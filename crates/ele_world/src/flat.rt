@@ -8,15 +8,15 @@ ghost use Rattle.ele_world.specs.Usage.{usages};
 
 use crate::limits::{Counts, Limits};
 use crate::list::{DeadNameList, KeyList};
-use crate::rows::{DirectoryRow, DraftRow, FileRow, HandleRow, NameRow, VersionRow};
+use crate::rows::{DirectoryRow, DraftRow, FileRow, GroupRow, HandleRow, NameRow, VersionRow};
 use crate::{returning, scan, sums};
 use ele_lists::ListOf;
 use ele_moment::{Moment, NoMemory};
 use ele_policy::Kind;
 use ele_usage::Usage;
 
-/// All rows and counts of a world. Directories and files stand by id, names in order of making, versions by file and
-/// then by number, drafts by file, handles by number.
+/// All rows and counts of a world. Directories and files stand by id, names and groups in order of making, versions by
+/// file and then by number, drafts by file, handles by number.
 #[derive(Debug, Drop, PartialEq, Eq)]
 pub struct Flat {
     pub now: Moment,
@@ -26,6 +26,7 @@ pub struct Flat {
     pub versions: ListOf<VersionRow>,
     pub drafts: ListOf<DraftRow>,
     pub handles: ListOf<HandleRow>,
+    pub groups: ListOf<GroupRow>,
     pub made: Counts,
     pub limits: Limits,
 }

@@ -10,6 +10,7 @@ ghost use Rattle.ele_world.specs.NoIdleStays.{NoIdleStays, NoIdleStaysInRuns};
 ghost use Rattle.ele_world.specs.RemoveDirEnds.{RemoveDirEnds};
 ghost use Rattle.ele_world.specs.HeldStays.{HeldStays, HeldStaysInRuns};
 ghost use Rattle.ele_world.specs.NothingChanges.{RefusedStays, AskingStays};
+ghost use Rattle.ele_world.specs.MarkedStays.{MarkedStays};
 ghost use Rattle.ele_world.specs.OneLife.{OneLife};
 ghost use Rattle.ele_world.specs.OpenStays.{OpenStays};
 ghost use Rattle.ele_world.specs.OnlyDueLeave.{OnlyDueLeave, OnlyDueLeaveInRuns};
@@ -121,6 +122,11 @@ pub fn held_stays_in_runs()
 /// A version that a handle reads never leaves.
 pub fn open_stays()
     ensures { OpenStays }
+{}
+
+/// A marked version never leaves: one that was current at a mark of a group that has its file.
+pub fn marked_stays()
+    ensures { MarkedStays }
 {}
 
 /// A revert gives the file a current version with the cells of the one that was named.

@@ -25,7 +25,7 @@ pub use ele_usage::Usage;
 pub use event::{Event, Source};
 pub use flat::Flat;
 pub use limits::{Counts, Limits};
-pub use list::{DeadNameList, KeyList, NameList, StampsList};
+pub use list::{DeadNameList, GroupList, KeyList, NameList, StampsList};
 pub use pass::PassEnd;
 pub use refusal::{Refusal, Stop, Which};
 pub use reply::Reply;

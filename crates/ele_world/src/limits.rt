@@ -40,6 +40,11 @@ pub struct Counts {
     pub names: u64,
     pub versions: u64,
     pub handles: u64,
+    pub groups: u64,
+    /// Files added to groups, over all groups.
+    pub members: u64,
+    /// Marks, over all groups.
+    pub marks: u64,
 }
 
 impl Limits {
@@ -156,5 +161,29 @@ impl Limits {
         ensures valid { AreBounds self.now }
     {
         self.handles
+    }
+
+    /// How many groups may ever be made.
+    pub fn groups(&self) -> u64
+        ensures value { result ≡ self.now.groups }
+        ensures valid { AreBounds self.now }
+    {
+        self.groups
+    }
+
+    /// How many times files may ever be added to groups.
+    pub fn members(&self) -> u64
+        ensures value { result ≡ self.now.members }
+        ensures valid { AreBounds self.now }
+    {
+        self.members
+    }
+
+    /// How many marks may ever be made.
+    pub fn marks(&self) -> u64
+        ensures value { result ≡ self.now.marks }
+        ensures valid { AreBounds self.now }
+    {
+        self.marks
     }
 }

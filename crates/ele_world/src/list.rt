@@ -1,5 +1,5 @@
 //! The lists that replies hold.
-use crate::rows::{DeadName, Stamps, Target};
+use crate::rows::{DeadName, GroupRow, Stamps, Target};
 use ele_due::Key;
 use ele_lists::ListOf;
 use ele_moment::Name;
@@ -12,6 +12,9 @@ pub type DeadNameList = ListOf<DeadName>;
 
 /// Versions of one file, by number.
 pub type StampsList = ListOf<Stamps>;
+
+/// Groups in order of making.
+pub type GroupList = ListOf<GroupRow>;
 
 /// What the names of a directory stand for, by the bytes of the names.
 pub type NameList = ListOf<(Name, Target)>;

@@ -1,5 +1,5 @@
 //! Replies: what a command answers.
-use crate::list::{DeadNameList, KeyList, NameList, StampsList};
+use crate::list::{DeadNameList, GroupList, KeyList, NameList, StampsList};
 use crate::refusal::Refusal;
 use crate::rows::{DirectoryRow, FileStat};
 use ele_due::Key;
@@ -35,6 +35,8 @@ pub enum Reply {
     DueList(KeyList),
     /// What the files of each kind of policy use, in the order of `Kind`.
     UsageList([Usage; 4]),
+    /// Groups in order of making.
+    GroupList(GroupList),
     /// The command was refused, and changed nothing.
     Refused(Refusal),
 }
