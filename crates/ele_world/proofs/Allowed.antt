@@ -20,7 +20,7 @@ use Rattle.ele_policy.specs.Policy.{IsPolicy}
 use Rattle.ele_world.specs.WellFormed.{AreWrittenBy, IsDraft, IsVersion, Counted, Directories, Names, Versions, Drafts, IsWellFormed}
 use Rattle.ele_world.specs.World.{World, is_directory, default_of, is_open, is_version, next_of, is_draft, is_draft_after}
 use Rattle.ele_world.specs.declared.event.Event.{Event}
-use Rattle.ele_world.specs.declared.event.Event.TheVariants.{Clock, Tick, MakeDir, RemoveDir, Create, Link, Unlink, Rename, Undelete, OpenWrite, OpenRead, Write, Truncate, Close, Revert, SetPolicy, SetDefault, CleanOne, Read, Stat, Versions as VersionsOf, List as ListNames, Restorable, Due, UsageAll}
+use Rattle.ele_world.specs.declared.event.Event.TheVariants.{Clock, Tick, MakeDir, RemoveDir, Create, Link, Unlink, Rename, Undelete, OpenWrite, OpenRead, Write, Truncate, Close, Revert, SetPolicy, SetDefault, GroupMake, GroupDrop, GroupAdd, GroupRemove, Mark, Unmark, CleanOne, Read, Stat, Versions as VersionsOf, List as ListNames, Restorable, Due, UsageAll, GroupsAll}
 use Rattle.ele_world.specs.declared.event.Source.TheVariants.{Tagged, Of}
 use Rattle.ele_world.specs.declared.rows.DirectoryRow.{DirectoryRow}
 use Rattle.ele_world.specs.declared.rows.DraftRow.{DraftRow}
@@ -130,6 +130,13 @@ allowed w (Close handle) k = λ read found. (
 allowed w (Revert path number) k = λ file found row meant drafts versions. (reverts w file number row k (file_there w.files w.now w.names path file (k.holds Names).each found) meant (grind (arith, nat_tests)), tt)
 allowed w (SetPolicy path policy) k = λ file found. (λ is. is, tt)
 allowed w (SetDefault path policy) k = λ directory found. (λ is. is, tt)
+allowed w (GroupMake name) k = λ free groups. (record { room = grind (arith, nat_tests); free = free }, tt)
+allowed w (GroupDrop name) k = λ found. (tt, tt)
+allowed w (GroupAdd name path) k = λ found file leads free members.
+    (record { there = file_there w.files w.now w.names path file (k.holds Names).each leads; room = grind (arith, nat_tests); free = free }, tt)
+allowed w (GroupRemove name path) k = λ found file leads member. (tt, tt)
+allowed w (Mark name mark) k = λ found past free marks. (record { past = grind (arith, nat_tests); room = grind (arith, nat_tests); free = free }, tt)
+allowed w (Unmark name mark) k = λ found marked. (tt, tt)
 allowed w CleanOne k = (λ none. tt, λ key first. (takes w key k first, (tt, tt)))
 allowed w (Read (Of handle)) k = λ read found. tt
 allowed w (Read (Tagged tagged)) k = λ row found. tt
@@ -139,3 +146,4 @@ allowed w (ListNames at) k = λ directory found. tt
 allowed w Restorable k = tt
 allowed w Due k = tt
 allowed w UsageAll k = tt
+allowed w GroupsAll k = tt

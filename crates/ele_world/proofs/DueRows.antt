@@ -1,5 +1,5 @@
 -- The first key of the scan is that of a due row.
-use Rattle.std.proofs.Common.{◌≡◌, ℕ, Bool, true, false, cond, not, ◌&&◌, List, [], ◌∷◌, Option, Some, None, refl, ap, sym, ◌∙◌}
+use Rattle.std.proofs.Common.{◌≡◌, ℕ, Bool, true, false, cond, not, ◌&&◌, ◌||◌, List, [], ◌∷◌, Option, Some, None, refl, ap, sym, ◌∙◌}
 use Rattle.std.specs.Prelude.{find, is_none, slice_get, fold}
 use Rattle.std.specs.declared.cmp.Ordering.{Ordering}
 use Rattle.std.specs.declared.cmp.Ordering.TheVariants.{Less, Equal, Greater}
@@ -13,9 +13,11 @@ use Rattle.ele_due.specs.declared.key.Key.{Key}
 use Rattle.ele_world.specs.declared.rows.VersionRow.{VersionRow}
 use Rattle.ele_world.specs.Due.{is_due_at, ripe_of}
 use Rattle.ele_world.specs.FileView.{view_of, beside, is_protected}
+use Rattle.ele_world.specs.GroupRows.{is_marked}
 use Rattle.ele_world.specs.Scan.{key_cmp, key_of, due_key, scan, first_due}
 use Rattle.ele_world.specs.WellFormed.{AllLater, ArePlaced}
 use Rattle.ele_world.specs.World.{World, is_open, is_version, policy_of}
+use Rattle.ele_world.proofs.GroupMarks.{marks_tell}
 use Rattle.ele_world.proofs.Readers.{numbers_are}
 use Rattle.ele_world.proofs.Versions.{IsFound, all_found}
 
@@ -78,10 +80,22 @@ due_has_ended w row at h = by (is_protected (view_of w row.file) row at) (policy
   by false (Some policy) None h = absurd (false≢true h)
   by false (Some policy) (Some ended) h = refl
 
--- and isn't open
-pub due_is_unread : (w : World) (row : VersionRow) (at : ℕ) → is_due_at w row at ≡ true → is_open w.handles row.file row.number ≡ false
+-- and isn't protected
+due_is_free : (w : World) (row : VersionRow) (at : ℕ) → is_due_at w row at ≡ true → is_protected (view_of w row.file) row at ≡ false
 unfolding is_due_at
-due_is_unread w row at h = sym (numbers_are w.handles row.file row.number) ∙ by (is_protected (view_of w row.file) row at) h where
+due_is_free w row at h = by (is_protected (view_of w row.file) row at) h where
   by : (b : Bool) → due_if w row at b (policy_of w.files row.file) row.ended ≡ true → b ≡ false
   by true h = absurd (false≢true h)
   by false h = refl
+
+neither : (a b : Bool) → (a || b) ≡ false → (a ≡ false) × (b ≡ false)
+neither true b h = absurd (false≢true (sym h))
+neither false b h = (refl, h)
+
+-- so it isn't open
+pub due_is_unread : (w : World) (row : VersionRow) (at : ℕ) → is_due_at w row at ≡ true → is_open w.handles row.file row.number ≡ false
+due_is_unread w row at h = sym (numbers_are w.handles row.file row.number) ∙ (neither _ _ (due_is_free w row at h)).0
+
+-- and no mark of a group that has its file covers it
+pub due_is_unmarked : (w : World) (row : VersionRow) (at : ℕ) → is_due_at w row at ≡ true → is_marked w.groups row.file row.closed row.ended ≡ false
+due_is_unmarked w row at h = sym (marks_tell w.groups row.file row.closed row.ended) ∙ (neither _ _ (due_is_free w row at h)).1

@@ -1,7 +1,7 @@
 -- Each change that may be made keeps a world well formed, and so do all changes of a plan.
 use Rattle.std.proofs.Common.{◌≡◌, ℕ, true, false, List, [], ◌∷◌, Some, None, Ok, Err, refl, is_none}
 use Rattle.std.specs.Prelude.{find}
-use Rattle.ele_world.specs.Change.{Change, Time, Govern, MakeDirectory, EndName, AddName, MoveName, EndFileName, Revive, MakeFile, PutUnder, Append, Take, StartDraft, WriteDraft, TruncateDraft, EndDraft, OpenHandle, ShutHandle, DropIdle, after_change, after_changes}
+use Rattle.ele_world.specs.Change.{Change, Time, Govern, MakeDirectory, EndName, AddName, MoveName, EndFileName, Revive, MakeFile, PutUnder, Append, Take, StartDraft, WriteDraft, TruncateDraft, EndDraft, OpenHandle, ShutHandle, DropIdle, MakeGroup, DropGroup, AddMember, RemoveMember, AddMark, RemoveMark, after_change, after_changes}
 use Rattle.ele_world.specs.Plan.{Plan, Tell, Make, Unless, When, Need, IfFound, outcome}
 use Rattle.ele_world.specs.Run.{IsEvent}
 use Rattle.ele_world.specs.WellFormed.{IsWellFormed}
@@ -12,6 +12,7 @@ use Rattle.ele_world.proofs.KeptDrafts.{start_keeps, write_keeps, truncate_keeps
 use Rattle.ele_world.proofs.KeptDirectories.{make_directory_keeps, end_name_keeps}
 use Rattle.ele_world.proofs.KeptNames.{time_keeps, govern_keeps, put_under_keeps, make_keeps}
 use Rattle.ele_world.proofs.KeptDrops.{drop_keeps}
+use Rattle.ele_world.proofs.KeptGroups.{make_group_keeps, drop_group_keeps, add_member_keeps, remove_member_keeps, add_mark_keeps, remove_mark_keeps}
 use Rattle.ele_world.proofs.KeptRevived.{revive_keeps}
 use Rattle.ele_world.proofs.KeptVersions.{append_keeps, take_keeps}
 use Rattle.ele_world.proofs.May.{MayTake, May, MayAll, MayPlan}
@@ -44,6 +45,12 @@ change_keeps event first w (EndDraft file) is may k = end_keeps w file may k
 change_keeps event first w (OpenHandle number reads) is may k = open_keeps w number reads may k
 change_keeps event first w (ShutHandle number) is may k = shut_keeps w number k
 change_keeps event first w (DropIdle file) is may k = drop_keeps w file k
+change_keeps event first w (MakeGroup name) is may k = make_group_keeps w name may k
+change_keeps event first w (DropGroup name) is may k = drop_group_keeps w name k
+change_keeps event first w (AddMember name file) is may k = add_member_keeps w name file may k
+change_keeps event first w (RemoveMember name file) is may k = remove_member_keeps w name file k
+change_keeps event first w (AddMark name mark) is may k = add_mark_keeps w name mark may k
+change_keeps event first w (RemoveMark name mark) is may k = remove_mark_keeps w name mark k
 
 pub all_keep : (event : Event) (first w : World) (changes : List Change) → IsEvent event → MayAll event first w changes → IsWellFormed w → IsWellFormed (after_changes w changes)
 all_keep event first w [] is may k = k

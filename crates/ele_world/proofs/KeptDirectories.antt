@@ -58,6 +58,9 @@ module _ (w : World) (directory : ℕ) (name : List ℕ) (policy : Policy) where
       names_made = omega (arith, may.named.room);
       versions_made = c.versions_made;
       handles_made = c.handles_made;
+      groups_made = c.groups_made;
+      members_made = c.members_made;
+      marks_made = c.marks_made;
       file_rows = c.file_rows;
       name_rows = simp length-append (omega (arith, c.name_rows));
       version_rows = c.version_rows;
@@ -144,6 +147,9 @@ module _ (w : World) (directory : ℕ) (name : List ℕ) (empty : (id : ℕ) →
       names_made = c.names_made;
       versions_made = c.versions_made;
       handles_made = c.handles_made;
+      groups_made = c.groups_made;
+      members_made = c.members_made;
+      marks_made = c.marks_made;
       file_rows = c.file_rows;
       name_rows = omega (arith, c.name_rows, length-update_first p (dies w.now) w.names);
       version_rows = c.version_rows;

@@ -49,6 +49,9 @@ start_keeps w file may k = record { holds = by } where
     names_made = c.names_made;
     versions_made = omega (arith, may.room, length-insert_before (is_draft_after file) (new_draft w file) w.drafts);
     handles_made = c.handles_made;
+    groups_made = c.groups_made;
+    members_made = c.members_made;
+    marks_made = c.marks_made;
     file_rows = c.file_rows;
     name_rows = c.name_rows;
     version_rows = c.version_rows;
@@ -91,6 +94,9 @@ edit_keeps w file f same edits k = record { holds = by } where
     names_made = c.names_made;
     versions_made = omega (arith, c.versions_made, length-update_first (is_draft file) f w.drafts);
     handles_made = c.handles_made;
+    groups_made = c.groups_made;
+    members_made = c.members_made;
+    marks_made = c.marks_made;
     file_rows = c.file_rows;
     name_rows = c.name_rows;
     version_rows = c.version_rows;
@@ -164,6 +170,9 @@ end_keeps w file unwritten k = record { holds = by } where
     names_made = c.names_made;
     versions_made = omega (arith, c.versions_made, length-remove_first-le (is_draft file) w.drafts);
     handles_made = c.handles_made;
+    groups_made = c.groups_made;
+    members_made = c.members_made;
+    marks_made = c.marks_made;
     file_rows = c.file_rows;
     name_rows = c.name_rows;
     version_rows = c.version_rows;
@@ -193,6 +202,9 @@ open_keeps w number reads may k = record { holds = by } where
     names_made = c.names_made;
     versions_made = c.versions_made;
     handles_made = omega (arith, may.next, may.room);
+    groups_made = c.groups_made;
+    members_made = c.members_made;
+    marks_made = c.marks_made;
     file_rows = c.file_rows;
     name_rows = c.name_rows;
     version_rows = c.version_rows;

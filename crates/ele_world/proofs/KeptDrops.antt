@@ -11,13 +11,14 @@ use Rattle.ele_lists.proofs.Filters.{list_any-filter, any-filtered}
 use Rattle.ele_lists.proofs.Sums.{length-split}
 use Rattle.ele_world.specs.Change.{DropIdle, without_file, after_change}
 use Rattle.ele_world.specs.NameRows.{is_target_directory, is_name_of_directory, is_live_directory}
-use Rattle.ele_world.specs.WellFormed.{is_reached, IsFile, IsThere, IsNameRow, AreApart, IsHoused, AreOthers, IsVersion, IsDraft, is_current, Part, Counted, Files, Names, Homes, Tree, Versions, Drafts, Current, Holds, IsWellFormed, IsOfLive, Ended}
+use Rattle.ele_world.specs.WellFormed.{is_reached, IsFile, IsThere, IsNameRow, AreApart, IsHoused, AreOthers, IsVersion, IsDraft, is_current, Part, Counted, Files, Names, Homes, Tree, Versions, Drafts, Current, Holds, IsWellFormed, IsOfLive, Ended, Groups}
 use Rattle.ele_world.specs.World.{World, root, is_file, next_of, is_live, is_live_name_of, is_target_file}
 use Rattle.ele_world.specs.declared.rows.FileRow.{FileRow}
 use Rattle.ele_world.specs.declared.rows.NameRow.{NameRow}
 use Rattle.ele_world.specs.declared.rows.Target.{Target}
 use Rattle.ele_world.specs.declared.rows.Target.TheVariants.{File, Directory}
 use Rattle.ele_world.proofs.Dropped.{IsIdle, dropped, stays_named, idle_versions, idle_drafts, next_of-removed}
+use Rattle.ele_world.proofs.KeptGroups.{groups_forgotten}
 
 not_true : (b : Bool) → not b ≡ true → b ≡ false
 not_true true h = absurd (false≢true h)
@@ -72,6 +73,9 @@ module _ (w : World) (file : ℕ) (idle : IsIdle w file) where
       names_made = c.names_made;
       versions_made = c.versions_made;
       handles_made = c.handles_made;
+      groups_made = c.groups_made;
+      members_made = c.members_made;
+      marks_made = c.marks_made;
       file_rows = omega (arith, c.file_rows, length-remove_first-le (is_file file) w.files);
       name_rows = omega (arith, c.name_rows, length-split keep w.names);
       version_rows = c.version_rows;
@@ -116,6 +120,7 @@ module _ (w : World) (file : ℕ) (idle : IsIdle w file) where
     by Current = λ other live. current_still other (any-filtered (is_live_name_of other) keep w.names live) (other == file) refl
     by Ended = all-weaker (λ row. ((row.file == file) ≡ false) × IsOfLive w.names row) (IsOfLive names) w.versions (λ row h none. live_still row.file h.0 ∙ h.1 none)
         (all-both _ _ w.versions (idle_versions w file idle) (k.holds Ended))
+    by Groups = groups_forgotten w.made.groups w.files files w.now file w.groups (λ other apart h. rw (next_of-removed w.files file other apart) h) (k.holds Groups)
     by part = k.holds part
 
 pub drop_keeps : (w : World) (file : ℕ) → IsWellFormed w → IsWellFormed (after_change w (DropIdle file))

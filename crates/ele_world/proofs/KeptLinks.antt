@@ -73,6 +73,9 @@ with_end_keeps w file dead holds = record { holds = by } where
     names_made = c.names_made;
     versions_made = c.versions_made;
     handles_made = c.handles_made;
+    groups_made = c.groups_made;
+    members_made = c.members_made;
+    marks_made = c.marks_made;
     file_rows = c.file_rows;
     name_rows = c.name_rows;
     version_rows = omega (arith, c.version_rows, length-update_first (is_version file last) (ended_at w.now) w.versions);

@@ -12,7 +12,7 @@ use Rattle.ele_world.specs.Change.{governed_by, put_under, after_change, Time, G
 use Rattle.ele_world.specs.NameRows.{is_name_of_directory}
 use Rattle.ele_world.specs.Walk.{live_target}
 use Rattle.ele_policy.specs.Policy.{IsPolicy}
-use Rattle.ele_world.specs.WellFormed.{has_directory, IsDirectoryThere, IsHoused, IsFile, IsNameRow, AreApart, IsVersion, ArePlaced, IsDraft, is_current, HaveCurrent, Part, Now, Counted, Directories, Files, Names, Homes, Versions, Drafts, Readers, Current, Holds, IsWellFormed, Tree, IsOfLive, Ended}
+use Rattle.ele_world.specs.WellFormed.{has_directory, IsDirectoryThere, IsHoused, IsFile, IsNameRow, AreApart, IsVersion, ArePlaced, IsDraft, is_current, HaveCurrent, Part, Now, Counted, Directories, Files, Names, Homes, Versions, Drafts, Readers, Current, Holds, IsWellFormed, Tree, IsOfLive, Ended, Groups}
 use Rattle.ele_world.specs.World.{World, root, is_directory, is_file, next_of, is_live, is_live_name_of, is_target_file, is_version}
 use Rattle.ele_world.proofs.Readers.{read_on}
 use Rattle.ele_world.specs.declared.rows.DirectoryRow.{DirectoryRow}
@@ -25,6 +25,7 @@ use Rattle.ele_world.specs.declared.rows.VersionRow.{VersionRow}
 use Rattle.ele_world.proofs.Created.{new_file, new_name, first_version, created, made_is}
 use Rattle.ele_world.proofs.Files.{next_of-push, next_of-push_other, next_of-given, next_of-new, next_of-put_under, there-push, there-put_under}
 use Rattle.ele_world.proofs.Homes.{any_more, homes_more, ended_more, any_last}
+use Rattle.ele_world.proofs.KeptGroups.{groups_on}
 use Rattle.ele_world.proofs.May.{MayMake}
 use Rattle.ele_world.proofs.Writers.{written_more}
 use Rattle.ele_world.proofs.NameParts.{all_apart, names_more, tree_more}
@@ -53,6 +54,7 @@ time_keeps w to fits le k = record { holds = by } where
   by Names = record { each = all-weaker (IsNameRow w.files w.now) (IsNameRow w.files to) w.names (λ row h. name_later w.files w.now to row le h) (k.holds Names).each; lives = (k.holds Names).lives }
   by Versions = record { each = all-weaker (IsVersion w.files w.now) (IsVersion w.files to) w.versions (λ row h. version_later w.files w.now to row le h) (k.holds Versions).each; placed = (k.holds Versions).placed }
   by Drafts = record { each = all-weaker (IsDraft w.files w.now) (IsDraft w.files to) w.drafts (λ row h. draft_later w.files w.now to row le h) (k.holds Drafts).each; placed = (k.holds Drafts).placed }
+  by Groups = groups_on w.made.groups w.files w.files w.now to w.groups le (λ file h. h) (k.holds Groups)
   by part = k.holds part
 
 -- ---- a directory or a file has another policy
@@ -97,6 +99,9 @@ put_under_keeps w file policy is k = record { holds = by } where
     names_made = c.names_made;
     versions_made = c.versions_made;
     handles_made = c.handles_made;
+    groups_made = c.groups_made;
+    members_made = c.members_made;
+    marks_made = c.marks_made;
     file_rows = omega (arith, c.file_rows, length-update_first (is_file file) (put_under policy) w.files);
     name_rows = c.name_rows;
     version_rows = c.version_rows;
@@ -122,6 +127,7 @@ put_under_keeps w file policy is k = record { holds = by } where
     placed = (k.holds Drafts).placed;
   }
   by Current = λ id live. rw (next id) (k.holds Current id live)
+  by Groups = groups_on w.made.groups w.files files w.now w.now w.groups (omega arith) (λ id h. rw (next id) h) (k.holds Groups)
   by part = k.holds part
 
 -- ---- a file is made
@@ -183,6 +189,9 @@ module _ (w : World) (directory : ℕ) (name : List ℕ) (policy : Policy) where
       names_made = omega (arith, may.named.room);
       versions_made = omega (arith, may.room);
       handles_made = c.handles_made;
+      groups_made = c.groups_made;
+      members_made = c.members_made;
+      marks_made = c.marks_made;
       file_rows = simp length-append (omega (arith, c.file_rows));
       name_rows = simp length-append (omega (arith, c.name_rows));
       version_rows = simp length-append (omega (arith, c.version_rows));
@@ -217,6 +226,7 @@ module _ (w : World) (directory : ℕ) (name : List ℕ) (policy : Policy) where
     by Current = created_current w new named (first_version w id) (new_next ∙ omega arith) (k.holds Files).each (k.holds Current) refl refl refl
     by Ended = all-push (IsOfLive (w.names ++ named ∷ [])) w.versions (first_version w id) (ended_more w.names named w.versions (k.holds Ended))
         (λ _. let own : is_live_name_of id named ≡ true = grind (arith, nat_tests) in any_last (is_live_name_of id) w.names named own)
+    by Groups = groups_on w.made.groups w.files files w.now w.now w.groups (omega arith) (λ file h. omega (arith, h, next_of-push w.files new file h)) (k.holds Groups)
     by part = k.holds part
 
 pub make_keeps : (w : World) (directory : ℕ) (name : List ℕ) (id : ℕ) (policy : Policy) → MayMake w directory name id policy → IsWellFormed w → IsWellFormed (after_change w (MakeFile directory name id policy))

@@ -8,7 +8,7 @@ use Rattle.ele_content.specs.declared.cell.Cell.{Cell}
 use Rattle.ele_lists.specs.Lists.{remove_first, update_first}
 use Rattle.ele_lists.proofs.Edits.{all-none, all-weaker, all-both, found_passes, all-update_first, all-remove_first, all-insert_before, later-update_first, later-remove_first, later-insert_before, length-update_first, length-insert_before, length-remove_first-le, list_any-update_first, list_any-insert_before, list_any-remove_first}
 use Rattle.ele_world.specs.Change.{numbered_on, ended_at, next_version, with_end, with_version, after_change, Take}
-use Rattle.ele_world.specs.WellFormed.{IsFile, IsNameRow, IsVersion, ArePlaced, IsDraft, is_current, HaveCurrent, IsHeldRead, Part, Counted, Files, Names, Versions, Drafts, Readers, Current, Holds, IsWellFormed, AreVersions, IsOfLive, Ended}
+use Rattle.ele_world.specs.WellFormed.{IsFile, IsNameRow, IsVersion, ArePlaced, IsDraft, is_current, HaveCurrent, IsHeldRead, Part, Counted, Files, Names, Versions, Drafts, Readers, Current, Holds, IsWellFormed, AreVersions, IsOfLive, Ended, Groups}
 use Rattle.ele_world.specs.World.{World, next_of, is_file, is_live, is_open, is_version, is_version_after, reads_version}
 use Rattle.ele_world.specs.declared.rows.Reads.{Reads}
 use Rattle.ele_world.specs.declared.rows.Reads.TheVariants.{Draft, Version}
@@ -16,6 +16,7 @@ use Rattle.ele_world.proofs.Readers.{read_on}
 use Rattle.ele_world.specs.declared.rows.FileRow.{FileRow}
 use Rattle.ele_world.specs.declared.rows.VersionRow.{VersionRow}
 use Rattle.ele_world.proofs.Files.{next_of-numbered_on, next_of-numbered_other, next_of-numbered_le, there-numbered_on}
+use Rattle.ele_world.proofs.KeptGroups.{groups_on}
 use Rattle.ele_world.proofs.May.{MayAppend}
 use Rattle.ele_world.proofs.Versions.{IsEndedBy, file_ended}
 use Rattle.ele_world.proofs.Writers.{written_more}
@@ -162,6 +163,9 @@ module _ (w : World) (file opened : ℕ) (cells : List Cell) (may : MayAppend w 
       names_made = c.names_made;
       versions_made = omega (arith, may.room);
       handles_made = c.handles_made;
+      groups_made = c.groups_made;
+      members_made = c.members_made;
+      marks_made = c.marks_made;
       file_rows = omega (arith, c.file_rows, length-update_first (is_file file) numbered_on w.files);
       name_rows = c.name_rows;
       version_rows = omega (arith, c.version_rows, length-update_first p (ended_at w.now) w.versions, length-insert_before (is_version_after file next) new (with_end w file));
@@ -198,6 +202,7 @@ module _ (w : World) (file opened : ℕ) (cells : List Cell) (may : MayAppend w 
           new_live : (b : Bool) → is_live w file ≡ b → cond b None (Some w.now) ≡ None → b ≡ true
           new_live true e none = refl
           new_live false e none = absurd cc
+    by Groups = groups_on w.made.groups w.files files w.now w.now w.groups (omega arith) (λ f h. omega (arith, h, next_of-numbered_le w.files file f)) (holds Groups)
     by part = holds part
 
   pub append_keeps : IsWellFormed w → IsWellFormed (with_version w file opened cells)
@@ -221,6 +226,9 @@ take_keeps w file number ended unread k = record { holds = by } where
     names_made = c.names_made;
     versions_made = c.versions_made;
     handles_made = c.handles_made;
+    groups_made = c.groups_made;
+    members_made = c.members_made;
+    marks_made = c.marks_made;
     file_rows = c.file_rows;
     name_rows = c.name_rows;
     version_rows = omega (arith, c.version_rows, length-remove_first-le (is_version file number) w.versions);

@@ -17,6 +17,7 @@ pub mod Links
 pub mod Renames
 pub mod Closes
 pub mod Homes
+pub mod KeptGroups
 pub mod KeptNames
 pub mod KeptDirectories
 pub mod KeptDrafts
@@ -47,6 +48,8 @@ pub mod StepKeeps
 pub mod Moves
 pub mod Stays
 pub mod OpenStays
+pub mod GroupMarks
+pub mod MarkedStays
 pub mod Reverts
 pub mod Refused
 pub mod Returned

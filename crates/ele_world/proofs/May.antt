@@ -5,8 +5,9 @@ use Rattle.ele_content.specs.declared.cell.Cell.{Cell}
 use Rattle.ele_content.specs.Content.{longest_content}
 use Rattle.ele_moment.specs.Last.{last_moment}
 use Rattle.ele_policy.specs.declared.policy.Policy.{Policy}
-use Rattle.ele_world.specs.Change.{Change, Time, Govern, MakeDirectory, EndName, AddName, MoveName, EndFileName, Revive, MakeFile, PutUnder, Append, Take, StartDraft, WriteDraft, TruncateDraft, EndDraft, OpenHandle, ShutHandle, DropIdle, after_change}
+use Rattle.ele_world.specs.Change.{Change, Time, Govern, MakeDirectory, EndName, AddName, MoveName, EndFileName, Revive, MakeFile, PutUnder, Append, Take, StartDraft, WriteDraft, TruncateDraft, EndDraft, OpenHandle, ShutHandle, DropIdle, MakeGroup, DropGroup, AddMember, RemoveMember, AddMark, RemoveMark, after_change}
 use Rattle.ele_world.specs.Due.{is_due_at}
+use Rattle.ele_world.specs.GroupRows.{has_group, has_member, is_marked_at}
 use Rattle.ele_world.specs.NameRows.{is_live_in, is_live_directory}
 use Rattle.ele_world.specs.Plan.{Plan, Tell, Make, Unless, When, Need, IfFound}
 use Rattle.ele_world.specs.Run.{IsEvent}
@@ -102,6 +103,23 @@ pub record MayOpen (w : World) (number : ℕ) (reads : Reads) : Type 0 where
   pub drafted : IsReadable w.drafts reads
   pub held : IsHeldRead w.versions reads
 
+-- no group has the name yet
+pub record MayGroup (w : World) (name : List ℕ) : Type 0 where
+  pub room : w.made.groups < w.limits.groups
+  pub free : has_group w.groups name ≡ false
+
+-- the file is there, and not yet in the group
+pub record MayJoin (w : World) (name : List ℕ) (file : ℕ) : Type 0 where
+  pub there : 0 < next_of w.files file
+  pub room : w.made.members < w.limits.members
+  pub free : has_member w.groups name file ≡ false
+
+-- the moment has passed, and the group isn't marked at it yet
+pub record MayMark (w : World) (name : List ℕ) (mark : ℕ) : Type 0 where
+  pub past : mark < w.now
+  pub room : w.made.marks < w.limits.marks
+  pub free : is_marked_at w.groups name mark ≡ false
+
 -- the change, by an event and from the world before the event's first change
 abbrev pub May : Event → World → World → Change → Type 0
 May event first w (Time to) = (w.now ≤ to) × (IsEvent event → to ≤ last_moment)
@@ -123,6 +141,12 @@ May event first w (EndDraft file) = list_any (is_writer file) w.handles ≡ fals
 May event first w (OpenHandle number reads) = MayOpen w number reads
 May event first w (ShutHandle number) = Unit {0}
 May event first w (DropIdle file) = Unit {0}
+May event first w (MakeGroup name) = MayGroup w name
+May event first w (DropGroup name) = Unit {0}
+May event first w (AddMember name file) = MayJoin w name file
+May event first w (RemoveMember name file) = Unit {0}
+May event first w (AddMark name mark) = MayMark w name mark
+May event first w (RemoveMark name mark) = Unit {0}
 
 -- each in its turn
 abbrev pub MayAll : Event → World → World → List Change → Type 0

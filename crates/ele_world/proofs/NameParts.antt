@@ -72,6 +72,9 @@ counted_more w rows k room le = let c = k.holds Counted in record {
   names_made = omega (arith, room);
   versions_made = c.versions_made;
   handles_made = c.handles_made;
+  groups_made = c.groups_made;
+  members_made = c.members_made;
+  marks_made = c.marks_made;
   file_rows = c.file_rows;
   name_rows = omega (arith, c.name_rows, le);
   version_rows = c.version_rows;

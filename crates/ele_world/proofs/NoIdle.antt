@@ -20,7 +20,7 @@ use Rattle.ele_world.specs.Step.{plan, step}
 use Rattle.ele_world.specs.WellFormed.{is_current, Files, Current, IsWellFormed}
 use Rattle.ele_world.specs.World.{World, default_of, is_file, is_version, is_version_after, is_draft, is_draft_after, is_live, has_draft, next_of}
 use Rattle.ele_world.specs.declared.event.Event.{Event}
-use Rattle.ele_world.specs.declared.event.Event.TheVariants.{Clock, Tick, MakeDir, RemoveDir, Create, Link, Unlink, Rename, Undelete, OpenWrite, OpenRead, Write, Truncate, Close, Revert, SetPolicy, SetDefault, CleanOne, Read, Stat, Versions, List as ListNames, Restorable, Due, UsageAll}
+use Rattle.ele_world.specs.declared.event.Event.TheVariants.{Clock, Tick, MakeDir, RemoveDir, Create, Link, Unlink, Rename, Undelete, OpenWrite, OpenRead, Write, Truncate, Close, Revert, SetPolicy, SetDefault, GroupMake, GroupDrop, GroupAdd, GroupRemove, Mark, Unmark, CleanOne, Read, Stat, Versions, List as ListNames, Restorable, Due, UsageAll, GroupsAll}
 use Rattle.ele_world.specs.declared.event.Source.TheVariants.{Tagged, Of}
 use Rattle.ele_world.specs.declared.rows.DraftRow.{DraftRow}
 use Rattle.ele_world.specs.declared.rows.FileRow.{FileRow}
@@ -178,6 +178,12 @@ tidy w (Close handle) k all = λ read found. (
 tidy w (Revert path number) k all = λ file found row meant drafts versions. versioned w file w.now row.cells (all_but w file all)
 tidy w (SetPolicy path policy) k all = λ file found. put w file policy all
 tidy w (SetDefault path policy) k all = λ directory found. all
+tidy w (GroupMake name) k all = λ free groups. all
+tidy w (GroupDrop name) k all = λ found. all
+tidy w (GroupAdd name path) k all = λ has file found free members. all
+tidy w (GroupRemove name path) k all = λ has file found member. all
+tidy w (Mark name mark) k all = λ has past free marks. all
+tidy w (Unmark name mark) k all = λ has marked. all
 tidy w CleanOne k all = (tt, λ key first. idle_gone (after_change w (Take key.file key.number)) key.file (change_keeps CleanOne w w (Take key.file key.number) tt (takes w key k first) k) (taken w key.file key.number all))
 tidy w (Read (Of handle)) k all = λ read found. tt
 tidy w (Read (Tagged tagged)) k all = λ row found. tt
@@ -187,6 +193,7 @@ tidy w (ListNames at) k all = λ directory found. tt
 tidy w Restorable k all = tt
 tidy w Due k all = tt
 tidy w UsageAll k all = tt
+tidy w GroupsAll k all = tt
 
 pub no_idle_stays : NoIdleStays
 no_idle_stays w event k none =

@@ -6,7 +6,7 @@ use Rattle.ele_world.specs.Plan.{Plan, Tell, Make, Unless, When, Need, IfFound, 
 use Rattle.ele_world.specs.Step.{plan, step}
 use Rattle.ele_world.specs.World.{World}
 use Rattle.ele_world.specs.declared.event.Event.{Event}
-use Rattle.ele_world.specs.declared.event.Event.TheVariants.{Clock, Tick, MakeDir, RemoveDir, Create, Link, Unlink, Rename, Undelete, OpenWrite, OpenRead, Write, Truncate, Close, Revert, SetPolicy, SetDefault, CleanOne, Read, Stat, Versions, List as ListNames, Restorable, Due, UsageAll}
+use Rattle.ele_world.specs.declared.event.Event.TheVariants.{Clock, Tick, MakeDir, RemoveDir, Create, Link, Unlink, Rename, Undelete, OpenWrite, OpenRead, Write, Truncate, Close, Revert, SetPolicy, SetDefault, GroupMake, GroupDrop, GroupAdd, GroupRemove, Mark, Unmark, CleanOne, Read, Stat, Versions, List as ListNames, Restorable, Due, UsageAll, GroupsAll}
 use Rattle.ele_world.specs.declared.event.Source.TheVariants.{Tagged, Of}
 use Rattle.ele_world.specs.declared.refusal.Refusal.{Refusal}
 use Rattle.ele_world.specs.declared.reply.Reply.{Reply}
@@ -43,6 +43,12 @@ fair w (Close handle) = λ read. ((refl, refl), λ file. ((refl, refl), ((refl, 
 fair w (Revert path number) = λ file row. (refl, refl)
 fair w (SetPolicy path policy) = λ file. (refl, refl)
 fair w (SetDefault path policy) = λ directory. (refl, refl)
+fair w (GroupMake name) = (refl, refl)
+fair w (GroupDrop name) = (refl, refl)
+fair w (GroupAdd name path) = λ file. (refl, refl)
+fair w (GroupRemove name path) = λ file. (refl, refl)
+fair w (Mark name mark) = (refl, refl)
+fair w (Unmark name mark) = (refl, refl)
 fair w CleanOne = (tt, λ key. (refl, refl))
 fair w (Read (Of handle)) = λ read. tt
 fair w (Read (Tagged tagged)) = λ row. tt
@@ -52,6 +58,7 @@ fair w (ListNames at) = λ directory. tt
 fair w Restorable = tt
 fair w Due = tt
 fair w UsageAll = tt
+fair w GroupsAll = tt
 
 refusal_stays : (w : World) (event : Event) (plan : Plan) → IsFair event plan → (refusal : Refusal) → (outcome w plan).0 ≡ Refused refusal → (outcome w plan).1 ≡ w
 refusal_stays w event (Tell reply) is refusal e = refl

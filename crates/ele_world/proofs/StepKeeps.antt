@@ -4,7 +4,7 @@ use Rattle.std.specs.List.{AllByRecursion}
 use Rattle.ele_world.specs.Bounds.{Bounds, AreBounds}
 use Rattle.ele_world.specs.Run.{run_of, IsEvent}
 use Rattle.ele_world.specs.Step.{plan, step}
-use Rattle.ele_world.specs.WellFormed.{Part, Now, Bounded, Counted, Directories, Files, Names, Homes, Tree, Versions, Drafts, Handles, Readers, Current, Holds, IsWellFormed, Ended}
+use Rattle.ele_world.specs.WellFormed.{Part, Now, Bounded, Counted, Directories, Files, Names, Homes, Tree, Versions, Drafts, Handles, Readers, Current, Holds, IsWellFormed, Ended, Groups}
 use Rattle.ele_world.specs.World.{World, fresh_world}
 use Rattle.ele_world.specs.declared.event.Event.{Event}
 use Rattle.ele_world.proofs.Allowed.{allowed}
@@ -19,7 +19,7 @@ fresh_is limits bounds = record { holds = by } where
   by : (part : Part) → Holds (fresh_world limits) part
   by Now = omega arith
   by Bounded = bounds
-  by Counted = record { files_made = omega arith; names_made = omega arith; versions_made = omega arith; handles_made = omega arith; file_rows = omega arith; name_rows = omega arith; version_rows = omega arith }
+  by Counted = record { files_made = omega arith; names_made = omega arith; versions_made = omega arith; handles_made = omega arith; groups_made = omega arith; members_made = omega arith; marks_made = omega arith; file_rows = omega arith; name_rows = omega arith; version_rows = omega arith }
   by Directories = record { rooted = refl; policies = (record { some = omega arith; fits = omega arith }, tt); placed = (tt, tt); given = (omega arith, tt); counted = omega arith; few = omega arith }
   by Files = record { each = tt; placed = tt }
   by Names = record { each = tt; lives = tt }
@@ -31,6 +31,7 @@ fresh_is limits bounds = record { holds = by } where
   by Readers = tt
   by Current = λ file live. absurd (let no : false ≡ true = live in cc)
   by Ended = tt
+  by Groups = record { each = tt; named = tt; counted = omega arith }
 
 -- and of a run
 pub run_keeps : (w : World) (events : List Event) → AllByRecursion IsEvent events → IsWellFormed w → IsWellFormed (run_of w events)

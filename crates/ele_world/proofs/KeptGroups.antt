@@ -1,0 +1,196 @@
+-- Changes of groups keep a world well formed, and groups stay what they are beside other changes.
+use Rattle.std.proofs.Common.{◌≡◌, ℕ, ◌+◌, ◌<◌, ◌≤◌, ◌==◌, Bool, true, false, not, cond, List, [], ◌∷◌, ◌++◌, length, length-append, map, Option, Some, None, refl, arith}
+use Rattle.std.specs.Prelude.{filter, find}
+use Rattle.std.specs.List.{AllByRecursion}
+use Rattle.std.specs.Option.{option_map_or}
+use Rattle.std.specs.Str.{bytes_eq}
+use Rattle.std.proofs.lemmas.Bool.{not-true}
+use Rattle.std.proofs.lemmas.List.{length-map}
+use Rattle.ele_lists.specs.Lists.{AllLater, update_first, remove_first}
+use Rattle.ele_lists.proofs.Alls.{all-filter, all-map, filter-passes, later-filter, later-map}
+use Rattle.ele_lists.proofs.Edits.{all-both, all-none, all-push, all-remove_first, all-weaker, later-push, later-remove_first, later-update_first, length-remove_first-le, length-update_first}
+use Rattle.ele_world.specs.Change.{AddMark, AddMember, DropGroup, MakeGroup, RemoveMark, RemoveMember, after_change}
+use Rattle.ele_world.specs.GroupRows.{adds, forgets, forgotten, has_mark, is_group, is_member, marks, new_group, removes, unmarks}
+use Rattle.ele_world.specs.WellFormed.{AreGroups, Counted, Groups, Holds, IsGroup, IsWellFormed, Part}
+use Rattle.ele_world.specs.World.{World, next_of}
+use Rattle.ele_world.specs.declared.rows.FileRow.{FileRow}
+use Rattle.ele_world.specs.declared.rows.GroupRow.{GroupRow}
+use Rattle.ele_world.proofs.May.{MayGroup, MayJoin, MayMark}
+
+abbrev AreTwo : ℕ → ℕ → Type 0
+AreTwo earlier later = (earlier == later) ≡ false
+
+abbrev AreNamedApart : GroupRow → GroupRow → Type 0
+AreNamedApart earlier later = bytes_eq earlier.name later.name ≡ false
+
+-- ---- beside other changes
+
+-- where each file that is there stays there, and the time doesn't fall
+pub groups_on : (made : ℕ) (files after : List FileRow) (now to : ℕ) (rows : List GroupRow) → now ≤ to → ((file : ℕ) → 0 < next_of files file → 0 < next_of after file) → AreGroups made files now rows → AreGroups made after to rows
+groups_on made files after now to rows le still are = record {
+  each = all-weaker (IsGroup files now) (IsGroup after to) rows
+      (λ row is. record {
+        there = all-weaker (λ member. 0 < next_of files member) (λ member. 0 < next_of after member) row.members still is.there;
+        apart = is.apart;
+        past = all-weaker (λ mark. mark < now) (λ mark. mark < to) row.marks (λ mark h. omega (arith, h, le)) is.past;
+        once = is.once;
+      }) are.each;
+  named = are.named;
+  counted = are.counted;
+}
+
+-- where each other file that is there stays there, and the file leaves its groups
+pub groups_forgotten : (made : ℕ) (files after : List FileRow) (now file : ℕ) (rows : List GroupRow) → ((other : ℕ) → (other == file) ≡ false → 0 < next_of files other → 0 < next_of after other) → AreGroups made files now rows → AreGroups made after now (forgotten file rows)
+groups_forgotten made files after now file rows still are = record {
+  each = all-map (forgets file) (IsGroup after now) rows
+      (all-weaker (IsGroup files now) (λ row. IsGroup after now (forgets file row)) rows
+      (λ row is. record { there = there row is; apart = later-filter AreTwo AreTwo stays row.members (λ x y e f h. h) is.apart; past = is.past; once = is.once }) are.each);
+  named = later-map (forgets file) AreNamedApart rows are.named;
+  counted = omega (arith, are.counted, length-map rows (forgets file));
+} where
+  stays : ℕ → Bool
+  stays member = not (member == file)
+
+  there : (row : GroupRow) → IsGroup files now row → AllByRecursion (λ member. 0 < next_of after member) (filter stays row.members)
+  there row is = all-weaker (λ member. (stays member ≡ true) × (0 < next_of files member)) (λ member. 0 < next_of after member) (filter stays row.members)
+      (λ member h. still member (not-true (member == file) h.0) h.1)
+      (all-both _ _ (filter stays row.members) (filter-passes stays row.members) (all-filter (λ member. 0 < next_of files member) stays row.members is.there))
+
+-- ---- one group
+
+-- what all elements have, after a change of the one that is found
+all-update_found : {X : Type 0} (p : X → Bool) (P : X → Type 0) (f : X → X) (xs : List X) → ((x : X) → find p xs ≡ Some x → P x → P (f x)) → AllByRecursion P xs → AllByRecursion P (update_first p f xs)
+all-update_found p P f [] changes all = tt
+all-update_found p P f (x ∷ xs) changes all = elim (p x) as (λ b. p x ≡ b → AllByRecursion P (cond b (f x ∷ xs) (x ∷ update_first p f xs))) [
+  | true ↦ λ e. (changes x (rw e refl) all.0, all.1)
+  | false ↦ λ e. (all.0, all-update_found p P f xs (λ y found. changes y (rw e found)) all.1)
+] refl
+
+-- what the group of that name lacks, it lacks where it is found
+found_lacks : (t : GroupRow → Bool) (o : Option GroupRow) (row : GroupRow) → o ≡ Some row → option_map_or t o false ≡ false → t row ≡ false
+found_lacks t None row found h = absurd cc
+found_lacks t (Some other) row found h = let same : other ≡ row = cc in rw (← same) h
+
+-- a group that keeps its name changes to a group
+groups_edited : (w : World) (name : List ℕ) (f : GroupRow → GroupRow) → ((row : GroupRow) → (f row).name ≡ row.name) → ((row : GroupRow) → find (is_group name) w.groups ≡ Some row → IsGroup w.files w.now row → IsGroup w.files w.now (f row)) → IsWellFormed w → AreGroups w.made.groups w.files w.now (update_first (is_group name) f w.groups)
+groups_edited w name f same edits k = let are = k.holds Groups in record {
+  each = all-update_found (is_group name) (IsGroup w.files w.now) f w.groups edits are.each;
+  named = later-update_first (is_group name) AreNamedApart f w.groups (λ x y h. rw (same x) h) (λ x y h. rw (same y) h) are.named;
+  counted = omega (arith, are.counted, length-update_first (is_group name) f w.groups);
+}
+
+pub make_group_keeps : (w : World) (name : List ℕ) → MayGroup w name → IsWellFormed w → IsWellFormed (after_change w (MakeGroup name))
+make_group_keeps w name may k = record { holds = by } where
+  by : (part : Part) → Holds (after_change w (MakeGroup name)) part
+  by Counted = let c = k.holds Counted in record {
+    files_made = c.files_made;
+    names_made = c.names_made;
+    versions_made = c.versions_made;
+    handles_made = c.handles_made;
+    groups_made = omega (arith, may.room);
+    members_made = c.members_made;
+    marks_made = c.marks_made;
+    file_rows = c.file_rows;
+    name_rows = c.name_rows;
+    version_rows = c.version_rows;
+  }
+  by Groups = let are = k.holds Groups in record {
+    each = all-push (IsGroup w.files w.now) w.groups (new_group name) are.each (record { there = tt; apart = tt; past = tt; once = tt });
+    named = later-push AreNamedApart w.groups (new_group name) are.named (all-none (is_group name) w.groups may.free);
+    counted = simp length-append (omega (arith, are.counted));
+  }
+  by part = k.holds part
+
+pub drop_group_keeps : (w : World) (name : List ℕ) → IsWellFormed w → IsWellFormed (after_change w (DropGroup name))
+drop_group_keeps w name k = record { holds = by } where
+  by : (part : Part) → Holds (after_change w (DropGroup name)) part
+  by Groups = let are = k.holds Groups in record {
+    each = all-remove_first (is_group name) (IsGroup w.files w.now) w.groups are.each;
+    named = later-remove_first (is_group name) AreNamedApart w.groups are.named;
+    counted = omega (arith, are.counted, length-remove_first-le (is_group name) w.groups);
+  }
+  by part = k.holds part
+
+-- ---- its files
+
+pub add_member_keeps : (w : World) (name : List ℕ) (file : ℕ) → MayJoin w name file → IsWellFormed w → IsWellFormed (after_change w (AddMember name file))
+add_member_keeps w name file may k = record { holds = by } where
+  joined : (row : GroupRow) → find (is_group name) w.groups ≡ Some row → IsGroup w.files w.now row → IsGroup w.files w.now (adds file row)
+  joined row found is = record {
+    there = all-push (λ member. 0 < next_of w.files member) row.members file is.there may.there;
+    apart = later-push AreTwo row.members file is.apart (all-none (λ member. member == file) row.members (found_lacks (is_member file) (find (is_group name) w.groups) row found may.free));
+    past = is.past;
+    once = is.once;
+  }
+
+  by : (part : Part) → Holds (after_change w (AddMember name file)) part
+  by Counted = let c = k.holds Counted in record {
+    files_made = c.files_made;
+    names_made = c.names_made;
+    versions_made = c.versions_made;
+    handles_made = c.handles_made;
+    groups_made = c.groups_made;
+    members_made = omega (arith, may.room);
+    marks_made = c.marks_made;
+    file_rows = c.file_rows;
+    name_rows = c.name_rows;
+    version_rows = c.version_rows;
+  }
+  by Groups = groups_edited w name (adds file) (λ row. refl) joined k
+  by part = k.holds part
+
+pub remove_member_keeps : (w : World) (name : List ℕ) (file : ℕ) → IsWellFormed w → IsWellFormed (after_change w (RemoveMember name file))
+remove_member_keeps w name file k = record { holds = by } where
+  left : (row : GroupRow) → find (is_group name) w.groups ≡ Some row → IsGroup w.files w.now row → IsGroup w.files w.now (removes file row)
+  left row found is = record {
+    there = all-remove_first (λ member. member == file) (λ member. 0 < next_of w.files member) row.members is.there;
+    apart = later-remove_first (λ member. member == file) AreTwo row.members is.apart;
+    past = is.past;
+    once = is.once;
+  }
+
+  by : (part : Part) → Holds (after_change w (RemoveMember name file)) part
+  by Groups = groups_edited w name (removes file) (λ row. refl) left k
+  by part = k.holds part
+
+-- ---- its marks
+
+pub add_mark_keeps : (w : World) (name : List ℕ) (mark : ℕ) → MayMark w name mark → IsWellFormed w → IsWellFormed (after_change w (AddMark name mark))
+add_mark_keeps w name mark may k = record { holds = by } where
+  marked : (row : GroupRow) → find (is_group name) w.groups ≡ Some row → IsGroup w.files w.now row → IsGroup w.files w.now (marks mark row)
+  marked row found is = record {
+    there = is.there;
+    apart = is.apart;
+    past = all-push (λ made. made < w.now) row.marks mark is.past may.past;
+    once = later-push AreTwo row.marks mark is.once (all-none (λ made. made == mark) row.marks (found_lacks (has_mark mark) (find (is_group name) w.groups) row found may.free));
+  }
+
+  by : (part : Part) → Holds (after_change w (AddMark name mark)) part
+  by Counted = let c = k.holds Counted in record {
+    files_made = c.files_made;
+    names_made = c.names_made;
+    versions_made = c.versions_made;
+    handles_made = c.handles_made;
+    groups_made = c.groups_made;
+    members_made = c.members_made;
+    marks_made = omega (arith, may.room);
+    file_rows = c.file_rows;
+    name_rows = c.name_rows;
+    version_rows = c.version_rows;
+  }
+  by Groups = groups_edited w name (marks mark) (λ row. refl) marked k
+  by part = k.holds part
+
+pub remove_mark_keeps : (w : World) (name : List ℕ) (mark : ℕ) → IsWellFormed w → IsWellFormed (after_change w (RemoveMark name mark))
+remove_mark_keeps w name mark k = record { holds = by } where
+  unmarked : (row : GroupRow) → find (is_group name) w.groups ≡ Some row → IsGroup w.files w.now row → IsGroup w.files w.now (unmarks mark row)
+  unmarked row found is = record {
+    there = is.there;
+    apart = is.apart;
+    past = all-remove_first (λ made. made == mark) (λ made. made < w.now) row.marks is.past;
+    once = later-remove_first (λ made. made == mark) AreTwo row.marks is.once;
+  }
+
+  by : (part : Part) → Holds (after_change w (RemoveMark name mark)) part
+  by Groups = groups_edited w name (unmarks mark) (λ row. refl) unmarked k
+  by part = k.holds part

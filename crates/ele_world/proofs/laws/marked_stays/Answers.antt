@@ -1,0 +1,5 @@
+use Rattle.ele_world.proofs.MarkedStays.{marked_stays}
+use Rattle.ele_world.proofs.laws.marked_stays.Goals as goal
+
+pub returns : goal.returns
+returns c = λ w event k. marked_stays w event k
