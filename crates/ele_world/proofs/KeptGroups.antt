@@ -1,12 +1,12 @@
 -- Changes of groups keep a world well formed, and groups stay what they are beside other changes.
-use Rattle.std.proofs.Common.{◌≡◌, ℕ, ◌+◌, ◌<◌, ◌≤◌, ◌==◌, Bool, true, false, not, cond, List, [], ◌∷◌, ◌++◌, length, length-append, map, Option, Some, None, refl, arith}
+use Rattle.std.proofs.Common.{◌≡◌, ℕ, ◌<◌, ◌≤◌, ◌==◌, Bool, true, false, not, cond, List, [], ◌∷◌, length-append, Option, Some, None, refl, arith}
 use Rattle.std.specs.Prelude.{filter, find}
 use Rattle.std.specs.List.{AllByRecursion}
 use Rattle.std.specs.Option.{option_map_or}
 use Rattle.std.specs.Str.{bytes_eq}
 use Rattle.std.proofs.lemmas.Bool.{not-true}
 use Rattle.std.proofs.lemmas.List.{length-map}
-use Rattle.ele_lists.specs.Lists.{AllLater, update_first, remove_first}
+use Rattle.ele_lists.specs.Lists.{update_first}
 use Rattle.ele_lists.proofs.Alls.{all-filter, all-map, filter-passes, later-filter, later-map}
 use Rattle.ele_lists.proofs.Edits.{all-both, all-none, all-push, all-remove_first, all-weaker, later-push, later-remove_first, later-update_first, length-remove_first-le, length-update_first}
 use Rattle.ele_world.specs.Change.{AddMark, AddMember, DropGroup, MakeGroup, RemoveMark, RemoveMember, after_change}
