@@ -1,10 +1,10 @@
 -- The first key of the scan is that of a due row.
-use Rattle.std.proofs.Common.{◌≡◌, ℕ, Bool, true, false, cond, not, ◌&&◌, List, [], ◌∷◌, Option, Some, None, refl, ap, sym, ◌∙◌}
+use Rattle.std.proofs.Common.{◌≡◌, ℕ, Bool, true, false, cond, not, ◌==◌, ◌&&◌, ◌||◌, List, [], ◌∷◌, Option, Some, None, refl, ap, sym, ◌∙◌}
 use Rattle.std.specs.Prelude.{find, is_none, slice_get, fold}
 use Rattle.std.specs.declared.cmp.Ordering.{Ordering}
 use Rattle.std.specs.declared.cmp.Ordering.TheVariants.{Less, Equal, Greater}
 use Rattle.std.specs.BTreeSet.{insert_key}
-use Rattle.std.specs.List.{AllByRecursion, filter_map}
+use Rattle.std.specs.List.{AllByRecursion, filter_map, list_any}
 use Rattle.std.specs.Option.{option_map, option_map_or}
 use Rattle.std.proofs.lemmas.Bool.{false≢true}
 use Rattle.ele_policy.specs.Ripe.{is_due_by}
@@ -13,6 +13,7 @@ use Rattle.ele_due.specs.declared.key.Key.{Key}
 use Rattle.ele_world.specs.declared.rows.VersionRow.{VersionRow}
 use Rattle.ele_world.specs.Due.{is_due_at, ripe_of}
 use Rattle.ele_world.specs.FileView.{view_of, beside, is_protected}
+use Rattle.ele_world.specs.GroupRows.{covers_moment}
 use Rattle.ele_world.specs.Scan.{key_cmp, key_of, due_key, scan, first_due}
 use Rattle.ele_world.specs.WellFormed.{AllLater, ArePlaced}
 use Rattle.ele_world.specs.World.{World, is_open, is_version, policy_of}
@@ -81,7 +82,9 @@ due_has_ended w row at h = by (is_protected (view_of w row.file) row at) (policy
 -- and isn't open
 pub due_is_unread : (w : World) (row : VersionRow) (at : ℕ) → is_due_at w row at ≡ true → is_open w.handles row.file row.number ≡ false
 unfolding is_due_at
-due_is_unread w row at h = sym (numbers_are w.handles row.file row.number) ∙ by (is_protected (view_of w row.file) row at) h where
-  by : (b : Bool) → due_if w row at b (policy_of w.files row.file) row.ended ≡ true → b ≡ false
-  by true h = absurd (false≢true h)
-  by false h = refl
+due_is_unread w row at h =
+    let v = view_of w row.file in
+    sym (numbers_are w.handles row.file row.number) ∙ by (list_any (λ number. number == row.number) v.pinned) (list_any (covers_moment row.closed row.ended) v.marks) h where
+      by : (b m : Bool) → due_if w row at (b || m) (policy_of w.files row.file) row.ended ≡ true → b ≡ false
+      by true m h = absurd (false≢true h)
+      by false m h = refl

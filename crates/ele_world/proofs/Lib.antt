@@ -34,6 +34,7 @@ pub mod DueRows
 pub mod RipeAt
 pub mod NameMoments
 pub mod OpenMoments
+pub mod GroupMarks
 pub mod Neighbours
 pub mod NewestHeld
 pub mod AppendMoments
