@@ -65,7 +65,7 @@ marked_in v closed ended = list_any (covers_moment closed ended) v.marks
 ripe_in_near : (v : FileView) (row : VersionRow) (nearest : Option ℕ) → IfSome v.policy IsPolicy → IsNearest row.closed nearest (beside v row) → ripe_in v row ≡ moment_if (marked_in v) (list_any (λ number. number == row.number) v.pinned) v.policy nearest row row.ended
 unfolding ripe_by
 ripe_in_near v row nearest governed near = by (list_any (λ number. number == row.number) v.pinned) v.policy row.ended governed where
-  abbrev due : Bool → Option Policy → Option ℕ → ℕ → Bool
+  due : Bool → Option Policy → Option ℕ → ℕ → Bool
   due b p e at = not b && option_map_or (λ policy. option_map_or (λ ended. is_due_by policy row.closed (beside v row) ended at) e false) p false
 
   marked : (m : Bool) (policy : Policy) (ended : ℕ) → IsPolicy policy → earliest_of (due m (Some policy) (Some ended)) (candidates policy ended) ≡ cond m None (ripe_by policy row.closed (alone nearest) ended)

@@ -76,9 +76,7 @@ fn has_covering(group: &GroupRow, closed: Moment, ended: Option<Moment>) -> bool
 fn is_marked(groups: &[GroupRow], file: FileId, closed: Moment, ended: Option<Moment>) -> bool
     ensures { result ≡ is_marked groups.now file closed ended }
 {
-    groups
-        .iter()
-        .any(|group| is_member(group, file) && has_covering(group, closed, ended))
+    groups.iter().any(|group| is_member(group, file) && has_covering(group, closed, ended))
 }
 
 /// Whether a handle reads the version, or a mark covers it.
