@@ -35,6 +35,7 @@ pub mod RipeAt
 pub mod NameMoments
 pub mod OpenMoments
 pub mod GroupMarks
+pub mod MarksChanged
 pub mod Neighbours
 pub mod NewestHeld
 pub mod AppendMoments

@@ -117,18 +117,37 @@ ripe_at_near w file number ordered = ripe_at_is w file number ∙ by (find (is_v
       ∙ ap (λ f. moment_if (is_marked w.groups f) (is_open w.handles f row.number) (policy_of w.files f) (next_closing w.versions f row.number) row row.ended) own
       ∙ ap (λ n. moment_if (is_marked w.groups file) (is_open w.handles file n) (policy_of w.files file) (next_closing w.versions file n) row row.ended) its
 
--- where two tests mark the same, so do the moments that they tell
-pub moment_marked : (is_marked was_marked : ℕ → Option ℕ → Bool) (policy : Option Policy) (versions : List VersionRow) (file number : ℕ)
-    → ((closed : ℕ) (ended : Option ℕ) → is_marked closed ended ≡ was_marked closed ended) → moment_under is_marked policy versions file number ≡ moment_under was_marked policy versions file number
-moment_marked is_marked was_marked policy versions file number same = by (find (is_version file number) versions) where
-  ends : (row : VersionRow) (e : Option ℕ) → option_and_then (near_moment is_marked policy (next_closing versions file number) row.closed) e ≡ option_and_then (near_moment was_marked policy (next_closing versions file number) row.closed) e
-  ends row None = refl
-  ends row (Some ended) = rw (same row.closed (Some ended)) refl
+-- ---- by two tests that mark
 
-  by : (o : Option VersionRow) → option_and_then (λ (row : VersionRow). option_and_then (near_moment is_marked policy (next_closing versions file number) row.closed) row.ended) o
-      ≡ option_and_then (λ (row : VersionRow). option_and_then (near_moment was_marked policy (next_closing versions file number) row.closed) row.ended) o
-  by None = refl
-  by (Some row) = ends row row.ended
+module _ (versions : List VersionRow) (file number : ℕ) where
+  -- whatever is true of the version, if it is held
+  abbrev pub IfHeld : (VersionRow → Type 0) → Type 0
+  IfHeld P = (row : VersionRow) → find (is_version file number) versions ≡ Some row → P row
+
+  -- where both mark the version alike, so does its moment
+  pub moment_same : (t u : ℕ → Option ℕ → Bool) (policy : Option Policy) → IfHeld (λ row. t row.closed row.ended ≡ u row.closed row.ended) → moment_under t policy versions file number ≡ moment_under u policy versions file number
+  moment_same t u policy same = by (find (is_version file number) versions) refl where
+    moment : (ℕ → Option ℕ → Bool) → VersionRow → Option ℕ → Option ℕ
+    moment is_marked row ended = option_and_then (near_moment is_marked policy (next_closing versions file number) row.closed) ended
+
+    ends : (row : VersionRow) (e : Option ℕ) → t row.closed e ≡ u row.closed e → moment t row e ≡ moment u row e
+    ends row None h = refl
+    ends row (Some ended) h = rw h refl
+
+    by : (o : Option VersionRow) → find (is_version file number) versions ≡ o → option_and_then (λ (row : VersionRow). moment t row row.ended) o ≡ option_and_then (λ (row : VersionRow). moment u row row.ended) o
+    by None e = refl
+    by (Some row) e = ends row row.ended (same row e)
+
+  -- and where it is marked it has none
+  pub moment_none : (t : ℕ → Option ℕ → Bool) (policy : Option Policy) → IfHeld (λ row. t row.closed row.ended ≡ true) → moment_under t policy versions file number ≡ None
+  moment_none t policy marked = by (find (is_version file number) versions) refl where
+    ends : (row : VersionRow) (e : Option ℕ) → t row.closed e ≡ true → option_and_then (near_moment t policy (next_closing versions file number) row.closed) e ≡ None
+    ends row None h = refl
+    ends row (Some ended) h = rw h refl
+
+    by : (o : Option VersionRow) → find (is_version file number) versions ≡ o → option_and_then (λ (row : VersionRow). option_and_then (near_moment t policy (next_closing versions file number) row.closed) row.ended) o ≡ None
+    by None e = refl
+    by (Some row) e = ends row row.ended (marked row e)
 
 -- so it is the same in two worlds in which these are
 pub found_moment : (w v : World) (file number : ℕ) → AreInOrder w.files w.versions → AreInOrder v.files v.versions
@@ -138,7 +157,7 @@ pub found_moment : (w v : World) (file number : ℕ) → AreInOrder w.files w.ve
     → find (is_version file number) v.versions ≡ find (is_version file number) w.versions → ripe_at v file number ≡ ripe_at w file number
 found_moment w v file number before after marked policy opens next same =
     ripe_at_near v file number after
-    ∙ ap (cond (is_open v.handles file number) None) (moment_marked (is_marked v.groups file) (is_marked w.groups file) (policy_of v.files file) v.versions file number marked)
+    ∙ ap (cond (is_open v.handles file number) None) (moment_same v.versions file number (is_marked v.groups file) (is_marked w.groups file) (policy_of v.files file) (λ row e. marked row.closed row.ended))
     ∙ rw (policy, opens, next, same) refl
     ∙ sym (ripe_at_near w file number before)
 
