@@ -46,15 +46,15 @@ abbrev pub IsRipeOf : World → VersionRow → Option ℕ → Type 0
 IsRipeOf w row ripe = (ripe ≡ ripe_of w row) × IsDueFromRipe w row
 
 -- a handle reads it, or it is marked
-abbrev pub is_held_back : World → VersionRow → Bool
-is_held_back w row = is_open w.handles row.file row.number || is_marked w.groups row.file row.closed row.ended
+abbrev pub is_open_or_marked : World → VersionRow → Bool
+is_open_or_marked w row = is_open w.handles row.file row.number || is_marked w.groups row.file row.closed row.ended
 
-protected_is : (w : World) (row : VersionRow) → is_protected (view_of w row.file) row 0 ≡ is_held_back w row
+protected_is : (w : World) (row : VersionRow) → is_protected (view_of w row.file) row 0 ≡ is_open_or_marked w row
 protected_is w row = rw (numbers_are w.handles row.file row.number, marks_tell w.groups row.file row.closed row.ended) refl
 
 module _ (w : World) (row : VersionRow) where
   -- of one that is protected
-  pub ripe-protected : is_held_back w row ≡ true → IsRipeOf w row None
+  pub ripe-protected : is_open_or_marked w row ≡ true → IsRipeOf w row None
   unfolding ripe_of is_due_at
   ripe-protected is =
       let kept = protected_is w row ∙ is in
@@ -66,7 +66,7 @@ module _ (w : World) (row : VersionRow) where
   unfolding ripe_of
   ripe-unfiled filed = (rw filed refl, due_from_ripe_of w row (rw filed tt))
 
-  module _ (free : is_held_back w row ≡ false) where
+  module _ (free : is_open_or_marked w row ≡ false) where
     -- of one that hasn't ended
     pub ripe-unended : (policy : Policy) → policy_of w.files row.file ≡ Some policy → row.ended ≡ None → IsRipeOf w row None
     unfolding ripe_of is_due_at

@@ -228,9 +228,9 @@ module _ (rows : List GroupRow) (name : List ℕ) (file closed : ℕ) (ended : O
         ap (list_any (marks_still left)) cut.whole
         ∙ list_any-append (marks_still left) cut.before (row ∷ cut.behind)
         ∙ ap (λ b. b || (marks_still left row || list_any (marks_still left) cut.behind))
-            (any_same (marks_still left) marks_row cut.before (all-weaker (λ x. is_group name x ≡ false) (λ x. marks_still left x ≡ marks_row x) cut.before (others_count left) cut.none))
+        (any_same (marks_still left) marks_row cut.before (all-weaker (λ x. is_group name x ≡ false) (λ x. marks_still left x ≡ marks_row x) cut.before (others_count left) cut.none))
         ∙ ap (λ b. list_any marks_row cut.before || (marks_still left row || b))
-            (any_same (marks_still left) marks_row cut.behind (all-weaker (λ (x : GroupRow). bytes_eq row.name x.name ≡ false) (λ x. marks_still left x ≡ marks_row x) cut.behind (λ x apart. others_count left x (other_name row x cut.passes apart)) behind))
+        (any_same (marks_still left) marks_row cut.behind (all-weaker (λ (x : GroupRow). bytes_eq row.name x.name ≡ false) (λ x. marks_still left x ≡ marks_row x) cut.behind (λ x apart. others_count left x (other_name row x cut.passes apart)) behind))
 
     still_changed : (left : Option ℕ) (f : GroupRow → GroupRow) (row : GroupRow) → find (is_group name) rows ≡ Some row → marks_row (f row) ≡ marks_still left row
         → is_marked (update_first (is_group name) f rows) file closed ended ≡ is_marked_without rows name left file closed ended
