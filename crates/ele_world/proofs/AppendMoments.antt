@@ -12,6 +12,7 @@ use Rattle.ele_world.specs.declared.rows.VersionRow.{VersionRow}
 use Rattle.ele_world.specs.Change.{with_version}
 use Rattle.ele_world.specs.Due.{ripe_of, ripe_at}
 use Rattle.ele_world.specs.FileView.{is_version_of}
+use Rattle.ele_world.specs.GroupRows.{is_marked}
 use Rattle.ele_world.specs.Neighbours.{is_newer_of, near_moment, newest_of}
 use Rattle.ele_world.specs.WellFormed.{AreHeldRead, AreVersions, IsVersion, Readers, Versions, IsWellFormed}
 use Rattle.ele_world.specs.World.{World, is_live, is_open, is_version, next_of, policy_of}
@@ -67,12 +68,12 @@ module _ (w : World) (file opened : ℕ) (cells : List Cell) (k : MayGrow w file
   next_before = unheld_moment w file next none_there
 
   -- it has its moment where it ends at once
-  pub next_after : ripe_at appended file next ≡ cond (is_live w file) None (near_moment (policy_of w.files file) None w.now w.now)
+  pub next_after : ripe_at appended file next ≡ cond (is_live w file) None (near_moment (is_marked w.groups file) (policy_of w.files file) None w.now w.now)
   next_after =
       let unread = unread_unheld w.versions w.handles file next k.readers (any_none (is_version file next) w.versions none_there) in
       ripe_at_near appended file next then_ordered
       ∙ rw (unread, new_found w file k.versions.each opened cells, policy, none_behind w file opened cells k.versions) (by (is_live w file)) where
-        by : (b : Bool) → option_and_then (near_moment (policy_of w.files file) None w.now) (cond b None (Some w.now)) ≡ cond b None (near_moment (policy_of w.files file) None w.now w.now)
+        by : (b : Bool) → option_and_then (near_moment (is_marked w.groups file) (policy_of w.files file) None w.now) (cond b None (Some w.now)) ≡ cond b None (near_moment (is_marked w.groups file) (policy_of w.files file) None w.now w.now)
         by true = refl
         by false = refl
 
@@ -81,13 +82,13 @@ module _ (w : World) (file opened : ℕ) (cells : List Cell) (k : MayGrow w file
   newest_before row is = (newest_held w file k.versions row is).before
 
   -- it had a moment if it had ended, without a newer one beside it
-  pub newest_was : (row : VersionRow) → newest_of w.versions file ≡ Some row → ripe_at w file row.number ≡ cond (is_open w.handles file row.number) None (option_and_then (near_moment (policy_of w.files file) None row.closed) row.ended)
+  pub newest_was : (row : VersionRow) → newest_of w.versions file ≡ Some row → ripe_at w file row.number ≡ cond (is_open w.handles file row.number) None (option_and_then (near_moment (is_marked w.groups file) (policy_of w.files file) None row.closed) row.ended)
   newest_was row is =
       let newest = newest_held w file k.versions row is in
       ripe_at_near w file row.number ordered ∙ rw (newest.found, not_found (is_newer_of file row.number) w.versions newest.most) refl
 
   -- and has one with the new version beside it
-  pub newest_is : (row : VersionRow) → newest_of w.versions file ≡ Some row → ripe_at appended file row.number ≡ cond (is_open w.handles file row.number) None (near_moment (policy_of w.files file) (Some w.now) row.closed (unwrap_or row.ended w.now))
+  pub newest_is : (row : VersionRow) → newest_of w.versions file ≡ Some row → ripe_at appended file row.number ≡ cond (is_open w.handles file row.number) None (near_moment (is_marked w.groups file) (policy_of w.files file) (Some w.now) row.closed (unwrap_or row.ended w.now))
   newest_is row is =
       let newest = newest_held w file k.versions row is in
       ripe_at_near appended file row.number then_ordered ∙ rw (newest_ended w file opened cells k.versions row newest, policy, next_behind w file opened cells k.versions row newest) refl
@@ -104,7 +105,7 @@ module _ (w : World) (file opened : ℕ) (cells : List Cell) (k : MayGrow w file
     by true e =
         let older : n < row.number = grind (arith, nat_tests) in
         let before = its.before in
-        found_moment w appended file n ordered then_ordered policy refl (next_still w file opened cells k.versions row its n older)
+        found_moment w appended file n ordered then_ordered (λ closed ended. refl) policy refl (next_still w file opened cells k.versions row its n older)
         (found_still w file opened cells k.versions file n (grind (arith, nat_tests)) (grind (arith, nat_tests)))
     by false e = stays_unheld n new (all-weaker (λ x. is_newer_of file row.number x ≡ false) (λ x. is_version file n x ≡ false) w.versions (λ x h. grind (arith, nat_tests)) its.most)
 
@@ -113,7 +114,7 @@ module _ (w : World) (file opened : ℕ) (cells : List Cell) (k : MayGrow w file
   others_after f n apart = by (f == file) (newest_of w.versions file) refl refl apart where
     by : (b : Bool) (o : Option VersionRow) → (f == file) ≡ b → newest_of w.versions file ≡ o → (b && ((n == next) || option_map_or (λ row. n == row.number) o false)) ≡ false → ripe_at appended f n ≡ ripe_at w f n
     by false o e found apart =
-        found_moment w appended f n ordered then_ordered (policies-numbered w.files file f) refl (next_other w file opened cells k.versions f n e)
+        found_moment w appended f n ordered then_ordered (λ closed ended. refl) (policies-numbered w.files file f) refl (next_other w file opened cells k.versions f n e)
         (found_still w file opened cells k.versions f n (grind (arith, nat_tests)) (rw e refl))
     by true None e found apart =
         let own : f ≡ file = grind (arith, nat_tests) in

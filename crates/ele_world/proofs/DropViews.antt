@@ -14,6 +14,7 @@ use Rattle.ele_world.specs.declared.rows.Target.{Target}
 use Rattle.ele_world.specs.declared.rows.Target.TheVariants.{File, Directory}
 use Rattle.ele_world.specs.declared.rows.VersionRow.{VersionRow}
 use Rattle.ele_world.proofs.Dropped.{dropped, stays_named, idle_versions, policy_of-removed}
+use Rattle.ele_world.proofs.GroupMarks.{marks_forgotten}
 use Rattle.ele_world.proofs.RipeAt.{ripe_at_is}
 
 -- the same versions are held at the same moment, and each one's file is seen alike
@@ -74,7 +75,7 @@ pub live_other : (w : World) (file other : ℕ) → (other == file) ≡ false �
 live_other w file other apart = list_any-filter (is_live_name_of other) (stays_named file) w.names (λ row goes. rw (no_other file other row.target apart goes) refl)
 
 pub view_other : (w : World) (file other : ℕ) → (other == file) ≡ false → view_of (without_file w file) other ≡ view_of w other
-view_other w file other apart = rw (policy_of-removed w.files file other apart, live_other w file other apart) refl
+view_other w file other apart = rw (policy_of-removed w.files file other apart, live_other w file other apart, marks_forgotten w.groups file other apart) refl
 
 pub dropped_sees : (w : World) (file : ℕ) → SeesSame w (after_change w (DropIdle file))
 dropped_sees w file = dropped (SeesSame w) w file (λ idle. record {

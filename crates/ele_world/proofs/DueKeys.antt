@@ -1,5 +1,5 @@
 -- The scan, one row after another.
-use Rattle.std.proofs.Common.{◌≡◌, ℕ, ◌+◌, ◌<◌, ◌≤◌, Bool, true, false, cond, List, [], ◌∷◌, length, get_or, take, Option, Some, None, refl, ap, sym, ◌∙◌, fold, filter, ◌⊎◌, inl, inr}
+use Rattle.std.proofs.Common.{◌≡◌, ℕ, ◌+◌, ◌<◌, ◌≤◌, ◌||◌, Bool, true, false, cond, List, [], ◌∷◌, length, get_or, take, Option, Some, None, refl, ap, sym, ◌∙◌, fold, filter, ◌⊎◌, inl, inr}
 use Rattle.std.specs.Prelude.{nat_le, option_and_then}
 use Rattle.std.specs.List.{filter_map, cons_option}
 use Rattle.std.proofs.lemmas.List.{take_more}
@@ -16,11 +16,13 @@ use Rattle.ele_policy.specs.Policy.{IsPolicy}
 use Rattle.ele_policy.specs.Ripe.{Beside, ripe_by}
 use Rattle.ele_world.specs.declared.rows.VersionRow.{VersionRow}
 use Rattle.ele_world.specs.Due.{is_due_at, ripe_of}
-use Rattle.ele_world.specs.FileView.{view_of, is_version_of, is_newer, beside, closings}
+use Rattle.ele_world.specs.FileView.{view_of, is_version_of, is_newer, beside, closings, is_protected}
+use Rattle.ele_world.specs.GroupRows.{is_marked}
 use Rattle.ele_world.specs.Neighbours.{is_newer_of}
 use Rattle.ele_world.specs.RipeMoments.{IsDueFromRipe}
 use Rattle.ele_world.specs.Scan.{in_order, key_cmp, due_key, key_of}
 use Rattle.ele_world.specs.World.{World, is_live, is_open, policy_of}
+use Rattle.ele_world.proofs.GroupMarks.{marks_tell}
 use Rattle.ele_world.proofs.Readers.{numbers_are}
 use Rattle.ele_world.proofs.RipeAt.{unended}
 use Rattle.ele_world.proofs.RipeMoments.{due_from_ripe_of, free_ripe, protected_ripe}
@@ -43,28 +45,34 @@ newer_than versions row = closings (filter (is_newer_of row.file row.number) ver
 abbrev pub IsRipeOf : World → VersionRow → Option ℕ → Type 0
 IsRipeOf w row ripe = (ripe ≡ ripe_of w row) × IsDueFromRipe w row
 
+-- a handle reads it, or it is marked
+abbrev pub is_open_or_marked : World → VersionRow → Bool
+is_open_or_marked w row = is_open w.handles row.file row.number || is_marked w.groups row.file row.closed row.ended
+
+protected_is : (w : World) (row : VersionRow) → is_protected (view_of w row.file) row 0 ≡ is_open_or_marked w row
+protected_is w row = rw (numbers_are w.handles row.file row.number, marks_tell w.groups row.file row.closed row.ended) refl
+
 module _ (w : World) (row : VersionRow) where
-  -- of one that a handle reads
-  pub ripe-open : is_open w.handles row.file row.number ≡ true → IsRipeOf w row None
+  -- of one that is protected
+  pub ripe-protected : is_open_or_marked w row ≡ true → IsRipeOf w row None
   unfolding ripe_of is_due_at
-  ripe-open is =
-      let read = numbers_are w.handles row.file row.number ∙ is in
-      let none = protected_ripe (view_of w row.file) row read in
-      (sym none, λ at fits. rw (none, read) refl)
+  ripe-protected is =
+      let kept = protected_is w row ∙ is in
+      let none = protected_ripe (view_of w row.file) row kept in
+      (sym none, λ at fits. rw (none, kept) refl)
 
   -- of one whose file is missing
   pub ripe-unfiled : policy_of w.files row.file ≡ None → IsRipeOf w row None
   unfolding ripe_of
   ripe-unfiled filed = (rw filed refl, due_from_ripe_of w row (rw filed tt))
 
-  module _ (unread : is_open w.handles row.file row.number ≡ false) where
+  module _ (free : is_open_or_marked w row ≡ false) where
     -- of one that hasn't ended
     pub ripe-unended : (policy : Policy) → policy_of w.files row.file ≡ Some policy → row.ended ≡ None → IsRipeOf w row None
     unfolding ripe_of is_due_at
     ripe-unended policy filed end =
-        let free = numbers_are w.handles row.file row.number ∙ unread in
         let none = unended (view_of w row.file) row end in
-        (sym none, λ at fits. rw (none, free, filed, end) refl)
+        (sym none, λ at fits. rw (none, protected_is w row ∙ free, filed, end) refl)
 
     -- of one whose file and end are known
 
@@ -76,7 +84,7 @@ module _ (w : World) (row : VersionRow) where
         let newer : newer_than w.versions row ≡ (beside (view_of w row.file) row).newer = sym (ap closings (filter-both (is_newer row) (is_version_of row.file) w.versions)) in (
           is live
               ∙ ap (λ newer. ripe_by policy row.closed (record { newer = newer; live = live }) ended) newer
-              ∙ sym (free_ripe (view_of w row.file) row policy ended (numbers_are w.handles row.file row.number ∙ unread) filed end),
+              ∙ sym (free_ripe (view_of w row.file) row policy ended (protected_is w row ∙ free) filed end),
           due_from_ripe_of w row (rw filed given),
         )
 

@@ -1,15 +1,24 @@
 -- Which ripe moments change where marks of groups come and go: those of versions that they cover, and no other.
-use Rattle.std.proofs.Common.{◌≡◌, ℕ, true, false, cond, List, [], ◌∷◌, Option, Some, None}
+use Rattle.std.proofs.Common.{◌≡◌, ℕ, true, false, cond, List, [], ◌∷◌, Option, Some, None, refl, ap, sym, subst, ◌∙◌, ◌||◌, arith}
 use Rattle.std.specs.Prelude.{◌&&◌, ◌==◌, Bool, find}
 use Rattle.std.specs.List.{list_any}
 use Rattle.std.specs.Option.{option_map_or}
-use Rattle.ele_world.specs.Change.{DropGroup, AddMember, RemoveMember, AddMark, RemoveMark, after_change}
+use Rattle.std.specs.Str.{bytes_eq}
+use Rattle.std.proofs.lemmas.Bool.{false≢true}
+use Rattle.std.proofs.lemmas.Bool.Decides.{nat_tests}
+use Rattle.ele_lists.specs.Lists.{AllLater}
+use Rattle.ele_lists.proofs.Edits.{all-found}
+use Rattle.ele_world.specs.Change.{MakeGroup, DropGroup, AddMember, RemoveMember, AddMark, RemoveMark, after_change}
 use Rattle.ele_world.specs.Due.{ripe_at}
-use Rattle.ele_world.specs.GroupRows.{covers_moment, is_marked_without, members_of, marks_of}
+use Rattle.ele_world.specs.GroupRows.{covers_moment, group_named, has_mark, has_member, is_group, is_marked, is_marked_at, is_marked_without, is_member, members_of, marks_of, with_mark, with_member, without_group, without_mark, without_member}
 use Rattle.ele_world.specs.Neighbours.{moment_under}
-use Rattle.ele_world.specs.WellFormed.{IsWellFormed}
+use Rattle.ele_world.specs.WellFormed.{Groups, IsGroup, IsWellFormed}
 use Rattle.ele_world.specs.World.{World, is_open, is_version, policy_of}
+use Rattle.ele_world.specs.declared.limits.Counts.{Counts}
+use Rattle.ele_world.specs.declared.rows.GroupRow.{GroupRow}
 use Rattle.ele_world.specs.declared.rows.VersionRow.{VersionRow}
+use Rattle.ele_world.proofs.MarksChanged.{grouped_fewer, grouped_more, grouped_still, joined_fewer, joined_more, joined_still, marked_fewer, marked_more, marked_still, or_false, or_true, touches}
+use Rattle.ele_world.proofs.Neighbours.{IfHeld, found_moment, in_order_of, moment_none, moment_same, ripe_at_near}
 
 -- the file's version with that number, if it is held, was current at one of the marks
 abbrev pub is_covered : List ℕ → List VersionRow → ℕ → ℕ → Bool
@@ -32,10 +41,102 @@ pub record MarksGo (w v : World) (name : List ℕ) (left : Option ℕ) (files ma
   pub own : (file number : ℕ) → is_touched files marks w.versions file number ≡ true
       → ripe_at v file number ≡ cond (is_open w.handles file number) None (moment_under (is_marked_without w.groups name left file) (policy_of w.files file) w.versions file number)
 
--- each change of groups is so (to be proved):
---   mark_comes   : (w : World) (name : List ℕ) (mark : ℕ) → IsWellFormed w → MarksCome w (after_change w (AddMark name mark)) (members_of w.groups name) (mark ∷ [])
---   member_comes : (w : World) (name : List ℕ) (file : ℕ) → IsWellFormed w → MarksCome w (after_change w (AddMember name file)) (file ∷ []) (marks_of w.groups name)
---   mark_goes    : (w : World) (name : List ℕ) (mark : ℕ) → IsWellFormed w → is_marked_at w.groups name mark ≡ true → MarksGo w (after_change w (RemoveMark name mark)) name (Some mark) (members_of w.groups name) (mark ∷ [])
---   member_goes  : (w : World) (name : List ℕ) (file : ℕ) → IsWellFormed w → has_member w.groups name file ≡ true → MarksGo w (after_change w (RemoveMember name file)) name None (file ∷ []) (marks_of w.groups name)
---   group_goes   : (w : World) (name : List ℕ) → IsWellFormed w → MarksGo w (after_change w (DropGroup name)) name None (members_of w.groups name) (marks_of w.groups name)
---   group_comes  : (w : World) (name : List ℕ) → IsWellFormed w → (file number : ℕ) → ripe_at (after_change w (MakeGroup name)) file number ≡ ripe_at w file number
+none_if : (b : Bool) → ◌≡◌ {A = Option ℕ} (cond b None None) None
+none_if true = refl
+none_if false = refl
+
+module _ (w : World) (k : IsWellFormed w) where
+  abbrev held_moment : List GroupRow → ℕ → ℕ → Option ℕ
+  held_moment groups file number = moment_under (is_marked groups file) (policy_of w.files file) w.versions file number
+
+  abbrev unread : ℕ → ℕ → Option ℕ → Option ℕ
+  unread file number moment = cond (is_open w.handles file number) None moment
+
+  -- the world in which the groups alone are others
+  module _ (groups : List GroupRow) (made : Counts) where
+    abbrev regrouped : World
+    regrouped = record w { groups = groups; made = made }
+
+    moment_then : (file number : ℕ) → ripe_at regrouped file number ≡ unread file number (held_moment groups file number)
+    moment_then file number = ripe_at_near regrouped file number (in_order_of w k)
+
+    module _ (files marks : List ℕ) where
+      -- a version that is held is touched if its moments are
+      held_touched : (file number : ℕ) (b : Bool) → is_touched files marks w.versions file number ≡ b → IfHeld w.versions file number (λ row. touches file row.closed row.ended files marks ≡ b)
+      held_touched file number b h row found = rw found at h
+
+      comes : ((file closed : ℕ) (ended : Option ℕ) → is_marked groups file closed ended ≡ (is_marked w.groups file closed ended || touches file closed ended files marks)) → MarksCome w regrouped files marks
+      comes more = record {
+        others = λ file number apart.
+            moment_then file number
+            ∙ ap (unread file number) (moment_same w.versions file number (is_marked groups file) (is_marked w.groups file) (policy_of w.files file) (λ row found. more file row.closed row.ended ∙ rw (held_touched file number false apart row found) (or_false (is_marked w.groups file row.closed row.ended))))
+            ∙ sym (ripe_at_near w file number (in_order_of w k));
+        own = λ file number touched.
+            moment_then file number
+            ∙ ap (unread file number) (moment_none w.versions file number (is_marked groups file) (policy_of w.files file) (λ row found. more file row.closed row.ended ∙ rw (held_touched file number true touched row found) (or_true (is_marked w.groups file row.closed row.ended))))
+            ∙ none_if (is_open w.handles file number);
+      }
+
+      goes : (name : List ℕ) (left : Option ℕ) → ((file closed : ℕ) (ended : Option ℕ) → is_marked w.groups file closed ended ≡ (is_marked groups file closed ended || touches file closed ended files marks))
+          → ((file closed : ℕ) (ended : Option ℕ) → touches file closed ended files marks ≡ true → is_marked groups file closed ended ≡ is_marked_without w.groups name left file closed ended)
+          → MarksGo w regrouped name left files marks
+      goes name left fewer still = record {
+        others = λ file number apart.
+            moment_then file number
+            ∙ sym (ap (unread file number) (moment_same w.versions file number (is_marked w.groups file) (is_marked groups file) (policy_of w.files file) (λ row found. fewer file row.closed row.ended ∙ rw (held_touched file number false apart row found) (or_false (is_marked groups file row.closed row.ended)))))
+            ∙ sym (ripe_at_near w file number (in_order_of w k));
+        had = λ file number touched.
+            ripe_at_near w file number (in_order_of w k)
+            ∙ ap (unread file number) (moment_none w.versions file number (is_marked w.groups file) (policy_of w.files file) (λ row found. fewer file row.closed row.ended ∙ rw (held_touched file number true touched row found) (or_true (is_marked groups file row.closed row.ended))))
+            ∙ none_if (is_open w.handles file number);
+        own = λ file number touched.
+            moment_then file number
+            ∙ ap (unread file number) (moment_same w.versions file number (is_marked groups file) (is_marked_without w.groups name left file) (policy_of w.files file) (λ row found. still file row.closed row.ended (held_touched file number true touched row found)));
+      }
+
+  abbrev named : AllLater (λ (earlier : GroupRow) later. bytes_eq earlier.name later.name ≡ false) w.groups
+  named = (k.holds Groups).named
+
+  -- a group of which something is told is there
+  group_there : (p : GroupRow → Bool) (name : List ℕ) → option_map_or p (group_named w.groups name) false ≡ true → (row : GroupRow) × (find (is_group name) w.groups ≡ Some row) × IsGroup w.files w.now row
+  group_there p name h = by (find (is_group name) w.groups) refl h where
+    by : (o : Option GroupRow) → find (is_group name) w.groups ≡ o → option_map_or p o false ≡ true → (row : GroupRow) × (find (is_group name) w.groups ≡ Some row) × IsGroup w.files w.now row
+    by None e h = absurd (false≢true h)
+    by (Some row) e h = (row, e, all-found (is_group name) (IsGroup w.files w.now) w.groups row e (k.holds Groups).each)
+
+-- ---- each change of groups
+
+pub mark_comes : (w : World) (name : List ℕ) (mark : ℕ) → IsWellFormed w → MarksCome w (after_change w (AddMark name mark)) (members_of w.groups name) (mark ∷ [])
+mark_comes w name mark k = comes w k (with_mark name mark w.groups) (after_change w (AddMark name mark)).made (members_of w.groups name) (mark ∷ []) (λ file closed ended. marked_more w.groups name file closed ended mark)
+
+pub member_comes : (w : World) (name : List ℕ) (file : ℕ) → IsWellFormed w → MarksCome w (after_change w (AddMember name file)) (file ∷ []) (marks_of w.groups name)
+member_comes w name member k = comes w k (with_member name member w.groups) (after_change w (AddMember name member)).made (member ∷ []) (marks_of w.groups name) (λ file closed ended. joined_more w.groups name file closed ended member)
+
+pub mark_goes : (w : World) (name : List ℕ) (mark : ℕ) → IsWellFormed w → is_marked_at w.groups name mark ≡ true → MarksGo w (after_change w (RemoveMark name mark)) name (Some mark) (members_of w.groups name) (mark ∷ [])
+mark_goes w name mark k has =
+    let group = group_there w k (has_mark mark) name has in
+    goes w k (without_mark name mark w.groups) w.made (members_of w.groups name) (mark ∷ []) name (Some mark)
+    (λ file closed ended. marked_fewer w.groups name file closed ended mark has)
+    (λ file closed ended touched. marked_still w.groups name file closed ended (named w k) mark group.0 group.1 group.2.once)
+
+pub member_goes : (w : World) (name : List ℕ) (file : ℕ) → IsWellFormed w → has_member w.groups name file ≡ true → MarksGo w (after_change w (RemoveMember name file)) name None (file ∷ []) (marks_of w.groups name)
+member_goes w name member k has =
+    let group = group_there w k (is_member member) name has in
+    goes w k (without_member name member w.groups) w.made (member ∷ []) (marks_of w.groups name) name None
+    (λ file closed ended. joined_fewer w.groups name file closed ended member has)
+    (λ file closed ended touched.
+    let same = its member file (list_any (covers_moment closed ended) (marks_of w.groups name)) touched in
+    subst (λ f. is_marked (without_member name f w.groups) file closed ended ≡ is_marked_without w.groups name None file closed ended) (sym same)
+    (joined_still w.groups name file closed ended (named w k) group.0 group.1 group.2.apart)) where
+      its : (member file : ℕ) (b : Bool) → (((member == file) || false) && b) ≡ true → member ≡ file
+      its member file b h = grind (arith, nat_tests)
+
+pub group_goes : (w : World) (name : List ℕ) → IsWellFormed w → MarksGo w (after_change w (DropGroup name)) name None (members_of w.groups name) (marks_of w.groups name)
+group_goes w name k =
+    goes w k (without_group name w.groups) w.made (members_of w.groups name) (marks_of w.groups name) name None
+    (λ file closed ended. grouped_fewer w.groups name file closed ended)
+    (λ file closed ended touched. grouped_still w.groups name file closed ended (named w k))
+
+-- a new group has no file and no mark
+pub group_comes : (w : World) (name : List ℕ) → IsWellFormed w → (file number : ℕ) → ripe_at (after_change w (MakeGroup name)) file number ≡ ripe_at w file number
+group_comes w name k file number = found_moment w (after_change w (MakeGroup name)) file number (in_order_of w k) (in_order_of w k) (λ closed ended. grouped_more w.groups name file closed ended) refl refl refl refl

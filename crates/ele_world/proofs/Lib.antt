@@ -35,6 +35,8 @@ pub mod DueRows
 pub mod RipeAt
 pub mod NameMoments
 pub mod OpenMoments
+pub mod GroupMarks
+pub mod MarksChanged
 pub mod Neighbours
 pub mod NewestHeld
 pub mod AppendMoments
@@ -48,7 +50,6 @@ pub mod StepKeeps
 pub mod Moves
 pub mod Stays
 pub mod OpenStays
-pub mod GroupMarks
 pub mod MarkedStays
 pub mod Reverts
 pub mod Refused

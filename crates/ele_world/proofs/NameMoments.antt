@@ -6,6 +6,7 @@ use Rattle.ele_lists.proofs.Found.{find-update_other}
 use Rattle.ele_world.specs.Change.{ended_at, with_end, after_change, EndFileName}
 use Rattle.ele_world.specs.Due.{ripe_of, ripe_at}
 use Rattle.ele_world.specs.FileView.{view_of}
+use Rattle.ele_world.specs.GroupRows.{is_marked}
 use Rattle.ele_world.specs.Neighbours.{near_moment, next_closing}
 use Rattle.ele_world.specs.WellFormed.{AreVersions, Versions, IsWellFormed}
 use Rattle.ele_world.specs.World.{World, policy_of, next_of, is_live, is_open, is_version}
@@ -15,10 +16,10 @@ use Rattle.ele_world.proofs.Neighbours.{AreInOrder, found_moment, in_order_of, n
 use Rattle.ele_world.proofs.RipeAt.{ripe_at_is, unended}
 use Rattle.ele_world.proofs.Views.{policies_of}
 
--- where files, versions and handles stay, so do all moments, whatever becomes of names
-pub moments_stay : (w v : World) → AreInOrder w.files w.versions → v.files ≡ w.files → v.versions ≡ w.versions → v.handles ≡ w.handles → (file number : ℕ) → ripe_at v file number ≡ ripe_at w file number
-moments_stay w v ordered files versions handles file number =
-    found_moment w v file number ordered (rw (files, versions) ordered) (rw files refl) (rw handles refl) (rw versions refl) (rw versions refl)
+-- where files, versions, handles and groups stay, so do all moments, whatever becomes of names
+pub moments_stay : (w v : World) → AreInOrder w.files w.versions → v.files ≡ w.files → v.versions ≡ w.versions → v.handles ≡ w.handles → v.groups ≡ w.groups → (file number : ℕ) → ripe_at v file number ≡ ripe_at w file number
+moments_stay w v ordered files versions handles groups file number =
+    found_moment w v file number ordered (rw (files, versions) ordered) (λ closed ended. rw groups refl) (rw files refl) (rw handles refl) (rw versions refl) (rw versions refl)
 
 -- ---- the end of a file's name
 
@@ -40,11 +41,11 @@ module _ (w : World) (directory : ℕ) (name : List ℕ) (file : ℕ) where
 
   -- while it has another name all stay
   pub live_moments : IsWellFormed w → is_live after file ≡ true → (f n : ℕ) → ripe_at after f n ≡ ripe_at w f n
-  live_moments k live = moments_stay w after (in_order_of w k) refl (rw live refl) refl
+  live_moments k live = moments_stay w after (in_order_of w k) refl (rw live refl) refl refl
 
   -- those of all other versions stay
   pub other_moments : IsWellFormed w → (f n : ℕ) → ((f == file) && (n == last)) ≡ false → ripe_at after f n ≡ ripe_at w f n
-  other_moments k f n apart = found_moment w after f n (in_order_of w k) (ended_in_order k) refl refl (next (is_live after file)) (by (is_live after file)) where
+  other_moments k f n apart = found_moment w after f n (in_order_of w k) (ended_in_order k) (λ closed ended. refl) refl refl (next (is_live after file)) (by (is_live after file)) where
     next : (b : Bool) → next_closing (cond b w.versions (with_end w file)) f n ≡ next_closing w.versions f n
     next true = refl
     next false = next_closing-ended (is_version file last) w.now w.versions f n
@@ -60,7 +61,7 @@ module _ (w : World) (directory : ℕ) (name : List ℕ) (file : ℕ) where
     no_moment = ripe_at_is w file last ∙ ap (option_and_then (ripe_of w)) current.found ∙ unended (view_of w current.row.file) current.row current.no_end
 
     -- without a newer one beside it
-    pub ended_moment : IsWellFormed w → is_live after file ≡ false → ripe_at after file last ≡ cond (is_open w.handles file last) None (near_moment (policy_of w.files file) None current.row.closed w.now)
+    pub ended_moment : IsWellFormed w → is_live after file ≡ false → ripe_at after file last ≡ cond (is_open w.handles file last) None (near_moment (is_marked w.groups file) (policy_of w.files file) None current.row.closed w.now)
     ended_moment k dead =
         let found : find (is_version file last) after.versions ≡ Some (ended_at w.now current.row) = rw dead (last_ends w file current) in
         let next : next_closing after.versions file last ≡ None = rw dead (none_past w.files w.now (with_end w file) file last (ended k).each (omega arith)) in

@@ -1,7 +1,8 @@
--- A version's ripe moment: none while a handle reads it, and else what its policy, its own moments and its next held neighbour tell.
-use Rattle.std.proofs.Common.{◌≡◌, ℕ, ◌+◌, ◌<◌, ◌≤◌, ◌==◌, ◌&&◌, Bool, true, false, not, cond, List, [], ◌∷◌, ◌++◌, Option, Some, None, refl, ap, sym, subst, ◌∙◌, arith, filter, slice_get}
+-- A version's ripe moment: none while a handle reads it or it is marked, and else what its policy, its own moments and its next
+-- held neighbour tell.
+use Rattle.std.proofs.Common.{◌≡◌, ℕ, ◌+◌, ◌<◌, ◌≤◌, ◌==◌, ◌&&◌, ◌||◌, Bool, true, false, not, cond, List, [], ◌∷◌, ◌++◌, Option, Some, None, refl, ap, sym, subst, ◌∙◌, arith, filter, slice_get}
 use Rattle.std.specs.Prelude.{find, nat_lt, option_and_then, IfSome}
-use Rattle.std.specs.List.{AllByRecursion}
+use Rattle.std.specs.List.{AllByRecursion, list_any}
 use Rattle.std.specs.Option.{option_map, option_map_or}
 use Rattle.std.proofs.lemmas.Bool.Decides.{nat_tests}
 use Rattle.std.proofs.lemmas.Option.{slice_get-map}
@@ -13,15 +14,17 @@ use Rattle.ele_policy.proofs.Earliest.{never_due}
 use Rattle.ele_policy.proofs.Waits.{ripe_nearest}
 use Rattle.ele_policy.specs.declared.policy.Policy.{Policy}
 use Rattle.ele_policy.specs.Policy.{IsPolicy}
-use Rattle.ele_policy.specs.Ripe.{IsNearest, is_due_by, candidates, earliest_of, ripe_by}
+use Rattle.ele_policy.specs.Ripe.{IsNearest, is_due_by, alone, candidates, earliest_of, ripe_by}
 use Rattle.ele_world.specs.declared.rows.FileRow.{FileRow}
 use Rattle.ele_world.specs.declared.rows.VersionRow.{VersionRow}
 use Rattle.ele_world.specs.Change.{ended_at}
 use Rattle.ele_world.specs.Due.{ripe_of, ripe_at}
-use Rattle.ele_world.specs.FileView.{FileView, view_of, is_version_of, is_newer, beside, is_protected, ripe_in}
-use Rattle.ele_world.specs.Neighbours.{is_newer_of, near_moment, next_closing, free_moment}
+use Rattle.ele_world.specs.FileView.{FileView, view_of, is_version_of, is_newer, beside, ripe_in}
+use Rattle.ele_world.specs.GroupRows.{covers_moment, is_marked}
+use Rattle.ele_world.specs.Neighbours.{is_newer_of, near_moment, next_closing, moment_under, free_moment}
 use Rattle.ele_world.specs.WellFormed.{ArePlaced, AreVersions, IsVersion, Versions, IsWellFormed}
 use Rattle.ele_world.specs.World.{World, is_open, is_version, next_of, policy_of}
+use Rattle.ele_world.proofs.GroupMarks.{marks_tell}
 use Rattle.ele_world.proofs.Readers.{numbers_are}
 use Rattle.ele_world.proofs.RipeAt.{ripe_at_is}
 use Rattle.ele_world.proofs.Views.{IsLife, policies_of, lives_in, view_in, nearest_of}
@@ -51,37 +54,56 @@ nearest_closing w row =
     slice_get-map (λ (x : VersionRow). x.closed) (filter (is_newer row) (filter (is_version_of row.file) w.versions)) 0
     ∙ ap (option_map (λ (x : VersionRow). x.closed)) (slice_get-filter (is_newer row) (filter (is_version_of row.file) w.versions) ∙ find-filter_both (is_newer row) (is_version_of row.file) w.versions)
 
--- what a held version's moment is, by whether it is protected, and by its file's policy and its end
-abbrev moment_if : Bool → Option Policy → Option ℕ → VersionRow → Option ℕ → Option ℕ
-moment_if b policy nearest row ended = cond b None (option_and_then (near_moment policy nearest row.closed) ended)
+-- what a held version's moment is, by what is marked, by whether it is open, and by its file's policy and its end
+abbrev moment_if : (ℕ → Option ℕ → Bool) → Bool → Option Policy → Option ℕ → VersionRow → Option ℕ → Option ℕ
+moment_if marked b policy nearest row ended = cond b None (option_and_then (near_moment marked policy nearest row.closed) ended)
 
-ripe_in_near : (v : FileView) (row : VersionRow) (nearest : Option ℕ) → IfSome v.policy IsPolicy → IsNearest row.closed nearest (beside v row) → ripe_in v row ≡ moment_if (is_protected v row 0) v.policy nearest row row.ended
+-- by the marks that a file's view has
+abbrev marked_in : FileView → ℕ → Option ℕ → Bool
+marked_in v closed ended = list_any (covers_moment closed ended) v.marks
+
+ripe_in_near : (v : FileView) (row : VersionRow) (nearest : Option ℕ) → IfSome v.policy IsPolicy → IsNearest row.closed nearest (beside v row) → ripe_in v row ≡ moment_if (marked_in v) (list_any (λ number. number == row.number) v.pinned) v.policy nearest row row.ended
 unfolding ripe_by
-ripe_in_near v row nearest governed near = by (is_protected v row 0) v.policy row.ended governed where
+ripe_in_near v row nearest governed near = by (list_any (λ number. number == row.number) v.pinned) v.policy row.ended governed where
+  due : Bool → Option Policy → Option ℕ → ℕ → Bool
+  due b p e at = not b && option_map_or (λ policy. option_map_or (λ ended. is_due_by policy row.closed (beside v row) ended at) e false) p false
+
+  marked : (m : Bool) (policy : Policy) (ended : ℕ) → IsPolicy policy → earliest_of (due m (Some policy) (Some ended)) (candidates policy ended) ≡ cond m None (ripe_by policy row.closed (alone nearest) ended)
+  marked true policy ended given = never_due (candidates policy ended)
+  marked false policy ended given = ripe_nearest policy row.closed ended nearest (beside v row) given near
+
   by : (b : Bool) (p : Option Policy) (e : Option ℕ) → IfSome p IsPolicy
-      → option_and_then (λ policy. option_and_then (λ ended. earliest_of (λ at. not b && option_map_or (λ policy. option_map_or (λ ended. is_due_by policy row.closed (beside v row) ended at) e false) p false) (candidates policy ended)) e) p ≡ moment_if b p nearest row e
+      → option_and_then (λ policy. option_and_then (λ ended. earliest_of (due (b || marked_in v row.closed e) p e) (candidates policy ended)) e) p ≡ moment_if (marked_in v) b p nearest row e
   by true None e given = refl
   by true (Some policy) None given = refl
   by true (Some policy) (Some ended) given = never_due (candidates policy ended)
   by false None None given = refl
-  by false None (Some ended) given = refl
+  by false None (Some ended) given = elim (marked_in v row.closed (Some ended)) as (λ b. ◌≡◌ {A = Option ℕ} None (cond b None None)) [
+    | true ↦ refl
+    | false ↦ refl
+  ]
   by false (Some policy) None given = refl
-  by false (Some policy) (Some ended) given = ripe_nearest policy row.closed ended nearest (beside v row) given near
+  by false (Some policy) (Some ended) given = marked (marked_in v row.closed (Some ended)) policy ended given
 
 ripe_of_near : (w : World) → AreInOrder w.files w.versions → (before : List VersionRow) (row : VersionRow) (behind : List VersionRow) → w.versions ≡ before ++ row ∷ behind
-    → ripe_of w row ≡ moment_if (is_open w.handles row.file row.number) (policy_of w.files row.file) (next_closing w.versions row.file row.number) row row.ended
+    → ripe_of w row ≡ moment_if (is_marked w.groups row.file) (is_open w.handles row.file row.number) (policy_of w.files row.file) (next_closing w.versions row.file row.number) row row.ended
 unfolding ripe_of
 ripe_of_near w ordered before row behind whole =
     let view = view_in w row.file ordered.policies ordered.lives ordered.placed in
     let policy = policy_of w.files row.file in
     let next = next_closing w.versions row.file row.number in
     ripe_in_near (view_of w row.file) row next view.governed (subst (λ n. IsNearest row.closed n (beside (view_of w row.file) row)) (nearest_closing w row) (nearest_of w before row behind view whole))
-    ∙ ap (λ b. moment_if b policy next row row.ended) (numbers_are w.handles row.file row.number)
+    ∙ ap (λ b. moment_if (marked_in (view_of w row.file)) b policy next row row.ended) (numbers_are w.handles row.file row.number)
+    ∙ by row.ended where
+      by : (e : Option ℕ) → moment_if (marked_in (view_of w row.file)) (is_open w.handles row.file row.number) (policy_of w.files row.file) (next_closing w.versions row.file row.number) row e
+          ≡ moment_if (is_marked w.groups row.file) (is_open w.handles row.file row.number) (policy_of w.files row.file) (next_closing w.versions row.file row.number) row e
+      by None = refl
+      by (Some ended) = rw (marks_tell w.groups row.file row.closed (Some ended)) refl
 
-pub ripe_at_near : (w : World) (file number : ℕ) → AreInOrder w.files w.versions → ripe_at w file number ≡ cond (is_open w.handles file number) None (free_moment w.files w.versions file number)
+pub ripe_at_near : (w : World) (file number : ℕ) → AreInOrder w.files w.versions → ripe_at w file number ≡ cond (is_open w.handles file number) None (free_moment w.groups w.files w.versions file number)
 ripe_at_near w file number ordered = ripe_at_is w file number ∙ by (find (is_version file number) w.versions) refl where
   by : (o : Option VersionRow) → find (is_version file number) w.versions ≡ o
-      → option_and_then (ripe_of w) o ≡ cond (is_open w.handles file number) None (option_and_then (λ row. option_and_then (near_moment (policy_of w.files file) (next_closing w.versions file number) row.closed) row.ended) o)
+      → option_and_then (ripe_of w) o ≡ cond (is_open w.handles file number) None (option_and_then (λ row. option_and_then (near_moment (is_marked w.groups file) (policy_of w.files file) (next_closing w.versions file number) row.closed) row.ended) o)
   by None e = elim (is_open w.handles file number) as (λ b. ◌≡◌ {A = Option ℕ} None (cond b None None)) [
     | true ↦ refl
     | false ↦ refl
@@ -92,16 +114,52 @@ ripe_at_near w file number ordered = ripe_at_is w file number ∙ by (find (is_v
       let own : row.file ≡ file = grind (arith, nat_tests) in
       let its : row.number ≡ number = grind (arith, nat_tests) in
       ripe_of_near w ordered cut.before row cut.behind cut.whole
-      ∙ ap (λ f. moment_if (is_open w.handles f row.number) (policy_of w.files f) (next_closing w.versions f row.number) row row.ended) own
-      ∙ ap (λ n. moment_if (is_open w.handles file n) (policy_of w.files file) (next_closing w.versions file n) row row.ended) its
+      ∙ ap (λ f. moment_if (is_marked w.groups f) (is_open w.handles f row.number) (policy_of w.files f) (next_closing w.versions f row.number) row row.ended) own
+      ∙ ap (λ n. moment_if (is_marked w.groups file) (is_open w.handles file n) (policy_of w.files file) (next_closing w.versions file n) row row.ended) its
+
+-- ---- by two tests that mark
+
+module _ (versions : List VersionRow) (file number : ℕ) where
+  -- whatever is true of the version, if it is held
+  abbrev pub IfHeld : (VersionRow → Type 0) → Type 0
+  IfHeld P = (row : VersionRow) → find (is_version file number) versions ≡ Some row → P row
+
+  -- where both mark the version alike, so does its moment
+  pub moment_same : (t u : ℕ → Option ℕ → Bool) (policy : Option Policy) → IfHeld (λ row. t row.closed row.ended ≡ u row.closed row.ended) → moment_under t policy versions file number ≡ moment_under u policy versions file number
+  moment_same t u policy same = by (find (is_version file number) versions) refl where
+    moment : (ℕ → Option ℕ → Bool) → VersionRow → Option ℕ → Option ℕ
+    moment is_marked row ended = option_and_then (near_moment is_marked policy (next_closing versions file number) row.closed) ended
+
+    ends : (row : VersionRow) (e : Option ℕ) → t row.closed e ≡ u row.closed e → moment t row e ≡ moment u row e
+    ends row None h = refl
+    ends row (Some ended) h = rw h refl
+
+    by : (o : Option VersionRow) → find (is_version file number) versions ≡ o → option_and_then (λ (row : VersionRow). moment t row row.ended) o ≡ option_and_then (λ (row : VersionRow). moment u row row.ended) o
+    by None e = refl
+    by (Some row) e = ends row row.ended (same row e)
+
+  -- and where it is marked it has none
+  pub moment_none : (t : ℕ → Option ℕ → Bool) (policy : Option Policy) → IfHeld (λ row. t row.closed row.ended ≡ true) → moment_under t policy versions file number ≡ None
+  moment_none t policy marked = by (find (is_version file number) versions) refl where
+    ends : (row : VersionRow) (e : Option ℕ) → t row.closed e ≡ true → option_and_then (near_moment t policy (next_closing versions file number) row.closed) e ≡ None
+    ends row None h = refl
+    ends row (Some ended) h = rw h refl
+
+    by : (o : Option VersionRow) → find (is_version file number) versions ≡ o → option_and_then (λ (row : VersionRow). option_and_then (near_moment t policy (next_closing versions file number) row.closed) row.ended) o ≡ None
+    by None e = refl
+    by (Some row) e = ends row row.ended (marked row e)
 
 -- so it is the same in two worlds in which these are
 pub found_moment : (w v : World) (file number : ℕ) → AreInOrder w.files w.versions → AreInOrder v.files v.versions
+    → ((closed : ℕ) (ended : Option ℕ) → is_marked v.groups file closed ended ≡ is_marked w.groups file closed ended)
     → policy_of v.files file ≡ policy_of w.files file → is_open v.handles file number ≡ is_open w.handles file number
     → next_closing v.versions file number ≡ next_closing w.versions file number
     → find (is_version file number) v.versions ≡ find (is_version file number) w.versions → ripe_at v file number ≡ ripe_at w file number
-found_moment w v file number before after policy opens next same =
-    ripe_at_near v file number after ∙ rw (policy, opens, next, same) refl ∙ sym (ripe_at_near w file number before)
+found_moment w v file number before after marked policy opens next same =
+    ripe_at_near v file number after
+    ∙ ap (cond (is_open v.handles file number) None) (moment_same v.versions file number (is_marked v.groups file) (is_marked w.groups file) (policy_of v.files file) (λ row e. marked row.closed row.ended))
+    ∙ rw (policy, opens, next, same) refl
+    ∙ sym (ripe_at_near w file number before)
 
 -- ---- the next held version
 

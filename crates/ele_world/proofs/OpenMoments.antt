@@ -31,7 +31,7 @@ module _ (w : World) (number : ℕ) (reads : Reads) where
 
   -- no other moment changes
   pub opened_others : AreInOrder w.files w.versions → (f n : ℕ) → reads_version f n reads ≡ false → ripe_at (after_change w (OpenHandle number reads)) f n ≡ ripe_at w f n
-  opened_others ordered f n other = found_moment w (after_change w (OpenHandle number reads)) f n ordered ordered refl (open_more f n ∙ rw other (or_false (is_open w.handles f n))) refl refl
+  opened_others ordered f n other = found_moment w (after_change w (OpenHandle number reads)) f n ordered ordered (λ closed ended. refl) refl (open_more f n ∙ rw other (or_false (is_open w.handles f n))) refl refl
 
   -- and what it reads has none
   pub opened_own : AreInOrder w.files w.versions → (f n : ℕ) → reads_version f n reads ≡ true → ripe_at (after_change w (OpenHandle number reads)) f n ≡ None
@@ -51,8 +51,8 @@ module _ (w : World) (number : ℕ) (reads : Reads) (is : reads_by w.handles num
 
   -- and has the moment that it had
   pub shut_others : AreInOrder w.files w.versions → (f n : ℕ) → reads_version f n reads ≡ false → ripe_at (after_change w (ShutHandle number)) f n ≡ ripe_at w f n
-  shut_others ordered f n other = found_moment w (after_change w (ShutHandle number)) f n ordered ordered refl (open_still f n other) refl refl
+  shut_others ordered f n other = found_moment w (after_change w (ShutHandle number)) f n ordered ordered (λ closed ended. refl) refl (open_still f n other) refl refl
 
 -- what the handle read has none still where another handle reads it, and else the one that it has unread
-pub shut_own : (w : World) (handle file number : ℕ) → AreInOrder w.files w.versions → ripe_at (after_change w (ShutHandle handle)) file number ≡ cond (is_open (remove_first (is_handle handle) w.handles) file number) None (free_moment w.files w.versions file number)
+pub shut_own : (w : World) (handle file number : ℕ) → AreInOrder w.files w.versions → ripe_at (after_change w (ShutHandle handle)) file number ≡ cond (is_open (remove_first (is_handle handle) w.handles) file number) None (free_moment w.groups w.files w.versions file number)
 shut_own w handle file number ordered = ripe_at_near (after_change w (ShutHandle handle)) file number ordered

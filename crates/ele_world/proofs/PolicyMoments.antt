@@ -5,6 +5,7 @@ use Rattle.ele_policy.specs.Policy.{IsPolicy}
 use Rattle.ele_world.specs.Change.{PutUnder, after_change}
 use Rattle.ele_world.specs.Due.{ripe_at}
 use Rattle.ele_world.specs.FileView.{view_of, ripe_numbered}
+use Rattle.ele_world.specs.GroupRows.{is_marked}
 use Rattle.ele_world.specs.Neighbours.{moment_under}
 use Rattle.ele_world.specs.WellFormed.{IsWellFormed}
 use Rattle.ele_world.specs.World.{World, is_open, next_of}
@@ -18,8 +19,8 @@ module _ (w : World) (file : ℕ) (policy : Policy) (k : IsWellFormed w) where
   policy_others f n other = ap (λ (o : Option Policy). ripe_numbered (record (view_of w f) { policy = o }) n) (policy_of-put_other w.files file f policy other)
 
   -- the file's own are those under the policy
-  pub policy_own : IsPolicy policy → 0 < next_of w.files file → (n : ℕ) → ripe_at (after_change w (PutUnder file policy)) file n ≡ cond (is_open w.handles file n) None (moment_under (Some policy) w.versions file n)
+  pub policy_own : IsPolicy policy → 0 < next_of w.files file → (n : ℕ) → ripe_at (after_change w (PutUnder file policy)) file n ≡ cond (is_open w.handles file n) None (moment_under (is_marked w.groups file) (Some policy) w.versions file n)
   policy_own is there n =
       let v = after_change w (PutUnder file policy) in
       ripe_at_near v file n (in_order_of v (put_under_keeps w file policy is k))
-      ∙ ap (λ o. cond (is_open w.handles file n) None (moment_under o w.versions file n)) (policy_of-put_under w.files file policy there)
+      ∙ ap (λ o. cond (is_open w.handles file n) None (moment_under (is_marked w.groups file) o w.versions file n)) (policy_of-put_under w.files file policy there)

@@ -77,9 +77,10 @@ module _ (v : FileView) (xs : List VersionRow) (row : VersionRow) (ys : List Ver
             let by_then = before.by_then in
             let given : IsPolicy own.policy = rw own.governed at governed in
             let longer : at - own.ended ≤ at - before.ended = omega (arith, by_then, lasts) in
-            rw (own.governed, before.is_ended)
-            (ap (λ b. not (is_protected v x at) && (nat_le before.ended at && b))
-            (lets_go_without own.policy v.live (closings (filter (is_newer x) xs)) row.closed (closings ys) x.closed (at - before.ended) (at - own.ended) given longer own.goes))
+            ap (λ b. not (is_protected v x at) && b)
+            (rw (own.governed, before.is_ended)
+            (ap (λ b. nat_le before.ended at && b)
+            (lets_go_without own.policy v.live (closings (filter (is_newer x) xs)) row.closed (closings ys) x.closed (at - before.ended) (at - own.ended) given longer own.goes)))
 
   -- on whichever side of the row it stands
   pub others_stay : (x : VersionRow) (at : ℕ) → Precedes x row ⊎ Precedes row x → due_in (with_rows v (xs ++ row ∷ ys)) row at ≡ true → due_in (with_rows v (xs ++ row ∷ ys)) x at ≡ due_in (with_rows v (xs ++ ys)) x at

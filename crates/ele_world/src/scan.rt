@@ -1,10 +1,11 @@
 //! The scan: the keys of the versions that are due, found by a look at every row.
-ghost use Rattle.std.specs.Prelude.{◌≡◌, Bool, IfOk, OnOk, OnErr, filter, fold, []};
+ghost use Rattle.std.specs.Prelude.{◌≡◌, ◌||◌, Bool, IfOk, OnOk, OnErr, filter, fold, []};
 ghost use Rattle.std.specs.List.{cons_option};
 ghost use Rattle.std.specs.BTreeSet.{insert_key};
 ghost use Rattle.ele_policy.specs.Ripe.{ripe_by};
 ghost use Rattle.ele_world.specs.Due.{ripe_of};
 ghost use Rattle.ele_world.specs.FileView.{closings};
+ghost use Rattle.ele_world.specs.GroupRows.{covers_moment, has_covering, is_marked, is_member};
 ghost use Rattle.ele_world.specs.Neighbours.{is_newer_of};
 ghost use Rattle.ele_world.specs.RipeMoments.{IsDueFromRipe};
 ghost use Rattle.ele_world.specs.Scan.{key_cmp, due_key, scan};
@@ -12,7 +13,7 @@ ghost use Rattle.ele_world.specs.World.{World, is_open, policy_of, reads_version
 
 use crate::flat::Flat;
 use crate::list::KeyList;
-use crate::rows::{FileRow, HandleRow, Reads, VersionRow};
+use crate::rows::{FileRow, GroupRow, HandleRow, Reads, VersionRow};
 use ele_due::Key;
 use ele_lists::ListOf;
 use ele_moment::{FileId, Moment, NoMemory, VersionNo};
@@ -44,6 +45,46 @@ fn is_open(handles: &[HandleRow], file: FileId, number: VersionNo) -> bool
     handles
         .iter()
         .any(|row| reads_version(row.reads, file, number))
+}
+
+/// Whether the group has the file.
+fn is_member(group: &GroupRow, file: FileId) -> bool
+    ensures { result ≡ is_member file group.now }
+{
+    group.members.as_slice().contains(&file)
+}
+
+/// Whether what was current from the one moment until the other, or still is, was so at the mark.
+fn covers_moment(closed: Moment, ended: Option<Moment>, mark: Moment) -> bool
+    ensures { result ≡ covers_moment closed ended mark }
+{
+    closed <= mark && ended.is_none_or(|end| mark < end)
+}
+
+/// Whether some mark of the group covers.
+fn has_covering(group: &GroupRow, closed: Moment, ended: Option<Moment>) -> bool
+    ensures { result ≡ has_covering closed ended group.now }
+{
+    group
+        .marks
+        .as_slice()
+        .iter()
+        .any(|mark| covers_moment(closed, ended, *mark))
+}
+
+/// Whether some group that has the file has a mark that covers.
+fn is_marked(groups: &[GroupRow], file: FileId, closed: Moment, ended: Option<Moment>) -> bool
+    ensures { result ≡ is_marked groups.now file closed ended }
+{
+    groups.iter().any(|group| is_member(group, file) && has_covering(group, closed, ended))
+}
+
+/// Whether a handle reads the version, or a mark covers it.
+fn is_protected(handles: &[HandleRow], groups: &[GroupRow], row: &VersionRow) -> bool
+    ensures { result ≡ (is_open handles.now row.now.file row.now.number
+        || is_marked groups.now row.now.file row.now.closed row.now.ended) }
+{
+    is_open(handles, row.file, row.number) || is_marked(groups, row.file, row.closed, row.ended)
 }
 
 /// Whether the other version is a newer one of the row's file.
@@ -102,13 +143,14 @@ fn ripe_of(
     files: &[FileRow],
     versions: &[VersionRow],
     handles: &[HandleRow],
+    groups: &[GroupRow],
     row: &VersionRow,
     alloc: Global,
 ) -> Result<Option<Moment>, NoMemory>
     ensures { IfOk result (λ ripe. (w : World) → w.files ≡ files.now → w.versions ≡ versions.now
-        → w.handles ≡ handles.now → (ripe ≡ ripe_of w row.now) × IsDueFromRipe w row.now) }
+        → w.handles ≡ handles.now → w.groups ≡ groups.now → (ripe ≡ ripe_of w row.now) × IsDueFromRipe w row.now) }
 {
-    if is_open(handles, row.file, row.number) {
+    if is_protected(handles, groups, row) {
         return Ok(None);
     }
     let Some(policy) = policy_of(files, row.file) else {
@@ -127,14 +169,16 @@ fn due_key(
     files: &[FileRow],
     versions: &[VersionRow],
     handles: &[HandleRow],
+    groups: &[GroupRow],
     row: &VersionRow,
     alloc: Global,
 ) -> Result<Option<Key>, NoMemory>
     ensures { IfOk result (λ key. (w : World) → w.now ≡ now → w.files ≡ files.now
-        → w.versions ≡ versions.now → w.handles ≡ handles.now → key ≡ due_key w row.now) }
+        → w.versions ≡ versions.now → w.handles ≡ handles.now → w.groups ≡ groups.now
+        → key ≡ due_key w row.now) }
 {
     let at = now.seconds();
-    let Some(ripe) = ripe_of(files, versions, handles, row, alloc)? else {
+    let Some(ripe) = ripe_of(files, versions, handles, groups, row, alloc)? else {
         return Ok(None);
     };
     if ripe.seconds() > at {
@@ -166,10 +210,11 @@ pub fn due(world: &Flat) -> Result<KeyList, NoMemory>
     let files = world.files.as_slice();
     let versions = world.versions.as_slice();
     let handles = world.handles.as_slice();
+    let groups = world.groups.as_slice();
     let alloc = world.versions.allocator();
     let mut keys = BTreeSet::new(alloc);
     for row in versions {
-        let key = due_key(world.now, files, versions, handles, row, alloc)?;
+        let key = due_key(world.now, files, versions, handles, groups, row, alloc)?;
         add_key(&mut keys, key)?;
     }
     let listed: Vec<Key> = keys.iter().copied().collect(alloc)?;
