@@ -15,11 +15,13 @@ use Rattle.ele_files.specs.Held.{rows_of}
 use Rattle.ele_lists.proofs.Edits.{all-found}
 use Rattle.ele_policy.specs.declared.policy.Policy.{Policy}
 use Rattle.ele_policy.specs.Policy.{IsPolicy}
+use Rattle.ele_policy.specs.Ripe.{alone, ripe_by}
 use Rattle.ele_policy.proofs.Waits.{ripe_keeps}
 use Rattle.ele_world.specs.declared.rows.FileRow.{FileRow}
 use Rattle.ele_world.specs.declared.rows.VersionRow.{VersionRow}
 use Rattle.ele_world.specs.Change.{with_version}
 use Rattle.ele_world.specs.Due.{ripe_at, is_moment}
+use Rattle.ele_world.specs.GroupRows.{is_marked}
 use Rattle.ele_world.specs.Neighbours.{near_moment, newest_of}
 use Rattle.ele_world.specs.World.{World, is_file, is_live, is_open, next_of, policy_of}
 use Rattle.ele_world.proofs.AppendMoments.{MayGrow, touches, next_before, next_after, newest_before, newest_was, newest_is, others_after}
@@ -46,14 +48,20 @@ record IsGained (m : ℕ) (was came is : Option ℕ) : Type 0 where
   is_now : is_moment m is ≡ (is_moment m came || is_moment m was)
   wasnt : is_moment m came ≡ true → is_moment m was ≡ false
 
-gained : (policy : Option Policy) (now closed m : ℕ) (ended : Option ℕ) → ((p : Policy) → policy ≡ Some p → IsPolicy p)
-    → IsGained m (option_and_then (near_moment policy None closed) ended) (gained_moment policy now closed ended) (near_moment policy (Some now) closed (unwrap_or ended now))
-gained policy now closed m None given = record { is_now = sym (or_false _); wasnt = λ h. refl }
-gained policy now closed m (Some e) given = by policy given where
-  by : (policy : Option Policy) → ((p : Policy) → policy ≡ Some p → IsPolicy p) → IsGained m (near_moment policy None closed e) (gained_moment policy now closed (Some e)) (near_moment policy (Some now) closed e)
-  by None given = record { is_now = refl; wasnt = λ h. refl }
-  by (Some p) given = on (near_moment (Some p) None closed e) refl where
-    on : (o : Option ℕ) → near_moment (Some p) None closed e ≡ o → IsGained m o (cond (is_some o) None (near_moment (Some p) (Some now) closed e)) (near_moment (Some p) (Some now) closed e)
+-- the moment of one that is marked or not
+abbrev near : Bool → Option Policy → ℕ → ℕ → Option ℕ → Option ℕ
+near b policy closed ended nearest = cond b None (option_and_then (λ p. ripe_by p closed (alone nearest) ended) policy)
+
+gained : (marks : ℕ → Option ℕ → Bool) (policy : Option Policy) (now closed m : ℕ) (ended : Option ℕ) → ((p : Policy) → policy ≡ Some p → IsPolicy p)
+    → IsGained m (option_and_then (near_moment marks policy None closed) ended) (gained_moment marks policy now closed ended) (near_moment marks policy (Some now) closed (unwrap_or ended now))
+gained marks policy now closed m None given = record { is_now = sym (or_false _); wasnt = λ h. refl }
+gained marks policy now closed m (Some e) given = by (marks closed (Some e)) policy given where
+  by : (b : Bool) (policy : Option Policy) → ((p : Policy) → policy ≡ Some p → IsPolicy p)
+      → IsGained m (near b policy closed e None) (cond (is_some (near b policy closed e None)) None (near b policy closed e (Some now))) (near b policy closed e (Some now))
+  by true policy given = record { is_now = refl; wasnt = λ h. refl }
+  by false None given = record { is_now = refl; wasnt = λ h. refl }
+  by false (Some p) given = on (near false (Some p) closed e None) refl where
+    on : (o : Option ℕ) → near false (Some p) closed e None ≡ o → IsGained m o (cond (is_some o) None (near false (Some p) closed e (Some now))) (near false (Some p) closed e (Some now))
     on None is = record { is_now = sym (or_false _); wasnt = λ h. refl }
     on (Some x) is = rw (ripe_keeps p closed e x now (given p refl) is) (record { is_now = refl; wasnt = λ h. absurd (false≢true h) })
 
@@ -65,16 +73,16 @@ module _ (w : World) (file opened : ℕ) (cells : List Cell) (k : MayGrow w file
   appended = with_version w file opened cells
 
   abbrev own : Option ℕ
-  own = own_moment w.files file w.now (is_live w file)
+  own = own_moment w.groups w.files file w.now (is_live w file)
 
   abbrev came : VersionRow → Option ℕ
-  came row = cond (is_open w.handles file row.number) None (gained_moment (policy_of w.files file) w.now row.closed row.ended)
+  came row = cond (is_open w.handles file row.number) None (gained_moment (is_marked w.groups file) (policy_of w.files file) w.now row.closed row.ended)
 
   newest_gains : (row : VersionRow) (m : ℕ) → newest_of w.versions file ≡ Some row → IsGained m (ripe_at w file row.number) (came row) (ripe_at appended file row.number)
   newest_gains row m is = rw (newest_was w file opened cells k row is, newest_is w file opened cells k row is) (by (is_open w.handles file row.number)) where
-    by : (b : Bool) → IsGained m (cond b None (option_and_then (near_moment (policy_of w.files file) None row.closed) row.ended)) (cond b None (gained_moment (policy_of w.files file) w.now row.closed row.ended)) (cond b None (near_moment (policy_of w.files file) (Some w.now) row.closed (unwrap_or row.ended w.now)))
+    by : (b : Bool) → IsGained m (cond b None (option_and_then (near_moment (is_marked w.groups file) (policy_of w.files file) None row.closed) row.ended)) (cond b None (gained_moment (is_marked w.groups file) (policy_of w.files file) w.now row.closed row.ended)) (cond b None (near_moment (is_marked w.groups file) (policy_of w.files file) (Some w.now) row.closed (unwrap_or row.ended w.now)))
     by true = record { is_now = refl; wasnt = λ h. refl }
-    by false = gained (policy_of w.files file) w.now row.closed m row.ended (λ p. policy_is w.files file p k.policies)
+    by false = gained (is_marked w.groups file) (policy_of w.files file) w.now row.closed m row.ended (λ p. policy_is w.files file p k.policies)
 
   -- ---- the queue
 
@@ -83,7 +91,7 @@ module _ (w : World) (file opened : ℕ) (cells : List Cell) (k : MayGrow w file
   comes_with newest j = is_entry file (option_map_or (λ (row : VersionRow). row.number) newest 0) (option_and_then came newest) j || is_entry file next own j
 
   abbrev comes : Key → Bool
-  comes j = is_new (new_keys (rows_of w) file w.now (is_live w file)) j
+  comes j = is_new (new_keys w.groups (rows_of w) file w.now (is_live w file)) j
 
   abbrev touched_with : Option VersionRow → ℕ → ℕ → Bool
   touched_with newest f n = (f == file) && ((n == next) || option_map_or (λ (row : VersionRow). n == row.number) newest false)
@@ -152,7 +160,7 @@ module _ (w : World) (file opened : ℕ) (cells : List Cell) (k : MayGrow w file
       back false q absent = refl
 
     abbrev keys : NewKeys
-    keys = new_keys (rows_of w) file w.now (is_live w file)
+    keys = new_keys w.groups (rows_of w) file w.now (is_live w file)
 
     pub refused : ((j : Key) → (is_entry file keys.newest keys.former j ≡ true → has_key j queue ≡ false) → has_key j after ≡ has_key j queue) → IsQueued w after
     refused edited j = edited j (λ is. comes_absent j (rw is refl)) ∙ queued j

@@ -1,5 +1,5 @@
 -- What is told of one version, and of the first that are due.
-use Rattle.std.proofs.Common.{◌≡◌, ℕ, ◌==◌, Bool, true, false, ◌&&◌, List, cond, Option, Some, None, refl, ap, sym, ◌∙◌, arith}
+use Rattle.std.proofs.Common.{is_some, ◌≡◌, ℕ, ◌==◌, Bool, true, false, ◌&&◌, List, cond, Option, Some, None, refl, ap, sym, ◌∙◌, arith}
 use Rattle.std.specs.Prelude.{nat_le, option_and_then, slice_get}
 use Rattle.std.specs.List.{filter_map}
 use Rattle.std.specs.Option.{option_map, option_map_or}
@@ -17,6 +17,8 @@ use Rattle.ele_world.specs.declared.rows.VersionRow.{VersionRow}
 use Rattle.ele_world.specs.Due.{is_due, ripe_at}
 use Rattle.ele_world.specs.Neighbours.{free_moment, newest_of}
 use Rattle.ele_world.specs.Scan.{due_key, scan, first_due}
+use Rattle.ele_world.specs.GroupRows.{is_marked}
+use Rattle.ele_world.specs.declared.rows.GroupRow.{GroupRow}
 use Rattle.ele_world.specs.Told.{stamps_of}
 use Rattle.ele_world.specs.World.{World, is_open, policy_of}
 use Rattle.ele_world.proofs.Neighbours.{in_order_of, ripe_at_near}
@@ -50,18 +52,28 @@ due_by_key rows file number sound = is_due_is (world_of rows) file number sound.
         and_true false = refl
 
 -- the ripe moment of a version, by whether a handle reads it
-pub ripe_told : (rows : Rows) (file number : ℕ) → IsSound rows → ripe_at (world_of rows) file number ≡ cond (is_open rows.files.handles file number) None (free_moment rows.files.files rows.files.versions file number)
+pub ripe_told : (rows : Rows) (file number : ℕ) → IsSound rows → ripe_at (world_of rows) file number ≡ cond (is_open rows.files.handles file number) None (free_moment rows.groups rows.files.files rows.files.versions file number)
 ripe_told rows file number sound = ripe_at_near (world_of rows) file number (in_order_of (world_of rows) sound.formed)
 
 -- what comes with the next version, by what is told of the newest one
-pub former_told : (h : Held) (file now : ℕ) (newest : Stamps) → option_map stamps_of (newest_of h.versions file) ≡ Some newest
-    → former_moment h file now ≡ cond (is_open h.handles file newest.number) None (gained_moment (policy_of h.files file) now newest.closed newest.ended)
-former_told h file now newest told = by (newest_of h.versions file) told where
-  by : (o : Option VersionRow) → option_map stamps_of o ≡ Some newest → option_and_then (λ row. cond (is_open h.handles file row.number) None (gained_moment (policy_of h.files file) now row.closed row.ended)) o ≡ cond (is_open h.handles file newest.number) None (gained_moment (policy_of h.files file) now newest.closed newest.ended)
+-- the moment that the newest version gets, by what is told of it
+abbrev gained_by : List GroupRow → Held → ℕ → ℕ → ℕ → ℕ → Option ℕ → Option ℕ
+gained_by groups h file now number closed ended = cond (is_open h.handles file number) None (gained_moment (is_marked groups file) (policy_of h.files file) now closed ended)
+
+pub former_told : (groups : List GroupRow) (h : Held) (file now : ℕ) (newest : Stamps) → option_map stamps_of (newest_of h.versions file) ≡ Some newest
+    → former_moment groups h file now ≡ gained_by groups h file now newest.number newest.closed newest.ended
+former_told groups h file now newest told = by (newest_of h.versions file) told where
+  by : (o : Option VersionRow) → option_map stamps_of o ≡ Some newest → option_and_then (λ row. gained_by groups h file now row.number row.closed row.ended) o ≡ gained_by groups h file now newest.number newest.closed newest.ended
   by None told = absurd cc
-  by (Some row) told = let same : stamps_of row ≡ newest = cc in ap (λ (s : Stamps). cond (is_open h.handles file s.number) None (gained_moment (policy_of h.files file) now s.closed s.ended)) same
+  by (Some row) told = let same : stamps_of row ≡ newest = cc in ap (λ (s : Stamps). gained_by groups h file now s.number s.closed s.ended) same
 
 -- a file that isn't there has no policy, and so no moment
-pub ungoverned : (now closed : ℕ) (ended : Option ℕ) → gained_moment None now closed ended ≡ None
-ungoverned now closed None = refl
-ungoverned now closed (Some at) = refl
+pub ungoverned : (marks : ℕ → Option ℕ → Bool) (now closed : ℕ) (ended : Option ℕ) → gained_moment marks None now closed ended ≡ None
+ungoverned marks now closed None = none (marks closed (Some now)) where
+  none : (b : Bool) → ◌≡◌ {A = Option ℕ} (cond b None None) None
+  none true = refl
+  none false = refl
+ungoverned marks now closed (Some at) = none (marks closed (Some at)) where
+  none : (b : Bool) → ◌≡◌ {A = Option ℕ} (cond (is_some {T = ℕ} (cond b None None)) None (cond b None None)) None
+  none true = refl
+  none false = refl

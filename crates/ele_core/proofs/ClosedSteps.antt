@@ -16,6 +16,7 @@ use Rattle.ele_due.specs.declared.key.Key.{Key}
 use Rattle.ele_files.specs.Closing.{changed_opening, finishing, last_draft, leaving, left_by, left_of, opening_by, IsPast}
 use Rattle.ele_files.specs.Held.{Held, changed_at, rows_of, with_rows}
 use Rattle.ele_lists.proofs.Edits.{found_passes, all-found, all-weaker}
+use Rattle.ele_world.specs.GroupRows.{is_marked}
 use Rattle.ele_world.specs.declared.event.Event.TheVariants.{Close}
 use Rattle.ele_world.specs.declared.refusal.Refusal.{Refusal}
 use Rattle.ele_world.specs.declared.reply.Reply.{Reply}
@@ -190,9 +191,9 @@ module _ (w : World) (handle file : ℕ) (reads : reads_by w.handles handle ≡ 
   over_queue formed queue queued k = queued k ∙ ap (is_moment k.ripe) (sym (shut_others w handle (Draft file) reads (in_order_of w formed) k.file k.number refl))
 
   -- the same keys come
-  pub over_keys : (live : Bool) → new_keys (rows_of over) file w.now live ≡ new_keys (rows_of w) file w.now live
-  over_keys live = ap (λ (o : Option ℕ). let keys : NewKeys = record (new_keys (rows_of w) file w.now live) { former = o } in keys) (by (newest_of w.versions file)) where
-    by : (o : Option VersionRow) → option_and_then (λ (row : VersionRow). cond (is_open over.handles file row.number) None (gained_moment (policy_of w.files file) w.now row.closed row.ended)) o ≡ option_and_then (λ (row : VersionRow). cond (is_open w.handles file row.number) None (gained_moment (policy_of w.files file) w.now row.closed row.ended)) o
+  pub over_keys : (live : Bool) → new_keys over.groups (rows_of over) file w.now live ≡ new_keys w.groups (rows_of w) file w.now live
+  over_keys live = ap (λ (o : Option ℕ). let keys : NewKeys = record (new_keys w.groups (rows_of w) file w.now live) { former = o } in keys) (by (newest_of w.versions file)) where
+    by : (o : Option VersionRow) → option_and_then (λ (row : VersionRow). cond (is_open over.handles file row.number) None (gained_moment (is_marked w.groups file) (policy_of w.files file) w.now row.closed row.ended)) o ≡ option_and_then (λ (row : VersionRow). cond (is_open w.handles file row.number) None (gained_moment (is_marked w.groups file) (policy_of w.files file) w.now row.closed row.ended)) o
     by None = refl
     by (Some row) = rw (open_still w handle (Draft file) reads file row.number refl) refl
 

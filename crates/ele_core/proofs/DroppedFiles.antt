@@ -1,5 +1,5 @@
 -- What the drop of a file leaves of the rows, the keys and the book.
-use Rattle.std.proofs.Common.{◌≡◌, ℕ, ◌<◌, true, false, not, cond, List, [], ◌∷◌, Some, None, refl, ap, sym, ◌∙◌, arith}
+use Rattle.std.proofs.Common.{◌≡◌, ℕ, ◌==◌, ◌<◌, true, false, not, cond, filter, List, [], ◌∷◌, Some, None, refl, ap, sym, ◌∙◌, arith}
 use Rattle.std.specs.Prelude.{find}
 use Rattle.std.specs.List.{AllByRecursion}
 use Rattle.std.specs.Option.{option_map}
@@ -20,10 +20,12 @@ use Rattle.ele_usage.specs.Book.{Book, sums_of}
 use Rattle.ele_usage.specs.OnlyAt.{only_at}
 use Rattle.ele_usage.specs.Sums.{plus, IsWithin}
 use Rattle.ele_world.specs.Change.{DropIdle, is_idle, without_file, after_change}
+use Rattle.ele_world.specs.GroupRows.{forgotten}
 use Rattle.ele_world.specs.Usage.{usage_of}
-use Rattle.ele_world.specs.WellFormed.{IsNameRow, IsThere, Names, IsWellFormed}
+use Rattle.ele_world.specs.WellFormed.{IsGroup, IsNameRow, IsThere, Groups, Names, IsWellFormed}
 use Rattle.ele_world.specs.World.{World, is_file, is_target_file, next_of, policy_of}
 use Rattle.ele_world.specs.declared.rows.FileRow.{FileRow}
+use Rattle.ele_world.specs.declared.rows.GroupRow.{GroupRow}
 use Rattle.ele_world.specs.declared.rows.Target.{Target}
 use Rattle.ele_world.specs.declared.rows.Target.TheVariants.{File, Directory}
 use Rattle.ele_world.proofs.Dropped.{dropped, stays_named}
@@ -51,11 +53,20 @@ module _ (w : World) (file : ℕ) (k : IsWellFormed w) (none : policy_of w.files
         absurd (omega (arith, nothing, is))
   ] refl
 
+  -- nor does a group have it
+  no_member : (members : List ℕ) → AllByRecursion (λ member. 0 < next_of w.files member) members → filter (λ member. not (member == file)) members ≡ members
+  no_member members there = filter-all (λ member. not (member == file)) members (all-weaker (λ member. 0 < next_of w.files member) (λ member. not (member == file) ≡ true) members (λ member is. other_target (File member) is) there)
+
+  no_group : (rows : List GroupRow) → AllByRecursion (IsGroup w.files w.now) rows → forgotten file rows ≡ rows
+  no_group [] all = refl
+  no_group (row ∷ rows) all = rw (no_member row.members all.0.there, no_group rows all.1) refl
+
   -- nothing of it goes
   pub absent_stays : w ≡ after_change w (DropIdle file)
   absent_stays = dropped (λ v. w ≡ v) w file (λ idle. sym (rw (
     remove_first-unfound (is_file file) w.files (no_row w.files file none),
     filter-all (stays_named file) w.names (all-weaker (IsNameRow w.files w.now) (λ row. stays_named file row ≡ true) w.names (λ row is. other_target row.target is.there) (k.holds Names).each),
+    no_group w.groups (k.holds Groups).each,
   ) refl)) (λ busy. refl)
 
 -- ---- the book

@@ -25,6 +25,7 @@ use Rattle.ele_usage.specs.declared.usage.Usage.{Usage}
 use Rattle.ele_usage.specs.Book.{Book, sums_of}
 use Rattle.ele_usage.specs.OnlyAt.{only_at}
 use Rattle.ele_usage.specs.Sums.{nothing, plus, Fits, IsWithin}
+use Rattle.ele_world.specs.declared.rows.GroupRow.{GroupRow}
 use Rattle.ele_world.specs.declared.rows.Stamps.{Stamps}
 use Rattle.ele_world.specs.declared.rows.VersionRow.{VersionRow}
 use Rattle.ele_world.specs.Change.{PutUnder, after_change}
@@ -42,15 +43,15 @@ use Rattle.ele_world.proofs.PolicyMoments.{policy_others, policy_own}
 
 -- ---- the keys of a file's versions
 
-module _ (h : Held) (file : ℕ) (policy other : Policy) where
+module _ (groups : List GroupRow) (h : Held) (file : ℕ) (policy other : Policy) where
   abbrev its : ℕ → Option Key
-  its number = key_under h file policy other number
+  its number = key_under groups h file policy other number
 
   -- a version's key is the key exactly if its number is the key's and the key is one of those
-  is_its : (k : Key) (number : ℕ) → option_map_or (is_key k) (its number) false ≡ ((number == k.number) && is_under h file policy other k)
-  is_its k number = elim (number == k.number) as (λ b. (number == k.number) ≡ b → option_map_or (is_key k) (its number) false ≡ (b && is_under h file policy other k)) [
-    | true ↦ λ e. let same : number ≡ k.number = grind (arith, nat_tests) in rw same (own (unread_under policy h file k.number) (unread_under other h file k.number))
-    | false ↦ λ e. another e (unread_under policy h file number) (unread_under other h file number)
+  is_its : (k : Key) (number : ℕ) → option_map_or (is_key k) (its number) false ≡ ((number == k.number) && is_under groups h file policy other k)
+  is_its k number = elim (number == k.number) as (λ b. (number == k.number) ≡ b → option_map_or (is_key k) (its number) false ≡ (b && is_under groups h file policy other k)) [
+    | true ↦ λ e. let same : number ≡ k.number = grind (arith, nat_tests) in rw same (own (unread_under groups policy h file k.number) (unread_under groups other h file k.number))
+    | false ↦ λ e. another e (unread_under groups policy h file number) (unread_under groups other h file number)
   ] refl where
     own : (p o : Option ℕ) → option_map_or (is_key k) (option_and_then (λ m. cond (is_moment m o) None (Some (record { ripe = m; file = file; number = k.number }))) p) false ≡ ((k.file == file) && (is_moment k.ripe p && not (is_moment k.ripe o)))
     own None o = elim (k.file == file) as (λ b. false ≡ (b && false)) [
@@ -82,9 +83,9 @@ module _ (h : Held) (file : ℕ) (policy other : Policy) where
       by true = refl
       by false = grind (arith, nat_tests)
 
-  told_key : (rows : List VersionRow) (k : Key) → has_key k (filter_map (λ (s : Stamps). its s.number) (map stamps_of (filter (is_version_of file) rows))) ≡ (list_any (is_version file k.number) rows && is_under h file policy other k)
+  told_key : (rows : List VersionRow) (k : Key) → has_key k (filter_map (λ (s : Stamps). its s.number) (map stamps_of (filter (is_version_of file) rows))) ≡ (list_any (is_version file k.number) rows && is_under groups h file policy other k)
   told_key [] k = refl
-  told_key (row ∷ rows) k = elim (row.file == file) as (λ b. (row.file == file) ≡ b → has_key k (filter_map (λ (s : Stamps). its s.number) (map stamps_of (cond b (row ∷ filter (is_version_of file) rows) (filter (is_version_of file) rows)))) ≡ (((b && (row.number == k.number)) || list_any (is_version file k.number) rows) && is_under h file policy other k)) [
+  told_key (row ∷ rows) k = elim (row.file == file) as (λ b. (row.file == file) ≡ b → has_key k (filter_map (λ (s : Stamps). its s.number) (map stamps_of (cond b (row ∷ filter (is_version_of file) rows) (filter (is_version_of file) rows)))) ≡ (((b && (row.number == k.number)) || list_any (is_version file k.number) rows) && is_under groups h file policy other k)) [
     | true ↦ λ e. more (its row.number) (is_its k row.number) (told_key rows k)
     | false ↦ λ e. told_key rows k
   ] refl where
@@ -98,20 +99,20 @@ module _ (h : Held) (file : ℕ) (policy other : Policy) where
     and_or true false false = refl
     and_or false b c = refl
 
-    more : (o : Option Key) → option_map_or (is_key k) o false ≡ ((row.number == k.number) && is_under h file policy other k) → has_key k rest ≡ (list_any (is_version file k.number) rows && is_under h file policy other k)
-        → has_key k (cons_option o rest) ≡ (((row.number == k.number) || list_any (is_version file k.number) rows) && is_under h file policy other k)
-    more None is then = then ∙ ap (λ b. b || (list_any (is_version file k.number) rows && is_under h file policy other k)) is ∙ and_or (row.number == k.number) (list_any (is_version file k.number) rows) (is_under h file policy other k)
-    more (Some key) is then = rw (is, then) (and_or (row.number == k.number) (list_any (is_version file k.number) rows) (is_under h file policy other k))
+    more : (o : Option Key) → option_map_or (is_key k) o false ≡ ((row.number == k.number) && is_under groups h file policy other k) → has_key k rest ≡ (list_any (is_version file k.number) rows && is_under groups h file policy other k)
+        → has_key k (cons_option o rest) ≡ (((row.number == k.number) || list_any (is_version file k.number) rows) && is_under groups h file policy other k)
+    more None is then = then ∙ ap (λ b. b || (list_any (is_version file k.number) rows && is_under groups h file policy other k)) is ∙ and_or (row.number == k.number) (list_any (is_version file k.number) rows) (is_under groups h file policy other k)
+    more (Some key) is then = rw (is, then) (and_or (row.number == k.number) (list_any (is_version file k.number) rows) (is_under groups h file policy other k))
 
   -- a version that has a moment is held
-  held_under : (k : Key) → is_under h file policy other k ≡ true → list_any (is_version file k.number) h.versions ≡ true
+  held_under : (k : Key) → is_under groups h file policy other k ≡ true → list_any (is_version file k.number) h.versions ≡ true
   held_under k is = by (find (is_version file k.number) h.versions) refl where
     second : (a b c : Bool) → (a && (b && c)) ≡ true → b ≡ true
     second true true c is = refl
     second true false c is = is
     second false b c is = absurd (false≢true is)
 
-    no_moment : find (is_version file k.number) h.versions ≡ None → unread_under policy h file k.number ≡ None
+    no_moment : find (is_version file k.number) h.versions ≡ None → unread_under groups policy h file k.number ≡ None
     no_moment e = rw e (elim (is_open h.handles file k.number) as (λ b. ◌≡◌ {A = Option ℕ} (cond b None None) None) [
       | true ↦ refl
       | false ↦ refl
@@ -119,14 +120,14 @@ module _ (h : Held) (file : ℕ) (policy other : Policy) where
 
     by : (o : Option VersionRow) → find (is_version file k.number) h.versions ≡ o → list_any (is_version file k.number) h.versions ≡ true
     by None e =
-        let has = second (k.file == file) (is_moment k.ripe (unread_under policy h file k.number)) (not (is_moment k.ripe (unread_under other h file k.number))) is in
+        let has = second (k.file == file) (is_moment k.ripe (unread_under groups policy h file k.number)) (not (is_moment k.ripe (unread_under groups other h file k.number))) is in
         absurd (false≢true (sym (ap (is_moment k.ripe) (no_moment e)) ∙ has))
     by (Some row) e = any-found (is_version file k.number) (is_version file k.number) h.versions row e (found_passes (is_version file k.number) h.versions row e)
 
   -- so those told of the file's versions are just those
-  pub keys_told : (k : Key) → has_key k (filter_map (λ (s : Stamps). its s.number) (map stamps_of (filter (is_version_of file) h.versions))) ≡ is_under h file policy other k
-  keys_told k = told_key h.versions k ∙ by (is_under h file policy other k) refl where
-    by : (b : Bool) → is_under h file policy other k ≡ b → (list_any (is_version file k.number) h.versions && b) ≡ b
+  pub keys_told : (k : Key) → has_key k (filter_map (λ (s : Stamps). its s.number) (map stamps_of (filter (is_version_of file) h.versions))) ≡ is_under groups h file policy other k
+  keys_told k = told_key h.versions k ∙ by (is_under groups h file policy other k) refl where
+    by : (b : Bool) → is_under groups h file policy other k ≡ b → (list_any (is_version file k.number) h.versions && b) ≡ b
     by true is = rw (held_under k is) refl
     by false is = elim (list_any (is_version file k.number) h.versions) as (λ b. (b && false) ≡ false) [
       | true ↦ refl
@@ -148,14 +149,14 @@ module _ (w : World) (file : ℕ) (was policy : Policy) (k : IsWellFormed w) (fi
 
   module _ (queue between : List Key) (queued : IsQueued w queue) where
     -- the queue has a version's key under the policy that the file had
-    had : (j : Key) → (j.file == file) ≡ true → has_key j queue ≡ is_moment j.ripe (unread_under was h file j.number)
+    had : (j : Key) → (j.file == file) ≡ true → has_key j queue ≡ is_moment j.ripe (unread_under w.groups was h file j.number)
     had j own =
         let file_is : j.file ≡ file = grind (arith, nat_tests) in
         queued j ∙ rw file_is (ap (is_moment j.ripe) (ripe_at_near w file j.number (in_order_of w k) ∙ rw filed refl))
 
     -- with the keys that come, and without those that go, it has those of all versions
-    pub governed_queue : (after : List Key) → ((j : Key) → has_key j between ≡ (is_under h file policy was j || has_key j queue)) → ((j : Key) → has_key j after ≡ (not (is_under h file was policy j) && has_key j between)) → IsQueued v after
-    governed_queue after came went = follows w v queue after queued (λ f n. f == file) (policy_others w file policy k) (λ j. went j ∙ ap (λ b. not (is_under h file was policy j) && b) (came j) ∙ by j (j.file == file) refl) where
+    pub governed_queue : (after : List Key) → ((j : Key) → has_key j between ≡ (is_under w.groups h file policy was j || has_key j queue)) → ((j : Key) → has_key j after ≡ (not (is_under w.groups h file was policy j) && has_key j between)) → IsQueued v after
+    governed_queue after came went = follows w v queue after queued (λ f n. f == file) (policy_others w file policy k) (λ j. went j ∙ ap (λ b. not (is_under w.groups h file was policy j) && b) (came j) ∙ by j (j.file == file) refl) where
       swap : (p o : Bool) → (not (o && not p) && ((p && not o) || o)) ≡ p
       swap true true = refl
       swap true false = refl
@@ -163,24 +164,24 @@ module _ (w : World) (file : ℕ) (was policy : Policy) (k : IsWellFormed w) (fi
       swap false false = refl
 
       by : (j : Key) (b : Bool) → (j.file == file) ≡ b
-          → (not (b && (is_moment j.ripe (unread_under was h file j.number) && not (is_moment j.ripe (unread_under policy h file j.number)))) && ((b && (is_moment j.ripe (unread_under policy h file j.number) && not (is_moment j.ripe (unread_under was h file j.number)))) || has_key j queue))
+          → (not (b && (is_moment j.ripe (unread_under w.groups was h file j.number) && not (is_moment j.ripe (unread_under w.groups policy h file j.number)))) && ((b && (is_moment j.ripe (unread_under w.groups policy h file j.number) && not (is_moment j.ripe (unread_under w.groups was h file j.number)))) || has_key j queue))
           ≡ cond b (is_moment j.ripe (ripe_at v j.file j.number)) (has_key j queue)
       by j false other = refl
       by j true own =
           let file_is : j.file ≡ file = grind (arith, nat_tests) in
-          rw (had j own, file_is, policy_own w file policy k given there j.number) (swap (is_moment j.ripe (unread_under policy h file j.number)) (is_moment j.ripe (unread_under was h file j.number)))
+          rw (had j own, file_is, policy_own w file policy k given there j.number) (swap (is_moment j.ripe (unread_under w.groups policy h file j.number)) (is_moment j.ripe (unread_under w.groups was h file j.number)))
 
     -- none of those that come was there
-    pub ungoverned_queue : ((j : Key) → has_key j between ≡ (not (is_under h file policy was j) && has_key j queue)) → IsQueued w between
+    pub ungoverned_queue : ((j : Key) → has_key j between ≡ (not (is_under w.groups h file policy was j) && has_key j queue)) → IsQueued w between
     ungoverned_queue stays j = stays j ∙ by (j.file == file) refl ∙ queued j where
       same : (p o : Bool) → (not (p && not o) && o) ≡ o
       same true true = refl
       same true false = refl
       same false o = refl
 
-      by : (b : Bool) → (j.file == file) ≡ b → (not (b && (is_moment j.ripe (unread_under policy h file j.number) && not (is_moment j.ripe (unread_under was h file j.number)))) && has_key j queue) ≡ has_key j queue
+      by : (b : Bool) → (j.file == file) ≡ b → (not (b && (is_moment j.ripe (unread_under w.groups policy h file j.number) && not (is_moment j.ripe (unread_under w.groups was h file j.number)))) && has_key j queue) ≡ has_key j queue
       by false other = refl
-      by true own = rw (had j own) (same (is_moment j.ripe (unread_under policy h file j.number)) (is_moment j.ripe (unread_under was h file j.number)))
+      by true own = rw (had j own) (same (is_moment j.ripe (unread_under w.groups policy h file j.number)) (is_moment j.ripe (unread_under w.groups was h file j.number)))
 
 -- ---- the book
 

@@ -5,6 +5,7 @@ pub mod Booked
 pub mod Asked
 pub mod Appended
 pub mod NewNames
+pub mod Marked
 pub mod LinkedNames
 pub mod Made
 pub mod Kept

@@ -19,8 +19,8 @@ use Rattle.ele_world.proofs.NameMoments.{moments_stay}
 use Rattle.ele_world.proofs.Neighbours.{in_order_of}
 
 -- the queue stays right where files and versions stay
-pub queue_stays : (w v : World) → IsWellFormed w → v.files ≡ w.files → v.versions ≡ w.versions → v.handles ≡ w.handles → (queue : List Key) → IsQueued w queue → IsQueued v queue
-queue_stays w v formed files versions handles queue queued k = queued k ∙ ap (is_moment k.ripe) (sym (moments_stay w v (in_order_of w formed) files versions handles k.file k.number))
+pub queue_stays : (w v : World) → IsWellFormed w → v.files ≡ w.files → v.versions ≡ w.versions → v.handles ≡ w.handles → v.groups ≡ w.groups → (queue : List Key) → IsQueued w queue → IsQueued v queue
+queue_stays w v formed files versions handles groups queue queued k = queued k ∙ ap (is_moment k.ripe) (sym (moments_stay w v (in_order_of w formed) files versions handles groups k.file k.number))
 
 module _ (rows : List NameRow) (from : ℕ) (old : List ℕ) (to : ℕ) (new : List ℕ) (target : Target) (now : ℕ) (stands : live_target rows from old ≡ Some target) (free : is_some (live_target rows to new) ≡ false) where
   abbrev named : NameRow

@@ -69,7 +69,7 @@ module _ (w : World) (file number : ℕ) (queue : List Key) (queued : IsQueued w
     by true own false = refl
 
 -- a handle that reads takes the key
-pub read_queue : (rows : Rows) (handle file number : ℕ) (after : List Key) → IsSound rows → IsRekeyed file number (free_moment rows.files.files rows.files.versions file number) None rows.queue after
+pub read_queue : (rows : Rows) (handle file number : ℕ) (after : List Key) → IsSound rows → IsRekeyed file number (free_moment rows.groups rows.files.files rows.files.versions file number) None rows.queue after
     → IsQueued (after_change (world_of rows) (OpenHandle handle (Version file number))) after
 read_queue rows handle file number after sound edited =
     let queued = sound.tracked.queue in
@@ -78,7 +78,7 @@ read_queue rows handle file number after sound edited =
     let v = after_change w (OpenHandle handle (Version file number)) in
     let own : reads_version file number (Version file number) ≡ true = grind (arith, nat_tests) in
     entry_follows w v rows.queue after queued file number (λ f n apart. opened_others w handle (Version file number) ordered f n (apart_reads f n apart))
-    (rw (opened_own w handle (Version file number) ordered file number own) (taken_key w file number rows.queue queued (free_moment rows.files.files rows.files.versions file number) (ripe_told rows file number sound) after edited)) where
+    (rw (opened_own w handle (Version file number) ordered file number own) (taken_key w file number rows.queue queued (free_moment rows.groups rows.files.files rows.files.versions file number) (ripe_told rows file number sound) after edited)) where
       apart_reads : (f n : ℕ) → ((f == file) && (n == number)) ≡ false → reads_version f n (Version file number) ≡ false
       apart_reads f n apart = grind (arith, nat_tests)
 
@@ -97,7 +97,7 @@ module _ (rows : Rows) (handle file number : ℕ) (reads : reads_by rows.files.h
   v = after_change w (ShutHandle handle)
 
   abbrev free : Option ℕ
-  free = free_moment rows.files.files rows.files.versions file number
+  free = free_moment rows.groups rows.files.files rows.files.versions file number
 
   told : ripe_at w file number ≡ cond (is_open w.handles file number) None free
   told = ripe_told rows file number sound

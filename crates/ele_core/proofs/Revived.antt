@@ -101,7 +101,7 @@ module _ (rows : Rows) (directory : ℕ) (name : List ℕ) (file : ℕ) (sound :
 
   -- a name more changes no moment
   same_moments : (f n : ℕ) → ripe_at named f n ≡ ripe_at w f n
-  same_moments f n = moments_stay w named (in_order_of w sound.formed) refl refl refl f n
+  same_moments f n = moments_stay w named (in_order_of w sound.formed) refl refl refl refl f n
 
   queue_named : IsQueued named rows.queue
   queue_named j = sound.tracked.queue j ∙ ap (is_moment j.ripe) (sym (same_moments j.file j.number))
@@ -110,10 +110,10 @@ module _ (rows : Rows) (directory : ℕ) (name : List ℕ) (file : ℕ) (sound :
   unnamed queue queued j = queued j ∙ ap (is_moment j.ripe) (same_moments j.file j.number)
 
   abbrev keys : NewKeys
-  keys = new_keys rows.files file rows.moment true
+  keys = new_keys rows.groups rows.files file rows.moment true
 
-  keys_named : new_keys (rows_of named) file named.now (is_live named file) ≡ keys
-  keys_named = ap (new_keys rows.files file rows.moment) (named_live w directory name file)
+  keys_named : new_keys named.groups (rows_of named) file named.now (is_live named file) ≡ keys
+  keys_named = ap (new_keys rows.groups rows.files file rows.moment) (named_live w directory name file)
 
   pub revived_queue : (after : List Key) → ((j : Key) → has_key j after ≡ (is_new keys j || has_key j rows.queue)) → (v : World) → v ≡ revived → IsQueued v after
   revived_queue after came v is = subst (λ (u : World). IsQueued u after) (sym is)

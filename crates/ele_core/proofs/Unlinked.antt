@@ -6,6 +6,7 @@ use Rattle.std.specs.Option.{option_map}
 use Rattle.std.proofs.lemmas.Bool.Decides.{nat_tests}
 use Rattle.ele_core.proofs.Following.{entry_follows}
 use Rattle.ele_core.specs.Queued.{IsQueued, IsRekeyed, end_moment}
+use Rattle.ele_world.specs.GroupRows.{is_marked}
 use Rattle.ele_world.specs.Neighbours.{near_moment}
 use Rattle.ele_core.specs.Tracked.{told_by, IsBooked}
 use Rattle.ele_due.specs.declared.key.Key.{Key}
@@ -86,13 +87,13 @@ module _ (w : World) (directory : ℕ) (name : List ℕ) (file : ℕ) (stands : 
     pub last_name_ends : after_change w (EndFileName directory name file) ≡ record (without_name w directory name) { versions = with_end w file }
     last_name_ends = rw dead refl
 
-    pub ended_queue : IsWellFormed w → (queue after : List Key) → IsQueued w queue → IsRekeyed file (next_of w.files file - 1) None (end_moment (rows_of w) file w.now) queue after
+    pub ended_queue : IsWellFormed w → (queue after : List Key) → IsQueued w queue → IsRekeyed file (next_of w.files file - 1) None (end_moment w.groups (rows_of w) file w.now) queue after
         → IsQueued (record (without_name w directory name) { versions = with_end w file }) after
     ended_queue k queue after queued edited =
         let current : HasCurrent w file = has_current w file k (target_live w.names directory name (File file) stands) in
         let v = after_change w (EndFileName directory name file) in
         let still : is_live v file ≡ false = dead in
-        let ends : end_moment (rows_of w) file w.now ≡ cond (is_open w.handles file (next_of w.files file - 1)) None (near_moment (policy_of w.files file) None current.row.closed w.now) = rw (current.found, current.no_end) refl in
-        let moment : ripe_at v file (next_of w.files file - 1) ≡ end_moment (rows_of w) file w.now = ended_moment w directory name file current k still ∙ sym ends in
+        let ends : end_moment w.groups (rows_of w) file w.now ≡ cond (is_open w.handles file (next_of w.files file - 1)) None (near_moment (is_marked w.groups file) (policy_of w.files file) None current.row.closed w.now) = rw (current.found, current.no_end) refl in
+        let moment : ripe_at v file (next_of w.files file - 1) ≡ end_moment w.groups (rows_of w) file w.now = ended_moment w directory name file current k still ∙ sym ends in
         subst (λ (u : World). IsQueued u after) last_name_ends
         (entry_follows w v queue after queued file (next_of w.files file - 1) (other_moments w directory name file k) (rw (no_moment w directory name file current, moment) edited))

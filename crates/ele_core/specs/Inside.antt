@@ -16,7 +16,8 @@ world_of rows = record {
   versions = rows.files.versions;
   drafts = rows.files.drafts;
   handles = rows.files.handles;
-  made = record { files = rows.made.files; directories = rows.made.directories; names = rows.made.names; versions = rows.made.versions; handles = rows.files.opened };
+  groups = rows.groups;
+  made = record { files = rows.made.files; directories = rows.made.directories; names = rows.made.names; versions = rows.made.versions; handles = rows.files.opened; groups = rows.made.groups; members = rows.made.members; marks = rows.made.marks };
   limits = rows.limits;
 }
 

@@ -4,6 +4,7 @@ ghost use Rattle.std.specs.Option.{option_map};
 ghost use Rattle.ele_policy.specs.declared.policy.Kind.{Kind};
 ghost use Rattle.ele_usage.specs.Book.{sums_of};
 ghost use Rattle.ele_usage.specs.Sums.{nothing, plus, Fits};
+ghost use Rattle.ele_world.specs.GroupRows.{is_marked};
 ghost use Rattle.ele_world.specs.Neighbours.{near_moment, newest_of};
 ghost use Rattle.ele_world.specs.Told.{stamps_of};
 ghost use Rattle.ele_world.specs.Usage.{is_file_of};
@@ -12,9 +13,10 @@ ghost use Rattle.ele_core.specs.Queued.{end_moment, former_moment, gained_moment
 ghost use Rattle.ele_core.specs.Tracked.{one_version};
 
 use crate::book::one_version;
-use crate::keys::NewKeys;
+use crate::keys::{NewKeys, near_moment};
 use ele_files::{Files, Meter};
-use ele_policy::{Policy, ripe};
+use ele_groups::Groups;
+use ele_policy::Policy;
 use ele_usage::UsageBook;
 use ele_world::{FileId, Moment, Stamps, VersionNo};
 
@@ -30,60 +32,82 @@ pub fn next_number(files: &Files, file: FileId) -> VersionNo
 }
 
 /// Whether the policy has a ripe moment for a version without a newer one.
-fn ripens_alone(policy: &Policy, stamps: &Stamps) -> bool
+fn ripens_alone(groups: &Groups, file: FileId, policy: &Policy, stamps: &Stamps) -> bool
     ensures { result ≡ is_some (option_and_then
-        (near_moment (Some policy.now) None stamps.now.closed) stamps.now.ended) }
+        (near_moment (is_marked groups.now file) (Some policy.now) None stamps.now.closed)
+        stamps.now.ended) }
 {
     match stamps.ended {
-        Some(ended) => ripe(policy, stamps.closed, ended, None).is_some(),
+        Some(ended) => near_moment(groups, file, policy, None, stamps.closed, ended).is_some(),
         None => false,
     }
 }
 
 /// The ripe moment that the version of these stamps gets as the next one closes now; none where it keeps the one that it had
 /// alone, as it does under every policy that looks at no other version.
-fn gained_moment(policy: &Policy, stamps: &Stamps, now: Moment) -> Option<Moment>
+fn gained_moment(
+    groups: &Groups,
+    file: FileId,
+    policy: &Policy,
+    stamps: &Stamps,
+    now: Moment,
+) -> Option<Moment>
     ensures { result
-        ≡ gained_moment (Some policy.now) now stamps.now.closed stamps.now.ended }
+        ≡ gained_moment (is_marked groups.now file) (Some policy.now) now stamps.now.closed stamps.now.ended }
 {
-    if ripens_alone(policy, stamps) {
+    if ripens_alone(groups, file, policy, stamps) {
         return None;
     }
-    ripe(
+    near_moment(
+        groups,
+        file,
         policy,
+        Some(now),
         stamps.closed,
         stamps.ended.unwrap_or(now),
-        Some(now),
     )
 }
 
 /// The ripe moment that the file's newest held version gets, of which these are the stamps, as the next one closes now; none
 /// where a handle reads it.
-fn former_moment(files: &Files, file: FileId, newest: &Stamps, now: Moment) -> Option<Moment>
+fn former_moment(
+    files: &Files,
+    groups: &Groups,
+    file: FileId,
+    newest: &Stamps,
+    now: Moment,
+) -> Option<Moment>
     requires { option_map stamps_of (newest_of files.now.versions file) ≡ Some newest.now }
-    ensures { result ≡ former_moment files.now file now }
+    ensures { result ≡ former_moment groups.now files.now file now }
 {
     if files.is_open(file, newest.number) {
         return None;
     }
     let policy = files.policy_of(file)?;
-    gained_moment(&policy, newest, now)
+    gained_moment(groups, file, &policy, newest, now)
 }
 
 /// The ripe moment of the file's next version, which closes now; none where it doesn't end at once.
-fn own_moment(files: &Files, file: FileId, now: Moment, is_live: bool) -> Option<Moment>
-    ensures { result ≡ own_moment files.now.files file now is_live }
+fn own_moment(
+    files: &Files,
+    groups: &Groups,
+    file: FileId,
+    now: Moment,
+    is_live: bool,
+) -> Option<Moment>
+    ensures { result ≡ own_moment groups.now files.now.files file now is_live }
 {
     if is_live {
         return None;
     }
     let policy = files.policy_of(file)?;
-    ripe(&policy, now, now, None)
+    near_moment(groups, file, &policy, None, now, now)
 }
 
 /// The keys that come with the file's next version, which closes now.
 pub fn new_keys(
     files: &Files,
+    groups: &Groups,
     file: FileId,
     now: Moment,
     is_live: bool,
@@ -91,17 +115,17 @@ pub fn new_keys(
 ) -> NewKeys
     requires there { 0 < next_of files.now.files file }
     requires meter { meter.old < 2 ^ 60 }
-    ensures keys { result ≡ new_keys files.now file now is_live }
+    ensures keys { result ≡ new_keys groups.now files.now file now is_live }
     ensures read { meter.new ≤ meter.old + 1 }
 {
     let number = next_number(files, file);
-    let own = own_moment(files, file, now, is_live);
+    let own = own_moment(files, groups, file, now, is_live);
     match files.newest(file, meter) {
         Some(newest) => NewKeys {
             file,
             newest: newest.number,
             number,
-            former: former_moment(files, file, &newest, now),
+            former: former_moment(files, groups, file, &newest, now),
             own,
         },
         None => NewKeys {
@@ -118,6 +142,7 @@ pub fn new_keys(
 /// where a handle reads it.
 pub fn end_moment(
     files: &Files,
+    groups: &Groups,
     file: FileId,
     next: VersionNo,
     now: Moment,
@@ -125,7 +150,7 @@ pub fn end_moment(
 ) -> Option<Moment>
     requires next { next ≡ next_of files.now.files file }
     requires meter { meter.old < 2 ^ 60 }
-    ensures moment { result ≡ end_moment files.now file now }
+    ensures moment { result ≡ end_moment groups.now files.now file now }
     ensures read { meter.new ≤ meter.old + 1 }
 {
     if files.is_open(file, next.before()) {
@@ -136,7 +161,7 @@ pub fn end_moment(
         return None;
     }
     let policy = files.policy_of(file)?;
-    ripe(&policy, stamps.closed, now, None)
+    near_moment(groups, file, &policy, None, stamps.closed, now)
 }
 
 /// The book has one version more for the kind of the file, of so many bytes.

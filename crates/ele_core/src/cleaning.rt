@@ -40,7 +40,7 @@ fn ripe_moment(rows: &Rows, file: FileId, number: VersionNo) -> Option<Moment>
     if rows.files.is_open(file, number) {
         return None;
     }
-    free_moment(&rows.files, file, number, &mut Meter::new())
+    free_moment(&rows.files, &rows.groups, file, number, &mut Meter::new())
 }
 
 /// The keys of the versions that are due now, in order.

@@ -41,7 +41,7 @@ fn finish(rows: &mut Rows, handle: Handle, file: FileId, opened: Moment) -> Resu
 {
     let is_live = rows.names.is_live(file);
     let now = rows.moment;
-    let keys = new_keys(&rows.files, file, now, is_live, &mut rows.meter);
+    let keys = new_keys(&rows.files, &rows.groups, file, now, is_live, &mut rows.meter);
     let before = blocks(&rows.files);
     let bytes = draft_bytes(&rows.files, file);
     // All keys come before the version does, so that one that is refused is still without trace.
@@ -94,13 +94,13 @@ fn unread(
     ensures err { OnErr result (world_of rows.new ≡ world_of rows.old) }
     ensures tracked { IsTracked rows.new }
 {
-    let moment = free_moment(&rows.files, file, number, &mut rows.meter);
+    let moment = free_moment(&rows.files, &rows.groups, file, number, &mut rows.meter);
     put(&mut rows.queue, file, number, moment)?;
     rows.files.leave(handle);
     if !rows.files.is_open(file, number) {
         return Ok(Reply::Closed(None));
     }
-    let moment = free_moment(&rows.files, file, number, &mut rows.meter);
+    let moment = free_moment(&rows.files, &rows.groups, file, number, &mut rows.meter);
     take(&mut rows.queue, file, number, moment);
     Ok(Reply::Closed(None))
 }

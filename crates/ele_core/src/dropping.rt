@@ -15,7 +15,7 @@ const ONE_FILE: Usage = Usage {
     blocks: 0,
 };
 
-/// The file goes with its dead names, if it has no live name, no held version and no draft.
+/// The file goes with its dead names, and leaves its groups, if it has no live name, no held version and no draft.
 pub fn drop_idle(rows: &mut Rows, file: FileId)
     requires { IsSound rows.old }
     ensures world { world_of rows.new ≡ after_change (world_of rows.old) (DropIdle file) }
@@ -30,5 +30,6 @@ pub fn drop_idle(rows: &mut Rows, file: FileId)
     };
     rows.files.drop_file(file);
     rows.names.drop_file(file);
+    rows.groups.forget_file(file);
     rows.book.sub(policy.kind(), ONE_FILE);
 }

@@ -26,9 +26,11 @@ mod closing;
 mod defaults;
 mod directories;
 mod dropping;
+mod grouping;
 mod keys;
 mod links;
 mod lookups;
+mod marking;
 mod names;
 mod opening;
 mod policies;
@@ -45,6 +47,9 @@ use crate::clock::{clock, tick};
 use crate::closing::close;
 use crate::defaults::set_default;
 use crate::directories::{make_dir, remove_dir};
+use crate::grouping::{
+    add_to_group, drop_group, make_group, mark, remove_from_group, unmark,
+};
 use crate::links::{link, rename};
 use crate::names::create;
 use crate::opening::{open_read, open_write};
@@ -56,12 +61,13 @@ use crate::unlinking::unlink;
 use crate::writing::{truncate, write};
 use ele_due::DueQueue;
 use ele_files::{Files, Meter};
+use ele_groups::Groups;
 use ele_names::Names;
 use ele_policy::Interval;
 use ele_usage::UsageBook;
 pub use ele_world::{
     ByteList, Cell, Counts, DeadName, DeadNameList, DirId, DirectoryRow, DraftRow, Event, FileId,
-    FileRow, FileStat, Flat, Handle, HandleRow, Key, KeyList, Kind, Ladder, Limits, ListOf, Moment,
+    FileRow, FileStat, Flat, GroupList, GroupRow, Handle, HandleRow, Key, KeyList, Kind, Ladder, Limits, ListOf, Moment,
     Name, NameList, NameRow, NoMemory, PassEnd, Path, PathAt, Policy, Reads, Refusal, Reply,
     Source, Stamps, StampsList, Stop, Tag, TaggedPath, Target, Usage, VersionNo, VersionRow, Which,
 };
@@ -115,6 +121,12 @@ fn answer(rows: &mut Rows, event: &Event) -> Result<Reply, NoMemory>
         Event::Revert(path, number) => revert(rows, path, *number),
         Event::SetPolicy(path, policy) => set_policy(rows, path, *policy),
         Event::SetDefault(path, policy) => Ok(set_default(rows, path, *policy)),
+        Event::GroupMake(name) => make_group(rows, name),
+        Event::GroupDrop(name) => drop_group(rows, name),
+        Event::GroupAdd(name, path) => add_to_group(rows, name, path),
+        Event::GroupRemove(name, path) => remove_from_group(rows, name, path),
+        Event::Mark(name, moment) => mark(rows, name, *moment),
+        Event::Unmark(name, moment) => unmark(rows, name, *moment),
         Event::CleanOne => Ok(clean_one(rows)),
         Event::Read(source) => read(rows, source),
         Event::Stat(tagged) => Ok(stat(rows, tagged)),
@@ -123,6 +135,7 @@ fn answer(rows: &mut Rows, event: &Event) -> Result<Reply, NoMemory>
         Event::Restorable => Ok(Reply::RestoreList(restorable(rows)?)),
         Event::Due => Ok(Reply::DueList(due(rows)?)),
         Event::UsageAll => Ok(Reply::UsageList(usage(rows))),
+        Event::GroupsAll => Ok(Reply::GroupList(rows.groups.rows()?)),
     }
 }
 
@@ -145,6 +158,7 @@ impl Core {
                 directories,
                 names: Names::new(alloc),
                 files: Files::new(alloc),
+                groups: Groups::new(alloc),
                 queue: DueQueue::new(alloc),
                 book: UsageBook::new(),
                 made: Made {
@@ -152,6 +166,9 @@ impl Core {
                     directories: 0,
                     names: 0,
                     versions: 0,
+                    groups: 0,
+                    members: 0,
+                    marks: 0,
                 },
                 limits,
                 meter: Meter::new(),
@@ -255,12 +272,16 @@ impl Core {
             versions: rows.files.version_rows()?,
             drafts: rows.files.draft_rows()?,
             handles: rows.files.handle_rows()?,
+            groups: rows.groups.rows()?,
             made: Counts {
                 files: rows.made.files,
                 directories: rows.made.directories,
                 names: rows.made.names,
                 versions: rows.made.versions,
                 handles: rows.files.handles_opened(),
+                groups: rows.made.groups,
+                members: rows.made.members,
+                marks: rows.made.marks,
             },
             limits: rows.limits,
         })

@@ -70,7 +70,7 @@ fn add_reader(rows: &mut Rows, file: FileId, number: VersionNo) -> Result<Handle
     ensures err { OnErr result (world_of rows.new ≡ world_of rows.old) }
     ensures tracked { IsTracked rows.new }
 {
-    let moment = free_moment(&rows.files, file, number, &mut rows.meter);
+    let moment = free_moment(&rows.files, &rows.groups, file, number, &mut rows.meter);
     let handle = rows.files.open_read(file, number)?;
     take(&mut rows.queue, file, number, moment);
     Ok(handle)

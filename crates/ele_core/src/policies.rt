@@ -15,32 +15,40 @@ use crate::keys::{moment_under, put_all, take_all};
 use crate::rows::Rows;
 use crate::walk::file_now;
 use ele_files::{Files, Meter};
+use ele_groups::Groups;
 use ele_policy::Policy;
 use ele_world::{FileId, Key, Moment, NoMemory, Path, Reply, Stamps, VersionNo};
 use std::alloc::Global;
 
 /// The ripe moment that the version has under the policy; none where a handle reads it.
-fn unread_under(files: &Files, policy: &Policy, file: FileId, number: VersionNo) -> Option<Moment>
-    ensures { result ≡ unread_under policy.now files.now file number }
+fn unread_under(
+    files: &Files,
+    groups: &Groups,
+    policy: &Policy,
+    file: FileId,
+    number: VersionNo,
+) -> Option<Moment>
+    ensures { result ≡ unread_under groups.now policy.now files.now file number }
 {
     if files.is_open(file, number) {
         return None;
     }
-    moment_under(files, policy, file, number, &mut Meter::new())
+    moment_under(files, groups, policy, file, number, &mut Meter::new())
 }
 
 /// The key that the version has under the one policy, unless it has it under the other.
 fn key_under(
     files: &Files,
+    groups: &Groups,
     policy: &Policy,
     other: &Policy,
     file: FileId,
     number: VersionNo,
 ) -> Option<Key>
-    ensures { result ≡ key_under files.now file policy.now other.now number }
+    ensures { result ≡ key_under groups.now files.now file policy.now other.now number }
 {
-    let ripe = unread_under(files, policy, file, number)?;
-    if unread_under(files, other, file, number) == Some(ripe) {
+    let ripe = unread_under(files, groups, policy, file, number)?;
+    if unread_under(files, groups, other, file, number) == Some(ripe) {
         return None;
     }
     Some(Key { ripe, file, number })
@@ -51,16 +59,17 @@ fn keys_of(
     alloc: Global,
     held: &[Stamps],
     files: &Files,
+    groups: &Groups,
     policy: &Policy,
     other: &Policy,
     file: FileId,
 ) -> Result<Vec<Key>, NoMemory>
     ensures { IfOk result (λ keys. keys.items ≡ filter_map
-        (λ stamps. key_under files.now file policy.now other.now stamps.number) held.now) }
+        (λ stamps. key_under groups.now files.now file policy.now other.now stamps.number) held.now) }
 {
     let keys: Vec<Key> = held
         .iter()
-        .filter_map(|stamps| key_under(files, policy, other, file, stamps.number))
+        .filter_map(|stamps| key_under(files, groups, policy, other, file, stamps.number))
         .collect(alloc)?;
     Ok(keys)
 }
@@ -69,15 +78,16 @@ fn keys_of(
 fn keys_under(
     alloc: Global,
     files: &Files,
+    groups: &Groups,
     policy: &Policy,
     other: &Policy,
     file: FileId,
 ) -> Result<Vec<Key>, NoMemory>
     ensures { IfOk result (λ keys.
-        (k : Key) → has_key k keys.items ≡ is_under files.now file policy.now other.now k) }
+        (k : Key) → has_key k keys.items ≡ is_under groups.now files.now file policy.now other.now k) }
 {
     let held = files.stamps_of_file(file)?;
-    keys_of(alloc, held.as_slice(), files, policy, other, file)
+    keys_of(alloc, held.as_slice(), files, groups, policy, other, file)
 }
 
 /// The file gets the policy, under which its versions have other keys and count for its kind.
@@ -94,8 +104,8 @@ fn put_under(rows: &mut Rows, file: FileId, policy: Policy) -> Result<(), NoMemo
         unreachable!()
     };
     let usage = rows.files.usage_of(file)?;
-    let come = keys_under(rows.alloc, &rows.files, &policy, &was, file)?;
-    let gone = keys_under(rows.alloc, &rows.files, &was, &policy, file)?;
+    let come = keys_under(rows.alloc, &rows.files, &rows.groups, &policy, &was, file)?;
+    let gone = keys_under(rows.alloc, &rows.files, &rows.groups, &was, &policy, file)?;
     // All keys come before one goes, so that one that is refused is still without trace.
     put_all(&mut rows.queue, &come)?;
     take_all(&mut rows.queue, &gone);

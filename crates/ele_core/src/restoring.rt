@@ -91,7 +91,7 @@ fn revive(
     let bytes = version_bytes(&rows.files, file, last, &mut rows.meter);
     let before = blocks(&rows.files);
     let now = rows.moment;
-    let keys = new_keys(&rows.files, file, now, true, &mut rows.meter);
+    let keys = new_keys(&rows.files, &rows.groups, file, now, true, &mut rows.meter);
     // All keys and the name come before the version does, so that one that is refused is still without trace.
     keys.put(&mut rows.queue)?;
     if let Err(refused) = rows.names.add(directory, name, Target::File(file), now) {

@@ -32,7 +32,7 @@ fn bring_back(rows: &mut Rows, file: FileId, stamps: &Stamps) -> Result<VersionN
     ensures tracked { IsTracked rows.new }
 {
     let now = rows.moment;
-    let keys = new_keys(&rows.files, file, now, true, &mut rows.meter);
+    let keys = new_keys(&rows.files, &rows.groups, file, now, true, &mut rows.meter);
     let before = blocks(&rows.files);
     // All keys come before the version does, so that one that is refused is still without trace.
     keys.put(&mut rows.queue)?;

@@ -1,11 +1,12 @@
-//! What stands behind a core: the rows of directories by number, the names, the files, and beside them the queue of keys and
-//! the book of usage, which follow each change.
+//! What stands behind a core: the rows of directories by number, the names, the files, the groups, and beside them the queue
+//! of keys and the book of usage, which follow each change.
 ghost use Rattle.std.specs.Prelude.{◌≡◌, nat_le};
 ghost use Rattle.ele_world.specs.Step.{versions_made};
 ghost use Rattle.ele_core.specs.Inside.{world_of, IsSound};
 
 use ele_due::DueQueue;
 use ele_files::{Files, Meter};
+use ele_groups::Groups;
 use ele_names::Names;
 use ele_usage::UsageBook;
 use ele_world::{DirId, DirectoryRow, Limits, Moment};
@@ -21,6 +22,9 @@ pub struct Made {
     pub directories: u64,
     pub names: u64,
     pub versions: u64,
+    pub groups: u64,
+    pub members: u64,
+    pub marks: u64,
 }
 
 /// All rows and counts. The meter counts the version rows that the last event read.
@@ -30,6 +34,7 @@ pub struct Rows {
     pub directories: Vec<DirectoryRow>,
     pub names: Names,
     pub files: Files,
+    pub groups: Groups,
     pub queue: DueQueue,
     pub book: UsageBook,
     pub made: Made,

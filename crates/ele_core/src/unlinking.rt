@@ -32,7 +32,14 @@ fn end_last_name(
     ensures tracked { IsTracked rows.new }
 {
     let next = next_number(&rows.files, file);
-    let moment = end_moment(&rows.files, file, next, rows.moment, &mut rows.meter);
+    let moment = end_moment(
+        &rows.files,
+        &rows.groups,
+        file,
+        next,
+        rows.moment,
+        &mut rows.meter,
+    );
     put(&mut rows.queue, file, next.before(), moment)?;
     rows.names.kill(directory, name, rows.moment);
     rows.files.end_current(file, rows.moment, &mut rows.meter);

@@ -1,5 +1,5 @@
 -- The version that a tag means, as the log of its file shows it.
-use Rattle.std.proofs.Common.{◌≡◌, ℕ, ◌-◌, ◌&&◌, eqb, nat_lt, Bool, true, false, cond, List, [], ◌∷◌, map, filter, Option, Some, None, Err, refl, ap, sym, ◌∙◌, arith, find}
+use Rattle.std.proofs.Common.{◌≡◌, ℕ, ◌-◌, ◌&&◌, eqb, nat_lt, Bool, true, false, cond, List, [], ◌∷◌, map, filter, Option, Some, None, Ok, Err, refl, ap, sym, ◌∙◌, arith, find}
 use Rattle.std.specs.List.{AllByRecursion, flat_map}
 use Rattle.std.specs.Option.{option_map, option_map_or, option_or}
 use Rattle.std.specs.Result.{result_map_both}
@@ -29,6 +29,7 @@ use Rattle.ele_world.specs.Told.{stamps_of}
 use Rattle.ele_world.specs.World.{is_version}
 use Rattle.ele_world.specs.declared.refusal.Refusal.{Refusal}
 use Rattle.ele_world.specs.declared.refusal.Refusal.TheVariants.{NoVersion}
+use Rattle.ele_world.specs.declared.rows.Stamps.{Stamps}
 use Rattle.ele_world.specs.declared.rows.VersionRow.{VersionRow}
 
 -- ---- the last that passes, through a filter and a map
@@ -97,6 +98,13 @@ module _ (s : Store) (files : List File) (a : AllSessions) (kept : Keeps s files
       rw (find_shown (had_life file moment) (lives_at moment) (λ row e. grind (arith, nat_tests)) (λ row. rw own refl), last_shown (had_closed file moment) (has_closed_by moment) (λ row e. grind (arith, nat_tests)) (λ row. rw own refl))
       (told (lives_at moment) (has_closed_by moment) (find (lives_at moment) f.log.rows) refl)
 
+  -- and that which lived at the moment
+  pub at_shown : (moment : ℕ) → option_map stamps_of (find (had_life file moment) versions) ≡ option_map stamps_in (find (lives_at moment) f.log.rows)
+  at_shown moment = rw (find_shown (had_life file moment) (lives_at moment) (λ row e. grind (arith, nat_tests)) (λ row. rw own refl)) (by (find (lives_at moment) f.log.rows) refl) where
+    by : (o : Option log.VersionRow) → find (lives_at moment) f.log.rows ≡ o → option_map stamps_of (option_map (row_in s f.id) o) ≡ option_map stamps_in o
+    by None is = refl
+    by (Some row) is = rw (kept.laws.long s row.cells (row_lives s files a kept file (lives_at moment) f row found is)) refl
+
   -- what the tag means of the file
   pub meant_shown : (t : Tag) → result_map_both stamps_of (λ (refusal : Refusal). refusal) (version_meant (map file_row files) versions file t) ≡ row_meant f t
   meant_shown tag.Now = rw (next-found files file (Some f) found) (numbered_shown (f.next - 1))
@@ -116,3 +124,18 @@ module _ (s : Store) (files : List File) (a : AllSessions) (kept : Keeps s files
 -- a file that isn't there has none
 pub none_shown : (s : Store) (files : List File) (a : AllSessions) (kept : Keeps s files a) (file : ℕ) → find (is_id file) files ≡ None → filter (is_version_of file) (flat_map (rows_in s) files) ≡ []
 none_shown s files a kept file none = filter-buckets (λ (f : File). f.id) (rows_in s) file_of (tagged s) file files kept.rise ∙ ap (λ o. option_map_or (rows_in s) o []) none
+
+-- so none lived then
+pub none_lived : (s : Store) (files : List File) (a : AllSessions) (kept : Keeps s files a) (file moment : ℕ) → find (is_id file) files ≡ None → find (had_life file moment) (flat_map (rows_in s) files) ≡ None
+none_lived s files a kept file moment none =
+    sym (find-filter (had_life file moment) (is_version_of file) (flat_map (rows_in s) files) (λ row e. grind (arith, nat_tests)))
+    ∙ ap (find (had_life file moment)) (none_shown s files a kept file none)
+
+-- what was told is what was found
+pub told_found : (found before : Option log.VersionRow) (stamps : Stamps) → told_or_forgotten found before ≡ Ok stamps → option_map stamps_in found ≡ Some stamps
+told_found None before stamps is = absurd cc
+told_found (Some row) before stamps is = cc
+
+pub forgotten_none : (found before : Option log.VersionRow) (refusal : Refusal) → told_or_forgotten found before ≡ Err refusal → option_map stamps_in found ≡ None
+forgotten_none None before refusal is = refl
+forgotten_none (Some row) before refusal is = absurd cc

@@ -48,7 +48,7 @@ impl File {
 
     /// The version that lived at the moment. Refused: `Forgotten`, with the number of the last one that is held of those that had
     /// closed by then.
-    fn living(&self, moment: Moment, meter: &mut Meter) -> Result<Stamps, Refusal>
+    pub fn living(&self, moment: Moment, meter: &mut Meter) -> Result<Stamps, Refusal>
         requires { meter.old < 2 ^ 62 }
         ensures value { result ≡ row_living self.now moment }
         ensures read { meter.new ≤ meter.old + 1 }

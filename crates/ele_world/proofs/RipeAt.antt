@@ -60,7 +60,7 @@ ripe_same v u row policy same = ap (option_and_then (λ p. option_and_then (λ e
 
 -- ---- the keys of the scan
 
-any-filter_map : {X Y : Type 0} (t : Y → Bool) (h : X → Option Y) (xs : List X) → list_any t (filter_map h xs) ≡ list_any (λ x. option_map_or t (h x) false) xs
+pub any-filter_map : {X Y : Type 0} (t : Y → Bool) (h : X → Option Y) (xs : List X) → list_any t (filter_map h xs) ≡ list_any (λ x. option_map_or t (h x) false) xs
 any-filter_map t h [] = refl
 any-filter_map {X} {Y} t h (x ∷ xs) = by (any-filter_map t h xs) (h x) refl where
   by : list_any t (filter_map h xs) ≡ list_any (λ x. option_map_or t (h x) false) xs → (o : Option Y) → h x ≡ o → list_any t (filter_map h (x ∷ xs)) ≡ (option_map_or t o false || list_any (λ x. option_map_or t (h x) false) xs)

@@ -15,7 +15,7 @@ use Rattle.ele_world.specs.Usage.{places_from, places}
 
 -- ---- lists
 
-list_any-flat_map : {X Y : Type 0} (p : Y → Bool) (g : X → List Y) (xs : List X) → list_any p (flat_map g xs) ≡ list_any (λ x. list_any p (g x)) xs
+pub list_any-flat_map : {X Y : Type 0} (p : Y → Bool) (g : X → List Y) (xs : List X) → list_any p (flat_map g xs) ≡ list_any (λ x. list_any p (g x)) xs
 list_any-flat_map p g [] = refl
 list_any-flat_map p g (x ∷ xs) =
     ap (list_any p) (flat_map-cons g x xs) ∙ (list_any-append p (g x) (flat_map g xs) ∙ ap (λ b. list_any p (g x) || b) (list_any-flat_map p g xs))

@@ -8,7 +8,7 @@ ghost use Rattle.ele_files.specs.Held.{cells_of_version};
 ghost use Rattle.ele_files.specs.Inside.{IsFileKept};
 ghost use Rattle.ele_files.specs.Meant.{stamps_in};
 ghost use Rattle.ele_world.specs.FileView.{is_version_of};
-ghost use Rattle.ele_world.specs.Tagged.{version_meant};
+ghost use Rattle.ele_world.specs.Tagged.{had_life, version_meant};
 ghost use Rattle.ele_world.specs.Told.{stamps_of};
 ghost use Rattle.ele_world.specs.World.{is_version, next_of};
 
@@ -18,7 +18,7 @@ use crate::files::{Files, file_of};
 use crate::meant::stamps_of;
 use ele_inode_log::Meter;
 use ele_lists::{ByteList, ListOf};
-use ele_moment::{FileId, NoMemory, VersionNo};
+use ele_moment::{FileId, Moment, NoMemory, VersionNo};
 use ele_world::{Refusal, Stamps, StampsList, Tag};
 use std::alloc::Global;
 
@@ -53,6 +53,20 @@ impl Files {
             unreachable!()
         };
         held.meant(tag, meter)
+    }
+
+    /// The file's version that lived at the moment; none where it isn't held.
+    pub fn version_at(&self, file: FileId, moment: Moment, meter: &mut Meter) -> Option<Stamps>
+        requires { meter.old < 2 ^ 62 }
+        ensures value { result
+            ≡ option_map stamps_of (find (had_life file moment) self.now.versions) }
+        ensures read { meter.new ≤ meter.old + 1 }
+    {
+        let held = file_of(&self.files, file)?;
+        match held.living(moment, meter) {
+            Ok(stamps) => Some(stamps),
+            Err(_refusal) => None,
+        }
     }
 
     /// The bytes of the version; none where it isn't held.

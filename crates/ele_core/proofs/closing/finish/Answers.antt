@@ -53,7 +53,7 @@ returns-clause-tracked c =
     let rows = c.args.rows.now in
     let w = world_of rows in
     let final = is_final w c.args.handle c.args.file c.requires.reads c.args.opened c.requires.changed in
-    let told : c.new_keys-keys.result ≡ new_keys rows.files c.args.file rows.moment (is_live w c.args.file) = c.new_keys-keys.ensures.keys ∙ ap (new_keys rows.files c.args.file rows.moment) c.is_live-is_live.ensures in
+    let told : c.new_keys-keys.result ≡ new_keys rows.groups rows.files c.args.file rows.moment (is_live w c.args.file) = c.new_keys-keys.ensures.keys ∙ ap (new_keys rows.groups rows.files c.args.file rows.moment) c.is_live-is_live.ensures in
     let formed = over_keeps w c.args.handle c.args.file c.requires.reads final.alone c.requires.sound.formed in
     record {
       queue = rw (c.in-Ok.ensures.ok w refl (sym c.is_live-is_live.ensures))
@@ -80,7 +80,7 @@ pub returns-in-Err-clause-tracked : goal.returns-in-Err-clause-tracked
 returns-in-Err-clause-tracked c = rw c.in-Err.ensures.err (record {
   queue = taken_back (world_of c.args.rows.now) c.args.file 0 [] (may_grow (world_of c.args.rows.now) c.args.file c.requires.sound.formed (file_there (world_of c.args.rows.now) c.args.handle c.args.file c.requires.reads c.args.opened c.requires.changed c.requires.sound.formed)) c.args.rows.now.queue c.take.new.queue c.requires.sound.tracked.queue
       (λ j. c.take.ensures j ∙ ap (λ b. not (is_new c.new_keys-keys.result j) && b) (c.in_ok-put.ensures.ok j)
-      ∙ ap (λ keys. not (is_new keys j) && (is_new keys j || has_key j c.args.rows.now.queue)) (c.new_keys-keys.ensures.keys ∙ ap (new_keys c.args.rows.now.files c.args.file c.args.rows.now.moment) c.is_live-is_live.ensures));
+      ∙ ap (λ keys. not (is_new keys j) && (is_new keys j || has_key j c.args.rows.now.queue)) (c.new_keys-keys.ensures.keys ∙ ap (new_keys c.args.rows.now.groups c.args.rows.now.files c.args.file c.args.rows.now.moment) c.is_live-is_live.ensures));
   book = c.requires.sound.tracked.book;
   bounds = c.requires.sound.tracked.bounds;
 })

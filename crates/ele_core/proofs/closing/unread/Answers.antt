@@ -29,7 +29,7 @@ returns-clause-tracked c =
     let w = world_of rows in
     let left : c.leave.new.self ≡ changed_at rows.files 0 (ShutHandle c.args.handle ∷ []) = c.leave.ensures ∙ ap (left_of rows.files c.args.handle) c.requires.reads in
     let came = subst (λ m. IsRekeyed c.args.file c.args.number None m rows.queue c.put.new.queue) c.free_moment-moment.ensures.moment c.in_ok-put.ensures.ok in
-    let free = c.free_moment-moment-2.ensures.moment ∙ ap (λ h. free_moment h.files h.versions c.args.file c.args.number) left in
+    let free = c.free_moment-moment-2.ensures.moment ∙ ap (λ h. free_moment rows.groups h.files h.versions c.args.file c.args.number) left in
     let went = subst (λ m. IsRekeyed c.args.file c.args.number m None c.put.new.queue c.take.new.queue) free c.take.ensures in
     let still = ap (λ h. is_open h.handles c.args.file c.args.number) (sym left) ∙ sym c.is_open.ensures ∙ c.if-not-is_open.false in
     record {

@@ -17,7 +17,7 @@ pub returns-clause-tracked : goal.returns-clause-tracked
 returns-clause-tracked c =
     let w = world_of c.args.rows.now in
     record {
-      queue = rw c.kill.ensures (queue_stays w (after_change w (EndName c.in-Ok.found.0 c.in-Ok.found.1)) c.requires.formed refl refl refl c.args.rows.now.queue c.requires.tracked.queue);
+      queue = rw c.kill.ensures (queue_stays w (after_change w (EndName c.in-Ok.found.0 c.in-Ok.found.1)) c.requires.formed refl refl refl refl c.args.rows.now.queue c.requires.tracked.queue);
       book = c.requires.tracked.book;
       bounds = c.requires.tracked.bounds;
     }

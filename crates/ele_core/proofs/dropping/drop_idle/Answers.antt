@@ -23,7 +23,7 @@ returns-clause-tracked c =
     let idle : is_idle w c.args.file ≡ true = grind (arith, c.is_live.ensures, c.if-is_live.false, c.is_bare.ensures, c.if-not-is_bare.false) in
     let filed = sym c.policy_of.ensures ∙ c.in-Some.is in
     let gone : after_change w (DropIdle c.args.file) ≡ without_file w c.args.file = rw idle refl in
-    rw (c.drop_file.ensures, c.drop_file-2.ensures) (record {
+    rw (c.drop_file.ensures, c.drop_file-2.ensures, c.forget_file.ensures) (record {
       queue = subst (λ (v : World). IsQueued v rows.queue) gone (λ k. c.requires.tracked.queue k ∙ ap (is_moment k.ripe) (sym (ripe_at_dropped w c.args.file k.file k.number)));
       book = dropped_book rows c.args.file c.in-Some.policy c.requires filed idle c.sub.new.self (rw (← c.kind.ensures) c.sub.ensures.each);
       bounds = c.requires.tracked.bounds;

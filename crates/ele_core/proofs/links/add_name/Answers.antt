@@ -12,7 +12,7 @@ pub returns-clause-tracked : goal.returns-clause-tracked
 returns-clause-tracked c =
     let w = world_of c.args.rows.now in
     record {
-      queue = rw c.in_ok-add.ensures.ok (queue_stays w (after_change w (AddName c.args.directory c.args.name c.args.target)) c.requires.sound.formed refl refl refl c.args.rows.now.queue c.requires.sound.tracked.queue);
+      queue = rw c.in_ok-add.ensures.ok (queue_stays w (after_change w (AddName c.args.directory c.args.name c.args.target)) c.requires.sound.formed refl refl refl refl c.args.rows.now.queue c.requires.sound.tracked.queue);
       book = c.requires.sound.tracked.book;
       bounds = c.requires.sound.tracked.bounds;
     }

@@ -32,7 +32,7 @@ pub returns-clause-tracked : goal.returns-clause-tracked
 returns-clause-tracked c =
     let w = world_of c.args.rows.now in
     record {
-      queue = rw (moved c) (queue_stays w (after_change w (MoveName c.args.from.now.0 c.args.from.now.1 c.args.to.now.0 c.args.to.now.1 c.args.target.now)) c.requires.sound.formed refl refl refl c.args.rows.now.queue c.requires.sound.tracked.queue);
+      queue = rw (moved c) (queue_stays w (after_change w (MoveName c.args.from.now.0 c.args.from.now.1 c.args.to.now.0 c.args.to.now.1 c.args.target.now)) c.requires.sound.formed refl refl refl refl c.args.rows.now.queue c.requires.sound.tracked.queue);
       book = c.requires.sound.tracked.book;
       bounds = c.requires.sound.tracked.bounds;
     }

@@ -36,7 +36,7 @@ pub returns-in-Err-clause-tracked : goal.returns-in-Err-clause-tracked
 returns-in-Err-clause-tracked c = rw c.in-Err.ensures.err (record {
   queue = taken_back (world_of c.args.rows.now) c.args.file 0 [] (may_grow (world_of c.args.rows.now) c.args.file c.requires.sound.formed (held_there c.args.rows.now c.args.file c.args.stamps.now.number c.args.stamps.now c.requires.sound c.requires.held)) c.args.rows.now.queue c.take.new.queue c.requires.sound.tracked.queue
       (λ j. c.take.ensures j ∙ ap (λ b. not (is_new c.new_keys-keys.result j) && b) (c.in_ok-put.ensures.ok j)
-      ∙ ap (λ keys. not (is_new keys j) && (is_new keys j || has_key j c.args.rows.now.queue)) (c.new_keys-keys.ensures.keys ∙ ap (new_keys c.args.rows.now.files c.args.file c.args.rows.now.moment) (sym c.requires.live)));
+      ∙ ap (λ keys. not (is_new keys j) && (is_new keys j || has_key j c.args.rows.now.queue)) (c.new_keys-keys.ensures.keys ∙ ap (new_keys c.args.rows.now.groups c.args.rows.now.files c.args.file c.args.rows.now.moment) (sym c.requires.live)));
   book = c.requires.sound.tracked.book;
   bounds = c.requires.sound.tracked.bounds;
 })
@@ -73,7 +73,7 @@ returns-clause-tracked c =
     let after = became_rows rows c.args.file stamps.number stamps c.requires.sound c.requires.held c.requires.live c.restore-restored.new.self c.in-Ok.ensures.ok in
     record {
       queue = rw after (appended_queue w c.args.file rows.moment (cells_of_version rows.files c.args.file stamps.number) (may_grow w c.args.file c.requires.sound.formed (held_there rows c.args.file stamps.number stamps c.requires.sound c.requires.held)) rows.queue c.put.new.queue c.requires.sound.tracked.queue
-          (λ j. c.in_ok-put.ensures.ok j ∙ ap (λ keys. is_new keys j || has_key j rows.queue) (c.new_keys-keys.ensures.keys ∙ ap (new_keys rows.files c.args.file rows.moment) (sym c.requires.live))));
+          (λ j. c.in_ok-put.ensures.ok j ∙ ap (λ keys. is_new keys j || has_key j rows.queue) (c.new_keys-keys.ensures.keys ∙ ap (new_keys rows.groups rows.files c.args.file rows.moment) (sym c.requires.live))));
       book = c.follow_blocks.ensures;
       bounds = c.requires.sound.tracked.bounds;
     }

@@ -1,0 +1,6 @@
+use Rattle.std.proofs.Common.{◌≡◌, take}
+use Rattle.ele_core.specs.Queued.{keys_at}
+use Rattle.ele_core.proofs.marking.keys_at.Given as goal
+
+abbrev pub invariant-loop-file : goal.invariant-loop-file
+invariant-loop-file l = l.keys.items ≡ keys_at l.left l.rows.groups l.rows.files (take l.file-index l.files) l.marks
