@@ -12,7 +12,7 @@ use Rattle.ele_script.specs.declared.command.Command.{Command}
 use Rattle.ele_script.specs.Command.{kinds_behind}
 use Rattle.ele_script.specs.LineFault.{fault_of_path}
 use Rattle.ele_script.specs.PathWord.{IsTaggedWordFault, begins_path, of_handle}
-use Rattle.ele_script.specs.Value.{WordKind, NumberWord, SourceWord, BytesWord, PathWord, Number, Path}
+use Rattle.ele_script.specs.Value.{WordKind, NumberWord, NameWord, SourceWord, BytesWord, PathWord, Number, Name, Path, SpellsName}
 use Rattle.ele_script.specs.FirstFault.{IsWordFault, IsFirstWordFault, IsFaultBehind, bad_word}
 
 -- two numbers and bad bytes
@@ -25,6 +25,11 @@ write_bytes a b c fault {m} {n} h k (inr bad) =
 pub second_path : (a b : List ℕ) (fault : LineFault) {names : List (List ℕ)} → SpellsPath a names → (fault ≡ NoMemory) ⊎ IsWordFault PathWord b fault → (fault ≡ NoMemory) ⊎ IsFirstWordFault (PathWord ∷ PathWord ∷ []) (a ∷ b ∷ []) fault
 second_path a b fault {names} h (inl memory) = inl memory
 second_path a b fault {names} h (inr bad) = inr (inr ((Path names, refl, h), inl bad))
+
+-- a name and a bad path
+pub named_path : (a b : List ℕ) (fault : LineFault) {name : List ℕ} → SpellsName a name → (fault ≡ NoMemory) ⊎ IsWordFault PathWord b fault → (fault ≡ NoMemory) ⊎ IsFirstWordFault (NameWord ∷ PathWord ∷ []) (a ∷ b ∷ []) fault
+named_path a b fault {name} h (inl memory) = inl memory
+named_path a b fault {name} h (inr bad) = inr (inr ((Name name, refl, h), inl bad))
 
 -- the word behind a command of one
 one_word : (command : Command) (kind : WordKind) (word : List ℕ) (fault : LineFault) → kinds_behind command ≡ kind ∷ [] → (fault ≡ NoMemory) ⊎ IsWordFault kind word fault → (fault ≡ NoMemory) ⊎ IsFaultBehind command (word ∷ []) fault

@@ -4,19 +4,19 @@ use Rattle.std.specs.Prelude.{codes, IfOk, IfErr}
 use Rattle.std.specs.Str.{bytes_eq}
 use Rattle.std.specs.Cmp.Lexicographic.{bytes_decides}
 use Rattle.ele_script.specs.declared.command.Command.{Command}
-use Rattle.ele_script.specs.declared.command.Command.TheVariants.{Clock, Tick, MakeDir, RemoveDir, Create, Link, Unlink, Rename, Undelete, OpenWrite, OpenRead, Write, Truncate, Close, Revert, SetPolicy, Default, Clean, Read, Stat, Versions, ListNames, Restorable, Due, Usage, Pass}
+use Rattle.ele_script.specs.declared.command.Command.TheVariants.{Clock, Tick, MakeDir, RemoveDir, Create, Link, Unlink, Rename, Undelete, OpenWrite, OpenRead, Write, Truncate, Close, Revert, SetPolicy, Default, GroupMake, GroupDrop, GroupAdd, GroupRemove, Mark, Unmark, Clean, Read, Stat, Versions, ListNames, Restorable, Due, Usage, Groups, Pass}
 use Rattle.ele_script.specs.declared.fault.LineFault.{LineFault}
 use Rattle.ele_script.specs.declared.fault.LineFault.TheVariants.{Syntax, NoMemory}
 use Rattle.ele_script.specs.declared.reading.Line.{Line}
 use Rattle.ele_script.specs.Spells.{SpellsBehind, SpellsWords}
 use Rattle.ele_script.specs.Command.{command_words, kinds_behind}
 use Rattle.ele_script.specs.Memory.{behind_takes, TakesMemory}
-use Rattle.ele_script.specs.CommandOf.{command_of, one_word_command, directory_command, name_command, question_command, open_command, second_of, before}
+use Rattle.ele_script.specs.CommandOf.{command_of, one_word_command, mark_command, directory_command, name_command, question_command, open_command, group_command, second_of, before}
 use Rattle.ele_script.specs.FirstFault.{FitsCommand, IsFaultBehind, miscounted, bad_word, IsFaultOfWords, no_command, of_word}
 
 -- a command's words, and what stands behind them
 command_of-words : (command : Command) (arguments : List (List ℕ)) → command_of (command_words command ++ arguments) ≡ Some (command, arguments)
-unfolding command_of one_word_command directory_command name_command question_command open_command
+unfolding command_of one_word_command mark_command directory_command name_command question_command open_command group_command
 command_of-words Clock arguments = refl
 command_of-words Tick arguments = refl
 command_of-words MakeDir arguments = refl
@@ -34,6 +34,12 @@ command_of-words Close arguments = refl
 command_of-words Revert arguments = refl
 command_of-words SetPolicy arguments = refl
 command_of-words Default arguments = refl
+command_of-words GroupMake arguments = refl
+command_of-words GroupDrop arguments = refl
+command_of-words GroupAdd arguments = refl
+command_of-words GroupRemove arguments = refl
+command_of-words Mark arguments = refl
+command_of-words Unmark arguments = refl
 command_of-words Clean arguments = refl
 command_of-words Read arguments = refl
 command_of-words Stat arguments = refl
@@ -42,6 +48,7 @@ command_of-words ListNames arguments = refl
 command_of-words Restorable arguments = refl
 command_of-words Due arguments = refl
 command_of-words Usage arguments = refl
+command_of-words Groups arguments = refl
 command_of-words Pass arguments = refl
 
 -- a fact of the value that a test chooses, or of what follows
@@ -57,7 +64,7 @@ question_is : (word : List ℕ) → IfSome (question_command word) (λ command. 
 unfolding question_command
 question_is word =
     let P : Command → Type 0 = λ command. command_words command ≡ word ∷ [] in
-    chain P _ Read _ (same word (codes "read")) (chain P _ Stat _ (same word (codes "stat")) (chain P _ Versions _ (same word (codes "versions")) (chain P _ ListNames _ (same word (codes "list")) (chain P _ Due _ (same word (codes "due")) (chain P _ Usage _ (same word (codes "usage")) tt)))))
+    chain P _ Read _ (same word (codes "read")) (chain P _ Stat _ (same word (codes "stat")) (chain P _ Versions _ (same word (codes "versions")) (chain P _ ListNames _ (same word (codes "list")) (chain P _ Due _ (same word (codes "due")) (chain P _ Usage _ (same word (codes "usage")) (chain P _ Groups _ (same word (codes "groups")) tt))))))
 
 name_is : (word : List ℕ) → IfSome (name_command word) (λ command. command_words command ≡ word ∷ [])
 unfolding name_command
@@ -71,11 +78,17 @@ directory_is word =
     let P : Command → Type 0 = λ command. command_words command ≡ word ∷ [] in
     chain P _ MakeDir _ (same word (codes "mkdir")) (chain P _ RemoveDir _ (same word (codes "rmdir")) (name_is word))
 
+mark_is : (word : List ℕ) → IfSome (mark_command word) (λ command. command_words command ≡ word ∷ [])
+unfolding mark_command
+mark_is word =
+    let P : Command → Type 0 = λ command. command_words command ≡ word ∷ [] in
+    chain P _ Mark _ (same word (codes "mark")) (chain P _ Unmark _ (same word (codes "unmark")) (directory_is word))
+
 one_word_is : (word : List ℕ) → IfSome (one_word_command word) (λ command. command_words command ≡ word ∷ [])
 unfolding one_word_command
 one_word_is word =
     let P : Command → Type 0 = λ command. command_words command ≡ word ∷ [] in
-    chain P _ Clock _ (same word (codes "clock")) (chain P _ Tick _ (same word (codes "tick")) (chain P _ Create _ (same word (codes "create")) (chain P _ Write _ (same word (codes "write")) (chain P _ Truncate _ (same word (codes "truncate")) (chain P _ Close _ (same word (codes "close")) (chain P _ Revert _ (same word (codes "revert")) (chain P _ SetPolicy _ (same word (codes "policy")) (chain P _ Default _ (same word (codes "default")) (chain P _ Clean _ (same word (codes "clean")) (chain P _ Pass _ (same word (codes "pass")) (directory_is word)))))))))))
+    chain P _ Clock _ (same word (codes "clock")) (chain P _ Tick _ (same word (codes "tick")) (chain P _ Create _ (same word (codes "create")) (chain P _ Write _ (same word (codes "write")) (chain P _ Truncate _ (same word (codes "truncate")) (chain P _ Close _ (same word (codes "close")) (chain P _ Revert _ (same word (codes "revert")) (chain P _ SetPolicy _ (same word (codes "policy")) (chain P _ Default _ (same word (codes "default")) (chain P _ Clean _ (same word (codes "clean")) (chain P _ Pass _ (same word (codes "pass")) (mark_is word)))))))))))
 
 open_is : (word : List ℕ) → IfSome (open_command word) (λ command. command_words command ≡ codes "open" ∷ word ∷ [])
 unfolding open_command
@@ -83,14 +96,22 @@ open_is word =
     let P : Command → Type 0 = λ command. command_words command ≡ codes "open" ∷ word ∷ [] in
     chain P _ OpenWrite _ (λ test. ap (λ words. codes "open" ∷ words) (same word (codes "write") test)) (chain P _ OpenRead None (λ test. ap (λ words. codes "open" ∷ words) (same word (codes "read") test)) tt)
 
+group_is : (word : List ℕ) → IfSome (group_command word) (λ command. command_words command ≡ codes "group" ∷ word ∷ [])
+unfolding group_command
+group_is word =
+    let P : Command → Type 0 = λ command. command_words command ≡ codes "group" ∷ word ∷ [] in
+    let same_second : (text : List ℕ) → bytes_eq word text ≡ true → codes "group" ∷ text ∷ [] ≡ codes "group" ∷ word ∷ [] = λ text test. ap (λ words. codes "group" ∷ words) (same word text test) in
+    chain P _ GroupMake _ (same_second (codes "make")) (chain P _ GroupDrop _ (same_second (codes "drop")) (chain P _ GroupAdd _ (same_second (codes "add")) (chain P _ GroupRemove None (same_second (codes "remove")) tt)))
+
 behind : (words front rest : List (List ℕ)) (r : Option Command) → words ≡ front ++ rest → IfSome r (λ command. command_words command ≡ front) → IfSome (before rest r) (λ x. words ≡ command_words x.0 ++ x.1)
 behind words front rest None are is = tt
 behind words front rest (Some command) are is = are ∙ ap (λ (words : List (List ℕ)). words ++ rest) (sym is)
 
-second_is : (first : List ℕ) (words : List (List ℕ)) → first ≡ codes "open" → IfSome (second_of open_command words) (λ x. first ∷ words ≡ command_words x.0 ++ x.1)
-second_is first [] is = tt
-second_is first (word ∷ rest) is =
-    behind (first ∷ word ∷ rest) (codes "open" ∷ word ∷ []) rest (open_command word) (ap (λ w. w ∷ word ∷ rest) is) (open_is word)
+second_is : (command : List ℕ → Option Command) (text first : List ℕ) (words : List (List ℕ)) → ((word : List ℕ) → IfSome (command word) (λ command. command_words command ≡ text ∷ word ∷ []))
+    → first ≡ text → IfSome (second_of command words) (λ x. first ∷ words ≡ command_words x.0 ++ x.1)
+second_is command text first [] named is = tt
+second_is command text first (word ∷ rest) named is =
+    behind (first ∷ word ∷ rest) (text ∷ word ∷ []) rest (command word) (ap (λ w. w ∷ word ∷ rest) is) (named word)
 
 choose : (test : Bool) (P : Command × List (List ℕ) → Type 0) (a b : Option (Command × List (List ℕ))) → (test ≡ true → IfSome a P) → IfSome b P → IfSome (cond test a b) P
 choose true P a b here there = here refl
@@ -101,7 +122,8 @@ words_are : (words : List (List ℕ)) → IfSome (command_of words) (λ x. words
 unfolding command_of
 words_are [] = tt
 words_are (word ∷ rest) =
-    choose _ (λ x. word ∷ rest ≡ command_words x.0 ++ x.1) _ _ (λ test. second_is word rest ((bytes_decides word (codes "open")).0 test)) (behind (word ∷ rest) (word ∷ []) rest (one_word_command word) refl (one_word_is word))
+    let P : Command × List (List ℕ) → Type 0 = λ x. word ∷ rest ≡ command_words x.0 ++ x.1 in
+    choose _ P _ _ (λ test. second_is open_command (codes "open") word rest open_is ((bytes_decides word (codes "open")).0 test)) (choose _ P _ _ (λ test. second_is group_command (codes "group") word rest group_is ((bytes_decides word (codes "group")).0 test)) (behind (word ∷ rest) (word ∷ []) rest (one_word_command word) refl (one_word_is word)))
 
 some_is : {A : Type 0} {x y : A} → ◌≡◌ {A = Option A} (Some x) (Some y) → x ≡ y
 some_is h = cc

@@ -6,10 +6,10 @@ use Rattle.ele_world.specs.declared.event.Event.TheVariants as event
 use Rattle.ele_script.specs.declared.reading.Line.{Line}
 use Rattle.ele_script.specs.declared.reading.Line.TheVariants as asks
 use Rattle.ele_script.specs.declared.command.Command.{Command}
-use Rattle.ele_script.specs.declared.command.Command.TheVariants.{Clock, Tick, MakeDir, RemoveDir, Create, Link, Unlink, Rename, Undelete, OpenWrite, OpenRead, Write, Truncate, Close, Revert, SetPolicy, Default, Clean, Read, Stat, Versions, ListNames, Restorable, Due, Usage, Pass}
+use Rattle.ele_script.specs.declared.command.Command.TheVariants.{Clock, Tick, MakeDir, RemoveDir, Create, Link, Unlink, Rename, Undelete, OpenWrite, OpenRead, Write, Truncate, Close, Revert, SetPolicy, Default, GroupMake, GroupDrop, GroupAdd, GroupRemove, Mark, Unmark, Clean, Read, Stat, Versions, ListNames, Restorable, Due, Usage, Groups, Pass}
 use Rattle.ele_script.specs.declared.fault.LineFault.{LineFault}
 use Rattle.ele_script.specs.declared.fault.LineFault.TheVariants.{NoMemory}
-use Rattle.ele_script.specs.Value.{WordKind, Value, Number, Moment, Path, Tagged, Timed, Source, Bytes, Policy, word_kind}
+use Rattle.ele_script.specs.Value.{WordKind, Value, Number, Moment, Name, Path, Tagged, Timed, Source, Bytes, Policy, word_kind}
 use Rattle.ele_script.specs.Command.{kinds_behind}
 use Rattle.ele_script.specs.Words.{words_of, is_worded}
 use Rattle.ele_script.specs.Spells.{line_parts, SpellsValues, SpellsWords, SpellsLine, Spells}
@@ -42,6 +42,12 @@ kinds_fit (asks.Event (event.Close handle)) = refl
 kinds_fit (asks.Event (event.Revert path number)) = refl
 kinds_fit (asks.Event (event.SetPolicy path policy)) = refl
 kinds_fit (asks.Event (event.SetDefault path policy)) = refl
+kinds_fit (asks.Event (event.GroupMake name)) = refl
+kinds_fit (asks.Event (event.GroupDrop name)) = refl
+kinds_fit (asks.Event (event.GroupAdd name path)) = refl
+kinds_fit (asks.Event (event.GroupRemove name path)) = refl
+kinds_fit (asks.Event (event.Mark name moment)) = refl
+kinds_fit (asks.Event (event.Unmark name moment)) = refl
 kinds_fit (asks.Event event.CleanOne) = refl
 kinds_fit (asks.Event (event.Read source)) = refl
 kinds_fit (asks.Event (event.Stat tagged)) = refl
@@ -50,6 +56,7 @@ kinds_fit (asks.Event (event.List timed)) = refl
 kinds_fit (asks.Event event.Restorable) = refl
 kinds_fit (asks.Event event.Due) = refl
 kinds_fit (asks.Event event.UsageAll) = refl
+kinds_fit (asks.Event event.GroupsAll) = refl
 kinds_fit (asks.Pass budget) = refl
 
 -- what a command and values ask for, if they are of its kinds
@@ -71,6 +78,12 @@ line_of (Close, Number handle ∷ []) = Some (asks.Event (event.Close handle))
 line_of (Revert, Path path ∷ Number number ∷ []) = Some (asks.Event (event.Revert path number))
 line_of (SetPolicy, Path path ∷ Policy policy ∷ []) = Some (asks.Event (event.SetPolicy path policy))
 line_of (Default, Path path ∷ Policy policy ∷ []) = Some (asks.Event (event.SetDefault path policy))
+line_of (GroupMake, Name name ∷ []) = Some (asks.Event (event.GroupMake name))
+line_of (GroupDrop, Name name ∷ []) = Some (asks.Event (event.GroupDrop name))
+line_of (GroupAdd, Name name ∷ Path path ∷ []) = Some (asks.Event (event.GroupAdd name path))
+line_of (GroupRemove, Name name ∷ Path path ∷ []) = Some (asks.Event (event.GroupRemove name path))
+line_of (Mark, Name name ∷ Moment moment ∷ []) = Some (asks.Event (event.Mark name moment))
+line_of (Unmark, Name name ∷ Moment moment ∷ []) = Some (asks.Event (event.Unmark name moment))
 line_of (Clean, []) = Some (asks.Event event.CleanOne)
 line_of (Read, Source source ∷ []) = Some (asks.Event (event.Read source))
 line_of (Stat, Tagged tagged ∷ []) = Some (asks.Event (event.Stat tagged))
@@ -79,6 +92,7 @@ line_of (ListNames, Timed timed ∷ []) = Some (asks.Event (event.List timed))
 line_of (Restorable, []) = Some (asks.Event event.Restorable)
 line_of (Due, []) = Some (asks.Event event.Due)
 line_of (Usage, []) = Some (asks.Event event.UsageAll)
+line_of (Groups, []) = Some (asks.Event event.GroupsAll)
 line_of (Pass, Number budget ∷ []) = Some (asks.Pass budget)
 line_of _ = None
 
@@ -101,6 +115,12 @@ parts_back (asks.Event (event.Close handle)) = refl
 parts_back (asks.Event (event.Revert path number)) = refl
 parts_back (asks.Event (event.SetPolicy path policy)) = refl
 parts_back (asks.Event (event.SetDefault path policy)) = refl
+parts_back (asks.Event (event.GroupMake name)) = refl
+parts_back (asks.Event (event.GroupDrop name)) = refl
+parts_back (asks.Event (event.GroupAdd name path)) = refl
+parts_back (asks.Event (event.GroupRemove name path)) = refl
+parts_back (asks.Event (event.Mark name moment)) = refl
+parts_back (asks.Event (event.Unmark name moment)) = refl
 parts_back (asks.Event event.CleanOne) = refl
 parts_back (asks.Event (event.Read source)) = refl
 parts_back (asks.Event (event.Stat tagged)) = refl
@@ -109,6 +129,7 @@ parts_back (asks.Event (event.List timed)) = refl
 parts_back (asks.Event event.Restorable) = refl
 parts_back (asks.Event event.Due) = refl
 parts_back (asks.Event event.UsageAll) = refl
+parts_back (asks.Event event.GroupsAll) = refl
 parts_back (asks.Pass budget) = refl
 
 some_is : {A : Type 0} {x y : A} → ◌≡◌ {A = Option A} (Some x) (Some y) → x ≡ y

@@ -1,14 +1,16 @@
 -- The bytes of a line, word after word.
 use Rattle.std.proofs.Common.{arith, ◌==◌, true, ◌≡◌, ℕ, ◌+◌, ◌<◌, List, [], ◌∷◌, ◌++◌, length, map, take, drop, get_or, ◌/◌, ◌%◌, refl, sym, ap, ◌∙◌, append_assoc}
 use Rattle.std.specs.Prelude.{codes}
+use Rattle.std.specs.Fmt.{decimal}
 use Rattle.std.proofs.lemmas.Bool.{eqb-true}
 use Rattle.std.proofs.lemmas.Fmt.{decimal_digit}
 use Rattle.std.proofs.lemmas.List.{drop_more, append-nil, take-append-drop}
 use Rattle.ele_policy.specs.Ladder.{Rung}
 use Rattle.ele_usage.specs.declared.usage.Usage.{Usage}
+use Rattle.ele_world.specs.declared.rows.GroupRow.{GroupRow}
 use Rattle.std.specs.List.{join_with_byte, flat_map, IsFirstAndRest}
 use Rattle.hex.specs.Hex.{encode_with, encode_lower, lower_digits}
-use Rattle.ele_script.specs.Printed.{line_text, pair_word, bytes_text, kind_words, usage_line, usage_lines}
+use Rattle.ele_script.specs.Printed.{line_text, pair_word, bytes_text, kind_words, usage_line, usage_lines, numbers_word, group_line}
 
 -- what follows a word of a line
 abbrev pub behind_word : List (List ℕ) → List ℕ
@@ -28,6 +30,18 @@ joined_are {A} byte v first (x ∷ xs) = ap (λ (rest : List ℕ). first ++ byte
 -- the words of pairs are that of the first, and a comma and a word for each other
 pub pairs_are : (pairs : List Rung) (first : Rung) (rest : List Rung) → IsFirstAndRest pairs first rest → join_with_byte 44 (map pair_word pairs) ≡ pair_word first ++ flat_map (λ (pair : Rung). 44 ∷ pair_word pair) rest
 pairs_are pairs first rest is = rw is.0 (joined_are 44 pair_word (pair_word first) rest)
+
+-- the word of numbers is the first, and a comma and a number for each other
+pub numbers_are : (numbers : List ℕ) (first : ℕ) (rest : List ℕ) → IsFirstAndRest numbers first rest → 32 ∷ numbers_word numbers ≡ (32 ∷ decimal first) ++ flat_map (λ (number : ℕ). 44 ∷ decimal number) rest
+numbers_are numbers first rest is = rw is.0 (ap (λ (word : List ℕ). 32 ∷ word) (joined_are 44 decimal (decimal first) rest))
+
+-- the line of a group in its parts
+pub group_parts : (row : GroupRow) → group_line row
+    ≡ join_with_byte 32 (codes "-" ∷ row.name ∷ codes "members" ∷ []) ++ ((32 ∷ numbers_word row.members) ++ (codes " marks" ++ ((32 ∷ numbers_word row.marks) ++ 10 ∷ [])))
+group_parts row =
+    let rest : List ℕ = (32 ∷ numbers_word row.members) ++ (codes " marks" ++ ((32 ∷ numbers_word row.marks) ++ 10 ∷ [])) in
+    line_is (codes "-") (row.name ∷ codes "members" ∷ numbers_word row.members ∷ codes "marks" ∷ numbers_word row.marks ∷ [])
+    ∙ ap (λ (text : List ℕ). 45 ∷ 32 ∷ text) (sym (append_assoc row.name (32 ∷ codes "members") rest))
 
 -- a line is its words but the last, and then the last
 pub last_word : (first last : List ℕ) (words : List (List ℕ)) → line_text (first ∷ words ++ last ∷ []) ≡ join_with_byte 32 (first ∷ words) ++ ((32 ∷ last) ++ 10 ∷ [])

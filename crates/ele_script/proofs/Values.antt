@@ -11,9 +11,9 @@ use Rattle.ele_time_path.proofs.PathsAt.{at_faultless, one_at_fault}
 use Rattle.ele_script.proofs.Moments.{one_number, one_moment}
 use Rattle.ele_script.proofs.PathWords.{one_tagged, one_timed, one_source, faultless_tagged, faultless_source, one_tagged_word, one_source_fault}
 use Rattle.ele_script.specs.declared.fault.LineFault.{LineFault}
-use Rattle.ele_script.specs.declared.fault.LineFault.TheVariants.{BadMoment}
+use Rattle.ele_script.specs.declared.fault.LineFault.TheVariants.{BadName, BadMoment}
 use Rattle.ele_script.proofs.Policies.{one_policy, faultless_policy, one_policy_fault}
-use Rattle.ele_script.specs.Value.{WordKind, NumberWord, MomentWord, PathWord, TaggedWord, TimedWord, SourceWord, BytesWord, PolicyWord, Value, Number, Moment, Path, Tagged, Timed, Source, Bytes, Policy, word_kind, SpellsBytes, SpellsValue}
+use Rattle.ele_script.specs.Value.{WordKind, NumberWord, MomentWord, NameWord, PathWord, TaggedWord, TimedWord, SourceWord, BytesWord, PolicyWord, Value, Number, Moment, Name, Path, Tagged, Timed, Source, Bytes, Policy, word_kind, SpellsBytes, SpellsValue}
 use Rattle.ele_script.specs.LineFault.{fault_of_path, fault_of_path_at}
 use Rattle.ele_script.specs.FirstFault.{IsOfKind, IsWordFault}
 
@@ -40,6 +40,7 @@ one_bytes word a b (inr x) (inr y) = ok_is (sym x.1 ∙ y.1)
 pub one_value : (word : List ℕ) (a b : Value) → word_kind a ≡ word_kind b → SpellsValue word a → SpellsValue word b → a ≡ b
 one_value word (Number m) (Number n) k a b = ap Number (one_number word m n a b)
 one_value word (Moment m) (Moment n) k a b = ap Moment (one_moment word m n a b)
+one_value word (Name m) (Name n) k a b = ap Name (a.0 ∙ sym b.0)
 one_value word (Path m) (Path n) k a b = ap Path (one_path word m n a b)
 one_value word (Tagged x) (Tagged y) k a b = ap Tagged (one_tagged word x y a b)
 one_value word (Timed x) (Timed y) k a b = ap Timed (one_timed word x y a b)
@@ -55,6 +56,7 @@ none_is h = cc
 pub faultless_word : (kind : WordKind) (word : List ℕ) (fault : LineFault) → IsOfKind kind word → IsWordFault kind word fault → ⊥
 faultless_word NumberWord word fault is bad = bad.1 is
 faultless_word MomentWord word fault is bad = bad.1 is
+faultless_word NameWord word fault is bad = bad.1 is
 faultless_word PathWord word fault (Path names, k, is) bad = none_is (ap (λ o. option_map fault_of_path o) (sym (spelled_faultless word names is)) ∙ bad)
 faultless_word PathWord word fault (value, k, is) bad = absurd cc
 faultless_word TaggedWord word fault (Tagged value, k, is) bad = faultless_tagged word value fault is bad
@@ -71,6 +73,7 @@ faultless_word PolicyWord word fault (value, k, is) bad = absurd cc
 pub one_word_fault : (kind : WordKind) (word : List ℕ) (a b : LineFault) → IsWordFault kind word a → IsWordFault kind word b → a ≡ b
 one_word_fault NumberWord word a b x y = x.0 ∙ sym y.0
 one_word_fault MomentWord word a b x y = x.0 ∙ sym y.0
+one_word_fault NameWord word a b x y = x.0 ∙ sym y.0
 one_word_fault PathWord word a b x y = some_is (sym x ∙ y)
 one_word_fault TaggedWord word a b x y = one_tagged_word word a b x y
 one_word_fault TimedWord word a b x y = x.2 ∙ ap fault_of_path_at (one_at_fault word x.0 y.0 x.1 y.1) ∙ sym y.2

@@ -10,7 +10,7 @@ use Rattle.std.proofs.lemmas.List.Quantifiers.{position-Some}
 use Rattle.std.proofs.lemmas.List.Splits.{length-slice_split}
 use Rattle.std.proofs.lemmas.List.Sums.{prefix_len_passes}
 use Rattle.ele_script.specs.declared.command.Command.{Command}
-use Rattle.ele_script.specs.declared.command.Command.TheVariants.{Clock, Tick, MakeDir, RemoveDir, Create, Link, Unlink, Rename, Undelete, OpenWrite, OpenRead, Write, Truncate, Close, Revert, SetPolicy, Default, Clean, Read, Stat, Versions, ListNames, Restorable, Due, Usage, Pass}
+use Rattle.ele_script.specs.declared.command.Command.TheVariants.{Clock, Tick, MakeDir, RemoveDir, Create, Link, Unlink, Rename, Undelete, OpenWrite, OpenRead, Write, Truncate, Close, Revert, SetPolicy, Default, GroupMake, GroupDrop, GroupAdd, GroupRemove, Mark, Unmark, Clean, Read, Stat, Versions, ListNames, Restorable, Due, Usage, Groups, Pass}
 use Rattle.ele_script.specs.declared.fault.LineFault.TheVariants.{Syntax}
 use Rattle.ele_script.specs.Command.{command_words, kinds_behind}
 use Rattle.ele_script.specs.FirstFault.{IsFaultOfWords, no_command, IsFirstFault, not_worded, of_words}
@@ -180,6 +180,12 @@ most_words Close = lit≤ tt
 most_words Revert = lit≤ tt
 most_words SetPolicy = lit≤ tt
 most_words Default = lit≤ tt
+most_words GroupMake = lit≤ tt
+most_words GroupDrop = lit≤ tt
+most_words GroupAdd = lit≤ tt
+most_words GroupRemove = lit≤ tt
+most_words Mark = lit≤ tt
+most_words Unmark = lit≤ tt
 most_words Clean = lit≤ tt
 most_words Read = lit≤ tt
 most_words Stat = lit≤ tt
@@ -188,6 +194,7 @@ most_words ListNames = lit≤ tt
 most_words Restorable = lit≤ tt
 most_words Due = lit≤ tt
 most_words Usage = lit≤ tt
+most_words Groups = lit≤ tt
 most_words Pass = lit≤ tt
 
 -- more than four words fit no command

@@ -1,8 +1,8 @@
 -- The commands: their words, and the kinds of words behind them.
 use Rattle.std.specs.Prelude.{ℕ, List, [], ◌∷◌, codes}
-use Rattle.ele_script.specs.Value.{WordKind, NumberWord, MomentWord, PathWord, TaggedWord, TimedWord, SourceWord, BytesWord, PolicyWord}
+use Rattle.ele_script.specs.Value.{WordKind, NumberWord, MomentWord, NameWord, PathWord, TaggedWord, TimedWord, SourceWord, BytesWord, PolicyWord}
 use Rattle.ele_script.specs.declared.command.Command.{Command}
-use Rattle.ele_script.specs.declared.command.Command.TheVariants.{Clock, Tick, MakeDir, RemoveDir, Create, Link, Unlink, Rename, Undelete, OpenWrite, OpenRead, Write, Truncate, Close, Revert, SetPolicy, Default, Clean, Read, Stat, Versions, ListNames, Restorable, Due, Usage, Pass}
+use Rattle.ele_script.specs.declared.command.Command.TheVariants.{Clock, Tick, MakeDir, RemoveDir, Create, Link, Unlink, Rename, Undelete, OpenWrite, OpenRead, Write, Truncate, Close, Revert, SetPolicy, Default, GroupMake, GroupDrop, GroupAdd, GroupRemove, Mark, Unmark, Clean, Read, Stat, Versions, ListNames, Restorable, Due, Usage, Groups, Pass}
 
 -- the words that name a command
 abbrev pub command_words : Command → List (List ℕ)
@@ -23,6 +23,12 @@ command_words Close = codes "close" ∷ []
 command_words Revert = codes "revert" ∷ []
 command_words SetPolicy = codes "policy" ∷ []
 command_words Default = codes "default" ∷ []
+command_words GroupMake = codes "group" ∷ codes "make" ∷ []
+command_words GroupDrop = codes "group" ∷ codes "drop" ∷ []
+command_words GroupAdd = codes "group" ∷ codes "add" ∷ []
+command_words GroupRemove = codes "group" ∷ codes "remove" ∷ []
+command_words Mark = codes "mark" ∷ []
+command_words Unmark = codes "unmark" ∷ []
 command_words Clean = codes "clean" ∷ []
 command_words Read = codes "read" ∷ []
 command_words Stat = codes "stat" ∷ []
@@ -31,6 +37,7 @@ command_words ListNames = codes "list" ∷ []
 command_words Restorable = codes "restorable" ∷ []
 command_words Due = codes "due" ∷ []
 command_words Usage = codes "usage" ∷ []
+command_words Groups = codes "groups" ∷ []
 command_words Pass = codes "pass" ∷ []
 
 -- the kinds of the words behind it
@@ -52,6 +59,12 @@ kinds_behind Close = NumberWord ∷ []
 kinds_behind Revert = PathWord ∷ NumberWord ∷ []
 kinds_behind SetPolicy = PathWord ∷ PolicyWord ∷ []
 kinds_behind Default = PathWord ∷ PolicyWord ∷ []
+kinds_behind GroupMake = NameWord ∷ []
+kinds_behind GroupDrop = NameWord ∷ []
+kinds_behind GroupAdd = NameWord ∷ PathWord ∷ []
+kinds_behind GroupRemove = NameWord ∷ PathWord ∷ []
+kinds_behind Mark = NameWord ∷ MomentWord ∷ []
+kinds_behind Unmark = NameWord ∷ MomentWord ∷ []
 kinds_behind Clean = []
 kinds_behind Read = SourceWord ∷ []
 kinds_behind Stat = TaggedWord ∷ []
@@ -60,4 +73,5 @@ kinds_behind ListNames = TimedWord ∷ []
 kinds_behind Restorable = []
 kinds_behind Due = []
 kinds_behind Usage = []
+kinds_behind Groups = []
 kinds_behind Pass = NumberWord ∷ []

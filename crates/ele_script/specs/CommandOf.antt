@@ -3,7 +3,7 @@ use Rattle.std.specs.Prelude.{ℕ, List, [], ◌∷◌, Option, Some, None, code
 use Rattle.std.specs.Option.{option_map}
 use Rattle.std.specs.Str.{bytes_eq}
 use Rattle.ele_script.specs.declared.command.Command.{Command}
-use Rattle.ele_script.specs.declared.command.Command.TheVariants.{Clock, Tick, MakeDir, RemoveDir, Create, Link, Unlink, Rename, Undelete, OpenWrite, OpenRead, Write, Truncate, Close, Revert, SetPolicy, Default, Clean, Read, Stat, Versions, ListNames, Restorable, Due, Usage, Pass}
+use Rattle.ele_script.specs.declared.command.Command.TheVariants.{Clock, Tick, MakeDir, RemoveDir, Create, Link, Unlink, Rename, Undelete, OpenWrite, OpenRead, Write, Truncate, Close, Revert, SetPolicy, Default, GroupMake, GroupDrop, GroupAdd, GroupRemove, Mark, Unmark, Clean, Read, Stat, Versions, ListNames, Restorable, Due, Usage, Groups, Pass}
 
 -- the command of one word that asks a question
 unfoldable pub question_command : List ℕ → Option Command
@@ -14,6 +14,7 @@ question_command word =
     if bytes_eq word (codes "list") then Some ListNames else
     if bytes_eq word (codes "due") then Some Due else
     if bytes_eq word (codes "usage") then Some Usage else
+    if bytes_eq word (codes "groups") then Some Groups else
     None
 
 -- the command of one word that is about the names of what there is, or asks a question
@@ -33,6 +34,13 @@ directory_command word =
     if bytes_eq word (codes "rmdir") then Some RemoveDir else
     name_command word
 
+-- the command of one word that makes or takes back a mark, or is one of those above
+unfoldable pub mark_command : List ℕ → Option Command
+mark_command word =
+    if bytes_eq word (codes "mark") then Some Mark else
+    if bytes_eq word (codes "unmark") then Some Unmark else
+    directory_command word
+
 -- the command of one word
 unfoldable pub one_word_command : List ℕ → Option Command
 one_word_command word =
@@ -47,13 +55,22 @@ one_word_command word =
     if bytes_eq word (codes "default") then Some Default else
     if bytes_eq word (codes "clean") then Some Clean else
     if bytes_eq word (codes "pass") then Some Pass else
-    directory_command word
+    mark_command word
 
 -- the command of two words whose first is `open`
 unfoldable pub open_command : List ℕ → Option Command
 open_command word =
     if bytes_eq word (codes "write") then Some OpenWrite else
     if bytes_eq word (codes "read") then Some OpenRead else
+    None
+
+-- the command of two words whose first is `group`
+unfoldable pub group_command : List ℕ → Option Command
+group_command word =
+    if bytes_eq word (codes "make") then Some GroupMake else
+    if bytes_eq word (codes "drop") then Some GroupDrop else
+    if bytes_eq word (codes "add") then Some GroupAdd else
+    if bytes_eq word (codes "remove") then Some GroupRemove else
     None
 
 -- a command, and the words behind it
@@ -69,4 +86,6 @@ second_of command (word ∷ rest) = before rest (command word)
 unfoldable pub command_of : List (List ℕ) → Option (Command × List (List ℕ))
 command_of [] = None
 command_of (word ∷ rest) =
-    if bytes_eq word (codes "open") then second_of open_command rest else before rest (one_word_command word)
+    if bytes_eq word (codes "open") then second_of open_command rest else
+    if bytes_eq word (codes "group") then second_of group_command rest else
+    before rest (one_word_command word)

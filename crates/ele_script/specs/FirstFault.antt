@@ -4,9 +4,9 @@ use Rattle.std.specs.Option.{option_map}
 use Rattle.ele_time_path.specs.FirstFault.{path_fault}
 use Rattle.ele_script.specs.declared.command.Command.{Command}
 use Rattle.ele_script.specs.declared.fault.LineFault.{LineFault}
-use Rattle.ele_script.specs.declared.fault.LineFault.TheVariants.{BadMoment, Syntax, LineTooLong}
+use Rattle.ele_script.specs.declared.fault.LineFault.TheVariants.{BadName, BadMoment, Syntax, LineTooLong}
 use Rattle.ele_script.specs.LineFault.{fault_of_path}
-use Rattle.ele_script.specs.Value.{WordKind, NumberWord, MomentWord, PathWord, TaggedWord, TimedWord, SourceWord, BytesWord, PolicyWord, Value, word_kind, SpellsValue}
+use Rattle.ele_script.specs.Value.{WordKind, NumberWord, MomentWord, NameWord, PathWord, TaggedWord, TimedWord, SourceWord, BytesWord, PolicyWord, Value, word_kind, SpellsValue}
 use Rattle.ele_script.specs.PolicyWord.{IsPolicyFault}
 use Rattle.ele_script.specs.PathWord.{IsTaggedWordFault, IsTimedWordFault, IsSourceFault}
 use Rattle.ele_script.specs.Command.{command_words, kinds_behind}
@@ -24,6 +24,7 @@ IsOfKind kind word = (value : Value) × (word_kind value ≡ kind) × SpellsValu
 abbrev pub IsWordFault : WordKind → List ℕ → LineFault → Type 0
 IsWordFault NumberWord word fault = (fault ≡ Syntax) × ¬ IsOfKind NumberWord word
 IsWordFault MomentWord word fault = (fault ≡ BadMoment) × ¬ IsOfKind MomentWord word
+IsWordFault NameWord word fault = (fault ≡ BadName) × ¬ IsOfKind NameWord word
 IsWordFault PathWord word fault = option_map fault_of_path (path_fault word) ≡ Some fault
 IsWordFault TaggedWord word fault = IsTaggedWordFault word fault
 IsWordFault TimedWord word fault = IsTimedWordFault word fault

@@ -3,7 +3,7 @@ use Rattle.std.specs.Prelude.{◌≡◌, ℕ, List, ◌++◌, Bool, true, false}
 use Rattle.std.specs.List.{list_any}
 use Rattle.ele_script.specs.declared.command.Command.{Command}
 use Rattle.ele_script.specs.declared.command.Command.TheVariants.{Read}
-use Rattle.ele_script.specs.Value.{WordKind, NumberWord, MomentWord, PathWord, TaggedWord, TimedWord, SourceWord, BytesWord, PolicyWord}
+use Rattle.ele_script.specs.Value.{WordKind, NumberWord, MomentWord, NameWord, PathWord, TaggedWord, TimedWord, SourceWord, BytesWord, PolicyWord}
 use Rattle.ele_script.specs.PathWord.{begins_path}
 use Rattle.ele_script.specs.Command.{command_words, kinds_behind}
 
@@ -11,6 +11,7 @@ use Rattle.ele_script.specs.Command.{command_words, kinds_behind}
 abbrev pub takes_memory : WordKind → Bool
 takes_memory NumberWord = false
 takes_memory MomentWord = false
+takes_memory NameWord = false
 takes_memory PathWord = true
 takes_memory TaggedWord = true
 takes_memory TimedWord = true

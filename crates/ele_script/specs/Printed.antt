@@ -10,13 +10,14 @@ use Rattle.ele_world.specs.declared.refusal.Refusal.{Refusal}
 use Rattle.ele_world.specs.declared.refusal.Refusal.TheVariants as refusal
 use Rattle.ele_world.specs.declared.refusal.Stop.{Stop}
 use Rattle.ele_world.specs.declared.reply.Reply.{Reply}
-use Rattle.ele_world.specs.declared.reply.Reply.TheVariants.{Done, Nothing, Now, Directory, File, Handle, Version, Closed, Removed, Bytes, FileStat, DirStat, Rows, NameList, RestoreList, DueList, UsageList, Refused}
+use Rattle.ele_world.specs.declared.reply.Reply.TheVariants.{Done, Nothing, Now, Directory, File, Handle, Version, Closed, Removed, Bytes, FileStat, DirStat, Rows, NameList, RestoreList, DueList, UsageList, GroupList, Refused}
 use Rattle.ele_policy.specs.Ladder.{Rung}
 use Rattle.ele_policy.specs.declared.policy.Policy.{Policy}
 use Rattle.ele_policy.specs.declared.policy.Policy.TheVariants as policy
 use Rattle.ele_world.specs.declared.rows.DeadName.{DeadName}
 use Rattle.ele_world.specs.declared.rows.DirectoryRow.{DirectoryRow}
 use Rattle.ele_world.specs.declared.rows.FileStat.{FileStat as AnyFileStat}
+use Rattle.ele_world.specs.declared.rows.GroupRow.{GroupRow}
 use Rattle.ele_world.specs.declared.rows.Stamps.{Stamps}
 use Rattle.ele_world.specs.declared.rows.Target.{Target}
 use Rattle.ele_world.specs.declared.rows.Target.TheVariants as target
@@ -147,6 +148,20 @@ kind_words = codes "one" ∷ codes "all" ∷ codes "safe" ∷ codes "landmarks" 
 abbrev pub usage_text : List Usage → List ℕ
 usage_text usages = line_text (codes "ok usage" ∷ decimal 4 ∷ []) ++ usage_lines kind_words usages
 
+-- the word of numbers: these with a comma (44) between each two, or `-` for none
+abbrev pub numbers_word : List ℕ → List ℕ
+numbers_word [] = codes "-"
+numbers_word (number ∷ numbers) = join_with_byte 44 (map decimal (number ∷ numbers))
+
+-- the line of a group: its name, its files and its marks
+abbrev pub group_line : GroupRow → List ℕ
+group_line row =
+    line_text (codes "-" ∷ row.name ∷ codes "members" ∷ numbers_word row.members ∷ codes "marks" ∷ numbers_word row.marks ∷ [])
+
+-- the text of groups: how many, and a line for each
+abbrev pub groups_text : List GroupRow → List ℕ
+groups_text groups = line_text (codes "ok groups" ∷ decimal (length groups) ∷ []) ++ flat_map group_line groups
+
 -- the text is the reply's; of a moment it has the seconds, and the date and time
 abbrev pub IsReplyText : Reply → List ℕ → Type 0
 IsReplyText Done text = text ≡ line_text (codes "ok done" ∷ [])
@@ -167,6 +182,7 @@ IsReplyText (NameList names) text = text ≡ names_text names
 IsReplyText (RestoreList names) text = text ≡ restorable_text names
 IsReplyText (DueList keys) text = text ≡ due_text keys
 IsReplyText (UsageList usages) text = text ≡ usage_text usages
+IsReplyText (GroupList groups) text = text ≡ groups_text groups
 IsReplyText (Refused why) text = text ≡ refusal_text why
 
 -- the text of a stop: its number and its name

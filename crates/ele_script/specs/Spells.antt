@@ -3,10 +3,10 @@ use Rattle.std.specs.Prelude.{◌≡◌, ℕ, ◌≤◌, List, [], ◌∷◌, �
 use Rattle.ele_world.specs.declared.event.Event.{Event}
 use Rattle.ele_world.specs.declared.event.Event.TheVariants as event
 use Rattle.ele_script.specs.declared.command.Command.{Command}
-use Rattle.ele_script.specs.declared.command.Command.TheVariants.{Clock, Tick, MakeDir, RemoveDir, Create, Link, Unlink, Rename, Undelete, OpenWrite, OpenRead, Write, Truncate, Close, Revert, SetPolicy, Default, Clean, Read, Stat, Versions, ListNames, Restorable, Due, Usage, Pass}
+use Rattle.ele_script.specs.declared.command.Command.TheVariants.{Clock, Tick, MakeDir, RemoveDir, Create, Link, Unlink, Rename, Undelete, OpenWrite, OpenRead, Write, Truncate, Close, Revert, SetPolicy, Default, GroupMake, GroupDrop, GroupAdd, GroupRemove, Mark, Unmark, Clean, Read, Stat, Versions, ListNames, Restorable, Due, Usage, Groups, Pass}
 use Rattle.ele_script.specs.declared.reading.Line.{Line}
 use Rattle.ele_script.specs.declared.reading.Line.TheVariants as asks
-use Rattle.ele_script.specs.Value.{Value, Number, Moment, Path, Tagged, Timed, Source, Bytes, Policy, SpellsValue}
+use Rattle.ele_script.specs.Value.{Value, Number, Moment, Name, Path, Tagged, Timed, Source, Bytes, Policy, SpellsValue}
 use Rattle.ele_script.specs.Command.{command_words}
 use Rattle.ele_script.specs.Words.{words_of, is_worded}
 
@@ -29,6 +29,12 @@ parts_of (event.Close handle) = (Close, Number handle ∷ [])
 parts_of (event.Revert path number) = (Revert, Path path ∷ Number number ∷ [])
 parts_of (event.SetPolicy path policy) = (SetPolicy, Path path ∷ Policy policy ∷ [])
 parts_of (event.SetDefault path policy) = (Default, Path path ∷ Policy policy ∷ [])
+parts_of (event.GroupMake name) = (GroupMake, Name name ∷ [])
+parts_of (event.GroupDrop name) = (GroupDrop, Name name ∷ [])
+parts_of (event.GroupAdd name path) = (GroupAdd, Name name ∷ Path path ∷ [])
+parts_of (event.GroupRemove name path) = (GroupRemove, Name name ∷ Path path ∷ [])
+parts_of (event.Mark name moment) = (Mark, Name name ∷ Moment moment ∷ [])
+parts_of (event.Unmark name moment) = (Unmark, Name name ∷ Moment moment ∷ [])
 parts_of event.CleanOne = (Clean, [])
 parts_of (event.Read source) = (Read, Source source ∷ [])
 parts_of (event.Stat tagged) = (Stat, Tagged tagged ∷ [])
@@ -37,6 +43,7 @@ parts_of (event.List timed) = (ListNames, Timed timed ∷ [])
 parts_of event.Restorable = (Restorable, [])
 parts_of event.Due = (Due, [])
 parts_of event.UsageAll = (Usage, [])
+parts_of event.GroupsAll = (Groups, [])
 
 -- the command of what a line asks for, and the values of the words behind it
 abbrev pub line_parts : Line → Command × List Value

@@ -1,6 +1,7 @@
 -- What a word of a line may stand for.
 use Rattle.std.specs.Prelude.{◌≡◌, ℕ, ◌<◌, List, [], length, codes, ◌⊎◌, Ok}
 use Rattle.hex.specs.Hex.{decode_of}
+use Rattle.ele_moment.specs.Name.{IsName}
 use Rattle.ele_moment.specs.Number.{SpellsNumber}
 use Rattle.ele_moment.specs.Spelled.{SpellsMoment}
 use Rattle.ele_policy.specs.declared.policy.Policy.{Policy as AnyPolicy}
@@ -17,6 +18,7 @@ use Rattle.ele_script.specs.PolicyWord.{SpellsPolicy}
 pub data WordKind : Type 0 where
   NumberWord : WordKind
   MomentWord : WordKind
+  NameWord : WordKind
   PathWord : WordKind
   TaggedWord : WordKind
   TimedWord : WordKind
@@ -28,6 +30,7 @@ pub data WordKind : Type 0 where
 pub data Value : Type 0 where
   Number : ℕ → Value
   Moment : ℕ → Value
+  Name : List ℕ → Value
   Path : List (List ℕ) → Value
   Tagged : TaggedPath → Value
   Timed : PathAt → Value
@@ -39,12 +42,17 @@ pub data Value : Type 0 where
 abbrev pub word_kind : Value → WordKind
 word_kind (Number n) = NumberWord
 word_kind (Moment m) = MomentWord
+word_kind (Name name) = NameWord
 word_kind (Path names) = PathWord
 word_kind (Tagged tagged) = TaggedWord
 word_kind (Timed timed) = TimedWord
 word_kind (Source source) = SourceWord
 word_kind (Bytes bytes) = BytesWord
 word_kind (Policy policy) = PolicyWord
+
+-- the word is the name
+abbrev pub SpellsName : List ℕ → List ℕ → Type 0
+SpellsName word name = (name ≡ word) × IsName word
 
 -- `-` for no bytes, else an even number of hexadecimal digits, each two a byte
 abbrev pub SpellsBytes : List ℕ → List ℕ → Type 0
@@ -59,6 +67,7 @@ SpellsSource word (source.Of handle) = SpellsNumber word handle
 abbrev pub SpellsValue : List ℕ → Value → Type 0
 SpellsValue word (Number n) = SpellsNumber word n
 SpellsValue word (Moment m) = SpellsMoment word m
+SpellsValue word (Name name) = SpellsName word name
 SpellsValue word (Path names) = SpellsPath word names
 SpellsValue word (Tagged tagged) = SpellsTaggedPath word tagged
 SpellsValue word (Timed timed) = SpellsPathAt word timed

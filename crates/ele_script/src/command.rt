@@ -1,7 +1,7 @@
 //! The commands of the script. A contract sees a command as itself.
 ghost use Rattle.std.specs.Prelude.{◌≡◌, map};
 ghost use Rattle.std.specs.Option.{option_map};
-ghost use Rattle.ele_script.specs.CommandOf.{command_of, one_word_command, directory_command, name_command, question_command, open_command};
+ghost use Rattle.ele_script.specs.CommandOf.{command_of, one_word_command, mark_command, directory_command, name_command, question_command, open_command, group_command};
 
 /// What a line tells a world to do; its first word, or its first two, name it.
 #[derive(Clone, Copy, Debug, PartialEq, Eq)]
@@ -23,6 +23,12 @@ pub(crate) enum Command {
     Revert,
     SetPolicy,
     Default,
+    GroupMake,
+    GroupDrop,
+    GroupAdd,
+    GroupRemove,
+    Mark,
+    Unmark,
     Clean,
     Read,
     Stat,
@@ -31,6 +37,7 @@ pub(crate) enum Command {
     Restorable,
     Due,
     Usage,
+    Groups,
     Pass,
 }
 
@@ -44,6 +51,10 @@ pub(crate) fn read_command<'w, 'l>(words: &'w [&'l [u8]]) -> Option<(Command, &'
     if *first == b"open".as_slice() {
         let (second, rest) = rest.split_first()?;
         return Some((read_open(second)?, rest));
+    }
+    if *first == b"group".as_slice() {
+        let (second, rest) = rest.split_first()?;
+        return Some((read_group(second)?, rest));
     }
     Some((read_one(first)?, rest))
 }
@@ -85,6 +96,20 @@ fn read_one(word: &[u8]) -> Option<Command>
     }
     if word == b"pass".as_slice() {
         return Some(Command::Pass);
+    }
+    read_marking(word)
+}
+
+/// The command of one word that makes or takes back a mark, or is one of those below.
+#[tactic(auto, unfolding(crate::specs::CommandOf::mark_command))]
+fn read_marking(word: &[u8]) -> Option<Command>
+    ensures { result ≡ mark_command word.now }
+{
+    if word == b"mark".as_slice() {
+        return Some(Command::Mark);
+    }
+    if word == b"unmark".as_slice() {
+        return Some(Command::Unmark);
     }
     read_directory(word)
 }
@@ -149,6 +174,9 @@ fn read_question(word: &[u8]) -> Option<Command>
     if word == b"usage".as_slice() {
         return Some(Command::Usage);
     }
+    if word == b"groups".as_slice() {
+        return Some(Command::Groups);
+    }
     None
 }
 
@@ -162,6 +190,26 @@ fn read_open(word: &[u8]) -> Option<Command>
     }
     if word == b"read".as_slice() {
         return Some(Command::OpenRead);
+    }
+    None
+}
+
+/// The command of two words whose first is `group`.
+#[tactic(auto, unfolding(crate::specs::CommandOf::group_command))]
+fn read_group(word: &[u8]) -> Option<Command>
+    ensures { result ≡ group_command word.now }
+{
+    if word == b"make".as_slice() {
+        return Some(Command::GroupMake);
+    }
+    if word == b"drop".as_slice() {
+        return Some(Command::GroupDrop);
+    }
+    if word == b"add".as_slice() {
+        return Some(Command::GroupAdd);
+    }
+    if word == b"remove".as_slice() {
+        return Some(Command::GroupRemove);
     }
     None
 }

@@ -1,7 +1,7 @@
 //! What is wrong with a line, and a writer that refuses. A contract sees each fault as itself.
 ghost use Rattle.std.specs.Prelude.{◌≡◌};
 ghost use Rattle.ele_script.specs.LineFault.{fault_number, fault_name, write_fault_number, write_fault_name, fault_of_path, fault_of_path_at};
-ghost use Rattle.ele_script.specs.declared.fault.LineFault.TheVariants.{BadLadder, NoMemory};
+ghost use Rattle.ele_script.specs.declared.fault.LineFault.TheVariants.{BadName, BadLadder, NoMemory};
 
 use ele_time_path::{PathAtFault, PathFault};
 use std::alloc::AllocError;
@@ -70,6 +70,14 @@ impl From<AllocError> for LineFault {
 
     fn from(_refused: AllocError) -> LineFault {
         LineFault::NoMemory
+    }
+}
+
+impl From<ele_moment::BadName> for LineFault {
+    ghost from_gives = { λ _ fault. fault ≡ BadName };
+
+    fn from(_refused: ele_moment::BadName) -> LineFault {
+        LineFault::BadName
     }
 }
 

@@ -5,6 +5,8 @@
 mod asking;
 mod command;
 mod fault;
+mod group_rows;
+mod grouping;
 mod output;
 mod pairs;
 mod paths;

@@ -6,6 +6,7 @@ ghost use Rattle.ele_script.specs.Printed.{line_text, key_words, closed_text, re
 ghost use Rattle.hex.specs.Hex.{encode_lower};
 
 use crate::fault::{LineFault, WriteFault};
+use crate::group_rows::put_groups;
 use crate::output::{Output, put_line};
 use crate::refusal::put_refusal;
 use crate::rows::{put_directory, put_file, put_names, put_versions};
@@ -91,6 +92,7 @@ pub fn put_answer<W: Write>(
         Reply::RestoreList(names) => put_dead_names(names.as_slice(), output, writer),
         Reply::DueList(keys) => put_keys(keys.as_slice(), output, writer),
         Reply::UsageList(usages) => put_usages(usages, output, writer),
+        Reply::GroupList(groups) => put_groups(groups.as_slice(), output, writer),
         Reply::Refused(why) => put_refusal(why, output, writer),
     }
 }

@@ -7,9 +7,10 @@ ghost use Rattle.ele_script.specs.Spells.{Spells, SpellsLine, SpellsWords, Spell
 ghost use Rattle.ele_script.specs.EventOf.{event_of};
 ghost use Rattle.ele_script.specs.FirstFault.{IsFirstFault, IsEventFault, IsFaultOfWords, IsFaultBehind};
 
-use crate::asking::{due, list, read, restorable, stat, usage, versions};
+use crate::asking::{due, groups, list, read, restorable, stat, usage, versions};
 use crate::command::{Command, read_command};
 use crate::fault::LineFault;
+use crate::grouping::{group_add, group_drop, group_make, group_remove, mark, unmark};
 use crate::paths::{
     create, link, make_dir, open_read, open_write, remove_dir, rename, revert, undelete, unlink,
 };
@@ -169,6 +170,12 @@ fn line_behind(alloc: Global, command: Command, arguments: &[&[u8]]) -> Result<L
         Command::Revert => revert(alloc, arguments),
         Command::SetPolicy => set_policy(alloc, arguments),
         Command::Default => set_default(alloc, arguments),
+        Command::GroupMake => group_make(arguments),
+        Command::GroupDrop => group_drop(arguments),
+        Command::GroupAdd => group_add(alloc, arguments),
+        Command::GroupRemove => group_remove(alloc, arguments),
+        Command::Mark => mark(arguments),
+        Command::Unmark => unmark(arguments),
         Command::Clean => clean(arguments),
         Command::Read => read(alloc, arguments),
         Command::Stat => stat(alloc, arguments),
@@ -177,6 +184,7 @@ fn line_behind(alloc: Global, command: Command, arguments: &[&[u8]]) -> Result<L
         Command::Restorable => restorable(arguments),
         Command::Due => due(arguments),
         Command::Usage => usage(arguments),
+        Command::Groups => groups(arguments),
         Command::Pass => pass(arguments),
     }
 }

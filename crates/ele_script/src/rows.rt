@@ -161,7 +161,7 @@ fn put_pair<W: Write>(
 }
 
 /// Puts a number.
-fn put_number_word<W: Write>(
+pub(crate) fn put_number_word<W: Write>(
     number: u64,
     output: &mut Output,
     writer: &mut W,

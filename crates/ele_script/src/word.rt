@@ -5,14 +5,14 @@ ghost use Rattle.ele_moment.specs.Spelled.{SpellsMoment};
 ghost use Rattle.ele_time_path.specs.Path.{SpellsPath};
 ghost use Rattle.ele_time_path.specs.Tagged.{SpellsTaggedPath};
 ghost use Rattle.ele_time_path.specs.PathAt.{SpellsPathAt};
-ghost use Rattle.ele_script.specs.Value.{NumberWord, MomentWord, PathWord, TaggedWord, TimedWord, SourceWord, BytesWord, PolicyWord, SpellsBytes, SpellsSource};
+ghost use Rattle.ele_script.specs.Value.{NumberWord, MomentWord, NameWord, PathWord, TaggedWord, TimedWord, SourceWord, BytesWord, PolicyWord, SpellsName, SpellsBytes, SpellsSource};
 ghost use Rattle.ele_script.specs.PolicyWord.{SpellsPolicy, IsSafeWord};
 ghost use Rattle.ele_script.specs.PathWord.{begins_path};
 ghost use Rattle.ele_script.specs.FirstFault.{IsWordFault};
 
 use crate::fault::LineFault;
 use crate::pairs::ladder_pairs;
-use ele_moment::{Moment, read_number};
+use ele_moment::{Moment, Name, read_number};
 use ele_policy::{Interval, Ladder, Policy};
 use ele_time_path::{Path, PathAt, TaggedPath};
 use ele_world::{ByteList, Handle, Source};
@@ -32,6 +32,14 @@ pub(crate) fn moment(word: &[u8]) -> Result<Moment, LineFault>
     ensures fault { IfErr result (IsWordFault MomentWord word.now) }
 {
     Moment::read(word).ok().ok_or(LineFault::BadMoment)
+}
+
+/// A name.
+pub(crate) fn name(word: &[u8]) -> Result<Name, LineFault>
+    ensures found { IfOk result (SpellsName word.now) }
+    ensures fault { IfErr result (IsWordFault NameWord word.now) }
+{
+    Ok(Name::new(word)?)
 }
 
 /// A path.

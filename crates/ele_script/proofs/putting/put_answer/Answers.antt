@@ -55,3 +55,6 @@ returns-in-Rows g c = rw c.in-Rows.is (_, refl, rw c.as_slice-in-Rows.ensures at
 
 pub returns-in-NameList : goal.returns-in-NameList
 returns-in-NameList g c = rw c.in-NameList.is (_, refl, rw c.as_slice-in-NameList.ensures at c.put_names.ensures)
+
+pub returns-in-GroupList : goal.returns-in-GroupList
+returns-in-GroupList g c = rw c.in-GroupList.is (_, refl, rw c.as_slice-in-GroupList.ensures at c.put_groups.ensures)

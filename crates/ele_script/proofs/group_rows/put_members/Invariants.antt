@@ -1,0 +1,12 @@
+use Rattle.std.proofs.Common.{ℕ, ◌∷◌, drop}
+use Rattle.std.specs.Fmt.{decimal}
+use Rattle.std.specs.List.{flat_map}
+use Rattle.ele_script.specs.Outlet.{outlet}
+use Rattle.ele_script.specs.Printed.{numbers_word}
+use Rattle.ele_script.proofs.Known.{HasSent}
+use Rattle.ele_script.proofs.group_rows.put_members.Given as goal
+
+-- the members so far are put, and the others are left
+abbrev pub invariant-loop-member : goal.invariant-loop-member
+invariant-loop-member g l =
+    HasSent (outlet (g.W.Write.contents l.fn.writer) l.fn.output) (outlet (g.W.Write.contents l.writer) l.output) (32 ∷ numbers_word l.members) (flat_map (λ (number : ℕ). 44 ∷ decimal number) (drop l.member-index l.rest))
