@@ -11,7 +11,7 @@ use Rattle.ele_time_path.proofs.PathsAt.{at_faultless, one_at_fault}
 use Rattle.ele_script.proofs.Moments.{one_number, one_moment}
 use Rattle.ele_script.proofs.PathWords.{one_tagged, one_timed, one_source, faultless_tagged, faultless_source, one_tagged_word, one_source_fault}
 use Rattle.ele_script.specs.declared.fault.LineFault.{LineFault}
-use Rattle.ele_script.specs.declared.fault.LineFault.TheVariants.{BadName, BadMoment}
+use Rattle.ele_script.specs.declared.fault.LineFault.TheVariants.{BadMoment}
 use Rattle.ele_script.proofs.Policies.{one_policy, faultless_policy, one_policy_fault}
 use Rattle.ele_script.specs.Value.{WordKind, NumberWord, MomentWord, NameWord, PathWord, TaggedWord, TimedWord, SourceWord, BytesWord, PolicyWord, Value, Number, Moment, Name, Path, Tagged, Timed, Source, Bytes, Policy, word_kind, SpellsBytes, SpellsValue}
 use Rattle.ele_script.specs.LineFault.{fault_of_path, fault_of_path_at}

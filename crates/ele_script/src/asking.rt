@@ -92,19 +92,6 @@ pub(crate) fn due(arguments: &[&[u8]]) -> Result<Line, LineFault>
     Ok(Line::Event(Event::Due))
 }
 
-/// `groups`, of which the command is read.
-pub(crate) fn groups(arguments: &[&[u8]]) -> Result<Line, LineFault>
-    ensures found { IfOk result
-        (SpellsBehind Command.Groups (map (λ word. word.now) arguments.now)) }
-    ensures fault { IfErr result
-        (IsFaultBehind Command.Groups (map (λ word. word.now) arguments.now)) }
-{
-    if !arguments.is_empty() {
-        return Err(LineFault::Syntax);
-    }
-    Ok(Line::Event(Event::GroupsAll))
-}
-
 /// `usage`, of which the command is read.
 pub(crate) fn usage(arguments: &[&[u8]]) -> Result<Line, LineFault>
     ensures found { IfOk result
@@ -116,4 +103,17 @@ pub(crate) fn usage(arguments: &[&[u8]]) -> Result<Line, LineFault>
         return Err(LineFault::Syntax);
     }
     Ok(Line::Event(Event::UsageAll))
+}
+
+/// `groups`, of which the command is read.
+pub(crate) fn groups(arguments: &[&[u8]]) -> Result<Line, LineFault>
+    ensures found { IfOk result
+        (SpellsBehind Command.Groups (map (λ word. word.now) arguments.now)) }
+    ensures fault { IfErr result
+        (IsFaultBehind Command.Groups (map (λ word. word.now) arguments.now)) }
+{
+    if !arguments.is_empty() {
+        return Err(LineFault::Syntax);
+    }
+    Ok(Line::Event(Event::GroupsAll))
 }
