@@ -41,7 +41,14 @@ fn finish(rows: &mut Rows, handle: Handle, file: FileId, opened: Moment) -> Resu
 {
     let is_live = rows.names.is_live(file);
     let now = rows.moment;
-    let keys = new_keys(&rows.files, &rows.groups, file, now, is_live, &mut rows.meter);
+    let keys = new_keys(
+        &rows.files,
+        &rows.groups,
+        file,
+        now,
+        is_live,
+        &mut rows.meter,
+    );
     let before = blocks(&rows.files);
     let bytes = draft_bytes(&rows.files, file);
     // All keys come before the version does, so that one that is refused is still without trace.

@@ -99,14 +99,7 @@ pub fn moment_under(
     let stamps = files.stamps(file, number, meter)?;
     let ended = stamps.ended?;
     let next_closed = files.next_closing(file, number, meter);
-    near_moment(
-        groups,
-        file,
-        policy,
-        next_closed,
-        stamps.closed,
-        ended,
-    )
+    near_moment(groups, file, policy, next_closed, stamps.closed, ended)
 }
 
 /// The ripe moment that the version has while no handle reads it; none where it isn't held, has no end, is marked, or is never

@@ -47,9 +47,7 @@ use crate::clock::{clock, tick};
 use crate::closing::close;
 use crate::defaults::set_default;
 use crate::directories::{make_dir, remove_dir};
-use crate::grouping::{
-    add_to_group, drop_group, make_group, mark, remove_from_group, unmark,
-};
+use crate::grouping::{add_to_group, drop_group, make_group, mark, remove_from_group, unmark};
 use crate::links::{link, rename};
 use crate::names::create;
 use crate::opening::{open_read, open_write};
@@ -67,9 +65,10 @@ use ele_policy::Interval;
 use ele_usage::UsageBook;
 pub use ele_world::{
     ByteList, Cell, Counts, DeadName, DeadNameList, DirId, DirectoryRow, DraftRow, Event, FileId,
-    FileRow, FileStat, Flat, GroupList, GroupRow, Handle, HandleRow, Key, KeyList, Kind, Ladder, Limits, ListOf, Moment,
-    Name, NameList, NameRow, NoMemory, PassEnd, Path, PathAt, Policy, Reads, Refusal, Reply,
-    Source, Stamps, StampsList, Stop, Tag, TaggedPath, Target, Usage, VersionNo, VersionRow, Which,
+    FileRow, FileStat, Flat, GroupList, GroupRow, Handle, HandleRow, Key, KeyList, Kind, Ladder,
+    Limits, ListOf, Moment, Name, NameList, NameRow, NoMemory, PassEnd, Path, PathAt, Policy,
+    Reads, Refusal, Reply, Source, Stamps, StampsList, Stop, Tag, TaggedPath, Target, Usage,
+    VersionNo, VersionRow, Which,
 };
 use std::alloc::Global;
 use std::marker::Model;

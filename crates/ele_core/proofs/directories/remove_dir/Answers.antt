@@ -1,4 +1,4 @@
-use Rattle.std.proofs.Common.{refl, sym, ◌∙◌}
+use Rattle.std.proofs.Common.{refl, sym}
 use Rattle.ele_core.specs.Inside.{world_of}
 use Rattle.ele_core.proofs.LinkedNames.{queue_stays}
 use Rattle.ele_core.proofs.Placed.{placed_refused}
