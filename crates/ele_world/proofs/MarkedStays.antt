@@ -5,11 +5,10 @@ use Rattle.ele_lists.proofs.Edits.{all-weaker}
 use Rattle.ele_world.specs.MarkedStays.{IsMarkedHeld, MarkedStays}
 use Rattle.ele_world.specs.OnlyDueLeave.{StaysOrWasDue}
 use Rattle.ele_world.specs.declared.rows.VersionRow.{VersionRow}
-use Rattle.ele_world.proofs.DueRows.{due_is_unmarked}
 use Rattle.ele_world.proofs.Stays.{only_due_leave}
 
 pub marked_stays : MarkedStays
 marked_stays w event k = all-weaker (StaysOrWasDue w event) (IsMarkedHeld w event) w.versions by (only_due_leave w event k) where
   by : (row : VersionRow) → StaysOrWasDue w event row → IsMarkedHeld w event row
   by row (inl still) marked = still
-  by row (inr due) marked = absurd (false≢true (sym (due_is_unmarked w row w.now due.1) ∙ marked))
+  by row (inr leaves) marked = absurd (false≢true (sym leaves.unmarked ∙ marked))

@@ -17,7 +17,6 @@ use Rattle.ele_world.specs.declared.rows.HandleRow.{HandleRow}
 use Rattle.ele_world.specs.declared.rows.Reads.{Reads}
 use Rattle.ele_world.specs.declared.rows.Reads.TheVariants.{Version}
 use Rattle.ele_world.specs.declared.rows.VersionRow.{VersionRow}
-use Rattle.ele_world.proofs.DueRows.{due_is_unread}
 use Rattle.ele_world.proofs.Stays.{only_due_leave}
 
 -- the handle's row
@@ -48,4 +47,4 @@ open_stays w event handle file number k is = by (all-found (is_version file numb
 
   by : StaysOrWasDue w event first.0 → is_held ((step w event).1) file number ≡ true
   by (inl still) = subst (λ f. is_held ((step w event).1) f number ≡ true) own.0 (subst (λ n. is_held ((step w event).1) first.0.file n ≡ true) own.1 still)
-  by (inr due) = absurd (false≢true (sym (due_is_unread w first.0 w.now due.1) ∙ rw (own.0, own.1) is_read))
+  by (inr leaves) = absurd (false≢true (sym leaves.unread ∙ rw (own.0, own.1) is_read))

@@ -14,6 +14,7 @@ use Rattle.ele_world.specs.World.{World, is_version}
 use Rattle.ele_world.specs.declared.event.Event.{Event}
 use Rattle.ele_world.specs.declared.event.Event.TheVariants.{CleanOne}
 use Rattle.ele_world.specs.declared.rows.VersionRow.{VersionRow}
+use Rattle.ele_world.proofs.DueRows.{due_is_unmarked, due_is_unread}
 use Rattle.ele_world.proofs.Allowed.{allowed}
 use Rattle.ele_world.proofs.Files.{next_of-given}
 use Rattle.ele_world.proofs.Keeps.{reached}
@@ -81,7 +82,7 @@ pub only_due_leave : (w : World) (event : Event) → IsWellFormed w → AllByRec
 only_due_leave w event k = each_row w event (StaysOrWasDue w event) k leaves where
   leaves : (row : VersionRow) → StillOrDue event w row (find (is_version row.file row.number) ((step w event).1).versions) → StaysOrWasDue w event row
   leaves row (inl still) = inl (held_if_found row.file row.number ((step w event).1).versions still.after still.is)
-  leaves row (inr gone) = inr (gone.0, gone.1)
+  leaves row (inr gone) = inr (record { clean = gone.0; due = gone.1; unread = due_is_unread w row w.now gone.1; unmarked = due_is_unmarked w row w.now gone.1 })
 
 pub held_stays : (w : World) (event : Event) → IsWellFormed w → AllByRecursion (StaysSame w event) w.versions
 held_stays w event k = each_row w event (StaysSame w event) k same where

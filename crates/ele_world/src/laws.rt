@@ -99,7 +99,7 @@ pub fn close_keeps()
     ensures { CloseKeeps }
 {}
 
-/// A version leaves only by a clean event in whose world it was due.
+/// A version leaves only by a clean event in whose world it was due, and so neither open nor marked.
 pub fn only_due_leave()
     ensures { OnlyDueLeave }
 {}
