@@ -7,7 +7,7 @@ use ele_world::Limits;
 use std::fs;
 
 /// The scripts under the largest limits, each NAME.script with its NAME.output.
-const ROWS: [&str; 75] = [
+const ROWS: [&str; 98] = [
     "first_run",
     "empty_script",
     "write_of_no_bytes",
@@ -83,10 +83,33 @@ const ROWS: [&str; 75] = [
     "a_directory_gives_its_ladder",
     "landmarks_among_files_of_other_policies",
     "landmarks_keep_the_last_version_of_a_lost_file",
+    "a_marked_version_stays",
+    "an_unmarked_version_is_due",
+    "moments_of_marks",
+    "every_refusal",
+    "two_groups_mark_one_version",
+    "three_marks_over_one_version",
+    "a_file_leaves_its_group",
+    "a_dropped_group_keeps_nothing",
+    "marks_at_a_closing_and_at_an_end",
+    "a_version_of_no_moment_has_no_mark",
+    "marks_at_moments_without_a_version",
+    "a_mark_before_a_file_came_and_one_after",
+    "a_dropped_file_leaves_its_groups",
+    "a_marked_version_of_an_unlinked_file",
+    "a_reader_and_a_mark_over_one_version",
+    "a_mark_under_each_policy",
+    "a_mark_in_the_middle_of_a_span",
+    "marks_in_either_spelling",
+    "refusals_of_groups",
+    "names_of_groups",
+    "a_group_of_three_files",
+    "a_file_in_a_thousand_groups",
+    "usage_after_a_change_of_policy",
 ];
 
 /// Scripts under limits of their own: events, files, directories, names, versions, handles, groups, members, marks.
-const LIMITED: [(&str, [u64; 9]); 16] = [
+const LIMITED: [(&str, [u64; 9]); 19] = [
     ("full_history", [1, 9, 9, 9, 9, 9, 9, 9, 9]),
     ("pass_fills_the_history", [6, 9, 9, 9, 9, 9, 9, 9, 9]),
     (
@@ -112,6 +135,9 @@ const LIMITED: [(&str, [u64; 9]); 16] = [
     ("versions_limit_of_revert", [9, 9, 9, 9, 2, 9, 9, 9, 9]),
     ("handles_limit", [9, 9, 9, 9, 9, 1, 9, 9, 9]),
     ("handles_limit_of_readers", [9, 9, 9, 9, 9, 1, 9, 9, 9]),
+    ("groups_limit", [9, 9, 9, 9, 9, 9, 1, 9, 9]),
+    ("members_limit", [9, 9, 9, 9, 9, 9, 9, 1, 9]),
+    ("marks_limit", [9, 9, 9, 9, 9, 9, 9, 9, 1]),
 ];
 
 /// What the script prints.
