@@ -7,6 +7,8 @@ mod cores;
 #[cfg(test)]
 mod ends;
 #[cfg(test)]
+mod groups;
+#[cfg(test)]
 mod lines;
 #[cfg(test)]
 mod million;

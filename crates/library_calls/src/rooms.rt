@@ -12,7 +12,8 @@ use ele_sessions::{Closing, Sessions};
 use std::alloc::Global;
 use std::test::Fail;
 
-fn moment(seconds: u64) -> Result<Moment, Fail>
+/// The moment of so many seconds.
+pub fn moment(seconds: u64) -> Result<Moment, Fail>
     ensures { IfOk result (λ moment. moment ≡ seconds) }
 {
     Ok(Moment::new(seconds).ok_or("past the last moment")?)
