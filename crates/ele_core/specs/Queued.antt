@@ -92,7 +92,7 @@ is_under groups h file policy other k =
 
 -- ---- what marks of groups touch
 
--- whether a version of the file is marked, also by marks that are left out of a group
+-- whether a version of the file is marked that was current then, but for marks that are left out, if any are
 abbrev pub marked_but : Option Left → List GroupRow → ℕ → ℕ → Option ℕ → Bool
 marked_but None groups file closed ended = is_marked groups file closed ended
 marked_but (Some left) groups file closed ended = is_marked_without groups left.group left.mark file closed ended

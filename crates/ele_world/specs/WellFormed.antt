@@ -187,7 +187,7 @@ IsOfLive names row = row.ended ≡ None → list_any (is_live_name_of row.file) 
 abbrev pub HaveEnded : World → Type 0
 HaveEnded w = AllByRecursion (IsOfLive w.names) w.versions
 
--- a group's files are there, and none is in it twice; its marks had passed when they were made, and none is made twice
+-- a group's files are there, and none is in it twice; its marks have passed, and none stands twice
 pub record IsGroup (files : List FileRow) (now : ℕ) (row : GroupRow) : Type 0 where
   pub there : AllByRecursion (λ member. 0 < next_of files member) row.members
   pub apart : AllLater (λ earlier later. (earlier == later) ≡ false) row.members
