@@ -138,10 +138,6 @@ pub both_hold : (p q : GroupRow → Bool) (o : Option GroupRow) → option_map_o
 both_hold p q None a b = a
 both_hold p q (Some row) a b = rw a b
 
-pub fails_first : (p q : GroupRow → Bool) (o : Option GroupRow) → option_map_or p o false ≡ false → option_map_or (λ row. p row && q row) o false ≡ false
-fails_first p q None a = refl
-fails_first p q (Some row) a = rw a refl
-
 pub by_bound : {A : Type 0} (s below : ℕ) → (s < below → A) → (below ≤ s → A) → A
 by_bound {A = A} s below less other = cases (nat_lt s below) refl where
   cases : (b : Bool) → nat_lt s below ≡ b → A

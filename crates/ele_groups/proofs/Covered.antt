@@ -1,8 +1,25 @@
 -- Whether a mark covers, those of the group left out.
-use Rattle.std.proofs.Common.{◌≡◌, ℕ, Bool, true, false, ◌&&◌, not, List, [], ◌∷◌, Option, None, refl}
-use Rattle.std.specs.List.{list_any}
+use Rattle.std.proofs.Common.{◌≡◌, ℕ, ◌<◌, ◌^◌, ◌==◌, Bool, true, false, ◌&&◌, not, List, [], ◌∷◌, Option, Some, None, refl, sym, ◌∙◌, arith}
+use Rattle.std.specs.List.{list_any, AllByRecursion}
+use Rattle.std.specs.List.Sorted.{IsStrictlySortedBy}
+use Rattle.std.specs.Map.{keys_of, values_of}
+use Rattle.std.specs.Option.{option_map_or}
+use Rattle.std.specs.Ordering.{nat_cmp}
+use Rattle.std.proofs.lemmas.Bool.{false≢true}
+use Rattle.std.proofs.lemmas.Bool.Decides.{nat_tests}
+use Rattle.ele_lists.specs.declared.index.Index.{Index}
+use Rattle.ele_lists.specs.Index.{has}
+use Rattle.ele_lists.specs.Serial.{value_at}
+use Rattle.ele_lists.proofs.Edits.{all-weaker}
+use Rattle.ele_lists.proofs.Serials.{not_yet}
 use Rattle.ele_world.specs.declared.rows.GroupRow.{GroupRow}
-use Rattle.ele_world.specs.GroupRows.{covers_moment, is_group, is_left_out, has_covering_without}
+use Rattle.ele_world.specs.GroupRows.{covers_moment, is_group, is_left_out, has_covering_without, is_member}
+use Rattle.ele_groups.specs.declared.span.Except.{Except}
+use Rattle.ele_groups.specs.Except.{has_covering_but, is_marked_row}
+use Rattle.ele_groups.specs.Kept.{ArePlaced, has_file}
+use Rattle.ele_groups.proofs.Changed.{any_value, no_value, both_hold, by_bound}
+use Rattle.ele_groups.proofs.Named.{none_any}
+use Rattle.ele_groups.proofs.Placed.{stands, second_holds}
 
 -- the whole group is left out
 pub left_out : (name : List ℕ) (closed : ℕ) (ended : Option ℕ) (row : GroupRow) → is_group name row ≡ true → false ≡ has_covering_without name None closed ended row
@@ -14,3 +31,51 @@ left_out name closed ended row is = none row.marks where
   none : (xs : List ℕ) → false ≡ list_any (λ mark. covers_moment closed ended mark && not (is_group name row && is_left_out None mark)) xs
   none [] = refl
   none (x ∷ xs) = rw (none_here (covers_moment closed ended x) (is_group name row) is) (none xs)
+
+module _ (except : Option Except) (file closed : ℕ) (ended : Option ℕ) (es : List (ℕ × GroupRow)) where
+  abbrev covering : GroupRow → Bool
+  covering = has_covering_but except closed ended
+
+  abbrev passes : GroupRow → Bool
+  passes = is_marked_row except file closed ended
+
+  -- each group that has the file and covers is among these entries
+  abbrev pub AreLeft : List (ℕ × ℕ × ℕ) → Type 0
+  AreLeft xs = (s : ℕ) → s < 2 ^ 64 → option_map_or passes (value_at es s) false ≡ true → list_any (λ e. e.2 == s) xs ≡ true
+
+  first_of : (o : Option GroupRow) → option_map_or passes o false ≡ true → has_file file o ≡ true
+  first_of None h = h
+  first_of (Some row) h = first (is_member file row) (covering row) h where
+    first : (a b : Bool) → (a && b) ≡ true → a ≡ true
+    first true b h = refl
+    first false b h = h
+
+  second_of : (o : Option GroupRow) → option_map_or passes o false ≡ true → option_map_or covering o false ≡ true
+  second_of None h = h
+  second_of (Some row) h = second_holds (is_member file row) (covering row) h
+
+  -- one of them was looked at and doesn't cover
+  pub left_next : (e : ℕ × ℕ × ℕ) (xs : List (ℕ × ℕ × ℕ)) → AreLeft (e ∷ xs) → option_map_or covering (value_at es e.2) false ≡ false → AreLeft xs
+  left_next e xs left fails = λ s fits holds. elim (e.2 == s) as (λ b. (e.2 == s) ≡ b → list_any (λ e. e.2 == s) xs ≡ true) [
+    | true ↦ λ is. let same : e.2 ≡ s = grind (arith, nat_tests) in absurd (false≢true (sym fails ∙ rw same (second_of (value_at es s) holds)))
+    | false ↦ λ is. rw is at (left s fits holds)
+  ] refl
+
+  -- none is left
+  pub none_left : IsStrictlySortedBy nat_cmp (keys_of es) → AllByRecursion (λ s. s < 2 ^ 64) (keys_of es) → AreLeft [] → list_any passes (values_of es) ≡ false
+  none_left rising fits left = none_any passes (values_of es) (no_value passes es rising (λ s. by_bound s (2 ^ 64)
+      (λ lt. not_true (option_map_or passes (value_at es s) false) (λ holds. absurd (false≢true (left s lt holds))))
+      (λ le. rw (not_yet s es (all-weaker (λ k. k < 2 ^ 64) (λ k. k < s) (keys_of es) (λ k h. omega arith) fits)) refl))) where
+        not_true : (b : Bool) → (b ≡ true → b ≡ false) → b ≡ false
+        not_true true h = h refl
+        not_true false h = refl
+
+  module _ (places : Index ℕ) (placed : ArePlaced (value_at es) places) where
+    -- at first all entries of the file are
+    pub all_left : (xs : List (ℕ × ℕ × ℕ)) → ((r s : ℕ) → r < 2 ^ 64 → s < 2 ^ 64 → has nat_cmp places file r s ≡ true → list_any (λ e. e.2 == s) xs ≡ true) → AreLeft xs
+    all_left xs all = λ s fits holds. all s s fits fits (stands (value_at es) places placed file s ∙ first_of (value_at es s) holds)
+
+    -- one of them covers
+    pub covers_at_one : (e : ℕ × ℕ × ℕ) → has nat_cmp places file e.1 e.2 ≡ true → option_map_or covering (value_at es e.2) false ≡ true → list_any passes (values_of es) ≡ true
+    covers_at_one e there holds = any_value passes es e.2
+        (both_hold (is_member file) covering (value_at es e.2) (second_holds (e.1 == e.2) (has_file file (value_at es e.2)) (sym (placed.each file e.1 e.2) ∙ there)) holds)

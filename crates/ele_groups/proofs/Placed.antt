@@ -17,7 +17,7 @@ use Rattle.ele_groups.proofs.Changed.{changed_here, changed_elsewhere}
 entry : (file s q r t : ℕ) → is_entry nat_cmp file s s q r t ≡ ((s == t) && (r == t) && (file == q))
 entry file s q r t = grind (arith, nat_tests)
 
-itself : (t : ℕ) → (t == t) ≡ true
+pub itself : (t : ℕ) → (t == t) ≡ true
 itself t = grind (arith, nat_tests)
 
 equal : (s t : ℕ) → (s == t) ≡ true → s ≡ t
@@ -30,7 +30,7 @@ first_holds : (a b : Bool) → (a && b) ≡ true → a ≡ true
 first_holds true b h = refl
 first_holds false b h = h
 
-second_holds : (a b : Bool) → (a && b) ≡ true → b ≡ true
+pub second_holds : (a b : Bool) → (a && b) ≡ true → b ≡ true
 second_holds true b h = h
 second_holds false b h = absurd (false≢true h)
 

@@ -50,9 +50,3 @@ pub record IsLastBy (at : ℕ → Option GroupRow) (file bound last : ℕ) : Typ
   pub here : has_file file (at last) ≡ true
   pub within : last ≤ bound
   pub latest : (serial : ℕ) → serial ≤ bound → has_file file (at serial) ≡ true → serial ≤ last
-
--- of those below it
-pub record IsLastBelow (at : ℕ → Option GroupRow) (file bound last : ℕ) : Type 0 where
-  pub here : has_file file (at last) ≡ true
-  pub within : last < bound
-  pub latest : (serial : ℕ) → serial < bound → has_file file (at serial) ≡ true → serial ≤ last

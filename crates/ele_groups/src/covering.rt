@@ -1,6 +1,6 @@
 //! Whether a group that has a file was marked within a span.
 //! A contract sees the groups as their rows by serial number.
-ghost use Rattle.std.specs.Prelude.{◌≡◌, ◌<◌, false};
+ghost use Rattle.std.specs.Prelude.{◌≡◌, ◌<◌, ◌^◌, false};
 ghost use Rattle.std.specs.List.{AllByRecursion};
 ghost use Rattle.std.specs.List.Sorted.{IsStrictlySortedBy};
 ghost use Rattle.std.specs.Map.{keys_of, values_of};
@@ -11,33 +11,29 @@ ghost use Rattle.ele_groups.specs.Except.{has_covering_but, is_marked_but};
 ghost use Rattle.ele_groups.specs.Kept.{ArePlaced};
 
 use crate::group::Group;
-use crate::places::last_below;
 use crate::span::Span;
 use ele_lists::Index;
 use ele_moment::FileId;
 use std::collections::BTreeMap;
 
-/// Whether a group that has the file has a mark within the span that isn't left out. It goes over the
-/// file's groups, last to first; the serial number is above all.
+/// Whether a group that has the file has a mark within the span that isn't left out. It looks at the
+/// file's groups alone.
 pub fn covers(
     rows: &BTreeMap<u64, Group>,
     places: &Index<FileId>,
-    serial: u64,
     file: FileId,
     span: &Span,
 ) -> bool
     requires rising { IsStrictlySortedBy nat_cmp (keys_of rows.now.entries) }
-    requires above { AllByRecursion (λ s. s < serial) (keys_of rows.now.entries) }
+    requires fits { AllByRecursion (λ s. s < 2 ^ 64) (keys_of rows.now.entries) }
     requires placed { ArePlaced (value_at rows.now.entries) places.now }
     ensures { result ≡ is_marked_but span.now.except (values_of rows.now.entries) file
         span.now.closed span.now.ended }
 {
-    let mut below = serial;
-    while let Some(serial) = last_below(places, file, below) {
-        if covers_at(rows, serial, span) {
+    for (_, _, serial) in places.of(file) {
+        if covers_at(rows, *serial, span) {
             return true;
         }
-        below = serial;
     }
     false
 }

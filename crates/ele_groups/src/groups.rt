@@ -180,7 +180,7 @@ impl Groups {
             ended,
             except,
         };
-        covers(&self.rows, &self.places, self.made, file, &span)
+        covers(&self.rows, &self.places, file, &span)
     }
 
     /// Whether one has, that mark of that group left out, or the whole group where no mark is named.
@@ -200,7 +200,7 @@ impl Groups {
             ended,
             except,
         };
-        covers(&self.rows, &self.places, self.made, file, &span)
+        covers(&self.rows, &self.places, file, &span)
     }
 
     /// Whether there is a group of that name.

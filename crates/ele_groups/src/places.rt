@@ -1,10 +1,10 @@
 //! The serial numbers of each file's groups, ranked by themselves.
 //! A contract sees of which rows by serial number they are the places.
-ghost use Rattle.std.specs.Prelude.{◌≡◌, ℕ, ◌≤◌, ◌<◌, ◌&&◌, false, not, Option, IfSome, IfNone};
+ghost use Rattle.std.specs.Prelude.{◌≡◌, ℕ, ◌≤◌, ◌&&◌, false, not, Option, IfSome, IfNone};
 ghost use Rattle.std.specs.Ordering.{nat_cmp};
 ghost use Rattle.ele_lists.specs.Index.{has};
 ghost use Rattle.ele_world.specs.declared.rows.GroupRow.{GroupRow};
-ghost use Rattle.ele_groups.specs.Kept.{has_file, is_place_of, ArePlaced, IsLastBy, IsLastBelow};
+ghost use Rattle.ele_groups.specs.Kept.{has_file, is_place_of, ArePlaced, IsLastBy};
 
 use ele_lists::Index;
 use ele_moment::FileId;
@@ -29,16 +29,6 @@ pub fn last_by(places: &Index<FileId>, file: FileId, serial: u64) -> Option<u64>
 {
     let (_, last) = places.last(file, serial)?;
     Some(last)
-}
-
-/// The last of them below it.
-pub fn last_below(places: &Index<FileId>, file: FileId, serial: u64) -> Option<u64>
-    ensures some { IfSome result (λ last. (at : ℕ → Option GroupRow) → ArePlaced at places.now
-        → IsLastBelow at file serial last) }
-    ensures none { IfNone result ((at : ℕ → Option GroupRow) → ArePlaced at places.now
-        → (t : ℕ) → t < serial → has_file file (at t) ≡ false) }
-{
-    last_by(places, file, serial.checked_sub(1)?)
 }
 
 /// Takes the files of one group from their places.

@@ -1,19 +1,24 @@
 -- What lies between two entries of one group.
-use Rattle.std.proofs.Common.{◌≡◌, ℕ, ◌+◌, ◌≤◌, ◌<◌, ◌^◌, Bool, true, false, cond, IsTrue, List, [], ◌∷◌, refl, sym, ◌∙◌, arith, ◌⊎◌}
+use Rattle.std.proofs.Common.{◌≡◌, ◌==◌, ℕ, ◌+◌, ◌≤◌, ◌<◌, ◌^◌, Bool, true, false, cond, IsTrue, List, [], ◌∷◌, refl, sym, ◌∙◌, arith, ◌⊎◌}
 use Rattle.std.specs.declared.cmp.Ordering.{Ordering}
 use Rattle.std.specs.declared.cmp.Ordering.TheVariants.{Less, Equal, Greater}
 use Rattle.std.specs.Ordering.{nat_cmp, ordering_then, ordering_reverse, is_gt, is_lt, is_eq}
 use Rattle.std.specs.Cmp.{IsTotalOrder, nat_cmp_total}
 use Rattle.std.specs.BTreeMap.{is_at}
-use Rattle.std.specs.BTreeMap.Range.{IsLeBy}
+use Rattle.std.specs.BTreeMap.Range.{IsLeBy, IsInRange, range_contains}
+use Rattle.std.specs.BTreeSet.{keys_between}
+use Rattle.std.specs.declared.ops.Bound.{Bound}
+use Rattle.std.specs.declared.ops.Bound.TheVariants.{Included}
 use Rattle.std.specs.List.{list_any, count_by}
 use Rattle.std.proofs.lemmas.Cmp.{then_total, on_total, eq_by_cmp_equiv, tied_itself, alike_right}
 use Rattle.std.proofs.lemmas.Bool.{true≢false, false≢true}
 use Rattle.std.proofs.lemmas.List.Sums.{sum_by-cons, sum_by-le-sum_by}
 use Rattle.std.proofs.lemmas.Map.Steps.{list_any_congr}
+use Rattle.std.proofs.lemmas.Map.Views.{any-filter_same, range_contains-from_IsInRange}
 use Rattle.std.proofs.lemmas.Bool.Decides.{nat_tests}
 use Rattle.ele_lists.specs.Index.{entry_cmp, has, IsLastOf, IsNextGroup}
 use Rattle.ele_lists.specs.declared.index.Index.{Index}
+use Rattle.ele_lists.proofs.Anys.{any-weaker}
 
 not_true : (b : Bool) → (b ≡ true → ⊥) → b ≡ false
 not_true true h = absurd (h refl)
@@ -44,7 +49,7 @@ not_later : (x : Ordering) (r q s t : ℕ) → x ≡ Equal → is_lt (ordering_t
 not_later x r q s t e h = grind (arith, nat_tests)
 
 module _ {G : Type 0} {cmp : G → G → Ordering} (o : IsTotalOrder cmp) where
-  entry_total : IsTotalOrder (entry_cmp cmp)
+  pub entry_total : IsTotalOrder (entry_cmp cmp)
   entry_total = then_total (then_total (on_total (λ e. e.0) o) (on_total (λ e. e.1) nat_cmp_total)) (on_total (λ e. e.2) nat_cmp_total)
 
   -- what has the group in its place
@@ -61,17 +66,53 @@ module _ {G : Type 0} {cmp : G → G → Ordering} (o : IsTotalOrder cmp) where
     pub in_group : (q t : ℕ) → q ≤ rank → t < 2 ^ 64 → InGroup (g, q, t)
     in_group q t h k = (from_start (cmp g g) q t (tied_itself o g), to_end (cmp g g) q rank t 18446744073709551615 (tied_itself o g) h (omega arith))
 
+    here : (e : G × ℕ × ℕ) → InGroup e → cmp g e.0 ≡ Equal
+    here e inside = level (cmp g e.0) (cmp e.0 g) (o.antisymm g e.0) (first_le (cmp g e.0) (nat_cmp 0 e.1) (nat_cmp 0 e.2) inside.0) (first_le (cmp e.0 g) (nat_cmp e.1 rank) (nat_cmp e.2 18446744073709551615) inside.1)
+
+    pub of_group : (e : G × ℕ × ℕ) → InGroup e → IsTrue (has cmp index e.0 e.1 e.2) → has cmp index g e.1 e.2 ≡ true
+    of_group e inside there = rw (has_same index g e.0 e.1 e.2 (here e inside)) there
+
     pub last_of_group : (e : G × ℕ × ℕ) → InGroup e → IsTrue (has cmp index e.0 e.1 e.2)
         → ((e' : G × ℕ × ℕ) → InGroup e' → IsTrue (has cmp index e'.0 e'.1 e'.2) → is_lt (entry_cmp cmp e e') ≡ false)
         → IsLastOf (has cmp index g) rank e.1 e.2
     last_of_group e inside there last =
-        let here : cmp g e.0 ≡ Equal = level (cmp g e.0) (cmp e.0 g) (o.antisymm g e.0) (first_le (cmp g e.0) (nat_cmp 0 e.1) (nat_cmp 0 e.2) inside.0) (first_le (cmp e.0 g) (nat_cmp e.1 rank) (nat_cmp e.2 18446744073709551615) inside.1) in
-        let back : cmp e.0 g ≡ Equal = o.antisymm e.0 g ∙ rw here refl in
+        let same : cmp g e.0 ≡ Equal = here e inside in
+        let back : cmp e.0 g ≡ Equal = o.antisymm e.0 g ∙ rw same refl in
         record {
-          there = rw (has_same index g e.0 e.1 e.2 here) there;
+          there = of_group e inside there;
           up_to = rank_le (cmp e.0 g) e.1 rank e.2 18446744073709551615 back inside.1;
           last = λ q t h k has. not_later (cmp e.0 g) e.1 q e.2 t back (last (g, q, t) (in_group q t h k) has);
         }
+
+-- the bounds of a group
+abbrev pub least : {G : Type 0} → G → Bound (G × ℕ × ℕ)
+least g = Included (g, 0, 0)
+
+abbrev pub greatest : {G : Type 0} → G → Bound (G × ℕ × ℕ)
+greatest g = Included (g, 18446744073709551615, 18446744073709551615)
+
+parts : (x : Ordering) (r q s t : ℕ) → is_eq (ordering_then (ordering_then x (nat_cmp r q)) (nat_cmp s t)) ≡ true → (x ≡ Equal) × (r ≡ q) × (s ≡ t)
+parts Less r q s t h = absurd (false≢true h)
+parts Equal r q s t h = grind (arith, nat_tests)
+parts Greater r q s t h = absurd (false≢true h)
+
+module _ {G : Type 0} {cmp : G → G → Ordering} (o : IsTotalOrder cmp) (index : Index G) (g : G) (r s : ℕ) where
+  -- what stands there is found among all of the group
+  pub found_of_group : r < 2 ^ 64 → s < 2 ^ 64 → has cmp index g r s ≡ true
+      → list_any (λ e. e.2 == s) (keys_between (entry_cmp cmp) (least g) (greatest g) index.entries) ≡ true
+  found_of_group fits small there =
+      any-weaker (is_at (entry_cmp cmp (g, r, s))) (λ e. e.2 == s) (keys_between (entry_cmp cmp) (least g) (greatest g) index.entries)
+      (λ e is. serial e (parts (cmp g e.0) r e.1 s e.2 is).2)
+      (any-filter_same (is_at (entry_cmp cmp (g, r, s))) (range_contains (entry_cmp cmp) (least g) (greatest g)) true (λ e is. range_contains-from_IsInRange (entry_total o) (least g) (greatest g) e (within e (parts (cmp g e.0) r e.1 s e.2 is))) index.entries.keys ∙ there) where
+        serial : (e : G × ℕ × ℕ) → s ≡ e.2 → (e.2 == s) ≡ true
+        serial e is = grind (arith, nat_tests)
+
+        within : (e : G × ℕ × ℕ) → (cmp g e.0 ≡ Equal) × (r ≡ e.1) × (s ≡ e.2) → IsInRange (entry_cmp cmp) (least g) (greatest g) e
+        within e same =
+            let back : cmp e.0 g ≡ Equal = o.antisymm e.0 g ∙ rw same.0 refl in
+            let rank = same.1 in
+            let number = same.2 in
+            (from_start (cmp g e.0) e.1 e.2 same.0, to_end (cmp e.0 g) e.1 18446744073709551615 e.2 18446744073709551615 back (omega arith) (omega arith))
 
 later_group : (x : Ordering) (m r s : ℕ) → ordering_then (ordering_then x (nat_cmp m r)) (nat_cmp m s) ≡ Less → r ≤ m → s ≤ m → x ≡ Less
 later_group Less m r s h a b = refl

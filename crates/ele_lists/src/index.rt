@@ -1,11 +1,13 @@
 //! Serial numbers by group, and within a group by rank.
 //! A contract sees an index as a test: whether it has a serial number at a group and a rank.
-ghost use Rattle.std.specs.Prelude.{◌≡◌, ℕ, ◌≤◌, ◌<◌, ◌^◌, cond, true, false, OnOk, OnErr, IfSome, IfNone};
+ghost use Rattle.std.specs.Prelude.{◌≡◌, ◌==◌, ℕ, ◌≤◌, ◌<◌, ◌^◌, cond, true, false, OnOk, OnErr, IfSome, IfNone};
+ghost use Rattle.std.specs.List.{list_any, AllByRecursion};
 ghost use Rattle.std.specs.declared.cmp.Ordering.TheVariants.{Less};
 ghost use Rattle.ele_lists.specs.Index.{has, is_entry, IsLastOf, IsNextGroup};
 
 use std::alloc::{AllocError, Global};
 use std::collections::BTreeSet;
+use std::collections::btree_set::Range;
 use std::ops::Bound;
 
 /// Serial numbers of rows that stand elsewhere, each at the group and the rank of its row. Every
@@ -56,6 +58,16 @@ impl<G: Ord + Copy> Index<G> {
             .range((group, 0, 0)..=(group, rank, u64::MAX))
             .next_back()?;
         Some((*rank, *serial))
+    }
+
+    /// The entries of the group, by rank and then by serial number.
+    pub fn of(&self, group: G) -> Range<'_, (G, u64, u64)>
+        ensures each { AllByRecursion (λ e. has G.cmp self.now group e.1 e.2 ≡ true) result }
+        ensures all { (r s : ℕ) → r < 2 ^ 64 → s < 2 ^ 64 → has G.cmp self.now group r s ≡ true
+            → list_any (λ e. e.2 == s) result ≡ true }
+    {
+        self.entries
+            .range((group, 0, 0)..=(group, u64::MAX, u64::MAX))
     }
 
     /// The first group behind that one that has an entry.

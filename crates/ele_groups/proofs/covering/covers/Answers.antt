@@ -1,30 +1,28 @@
-use Rattle.std.proofs.Common.{◌<◌, sym, ◌∙◌, refl, arith}
-use Rattle.std.specs.Map.{keys_of, values_of}
-use Rattle.ele_lists.specs.Serial.{value_at}
-use Rattle.ele_lists.proofs.Edits.{all-weaker}
-use Rattle.ele_lists.proofs.Serials.{not_yet}
-use Rattle.ele_world.specs.GroupRows.{is_member}
-use Rattle.ele_groups.specs.Except.{has_covering_but, is_marked_row}
-use Rattle.ele_groups.proofs.Changed.{any_value, no_value, both_hold, fails_first, by_bound}
-use Rattle.ele_groups.proofs.Named.{none_any}
+use Rattle.std.proofs.Common.{sym, ◌∙◌}
+use Rattle.ele_groups.proofs.Covered.{all_left, left_next, none_left, covers_at_one}
 use Rattle.ele_groups.proofs.covering.covers.Goals as goal
 
 pub loop-serial-init : goal.loop-serial-init
-loop-serial-init c = λ s le. rw (not_yet s c.args.rows.now.entries (all-weaker (λ k. k < c.args.serial) (λ k. k < s) (keys_of c.args.rows.now.entries) (λ k h. omega arith) c.requires.above)) refl
+loop-serial-init c =
+    let span = c.args.span.now in
+    rw c.into_iter-serial-iterator.ensures.into_iter_gives
+    (c.of-serial-items.ensures.each, all_left span.except c.args.file span.closed span.ended c.args.rows.now.entries c.args.places.now c.requires.placed c.of-serial-items.result c.of-serial-items.ensures.all)
 
 pub returns-then-covers_at : goal.returns-then-covers_at
 returns-then-covers_at c =
-    let es = c.args.rows.now.entries in
     let span = c.args.span.now in
-    sym (any_value (is_marked_row span.except c.args.file span.closed span.ended) es c.in-Some.serial
-    (both_hold (is_member c.args.file) (has_covering_but span.except span.closed span.ended) (value_at es c.in-Some.serial) (c.in-Some.ensures.some (value_at es) c.requires.placed).here (sym c.covers_at.ensures ∙ c.if-covers_at.true)))
+    let each = rw c.in-Some.ensures.steps at c.loop-serial.invariant.0 in
+    sym (covers_at_one span.except c.args.file span.closed span.ended c.args.rows.now.entries c.args.places.now c.requires.placed c.in-Some.field-0.now each.0 (sym c.covers_at.ensures ∙ c.if-covers_at.true))
+
+pub loop-serial-preserved : goal.loop-serial-preserved
+loop-serial-preserved c =
+    let span = c.args.span.now in
+    let each = rw c.in-Some.ensures.steps at c.loop-serial.invariant.0 in
+    let left = rw c.in-Some.ensures.steps at c.loop-serial.invariant.1 in
+    (each.1, left_next span.except c.args.file span.closed span.ended c.args.rows.now.entries c.in-Some.field-0.now c.next.new.self left (sym c.covers_at.ensures ∙ c.if-covers_at.false))
 
 pub returns : goal.returns
 returns c =
-    let es = c.args.rows.now.entries in
     let span = c.args.span.now in
-    let passes = is_marked_row span.except c.args.file span.closed span.ended in
-    sym (none_any passes (values_of es) (no_value passes es c.requires.rising
-    (λ s. by_bound s c.loop-serial.below
-    (λ lt. fails_first (is_member c.args.file) (has_covering_but span.except span.closed span.ended) (value_at es s) (c.in_default.ensures.none (value_at es) c.requires.placed s lt))
-    (λ le. c.loop-serial.invariant s le))))
+    let left = rw c.in-None.ensures.steps.0 at c.loop-serial.invariant.1 in
+    sym (none_left span.except c.args.file span.closed span.ended c.args.rows.now.entries c.requires.rising c.requires.fits left)
