@@ -1,5 +1,5 @@
 -- Marks and their times, after a change, and within bounds.
-use Rattle.std.proofs.Common.{◌≡◌, ℕ, ◌==◌, ◌≤◌, Bool, true, false, cond, not, ◌||◌, ◌&&◌, List, [], ◌∷◌, ◌++◌, Option, Some, None, is_some, refl, sym, ap, ◌∙◌, arith, ◌+◌}
+use Rattle.std.proofs.Common.{◌≡◌, ℕ, ◌==◌, Bool, true, false, cond, not, ◌||◌, ◌&&◌, List, [], ◌∷◌, ◌++◌, Option, Some, None, is_some, refl, sym, ap, ◌∙◌, arith, ◌+◌}
 use Rattle.std.specs.Prelude.{min, max, nat_lt}
 use Rattle.std.specs.BTreeMap.{is_at}
 use Rattle.std.specs.BTreeSet.{BTreeSet, contains}
@@ -78,24 +78,11 @@ module _ (p : ℕ → Bool) where
 pub within : (from until k : ℕ) → covers_moment from (Some until) k ≡ true → (is_gt (nat_cmp from k) ≡ false) × (nat_cmp k until ≡ Less)
 within from until k h = grind (arith, nat_tests)
 
-pub is_within : (from until k : ℕ) → is_gt (nat_cmp from k) ≡ false → nat_cmp k until ≡ Less → covers_moment from (Some until) k ≡ true
-is_within from until k a b = grind (arith, nat_tests)
-
 pub from_on : (from k : ℕ) → covers_moment from None k ≡ true → is_gt (nat_cmp from k) ≡ false
 from_on from k h = grind (arith, nat_tests)
 
 pub is_from_on : (from k : ℕ) → is_gt (nat_cmp from k) ≡ false → covers_moment from None k ≡ true
 is_from_on from k a = grind (arith, nat_tests)
-
-nothing_between : (from until k : ℕ) → until ≤ from → covers_moment from (Some until) k ≡ false
-nothing_between from until k h = grind (arith, nat_tests)
-
-pub none_between : (from until : ℕ) (xs : List ℕ) → until ≤ from → list_any (covers_moment from (Some until)) xs ≡ false
-none_between from until [] h = refl
-none_between from until (x ∷ xs) h = rw (nothing_between from until x h) (none_between from until xs h)
-
-pub not_less : (a b : ℕ) → b ≤ a → nat_lt a b ≡ false
-not_less a b h = grind (arith, nat_tests)
 
 -- two spans beside a moment
 pub two_spans : (left closed : ℕ) (ended : Option ℕ) (a b : ℕ → Bool) (xs : List ℕ) → ((k : ℕ) → (a k || b k) ≡ (covers_moment closed ended k && not (k == left)))
@@ -121,6 +108,28 @@ module _ (left closed : ℕ) (xs : List ℕ) where
 
   pub from_without : (list_any (covers_moment closed (Some left)) xs || list_any (covers_moment (max closed (left + 1)) None) xs) ≡ list_any (λ k. covers_moment closed None k && not (k == left)) xs
   from_without = two_spans left closed None (covers_moment closed (Some left)) (covers_moment (max closed (left + 1)) None) xs (spans_from left closed)
+
+-- the first time from a moment on tells whether one lies before another
+module _ (made : List ℕ) (times : BTreeSet ℕ) (timed : AreTimed made times) (from until : ℕ) where
+  pub told_by_first : (time : ℕ) → is_gt (nat_cmp from time) ≡ false → contains nat_cmp times time ≡ true
+      → ((k : ℕ) → is_gt (nat_cmp from k) ≡ false → contains nat_cmp times k ≡ true → is_gt (nat_cmp time k) ≡ false)
+      → nat_lt time until ≡ list_any (covers_moment from (Some until)) made
+  told_by_first time late there least = elim (nat_lt time until) as (λ b. nat_lt time until ≡ b → b ≡ list_any (covers_moment from (Some until)) made) [
+    | true ↦ λ e. sym (any_at (covers_moment from (Some until)) time made (sym (timed.same time) ∙ there) (is_before time late e))
+    | false ↦ λ e. sym (none_at (covers_moment from (Some until)) made (λ k passes. sym (timed.same k) ∙ not_true (contains nat_cmp times k) (λ is. past time k e passes (least k (within from until k passes).0 is))))
+  ] refl where
+    is_before : (time : ℕ) → is_gt (nat_cmp from time) ≡ false → nat_lt time until ≡ true → covers_moment from (Some until) time ≡ true
+    is_before time late e = grind (arith, nat_tests)
+
+    past : (time k : ℕ) → nat_lt time until ≡ false → covers_moment from (Some until) k ≡ true → is_gt (nat_cmp time k) ≡ false → ⊥
+    past time k e passes le = grind (arith, nat_tests)
+
+    not_true : (b : Bool) → (b ≡ true → ⊥) → b ≡ false
+    not_true true h = absurd (h refl)
+    not_true false h = refl
+
+  pub none_from : ((k : ℕ) → is_gt (nat_cmp from k) ≡ false → contains nat_cmp times k ≡ false) → false ≡ list_any (covers_moment from (Some until)) made
+  none_from none = sym (none_at (covers_moment from (Some until)) made (λ k passes. sym (timed.same k) ∙ none k (within from until k passes).0))
 
 -- the first of two answers, or the second
 pub first_answer : (r a b whole : Bool) → r ≡ a → r ≡ true → (a || b) ≡ whole → r ≡ whole

@@ -106,7 +106,10 @@ impl Marks {
     fn lies_between(&self, from: u64, until: u64) -> bool
         ensures { result ≡ list_any (covers_moment from (Some until)) self.now }
     {
-        from < until && self.times.range(from..until).next().is_some()
+        match self.times.range(from..).next() {
+            Some(time) => *time < until,
+            None => false,
+        }
     }
 
     // Whether a mark lies at these seconds or later.
