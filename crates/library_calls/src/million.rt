@@ -19,26 +19,36 @@ fn path(alloc: Global, file: u32) -> Result<Path, Fail> {
     Ok(Path::read(alloc, text.as_str().as_bytes())?)
 }
 
-/// A core whose root keeps one version, with the files, each of which went back to its first version again and again.
-fn filled(alloc: Global) -> Result<Core, Fail> {
-    let mut core = Core::new(alloc, Limits::largest())?;
-    let root = Path::read(alloc, b"/")?;
-    core.apply(&Event::SetDefault(root, Policy::One))?;
-    for file in 0..FILES {
-        core.apply(&Event::Create(path(alloc, file)?))?;
-        let revert = Event::Revert(path(alloc, file)?, VersionNo(1));
-        for _ in 1..VERSIONS {
-            core.apply(&revert)?;
-        }
+/// What the core replies to the event.
+fn reply_to(core: &mut Core, event: &Event) -> Result<Reply, Fail> {
+    Ok(core.apply(event)?)
+}
+
+/// Makes the file, which goes back to its first version again and again.
+fn make(alloc: Global, core: &mut Core, file: u32) -> Result<(), Fail> {
+    reply_to(core, &Event::Create(path(alloc, file)?))?;
+    let revert = Event::Revert(path(alloc, file)?, VersionNo(1));
+    for _ in 1..VERSIONS {
+        reply_to(core, &revert)?;
     }
-    Ok(core)
+    Ok(())
+}
+
+/// Makes all files, below a root that keeps one version.
+fn fill(alloc: Global, core: &mut Core) -> Result<(), Fail> {
+    let root = Path::read(alloc, b"/")?;
+    reply_to(core, &Event::SetDefault(root, Policy::One))?;
+    for file in 0..FILES {
+        make(alloc, core, file)?;
+    }
+    Ok(())
 }
 
 /// Removes versions until nothing is due, and tells how many.
 fn clean(rt: &HostRuntime, core: &mut Core) -> Result<u32, Fail> {
     let start = Instant::now(rt)?;
     for removed in 0..=FILES * VERSIONS {
-        let reply = core.apply(&Event::CleanOne)?;
+        let reply = reply_to(core, &Event::CleanOne)?;
         if start.elapsed(rt)?.as_secs() >= LIMIT {
             return Err(Fail::from("the cleans take too long"));
         }
@@ -53,7 +63,8 @@ fn clean(rt: &HostRuntime, core: &mut Core) -> Result<u32, Fail> {
 
 #[test]
 fn a_million_versions_are_cleaned_in_time(rt: HostRuntime) -> Result<(), Fail> {
-    let mut core = filled(rt.alloc())?;
+    let mut core = Core::new(rt.alloc(), Limits::largest())?;
+    fill(rt.alloc(), &mut core)?;
     assert_eq!(rt; clean(&rt, &mut core)?, 999_000);
     Ok(())
 }
