@@ -1,5 +1,5 @@
 -- Rows of rising keys: what a binary search by a key finds (`place_of`), and that rising keys are parted at any key.
-use Rattle.std.proofs.Common.{sym, ◌≡◌, ◌≢◌, ℕ, ◌<◌, ◌≤◌, Bool, true, false, ltb, leb, eqb, not, filter, ap, cond, List, [], ◌∷◌, length, get_or, Some, None, refl, arith, unwrap_or}
+use Rattle.std.proofs.Common.{sym, ◌∙◌, ◌≡◌, ◌≢◌, ℕ, ◌<◌, ◌≤◌, Bool, true, false, ltb, leb, eqb, not, filter, ap, cond, List, [], ◌∷◌, length, get_or, Some, None, refl, arith, unwrap_or}
 use Rattle.std.specs.List.{position, position_or_len}
 use Rattle.std.specs.List.Sorted.{IsPartitionedBy, IsPartitionPoint, IsNonDecreasingBy}
 use Rattle.std.proofs.lemmas.List.Sorted.{IsPartitionedBy-ltb}
@@ -36,6 +36,14 @@ module _ {X : Type 0} (key : X → ℕ) where
     by : (i j : ℕ) (d : X) → i ≤ j → j < length xs → (b : Bool) → ltb i j ≡ b → key (get_or xs i d) ≤ key (get_or xs j d)
     by i j d le lt true e = let below : i < j = grind (arith, nat_tests) in let h = later-place (λ x y. key x < key y) xs i j d rises below lt in omega arith
     by i j d le lt false e = let same : i ≡ j = grind (arith, nat_tests) in rw same (omega arith)
+
+  -- a row of the key stands at its place
+  pub place-there : (xs : List X) (this i : ℕ) (x : X) → Rises key xs → i < length xs → ((d : X) → x ≡ get_or xs i d) → key x ≡ this → position (has_key key this) xs ≡ Some i
+  place-there xs this i x rises lt is same =
+      let here : key (get_or xs i x) ≡ this = ap key (sym (is x)) ∙ same in
+      position-is (has_key key this) xs i x lt
+      (λ k less. let h : key (get_or xs k x) < key (get_or xs i x) = later-place (λ x y. key x < key y) xs k i x rises less lt in grind (arith, nat_tests))
+      (grind (arith, nat_tests))
 
   pub rises-parted : (xs : List X) (this : ℕ) → Rises key xs → IsPartitionedBy (λ x. ltb (key x) this) xs
   rises-parted xs this rises = IsPartitionedBy-ltb key xs this (rises-le xs rises)

@@ -3,12 +3,13 @@ use Rattle.std.proofs.Common.{◌≡◌, ◌≢◌, ℕ, zero, suc, ◌<◌, ◌
 use Rattle.std.specs.Prelude.{slice_get, remove, find, IfSome, Vec, vec_len, ◌==◌}
 use Rattle.std.specs.declared.alloc.Global.{Global}
 use Rattle.std.specs.Option.{option_and_then, option_map_or, option_or, ForSome}
-use Rattle.std.specs.List.{AllByRecursion, AllWithin}
+use Rattle.std.specs.List.{AllByRecursion, AllWithin, position}
 use Rattle.std.specs.List.Sorted.{IsPartitionedBy, IsPartitionPoint}
 use Rattle.std.proofs.Math.ListN.{set}
 use Rattle.std.proofs.lemmas.Bool.{false≢true, cases_lt}
 use Rattle.std.proofs.lemmas.Bool.Decides.{nat_tests}
-use Rattle.std.proofs.lemmas.Option.{slice_get_past, slice_get_within}
+use Rattle.std.proofs.lemmas.List.Quantifiers.{position-Some}
+use Rattle.std.proofs.lemmas.Option.{slice_get_past, slice_get_within, slice_get-get_or}
 use Rattle.std.proofs.lemmas.Grind.{flat_map-append}
 use Rattle.std.proofs.lemmas.List.{append_assoc, append-nil, take-append-drop, take_all, drop_all}
 use Rattle.ele_lists.specs.Lists.{AllLater}
@@ -16,7 +17,7 @@ use Rattle.ele_lists.specs.Ends.{last_of, update_last}
 use Rattle.ele_lists.specs.Keys.{Rises, has_key}
 use Rattle.ele_lists.specs.Chunks.{flat, AreFilled, rows_at, before_place, behind_place, last_room, room_of, ends_before, Sinks, IsSeam, IsPlaceOf, IsFresh}
 use Rattle.ele_lists.proofs.Edits.{all-weaker, length-remove_first}
-use Rattle.ele_lists.proofs.Alls.{all-append, all-left, all-right, all-got, later-left, later-right, later-place}
+use Rattle.ele_lists.proofs.Alls.{all-append, all-left, all-right, all-got, later-around, later-left, later-right, later-place}
 use Rattle.ele_lists.proofs.Cuts.{find-at, remove_first-at}
 use Rattle.ele_lists.proofs.Ends.{last-append, last-take, last_at, all-last, later-across, update_last-append}
 
@@ -320,15 +321,17 @@ module _ {X : Type 0} where
     lesser : (xs : List X) → AllByRecursion (λ x. below x ≡ true) xs → AllByRecursion (λ x. has_key key this x ≡ false) xs
     lesser xs all = all-weaker (λ x. below x ≡ true) (λ x. has_key key this x ≡ false) xs (λ x h. grind (arith, nat_tests, h)) all
 
-    module _ (cs : List (Vec X Global)) (i j : ℕ) (seam : IsSeam below cs i j) where
-      pub key_found : (x : X) → slice_get (rows_at cs i) j ≡ Some x → key x ≡ this → IsPlaceOf (has_key key this) cs i j
-      key_found x is same =
+    -- a row of the key, of which there is none before it
+    module _ (cs : List (Vec X Global)) (i j : ℕ) (x : X) (is : slice_get (rows_at cs i) j ≡ Some x) (same : key x ≡ this) where
+      whole : flat cs ≡ before_place cs i j ++ x ∷ behind_place cs i (suc j)
+      whole = place_split cs i j ∙ ap (λ xs. before_place cs i j ++ xs) (behind_more cs i j x is)
+
+      first : AllByRecursion (λ y. has_key key this y ≡ false) (before_place cs i j) → IsPlaceOf (has_key key this) cs i j
+      first none =
           let p = has_key key this in
           let before = before_place cs i j in
           let behind = behind_place cs i (suc j) in
-          let whole : flat cs ≡ before ++ x ∷ behind = place_split cs i j ∙ ap (λ xs. before ++ xs) (behind_more cs i j x is) in
           let passes : p x ≡ true = grind (arith, nat_tests, same) in
-          let none = lesser before seam.passes in
           let found : find p (flat cs) ≡ Some x = rw whole (find-at p before x behind none passes) in
           record {
             within = slice_get_within (rows_at cs i) j x is;
@@ -336,6 +339,36 @@ module _ {X : Type 0} where
             rest = rw whole (remove_first-at p before x behind none passes);
             shorter = length-remove_first p (flat cs) x found;
           }
+
+      -- as keys rise
+      key_there : Rises key (flat cs) → IsPlaceOf (has_key key this) cs i j
+      key_there rises =
+          let both : Rises key (before_place cs i j ++ x ∷ behind_place cs i (suc j)) = rw (← whole) rises in
+          let less = (later-around (λ y z. key y < key z) (before_place cs i j) x (behind_place cs i (suc j)) both).0 in
+          first (all-weaker (λ y. key y < key x) (λ y. has_key key this y ≡ false) (before_place cs i j) (λ y lt. grind (arith, nat_tests, lt, same)) less)
+
+    -- keys rise in each chunk
+    pub chunk_rises : (cs : List (Vec X Global)) (i : ℕ) (here : Vec X Global) → Rises key (flat cs) → slice_get cs i ≡ Some here → Rises key here.items
+    chunk_rises cs i here rises is =
+        let behind = flat (drop (suc i) cs) in
+        let all : Rises key (flat (take i cs) ++ (rows_at cs i ++ behind)) = rw (← flat_split cs i) rises in
+        let own : Rises key (rows_at cs i) = later-left (λ x y. key x < key y) (rows_at cs i) behind (later-right (λ x y. key x < key y) (flat (take i cs)) (rows_at cs i ++ behind) all) in
+        rw (rows-here cs i here is) at own
+
+    -- a row of the key that is the first of its chunk
+    pub dense_found : (cs : List (Vec X Global)) (i j : ℕ) (here : Vec X Global) → Rises key (flat cs) → slice_get cs i ≡ Some here → position (has_key key this) here.items ≡ Some j → IsPlaceOf (has_key key this) cs i j
+    dense_found cs i j here rises is at = by here.items refl where
+      by : (xs : List X) → here.items ≡ xs → IsPlaceOf (has_key key this) cs i j
+      by [] e = absurd (let none = ap (position (has_key key this)) (sym e) ∙ at in cc)
+      by (d ∷ xs) e =
+          let stands = position-Some (has_key key this) here.items j d at in
+          let x = get_or here.items j d in
+          let same : key x ≡ this = let h = stands.1 in grind (arith, nat_tests) in
+          key_there cs i j x (ap (λ ys. slice_get ys j) (rows-here cs i here is) ∙ slice_get-get_or here.items j d stands.0) same rises
+
+    module _ (cs : List (Vec X Global)) (i j : ℕ) (seam : IsSeam below cs i j) where
+      pub key_found : (x : X) → slice_get (rows_at cs i) j ≡ Some x → key x ≡ this → IsPlaceOf (has_key key this) cs i j
+      key_found x is same = first cs i j x is same (lesser (before_place cs i j) seam.passes)
 
       pub key_missing : Rises key (flat cs) → ((x : X) → slice_get (rows_at cs i) j ≡ Some x → key x ≢ this) → AllByRecursion (λ x. has_key key this x ≡ false) (flat cs)
       key_missing rises other =

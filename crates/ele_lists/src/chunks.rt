@@ -18,16 +18,17 @@ use std::marker::Model;
 
 /// How many rows a chunk has room for at most: enough that a million rows make few chunks, and few
 /// enough that a removal moves little.
-const LONGEST: usize = 64;
+pub(crate) const LONGEST: usize = 64;
 
 /// And at least: most lists stay short, and each takes no more than it needs.
 const SHORTEST: usize = 4;
 
-/// How many rows the next chunk has room for where there are so many: as many again, within the bounds.
+/// How many rows the next chunk has room for where there are so many: an eighth of them, within the
+/// bounds.
 fn next_room(count: usize) -> usize
     ensures { 1 ≤ result }
 {
-    count.clamp(SHORTEST, LONGEST)
+    (count / 8).clamp(SHORTEST, LONGEST)
 }
 
 /// Rows in chunks, each chunk in a block of memory of its own: a removal moves the rows of one

@@ -1,6 +1,6 @@
 //! Rows by a numeric key that rises along them.
 //! A contract sees the keys of the rows, and a place as the first of that key.
-ghost use Rattle.std.specs.Prelude.{◌≡◌, Some, None, IfOk, IfErr, length};
+ghost use Rattle.std.specs.Prelude.{◌≡◌, Some, None, IfOk, IfErr, IfSome, length};
 ghost use Rattle.std.specs.List.{position};
 ghost use Rattle.std.specs.Option.{unwrap_or};
 ghost use Rattle.ele_lists.specs.Keys.{Rises, has_key, is_behind};
@@ -27,10 +27,27 @@ pub fn place_of<T: Keyed>(rows: &[T], key: u64) -> Result<usize, usize>
     ensures gap { IfErr result (λ at. unwrap_or (position (is_behind T.key key) rows.now)
         (length rows.now) ≡ at) }
 {
+    if let Some(at) = place_if_dense(rows, key) {
+        return Ok(at);
+    }
     let at = rows.partition_point(|row| row.key() < key);
     match rows.get(at) {
         Some(row) if row.key() == key => Ok(at),
         _ => Err(at),
+    }
+}
+
+/// The place of the row of that key, if no number between the first row's key and this one is missing.
+/// Rows that are numbered as they are made stand so until one leaves, and this look spares the search.
+pub(crate) fn place_if_dense<T: Keyed>(rows: &[T], key: u64) -> Option<usize>
+    requires { Rises T.key rows.now }
+    ensures { IfSome result (λ at. position (has_key T.key key) rows.now ≡ Some at) }
+{
+    let first = rows.first()?.key();
+    let at = usize::try_from(key.checked_sub(first)?).ok()?;
+    match rows.get(at) {
+        Some(row) if row.key() == key => Some(at),
+        _ => None,
     }
 }
 

@@ -8,8 +8,9 @@ ghost use Rattle.ele_lists.specs.Ends.{last_of, update_last};
 ghost use Rattle.ele_lists.specs.Keys.{Rises, has_key};
 ghost use Rattle.ele_lists.specs.Chunks.{IsPlaceOf, flat, AreFilled, rows_at, before_place, behind_place, last_room, room_of, ends_before, Sinks, IsSeam, KeepsRoom};
 
+use crate::chunks::LONGEST;
 use crate::cut::{Change, Cut};
-use crate::keyed::{BeforeKey, Keyed};
+use crate::keyed::{BeforeKey, Keyed, place_if_dense};
 use crate::room::put;
 
 /// Whether the last chunk has room for one row more.
@@ -119,6 +120,9 @@ pub fn find_key<T: Keyed>(chunks: &[Vec<T>], key: u64) -> Option<(usize, usize)>
     ensures missing { IfNone result
         (AllByRecursion (λ row. has_key T.key key row ≡ false) (flat chunks.now)) }
 {
+    if let Some(at) = find_dense(chunks, key) {
+        return Some(at);
+    }
     let (chunk, place) = seek(chunks, &BeforeKey(key));
     let row = row_at(chunks, chunk, place)?;
     if row.key() == key {
@@ -126,6 +130,28 @@ pub fn find_key<T: Keyed>(chunks: &[Vec<T>], key: u64) -> Option<(usize, usize)>
     } else {
         None
     }
+}
+
+/// The place of the row of that key, if one look finds it: rows that are numbered as they are made
+/// stand where their numbers tell until one among them leaves.
+fn find_dense<T: Keyed>(chunks: &[Vec<T>], key: u64) -> Option<(usize, usize)>
+    requires { Rises T.key (flat chunks.now) }
+    ensures { IfSome result (λ at. IsPlaceOf (has_key T.key key) chunks.now at.0 at.1) }
+{
+    let chunk = likely_chunk(chunks, key)?;
+    let place = place_if_dense(chunks.get(chunk)?, key)?;
+    Some((chunk, place))
+}
+
+/// The first chunk, if the key is in it, or the one that the key tells, counted from the last, if no
+/// key is missing and the chunks between have as many rows as they may.
+fn likely_chunk<T: Keyed>(chunks: &[Vec<T>], key: u64) -> Option<usize> {
+    if key <= chunks.first()?.last()?.key() {
+        return Some(0);
+    }
+    let last = chunks.len() - 1;
+    let before = chunks[last].first()?.key().saturating_sub(key);
+    last.checked_sub(usize::try_from(before.div_ceil(LONGEST as u64)).ok()?)
 }
 
 /// Takes out the row at the place, and hands back its chunk if that was the last row there.
