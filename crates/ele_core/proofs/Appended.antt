@@ -20,9 +20,9 @@ use Rattle.ele_policy.proofs.Waits.{ripe_keeps}
 use Rattle.ele_world.specs.declared.rows.FileRow.{FileRow}
 use Rattle.ele_world.specs.declared.rows.VersionRow.{VersionRow}
 use Rattle.ele_world.specs.Change.{with_version}
-use Rattle.ele_world.specs.Due.{ripe_at, is_moment}
+use Rattle.ele_world.specs.Due.{ripe_at}
+use Rattle.ele_world.specs.Neighbours.{is_moment, near_moment, newest_of}
 use Rattle.ele_world.specs.GroupRows.{is_marked}
-use Rattle.ele_world.specs.Neighbours.{near_moment, newest_of}
 use Rattle.ele_world.specs.World.{World, is_file, is_live, is_open, next_of, policy_of}
 use Rattle.ele_world.proofs.AppendMoments.{MayGrow, touches, next_before, next_after, newest_before, newest_was, newest_is, others_after}
 

@@ -35,10 +35,9 @@ use Rattle.ele_world.proofs.Dropped.{dropped}
 use Rattle.ele_world.proofs.Keeps.{all_keep}
 use Rattle.ele_world.proofs.Others.{drafts-removed}
 use Rattle.ele_world.specs.World.{World, file_by, file_written, has_draft, is_draft, is_handle, is_open, next_of, policy_of, reads_by}
-use Rattle.ele_world.specs.Due.{is_moment}
+use Rattle.ele_world.specs.Neighbours.{is_moment, newest_of}
 use Rattle.ele_world.proofs.Neighbours.{AreInOrder, in_order_of}
 use Rattle.ele_world.proofs.OpenMoments.{open_still, shut_others}
-use Rattle.ele_world.specs.Neighbours.{newest_of}
 use Rattle.ele_world.proofs.OpenStays.{has_row}
 
 -- the step, by what the file's draft is, and by the file that the handle writes

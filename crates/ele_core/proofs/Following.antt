@@ -4,7 +4,8 @@ use Rattle.std.proofs.lemmas.Bool.Decides.{nat_tests}
 use Rattle.ele_core.specs.Queued.{IsQueued, IsRekeyed}
 use Rattle.ele_due.specs.declared.key.Key.{Key}
 use Rattle.ele_due.specs.HasKey.{has_key}
-use Rattle.ele_world.specs.Due.{ripe_at, is_moment}
+use Rattle.ele_world.specs.Due.{ripe_at}
+use Rattle.ele_world.specs.Neighbours.{is_moment}
 use Rattle.ele_world.specs.World.{World}
 
 module _ (w v : World) (queue after : List Key) (queued : IsQueued w queue) where

@@ -29,10 +29,12 @@ use Rattle.ele_world.specs.declared.rows.GroupRow.{GroupRow}
 use Rattle.ele_world.specs.declared.rows.Stamps.{Stamps}
 use Rattle.ele_world.specs.declared.rows.VersionRow.{VersionRow}
 use Rattle.ele_world.specs.Change.{PutUnder, after_change}
-use Rattle.ele_world.specs.Due.{ripe_at, is_moment}
+use Rattle.ele_world.specs.Due.{ripe_at}
+use Rattle.ele_world.specs.Neighbours.{is_moment}
 use Rattle.ele_world.specs.FileView.{is_version_of}
 use Rattle.ele_world.specs.Told.{stamps_of}
-use Rattle.ele_world.specs.Usage.{file_usage, usage_of, usages}
+use Rattle.ele_world.specs.FileUsage.{file_usage}
+use Rattle.ele_world.specs.Usage.{usage_of, usages}
 use Rattle.ele_world.specs.WellFormed.{Bounded, IsWellFormed}
 use Rattle.ele_world.specs.World.{World, is_open, is_version, next_of, policy_of}
 use Rattle.ele_world.proofs.Neighbours.{in_order_of, ripe_at_near}

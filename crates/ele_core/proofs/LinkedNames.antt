@@ -8,7 +8,7 @@ use Rattle.ele_core.specs.Queued.{IsQueued}
 use Rattle.ele_due.specs.declared.key.Key.{Key}
 use Rattle.ele_lists.proofs.Cuts.{update_first-front}
 use Rattle.ele_lists.specs.Lists.{update_first}
-use Rattle.ele_world.specs.Due.{is_moment}
+use Rattle.ele_world.specs.Neighbours.{is_moment}
 use Rattle.ele_world.specs.NameRows.{born_row, dies}
 use Rattle.ele_world.specs.Walk.{is_live_name, live_target}
 use Rattle.ele_world.specs.World.{World}

@@ -13,7 +13,8 @@ use Rattle.ele_policy.specs.declared.policy.Policy.{Policy}
 use Rattle.ele_world.specs.declared.rows.FileRow.{FileRow}
 use Rattle.ele_world.specs.declared.rows.VersionRow.{VersionRow}
 use Rattle.ele_world.specs.Change.{MakeFile, after_change}
-use Rattle.ele_world.specs.Due.{ripe_of, ripe_at, is_moment}
+use Rattle.ele_world.specs.Due.{ripe_of, ripe_at}
+use Rattle.ele_world.specs.Neighbours.{is_moment}
 use Rattle.ele_world.specs.FileView.{view_of, is_version_of, ripe_in}
 use Rattle.ele_world.specs.WellFormed.{IsWellFormed}
 use Rattle.ele_world.specs.World.{World, is_file, is_live_name_of, is_version, policy_of, is_live}

@@ -15,9 +15,9 @@ use Rattle.ele_due.specs.Key.{is_key}
 use Rattle.ele_files.specs.Held.{Held, rows_of}
 use Rattle.ele_lists.proofs.Edits.{found_passes}
 use Rattle.ele_lists.specs.Lists.{AllLater}
-use Rattle.ele_world.specs.Due.{ripe_at, is_moment}
+use Rattle.ele_world.specs.Due.{ripe_at}
+use Rattle.ele_world.specs.Neighbours.{is_moment, moment_under}
 use Rattle.ele_world.specs.GroupRows.{covers_moment}
-use Rattle.ele_world.specs.Neighbours.{moment_under}
 use Rattle.ele_world.specs.Tagged.{had_life, lives_at}
 use Rattle.ele_world.specs.Told.{stamps_of}
 use Rattle.ele_world.specs.WellFormed.{ArePlaced, IsWellFormed}

@@ -11,8 +11,8 @@ use Rattle.ele_due.specs.declared.key.Key.{Key}
 use Rattle.ele_due.specs.HasKey.{has_key}
 use Rattle.ele_files.specs.Held.{changed_at, opened_by, with_rows}
 use Rattle.ele_world.specs.Change.{OpenHandle, ShutHandle, StartDraft, after_change}
-use Rattle.ele_world.specs.Due.{ripe_at, is_moment}
-use Rattle.ele_world.specs.Neighbours.{free_moment}
+use Rattle.ele_world.specs.Due.{ripe_at}
+use Rattle.ele_world.specs.Neighbours.{free_moment, is_moment}
 use Rattle.ele_world.proofs.Neighbours.{AreInOrder, in_order_of}
 use Rattle.ele_world.specs.World.{World, is_draft, is_handle, is_open, reads_by, reads_version}
 use Rattle.ele_world.specs.declared.rows.Reads.TheVariants.{Draft, Version}

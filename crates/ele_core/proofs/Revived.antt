@@ -21,7 +21,8 @@ use Rattle.ele_lists.proofs.Cuts.{any-found}
 use Rattle.ele_lists.proofs.Edits.{all-found, found_passes}
 use Rattle.ele_usage.specs.Book.{Book}
 use Rattle.ele_world.specs.Change.{Append, Revive, after_change, current_cells, next_version, with_name}
-use Rattle.ele_world.specs.Due.{ripe_at, is_moment}
+use Rattle.ele_world.specs.Due.{ripe_at}
+use Rattle.ele_world.specs.Neighbours.{is_moment}
 use Rattle.ele_world.specs.WellFormed.{IsVersion, Versions, IsWellFormed}
 use Rattle.ele_world.specs.World.{World, is_held, is_live, is_version, next_of}
 use Rattle.ele_world.specs.declared.rows.FileRow.{FileRow}

@@ -7,7 +7,7 @@ use Rattle.std.proofs.lemmas.Bool.Decides.{nat_tests}
 use Rattle.ele_core.proofs.Following.{entry_follows}
 use Rattle.ele_core.specs.Queued.{IsQueued, IsRekeyed, end_moment}
 use Rattle.ele_world.specs.GroupRows.{is_marked}
-use Rattle.ele_world.specs.Neighbours.{near_moment}
+use Rattle.ele_world.specs.Neighbours.{is_moment, near_moment}
 use Rattle.ele_core.specs.Tracked.{told_by, IsBooked}
 use Rattle.ele_due.specs.declared.key.Key.{Key}
 use Rattle.ele_files.specs.Held.{Held, current_ended, rows_of}
@@ -15,7 +15,7 @@ use Rattle.ele_lists.proofs.Edits.{all-found, found_passes}
 use Rattle.ele_lists.proofs.Sums.{any-count, count-update_first}
 use Rattle.ele_usage.specs.Book.{Book}
 use Rattle.ele_world.specs.Change.{EndFileName, after_change, with_end, without_name}
-use Rattle.ele_world.specs.Due.{ripe_at, is_moment}
+use Rattle.ele_world.specs.Due.{ripe_at}
 use Rattle.ele_world.specs.NameRows.{dies}
 use Rattle.ele_world.specs.Walk.{is_live_name, live_target}
 use Rattle.ele_world.specs.WellFormed.{IsNameRow, IsThere, Names, IsWellFormed}

@@ -10,9 +10,10 @@ use Rattle.ele_files.specs.Held.{Held}
 use Rattle.ele_policy.specs.declared.policy.Policy.{Policy}
 use Rattle.ele_world.specs.declared.rows.FileRow.{FileRow}
 use Rattle.ele_world.specs.declared.rows.GroupRow.{GroupRow}
-use Rattle.ele_world.specs.Due.{ripe_at, is_moment}
-use Rattle.ele_world.specs.GroupRows.{is_marked, is_marked_without}
-use Rattle.ele_world.specs.Neighbours.{moment_under, near_moment, newest_of, next_closing}
+use Rattle.ele_world.specs.Due.{ripe_at}
+use Rattle.ele_world.specs.Neighbours.{is_moment, moment_under, near_moment, newest_of, next_closing}
+use Rattle.ele_world.specs.GroupRows.{is_marked}
+use Rattle.ele_world.specs.GroupsAsked.{is_marked_without}
 use Rattle.ele_world.specs.Tagged.{had_life}
 use Rattle.ele_world.specs.World.{World, policy_of, next_of, is_open, is_version}
 

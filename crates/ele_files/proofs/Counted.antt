@@ -32,7 +32,8 @@ use Rattle.ele_sessions.specs.Sessions.{AllSessions, Draft, draft_of}
 use Rattle.ele_world.specs.declared.Usage.{Usage}
 use Rattle.ele_world.specs.FileView.{is_version_of}
 use Rattle.ele_world.specs.NewPlaces.{is_among}
-use Rattle.ele_world.specs.Usage.{bytes_in, file_usage, places, places_from}
+use Rattle.ele_world.specs.FileUsage.{file_usage}
+use Rattle.ele_world.specs.Usage.{bytes_in, places, places_from}
 use Rattle.ele_world.specs.World.{is_draft}
 use Rattle.ele_world.specs.declared.rows.DraftRow.{DraftRow}
 use Rattle.ele_world.specs.declared.rows.VersionRow.{VersionRow}

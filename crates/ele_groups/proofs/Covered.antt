@@ -13,7 +13,8 @@ use Rattle.ele_lists.specs.Serial.{value_at}
 use Rattle.ele_lists.proofs.Edits.{all-weaker}
 use Rattle.ele_lists.proofs.Serials.{not_yet}
 use Rattle.ele_world.specs.declared.rows.GroupRow.{GroupRow}
-use Rattle.ele_world.specs.GroupRows.{covers_moment, is_group, is_left_out, has_covering_without, is_member}
+use Rattle.ele_world.specs.GroupRows.{covers_moment, is_group, is_member}
+use Rattle.ele_world.specs.GroupsAsked.{is_left_out, has_covering_without}
 use Rattle.ele_groups.specs.declared.span.Except.{Except}
 use Rattle.ele_groups.specs.Except.{has_covering_but, is_marked_row}
 use Rattle.ele_groups.specs.Kept.{ArePlaced, has_file}

@@ -2,7 +2,8 @@
 use Rattle.std.specs.Prelude.{ℕ, ◌&&◌, Bool, List, Option, Some, None}
 use Rattle.std.specs.List.{list_any}
 use Rattle.ele_world.specs.declared.rows.GroupRow.{GroupRow}
-use Rattle.ele_world.specs.GroupRows.{is_member, has_covering, has_covering_without}
+use Rattle.ele_world.specs.GroupRows.{is_member, has_covering}
+use Rattle.ele_world.specs.GroupsAsked.{has_covering_without}
 use Rattle.ele_groups.specs.declared.span.Except.{Except}
 
 -- some mark of the group covers, those aside that are left out, if any are

@@ -5,7 +5,8 @@ ghost use Rattle.std.specs.HashMap.{get};
 ghost use Rattle.std.specs.Map.{values_of};
 ghost use Rattle.std.specs.Option.{option_copied};
 ghost use Rattle.std.specs.Str.{bytes_eq};
-ghost use Rattle.ele_world.specs.GroupRows.{group_named, has_group, has_member, is_marked_at, members_of, marks_of, is_member, with_group, without_group, with_member, without_member, with_mark, without_mark, forgotten, is_marked, is_marked_without};
+ghost use Rattle.ele_world.specs.GroupRows.{group_named, has_group, has_member, is_marked_at, is_member, with_group, without_group, with_member, without_member, with_mark, without_mark, forgotten, is_marked};
+ghost use Rattle.ele_world.specs.GroupsAsked.{members_of, marks_of, is_marked_without};
 ghost use Rattle.ele_groups.specs.Faults.{make_fault, drop_fault, add_fault, remove_fault, mark_fault, unmark_fault, Fails, answer_of};
 ghost use Rattle.ele_groups.specs.Rows.{row_of};
 

@@ -10,7 +10,8 @@ use Rattle.ele_lists.specs.Lists.{AllLater}
 use Rattle.ele_lists.proofs.Edits.{all-found}
 use Rattle.ele_world.specs.Change.{MakeGroup, DropGroup, AddMember, RemoveMember, AddMark, RemoveMark, after_change}
 use Rattle.ele_world.specs.Due.{ripe_at}
-use Rattle.ele_world.specs.GroupRows.{covers_moment, group_named, has_mark, has_member, is_group, is_marked, is_marked_at, is_marked_without, is_member, members_of, marks_of, with_mark, with_member, without_group, without_mark, without_member}
+use Rattle.ele_world.specs.GroupRows.{covers_moment, group_named, has_mark, has_member, is_group, is_marked, is_marked_at, is_member, with_mark, with_member, without_group, without_mark, without_member}
+use Rattle.ele_world.specs.GroupsAsked.{is_marked_without, members_of, marks_of}
 use Rattle.ele_world.specs.Neighbours.{moment_under}
 use Rattle.ele_world.specs.WellFormed.{Groups, IsGroup, IsWellFormed}
 use Rattle.ele_world.specs.World.{World, is_open, is_version, policy_of}

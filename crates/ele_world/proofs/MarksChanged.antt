@@ -13,7 +13,8 @@ use Rattle.ele_lists.proofs.Alls.{later-around}
 use Rattle.ele_lists.proofs.Cuts.{IsCut, find-cut, remove_first-at, remove_first-unfound, update_first-at, update_first-unfound}
 use Rattle.ele_lists.proofs.Edits.{all-any, all-not_found, all-weaker}
 use Rattle.ele_world.specs.declared.rows.GroupRow.{GroupRow}
-use Rattle.ele_world.specs.GroupRows.{adds, covers_moment, has_covering, has_covering_without, has_mark, has_member, is_group, is_left_out, is_marked, is_marked_at, is_marked_without, is_member, marks, marks_of, members_of, removes, unmarks, with_group, with_mark, with_member, without_group, without_mark, without_member}
+use Rattle.ele_world.specs.GroupRows.{adds, covers_moment, has_covering, has_mark, has_member, is_group, is_marked, is_marked_at, is_member, marks, removes, unmarks, with_group, with_mark, with_member, without_group, without_mark, without_member}
+use Rattle.ele_world.specs.GroupsAsked.{has_covering_without, is_left_out, is_marked_without, marks_of, members_of}
 
 -- ---- tests of truth
 

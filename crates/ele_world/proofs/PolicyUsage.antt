@@ -20,7 +20,8 @@ use Rattle.ele_world.specs.Change.{PutUnder, put_under, after_change}
 use Rattle.ele_world.specs.declared.rows.DraftRow.{DraftRow}
 use Rattle.ele_world.specs.declared.rows.FileRow.{FileRow}
 use Rattle.ele_world.specs.declared.rows.VersionRow.{VersionRow}
-use Rattle.ele_world.specs.Usage.{is_of, is_file_of, file_usage, usage_of}
+use Rattle.ele_world.specs.FileUsage.{file_usage}
+use Rattle.ele_world.specs.Usage.{is_of, is_file_of, usage_of}
 use Rattle.ele_world.specs.WellFormed.{IsWellFormed}
 use Rattle.ele_world.specs.World.{World, is_file, policy_of}
 use Rattle.ele_world.proofs.Elements.{find-updated}

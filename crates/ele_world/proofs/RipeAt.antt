@@ -14,7 +14,8 @@ use Rattle.ele_policy.proofs.Earliest.{earliest_same}
 use Rattle.ele_policy.specs.declared.policy.Policy.{Policy}
 use Rattle.ele_policy.specs.Ripe.{candidates, earliest_of}
 use Rattle.ele_world.specs.declared.rows.VersionRow.{VersionRow}
-use Rattle.ele_world.specs.Due.{is_due, is_due_at, ripe_of, ripe_at, is_moment}
+use Rattle.ele_world.specs.Due.{is_due, is_due_at, ripe_of, ripe_at}
+use Rattle.ele_world.specs.Neighbours.{is_moment}
 use Rattle.ele_world.specs.FileView.{FileView, view_of, is_version_of, is_numbered, due_in, ripe_in, ripe_numbered}
 use Rattle.ele_world.specs.RipeMoments.{IsDueFromRipe}
 use Rattle.ele_world.specs.Scan.{due_key, key_of}

@@ -1,5 +1,5 @@
 -- Which versions are due.
-use Rattle.std.specs.Prelude.{ℕ, ◌==◌, Bool, false, not, List, Option, find, filter}
+use Rattle.std.specs.Prelude.{ℕ, Bool, false, not, List, Option, find, filter}
 use Rattle.std.specs.Option.{option_map_or}
 use Rattle.ele_world.specs.declared.rows.VersionRow.{VersionRow}
 use Rattle.ele_world.specs.FileView.{view_of, due_in, ripe_in, ripe_numbered}
@@ -20,10 +20,6 @@ ripe_of w row = ripe_in (view_of w row.file) row
 -- the ripe moment of the file's version with that number, if it is held and has one
 abbrev pub ripe_at : World → ℕ → ℕ → Option ℕ
 ripe_at w file number = ripe_numbered (view_of w file) number
-
--- whether it is this moment, if there is one
-abbrev pub is_moment : ℕ → Option ℕ → Bool
-is_moment at moment = option_map_or (λ m. m == at) moment false
 
 -- the rows that are due
 abbrev pub due_rows : World → List VersionRow

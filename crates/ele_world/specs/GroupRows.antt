@@ -38,14 +38,6 @@ has_member rows name file = option_map_or (is_member file) (group_named rows nam
 abbrev pub is_marked_at : List GroupRow → List ℕ → ℕ → Bool
 is_marked_at rows name mark = option_map_or (has_mark mark) (group_named rows name) false
 
--- the files of the group of that name, none where there is no such group
-abbrev pub members_of : List GroupRow → List ℕ → List ℕ
-members_of rows name = option_map_or (λ row. row.members) (group_named rows name) []
-
--- the marks of the group of that name, none where there is no such group
-abbrev pub marks_of : List GroupRow → List ℕ → List ℕ
-marks_of rows name = option_map_or (λ row. row.marks) (group_named rows name) []
-
 -- the group with one file more
 abbrev pub adds : ℕ → GroupRow → GroupRow
 adds file row = record row { members = row.members ++ file ∷ [] }
@@ -109,17 +101,3 @@ is_marked rows file closed ended = list_any (λ row. is_member file row && has_c
 -- the moments at which groups that have the file were marked
 abbrev pub marks_over : List GroupRow → ℕ → List ℕ
 marks_over rows file = flat_map (λ row. row.marks) (filter (is_member file) rows)
-
--- the mark is left out: it is the one, or where none is named any of the group's
-abbrev pub is_left_out : Option ℕ → ℕ → Bool
-is_left_out left mark = option_map_or (λ one. mark == one) left true
-
--- some mark of the group covers, those left out aside
-abbrev pub has_covering_without : List ℕ → Option ℕ → ℕ → Option ℕ → GroupRow → Bool
-has_covering_without name left closed ended row =
-    list_any (λ mark. covers_moment closed ended mark && not (is_group name row && is_left_out left mark)) row.marks
-
--- some group that has the file has a mark that covers, without that mark of that group, or without the whole group
-abbrev pub is_marked_without : List GroupRow → List ℕ → Option ℕ → ℕ → ℕ → Option ℕ → Bool
-is_marked_without rows name left file closed ended =
-    list_any (λ row. is_member file row && has_covering_without name left closed ended row) rows

@@ -5,6 +5,7 @@ pub mod World
 pub mod Walk
 pub mod NameRows
 pub mod GroupRows
+pub mod GroupsAsked
 pub mod WalkAt
 pub mod FileView
 pub mod Neighbours
@@ -13,6 +14,7 @@ pub mod Told
 pub mod Due
 pub mod Scan
 pub mod Usage
+pub mod FileUsage
 pub mod Change
 pub mod Restorable
 pub mod Plan

@@ -1,6 +1,6 @@
 -- The held versions next to one of a file, and the ripe moment that they tell.
-use Rattle.std.specs.Prelude.{ℕ, ◌==◌, nat_lt, Bool, ◌&&◌, List, Option, Some, None, find, option_and_then, if◌then◌else◌}
-use Rattle.std.specs.Option.{option_map}
+use Rattle.std.specs.Prelude.{ℕ, ◌==◌, nat_lt, Bool, false, ◌&&◌, List, Option, Some, None, find, option_and_then, if◌then◌else◌}
+use Rattle.std.specs.Option.{option_map, option_map_or}
 use Rattle.ele_lists.specs.Last.{last_passing}
 use Rattle.ele_policy.specs.declared.policy.Policy.{Policy}
 use Rattle.ele_policy.specs.Ripe.{alone, ripe_by}
@@ -10,6 +10,10 @@ use Rattle.ele_world.specs.declared.rows.VersionRow.{VersionRow}
 use Rattle.ele_world.specs.FileView.{is_version_of}
 use Rattle.ele_world.specs.GroupRows.{is_marked}
 use Rattle.ele_world.specs.World.{is_version, policy_of}
+
+-- whether it is this moment, if there is one
+abbrev pub is_moment : ℕ → Option ℕ → Bool
+is_moment at moment = option_map_or (λ m. m == at) moment false
 
 -- a version of the file with a greater number
 abbrev pub is_newer_of : ℕ → ℕ → VersionRow → Bool

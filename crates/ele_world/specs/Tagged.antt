@@ -12,17 +12,14 @@ use Rattle.ele_world.specs.declared.rows.FileRow.{FileRow}
 use Rattle.ele_world.specs.declared.rows.Target.{Target}
 use Rattle.ele_world.specs.declared.rows.VersionRow.{VersionRow}
 use Rattle.ele_world.specs.FileView.{is_version_of}
+use Rattle.ele_world.specs.GroupRows.{covers_moment}
 use Rattle.ele_world.specs.Walk.{walk_now, file_at}
 use Rattle.ele_world.specs.WalkAt.{walk_at}
 use Rattle.ele_world.specs.World.{World, next_of, is_version}
 
--- the version ended after the moment; no end counts as later than all
-abbrev pub ends_after : ℕ → VersionRow → Bool
-ends_after moment row = option_map_or (λ ended. nat_lt moment ended) row.ended true
-
--- the moment lies in the version's life: it had closed by then, and ended later
+-- the moment lies in the version's life: it had closed by then, and ended later or not at all
 abbrev pub lives_at : ℕ → VersionRow → Bool
-lives_at moment row = nat_le row.closed moment && ends_after moment row
+lives_at moment row = covers_moment row.closed row.ended moment
 
 -- a version of the file with a lesser number
 abbrev pub is_before : ℕ → ℕ → VersionRow → Bool

@@ -1,5 +1,5 @@
 -- What the files of each kind of policy use.
-use Rattle.std.specs.Prelude.{ℕ, ◌+◌, ◌==◌, Bool, false, List, [], ◌∷◌, ◌++◌, length, map, filter, sum}
+use Rattle.std.specs.Prelude.{ℕ, ◌+◌, Bool, false, List, [], ◌∷◌, ◌++◌, length, map, filter, sum}
 use Rattle.std.specs.List.{flat_map}
 use Rattle.std.specs.Option.{option_map_or}
 use Rattle.ele_policy.specs.declared.policy.Kind.{Kind}
@@ -47,13 +47,6 @@ usage_of w k =
       bytes = bytes_in versions;
       blocks = different is_place (places versions drafts);
     }
-
--- what one file uses
-abbrev pub file_usage : List VersionRow → List DraftRow → ℕ → Usage
-file_usage versions drafts file =
-    let own = filter (λ row. row.file == file) versions in
-    let draft = filter (λ row. row.file == file) drafts in
-    record { files = 1; versions = length own; bytes = bytes_in own; blocks = different is_place (places own draft) }
 
 -- for each kind
 abbrev pub usages : World → List Usage

@@ -9,7 +9,8 @@ ghost use Rattle.ele_content.specs.Place.{different, is_place};
 ghost use Rattle.ele_files.specs.Inside.{IsFileKept};
 ghost use Rattle.ele_files.specs.Met.{Meets, log_bytes, log_places};
 ghost use Rattle.ele_world.specs.FileView.{is_version_of};
-ghost use Rattle.ele_world.specs.Usage.{bytes_in, file_usage, places, places_from};
+ghost use Rattle.ele_world.specs.FileUsage.{file_usage};
+ghost use Rattle.ele_world.specs.Usage.{bytes_in, places, places_from};
 ghost use Rattle.ele_world.specs.World.{is_draft};
 
 use crate::file::File;

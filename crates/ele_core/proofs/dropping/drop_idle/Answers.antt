@@ -3,7 +3,7 @@ use Rattle.ele_core.proofs.DroppedFiles.{absent_stays, dropped_within, dropped_b
 use Rattle.ele_core.specs.Inside.{world_of}
 use Rattle.ele_core.specs.Queued.{IsQueued}
 use Rattle.ele_world.specs.Change.{DropIdle, is_idle, without_file, after_change}
-use Rattle.ele_world.specs.Due.{is_moment}
+use Rattle.ele_world.specs.Neighbours.{is_moment}
 use Rattle.ele_world.specs.World.{World}
 use Rattle.ele_world.proofs.DropViews.{ripe_at_dropped}
 use Rattle.ele_core.proofs.dropping.drop_idle.Goals as goal

@@ -4,7 +4,7 @@ use Rattle.ele_core.specs.Inside.{world_of}
 use Rattle.ele_core.specs.Queued.{keys_at}
 use Rattle.ele_due.specs.HasKey.{has_key}
 use Rattle.ele_world.specs.Change.{AddMark, after_change}
-use Rattle.ele_world.specs.GroupRows.{members_of}
+use Rattle.ele_world.specs.GroupsAsked.{members_of}
 use Rattle.ele_world.proofs.GroupMoments.{mark_comes}
 use Rattle.ele_core.proofs.grouping.add_mark.Goals as goal
 

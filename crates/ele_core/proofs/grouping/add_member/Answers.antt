@@ -4,7 +4,7 @@ use Rattle.ele_core.specs.Inside.{world_of}
 use Rattle.ele_core.specs.Queued.{keys_at}
 use Rattle.ele_due.specs.HasKey.{has_key}
 use Rattle.ele_world.specs.Change.{AddMember, after_change}
-use Rattle.ele_world.specs.GroupRows.{marks_of}
+use Rattle.ele_world.specs.GroupsAsked.{marks_of}
 use Rattle.ele_world.proofs.GroupMoments.{member_comes}
 use Rattle.ele_core.proofs.grouping.add_member.Goals as goal
 

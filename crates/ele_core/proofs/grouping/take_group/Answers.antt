@@ -5,7 +5,7 @@ use Rattle.ele_core.specs.Queued.{keys_at}
 use Rattle.ele_core.specs.declared.marking.Left.{Left}
 use Rattle.ele_due.specs.HasKey.{has_key}
 use Rattle.ele_world.specs.Change.{DropGroup, after_change}
-use Rattle.ele_world.specs.GroupRows.{marks_of, members_of}
+use Rattle.ele_world.specs.GroupsAsked.{marks_of, members_of}
 use Rattle.ele_world.proofs.GroupMoments.{group_goes}
 use Rattle.ele_core.proofs.grouping.take_group.Goals as goal
 

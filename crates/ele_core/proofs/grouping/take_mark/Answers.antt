@@ -5,7 +5,7 @@ use Rattle.ele_core.specs.Queued.{keys_at}
 use Rattle.ele_core.specs.declared.marking.Left.{Left}
 use Rattle.ele_due.specs.HasKey.{has_key}
 use Rattle.ele_world.specs.Change.{RemoveMark, after_change}
-use Rattle.ele_world.specs.GroupRows.{members_of}
+use Rattle.ele_world.specs.GroupsAsked.{members_of}
 use Rattle.ele_world.proofs.GroupMoments.{mark_goes}
 use Rattle.ele_core.proofs.grouping.take_mark.Goals as goal
 

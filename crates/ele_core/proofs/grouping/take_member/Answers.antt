@@ -5,7 +5,7 @@ use Rattle.ele_core.specs.Queued.{keys_at}
 use Rattle.ele_core.specs.declared.marking.Left.{Left}
 use Rattle.ele_due.specs.HasKey.{has_key}
 use Rattle.ele_world.specs.Change.{RemoveMember, after_change}
-use Rattle.ele_world.specs.GroupRows.{marks_of}
+use Rattle.ele_world.specs.GroupsAsked.{marks_of}
 use Rattle.ele_world.proofs.GroupMoments.{member_goes}
 use Rattle.ele_core.proofs.grouping.take_member.Goals as goal
 

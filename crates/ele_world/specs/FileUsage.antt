@@ -1,0 +1,14 @@
+-- What a change of policy moves from one kind to another. No public clause of the core cites this module.
+use Rattle.std.specs.Prelude.{ℕ, ◌==◌, List, length, filter}
+use Rattle.ele_usage.specs.declared.usage.Usage.{Usage}
+use Rattle.ele_content.specs.Place.{is_place, different}
+use Rattle.ele_world.specs.declared.rows.VersionRow.{VersionRow}
+use Rattle.ele_world.specs.declared.rows.DraftRow.{DraftRow}
+use Rattle.ele_world.specs.Usage.{bytes_in, places}
+
+-- what one file uses
+abbrev pub file_usage : List VersionRow → List DraftRow → ℕ → Usage
+file_usage versions drafts file =
+    let own = filter (λ row. row.file == file) versions in
+    let draft = filter (λ row. row.file == file) drafts in
+    record { files = 1; versions = length own; bytes = bytes_in own; blocks = different is_place (places own draft) }
