@@ -1,15 +1,11 @@
 -- A row between others that dies, or leaves.
 use Rattle.std.proofs.Common.{◌≡◌, ℕ, ◌≤◌, ◌<◌, ◌^◌, Bool, true, false, cond, not, List, [], ◌∷◌, ◌++◌, length, filter, Some, None, Option, is_none, refl, sym, ap, ◌∙◌, arith, length-append}
-use Rattle.std.specs.List.Sorted.{IsStrictlySortedBy}
 use Rattle.std.specs.Ordering.{nat_cmp}
 use Rattle.std.specs.BTreeMap.{is_at, insert_entry}
 use Rattle.std.specs.Map.{keys_of, values_of, remove_entry}
 use Rattle.std.proofs.lemmas.Bool.{true≢false, false≢true}
-use Rattle.std.specs.Prelude.{All}
-use Rattle.std.specs.declared.cmp.Ordering.TheVariants.{Less}
+use Rattle.std.proofs.lemmas.Cmp.{nat_cmp_total}
 use Rattle.std.proofs.lemmas.List.{map-append}
-use Rattle.std.proofs.lemmas.List.Elements.{All-head, All-tail}
-use Rattle.ele_lists.proofs.Indexed.{at_itself}
 use Rattle.std.proofs.lemmas.Bool.Decides.{nat_tests}
 use Rattle.ele_lists.specs.Index.{has, IsLastOf}
 use Rattle.ele_lists.specs.Lists.{update_first}
@@ -17,6 +13,7 @@ use Rattle.ele_lists.specs.Serial.{value_at, is_placed}
 use Rattle.ele_lists.proofs.Alls.{all-append, all-around, all-mid, all-exchange, later-around, later-without, later-exchange}
 use Rattle.ele_lists.proofs.Cuts.{update_first-at}
 use Rattle.ele_lists.proofs.Edits.{all-weaker}
+use Rattle.ele_lists.proofs.Entries.{lookup-insert_entry}
 use Rattle.ele_lists.proofs.Filters.{filter-all}
 use Rattle.ele_lists.proofs.Indexed.{index_change}
 use Rattle.ele_lists.proofs.Serials.{IsSplitAt, split_at, all_keys_without, all_from_each, found_key}
@@ -37,6 +34,7 @@ use Rattle.ele_names.specs.Spots.{is_other, target_cmp, target_eq}
 use Rattle.ele_names.proofs.Added.{placed_same}
 use Rattle.ele_names.proofs.Apart.{named_dead, named_live, same_name}
 use Rattle.ele_names.proofs.Counts.{leaves_without, leaves_dead}
+use Rattle.ele_names.proofs.Numbering.{rises_without, gone_at}
 
 filter_between : {X : Type 0} (p : X → Bool) (before : List X) (x : X) (behind : List X) → p x ≡ false → filter p (before ++ x ∷ behind) ≡ filter p (before ++ behind)
 filter_between p [] x behind h = rw h refl
@@ -51,14 +49,7 @@ same_front (a ∷ xs) (b ∷ ys) x y h =
     let front : xs ≡ ys = same_front xs ys x y behind in
     cc
 
--- the last entry leaves
-pub without_last : {X : Type 0} (n : ℕ) (x : X) (es : List (ℕ × X)) → All (λ k. nat_cmp k n ≡ Less) (keys_of es) → remove_entry (is_at (nat_cmp n)) (es ++ (n, x) ∷ []) ≡ es
-without_last n x [] below = rw (at_itself n) refl
-without_last n x (e ∷ es) below = rw (later n e.0 (All-head (λ k. nat_cmp k n ≡ Less) e.0 (keys_of es) below)) (ap (λ (es : List _). e ∷ es) (without_last n x es (All-tail (λ k. nat_cmp k n ≡ Less) e.0 (keys_of es) below))) where
-  later : (a b : ℕ) → nat_cmp b a ≡ Less → is_at (nat_cmp a) b ≡ false
-  later a b h = grind (arith, nat_tests)
-
--- and leaves the values before it
+-- the last entry leaves the values before it
 pub last_gone : {X : Type 0} (rows : List X) (row : X) (es fs : List (ℕ × X)) (n : ℕ) (x : X) → es ≡ fs ++ (n, x) ∷ [] → values_of es ≡ rows ++ row ∷ [] → values_of fs ≡ rows
 last_gone rows row es fs n x is are = same_front (values_of fs) rows x row (sym (map-append (λ (e : ℕ × _). e.1) fs ((n, x) ∷ [])) ∙ sym (ap values_of is) ∙ are)
 
@@ -69,7 +60,7 @@ target_stands (File a) (Directory b) r h = refl
 target_stands (Directory a) (File b) r h = refl
 target_stands (Directory a) (Directory b) r h = grind (arith, nat_tests)
 
-module _ (a : Inside) (kept : IsKept a.table a.made a.lives) where
+module _ (a : Inside) (kept : IsKept a.table a.lives) where
   abbrev es : List (ℕ × NameRow)
   es = a.table.rows.entries
 
@@ -85,14 +76,12 @@ module _ (a : Inside) (kept : IsKept a.table a.made a.lives) where
         no d n = let dead : is_none row.death ≡ false = rw (follows.apart d n).1 refl in absurd (true≢false (sym live ∙ dead))
 
       pub kept_dead : (t : Table) (lives : Lives) → t.places ≡ a.table.places → t.rows.entries ≡ insert_entry nat_cmp es s (dies moment row)
-          → IsStrictlySortedBy nat_cmp (keys_of t.rows.entries)
-          → ((k : ℕ) → value_at t.rows.entries k ≡ cond (is_at (nat_cmp s) k) (Some (dies moment row)) (value_at es k))
           → ((was now : List NameRow) → Leaves row was now → AreCounted was a.lives → AreCounted now lives)
           → ((at to : ℕ → Option NameRow) (serial : ℕ) → at serial ≡ Some row → ((s : ℕ) → is_at (nat_cmp serial) s ≡ false → to s ≡ at s) → AreNumbered at a.lives → AreNumbered to lives)
-          → IsKept t a.made lives
-      kept_dead t lives places is rising now counts numbered = record {
+          → IsKept t lives
+      kept_dead t lives places is counts numbered = record {
         is_table = record {
-          rising = rising;
+          rising = rw keys_are kept.is_table.rising;
           short = rw keys_are kept.is_table.short;
           born = rw rows_are (let born = rw c.values at kept.is_table.born in all-exchange (λ row. row.birth ≤ last_moment) c.before row (dies moment row) c.behind (all-mid (λ row. row.birth ≤ last_moment) c.before row c.behind born) born);
           apart = rw rows_are (later-exchange Follows c.before row (dies moment row) c.behind (λ b h. record { apart = h.apart; born = h.born }) (λ rows. all-weaker (Follows row) (Follows (dies moment row)) rows over) (rw c.values at kept.is_table.apart));
@@ -101,14 +90,14 @@ module _ (a : Inside) (kept : IsKept a.table a.made a.lives) where
             targeted = index_change (value_at t.rows.entries) s row (dies moment row) a.table.places.by_target kept.is_table.placed.targeted at (λ q r. refl) now;
           });
         };
-        below = rw keys_are kept.below;
-        few = rw rows_are (let few = kept.few in let same = ap length c.values in omega (arith, length-append c.before (row ∷ c.behind), length-append c.before (dies moment row ∷ c.behind)));
-        fits = kept.fits;
         counts = rw rows_are (counts (rows_of a.table) (c.before ++ dies moment row ∷ c.behind) (rw c.values (leaves_dead row c.before c.behind (rw c.values at kept.is_table.apart) (dies moment row) refl)) kept.counts);
         numbered = numbered (value_at es) (value_at t.rows.entries) s at (λ k e. now k ∙ rw e refl) kept.numbered;
       } where
         rows_are : rows_of t ≡ c.before ++ dies moment row ∷ c.behind
         rows_are = ap values_of is ∙ c.set (dies moment row)
+
+        now : (k : ℕ) → value_at t.rows.entries k ≡ cond (is_at (nat_cmp s) k) (Some (dies moment row)) (value_at es k)
+        now k = ap (λ entries. value_at entries k) is ∙ lookup-insert_entry nat_cmp_total k es s (dies moment row)
 
         keys_are : keys_of t.rows.entries ≡ keys_of es
         keys_are = ap keys_of is ∙ c.set_keys (dies moment row)
@@ -123,26 +112,24 @@ module _ (a : Inside) (kept : IsKept a.table a.made a.lives) where
           (named_live d n row named live)))
 
     pub kept_without : (t : Table) (lives : Lives) → t.rows.entries ≡ remove_entry (is_at (nat_cmp s)) es
-        → IsStrictlySortedBy nat_cmp (keys_of t.rows.entries)
-        → ((k : ℕ) → value_at t.rows.entries k ≡ cond (is_at (nat_cmp s) k) None (value_at es k))
         → ((at : ℕ → Option NameRow) → at s ≡ Some row → ArePlaced at a.table.places → ArePlaced (λ k. cond (is_at (nat_cmp s) k) None (at k)) t.places)
         → ((was now : List NameRow) → Leaves row was now → AreCounted was a.lives → AreCounted now lives)
         → ((at to : ℕ → Option NameRow) (serial : ℕ) → at serial ≡ Some row → ((s : ℕ) → is_at (nat_cmp serial) s ≡ false → to s ≡ at s) → AreNumbered at a.lives → AreNumbered to lives)
-        → IsKept t a.made lives
-    kept_without t lives is rising now placed counts numbered = record {
+        → IsKept t lives
+    kept_without t lives is placed counts numbered = record {
       is_table = record {
-        rising = rising;
+        rising = rw is (rises_without (is_at (nat_cmp s)) es kept.is_table.rising);
         short = rw is (all_keys_without (λ k. k < 2 ^ 64) (is_at (nat_cmp s)) es kept.is_table.short);
         born = rw rows_are (let born = all-around (λ row. row.birth ≤ last_moment) c.before row c.behind (rw c.values at kept.is_table.born) in all-append (λ row. row.birth ≤ last_moment) c.before c.behind born.0 born.2);
         apart = rw rows_are (later-without Follows c.before row c.behind (rw c.values at kept.is_table.apart));
         placed = placed_same (λ k. cond (is_at (nat_cmp s) k) None (value_at es k)) (value_at t.rows.entries) t.places now (placed (value_at es) at kept.is_table.placed);
       };
-      below = rw is (all_keys_without (λ k. k < a.made) (is_at (nat_cmp s)) es kept.below);
-      few = rw rows_are (let few = kept.few in let same = ap length c.values in omega (arith, length-append c.before (row ∷ c.behind), length-append c.before c.behind));
-      fits = kept.fits;
       counts = rw rows_are (counts (rows_of a.table) (c.before ++ c.behind) (rw c.values (leaves_without row c.before c.behind (rw c.values at kept.is_table.apart))) kept.counts);
       numbered = numbered (value_at es) (value_at t.rows.entries) s at (λ k e. now k ∙ rw e refl) kept.numbered;
     } where
+      now : (k : ℕ) → value_at t.rows.entries k ≡ cond (is_at (nat_cmp s) k) None (value_at es k)
+      now k = ap (λ entries. value_at entries k) is ∙ gone_at s k es kept.is_table.rising
+
       rows_are : rows_of t ≡ c.before ++ c.behind
       rows_are = ap values_of is ∙ c.without
 

@@ -2,6 +2,7 @@ pub mod Apart
 pub mod Newest
 pub mod Counts
 pub mod Live
+pub mod Numbering
 pub mod Added
 pub mod Gone
 pub mod Told

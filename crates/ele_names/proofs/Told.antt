@@ -61,7 +61,7 @@ next_elsewhere index s next other group q r z later same =
 none_before : (d : ℕ) (n : List ℕ) → is_lt (spot_cmp (record { directory = d; name = None }) (spot d n)) ≡ false → ⊥
 none_before d n h = let less : is_lt (spot_cmp (record { directory = d; name = None }) (spot d n)) ≡ true = rw (tied_itself nat_cmp_total d) refl in cc
 
-module _ (a : Inside) (kept : IsKept a.table a.made a.lives) where
+module _ (a : Inside) (kept : IsKept a.table a.lives) where
   silent_at : (moment : ℕ) (q : Spot) → ((r z : ℕ) → has spot_cmp a.table.places.by_name q r z ≡ false) → at_spot (rows_of a.table) moment q ≡ None
   silent_at moment q none = by_name q.directory q.name none where
     by_name : (d : ℕ) (o : Option (List ℕ)) → ((r z : ℕ) → has spot_cmp a.table.places.by_name (record { directory = d; name = o }) r z ≡ false) → at_spot (rows_of a.table) moment (record { directory = d; name = o }) ≡ None

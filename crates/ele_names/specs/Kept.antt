@@ -1,5 +1,5 @@
 -- What the fields of `Names` are to each other. No public clause cites this module.
-use Rattle.std.specs.Prelude.{ℕ, ◌≤◌, ◌<◌, ◌^◌, ◌&&◌, nat_le, Bool, List, length}
+use Rattle.std.specs.Prelude.{ℕ, ◌≤◌, ◌<◌, ◌^◌, ◌&&◌, nat_le, Bool, List}
 use Rattle.std.specs.List.{AllByRecursion}
 use Rattle.std.specs.List.Sorted.{IsStrictlySortedBy}
 use Rattle.std.specs.Ordering.{nat_cmp}
@@ -31,11 +31,8 @@ pub record IsTable (table : Table) : Type 0 where
   pub apart : AllLater Follows (rows_of table)
   pub placed : ArePlaced (value_at table.rows.entries) table.places
 
--- each serial number is below the next one, and the live rows are known and counted
-pub record IsKept (table : Table) (made : ℕ) (lives : Lives) : Type 0 where
+-- and the live rows are known and counted
+pub record IsKept (table : Table) (lives : Lives) : Type 0 where
   pub is_table : IsTable table
-  pub below : AllByRecursion (λ serial. serial < made) (keys_of table.rows.entries)
-  pub few : length (rows_of table) ≤ made
-  pub fits : made < 2 ^ 64
   pub counts : AreCounted (rows_of table) lives
   pub numbered : AreNumbered (value_at table.rows.entries) lives

@@ -1,5 +1,6 @@
 pub mod Rows
 pub mod Listed
+pub mod Numbered
 pub mod Spots
 pub mod Placed
 pub mod Counted

@@ -4,6 +4,7 @@
 
 mod lives;
 mod names;
+mod numbered;
 mod places;
 mod spot;
 mod table;

@@ -31,7 +31,6 @@ use std::marker::Model;
 #[derive(Drop)]
 pub struct Names {
     table: Table,
-    made: u64,
     lives: Lives,
     alloc: Global,
 }
@@ -45,7 +44,7 @@ impl Model for Names {
 
     ghost view = { λ names. rows_of names.table };
 
-    ghost invariant = { λ names. IsKept names.table names.made names.lives };
+    ghost invariant = { λ names. IsKept names.table names.lives };
 }
 
 impl Names {
@@ -55,15 +54,13 @@ impl Names {
     {
         Names {
             table: Table::new(alloc),
-            made: 0,
             lives: Lives::new(alloc),
             alloc,
         }
     }
 
     /// Makes a live name. The caller knows that no name of this kind is live, and that those there
-    /// were are over. `NoMemory` where there is no room for it, or no serial number: 2^64 rows were
-    /// made then. The rows are as they were.
+    /// were are over. `NoMemory` where there is no room for it; the rows are as they were.
     pub fn add(
         &mut self,
         directory: DirId,
@@ -84,18 +81,14 @@ impl Names {
             birth,
             death: None,
         };
-        let serial = self.made;
-        let Some(made) = serial.checked_add(1) else {
-            return Err(NoMemory);
-        };
+        let serial = self.table.rows.next_serial();
         self.lives.reserve()?;
         self.table.places.enter(&row, serial)?;
-        if let Err(_refused) = self.table.rows.insert(serial, row) {
+        if let Err(refused) = self.table.rows.push(row) {
             self.table.places.leave(&row, serial);
-            return Err(NoMemory);
+            return Err(refused);
         }
         self.lives.enter(&row, serial);
-        self.made = made;
         Ok(())
     }
 
@@ -106,7 +99,7 @@ impl Names {
         ensures { (rows : List NameRow) (newest : NameRow)
             → self.old ≡ rows ++ newest ∷ [] → self.new ≡ rows }
     {
-        let Some((serial, row)) = self.table.rows.pop_last() else {
+        let Some((serial, row)) = self.table.rows.pop() else {
             unreachable!()
         };
         self.table.places.leave(&row, serial);
@@ -126,9 +119,7 @@ impl Names {
             death: Some(moment),
             ..live
         };
-        if let Err(_refused) = self.table.rows.insert(serial, dead) {
-            unreachable!()
-        }
+        self.table.rows.replace(serial, dead);
         self.lives.leave(&live);
     }
 
@@ -150,7 +141,7 @@ impl Names {
         let Some((_, serial)) = self.table.places.by_target.last(target, 0) else {
             return false;
         };
-        let Some(row) = self.table.rows.remove(&serial) else {
+        let Some(row) = self.table.rows.take(serial) else {
             unreachable!()
         };
         self.table.places.leave(&row, serial);
@@ -281,14 +272,14 @@ impl Names {
     pub fn row(&self, place: usize) -> Option<NameRow>
         ensures { result ≡ slice_get self.now place }
     {
-        self.table.rows.values().nth(place).copied()
+        self.table.rows.nth(place)
     }
 
     /// A copy of all rows, in order of making.
     pub fn rows(&self) -> Result<Vec<NameRow>, NoMemory>
         ensures { IfOk result (λ rows. rows.items ≡ self.now) }
     {
-        Ok(self.table.rows.values().copied().collect(self.alloc)?)
+        self.table.rows.rows(self.alloc)
     }
 }
 
@@ -302,7 +293,7 @@ fn live_row(table: &Table, lives: &Lives, directory: DirId, name: &Name) -> Opti
         (λ e. (is_named directory name.now e.1 ≡ true) × (is_none e.1.death ≡ true)) }
 {
     let live = lives.live(directory, name)?;
-    let row = table.rows.get(&live.serial)?;
+    let row = table.rows.get(live.serial)?;
     Some((live.serial, *row))
 }
 

@@ -11,17 +11,17 @@ ghost use Rattle.ele_names.specs.Kept.{IsTable, rows_of, is_born_by};
 ghost use Rattle.ele_names.specs.Spots.{spot_cmp};
 ghost use Rattle.ele_names.specs.declared.spot.Spot.{Spot};
 
+use crate::numbered::Numbered;
 use crate::places::Places;
 use crate::spot::Spot;
 use ele_moment::{DirId, Moment, Name};
 use ele_world::NameRow;
 use std::alloc::Global;
-use std::collections::BTreeMap;
 
 /// The rows by serial number, and the indexes by which they are found.
 #[derive(Drop)]
 pub struct Table {
-    pub rows: BTreeMap<u64, NameRow>,
+    pub rows: Numbered,
     pub places: Places,
 }
 
@@ -32,7 +32,7 @@ impl Table {
         ensures rows { result.rows.entries ≡ [] }
     {
         Table {
-            rows: BTreeMap::new(alloc),
+            rows: Numbered::new(alloc),
             places: Places::new(alloc),
         }
     }
@@ -49,7 +49,7 @@ impl Table {
             name: Some(*name),
         };
         let (_, serial) = self.places.by_name.last(spot, seconds)?;
-        let row = self.rows.get(&serial)?;
+        let row = self.rows.get(serial)?;
         Some((serial, *row))
     }
 

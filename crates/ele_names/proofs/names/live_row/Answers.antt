@@ -10,9 +10,9 @@ returns-in_err-live-clause-none c = rw c.from_residual.ensures
 pub returns-in_err-row-clause-none : goal.returns-in_err-row-clause-none
 returns-in_err-row-clause-none c =
     absurd (stands_live (value_at c.args.table.now.rows.entries) c.args.lives.now c.requires.numbered c.args.directory c.args.name.now
-    c.in_ok-live.live (sym c.in_ok-live.was ∙ c.live.ensures) c.in_err-row.ensures.value)
+    c.in_ok-live.live (sym c.in_ok-live.was ∙ c.live.ensures) c.in_err-row.ensures)
 
 pub returns-clause-live : goal.returns-clause-live
 returns-clause-live c =
     row_of_live (value_at c.args.table.now.rows.entries) c.args.lives.now c.requires.numbered c.args.directory c.args.name.now
-    c.in_ok-live.live (sym c.in_ok-live.was ∙ c.live.ensures) c.in_ok-row.row.now c.in_ok-row.ensures.value
+    c.in_ok-live.live (sym c.in_ok-live.was ∙ c.live.ensures) c.in_ok-row.row.now c.in_ok-row.ensures

@@ -5,8 +5,8 @@ use Rattle.ele_names.proofs.names.Names.kill.Goals as goal
 pub invariant_of-self : goal.invariant_of-self
 invariant_of-self c =
     kept_dead c.self.inside c.self.invariant c.in-Some.serial c.in-Some.live c.in-Some.ensures.serial c.in-Some.ensures.live.1
-    c.args.moment _ _ refl c.in_default-insert.ensures.entries c.insert.ensures.ordered c.in_default-insert.ensures.updates.0 c.leave.ensures.counted c.leave.ensures.numbered
+    c.args.moment _ _ refl c.replace.ensures c.leave.ensures.counted c.leave.ensures.numbered
 
 pub returns : goal.returns
-returns c = rw (← c.self.view_is, c.in_default-insert.ensures.entries)
+returns c = rw (← c.self.view_is, c.replace.ensures)
     (killed c.self.inside c.self.invariant c.in-Some.serial c.in-Some.live c.in-Some.ensures.serial c.in-Some.ensures.live.1 c.args.moment c.args.directory c.args.name.now c.in-Some.ensures.live.0)

@@ -1,0 +1,192 @@
+-- Rows at the places of their numbers.
+use Rattle.std.proofs.Common.{◌≡◌, ℕ, zero, suc, ◌+◌, ◌≤◌, ◌<◌, sym, Bool, true, false, List, [], ◌∷◌, ◌++◌, length, slice_get, slice_set, Option, Some, None, IsSome, cond, filter_map, inl, inr, refl, ap, subst, ◌∙◌, arith}
+use Rattle.std.specs.List.{AllByRecursion}
+use Rattle.std.specs.List.Sorted.{IsStrictlySortedBy}
+use Rattle.std.specs.declared.cmp.Ordering.TheVariants.{Less, Equal, Greater}
+use Rattle.std.specs.Ordering.{nat_cmp}
+use Rattle.std.specs.BTreeMap.{is_at, insert_entry}
+use Rattle.std.specs.Map.{keys_of, values_of, remove_entry}
+use Rattle.std.specs.Option.{option_and_then}
+use Rattle.std.proofs.lemmas.Bool.{false≢true, cases_lt}
+use Rattle.std.proofs.lemmas.Bool.Decides.{nat_tests}
+use Rattle.std.proofs.lemmas.Cmp.{nat_cmp_total}
+use Rattle.std.proofs.lemmas.Option.{slice_get_past}
+use Rattle.ele_lists.proofs.Entries.{lookup-insert_entry}
+use Rattle.ele_lists.proofs.Indexed.{at_itself}
+use Rattle.ele_lists.specs.Serial.{value_at}
+use Rattle.ele_lists.proofs.Edits.{all-weaker}
+use Rattle.ele_lists.proofs.Serials.{IsRising, after_head, all_keys_without, pushed, rest_rises}
+use Rattle.ele_names.specs.Numbered.{entries_from}
+
+here : (n : ℕ) → nat_cmp (n + 0) n ≡ Equal
+here n = grind (arith, nat_tests)
+
+behind : (n i : ℕ) → nat_cmp (n + suc i) n ≡ Greater
+behind n i = grind (arith, nat_tests)
+
+next : (n i : ℕ) → suc n + i ≡ n + suc i
+next n i = omega arith
+
+before : (m n : ℕ) → m < n → nat_cmp m n ≡ Less
+before m n lt = grind (arith, nat_tests)
+
+module _ {X : Type 0} where
+  pub from_below : (n : ℕ) (xs : List (Option X)) → AllByRecursion (λ k. k < n + length xs) (keys_of (entries_from n xs))
+  from_below n [] = tt
+  from_below n (None ∷ xs) = all-weaker (λ k. k < suc n + length xs) (λ k. k < n + suc (length xs)) (keys_of (entries_from (suc n) xs)) (λ k h. omega (arith, h)) (from_below (suc n) xs)
+  from_below n (Some x ∷ xs) = (omega arith, all-weaker (λ k. k < suc n + length xs) (λ k. k < n + suc (length xs)) (keys_of (entries_from (suc n) xs)) (λ k h. omega (arith, h)) (from_below (suc n) xs))
+
+  from_after : (m n : ℕ) (xs : List (Option X)) → m < n → AllByRecursion (λ k. nat_cmp m k ≡ Less) (keys_of (entries_from n xs))
+  from_after m n [] lt = tt
+  from_after m n (None ∷ xs) lt = from_after m (suc n) xs (omega (arith, lt))
+  from_after m n (Some x ∷ xs) lt = (before m n lt, from_after m (suc n) xs (omega (arith, lt)))
+
+  pub from_rises : (n : ℕ) (xs : List (Option X)) → IsRising (entries_from n xs)
+  unfolding IsStrictlySortedBy
+  from_rises n [] = tt
+  from_rises n (None ∷ xs) = from_rises (suc n) xs
+  from_rises n (Some x ∷ xs) = (from_after n (suc n) xs (omega arith), from_rises (suc n) xs)
+
+  pub from_few : (n : ℕ) (xs : List (Option X)) → length (entries_from n xs) ≤ length xs
+  from_few n [] = omega arith
+  from_few n (None ∷ xs) = omega (arith, from_few (suc n) xs)
+  from_few n (Some x ∷ xs) = omega (arith, from_few (suc n) xs)
+
+  -- a place behind all others
+  pub from_push : (n : ℕ) (xs : List (Option X)) (v : X) → entries_from n (xs ++ Some v ∷ []) ≡ entries_from n xs ++ (n + length xs, v) ∷ []
+  from_push n [] v = let same : n ≡ n + 0 = omega arith in ap (λ (m : ℕ). (m, v) ∷ []) same
+  from_push n (None ∷ xs) v = from_push (suc n) xs v ∙ ap (λ (m : ℕ). entries_from (suc n) xs ++ (m, v) ∷ []) (next n (length xs))
+  from_push n (Some x ∷ xs) v = ap (λ (es : List (ℕ × X)). (n, x) ∷ es) (from_push (suc n) xs v ∙ ap (λ (m : ℕ). entries_from (suc n) xs ++ (m, v) ∷ []) (next n (length xs)))
+
+  pub from_none : (n : ℕ) (xs : List (Option X)) → entries_from n (xs ++ None ∷ []) ≡ entries_from n xs
+  from_none n [] = refl
+  from_none n (None ∷ xs) = from_none (suc n) xs
+  from_none n (Some x ∷ xs) = ap (λ (es : List (ℕ × X)). (n, x) ∷ es) (from_none (suc n) xs)
+
+  -- nothing is at a number before all places
+  none_at : (m n : ℕ) (xs : List (Option X)) → m < n → value_at (entries_from n xs) m ≡ None
+  none_at m n [] lt = refl
+  none_at m n (None ∷ xs) lt = none_at m (suc n) xs (omega (arith, lt))
+  none_at m n (Some x ∷ xs) lt = rw (before m n lt) (none_at m (suc n) xs (omega (arith, lt)))
+
+  none_leaves : (m n : ℕ) (xs : List (Option X)) → m < n → remove_entry (is_at (nat_cmp m)) (entries_from n xs) ≡ entries_from n xs
+  none_leaves m n [] lt = refl
+  none_leaves m n (None ∷ xs) lt = none_leaves m (suc n) xs (omega (arith, lt))
+  none_leaves m n (Some x ∷ xs) lt = rw (before m n lt) (ap (λ (es : List (ℕ × X)). (n, x) ∷ es) (none_leaves m (suc n) xs (omega (arith, lt))))
+
+  pub from_at : (n : ℕ) (xs : List (Option X)) (i : ℕ) → value_at (entries_from n xs) (n + i) ≡ option_and_then (λ x. x) (slice_get xs i)
+  from_at n [] i = refl
+  from_at n (None ∷ xs) zero = none_at (n + 0) (suc n) xs (omega arith)
+  from_at n (None ∷ xs) (suc i) = ap (value_at (entries_from (suc n) xs)) (sym (next n i)) ∙ from_at (suc n) xs i
+  from_at n (Some x ∷ xs) zero = rw (here n) refl
+  from_at n (Some x ∷ xs) (suc i) = rw (behind n i) (ap (value_at (entries_from (suc n) xs)) (sym (next n i)) ∙ from_at (suc n) xs i)
+
+  pub from_set : (n : ℕ) (xs : List (Option X)) (i : ℕ) (w v : X) → slice_get xs i ≡ Some (Some w) → entries_from n (slice_set xs i (Some v)) ≡ insert_entry nat_cmp (entries_from n xs) (n + i) v
+  from_set n [] i w v h = absurd cc
+  from_set n (None ∷ xs) zero w v h = absurd cc
+  from_set n (Some x ∷ xs) zero w v h = rw (here n) refl
+  from_set n (None ∷ xs) (suc i) w v h = from_set (suc n) xs i w v h ∙ ap (λ m. insert_entry nat_cmp (entries_from (suc n) xs) m v) (next n i)
+  from_set n (Some x ∷ xs) (suc i) w v h = rw (behind n i) (ap (λ (es : List (ℕ × X)). (n, x) ∷ es) (from_set (suc n) xs i w v h ∙ ap (λ m. insert_entry nat_cmp (entries_from (suc n) xs) m v) (next n i)))
+
+  pub from_clear : (n : ℕ) (xs : List (Option X)) (i : ℕ) → entries_from n (slice_set xs i None) ≡ remove_entry (is_at (nat_cmp (n + i))) (entries_from n xs)
+  from_clear n [] i = refl
+  from_clear n (None ∷ xs) zero = sym (none_leaves (n + 0) (suc n) xs (omega arith))
+  from_clear n (Some x ∷ xs) zero = rw (here n) refl
+  from_clear n (None ∷ xs) (suc i) = from_clear (suc n) xs i ∙ ap (λ m. remove_entry (is_at (nat_cmp m)) (entries_from (suc n) xs)) (next n i)
+  from_clear n (Some x ∷ xs) (suc i) = rw (behind n i) (ap (λ (es : List (ℕ × X)). (n, x) ∷ es) (from_clear (suc n) xs i ∙ ap (λ m. remove_entry (is_at (nat_cmp m)) (entries_from (suc n) xs)) (next n i)))
+
+  -- the rows without their numbers
+  pub from_values : (n : ℕ) (xs : List (Option X)) → values_of (entries_from n xs) ≡ filter_map (λ x. x) xs
+  from_values n [] = refl
+  from_values n (None ∷ xs) = from_values (suc n) xs
+  from_values n (Some x ∷ xs) = ap (λ (ys : List X). x ∷ ys) (from_values (suc n) xs)
+
+  -- entries of rising numbers without one
+  pub rises_without : (test : ℕ → Bool) (es : List (ℕ × X)) → IsRising es → IsRising (remove_entry test es)
+  unfolding IsStrictlySortedBy
+  rises_without test [] up = tt
+  rises_without test (e ∷ es) up = elim (test e.0) as (λ b. IsRising (cond b es (e ∷ remove_entry test es))) [
+    | true ↦ up.1
+    | false ↦ (all_keys_without (λ k. nat_cmp e.0 k ≡ Less) test es up.0, rises_without test es up.1)
+  ]
+
+  nothing : (b : Bool) (none : Option X) → cond b none none ≡ none
+  nothing true none = refl
+  nothing false none = refl
+
+  pub gone_at : (n k : ℕ) (es : List (ℕ × X)) → IsRising es → value_at (remove_entry (is_at (nat_cmp n)) es) k ≡ cond (is_at (nat_cmp n) k) None (value_at es k)
+  gone_at n k [] up = sym (nothing (is_at (nat_cmp n) k) None)
+  gone_at n k (e ∷ es) up = elim (is_at (nat_cmp n) e.0) as (λ b. is_at (nat_cmp n) e.0 ≡ b → value_at (cond b es (e ∷ remove_entry (is_at (nat_cmp n)) es)) k ≡ cond (is_at (nat_cmp n) k) None (value_at (e ∷ es) k)) [
+    | true ↦ λ first. elim (is_at (nat_cmp n) k) as (λ b. is_at (nat_cmp n) k ≡ b → value_at es k ≡ cond b None (value_at (e ∷ es) k)) [
+      | true ↦ λ it. by_head n k e es up first it
+      | false ↦ λ other. ap (λ b. cond b (Some e.1) (value_at es k)) (sym (apart n k e.0 first other))
+    ] refl
+    | false ↦ λ later. elim (is_at (nat_cmp k) e.0) as (λ b. is_at (nat_cmp k) e.0 ≡ b → cond b (Some e.1) (value_at (remove_entry (is_at (nat_cmp n)) es) k) ≡ cond (is_at (nat_cmp n) k) None (cond b (Some e.1) (value_at es k))) [
+      | true ↦ λ it. ap (λ b. cond b None (Some e.1)) (sym (not_it n k e.0 later it))
+      | false ↦ λ there. gone_at n k es (rest_rises e es up)
+    ] refl
+  ] refl where
+    apart : (n k m : ℕ) → is_at (nat_cmp n) m ≡ true → is_at (nat_cmp n) k ≡ false → is_at (nat_cmp k) m ≡ false
+    apart n k m at other = grind (arith, nat_tests)
+
+    not_it : (n k m : ℕ) → is_at (nat_cmp n) m ≡ false → is_at (nat_cmp k) m ≡ true → is_at (nat_cmp n) k ≡ false
+    not_it n k m later it = grind (arith, nat_tests)
+
+    over : (n k m : ℕ) → is_at (nat_cmp n) m ≡ true → is_at (nat_cmp n) k ≡ true → m < k → ⊥
+    over n k m at it lt = grind (arith, nat_tests)
+
+    by_head : (n k : ℕ) (e : ℕ × X) (es : List (ℕ × X)) → IsRising (e ∷ es) → is_at (nat_cmp n) e.0 ≡ true → is_at (nat_cmp n) k ≡ true → value_at es k ≡ None
+    by_head n k e es up first it = by (value_at es k) refl where
+      by : (o : Option X) → value_at es k ≡ o → value_at es k ≡ None
+      by None h = h
+      by (Some v) h = absurd (let lt = (after_head e es k v up h).0 in over n k e.0 first it lt)
+
+  pub at_last : (n : ℕ) (x : X) (es fs : List (ℕ × X)) → es ≡ fs ++ (n, x) ∷ [] → AllByRecursion (λ k. k < n) (keys_of fs) → value_at es n ≡ Some x
+  at_last n x es fs is below =
+      ap (λ entries. value_at entries n) (is ∙ sym (pushed n x fs below)) ∙ lookup-insert_entry nat_cmp_total n fs n x ∙ ap (λ b. cond b (Some x) (value_at fs n)) (at_itself n)
+
+  pub without_last : (n : ℕ) (x : X) (es fs : List (ℕ × X)) → es ≡ fs ++ (n, x) ∷ [] → AllByRecursion (λ k. k < n) (keys_of fs) → remove_entry (is_at (nat_cmp n)) es ≡ fs
+  without_last n x es fs is below = rw is (by fs below) where
+    later : (a b : ℕ) → b < a → is_at (nat_cmp a) b ≡ false
+    later a b h = grind (arith, nat_tests)
+
+    by : (fs : List (ℕ × X)) → AllByRecursion (λ k. k < n) (keys_of fs) → remove_entry (is_at (nat_cmp n)) (fs ++ (n, x) ∷ []) ≡ fs
+    by [] below = rw (at_itself n) refl
+    by (f ∷ fs) below = rw (later n f.0 below.0) (ap (λ (gs : List (ℕ × X)). f ∷ gs) (by fs below.1))
+
+  -- whatever the places are numbered from
+  module _ (xs : List (Option X)) where
+    pub at_place : (i : ℕ) → value_at (entries_from 0 xs) i ≡ option_and_then (λ x. x) (slice_get xs i)
+    at_place i = let same : i ≡ 0 + i = omega arith in ap (value_at (entries_from 0 xs)) same ∙ from_at 0 xs i
+
+    pub place_cleared : (i : ℕ) → entries_from 0 (slice_set xs i None) ≡ remove_entry (is_at (nat_cmp i)) (entries_from 0 xs)
+    place_cleared i = let same : 0 + i ≡ i = omega arith in from_clear 0 xs i ∙ ap (λ m. remove_entry (is_at (nat_cmp m)) (entries_from 0 xs)) same
+
+    pub all_below : AllByRecursion (λ k. k < length xs) (keys_of (entries_from 0 xs))
+    all_below = all-weaker (λ k. k < 0 + length xs) (λ k. k < length xs) (keys_of (entries_from 0 xs)) (λ k h. omega (arith, h)) (from_below 0 xs)
+
+    pub place_pushed : (v : X) → entries_from 0 (xs ++ Some v ∷ []) ≡ entries_from 0 xs ++ (length xs, v) ∷ []
+    place_pushed v = let same : 0 + length xs ≡ length xs = omega arith in from_push 0 xs v ∙ ap (λ (m : ℕ). entries_from 0 xs ++ (m, v) ∷ []) same
+
+    -- a number that has a row is that of a taken place
+    module _ (i : ℕ) (some : IsSome (value_at (entries_from 0 xs) i)) where
+      taken : (o : Option (Option X)) → slice_get xs i ≡ o → IsSome (option_and_then (λ x. x) o)
+      taken o e = subst IsSome (at_place i ∙ ap (option_and_then (λ x. x)) e) some
+
+      pub placed_within : i < length xs
+      placed_within = elim (cases_lt i (length xs)) as (λ _. i < length xs) [
+        | inl lt ↦ lt
+        | inr past ↦ absurd (false≢true (taken None (slice_get_past xs i past)))
+      ]
+
+      pub place_set : (v : X) → entries_from 0 (slice_set xs i (Some v)) ≡ insert_entry nat_cmp (entries_from 0 xs) i v
+      place_set v = by (slice_get xs i) refl where
+        by : (o : Option (Option X)) → slice_get xs i ≡ o → entries_from 0 (slice_set xs i (Some v)) ≡ insert_entry nat_cmp (entries_from 0 xs) i v
+        by None e = absurd (false≢true (taken None e))
+        by (Some None) e = absurd (false≢true (taken (Some None) e))
+        by (Some (Some w)) e = let same : 0 + i ≡ i = omega arith in from_set 0 xs i w v e ∙ ap (λ m. insert_entry nat_cmp (entries_from 0 xs) m v) same
+
+  -- where there is no place, there is no row
+  pub none_taken : (xs : List (Option X)) → (0 < length xs → ⊥) → entries_from 0 xs ≡ []
+  none_taken [] none = refl
+  none_taken (x ∷ xs) none = absurd (none (omega arith))

@@ -1,0 +1,17 @@
+use Rattle.std.proofs.Common.{◌<◌, subst, sym, ◌∙◌, arith}
+use Rattle.std.specs.List.{AllByRecursion}
+use Rattle.std.specs.Map.{keys_of}
+use Rattle.ele_names.specs.Numbered.{entries_from}
+use Rattle.ele_names.proofs.Numbering.{all_below, from_few}
+use Rattle.ele_names.proofs.numbered.Numbered.next_serial.Goals as goal
+
+pub returns-clause-few : goal.returns-clause-few
+returns-clause-few c =
+    let few = from_few 0 c.self.inside.places.items in
+    let whole = c.self.inside.places.ok.0 in
+    rw (← c.self.view_is) (omega (arith, c.len.ensures))
+
+pub returns-clause-below : goal.returns-clause-below
+returns-clause-below c =
+    let items = c.self.inside.places.items in
+    rw (← c.self.view_is) (subst (λ n. AllByRecursion (λ serial. serial < n) (keys_of (entries_from 0 items))) (sym (c.len.ensures ∙ c.self.inside.places.ok.0)) (all_below items))

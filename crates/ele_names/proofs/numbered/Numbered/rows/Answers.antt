@@ -1,0 +1,12 @@
+use Rattle.std.proofs.Common.{Option, Ok, rules, tests}
+use Rattle.std.proofs.lemmas.Iterator.{YieldsList-from_slice, items_from_collect}
+use Rattle.std.proofs.lemmas.Iterator.Consumers.{YieldsList-from_filter_map}
+use Rattle.std.specs.declared.alloc.AllocError.{AllocError}
+use Rattle.ele_world.specs.declared.rows.NameRow.{NameRow}
+use Rattle.ele_names.proofs.Numbering.{from_values}
+use Rattle.ele_names.proofs.numbered.Numbered.rows.Goals as goal
+
+pub returns : goal.returns
+returns c =
+    let items = c.self.inside.places.items in
+    rw (← c.self.view_is, from_values 0 items) (items_from_collect {E = AllocError} (Ok c.in_ok-collect.field-0) c.in_ok-collect.ensures.ran (YieldsList-from_filter_map _ (λ (x : Option NameRow). x) (YieldsList-from_slice items (cc)) c.filter_map.ensures.closure (λ x r q k. search (rules, tests))))

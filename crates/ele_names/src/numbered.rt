@@ -1,0 +1,114 @@
+//! Rows by serial number.
+//! A contract sees the entries, each a serial number with its row, and how many numbers are given.
+ghost use Rattle.std.specs.Prelude.{◌≡◌, ◌+◌, ◌≤◌, ◌<◌, ◌^◌, ◌++◌, ◌∷◌, [], IsSome, IfSome, IfOk, OnOk, OnErr, IfNone, length, slice_get};
+ghost use Rattle.std.specs.BTreeMap.{is_at, insert_entry};
+ghost use Rattle.std.specs.List.{AllByRecursion};
+ghost use Rattle.std.specs.Map.{keys_of, remove_entry, values_of};
+ghost use Rattle.std.specs.Option.{option_copied};
+ghost use Rattle.std.specs.Ordering.{nat_cmp};
+ghost use Rattle.ele_lists.specs.Serial.{value_at};
+
+use ele_moment::NoMemory;
+use ele_world::NameRow;
+use std::alloc::Global;
+use std::marker::Model;
+
+/// Rows by serial number, each at the place of its number. A row that leaves keeps its place empty
+/// for as long as there are rows behind it.
+#[derive(Drop)]
+pub struct Numbered {
+    places: Vec<Option<NameRow>>,
+}
+
+impl Model for Numbered {
+    ghost use Rattle.ele_world.specs.declared.rows.NameRow.{NameRow};
+    ghost use Rattle.ele_names.specs.Numbered.{Serials, serials_of};
+
+    ghost Value = { Serials NameRow };
+
+    ghost view = { λ n. serials_of n.places.items };
+}
+
+impl Numbered {
+    /// No rows.
+    pub fn new(alloc: Global) -> Numbered
+        ensures { result.entries ≡ [] }
+    {
+        Numbered {
+            places: Vec::new(alloc),
+        }
+    }
+
+    /// The serial number that the next row gets.
+    pub fn next_serial(&self) -> u64
+        ensures next { result ≡ self.now.made }
+        ensures below { AllByRecursion (λ serial. serial < result) (keys_of self.now.entries) }
+        ensures few { length self.now.entries ≤ result }
+    {
+        self.places.len() as u64
+    }
+
+    /// The row of the serial number.
+    pub fn get(&self, serial: u64) -> Option<&NameRow>
+        ensures { option_copied result ≡ value_at self.now.entries serial }
+    {
+        self.places.get(serial as usize)?.as_ref()
+    }
+
+    /// Adds a row behind all others. `NoMemory` where there is no room; all is as it was.
+    pub fn push(&mut self, row: NameRow) -> Result<(), NoMemory>
+        ensures ok { OnOk result
+            (self.new.entries ≡ insert_entry nat_cmp self.old.entries self.old.made row) }
+        ensures err { OnErr result (self.new.entries ≡ self.old.entries) }
+        ensures fits { OnOk result (self.old.made + 1 < 2 ^ 64) }
+    {
+        Ok(self.places.push(Some(row))?)
+    }
+
+    /// Puts a row in place of that of the serial number.
+    pub fn replace(&mut self, serial: u64, row: NameRow)
+        requires { IsSome (value_at self.old.entries serial) }
+        ensures { self.new.entries ≡ insert_entry nat_cmp self.old.entries serial row }
+    {
+        self.places[serial as usize] = Some(row);
+    }
+
+    /// Takes out the row of the serial number.
+    pub fn take(&mut self, serial: u64) -> Option<NameRow>
+        requires { IsSome (value_at self.old.entries serial) }
+        ensures row { result ≡ value_at self.old.entries serial }
+        ensures entries { self.new.entries
+            ≡ remove_entry (is_at (nat_cmp serial)) self.old.entries }
+    {
+        self.places[serial as usize].take()
+    }
+
+    /// Takes out the last row, with its serial number, and the empty places behind it.
+    pub fn pop(&mut self) -> Option<(u64, NameRow)>
+        ensures some { IfSome result (λ e. self.old.entries ≡ self.new.entries ++ e ∷ []) }
+        ensures below { IfSome result
+            (λ e. AllByRecursion (λ serial. serial < e.0) (keys_of self.new.entries)) }
+        ensures none { IfNone result (self.old.entries ≡ []) }
+    {
+        while let Some(place) = self.places.pop() {
+            if let Some(row) = place {
+                return Some((self.next_serial(), row));
+            }
+        }
+        None
+    }
+
+    /// The row at that place in order of serial numbers. It passes over the rows before it.
+    pub fn nth(&self, place: usize) -> Option<NameRow>
+        ensures { result ≡ slice_get (values_of self.now.entries) place }
+    {
+        self.places.iter().filter_map(|row| *row).nth(place)
+    }
+
+    /// A copy of all rows.
+    pub fn rows(&self, alloc: Global) -> Result<Vec<NameRow>, NoMemory>
+        ensures { IfOk result (λ rows. rows.items ≡ values_of self.now.entries) }
+    {
+        Ok(self.places.iter().filter_map(|row| *row).collect(alloc)?)
+    }
+}
