@@ -110,9 +110,9 @@ module _ {X : Type 0} where
     | false ↦ (all_keys_without (λ k. nat_cmp e.0 k ≡ Less) test es up.0, rises_without test es up.1)
   ]
 
-  nothing : (b : Bool) (none : Option X) → cond b none none ≡ none
-  nothing true none = refl
-  nothing false none = refl
+  nothing : (b : Bool) (it : Option X) → cond b it it ≡ it
+  nothing true it = refl
+  nothing false it = refl
 
   pub gone_at : (n k : ℕ) (es : List (ℕ × X)) → IsRising es → value_at (remove_entry (is_at (nat_cmp n)) es) k ≡ cond (is_at (nat_cmp n) k) None (value_at es k)
   gone_at n k [] up = sym (nothing (is_at (nat_cmp n) k) None)
