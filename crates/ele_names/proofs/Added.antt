@@ -1,39 +1,42 @@
 -- A row at the end of the others.
-use Rattle.std.proofs.Common.{◌≡◌, ℕ, Bool, true, false, subst, ◌+◌, ◌≤◌, ◌<◌, ◌^◌, cond, List, [], ◌∷◌, ◌++◌, Some, None, Option, refl, ap, ◌∙◌, arith}
+use Rattle.std.proofs.Common.{◌≡◌, ℕ, Bool, true, false, subst, ◌+◌, ◌≤◌, ◌<◌, ◌^◌, cond, List, [], ◌∷◌, ◌++◌, length, Some, None, Option, refl, ap, ◌∙◌, arith}
 use Rattle.std.specs.List.{AllByRecursion}
 use Rattle.std.specs.List.Sorted.{IsStrictlySortedBy}
+use Rattle.std.specs.Option.{option_map_or}
 use Rattle.std.specs.Ordering.{nat_cmp}
 use Rattle.std.specs.BTreeMap.{is_at, insert_entry}
 use Rattle.std.specs.Map.{keys_of, values_of}
 use Rattle.std.proofs.lemmas.Bool.Decides.{nat_tests}
 use Rattle.std.proofs.lemmas.List.{map-append}
-use Rattle.ele_lists.specs.Serial.{value_at}
+use Rattle.ele_lists.specs.Serial.{value_at, is_placed}
 use Rattle.std.proofs.lemmas.Cmp.{nat_cmp_total}
 use Rattle.ele_lists.proofs.Entries.{lookup-insert_entry, sorted-insert_entry}
 use Rattle.ele_lists.proofs.Edits.{all-push, all-weaker, later-push}
-use Rattle.ele_lists.proofs.Serials.{pushed, not_yet}
+use Rattle.ele_lists.proofs.Serials.{pushed, not_yet, split_at}
+use Rattle.ele_lists.proofs.Alls.{all-mid}
 use Rattle.ele_moment.specs.Last.{last_moment}
 use Rattle.ele_world.specs.declared.rows.NameRow.{NameRow}
 use Rattle.ele_names.specs.declared.lives.Lives.{Lives}
-use Rattle.ele_names.specs.declared.names.Names.TheInside.{Inside}
 use Rattle.ele_names.specs.declared.places.Places.{Places}
 use Rattle.ele_names.specs.declared.table.Table.{Table}
 use Rattle.ele_names.specs.Counted.{AreCounted, AreNumbered}
 use Rattle.ele_names.specs.Kept.{IsKept, IsTable, rows_of}
-use Rattle.ele_names.specs.Placed.{ArePlaced}
+use Rattle.ele_names.specs.Placed.{ArePlaced, AreListed, KeepsPlaces, names_of, number_in}
 use Rattle.ele_names.specs.Rows.{Follows}
 use Rattle.ele_names.proofs.Live.{numbered_same}
+use Rattle.ele_names.proofs.Numbers.{keeps_same}
 
 -- the places are of whatever has the same rows
-pub placed_same : (at to : ℕ → Option NameRow) (places : Places) → ((s : ℕ) → to s ≡ at s) → ArePlaced at places → ArePlaced to places
-placed_same at to places same placed = record {
+pub placed_same : (names : List (ℕ × List ℕ)) (at to : ℕ → Option NameRow) (places : Places) → ((s : ℕ) → to s ≡ at s) → ArePlaced names at places → ArePlaced names to places
+placed_same names at to places same placed = record {
   named = record { each = λ q r s. placed.named.each q r s ∙ rw (same s) refl };
   targeted = record { each = λ q r s. placed.targeted.each q r s ∙ rw (same s) refl };
 }
 
 -- a row that comes and goes again leaves the places as they were
-pub placed_back : (es : List (ℕ × NameRow)) (n : ℕ) (row : NameRow) → value_at es n ≡ None → (places : Places) → ArePlaced (λ s. cond (is_at (nat_cmp n) s) None (cond (is_at (nat_cmp n) s) (Some row) (value_at es s))) places → ArePlaced (value_at es) places
-placed_back es n row fresh places placed = placed_same _ (value_at es) places (λ s. same s (is_at (nat_cmp n) s) refl) placed where
+pub placed_back : (names : List (ℕ × List ℕ)) (es : List (ℕ × NameRow)) (n : ℕ) (row : NameRow) → value_at es n ≡ None → (places : Places)
+    → ArePlaced names (λ s. cond (is_at (nat_cmp n) s) None (cond (is_at (nat_cmp n) s) (Some row) (value_at es s))) places → ArePlaced names (value_at es) places
+placed_back names es n row fresh places placed = placed_same names _ (value_at es) places (λ s. same s (is_at (nat_cmp n) s) refl) placed where
   number : (n s : ℕ) → is_at (nat_cmp n) s ≡ true → n ≡ s
   number n s at = grind (arith, nat_tests)
 
@@ -42,58 +45,77 @@ placed_back es n row fresh places placed = placed_same _ (value_at es) places (�
   same s false at = refl
 
 -- no row
-pub table_new : (t : Table) → t.rows.entries ≡ [] → ArePlaced (λ _. None) t.places → IsTable t
+pub table_new : (names : List (ℕ × List ℕ)) (t : Table) → t.rows.entries ≡ [] → ArePlaced names (λ _. None) t.places → IsTable names t
 unfolding IsStrictlySortedBy
-table_new t is placed = record {
+table_new names t is placed = record {
   rising = rw is tt;
   short = rw is tt;
   born = rw is tt;
   apart = rw is tt;
-  placed = placed_same (λ _. None) (value_at t.rows.entries) t.places (λ s. rw is refl) placed;
+  known = rw is tt;
+  placed = placed_same names (λ _. None) (value_at t.rows.entries) t.places (λ s. rw is refl) placed;
 }
 
-module _ (a : Inside) (kept : IsKept a.table a.lives) (made : ℕ) (below : AllByRecursion (λ k. k < made) (keys_of a.table.rows.entries)) where
+-- a table over more names
+module _ (old new : List (ℕ × List ℕ)) (keeps : KeepsPlaces old new) (table : Table) (is : IsTable old table) where
+  stays : (row : NameRow) → number_in old row < length old → (number_in new row ≡ number_in old row) × (number_in new row < length new)
+  stays row inside = keeps.each row.directory row.name inside
+
+  pub table_over : IsTable new table
+  table_over = record {
+    rising = is.rising;
+    short = is.short;
+    born = is.born;
+    apart = is.apart;
+    known = all-weaker (λ row. number_in old row < length old) (λ row. number_in new row < length new) (rows_of table) (λ row inside. (stays row inside).1) is.known;
+    placed = record {
+      named = record { each = λ q r s. is.placed.named.each q r s ∙ same q r s (value_at table.rows.entries s) refl };
+      targeted = is.placed.targeted;
+    };
+  } where
+    same : (q r s : ℕ) (o : Option NameRow) → value_at table.rows.entries s ≡ o
+        → option_map_or (λ row. is_placed nat_cmp (number_in old row) row.birth q r) o false ≡ option_map_or (λ row. is_placed nat_cmp (number_in new row) row.birth q r) o false
+    same q r s None there = refl
+    same q r s (Some row) there =
+        let c = split_at table.rows.entries s row is.rising there in
+        let inside = all-mid (λ row. number_in old row < length old) c.before row c.behind (rw c.values at is.known) in
+        rw (stays row inside).0 refl
+
+module _ (names : List (ℕ × List ℕ)) (table : Table) (kept : IsTable names table) (made : ℕ) (below : AllByRecursion (λ k. k < made) (keys_of table.rows.entries)) where
   abbrev es : List (ℕ × NameRow)
-  es = a.table.rows.entries
+  es = table.rows.entries
 
   pub fresh : value_at es made ≡ None
   fresh = not_yet made es below
 
-  -- with places and counts that say the same
-  pub kept_over : (t : Table) (lives : Lives) → t.rows.entries ≡ es → ArePlaced (value_at es) t.places → AreCounted (rows_of a.table) lives → AreNumbered (value_at es) lives → IsKept t lives
-  kept_over t lives is placed counts numbered = record {
-    is_table = record {
-      rising = rw is kept.is_table.rising;
-      short = rw is kept.is_table.short;
-      born = rw is kept.is_table.born;
-      apart = rw is kept.is_table.apart;
-      placed = rw is placed;
-    };
-    counts = rw is counts;
-    numbered = rw is numbered;
+  -- with places that say the same
+  pub table_same : (t : Table) → t.rows.entries ≡ es → ArePlaced names (value_at es) t.places → IsTable names t
+  table_same t is placed = record {
+    rising = rw is kept.rising;
+    short = rw is kept.short;
+    born = rw is kept.born;
+    apart = rw is kept.apart;
+    known = rw is kept.known;
+    placed = rw is placed;
   }
 
   module _ (row : NameRow) where
-    pub rows_pushed : values_of (insert_entry nat_cmp es made row) ≡ rows_of a.table ++ row ∷ []
+    pub rows_pushed : values_of (insert_entry nat_cmp es made row) ≡ rows_of table ++ row ∷ []
     rows_pushed = ap values_of (pushed made row es below) ∙ map-append (λ (e : ℕ × NameRow). e.1) es ((made, row) ∷ [])
 
-    pub kept_pushed : (t : Table) (lives : Lives) → t.rows.entries ≡ insert_entry nat_cmp es made row
-        → made + 1 < 2 ^ 64 → row.birth ≤ last_moment → AllByRecursion (λ earlier. Follows earlier row) (rows_of a.table)
-        → ArePlaced (λ s. cond (is_at (nat_cmp made) s) (Some row) (value_at es s)) t.places → AreCounted (rows_of a.table ++ row ∷ []) lives
-        → AreNumbered (λ s. cond (is_at (nat_cmp made) s) (Some row) (value_at es s)) lives
-        → IsKept t lives
-    kept_pushed t lives is fits born follows placed counts numbered = record {
-      is_table = record {
-        rising = rw is (sorted-insert_entry nat_cmp_total es made row kept.is_table.rising);
-        short = all-weaker (λ k. k < made + 1) (λ k. k < 2 ^ 64) (keys_of t.rows.entries) (λ k h. omega arith) all_below;
-        born = rw rows_are (all-push (λ row. row.birth ≤ last_moment) (rows_of a.table) row kept.is_table.born born);
-        apart = rw rows_are (later-push Follows (rows_of a.table) row kept.is_table.apart follows);
-        placed = placed_same (λ s. cond (is_at (nat_cmp made) s) (Some row) (value_at es s)) (value_at t.rows.entries) t.places at placed;
-      };
-      counts = rw rows_are counts;
-      numbered = numbered_same (λ s. cond (is_at (nat_cmp made) s) (Some row) (value_at es s)) (value_at t.rows.entries) lives lives at (λ d n. refl) numbered;
+    pub table_pushed : (t : Table) → t.rows.entries ≡ insert_entry nat_cmp es made row
+        → made + 1 < 2 ^ 64 → row.birth ≤ last_moment → number_in names row < length names → AllByRecursion (λ earlier. Follows earlier row) (rows_of table)
+        → ArePlaced names (λ s. cond (is_at (nat_cmp made) s) (Some row) (value_at es s)) t.places
+        → IsTable names t
+    table_pushed t is fits born known follows placed = record {
+      rising = rw is (sorted-insert_entry nat_cmp_total es made row kept.rising);
+      short = all-weaker (λ k. k < made + 1) (λ k. k < 2 ^ 64) (keys_of t.rows.entries) (λ k h. omega arith) all_below;
+      born = rw rows_are (all-push (λ row. row.birth ≤ last_moment) (rows_of table) row kept.born born);
+      apart = rw rows_are (later-push Follows (rows_of table) row kept.apart follows);
+      known = rw rows_are (all-push (λ row. number_in names row < length names) (rows_of table) row kept.known known);
+      placed = placed_same names (λ s. cond (is_at (nat_cmp made) s) (Some row) (value_at es s)) (value_at t.rows.entries) t.places at placed;
     } where
-      rows_are : rows_of t ≡ rows_of a.table ++ row ∷ []
+      rows_are : rows_of t ≡ rows_of table ++ row ∷ []
       rows_are = ap values_of is ∙ rows_pushed
 
       at : (s : ℕ) → value_at t.rows.entries s ≡ cond (is_at (nat_cmp made) s) (Some row) (value_at es s)
@@ -102,3 +124,45 @@ module _ (a : Inside) (kept : IsKept a.table a.lives) (made : ℕ) (below : AllB
       all_below : AllByRecursion (λ k. k < made + 1) (keys_of t.rows.entries)
       all_below = rw (ap keys_of is ∙ ap keys_of (pushed made row es below) ∙ map-append (λ (e : ℕ × NameRow). e.0) es ((made, row) ∷ []))
           (all-push (λ k. k < made + 1) (keys_of es) made (all-weaker (λ k. k < made) (λ k. k < made + 1) (keys_of es) (λ k h. omega arith) below) (omega arith))
+
+module _ (table : Table) (lives : Lives) (kept : IsKept table lives) where
+  -- over lives that say the same of more names
+  pub kept_over : (new : Lives) → KeepsPlaces (names_of lives) (names_of new) → (AreListed lives → AreListed new)
+      → ((rows : List NameRow) → AreCounted rows lives → AreCounted rows new) → ((at : ℕ → Option NameRow) → AreNumbered at lives → AreNumbered at new) → IsKept table new
+  kept_over new keeps listed counts numbered = record {
+    is_table = table_over (names_of lives) (names_of new) keeps table kept.is_table;
+    listed = listed kept.listed;
+    counts = counts (rows_of table) kept.counts;
+    numbered = numbered (value_at table.rows.entries) kept.numbered;
+  }
+
+  module _ (made : ℕ) (below : AllByRecursion (λ k. k < made) (keys_of table.rows.entries)) where
+    -- with places that say the same
+    pub kept_placed : (t : Table) → t.rows.entries ≡ table.rows.entries → ArePlaced (names_of lives) (value_at table.rows.entries) t.places → IsKept t lives
+    kept_placed t is placed = record {
+      is_table = table_same (names_of lives) table kept.is_table made below t is placed;
+      listed = kept.listed;
+      counts = rw is kept.counts;
+      numbered = rw is kept.numbered;
+    }
+
+    pub kept_pushed : (row : NameRow) (t : Table) (new : Lives) → names_of new ≡ names_of lives → (AreListed lives → AreListed new) → t.rows.entries ≡ insert_entry nat_cmp table.rows.entries made row
+        → made + 1 < 2 ^ 64 → row.birth ≤ last_moment → number_in (names_of lives) row < length (names_of lives) → AllByRecursion (λ earlier. Follows earlier row) (rows_of table)
+        → ArePlaced (names_of lives) (λ s. cond (is_at (nat_cmp made) s) (Some row) (value_at table.rows.entries s)) t.places
+        → AreCounted (rows_of table ++ row ∷ []) new → AreNumbered (λ s. cond (is_at (nat_cmp made) s) (Some row) (value_at table.rows.entries s)) new
+        → IsKept t new
+    kept_pushed row t new same listed is fits born known follows placed counts numbered = record {
+      is_table = rw same (table_pushed (names_of lives) table kept.is_table made below row t is fits born known follows placed);
+      listed = listed kept.listed;
+      counts = rw (ap values_of is ∙ rows_pushed (names_of lives) table kept.is_table made below row) counts;
+      numbered = numbered_same (λ s. cond (is_at (nat_cmp made) s) (Some row) (value_at table.rows.entries s)) (value_at t.rows.entries) new new
+          (λ s. ap (λ entries. value_at entries s) is ∙ lookup-insert_entry nat_cmp_total s table.rows.entries made row) (λ d n. refl) numbered;
+    }
+
+-- over lives of more names, with room
+pub kept_known : (table : Table) (lives new reserved : Lives) → IsKept table lives → KeepsPlaces (names_of lives) (names_of new) → (AreListed lives → AreListed new)
+    → ((rows : List NameRow) → AreCounted rows lives → AreCounted rows new) → ((at : ℕ → Option NameRow) → AreNumbered at lives → AreNumbered at new)
+    → names_of reserved ≡ names_of new → (AreListed new → AreListed reserved) → ((rows : List NameRow) → AreCounted rows new → AreCounted rows reserved)
+    → ((at : ℕ → Option NameRow) → AreNumbered at new → AreNumbered at reserved) → IsKept table reserved
+kept_known table lives new reserved kept keeps listed counts numbered same listed' counts' numbered' =
+    kept_over table new (kept_over table lives kept new keeps listed counts numbered) reserved (rw same (keeps_same (names_of new))) listed' counts' numbered'

@@ -21,7 +21,7 @@ pub split : (a b : Bool) → (a && b) ≡ true → (a ≡ true) × (b ≡ true)
 split true b h = (refl, h)
 split false b h = absurd (false≢true h)
 
-equal : (a b : ℕ) → (a == b) ≡ true → a ≡ b
+pub equal : (a b : ℕ) → (a == b) ≡ true → a ≡ b
 equal a b h = grind (arith, nat_tests)
 
 below : (b t : ℕ) → nat_le b t ≡ true → b ≤ t

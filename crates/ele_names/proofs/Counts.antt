@@ -16,7 +16,7 @@ use Rattle.ele_world.specs.Walk.{is_live_name, live_target}
 use Rattle.ele_names.specs.Counted.{is_live_of, Leaves}
 use Rattle.ele_names.specs.Rows.{Follows}
 use Rattle.ele_names.proofs.Apart.{named_and_live, named_dead, same_name}
-use Rattle.ele_names.specs.Spots.{target_eq}
+use Rattle.ele_names.specs.Targets.{target_eq}
 
 -- what a test counts of one row that is live, or dead
 pub live_one : (a b : Bool) → b ≡ true → ◌≡◌ {A = ℕ} (cond (a && b) 1 0) (cond a 1 0)

@@ -28,9 +28,9 @@ use Rattle.ele_names.specs.declared.names.Names.TheInside.{Inside}
 use Rattle.ele_names.specs.declared.table.Table.{Table}
 use Rattle.ele_names.specs.Counted.{AreCounted, AreNumbered, Leaves}
 use Rattle.ele_names.specs.Kept.{IsKept, rows_of}
-use Rattle.ele_names.specs.Placed.{ArePlaced}
+use Rattle.ele_names.specs.Placed.{ArePlaced, AreListed, names_of, number_in}
 use Rattle.ele_names.specs.Rows.{Follows, dies}
-use Rattle.ele_names.specs.Spots.{is_other, target_cmp, target_eq}
+use Rattle.ele_names.specs.Targets.{is_other, target_cmp, target_eq}
 use Rattle.ele_names.proofs.Added.{placed_same}
 use Rattle.ele_names.proofs.Apart.{named_dead, named_live, same_name}
 use Rattle.ele_names.proofs.Counts.{leaves_without, leaves_dead}
@@ -64,6 +64,13 @@ module _ (a : Inside) (kept : IsKept a.table a.lives) where
   abbrev es : List (ℕ × NameRow)
   es = a.table.rows.entries
 
+  abbrev names : List (ℕ × List ℕ)
+  names = names_of a.lives
+
+  -- the name of each row has a number
+  pub row_known : (s : ℕ) (row : NameRow) → value_at es s ≡ Some row → number_in names row < length names
+  row_known s row at = let c = split_at es s row kept.is_table.rising at in all-mid (λ row. number_in names row < length names) c.before row c.behind (rw c.values at kept.is_table.known)
+
   module _ (s : ℕ) (row : NameRow) (at : value_at es s ≡ Some row) where
     c : IsSplitAt es s row
     c = split_at es s row kept.is_table.rising at
@@ -75,21 +82,23 @@ module _ (a : Inside) (kept : IsKept a.table a.lives) where
         no : {A : Type 0} → row.directory ≡ b.directory → row.name ≡ b.name → A
         no d n = let dead : is_none row.death ≡ false = rw (follows.apart d n).1 refl in absurd (true≢false (sym live ∙ dead))
 
-      pub kept_dead : (t : Table) (lives : Lives) → t.places ≡ a.table.places → t.rows.entries ≡ insert_entry nat_cmp es s (dies moment row)
+      pub kept_dead : (t : Table) (lives : Lives) → names_of lives ≡ names → AreListed lives → t.places ≡ a.table.places → t.rows.entries ≡ insert_entry nat_cmp es s (dies moment row)
           → ((was now : List NameRow) → Leaves row was now → AreCounted was a.lives → AreCounted now lives)
           → ((at to : ℕ → Option NameRow) (serial : ℕ) → at serial ≡ Some row → ((s : ℕ) → is_at (nat_cmp serial) s ≡ false → to s ≡ at s) → AreNumbered at a.lives → AreNumbered to lives)
           → IsKept t lives
-      kept_dead t lives places is counts numbered = record {
-        is_table = record {
+      kept_dead t lives same listed places is counts numbered = record {
+        is_table = rw same (record {
           rising = rw keys_are kept.is_table.rising;
           short = rw keys_are kept.is_table.short;
           born = rw rows_are (let born = rw c.values at kept.is_table.born in all-exchange (λ row. row.birth ≤ last_moment) c.before row (dies moment row) c.behind (all-mid (λ row. row.birth ≤ last_moment) c.before row c.behind born) born);
           apart = rw rows_are (later-exchange Follows c.before row (dies moment row) c.behind (λ b h. record { apart = h.apart; born = h.born }) (λ rows. all-weaker (Follows row) (Follows (dies moment row)) rows over) (rw c.values at kept.is_table.apart));
+          known = rw rows_are (let known = rw c.values at kept.is_table.known in all-exchange (λ row. number_in names row < length names) c.before row (dies moment row) c.behind (all-mid (λ row. number_in names row < length names) c.before row c.behind known) known);
           placed = rw places (record {
             named = index_change (value_at t.rows.entries) s row (dies moment row) a.table.places.by_name kept.is_table.placed.named at (λ q r. refl) now;
             targeted = index_change (value_at t.rows.entries) s row (dies moment row) a.table.places.by_target kept.is_table.placed.targeted at (λ q r. refl) now;
           });
-        };
+        });
+        listed = listed;
         counts = rw rows_are (counts (rows_of a.table) (c.before ++ dies moment row ∷ c.behind) (rw c.values (leaves_dead row c.before c.behind (rw c.values at kept.is_table.apart) (dies moment row) refl)) kept.counts);
         numbered = numbered (value_at es) (value_at t.rows.entries) s at (λ k e. now k ∙ rw e refl) kept.numbered;
       } where
@@ -111,19 +120,21 @@ module _ (a : Inside) (kept : IsKept a.table a.lives) where
           (later-around Follows c.before row c.behind (rw c.values at kept.is_table.apart)).0)
           (named_live d n row named live)))
 
-    pub kept_without : (t : Table) (lives : Lives) → t.rows.entries ≡ remove_entry (is_at (nat_cmp s)) es
-        → ((at : ℕ → Option NameRow) → at s ≡ Some row → ArePlaced at a.table.places → ArePlaced (λ k. cond (is_at (nat_cmp s) k) None (at k)) t.places)
+    pub kept_without : (t : Table) (lives : Lives) → names_of lives ≡ names → AreListed lives → t.rows.entries ≡ remove_entry (is_at (nat_cmp s)) es
+        → (ArePlaced names (value_at es) a.table.places → ArePlaced names (λ k. cond (is_at (nat_cmp s) k) None (value_at es k)) t.places)
         → ((was now : List NameRow) → Leaves row was now → AreCounted was a.lives → AreCounted now lives)
         → ((at to : ℕ → Option NameRow) (serial : ℕ) → at serial ≡ Some row → ((s : ℕ) → is_at (nat_cmp serial) s ≡ false → to s ≡ at s) → AreNumbered at a.lives → AreNumbered to lives)
         → IsKept t lives
-    kept_without t lives is placed counts numbered = record {
-      is_table = record {
+    kept_without t lives same listed is placed counts numbered = record {
+      is_table = rw same (record {
         rising = rw is (rises_without (is_at (nat_cmp s)) es kept.is_table.rising);
         short = rw is (all_keys_without (λ k. k < 2 ^ 64) (is_at (nat_cmp s)) es kept.is_table.short);
         born = rw rows_are (let born = all-around (λ row. row.birth ≤ last_moment) c.before row c.behind (rw c.values at kept.is_table.born) in all-append (λ row. row.birth ≤ last_moment) c.before c.behind born.0 born.2);
         apart = rw rows_are (later-without Follows c.before row c.behind (rw c.values at kept.is_table.apart));
-        placed = placed_same (λ k. cond (is_at (nat_cmp s) k) None (value_at es k)) (value_at t.rows.entries) t.places now (placed (value_at es) at kept.is_table.placed);
-      };
+        known = rw rows_are (let known = all-around (λ row. number_in names row < length names) c.before row c.behind (rw c.values at kept.is_table.known) in all-append (λ row. number_in names row < length names) c.before c.behind known.0 known.2);
+        placed = placed_same names (λ k. cond (is_at (nat_cmp s) k) None (value_at es k)) (value_at t.rows.entries) t.places now (placed kept.is_table.placed);
+      });
+      listed = listed;
       counts = rw rows_are (counts (rows_of a.table) (c.before ++ c.behind) (rw c.values (leaves_without row c.before c.behind (rw c.values at kept.is_table.apart))) kept.counts);
       numbered = numbered (value_at es) (value_at t.rows.entries) s at (λ k e. now k ∙ rw e refl) kept.numbered;
     } where

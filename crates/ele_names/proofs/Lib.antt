@@ -1,4 +1,6 @@
 pub mod Apart
+pub mod Numbers
+pub mod Given
 pub mod Newest
 pub mod Counts
 pub mod Live

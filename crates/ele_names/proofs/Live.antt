@@ -1,7 +1,7 @@
 -- The live rows by directory and name, where one comes or goes.
 use Rattle.std.proofs.Common.{◌≡◌, ℕ, true, false, cond, List, Some, None, Option, is_none, refl, sym, ap, ◌∙◌, arith}
 use Rattle.std.specs.Bool.{nat_eq}
-use Rattle.std.specs.Option.{option_map, option_map_or}
+use Rattle.std.specs.Option.{option_and_then, option_map, option_map_or}
 use Rattle.std.specs.Ordering.{nat_cmp}
 use Rattle.std.specs.BTreeMap.{is_at}
 use Rattle.std.proofs.lemmas.Bool.{true≢false, false≢true}
@@ -15,7 +15,7 @@ use Rattle.ele_world.specs.Walk.{is_live_name, live_target}
 use Rattle.ele_names.specs.declared.lives.Live.{Live}
 use Rattle.ele_names.specs.declared.lives.Lives.{Lives}
 use Rattle.ele_names.specs.Counted.{AreCounted, AreNumbered, Leaves, live_at}
-use Rattle.ele_names.specs.Spots.{target_eq}
+use Rattle.ele_names.specs.Targets.{target_eq}
 use Rattle.ele_names.proofs.Apart.{named_and_live, named_dead, named_live}
 
 same_serial : (a b : ℕ) → is_at (nat_cmp a) b ≡ true → a ≡ b
@@ -40,6 +40,10 @@ numbered_same at to old new same named was = record { each = λ d n live is. rw 
 module _ (row : NameRow) (d : ℕ) (n : List ℕ) where
   unnamed : is_named d n row ≡ false → is_live_name d n row ≡ false
   unnamed e = named_dead d n row (λ is. absurd (true≢false (sym is ∙ e)))
+
+  -- what is set of the row's name
+  pub live_set : (live : Option Live) (o p : Option (Option Live)) → p ≡ cond (is_named d n row) (Some live) o → option_and_then (λ live. live) p ≡ cond (is_named d n row) live (option_and_then (λ live. live) o)
+  live_set live o p changed = ap (option_and_then (λ live. live)) changed ∙ elim (is_named d n row) as (λ b. option_and_then (λ live. live) (cond b (Some live) o) ≡ cond b live (option_and_then (λ live. live) o)) [ true ↦ refl | false ↦ refl ]
 
   -- the row's name is live now
   pub entered : (was now : List NameRow) → Leaves row now was → is_none row.death ≡ true → (live : Live) (o p : Option Live) → p ≡ cond (is_named d n row) (Some live) o → live.target ≡ row.target

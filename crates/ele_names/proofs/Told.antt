@@ -1,149 +1,140 @@
--- From spot to spot: the names of a directory, and the dead names of all.
-use Rattle.std.proofs.Common.{◌≡◌, ℕ, ◌==◌, true, false, cond, List, [], ◌++◌, Some, None, Option, is_some, map, refl, sym, ap, subst, ◌∙◌, arith}
-use Rattle.std.specs.Option.{option_map, option_to_list, option_cmp}
-use Rattle.std.specs.List.Sorted.{IsStrictlySortedBy}
+-- Names that are told one after the other, with what they stand for.
+use Rattle.std.proofs.Common.{◌≡◌, ◌⊎◌, ℕ, ◌<◌, ◌^◌, Bool, true, false, cond, ◌==◌, List, [], ◌∷◌, length, map, slice_get, Some, None, Option, is_some, refl, sym, ap, subst, ◌∙◌, inl, inr, arith}
+use Rattle.std.specs.Option.{option_map, option_map_or}
 use Rattle.std.specs.declared.cmp.Ordering.{Ordering}
 use Rattle.std.specs.declared.cmp.Ordering.TheVariants.{Less, Equal, Greater}
-use Rattle.std.specs.Ordering.{nat_cmp, ordering_then, is_lt}
+use Rattle.std.specs.Ordering.{nat_cmp, is_eq}
 use Rattle.std.specs.Cmp.{IsTotalOrder, nat_cmp_total}
 use Rattle.std.specs.Cmp.Lexicographic.{slice_cmp}
-use Rattle.std.specs.BTreeMap.{is_at}
-use Rattle.std.specs.Map.{keys_of, lookup}
-use Rattle.std.proofs.lemmas.Cmp.{tied_itself}
-use Rattle.std.proofs.lemmas.Map.Lookups.{exact_bytes, exact_unsigned}
-use Rattle.std.proofs.lemmas.Bool.Decides.{nat_tests}
-use Rattle.ele_lists.specs.Index.{has, IsNextGroup}
+use Rattle.std.specs.BTreeMap.{is_at, insert_entry}
+use Rattle.std.specs.List.{list_any}
+use Rattle.std.specs.Map.{lookup}
+use Rattle.std.proofs.lemmas.Bool.{false≢true, true≢false}
+use Rattle.std.proofs.lemmas.Cmp.{tied_itself, nat_list_cmp_total, on_total, then_total}
+use Rattle.std.proofs.lemmas.Map.Lookups.{CmpEqualImpliesEq, exact_bytes, exact_pairs, exact_unsigned}
+use Rattle.std.proofs.lemmas.Option.{slice_get_within}
+use Rattle.ele_lists.specs.Index.{has}
 use Rattle.ele_lists.specs.Last.{passing}
-use Rattle.ele_lists.specs.Told.{IsToldTo}
-use Rattle.ele_lists.specs.declared.index.Index.{Index}
-use Rattle.ele_lists.proofs.Told.{told_none, told_more, told_all, entries_pushed, sorted_through, lookup_through}
+use Rattle.ele_lists.proofs.Entries.{lookup-insert_entry}
 use Rattle.ele_world.specs.declared.rows.Target.{Target}
 use Rattle.ele_world.specs.NameRows.{target_at, last_dead}
-use Rattle.ele_names.specs.contracts.spot.SpotOrd.TheImpl.Laws.{total-law}
 use Rattle.ele_names.specs.declared.names.Names.TheInside.{Inside}
-use Rattle.ele_names.specs.declared.spot.Spot.{Spot}
-use Rattle.ele_names.specs.Kept.{IsKept, rows_of}
 use Rattle.ele_names.specs.Listed.{by_name, name_cmp}
-use Rattle.ele_names.specs.Spots.{spot, spot_cmp, at_spot, at_spot_in, dead_at_spot, name_at, entry_at}
-use Rattle.ele_names.proofs.Apart.{covering_is_newest, born_by_end}
-use Rattle.ele_names.proofs.Newest.{none_newest}
+use Rattle.ele_names.specs.Kept.{IsKept, rows_of}
+use Rattle.ele_names.specs.Placed.{name_eq, names_of, place_in}
+use Rattle.ele_names.proofs.Apart.{covering_is_newest, born_by_end, equal}
+use Rattle.ele_names.proofs.Newest.{none_known}
+use Rattle.ele_names.proofs.Numbers.{exact, known, any_known, at_place}
 
-spot_total : IsTotalOrder spot_cmp
-spot_total = total-law
+module _ {K : Type 0} (cmp : K → K → Ordering) (about : K → Option Target) where
+  -- what there is to tell about a key is told, or still to come
+  abbrev pub AreTold : (K → Bool) → List (K × Target) → Type 0
+  AreTold rest entries = (k : K) → (lookup (is_at (cmp k)) entries ≡ about k) ⊎ ((lookup (is_at (cmp k)) entries ≡ None) × (rest k ≡ true))
 
-exact : (a b : Spot) → spot_cmp a b ≡ Equal → a ≡ b
-exact a b h = parts a.directory b.directory a.name b.name (first (nat_cmp a.directory b.directory) (option_cmp (slice_cmp nat_cmp) a.name b.name) h) where
-  first : (x y : Ordering) → ordering_then x y ≡ Equal → (x ≡ Equal) × (y ≡ Equal)
-  first Less y h = absurd cc
-  first Equal y h = (refl, h)
-  first Greater y h = absurd cc
+  pub told_all : (entries : List (K × Target)) → AreTold (λ _. false) entries → (k : K) → lookup (is_at (cmp k)) entries ≡ about k
+  told_all entries told k = elim (told k) [ inl is ↦ is | inr later ↦ absurd (false≢true later.1) ]
 
-  parts : (d e : ℕ) (n m : Option (List ℕ)) → (nat_cmp d e ≡ Equal) × (option_cmp (slice_cmp nat_cmp) n m ≡ Equal) → ◌≡◌ {A = Spot} (record { directory = d; name = n }) (record { directory = e; name = m })
-  parts d e (Some n) (Some m) h = let a = exact_unsigned d e h.0 in let b = exact_bytes n m h.1 in rw (a, b) refl
-  parts d e None None h = let a = exact_unsigned d e h.0 in rw a refl
-  parts d e (Some n) None h = absurd (let z = h.1 in cc)
-  parts d e None (Some m) h = absurd (let z = h.1 in cc)
+  pub told_one : IsTotalOrder cmp → CmpEqualImpliesEq cmp → (rest left : K → Bool) (entries : List (K × Target)) (key : K) (target : Option Target)
+      → ((k : K) → rest k ≡ true → (k ≡ key) ⊎ (left k ≡ true)) → target ≡ about key
+      → AreTold rest entries → AreTold left (option_map_or (insert_entry cmp entries key) target entries)
+  told_one total exact rest left entries key target parts its told k = one target its where
+    here : (entries : List (K × Target)) → k ≡ key → lookup (is_at (cmp key)) entries ≡ about key → lookup (is_at (cmp k)) entries ≡ about k
+    here entries same is = rw same is
 
-itself : (n : ℕ) → (n == n) ≡ true
-itself n = grind (arith, nat_tests)
+    one : (o : Option Target) → o ≡ about key → (lookup (is_at (cmp k)) (option_map_or (insert_entry cmp entries key) o entries) ≡ about k) ⊎ ((lookup (is_at (cmp k)) (option_map_or (insert_entry cmp entries key) o entries) ≡ None) × (left k ≡ true))
+    one None none = elim (told k) [
+      | inl is ↦ inl is
+      | inr later ↦ elim (parts k later.1) as (λ _. (lookup (is_at (cmp k)) entries ≡ about k) ⊎ ((lookup (is_at (cmp k)) entries ≡ None) × (left k ≡ true))) [
+        | inl same ↦ inl (later.0 ∙ none ∙ ap about (sym same))
+        | inr next ↦ inr (later.0, next)
+      ]
+    ]
+    one (Some target) some = elim (is_eq (cmp key k)) as (λ b. is_eq (cmp key k) ≡ b → (lookup (is_at (cmp k)) (insert_entry cmp entries key target) ≡ about k) ⊎ ((lookup (is_at (cmp k)) (insert_entry cmp entries key target) ≡ None) × (left k ≡ true))) [
+      | true ↦ λ e. inl (now ∙ rw e (some ∙ ap about (exact key k (tied (cmp key k) e))))
+      | false ↦ λ e. elim (told k) [
+        | inl is ↦ inl (now ∙ rw e is)
+        | inr later ↦ elim (parts k later.1) as (λ _. (lookup (is_at (cmp k)) (insert_entry cmp entries key target) ≡ about k) ⊎ ((lookup (is_at (cmp k)) (insert_entry cmp entries key target) ≡ None) × (left k ≡ true))) [
+          | inl same ↦ absurd (true≢false (sym (ap is_eq (tied_itself total key)) ∙ subst (λ j. is_eq (cmp key j) ≡ false) same e))
+          | inr next ↦ inr (now ∙ rw e later.0, next)
+        ]
+      ]
+    ] refl where
+      now : lookup (is_at (cmp k)) (insert_entry cmp entries key target) ≡ cond (is_eq (cmp key k)) (Some target) (lookup (is_at (cmp k)) entries)
+      now = lookup-insert_entry total k entries key target
 
-equal : (a b : ℕ) → (a == b) ≡ true → a ≡ b
-equal a b h = grind (arith, nat_tests)
+      tied : (o : Ordering) → is_eq o ≡ true → o ≡ Equal
+      tied Less h = absurd cc
+      tied Equal h = refl
+      tied Greater h = absurd cc
 
--- the next spot is of a later directory
-pub next_elsewhere : (index : Index Spot) (s next : Spot) → (next.directory == s.directory) ≡ false → IsNextGroup spot_cmp index s next → (q : Spot) (r z : ℕ) → spot_cmp s q ≡ Less → q.directory ≡ s.directory → has spot_cmp index q r z ≡ false
-next_elsewhere index s next other group q r z later same =
-    group.first q r z later (rw same (far s.directory next.directory (option_cmp (slice_cmp nat_cmp) s.name next.name) (option_cmp (slice_cmp nat_cmp) q.name next.name) group.later other)) where
-      far : (d k : ℕ) (x y : Ordering) → ordering_then (nat_cmp d k) x ≡ Less → (k == d) ≡ false → ordering_then (nat_cmp d k) y ≡ Less
-      far d k x y h ne = grind (arith, nat_tests)
-
--- no name stands at or before the first spot of a directory
-none_before : (d : ℕ) (n : List ℕ) → is_lt (spot_cmp (record { directory = d; name = None }) (spot d n)) ≡ false → ⊥
-none_before d n h = let less : is_lt (spot_cmp (record { directory = d; name = None }) (spot d n)) ≡ true = rw (tied_itself nat_cmp_total d) refl in cc
+-- the number of the name is among those
+abbrev pub is_left : List (ℕ × List ℕ) → ℕ → List (ℕ × ℕ × ℕ) → List ℕ → Bool
+is_left names d entries n = list_any (λ e. e.2 == place_in names d n) entries
 
 module _ (a : Inside) (kept : IsKept a.table a.lives) where
-  silent_at : (moment : ℕ) (q : Spot) → ((r z : ℕ) → has spot_cmp a.table.places.by_name q r z ≡ false) → at_spot (rows_of a.table) moment q ≡ None
-  silent_at moment q none = by_name q.directory q.name none where
-    by_name : (d : ℕ) (o : Option (List ℕ)) → ((r z : ℕ) → has spot_cmp a.table.places.by_name (record { directory = d; name = o }) r z ≡ false) → at_spot (rows_of a.table) moment (record { directory = d; name = o }) ≡ None
-    by_name d None none = refl
-    by_name d (Some n) none = ap (option_map (λ row. row.target)) (covering_is_newest d n (rows_of a.table) kept.is_table.apart moment None (none_newest a.table kept.is_table d n moment (λ r s _ _. none r s)))
+  abbrev names : List (ℕ × List ℕ)
+  names = names_of a.lives
 
-  silent_dead : (q : Spot) → ((r z : ℕ) → has spot_cmp a.table.places.by_name q r z ≡ false) → dead_at_spot (rows_of a.table) q ≡ None
-  silent_dead q none = by_name q.directory q.name none where
-    by_name : (d : ℕ) (o : Option (List ℕ)) → ((r z : ℕ) → has spot_cmp a.table.places.by_name (record { directory = d; name = o }) r z ≡ false) → dead_at_spot (rows_of a.table) (record { directory = d; name = o }) ≡ None
-    by_name d None none = refl
-    by_name d (Some n) none = ap (λ o. option_map (λ row. row.target) (passing (λ row. is_some row.death) o))
-        (sym (none_newest a.table kept.is_table d n 18446744073709551615 (λ r s _ _. none r s) ∙ born_by_end d n (rows_of a.table) kept.is_table.born))
+  -- a name that was never given stood for nothing
+  never_at : (moment d : ℕ) (n : List ℕ) → place_in names d n ≡ length names → target_at (rows_of a.table) moment d n ≡ None
+  never_at moment d n unknown = ap (option_map (λ row. row.target)) (covering_is_newest d n (rows_of a.table) kept.is_table.apart moment None (none_known names a.table kept.is_table d n moment unknown))
+
+  never_dead : (d : ℕ) (n : List ℕ) → place_in names d n ≡ length names → last_dead (rows_of a.table) d n ≡ None
+  never_dead d n unknown = ap (λ o. option_map (λ row. row.target) (passing (λ row. is_some row.death) o))
+      (sym (none_known names a.table kept.is_table d n 18446744073709551615 unknown ∙ born_by_end d n (rows_of a.table) kept.is_table.born))
 
   module _ (moment d : ℕ) where
-    abbrev about : Spot → Option Target
-    about = at_spot_in (rows_of a.table) moment d
+    -- the directory's numbers are those of its names
+    listed : (n : List ℕ) → place_in names d n < length names → has nat_cmp a.lives.of_directory d 0 (place_in names d n) ≡ true
+    listed n inside = kept.listed.each.each d 0 (place_in names d n) ∙ rw (at_place names d n inside, tied_itself nat_cmp_total d) refl
 
-    silent_in : (q : Spot) → ((r z : ℕ) → has spot_cmp a.table.places.by_name q r z ≡ false) → about q ≡ None
-    silent_in q none = elim (q.directory == d) as (λ b. cond b (at_spot (rows_of a.table) moment q) None ≡ None) [
-      | true ↦ silent_at moment q none
-      | false ↦ refl
+    pub list_begun : (entries : List (ℕ × ℕ × ℕ)) → ((r s : ℕ) → r < 2 ^ 64 → s < 2 ^ 64 → has nat_cmp a.lives.of_directory d r s ≡ true → list_any (λ e. e.2 == s) entries ≡ true)
+        → AreTold (slice_cmp nat_cmp) (target_at (rows_of a.table) moment d) (is_left names d entries) []
+    list_begun entries all n = elim (known names d n) as (λ _. (◌≡◌ {A = Option Target} None (target_at (rows_of a.table) moment d n)) ⊎ ((◌≡◌ {A = Option Target} None None) × (is_left names d entries n ≡ true))) [
+      | inl inside ↦ inr (refl, all 0 (place_in names d n) (omega arith) (omega (arith, inside, kept.listed.few)) (listed n inside))
+      | inr unknown ↦ inl (sym (never_at moment d n unknown))
     ]
 
-    pub listed_none : IsToldTo spot_cmp about (record { directory = d; name = None }) []
-    listed_none = told_none spot_total exact about (record { directory = d; name = None }) (λ q h. first q.directory q.name h) where
-      first : (e : ℕ) (o : Option (List ℕ)) → is_lt (spot_cmp (record { directory = d; name = None }) (record { directory = e; name = o })) ≡ false → about (record { directory = e; name = o }) ≡ None
-      first e o h = elim (e == d) as (λ b. (e == d) ≡ b → cond b (at_spot (rows_of a.table) moment (record { directory = e; name = o })) None ≡ None) [
-        | true ↦ λ f. here o (rw (equal e d f) at h)
-        | false ↦ λ _. refl
-      ] refl where
-        here : (o : Option (List ℕ)) → is_lt (spot_cmp (record { directory = d; name = None }) (record { directory = d; name = o })) ≡ false → at_spot (rows_of a.table) moment (record { directory = e; name = o }) ≡ None
-        here None h = refl
-        here (Some n) h = absurd (none_before d n h)
+    -- the name of a number under the directory is one of it
+    pub list_next : (e : ℕ × ℕ × ℕ) (entries : List (ℕ × ℕ × ℕ)) (name : ℕ × List ℕ) → Some name ≡ slice_get names e.2
+        → (k : List ℕ) → is_left names d (e ∷ entries) k ≡ true → (k ≡ name.1) ⊎ (is_left names d entries k ≡ true)
+    list_next e entries name is k left = elim (e.2 == place_in names d k) as (λ b. (e.2 == place_in names d k) ≡ b → (k ≡ name.1) ⊎ (is_left names d entries k ≡ true)) [
+      | true ↦ λ f. inl (same (equal e.2 (place_in names d k) f))
+      | false ↦ λ f. inr (rw f at left)
+    ] refl where
+      same : e.2 ≡ place_in names d k → k ≡ name.1
+      same at =
+          let inside : place_in names d k < length names = omega (arith, at, slice_get_within names e.2 name (sym is)) in
+          let both : Some (d, k) ≡ Some name = sym (at_place names d k inside) ∙ sym (ap (slice_get names) at) ∙ sym is in
+          let pair : (d, k) ≡ name = cc in
+          ap (λ (q : ℕ × List ℕ). q.1) pair
 
-    module _ (s : Spot) (items : List (List ℕ × Target)) (here : s.directory ≡ d) (so_far : IsToldTo spot_cmp about s (map (name_at d) items)) where
-      pub listed_more : (next : Spot) (item : Option (List ℕ × Target)) → next.directory ≡ s.directory → IsNextGroup spot_cmp a.table.places.by_name s next
-          → option_map (name_at next.directory) item ≡ option_map (λ target. (next, target)) (at_spot (rows_of a.table) moment next)
-          → IsToldTo spot_cmp about next (map (name_at d) (items ++ option_to_list item))
-      listed_more next item same group told =
-          let told' : option_map (name_at d) item ≡ option_map (λ target. (next, target)) (at_spot (rows_of a.table) moment next) =
-          subst (λ e. option_map (name_at e) item ≡ option_map (λ target. (next, target)) (at_spot (rows_of a.table) moment next)) (same ∙ here) told in
-          let inside : (next.directory == d) ≡ true = rw (same ∙ here) (itself d) in
-          let its : about next ≡ at_spot (rows_of a.table) moment next = ap (λ b. cond b (at_spot (rows_of a.table) moment next) None) inside in
-          rw (entries_pushed (name_at d) items item, told', ← its)
-          (told_more spot_total exact about s (map (name_at d) items) so_far next group.later (λ q later before. silent_in q (λ r z. group.first q r z later before)))
+    pub list_stands : (r s : ℕ) → has nat_cmp a.lives.of_directory d r s ≡ true → None ≡ slice_get names s → ⊥
+    list_stands r s there none = false≢true (sym (kept.listed.each.each d r s ∙ rw (← none) refl) ∙ there)
 
-      pub listed_sorted : IsStrictlySortedBy (slice_cmp nat_cmp) (keys_of items)
-      listed_sorted = sorted_through spot_cmp (slice_cmp nat_cmp) (spot d) (λ n m. rw (tied_itself nat_cmp_total d) refl) items so_far.sorted
+  pub dead_begun : AreTold name_cmp (λ k. last_dead (rows_of a.table) k.0 k.1) (λ k. list_any (name_eq k) names) []
+  dead_begun k = elim (known names k.0 k.1) as (λ _. (◌≡◌ {A = Option Target} None (last_dead (rows_of a.table) k.0 k.1)) ⊎ ((◌≡◌ {A = Option Target} None None) × (list_any (name_eq k) names ≡ true))) [
+    | inl inside ↦ inr (refl, any_known names k.0 k.1 inside)
+    | inr unknown ↦ inl (sym (never_dead k.0 k.1 unknown))
+  ]
 
-      pub listed_all : ((q : Spot) (r z : ℕ) → spot_cmp s q ≡ Less → q.directory ≡ s.directory → has spot_cmp a.table.places.by_name q r z ≡ false)
-          → (n : List ℕ) → lookup (is_at (slice_cmp nat_cmp n)) items ≡ target_at (rows_of a.table) moment d n
-      listed_all none n =
-          lookup_through spot_cmp (slice_cmp nat_cmp) (spot d) (λ n m. rw (tied_itself nat_cmp_total d) refl) n items
-          ∙ told_all spot_total exact about s (map (name_at d) items) so_far (λ q later. rest q later) (spot d n)
-          ∙ rw (itself d) refl where
-            rest : (q : Spot) → spot_cmp s q ≡ Less → about q ≡ None
-            rest q later = elim (q.directory == d) as (λ b. (q.directory == d) ≡ b → cond b (at_spot (rows_of a.table) moment q) None ≡ None) [
-              | true ↦ λ e. silent_at moment q (λ r z. none q r z later (equal q.directory d e ∙ sym here))
-              | false ↦ λ _. refl
-            ] refl
+-- of the names to come, a name is the next or behind it
+pub dead_next : (key : ℕ × List ℕ) (names : List (ℕ × List ℕ)) (k : ℕ × List ℕ) → list_any (name_eq k) (key ∷ names) ≡ true → (k ≡ key) ⊎ (list_any (name_eq k) names ≡ true)
+dead_next key names k left = elim (name_eq k key) as (λ b. name_eq k key ≡ b → (k ≡ key) ⊎ (list_any (name_eq k) names ≡ true)) [
+  | true ↦ λ e. inl (exact k key e)
+  | false ↦ λ e. inr (rw e at left)
+] refl
 
-  pub dead_none : IsToldTo spot_cmp (dead_at_spot (rows_of a.table)) (record { directory = 0; name = None }) []
-  dead_none = told_none spot_total exact (dead_at_spot (rows_of a.table)) (record { directory = 0; name = None }) (λ q h. first q.directory q.name h) where
-    first : (e : ℕ) (o : Option (List ℕ)) → is_lt (spot_cmp (record { directory = 0; name = None }) (record { directory = e; name = o })) ≡ false → dead_at_spot (rows_of a.table) (record { directory = e; name = o }) ≡ None
-    first e None h = refl
-    first e (Some n) h = absurd (no e h) where
-      no : (e : ℕ) → is_lt (ordering_then (nat_cmp 0 e) Less) ≡ false → ⊥
-      no e h = grind (arith, nat_tests)
+pub name_total : IsTotalOrder name_cmp
+name_total = then_total (on_total (λ (k : ℕ × List ℕ). k.0) nat_cmp_total) (on_total (λ (k : ℕ × List ℕ). k.1) nat_list_cmp_total)
 
-  module _ (s : Spot) (items : List (ℕ × List ℕ × Target)) (so_far : IsToldTo spot_cmp (dead_at_spot (rows_of a.table)) s (map entry_at (map by_name items))) where
-    pub dead_more : (next : Spot) (item : Option (ℕ × List ℕ × Target)) → IsNextGroup spot_cmp a.table.places.by_name s next
-        → option_map entry_at (option_map by_name item) ≡ option_map (λ target. (next, target)) (dead_at_spot (rows_of a.table) next)
-        → IsToldTo spot_cmp (dead_at_spot (rows_of a.table)) next (map entry_at (map by_name (items ++ option_to_list item)))
-    dead_more next item group told =
-        rw (entries_pushed by_name items item, entries_pushed entry_at (map by_name items) (option_map by_name item), told)
-        (told_more spot_total exact (dead_at_spot (rows_of a.table)) s (map entry_at (map by_name items)) so_far next group.later (λ q later before. silent_dead q (λ r z. group.first q r z later before)))
+pub name_exact : CmpEqualImpliesEq name_cmp
+name_exact = exact_pairs nat_cmp (slice_cmp nat_cmp) exact_unsigned exact_bytes
 
-    pub dead_sorted : IsStrictlySortedBy name_cmp (keys_of (map by_name items))
-    dead_sorted = sorted_through spot_cmp name_cmp (λ k. spot k.0 k.1) (λ k l. refl) (map by_name items) so_far.sorted
+-- an entry by directory and name, in its three parts
+abbrev pub parted : (ℕ × List ℕ) × Target → ℕ × List ℕ × Target
+parted e = (e.0.0, e.0.1, e.1)
 
-    pub dead_all : ((q : Spot) (r z : ℕ) → spot_cmp s q ≡ Less → has spot_cmp a.table.places.by_name q r z ≡ false)
-        → (d : ℕ) (n : List ℕ) → lookup (is_at (name_cmp (d, n))) (map by_name items) ≡ last_dead (rows_of a.table) d n
-    dead_all none d n =
-        lookup_through spot_cmp name_cmp (λ k. spot k.0 k.1) (λ k l. refl) (d, n) (map by_name items)
-        ∙ told_all spot_total exact (dead_at_spot (rows_of a.table)) s (map entry_at (map by_name items)) so_far (λ q later. silent_dead q (λ r z. none q r z later)) (spot d n)
+pub parted_back : (entries : List ((ℕ × List ℕ) × Target)) → map by_name (map parted entries) ≡ entries
+parted_back [] = refl
+parted_back (e ∷ es) = ap (λ rest. e ∷ rest) (parted_back es)

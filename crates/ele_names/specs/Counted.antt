@@ -1,10 +1,9 @@
 -- Which rows the live rows and their counts are of. No public clause cites this module.
 use Rattle.std.specs.Prelude.{◌≡◌, ℕ, ◌+◌, ◌<◌, ◌^◌, ◌&&◌, Bool, true, false, List, Option, Some, None, is_none, cond}
 use Rattle.std.specs.Bool.{nat_eq}
-use Rattle.std.specs.HashMap.{get, spare}
+use Rattle.std.specs.HashMap.{HashMap, get}
 use Rattle.std.specs.List.{count_by}
-use Rattle.std.specs.Option.{option_map, option_map_or}
-use Rattle.std.specs.Str.{bytes_eq}
+use Rattle.std.specs.Option.{option_and_then, option_map, option_map_or}
 use Rattle.ele_lists.specs.Tally.{counted, room}
 use Rattle.ele_world.specs.declared.rows.NameRow.{NameRow}
 use Rattle.ele_world.specs.declared.rows.Target.{Target}
@@ -12,19 +11,19 @@ use Rattle.ele_world.specs.NameRows.{is_live_in}
 use Rattle.ele_world.specs.Walk.{is_live_name, live_target}
 use Rattle.ele_names.specs.declared.lives.Live.{Live}
 use Rattle.ele_names.specs.declared.lives.Lives.{Lives}
-use Rattle.ele_names.specs.Spots.{target_eq}
+use Rattle.ele_names.specs.Placed.{name_eq}
+use Rattle.ele_names.specs.Targets.{target_eq}
 
 -- a live row of the target
 abbrev pub is_live_of : Target → NameRow → Bool
 is_live_of target row = target_eq row.target target && is_none row.death
 
--- the two directories and names are one
-abbrev pub name_eq : ℕ × List ℕ → ℕ × List ℕ → Bool
-name_eq a b = nat_eq a.0 b.0 && bytes_eq a.1 b.1
-
 -- the live row of the name
+abbrev pub live_in : {S : Type 0} → HashMap (ℕ × List ℕ) (Option Live) S → ℕ → List ℕ → Option Live
+live_in by_name d n = option_and_then (λ live. live) (get name_eq by_name (d, n))
+
 abbrev pub live_at : Lives → ℕ → List ℕ → Option Live
-live_at lives d n = get name_eq lives.by_name (d, n)
+live_at lives = live_in lives.by_name
 
 -- the live rows are those, and the counts are theirs
 pub record AreCounted (rows : List NameRow) (lives : Lives) : Type 0 where
@@ -37,7 +36,6 @@ pub record AreNumbered (at : ℕ → Option NameRow) (lives : Lives) : Type 0 wh
   pub each : (d : ℕ) (n : List ℕ) (live : Live) → live_at lives d n ≡ Some live → option_map_or (is_live_name d n) (at live.serial) false ≡ true
 
 pub record HasRoom (lives : Lives) : Type 0 where
-  pub by_name : 0 < spare lives.by_name
   pub in_directory : 0 < room lives.in_directory
   pub of_target : 0 < room lives.of_target
 

@@ -1,5 +1,5 @@
 -- What the fields of `Names` are to each other. No public clause cites this module.
-use Rattle.std.specs.Prelude.{ℕ, ◌≤◌, ◌<◌, ◌^◌, ◌&&◌, nat_le, Bool, List}
+use Rattle.std.specs.Prelude.{ℕ, ◌≤◌, ◌<◌, ◌^◌, ◌&&◌, nat_le, Bool, List, length}
 use Rattle.std.specs.List.{AllByRecursion}
 use Rattle.std.specs.List.Sorted.{IsStrictlySortedBy}
 use Rattle.std.specs.Ordering.{nat_cmp}
@@ -12,7 +12,7 @@ use Rattle.ele_world.specs.NameRows.{is_named}
 use Rattle.ele_names.specs.declared.lives.Lives.{Lives}
 use Rattle.ele_names.specs.declared.table.Table.{Table}
 use Rattle.ele_names.specs.Rows.{Follows}
-use Rattle.ele_names.specs.Placed.{ArePlaced}
+use Rattle.ele_names.specs.Placed.{AreListed, ArePlaced, names_of, number_in}
 use Rattle.ele_names.specs.Counted.{AreCounted, AreNumbered}
 
 -- the rows, in order of making
@@ -24,15 +24,17 @@ abbrev pub is_born_by : ℕ → List ℕ → ℕ → NameRow → Bool
 is_born_by directory name moment row = is_named directory name row && nat_le row.birth moment
 
 -- the rows stand at their places, and those of one name follow each other
-pub record IsTable (table : Table) : Type 0 where
+pub record IsTable (names : List (ℕ × List ℕ)) (table : Table) : Type 0 where
   pub rising : IsStrictlySortedBy nat_cmp (keys_of table.rows.entries)
   pub short : AllByRecursion (λ serial. serial < 2 ^ 64) (keys_of table.rows.entries)
   pub born : AllByRecursion (λ row. row.birth ≤ last_moment) (rows_of table)
   pub apart : AllLater Follows (rows_of table)
-  pub placed : ArePlaced (value_at table.rows.entries) table.places
+  pub known : AllByRecursion (λ row. number_in names row < length names) (rows_of table)
+  pub placed : ArePlaced names (value_at table.rows.entries) table.places
 
 -- and the live rows are known and counted
 pub record IsKept (table : Table) (lives : Lives) : Type 0 where
-  pub is_table : IsTable table
+  pub is_table : IsTable (names_of lives) table
+  pub listed : AreListed lives
   pub counts : AreCounted (rows_of table) lives
   pub numbered : AreNumbered (value_at table.rows.entries) lives

@@ -1,7 +1,7 @@
 pub mod Rows
 pub mod Listed
 pub mod Numbered
-pub mod Spots
+pub mod Targets
 pub mod Placed
 pub mod Counted
 pub mod Kept

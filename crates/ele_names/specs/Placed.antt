@@ -1,15 +1,41 @@
--- Which rows the indexes are of. No public clause cites this module.
-use Rattle.std.specs.Prelude.{ℕ, Option}
+-- The numbers of names, and which rows the indexes are of. No public clause cites this module.
+use Rattle.std.specs.Prelude.{◌≡◌, ℕ, ◌<◌, ◌^◌, ◌&&◌, Bool, List, Option, length, slice_get}
+use Rattle.std.specs.Bool.{nat_eq}
+use Rattle.std.specs.HashMap.{keys}
+use Rattle.std.specs.List.{position_or_len}
+use Rattle.std.specs.Ordering.{nat_cmp}
+use Rattle.std.specs.Str.{bytes_eq}
 use Rattle.ele_lists.specs.Serial.{IsIndexOf}
 use Rattle.ele_world.specs.declared.rows.NameRow.{NameRow}
+use Rattle.ele_names.specs.declared.lives.Lives.{Lives}
 use Rattle.ele_names.specs.declared.places.Places.{Places}
-use Rattle.ele_names.specs.declared.spot.Spot.{Spot}
-use Rattle.ele_names.specs.Spots.{spot, spot_cmp, target_cmp}
+use Rattle.ele_names.specs.Targets.{target_cmp}
 
-abbrev pub spot_of : NameRow → Spot
-spot_of row = spot row.directory row.name
+-- the two directories and names are one
+abbrev pub name_eq : ℕ × List ℕ → ℕ × List ℕ → Bool
+name_eq a b = nat_eq a.0 b.0 && bytes_eq a.1 b.1
+
+-- the names ever given
+abbrev pub names_of : Lives → List (ℕ × List ℕ)
+names_of lives = keys lives.by_name
+
+-- the number of the name, or how many names there are where it isn't one of them
+abbrev pub place_in : List (ℕ × List ℕ) → ℕ → List ℕ → ℕ
+place_in names d n = position_or_len (name_eq (d, n)) names
+
+abbrev pub number_in : List (ℕ × List ℕ) → NameRow → ℕ
+number_in names row = place_in names row.directory row.name
+
+-- each name of the first list has its number in the second
+pub record KeepsPlaces (old new : List (ℕ × List ℕ)) : Type 0 where
+  pub each : (d : ℕ) (n : List ℕ) → place_in old d n < length old → (place_in new d n ≡ place_in old d n) × (place_in new d n < length new)
+
+-- the number of each name stands under its directory, and nothing else does
+pub record AreListed (lives : Lives) : Type 0 where
+  pub few : length (names_of lives) < 2 ^ 64
+  pub each : IsIndexOf nat_cmp (λ name. name.0) (λ _. 0) (slice_get (names_of lives)) lives.of_directory
 
 -- each row stands at its places, and nothing else does
-pub record ArePlaced (at : ℕ → Option NameRow) (places : Places) : Type 0 where
-  pub named : IsIndexOf spot_cmp spot_of (λ row. row.birth) at places.by_name
+pub record ArePlaced (names : List (ℕ × List ℕ)) (at : ℕ → Option NameRow) (places : Places) : Type 0 where
+  pub named : IsIndexOf nat_cmp (number_in names) (λ row. row.birth) at places.by_name
   pub targeted : IsIndexOf target_cmp (λ row. row.target) (λ _. 0) at places.by_target

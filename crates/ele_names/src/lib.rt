@@ -6,7 +6,6 @@ mod lives;
 mod names;
 mod numbered;
 mod places;
-mod spot;
 mod table;
 mod walk;
 

@@ -1,30 +1,33 @@
 //! All name rows.
 //! A contract sees them as their list in order of making.
-ghost use Rattle.std.specs.Prelude.{◌≡◌, ℕ, ◌+◌, ◌<◌, ◌^◌, ◌++◌, ◌∷◌, [], List, Some, None, true, false, not, map, filter, is_none, length, slice_get, IsTrue, IsSome, IfSome, IfNone, IfOk, OnOk, OnErr};
-ghost use Rattle.std.specs.BTreeMap.{is_at};
+ghost use Rattle.std.specs.Prelude.{◌≡◌, ℕ, ◌+◌, ◌≤◌, ◌<◌, ◌^◌, ◌++◌, ◌∷◌, [], List, Some, None, true, false, not, map, filter, is_none, is_some, length, slice_get, IsTrue, IsSome, IfSome, IfNone, IfOk, OnOk, OnErr};
+ghost use Rattle.std.specs.BTreeMap.{is_at, insert_entry};
 ghost use Rattle.std.specs.Cmp.Lexicographic.{slice_cmp};
 ghost use Rattle.std.specs.List.{count_by, list_any, AllByRecursion};
 ghost use Rattle.std.specs.List.Sorted.{IsStrictlySortedBy};
 ghost use Rattle.std.specs.Map.{keys_of, lookup};
-ghost use Rattle.std.specs.Option.{option_map, option_to_list};
+ghost use Rattle.std.specs.Option.{option_map, option_map_or};
 ghost use Rattle.std.specs.Ordering.{nat_cmp};
-ghost use Rattle.ele_lists.specs.Lists.{update_first};
+ghost use Rattle.ele_lists.specs.Last.{last_passing};
+ghost use Rattle.ele_lists.specs.Lists.{AllLater, update_first};
 ghost use Rattle.ele_lists.specs.Serial.{value_at};
+ghost use Rattle.ele_moment.specs.Last.{last_moment};
 ghost use Rattle.ele_world.specs.NameRows.{is_named, target_at, last_dead, is_live_in, is_live_directory};
 ghost use Rattle.ele_world.specs.Walk.{is_live_name, live_target};
 ghost use Rattle.ele_world.specs.World.{is_live_name_of, is_target_file};
 ghost use Rattle.ele_names.specs.Counted.{AreCounted, AreNumbered};
-ghost use Rattle.ele_names.specs.Kept.{rows_of};
+ghost use Rattle.ele_names.specs.Kept.{IsKept, is_born_by, rows_of};
 ghost use Rattle.ele_names.specs.Listed.{by_name, name_cmp};
+ghost use Rattle.ele_names.specs.Placed.{names_of, number_in};
 ghost use Rattle.ele_names.specs.Rows.{born_row, dies, Follows};
-ghost use Rattle.ele_names.specs.Spots.{at_spot, dead_at_spot, entry_at, name_at, is_other};
+ghost use Rattle.ele_names.specs.Targets.{is_other};
 
 use crate::lives::{Live, Lives};
-use crate::spot::Spot;
 use crate::table::{Table, lives_past};
 use ele_moment::{DirId, FileId, Moment, Name, NoMemory};
 use ele_world::{NameRow, Target};
 use std::alloc::Global;
+use std::collections::BTreeMap;
 use std::marker::Model;
 
 /// All name rows, each with a serial number in order of making.
@@ -81,11 +84,12 @@ impl Names {
             birth,
             death: None,
         };
-        let serial = self.table.rows.next_serial();
+        let number = self.lives.number_or_next(directory, name)?;
         self.lives.reserve()?;
-        self.table.places.enter(&row, serial)?;
+        let serial = self.table.rows.next_serial();
+        self.table.places.enter(number, &row, serial)?;
         if let Err(refused) = self.table.rows.push(row) {
-            self.table.places.leave(&row, serial);
+            self.table.places.leave(number, &row, serial);
             return Err(refused);
         }
         self.lives.enter(&row, serial);
@@ -102,7 +106,10 @@ impl Names {
         let Some((serial, row)) = self.table.rows.pop() else {
             unreachable!()
         };
-        self.table.places.leave(&row, serial);
+        let Some(number) = self.lives.number(row.directory, &row.name) else {
+            unreachable!()
+        };
+        self.table.places.leave(number, &row, serial);
         self.lives.leave(&row);
     }
 
@@ -144,7 +151,10 @@ impl Names {
         let Some(row) = self.table.rows.take(serial) else {
             unreachable!()
         };
-        self.table.places.leave(&row, serial);
+        let Some(number) = self.lives.number(row.directory, &row.name) else {
+            unreachable!()
+        };
+        self.table.places.leave(number, &row, serial);
         self.lives.leave(&row);
         true
     }
@@ -160,7 +170,7 @@ impl Names {
     pub fn last_dead(&self, directory: DirId, name: &Name) -> Option<Target>
         ensures { result ≡ last_dead self.now directory name.now }
     {
-        let (_, row) = self.table.newest(directory, name)?;
+        let row = self.newest(directory, name)?;
         if row.death.is_some() {
             Some(row.target)
         } else {
@@ -168,11 +178,30 @@ impl Names {
         }
     }
 
+    // The newest row of the name.
+    fn newest(&self, directory: DirId, name: &Name) -> Option<NameRow>
+        ensures { result ≡ last_passing (is_named directory name.now) self.now }
+    {
+        self.newest_by(directory, name, u64::MAX)
+    }
+
+    // The newest row of the name that was born by that many seconds.
+    fn newest_by(&self, directory: DirId, name: &Name, seconds: u64) -> Option<NameRow>
+        ensures newest { result
+            ≡ last_passing (is_born_by directory name.now seconds) self.now }
+        ensures apart { AllLater Follows self.now }
+        ensures born { AllByRecursion (λ row. row.birth ≤ last_moment) self.now }
+    {
+        let number = self.lives.number(directory, name)?;
+        let (_, serial) = self.table.places.by_name.last(number, seconds)?;
+        self.table.rows.get(serial).copied()
+    }
+
     /// What the name stood for at the moment.
     pub fn at(&self, directory: DirId, name: &Name, moment: Moment) -> Option<Target>
         ensures { result ≡ target_at self.now moment directory name.now }
     {
-        let (_, row) = self.table.newest_by(directory, name, moment.seconds())?;
+        let row = self.newest_by(directory, name, moment.seconds())?;
         if lives_past(&row, moment) {
             Some(row.target)
         } else {
@@ -188,26 +217,15 @@ impl Names {
             → lookup (is_at (slice_cmp nat_cmp name)) items.items
             ≡ target_at self.now moment directory name) }
     {
-        let mut items = Vec::new(self.alloc);
-        let mut spot = Spot {
-            directory,
-            name: None,
-        };
-        while let Some(next) = self.table.next_in(&spot) {
-            push_some(&mut items, self.told_at(&next, moment))?;
-            spot = next;
+        let mut found = BTreeMap::new(self.alloc);
+        for (_, _, number) in self.lives.of_directory.of(directory) {
+            let Some(name) = self.lives.name(*number) else {
+                unreachable!()
+            };
+            let target = self.at(directory, &name.1, moment);
+            put_some(&mut found, name.1, target)?;
         }
-        Ok(items)
-    }
-
-    // The name at the spot, and what it stood for at the moment, if it did.
-    fn told_at(&self, spot: &Spot, moment: Moment) -> Option<(Name, Target)>
-        ensures { option_map (name_at spot.now.directory) result
-            ≡ option_map (λ target. (spot.now, target)) (at_spot self.now moment spot.now) }
-    {
-        let name = spot.name?;
-        let target = self.at(spot.directory, &name, moment)?;
-        Some((name, target))
+        Ok(found.into_iter().collect(self.alloc)?)
     }
 
     /// The names whose newest row is dead, with what that row stands for, by directory and bytes.
@@ -218,26 +236,15 @@ impl Names {
             → lookup (is_at (name_cmp (directory, name))) (map by_name items.items)
             ≡ last_dead self.now directory name) }
     {
-        let mut items = Vec::new(self.alloc);
-        let mut spot = Spot {
-            directory: DirId(0),
-            name: None,
-        };
-        while let Some(next) = self.table.places.by_name.next_group(spot) {
-            push_some(&mut items, self.dead_at(&next))?;
-            spot = next;
+        let mut found = BTreeMap::new(self.alloc);
+        for (directory, name) in self.lives.by_name.keys() {
+            let target = self.last_dead(*directory, name);
+            put_some(&mut found, (*directory, *name), target)?;
         }
-        Ok(items)
-    }
-
-    // The name at the spot with what it stood for, if its newest row is dead.
-    fn dead_at(&self, spot: &Spot) -> Option<(DirId, Name, Target)>
-        ensures { option_map entry_at (option_map by_name result)
-            ≡ option_map (λ target. (spot.now, target)) (dead_at_spot self.now spot.now) }
-    {
-        let name = spot.name?;
-        let target = self.last_dead(spot.directory, &name)?;
-        Some((spot.directory, name, target))
+        let items = found
+            .into_iter()
+            .map(|((directory, name), target)| (directory, name, target));
+        Ok(items.collect(self.alloc)?)
     }
 
     /// Whether no name in the directory is live.
@@ -307,12 +314,17 @@ fn target_of(found: Option<Live>) -> Option<Target>
     }
 }
 
-// Adds the item, if there is one.
-fn push_some<T: Drop>(items: &mut Vec<T>, item: Option<T>) -> Result<(), NoMemory>
-    ensures { OnOk result (items.new.items ≡ items.old.items ++ option_to_list item) }
+// Puts the target under the key, if there is one.
+fn put_some<K: Ord + Drop>(
+    found: &mut BTreeMap<K, Target>,
+    key: K,
+    target: Option<Target>,
+) -> Result<(), NoMemory>
+    ensures { OnOk result (found.new.entries
+        ≡ option_map_or (insert_entry K.cmp found.old.entries key) target found.old.entries) }
 {
-    if let Some(item) = item {
-        items.push(item)?;
+    if let Some(target) = target {
+        let _was = found.insert(key, target)?;
     }
     Ok(())
 }

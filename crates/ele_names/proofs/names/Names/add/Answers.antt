@@ -1,46 +1,80 @@
-use Rattle.std.proofs.Common.{◌++◌, ◌∷◌, [], Some, cond, refl, ap, ◌∙◌}
-use Rattle.std.specs.BTreeMap.{is_at}
+use Rattle.std.proofs.Common.{◌≡◌, ◌++◌, ◌∷◌, [], Some, cond, refl, sym, ap, ◌∙◌, append-nil}
 use Rattle.std.specs.Ordering.{nat_cmp}
+use Rattle.std.specs.BTreeMap.{is_at}
 use Rattle.std.specs.Map.{values_of}
-use Rattle.std.proofs.lemmas.List.{append-nil}
 use Rattle.ele_lists.specs.Serial.{value_at}
 use Rattle.ele_lists.proofs.Edits.{later-push}
 use Rattle.ele_lists.proofs.Indexed.{at_itself}
 use Rattle.ele_names.specs.Counted.{Leaves}
-use Rattle.ele_names.specs.Kept.{rows_of}
-use Rattle.ele_names.specs.Rows.{born_row, Follows}
-use Rattle.ele_names.proofs.Added.{fresh, kept_over, placed_back, rows_pushed, kept_pushed}
+use Rattle.ele_names.specs.Kept.{IsKept, rows_of}
+use Rattle.ele_names.specs.Placed.{names_of, number_in}
+use Rattle.ele_names.specs.Rows.{Follows, born_row}
+use Rattle.ele_names.proofs.Added.{fresh, kept_known, kept_over, kept_placed, kept_pushed, placed_back, rows_pushed}
 use Rattle.ele_names.proofs.Counts.{leaves_without}
 use Rattle.ele_names.proofs.names.Names.add.Goals as goal
 
+pub invariant_of-self : goal.invariant_of-self
+invariant_of-self c =
+    let known = c.number_or_next.ensures in
+    kept_over c.self.inside.table c.self.inside.lives c.self.invariant c.number_or_next.new.self known.places known.listed known.counted known.numbered
+
+pub invariant_of-self-in_err-reserve : goal.invariant_of-self-in_err-reserve
+invariant_of-self-in_err-reserve c =
+    let known = c.number_or_next.ensures in
+    kept_known c.self.inside.table c.self.inside.lives c.number_or_next.new.self c.reserve.new.self c.self.invariant known.places known.listed known.counted known.numbered
+    c.reserve.ensures.names c.reserve.ensures.listed c.reserve.ensures.same c.reserve.ensures.numbered
+
 pub invariant_of-self-in_err-enter : goal.invariant_of-self-in_err-enter
 invariant_of-self-in_err-enter c =
-    kept_over c.self.inside c.self.invariant c.next_serial-serial.result c.next_serial-serial.ensures.below _ _ refl
-    (c.in_err-enter.ensures.err (value_at c.self.inside.table.rows.entries) (fresh c.self.inside c.self.invariant c.next_serial-serial.result c.next_serial-serial.ensures.below) c.self.invariant.is_table.placed)
-    (c.reserve.ensures.same (rows_of c.self.inside.table) c.self.invariant.counts)
-    (c.reserve.ensures.numbered (value_at c.self.inside.table.rows.entries) c.self.invariant.numbered)
+    let known = c.number_or_next.ensures in
+    let lives = c.reserve.new.self in
+    let names = names_of lives in
+    let table = c.self.inside.table in
+    let kept : IsKept table lives = kept_known table c.self.inside.lives c.number_or_next.new.self lives c.self.invariant known.places known.listed known.counted known.numbered
+    c.reserve.ensures.names c.reserve.ensures.listed c.reserve.ensures.same c.reserve.ensures.numbered in
+    let made = c.next_serial-serial in
+    let its : number_in names (born_row c.args.directory c.args.name c.args.target c.args.birth) ≡ c.in_ok-number.number = rw c.reserve.ensures.names (sym c.in_ok-number.ensures.number.0) in
+    kept_placed table lives kept made.result made.ensures.below _ refl
+    (c.in_err-enter.ensures.err names (value_at table.rows.entries) its (fresh names table kept.is_table made.result made.ensures.below) kept.is_table.placed)
 
 pub invariant_of-self-in-Err : goal.invariant_of-self-in-Err
 invariant_of-self-in-Err c =
-    let es = c.self.inside.table.rows.entries in
+    let known = c.number_or_next.ensures in
+    let lives = c.reserve.new.self in
+    let names = names_of lives in
+    let table = c.self.inside.table in
+    let es = table.rows.entries in
+    let kept : IsKept table lives = kept_known table c.self.inside.lives c.number_or_next.new.self lives c.self.invariant known.places known.listed known.counted known.numbered
+    c.reserve.ensures.names c.reserve.ensures.listed c.reserve.ensures.same c.reserve.ensures.numbered in
     let now = c.next_serial-serial.result in
-    let new = fresh c.self.inside c.self.invariant now c.next_serial-serial.ensures.below in
     let row = born_row c.args.directory c.args.name c.args.target c.args.birth in
-    kept_over c.self.inside c.self.invariant now c.next_serial-serial.ensures.below _ _ c.in-Err.ensures.err
-    (placed_back es now row new _ (c.leave.ensures (λ s. cond (is_at (nat_cmp now) s) (Some row) (value_at es s)) (rw (at_itself now) refl) (c.in_ok-enter.ensures.ok (value_at es) new c.self.invariant.is_table.placed)))
-    (c.reserve.ensures.same (rows_of c.self.inside.table) c.self.invariant.counts)
-    (c.reserve.ensures.numbered (value_at es) c.self.invariant.numbered)
+    let its : number_in names row ≡ c.in_ok-number.number = rw c.reserve.ensures.names (sym c.in_ok-number.ensures.number.0) in
+    let new = fresh names table kept.is_table now c.next_serial-serial.ensures.below in
+    kept_placed table lives kept now c.next_serial-serial.ensures.below _ c.in-Err.ensures.err
+    (placed_back names es now row new _ (c.leave.ensures names (λ s. cond (is_at (nat_cmp now) s) (Some row) (value_at es s)) its (rw (at_itself now) refl) (c.in_ok-enter.ensures.ok names (value_at es) its new kept.is_table.placed)))
 
 pub invariant_of-self-2 : goal.invariant_of-self-2
 invariant_of-self-2 c =
+    let known = c.number_or_next.ensures in
+    let lives = c.reserve.new.self in
+    let names = names_of lives in
+    let table = c.self.inside.table in
+    let kept : IsKept table lives = kept_known table c.self.inside.lives c.number_or_next.new.self lives c.self.invariant known.places known.listed known.counted known.numbered
+    c.reserve.ensures.names c.reserve.ensures.listed c.reserve.ensures.same c.reserve.ensures.numbered in
+    let made = c.next_serial-serial in
     let row = born_row c.args.directory c.args.name c.args.target c.args.birth in
-    let rows = rows_of c.self.inside.table in
-    let leaves : Leaves row (rows ++ row ∷ []) rows = rw append-nil at (leaves_without row rows [] (later-push Follows rows row c.self.invariant.is_table.apart (rw (← c.self.view_is) at c.requires))) in
-    kept_pushed c.self.inside c.self.invariant c.next_serial-serial.result c.next_serial-serial.ensures.below row _ _ (rw (← c.next_serial-serial.ensures.next) at c.in_default.ensures.ok)
-    (rw (← c.next_serial-serial.ensures.next) at c.in_default.ensures.fits) c.in_ok-enter.ensures.born (rw (← c.self.view_is) at c.requires)
-    (c.in_ok-enter.ensures.ok (value_at c.self.inside.table.rows.entries) (fresh c.self.inside c.self.invariant c.next_serial-serial.result c.next_serial-serial.ensures.below) c.self.invariant.is_table.placed)
-    (c.enter-2.ensures.counted rows (rows ++ row ∷ []) leaves (c.reserve.ensures.same rows c.self.invariant.counts))
-    (c.enter-2.ensures.numbered (value_at c.self.inside.table.rows.entries) (fresh c.self.inside c.self.invariant c.next_serial-serial.result c.next_serial-serial.ensures.below) (c.reserve.ensures.numbered (value_at c.self.inside.table.rows.entries) c.self.invariant.numbered))
+    let rows = rows_of table in
+    let its : number_in names row ≡ c.in_ok-number.number = rw c.reserve.ensures.names (sym c.in_ok-number.ensures.number.0) in
+    let new = fresh names table kept.is_table made.result made.ensures.below in
+    let leaves : Leaves row (rows ++ row ∷ []) rows = rw append-nil at (leaves_without row rows [] (later-push Follows rows row kept.is_table.apart (rw (← c.self.view_is) at c.requires))) in
+    kept_pushed table lives kept made.result made.ensures.below row _ _ c.enter-2.ensures.names c.enter-2.ensures.listed (rw (← made.ensures.next) at c.in_default.ensures.ok)
+    (rw (← made.ensures.next) at c.in_default.ensures.fits) c.in_ok-enter.ensures.born (rw (its, c.reserve.ensures.names) c.in_ok-number.ensures.number.1) (rw (← c.self.view_is) at c.requires)
+    (c.in_ok-enter.ensures.ok names (value_at table.rows.entries) its new kept.is_table.placed)
+    (c.enter-2.ensures.counted rows (rows ++ row ∷ []) leaves kept.counts)
+    (c.enter-2.ensures.numbered (value_at table.rows.entries) new kept.numbered)
 
 pub returns-clause-ok : goal.returns-clause-ok
-returns-clause-ok c = rw (← c.self.view_is) (ap values_of (rw (← c.next_serial-serial.ensures.next) at c.in_default.ensures.ok) ∙ rows_pushed c.self.inside c.self.invariant c.next_serial-serial.result c.next_serial-serial.ensures.below (born_row c.args.directory c.args.name c.args.target c.args.birth))
+returns-clause-ok c =
+    let made = c.next_serial-serial in
+    rw (← c.self.view_is) (ap values_of (rw (← made.ensures.next) at c.in_default.ensures.ok)
+    ∙ rows_pushed (names_of c.self.inside.lives) c.self.inside.table c.self.invariant.is_table made.result made.ensures.below (born_row c.args.directory c.args.name c.args.target c.args.birth))

@@ -1,13 +1,10 @@
-use Rattle.std.proofs.Common.{map}
-use Rattle.ele_lists.specs.Index.{entries_after}
-use Rattle.ele_lists.specs.Told.{IsToldTo}
+use Rattle.std.specs.List.{list_any}
+use Rattle.ele_world.specs.NameRows.{last_dead}
 use Rattle.ele_names.specs.Kept.{rows_of}
-use Rattle.ele_names.specs.Listed.{by_name}
-use Rattle.ele_names.specs.Spots.{spot_cmp, dead_at_spot, entry_at}
+use Rattle.ele_names.specs.Listed.{name_cmp}
+use Rattle.ele_names.specs.Placed.{name_eq}
+use Rattle.ele_names.proofs.Told.{AreTold}
 use Rattle.ele_names.proofs.names.Names.dead.Given as goal
 
-abbrev pub invariant-loop-next : goal.invariant-loop-next
-invariant-loop-next l = IsToldTo spot_cmp (dead_at_spot (rows_of l.self-inside.table)) l.spot (map entry_at (map by_name l.items.items))
-
-abbrev pub decreases-loop-next : goal.decreases-loop-next
-decreases-loop-next l = entries_after spot_cmp l.self-inside.table.places.by_name l.spot
+abbrev pub invariant-loop-directory : goal.invariant-loop-directory
+invariant-loop-directory l = AreTold name_cmp (λ k. last_dead (rows_of l.self-inside.table) k.0 k.1) (λ k. list_any (name_eq k) l.directory-iterator) l.found.entries

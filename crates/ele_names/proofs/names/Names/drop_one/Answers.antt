@@ -1,14 +1,22 @@
-use Rattle.std.proofs.Common.{sym, ◌∙◌}
-use Rattle.ele_names.proofs.Gone.{kept_without, fewer, others_stay, none_of_target, its_target}
+use Rattle.std.proofs.Common.{sym, ◌∙◌, arith}
+use Rattle.ele_lists.specs.Serial.{value_at}
+use Rattle.ele_names.specs.Placed.{names_of}
+use Rattle.ele_names.proofs.Gone.{kept_without, fewer, others_stay, none_of_target, its_target, row_known}
 use Rattle.ele_names.proofs.names.Names.drop_one.Goals as goal
 
 pub returns-in_default-clause-none : goal.returns-in_default-clause-none
 returns-in_default-clause-none c = rw (← c.self.view_is) (λ _. none_of_target c.self.inside c.self.invariant c.args.target c.in_default.ensures.none)
 
+pub unreachable-requires-in_default-number : goal.unreachable-requires-in_default-number
+unreachable-requires-in_default-number c =
+    absurd (omega (arith, row_known c.self.inside c.self.invariant c.in-Some.serial c.in-Some-take.row (sym c.take.ensures.row ∙ c.in-Some-take.is), c.in_default-number.ensures.none))
+
 pub invariant_of-self : goal.invariant_of-self
 invariant_of-self c =
-    kept_without c.self.inside c.self.invariant c.in-Some.serial c.in-Some-take.row (sym c.take.ensures.row ∙ c.in-Some-take.is) _ _
-    c.take.ensures.entries c.leave.ensures c.leave-2.ensures.counted c.leave-2.ensures.numbered
+    let at = sym c.take.ensures.row ∙ c.in-Some-take.is in
+    kept_without c.self.inside c.self.invariant c.in-Some.serial c.in-Some-take.row at _ _ c.leave-2.ensures.names (c.leave-2.ensures.listed c.self.invariant.listed)
+    c.take.ensures.entries (c.leave.ensures (names_of c.self.inside.lives) (value_at c.self.inside.table.rows.entries) (sym c.in-Some-number.ensures.some.0) at)
+    c.leave-2.ensures.counted c.leave-2.ensures.numbered
 
 pub returns-clause-fewer : goal.returns-clause-fewer
 returns-clause-fewer c = rw (← c.self.view_is, c.take.ensures.entries) (λ _. fewer c.self.inside c.self.invariant c.in-Some.serial c.in-Some-take.row (sym c.take.ensures.row ∙ c.in-Some-take.is))

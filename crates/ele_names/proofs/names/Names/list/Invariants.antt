@@ -1,14 +1,15 @@
-use Rattle.std.proofs.Common.{◌≡◌, map}
-use Rattle.ele_lists.specs.Index.{entries_after}
-use Rattle.ele_lists.specs.Told.{IsToldTo}
+use Rattle.std.proofs.Common.{◌≡◌, true}
+use Rattle.std.specs.Cmp.Lexicographic.{slice_cmp}
+use Rattle.std.specs.List.{AllByRecursion}
+use Rattle.std.specs.Ordering.{nat_cmp}
+use Rattle.ele_lists.specs.Index.{has}
+use Rattle.ele_world.specs.NameRows.{target_at}
 use Rattle.ele_names.specs.Kept.{rows_of}
-use Rattle.ele_names.specs.Spots.{spot_cmp, at_spot_in, name_at}
+use Rattle.ele_names.specs.Placed.{names_of}
+use Rattle.ele_names.proofs.Told.{AreTold, is_left}
 use Rattle.ele_names.proofs.names.Names.list.Given as goal
 
-abbrev pub invariant-loop-next : goal.invariant-loop-next
-invariant-loop-next l =
-    (l.spot.directory ≡ l.initial.spot.directory)
-    × IsToldTo spot_cmp (at_spot_in (rows_of l.self-inside.table) l.moment l.initial.spot.directory) l.spot (map (name_at l.initial.spot.directory) l.items.items)
-
-abbrev pub decreases-loop-next : goal.decreases-loop-next
-decreases-loop-next l = entries_after spot_cmp l.self-inside.table.places.by_name l.spot
+abbrev pub invariant-loop-number : goal.invariant-loop-number
+invariant-loop-number l =
+    AllByRecursion (λ e. has nat_cmp l.self-inside.lives.of_directory l.directory e.1 e.2 ≡ true) l.number-iterator
+    × AreTold (slice_cmp nat_cmp) (target_at (rows_of l.self-inside.table) l.moment l.directory) (is_left (names_of l.self-inside.lives) l.directory l.number-iterator) l.found.entries

@@ -1,13 +1,21 @@
-use Rattle.std.proofs.Common.{sym, ◌∙◌}
-use Rattle.ele_names.proofs.Gone.{kept_without, last_gone}
+use Rattle.std.proofs.Common.{sym, ◌∙◌, arith}
+use Rattle.ele_lists.specs.Serial.{value_at}
+use Rattle.ele_names.specs.Placed.{names_of}
+use Rattle.ele_names.proofs.Gone.{kept_without, last_gone, row_known}
 use Rattle.ele_names.proofs.Numbering.{at_last, without_last}
 use Rattle.ele_names.proofs.names.Names.take_back.Goals as goal
 
+pub unreachable-requires-in_default-number : goal.unreachable-requires-in_default-number
+unreachable-requires-in_default-number c =
+    let at = at_last c.in-Some.serial c.in-Some.row _ _ c.in-Some.ensures.some c.in-Some.ensures.below in
+    absurd (omega (arith, row_known c.self.inside c.self.invariant c.in-Some.serial c.in-Some.row at, c.in_default-number.ensures.none))
+
 pub invariant_of-self : goal.invariant_of-self
 invariant_of-self c =
-    kept_without c.self.inside c.self.invariant c.in-Some.serial c.in-Some.row (at_last c.in-Some.serial c.in-Some.row _ _ c.in-Some.ensures.some c.in-Some.ensures.below) _ _
+    let at = at_last c.in-Some.serial c.in-Some.row _ _ c.in-Some.ensures.some c.in-Some.ensures.below in
+    kept_without c.self.inside c.self.invariant c.in-Some.serial c.in-Some.row at _ _ c.leave-2.ensures.names (c.leave-2.ensures.listed c.self.invariant.listed)
     (sym (without_last c.in-Some.serial c.in-Some.row _ _ c.in-Some.ensures.some c.in-Some.ensures.below))
-    c.leave.ensures c.leave-2.ensures.counted c.leave-2.ensures.numbered
+    (c.leave.ensures (names_of c.self.inside.lives) (value_at c.self.inside.table.rows.entries) (sym c.in-Some-number.ensures.some.0) at) c.leave-2.ensures.counted c.leave-2.ensures.numbered
 
 pub returns : goal.returns
 returns c = λ rows newest are. last_gone rows newest _ _ c.in-Some.serial c.in-Some.row c.in-Some.ensures.some (c.self.view_is ∙ are)

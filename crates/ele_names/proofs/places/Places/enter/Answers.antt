@@ -4,22 +4,22 @@ use Rattle.ele_lists.proofs.Indexed.{index_insert, index_same, index_undo}
 use Rattle.ele_names.proofs.places.Places.enter.Goals as goal
 
 pub returns-in_err-insert-clause-err : goal.returns-in_err-insert-clause-err
-returns-in_err-insert-clause-err c = let p = err_from_is_err_and c.from_residual.result c.from_residual.ensures.1 in rw p.1 (λ at fresh placed. record {
+returns-in_err-insert-clause-err c = let p = err_from_is_err_and c.from_residual.result c.from_residual.ensures.1 in rw p.1 (λ names at its fresh placed. record {
   named = index_same at at c.args.self.now.by_name c.insert.new.self placed.named c.in_err-insert.ensures.err (λ q r s. refl);
   targeted = placed.targeted;
 })
 
 pub returns-in-Err-clause-err : goal.returns-in-Err-clause-err
-returns-in-Err-clause-err c = λ at fresh placed. record {
+returns-in-Err-clause-err c = λ names at its fresh placed. record {
   named = index_undo c.args.serial c.args.self.now.by_name c.insert.new.self c.remove.new.self c.args.row.now placed.named fresh
-      (rw (c.spot_of-spot.ensures, c.birth_of-birth.ensures.value) at c.in_ok-insert.ensures.ok)
-      (rw (c.spot_of.ensures, c.birth_of-birth.ensures.value) at c.remove.ensures);
+      (rw (c.birth_of-birth.ensures.value, ← its) at c.in_ok-insert.ensures.ok)
+      (rw (c.birth_of-birth.ensures.value, ← its) at c.remove.ensures);
   targeted = index_same at at c.args.self.now.by_target c.insert-2.new.self placed.targeted c.in-Err.ensures.err (λ q r s. refl);
 }
 
 pub returns-clause-ok : goal.returns-clause-ok
-returns-clause-ok c = λ at fresh placed. record {
+returns-clause-ok c = λ names at its fresh placed. record {
   named = index_insert c.args.serial c.args.self.now.by_name c.insert.new.self c.args.row.now placed.named fresh
-      (rw (c.spot_of-spot.ensures, c.birth_of-birth.ensures.value) at c.in_ok-insert.ensures.ok);
+      (rw (c.birth_of-birth.ensures.value, ← its) at c.in_ok-insert.ensures.ok);
   targeted = index_insert c.args.serial c.args.self.now.by_target c.insert-2.new.self c.args.row.now placed.targeted fresh c.in_default.ensures.ok;
 }

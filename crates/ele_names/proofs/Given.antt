@@ -1,0 +1,72 @@
+-- A name more, which is live nowhere.
+use Rattle.std.proofs.Common.{◌≡◌, ℕ, ◌+◌, ◌<◌, ◌≤◌, ◌^◌, true, false, cond, List, [], ◌∷◌, ◌++◌, length, slice_get, Option, Some, None, refl, sym, ap, subst, ◌∙◌, arith, length-append, inl, inr}
+use Rattle.std.specs.Option.{option_and_then, option_map_or}
+use Rattle.std.specs.Ordering.{nat_cmp}
+use Rattle.std.specs.BTreeMap.{is_at}
+use Rattle.std.specs.HashMap.{get}
+use Rattle.std.specs.Map.{keys_of}
+use Rattle.std.proofs.lemmas.List.{length-map, map-append, get_or_append_left, get_or_push}
+use Rattle.std.proofs.lemmas.Option.{slice_get_past, slice_get-get_or}
+use Rattle.std.proofs.lemmas.Bool.{cases_lt}
+use Rattle.std.proofs.lemmas.Bool.Decides.{nat_tests}
+use Rattle.indexmap.specs.IndexMap.{insert_entry}
+use Rattle.indexmap.proofs.CallerLemmas.{insert_entry-new}
+use Rattle.ele_lists.specs.Index.{has, is_entry}
+use Rattle.ele_lists.specs.Serial.{is_placed}
+use Rattle.ele_lists.proofs.Indexed.{index_insert, index_same}
+use Rattle.ele_names.specs.declared.lives.Live.{Live}
+use Rattle.ele_names.specs.declared.lives.Lives.{Lives}
+use Rattle.ele_names.specs.Counted.{live_at}
+use Rattle.ele_names.specs.Placed.{AreListed, name_eq, names_of, place_in}
+use Rattle.ele_names.proofs.Numbers.{exact, missing}
+
+-- the element behind a list
+got_pushed : {X : Type 0} (xs : List X) (x : X) (s : ℕ) → slice_get (xs ++ x ∷ []) s ≡ cond (is_at (nat_cmp (length xs)) s) (Some x) (slice_get xs s)
+got_pushed xs x s = elim (is_at (nat_cmp (length xs)) s) as (λ b. is_at (nat_cmp (length xs)) s ≡ b → slice_get (xs ++ x ∷ []) s ≡ cond b (Some x) (slice_get xs s)) [
+  | true ↦ λ e. let same : length xs ≡ s = here (length xs) s e in slice_get-get_or (xs ++ x ∷ []) s x (rw (length-append xs (x ∷ [])) (omega (arith, same))) ∙ ap Some (get_or_push xs x x s same)
+  | false ↦ λ e. elim (cases_lt s (length xs)) as (λ _. slice_get (xs ++ x ∷ []) s ≡ slice_get xs s) [
+    | inl before ↦ slice_get-get_or (xs ++ x ∷ []) s x (rw (length-append xs (x ∷ [])) (omega (arith, before))) ∙ ap Some (get_or_append_left xs (x ∷ []) x s before) ∙ sym (slice_get-get_or xs s x before)
+    | inr behind ↦ slice_get_past (xs ++ x ∷ []) s (rw (length-append xs (x ∷ [])) (past (length xs) s e behind)) ∙ sym (slice_get_past xs s behind)
+  ]
+] refl where
+  here : (l s : ℕ) → is_at (nat_cmp l) s ≡ true → l ≡ s
+  here l s e = grind (arith, nat_tests)
+
+  past : (l s : ℕ) → is_at (nat_cmp l) s ≡ false → l ≤ s → l + 1 ≤ s
+  past l s e h = grind (arith, nat_tests)
+
+module _ (old new : Lives) (d : ℕ) (n : List ℕ) (unknown : place_in (names_of old) d n ≡ length (names_of old)) where
+  pub names_pushed : new.by_name.entries ≡ insert_entry name_eq old.by_name.entries (d, n) None → names_of new ≡ names_of old ++ (d, n) ∷ []
+  names_pushed inserted =
+      ap keys_of (inserted ∙ insert_entry-new name_eq old.by_name (d, n) None (missing old.by_name d n unknown))
+      ∙ map-append (λ (e : (ℕ × List ℕ) × Option Live). e.0) old.by_name.entries (((d, n), None) ∷ [])
+
+  -- the others are live as they were
+  pub same_live : ((k : ℕ × List ℕ) → get name_eq new.by_name k ≡ cond (name_eq (d, n) k) (Some None) (get name_eq old.by_name k)) → (e : ℕ) (m : List ℕ) → live_at new e m ≡ live_at old e m
+  same_live updated e m = ap (option_and_then (λ live. live)) (updated (e, m)) ∙ elim (name_eq (d, n) (e, m)) as (λ b. name_eq (d, n) (e, m) ≡ b → option_and_then (λ live. live) (cond b (Some None) (get name_eq old.by_name (e, m))) ≡ live_at old e m) [
+    | true ↦ λ f. sym (ap (option_and_then (λ live. live)) (subst (λ (k : ℕ × List ℕ). get name_eq old.by_name k ≡ None) (exact (d, n) (e, m) f) (missing old.by_name d n unknown)))
+    | false ↦ λ f. refl
+  ] refl
+
+  -- and the name stands under its directory
+  pub listed_pushed : length (names_of old) < 2 ^ 63 → names_of new ≡ names_of old ++ (d, n) ∷ []
+      → ((q r s : ℕ) → has nat_cmp new.of_directory q r s ≡ cond (is_entry nat_cmp d 0 (length (names_of old)) q r s) true (has nat_cmp old.of_directory q r s))
+      → AreListed old → AreListed new
+  listed_pushed few are changed was = record {
+    few = rw (are, length-append (names_of old) ((d, n) ∷ [])) (omega (arith, few));
+    each = index_same (λ s. cond (is_at (nat_cmp (length (names_of old))) s) (Some (d, n)) (slice_get (names_of old) s)) (slice_get (names_of new)) new.of_directory new.of_directory
+        (index_insert (length (names_of old)) old.of_directory new.of_directory (d, n) was.each (slice_get_past (names_of old) (length (names_of old)) (omega arith)) changed) (λ q r s. refl)
+        (λ q r s. ap (λ o. option_map_or (λ (name : ℕ × List ℕ). is_placed nat_cmp name.0 0 q r) o false) (sym (ap (λ names. slice_get names s) are ∙ got_pushed (names_of old) (d, n) s)));
+  }
+
+-- how many names there are
+pub names_counted : (lives : Lives) → length lives.by_name.entries ≡ length (names_of lives)
+names_counted lives = sym (length-map lives.by_name.entries (λ (e : (ℕ × List ℕ) × Option Live). e.0))
+
+-- what has the same names and the same index is listed as it was
+pub listed_same : (old new : Lives) → names_of new ≡ names_of old → ((q r s : ℕ) → has nat_cmp new.of_directory q r s ≡ has nat_cmp old.of_directory q r s) → AreListed old → AreListed new
+listed_same old new are same was = record { few = rw are was.few; each = record { each = λ q r s. same q r s ∙ was.each.each q r s ∙ rw (← are) refl } }
+
+-- no names
+pub listed_none : (new : Lives) → new.by_name.entries ≡ [] → ((q r s : ℕ) → has nat_cmp new.of_directory q r s ≡ false) → AreListed new
+listed_none new none has_none = record { few = rw none (omega arith); each = record { each = λ q r s. has_none q r s ∙ rw none refl } }

@@ -1,0 +1,134 @@
+-- The numbers of names.
+use Rattle.std.proofs.Common.{◌≡◌, ℕ, suc, ◌+◌, ◌≤◌, ◌<◌, Bool, true, false, cond, not, ◌==◌, eqb, nat_lt, bytes_eq, List, [], ◌∷◌, ◌++◌, length, slice_get, position, is_some, Option, Some, None, length-append, refl, sym, ap, ◌∙◌, ◌⊎◌, inl, inr, arith}
+use Rattle.std.specs.List.{list_any}
+use Rattle.std.specs.HashMap.{HashMap, get, keys}
+use Rattle.std.proofs.lemmas.Bool.{false≢true, true≢false, cases_lt}
+use Rattle.std.proofs.lemmas.Bool.Decides.{nat_tests}
+use Rattle.std.proofs.lemmas.List.Folds.{position_or_len_push}
+use Rattle.std.proofs.lemmas.List.Sums.{prefix_len-le-length}
+use Rattle.std.proofs.lemmas.Slice.Eq.{bytes_eq-Decides}
+use Rattle.indexmap.proofs.MapLemmas.{some_index}
+use Rattle.ele_world.specs.declared.rows.NameRow.{NameRow}
+use Rattle.ele_world.specs.NameRows.{is_named}
+use Rattle.ele_names.specs.declared.lives.Live.{Live}
+use Rattle.ele_names.specs.Placed.{name_eq, place_in, number_in, KeepsPlaces}
+use Rattle.ele_names.proofs.Apart.{split, equal}
+
+pub exact : (k q : ℕ × List ℕ) → name_eq k q ≡ true → k ≡ q
+exact k q h = let parts = split (k.0 == q.0) (bytes_eq k.1 q.1) h in let d = equal k.0 q.0 parts.0 in let n = (bytes_eq-Decides k.1 q.1).0 parts.1 in rw (d, n) refl
+
+itself : (k : ℕ × List ℕ) → name_eq k k ≡ true
+itself k = rw (own k.0, (bytes_eq-Decides k.1 k.1).1 refl) refl where
+  own : (n : ℕ) → (n == n) ≡ true
+  own n = grind (arith, nat_tests)
+
+other : (k q x : ℕ × List ℕ) → k ≡ x → name_eq q x ≡ false → name_eq k q ≡ false
+other k q x same f = elim (name_eq k q) as (λ b. name_eq k q ≡ b → b ≡ false) [
+  | true ↦ λ g. absurd (false≢true (sym f ∙ rw (sym (exact k q g) ∙ same) (itself x)))
+  | false ↦ λ g. refl
+] refl
+
+zero : (b : Bool) (p : ℕ) → ((cond (not b) (1 + p) 0) == 0) ≡ b
+zero true p = refl
+zero false p = grind (arith, nat_tests)
+
+never : (m : ℕ) → (0 == (1 + m)) ≡ false
+never m = grind (arith, nat_tests)
+
+more : (p q : ℕ) → ((1 + p) == (1 + q)) ≡ (p == q)
+more p q = grind (arith, nat_tests)
+
+-- two names have one number if they are one
+pub one_place : (names : List (ℕ × List ℕ)) (k q : ℕ × List ℕ) → place_in names q.0 q.1 < length names → (place_in names k.0 k.1 == place_in names q.0 q.1) ≡ name_eq k q
+one_place [] k q inside = absurd (omega (arith, inside))
+one_place (x ∷ xs) k q inside = elim (name_eq q x) as (λ b. name_eq q x ≡ b → (place_in (x ∷ xs) k.0 k.1 == cond (not b) (1 + place_in xs q.0 q.1) 0) ≡ name_eq k q) [
+  | true ↦ λ f. zero (name_eq k x) (place_in xs k.0 k.1) ∙ rw (exact q x f) refl
+  | false ↦ λ f. elim (name_eq k x) as (λ b. name_eq k x ≡ b → (cond (not b) (1 + place_in xs k.0 k.1) 0 == (1 + place_in xs q.0 q.1)) ≡ name_eq k q) [
+    | true ↦ λ e. never (place_in xs q.0 q.1) ∙ sym (other k q x (exact k x e) f)
+    | false ↦ λ e. more (place_in xs k.0 k.1) (place_in xs q.0 q.1) ∙ one_place xs k q (omega (arith, (rw f at inside)))
+  ] refl
+] refl
+
+-- rows of one name have its number
+pub named_place : (names : List (ℕ × List ℕ)) (d : ℕ) (n : List ℕ) (row : NameRow) → is_named d n row ≡ true → number_in names row ≡ place_in names d n
+named_place names d n row named = ap (λ (k : ℕ × List ℕ). place_in names k.0 k.1) (exact (row.directory, row.name) (d, n) named)
+
+behind : {X : Type 0} (x : X) (xs : List X) (p : ℕ) → slice_get (x ∷ xs) (1 + p) ≡ slice_get xs p
+behind x xs p = let next : 1 + p ≡ suc p = omega arith in rw next refl
+
+-- a name with a number stands there
+pub at_place : (names : List (ℕ × List ℕ)) (d : ℕ) (n : List ℕ) → place_in names d n < length names → slice_get names (place_in names d n) ≡ Some (d, n)
+at_place [] d n inside = absurd (omega (arith, inside))
+at_place (x ∷ xs) d n inside = elim (name_eq (d, n) x) as (λ b. name_eq (d, n) x ≡ b → slice_get (x ∷ xs) (cond (not b) (1 + place_in xs d n) 0) ≡ Some (d, n)) [
+  | true ↦ λ f. ap Some (sym (exact (d, n) x f))
+  | false ↦ λ f. behind x xs (place_in xs d n) ∙ at_place xs d n (omega (arith, (rw f at inside)))
+] refl
+
+-- and is one of them
+pub any_known : (names : List (ℕ × List ℕ)) (d : ℕ) (n : List ℕ) → place_in names d n < length names → list_any (name_eq (d, n)) names ≡ true
+any_known [] d n inside = absurd (omega (arith, inside))
+any_known (x ∷ xs) d n inside = elim (name_eq (d, n) x) as (λ b. name_eq (d, n) x ≡ b → list_any (name_eq (d, n)) (x ∷ xs) ≡ true) [
+  | true ↦ λ f. rw f refl
+  | false ↦ λ f. rw f (any_known xs d n (omega (arith, (rw f at inside))))
+] refl
+
+-- a name has a number, or none
+pub known : (names : List (ℕ × List ℕ)) (d : ℕ) (n : List ℕ) → (place_in names d n < length names) ⊎ (place_in names d n ≡ length names)
+known names d n = elim (cases_lt (place_in names d n) (length names)) as (λ _. (place_in names d n < length names) ⊎ (place_in names d n ≡ length names)) [
+  | inl inside ↦ inl inside
+  | inr behind ↦ inr (omega (arith, behind, prefix_len-le-length (λ k. not (name_eq (d, n) k)) names))
+]
+
+before : (p l m : ℕ) → p < l → cond (eqb p l) m p ≡ p
+before p l m h = grind (arith, nat_tests)
+
+last : (l : ℕ) → cond (eqb l l) (l + 0) l ≡ l
+last l = grind (arith, nat_tests)
+
+module _ (names : List (ℕ × List ℕ)) where
+  -- a name more behind the others leaves them their numbers
+  pub keeps_pushed : (k : ℕ × List ℕ) → KeepsPlaces names (names ++ k ∷ [])
+  keeps_pushed k = record { each = λ d n inside. stays d n inside } where
+    stays : (d : ℕ) (n : List ℕ) → place_in names d n < length names → (place_in (names ++ k ∷ []) d n ≡ place_in names d n) × (place_in (names ++ k ∷ []) d n < length (names ++ k ∷ []))
+    stays d n inside =
+        let same : place_in (names ++ k ∷ []) d n ≡ place_in names d n = position_or_len_push (name_eq (d, n)) names k ∙ before (place_in names d n) (length names) _ inside in
+        (same, rw (same, length-append names (k ∷ [])) (omega (arith, inside)))
+
+  pub keeps_same : KeepsPlaces names names
+  keeps_same = record { each = λ d n inside. (refl, inside) }
+
+  -- the new name's number is the next
+  pub pushed_place : (k : ℕ × List ℕ) → place_in names k.0 k.1 ≡ length names → place_in (names ++ k ∷ []) k.0 k.1 ≡ length names
+  pushed_place k new = position_or_len_push (name_eq k) names k ∙ rw (new, itself k) (last (length names))
+
+  -- a name that isn't found has no number
+  pub unnumbered : (d : ℕ) (n : List ℕ) → None ≡ position (name_eq (d, n)) names → place_in names d n ≡ length names
+  unnumbered d n none = none_is (place_in names d n) (length names) (prefix_len-le-length (λ k. not (name_eq (d, n) k)) names) none where
+    none_is : (p l : ℕ) → p ≤ l → None ≡ cond (nat_lt p l) (Some p) None → p ≡ l
+    none_is p l le h = elim (nat_lt p l) as (λ b. nat_lt p l ≡ b → None ≡ cond b (Some p) None → p ≡ l) [
+      | true ↦ λ e g. absurd cc
+      | false ↦ λ e g. grind (arith, nat_tests)
+    ] refl h
+
+module _ {S : Type 0} (by_name : HashMap (ℕ × List ℕ) (Option Live) S) (d : ℕ) (n : List ℕ) where
+  among : is_some (position (name_eq (d, n)) (keys by_name)) ≡ is_some (get name_eq by_name (d, n))
+  among = some_index (name_eq (d, n)) by_name.entries
+
+  -- what has a number is there
+  pub present : place_in (keys by_name) d n < length (keys by_name) → is_some (get name_eq by_name (d, n)) ≡ true
+  present inside = sym among ∙ yes (place_in (keys by_name) d n) (length (keys by_name)) inside where
+    yes : (p l : ℕ) → p < l → is_some (cond (nat_lt p l) (Some p) None) ≡ true
+    yes p l h = let is : nat_lt p l ≡ true = grind (arith, nat_tests) in rw is refl
+
+  pub not_missing : place_in (keys by_name) d n < length (keys by_name) → get name_eq by_name (d, n) ≡ None → ⊥
+  not_missing inside none = false≢true (sym (ap is_some none) ∙ present inside)
+
+  -- and what has none isn't
+  pub missing : place_in (keys by_name) d n ≡ length (keys by_name) → get name_eq by_name (d, n) ≡ None
+  missing end = none (get name_eq by_name (d, n)) (sym among ∙ no (place_in (keys by_name) d n) (length (keys by_name)) end) where
+    no : (p l : ℕ) → p ≡ l → is_some (cond (nat_lt p l) (Some p) None) ≡ false
+    no p l h = let is : nat_lt p l ≡ false = grind (arith, nat_tests) in rw is refl
+
+    none : (o : Option (Option Live)) → is_some o ≡ false → o ≡ None
+    none None h = refl
+    none (Some x) h = absurd (true≢false h)

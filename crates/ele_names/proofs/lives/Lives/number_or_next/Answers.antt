@@ -1,0 +1,46 @@
+use Rattle.std.proofs.Common.{◌≡◌, ℕ, List, length, length-append, ◌∷◌, [], refl, sym, ap, ◌∙◌, ◌++◌, arith}
+use Rattle.std.specs.Map.{keys_of}
+use Rattle.ele_names.specs.declared.lives.Lives.{Lives}
+use Rattle.ele_names.specs.Counted.{live_at}
+use Rattle.ele_names.specs.Placed.{names_of}
+use Rattle.ele_names.proofs.Given.{names_pushed, names_counted, same_live, listed_pushed, listed_same}
+use Rattle.ele_names.proofs.Live.{counted_same, numbered_same}
+use Rattle.ele_names.proofs.Numbers.{keeps_pushed, pushed_place}
+use Rattle.ele_names.proofs.lives.Lives.number_or_next.Goals as goal
+
+abbrev old : goal.In_default-insert → Lives
+old c = c.args.self.now
+
+abbrev new : goal.In_default-insert → Lives
+new c = record { by_name = c.insert-2.new.self; of_directory = c.insert.new.self; in_directory = (old c).in_directory; of_target = (old c).of_target }
+
+pushed : (c : goal.In_default-insert) → names_of (new c) ≡ names_of (old c) ++ (c.args.directory, c.args.name) ∷ []
+pushed c = names_pushed (old c) (new c) c.args.directory c.args.name c.in_default.ensures.none (rw c.reserve.ensures.entries at c.in_default-insert.ensures.entries)
+
+lives_same : (c : goal.In_default-insert) → (d : ℕ) (n : List ℕ) → live_at (new c) d n ≡ live_at (old c) d n
+lives_same c = same_live (old c) (new c) c.args.directory c.args.name c.in_default.ensures.none (rw c.reserve.ensures.entries at c.in_default-insert.ensures.updates.0)
+
+next : (c : goal.In_default-insert) → c.len-number.result ≡ length (names_of (old c))
+next c = c.len-number.ensures.len ∙ ap length c.reserve.ensures.entries ∙ names_counted (old c)
+
+pub returns-in_err-insert-clause-listed : goal.returns-in_err-insert-clause-listed
+returns-in_err-insert-clause-listed c = listed_same c.args.self.now _ (ap keys_of c.reserve.ensures.entries) c.in_err-insert.ensures.err
+
+pub returns-clause-number : goal.returns-clause-number
+returns-clause-number c =
+    rw (pushed c) (
+      next c ∙ sym (pushed_place (names_of (old c)) (c.args.directory, c.args.name) c.in_default.ensures.none),
+      rw (length-append (names_of (old c)) ((c.args.directory, c.args.name) ∷ [])) (omega (arith, next c)),
+    )
+
+pub returns-clause-places : goal.returns-clause-places
+returns-clause-places c = rw (pushed c) (keeps_pushed (names_of (old c)) (c.args.directory, c.args.name))
+
+pub returns-clause-listed : goal.returns-clause-listed
+returns-clause-listed c = listed_pushed (old c) (new c) c.args.directory c.args.name c.in_default.ensures.none (rw (next c) at c.len-number.ensures.small) (pushed c) (rw (next c) at c.in_ok-insert.ensures.ok)
+
+pub returns-clause-counted : goal.returns-clause-counted
+returns-clause-counted c = λ rows. counted_same rows (old c) (new c) (lives_same c) (λ d. refl) (λ t. refl)
+
+pub returns-clause-numbered : goal.returns-clause-numbered
+returns-clause-numbered c = λ at. numbered_same at at (old c) (new c) (λ s. refl) (lives_same c)
