@@ -1,5 +1,5 @@
 -- What lies between two entries of one group.
-use Rattle.std.proofs.Common.{◌≡◌, ◌==◌, ℕ, ◌+◌, ◌≤◌, ◌<◌, ◌^◌, Bool, true, false, cond, IsTrue, List, [], ◌∷◌, refl, sym, ◌∙◌, arith, ◌⊎◌}
+use Rattle.std.proofs.Common.{◌≡◌, ◌==◌, ℕ, ◌≤◌, ◌<◌, ◌^◌, true, false, IsTrue, refl, ◌∙◌, arith, ◌⊎◌}
 use Rattle.std.specs.declared.cmp.Ordering.{Ordering}
 use Rattle.std.specs.declared.cmp.Ordering.TheVariants.{Less, Equal, Greater}
 use Rattle.std.specs.Ordering.{nat_cmp, ordering_then, ordering_reverse, is_gt, is_lt, is_eq}
@@ -9,20 +9,15 @@ use Rattle.std.specs.BTreeMap.Range.{IsLeBy, IsInRange, range_contains}
 use Rattle.std.specs.BTreeSet.{keys_between}
 use Rattle.std.specs.declared.ops.Bound.{Bound}
 use Rattle.std.specs.declared.ops.Bound.TheVariants.{Included}
-use Rattle.std.specs.List.{list_any, count_by}
-use Rattle.std.proofs.lemmas.Cmp.{then_total, on_total, eq_by_cmp_equiv, tied_itself, alike_right}
-use Rattle.std.proofs.lemmas.Bool.{true≢false, false≢true}
-use Rattle.std.proofs.lemmas.List.Sums.{sum_by-cons, sum_by-le-sum_by}
+use Rattle.std.specs.List.{list_any}
+use Rattle.std.proofs.lemmas.Cmp.{then_total, on_total, eq_by_cmp_equiv, tied_itself}
+use Rattle.std.proofs.lemmas.Bool.{false≢true}
 use Rattle.std.proofs.lemmas.Map.Steps.{list_any_congr}
 use Rattle.std.proofs.lemmas.Map.Views.{any-filter_same, range_contains-from_IsInRange}
 use Rattle.std.proofs.lemmas.Bool.Decides.{nat_tests}
-use Rattle.ele_lists.specs.Index.{entry_cmp, has, IsLastOf, IsNextGroup}
+use Rattle.ele_lists.specs.Index.{entry_cmp, has, IsLastOf}
 use Rattle.ele_lists.specs.declared.index.Index.{Index}
 use Rattle.ele_lists.proofs.Anys.{any-weaker}
-
-not_true : (b : Bool) → (b ≡ true → ⊥) → b ≡ false
-not_true true h = absurd (h refl)
-not_true false h = refl
 
 first_le : (x y z : Ordering) → is_gt (ordering_then (ordering_then x y) z) ≡ false → is_gt x ≡ false
 first_le Less y z h = refl
@@ -113,59 +108,3 @@ module _ {G : Type 0} {cmp : G → G → Ordering} (o : IsTotalOrder cmp) (index
             let rank = same.1 in
             let number = same.2 in
             (from_start (cmp g e.0) e.1 e.2 same.0, to_end (cmp e.0 g) e.1 18446744073709551615 e.2 18446744073709551615 back (omega arith) (omega arith))
-
-later_group : (x : Ordering) (m r s : ℕ) → ordering_then (ordering_then x (nat_cmp m r)) (nat_cmp m s) ≡ Less → r ≤ m → s ≤ m → x ≡ Less
-later_group Less m r s h a b = refl
-later_group Equal m r s h a b = absurd (no h) where
-  no : ordering_then (nat_cmp m r) (nat_cmp m s) ≡ Less → ⊥
-  no h = grind (arith, nat_tests)
-later_group Greater m r s h a b = absurd cc
-
-module _ {X : Type 0} (p q t : X → Bool) (weaker : (x : X) → p x ≡ true → q x ≡ true) where
-  le_at : (x : X) → cond (p x) 1 0 ≤ cond (q x) 1 0
-  le_at x = elim (p x) as (λ b. p x ≡ b → cond b 1 0 ≤ cond (q x) 1 0) [ true ↦ λ e. rw (weaker x e) (omega arith) | false ↦ λ _. omega arith ] refl
-
-  -- one more passes the weaker test
-  count-less : (xs : List X) → ((x : X) → t x ≡ true → (q x ≡ true) × (p x ≡ false)) → list_any t xs ≡ true → count_by p xs < count_by q xs
-  count-less [] one any = absurd (false≢true any)
-  count-less (x ∷ xs) one any =
-      let ps = sum_by-cons (λ (x : X). cond (p x) 1 0) x xs in
-      let qs = sum_by-cons (λ (x : X). cond (q x) 1 0) x xs in
-      elim (t x) as (λ b. t x ≡ b → count_by p (x ∷ xs) < count_by q (x ∷ xs)) [
-        | true ↦ λ e.
-            let is = one x e in
-            let rest = sum_by-le-sum_by (λ (x : X). cond (p x) 1 0) (λ (x : X). cond (q x) 1 0) xs le_at in
-            let here : cond (p x) 1 0 + 1 ≤ cond (q x) 1 0 = rw (is.0, is.1) (omega arith) in
-            omega arith
-        | false ↦ λ e.
-            let rest = count-less xs one (rw e at any) in
-            let here = le_at x in
-            omega arith
-      ] refl
-
-module _ {G : Type 0} {cmp : G → G → Ordering} (o : IsTotalOrder cmp) (index : Index G) (after : G) (e : G × ℕ × ℕ) where
-  pub next_of_group : entry_cmp cmp (after, 18446744073709551615, 18446744073709551615) e ≡ Less → e.1 ≤ 18446744073709551615 → e.2 ≤ 18446744073709551615
-      → IsTrue (has cmp index e.0 e.1 e.2)
-      → ((k : G × ℕ × ℕ) → entry_cmp cmp (after, 18446744073709551615, 18446744073709551615) k ≡ Less → IsTrue (has cmp index k.0 k.1 k.2) → IsLeBy (entry_cmp cmp) e k)
-      → IsNextGroup cmp index after e.0
-  next_of_group behind rank serial there least =
-      let later : cmp after e.0 ≡ Less = later_group (cmp after e.0) 18446744073709551615 e.1 e.2 behind rank serial in
-      record {
-        later = later;
-        first = λ q r s a b. not_true (has cmp index q r s) (λ h. too_soon (cmp e.0 q) (nat_cmp e.1 r) (nat_cmp e.2 s) (o.antisymm e.0 q ∙ rw b refl) (least (q, r, s) (rw a refl) h));
-        fewer = count-less (λ k. is_lt (cmp e.0 k.0)) (λ k. is_lt (cmp after k.0)) (is_at (entry_cmp cmp e))
-            (λ k h. below (cmp e.0 k.0) h (λ l. o.trans after e.0 k.0 later l)) index.entries.keys
-            (λ k h. let same = group_of (cmp e.0 k.0) (nat_cmp e.1 k.1) (nat_cmp e.2 k.2) h in (rw (sym (alike_right o e.0 k.0 after same), later) refl, rw same refl)) there;
-      } where
-        too_soon : (x y z : Ordering) → x ≡ Greater → is_gt (ordering_then (ordering_then x y) z) ≡ false → ⊥
-        too_soon x y z e h = true≢false (sym (rw e refl) ∙ h)
-
-        below : (x : Ordering) {y : Ordering} → is_lt x ≡ true → (x ≡ Less → y ≡ Less) → is_lt y ≡ true
-        below Less h f = rw (f refl) refl
-        below Equal h f = absurd (false≢true h)
-        below Greater h f = absurd (false≢true h)
-
-        group_of : (x y z : Ordering) → is_eq (ordering_then (ordering_then x y) z) ≡ true → x ≡ Equal
-        group_of Less y z h = absurd (false≢true h)
-        group_of Equal y z h = refl
-        group_of Greater y z h = absurd (false≢true h)

@@ -1,9 +1,7 @@
 -- Serial numbers by group and rank.
-use Rattle.std.specs.Prelude.{◌≡◌, ℕ, ◌≤◌, ◌<◌, ◌^◌, Bool, false, IsTrue, ◌⊎◌}
+use Rattle.std.specs.Prelude.{◌≡◌, ℕ, ◌≤◌, ◌<◌, ◌^◌, Bool, IsTrue, ◌⊎◌}
 use Rattle.std.specs.declared.cmp.Ordering.{Ordering}
-use Rattle.std.specs.Ordering.{nat_cmp, ordering_then, is_lt}
-use Rattle.std.specs.declared.cmp.Ordering.TheVariants.{Less}
-use Rattle.std.specs.List.{count_by}
+use Rattle.std.specs.Ordering.{nat_cmp, ordering_then}
 use Rattle.std.specs.BTreeMap.{is_at}
 use Rattle.std.specs.BTreeSet.{contains}
 use Rattle.ele_lists.specs.declared.index.Index.{Index}
@@ -21,18 +19,8 @@ module _ {G : Type 0} (cmp : G → G → Ordering) where
   abbrev pub has : Index G → G → ℕ → ℕ → Bool
   has index q r s = contains entry_cmp index.entries (q, r, s)
 
--- how many entries stand in later groups
-abbrev pub entries_after : {G : Type 0} → (G → G → Ordering) → Index G → G → ℕ
-entries_after cmp index g = count_by (λ e. is_lt (cmp g e.0)) index.entries.keys
-
 -- of what passes the test up to a rank, the last is s at r
 pub record IsLastOf (has_at : ℕ → ℕ → Bool) (rank r s : ℕ) : Type 0 where
   pub there : IsTrue (has_at r s)
   pub up_to : r ≤ rank
   pub last : (q t : ℕ) → q ≤ rank → t < 2 ^ 64 → IsTrue (has_at q t) → (q < r) ⊎ ((q ≡ r) × (t ≤ s))
-
--- the group g has an entry and comes behind the other, and no group between the two has one
-pub record IsNextGroup {G : Type 0} (cmp : G → G → Ordering) (index : Index G) (after g : G) : Type 0 where
-  pub later : cmp after g ≡ Less
-  pub first : (q : G) (r s : ℕ) → cmp after q ≡ Less → cmp q g ≡ Less → has cmp index q r s ≡ false
-  pub fewer : entries_after cmp index g < entries_after cmp index after

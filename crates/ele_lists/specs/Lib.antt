@@ -6,4 +6,3 @@ pub mod Tally
 pub mod Index
 pub mod Last
 pub mod Serial
-pub mod Told

@@ -2,13 +2,11 @@
 //! A contract sees an index as a test: whether it has a serial number at a group and a rank.
 ghost use Rattle.std.specs.Prelude.{◌≡◌, ◌==◌, ℕ, ◌≤◌, ◌<◌, ◌^◌, cond, true, false, OnOk, OnErr, IfSome, IfNone};
 ghost use Rattle.std.specs.List.{list_any, AllByRecursion};
-ghost use Rattle.std.specs.declared.cmp.Ordering.TheVariants.{Less};
-ghost use Rattle.ele_lists.specs.Index.{has, is_entry, IsLastOf, IsNextGroup};
+ghost use Rattle.ele_lists.specs.Index.{has, is_entry, IsLastOf};
 
 use std::alloc::{AllocError, Global};
 use std::collections::BTreeSet;
 use std::collections::btree_set::Range;
-use std::ops::Bound;
 
 /// Serial numbers of rows that stand elsewhere, each at the group and the rank of its row. Every
 /// call looks at a logarithm of them.
@@ -68,21 +66,5 @@ impl<G: Ord + Copy> Index<G> {
     {
         self.entries
             .range((group, 0, 0)..=(group, u64::MAX, u64::MAX))
-    }
-
-    /// The first group behind that one that has an entry.
-    pub fn next_group(&self, after: G) -> Option<G>
-        ensures some { IfSome result (λ g. IsNextGroup G.cmp self.now after g) }
-        ensures none { IfNone result ((q : G) (r : ℕ) (s : ℕ) → G.cmp after q ≡ Less
-            → has G.cmp self.now q r s ≡ false) }
-    {
-        let from = (after, u64::MAX, u64::MAX);
-        let (group, rank, serial) = self
-            .entries
-            .range((Bound::Excluded(from), Bound::Unbounded))
-            .next()?;
-        let _rank = *rank;
-        let _serial = *serial;
-        Some(*group)
     }
 }
