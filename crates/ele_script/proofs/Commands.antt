@@ -1,10 +1,8 @@
 -- The command in front of words.
-use Rattle.std.proofs.Common.{◌≡◌, ℕ, Bool, true, false, cond, List, [], ◌∷◌, ◌++◌, length, refl, sym, ap, ◌∙◌, Option, Some, None, IfSome, Result, Ok, Err, ◌⊎◌, inl, inr, subst}
+use Rattle.std.proofs.Common.{arith, ◌≡◌, ℕ, Bool, true, false, cond, List, [], ◌∷◌, ◌++◌, length, refl, sym, ap, ◌∙◌, Option, Some, None, IfSome, Result, Ok, Err, ◌⊎◌, inl, inr, subst}
 use Rattle.std.specs.Prelude.{codes, IfOk, IfErr}
-use Rattle.std.specs.Str.{bytes_eq}
 use Rattle.std.specs.Cmp.Lexicographic.{bytes_decides}
 use Rattle.ele_script.specs.declared.command.Command.{Command}
-use Rattle.ele_script.specs.declared.command.Command.TheVariants.{Clock, Tick, MakeDir, RemoveDir, Create, Link, Unlink, Rename, Undelete, OpenWrite, OpenRead, Write, Truncate, Close, Revert, SetPolicy, Default, GroupMake, GroupDrop, GroupAdd, GroupRemove, Mark, Unmark, Clean, Read, Stat, Versions, ListNames, Restorable, Due, Usage, Groups, Pass}
 use Rattle.ele_script.specs.declared.fault.LineFault.{LineFault}
 use Rattle.ele_script.specs.declared.fault.LineFault.TheVariants.{Syntax, NoMemory}
 use Rattle.ele_script.specs.declared.reading.Line.{Line}
@@ -17,91 +15,36 @@ use Rattle.ele_script.specs.FirstFault.{FitsCommand, IsFaultBehind, miscounted, 
 -- a command's words, and what stands behind them
 command_of-words : (command : Command) (arguments : List (List ℕ)) → command_of (command_words command ++ arguments) ≡ Some (command, arguments)
 unfolding command_of one_word_command mark_command directory_command name_command question_command open_command group_command
-command_of-words Clock arguments = refl
-command_of-words Tick arguments = refl
-command_of-words MakeDir arguments = refl
-command_of-words RemoveDir arguments = refl
-command_of-words Create arguments = refl
-command_of-words Link arguments = refl
-command_of-words Unlink arguments = refl
-command_of-words Rename arguments = refl
-command_of-words Undelete arguments = refl
-command_of-words OpenWrite arguments = refl
-command_of-words OpenRead arguments = refl
-command_of-words Write arguments = refl
-command_of-words Truncate arguments = refl
-command_of-words Close arguments = refl
-command_of-words Revert arguments = refl
-command_of-words SetPolicy arguments = refl
-command_of-words Default arguments = refl
-command_of-words GroupMake arguments = refl
-command_of-words GroupDrop arguments = refl
-command_of-words GroupAdd arguments = refl
-command_of-words GroupRemove arguments = refl
-command_of-words Mark arguments = refl
-command_of-words Unmark arguments = refl
-command_of-words Clean arguments = refl
-command_of-words Read arguments = refl
-command_of-words Stat arguments = refl
-command_of-words Versions arguments = refl
-command_of-words ListNames arguments = refl
-command_of-words Restorable arguments = refl
-command_of-words Due arguments = refl
-command_of-words Usage arguments = refl
-command_of-words Groups arguments = refl
-command_of-words Pass arguments = refl
-
--- a fact of the value that a test chooses, or of what follows
-chain : {A : Type 0} (P : A → Type 0) (test : Bool) (x : A) (rest : Option A) → (test ≡ true → P x) → IfSome rest P → IfSome (cond test (Some x) rest) P
-chain P true x rest here there = here refl
-chain P false x rest here there = there
-
-same : (word text : List ℕ) → bytes_eq word text ≡ true → text ∷ [] ≡ word ∷ []
-same word text test = ap (λ w. w ∷ []) (sym ((bytes_decides word text).0 test))
+command_of-words command arguments = grind arith
 
 -- a command of one word is named by it
 question_is : (word : List ℕ) → IfSome (question_command word) (λ command. command_words command ≡ word ∷ [])
 unfolding question_command
-question_is word =
-    let P : Command → Type 0 = λ command. command_words command ≡ word ∷ [] in
-    chain P _ Read _ (same word (codes "read")) (chain P _ Stat _ (same word (codes "stat")) (chain P _ Versions _ (same word (codes "versions")) (chain P _ ListNames _ (same word (codes "list")) (chain P _ Due _ (same word (codes "due")) (chain P _ Usage _ (same word (codes "usage")) (chain P _ Groups _ (same word (codes "groups")) tt))))))
+question_is word = grind (arith, bytes_decides)
 
 name_is : (word : List ℕ) → IfSome (name_command word) (λ command. command_words command ≡ word ∷ [])
 unfolding name_command
-name_is word =
-    let P : Command → Type 0 = λ command. command_words command ≡ word ∷ [] in
-    chain P _ Link _ (same word (codes "link")) (chain P _ Unlink _ (same word (codes "unlink")) (chain P _ Rename _ (same word (codes "rename")) (chain P _ Undelete _ (same word (codes "undelete")) (chain P _ Restorable _ (same word (codes "restorable")) (question_is word)))))
+name_is word = grind (arith, bytes_decides, question_is)
 
 directory_is : (word : List ℕ) → IfSome (directory_command word) (λ command. command_words command ≡ word ∷ [])
 unfolding directory_command
-directory_is word =
-    let P : Command → Type 0 = λ command. command_words command ≡ word ∷ [] in
-    chain P _ MakeDir _ (same word (codes "mkdir")) (chain P _ RemoveDir _ (same word (codes "rmdir")) (name_is word))
+directory_is word = grind (arith, bytes_decides, name_is)
 
 mark_is : (word : List ℕ) → IfSome (mark_command word) (λ command. command_words command ≡ word ∷ [])
 unfolding mark_command
-mark_is word =
-    let P : Command → Type 0 = λ command. command_words command ≡ word ∷ [] in
-    chain P _ Mark _ (same word (codes "mark")) (chain P _ Unmark _ (same word (codes "unmark")) (directory_is word))
+mark_is word = grind (arith, bytes_decides, directory_is)
 
 one_word_is : (word : List ℕ) → IfSome (one_word_command word) (λ command. command_words command ≡ word ∷ [])
 unfolding one_word_command
-one_word_is word =
-    let P : Command → Type 0 = λ command. command_words command ≡ word ∷ [] in
-    chain P _ Clock _ (same word (codes "clock")) (chain P _ Tick _ (same word (codes "tick")) (chain P _ Create _ (same word (codes "create")) (chain P _ Write _ (same word (codes "write")) (chain P _ Truncate _ (same word (codes "truncate")) (chain P _ Close _ (same word (codes "close")) (chain P _ Revert _ (same word (codes "revert")) (chain P _ SetPolicy _ (same word (codes "policy")) (chain P _ Default _ (same word (codes "default")) (chain P _ Clean _ (same word (codes "clean")) (chain P _ Pass _ (same word (codes "pass")) (mark_is word)))))))))))
+one_word_is word = grind (arith, bytes_decides, mark_is)
 
 open_is : (word : List ℕ) → IfSome (open_command word) (λ command. command_words command ≡ codes "open" ∷ word ∷ [])
 unfolding open_command
-open_is word =
-    let P : Command → Type 0 = λ command. command_words command ≡ codes "open" ∷ word ∷ [] in
-    chain P _ OpenWrite _ (λ test. ap (λ words. codes "open" ∷ words) (same word (codes "write") test)) (chain P _ OpenRead None (λ test. ap (λ words. codes "open" ∷ words) (same word (codes "read") test)) tt)
+open_is word = grind (arith, bytes_decides)
 
 group_is : (word : List ℕ) → IfSome (group_command word) (λ command. command_words command ≡ codes "group" ∷ word ∷ [])
 unfolding group_command
-group_is word =
-    let P : Command → Type 0 = λ command. command_words command ≡ codes "group" ∷ word ∷ [] in
-    let same_second : (text : List ℕ) → bytes_eq word text ≡ true → codes "group" ∷ text ∷ [] ≡ codes "group" ∷ word ∷ [] = λ text test. ap (λ words. codes "group" ∷ words) (same word text test) in
-    chain P _ GroupMake _ (same_second (codes "make")) (chain P _ GroupDrop _ (same_second (codes "drop")) (chain P _ GroupAdd _ (same_second (codes "add")) (chain P _ GroupRemove None (same_second (codes "remove")) tt)))
+group_is word = grind (arith, bytes_decides)
 
 behind : (words front rest : List (List ℕ)) (r : Option Command) → words ≡ front ++ rest → IfSome r (λ command. command_words command ≡ front) → IfSome (before rest r) (λ x. words ≡ command_words x.0 ++ x.1)
 behind words front rest None are is = tt

@@ -25,39 +25,7 @@ kinds_of (value ∷ values) = word_kind value ∷ kinds_of values
 
 -- the values of what is asked for are of the kinds that its command wants
 kinds_fit : (asked : Line) → kinds_of (line_parts asked).1 ≡ kinds_behind (line_parts asked).0
-kinds_fit (asks.Event (event.Clock moment)) = refl
-kinds_fit (asks.Event (event.Tick seconds)) = refl
-kinds_fit (asks.Event (event.MakeDir path)) = refl
-kinds_fit (asks.Event (event.RemoveDir path)) = refl
-kinds_fit (asks.Event (event.Create path)) = refl
-kinds_fit (asks.Event (event.Link from to)) = refl
-kinds_fit (asks.Event (event.Unlink path)) = refl
-kinds_fit (asks.Event (event.Rename from to)) = refl
-kinds_fit (asks.Event (event.Undelete path)) = refl
-kinds_fit (asks.Event (event.OpenWrite path)) = refl
-kinds_fit (asks.Event (event.OpenRead tagged)) = refl
-kinds_fit (asks.Event (event.Write handle offset bytes)) = refl
-kinds_fit (asks.Event (event.Truncate handle size)) = refl
-kinds_fit (asks.Event (event.Close handle)) = refl
-kinds_fit (asks.Event (event.Revert path number)) = refl
-kinds_fit (asks.Event (event.SetPolicy path policy)) = refl
-kinds_fit (asks.Event (event.SetDefault path policy)) = refl
-kinds_fit (asks.Event (event.GroupMake name)) = refl
-kinds_fit (asks.Event (event.GroupDrop name)) = refl
-kinds_fit (asks.Event (event.GroupAdd name path)) = refl
-kinds_fit (asks.Event (event.GroupRemove name path)) = refl
-kinds_fit (asks.Event (event.Mark name moment)) = refl
-kinds_fit (asks.Event (event.Unmark name moment)) = refl
-kinds_fit (asks.Event event.CleanOne) = refl
-kinds_fit (asks.Event (event.Read source)) = refl
-kinds_fit (asks.Event (event.Stat tagged)) = refl
-kinds_fit (asks.Event (event.Versions timed)) = refl
-kinds_fit (asks.Event (event.List timed)) = refl
-kinds_fit (asks.Event event.Restorable) = refl
-kinds_fit (asks.Event event.Due) = refl
-kinds_fit (asks.Event event.UsageAll) = refl
-kinds_fit (asks.Event event.GroupsAll) = refl
-kinds_fit (asks.Pass budget) = refl
+kinds_fit asked = grind arith
 
 -- what a command and values ask for, if they are of its kinds
 abbrev line_of : Command × List Value → Option Line
@@ -98,39 +66,7 @@ line_of _ = None
 
 -- so the parts of what is asked for give it back
 parts_back : (asked : Line) → line_of (line_parts asked) ≡ Some asked
-parts_back (asks.Event (event.Clock moment)) = refl
-parts_back (asks.Event (event.Tick seconds)) = refl
-parts_back (asks.Event (event.MakeDir path)) = refl
-parts_back (asks.Event (event.RemoveDir path)) = refl
-parts_back (asks.Event (event.Create path)) = refl
-parts_back (asks.Event (event.Link from to)) = refl
-parts_back (asks.Event (event.Unlink path)) = refl
-parts_back (asks.Event (event.Rename from to)) = refl
-parts_back (asks.Event (event.Undelete path)) = refl
-parts_back (asks.Event (event.OpenWrite path)) = refl
-parts_back (asks.Event (event.OpenRead tagged)) = refl
-parts_back (asks.Event (event.Write handle offset bytes)) = refl
-parts_back (asks.Event (event.Truncate handle size)) = refl
-parts_back (asks.Event (event.Close handle)) = refl
-parts_back (asks.Event (event.Revert path number)) = refl
-parts_back (asks.Event (event.SetPolicy path policy)) = refl
-parts_back (asks.Event (event.SetDefault path policy)) = refl
-parts_back (asks.Event (event.GroupMake name)) = refl
-parts_back (asks.Event (event.GroupDrop name)) = refl
-parts_back (asks.Event (event.GroupAdd name path)) = refl
-parts_back (asks.Event (event.GroupRemove name path)) = refl
-parts_back (asks.Event (event.Mark name moment)) = refl
-parts_back (asks.Event (event.Unmark name moment)) = refl
-parts_back (asks.Event event.CleanOne) = refl
-parts_back (asks.Event (event.Read source)) = refl
-parts_back (asks.Event (event.Stat tagged)) = refl
-parts_back (asks.Event (event.Versions timed)) = refl
-parts_back (asks.Event (event.List timed)) = refl
-parts_back (asks.Event event.Restorable) = refl
-parts_back (asks.Event event.Due) = refl
-parts_back (asks.Event event.UsageAll) = refl
-parts_back (asks.Event event.GroupsAll) = refl
-parts_back (asks.Pass budget) = refl
+parts_back asked = grind arith
 
 some_is : {A : Type 0} {x y : A} → ◌≡◌ {A = Option A} (Some x) (Some y) → x ≡ y
 some_is h = cc

@@ -1,5 +1,5 @@
 -- The words of a line, cut off one after another.
-use Rattle.std.proofs.Common.{◌≡◌, ◌≢◌, ℕ, zero, suc, ◌+◌, ◌<◌, ◌≤◌, ◌==◌, not, cond, ◌&&◌, Bool, true, false, List, [], ◌∷◌, ◌++◌, length, take, drop, get_or, Some, None, refl, sym, ap, ◌∙◌, arith, append_assoc, length-append, map, lit≤, ◌⊎◌, inl, inr, nat_lt, subst}
+use Rattle.std.proofs.Common.{◌≡◌, ◌≢◌, ℕ, zero, suc, ◌+◌, ◌<◌, ◌≤◌, ◌==◌, not, cond, ◌&&◌, Bool, true, false, List, [], ◌∷◌, ◌++◌, length, take, drop, get_or, Some, None, refl, sym, ap, ◌∙◌, arith, append_assoc, length-append, map, ◌⊎◌, inl, inr, nat_lt, subst}
 use Rattle.std.specs.List.{list_all, position, position_or_len}
 use Rattle.std.proofs.Math.Bool.{and-false}
 use Rattle.std.proofs.lemmas.Bool.{ltb-false, eqb-true}
@@ -10,7 +10,6 @@ use Rattle.std.proofs.lemmas.List.Quantifiers.{position-Some}
 use Rattle.std.proofs.lemmas.List.Splits.{length-slice_split}
 use Rattle.std.proofs.lemmas.List.Sums.{prefix_len_passes}
 use Rattle.ele_script.specs.declared.command.Command.{Command}
-use Rattle.ele_script.specs.declared.command.Command.TheVariants.{Clock, Tick, MakeDir, RemoveDir, Create, Link, Unlink, Rename, Undelete, OpenWrite, OpenRead, Write, Truncate, Close, Revert, SetPolicy, Default, GroupMake, GroupDrop, GroupAdd, GroupRemove, Mark, Unmark, Clean, Read, Stat, Versions, ListNames, Restorable, Due, Usage, Groups, Pass}
 use Rattle.ele_script.specs.declared.fault.LineFault.TheVariants.{Syntax}
 use Rattle.ele_script.specs.Command.{command_words, kinds_behind}
 use Rattle.ele_script.specs.FirstFault.{IsFaultOfWords, no_command, IsFirstFault, not_worded, of_words}
@@ -163,39 +162,7 @@ pub unworded : (line : List ℕ) → list_all is_plain line ≡ false → is_wor
 unworded line broken = ap (λ b. b && list_all (λ word. nat_lt 0 (length word)) (words_of line)) broken
 
 most_words : (command : Command) → length (command_words command) + length (kinds_behind command) ≤ 4
-most_words Clock = lit≤ tt
-most_words Tick = lit≤ tt
-most_words MakeDir = lit≤ tt
-most_words RemoveDir = lit≤ tt
-most_words Create = lit≤ tt
-most_words Link = lit≤ tt
-most_words Unlink = lit≤ tt
-most_words Rename = lit≤ tt
-most_words Undelete = lit≤ tt
-most_words OpenWrite = lit≤ tt
-most_words OpenRead = lit≤ tt
-most_words Write = lit≤ tt
-most_words Truncate = lit≤ tt
-most_words Close = lit≤ tt
-most_words Revert = lit≤ tt
-most_words SetPolicy = lit≤ tt
-most_words Default = lit≤ tt
-most_words GroupMake = lit≤ tt
-most_words GroupDrop = lit≤ tt
-most_words GroupAdd = lit≤ tt
-most_words GroupRemove = lit≤ tt
-most_words Mark = lit≤ tt
-most_words Unmark = lit≤ tt
-most_words Clean = lit≤ tt
-most_words Read = lit≤ tt
-most_words Stat = lit≤ tt
-most_words Versions = lit≤ tt
-most_words ListNames = lit≤ tt
-most_words Restorable = lit≤ tt
-most_words Due = lit≤ tt
-most_words Usage = lit≤ tt
-most_words Groups = lit≤ tt
-most_words Pass = lit≤ tt
+most_words command = grind arith
 
 -- more than four words fit no command
 many_words : (words : List (List ℕ)) → 4 < length words → IsFaultOfWords words Syntax
