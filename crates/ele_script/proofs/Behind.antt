@@ -1,47 +1,27 @@
--- The words behind single commands.
-use Rattle.std.proofs.Common.{◌≡◌, ℕ, ◌<◌, ◌≤◌, List, [], ◌∷◌, map, get_or, arith, false, refl, sym, ap, subst, length, ◌⊎◌, inl, inr}
+-- Single words and their faults.
+use Rattle.std.proofs.Common.{◌≡◌, ℕ, List, [], ◌∷◌, true, false, refl, ap, ◌⊎◌, inl, inr, Option, Some, None}
+use Rattle.std.specs.Prelude.{IfSome, OnOk}
+use Rattle.std.specs.Option.{ok_or}
 use Rattle.ele_moment.specs.Number.{SpellsNumber}
-use Rattle.ele_script.specs.declared.command.Command.TheVariants.{Write}
 use Rattle.ele_script.specs.declared.fault.LineFault.{LineFault}
-use Rattle.ele_script.specs.declared.fault.LineFault.TheVariants.{NoMemory}
-use Rattle.ele_time_path.specs.Path.{SpellsPath}
+use Rattle.ele_script.specs.declared.fault.LineFault.TheVariants.{NoMemory, Syntax}
 use Rattle.ele_time_path.specs.declared.fault.PathFault.{PathFault}
 use Rattle.ele_time_path.specs.declared.fault.PathFault.TheVariants as path
 use Rattle.ele_time_path.specs.TaggedFault.{IsTaggedFault}
-use Rattle.ele_script.specs.declared.command.Command.{Command}
-use Rattle.ele_script.specs.Command.{kinds_behind}
 use Rattle.ele_script.specs.LineFault.{fault_of_path}
 use Rattle.ele_script.specs.PathWord.{IsTaggedWordFault, begins_path, of_handle}
-use Rattle.ele_script.specs.Value.{WordKind, NumberWord, NameWord, SourceWord, BytesWord, PathWord, Number, Name, Path, SpellsName}
-use Rattle.ele_script.specs.FirstFault.{IsWordFault, IsFirstWordFault, IsFaultBehind, bad_word}
+use Rattle.ele_script.specs.Value.{NumberWord, PathWord, SourceWord, PolicyWord, Number}
+use Rattle.ele_script.specs.FirstFault.{IsOfKind, IsWordFault}
+use Rattle.ele_script.specs.Reads.{IsRefused, bad_word}
 
--- two numbers and bad bytes
-pub write_bytes : (a b c : List ℕ) (fault : LineFault) {m n : ℕ} → SpellsNumber a m → SpellsNumber b n → (fault ≡ NoMemory) ⊎ IsWordFault BytesWord c fault → (fault ≡ NoMemory) ⊎ IsFaultBehind Write (a ∷ b ∷ c ∷ []) fault
-write_bytes a b c fault {m} {n} h k (inl memory) = inl memory
-write_bytes a b c fault {m} {n} h k (inr bad) =
-    inr (bad_word refl (inr ((Number m, refl, h), inr ((Number n, refl, k), inl bad))))
+-- a word of which a number was read is one of a number
+pub number_kind : (word : List ℕ) (read : Option ℕ) → IfSome read (SpellsNumber word) → OnOk (ok_or read Syntax) (IsOfKind NumberWord word)
+number_kind word None is = tt
+number_kind word (Some n) is = (Number n, refl, is)
 
--- a path and a bad one
-pub second_path : (a b : List ℕ) (fault : LineFault) {names : List (List ℕ)} → SpellsPath a names → (fault ≡ NoMemory) ⊎ IsWordFault PathWord b fault → (fault ≡ NoMemory) ⊎ IsFirstWordFault (PathWord ∷ PathWord ∷ []) (a ∷ b ∷ []) fault
-second_path a b fault {names} h (inl memory) = inl memory
-second_path a b fault {names} h (inr bad) = inr (inr ((Path names, refl, h), inl bad))
-
--- a name and a bad path
-pub named_path : (a b : List ℕ) (fault : LineFault) {name : List ℕ} → SpellsName a name → (fault ≡ NoMemory) ⊎ IsWordFault PathWord b fault → (fault ≡ NoMemory) ⊎ IsFirstWordFault (NameWord ∷ PathWord ∷ []) (a ∷ b ∷ []) fault
-named_path a b fault {name} h (inl memory) = inl memory
-named_path a b fault {name} h (inr bad) = inr (inr ((Name name, refl, h), inl bad))
-
--- the word behind a command of one
-one_word : (command : Command) (kind : WordKind) (word : List ℕ) (fault : LineFault) → kinds_behind command ≡ kind ∷ [] → (fault ≡ NoMemory) ⊎ IsWordFault kind word fault → (fault ≡ NoMemory) ⊎ IsFaultBehind command (word ∷ []) fault
-one_word command kind word fault one (inl memory) = inl memory
-one_word command kind word fault one (inr bad) =
-    inr (bad_word (ap length (sym one)) (subst (λ kinds. IsFirstWordFault kinds (word ∷ []) fault) (sym one) (inl bad)))
-
-pub one_behind : {A : Type 0} (v : A → List ℕ) (command : Command) (kind : WordKind) (words : List A) (d : A) (fault : LineFault) → kinds_behind command ≡ kind ∷ [] → 1 ≤ length words → length words < 2
-    → (fault ≡ NoMemory) ⊎ IsWordFault kind (v (get_or words 0 d)) fault → (fault ≡ NoMemory) ⊎ IsFaultBehind command (map v words) fault
-one_behind {A} v command kind [] d fault one some few bad = absurd (omega (arith, some))
-one_behind {A} v command kind (word ∷ []) d fault one some few bad = one_word command kind (v word) fault one bad
-one_behind {A} v command kind (word ∷ next ∷ words) d fault one some few bad = absurd (omega (arith, few))
+-- a path and a word that is no policy
+pub refused_policy : (words : List (List ℕ)) (path word : List ℕ) (fault : LineFault) → words ≡ path ∷ word ∷ [] → IsOfKind PathWord path → IsWordFault PolicyWord word fault → IsRefused true (PathWord ∷ PolicyWord ∷ []) words fault
+refused_policy words path word fault are is bad = record { memory = λ none. refl; is = inr (rw are (bad_word refl (inr (is, inl bad)))) }
 
 -- what refuses a path with a tag
 pub bad_tagged : (word : List ℕ) (fault : PathFault) → (fault ≡ path.NoMemory) ⊎ IsTaggedFault word fault → (fault_of_path fault ≡ NoMemory) ⊎ IsTaggedWordFault word (fault_of_path fault)

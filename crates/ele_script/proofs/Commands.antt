@@ -6,11 +6,12 @@ use Rattle.ele_script.specs.declared.command.Command.{Command}
 use Rattle.ele_script.specs.declared.fault.LineFault.{LineFault}
 use Rattle.ele_script.specs.declared.fault.LineFault.TheVariants.{Syntax, NoMemory}
 use Rattle.ele_script.specs.declared.reading.Line.{Line}
-use Rattle.ele_script.specs.Spells.{SpellsBehind, SpellsWords}
+use Rattle.ele_script.specs.Spells.{SpellsWords}
 use Rattle.ele_script.specs.Command.{command_words, kinds_behind}
 use Rattle.ele_script.specs.Memory.{behind_takes, TakesMemory}
 use Rattle.ele_script.specs.CommandOf.{command_of, one_word_command, mark_command, directory_command, name_command, question_command, open_command, group_command, second_of, before}
-use Rattle.ele_script.specs.FirstFault.{FitsCommand, IsFaultBehind, miscounted, bad_word, IsFaultOfWords, no_command, of_word}
+use Rattle.ele_script.specs.Reads.{IsFaultOfKinds, miscounted, bad_word, ReadsLine}
+use Rattle.ele_script.specs.FirstFault.{FitsCommand, IsFaultOfWords, no_command, of_word}
 
 -- a command's words, and what stands behind them
 command_of-words : (command : Command) (arguments : List (List ℕ)) → command_of (command_words command ++ arguments) ≡ Some (command, arguments)
@@ -80,7 +81,7 @@ no_command_fits : (words : List (List ℕ)) → command_of words ≡ None → (c
 no_command_fits words none command arguments fits = let some = fits_found words command arguments fits in cc
 
 -- the faults behind the command are those of the words
-fault_of_words : (words : List (List ℕ)) (command : Command) (arguments : List (List ℕ)) (fault : LineFault) → command_of words ≡ Some (command, arguments) → words ≡ command_words command ++ arguments → IsFaultBehind command arguments fault → IsFaultOfWords words fault
+fault_of_words : (words : List (List ℕ)) (command : Command) (arguments : List (List ℕ)) (fault : LineFault) → command_of words ≡ Some (command, arguments) → words ≡ command_words command ++ arguments → IsFaultOfKinds (kinds_behind command) arguments fault → IsFaultOfWords words fault
 fault_of_words words command arguments fault found are (miscounted number is) =
     let no : (c : Command) (xs : List (List ℕ)) → FitsCommand words c xs → ⊥ = λ c xs fits.
     let p : Command × List (List ℕ) = (command, arguments) in
@@ -99,7 +100,7 @@ are : (words : List (List ℕ)) (command : Command) (arguments : List (List ℕ)
 are words command arguments found = subst (λ o. IfSome o (λ x. words ≡ command_words x.0 ++ x.1)) found (words_are words)
 
 -- what the words behind the command spell, the words spell
-pub spelled_words : (words : List (List ℕ)) (command : Command) (arguments : List (List ℕ)) (r : Result Line LineFault) → command_of words ≡ Some (command, arguments) → IfOk r (SpellsBehind command arguments) → IfOk r (SpellsWords words)
+pub spelled_words : (words : List (List ℕ)) (command : Command) (arguments : List (List ℕ)) (r : Result Line LineFault) → command_of words ≡ Some (command, arguments) → ReadsLine command arguments r → IfOk r (SpellsWords words)
 spelled_words words command arguments (Ok asked) found h = record {
   arguments = arguments;
   are = are words command arguments found ∙ ap (λ (c : Command). command_words c ++ arguments) (sym h.command_is);
@@ -108,16 +109,16 @@ spelled_words words command arguments (Ok asked) found h = record {
 spelled_words words command arguments (Err fault) found h = tt
 
 -- and memory that reading them wants, the words want
-pub memory_of_words : (words : List (List ℕ)) (command : Command) (arguments : List (List ℕ)) (r : Result Line LineFault) → command_of words ≡ Some (command, arguments) → (r ≡ Err NoMemory → behind_takes command arguments ≡ true) → r ≡ Err NoMemory → TakesMemory words
-memory_of_words words command arguments r found takes is =
-    record { command = command; arguments = arguments; are = are words command arguments found; takes = takes is }
+pub memory_of_words : (words : List (List ℕ)) (command : Command) (arguments : List (List ℕ)) (r : Result Line LineFault) → command_of words ≡ Some (command, arguments) → ReadsLine command arguments r → r ≡ Err NoMemory → TakesMemory words
+memory_of_words words command arguments (Ok asked) found h is = absurd cc
+memory_of_words words command arguments (Err fault) found h is =
+    record { command = command; arguments = arguments; are = are words command arguments found; takes = h.memory cc }
 
 -- and what is wrong with these is wrong with the words
-pub faults_of_words : (words : List (List ℕ)) (command : Command) (arguments : List (List ℕ)) (r : Result Line LineFault) → command_of words ≡ Some (command, arguments) → IfErr r (λ fault. (fault ≡ NoMemory) ⊎ IsFaultBehind command arguments fault) → IfErr r (λ fault. (fault ≡ NoMemory) ⊎ IsFaultOfWords words fault)
+pub faults_of_words : (words : List (List ℕ)) (command : Command) (arguments : List (List ℕ)) (r : Result Line LineFault) → command_of words ≡ Some (command, arguments) → ReadsLine command arguments r → IfErr r (λ fault. (fault ≡ NoMemory) ⊎ IsFaultOfWords words fault)
 faults_of_words words command arguments (Ok asked) found h = tt
-faults_of_words words command arguments (Err fault) found (inl memory) = inl memory
-faults_of_words words command arguments (Err fault) found (inr bad) =
-    inr (fault_of_words words command arguments fault found (are words command arguments found) bad)
+faults_of_words words command arguments (Err fault) found h =
+    elim h.is [ inl memory ↦ inl memory | inr bad ↦ inr (fault_of_words words command arguments fault found (are words command arguments found) bad) ]
 
 -- words are one command's, with one rest behind it
 pub one_fit : (words : List (List ℕ)) (c d : Command) (xs ys : List (List ℕ)) → words ≡ command_words c ++ xs → words ≡ command_words d ++ ys → (c ≡ d) × (xs ≡ ys)

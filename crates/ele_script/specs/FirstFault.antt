@@ -43,11 +43,6 @@ pub record FitsCommand (words : List (List ℕ)) (command : Command) (arguments 
   pub are : words ≡ command_words command ++ arguments
   pub count : length arguments ≡ length (kinds_behind command)
 
--- the fault of the words behind a command: their number, or the first bad one
-pub data IsFaultBehind (command : Command) (arguments : List (List ℕ)) (fault : LineFault) : Type 0 where
-  miscounted : length arguments ≢ length (kinds_behind command) → fault ≡ Syntax → IsFaultBehind command arguments fault
-  bad_word : length arguments ≡ length (kinds_behind command) → IsFirstWordFault (kinds_behind command) arguments fault → IsFaultBehind command arguments fault
-
 -- the fault of plain words: they fit no command, or the first bad one
 pub data IsFaultOfWords (words : List (List ℕ)) (fault : LineFault) : Type 0 where
   no_command : ((command : Command) (arguments : List (List ℕ)) → ¬ FitsCommand words command arguments) → fault ≡ Syntax → IsFaultOfWords words fault

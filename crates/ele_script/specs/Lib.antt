@@ -15,3 +15,4 @@ pub mod Outlet
 pub mod Printed
 pub mod OnePolicy
 pub mod PolicyBack
+pub mod Reads

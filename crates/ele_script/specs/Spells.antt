@@ -56,11 +56,6 @@ SpellsValues [] [] = Unit {0}
 SpellsValues (word ∷ words) (value ∷ values) = SpellsValue word value × SpellsValues words values
 SpellsValues words values = ⊥
 
--- the words behind the command make it what is asked for
-pub record SpellsBehind (command : Command) (arguments : List (List ℕ)) (asked : Line) : Type 0 where
-  pub command_is : (line_parts asked).0 ≡ command
-  pub values : SpellsValues arguments (line_parts asked).1
-
 -- the words are a command and what it wants behind it
 pub record SpellsWords (words : List (List ℕ)) (asked : Line) : Type 0 where
   pub arguments : List (List ℕ)

@@ -2,14 +2,12 @@
 //! more. A contract sees lines and replies as bytes.
 #![tactic(auto)]
 
-mod asking;
+mod arguments;
 mod command;
 mod fault;
 mod group_rows;
-mod grouping;
 mod output;
 mod pairs;
-mod paths;
 pub mod policy_laws;
 mod putting;
 mod reading;

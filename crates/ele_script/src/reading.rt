@@ -1,22 +1,22 @@
 //! Reading lines. A contract sees a line as its bytes, and an event as itself.
-ghost use Rattle.std.specs.Prelude.{◌≡◌, ◌<◌, ◌∷◌, [], ◌⊎◌, ℕ, map, length, true, false, IfOk, IfErr, IfSome, IsSome, None, Ok, Err};
+ghost use Rattle.std.specs.Prelude.{◌≡◌, ◌≢◌, ◌<◌, ◌∷◌, [], ◌⊎◌, ℕ, map, length, true, false, IfOk, IfErr, IfSome, IsSome, None, Ok, Err};
 ghost use Rattle.std.specs.List.{position};
-ghost use Rattle.ele_script.specs.Memory.{behind_takes, TakesMemory};
+ghost use Rattle.ele_script.specs.Memory.{TakesMemory};
 ghost use Rattle.ele_script.specs.Words.{words_of, is_worded, ends_word};
-ghost use Rattle.ele_script.specs.Spells.{Spells, SpellsLine, SpellsWords, SpellsBehind};
+ghost use Rattle.ele_script.specs.Spells.{Spells, SpellsLine, SpellsWords};
 ghost use Rattle.ele_script.specs.EventOf.{event_of};
-ghost use Rattle.ele_script.specs.FirstFault.{IsFirstFault, IsEventFault, IsFaultOfWords, IsFaultBehind};
+ghost use Rattle.ele_script.specs.Reads.{ReadsLine, ReadsEvent};
+ghost use Rattle.ele_script.specs.declared.command.Command.TheVariants as Command;
+ghost use Rattle.ele_script.specs.FirstFault.{IsFirstFault, IsEventFault, IsFaultOfWords};
 
-use crate::asking::{due, groups, list, read, restorable, stat, usage, versions};
+use crate::arguments::{
+    moment, name, name_and_moment, name_and_path, nothing, number, path, path_and_number,
+    path_and_policy, path_at, source, tagged, two_numbers, two_numbers_and_bytes, two_paths,
+};
 use crate::command::{Command, read_command};
 use crate::fault::LineFault;
-use crate::grouping::{group_add, group_drop, group_make, group_remove, mark, unmark};
-use crate::paths::{
-    create, link, make_dir, open_read, open_write, remove_dir, rename, revert, undelete, unlink,
-};
-use crate::word;
 use arrayvec::ArrayVec;
-use ele_world::{Event, Handle};
+use ele_world::{Event, Handle, VersionNo};
 use std::alloc::Global;
 
 /// What a line of a script asks for.
@@ -137,217 +137,77 @@ fn line_of(alloc: Global, words: &[&[u8]]) -> Result<Line, LineFault>
     ensures memory { result ≡ Err LineFault.NoMemory
         → TakesMemory (map (λ word. word.now) words.now) }
 {
-    let Some((command, arguments)) = read_command(words) else {
+    let Some((command, behind)) = read_command(words) else {
         return Err(LineFault::Syntax);
     };
-    line_behind(alloc, command, arguments)
+    line_behind(alloc, command, behind)
 }
 
 /// What the words behind a command make of it.
-fn line_behind(alloc: Global, command: Command, arguments: &[&[u8]]) -> Result<Line, LineFault>
-    ensures found { IfOk result
-        (SpellsBehind command (map (λ word. word.now) arguments.now)) }
-    ensures fault { IfErr result (λ fault. (fault ≡ LineFault.NoMemory)
-        ⊎ IsFaultBehind command (map (λ word. word.now) arguments.now) fault) }
-    ensures memory { result ≡ Err LineFault.NoMemory
-        → behind_takes command (map (λ word. word.now) arguments.now) ≡ true }
+fn line_behind(alloc: Global, command: Command, words: &[&[u8]]) -> Result<Line, LineFault>
+    ensures { ReadsLine command (map (λ word. word.now) words.now) result }
 {
     match command {
-        Command::Clock => clock(arguments),
-        Command::Tick => tick(arguments),
-        Command::MakeDir => make_dir(alloc, arguments),
-        Command::RemoveDir => remove_dir(alloc, arguments),
-        Command::Create => create(alloc, arguments),
-        Command::Link => link(alloc, arguments),
-        Command::Unlink => unlink(alloc, arguments),
-        Command::Rename => rename(alloc, arguments),
-        Command::Undelete => undelete(alloc, arguments),
-        Command::OpenWrite => open_write(alloc, arguments),
-        Command::OpenRead => open_read(alloc, arguments),
-        Command::Write => write(alloc, arguments),
-        Command::Truncate => truncate(arguments),
-        Command::Close => close(arguments),
-        Command::Revert => revert(alloc, arguments),
-        Command::SetPolicy => set_policy(alloc, arguments),
-        Command::Default => set_default(alloc, arguments),
-        Command::GroupMake => group_make(arguments),
-        Command::GroupDrop => group_drop(arguments),
-        Command::GroupAdd => group_add(alloc, arguments),
-        Command::GroupRemove => group_remove(alloc, arguments),
-        Command::Mark => mark(arguments),
-        Command::Unmark => unmark(arguments),
-        Command::Clean => clean(arguments),
-        Command::Read => read(alloc, arguments),
-        Command::Stat => stat(alloc, arguments),
-        Command::Versions => versions(alloc, arguments),
-        Command::ListNames => list(alloc, arguments),
-        Command::Restorable => restorable(arguments),
-        Command::Due => due(arguments),
-        Command::Usage => usage(arguments),
-        Command::Groups => groups(arguments),
-        Command::Pass => pass(arguments),
+        Command::Pass => number(words).map(Line::Pass),
+        _ => event_behind(alloc, command, words).map(Line::Event),
     }
 }
 
-/// `clock M`, of which the command is read.
-fn clock(arguments: &[&[u8]]) -> Result<Line, LineFault>
-    ensures found { IfOk result
-        (SpellsBehind Command.Clock (map (λ word. word.now) arguments.now)) }
-    ensures fault { IfErr result
-        (IsFaultBehind Command.Clock (map (λ word. word.now) arguments.now)) }
+/// The event that the words behind its command make of it.
+fn event_behind(alloc: Global, command: Command, words: &[&[u8]]) -> Result<Event, LineFault>
+    requires { command ≢ Command.Pass }
+    ensures { ReadsEvent command (map (λ word. word.now) words.now) result }
 {
-    let [moment] = arguments else {
-        return Err(LineFault::Syntax);
-    };
-    Ok(Line::Event(Event::Clock(word::moment(moment)?)))
-}
-
-/// `tick N`, of which the command is read.
-fn tick(arguments: &[&[u8]]) -> Result<Line, LineFault>
-    ensures found { IfOk result
-        (SpellsBehind Command.Tick (map (λ word. word.now) arguments.now)) }
-    ensures fault { IfErr result
-        (IsFaultBehind Command.Tick (map (λ word. word.now) arguments.now)) }
-{
-    let [seconds] = arguments else {
-        return Err(LineFault::Syntax);
-    };
-    Ok(Line::Event(Event::Tick(word::number(seconds)?)))
-}
-
-/// `write H N X`, of which the command is read.
-fn write(alloc: Global, arguments: &[&[u8]]) -> Result<Line, LineFault>
-    ensures found { IfOk result
-        (SpellsBehind Command.Write (map (λ word. word.now) arguments.now)) }
-    ensures fault { IfErr result (λ fault. (fault ≡ LineFault.NoMemory)
-        ⊎ IsFaultBehind Command.Write (map (λ word. word.now) arguments.now) fault) }
-{
-    match arguments {
-        [handle, offset, bytes] => write_of(alloc, handle, offset, bytes),
-        _ => Err(LineFault::Syntax),
+    match command {
+        Command::Clock => moment(words).map(Event::Clock),
+        Command::Tick => number(words).map(Event::Tick),
+        Command::MakeDir => path(alloc, words).map(Event::MakeDir),
+        Command::RemoveDir => path(alloc, words).map(Event::RemoveDir),
+        Command::Create => path(alloc, words).map(Event::Create),
+        Command::Link => two_paths(alloc, words).map(|(from, to)| Event::Link(from, to)),
+        Command::Unlink => path(alloc, words).map(Event::Unlink),
+        Command::Rename => two_paths(alloc, words).map(|(from, to)| Event::Rename(from, to)),
+        Command::Undelete => path(alloc, words).map(Event::Undelete),
+        Command::OpenWrite => path(alloc, words).map(Event::OpenWrite),
+        Command::OpenRead => tagged(alloc, words).map(Event::OpenRead),
+        Command::Write => two_numbers_and_bytes(alloc, words).map(|(
+            handle,
+            offset,
+            bytes,
+        )| Event::Write(Handle(handle), offset, bytes)),
+        Command::Truncate => {
+            two_numbers(words).map(|(handle, size)| Event::Truncate(Handle(handle), size))
+        }
+        Command::Close => number(words).map(|handle| Event::Close(Handle(handle))),
+        Command::Revert => path_and_number(alloc, words).map(|(path, number)| Event::Revert(
+            path,
+            VersionNo(number),
+        )),
+        Command::SetPolicy => {
+            path_and_policy(alloc, words).map(|(path, policy)| Event::SetPolicy(path, policy))
+        }
+        Command::Default => {
+            path_and_policy(alloc, words).map(|(path, policy)| Event::SetDefault(path, policy))
+        }
+        Command::GroupMake => name(words).map(Event::GroupMake),
+        Command::GroupDrop => name(words).map(Event::GroupDrop),
+        Command::GroupAdd => {
+            name_and_path(alloc, words).map(|(name, path)| Event::GroupAdd(name, path))
+        }
+        Command::GroupRemove => {
+            name_and_path(alloc, words).map(|(name, path)| Event::GroupRemove(name, path))
+        }
+        Command::Mark => name_and_moment(words).map(|(name, moment)| Event::Mark(name, moment)),
+        Command::Unmark => name_and_moment(words).map(|(name, moment)| Event::Unmark(name, moment)),
+        Command::Clean => nothing(words, Event::CleanOne),
+        Command::Read => source(alloc, words).map(Event::Read),
+        Command::Stat => tagged(alloc, words).map(Event::Stat),
+        Command::Versions => path_at(alloc, words).map(Event::Versions),
+        Command::ListNames => path_at(alloc, words).map(Event::List),
+        Command::Restorable => nothing(words, Event::Restorable),
+        Command::Due => nothing(words, Event::Due),
+        Command::Usage => nothing(words, Event::UsageAll),
+        Command::Groups => nothing(words, Event::GroupsAll),
+        Command::Pass => unreachable!(),
     }
-}
-
-/// `write H N X`, of which the command is read and the words are counted.
-fn write_of(alloc: Global, handle: &[u8], offset: &[u8], bytes: &[u8]) -> Result<Line, LineFault>
-    ensures found { IfOk result
-        (SpellsBehind Command.Write (handle.now ∷ offset.now ∷ bytes.now ∷ [])) }
-    ensures fault { IfErr result (λ fault. (fault ≡ LineFault.NoMemory)
-        ⊎ IsFaultBehind Command.Write (handle.now ∷ offset.now ∷ bytes.now ∷ []) fault) }
-{
-    let handle = Handle(word::number(handle)?);
-    let offset = word::number(offset)?;
-    let bytes = word::bytes(alloc, bytes)?;
-    Ok(Line::Event(Event::Write(handle, offset, bytes)))
-}
-
-/// `truncate H N`, of which the command is read.
-fn truncate(arguments: &[&[u8]]) -> Result<Line, LineFault>
-    ensures found { IfOk result
-        (SpellsBehind Command.Truncate (map (λ word. word.now) arguments.now)) }
-    ensures fault { IfErr result
-        (IsFaultBehind Command.Truncate (map (λ word. word.now) arguments.now)) }
-{
-    match arguments {
-        [handle, size] => truncate_of(handle, size),
-        _ => Err(LineFault::Syntax),
-    }
-}
-
-/// `truncate H N`, of which the command is read and the words are counted.
-fn truncate_of(handle: &[u8], size: &[u8]) -> Result<Line, LineFault>
-    ensures found { IfOk result
-        (SpellsBehind Command.Truncate (handle.now ∷ size.now ∷ [])) }
-    ensures fault { IfErr result
-        (IsFaultBehind Command.Truncate (handle.now ∷ size.now ∷ [])) }
-{
-    let handle = Handle(word::number(handle)?);
-    Ok(Line::Event(Event::Truncate(handle, word::number(size)?)))
-}
-
-/// `close H`, of which the command is read.
-fn close(arguments: &[&[u8]]) -> Result<Line, LineFault>
-    ensures found { IfOk result
-        (SpellsBehind Command.Close (map (λ word. word.now) arguments.now)) }
-    ensures fault { IfErr result
-        (IsFaultBehind Command.Close (map (λ word. word.now) arguments.now)) }
-{
-    let [handle] = arguments else {
-        return Err(LineFault::Syntax);
-    };
-    Ok(Line::Event(Event::Close(Handle(word::number(handle)?))))
-}
-
-/// `policy P POL`, of which the command is read.
-fn set_policy(alloc: Global, arguments: &[&[u8]]) -> Result<Line, LineFault>
-    ensures found { IfOk result
-        (SpellsBehind Command.SetPolicy (map (λ word. word.now) arguments.now)) }
-    ensures fault { IfErr result (λ fault. (fault ≡ LineFault.NoMemory)
-        ⊎ IsFaultBehind Command.SetPolicy (map (λ word. word.now) arguments.now) fault) }
-{
-    match arguments {
-        [path, policy] => set_policy_of(alloc, path, policy),
-        _ => Err(LineFault::Syntax),
-    }
-}
-
-/// `policy P POL`, of which the command is read and the words are counted.
-fn set_policy_of(alloc: Global, path: &[u8], policy: &[u8]) -> Result<Line, LineFault>
-    ensures found { IfOk result
-        (SpellsBehind Command.SetPolicy (path.now ∷ policy.now ∷ [])) }
-    ensures fault { IfErr result (λ fault. (fault ≡ LineFault.NoMemory)
-        ⊎ IsFaultBehind Command.SetPolicy (path.now ∷ policy.now ∷ []) fault) }
-{
-    let path = word::path(alloc, path)?;
-    Ok(Line::Event(Event::SetPolicy(path, word::policy(policy)?)))
-}
-
-/// `default P POL`, of which the command is read.
-fn set_default(alloc: Global, arguments: &[&[u8]]) -> Result<Line, LineFault>
-    ensures found { IfOk result
-        (SpellsBehind Command.Default (map (λ word. word.now) arguments.now)) }
-    ensures fault { IfErr result (λ fault. (fault ≡ LineFault.NoMemory)
-        ⊎ IsFaultBehind Command.Default (map (λ word. word.now) arguments.now) fault) }
-{
-    match arguments {
-        [path, policy] => set_default_of(alloc, path, policy),
-        _ => Err(LineFault::Syntax),
-    }
-}
-
-/// `default P POL`, of which the command is read and the words are counted.
-fn set_default_of(alloc: Global, path: &[u8], policy: &[u8]) -> Result<Line, LineFault>
-    ensures found { IfOk result
-        (SpellsBehind Command.Default (path.now ∷ policy.now ∷ [])) }
-    ensures fault { IfErr result (λ fault. (fault ≡ LineFault.NoMemory)
-        ⊎ IsFaultBehind Command.Default (path.now ∷ policy.now ∷ []) fault) }
-{
-    let path = word::path(alloc, path)?;
-    Ok(Line::Event(Event::SetDefault(path, word::policy(policy)?)))
-}
-
-/// `clean`, of which the command is read.
-fn clean(arguments: &[&[u8]]) -> Result<Line, LineFault>
-    ensures found { IfOk result
-        (SpellsBehind Command.Clean (map (λ word. word.now) arguments.now)) }
-    ensures fault { IfErr result
-        (IsFaultBehind Command.Clean (map (λ word. word.now) arguments.now)) }
-{
-    if !arguments.is_empty() {
-        return Err(LineFault::Syntax);
-    }
-    Ok(Line::Event(Event::CleanOne))
-}
-
-/// `pass N`, of which the command is read.
-fn pass(arguments: &[&[u8]]) -> Result<Line, LineFault>
-    ensures found { IfOk result
-        (SpellsBehind Command.Pass (map (λ word. word.now) arguments.now)) }
-    ensures fault { IfErr result
-        (IsFaultBehind Command.Pass (map (λ word. word.now) arguments.now)) }
-{
-    let [budget] = arguments else {
-        return Err(LineFault::Syntax);
-    };
-    Ok(Line::Pass(word::number(budget)?))
 }

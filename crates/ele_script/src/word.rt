@@ -1,5 +1,5 @@
 //! The words behind a command. A contract sees a word as its bytes, and what it spells as itself.
-ghost use Rattle.std.specs.Prelude.{◌≡◌, ◌⊎◌, ℕ, true, Err, IfOk, IfErr, IfSome, IfNone};
+ghost use Rattle.std.specs.Prelude.{◌≡◌, ◌⊎◌, ℕ, true, Err, IfOk, IfErr, OnOk, IfSome, IfNone};
 ghost use Rattle.ele_moment.specs.Number.{SpellsNumber};
 ghost use Rattle.ele_moment.specs.Spelled.{SpellsMoment};
 ghost use Rattle.ele_time_path.specs.Path.{SpellsPath};
@@ -8,7 +8,7 @@ ghost use Rattle.ele_time_path.specs.PathAt.{SpellsPathAt};
 ghost use Rattle.ele_script.specs.Value.{NumberWord, MomentWord, NameWord, PathWord, TaggedWord, TimedWord, SourceWord, BytesWord, PolicyWord, SpellsName, SpellsBytes, SpellsSource};
 ghost use Rattle.ele_script.specs.PolicyWord.{SpellsPolicy, IsSafeWord};
 ghost use Rattle.ele_script.specs.PathWord.{begins_path};
-ghost use Rattle.ele_script.specs.FirstFault.{IsWordFault};
+ghost use Rattle.ele_script.specs.FirstFault.{IsOfKind, IsWordFault};
 
 use crate::fault::LineFault;
 use crate::pairs::ladder_pairs;
@@ -21,6 +21,7 @@ use std::alloc::Global;
 /// A number.
 pub(crate) fn number(word: &[u8]) -> Result<u64, LineFault>
     ensures found { IfOk result (SpellsNumber word.now) }
+    ensures kind { OnOk result (IsOfKind NumberWord word.now) }
     ensures fault { IfErr result (IsWordFault NumberWord word.now) }
 {
     read_number(word).ok_or(LineFault::Syntax)
@@ -37,6 +38,7 @@ pub(crate) fn moment(word: &[u8]) -> Result<Moment, LineFault>
 /// A name.
 pub(crate) fn name(word: &[u8]) -> Result<Name, LineFault>
     ensures found { IfOk result (SpellsName word.now) }
+    ensures kind { OnOk result (IsOfKind NameWord word.now) }
     ensures fault { IfErr result (IsWordFault NameWord word.now) }
 {
     Ok(Name::new(word)?)
@@ -45,6 +47,7 @@ pub(crate) fn name(word: &[u8]) -> Result<Name, LineFault>
 /// A path.
 pub(crate) fn path(alloc: Global, word: &[u8]) -> Result<Path, LineFault>
     ensures found { IfOk result (SpellsPath word.now) }
+    ensures kind { OnOk result (IsOfKind PathWord word.now) }
     ensures fault { IfErr result
         (λ fault. (fault ≡ LineFault.NoMemory) ⊎ IsWordFault PathWord word.now fault) }
 {

@@ -1,0 +1,6 @@
+use Rattle.std.proofs.Common.{refl}
+use Rattle.ele_script.specs.Value.{Path}
+use Rattle.ele_script.proofs.word.path.Goals as goal
+
+pub returns-clause-kind : goal.returns-clause-kind
+returns-clause-kind c = (Path c.in_ok-read.field-0, refl, c.in_ok-read.ensures.found)

@@ -1,0 +1,50 @@
+-- What is read of the words behind a command. No public clause cites this module.
+use Rattle.std.specs.Prelude.{◌≡◌, ◌≢◌, ℕ, List, [], ◌∷◌, length, Bool, true, ◌⊎◌, Result, Ok, Err}
+use Rattle.std.specs.List.{list_any}
+use Rattle.ele_world.specs.declared.event.Event.{Event}
+use Rattle.ele_script.specs.declared.command.Command.{Command}
+use Rattle.ele_script.specs.declared.fault.LineFault.{LineFault}
+use Rattle.ele_script.specs.declared.fault.LineFault.TheVariants.{NoMemory, Syntax}
+use Rattle.ele_script.specs.declared.reading.Line.{Line}
+use Rattle.ele_script.specs.declared.reading.Line.TheVariants as asks
+use Rattle.ele_script.specs.Value.{WordKind, SourceWord, Value}
+use Rattle.ele_script.specs.PathWord.{begins_path}
+use Rattle.ele_script.specs.Command.{kinds_behind}
+use Rattle.ele_script.specs.Memory.{takes_memory, behind_takes}
+use Rattle.ele_script.specs.Spells.{line_parts, SpellsValues}
+use Rattle.ele_script.specs.FirstFault.{IsFirstWordFault}
+
+-- the words are not as many as the kinds, or the first bad one has the fault
+pub data IsFaultOfKinds (kinds : List WordKind) (words : List (List ℕ)) (fault : LineFault) : Type 0 where
+  miscounted : length words ≢ length kinds → fault ≡ Syntax → IsFaultOfKinds kinds words fault
+  bad_word : length words ≡ length kinds → IsFirstWordFault kinds words fault → IsFaultOfKinds kinds words fault
+
+-- they are refused with it, or for want of memory, where they take it
+pub record IsRefused (takes : Bool) (kinds : List WordKind) (words : List (List ℕ)) (fault : LineFault) : Type 0 where
+  pub memory : fault ≡ NoMemory → takes ≡ true
+  pub is : (fault ≡ NoMemory) ⊎ IsFaultOfKinds kinds words fault
+
+-- words of these kinds take memory
+abbrev pub words_take : List WordKind → List (List ℕ) → Bool
+words_take (SourceWord ∷ []) words = list_any begins_path words
+words_take kinds words = list_any takes_memory kinds
+
+-- the words stand for the values of what was read, or are refused
+abbrev pub Reads : {A : Type 0} → List WordKind → (A → List Value) → List (List ℕ) → Result A LineFault → Type 0
+Reads kinds values words (Ok read) = SpellsValues words (values read)
+Reads kinds values words (Err fault) = IsRefused (words_take kinds words) kinds words fault
+
+-- the words behind the command make it what is asked for
+pub record SpellsBehind (command : Command) (words : List (List ℕ)) (asked : Line) : Type 0 where
+  pub command_is : (line_parts asked).0 ≡ command
+  pub values : SpellsValues words (line_parts asked).1
+
+-- they make it what was read, or are refused
+abbrev pub ReadsLine : Command → List (List ℕ) → Result Line LineFault → Type 0
+ReadsLine command words (Ok asked) = SpellsBehind command words asked
+ReadsLine command words (Err fault) = IsRefused (behind_takes command words) (kinds_behind command) words fault
+
+-- so of an event
+abbrev pub ReadsEvent : Command → List (List ℕ) → Result Event LineFault → Type 0
+ReadsEvent command words (Ok event) = SpellsBehind command words (asks.Event event)
+ReadsEvent command words (Err fault) = IsRefused (behind_takes command words) (kinds_behind command) words fault

@@ -1,0 +1,183 @@
+//! The words behind a command, by their number and kinds. A contract sees a word as its bytes, and
+//! what it spells as itself.
+ghost use Rattle.std.specs.Prelude.{◌≡◌, ◌≢◌, ◌∷◌, [], map, length, IfOk, IfErr};
+ghost use Rattle.ele_script.specs.Value.{NumberWord, MomentWord, NameWord, PathWord, TaggedWord, TimedWord, SourceWord, BytesWord, PolicyWord};
+ghost use Rattle.ele_script.specs.Value as value;
+ghost use Rattle.ele_script.specs.Reads.{Reads};
+
+use crate::fault::LineFault;
+use crate::word;
+use ele_moment::{Moment, Name};
+use ele_policy::Policy;
+use ele_time_path::{Path, PathAt, TaggedPath};
+use ele_world::{ByteList, Event, Source};
+use std::alloc::Global;
+
+/// The only word.
+fn one<'l>(words: &[&'l [u8]]) -> Result<&'l [u8], LineFault>
+    ensures found { IfOk result (λ word. map (λ word. word.now) words.now ≡ word.now ∷ []) }
+    ensures miscounted { IfErr result
+        (λ fault. (fault ≡ LineFault.Syntax) × (length words.now ≢ 1)) }
+{
+    let [word] = words else {
+        return Err(LineFault::Syntax);
+    };
+    Ok(*word)
+}
+
+/// The only two words.
+fn two<'l>(words: &[&'l [u8]]) -> Result<(&'l [u8], &'l [u8]), LineFault>
+    ensures found { IfOk result
+        (λ both. map (λ word. word.now) words.now ≡ both.0.now ∷ both.1.now ∷ []) }
+    ensures miscounted { IfErr result
+        (λ fault. (fault ≡ LineFault.Syntax) × (length words.now ≢ 2)) }
+{
+    let [first, second] = words else {
+        return Err(LineFault::Syntax);
+    };
+    Ok((*first, *second))
+}
+
+/// No word, behind the command of an event.
+pub(crate) fn nothing(words: &[&[u8]], event: Event) -> Result<Event, LineFault>
+    ensures none { Reads [] (λ _. []) (map (λ word. word.now) words.now) result }
+    ensures event { IfOk result (λ made. made ≡ event) }
+{
+    if !words.is_empty() {
+        return Err(LineFault::Syntax);
+    }
+    Ok(event)
+}
+
+/// A number.
+pub(crate) fn number(words: &[&[u8]]) -> Result<u64, LineFault>
+    ensures { Reads (NumberWord ∷ []) (λ number. value.Number number ∷ [])
+        (map (λ word. word.now) words.now) result }
+{
+    word::number(one(words)?)
+}
+
+/// A moment.
+pub(crate) fn moment(words: &[&[u8]]) -> Result<Moment, LineFault>
+    ensures { Reads (MomentWord ∷ []) (λ moment. value.Moment moment ∷ [])
+        (map (λ word. word.now) words.now) result }
+{
+    word::moment(one(words)?)
+}
+
+/// A name.
+pub(crate) fn name(words: &[&[u8]]) -> Result<Name, LineFault>
+    ensures { Reads (NameWord ∷ []) (λ name. value.Name name ∷ [])
+        (map (λ word. word.now) words.now) result }
+{
+    word::name(one(words)?)
+}
+
+/// A path.
+pub(crate) fn path(alloc: Global, words: &[&[u8]]) -> Result<Path, LineFault>
+    ensures { Reads (PathWord ∷ []) (λ path. value.Path path ∷ [])
+        (map (λ word. word.now) words.now) result }
+{
+    word::path(alloc, one(words)?)
+}
+
+/// A path with a tag.
+pub(crate) fn tagged(alloc: Global, words: &[&[u8]]) -> Result<TaggedPath, LineFault>
+    ensures { Reads (TaggedWord ∷ []) (λ tagged. value.Tagged tagged ∷ [])
+        (map (λ word. word.now) words.now) result }
+{
+    word::tagged(alloc, one(words)?)
+}
+
+/// A path at a moment.
+pub(crate) fn path_at(alloc: Global, words: &[&[u8]]) -> Result<PathAt, LineFault>
+    ensures { Reads (TimedWord ∷ []) (λ path_at. value.Timed path_at ∷ [])
+        (map (λ word. word.now) words.now) result }
+{
+    word::path_at(alloc, one(words)?)
+}
+
+/// A path with a tag, or a handle.
+pub(crate) fn source(alloc: Global, words: &[&[u8]]) -> Result<Source, LineFault>
+    ensures { Reads (SourceWord ∷ []) (λ source. value.Source source ∷ [])
+        (map (λ word. word.now) words.now) result }
+{
+    word::source(alloc, one(words)?)
+}
+
+/// Two numbers.
+pub(crate) fn two_numbers(words: &[&[u8]]) -> Result<(u64, u64), LineFault>
+    ensures { Reads (NumberWord ∷ NumberWord ∷ []) (λ both. value.Number both.0 ∷ value.Number both.1 ∷ [])
+        (map (λ word. word.now) words.now) result }
+{
+    let (first, second) = two(words)?;
+    let first = word::number(first)?;
+    Ok((first, word::number(second)?))
+}
+
+/// Two paths.
+pub(crate) fn two_paths(alloc: Global, words: &[&[u8]]) -> Result<(Path, Path), LineFault>
+    ensures { Reads (PathWord ∷ PathWord ∷ []) (λ both. value.Path both.0 ∷ value.Path both.1 ∷ [])
+        (map (λ word. word.now) words.now) result }
+{
+    let (first, second) = two(words)?;
+    let first = word::path(alloc, first)?;
+    Ok((first, word::path(alloc, second)?))
+}
+
+/// A path and a number.
+pub(crate) fn path_and_number(alloc: Global, words: &[&[u8]]) -> Result<(Path, u64), LineFault>
+    ensures { Reads (PathWord ∷ NumberWord ∷ []) (λ both. value.Path both.0 ∷ value.Number both.1 ∷ [])
+        (map (λ word. word.now) words.now) result }
+{
+    let (first, second) = two(words)?;
+    let first = word::path(alloc, first)?;
+    Ok((first, word::number(second)?))
+}
+
+/// A path and a policy.
+pub(crate) fn path_and_policy(alloc: Global, words: &[&[u8]]) -> Result<(Path, Policy), LineFault>
+    ensures { Reads (PathWord ∷ PolicyWord ∷ []) (λ both. value.Path both.0 ∷ value.Policy both.1 ∷ [])
+        (map (λ word. word.now) words.now) result }
+{
+    let (first, second) = two(words)?;
+    let first = word::path(alloc, first)?;
+    Ok((first, word::policy(second)?))
+}
+
+/// A name and a path.
+pub(crate) fn name_and_path(alloc: Global, words: &[&[u8]]) -> Result<(Name, Path), LineFault>
+    ensures { Reads (NameWord ∷ PathWord ∷ []) (λ both. value.Name both.0 ∷ value.Path both.1 ∷ [])
+        (map (λ word. word.now) words.now) result }
+{
+    let (first, second) = two(words)?;
+    let first = word::name(first)?;
+    Ok((first, word::path(alloc, second)?))
+}
+
+/// A name and a moment.
+pub(crate) fn name_and_moment(words: &[&[u8]]) -> Result<(Name, Moment), LineFault>
+    ensures { Reads (NameWord ∷ MomentWord ∷ []) (λ both. value.Name both.0 ∷ value.Moment both.1 ∷ [])
+        (map (λ word. word.now) words.now) result }
+{
+    let (first, second) = two(words)?;
+    let first = word::name(first)?;
+    Ok((first, word::moment(second)?))
+}
+
+/// Two numbers and bytes.
+pub(crate) fn two_numbers_and_bytes(
+    alloc: Global,
+    words: &[&[u8]],
+) -> Result<(u64, u64, ByteList), LineFault>
+    ensures { Reads (NumberWord ∷ NumberWord ∷ BytesWord ∷ [])
+        (λ all. value.Number all.0 ∷ value.Number all.1 ∷ value.Bytes all.2 ∷ [])
+        (map (λ word. word.now) words.now) result }
+{
+    let [first, second, third] = words else {
+        return Err(LineFault::Syntax);
+    };
+    let first = word::number(first)?;
+    let second = word::number(second)?;
+    Ok((first, second, word::bytes(alloc, third)?))
+}
