@@ -1,5 +1,5 @@
 -- The command in front of words.
-use Rattle.std.proofs.Common.{arith, ◌≡◌, ℕ, Bool, true, false, cond, List, [], ◌∷◌, ◌++◌, length, refl, sym, ap, ◌∙◌, Option, Some, None, IfSome, Result, Ok, Err, ◌⊎◌, inl, inr, subst}
+use Rattle.std.proofs.Common.{arith, ◌≡◌, ℕ, Bool, true, false, cond, List, [], ◌∷◌, ◌++◌, length, map, refl, sym, ap, ◌∙◌, Option, Some, None, IfSome, Result, Ok, Err, ◌⊎◌, inl, inr, subst}
 use Rattle.std.specs.Prelude.{codes, IfOk, IfErr}
 use Rattle.std.specs.Cmp.Lexicographic.{bytes_decides}
 use Rattle.ele_script.specs.declared.command.Command.{Command}
@@ -9,65 +9,29 @@ use Rattle.ele_script.specs.declared.reading.Line.{Line}
 use Rattle.ele_script.specs.Spells.{SpellsWords}
 use Rattle.ele_script.specs.Command.{command_words, kinds_behind}
 use Rattle.ele_script.specs.Memory.{behind_takes, TakesMemory}
-use Rattle.ele_script.specs.CommandOf.{command_of, one_word_command, mark_command, directory_command, name_command, question_command, open_command, group_command, second_of, before}
+use Rattle.ele_script.specs.CommandOf.{behind, command_of, commands, find_command, named}
 use Rattle.ele_script.specs.Reads.{IsFaultOfKinds, miscounted, bad_word, ReadsLine}
 use Rattle.ele_script.specs.FirstFault.{FitsCommand, IsFaultOfWords, no_command, of_word}
 
 -- a command's words, and what stands behind them
 command_of-words : (command : Command) (arguments : List (List ℕ)) → command_of (command_words command ++ arguments) ≡ Some (command, arguments)
-unfolding command_of one_word_command mark_command directory_command name_command question_command open_command group_command
+unfolding command_of
 command_of-words command arguments = grind arith
 
--- a command of one word is named by it
-question_is : (word : List ℕ) → IfSome (question_command word) (λ command. command_words command ≡ word ∷ [])
-unfolding question_command
-question_is word = grind (arith, bytes_decides)
-
-name_is : (word : List ℕ) → IfSome (name_command word) (λ command. command_words command ≡ word ∷ [])
-unfolding name_command
-name_is word = grind (arith, bytes_decides, question_is)
-
-directory_is : (word : List ℕ) → IfSome (directory_command word) (λ command. command_words command ≡ word ∷ [])
-unfolding directory_command
-directory_is word = grind (arith, bytes_decides, name_is)
-
-mark_is : (word : List ℕ) → IfSome (mark_command word) (λ command. command_words command ≡ word ∷ [])
-unfolding mark_command
-mark_is word = grind (arith, bytes_decides, directory_is)
-
-one_word_is : (word : List ℕ) → IfSome (one_word_command word) (λ command. command_words command ≡ word ∷ [])
-unfolding one_word_command
-one_word_is word = grind (arith, bytes_decides, mark_is)
-
-open_is : (word : List ℕ) → IfSome (open_command word) (λ command. command_words command ≡ codes "open" ∷ word ∷ [])
-unfolding open_command
-open_is word = grind (arith, bytes_decides)
-
-group_is : (word : List ℕ) → IfSome (group_command word) (λ command. command_words command ≡ codes "group" ∷ word ∷ [])
-unfolding group_command
-group_is word = grind (arith, bytes_decides)
-
-behind : (words front rest : List (List ℕ)) (r : Option Command) → words ≡ front ++ rest → IfSome r (λ command. command_words command ≡ front) → IfSome (before rest r) (λ x. words ≡ command_words x.0 ++ x.1)
-behind words front rest None are is = tt
-behind words front rest (Some command) are is = are ∙ ap (λ (words : List (List ℕ)). words ++ rest) (sym is)
-
-second_is : (command : List ℕ → Option Command) (text first : List ℕ) (words : List (List ℕ)) → ((word : List ℕ) → IfSome (command word) (λ command. command_words command ≡ text ∷ word ∷ []))
-    → first ≡ text → IfSome (second_of command words) (λ x. first ∷ words ≡ command_words x.0 ++ x.1)
-second_is command text first [] named is = tt
-second_is command text first (word ∷ rest) named is =
-    behind (first ∷ word ∷ rest) (text ∷ word ∷ []) rest (command word) (ap (λ w. w ∷ word ∷ rest) is) (named word)
-
-choose : (test : Bool) (P : Command × List (List ℕ) → Type 0) (a b : Option (Command × List (List ℕ))) → (test ≡ true → IfSome a P) → IfSome b P → IfSome (cond test a b) P
-choose true P a b here there = here refl
-choose false P a b here there = there
+-- what stands behind a name stands there
+behind_is : (name words : List (List ℕ)) → IfSome (behind name words) (λ rest. words ≡ name ++ rest)
+behind_is [] words = refl
+behind_is (word ∷ name) [] = tt
+behind_is (word ∷ name) (first ∷ words) = let rest = behind_is name words in grind (arith, bytes_decides, rest)
 
 -- what was found in front of the words is there
+found_is : (cs : List Command) (words : List (List ℕ)) → IfSome (find_command (map named cs) words) (λ x. words ≡ command_words x.0 ++ x.1)
+found_is [] words = tt
+found_is (c ∷ cs) words = let here = behind_is (command_words c) words in let there = found_is cs words in grind (arith, here, there)
+
 words_are : (words : List (List ℕ)) → IfSome (command_of words) (λ x. words ≡ command_words x.0 ++ x.1)
 unfolding command_of
-words_are [] = tt
-words_are (word ∷ rest) =
-    let P : Command × List (List ℕ) → Type 0 = λ x. word ∷ rest ≡ command_words x.0 ++ x.1 in
-    choose _ P _ _ (λ test. second_is open_command (codes "open") word rest open_is ((bytes_decides word (codes "open")).0 test)) (choose _ P _ _ (λ test. second_is group_command (codes "group") word rest group_is ((bytes_decides word (codes "group")).0 test)) (behind (word ∷ rest) (word ∷ []) rest (one_word_command word) refl (one_word_is word)))
+words_are words = found_is commands words
 
 some_is : {A : Type 0} {x y : A} → ◌≡◌ {A = Option A} (Some x) (Some y) → x ≡ y
 some_is h = cc
