@@ -84,8 +84,7 @@ pub(crate) fn read_command<'w, 'l>(words: &'w [&'l [u8]]) -> Option<(Command, &'
     ensures { option_map (λ x. (x.0, map (λ word. word.now) x.1.now)) result
         ≡ command_of (map (λ word. word.now) words.now) }
 {
-    let commands: [(&str, &str, Command); 33] = COMMANDS;
-    find_command(commands.as_slice(), words)
+    find_command(&COMMANDS, words)
 }
 
 /// The first command of a table whose name stands in front of the words.
