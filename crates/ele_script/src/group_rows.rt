@@ -2,45 +2,26 @@
 //! as an outlet.
 ghost use Rattle.std.specs.Prelude.{◌++◌, ◌∷◌, [], decimal};
 ghost use Rattle.ele_script.specs.Outlet.{outlet, Puts};
-ghost use Rattle.ele_script.specs.Printed.{numbers_word, group_line, groups_text};
+ghost use Rattle.ele_script.specs.Printed.{numbers_word, group_line};
 
 use crate::fault::WriteFault;
+use crate::listing::Row;
 use crate::output::{Output, put_words};
-use crate::putting::put_number;
 use crate::rows::put_number_word;
 use ele_moment::{FileId, Moment};
 use ele_world::GroupRow;
 use std::io::Write;
 
-pub(crate) fn put_groups<W: Write>(
-    groups: &[GroupRow],
-    output: &mut Output,
-    writer: &mut W,
-) -> Result<(), WriteFault>
-    ensures { Puts (outlet (W.contents writer.old) output.old)
-        (outlet (W.contents writer.new) output.new) (groups_text groups.now) result }
-{
-    put_number(b"ok groups", groups.len() as u64, output, writer)?;
-    for group in groups {
-        put_group(group, output, writer)?;
-    }
-    Ok(())
-}
+impl Row for GroupRow {
+    ghost row_line = { group_line };
 
-/// Puts the line of a group.
-fn put_group<W: Write>(
-    group: &GroupRow,
-    output: &mut Output,
-    writer: &mut W,
-) -> Result<(), WriteFault>
-    ensures { Puts (outlet (W.contents writer.old) output.old)
-        (outlet (W.contents writer.new) output.new) (group_line group.now) result }
-{
-    put_words(b"-", &[group.name.bytes(), b"members"], output, writer)?;
-    put_members(group.members.as_slice(), output, writer)?;
-    output.put(b" marks", writer)?;
-    put_marks(group.marks.as_slice(), output, writer)?;
-    output.put(b"\n", writer)
+    fn put_row<W: Write>(&self, output: &mut Output, writer: &mut W) -> Result<(), WriteFault> {
+        put_words(b"-", &[self.name.bytes(), b"members"], output, writer)?;
+        put_members(self.members.as_slice(), output, writer)?;
+        output.put(b" marks", writer)?;
+        put_marks(self.marks.as_slice(), output, writer)?;
+        output.put(b"\n", writer)
+    }
 }
 
 /// Puts a space and the numbers of files, with a comma between each two, or `-` for none.

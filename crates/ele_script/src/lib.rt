@@ -6,6 +6,7 @@ mod arguments;
 mod command;
 mod fault;
 mod group_rows;
+mod listing;
 mod output;
 mod pairs;
 pub mod policy_laws;

@@ -3,11 +3,11 @@
 ghost use Rattle.std.specs.Prelude.{◌≡◌, ◌∷◌, [], ◌++◌, map, decimal, codes};
 ghost use Rattle.ele_script.specs.Outlet.{outlet, Puts};
 ghost use Rattle.std.specs.List.{join_with_byte};
-ghost use Rattle.ele_script.specs.Printed.{line_text, end_word, pair_word, policy_word, file_text, directory_text, version_line, versions_text, name_line, names_text};
+ghost use Rattle.ele_script.specs.Printed.{line_text, end_word, pair_word, policy_word, file_text, directory_text, version_line, name_line};
 
 use crate::fault::WriteFault;
+use crate::listing::Row;
 use crate::output::{Output, put_line, put_words};
-use crate::putting::put_number;
 use ele_moment::{Moment, Name};
 use ele_policy::{Ladder, Policy};
 use ele_world::{DirectoryRow, FileStat, Stamps, Target};
@@ -183,77 +183,39 @@ fn end_digits<'d>(ended: Option<Moment>, digits: &'d mut Buffer) -> &'d [u8]
     }
 }
 
-pub(crate) fn put_versions<W: Write>(
-    versions: &[Stamps],
-    output: &mut Output,
-    writer: &mut W,
-) -> Result<(), WriteFault>
-    ensures { Puts (outlet (W.contents writer.old) output.old)
-        (outlet (W.contents writer.new) output.new) (versions_text versions.now) result }
-{
-    put_number(b"ok versions", versions.len() as u64, output, writer)?;
-    for stamps in versions {
-        put_version(stamps, output, writer)?;
+impl Row for Stamps {
+    ghost row_line = { version_line };
+
+    fn put_row<W: Write>(&self, output: &mut Output, writer: &mut W) -> Result<(), WriteFault> {
+        let mut number = Buffer::new();
+        let mut opened = Buffer::new();
+        let mut closed = Buffer::new();
+        let mut ended = Buffer::new();
+        let mut length = Buffer::new();
+        let number = number.format(self.number.0).as_bytes();
+        let opened = opened.format(self.opened.seconds()).as_bytes();
+        let closed = closed.format(self.closed.seconds()).as_bytes();
+        let ended = end_digits(self.ended, &mut ended);
+        let length = length.format(self.length).as_bytes();
+        put_line(
+            b"-",
+            &[number, opened, closed, ended, length],
+            output,
+            writer,
+        )
     }
-    Ok(())
 }
 
-/// Puts the line of a version among those of its file.
-fn put_version<W: Write>(
-    stamps: &Stamps,
-    output: &mut Output,
-    writer: &mut W,
-) -> Result<(), WriteFault>
-    ensures { Puts (outlet (W.contents writer.old) output.old)
-        (outlet (W.contents writer.new) output.new) (version_line stamps.now) result }
-{
-    let mut number = Buffer::new();
-    let mut opened = Buffer::new();
-    let mut closed = Buffer::new();
-    let mut ended = Buffer::new();
-    let mut length = Buffer::new();
-    let number = number.format(stamps.number.0).as_bytes();
-    let opened = opened.format(stamps.opened.seconds()).as_bytes();
-    let closed = closed.format(stamps.closed.seconds()).as_bytes();
-    let ended = end_digits(stamps.ended, &mut ended);
-    let length = length.format(stamps.length).as_bytes();
-    put_line(
-        b"-",
-        &[number, opened, closed, ended, length],
-        output,
-        writer,
-    )
-}
+impl Row for (Name, Target) {
+    ghost row_line = { name_line };
 
-pub(crate) fn put_names<W: Write>(
-    names: &[(Name, Target)],
-    output: &mut Output,
-    writer: &mut W,
-) -> Result<(), WriteFault>
-    ensures { Puts (outlet (W.contents writer.old) output.old)
-        (outlet (W.contents writer.new) output.new) (names_text names.now) result }
-{
-    put_number(b"ok names", names.len() as u64, output, writer)?;
-    for named in names {
-        put_name(named, output, writer)?;
-    }
-    Ok(())
-}
-
-/// Puts the line of a name of a directory.
-fn put_name<W: Write>(
-    named: &(Name, Target),
-    output: &mut Output,
-    writer: &mut W,
-) -> Result<(), WriteFault>
-    ensures { Puts (outlet (W.contents writer.old) output.old)
-        (outlet (W.contents writer.new) output.new) (name_line named.now) result }
-{
-    let name = named.0.bytes();
-    match named.1 {
-        Target::File(file) => put_named_target(name, b"file", file.0, output, writer),
-        Target::Directory(directory) => {
-            put_named_target(name, b"directory", directory.0, output, writer)
+    fn put_row<W: Write>(&self, output: &mut Output, writer: &mut W) -> Result<(), WriteFault> {
+        let name = self.0.bytes();
+        match self.1 {
+            Target::File(file) => put_named_target(name, b"file", file.0, output, writer),
+            Target::Directory(directory) => {
+                put_named_target(name, b"directory", directory.0, output, writer)
+            }
         }
     }
 }

@@ -1,0 +1,13 @@
+use Rattle.std.proofs.Common.{◌∷◌, [], ◌++◌, length, drop}
+use Rattle.std.specs.List.{flat_map}
+use Rattle.std.specs.Fmt.{decimal}
+use Rattle.ele_script.specs.Printed.{line_text}
+use Rattle.ele_script.specs.Outlet.{outlet}
+use Rattle.ele_script.proofs.Known.{HasSent}
+use Rattle.ele_script.proofs.listing.put_rows.Given as goal
+
+-- the lines of the rows so far are put, and the others are left
+abbrev pub invariant-loop-row : goal.invariant-loop-row
+invariant-loop-row g l =
+    HasSent (outlet (g.W.Write.contents l.fn.writer) l.fn.output) (outlet (g.W.Write.contents l.writer) l.output)
+    (line_text (l.first ∷ decimal (length l.rows) ∷ []) ++ flat_map g.T.Row.row_line l.rows) (flat_map g.T.Row.row_line (drop l.row-index l.rows))
