@@ -1,6 +1,6 @@
 -- The command in front of words.
-use Rattle.std.proofs.Common.{arith, ◌≡◌, ℕ, Bool, true, false, cond, List, [], ◌∷◌, ◌++◌, length, map, refl, sym, ap, ◌∙◌, Option, Some, None, IfSome, Result, Ok, Err, ◌⊎◌, inl, inr, subst}
-use Rattle.std.specs.Prelude.{codes, IfOk, IfErr}
+use Rattle.std.proofs.Common.{arith, ◌≡◌, ℕ, List, [], ◌∷◌, ◌++◌, length, map, refl, sym, ap, ◌∙◌, Option, Some, None, IfSome, Result, Ok, Err, ◌⊎◌, inl, inr, subst}
+use Rattle.std.specs.Prelude.{IfOk, IfErr}
 use Rattle.std.specs.Cmp.Lexicographic.{bytes_decides}
 use Rattle.ele_script.specs.declared.command.Command.{Command}
 use Rattle.ele_script.specs.declared.fault.LineFault.{LineFault}
@@ -8,7 +8,7 @@ use Rattle.ele_script.specs.declared.fault.LineFault.TheVariants.{Syntax, NoMemo
 use Rattle.ele_script.specs.declared.reading.Line.{Line}
 use Rattle.ele_script.specs.Spells.{SpellsWords}
 use Rattle.ele_script.specs.Command.{command_words, kinds_behind}
-use Rattle.ele_script.specs.Memory.{behind_takes, TakesMemory}
+use Rattle.ele_script.specs.Memory.{TakesMemory}
 use Rattle.ele_script.specs.CommandOf.{behind, command_of, commands, find_command, named}
 use Rattle.ele_script.specs.Reads.{IsFaultOfKinds, miscounted, bad_word, ReadsLine}
 use Rattle.ele_script.specs.FirstFault.{FitsCommand, IsFaultOfWords, no_command, of_word}

@@ -210,9 +210,7 @@ event_refused line (Err other) found (inr bad) = inr (of_line bad)
 
 -- and where there was no memory for it, there was none for the line
 pub event_memory : (r : Result Line LineFault) → event_of r ≡ Err NoMemory → r ≡ Err NoMemory
-event_memory (Ok (asks.Event event)) is = absurd cc
-event_memory (Ok (asks.Pass budget)) is = absurd cc
-event_memory (Err fault) is = cc
+event_memory r is = grind arith
 
 -- a line that spells an event has no such fault
 event_faultless : (line : List ℕ) (event : Event) (fault : LineFault) → Spells line event → IsEventFault line fault → ⊥

@@ -1,13 +1,13 @@
 -- Words of pairs: each one pair, cut at its slash.
-use Rattle.std.proofs.Common.{◌≡◌, ℕ, zero, suc, ◌+◌, ◌<◌, ◌≤◌, ◌==◌, Bool, true, false, nat_lt, List, [], ◌∷◌, ◌++◌, length, take, drop, refl, sym, ap, ◌∙◌, arith, length-append, Option, Some, None, IfNone, get_or}
+use Rattle.std.proofs.Common.{◌≡◌, ℕ, zero, suc, ◌+◌, ◌<◌, ◌≤◌, ◌==◌, Bool, true, false, List, [], ◌∷◌, ◌++◌, length, take, drop, refl, sym, ap, ◌∙◌, arith, length-append, Option, Some, None, IfNone, get_or}
 use Rattle.std.specs.Prelude.{All}
 use Rattle.std.specs.List.{AllZip, position, position_or_len, slice_split}
 use Rattle.std.specs.Char.{digit_value}
 use Rattle.std.specs.Fmt.{decimal}
 use Rattle.std.specs.Str.Parse.{AllDigits, digits_value}
-use Rattle.std.proofs.lemmas.Bool.{eqb-true}
-use Rattle.std.proofs.lemmas.Bool.Decides.{nat_tests}
+use Rattle.std.proofs.lemmas.Bool.{eqb-true, lt-ltb}
 use Rattle.std.proofs.lemmas.Fmt.{digits_decimal}
+use Rattle.std.proofs.Math.Seq.{take-append_seam, drop-append_seam}
 use Rattle.std.proofs.lemmas.List.{drop_more, take-append-drop}
 use Rattle.std.proofs.lemmas.List.Quantifiers.{position-Some}
 use Rattle.std.proofs.lemmas.List.Elements.{All-nil, All-cons, All-head, All-tail}
@@ -46,23 +46,12 @@ slash_behind (c ∷ front) rest none =
     let longer : 1 + length front ≡ length (c ∷ front) = omega arith in
     rw (All-head (λ c. (c == 47) ≡ false) c front none) (ap (λ n. 1 + n) more ∙ longer)
 
-ltb-from : (m n : ℕ) → m < n → nat_lt m n ≡ true
-ltb-from m n lt = grind (arith, nat_tests)
-
 -- the slash of a pair stands behind its age
 slash_at : (word : List ℕ) (pair : Rung) → (is : SpellsPair word pair) → position is_slash word ≡ Some (length is.age)
 slash_at word pair is =
     let at = slash_behind is.age is.width (number_unmarked 47 (omega arith) is.age pair.0 is.age_is) in
-    let lt = ltb-from (length is.age) (length (is.age ++ 47 ∷ is.width)) (omega (arith, length-append is.age (47 ∷ is.width))) in
+    let lt = lt-ltb (length is.age) (length (is.age ++ 47 ∷ is.width)) (omega (arith, length-append is.age (47 ∷ is.width))) in
     rw (is.are, at, lt) refl
-
-take_front : (front rest : List ℕ) → take (length front) (front ++ rest) ≡ front
-take_front [] rest = refl
-take_front (c ∷ front) rest = ap (λ (xs : List ℕ). c ∷ xs) (take_front front rest)
-
-drop_front : (front rest : List ℕ) → drop (length front) (front ++ rest) ≡ rest
-drop_front [] rest = refl
-drop_front (c ∷ front) rest = drop_front front rest
 
 some_is : {A : Type 0} {x y : A} → ◌≡◌ {A = Option A} (Some x) (Some y) → x ≡ y
 some_is h = cc
@@ -71,8 +60,8 @@ some_is h = cc
 pub parts_at : (word : List ℕ) (pair : Rung) (at : ℕ) → SpellsPair word pair → position is_slash word ≡ Some at → SpellsNumber (take at word) pair.0 × SpellsNumber (drop 1 (drop at word)) pair.1
 parts_at word pair at is found =
     let place : at ≡ length is.age = some_is (sym found ∙ slash_at word pair is) in
-    let age : take at word ≡ is.age = rw (place, is.are) (take_front is.age (47 ∷ is.width)) in
-    let width : drop 1 (drop at word) ≡ is.width = rw (place, is.are, drop_front is.age (47 ∷ is.width)) refl in
+    let age : take at word ≡ is.age = rw (place, is.are) (take-append_seam is.age (47 ∷ is.width)) in
+    let width : drop 1 (drop at word) ≡ is.width = rw (place, is.are, drop-append_seam is.age (47 ∷ is.width)) refl in
     (rw age is.age_is, rw width is.width_is)
 
 none_is : {A : Type 0} {x : A} → ◌≡◌ {A = Option A} None (Some x) → ⊥

@@ -2,7 +2,7 @@
 use Rattle.std.proofs.Common.{◌≡◌, ◌≢◌, ℕ, zero, suc, ◌+◌, ◌<◌, ◌≤◌, ◌==◌, not, cond, ◌&&◌, Bool, true, false, List, [], ◌∷◌, ◌++◌, length, take, drop, get_or, Some, None, refl, sym, ap, ◌∙◌, arith, append_assoc, length-append, map, ◌⊎◌, inl, inr, nat_lt, subst}
 use Rattle.std.specs.List.{list_all, position, position_or_len}
 use Rattle.std.proofs.Math.Bool.{and-false}
-use Rattle.std.proofs.lemmas.Bool.{ltb-false, eqb-true}
+use Rattle.std.proofs.lemmas.Bool.{ltb-false, lt-ltb, eqb-true}
 use Rattle.std.proofs.lemmas.Bool.Decides.{nat_tests}
 use Rattle.std.proofs.lemmas.List.{map-append, length-map, length-take-le, drop_more, take-append-drop}
 use Rattle.std.proofs.lemmas.List.Folds.{list_all-append, list_all_at}
@@ -56,12 +56,10 @@ whole_word (x ∷ xs) h =
     (rw (no_space x (h 0 (omega arith)), rest.0) refl, rw (plain_byte x (h 0 (omega arith))) rest.1)
 
 none_at : (b : Bool) (n : ℕ) → cond b (Some n) None ≡ None → b ≡ false
-none_at true n h = absurd cc
-none_at false n h = refl
+none_at b n h = grind arith
 
 not_true : (b : Bool) → not b ≡ true → b ≡ false
-not_true true h = absurd cc
-not_true false h = refl
+not_true b h = grind arith
 
 no_end : (text : List ℕ) → position ends_word text ≡ None → AreOfWords text (length text)
 no_end text none k lt =
@@ -76,9 +74,6 @@ positive : (n : ℕ) → (n == 0) ≡ false → 0 < n
 positive zero some = absurd cc
 positive (suc n) some = omega arith
 
-ltb-from : (m n : ℕ) → m < n → nat_lt m n ≡ true
-ltb-from m n lt = grind (arith, nat_tests)
-
 -- these words were cut off in front of the rest, none is empty, and all that was cut off is plain
 pub record AreCut (line : List ℕ) (front : List (List ℕ)) (rest : List ℕ) : Type 0 where
   pub words : words_of line ≡ front ++ words_of rest
@@ -91,7 +86,7 @@ map_push {A} v front now x pushed = ap (λ (xs : List A). map v xs) pushed ∙ m
 -- with one word more none is empty
 push_spaced : {A : Type 0} (v : A → List ℕ) (front now : List A) (x : A) → now ≡ front ++ x ∷ [] → list_all has_byte (map v front) ≡ true → 0 < length (v x) → list_all has_byte (map v now) ≡ true
 push_spaced {A} v front now x pushed before some =
-    let one : has_byte (v x) ≡ true = ltb-from 0 (length (v x)) some in
+    let one : has_byte (v x) ≡ true = lt-ltb 0 (length (v x)) some in
     ap (list_all has_byte) (map_push v front now x pushed) ∙ list_all-append has_byte (map v front) (v x ∷ []) ∙ rw (before, one) refl
 
 -- a word more is cut off
