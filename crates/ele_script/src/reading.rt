@@ -170,19 +170,18 @@ fn event_behind(alloc: Global, command: Command, words: &[&[u8]]) -> Result<Even
         Command::Undelete => path(alloc, words).map(Event::Undelete),
         Command::OpenWrite => path(alloc, words).map(Event::OpenWrite),
         Command::OpenRead => tagged(alloc, words).map(Event::OpenRead),
-        Command::Write => two_numbers_and_bytes(alloc, words).map(|(
-            handle,
-            offset,
-            bytes,
-        )| Event::Write(Handle(handle), offset, bytes)),
+        Command::Write => {
+            let read = two_numbers_and_bytes(alloc, words);
+            read.map(|(handle, offset, bytes)| Event::Write(Handle(handle), offset, bytes))
+        }
         Command::Truncate => {
             two_numbers(words).map(|(handle, size)| Event::Truncate(Handle(handle), size))
         }
         Command::Close => number(words).map(|handle| Event::Close(Handle(handle))),
-        Command::Revert => path_and_number(alloc, words).map(|(path, number)| Event::Revert(
-            path,
-            VersionNo(number),
-        )),
+        Command::Revert => {
+            let read = path_and_number(alloc, words);
+            read.map(|(path, number)| Event::Revert(path, VersionNo(number)))
+        }
         Command::SetPolicy => {
             path_and_policy(alloc, words).map(|(path, policy)| Event::SetPolicy(path, policy))
         }
