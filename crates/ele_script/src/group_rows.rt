@@ -2,15 +2,26 @@
 //! as an outlet.
 ghost use Rattle.std.specs.Prelude.{◌++◌, ◌∷◌, [], decimal};
 ghost use Rattle.ele_script.specs.Outlet.{outlet, Puts};
-ghost use Rattle.ele_script.specs.Printed.{numbers_word, group_line};
+ghost use Rattle.ele_script.specs.Printed.{numbers_word, group_line, groups_text};
 
 use crate::fault::WriteFault;
-use crate::listing::Row;
+use crate::listing::{Row, put_rows};
 use crate::output::{Output, put_words};
 use crate::rows::put_number_word;
 use ele_moment::{FileId, Moment};
 use ele_world::GroupRow;
 use std::io::Write;
+
+pub(crate) fn put_groups<W: Write>(
+    groups: &[GroupRow],
+    output: &mut Output,
+    writer: &mut W,
+) -> Result<(), WriteFault>
+    ensures { Puts (outlet (W.contents writer.old) output.old)
+        (outlet (W.contents writer.new) output.new) (groups_text groups.now) result }
+{
+    put_rows(b"ok groups", groups, output, writer)
+}
 
 impl Row for GroupRow {
     ghost row_line = { group_line };

@@ -2,14 +2,15 @@
 //! writer as an outlet.
 ghost use Rattle.std.specs.Prelude.{◌≡◌, ◌≤◌, ◌++◌, ◌∷◌, [], Ok, List, ℕ, length, OnOk, OnErr, decimal, codes};
 ghost use Rattle.ele_script.specs.Outlet.{outlet, Puts};
-ghost use Rattle.ele_script.specs.Printed.{line_text, key_words, closed_text, restorable_line, due_line, bytes_text, usage_line, usage_text, stop_text, pass_text, bad_text, IsAnswerText, IsReplyText};
+ghost use Rattle.ele_script.specs.Printed.{line_text, key_words, closed_text, restorable_line, restorable_text, due_line, due_text, bytes_text, usage_line, usage_text, stop_text, pass_text, bad_text, IsAnswerText, IsReplyText};
 ghost use Rattle.hex.specs.Hex.{encode_lower};
 
 use crate::fault::{LineFault, WriteFault};
+use crate::group_rows::put_groups;
 use crate::listing::{Row, put_rows};
 use crate::output::{Output, put_line};
 use crate::refusal::put_refusal;
-use crate::rows::{put_directory, put_file};
+use crate::rows::{put_directory, put_file, put_names, put_versions};
 use ele_world::{DeadName, Key, PassEnd, Reply, Stop, Target, Usage, VersionNo};
 use itoa::Buffer;
 use std::io::Write;
@@ -87,12 +88,12 @@ pub fn put_answer<W: Write>(
         Reply::Bytes(bytes) => put_bytes(bytes.as_slice(), output, writer),
         Reply::FileStat(stat) => put_file(stat, output, writer),
         Reply::DirStat(row) => put_directory(row, output, writer),
-        Reply::Rows(versions) => put_rows(b"ok versions", versions.as_slice(), output, writer),
-        Reply::NameList(names) => put_rows(b"ok names", names.as_slice(), output, writer),
-        Reply::RestoreList(names) => put_rows(b"ok restorable", names.as_slice(), output, writer),
-        Reply::DueList(keys) => put_rows(b"ok due", keys.as_slice(), output, writer),
+        Reply::Rows(versions) => put_versions(versions.as_slice(), output, writer),
+        Reply::NameList(names) => put_names(names.as_slice(), output, writer),
+        Reply::RestoreList(names) => put_dead_names(names.as_slice(), output, writer),
+        Reply::DueList(keys) => put_keys(keys.as_slice(), output, writer),
         Reply::UsageList(usages) => put_usages(usages, output, writer),
-        Reply::GroupList(groups) => put_rows(b"ok groups", groups.as_slice(), output, writer),
+        Reply::GroupList(groups) => put_groups(groups.as_slice(), output, writer),
         Reply::Refused(why) => put_refusal(why, output, writer),
     }
 }
@@ -159,12 +160,30 @@ fn put_key<W: Write>(
     put_line(first, &[ripe, file, number], output, writer)
 }
 
+fn put_keys<W: Write>(keys: &[Key], output: &mut Output, writer: &mut W) -> Result<(), WriteFault>
+    ensures { Puts (outlet (W.contents writer.old) output.old)
+        (outlet (W.contents writer.new) output.new) (due_text keys.now) result }
+{
+    put_rows(b"ok due", keys, output, writer)
+}
+
 impl Row for Key {
     ghost row_line = { due_line };
 
     fn put_row<W: Write>(&self, output: &mut Output, writer: &mut W) -> Result<(), WriteFault> {
         put_key(b"-", *self, output, writer)
     }
+}
+
+fn put_dead_names<W: Write>(
+    names: &[DeadName],
+    output: &mut Output,
+    writer: &mut W,
+) -> Result<(), WriteFault>
+    ensures { Puts (outlet (W.contents writer.old) output.old)
+        (outlet (W.contents writer.new) output.new) (restorable_text names.now) result }
+{
+    put_rows(b"ok restorable", names, output, writer)
 }
 
 impl Row for DeadName {

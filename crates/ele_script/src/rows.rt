@@ -3,10 +3,10 @@
 ghost use Rattle.std.specs.Prelude.{◌≡◌, ◌∷◌, [], ◌++◌, map, decimal, codes};
 ghost use Rattle.ele_script.specs.Outlet.{outlet, Puts};
 ghost use Rattle.std.specs.List.{join_with_byte};
-ghost use Rattle.ele_script.specs.Printed.{line_text, end_word, pair_word, policy_word, file_text, directory_text, version_line, name_line};
+ghost use Rattle.ele_script.specs.Printed.{line_text, end_word, pair_word, policy_word, file_text, directory_text, version_line, versions_text, name_line, names_text};
 
 use crate::fault::WriteFault;
-use crate::listing::Row;
+use crate::listing::{Row, put_rows};
 use crate::output::{Output, put_line, put_words};
 use ele_moment::{Moment, Name};
 use ele_policy::{Ladder, Policy};
@@ -183,6 +183,17 @@ fn end_digits<'d>(ended: Option<Moment>, digits: &'d mut Buffer) -> &'d [u8]
     }
 }
 
+pub(crate) fn put_versions<W: Write>(
+    versions: &[Stamps],
+    output: &mut Output,
+    writer: &mut W,
+) -> Result<(), WriteFault>
+    ensures { Puts (outlet (W.contents writer.old) output.old)
+        (outlet (W.contents writer.new) output.new) (versions_text versions.now) result }
+{
+    put_rows(b"ok versions", versions, output, writer)
+}
+
 impl Row for Stamps {
     ghost row_line = { version_line };
 
@@ -204,6 +215,17 @@ impl Row for Stamps {
             writer,
         )
     }
+}
+
+pub(crate) fn put_names<W: Write>(
+    names: &[(Name, Target)],
+    output: &mut Output,
+    writer: &mut W,
+) -> Result<(), WriteFault>
+    ensures { Puts (outlet (W.contents writer.old) output.old)
+        (outlet (W.contents writer.new) output.new) (names_text names.now) result }
+{
+    put_rows(b"ok names", names, output, writer)
 }
 
 impl Row for (Name, Target) {

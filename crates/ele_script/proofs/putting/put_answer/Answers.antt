@@ -30,10 +30,10 @@ pub returns-in-Removed : goal.returns-in-Removed
 returns-in-Removed g c = rw c.in-Removed.is (_, refl, c.put_key.ensures)
 
 pub returns-in-RestoreList : goal.returns-in-RestoreList
-returns-in-RestoreList g c = rw c.in-RestoreList.is (_, refl, rw c.as_slice-in-RestoreList.ensures at c.put_rows-in-RestoreList.ensures)
+returns-in-RestoreList g c = rw c.in-RestoreList.is (_, refl, rw c.as_slice-in-RestoreList.ensures at c.put_dead_names.ensures)
 
 pub returns-in-DueList : goal.returns-in-DueList
-returns-in-DueList g c = rw c.in-DueList.is (_, refl, rw c.as_slice-in-DueList.ensures at c.put_rows-in-DueList.ensures)
+returns-in-DueList g c = rw c.in-DueList.is (_, refl, rw c.as_slice-in-DueList.ensures at c.put_keys.ensures)
 
 pub returns-in-Refused : goal.returns-in-Refused
 returns-in-Refused g c = rw c.in-Refused.is (_, refl, c.put_refusal.ensures)
@@ -51,10 +51,10 @@ pub returns-in-DirStat : goal.returns-in-DirStat
 returns-in-DirStat g c = rw c.in-DirStat.is (_, refl, c.put_directory.ensures)
 
 pub returns-in-Rows : goal.returns-in-Rows
-returns-in-Rows g c = rw c.in-Rows.is (_, refl, rw c.as_slice-in-Rows.ensures at c.put_rows.ensures)
+returns-in-Rows g c = rw c.in-Rows.is (_, refl, rw c.as_slice-in-Rows.ensures at c.put_versions.ensures)
 
 pub returns-in-NameList : goal.returns-in-NameList
-returns-in-NameList g c = rw c.in-NameList.is (_, refl, rw c.as_slice-in-NameList.ensures at c.put_rows-in-NameList.ensures)
+returns-in-NameList g c = rw c.in-NameList.is (_, refl, rw c.as_slice-in-NameList.ensures at c.put_names.ensures)
 
 pub returns-in-GroupList : goal.returns-in-GroupList
-returns-in-GroupList g c = rw c.in-GroupList.is (_, refl, rw c.as_slice-in-GroupList.ensures at c.put_rows-in-GroupList.ensures)
+returns-in-GroupList g c = rw c.in-GroupList.is (_, refl, rw c.as_slice-in-GroupList.ensures at c.put_groups.ensures)
