@@ -53,18 +53,7 @@ module _ (w : World) (directory : ℕ) (name : List ℕ) (policy : Policy) where
     there = list_any-append (is_directory id) w.directories (new ∷ []) ∙ rw own (or_last (list_any (is_directory id) w.directories) true refl)
 
     by : (part : Part) → Holds made part
-    by Counted = let c = k.holds Counted in record {
-      files_made = c.files_made;
-      names_made = omega (arith, may.named.room);
-      versions_made = c.versions_made;
-      handles_made = c.handles_made;
-      groups_made = c.groups_made;
-      members_made = c.members_made;
-      marks_made = c.marks_made;
-      file_rows = c.file_rows;
-      name_rows = simp length-append (omega (arith, c.name_rows));
-      version_rows = c.version_rows;
-    }
+    by Counted = simp length-append (grind (arith, k.holds Counted))
     by Directories = let d = k.holds Directories in record {
       rooted = any_more (is_directory root) w.directories new d.rooted;
       policies = all-push (λ row. IsPolicy row.default) w.directories new d.policies may.valid;
@@ -142,18 +131,7 @@ module _ (w : World) (directory : ℕ) (name : List ℕ) (empty : (id : ℕ) →
   pub end_name_holds : (Q : Type 0) → Q → IsWellFormed w → (part : Part) → HoldsWith Q (without_name w directory name) part
   end_name_holds Q ends k = by where
     by : (part : Part) → HoldsWith Q (without_name w directory name) part
-    by Counted = let c = k.holds Counted in record {
-      files_made = c.files_made;
-      names_made = c.names_made;
-      versions_made = c.versions_made;
-      handles_made = c.handles_made;
-      groups_made = c.groups_made;
-      members_made = c.members_made;
-      marks_made = c.marks_made;
-      file_rows = c.file_rows;
-      name_rows = omega (arith, c.name_rows, length-update_first p (dies w.now) w.names);
-      version_rows = c.version_rows;
-    }
+    by Counted = grind (arith, k.holds Counted, length-update_first p (dies w.now) w.names)
     by Names = names_end w.now w.names directory name w.files (k.holds Names)
     by Tree = tree_end w.now w.names directory name (k.holds Tree)
     by Homes = record {

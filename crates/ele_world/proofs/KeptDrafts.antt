@@ -44,18 +44,7 @@ start_keeps w file may k = record { holds = by } where
   readable (Draft id) there = list_any-insert_before (is_draft_after file) (is_draft id) (new_draft w file) w.drafts ∙ ap (λ b. is_draft id (new_draft w file) || b) there ∙ or_true (is_draft id (new_draft w file))
 
   by : (part : Part) → Holds (after_change w (StartDraft file)) part
-  by Counted = let c = k.holds Counted in record {
-    files_made = c.files_made;
-    names_made = c.names_made;
-    versions_made = omega (arith, may.room, length-insert_before (is_draft_after file) (new_draft w file) w.drafts);
-    handles_made = c.handles_made;
-    groups_made = c.groups_made;
-    members_made = c.members_made;
-    marks_made = c.marks_made;
-    file_rows = c.file_rows;
-    name_rows = c.name_rows;
-    version_rows = c.version_rows;
-  }
+  by Counted = grind (arith, k.holds Counted, length-insert_before (is_draft_after file) (new_draft w file) w.drafts)
   by Drafts = record {
     each = all-insert_before (is_draft_after file) (IsDraft w.files w.now) (new_draft w file) w.drafts (record { there = may.there; opened = omega arith; content = current.0; written = current.1 }) (k.holds Drafts).each;
     placed = later-insert_before (is_draft_after file) (λ earlier later. earlier.file < later.file) (λ row. is_draft file row ≡ false) (new_draft w file) w.drafts
@@ -89,18 +78,7 @@ edit_keeps w file f same edits k = record { holds = by } where
   readable (Draft id) there = list_any-update_first (is_draft file) (is_draft id) f w.drafts (λ x e. ap (λ (i : ℕ). eqb i id) (same x)) ∙ there
 
   by : (part : Part) → Holds (record w { drafts = update_first (is_draft file) f w.drafts }) part
-  by Counted = let c = k.holds Counted in record {
-    files_made = c.files_made;
-    names_made = c.names_made;
-    versions_made = omega (arith, c.versions_made, length-update_first (is_draft file) f w.drafts);
-    handles_made = c.handles_made;
-    groups_made = c.groups_made;
-    members_made = c.members_made;
-    marks_made = c.marks_made;
-    file_rows = c.file_rows;
-    name_rows = c.name_rows;
-    version_rows = c.version_rows;
-  }
+  by Counted = grind (arith, k.holds Counted, length-update_first (is_draft file) f w.drafts)
   by Drafts = record {
     each = all-changed (is_draft file) (IsDraft w.files w.now) f w.drafts (λ row e h. edits row (grind (arith, nat_tests)) h) (k.holds Drafts).each;
     placed = later-update_first (is_draft file) (λ earlier later. earlier.file < later.file) f w.drafts (λ x y h. rw (same x) h) (λ x y h. rw (same y) h) (k.holds Drafts).placed;
@@ -165,18 +143,7 @@ end_keeps w file unwritten k = record { holds = by } where
   readable (Draft id) other there = list_any-remove_first (is_draft file) (is_draft id) w.drafts (λ x found. let passes = found_passes (is_draft file) w.drafts x found in grind (arith, nat_tests)) ∙ there
 
   by : (part : Part) → Holds (after_change w (EndDraft file)) part
-  by Counted = let c = k.holds Counted in record {
-    files_made = c.files_made;
-    names_made = c.names_made;
-    versions_made = omega (arith, c.versions_made, length-remove_first-le (is_draft file) w.drafts);
-    handles_made = c.handles_made;
-    groups_made = c.groups_made;
-    members_made = c.members_made;
-    marks_made = c.marks_made;
-    file_rows = c.file_rows;
-    name_rows = c.name_rows;
-    version_rows = c.version_rows;
-  }
+  by Counted = grind (arith, k.holds Counted, length-remove_first-le (is_draft file) w.drafts)
   by Drafts = record {
     each = all-remove_first (is_draft file) (IsDraft w.files w.now) w.drafts (k.holds Drafts).each;
     placed = later-remove_first (is_draft file) (λ earlier later. earlier.file < later.file) w.drafts (k.holds Drafts).placed;
@@ -197,18 +164,7 @@ open_keeps w number reads may k = record { holds = by } where
   handle = record { number = number; reads = reads }
 
   by : (part : Part) → Holds (after_change w (OpenHandle number reads)) part
-  by Counted = let c = k.holds Counted in record {
-    files_made = c.files_made;
-    names_made = c.names_made;
-    versions_made = c.versions_made;
-    handles_made = omega (arith, may.next, may.room);
-    groups_made = c.groups_made;
-    members_made = c.members_made;
-    marks_made = c.marks_made;
-    file_rows = c.file_rows;
-    name_rows = c.name_rows;
-    version_rows = c.version_rows;
-  }
+  by Counted = grind (arith, k.holds Counted)
   by Handles = record {
     each = all-push (IsHandle number w.drafts) w.handles handle
         (all-weaker (IsHandle w.made.handles w.drafts) (IsHandle number w.drafts) w.handles (λ row h. record { numbered = h.numbered; given = omega (arith, h.given, may.next); readable = h.readable }) (k.holds Handles).each)

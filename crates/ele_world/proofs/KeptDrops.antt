@@ -68,18 +68,7 @@ module _ (w : World) (file : ℕ) (idle : IsIdle w file) where
     current_still other live false e = rw (next_of-removed w.files file other e) (k.holds Current other live)
 
     by : (part : Part) → Holds (without_file w file) part
-    by Counted = let c = k.holds Counted in record {
-      files_made = c.files_made;
-      names_made = c.names_made;
-      versions_made = c.versions_made;
-      handles_made = c.handles_made;
-      groups_made = c.groups_made;
-      members_made = c.members_made;
-      marks_made = c.marks_made;
-      file_rows = omega (arith, c.file_rows, length-remove_first-le (is_file file) w.files);
-      name_rows = omega (arith, c.name_rows, length-split keep w.names);
-      version_rows = c.version_rows;
-    }
+    by Counted = grind (arith, k.holds Counted, length-remove_first-le (is_file file) w.files, length-split keep w.names)
     by Files = record {
       each = all-remove_first (is_file file) (IsFile w.made.files w.made.versions) w.files (k.holds Files).each;
       placed = later-remove_first (is_file file) (λ earlier later. earlier.id < later.id) w.files (k.holds Files).placed;

@@ -82,18 +82,7 @@ groups_edited w name f same edits k = let are = k.holds Groups in record {
 pub make_group_keeps : (w : World) (name : List ℕ) → MayGroup w name → IsWellFormed w → IsWellFormed (after_change w (MakeGroup name))
 make_group_keeps w name may k = record { holds = by } where
   by : (part : Part) → Holds (after_change w (MakeGroup name)) part
-  by Counted = let c = k.holds Counted in record {
-    files_made = c.files_made;
-    names_made = c.names_made;
-    versions_made = c.versions_made;
-    handles_made = c.handles_made;
-    groups_made = omega (arith, may.room);
-    members_made = c.members_made;
-    marks_made = c.marks_made;
-    file_rows = c.file_rows;
-    name_rows = c.name_rows;
-    version_rows = c.version_rows;
-  }
+  by Counted = grind (arith, k.holds Counted)
   by Groups = let are = k.holds Groups in record {
     each = all-push (IsGroup w.files w.now) w.groups (new_group name) are.each (record { there = tt; apart = tt; past = tt; once = tt });
     named = later-push AreNamedApart w.groups (new_group name) are.named (all-none (is_group name) w.groups may.free);
@@ -124,18 +113,7 @@ add_member_keeps w name file may k = record { holds = by } where
   }
 
   by : (part : Part) → Holds (after_change w (AddMember name file)) part
-  by Counted = let c = k.holds Counted in record {
-    files_made = c.files_made;
-    names_made = c.names_made;
-    versions_made = c.versions_made;
-    handles_made = c.handles_made;
-    groups_made = c.groups_made;
-    members_made = omega (arith, may.room);
-    marks_made = c.marks_made;
-    file_rows = c.file_rows;
-    name_rows = c.name_rows;
-    version_rows = c.version_rows;
-  }
+  by Counted = grind (arith, k.holds Counted)
   by Groups = groups_edited w name (adds file) (λ row. refl) joined k
   by part = k.holds part
 
@@ -166,18 +144,7 @@ add_mark_keeps w name mark may k = record { holds = by } where
   }
 
   by : (part : Part) → Holds (after_change w (AddMark name mark)) part
-  by Counted = let c = k.holds Counted in record {
-    files_made = c.files_made;
-    names_made = c.names_made;
-    versions_made = c.versions_made;
-    handles_made = c.handles_made;
-    groups_made = c.groups_made;
-    members_made = c.members_made;
-    marks_made = omega (arith, may.room);
-    file_rows = c.file_rows;
-    name_rows = c.name_rows;
-    version_rows = c.version_rows;
-  }
+  by Counted = grind (arith, k.holds Counted)
   by Groups = groups_edited w name (marks mark) (λ row. refl) marked k
   by part = k.holds part
 

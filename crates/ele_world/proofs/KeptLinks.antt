@@ -68,18 +68,7 @@ with_end_keeps w file dead holds = record { holds = by } where
   of_live row own other false e none = other e none
 
   by : (part : Part) → Holds (record w { versions = with_end w file }) part
-  by Counted = let c = holds Counted in record {
-    files_made = c.files_made;
-    names_made = c.names_made;
-    versions_made = c.versions_made;
-    handles_made = c.handles_made;
-    groups_made = c.groups_made;
-    members_made = c.members_made;
-    marks_made = c.marks_made;
-    file_rows = c.file_rows;
-    name_rows = c.name_rows;
-    version_rows = omega (arith, c.version_rows, length-update_first (is_version file last) (ended_at w.now) w.versions);
-  }
+  by Counted = grind (arith, holds Counted, length-update_first (is_version file last) (ended_at w.now) w.versions)
   by Versions = versions_ended w.files w.now (is_version file last) w.versions (holds Versions)
   by Readers = read_on w.versions (with_end w file) w.handles (λ f n held. list_any-update_first (is_version file last) (is_version f n) (ended_at w.now) w.versions (λ row e. refl) ∙ held) (holds Readers)
   by Current = λ other live. current other (file == other) refl live

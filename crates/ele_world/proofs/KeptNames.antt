@@ -94,18 +94,7 @@ put_under_keeps w file policy is k = record { holds = by } where
   next id = next_of-put_under w.files file id policy
 
   by : (part : Part) → Holds (after_change w (PutUnder file policy)) part
-  by Counted = let c = k.holds Counted in record {
-    files_made = c.files_made;
-    names_made = c.names_made;
-    versions_made = c.versions_made;
-    handles_made = c.handles_made;
-    groups_made = c.groups_made;
-    members_made = c.members_made;
-    marks_made = c.marks_made;
-    file_rows = omega (arith, c.file_rows, length-update_first (is_file file) (put_under policy) w.files);
-    name_rows = c.name_rows;
-    version_rows = c.version_rows;
-  }
+  by Counted = grind (arith, k.holds Counted, length-update_first (is_file file) (put_under policy) w.files)
   by Files = record {
     each = all-update_first (is_file file) (IsFile w.made.files w.made.versions) (IsFile w.made.files w.made.versions) (put_under policy) w.files
         (λ row h. record { numbered = h.numbered; given = h.given; first = h.first; next = h.next; policy = is }) (λ row h. h) (k.holds Files).each;
@@ -184,18 +173,7 @@ module _ (w : World) (directory : ℕ) (name : List ℕ) (policy : Policy) where
     new_next = next_of-new w.made.files w.made.versions w.files new (k.holds Files).each (omega arith)
 
     by : (part : Part) → Holds (created w directory name id policy) part
-    by Counted = let c = k.holds Counted in record {
-      files_made = omega (arith, may.files);
-      names_made = omega (arith, may.named.room);
-      versions_made = omega (arith, may.room);
-      handles_made = c.handles_made;
-      groups_made = c.groups_made;
-      members_made = c.members_made;
-      marks_made = c.marks_made;
-      file_rows = simp length-append (omega (arith, c.file_rows));
-      name_rows = simp length-append (omega (arith, c.name_rows));
-      version_rows = simp length-append (omega (arith, c.version_rows));
-    }
+    by Counted = simp length-append (grind (arith, k.holds Counted))
     by Files = record {
       each = all-push (IsFile id (w.made.versions + 1)) w.files new
           (all-weaker (IsFile w.made.files w.made.versions) (IsFile id (w.made.versions + 1)) w.files (λ row h. record { numbered = h.numbered; given = omega (arith, h.given); first = h.first; next = omega (arith, h.next); policy = h.policy }) (k.holds Files).each)

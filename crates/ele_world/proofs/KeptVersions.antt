@@ -158,18 +158,7 @@ module _ (w : World) (file opened : ℕ) (cells : List Cell) (may : MayAppend w 
     old = all-both _ _ (with_end w file) (file_ended w.files w.now file w.versions (holds Versions).placed (holds Versions).each) ended.each
 
     by : (part : Part) → Holds (with_version w file opened cells) part
-    by Counted = let c = holds Counted in record {
-      files_made = c.files_made;
-      names_made = c.names_made;
-      versions_made = omega (arith, may.room);
-      handles_made = c.handles_made;
-      groups_made = c.groups_made;
-      members_made = c.members_made;
-      marks_made = c.marks_made;
-      file_rows = omega (arith, c.file_rows, length-update_first (is_file file) numbered_on w.files);
-      name_rows = c.name_rows;
-      version_rows = omega (arith, c.version_rows, length-update_first p (ended_at w.now) w.versions, length-insert_before (is_version_after file next) new (with_end w file));
-    }
+    by Counted = grind (arith, holds Counted, length-update_first (is_file file) numbered_on w.files, length-update_first p (ended_at w.now) w.versions, length-insert_before (is_version_after file next) new (with_end w file))
     by Files = record {
       each = all-update_first (is_file file) (IsFile w.made.files w.made.versions) (IsFile w.made.files (w.made.versions + 1)) numbered_on w.files
           (λ row h. record { numbered = h.numbered; given = h.given; first = omega (arith, h.first); next = omega (arith, h.next); policy = h.policy })
@@ -221,18 +210,7 @@ take_keeps w file number ended unread k = record { holds = by } where
   not_current other row e = rw e (grind (arith, nat_tests))
 
   by : (part : Part) → Holds (after_change w (Take file number)) part
-  by Counted = let c = k.holds Counted in record {
-    files_made = c.files_made;
-    names_made = c.names_made;
-    versions_made = c.versions_made;
-    handles_made = c.handles_made;
-    groups_made = c.groups_made;
-    members_made = c.members_made;
-    marks_made = c.marks_made;
-    file_rows = c.file_rows;
-    name_rows = c.name_rows;
-    version_rows = omega (arith, c.version_rows, length-remove_first-le (is_version file number) w.versions);
-  }
+  by Counted = grind (arith, k.holds Counted, length-remove_first-le (is_version file number) w.versions)
   by Versions = record {
     each = all-remove_first (is_version file number) (IsVersion w.files w.now) w.versions (k.holds Versions).each;
     placed = later-remove_first (is_version file number) ArePlaced w.versions (k.holds Versions).placed;
