@@ -18,67 +18,37 @@ use Rattle.ele_world.proofs.Elements.{find-update_still}
 -- a file that is there keeps its number when rows are added behind
 pub next_of-push : (files : List FileRow) (row : FileRow) (file : ℕ) → 0 < next_of files file → next_of (files ++ row ∷ []) file ≡ next_of files file
 next_of-push [] row file h = absurd (omega arith)
-next_of-push (x ∷ xs) row file h = elim (is_file file x) as (λ b. is_file file x ≡ b → next_of (x ∷ (xs ++ row ∷ [])) file ≡ next_of (x ∷ xs) file) [
-  | true ↦ λ e. rw e refl
-  | false ↦ λ e. rw e (next_of-push xs row file (rw e at h))
-] refl
+next_of-push (x ∷ xs) row file h = grind (arith, nat_tests, next_of-push xs row file)
 
 -- and so does each other file than the one added
 pub next_of-push_other : (files : List FileRow) (row : FileRow) (file : ℕ) → is_file file row ≡ false → next_of (files ++ row ∷ []) file ≡ next_of files file
 next_of-push_other [] row file h = rw h refl
-next_of-push_other (x ∷ xs) row file h = elim (is_file file x) as (λ b. is_file file x ≡ b → next_of (x ∷ (xs ++ row ∷ [])) file ≡ next_of (x ∷ xs) file) [
-  | true ↦ λ e. rw e refl
-  | false ↦ λ e. rw e (next_of-push_other xs row file h)
-] refl
+next_of-push_other (x ∷ xs) row file h = grind (arith, nat_tests, next_of-push_other xs row file h)
 
 -- a file that is there has a number that was given
 pub next_of-given : (given versions : ℕ) (files : List FileRow) (file : ℕ) → AllByRecursion (IsFile given versions) files → 0 < next_of files file → file ≤ given
 next_of-given given versions [] file all h = absurd (omega arith)
-next_of-given given versions (x ∷ xs) file all h = elim (is_file file x) as (λ b. is_file file x ≡ b → file ≤ given) [
-  | true ↦ λ e. let of = all.0.given in grind (arith, nat_tests)
-  | false ↦ λ e. next_of-given given versions xs file all.1 (rw e at h)
-] refl
+next_of-given given versions (x ∷ xs) file all h = grind (arith, nat_tests, next_of-given given versions xs file all.1)
 
 -- a number not given yet is no file's
 pub next_of-new : (given versions : ℕ) (files : List FileRow) (row : FileRow) → AllByRecursion (IsFile given versions) files → given < row.id → next_of (files ++ row ∷ []) row.id ≡ row.next
 next_of-new given versions [] row all h = let e : is_file row.id row ≡ true = grind (arith, nat_tests) in rw e refl
-next_of-new given versions (x ∷ xs) row all h =
-    let of = all.0.given in
-    let e : is_file row.id x ≡ false = grind (arith, nat_tests) in
-    rw e (next_of-new given versions xs row all.1 h)
+next_of-new given versions (x ∷ xs) row all h = grind (arith, nat_tests, next_of-new given versions xs row all.1 h)
 
 -- the file's number rises
 pub next_of-numbered_on : (files : List FileRow) (file : ℕ) → 0 < next_of files file → next_of (update_first (is_file file) numbered_on files) file ≡ next_of files file + 1
 next_of-numbered_on [] file h = absurd (omega arith)
-next_of-numbered_on (x ∷ xs) file h = elim (is_file file x) as (λ b. is_file file x ≡ b → next_of (cond b (numbered_on x ∷ xs) (x ∷ update_first (is_file file) numbered_on xs)) file ≡ next_of (x ∷ xs) file + 1) [
-  | true ↦ λ e. rw e refl
-  | false ↦ λ e. rw e (next_of-numbered_on xs file (rw e at h))
-] refl
+next_of-numbered_on (x ∷ xs) file h = grind (arith, nat_tests, next_of-numbered_on xs file)
 
 -- and no other's
 pub next_of-numbered_other : (files : List FileRow) (file other : ℕ) → other ≢ file → next_of (update_first (is_file file) numbered_on files) other ≡ next_of files other
 next_of-numbered_other [] file other ne = refl
-next_of-numbered_other (x ∷ xs) file other ne = elim (is_file file x) as (λ b. is_file file x ≡ b → next_of (cond b (numbered_on x ∷ xs) (x ∷ update_first (is_file file) numbered_on xs)) other ≡ next_of (x ∷ xs) other) [
-  | true ↦ λ e. let no : is_file other x ≡ false = grind (arith, nat_tests) in rw no refl
-  | false ↦ λ e. elim (is_file other x) as (λ b. option_map_or (λ (row : FileRow). row.next) (cond b (Some x) (find (is_file other) (update_first (is_file file) numbered_on xs))) 0 ≡ option_map_or (λ (row : FileRow). row.next) (cond b (Some x) (find (is_file other) xs)) 0) [
-    | true ↦ refl
-    | false ↦ next_of-numbered_other xs file other ne
-  ]
-] refl
+next_of-numbered_other (x ∷ xs) file other ne = grind (arith, nat_tests, next_of-numbered_other xs file other ne)
 
 -- so none falls
 pub next_of-numbered_le : (files : List FileRow) (file other : ℕ) → next_of files other ≤ next_of (update_first (is_file file) numbered_on files) other
 next_of-numbered_le [] file other = omega arith
-next_of-numbered_le (x ∷ xs) file other = elim (is_file file x) as (λ b. next_of (x ∷ xs) other ≤ next_of (cond b (numbered_on x ∷ xs) (x ∷ update_first (is_file file) numbered_on xs)) other) [
-  | true ↦ elim (is_file other x) as (λ b. option_map_or (λ (row : FileRow). row.next) (cond b (Some x) (find (is_file other) xs)) 0 ≤ option_map_or (λ (row : FileRow). row.next) (cond b (Some (numbered_on x)) (find (is_file other) xs)) 0) [
-    | true ↦ omega arith
-    | false ↦ omega arith
-  ]
-  | false ↦ elim (is_file other x) as (λ b. option_map_or (λ (row : FileRow). row.next) (cond b (Some x) (find (is_file other) xs)) 0 ≤ option_map_or (λ (row : FileRow). row.next) (cond b (Some x) (find (is_file other) (update_first (is_file file) numbered_on xs))) 0) [
-    | true ↦ omega arith
-    | false ↦ next_of-numbered_le xs file other
-  ]
-]
+next_of-numbered_le (x ∷ xs) file other = grind (arith, nat_tests, next_of-numbered_le xs file other)
 
 -- a file that numbers on keeps its policy, and one that has another policy its number
 pub policies-numbered : (files : List FileRow) (file id : ℕ) → policy_of (update_first (is_file file) numbered_on files) id ≡ policy_of files id
@@ -90,10 +60,7 @@ next_of-put_under files file id policy = find-update_still (is_file file) (is_fi
 -- its policy is that one, where it is there
 pub policy_of-put_under : (files : List FileRow) (file : ℕ) (policy : Policy) → 0 < next_of files file → policy_of (update_first (is_file file) (put_under policy) files) file ≡ Some policy
 policy_of-put_under [] file policy there = absurd (omega arith)
-policy_of-put_under (x ∷ xs) file policy there = elim (is_file file x) as (λ b. is_file file x ≡ b → policy_of (cond b (put_under policy x ∷ xs) (x ∷ update_first (is_file file) (put_under policy) xs)) file ≡ Some policy) [
-  | true ↦ λ e. rw e refl
-  | false ↦ λ e. rw e (policy_of-put_under xs file policy (rw e at there))
-] refl
+policy_of-put_under (x ∷ xs) file policy there = grind (arith, nat_tests, policy_of-put_under xs file policy)
 
 -- and each other file keeps its own
 pub policy_of-put_other : (files : List FileRow) (file other : ℕ) (policy : Policy) → (other == file) ≡ false → policy_of (update_first (is_file file) (put_under policy) files) other ≡ policy_of files other

@@ -33,42 +33,22 @@ pub record IsPast (w : World) (file number : ℕ) : Type 0 where
 -- by what the file numbers on with
 pub all_behind : (files : List FileRow) (file number : ℕ) → AllLater (λ earlier later. earlier.id < later.id) files → number < next_of files file → AllByRecursion (IsBehind file number) files
 all_behind [] file number placed less = tt
-all_behind (x ∷ xs) file number placed less = elim (is_file file x) as (λ b. is_file file x ≡ b → AllByRecursion (IsBehind file number) (x ∷ xs)) [
-  | true ↦ λ e. ((λ same. rw e at less), all-weaker (λ y. x.id < y.id) (IsBehind file number) xs (λ y later same. let own : x.id ≡ file = grind (arith, nat_tests) in absurd (omega (arith, own, same, later))) placed.0)
-  | false ↦ λ e. ((λ same. absurd (let no : false ≡ true = grind (arith, nat_tests) in false≢true no)), all_behind xs file number placed.1 (rw e at less))
-] refl
+all_behind (x ∷ xs) file number placed less = grind (arith, nat_tests, all-weaker, false≢true, all_behind xs file number placed.1)
 
 past_numbered : (files : List FileRow) (of file number : ℕ) → AllByRecursion (IsBehind file number) files → AllByRecursion (IsBehind file number) (update_first (is_file of) numbered_on files)
 past_numbered files of file number = all-update_first (is_file of) (IsBehind file number) (IsBehind file number) numbered_on files (λ row h same. let less = h same in omega arith) (λ row h. h)
 
 -- so it isn't the next number
 not_next : (w : World) (of file number opened : ℕ) (cells : List Cell) → IsPast w file number → is_version file number (next_version w of opened cells) ≡ false
-not_next w of file number opened cells is = by (eqb of file) refl where
-  next : (o : Option FileRow) → find (is_file file) w.files ≡ o → eqb (option_map_or (λ (row : FileRow). row.next) o 0) number ≡ false
-  next None e = let first = is.first in grind (arith, nat_tests)
-  next (Some row) e =
-      let passes = found_passes (is_file file) w.files row e in
-      let less : number < row.next = all-found (is_file file) (IsBehind file number) w.files row e is.past (grind (arith, nat_tests)) in
-      grind (arith, nat_tests)
-
-  by : (b : Bool) → eqb of file ≡ b → (b && eqb (next_of w.files of) number) ≡ false
-  by true e = let same : of ≡ file = grind (arith, nat_tests) in subst (λ f. eqb (next_of w.files f) number ≡ false) (sym same) (next (find (is_file file) w.files) refl)
-  by false e = refl
+not_next w of file number opened cells is = grind (arith, nat_tests, found_passes, all-found)
 
 pub change_past : (event : Event) (first w : World) (change : Change) (file number : ℕ) → May event first w change → IsPast w file number → IsPast (after_change w change) file number
-change_past event first w (MakeFile directory name id policy) file number may is =
-    let new : FileRow = record { id = id; policy = policy; next = 1 } in
-    record {
-      given = omega (arith, is.given, may.next);
-      first = is.first;
-      past = past_numbered (w.files ++ new ∷ []) id file number (all-push (IsBehind file number) w.files new is.past (λ same. absurd (omega (arith, same, is.given, may.next))));
-    }
+change_past event first w (MakeFile directory name id policy) file number may is = grind (arith, nat_tests, past_numbered, all-push)
 change_past event first w (PutUnder of policy) file number may is =
     record { given = is.given; first = is.first; past = all-update_first (is_file of) (IsBehind file number) (IsBehind file number) (put_under policy) w.files (λ row h. h) (λ row h. h) is.past }
 change_past event first w (Append of opened cells) file number may is = record { given = is.given; first = is.first; past = past_numbered w.files of file number is.past }
 change_past event first w (Revive directory name of) file number may is = record { given = is.given; first = is.first; past = past_numbered w.files of file number is.past }
-change_past event first w (DropIdle of) file number may is =
-    dropped (λ v. IsPast v file number) w of (λ idle. record { given = is.given; first = is.first; past = all-remove_first (is_file of) (IsBehind file number) w.files is.past }) (λ busy. is)
+change_past event first w (DropIdle of) file number may is = grind (arith, nat_tests, all-remove_first)
 change_past event first w change file number may is = record { given = is.given; first = is.first; past = is.past }
 
 -- ---- the row
@@ -85,34 +65,19 @@ row_of w file number = find (is_version file number) w.versions
 -- a change of an element where p passes, that t doesn't see, changes the one found or none
 found_updated : {X : Type 0} (p t : X → Bool) (f : X → X) (xs : List X) → ((x : X) → t (f x) ≡ t x) → (find t (update_first p f xs) ≡ find t xs) ⊎ (find t (update_first p f xs) ≡ option_map f (find t xs))
 found_updated p t f [] same = inl refl
-found_updated p t f (x ∷ xs) same = elim (p x) as (λ b. (find t (cond b (f x ∷ xs) (x ∷ update_first p f xs)) ≡ find t (x ∷ xs)) ⊎ (find t (cond b (f x ∷ xs) (x ∷ update_first p f xs)) ≡ option_map f (find t (x ∷ xs)))) [
-  | true ↦ rw (same x) (elim (t x) as (λ b. (cond b (Some (f x)) (find t xs) ≡ cond b (Some x) (find t xs)) ⊎ (cond b (Some (f x)) (find t xs) ≡ option_map f (cond b (Some x) (find t xs)))) [
-    | true ↦ inr refl
-    | false ↦ inl refl
-  ])
-  | false ↦ elim (t x) as (λ b. (cond b (Some x) (find t (update_first p f xs)) ≡ cond b (Some x) (find t xs)) ⊎ (cond b (Some x) (find t (update_first p f xs)) ≡ option_map f (cond b (Some x) (find t xs)))) [
-    | true ↦ inl refl
-    | false ↦ found_updated p t f xs same
-  ]
-]
+found_updated p t f (x ∷ xs) same = grind (arith, nat_tests, found_updated p t f xs same)
 
 -- a version that is removed was there once
 removed_gone : (file number : ℕ) (rows : List VersionRow) → AllLater ArePlaced rows → find (is_version file number) (remove_first (is_version file number) rows) ≡ None
 removed_gone file number [] placed = refl
-removed_gone file number (x ∷ xs) placed = elim (is_version file number x) as (λ b. is_version file number x ≡ b → find (is_version file number) (cond b xs (x ∷ remove_first (is_version file number) xs)) ≡ None) [
-  | true ↦ λ e. not_found (is_version file number) xs (all-weaker (ArePlaced x) (λ y. is_version file number y ≡ false) xs (λ y h. let after = h.after in grind (arith, nat_tests)) placed.0)
-  | false ↦ λ e. rw e (removed_gone file number xs placed.1)
-] refl
+removed_gone file number (x ∷ xs) placed = grind (arith, nat_tests, not_found, all-weaker, removed_gone file number xs placed.1)
 
 module _ (event : Event) (first : World) (file number : ℕ) where
   abbrev MovesTo : World → List VersionRow → Type 0
   MovesTo w rows = Moves event first w.now w.versions file number (row_of w file number) (find (is_version file number) rows)
 
   ends : (w : World) (of : ℕ) → MovesTo w (with_end w of)
-  ends w of = elim (found_updated (is_version of (next_of w.files of - 1)) (is_version file number) (ended_at w.now) w.versions (λ x. refl)) [
-    | inl same ↦ Same same
-    | inr ended ↦ Ended ended
-  ]
+  ends w of = grind (arith, nat_tests, found_updated)
 
   appends : (w : World) (of opened : ℕ) (cells : List Cell) → is_version file number (next_version w of opened cells) ≡ false → MovesTo w (with_version w of opened cells).versions
   appends w of opened cells other = subst (λ o. Moves event first w.now w.versions file number (row_of w file number) o) (sym (find-insert_before (is_version_after of (next_of w.files of)) (is_version file number) (next_version w of opened cells) (with_end w of) other)) (ends w of)
