@@ -37,10 +37,7 @@ use Rattle.ele_world.specs.declared.rows.Target.TheVariants.{File}
 -- ---- what the checks found
 
 default_is : (rows : List DirectoryRow) (id : ℕ) → AllByRecursion (λ row. IsPolicy row.default) rows → IsPolicy (default_of rows id)
-default_is rows id all = by (find (is_directory id) rows) refl where
-  by : (o : Option DirectoryRow) → find (is_directory id) rows ≡ o → IsPolicy (option_map_or (λ (row : DirectoryRow). row.default) o (Safe 86400))
-  by None e = record { some = omega arith; fits = omega arith }
-  by (Some row) e = all-found (is_directory id) (λ row. IsPolicy row.default) rows row e all
+default_is rows id all = grind (arith, nat_tests, all-found)
 
 -- the file's new draft is there
 begun : (w : World) (file : ℕ) → list_any (is_draft file) (insert_before (is_draft_after file) (new_draft w file) w.drafts) ≡ true
@@ -51,24 +48,11 @@ takes w key k first =
     let due = first_is_due w key (k.holds Versions).placed first in
     record { clean = refl; row = due.row; found = due.found; due = due.due; ended = due_has_ended w due.row w.now due.due; unread = unread due.row due.found due.due; same = refl } where
       unread : (row : VersionRow) → find (is_version key.file key.number) w.versions ≡ Some row → is_due_at w row w.now ≡ true → is_open w.handles key.file key.number ≡ false
-      unread row found due =
-          let passes = found_passes (is_version key.file key.number) w.versions row found in
-          let own : row.file ≡ key.file = grind (arith, nat_tests) in
-          let number : row.number ≡ key.number = grind (arith, nat_tests) in
-          rw (← own, ← number) (due_is_unread w row w.now due)
+      unread row found due = grind (arith, nat_tests, found_passes, due_is_unread)
 
 -- the draft becomes a version, once the last handle and the draft have gone
 finishes : (w : World) (handle file : ℕ) (draft : DraftRow) → IsWellFormed w → find (is_draft file) w.drafts ≡ Some draft → MayAppend (after_changes w (ShutHandle handle ∷ EndDraft file ∷ [])) file draft.opened draft.cells
-finishes w handle file draft k found =
-    let is : IsDraft w.files w.now draft = all-found (is_draft file) (IsDraft w.files w.now) w.drafts draft found (k.holds Drafts).each in
-    let own : draft.file ≡ file = (let passes = found_passes (is_draft file) w.drafts draft found in grind (arith, nat_tests)) in
-    record {
-      there = subst (λ f. 0 < next_of w.files f) own is.there;
-      by_now = is.opened;
-      room = omega (arith, (k.holds Counted).versions_made, length-remove_first (is_draft file) w.drafts draft found);
-      content = is.content;
-      written = subst (λ f. AreWrittenBy (next_of w.files f) draft.cells) own is.written;
-    }
+finishes w handle file draft k found = grind (arith, nat_tests, k.holds Drafts, k.holds Counted, all-found, found_passes, length-remove_first)
 
 -- a version that is held may come again
 reverts : (w : World) (file number : ℕ) (row : VersionRow) → IsWellFormed w → 0 < next_of w.files file → version_meant w.files w.versions file (tag.Number number) ≡ Ok row → HasRoom w → MayAppend w file w.now row.cells
@@ -93,16 +77,12 @@ may_end w path at directory found leads empty = record { id = directory; stands 
 pub allowed : (w : World) (event : Event) → IsWellFormed w → MayPlan event w (plan w event)
 allowed w (Clock to) k = λ later. ((grind (arith, nat_tests), λ is. is), tt)
 allowed w (Tick seconds) k = λ fits. ((omega arith, λ is. grind (arith, nat_tests)), tt)
-allowed w (MakeDir path) k = λ at found free directories names.
-    (record { next = refl; directories = grind (arith, nat_tests); named = may_name w path at k found free names; valid = default_is w.directories at.0 (k.holds Directories).policies }, tt)
+allowed w (MakeDir path) k = grind (arith, nat_tests, k.holds Directories, may_name, default_is)
 allowed w (RemoveDir path) k = λ at found directory leads empty. (may_end w path at directory found leads empty, tt)
-allowed w (Create path) k = λ at found free files names versions.
-    (record { next = refl; files = grind (arith, nat_tests); named = may_name w path at k found free names; room = grind (arith, nat_tests); valid = default_is w.directories at.0 (k.holds Directories).policies }, tt)
-allowed w (Link from to) k = λ file leads at found free names.
-    (record { named = may_name w to at k found free names; there = file_there w.files w.now w.names from file (k.holds Names).each leads; housed = tt; more = file_live w.names from file leads }, tt)
+allowed w (Create path) k = grind (arith, nat_tests, k.holds Directories, may_name, default_is)
+allowed w (Link from to) k = grind (arith, nat_tests, k.holds Names, may_name, file_there, file_live)
 allowed w (Unlink path) k = λ at found file leads. (last_names w.names path at (File file) found (file_of (walk_now w.names path) file leads), tt)
-allowed w (Rename from to) k = λ old found moved leads at home apart free names.
-    (record { stands = last_names w.names from old moved found leads; named = may_name w to at k home free names }, tt)
+allowed w (Rename from to) k = grind (arith, nat_tests, last_names, may_name)
 allowed w (Undelete path) k = λ at found free lost last returns. (
   λ live names. (may_add w at lost k (may_name w path at k found free names) last live returns, tt),
   λ file nameless drafts names versions. (may_revive w at lost file (may_name w path at k found free names) nameless returns (grind (arith, nat_tests)), tt),
@@ -132,8 +112,7 @@ allowed w (SetPolicy path policy) k = λ file found. (λ is. is, tt)
 allowed w (SetDefault path policy) k = λ directory found. (λ is. is, tt)
 allowed w (GroupMake name) k = λ free groups. (record { room = grind (arith, nat_tests); free = free }, tt)
 allowed w (GroupDrop name) k = λ found. (tt, tt)
-allowed w (GroupAdd name path) k = λ found file leads free members.
-    (record { there = file_there w.files w.now w.names path file (k.holds Names).each leads; room = grind (arith, nat_tests); free = free }, tt)
+allowed w (GroupAdd name path) k = grind (arith, nat_tests, k.holds Names, file_there)
 allowed w (GroupRemove name path) k = λ found file leads member. (tt, tt)
 allowed w (Mark name mark) k = λ found past free marks. (record { past = grind (arith, nat_tests); room = grind (arith, nat_tests); free = free }, tt)
 allowed w (Unmark name mark) k = λ found marked. (tt, tt)

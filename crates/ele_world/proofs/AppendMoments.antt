@@ -83,9 +83,7 @@ module _ (w : World) (file opened : ℕ) (cells : List Cell) (k : MayGrow w file
 
   -- it had a moment if it had ended, without a newer one beside it
   pub newest_was : (row : VersionRow) → newest_of w.versions file ≡ Some row → ripe_at w file row.number ≡ cond (is_open w.handles file row.number) None (option_and_then (near_moment (is_marked w.groups file) (policy_of w.files file) None row.closed) row.ended)
-  newest_was row is =
-      let newest = newest_held w file k.versions row is in
-      ripe_at_near w file row.number ordered ∙ rw (newest.found, not_found (is_newer_of file row.number) w.versions newest.most) refl
+  newest_was row is = grind (arith, nat_tests, newest_held, ripe_at_near, ordered, not_found)
 
   -- and has one with the new version beside it
   pub newest_is : (row : VersionRow) → newest_of w.versions file ≡ Some row → ripe_at appended file row.number ≡ cond (is_open w.handles file row.number) None (near_moment (is_marked w.groups file) (policy_of w.files file) (Some w.now) row.closed (unwrap_or row.ended w.now))
@@ -116,10 +114,5 @@ module _ (w : World) (file opened : ℕ) (cells : List Cell) (k : MayGrow w file
     by false o e found apart =
         found_moment w appended f n ordered then_ordered (λ closed ended. refl) (policies-numbered w.files file f) refl (next_other w file opened cells k.versions f n e)
         (found_still w file opened cells k.versions f n (grind (arith, nat_tests)) (rw e refl))
-    by true None e found apart =
-        let own : f ≡ file = grind (arith, nat_tests) in
-        let held = none_held w file k.versions found in
-        rw own (stays_unheld n (grind (arith, nat_tests)) (all-weaker (λ x. is_version_of file x ≡ false) (λ x. is_version file n x ≡ false) w.versions (λ x h. grind (arith, nat_tests)) held))
-    by true (Some row) e found apart =
-        let own : f ≡ file = grind (arith, nat_tests) in
-        rw own (stays_older row found n (grind (arith, nat_tests)) (grind (arith, nat_tests)))
+    by true None e found apart = grind (arith, nat_tests, none_held, stays_unheld, all-weaker)
+    by true (Some row) e found apart = grind (arith, nat_tests, stays_older)

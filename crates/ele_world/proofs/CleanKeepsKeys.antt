@@ -48,10 +48,7 @@ first_least (y ∷ ys) (x ∷ xs) first is = by (key_cmp x y) refl (first_least 
 
 all-unmapped : {X Y : Type 0} (Q : Y → Type 0) (h : X → Option Y) (xs : List X) → AllByRecursion Q (filter_map h xs) → AllByRecursion (λ x. IfSome (h x) Q) xs
 all-unmapped Q h [] all = tt
-all-unmapped {X} {Y} Q h (x ∷ xs) all = by (all-unmapped Q h xs) (h x) refl where
-  by : (AllByRecursion Q (filter_map h xs) → AllByRecursion (λ x. IfSome (h x) Q) xs) → (o : Option Y) → h x ≡ o → IfSome o Q × AllByRecursion (λ x. IfSome (h x) Q) xs
-  by rest None e = (tt, rest (rw e at all))
-  by rest (Some y) e = let both = rw e at all in (both.0, rest both.1)
+all-unmapped {X} {Y} Q h (x ∷ xs) all = grind (arith, nat_tests, all-unmapped Q h xs)
 
 -- a version that is ripe isn't so before that moment
 abbrev IsLater : World → ℕ → VersionRow → Type 0
@@ -64,13 +61,7 @@ all_later w k key first come =
     (all-both (IsDueFromRipe w) (λ row. IfSome (due_key w row) (λ j. key.ripe ≤ j.ripe)) w.versions (due_from_ripe w k)
     (all-unmapped (λ j. key.ripe ≤ j.ripe) (due_key w) w.versions (first_least [] (filter_map (due_key w) w.versions) key first).1)) where
       one : (row : VersionRow) → IsDueFromRipe w row → IfSome (due_key w row) (λ j. key.ripe ≤ j.ripe) → IsLater w key.ripe row
-      one row from least = by (ripe_of w row) (from w.now (now_of w k)) least where
-        by : (o : Option ℕ) → is_due_at w row w.now ≡ option_map_or (λ m. nat_le m w.now) o false → IfSome (cond (is_due_at w row w.now) (option_map (key_of row) o) None) (λ j. key.ripe ≤ j.ripe) → IfSome o (λ m. key.ripe ≤ m)
-        by None e h = tt
-        by (Some m) e h = soon (nat_le m w.now) refl (rw e at h) where
-          soon : (b : Bool) → nat_le m w.now ≡ b → IfSome (cond b (Some (key_of row m)) None) (λ j. key.ripe ≤ j.ripe) → key.ripe ≤ m
-          soon true t h = h
-          soon false t h = grind (arith, nat_tests)
+      one row from least = grind (arith, nat_tests, now_of)
 
 -- ---- the other versions
 
@@ -89,10 +80,7 @@ module _ (w : World) (before : List VersionRow) (row : VersionRow) (behind : Lis
   row_from = (all-around (IsDueFromRipe with_row) before row behind all_from).1
 
   early : (x : VersionRow) (at : ℕ) → IsDueFromRipe with_row x → IsLater with_row first x → at ≤ last_moment → nat_le first at ≡ false → is_due_at with_row x at ≡ false
-  early x at from late fits soon = from at fits ∙ by (ripe_of with_row x) late where
-    by : (o : Option ℕ) → IfSome o (λ m. first ≤ m) → option_map_or (λ m. nat_le m at) o false ≡ false
-    by None h = refl
-    by (Some m) h = grind (arith, nat_tests)
+  early x at from late fits soon = grind (arith, nat_tests)
 
   moment_stays : (x : VersionRow) → IsBeside row x → IsDueFromRipe with_row x → IsLater with_row first x → ripe_of without_row x ≡ ripe_of with_row x
   unfolding ripe_of is_due_at

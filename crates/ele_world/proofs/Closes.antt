@@ -21,13 +21,7 @@ use Rattle.ele_world.proofs.Outcomes.{in_all}
 
 -- no version has the file's next number
 pub none_next : (files : List FileRow) (now file : ℕ) (row : VersionRow) → IsVersion files now row → is_version file (next_of files file) row ≡ false
-none_next files now file row h = by (eqb row.file file) refl where
-  by : (b : Bool) → eqb row.file file ≡ b → is_version file (next_of files file) row ≡ false
-  by true e =
-      let same : row.file ≡ file = grind (arith, nat_tests) in
-      let numbered : row.number < next_of files file = subst (λ f. row.number < next_of files f) same h.numbered in
-      grind (arith, nat_tests)
-  by false e = grind (arith, nat_tests)
+none_next files now file row h = grind (arith, nat_tests)
 
 module _ (w : World) (file : ℕ) (each : AllByRecursion (IsVersion w.files w.now) w.versions) where
   pub new_found : (opened : ℕ) (cells : _) → find (is_version file (next_of w.files file)) (with_version w file opened cells).versions ≡ Some (next_version w file opened cells)

@@ -36,17 +36,11 @@ module _ (now : ℕ) (life : ℕ → ℕ → Type 0) where
 
   -- a name that dies now covered them before
   covered_still : (row : NameRow) (moment : ℕ) → is_none row.death ≡ true → covers moment (dies now row) ≡ true → covers moment row ≡ true
-  covered_still row moment live covered = by row.death live where
-    by : (o : Option ℕ) → is_none o ≡ true → (nat_le row.birth moment && option_map_or (λ death. nat_lt moment death) o true) ≡ true
-    by None live = grind (arith, nat_tests)
-    by (Some death) live = absurd (false≢true live)
+  covered_still row moment live covered = grind (arith, nat_tests, false≢true)
 
   died : (directory : ℕ) (name : List ℕ) (rows : List NameRow) → AllByRecursion CoveredBefore rows → AllByRecursion CoveredBefore (update_first (is_live_name directory name) (dies now) rows)
   died directory name [] all = tt
-  died directory name (row ∷ rows) all = elim (is_live_name directory name row) as (λ b. is_live_name directory name row ≡ b → AllByRecursion CoveredBefore (cond b (dies now row ∷ rows) (row ∷ update_first (is_live_name directory name) (dies now) rows))) [
-    | true ↦ λ e. ((λ file moment own covered less. all.0 file moment own (covered_still row moment (still_none directory name row e) covered) less), all.1)
-    | false ↦ λ e. (all.0, died directory name rows all.1)
-  ] refl
+  died directory name (row ∷ rows) all = grind (arith, nat_tests, covered_still, still_none, died directory name rows all.1)
 
   born : (directory : ℕ) (name : List ℕ) (target : Target) (rows : List NameRow) → AllByRecursion CoveredBefore rows → AllByRecursion CoveredBefore (rows ++ born_row directory name target now ∷ [])
   born directory name target rows all = all-push CoveredBefore rows (born_row directory name target now) all (λ file moment own covered less. absurd (let late : (nat_le now moment && true) ≡ true = covered in grind (arith, nat_tests)))
@@ -67,10 +61,7 @@ change_covered w change life all = all
 -- a name that has no death is a live name of its file
 counted_live : (rows : List NameRow) → AllByRecursion (λ name. (file : ℕ) → is_live_name_of file name ≡ true → list_any (is_live_name_of file) rows ≡ true) rows
 counted_live [] = tt
-counted_live (row ∷ rows) = ((λ file live. rw live refl), all-weaker _ _ rows (λ name h file live. more (is_live_name_of file row) (h file live)) (counted_live rows)) where
-  more : (a : Bool) {b : Bool} → b ≡ true → (a || b) ≡ true
-  more true e = refl
-  more false e = e
+counted_live (row ∷ rows) = grind (arith, nat_tests, all-weaker, counted_live rows)
 
 current_covers : (w : World) (known : Known) → IsWellFormed w → ((file number : ℕ) (row : VersionRow) → row_of w file number ≡ Some row → known file number ≡ Some row)
     → AllByRecursion (CoveredFrom w.now (HadLife known)) w.names
@@ -79,10 +70,7 @@ current_covers w known k held = all-weaker (λ name. IsNameRow w.files w.now nam
     (λ name h file moment own covered late. life file moment late (h.1 file (undying name file moment own covered late h.0.dead)))
     (all-both (IsNameRow w.files w.now) (λ name. (file : ℕ) → is_live_name_of file name ≡ true → is_live w file ≡ true) w.names (k.holds Names).each (counted_live w.names)) where
       undying : (name : NameRow) (file moment : ℕ) → name.target ≡ File file → covers moment name ≡ true → w.now ≤ moment → IfSome name.death (λ death. (name.birth ≤ death) × (death ≤ w.now)) → is_live_name_of file name ≡ true
-      undying name file moment own covered late dead = rw own (by name.death covered dead) where
-        by : (o : Option ℕ) → (nat_le name.birth moment && option_map_or (λ death. nat_lt moment death) o true) ≡ true → IfSome o (λ death. (name.birth ≤ death) × (death ≤ w.now)) → ((file == file) && is_none o) ≡ true
-        by None covered dead = grind (arith, nat_tests)
-        by (Some death) covered dead = absurd (let by_now = dead.1 in grind (arith, nat_tests))
+      undying name file moment own covered late dead = grind (arith, nat_tests)
 
       life : (file moment : ℕ) → w.now ≤ moment → is_live w file ≡ true → HadLife known file moment
       life file moment late live =

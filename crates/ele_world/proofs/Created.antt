@@ -51,18 +51,11 @@ created w directory name id policy = record w {
 
 -- a file with a new name is live
 pub named_live : (w : World) (directory : ℕ) (name : List ℕ) (id : ℕ) → is_live (with_name w directory name (File id)) id ≡ true
-named_live w directory name id = list_any-append (is_live_name_of id) w.names (new_name w directory name id ∷ []) ∙ by (list_any (is_live_name_of id) w.names) where
-  own : is_live_name_of id (new_name w directory name id) ≡ true
-  own = grind (arith, nat_tests)
-
-  by : (b : Bool) → (b || (is_live_name_of id (new_name w directory name id) || false)) ≡ true
-  by true = refl
-  by false = rw own refl
+named_live w directory name id = grind (arith, nat_tests, list_any-append)
 
 -- each version is of a file before
 pub versions_before : (w : World) → IsWellFormed w → AllByRecursion (λ row. row.file < w.made.files + 1) w.versions
-versions_before w k = all-weaker (IsVersion w.files w.now) (λ row. row.file < w.made.files + 1) w.versions
-    (λ row h. let given = next_of-given w.made.files w.made.versions w.files row.file (k.holds Files).each (omega (arith, h.numbered)) in omega (arith, given)) (k.holds Versions).each
+versions_before w k = grind (arith, nat_tests, k.holds Files, k.holds Versions, all-weaker, next_of-given)
 
 module _ (w : World) (directory : ℕ) (name : List ℕ) (policy : Policy) (k : IsWellFormed w) where
   abbrev id : ℕ
@@ -75,9 +68,7 @@ module _ (w : World) (directory : ℕ) (name : List ℕ) (policy : Policy) (k : 
   next_is = next_of-new w.made.files w.made.versions w.files (record { id = id; policy = policy; next = 1 }) (k.holds Files).each (omega arith)
 
   files_are : update_first (is_file id) numbered_on begun.files ≡ w.files ++ new_file id policy ∷ []
-  files_are = update_first-last (is_file id) numbered_on w.files (record { id = id; policy = policy; next = 1 })
-      (all-weaker (IsFile w.made.files w.made.versions) (λ row. is_file id row ≡ false) w.files (λ row h. let given = h.given in grind (arith, nat_tests)) (k.holds Files).each)
-      (grind (arith, nat_tests))
+  files_are = grind (arith, nat_tests, k.holds Files, update_first-last, all-weaker)
 
   before : AllByRecursion (λ row. row.file < id) w.versions
   before = versions_before w k
@@ -86,12 +77,7 @@ module _ (w : World) (directory : ℕ) (name : List ℕ) (policy : Policy) (k : 
   version_is = rw (next_is, named_live (with_file w id policy) directory name id) refl
 
   versions_are : insert_before (is_version_after id (next_of begun.files id)) (next_version begun id w.now []) (with_end begun id) ≡ w.versions ++ first_version w id ∷ []
-  versions_are =
-      ap (insert_before (is_version_after id (next_of begun.files id)) (next_version begun id w.now [])) (update_first-none (is_version id (next_of begun.files id - 1)) (ended_at w.now) w.versions (all-weaker (λ row. row.file < id) (λ row. is_version id (next_of begun.files id - 1) row ≡ false) w.versions (λ row h. grind (arith, nat_tests)) before))
-      ∙ insert_before-last (is_version_after id (next_of begun.files id)) w.versions (next_version begun id w.now []) (all-weaker (λ row. row.file < id) (λ row. is_version_after id (next_of begun.files id) row ≡ false) w.versions (λ row h. grind (arith, nat_tests)) before)
-      ∙ ap (λ (v : VersionRow). w.versions ++ v ∷ []) version_is
+  versions_are = grind (arith, nat_tests, update_first-none, all-weaker, before, insert_before-last, version_is)
 
   pub made_is : after_change w (MakeFile directory name (w.made.files + 1) policy) ≡ created w directory name (w.made.files + 1) policy
-  made_is =
-      ap (λ (files : List FileRow). record (after_change w (MakeFile directory name id policy)) { files = files }) files_are
-      ∙ ap (λ (versions : List VersionRow). record (created w directory name id policy) { versions = versions }) versions_are
+  made_is = grind (arith, nat_tests, files_are, versions_are)

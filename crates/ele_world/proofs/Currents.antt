@@ -19,21 +19,7 @@ pub record HasCurrent (w : World) (file : ℕ) : Type 0 where
   pub no_end : row.ended ≡ None
 
 pub has_current : (w : World) (file : ℕ) → IsWellFormed w → is_live w file ≡ true → HasCurrent w file
-has_current w file k live =
-    let one = one_of (is_current file (next_of w.files file)) (IsFound w.versions) w.versions (all_found w.versions (k.holds Versions).placed) (k.holds Current file live) in
-    let row : VersionRow = one.0 in
-    let is : is_current file (next_of w.files file) row ≡ true = one.1 in
-    let own : row.file ≡ file = grind (arith, nat_tests) in
-    let number : row.number ≡ next_of w.files file - 1 = grind (arith, nat_tests) in
-    record {
-      row = row;
-      found = subst (λ f. find (is_version f (next_of w.files file - 1)) w.versions ≡ Some row) own (subst (λ n. find (is_version row.file n) w.versions ≡ Some row) number one.2);
-      own = own;
-      no_end = none row.ended (grind (arith, nat_tests));
-    } where
-      none : (o : Option ℕ) → is_none o ≡ true → o ≡ None
-      none None h = refl
-      none (Some at) h = absurd (false≢true h)
+has_current w file k live = grind (arith, nat_tests, k.holds Versions, k.holds Current, one_of, all_found, false≢true)
 
 -- it is found as before once it ends
 pub last_ends : (w : World) (file : ℕ) (current : HasCurrent w file) → find (is_version file (next_of w.files file - 1)) (with_end w file) ≡ Some (ended_at w.now current.row)

@@ -49,16 +49,13 @@ module _ (w : World) (path : List (List ℕ)) (at : ℕ × List ℕ) (k : IsWell
   out home b given = let no : (home == id) ≡ false = grind (arith, nat_tests) in rw no refl
 
   none_in : AllByRecursion (λ row. is_live_in id row ≡ false) w.names
-  none_in = all-weaker (IsHoused w.directories w.names) (λ row. is_live_in id row ≡ false) w.names
-      (λ row h. out row.directory (is_none row.death) (directory_given w.made.directories w.directories row.directory (k.holds Directories).given h.home)) (k.holds Homes).each
+  none_in = grind (arith, nat_tests, k.holds Directories, k.holds Homes, all-weaker, out, directory_given)
 
   none_before : AllByRecursion (λ row. is_directory id row ≡ false) w.directories
   none_before = all-weaker (λ row. row.id ≤ w.made.directories) (λ row. is_directory id row ≡ false) w.directories (λ row h. grind (arith, nat_tests)) (k.holds Directories).given
 
   policy_is : default_of after.directories id ≡ policy
-  policy_is =
-      let is : find (is_directory id) (w.directories ++ new ∷ []) ≡ Some new = find-append (is_directory id) w.directories (new ∷ []) ∙ rw (not_found (is_directory id) w.directories none_before, own) refl in
-      ap (λ o. option_map_or (λ (row : DirectoryRow). row.default) o (Safe 86400)) is
+  policy_is = grind (arith, nat_tests, find-append, not_found, none_before, own)
 
   leads_to : parent_now w.names path ≡ Ok at → is_some (live_target w.names at.0 at.1) ≡ false → LeadsToDirectory w path id after
   leads_to found free = record {

@@ -1,4 +1,5 @@
 -- What the files of each kind use after the dropping of an idle file: as much as before, but for the file.
+use Rattle.std.proofs.lemmas.Bool.Decides.{nat_tests}
 use Rattle.std.proofs.Common.{◌≡◌, ◌==◌, ℕ, ◌+◌, Bool, true, false, ◌&&◌, cond, List, length, Option, Some, None, refl, ap, sym, ◌∙◌, arith}
 use Rattle.std.specs.Prelude.{filter, find}
 use Rattle.std.specs.Option.{option_map, option_map_or}
@@ -35,10 +36,7 @@ kind_other files file other k apart = ap (λ o. option_map_or (λ (policy : Poli
 
 -- of the file's kind there is one file fewer
 fewer_files : (files : List FileRow) (file : ℕ) (k : Kind) → length (filter (is_of k) (remove_first (is_file file) files)) + cond (is_file_of files k file) 1 0 ≡ length (filter (is_of k) files)
-fewer_files files file k = ap (λ n. length (filter (is_of k) (remove_first (is_file file) files)) + n) (by (find (is_file file) files)) ∙ length-filter_removed (is_of k) (is_file file) files where
-  by : (o : Option FileRow) → ◌≡◌ {A = ℕ} (cond (option_map_or (λ (policy : Policy). is_kind k (kind_of policy)) (option_map (λ (row : FileRow). row.policy) o) false) 1 0) (option_map_or (λ (row : FileRow). cond (is_of k row) 1 0) o 0)
-  by None = refl
-  by (Some row) = refl
+fewer_files files file k = grind (arith, nat_tests, length-filter_removed)
 
 less : (b : Bool) (a c : Usage) → a.files + cond b 1 0 ≡ c.files → a.versions ≡ c.versions → a.bytes ≡ c.bytes → a.blocks ≡ c.blocks → plus a (cond b one_file nothing) ≡ c
 less true a c files versions bytes blocks = same_usage (plus a one_file) c files (omega (arith, versions)) (omega (arith, bytes)) (omega (arith, blocks))
@@ -55,13 +53,8 @@ without_usage w file k idle =
 
 -- a dropped file counted for one file of its kind
 pub dropped_usage : (w : World) (file : ℕ) (k : Kind) → plus (usage_of (after_change w (DropIdle file)) k) (cond (is_idle w file && is_file_of w.files k file) one_file nothing) ≡ usage_of w k
-dropped_usage w file k = elim (is_idle w file) as (λ b. is_idle w file ≡ b → plus (usage_of (cond b (without_file w file) w) k) (cond (b && is_file_of w.files k file) one_file nothing) ≡ usage_of w k) [
-  | true ↦ λ e. without_usage w file k (idle_is w file e)
-  | false ↦ λ e. same_usage (plus (usage_of w k) nothing) (usage_of w k) (omega arith) (omega arith) (omega arith) (omega arith)
-] refl
+dropped_usage w file k = grind (arith, nat_tests, without_usage, idle_is, same_usage)
 
 -- the same by the file's policy
 pub dropped_at : (w : World) (file : ℕ) (policy : Policy) → policy_of w.files file ≡ Some policy → is_idle w file ≡ true → (k : Kind) → plus (usage_of (without_file w file) k) (only_at (kind_of policy) one_file k) ≡ usage_of w k
-dropped_at w file policy filed idle k =
-    let kind : cond (is_file_of w.files k file) one_file nothing ≡ only_at (kind_of policy) one_file k = rw filed (sym (only_at_is k (kind_of policy) one_file)) in
-    ap (plus (usage_of (without_file w file) k)) (sym kind) ∙ without_usage w file k (idle_is w file idle)
+dropped_at w file policy filed idle k = grind (arith, nat_tests, only_at_is, without_usage, idle_is)

@@ -50,10 +50,7 @@ module _ (w v : World) (same : SeesSame w v) where
         by (Some row) e = all-found (is_version file number) (λ row. ripe_of v row ≡ ripe_of w row) w.versions row e ripe_of_same
 
   pub kept_same : kept_rows v ≡ kept_rows w
-  kept_same =
-      ap (filter (λ row. not (is_due_at v row v.now))) same.versions
-      ∙ filter-same_all (λ row. not (is_due_at v row v.now)) (λ row. not (is_due_at w row w.now)) w.versions
-      (all-weaker (λ row. is_due_at v row v.now ≡ is_due_at w row w.now) (λ row. not (is_due_at v row v.now) ≡ not (is_due_at w row w.now)) w.versions (λ row e. ap not e) due_now_same)
+  kept_same = grind (arith, nat_tests, filter-same_all, all-weaker, due_now_same)
 
   -- the scan
   pub scan_same : scan v ≡ scan w
@@ -78,11 +75,7 @@ pub view_other : (w : World) (file other : ℕ) → (other == file) ≡ false �
 view_other w file other apart = rw (policy_of-removed w.files file other apart, live_other w file other apart, marks_forgotten w.groups file other apart) refl
 
 pub dropped_sees : (w : World) (file : ℕ) → SeesSame w (after_change w (DropIdle file))
-dropped_sees w file = dropped (SeesSame w) w file (λ idle. record {
-  now = refl;
-  versions = refl;
-  views = all-weaker (λ (row : VersionRow). (row.file == file) ≡ false) (λ (row : VersionRow). view_of (without_file w file) row.file ≡ view_of w row.file) w.versions (λ row apart. view_other w file row.file apart) (idle_versions w file idle);
-}) (λ busy. record { now = refl; versions = refl; views = all-any (λ (row : VersionRow). view_of w row.file ≡ view_of w row.file) w.versions (λ row. refl) })
+dropped_sees w file = grind (arith, nat_tests, dropped, all-weaker, view_other, idle_versions, all-any)
 
 -- each version has its ripe moment, and is due, as before
 pub ripe_at_dropped : (w : World) (file other number : ℕ) → ripe_at (after_change w (DropIdle file)) other number ≡ ripe_at w other number

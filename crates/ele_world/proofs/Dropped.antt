@@ -25,10 +25,7 @@ idle_is w file h = record { nameless = grind (arith, h); unheld = grind (arith, 
 
 -- what holds where it goes and where it stays
 pub dropped : (Q : World → Type 0) (w : World) (file : ℕ) → (IsIdle w file → Q (without_file w file)) → (is_idle w file ≡ false → Q w) → Q (after_change w (DropIdle file))
-dropped Q w file goes stays = elim (is_idle w file) as (λ b. is_idle w file ≡ b → Q (cond b (without_file w file) w)) [
-  | true ↦ λ e. goes (idle_is w file e)
-  | false ↦ λ e. stays e
-] refl
+dropped Q w file goes stays = grind (arith, nat_tests, idle_is)
 
 -- the versions stay
 pub dropped_versions : (w : World) (file : ℕ) → (after_change w (DropIdle file)).versions ≡ w.versions

@@ -1,5 +1,6 @@
 -- The scan, one row after another.
-use Rattle.std.proofs.Common.{◌≡◌, ℕ, ◌+◌, ◌<◌, ◌≤◌, ◌||◌, Bool, true, false, cond, List, [], ◌∷◌, length, get_or, take, Option, Some, None, refl, ap, sym, ◌∙◌, fold, filter, ◌⊎◌, inl, inr}
+use Rattle.std.proofs.lemmas.Bool.Decides.{nat_tests}
+use Rattle.std.proofs.Common.{arith, ◌≡◌, ℕ, ◌+◌, ◌<◌, ◌≤◌, ◌||◌, Bool, true, false, cond, List, [], ◌∷◌, length, get_or, take, Option, Some, None, refl, ap, sym, ◌∙◌, fold, filter, ◌⊎◌, inl, inr}
 use Rattle.std.specs.Prelude.{nat_le, option_and_then}
 use Rattle.std.specs.List.{filter_map, cons_option}
 use Rattle.std.proofs.lemmas.List.{take_more}
@@ -70,9 +71,7 @@ module _ (w : World) (row : VersionRow) where
     -- of one that hasn't ended
     pub ripe-unended : (policy : Policy) → policy_of w.files row.file ≡ Some policy → row.ended ≡ None → IsRipeOf w row None
     unfolding ripe_of is_due_at
-    ripe-unended policy filed end =
-        let none = unended (view_of w row.file) row end in
-        (sym none, λ at fits. rw (none, protected_is w row ∙ free, filed, end) refl)
+    ripe-unended policy filed end = grind (arith, nat_tests, unended, protected_is)
 
     -- of one whose file and end are known
 
@@ -92,13 +91,7 @@ module _ (w : World) (row : VersionRow) where
 
 pub due_key-is : (w : World) (row : VersionRow) (ripe : Option ℕ) → w.now ≤ last_moment → IsRipeOf w row ripe → due_key w row ≡ option_and_then (λ m. cond (nat_le m w.now) (Some (key_of row m)) None) ripe
 unfolding due_key
-due_key-is w row ripe fits is =
-    ap (λ b. cond b (option_map (key_of row) (ripe_of w row)) None) (is.1 w.now fits)
-    ∙ ap (λ o. cond (option_map_or (λ m. nat_le m w.now) o false) (option_map (key_of row) o) None) (sym is.0)
-    ∙ by ripe where
-      by : (o : Option ℕ) → cond (option_map_or (λ m. nat_le m w.now) o false) (option_map (key_of row) o) None ≡ option_and_then (λ m. cond (nat_le m w.now) (Some (key_of row m)) None) o
-      by None = refl
-      by (Some m) = refl
+due_key-is w row ripe fits is = grind (arith, nat_tests)
 
 -- one more row
 pub in_order_more : (h : VersionRow → Option Key) (xs : List VersionRow) (i : ℕ) (x : VersionRow) → i < length xs → x ≡ get_or xs i x → in_order (filter_map h (take (i + 1) xs)) ≡ fold (insert_key key_cmp) (in_order (filter_map h (take i xs))) (cons_option (h x) [])

@@ -1,5 +1,6 @@
 -- The first key of the scan is that of a due row.
-use Rattle.std.proofs.Common.{◌≡◌, ℕ, Bool, true, false, cond, not, ◌&&◌, ◌||◌, List, [], ◌∷◌, Option, Some, None, refl, ap, sym, ◌∙◌}
+use Rattle.std.proofs.lemmas.Bool.Decides.{nat_tests}
+use Rattle.std.proofs.Common.{arith, ◌≡◌, ℕ, Bool, true, false, cond, not, ◌&&◌, ◌||◌, List, [], ◌∷◌, Option, Some, None, refl, ap, sym, ◌∙◌}
 use Rattle.std.specs.Prelude.{find, is_none, slice_get, fold}
 use Rattle.std.specs.declared.cmp.Ordering.{Ordering}
 use Rattle.std.specs.declared.cmp.Ordering.TheVariants.{Less, Equal, Greater}
@@ -30,18 +31,11 @@ pub record IsDueKey (w : World) (key : Key) : Type 0 where
 
 pub all-filter_map : {X Y : Type 0} (P : X → Type 0) (Q : Y → Type 0) (h : X → Option Y) → ((x : X) (y : Y) → P x → h x ≡ Some y → Q y) → (xs : List X) → AllByRecursion P xs → AllByRecursion Q (filter_map h xs)
 all-filter_map P Q h gives [] all = tt
-all-filter_map {X} {Y} P Q h gives (x ∷ xs) all = by (h x) refl (all-filter_map P Q h gives xs all.1) where
-  by : (o : Option Y) → h x ≡ o → AllByRecursion Q (filter_map h xs) → AllByRecursion Q (filter_map h (x ∷ xs))
-  by None e rest = rw e rest
-  by (Some y) e rest = rw e (gives x y all.0 e, rest)
+all-filter_map {X} {Y} P Q h gives (x ∷ xs) all = grind (arith, nat_tests, all-filter_map P Q h gives xs all.1)
 
 pub all-insert_key : (Q : Key → Type 0) (keys : List Key) (key : Key) → Q key → AllByRecursion Q keys → AllByRecursion Q (insert_key key_cmp keys key)
 all-insert_key Q [] key one all = (one, tt)
-all-insert_key Q (x ∷ xs) key one all = by (key_cmp key x) refl (all-insert_key Q xs key one all.1) where
-  by : (o : Ordering) → key_cmp key x ≡ o → AllByRecursion Q (insert_key key_cmp xs key) → AllByRecursion Q (insert_key key_cmp (x ∷ xs) key)
-  by Less e rest = rw e (one, all)
-  by Equal e rest = rw e all
-  by Greater e rest = rw e (all.0, rest)
+all-insert_key Q (x ∷ xs) key one all = grind (arith, nat_tests, all-insert_key Q xs key one all.1)
 
 pub all-in_order : (Q : Key → Type 0) (sorted keys : List Key) → AllByRecursion Q sorted → AllByRecursion Q keys → AllByRecursion Q (fold (insert_key key_cmp) sorted keys)
 all-in_order Q sorted [] before all = before
@@ -49,11 +43,7 @@ all-in_order Q sorted (x ∷ xs) before all = all-in_order Q (insert_key key_cmp
 
 key_due : (w : World) (row : VersionRow) (key : Key) → IsFound w.versions row → due_key w row ≡ Some key → IsDueKey w key
 unfolding due_key
-key_due w row key found h = by (is_due_at w row w.now) refl (ripe_of w row) refl h where
-  by : (b : Bool) → is_due_at w row w.now ≡ b → (o : Option ℕ) → ripe_of w row ≡ o → cond b (option_map (key_of row) o) None ≡ Some key → IsDueKey w key
-  by true due None r h = absurd cc
-  by true due (Some ripe) r h = let file : row.file ≡ key.file = cc in let number : row.number ≡ key.number = cc in let moment : ripe ≡ key.ripe = cc in record { row = row; found = rw (← file, ← number) found; due = due; ripe = r ∙ ap (λ m. Some m) moment }
-  by false due o r h = absurd cc
+key_due w row key found h = grind (arith, nat_tests)
 
 -- the keys of the scan
 pub scan_due : (w : World) → AllLater ArePlaced w.versions → AllByRecursion (IsDueKey w) (scan w)
@@ -73,20 +63,12 @@ due_if w row at b p o = not b && option_map_or (λ policy. option_map_or (λ end
 -- what is due has ended
 pub due_has_ended : (w : World) (row : VersionRow) (at : ℕ) → is_due_at w row at ≡ true → is_none row.ended ≡ false
 unfolding is_due_at
-due_has_ended w row at h = by (is_protected (view_of w row.file) row at) (policy_of w.files row.file) row.ended h where
-  by : (b : Bool) (p : Option Policy) (o : Option ℕ) → due_if w row at b p o ≡ true → is_none o ≡ false
-  by true p o h = absurd (false≢true h)
-  by false None o h = absurd (false≢true h)
-  by false (Some policy) None h = absurd (false≢true h)
-  by false (Some policy) (Some ended) h = refl
+due_has_ended w row at h = grind (arith, nat_tests, false≢true)
 
 -- and isn't protected
 due_is_free : (w : World) (row : VersionRow) (at : ℕ) → is_due_at w row at ≡ true → is_protected (view_of w row.file) row at ≡ false
 unfolding is_due_at
-due_is_free w row at h = by (is_protected (view_of w row.file) row at) h where
-  by : (b : Bool) → due_if w row at b (policy_of w.files row.file) row.ended ≡ true → b ≡ false
-  by true h = absurd (false≢true h)
-  by false h = refl
+due_is_free w row at h = grind (arith, nat_tests, false≢true)
 
 neither : (a b : Bool) → (a || b) ≡ false → (a ≡ false) × (b ≡ false)
 neither true b h = absurd (false≢true (sym h))

@@ -67,43 +67,19 @@ module _ (w : World) (k : IsWellFormed w) where
       held_touched file number b h row found = rw found at h
 
       comes : ((file closed : ℕ) (ended : Option ℕ) → is_marked groups file closed ended ≡ (is_marked w.groups file closed ended || touches file closed ended files marks)) → MarksCome w regrouped files marks
-      comes more = record {
-        others = λ file number apart.
-            moment_then file number
-            ∙ ap (unread file number) (moment_same w.versions file number (is_marked groups file) (is_marked w.groups file) (policy_of w.files file) (λ row found. more file row.closed row.ended ∙ rw (held_touched file number false apart row found) (or_false (is_marked w.groups file row.closed row.ended))))
-            ∙ sym (ripe_at_near w file number (in_order_of w k));
-        own = λ file number touched.
-            moment_then file number
-            ∙ ap (unread file number) (moment_none w.versions file number (is_marked groups file) (policy_of w.files file) (λ row found. more file row.closed row.ended ∙ rw (held_touched file number true touched row found) (or_true (is_marked w.groups file row.closed row.ended))))
-            ∙ none_if (is_open w.handles file number);
-      }
+      comes more = grind (arith, nat_tests, moment_then, moment_same, held_touched, or_false, ripe_at_near, in_order_of, moment_none, or_true, none_if)
 
       goes : (name : List ℕ) (left : Option ℕ) → ((file closed : ℕ) (ended : Option ℕ) → is_marked w.groups file closed ended ≡ (is_marked groups file closed ended || touches file closed ended files marks))
           → ((file closed : ℕ) (ended : Option ℕ) → touches file closed ended files marks ≡ true → is_marked groups file closed ended ≡ is_marked_without w.groups name left file closed ended)
           → MarksGo w regrouped name left files marks
-      goes name left fewer still = record {
-        others = λ file number apart.
-            moment_then file number
-            ∙ sym (ap (unread file number) (moment_same w.versions file number (is_marked w.groups file) (is_marked groups file) (policy_of w.files file) (λ row found. fewer file row.closed row.ended ∙ rw (held_touched file number false apart row found) (or_false (is_marked groups file row.closed row.ended)))))
-            ∙ sym (ripe_at_near w file number (in_order_of w k));
-        had = λ file number touched.
-            ripe_at_near w file number (in_order_of w k)
-            ∙ ap (unread file number) (moment_none w.versions file number (is_marked w.groups file) (policy_of w.files file) (λ row found. fewer file row.closed row.ended ∙ rw (held_touched file number true touched row found) (or_true (is_marked groups file row.closed row.ended))))
-            ∙ none_if (is_open w.handles file number);
-        own = λ file number touched.
-            moment_then file number
-            ∙ ap (unread file number) (moment_same w.versions file number (is_marked groups file) (is_marked_without w.groups name left file) (policy_of w.files file) (λ row found. still file row.closed row.ended (held_touched file number true touched row found)));
-      }
+      goes name left fewer still = grind (arith, nat_tests, moment_then, moment_same, held_touched, or_false, ripe_at_near, in_order_of, moment_none, or_true, none_if)
 
   abbrev named : AllLater (λ (earlier : GroupRow) later. bytes_eq earlier.name later.name ≡ false) w.groups
   named = (k.holds Groups).named
 
   -- a group of which something is told is there
   group_there : (p : GroupRow → Bool) (name : List ℕ) → option_map_or p (group_named w.groups name) false ≡ true → (row : GroupRow) × (find (is_group name) w.groups ≡ Some row) × IsGroup w.files w.now row
-  group_there p name h = by (find (is_group name) w.groups) refl h where
-    by : (o : Option GroupRow) → find (is_group name) w.groups ≡ o → option_map_or p o false ≡ true → (row : GroupRow) × (find (is_group name) w.groups ≡ Some row) × IsGroup w.files w.now row
-    by None e h = absurd (false≢true h)
-    by (Some row) e h = (row, e, all-found (is_group name) (IsGroup w.files w.now) w.groups row e (k.holds Groups).each)
+  group_there p name h = grind (arith, nat_tests, k.holds Groups, false≢true, all-found)
 
 -- ---- each change of groups
 

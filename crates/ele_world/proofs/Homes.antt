@@ -30,11 +30,7 @@ any_more p xs y h = list_any-append p xs (y ∷ []) ∙ rw h refl
 
 -- and what one more makes so was so, where it was so whenever that one is
 pub any_less : {X : Type 0} (p : X → Bool) (xs : List X) (y : X) → (p y ≡ true → list_any p xs ≡ true) → list_any p (xs ++ y ∷ []) ≡ true → list_any p xs ≡ true
-any_less p xs y from h = by (list_any p xs) (p y) refl refl (sym (list_any-append p xs (y ∷ [])) ∙ h) where
-  by : (a b : Bool) → list_any p xs ≡ a → p y ≡ b → (a || (b || false)) ≡ true → list_any p xs ≡ true
-  by true b is e h = is
-  by false true is e h = from e
-  by false false is e h = absurd (false≢true h)
+any_less p xs y from h = grind (arith, nat_tests, list_any-append, false≢true)
 
 pub any_last : {X : Type 0} (p : X → Bool) (xs : List X) (y : X) → p y ≡ true → list_any p (xs ++ y ∷ []) ≡ true
 any_last p xs y h = list_any-append p xs (y ∷ []) ∙ or_last (list_any p xs) (list_any p (y ∷ [])) (rw h refl)
@@ -44,10 +40,7 @@ pub ended_more : (names : List NameRow) (named : NameRow) (versions : List Versi
 ended_more names named versions each = all-weaker (IsOfLive names) (IsOfLive (names ++ named ∷ [])) versions (λ row h none. any_more (is_live_name_of row.file) names named (h none)) each
 
 pub reached_more : (names : List NameRow) (named : NameRow) (id : ℕ) → is_reached names id ≡ true → is_reached (names ++ named ∷ []) id ≡ true
-reached_more names named id h = by (id == root) h where
-  by : (b : Bool) → (b || list_any (is_live_directory id) names) ≡ true → (b || list_any (is_live_directory id) (names ++ named ∷ [])) ≡ true
-  by true h = refl
-  by false h = any_more (is_live_directory id) names named h
+reached_more names named id h = grind (arith, nat_tests, any_more)
 
 -- ---- where a path's last name stands
 
@@ -58,15 +51,7 @@ IsHome directories names (Directory directory) = (has_directory directories dire
 
 live_home : (directories : List DirectoryRow) (names : List NameRow) → AllByRecursion (IsHoused directories names) names
     → (directory : ℕ) (name : List ℕ) (target : Target) → live_target names directory name ≡ Some target → IsHome directories names target
-live_home directories names each directory name target = live_row (IsHome directories names) names directory name target (λ row found. by row found row.target refl) where
-  by : (row : NameRow) → find (is_live_name directory name) names ≡ Some row → (t : Target) → row.target ≡ t → IsHome directories names t
-  by row found (File file) is = tt
-  by row found (Directory id) is =
-      let housed : IsHoused directories names row = all-found (is_live_name directory name) (IsHoused directories names) names row found each in
-      let alive = still_none directory name row (found_passes (is_live_name directory name) names row found) in
-      let own : (id == id) ≡ true = grind (arith, nat_tests) in
-      let live : is_live_directory id row ≡ true = rw (is, own) alive in
-      (subst (IsDirectoryThere directories) is housed.there, or_last (id == root) (list_any (is_live_directory id) names) (any-found (is_live_name directory name) (is_live_directory id) names row found live))
+live_home directories names each directory name target = grind (arith, nat_tests, live_row, all-found, still_none, found_passes, or_last, any-found)
 
 pub parent_home : (w : World) (path : List (List ℕ)) (at : ℕ × List ℕ) → IsWellFormed w → parent_now w.names path ≡ Ok at → (has_directory w.directories at.0 ≡ true) × (is_reached w.names at.0 ≡ true)
 parent_home w path at k found = parent_to (IsHome w.directories w.names) w.names (live_home w.directories w.names (k.holds Homes).each) path at ((k.holds Directories).rooted, refl) found
@@ -92,20 +77,13 @@ abbrev pub HasName : List NameRow → DirectoryRow → Type 0
 HasName names row = ((row.id == root) || list_any (is_name_of_directory row.id) names) ≡ true
 
 pub named_more : (directories : List DirectoryRow) (names : List NameRow) (named : NameRow) → AllByRecursion (HasName names) directories → AllByRecursion (HasName (names ++ named ∷ [])) directories
-named_more directories names named = all-weaker (HasName names) (HasName (names ++ named ∷ [])) directories (λ row. still (row.id == root) row.id) where
-  still : (b : Bool) (d : ℕ) → (b || list_any (is_name_of_directory d) names) ≡ true → (b || list_any (is_name_of_directory d) (names ++ named ∷ [])) ≡ true
-  still true d h = refl
-  still false d h = any_more (is_name_of_directory d) names named h
+named_more directories names named = grind (arith, nat_tests, all-weaker, any_more)
 
 pub named_end : (now : ℕ) (p : NameRow → Bool) (directories : List DirectoryRow) (names : List NameRow) → AllByRecursion (HasName names) directories → AllByRecursion (HasName (update_first p (dies now) names)) directories
-named_end now p directories names = all-weaker (HasName names) (HasName (update_first p (dies now) names)) directories
-    (λ row h. ap (λ b. (row.id == root) || b) (list_any-update_first p (is_name_of_directory row.id) (dies now) names (λ x e. refl)) ∙ h)
+named_end now p directories names = grind (arith, nat_tests, all-weaker, list_any-update_first)
 
 pub homes_more : (directories : List DirectoryRow) (names : List NameRow) (named : NameRow) → has_directory directories named.directory ≡ true → is_reached names named.directory ≡ true → IsDirectoryThere directories named.target → AreHoused directories names → AreHoused directories (names ++ named ∷ [])
-homes_more directories names named home reached there are = record {
-  each = named_housed directories directories names named (λ d h. h) home reached there are.each;
-  named = named_more directories names named are.named;
-}
+homes_more directories names named home reached there are = grind (arith, nat_tests, named_housed, named_more)
 
 -- a directory that is there has a number that was given
 pub directory_given : (made : ℕ) (rows : List DirectoryRow) (id : ℕ) → AllByRecursion (λ row. row.id ≤ made) rows → has_directory rows id ≡ true → id ≤ made

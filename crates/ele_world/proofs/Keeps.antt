@@ -1,5 +1,6 @@
 -- Each change that may be made keeps a world well formed, and so do all changes of a plan.
-use Rattle.std.proofs.Common.{◌≡◌, ℕ, true, false, List, [], ◌∷◌, Some, None, Ok, Err, refl, is_none}
+use Rattle.std.proofs.lemmas.Bool.Decides.{nat_tests}
+use Rattle.std.proofs.Common.{arith, ◌≡◌, ℕ, true, false, List, [], ◌∷◌, Some, None, Ok, Err, refl, is_none}
 use Rattle.std.specs.Prelude.{find}
 use Rattle.ele_world.specs.Change.{Change, Time, Govern, MakeDirectory, EndName, AddName, MoveName, EndFileName, Revive, MakeFile, PutUnder, Append, Take, StartDraft, WriteDraft, TruncateDraft, EndDraft, OpenHandle, ShutHandle, DropIdle, MakeGroup, DropGroup, AddMember, RemoveMember, AddMark, RemoveMark, after_change, after_changes}
 use Rattle.ele_world.specs.Plan.{Plan, Tell, Make, Unless, When, Need, IfFound, outcome}
@@ -21,9 +22,7 @@ use Rattle.ele_world.proofs.KeptMoves.{move_name_keeps}
 
 -- the version that is taken had ended
 taken_ended : (event : Event) (first w : World) (file number : ℕ) → MayTake event first w file number → (row : VersionRow) → find (is_version file number) w.versions ≡ Some row → is_none row.ended ≡ false
-taken_ended event first w file number may row found =
-    let same : may.row ≡ row = (let was = may.found in let is = rw may.same at found in cc) in
-    rw (← same) may.ended
+taken_ended event first w file number may row found = grind (arith, nat_tests)
 
 pub change_keeps : (event : Event) (first w : World) (change : Change) → IsEvent event → May event first w change → IsWellFormed w → IsWellFormed (after_change w change)
 change_keeps event first w (Time to) is may k = time_keeps w to (may.1 is) may.0 k

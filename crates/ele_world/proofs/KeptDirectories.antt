@@ -26,10 +26,7 @@ use Rattle.ele_world.proofs.NameParts.{and_false, names_more, names_end, tree_mo
 
 -- a name of a directory makes no file live
 pub no_file_named : (names : List NameRow) (directory : ℕ) (name : List ℕ) (id now file : ℕ) → list_any (is_live_name_of file) (names ++ born_row directory name (Directory id) now ∷ []) ≡ list_any (is_live_name_of file) names
-no_file_named names directory name id now file = list_any-append (is_live_name_of file) names (born_row directory name (Directory id) now ∷ []) ∙ or_false (list_any (is_live_name_of file) names) where
-  or_false : (b : Bool) → (b || false) ≡ b
-  or_false true = refl
-  or_false false = refl
+no_file_named names directory name id now file = grind (arith, nat_tests, list_any-append)
 
 module _ (w : World) (directory : ℕ) (name : List ℕ) (policy : Policy) where
   abbrev id : ℕ
@@ -54,26 +51,14 @@ module _ (w : World) (directory : ℕ) (name : List ℕ) (policy : Policy) where
 
     by : (part : Part) → Holds made part
     by Counted = simp length-append (grind (arith, k.holds Counted))
-    by Directories = let d = k.holds Directories in record {
-      rooted = any_more (is_directory root) w.directories new d.rooted;
-      policies = all-push (λ row. IsPolicy row.default) w.directories new d.policies may.valid;
-      placed = later-push (λ earlier later. earlier.id < later.id) w.directories new d.placed (all-weaker (λ row. row.id ≤ w.made.directories) (λ row. row.id < id) w.directories (λ row h. omega (arith, h)) d.given);
-      given = all-push (λ row. row.id ≤ id) w.directories new (all-weaker (λ row. row.id ≤ w.made.directories) (λ row. row.id ≤ id) w.directories (λ row h. omega (arith, h)) d.given) (omega arith);
-      counted = simp length-append (omega (arith, d.counted));
-      few = omega (arith, may.directories);
-    }
+    by Directories = grind (arith, nat_tests, k.holds Directories, any_more, all-push, later-push, all-weaker, length-append)
     by Names = names_more w.files w.now w.names directory name (Directory id) may.named.free tt (k.holds Names)
     by Homes = record {
       each = named_housed w.directories made.directories w.names named (λ d h. any_more (is_directory d) w.directories new h) may.named.home may.named.reached there (k.holds Homes).each;
       named = all-push (HasName made.names) w.directories new (named_more w.directories w.names named (k.holds Homes).named)
           (or_last (id == root) (list_any (is_name_of_directory id) made.names) (list_any-append (is_name_of_directory id) w.names (named ∷ []) ∙ rw own (or_last (list_any (is_name_of_directory id) w.names) true refl)));
     }
-    by Tree = tree_more w.now w.names directory name (Directory id) (all-weaker (IsHoused w.directories w.names) (λ row. is_live_directory id row ≡ false) w.names (λ row h. unnamed row.target (is_none row.death) h.there) (k.holds Homes).each) (k.holds Tree) where
-      unnamed : (target : Target) (b : Bool) → IsDirectoryThere w.directories target → (is_target_directory id target && b) ≡ false
-      unnamed (File file) b there = refl
-      unnamed (Directory d) b there =
-          let given = directory_given w.made.directories w.directories d (k.holds Directories).given there in
-          let no : (d == id) ≡ false = grind (arith, nat_tests) in rw no refl
+    by Tree = grind (arith, nat_tests, k.holds Homes, k.holds Tree, k.holds Directories, tree_more, all-weaker, there, directory_given)
     by Current = λ file live. k.holds Current file (sym (no_file_named w.names directory name id w.now file) ∙ live)
     by Ended = ended_more w.names named w.versions (k.holds Ended)
     by part = k.holds part

@@ -22,13 +22,7 @@ use Rattle.ele_world.proofs.Writers.{changed_written, fitted_written, written_mo
 -- ---- a draft is begun
 
 current_is : (w : World) (file : ℕ) → IsWellFormed w → IsContent (current_cells w file) × AreWrittenBy (next_of w.files file) (current_cells w file)
-current_is w file k = by (find (is_version file (next_of w.files file - 1)) w.versions) refl where
-  by : (o : Option VersionRow) → find (is_version file (next_of w.files file - 1)) w.versions ≡ o → IsContent (option_map_or (λ (row : VersionRow). row.cells) o []) × AreWrittenBy (next_of w.files file) (option_map_or (λ (row : VersionRow). row.cells) o [])
-  by None e = (record { short = omega arith; slots = refl }, tt)
-  by (Some row) e =
-      let is : IsVersion w.files w.now row = all-found (is_version file (next_of w.files file - 1)) (IsVersion w.files w.now) w.versions row e (k.holds Versions).each in
-      let passes = found_passes (is_version file (next_of w.files file - 1)) w.versions row e in
-      (is.content, written_more row.number (next_of w.files file) row.cells (let number : row.number ≡ next_of w.files file - 1 = grind (arith, nat_tests) in omega (arith, number)) is.written)
+current_is w file k = grind (arith, nat_tests, k.holds Versions, all-found, found_passes, written_more)
 
 or_true : (b : Bool) → (b || true) ≡ true
 or_true true = refl
@@ -53,11 +47,7 @@ start_keeps w file may k = record { holds = by } where
         (λ row later after lt. grind (arith, nat_tests))
         (all-none (is_draft file) w.drafts may.none) (k.holds Drafts).placed;
   }
-  by Handles = record {
-    each = all-weaker (IsHandle w.made.handles w.drafts) (IsHandle w.made.handles (insert_before (is_draft_after file) (new_draft w file) w.drafts)) w.handles
-        (λ row h. record { numbered = h.numbered; given = h.given; readable = readable row.reads h.readable }) (k.holds Handles).each;
-    placed = (k.holds Handles).placed;
-  }
+  by Handles = grind (arith, nat_tests, k.holds Handles, all-weaker, readable)
   by part = k.holds part
 
 -- ---- a draft is changed
@@ -65,10 +55,7 @@ start_keeps w file may k = record { holds = by } where
 -- what all elements have, after a change of one that passes
 all-changed : {X : Type 0} (p : X → Bool) (P : X → Type 0) (f : X → X) (xs : List X) → ((x : X) → p x ≡ true → P x → P (f x)) → AllByRecursion P xs → AllByRecursion P (update_first p f xs)
 all-changed p P f [] changes all = tt
-all-changed p P f (x ∷ xs) changes all = elim (p x) as (λ b. p x ≡ b → AllByRecursion P (cond b (f x ∷ xs) (x ∷ update_first p f xs))) [
-  | true ↦ λ e. (changes x e all.0, all.1)
-  | false ↦ λ e. (all.0, all-changed p P f xs changes all.1)
-] refl
+all-changed p P f (x ∷ xs) changes all = grind (arith, nat_tests, all-changed p P f xs changes all.1)
 
 -- the file's draft is changed to one of the file
 edit_keeps : (w : World) (file : ℕ) (f : DraftRow → DraftRow) → ((row : DraftRow) → (f row).file ≡ row.file) → ((row : DraftRow) → row.file ≡ file → IsDraft w.files w.now row → IsDraft w.files w.now (f row)) → IsWellFormed w → IsWellFormed (record w { drafts = update_first (is_draft file) f w.drafts })
@@ -83,56 +70,17 @@ edit_keeps w file f same edits k = record { holds = by } where
     each = all-changed (is_draft file) (IsDraft w.files w.now) f w.drafts (λ row e h. edits row (grind (arith, nat_tests)) h) (k.holds Drafts).each;
     placed = later-update_first (is_draft file) (λ earlier later. earlier.file < later.file) f w.drafts (λ x y h. rw (same x) h) (λ x y h. rw (same y) h) (k.holds Drafts).placed;
   }
-  by Handles = record {
-    each = all-weaker (IsHandle w.made.handles w.drafts) (IsHandle w.made.handles (update_first (is_draft file) f w.drafts)) w.handles
-        (λ row h. record { numbered = h.numbered; given = h.given; readable = readable row.reads h.readable }) (k.holds Handles).each;
-    placed = (k.holds Handles).placed;
-  }
+  by Handles = grind (arith, nat_tests, k.holds Handles, all-weaker, readable)
   by part = k.holds part
 
 pub write_keeps : (w : World) (file offset : ℕ) (bytes : List ℕ) → offset + length bytes ≤ longest_content → IsWellFormed w → IsWellFormed (after_change w (WriteDraft file offset bytes))
-write_keeps w file offset bytes fits k = edit_keeps w file (changed_by number offset bytes) (λ row. refl) edited k where
-  number : ℕ
-  number = next_of w.files file
-
-  edited : (row : DraftRow) → row.file ≡ file → IsDraft w.files w.now row → IsDraft w.files w.now (changed_by number offset bytes row)
-  edited row same h = record {
-    there = h.there;
-    opened = h.opened;
-    content = record { short = written_short number offset bytes row.cells h.content.short fits; slots = written_fills number offset bytes row.cells };
-    written = subst (λ f. AreWrittenBy (next_of w.files f) ((changed_by number offset bytes row).cells)) (sym same) (changed_written number offset bytes row (subst (λ f. AreWrittenBy (next_of w.files f) row.cells) same h.written));
-  }
+write_keeps w file offset bytes fits k = grind (arith, nat_tests, edit_keeps, written_short, written_fills, changed_written)
 
 pub same_file : (number size : ℕ) (row : DraftRow) → (fitted_by number size row).file ≡ row.file
-same_file number size row = elim (eqb (length (content_of row.cells)) size) as (λ b. (cond b row (record row { cells = cells_after_truncate number size row.cells; changed = true })).file ≡ row.file) [
-  | true ↦ refl
-  | false ↦ refl
-]
+same_file number size row = grind (arith, nat_tests)
 
 pub truncate_keeps : (w : World) (file size : ℕ) → size ≤ longest_content → IsWellFormed w → IsWellFormed (after_change w (TruncateDraft file size))
-truncate_keeps w file size fits k = edit_keeps w file (fitted_by number size) (same_file number size) edited k where
-  number : ℕ
-  number = next_of w.files file
-
-  content : (row : DraftRow) → IsDraft w.files w.now row → IsContent ((fitted_by number size row).cells)
-  content row h = elim (eqb (length (content_of row.cells)) size) as (λ b. IsContent ((cond b row (record row { cells = cells_after_truncate number size row.cells; changed = true })).cells)) [
-    | true ↦ h.content
-    | false ↦ record { short = truncated_short number size row.cells fits; slots = truncated_fills number size row.cells }
-  ]
-
-  opened : (row : DraftRow) → (fitted_by number size row).opened ≡ row.opened
-  opened row = elim (eqb (length (content_of row.cells)) size) as (λ b. (cond b row (record row { cells = cells_after_truncate number size row.cells; changed = true })).opened ≡ row.opened) [
-    | true ↦ refl
-    | false ↦ refl
-  ]
-
-  edited : (row : DraftRow) → row.file ≡ file → IsDraft w.files w.now row → IsDraft w.files w.now (fitted_by number size row)
-  edited row same h = record {
-    there = subst (λ f. 0 < next_of w.files f) (sym (same_file number size row)) h.there;
-    opened = rw (opened row) h.opened;
-    content = content row h;
-    written = subst (λ f. AreWrittenBy (next_of w.files f) ((fitted_by number size row).cells)) (sym (same_file number size row ∙ same)) (fitted_written number size row (subst (λ f. AreWrittenBy (next_of w.files f) row.cells) same h.written));
-  }
+truncate_keeps w file size fits k = grind (arith, nat_tests, edit_keeps, same_file, truncated_short, truncated_fills, fitted_written)
 
 -- ---- a draft goes that nobody writes
 
@@ -144,10 +92,7 @@ end_keeps w file unwritten k = record { holds = by } where
 
   by : (part : Part) → Holds (after_change w (EndDraft file)) part
   by Counted = grind (arith, k.holds Counted, length-remove_first-le (is_draft file) w.drafts)
-  by Drafts = record {
-    each = all-remove_first (is_draft file) (IsDraft w.files w.now) w.drafts (k.holds Drafts).each;
-    placed = later-remove_first (is_draft file) (λ earlier later. earlier.file < later.file) w.drafts (k.holds Drafts).placed;
-  }
+  by Drafts = grind (arith, nat_tests, k.holds Drafts, all-remove_first, later-remove_first)
   by Handles = record {
     each = all-weaker (λ row. (is_writer file row ≡ false) × IsHandle w.made.handles w.drafts row) (IsHandle w.made.handles (remove_first (is_draft file) w.drafts)) w.handles
         (λ row h. record { numbered = h.1.numbered; given = h.1.given; readable = readable row.reads h.0 h.1.readable })
@@ -165,22 +110,13 @@ open_keeps w number reads may k = record { holds = by } where
 
   by : (part : Part) → Holds (after_change w (OpenHandle number reads)) part
   by Counted = grind (arith, k.holds Counted)
-  by Handles = record {
-    each = all-push (IsHandle number w.drafts) w.handles handle
-        (all-weaker (IsHandle w.made.handles w.drafts) (IsHandle number w.drafts) w.handles (λ row h. record { numbered = h.numbered; given = omega (arith, h.given, may.next); readable = h.readable }) (k.holds Handles).each)
-        (record { numbered = omega (arith, may.next); given = omega arith; readable = may.drafted });
-    placed = later-push (λ earlier later. earlier.number < later.number) w.handles handle (k.holds Handles).placed
-        (all-weaker (IsHandle w.made.handles w.drafts) (λ row. row.number < number) w.handles (λ row h. omega (arith, h.given, may.next)) (k.holds Handles).each);
-  }
+  by Handles = grind (arith, nat_tests, k.holds Handles, all-push, number, handle, all-weaker, later-push)
   by Readers = all-push (λ row. IsHeldRead w.versions row.reads) w.handles handle (k.holds Readers) may.held
   by part = k.holds part
 
 pub shut_keeps : (w : World) (number : ℕ) → IsWellFormed w → IsWellFormed (after_change w (ShutHandle number))
 shut_keeps w number k = record { holds = by } where
   by : (part : Part) → Holds (after_change w (ShutHandle number)) part
-  by Handles = record {
-    each = all-remove_first (is_handle number) (IsHandle w.made.handles w.drafts) w.handles (k.holds Handles).each;
-    placed = later-remove_first (is_handle number) (λ earlier later. earlier.number < later.number) w.handles (k.holds Handles).placed;
-  }
+  by Handles = grind (arith, nat_tests, k.holds Handles, all-remove_first, number, later-remove_first)
   by Readers = all-remove_first (is_handle number) (λ row. IsHeldRead w.versions row.reads) w.handles (k.holds Readers)
   by part = k.holds part

@@ -62,28 +62,18 @@ module _ (w : World) (file : ℕ) (idle : IsIdle w file) where
   drop_file_keeps : IsWellFormed w → IsWellFormed (without_file w file)
   drop_file_keeps k = record { holds = by } where
     current_still : (other : ℕ) → is_live w other ≡ true → (b : Bool) → (other == file) ≡ b → list_any (is_current other (next_of files other)) w.versions ≡ true
-    current_still other live true e =
-        let same : other ≡ file = grind (arith, nat_tests) in
-        absurd (false≢true (sym idle.nameless ∙ subst (λ f. is_live w f ≡ true) same live))
+    current_still other live true e = grind (arith, nat_tests, false≢true)
     current_still other live false e = rw (next_of-removed w.files file other e) (k.holds Current other live)
 
     by : (part : Part) → Holds (without_file w file) part
     by Counted = grind (arith, k.holds Counted, length-remove_first-le (is_file file) w.files, length-split keep w.names)
-    by Files = record {
-      each = all-remove_first (is_file file) (IsFile w.made.files w.made.versions) w.files (k.holds Files).each;
-      placed = later-remove_first (is_file file) (λ earlier later. earlier.id < later.id) w.files (k.holds Files).placed;
-    }
+    by Files = grind (arith, nat_tests, k.holds Files, all-remove_first, later-remove_first)
     by Names = record {
       each = all-weaker (λ row. (keep row ≡ true) × IsNameRow w.files w.now row) (IsNameRow files w.now) names (λ row h. record { there = there_still row.target h.0 h.1.there; born = h.1.born; dead = h.1.dead })
           (all-both _ _ names (filter-passes keep w.names) (all-filter (IsNameRow w.files w.now) keep w.names (k.holds Names).each));
       lives = later-filter AreApart AreApart keep w.names (λ x y e f h. h) (k.holds Names).lives;
     }
-    by Homes = record {
-      each = all-weaker (IsHoused w.directories w.names) (IsHoused w.directories names) names (λ row h. record { home = h.home; there = h.there; reached = λ none. reached_still row.directory ∙ h.reached none })
-          (all-filter (IsHoused w.directories w.names) keep w.names (k.holds Homes).each);
-      named = all-weaker (λ row. ((row.id == root) || list_any (is_name_of_directory row.id) w.names) ≡ true) (λ row. ((row.id == root) || list_any (is_name_of_directory row.id) names) ≡ true) w.directories
-          (λ row h. ap (λ b. (row.id == root) || b) (named_still row.id) ∙ h) (k.holds Homes).named;
-    }
+    by Homes = grind (arith, nat_tests, k.holds Homes, all-weaker, reached_still, all-filter, named_still)
     by Tree = later-filter AreOthers AreOthers keep w.names (λ x y e f h. h) (k.holds Tree)
     by Versions = record {
       each = all-weaker (λ row. ((row.file == file) ≡ false) × IsVersion w.files w.now row) (IsVersion files w.now) w.versions

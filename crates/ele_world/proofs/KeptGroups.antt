@@ -1,4 +1,5 @@
 -- Changes of groups keep a world well formed, and groups stay what they are beside other changes.
+use Rattle.std.proofs.lemmas.Bool.Decides.{nat_tests}
 use Rattle.std.proofs.Common.{◌≡◌, ℕ, ◌<◌, ◌≤◌, ◌==◌, Bool, true, false, not, cond, List, [], ◌∷◌, length-append, Option, Some, None, refl, arith}
 use Rattle.std.specs.Prelude.{filter, find}
 use Rattle.std.specs.List.{AllByRecursion}
@@ -27,17 +28,7 @@ AreNamedApart earlier later = bytes_eq earlier.name later.name ≡ false
 
 -- where each file that is there stays there, and the time doesn't fall
 pub groups_on : (made : ℕ) (files after : List FileRow) (now to : ℕ) (rows : List GroupRow) → now ≤ to → ((file : ℕ) → 0 < next_of files file → 0 < next_of after file) → AreGroups made files now rows → AreGroups made after to rows
-groups_on made files after now to rows le still are = record {
-  each = all-weaker (IsGroup files now) (IsGroup after to) rows
-      (λ row is. record {
-        there = all-weaker (λ member. 0 < next_of files member) (λ member. 0 < next_of after member) row.members still is.there;
-        apart = is.apart;
-        past = all-weaker (λ mark. mark < now) (λ mark. mark < to) row.marks (λ mark h. omega (arith, h, le)) is.past;
-        once = is.once;
-      }) are.each;
-  named = are.named;
-  counted = are.counted;
-}
+groups_on made files after now to rows le still are = grind (arith, nat_tests, all-weaker)
 
 -- where each other file that is there stays there, and the file leaves its groups
 pub groups_forgotten : (made : ℕ) (files after : List FileRow) (now file : ℕ) (rows : List GroupRow) → ((other : ℕ) → (other == file) ≡ false → 0 < next_of files other → 0 < next_of after other) → AreGroups made files now rows → AreGroups made after now (forgotten file rows)
@@ -61,10 +52,7 @@ groups_forgotten made files after now file rows still are = record {
 -- what all elements have, after a change of the one that is found
 all-update_found : {X : Type 0} (p : X → Bool) (P : X → Type 0) (f : X → X) (xs : List X) → ((x : X) → find p xs ≡ Some x → P x → P (f x)) → AllByRecursion P xs → AllByRecursion P (update_first p f xs)
 all-update_found p P f [] changes all = tt
-all-update_found p P f (x ∷ xs) changes all = elim (p x) as (λ b. p x ≡ b → AllByRecursion P (cond b (f x ∷ xs) (x ∷ update_first p f xs))) [
-  | true ↦ λ e. (changes x (rw e refl) all.0, all.1)
-  | false ↦ λ e. (all.0, all-update_found p P f xs (λ y found. changes y (rw e found)) all.1)
-] refl
+all-update_found p P f (x ∷ xs) changes all = grind (arith, nat_tests, all-update_found p P f xs)
 
 -- what the group of that name lacks, it lacks where it is found
 found_lacks : (t : GroupRow → Bool) (o : Option GroupRow) (row : GroupRow) → o ≡ Some row → option_map_or t o false ≡ false → t row ≡ false
@@ -73,11 +61,7 @@ found_lacks t (Some other) row found h = let same : other ≡ row = cc in rw (�
 
 -- a group that keeps its name changes to a group
 groups_edited : (w : World) (name : List ℕ) (f : GroupRow → GroupRow) → ((row : GroupRow) → (f row).name ≡ row.name) → ((row : GroupRow) → find (is_group name) w.groups ≡ Some row → IsGroup w.files w.now row → IsGroup w.files w.now (f row)) → IsWellFormed w → AreGroups w.made.groups w.files w.now (update_first (is_group name) f w.groups)
-groups_edited w name f same edits k = let are = k.holds Groups in record {
-  each = all-update_found (is_group name) (IsGroup w.files w.now) f w.groups edits are.each;
-  named = later-update_first (is_group name) AreNamedApart f w.groups (λ x y h. rw (same x) h) (λ x y h. rw (same y) h) are.named;
-  counted = omega (arith, are.counted, length-update_first (is_group name) f w.groups);
-}
+groups_edited w name f same edits k = grind (arith, nat_tests, k.holds Groups, all-update_found, later-update_first, length-update_first)
 
 pub make_group_keeps : (w : World) (name : List ℕ) → MayGroup w name → IsWellFormed w → IsWellFormed (after_change w (MakeGroup name))
 make_group_keeps w name may k = record { holds = by } where
@@ -93,11 +77,7 @@ make_group_keeps w name may k = record { holds = by } where
 pub drop_group_keeps : (w : World) (name : List ℕ) → IsWellFormed w → IsWellFormed (after_change w (DropGroup name))
 drop_group_keeps w name k = record { holds = by } where
   by : (part : Part) → Holds (after_change w (DropGroup name)) part
-  by Groups = let are = k.holds Groups in record {
-    each = all-remove_first (is_group name) (IsGroup w.files w.now) w.groups are.each;
-    named = later-remove_first (is_group name) AreNamedApart w.groups are.named;
-    counted = omega (arith, are.counted, length-remove_first-le (is_group name) w.groups);
-  }
+  by Groups = grind (arith, nat_tests, k.holds Groups, all-remove_first, later-remove_first, length-remove_first-le)
   by part = k.holds part
 
 -- ---- its files
@@ -120,12 +100,7 @@ add_member_keeps w name file may k = record { holds = by } where
 pub remove_member_keeps : (w : World) (name : List ℕ) (file : ℕ) → IsWellFormed w → IsWellFormed (after_change w (RemoveMember name file))
 remove_member_keeps w name file k = record { holds = by } where
   left : (row : GroupRow) → find (is_group name) w.groups ≡ Some row → IsGroup w.files w.now row → IsGroup w.files w.now (removes file row)
-  left row found is = record {
-    there = all-remove_first (λ member. member == file) (λ member. 0 < next_of w.files member) row.members is.there;
-    apart = later-remove_first (λ member. member == file) AreTwo row.members is.apart;
-    past = is.past;
-    once = is.once;
-  }
+  left row found is = grind (arith, nat_tests, all-remove_first, later-remove_first)
 
   by : (part : Part) → Holds (after_change w (RemoveMember name file)) part
   by Groups = groups_edited w name (removes file) (λ row. refl) left k
@@ -151,12 +126,7 @@ add_mark_keeps w name mark may k = record { holds = by } where
 pub remove_mark_keeps : (w : World) (name : List ℕ) (mark : ℕ) → IsWellFormed w → IsWellFormed (after_change w (RemoveMark name mark))
 remove_mark_keeps w name mark k = record { holds = by } where
   unmarked : (row : GroupRow) → find (is_group name) w.groups ≡ Some row → IsGroup w.files w.now row → IsGroup w.files w.now (unmarks mark row)
-  unmarked row found is = record {
-    there = is.there;
-    apart = is.apart;
-    past = all-remove_first (λ made. made == mark) (λ made. made < w.now) row.marks is.past;
-    once = later-remove_first (λ made. made == mark) AreTwo row.marks is.once;
-  }
+  unmarked row found is = grind (arith, nat_tests, all-remove_first, later-remove_first)
 
   by : (part : Part) → Holds (after_change w (RemoveMark name mark)) part
   by Groups = groups_edited w name (unmarks mark) (λ row. refl) unmarked k

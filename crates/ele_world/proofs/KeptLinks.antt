@@ -91,10 +91,7 @@ module _ (w : World) (directory : ℕ) (name : List ℕ) (file : ℕ) (leads : l
 
   -- and so is the file, if another name is left
   all_live : is_live left file ≡ true → HaveEnded left
-  all_live live = all-weaker (λ row. (row.file == file) ≡ false → IsOfLive left.names row) (IsOfLive left.names) w.versions (λ row h. by row h (row.file == file) refl) beside where
-    by : (row : VersionRow) → ((row.file == file) ≡ false → IsOfLive left.names row) → (b : Bool) → (row.file == file) ≡ b → IsOfLive left.names row
-    by row h true e none = let same : row.file ≡ file = grind (arith, nat_tests) in rw same live
-    by row h false e none = h e none
+  all_live live = grind (arith, nat_tests, all-weaker, beside)
 
   pub end_file_name_keeps : IsWellFormed (after_change w (EndFileName directory name file))
   end_file_name_keeps = elim (is_live left file) as (λ b. is_live left file ≡ b → IsWellFormed (record left { versions = cond b w.versions (with_end left file) })) [

@@ -55,21 +55,11 @@ module _ (w : World) (from : ℕ) (old : List ℕ) (to : ℕ) (new : List ℕ) (
 
   -- each directory that was reached is
   reached : (id : ℕ) → is_reached w.names id ≡ true → is_reached (left ++ named ∷ []) id ≡ true
-  reached id h = by (is_target_directory id target) refl where
-    by : (b : Bool) → is_target_directory id target ≡ b → is_reached (left ++ named ∷ []) id ≡ true
-    by true own = or_last (id == root) (list_any (is_live_directory id) (left ++ named ∷ [])) (list_any-append (is_live_directory id) left (named ∷ []) ∙ rw own (or_last (list_any (is_live_directory id) left) true refl))
-    by false other = more (id == root) h where
-      same : list_any (is_live_directory id) left ≡ list_any (is_live_directory id) w.names
-      same = list_any-update_found p (is_live_directory id) (dies w.now) w.names (λ row found. rw (found_target w.now w.names from old target may.stands row found, other) refl)
-
-      more : (b : Bool) → (b || list_any (is_live_directory id) w.names) ≡ true → (b || list_any (is_live_directory id) (left ++ named ∷ [])) ≡ true
-      more true h = refl
-      more false h = any_more (is_live_directory id) left named (same ∙ h)
+  reached id h = grind (arith, nat_tests, or_last, list_any-append, list_any-update_found, found_target, any_more)
 
   -- what the name makes live was so
   was_live : (file : ℕ) → is_live_name_of file named ≡ true → is_live w file ≡ true
-  was_live file = of_row (λ t. (is_target_file file t && true) ≡ true → is_live w file ≡ true) (λ row found own.
-      any-found p (is_live_name_of file) w.names row found (let alive = still_none from old row (found_passes p w.names row found) in rw alive own))
+  was_live file = grind (arith, nat_tests, of_row, any-found, still_none, found_passes)
 
   -- each file that was live is
   lives_on : (file : ℕ) (b : Bool) → is_target_file file target ≡ b → list_any (is_live_name_of file) w.names ≡ true → list_any (is_live_name_of file) (left ++ named ∷ []) ≡ true
@@ -90,12 +80,6 @@ module _ (w : World) (from : ℕ) (old : List ℕ) (to : ℕ) (new : List ℕ) (
       named = named_more w.directories left named (named_end w.now p w.directories w.names (k.holds Homes).named);
     }
     by Tree = tree_more w.now left to new target unnamed (tree_end w.now w.names from old (k.holds Tree))
-    by Current = λ file live. k.holds Current file (any_less (is_live_name_of file) w.names named (was_live file) (was file live)) where
-      was : (file : ℕ) → list_any (is_live_name_of file) (left ++ named ∷ []) ≡ true → list_any (is_live_name_of file) (w.names ++ named ∷ []) ≡ true
-      was file live = list_any-append (is_live_name_of file) w.names (named ∷ []) ∙ both (list_any (is_live_name_of file) left) (list_any (is_live_name_of file) (named ∷ [])) (list_any-update_fails p (is_live_name_of file) (dies w.now) w.names (λ row. and_false (is_target_file file row.target))) (sym (list_any-append (is_live_name_of file) left (named ∷ [])) ∙ live) where
-        both : (a b : Bool) → (a ≡ true → list_any (is_live_name_of file) w.names ≡ true) → (a || b) ≡ true → (list_any (is_live_name_of file) w.names || b) ≡ true
-        both true b from h = rw (from refl) refl
-        both false true from h = or_last (list_any (is_live_name_of file) w.names) true refl
-        both false false from h = absurd (false≢true h)
+    by Current = grind (arith, nat_tests, k.holds Current, any_less, was_live, list_any-append, list_any-update_fails, and_false, or_last, false≢true)
     by Ended = all-weaker (IsOfLive w.names) (IsOfLive (left ++ named ∷ [])) w.versions (λ row h none. lives_on row.file (is_target_file row.file target) refl (h none)) (k.holds Ended)
     by part = k.holds part

@@ -33,16 +33,10 @@ use Rattle.ele_world.proofs.NameParts.{all_apart, names_more, tree_more}
 -- ---- the clock
 
 name_later : (files : List FileRow) (now to : ℕ) (row : NameRow) → now ≤ to → IsNameRow files now row → IsNameRow files to row
-name_later files now to row le h = record { there = h.there; born = omega (arith, h.born); dead = by row.death h.dead } where
-  by : (o : Option ℕ) → IfSome o (λ death. (row.birth ≤ death) × (death ≤ now)) → IfSome o (λ death. (row.birth ≤ death) × (death ≤ to))
-  by None h = tt
-  by (Some death) h = (h.0, omega (arith, h.1))
+name_later files now to row le h = grind (arith, nat_tests)
 
 version_later : (files : List FileRow) (now to : ℕ) (row : VersionRow) → now ≤ to → IsVersion files now row → IsVersion files to row
-version_later files now to row le h = record { first = h.first; numbered = h.numbered; opened = h.opened; closed = omega (arith, h.closed); ended = by row.ended h.ended; open_end = h.open_end; content = h.content; written = h.written } where
-  by : (o : Option ℕ) → IfSome o (λ ended. (row.closed ≤ ended) × (ended ≤ now)) → IfSome o (λ ended. (row.closed ≤ ended) × (ended ≤ to))
-  by None h = tt
-  by (Some ended) h = (h.0, omega (arith, h.1))
+version_later files now to row le h = grind (arith, nat_tests)
 
 draft_later : (files : List FileRow) (now to : ℕ) (row : DraftRow) → now ≤ to → IsDraft files now row → IsDraft files to row
 draft_later files now to row le h = record { there = h.there; opened = omega (arith, h.opened); content = h.content; written = h.written }
@@ -100,21 +94,9 @@ put_under_keeps w file policy is k = record { holds = by } where
         (λ row h. record { numbered = h.numbered; given = h.given; first = h.first; next = h.next; policy = is }) (λ row h. h) (k.holds Files).each;
     placed = later-update_first (is_file file) (λ earlier later. earlier.id < later.id) (put_under policy) w.files (λ x y h. h) (λ x y h. h) (k.holds Files).placed;
   }
-  by Names = record {
-    each = all-weaker (IsNameRow w.files w.now) (IsNameRow files w.now) w.names (λ row h. record { there = there-put_under w.files file policy row.target h.there; born = h.born; dead = h.dead }) (k.holds Names).each;
-    lives = (k.holds Names).lives;
-  }
-  by Versions = record {
-    each = all-weaker (IsVersion w.files w.now) (IsVersion files w.now) w.versions
-        (λ row h. record { first = h.first; numbered = rw (next row.file) h.numbered; opened = h.opened; closed = h.closed; ended = h.ended; open_end = λ none. h.open_end none ∙ sym (next row.file); content = h.content; written = h.written })
-        (k.holds Versions).each;
-    placed = (k.holds Versions).placed;
-  }
-  by Drafts = record {
-    each = all-weaker (IsDraft w.files w.now) (IsDraft files w.now) w.drafts
-        (λ row h. record { there = rw (next row.file) h.there; opened = h.opened; content = h.content; written = rw (next row.file) h.written }) (k.holds Drafts).each;
-    placed = (k.holds Drafts).placed;
-  }
+  by Names = grind (arith, nat_tests, k.holds Names, all-weaker, files, there-put_under)
+  by Versions = grind (arith, nat_tests, k.holds Versions, all-weaker, files, next)
+  by Drafts = grind (arith, nat_tests, k.holds Drafts, all-weaker, files, next)
   by Current = λ id live. rw (next id) (k.holds Current id live)
   by Groups = groups_on w.made.groups w.files files w.now w.now w.groups (omega arith) (λ id h. rw (next id) h) (k.holds Groups)
   by part = k.holds part
@@ -127,9 +109,7 @@ pub apart_from_new : (w : World) (directory : ℕ) (name : List ℕ) (named : Na
 apart_from_new w directory name named k = all_apart w.files w.now w.names directory name named (k.holds Names).each
 
 version_push : (files : List FileRow) (new : FileRow) (now : ℕ) (row : VersionRow) → IsVersion files now row → IsVersion (files ++ new ∷ []) now row
-version_push files new now row h =
-    let same = next_of-push files new row.file (omega (arith, h.numbered)) in
-    record { first = h.first; numbered = rw same h.numbered; opened = h.opened; closed = h.closed; ended = h.ended; open_end = λ none. h.open_end none ∙ sym same; content = h.content; written = h.written }
+version_push files new now row h = grind (arith, nat_tests, next_of-push)
 
 -- the new file has its first version, and each other what it had
 created_current : (w : World) (new : FileRow) (named : NameRow) (version : VersionRow) → next_of (w.files ++ new ∷ []) new.id ≡ version.number + 1 → AllByRecursion (IsFile w.made.files w.made.versions) w.files → HaveCurrent w → named.target ≡ File new.id → version.file ≡ new.id → version.ended ≡ None → (file : ℕ) → list_any (is_live_name_of file) (w.names ++ named ∷ []) ≡ true → list_any (is_current file (next_of (w.files ++ new ∷ []) file)) (w.versions ++ version ∷ []) ≡ true
@@ -174,36 +154,18 @@ module _ (w : World) (directory : ℕ) (name : List ℕ) (policy : Policy) where
 
     by : (part : Part) → Holds (created w directory name id policy) part
     by Counted = simp length-append (grind (arith, k.holds Counted))
-    by Files = record {
-      each = all-push (IsFile id (w.made.versions + 1)) w.files new
-          (all-weaker (IsFile w.made.files w.made.versions) (IsFile id (w.made.versions + 1)) w.files (λ row h. record { numbered = h.numbered; given = omega (arith, h.given); first = h.first; next = omega (arith, h.next); policy = h.policy }) (k.holds Files).each)
-          (record { numbered = omega arith; given = omega arith; first = omega arith; next = omega arith; policy = may.valid });
-      placed = later-push (λ earlier later. earlier.id < later.id) w.files new (k.holds Files).placed (all-weaker (IsFile w.made.files w.made.versions) (λ row. row.id < id) w.files (λ row h. omega (arith, h.given)) (k.holds Files).each);
-    }
+    by Files = grind (arith, nat_tests, k.holds Files, all-push, all-weaker, later-push)
     by Names = names_more files w.now w.names directory name (File id) may.named.free (omega (arith, new_next)) (record {
       each = all-weaker (IsNameRow w.files w.now) (IsNameRow files w.now) w.names (λ row h. record { there = there-push w.files new row.target h.there; born = h.born; dead = h.dead }) (k.holds Names).each;
       lives = (k.holds Names).lives;
     })
     by Homes = homes_more w.directories w.names named may.named.home may.named.reached tt (k.holds Homes)
     by Tree = tree_more w.now w.names directory name (File id) tt (k.holds Tree)
-    by Versions = record {
-      each = all-push (IsVersion files w.now) w.versions (first_version w id)
-          (all-weaker (IsVersion w.files w.now) (IsVersion files w.now) w.versions (version_push w.files new w.now) (k.holds Versions).each)
-          (record { first = omega arith; numbered = omega (arith, new_next); opened = omega arith; closed = omega arith; ended = tt; open_end = λ _. omega (arith, new_next); content = record { short = omega arith; slots = refl }; written = tt });
-      placed = later-push ArePlaced w.versions (first_version w id) (k.holds Versions).placed
-          (all-weaker (IsVersion w.files w.now) (λ row. ArePlaced row (first_version w id)) w.versions (λ row h.
-          let given = next_of-given w.made.files w.made.versions w.files row.file (k.holds Files).each (omega (arith, h.numbered)) in
-          record { after = grind (arith, nat_tests); ended = λ same. absurd (omega (arith, given, same)) }) (k.holds Versions).each);
-    }
-    by Drafts = record {
-      each = all-weaker (IsDraft w.files w.now) (IsDraft files w.now) w.drafts
-          (λ row h. let same = next_of-push w.files new row.file h.there in record { there = omega (arith, h.there, same); opened = h.opened; content = h.content; written = written_more (next_of w.files row.file) (next_of files row.file) row.cells (omega (arith, same)) h.written }) (k.holds Drafts).each;
-      placed = (k.holds Drafts).placed;
-    }
+    by Versions = grind (arith, nat_tests, k.holds Versions, k.holds Files, all-push, files, first_version, all-weaker, version_push, new_next, later-push, next_of-given)
+    by Drafts = grind (arith, nat_tests, k.holds Drafts, all-weaker, files, next_of-push, written_more)
     by Readers = read_on w.versions (w.versions ++ first_version w id ∷ []) w.handles (λ f n held. any_more (is_version f n) w.versions (first_version w id) held) (k.holds Readers)
     by Current = created_current w new named (first_version w id) (new_next ∙ omega arith) (k.holds Files).each (k.holds Current) refl refl refl
-    by Ended = all-push (IsOfLive (w.names ++ named ∷ [])) w.versions (first_version w id) (ended_more w.names named w.versions (k.holds Ended))
-        (λ _. let own : is_live_name_of id named ≡ true = grind (arith, nat_tests) in any_last (is_live_name_of id) w.names named own)
+    by Ended = grind (arith, nat_tests, k.holds Ended, all-push, first_version, ended_more, any_last)
     by Groups = groups_on w.made.groups w.files files w.now w.now w.groups (omega arith) (λ file h. omega (arith, h, next_of-push w.files new file h)) (k.holds Groups)
     by part = k.holds part
 

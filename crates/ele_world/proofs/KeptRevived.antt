@@ -23,9 +23,7 @@ pub record IsLast (w : World) (file : ℕ) (row : VersionRow) : Type 0 where
   pub is : IsVersion w.files w.now row
 
 pub last_is : (w : World) (file : ℕ) (row : VersionRow) → AllByRecursion (IsVersion w.files w.now) w.versions → current_of w file ≡ Some row → IsLast w file row
-last_is w file row each found =
-    let passes = found_passes (is_version file (next_of w.files file - 1)) w.versions row found in
-    record { own = grind (arith, nat_tests); number = grind (arith, nat_tests); is = all-found (is_version file (next_of w.files file - 1)) (IsVersion w.files w.now) w.versions row found each }
+last_is w file row each found = grind (arith, nat_tests, found_passes, all-found)
 
 module _ (w : World) (directory : ℕ) (name : List ℕ) (file : ℕ) where
   abbrev row : NameRow

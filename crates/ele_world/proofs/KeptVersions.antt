@@ -23,26 +23,11 @@ use Rattle.ele_world.proofs.Writers.{written_more}
 
 -- the version before the new one ends, and stays one
 ended_version : (files : List FileRow) (now : ℕ) (row : VersionRow) → IsVersion files now row → IsVersion files now (ended_at now row)
-ended_version files now row h = record { first = h.first; numbered = h.numbered; opened = h.opened; closed = h.closed; ended = by row.ended h.ended; open_end = λ e. absurd cc; content = h.content; written = h.written } where
-  by : (o : Option ℕ) → IfSome o (λ ended. (row.closed ≤ ended) × (ended ≤ now)) → (row.closed ≤ unwrap_or o now) × (unwrap_or o now ≤ now)
-  by None x = (h.closed, omega arith)
-  by (Some ended) x = x
+ended_version files now row h = grind (arith, nat_tests)
 
 -- the rows of a file that has numbered on: its own have ended
 numbered_version : (files : List FileRow) (now file : ℕ) (row : VersionRow) → (row.file ≡ file → IsEndedBy now row) → IsVersion files now row → IsVersion (update_first (is_file file) numbered_on files) now row
-numbered_version files now file row has_ended h = record {
-  first = h.first;
-  numbered = omega (arith, h.numbered, next_of-numbered_le files file row.file);
-  opened = h.opened;
-  closed = h.closed;
-  ended = h.ended;
-  open_end = λ none. by (eqb row.file file) refl none;
-  content = h.content;
-  written = h.written;
-} where
-  by : (b : Bool) → eqb row.file file ≡ b → row.ended ≡ None → row.number + 1 ≡ next_of (update_first (is_file file) numbered_on files) row.file
-  by true e none = let same : row.file ≡ file = grind (arith, nat_tests) in let ended = has_ended same in let is = ended.is in absurd cc
-  by false e none = let other : row.file ≢ file = grind (arith, nat_tests) in h.open_end none ∙ sym (next_of-numbered_other files file row.file other)
+numbered_version files now file row has_ended h = grind (arith, nat_tests, next_of-numbered_le, next_of-numbered_other)
 
 -- two rows in their order stay so when one of them ends
 placed_ended : (now : ℕ) (x y : VersionRow) → ArePlaced x y → ArePlaced (ended_at now x) y
@@ -94,47 +79,19 @@ module _ (w : World) (file opened : ℕ) (cells : List Cell) (may : MayAppend w 
 
   -- behind an old one, and in front of one
   behind_old : (row : VersionRow) → IsOld w.files w.now file row → is_version_after file (next_of w.files file) row ≡ false → ArePlaced row new
-  behind_old row h not_after = record {
-    after = by (eqb row.file file) refl;
-    ended = λ same. let was = h.0 same in (was.ended, was.is, was.by_now);
-  } where
-    by : (b : Bool) → eqb row.file file ≡ b → is_version_after row.file row.number new ≡ true
-    by true e =
-        let same : row.file ≡ file = grind (arith, nat_tests) in
-        let numbered = numbered_in w.files w.now file row h.1 same in grind (arith, nat_tests)
-    by false e = grind (arith, nat_tests)
+  behind_old row h not_after = grind (arith, nat_tests, numbered_in)
 
   before_old : (row : VersionRow) → IsOld w.files w.now file row → is_version_after file (next_of w.files file) row ≡ true → ArePlaced new row
-  before_old row h after = record {
-    after = after;
-    ended = λ same. let numbered = numbered_in w.files w.now file row h.1 (sym same) in absurd (let no : false ≡ true = grind (arith, nat_tests) in false≢true no);
-  }
+  before_old row h after = grind (arith, nat_tests, numbered_in, false≢true)
 
   new_is : IsVersion files w.now new
-  new_is = record {
-    first = omega (arith, may.there);
-    numbered = omega (arith, next_is);
-    opened = may.by_now;
-    closed = omega arith;
-    ended = by (is_live w file);
-    open_end = λ _. sym next_is;
-    content = may.content;
-    written = may.written;
-  } where
-    by : (b : Bool) → IfSome (cond b None (Some w.now)) (λ ended. (w.now ≤ ended) × (ended ≤ w.now))
-    by true = tt
-    by false = (omega arith, omega arith)
+  new_is = grind (arith, nat_tests, next_is)
 
   -- each live file has its current version: the file its new one, and each other what it had
   current_after : HoldsBeside file w Current → HaveCurrent (with_version w file opened cells)
   current_after current other live = by (eqb file other) refl where
     by : (b : Bool) → eqb file other ≡ b → list_any (is_current other (next_of files other)) (with_version w file opened cells).versions ≡ true
-    by true e =
-        let same : file ≡ other = grind (arith, nat_tests) in
-        let next : next_of files other ≡ next_of w.files file + 1 = subst (λ f. next_of files f ≡ next_of w.files file + 1) same next_is in
-        let alive : is_live w file ≡ true = subst (λ f. is_live w f ≡ true) (sym same) live in
-        let is : is_current other (next_of w.files file + 1) new ≡ true = rw alive (grind (arith, nat_tests)) in
-        rw (next, list_any-insert_before (is_version_after file (next_of w.files file)) (is_current other (next_of w.files file + 1)) new (with_end w file), is) refl
+    by true e = grind (arith, nat_tests, next_is, list_any-insert_before)
     by false e =
         let apart : other ≢ file = grind (arith, nat_tests) in
         let next = next_of-numbered_other w.files file other apart in
@@ -211,14 +168,10 @@ take_keeps w file number ended unread k = record { holds = by } where
 
   by : (part : Part) → Holds (after_change w (Take file number)) part
   by Counted = grind (arith, k.holds Counted, length-remove_first-le (is_version file number) w.versions)
-  by Versions = record {
-    each = all-remove_first (is_version file number) (IsVersion w.files w.now) w.versions (k.holds Versions).each;
-    placed = later-remove_first (is_version file number) ArePlaced w.versions (k.holds Versions).placed;
-  }
+  by Versions = grind (arith, nat_tests, k.holds Versions, all-remove_first, later-remove_first)
   by Readers = all-weaker (λ row. (reads_version file number row.reads ≡ false) × IsHeldRead w.versions row.reads) (λ row. IsHeldRead (remove_first (is_version file number) w.versions) row.reads) w.handles
       (λ row h. still row.reads h.0 h.1)
       (all-both (λ row. reads_version file number row.reads ≡ false) (λ row. IsHeldRead w.versions row.reads) w.handles (all-none (λ row. reads_version file number row.reads) w.handles unread) (k.holds Readers))
-  by Current = λ other live. list_any-remove_first (is_version file number) (is_current other (next_of w.files other)) w.versions
-      (λ row found. not_current other row (ended row found)) ∙ k.holds Current other live
+  by Current = grind (arith, nat_tests, k.holds Current, list_any-remove_first, not_current)
   by Ended = all-remove_first (is_version file number) (IsOfLive w.names) w.versions (k.holds Ended)
   by part = k.holds part

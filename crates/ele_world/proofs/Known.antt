@@ -67,9 +67,7 @@ pub record IsHeldRow (w : World) (file number : ℕ) (row : VersionRow) : Type 0
   pub is : IsVersion w.files w.now row
 
 pub held_row : (w : World) (file number : ℕ) (row : VersionRow) → IsWellFormed w → row_of w file number ≡ Some row → IsHeldRow w file number row
-held_row w file number row k found =
-    let passes = found_passes (is_version file number) w.versions row found in
-    record { own = grind (arith, nat_tests); numbered = grind (arith, nat_tests); is = all-found (is_version file number) (IsVersion w.files w.now) w.versions row found (k.holds Versions).each }
+held_row w file number row k found = grind (arith, nat_tests, k.holds Versions, found_passes, all-found)
 
 found_past : (w : World) (file number : ℕ) (row : VersionRow) → IsWellFormed w → row_of w file number ≡ Some row → IsPast w file number
 found_past w file number row k found =
@@ -78,10 +76,7 @@ found_past w file number row k found =
 
 -- its end, if it has one, has come
 ended_row : (w : World) (row : VersionRow) → IsVersion w.files w.now row → is_none row.ended ≡ false → IsEndedBy w.now row
-ended_row w row is ended = by row.ended refl where
-  by : (o : Option ℕ) → row.ended ≡ o → IsEndedBy w.now row
-  by None e = absurd (false≢true (sym ended ∙ ap is_none e))
-  by (Some at) e = record { ended = at; is = e; by_now = (let bound = rw e at is.ended in bound.1) }
+ended_row w row is ended = grind (arith, nat_tests, false≢true)
 
 known_past : (w : World) (known : Known) (file number : ℕ) (row : VersionRow) → IsWellFormed w → AreKnown w known → known file number ≡ Some row → IsPast w file number
 known_past w known file number row k s is = by (row_of w file number) refl where
@@ -102,15 +97,7 @@ same_on : (now : ℕ) (row : VersionRow) → IsOn now row row
 same_on now row = record { closed = refl; number = refl; ended = λ at h. h; lives = λ moment less h. h }
 
 ended_on : (now : ℕ) (row : VersionRow) → IsOn now row (ended_at now row)
-ended_on now row = record {
-  closed = refl;
-  number = refl;
-  ended = λ at h. record { ended = h.ended; is = ap (λ (o : Option ℕ). Some (unwrap_or o now)) h.is; by_now = h.by_now };
-  lives = λ moment less h. by moment row.ended less h;
-} where
-  by : (moment : ℕ) (o : Option ℕ) → moment < now → (nat_le row.closed moment && option_map_or (λ ended. nat_lt moment ended) o true) ≡ true → (nat_le row.closed moment && nat_lt moment (unwrap_or o now)) ≡ true
-  by moment None less h = grind (arith, nat_tests)
-  by moment (Some at) less h = h
+ended_on now row = grind (arith, nat_tests)
 
 pub record Becomes (now : ℕ) (old : VersionRow) (found : Option VersionRow) : Type 0 where
   pub row : VersionRow
@@ -194,11 +181,7 @@ module _ (event : Event) (first w : World) (change : Change) (before : Known) (t
 
   -- a new version's number wasn't given
   not_given : (file number : ℕ) (row : VersionRow) → row_of w file number ≡ None → row_of after file number ≡ Some row → IsPast w file number → ⊥
-  not_given file number row none found past = by (turned file number past) where
-    by : Turning file number → ⊥
-    by (Stays e) = absurd cc
-    by (Ends row e ended) = absurd cc
-    by (Goes row e gone known ended) = absurd cc
+  not_given file number row none found past = grind (arith, nat_tests, turned)
 
   from : (file number : ℕ) (row : VersionRow) → known_in after before file number ≡ Some row → From w after (known_in w before) file number row
   from file number row is = by (known_in w before file number) refl where

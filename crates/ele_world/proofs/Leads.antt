@@ -33,11 +33,7 @@ module _ (w : World) (path : List (List ℕ)) (at : ℕ × List ℕ) (policy : P
   next_is = next_of-new w.made.files w.made.versions w.files (new_file id policy) (k.holds Files).each (omega arith)
 
   current_is : current_of (created w at.0 at.1 id policy) id ≡ Some (first_version w id)
-  current_is =
-      let own : is_version id 1 (first_version w id) ≡ true = grind (arith, nat_tests) in
-      let none = not_found (is_version id 1) w.versions (all-weaker (λ row. row.file < id) (λ row. is_version id 1 row ≡ false) w.versions (λ row h. grind (arith, nat_tests)) (versions_before w k)) in
-      ap (λ n. find (is_version id (n - 1)) (w.versions ++ first_version w id ∷ [])) next_is
-      ∙ find-append (is_version id 1) w.versions (first_version w id ∷ []) ∙ rw (none, own) refl
+  current_is = grind (arith, nat_tests, not_found, all-weaker, versions_before, first_version, next_is, find-append)
 
   leads_to : parent_now w.names path ≡ Ok at → is_some (live_target w.names at.0 at.1) ≡ false → LeadsToNew path id (created w at.0 at.1 id policy)
   leads_to found free = record { named = named found free; empty = ap (option_map (λ (row : VersionRow). row.cells)) current_is }

@@ -1,5 +1,6 @@
 -- After a link both paths lead to the file; after an unlink its path leads nowhere, and with the last name the file ended.
-use Rattle.std.proofs.Common.{◌≡◌, ℕ, List, Option, Some, Ok, refl, ap, sym, ◌∙◌}
+use Rattle.std.proofs.lemmas.Bool.Decides.{nat_tests}
+use Rattle.std.proofs.Common.{arith, ◌≡◌, ℕ, List, Option, Some, Ok, refl, ap, sym, ◌∙◌}
 use Rattle.std.specs.Prelude.{unwrap_or}
 use Rattle.std.specs.Option.{option_map}
 use Rattle.ele_world.specs.Change.{after_change, EndFileName}
@@ -21,22 +22,7 @@ use Rattle.ele_world.proofs.Walks.{file_of, last_names, new_leads, target_live, 
 -- ---- a link
 
 pub link_leads : LinkLeads
-link_leads w from to k = in_all w (λ answer. answer.0 ≡ Done → LeadsToSame w from to (answer.1)) (plan w (Link from to)) (
-  λ refusal e. absurd cc,
-  λ file leads. (
-    λ refusal e. absurd cc,
-    λ at found. (
-      λ e. absurd cc,
-      λ free. (
-        λ e. absurd cc,
-        λ names e. record {
-          leads = ap file_at (new_leads w.names to at (File file) w.now found free) ∙ sym leads;
-          stays = ap file_at (walk-push w.names (born_row at.0 at.1 (File file) w.now) (Directory root) from (File file) (file_of (walk_now w.names from) file leads)) ∙ sym leads;
-        },
-      ),
-    ),
-  ),
-)
+link_leads w from to k = grind (arith, nat_tests, in_all, new_leads, walk-push, file_of)
 
 -- ---- an unlink
 

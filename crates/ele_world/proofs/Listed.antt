@@ -42,17 +42,7 @@ module _ (d t : ℕ) where
 
   -- behind such a row there is no other
   alone : (n : List ℕ) (row : NameRow) (rows : List NameRow) → stood n row ≡ true → AllByRecursion (AreApart row) rows → find (stood n) rows ≡ None
-  alone n row rows is apart = not_found (stood n) rows (all-weaker (AreApart row) (λ other. stood n other ≡ false) rows (λ other far. by other (stood n other) refl far) apart) where
-    by : (other : NameRow) (b : Bool) → stood n other ≡ b → AreApart row other → b ≡ false
-    by other false e far = refl
-    by other true e far =
-        let here : row.directory ≡ other.directory = grind (arith, nat_tests) in
-        let this : row.name ≡ n = (bytes_eq-Decides row.name n).0 (grind (arith, nat_tests)) in
-        let that : other.name ≡ n = (bytes_eq-Decides other.name n).0 (grind (arith, nat_tests)) in
-        let dead = far here (this ∙ sym that) in
-        let born : other.birth ≤ t = grind (arith, nat_tests) in
-        let lives : lives_past t row ≡ true = grind (arith, nat_tests) in
-        over row.death dead.0 other.birth t dead.1 dead.2 born lives
+  alone n row rows is apart = grind (arith, nat_tests, not_found, all-weaker, bytes_eq-Decides, over)
 
   listed_found : (n : List ℕ) (rows : List NameRow) (listed : List Entry) → AllLater AreApart rows
       → lookup (is_at (slice_cmp nat_cmp n)) (fold more listed (filter (stood_in d t) rows)) ≡ option_or (target_at rows t d n) (lookup (is_at (slice_cmp nat_cmp n)) listed)

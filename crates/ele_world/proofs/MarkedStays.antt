@@ -1,5 +1,6 @@
 -- A version that was current at a mark of a group with its file is held after any event.
-use Rattle.std.proofs.Common.{inl, inr, sym, ◌∙◌}
+use Rattle.std.proofs.lemmas.Bool.Decides.{nat_tests}
+use Rattle.std.proofs.Common.{arith, inl, inr, sym, ◌∙◌}
 use Rattle.std.proofs.lemmas.Bool.{false≢true}
 use Rattle.ele_lists.proofs.Edits.{all-weaker}
 use Rattle.ele_world.specs.MarkedStays.{IsMarkedHeld, MarkedStays}

@@ -72,11 +72,7 @@ module _ {X : Type 0} where
 
   -- a test of the elements beside the first that passes p
   any_around : (t : X → Bool) (s : Bool) (before : List X) (x y : X) (behind : List X) → t y ≡ (t x || s) → list_any t (before ++ y ∷ behind) ≡ (list_any t (before ++ x ∷ behind) || s)
-  any_around t s before x y behind more =
-      list_any-append t before (y ∷ behind)
-      ∙ ap (λ b. list_any t before || (b || list_any t behind)) more
-      ∙ added (list_any t before) (t x) s (list_any t behind)
-      ∙ ap (λ b. b || s) (sym (list_any-append t before (x ∷ behind)))
+  any_around t s before x y behind more = grind (arith, nat_tests, list_any-append, added)
 
   module _ (p t : X → Bool) (f : X → X) (xs : List X) (x : X) (s : Bool) (found : find p xs ≡ Some x) where
     cut : IsCut p xs x
@@ -86,16 +82,10 @@ module _ {X : Type 0} where
     changed = ap (update_first p f) cut.whole ∙ update_first-at p f cut.before x cut.behind cut.none cut.passes
 
     any_more : t (f x) ≡ (t x || s) → list_any t (update_first p f xs) ≡ (list_any t xs || s)
-    any_more more =
-        ap (list_any t) changed
-        ∙ any_around t s cut.before x (f x) cut.behind more
-        ∙ ap (λ zs. list_any t zs || s) (sym cut.whole)
+    any_more more = grind (arith, nat_tests, changed, any_around)
 
     any_fewer : t x ≡ (t (f x) || s) → list_any t xs ≡ (list_any t (update_first p f xs) || s)
-    any_fewer more =
-        ap (list_any t) cut.whole
-        ∙ any_around t s cut.before (f x) x cut.behind more
-        ∙ ap (λ zs. list_any t zs || s) (sym changed)
+    any_fewer more = grind (arith, nat_tests, any_around, changed)
 
 -- ---- numbers, of which none stands twice
 
@@ -105,24 +95,11 @@ AreApart xs = AllLater (λ earlier later. (earlier == later) ≡ false) xs
 module _ (q : ℕ → Bool) (k : ℕ) where
   any_taken : (xs : List ℕ) → list_any (λ x. x == k) xs ≡ true → list_any q xs ≡ (list_any q (remove_first (λ x. x == k) xs) || list_any q (k ∷ []))
   any_taken [] h = absurd (false≢true h)
-  any_taken (x ∷ xs) h = elim (x == k) as (λ b. (x == k) ≡ b → (q x || list_any q xs) ≡ (list_any q (cond b xs (x ∷ remove_first (λ x. x == k) xs)) || list_any q (k ∷ []))) [
-    | true ↦ λ e. let same : x ≡ k = grind (arith, nat_tests) in rw same (turned (q k) (list_any q xs))
-    | false ↦ λ e. rw (any_taken xs (rw e at h)) (regrouped (q x) (list_any q (remove_first (λ x. x == k) xs)) (list_any q (k ∷ [])))
-  ] refl where
-    turned : (a b : Bool) → (a || b) ≡ (b || (a || false))
-    turned true b = sym (or_true b)
-    turned false b = sym (or_false b)
-
-    regrouped : (a b c : Bool) → (a || (b || c)) ≡ ((a || b) || c)
-    regrouped true b c = refl
-    regrouped false b c = refl
+  any_taken (x ∷ xs) h = grind (arith, nat_tests, or_true, or_false, any_taken xs)
 
   any_but : (xs : List ℕ) → AreApart xs → list_any q (remove_first (λ x. x == k) xs) ≡ list_any (λ x. q x && not (x == k)) xs
   any_but [] apart = refl
-  any_but (x ∷ xs) apart = elim (x == k) as (λ b. (x == k) ≡ b → list_any q (cond b xs (x ∷ remove_first (λ x. x == k) xs)) ≡ ((q x && not b) || list_any (λ x. q x && not (x == k)) xs)) [
-    | true ↦ λ e. rw (and_false (q x)) (any_same q (λ x. q x && not (x == k)) xs (all-weaker (λ y. (x == y) ≡ false) (λ y. q y ≡ (q y && not (y == k))) xs (λ y other. let fails : (y == k) ≡ false = grind (arith, nat_tests) in rw fails (sym (and_true (q y)))) apart.0))
-    | false ↦ λ e. rw (and_true (q x), any_but xs apart.1) refl
-  ] refl
+  any_but (x ∷ xs) apart = grind (arith, nat_tests, and_false, any_same, all-weaker, and_true, any_but xs apart.1)
 
 gone : (k : ℕ) (xs : List ℕ) → AreApart xs → list_any (λ x. x == k) (remove_first (λ x. x == k) xs) ≡ false
 gone k xs apart = any_but (λ x. x == k) k xs apart ∙ none_any (λ x. (x == k) && not (x == k)) xs (all-any (λ x. ((x == k) && not (x == k)) ≡ false) xs (λ x. never (x == k))) where
@@ -201,13 +178,11 @@ module _ (rows : List GroupRow) (name : List ℕ) (file closed : ℕ) (ended : O
 
   -- of a group of another name nothing
   others_count : (left : Option ℕ) (row : GroupRow) → is_group name row ≡ false → marks_still left row ≡ marks_row row
-  others_count left row other = ap (λ b. is_member file row && b) (any_same (λ mark. covers_moment closed ended mark && not (is_group name row && is_left_out left mark)) (covers_moment closed ended) row.marks
-      (all-any (λ mark. (covers_moment closed ended mark && not (is_group name row && is_left_out left mark)) ≡ covers_moment closed ended mark) row.marks (λ mark. rw other (and_true (covers_moment closed ended mark)))))
+  others_count left row other = grind (arith, nat_tests, any_same, all-any, and_true)
 
   -- of the group itself all marks
   none_counts : (row : GroupRow) → is_group name row ≡ true → marks_still None row ≡ false
-  none_counts row own = ap (λ b. is_member file row && b) (none_any (λ mark. covers_moment closed ended mark && not (is_group name row && true)) row.marks
-      (all-any (λ mark. (covers_moment closed ended mark && not (is_group name row && true)) ≡ false) row.marks (λ mark. rw own (and_false (covers_moment closed ended mark))))) ∙ and_false (is_member file row)
+  none_counts row own = grind (arith, nat_tests, none_any, all-any, and_false)
 
   -- or that one
   one_counts : (mark : ℕ) (row : GroupRow) → is_group name row ≡ true → AreApart row.marks → marks_row (unmarks mark row) ≡ marks_still (Some mark) row
@@ -215,23 +190,12 @@ module _ (rows : List GroupRow) (name : List ℕ) (file closed : ℕ) (ended : O
 
   module _ (named : AllLater (λ (earlier : GroupRow) later. bytes_eq earlier.name later.name ≡ false) rows) where
     other_name : (row other : GroupRow) → is_group name row ≡ true → bytes_eq row.name other.name ≡ false → is_group name other ≡ false
-    other_name row other own apart = elim (is_group name other) as (λ b. is_group name other ≡ b → b ≡ false) [
-      | true ↦ λ e. absurd (true≢false (sym ((bytes_eq-Decides row.name other.name).1 ((bytes_eq-Decides row.name name).0 own ∙ sym ((bytes_eq-Decides other.name name).0 e))) ∙ apart))
-      | false ↦ λ e. refl
-    ] refl
+    other_name row other own apart = grind (arith, nat_tests, true≢false, bytes_eq-Decides)
 
     -- the group stands between others
     still_is : (left : Option ℕ) (row : GroupRow) (found : find (is_group name) rows ≡ Some row)
         → let cut = find-cut (is_group name) rows row found in is_marked_without rows name left file closed ended ≡ (list_any marks_row cut.before || (marks_still left row || list_any marks_row cut.behind))
-    still_is left row found =
-        let cut = find-cut (is_group name) rows row found in
-        let behind = (later-around (λ (earlier : GroupRow) later. bytes_eq earlier.name later.name ≡ false) cut.before row cut.behind (subst (AllLater (λ (earlier : GroupRow) later. bytes_eq earlier.name later.name ≡ false)) cut.whole named)).1 in
-        ap (list_any (marks_still left)) cut.whole
-        ∙ list_any-append (marks_still left) cut.before (row ∷ cut.behind)
-        ∙ ap (λ b. b || (marks_still left row || list_any (marks_still left) cut.behind))
-        (any_same (marks_still left) marks_row cut.before (all-weaker (λ x. is_group name x ≡ false) (λ x. marks_still left x ≡ marks_row x) cut.before (others_count left) cut.none))
-        ∙ ap (λ b. list_any marks_row cut.before || (marks_still left row || b))
-        (any_same (marks_still left) marks_row cut.behind (all-weaker (λ (x : GroupRow). bytes_eq row.name x.name ≡ false) (λ x. marks_still left x ≡ marks_row x) cut.behind (λ x apart. others_count left x (other_name row x cut.passes apart)) behind))
+    still_is left row found = grind (arith, nat_tests, find-cut, later-around, list_any-append, any_same, all-weaker, others_count, other_name)
 
     still_changed : (left : Option ℕ) (f : GroupRow → GroupRow) (row : GroupRow) → find (is_group name) rows ≡ Some row → marks_row (f row) ≡ marks_still left row
         → is_marked (update_first (is_group name) f rows) file closed ended ≡ is_marked_without rows name left file closed ended
@@ -254,10 +218,7 @@ module _ (rows : List GroupRow) (name : List ℕ) (file closed : ℕ) (ended : O
     pub grouped_still : is_marked (without_group name rows) file closed ended ≡ is_marked_without rows name None file closed ended
     grouped_still = by (find (is_group name) rows) refl where
       by : (o : Option GroupRow) → find (is_group name) rows ≡ o → is_marked (without_group name rows) file closed ended ≡ is_marked_without rows name None file closed ended
-      by None e =
-          let none = all-not_found (is_group name) rows e in
-          ap (list_any marks_row) (remove_first-unfound (is_group name) rows none)
-          ∙ any_same marks_row (marks_still None) rows (all-weaker (λ x. is_group name x ≡ false) (λ x. marks_row x ≡ marks_still None x) rows (λ x other. sym (others_count None x other)) none)
+      by None e = grind (arith, nat_tests, all-not_found, remove_first-unfound, any_same, all-weaker, others_count)
       by (Some row) e =
           let cut = find-cut (is_group name) rows row e in
           ap (list_any marks_row) (ap (remove_first (is_group name)) cut.whole ∙ remove_first-at (is_group name) cut.before row cut.behind cut.none cut.passes)

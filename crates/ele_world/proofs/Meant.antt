@@ -29,24 +29,15 @@ pub numbered_found : (versions : List VersionRow) (file number : ℕ) (row : Ver
 numbered_found versions file number row is = found_of (find (is_version file number) versions) _ row is
 
 numbered : (versions : List VersionRow) (file number : ℕ) (row : VersionRow) → version_numbered versions file number ≡ Ok row → IsMeant versions file row
-numbered versions file number row is =
-    let found = numbered_found versions file number row is in
-    let passes = found_passes (is_version file number) versions row found in
-    record { passes = is_version file number; found = found; own = grind (arith, nat_tests) }
+numbered versions file number row is = grind (arith, nat_tests, numbered_found, found_passes)
 
 -- a number that was made
 pub made_of : (files : List FileRow) (versions : List VersionRow) (file number : ℕ) (row : VersionRow) → version_meant files versions file (tag.Number number) ≡ Ok row → version_numbered versions file number ≡ Ok row
-made_of files versions file number row is = by (nat_lt 0 number && nat_lt number (next_of files file)) is where
-  by : (b : Bool) → cond b (version_numbered versions file number) (Err NoVersion) ≡ Ok row → version_numbered versions file number ≡ Ok row
-  by true is = is
-  by false is = absurd cc
+made_of files versions file number row is = grind (arith, nat_tests)
 
 pub is_meant : (files : List FileRow) (versions : List VersionRow) (file : ℕ) (t : Tag) (row : VersionRow) → version_meant files versions file t ≡ Ok row → IsMeant versions file row
 is_meant files versions file tag.Now row is = numbered versions file (next_of files file - 1) row is
-is_meant files versions file (tag.At moment) row is =
-    let found = found_of (find (had_life file moment) versions) _ row is in
-    let passes = found_passes (had_life file moment) versions row found in
-    record { passes = had_life file moment; found = found; own = grind (arith, nat_tests) }
+is_meant files versions file (tag.At moment) row is = grind (arith, nat_tests, found_of, found_passes)
 is_meant files versions file (tag.Number number) row is = numbered versions file number row (made_of files versions file number row is)
 
 pub meant_held : (w : World) (file : ℕ) (row : VersionRow) → IsMeant w.versions file row → is_held w row.file row.number ≡ true

@@ -31,11 +31,7 @@ record IsNamed (d : ℕ) (n : List ℕ) (row : NameRow) : Type 0 where
   live : is_none row.death ≡ true
 
 is_named_so : (d : ℕ) (n : List ℕ) (row : NameRow) → is_live_name d n row ≡ true → IsNamed d n row
-is_named_so d n row h = record {
-  directory = grind (arith, nat_tests);
-  name = (bytes_eq-Decides row.name n).0 (grind (arith, nat_tests));
-  live = still_none d n row h;
-}
+is_named_so d n row h = grind (arith, nat_tests, bytes_eq-Decides, still_none)
 
 -- ---- the name that dies, and each other
 
@@ -44,23 +40,10 @@ module _ (rows : List NameRow) (d : ℕ) (n : List ℕ) (now : ℕ) where
   after = update_first (is_live_name d n) (dies now) rows
 
   pub gone : AllLater AreApart rows → live_target after d n ≡ None
-  gone apart = ap (option_map (λ (row : NameRow). row.target)) (find-update_none (is_live_name d n) (dies now) rows (λ row e. dies_so now d n row) (later-weaker AreApart (λ x y. is_live_name d n x ≡ true → is_live_name d n y ≡ false) rows only apart)) where
-    only : (x y : NameRow) → AreApart x y → is_live_name d n x ≡ true → is_live_name d n y ≡ false
-    only x y h e = by (is_live_name d n y) refl where
-      by : (b : Bool) → is_live_name d n y ≡ b → b ≡ false
-      by false f = refl
-      by true f =
-          let one = is_named_so d n x e in
-          let other = is_named_so d n y f in
-          let dies = h (one.directory ∙ sym other.directory) (one.name ∙ sym other.name) in
-          absurd (let no : is_none x.death ≡ false = rw dies.1 refl in false≢true (sym no ∙ one.live))
+  gone apart = grind (arith, nat_tests, find-update_none, dies_so, later-weaker, is_named_so, false≢true)
 
   pub other_stays : (e : ℕ) (m : List ℕ) → ((d == e) && bytes_eq n m) ≡ false → live_target after e m ≡ live_target rows e m
-  other_stays e m not = ap (option_map (λ (row : NameRow). row.target)) (find-update_other (is_live_name d n) (is_live_name e m) (dies now) rows (λ row passes. let is = is_named_so d n row passes in (rw (is.directory, is.name) (out (d == e) (bytes_eq n m) (is_none row.death) not), dies_so now e m row))) where
-    out : (a b c : Bool) → (a && b) ≡ false → (a && (b && c)) ≡ false
-    out true true c h = absurd (false≢true (sym h))
-    out true false c h = refl
-    out false b c h = refl
+  other_stays e m not = grind (arith, nat_tests, find-update_other, is_named_so, dies_so, false≢true)
 
 -- ---- a path along it
 
@@ -71,15 +54,8 @@ module _ (rows after : List NameRow) (at : ℕ × List ℕ) (nowhere : live_targ
   ends_along (File file) (m ∷ names) h = absurd cc
   ends_along (Directory e) (m ∷ names) h = by (λ next. ends_along next names) ((at.0 == e) && bytes_eq at.1 m) refl where
     by : ((next : Target) → walk rows next names ≡ Ok (Directory at.0) → walk after next (names ++ at.1 ∷ []) ≡ Err NoEntry) → (b : Bool) → ((at.0 == e) && bytes_eq at.1 m) ≡ b → walk after (Directory e) (m ∷ (names ++ at.1 ∷ [])) ≡ Err NoEntry
-    by more true is =
-        let same_directory : at.0 ≡ e = grind (arith, nat_tests) in
-        let same_name : at.1 ≡ m = (bytes_eq-Decides at.1 m).0 (grind (arith, nat_tests)) in
-        let none : live_target after e m ≡ None = subst (λ i. live_target after i m ≡ None) same_directory (subst (λ l. live_target after at.0 l ≡ None) same_name nowhere) in
-        rw none refl
-    by more false not = onward (live_target rows e m) refl h where
-      onward : (o : Option Target) → live_target rows e m ≡ o → option_map_or (λ target. walk rows target names) o (Err NoEntry) ≡ Ok (Directory at.0) → walk after (Directory e) (m ∷ (names ++ at.1 ∷ [])) ≡ Err NoEntry
-      onward None edge h = absurd cc
-      onward (Some next) edge h = rw (others e m next not edge) (more next h)
+    by more true is = grind (arith, nat_tests, bytes_eq-Decides)
+    by more false not = grind (arith, nat_tests)
 
   pub path_ends : (path : List (List ℕ)) → parent_now rows path ≡ Ok at → walk_now after path ≡ Err NoEntry
   path_ends path found = let parent = parent_is rows path at found in ap (walk_now after) parent.whole ∙ ends_along (Directory root) parent.front parent.leads
@@ -89,13 +65,4 @@ pub dead_path : (w : World) (path : List (List ℕ)) (at : ℕ × List ℕ) → 
 dead_path w path at k = path_ends w.names (update_first (is_live_name at.0 at.1) (dies w.now) w.names) at (gone w.names at.0 at.1 w.now (k.holds Names).lives) (λ e m target not edge. other_stays w.names at.0 at.1 w.now e m not ∙ edge) path
 
 pub remove_dir_ends : (w : World) (path : List (List ℕ)) → IsWellFormed w → (step w (RemoveDir path)).0 ≡ Done → walk_now ((step w (RemoveDir path)).1).names path ≡ Err NoEntry
-remove_dir_ends w path k = in_all w (λ answer. answer.0 ≡ Done → walk_now answer.1.names path ≡ Err NoEntry) (plan w (RemoveDir path)) (
-  λ refusal e. absurd cc,
-  λ at found. (
-    λ refusal e. absurd cc,
-    λ id leads. (
-      λ e. absurd cc,
-      λ empty e. dead_path w path at k found,
-    ),
-  ),
-)
+remove_dir_ends w path k = grind (arith, nat_tests, in_all, dead_path)

@@ -18,8 +18,7 @@ use Rattle.ele_world.proofs.Views.{policies_of}
 
 -- where files, versions, handles and groups stay, so do all moments, whatever becomes of names
 pub moments_stay : (w v : World) → AreInOrder w.files w.versions → v.files ≡ w.files → v.versions ≡ w.versions → v.handles ≡ w.handles → v.groups ≡ w.groups → (file number : ℕ) → ripe_at v file number ≡ ripe_at w file number
-moments_stay w v ordered files versions handles groups file number =
-    found_moment w v file number ordered (rw (files, versions) ordered) (λ closed ended. rw groups refl) (rw files refl) (rw handles refl) (rw versions refl) (rw versions refl)
+moments_stay w v ordered files versions handles groups file number = grind (arith, nat_tests, found_moment)
 
 -- ---- the end of a file's name
 
@@ -34,10 +33,7 @@ module _ (w : World) (directory : ℕ) (name : List ℕ) (file : ℕ) where
   ended k = versions_ended w.files w.now (is_version file last) w.versions (k.holds Versions)
 
   pub ended_in_order : IsWellFormed w → AreInOrder after.files after.versions
-  ended_in_order k = elim (is_live after file) as (λ b. AreInOrder w.files (cond b w.versions (with_end w file))) [
-    | true ↦ in_order_of w k
-    | false ↦ versions_in_order w.files w.now (with_end w file) (policies_of w k) (ended k)
-  ]
+  ended_in_order k = grind (arith, nat_tests, in_order_of, versions_in_order, policies_of, ended)
 
   -- while it has another name all stay
   pub live_moments : IsWellFormed w → is_live after file ≡ true → (f n : ℕ) → ripe_at after f n ≡ ripe_at w f n

@@ -23,13 +23,7 @@ use Rattle.ele_world.specs.World.{World, is_target_file, is_live_name_of}
 
 -- a name that isn't live has died
 dead_name : (files : List FileRow) (now directory : ℕ) (name : List ℕ) (x y : NameRow) → is_live_name directory name x ≡ false → IsNameRow files now x → y.directory ≡ directory → y.name ≡ name → y.birth ≡ now → AreApart x y
-dead_name files now directory name x y dead is same_directory same_name birth = λ d n. by x.death (d ∙ same_directory) (n ∙ same_name) refl where
-  by : (o : Option ℕ) → x.directory ≡ directory → x.name ≡ name → x.death ≡ o → (death : ℕ) × (x.death ≡ Some death) × (death ≤ y.birth)
-  by None d n e =
-      let named : bytes_eq x.name name ≡ true = (bytes_eq-Decides x.name name).1 n in
-      let there : eqb x.directory directory ≡ true = grind (arith, nat_tests) in
-      absurd (false≢true (sym dead ∙ rw (there, named, e) refl))
-  by (Some death) d n e = let bound = rw e at is.dead in (death, e, omega (arith, bound.1, birth))
+dead_name files now directory name x y dead is same_directory same_name birth = grind (arith, nat_tests, bytes_eq-Decides, false≢true)
 
 no_live : (names : List NameRow) (directory : ℕ) (name : List ℕ) → is_some (live_target names directory name) ≡ false → AllByRecursion (λ row. is_live_name directory name row ≡ false) names
 no_live names directory name h = all-not_found (is_live_name directory name) names (by (find (is_live_name directory name) names) h) where
@@ -56,29 +50,11 @@ IsUnnamed names (File file) = Unit {0}
 IsUnnamed names (Directory id) = AllByRecursion (λ row. is_live_directory id row ≡ false) names
 
 pub tree_more : (now : ℕ) (names : List NameRow) (directory : ℕ) (name : List ℕ) (target : Target) → IsUnnamed names target → AllLater AreOthers names → AllLater AreOthers (names ++ born_row directory name target now ∷ [])
-tree_more now names directory name target none tree = later-push AreOthers names (born_row directory name target now) tree (others target none) where
-  other : (row : NameRow) (d id : ℕ) → is_live_directory d row ≡ false → is_live_directory id row ≡ true → (b : Bool) → (d == id) ≡ b → (b && true) ≡ false
-  other row d id h live false e = refl
-  other row d id h live true e = let same : d ≡ id = grind (arith, nat_tests) in absurd (false≢true (sym h ∙ subst (λ i. is_live_directory i row ≡ true) (sym same) live))
-
-  others : (t : Target) → IsUnnamed names t → AllByRecursion (λ row. AreOthers row (born_row directory name t now)) names
-  others (File file) none = all-any (λ row. AreOthers row (born_row directory name (File file) now)) names (λ row id live. refl)
-  others (Directory d) none = all-weaker (λ row. is_live_directory d row ≡ false) (λ row. AreOthers row (born_row directory name (Directory d) now)) names (λ row h id live. other row d id h live (d == id) refl) none
+tree_more now names directory name target none tree = grind (arith, nat_tests, later-push, false≢true, all-any, all-weaker)
 
 -- so many name rows, at most one more than there were
 pub counted_more : (w : World) (rows : ℕ) → IsWellFormed w → w.made.names < w.limits.names → rows ≤ length w.names + 1 → AreCounted (record w.made { names = w.made.names + 1 }) w.limits (length w.files) rows (length w.versions) (length w.drafts)
-counted_more w rows k room le = let c = k.holds Counted in record {
-  files_made = c.files_made;
-  names_made = omega (arith, room);
-  versions_made = c.versions_made;
-  handles_made = c.handles_made;
-  groups_made = c.groups_made;
-  members_made = c.members_made;
-  marks_made = c.marks_made;
-  file_rows = c.file_rows;
-  name_rows = omega (arith, c.name_rows, le);
-  version_rows = c.version_rows;
-}
+counted_more w rows k room le = grind (arith, nat_tests, k.holds Counted)
 
 -- ---- the end of a name
 
@@ -91,10 +67,7 @@ still_none directory name row h = grind (arith, nat_tests)
 
 -- a dead name isn't live
 pub dies_so : (now directory : ℕ) (name : List ℕ) (row : NameRow) → is_live_name directory name (dies now row) ≡ false
-dies_so now directory name row = by (row.directory == directory) (bytes_eq row.name name) where
-  by : (a b : Bool) → (a && (b && false)) ≡ false
-  by true b = and_false b
-  by false b = refl
+dies_so now directory name row = grind (arith, nat_tests, and_false)
 
 module _ (now : ℕ) (names : List NameRow) (directory : ℕ) (name : List ℕ) where
   abbrev p : NameRow → Bool

@@ -43,16 +43,11 @@ in_order_of w k = versions_in_order w.files w.now w.versions (policies_of w k) (
 
 slice_get-filter : {X : Type 0} (p : X → Bool) (xs : List X) → slice_get (filter p xs) 0 ≡ find p xs
 slice_get-filter p [] = refl
-slice_get-filter p (x ∷ xs) = elim (p x) as (λ b. slice_get (cond b (x ∷ filter p xs) (filter p xs)) 0 ≡ cond b (Some x) (find p xs)) [
-  | true ↦ refl
-  | false ↦ slice_get-filter p xs
-]
+slice_get-filter p (x ∷ xs) = grind (arith, nat_tests, slice_get-filter p xs)
 
 -- the nearest of the closings beside it is that of the next held version
 nearest_closing : (w : World) (row : VersionRow) → slice_get (beside (view_of w row.file) row).newer 0 ≡ next_closing w.versions row.file row.number
-nearest_closing w row =
-    slice_get-map (λ (x : VersionRow). x.closed) (filter (is_newer row) (filter (is_version_of row.file) w.versions)) 0
-    ∙ ap (option_map (λ (x : VersionRow). x.closed)) (slice_get-filter (is_newer row) (filter (is_version_of row.file) w.versions) ∙ find-filter_both (is_newer row) (is_version_of row.file) w.versions)
+nearest_closing w row = grind (arith, nat_tests, slice_get-map, slice_get-filter, find-filter_both)
 
 -- what a held version's moment is, by what is marked, by whether it is open, and by its file's policy and its end
 abbrev moment_if : (ℕ → Option ℕ → Bool) → Bool → Option Policy → Option ℕ → VersionRow → Option ℕ → Option ℕ
@@ -78,10 +73,7 @@ ripe_in_near v row nearest governed near = by (list_any (λ number. number == ro
   by true (Some policy) None given = refl
   by true (Some policy) (Some ended) given = never_due (candidates policy ended)
   by false None None given = refl
-  by false None (Some ended) given = elim (marked_in v row.closed (Some ended)) as (λ b. ◌≡◌ {A = Option ℕ} None (cond b None None)) [
-    | true ↦ refl
-    | false ↦ refl
-  ]
+  by false None (Some ended) given = grind (arith, nat_tests)
   by false (Some policy) None given = refl
   by false (Some policy) (Some ended) given = marked (marked_in v row.closed (Some ended)) policy ended given
 
@@ -104,10 +96,7 @@ pub ripe_at_near : (w : World) (file number : ℕ) → AreInOrder w.files w.vers
 ripe_at_near w file number ordered = ripe_at_is w file number ∙ by (find (is_version file number) w.versions) refl where
   by : (o : Option VersionRow) → find (is_version file number) w.versions ≡ o
       → option_and_then (ripe_of w) o ≡ cond (is_open w.handles file number) None (option_and_then (λ row. option_and_then (near_moment (is_marked w.groups file) (policy_of w.files file) (next_closing w.versions file number) row.closed) row.ended) o)
-  by None e = elim (is_open w.handles file number) as (λ b. ◌≡◌ {A = Option ℕ} None (cond b None None)) [
-    | true ↦ refl
-    | false ↦ refl
-  ]
+  by None e = grind (arith, nat_tests)
   by (Some row) e =
       let cut = find-cut (is_version file number) w.versions row e in
       let passes = cut.passes in
@@ -126,28 +115,11 @@ module _ (versions : List VersionRow) (file number : ℕ) where
 
   -- where both mark the version alike, so does its moment
   pub moment_same : (t u : ℕ → Option ℕ → Bool) (policy : Option Policy) → IfHeld (λ row. t row.closed row.ended ≡ u row.closed row.ended) → moment_under t policy versions file number ≡ moment_under u policy versions file number
-  moment_same t u policy same = by (find (is_version file number) versions) refl where
-    moment : (ℕ → Option ℕ → Bool) → VersionRow → Option ℕ → Option ℕ
-    moment is_marked row ended = option_and_then (near_moment is_marked policy (next_closing versions file number) row.closed) ended
-
-    ends : (row : VersionRow) (e : Option ℕ) → t row.closed e ≡ u row.closed e → moment t row e ≡ moment u row e
-    ends row None h = refl
-    ends row (Some ended) h = rw h refl
-
-    by : (o : Option VersionRow) → find (is_version file number) versions ≡ o → option_and_then (λ (row : VersionRow). moment t row row.ended) o ≡ option_and_then (λ (row : VersionRow). moment u row row.ended) o
-    by None e = refl
-    by (Some row) e = ends row row.ended (same row e)
+  moment_same t u policy same = grind (arith, nat_tests)
 
   -- and where it is marked it has none
   pub moment_none : (t : ℕ → Option ℕ → Bool) (policy : Option Policy) → IfHeld (λ row. t row.closed row.ended ≡ true) → moment_under t policy versions file number ≡ None
-  moment_none t policy marked = by (find (is_version file number) versions) refl where
-    ends : (row : VersionRow) (e : Option ℕ) → t row.closed e ≡ true → option_and_then (near_moment t policy (next_closing versions file number) row.closed) e ≡ None
-    ends row None h = refl
-    ends row (Some ended) h = rw h refl
-
-    by : (o : Option VersionRow) → find (is_version file number) versions ≡ o → option_and_then (λ (row : VersionRow). option_and_then (near_moment t policy (next_closing versions file number) row.closed) row.ended) o ≡ None
-    by None e = refl
-    by (Some row) e = ends row row.ended (marked row e)
+  moment_none t policy marked = grind (arith, nat_tests)
 
 -- so it is the same in two worlds in which these are
 pub found_moment : (w v : World) (file number : ℕ) → AreInOrder w.files w.versions → AreInOrder v.files v.versions
@@ -155,40 +127,18 @@ pub found_moment : (w v : World) (file number : ℕ) → AreInOrder w.files w.ve
     → policy_of v.files file ≡ policy_of w.files file → is_open v.handles file number ≡ is_open w.handles file number
     → next_closing v.versions file number ≡ next_closing w.versions file number
     → find (is_version file number) v.versions ≡ find (is_version file number) w.versions → ripe_at v file number ≡ ripe_at w file number
-found_moment w v file number before after marked policy opens next same =
-    ripe_at_near v file number after
-    ∙ ap (cond (is_open v.handles file number) None) (moment_same v.versions file number (is_marked v.groups file) (is_marked w.groups file) (policy_of v.files file) (λ row e. marked row.closed row.ended))
-    ∙ rw (policy, opens, next, same) refl
-    ∙ sym (ripe_at_near w file number before)
+found_moment w v file number before after marked policy opens next same = grind (arith, nat_tests, ripe_at_near)
 
 -- ---- the next held version
 
 -- an end leaves it where it is
 pub next_closing-ended : (p : VersionRow → Bool) (now : ℕ) (rows : List VersionRow) (file number : ℕ) → next_closing (update_first p (ended_at now) rows) file number ≡ next_closing rows file number
 next_closing-ended p now [] file number = refl
-next_closing-ended p now (x ∷ xs) file number =
-    let closing = option_map (λ (row : VersionRow). row.closed) in
-    elim (p x) as (λ b. closing (find (is_newer_of file number) (cond b (ended_at now x ∷ xs) (x ∷ update_first p (ended_at now) xs))) ≡ closing (find (is_newer_of file number) (x ∷ xs))) [
-      | true ↦ elim (is_newer_of file number x) as (λ b. closing (cond b (Some (ended_at now x)) (find (is_newer_of file number) xs)) ≡ closing (cond b (Some x) (find (is_newer_of file number) xs))) [
-        | true ↦ refl
-        | false ↦ refl
-      ]
-      | false ↦ elim (is_newer_of file number x) as (λ b. closing (cond b (Some x) (find (is_newer_of file number) (update_first p (ended_at now) xs))) ≡ closing (cond b (Some x) (find (is_newer_of file number) xs))) [
-        | true ↦ refl
-        | false ↦ next_closing-ended p now xs file number
-      ]
-    ]
+next_closing-ended p now (x ∷ xs) file number = grind (arith, nat_tests, next_closing-ended p now xs file number)
 
 -- none is behind the file's last version
 isnt_past : (files : List FileRow) (now file number : ℕ) → next_of files file ≤ number + 1 → (row : VersionRow) → IsVersion files now row → is_newer_of file number row ≡ false
-isnt_past files now file number past row is = by (row.file == file) refl where
-  by : (b : Bool) → (row.file == file) ≡ b → (b && nat_lt number row.number) ≡ false
-  by true e =
-      let own : row.file ≡ file = grind (arith, nat_tests) in
-      let before : row.number < next_of files file = subst (λ f. row.number < next_of files f) own is.numbered in
-      grind (arith, nat_tests)
-  by false e = refl
+isnt_past files now file number past row is = grind (arith, nat_tests)
 
 pub none_past : (files : List FileRow) (now : ℕ) (rows : List VersionRow) (file number : ℕ) → AllByRecursion (IsVersion files now) rows → next_of files file ≤ number + 1 → next_closing rows file number ≡ None
-none_past files now rows file number each past = ap (option_map (λ (row : VersionRow). row.closed))
-    (not_found (is_newer_of file number) rows (all-weaker (IsVersion files now) (λ row. is_newer_of file number row ≡ false) rows (isnt_past files now file number past) each))
+none_past files now rows file number each past = grind (arith, nat_tests, not_found, all-weaker, isnt_past)

@@ -1,5 +1,6 @@
 -- The newest row of each name, and the names that may come back among those whose newest row is dead.
-use Rattle.std.proofs.Common.{◌≡◌, ℕ, ◌+◌, ◌<◌, Bool, true, false, cond, ◌&&◌, List, [], ◌∷◌, length, map, get_or, take, fold, Option, Some, None, refl, ap, sym, subst, ◌∙◌, filter}
+use Rattle.std.proofs.lemmas.Bool.Decides.{nat_tests}
+use Rattle.std.proofs.Common.{arith, ◌≡◌, ℕ, ◌+◌, ◌<◌, Bool, true, false, cond, ◌&&◌, List, [], ◌∷◌, length, map, get_or, take, fold, Option, Some, None, refl, ap, sym, subst, ◌∙◌, filter}
 use Rattle.std.specs.Prelude.{find, is_some, unwrap_or}
 use Rattle.std.specs.List.{AllByRecursion, filter_map, cons_option}
 use Rattle.std.specs.List.Sorted.{IsStrictlySortedBy}
@@ -44,10 +45,7 @@ more newest row = insert_entry name_cmp newest (key_of row) row
 -- ---- for src/returning.rt
 
 pub next_is : (files : List FileRow) (file : ℕ) → unwrap_or (option_map (λ (row : FileRow). row.next) (find (is_file file) files)) 0 ≡ next_of files file
-next_is files file = by (find (is_file file) files) where
-  by : (o : Option FileRow) → unwrap_or (option_map (λ (row : FileRow). row.next) o) 0 ≡ option_map_or (λ (row : FileRow). row.next) o 0
-  by None = refl
-  by (Some row) = refl
+next_is files file = grind (arith, nat_tests)
 
 -- one more row
 pub newest_more : (xs : List NameRow) (i : ℕ) (x : NameRow) → i < length xs → x ≡ get_or xs i x → newest_rows (take (i + 1) xs) ≡ more (newest_rows (take i xs)) x
@@ -140,11 +138,7 @@ returning_entry w e = returning_name w (e.0.0, e.0.1, e.1)
 
 dead_return : (w : World) (newest : List Entry) → AllByRecursion IsOwn newest → filter_map (returning_entry w) (targets (dead_of newest)) ≡ filter_map (λ (e : Entry). returning w e.1) newest
 dead_return w [] own = refl
-dead_return w (e ∷ newest) own = by (is_dead e.1) (dead_return w newest own.1) where
-  by : (b : Bool) → filter_map (returning_entry w) (targets (dead_of newest)) ≡ filter_map (λ (e : Entry). returning w e.1) newest
-      → filter_map (returning_entry w) (targets (cond b (e ∷ dead_of newest) (dead_of newest))) ≡ cons_option (cond b (returning_name w (e.1.directory, e.1.name, e.1.target)) None) (filter_map (λ (e : Entry). returning w e.1) newest)
-  by true rest = rw (rest, own.0) refl
-  by false rest = rest
+dead_return w (e ∷ newest) own = grind (arith, nat_tests, dead_return w newest own.1)
 
 abbrev as_entry : ℕ × List ℕ × Target → Key × Target
 as_entry item = ((item.0, item.1), item.2)

@@ -27,11 +27,7 @@ use Rattle.ele_world.proofs.Views.{IsLife, lives_in}
 
 last-none : {X : Type 0} (p : X → Bool) (xs : List X) → last_passing p xs ≡ None → AllByRecursion (λ x. p x ≡ false) xs
 last-none p [] none = tt
-last-none {X} p (x ∷ xs) none = by (last_passing p xs) (p x) refl refl (last-none p xs) none where
-  by : (o : Option X) (b : Bool) → last_passing p xs ≡ o → p x ≡ b → (last_passing p xs ≡ None → AllByRecursion (λ x. p x ≡ false) xs) → option_or o (cond b (Some x) None) ≡ None → AllByRecursion (λ x. p x ≡ false) (x ∷ xs)
-  by (Some y) b e f rest h = absurd cc
-  by None true e f rest h = absurd cc
-  by None false e f rest h = (f, rest e)
+last-none {X} p (x ∷ xs) none = grind (arith, nat_tests, last-none p xs)
 
 -- what is found is so still where an element comes in behind it
 find-insert_behind : {X : Type 0} (p q : X → Bool) (y : X) (xs : List X) → AllByRecursion (λ x. q x ≡ true → p x ≡ false) xs → AllLater (λ x z. p x ≡ true → p z ≡ true) xs → list_any q xs ≡ true → find q (insert_before p y xs) ≡ find q xs
@@ -45,10 +41,7 @@ find-insert_behind {X} p q y (x ∷ xs) apart later some = elim (p x) as (λ b. 
 ] refl where
   none : (zs : List X) → AllByRecursion (λ z. q z ≡ true → p z ≡ false) zs → AllByRecursion (λ z. p z ≡ true) zs → list_any q zs ≡ false
   none [] apart all = refl
-  none (z ∷ zs) apart all = by (q z) refl (none zs apart.1 all.1) where
-    by : (b : Bool) → q z ≡ b → list_any q zs ≡ false → (b || list_any q zs) ≡ false
-    by true e rest = absurd (false≢true (sym (apart.0 e) ∙ all.0))
-    by false e rest = rest
+  none (z ∷ zs) apart all = grind (arith, nat_tests, false≢true, none zs apart.1 all.1)
 
 -- ---- the newest
 
@@ -60,12 +53,7 @@ newest_most : (file : ℕ) (rows : List VersionRow) (row : VersionRow) → AllLa
 newest_most file [] row placed is = absurd cc
 newest_most file (x ∷ xs) row placed is = by (newest_of xs file) (is_version_of file x) refl refl (newest_most file xs row placed.1) is where
   by : (o : Option VersionRow) (b : Bool) → newest_of xs file ≡ o → is_version_of file x ≡ b → (newest_of xs file ≡ Some row → AllByRecursion (IsNoNewer file row.number) xs) → option_or o (cond b (Some x) None) ≡ Some row → AllByRecursion (IsNoNewer file row.number) (x ∷ xs)
-  by (Some y) b e f rest h =
-      let found : newest_of xs file ≡ Some row = e ∙ h in
-      let has = last_has (is_version_of file) (ArePlaced x) xs row placed.0 found in
-      let after = has.0.after in
-      let own = has.1 in
-      (grind (arith, nat_tests), rest found)
+  by (Some y) b e f rest h = grind (arith, nat_tests, last_has)
   by None true e f rest h =
       let same : x ≡ row = cc in
       subst (λ (r : VersionRow). AllByRecursion (IsNoNewer file r.number) (x ∷ xs)) same
@@ -81,17 +69,7 @@ pub record IsNewest (w : World) (file : ℕ) (row : VersionRow) : Type 0 where
 
 module _ (w : World) (file : ℕ) (are : AreVersions w.files w.now w.versions) where
   pub newest_held : (row : VersionRow) → newest_of w.versions file ≡ Some row → IsNewest w file row
-  newest_held row newest =
-      let has = last_has (is_version_of file) (λ x. IsVersion w.files w.now x × IsFound w.versions x) w.versions row (all-both (IsVersion w.files w.now) (IsFound w.versions) w.versions are.each (all_found w.versions are.placed)) newest in
-      let passes = has.1 in
-      let own : row.file ≡ file = grind (arith, nat_tests) in
-      record {
-        own = own;
-        is = has.0.0;
-        before = subst (λ f. row.number < next_of w.files f) own has.0.0.numbered;
-        found = subst (λ f. find (is_version f row.number) w.versions ≡ Some row) own has.0.1;
-        most = newest_most file w.versions row are.placed newest;
-      }
+  newest_held row newest = grind (arith, nat_tests, last_has, all-both, all_found, newest_most)
 
   pub none_held : newest_of w.versions file ≡ None → AllByRecursion (λ x. is_version_of file x ≡ false) w.versions
   none_held none = last-none (is_version_of file) w.versions none
@@ -125,19 +103,10 @@ module _ (w : World) (file opened : ℕ) (cells : List Cell) (are : AreVersions 
   numbered row old own = subst (λ f. row.number < next_of w.files f) own old.1.numbered
 
   after_old : (row : VersionRow) → IsOld row → behind row ≡ false → ArePlaced row new
-  after_old row old isnt = record {
-    after = by (row.file == file) refl;
-    ended = λ own. let was = old.0 own in (was.ended, was.is, was.by_now);
-  } where
-    by : (b : Bool) → (row.file == file) ≡ b → is_version_after row.file row.number new ≡ true
-    by true e = let less = numbered row old (grind (arith, nat_tests)) in grind (arith, nat_tests)
-    by false e = grind (arith, nat_tests)
+  after_old row old isnt = grind (arith, nat_tests, ended, numbered)
 
   before_old : (row : VersionRow) → IsOld row → behind row ≡ true → ArePlaced new row
-  before_old row old is = record {
-    after = is;
-    ended = λ own. let less = numbered row old (sym own) in absurd (false≢true (grind (arith, nat_tests)));
-  }
+  before_old row old is = grind (arith, nat_tests, ended, numbered, false≢true)
 
   stands_behind : (x z : VersionRow) → behind x ≡ true → ArePlaced x z → behind z ≡ true
   stands_behind x z is placed = let after = placed.after in grind (arith, nat_tests)
@@ -166,9 +135,7 @@ module _ (w : World) (file opened : ℕ) (cells : List Cell) (are : AreVersions 
 
   -- so is what stands behind a version of another file
   pub next_other : (f n : ℕ) → (f == file) ≡ false → next_closing appended.versions f n ≡ next_closing w.versions f n
-  next_other f n other =
-      ap (option_map (λ (row : VersionRow). row.closed)) (find-insert_before behind (is_newer_of f n) new (with_end w file) (grind (arith, nat_tests)))
-      ∙ next_closing-ended p w.now w.versions f n
+  next_other f n other = grind (arith, nat_tests, find-insert_before, next_closing-ended)
 
   -- and what wasn't held isn't
   pub none_still : (n : ℕ) → (n == next) ≡ false → AllByRecursion (λ row. is_version file n row ≡ false) w.versions → AllByRecursion (λ row. is_version file n row ≡ false) appended.versions
@@ -192,9 +159,7 @@ module _ (w : World) (file opened : ℕ) (cells : List Cell) (are : AreVersions 
           of (Some at) is not_last = ap (λ (o : Option ℕ). record row { ended = o }) (rw is refl)
 
           by : (b : Bool) → (row.number == next - 1) ≡ b → find (is_version file row.number) (with_end w file) ≡ Some (ended_at w.now row)
-          by true e =
-              let same : row.number ≡ next - 1 = grind (arith, nat_tests) in
-              rw same (find-updated p (ended_at w.now) w.versions (λ x. refl)) ∙ ap (option_map (ended_at w.now)) (subst (λ n. find (is_version file n) w.versions ≡ Some row) same newest.found)
+          by true e = grind (arith, nat_tests, find-updated)
           by false e =
               find-update_other p (is_version file row.number) (ended_at w.now) w.versions (λ x h. (grind (arith, nat_tests), grind (arith, nat_tests)))
               ∙ newest.found
@@ -216,7 +181,4 @@ module _ (w : World) (file opened : ℕ) (cells : List Cell) (are : AreVersions 
         (list_any-update_first p (is_newer_of file n) (ended_at w.now) w.versions (λ x h. refl) ∙ any-found (is_version file row.number) (is_newer_of file n) w.versions row newest.found (let own = newest.own in grind (arith, nat_tests))))
         ∙ next_closing-ended p w.now w.versions file n where
           isnt_behind : (x : VersionRow) → IsVersion w.files w.now x → is_newer_of file n x ≡ true → behind x ≡ false
-          isnt_behind x is h =
-              let own : x.file ≡ file = grind (arith, nat_tests) in
-              let less : x.number < next = subst (λ f. x.number < next_of w.files f) own is.numbered in
-              grind (arith, nat_tests)
+          isnt_behind x is h = grind (arith, nat_tests)

@@ -62,9 +62,7 @@ module _ (w : World) (file opened : ℕ) (cells : List Cell) where
   after = with_version w file opened cells
 
   held_after : (id : ℕ) → list_any (is_version_of id) after.versions ≡ ((file == id) || list_any (is_version_of id) w.versions)
-  held_after id =
-      list_any-insert_before (is_version_after file (next_of w.files file)) (is_version_of id) (next_version w file opened cells) (with_end w file)
-      ∙ ap (λ b. (file == id) || b) (list_any-update_first (is_version file (next_of w.files file - 1)) (is_version_of id) (ended_at w.now) w.versions (λ row e. refl))
+  held_after id = grind (arith, nat_tests, list_any-insert_before, list_any-update_first)
 
   versioned : AreBusyBut w file → AreBusy after
   versioned = all-update_first (is_file file) (λ row. (row.id == file) ≡ false → has_rows w row.id ≡ true) (λ row. has_rows after row.id ≡ true) numbered_on w.files (λ row h. one row.id h (row.id == file) refl) (λ row h. one row.id h (row.id == file) refl) where
@@ -82,46 +80,28 @@ put : (w : World) (file : ℕ) (policy : Policy) → AreBusy w → AreBusy (afte
 put w file policy = all-update_first (is_file file) (λ row. has_rows w row.id ≡ true) (λ row. has_rows w row.id ≡ true) (put_under policy) w.files (λ row h. h) (λ row h. h)
 
 nameless : (w : World) (directory : ℕ) (name : List ℕ) (file : ℕ) → AreBusy w → AreBusy (after_change w (EndFileName directory name file))
-nameless w directory name file all = elim (is_live u file) as (λ b. AreBusy (record u { versions = cond b w.versions (with_end u file) })) [
-  | true ↦ all
-  | false ↦ all-weaker (λ row. has_rows w row.id ≡ true) (λ row. has_rows (record u { versions = with_end u file }) row.id ≡ true) w.files
-      (λ row h. ap (λ b. b || has_draft w row.id) (list_any-update_first (is_version file (next_of w.files file - 1)) (is_version_of row.id) (ended_at w.now) w.versions (λ x e. refl)) ∙ h) all
-] where
-  u : World
-  u = without_name w directory name
+nameless w directory name file all = grind (arith, nat_tests, all-weaker, list_any-update_first)
 
 begun : (w : World) (file : ℕ) → AreBusy w → AreBusy (after_change w (StartDraft file))
-begun w file = all-weaker (λ row. has_rows w row.id ≡ true) (λ row. has_rows (after_change w (StartDraft file)) row.id ≡ true) w.files
-    (λ row h. rw (list_any-insert_before (is_draft_after file) (is_draft row.id) (new_draft w file) w.drafts) (or_more (list_any (is_version_of row.id) w.versions) (file == row.id) (has_draft w row.id) h))
+begun w file = grind (arith, nat_tests, all-weaker, list_any-insert_before, or_more)
 
 edited : (w : World) (file : ℕ) (f : DraftRow → DraftRow) → ((row : DraftRow) → (f row).file ≡ row.file) → AreBusy w → AreBusy (record w { drafts = update_first (is_draft file) f w.drafts })
-edited w file f same = all-weaker (λ row. has_rows w row.id ≡ true) (λ row. has_rows (record w { drafts = update_first (is_draft file) f w.drafts }) row.id ≡ true) w.files
-    (λ row h. ap (λ b. list_any (is_version_of row.id) w.versions || b) (list_any-update_first (is_draft file) (is_draft row.id) f w.drafts (λ x e. ap (λ (i : ℕ). i == row.id) (same x))) ∙ h)
+edited w file f same = grind (arith, nat_tests, all-weaker, list_any-update_first)
 
 -- ---- a version or a draft goes, and so does its file if nothing is left of it
 
 taken : (w : World) (file number : ℕ) → AreBusy w → AreBusyBut (after_change w (Take file number)) file
-taken w file number = all-weaker (λ row. has_rows w row.id ≡ true) (λ row. (row.id == file) ≡ false → has_rows (after_change w (Take file number)) row.id ≡ true) w.files
-    (λ row h apart. ap (λ b. b || has_draft w row.id) (list_any-remove_first (is_version file number) (is_version_of row.id) w.versions (λ x found. let passes = found_passes (is_version file number) w.versions x found in grind (arith, nat_tests))) ∙ h)
+taken w file number = grind (arith, nat_tests, all-weaker, list_any-remove_first, found_passes)
 
 ended : (w : World) (file : ℕ) → AreBusy w → AreBusyBut (after_change w (EndDraft file)) file
-ended w file = all-weaker (λ row. has_rows w row.id ≡ true) (λ row. (row.id == file) ≡ false → has_rows (after_change w (EndDraft file)) row.id ≡ true) w.files
-    (λ row h apart. ap (λ b. list_any (is_version_of row.id) w.versions || b) (list_any-remove_first (is_draft file) (is_draft row.id) w.drafts (λ x found. let passes = found_passes (is_draft file) w.drafts x found in grind (arith, nat_tests))) ∙ h)
+ended w file = grind (arith, nat_tests, all-weaker, list_any-remove_first, found_passes)
 
 -- a live file has its current version
 held_if_live : (w : World) (file : ℕ) → IsWellFormed w → is_live w file ≡ true → list_any (is_version_of file) w.versions ≡ true
-held_if_live w file k live =
-    let p = is_current file (next_of w.files file) in
-    let found = first_passing p w.versions (k.holds Current file live) in
-    any-found p (is_version_of file) w.versions found.0 found.1 (let passes = found_passes p w.versions found.0 found.1 in grind (arith, nat_tests))
+held_if_live w file k live = grind (arith, nat_tests, k.holds Current, first_passing, any-found, found_passes)
 
 busy_is : (w : World) (file : ℕ) → IsWellFormed w → is_idle w file ≡ false → has_rows w file ≡ true
-busy_is w file k = by (is_live w file) (list_any (is_version_of file) w.versions) (has_draft w file) (held_if_live w file k) where
-  by : (live held drafted : Bool) → (live ≡ true → held ≡ true) → (not live && (not held && not drafted)) ≡ false → (held || drafted) ≡ true
-  by live true drafted has busy = refl
-  by true false drafted has busy = absurd (false≢true (has refl))
-  by false false true has busy = refl
-  by false false false has busy = absurd (false≢true (sym busy))
+busy_is w file k = grind (arith, nat_tests, held_if_live, false≢true)
 
 idle_gone : (w : World) (file : ℕ) → IsWellFormed w → AreBusyBut w file → AreBusy (after_change w (DropIdle file))
 idle_gone w file k but = dropped AreBusy w file (λ idle. gone) (λ busy. all-weaker (λ row. (row.id == file) ≡ false → has_rows w row.id ≡ true) (λ row. has_rows w row.id ≡ true) w.files (λ row h. stays busy row h (row.id == file) refl) but) where
@@ -196,15 +176,7 @@ tidy w UsageAll k all = tt
 tidy w GroupsAll k all = tt
 
 pub no_idle_stays : NoIdleStays
-no_idle_stays w event k none =
-    let all = all-weaker (λ row. is_idle w row.id ≡ false) (λ row. has_rows w row.id ≡ true) w.files (λ row busy. busy_is w row.id k busy) none in
-    let v = (step w event).1 in
-    all-weaker (λ row. has_rows v row.id ≡ true) (λ row. is_idle v row.id ≡ false) v.files (λ row. not_idle (is_live v row.id) (list_any (is_version_of row.id) v.versions) (has_draft v row.id)) (in_makes w AreBusy (plan w event) all (tidy w event k all)) where
-      not_idle : (live held drafted : Bool) → (held || drafted) ≡ true → (not live && (not held && not drafted)) ≡ false
-      not_idle true held drafted h = refl
-      not_idle false true drafted h = refl
-      not_idle false false true h = refl
-      not_idle false false false h = absurd (false≢true h)
+no_idle_stays w event k none = grind (arith, nat_tests, all-weaker, busy_is, in_makes, tidy, false≢true)
 
 pub runs_have_none : (w : World) (events : List Event) → AllByRecursion IsEvent events → IsWellFormed w → HasNoIdle w → HasNoIdle (run_of w events)
 runs_have_none w [] are k none = none

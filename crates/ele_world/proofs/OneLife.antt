@@ -78,12 +78,7 @@ abbrev nothing : Known
 nothing file number = None
 
 fresh_known : (limits : Bounds) → AreKnown (fresh_world limits) (known_in (fresh_world limits) nothing)
-fresh_known limits = record {
-  held = λ file number row found. absurd cc;
-  gone = λ file number row none is. absurd cc;
-  placed = λ file number later row next is next_is less. absurd cc;
-  covered = tt;
-}
+fresh_known limits = grind (arith, nat_tests)
 
 ever_known : (limits : Bounds) (events : List Event) → AreBounds limits → AllByRecursion IsEvent events → AreKnown (run_of (fresh_world limits) events) (last_stood (fresh_world limits) events)
 ever_known limits events bounds are =
@@ -110,17 +105,7 @@ module _ (first : World) (events : List Event) (k : IsWellFormed (run_of first e
 
   -- a version that is found for the moment is this one
   found_is : (row : VersionRow) → find (had_life file moment) w.versions ≡ Some row → (row ≡ life.row) × (row_of w file life.row.number ≡ Some row)
-  found_is row found =
-      let passes = found_passes (had_life file moment) w.versions row found in
-      let own : row.file ≡ file = grind (arith, nat_tests) in
-      let lives : lives_at moment row ≡ true = grind (arith, nat_tests) in
-      let itself : row_of w row.file row.number ≡ Some row = all-found (had_life file moment) (IsFound w.versions) w.versions row found (all_found w.versions (k.holds Versions).placed) in
-      let here : row_of w file row.number ≡ Some row = subst (λ f. row_of w f row.number ≡ Some row) own itself in
-      let number : row.number ≡ life.row.number = only row.number row (s.held file row.number row here) lives in
-      let there : row_of w file life.row.number ≡ Some row = subst (λ n. row_of w file n ≡ Some row) number here in
-      let was = life.stood in
-      let is = s.held file life.row.number row there in
-      (cc, there)
+  found_is row found = grind (arith, nat_tests, k.holds Versions, found_passes, row_of, all-found, all_found, only)
 
   held_reads : is_held w file life.row.number ≡ true → version_living w.versions file moment ≡ Ok life.row
   held_reads held = by (find (had_life file moment) w.versions) refl where
@@ -142,10 +127,7 @@ module _ (first : World) (events : List Event) (k : IsWellFormed (run_of first e
   gone_forgotten gone = (last_number (had_closed file moment) w.versions, by (find (had_life file moment) w.versions) refl) where
     by : (o : Option VersionRow) → find (had_life file moment) w.versions ≡ o → held_or_forgotten o (last_number (had_closed file moment) w.versions) ≡ Err (Forgotten (last_number (had_closed file moment) w.versions))
     by None e = refl
-    by (Some row) e =
-        let found = (found_is row e).1 in
-        let held = any-found (is_version file life.row.number) (is_version file life.row.number) w.versions row found (found_passes (is_version file life.row.number) w.versions row found) in
-        absurd (false≢true (sym gone ∙ held))
+    by (Some row) e = grind (arith, nat_tests, found_is, any-found, found_passes, false≢true)
 
   has_one_life : HasOneLife first events file moment
   has_one_life = record { row = life.row; stood = life.stood; lived = life.lived; only = only; held = held_reads; gone = gone_forgotten }

@@ -26,10 +26,7 @@ pub record HasRow (w : World) (handle : ℕ) (reads : Reads) : Type 0 where
   pub its : row.reads ≡ reads
 
 pub has_row : (w : World) (handle : ℕ) (reads : Reads) → reads_by w.handles handle ≡ Ok reads → HasRow w handle reads
-has_row w handle reads is = by (find (is_handle handle) w.handles) refl is where
-  by : (o : Option HandleRow) → find (is_handle handle) w.handles ≡ o → option_map_or (λ (row : HandleRow). Ok row.reads) o (Err NoHandle) ≡ Ok reads → HasRow w handle reads
-  by None found is = absurd cc
-  by (Some row) found is = record { row = row; found = found; its = cc }
+has_row w handle reads is = grind (arith, nat_tests)
 
 pub open_stays : OpenStays
 open_stays w event handle file number k is = by (all-found (is_version file number) (StaysOrWasDue w event) w.versions first.0 first.1 (only_due_leave w event k)) where

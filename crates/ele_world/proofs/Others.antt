@@ -25,17 +25,13 @@ abbrev pub other_drafts : ℕ → List DraftRow → List DraftRow
 other_drafts file rows = filter (λ row. not (eqb row.file file)) rows
 
 pub drafts-updated : (file : ℕ) (f : DraftRow → DraftRow) (rows : List DraftRow) → ((row : DraftRow) → (f row).file ≡ row.file) → other_drafts file (update_first (is_draft file) f rows) ≡ other_drafts file rows
-drafts-updated file f rows keeps =
-    filter-update_first (λ (row : DraftRow). not (eqb row.file file)) (is_draft file) f rows (λ row e. ap not e) (λ row e. ap (λ id. not (eqb id file)) (keeps row) ∙ ap not e)
+drafts-updated file f rows keeps = grind (arith, nat_tests, filter-update_first)
 
 pub drafts-removed : (file : ℕ) (rows : List DraftRow) → other_drafts file (remove_first (is_draft file) rows) ≡ other_drafts file rows
-drafts-removed file rows =
-    filter-remove_first (λ (row : DraftRow). not (eqb row.file file)) (is_draft file) rows (λ row found. ap not (found_passes (is_draft file) rows row found))
+drafts-removed file rows = grind (arith, nat_tests, filter-remove_first, found_passes)
 
 pub drafts-begun : (row : DraftRow) (rows : List DraftRow) → other_drafts row.file (insert_before (is_draft_after row.file) row rows) ≡ other_drafts row.file rows
-drafts-begun row rows =
-    let same : eqb row.file row.file ≡ true = grind (arith, nat_tests) in
-    filter-insert_before (λ (r : DraftRow). not (eqb r.file row.file)) (is_draft_after row.file) row rows (ap not same)
+drafts-begun row rows = grind (arith, nat_tests, filter-insert_before)
 
 pub drafts-opened : (w : World) (file : ℕ) → other_drafts file (with_draft w file) ≡ other_drafts file w.drafts
 drafts-opened w file = elim (list_any (is_draft file) w.drafts) as (λ b. other_drafts file (cond b w.drafts (insert_before (is_draft_after file) (new_draft w file) w.drafts)) ≡ other_drafts file w.drafts) [
@@ -49,21 +45,13 @@ abbrev pub other_versions : ℕ → List VersionRow → List VersionRow
 other_versions file rows = filter (λ row. not (eqb row.file file)) rows
 
 own_version : (file number : ℕ) (row : VersionRow) → is_version file number row ≡ true → not (eqb row.file file) ≡ false
-own_version file number row e = by (eqb row.file file) e where
-  by : (b : Bool) → (b && eqb row.number number) ≡ true → not b ≡ false
-  by true h = refl
-  by false h = absurd cc
+own_version file number row e = grind (arith, nat_tests)
 
 pub versions-removed : (file number : ℕ) (rows : List VersionRow) → other_versions file (remove_first (is_version file number) rows) ≡ other_versions file rows
-versions-removed file number rows =
-    filter-remove_first (λ (row : VersionRow). not (eqb row.file file)) (is_version file number) rows (λ row found. own_version file number row (found_passes (is_version file number) rows row found))
+versions-removed file number rows = grind (arith, nat_tests, filter-remove_first, own_version, found_passes)
 
 pub versions-finished : (file next number now : ℕ) (row : VersionRow) (rows : List VersionRow) → row.file ≡ file → other_versions file (insert_before (is_version_after file next) row (update_first (is_version file number) (ended_at now) rows)) ≡ other_versions file rows
-versions-finished file next number now row rows own =
-    let q = λ (r : VersionRow). not (eqb r.file file) in
-    let same : eqb row.file file ≡ true = grind (arith, nat_tests) in
-    filter-insert_before q (is_version_after file next) row (update_first (is_version file number) (ended_at now) rows) (ap not same)
-    ∙ filter-update_first q (is_version file number) (ended_at now) rows (own_version file number) (own_version file number)
+versions-finished file next number now row rows own = grind (arith, nat_tests, filter-insert_before, filter-update_first, own_version)
 
 -- ---- files
 
@@ -72,13 +60,4 @@ kinds-numbered files file k id = ap (λ (p : Option Policy). option_map_or (λ (
 
 pub files-numbered : (files : List FileRow) (file : ℕ) (k : Kind) → length (filter (is_of k) (update_first (is_file file) numbered_on files)) ≡ length (filter (is_of k) files)
 files-numbered [] file k = refl
-files-numbered (x ∷ xs) file k = elim (is_file file x) as (λ b. length (filter (is_of k) (cond b (numbered_on x ∷ xs) (x ∷ update_first (is_file file) numbered_on xs))) ≡ length (filter (is_of k) (x ∷ xs))) [
-  | true ↦ elim (is_of k x) as (λ b. length (cond b (numbered_on x ∷ filter (is_of k) xs) (filter (is_of k) xs)) ≡ length (cond b (x ∷ filter (is_of k) xs) (filter (is_of k) xs))) [
-    | true ↦ refl
-    | false ↦ refl
-  ]
-  | false ↦ elim (is_of k x) as (λ b. length (cond b (x ∷ filter (is_of k) (update_first (is_file file) numbered_on xs)) (filter (is_of k) (update_first (is_file file) numbered_on xs))) ≡ length (cond b (x ∷ filter (is_of k) xs) (filter (is_of k) xs))) [
-    | true ↦ omega (arith, files-numbered xs file k)
-    | false ↦ files-numbered xs file k
-  ]
-]
+files-numbered (x ∷ xs) file k = grind (arith, nat_tests, files-numbered xs file k)

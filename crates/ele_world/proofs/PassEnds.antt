@@ -1,4 +1,5 @@
 -- A pass, one clean event after another.
+use Rattle.std.proofs.lemmas.Bool.Decides.{nat_tests}
 use Rattle.std.proofs.Common.{◌≡◌, ℕ, suc, zero, ◌+◌, ◌<◌, ◌≤◌, List, length, Option, Some, None, refl, ap, sym, subst, ◌∙◌, arith, add-one, ◌⊎◌, inl, inr}
 use Rattle.std.specs.Prelude.{IsSome}
 use Rattle.std.proofs.lemmas.Bool.{cases_lt}
@@ -32,15 +33,7 @@ after_cleans-end (suc n) w = after_cleans-end n ((clean_step w).1)
 
 -- one more
 pub cleaned_more : (w : World) (n : ℕ) (v : World) → IsCleaned w n v → IsSome (first_due v) → IsCleaned w (n + 1) ((clean_step v).1)
-cleaned_more w n v so_far some = record {
-  each = λ k h. by k (cases_lt k n) h;
-  after_is = ap (λ (u : World). (clean_step u).1) so_far.after_is ∙ (sym (after_cleans-end n w) ∙ ap (λ m. after_cleans m w) (sym (add-one n)));
-} where
-  by : (k : ℕ) → ◌⊎◌ (k < n) (n ≤ k) → k < n + 1 → IsSome (first_due (after_cleans k w))
-  by k (inl lt) h = so_far.each k lt
-  by k (inr ge) h =
-      let same : n ≡ k = omega arith in
-      subst (λ m. IsSome (first_due (after_cleans m w))) same (subst (λ u. IsSome (first_due u)) so_far.after_is some)
+cleaned_more w n v so_far some = grind (arith, nat_tests, cases_lt, after_cleans-end, add-one)
 
 -- one version goes
 clean_removes : (w : World) → IsWellFormed w → IsSome (first_due w) → length ((clean_step w).1).versions + 1 ≡ length w.versions
@@ -62,11 +55,7 @@ cleaned_removes (suc n) w keeps each =
 
 -- the end, when the budget is spent
 pub budget_ends : (w : World) (n : ℕ) (v : World) → IsWellFormed w → IsCleaned w n v → HasRemoved w n v
-budget_ends w n v keeps so_far = record {
-  cleaned = so_far;
-  count = omega (arith, cleaned_removes n w keeps so_far.each, ap (λ (u : World). length u.versions) so_far.after_is);
-  kept = ap kept_rows so_far.after_is ∙ (cleaned_keeps_kept n w keeps).0;
-}
+budget_ends w n v keeps so_far = grind (arith, nat_tests, cleaned_removes, cleaned_keeps_kept)
 
 -- the end, when nothing is due any more
 pub pass_finishes : (w : World) (n : ℕ) (v : World) (budget : ℕ) → IsWellFormed w → IsCleaned w n v → first_due v ≡ None → n < budget → IsFinished w budget n v

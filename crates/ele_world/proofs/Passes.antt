@@ -1,5 +1,6 @@
 -- A pass that nothing disturbs removes the due versions, and no others.
-use Rattle.std.proofs.Common.{◌≡◌, ℕ, suc, zero, ◌≤◌, Bool, true, false, cond, not, List, [], ◌∷◌, Option, Some, None, refl, ap, sym, ◌∙◌}
+use Rattle.std.proofs.lemmas.Bool.Decides.{nat_tests}
+use Rattle.std.proofs.Common.{arith, ◌≡◌, ℕ, suc, zero, ◌≤◌, Bool, true, false, cond, not, List, [], ◌∷◌, Option, Some, None, refl, ap, sym, ◌∙◌}
 use Rattle.std.specs.Prelude.{nat_le, slice_get, fold, is_some}
 use Rattle.std.specs.declared.cmp.Ordering.{Ordering}
 use Rattle.std.specs.declared.cmp.Ordering.TheVariants.{Less, Equal, Greater}
@@ -55,26 +56,15 @@ cleaned_keeps_kept (suc n) w k =
 
 -- what is due now has a moment at which it is ripe
 pub due_is_ripe : (w : World) (row : VersionRow) → w.now ≤ last_moment → IsDueFromRipe w row → is_due_at w row w.now ≡ true → is_some (ripe_of w row) ≡ true
-due_is_ripe w row fits from due = by (ripe_of w row) (sym (from w.now fits) ∙ due) where
-  by : (o : Option ℕ) → option_map_or (λ ripe. nat_le ripe w.now) o false ≡ true → is_some o ≡ true
-  by None h = absurd (false≢true h)
-  by (Some ripe) h = refl
+due_is_ripe w row fits from due = grind (arith, nat_tests, false≢true)
 
 no_key : (w : World) (row : VersionRow) → w.now ≤ last_moment → IsDueFromRipe w row → due_key w row ≡ None → is_due_at w row w.now ≡ false
 unfolding due_key
-no_key w row fits from h = by (is_due_at w row w.now) refl (ripe_of w row) refl h where
-  by : (b : Bool) → is_due_at w row w.now ≡ b → (o : Option ℕ) → ripe_of w row ≡ o → cond b (option_map (key_of row) o) None ≡ None → b ≡ false
-  by true due None r h = absurd (false≢true (ap is_some (sym r) ∙ due_is_ripe w row fits from due))
-  by true due (Some ripe) r h = absurd cc
-  by false due o r h = refl
+no_key w row fits from h = grind (arith, nat_tests, false≢true, due_is_ripe)
 
 insert_key-some : (keys : List Key) (key : Key) → insert_key key_cmp keys key ≡ [] → ⊥
 insert_key-some [] key h = cc
-insert_key-some (x ∷ xs) key h = by (key_cmp key x) refl where
-  by : (o : Ordering) → key_cmp key x ≡ o → ⊥
-  by Less e = let h' = rw e at h in cc
-  by Equal e = let h' = rw e at h in cc
-  by Greater e = let h' = rw e at h in cc
+insert_key-some (x ∷ xs) key h = grind (arith, nat_tests)
 
 in_order-nil : (sorted keys : List Key) → fold (insert_key key_cmp) sorted keys ≡ [] → (sorted ≡ []) × (keys ≡ [])
 in_order-nil sorted [] h = (h, refl)
@@ -82,10 +72,7 @@ in_order-nil sorted (x ∷ xs) h = absurd (insert_key-some sorted x (in_order-ni
 
 filter_map-nil : {X Y : Type 0} (h : X → Option Y) (xs : List X) → filter_map h xs ≡ [] → AllByRecursion (λ x. h x ≡ None) xs
 filter_map-nil h [] e = tt
-filter_map-nil {X} {Y} h (x ∷ xs) e = by (h x) refl (filter_map-nil h xs) where
-  by : (o : Option Y) → h x ≡ o → (filter_map h xs ≡ [] → AllByRecursion (λ x. h x ≡ None) xs) → AllByRecursion (λ x. h x ≡ None) (x ∷ xs)
-  by None is rest = (is, rest (rw is at e))
-  by (Some y) is rest = absurd (let e' = rw is at e in cc)
+filter_map-nil {X} {Y} h (x ∷ xs) e = grind (arith, nat_tests, filter_map-nil h xs)
 
 first-nil : (keys : List Key) → slice_get keys 0 ≡ None → keys ≡ []
 first-nil [] h = refl

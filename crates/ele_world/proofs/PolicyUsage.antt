@@ -1,4 +1,5 @@
 -- What the files of each kind use where a file gets another policy: what it uses goes from the one kind to the other.
+use Rattle.std.proofs.lemmas.Bool.Decides.{nat_tests}
 use Rattle.std.proofs.Common.{◌≡◌, ◌==◌, ℕ, ◌+◌, ◌≤◌, Bool, true, false, not, cond, List, length, Option, Some, None, refl, ap, ◌∙◌, arith}
 use Rattle.std.specs.Prelude.{filter, find}
 use Rattle.std.specs.Option.{option_map, option_map_or}
@@ -33,10 +34,7 @@ use Rattle.ele_world.proofs.Usages.{same_usage, only_at_is, passing_sum}
 
 -- of the other files the same rows pass, where two tests differ at the file alone
 others_pass : {R : Type 0} (file_of : R → ℕ) (file : ℕ) (t t' : ℕ → Bool) → ((id : ℕ) → (id == file) ≡ false → t' id ≡ t id) → (rows : List R) → filter (λ r. t' (file_of r)) (filter (λ r. not (file_of r == file)) rows) ≡ filter (λ r. t (file_of r)) (filter (λ r. not (file_of r == file)) rows)
-others_pass {R} file_of file t t' agree rows =
-    let others = λ (r : R). not (file_of r == file) in
-    filter-same_all (λ r. t' (file_of r)) (λ r. t (file_of r)) (filter others rows)
-    (all-weaker (λ r. others r ≡ true) (λ r. t' (file_of r) ≡ t (file_of r)) (filter others rows) (λ r h. agree (file_of r) (not-true (file_of r == file) h)) (filter-passes others rows))
+others_pass {R} file_of file t t' agree rows = grind (arith, nat_tests, filter-same_all, all-weaker, not-true, filter-passes)
 
 module _ (m : List VersionRow → List DraftRow → ℕ) where
   abbrev sum_passing : (ℕ → Bool) → List VersionRow → List DraftRow → ℕ
@@ -81,19 +79,14 @@ module _ (w : World) (file : ℕ) (was policy : Policy) (k : IsWellFormed w) (fi
   files = update_first (is_file file) (put_under policy) w.files
 
   its : (row : FileRow) × (find (is_file file) w.files ≡ Some row) × (row.policy ≡ was)
-  its = by (find (is_file file) w.files) refl filed where
-    by : (o : Option FileRow) → find (is_file file) w.files ≡ o → option_map (λ (row : FileRow). row.policy) o ≡ Some was → (row : FileRow) × (find (is_file file) w.files ≡ Some row) × (row.policy ≡ was)
-    by None found filed = absurd cc
-    by (Some row) found filed = (row, found, cc)
+  its = grind (arith, nat_tests)
 
   -- the file alone is of another kind
   was_of : (kind : Kind) → is_file_of w.files kind file ≡ is_kind kind (kind_of was)
   was_of kind = ap (is_kind_of kind) filed
 
   now_of : (kind : Kind) → is_file_of files kind file ≡ is_kind kind (kind_of policy)
-  now_of kind =
-      ap (λ (o : Option FileRow). is_kind_of kind (option_map (λ row. row.policy) o))
-      (find-updated (is_file file) (put_under policy) w.files (λ row. refl) ∙ ap (option_map (put_under policy)) its.1)
+  now_of kind = grind (arith, nat_tests, find-updated)
 
   others_of : (kind : Kind) (id : ℕ) → (id == file) ≡ false → is_file_of files kind id ≡ is_file_of w.files kind id
   others_of kind id apart = ap (is_kind_of kind) (policy_of-put_other w.files file id policy apart)
@@ -105,9 +98,7 @@ module _ (w : World) (file : ℕ) (was policy : Policy) (k : IsWellFormed w) (fi
   file_moves kind = rw (length-filter (is_of kind) files, length-filter (is_of kind) w.files, ← its.2) (sum_by-update_first (one kind) (is_file file) (put_under policy) w.files its.0 its.1)
 
   file_counts : 1 ≤ length (filter (is_of (kind_of was)) w.files)
-  file_counts =
-      let counts : one (kind_of was) its.0 ≡ 1 = rw (its.2, same_kind (kind_of was)) refl in
-      omega (arith, counts, length-filter (is_of (kind_of was)) w.files, sum_by-found (one (kind_of was)) (is_file file) w.files its.0 its.1)
+  file_counts = grind (arith, nat_tests, same_kind, length-filter, sum_by-found)
 
   -- the sum over the file's rows, and that over the rows of the files that pass
   abbrev own : (List VersionRow → List DraftRow → ℕ) → ℕ

@@ -1,5 +1,6 @@
 -- A version that is held has the cells that it had when it closed.
-use Rattle.std.proofs.Common.{◌≡◌, ℕ, List, [], ◌∷◌, Option, Some, None, IfSome, refl, subst}
+use Rattle.std.proofs.lemmas.Bool.Decides.{nat_tests}
+use Rattle.std.proofs.Common.{arith, ◌≡◌, ℕ, List, [], ◌∷◌, Option, Some, None, IfSome, refl, subst}
 use Rattle.std.specs.Prelude.{find, Ok}
 use Rattle.std.specs.List.{AllByRecursion}
 use Rattle.ele_content.specs.declared.cell.Cell.{Cell}
@@ -68,16 +69,10 @@ module _ (w : World) (k : IsWellFormed w) (row : VersionRow) (fixed : IsFixed w 
   cells_of held found = subst (HaveCells row.cells) found fixed.same
 
   tagged_reads : (tagged : TaggedPath) (held : VersionRow) → version_at w tagged ≡ Ok held → held.file ≡ row.file → held.number ≡ row.number → (step w (Read (Tagged tagged))).0 ≡ Bytes (content_of row.cells)
-  tagged_reads tagged held meant own number =
-      let at = is_at w tagged held meant in
-      let is : IsFound w.versions held = all-found at.passes (IsFound w.versions) w.versions held at.found (all_found w.versions (k.holds Versions).placed) in
-      rw (meant, cells_of held (rw (← own, ← number) is)) refl
+  tagged_reads tagged held meant own number = grind (arith, nat_tests, k.holds Versions, is_at, all-found, all_found, cells_of)
 
   handle_reads : (handle : ℕ) → reads_by w.handles handle ≡ Ok (Version row.file row.number) → (step w (Read (Of handle))).0 ≡ Bytes (content_of row.cells)
-  handle_reads handle reads =
-      let its = has_row w handle (Version row.file row.number) reads in
-      let held = any-found (is_version row.file row.number) w.versions (subst (IsHeldRead w.versions) its.its (all-found (is_handle handle) (λ by. IsHeldRead w.versions by.reads) w.handles its.row its.found (k.holds Readers))) in
-      rw (reads, held.1, cells_of held.0 held.1) refl
+  handle_reads handle reads = grind (arith, nat_tests, k.holds Readers, has_row, any-found, all-found, cells_of)
 
 pub reads_as_closed : (w : World) (events : List Event) → AllByRecursion IsEvent events → IsWellFormed w → AllByRecursion (ReadsRow (run_of w events)) w.versions
 reads_as_closed w events are k = all-weaker (λ row. IsVersion w.files w.now row × IsFound w.versions row) (ReadsRow (run_of w events)) w.versions

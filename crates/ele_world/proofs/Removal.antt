@@ -39,13 +39,7 @@ record IsDue (v : FileView) (row : VersionRow) (at : ℕ) (newer : List ℕ) : T
   goes : lets_go policy row.closed (newer_at v newer) (at - ended) ≡ true
 
 due_is : (v : FileView) (row : VersionRow) (at : ℕ) (newer : List ℕ) → due_beside v row at newer ≡ true → IsDue v row at newer
-due_is v row at newer h = by v.policy refl row.ended refl (both (not (is_protected v row at)) (option_map_or (λ policy. option_map_or (λ ended. is_due_by policy row.closed (newer_at v newer) ended at) row.ended false) v.policy false) h).1 where
-  by : (p : Option Policy) → v.policy ≡ p → (e : Option ℕ) → row.ended ≡ e → option_map_or (λ policy. option_map_or (λ ended. is_due_by policy row.closed (newer_at v newer) ended at) e false) p false ≡ true → IsDue v row at newer
-  by None governed e ends h = absurd (false≢true h)
-  by (Some policy) governed None ends h = absurd (false≢true h)
-  by (Some policy) governed (Some ended) ends h =
-      let parts = both (nat_le ended at) (lets_go policy row.closed (newer_at v newer) (at - ended)) h in
-      record { policy = policy; governed = governed; ended = ended; is_ended = ends; by_then = (let past = parts.0 in grind (arith, nat_tests)); goes = parts.1 }
+due_is v row at newer h = grind (arith, nat_tests, both, false≢true)
 
 closings-append : (xs ys : List VersionRow) → closings (xs ++ ys) ≡ closings xs ++ closings ys
 closings-append [] ys = refl
@@ -56,14 +50,7 @@ goes_beside v row at p e newer = option_map_or (λ policy. option_map_or (λ end
 
 -- what is due beside fewer is due beside more
 beside_more : (v : FileView) (row : VersionRow) (at : ℕ) (xs : List ℕ) (more : ℕ) (ys : List ℕ) → due_beside v row at (xs ++ ys) ≡ true → due_beside v row at (xs ++ more ∷ ys) ≡ true
-beside_more v row at xs more ys = by v.policy row.ended where
-  by : (p : Option Policy) (e : Option ℕ) → (not (is_protected v row at) && goes_beside v row at p e (xs ++ ys)) ≡ true → (not (is_protected v row at) && goes_beside v row at p e (xs ++ more ∷ ys)) ≡ true
-  by None e h = h
-  by (Some policy) None h = h
-  by (Some policy) (Some ended) h =
-      let halves = both (not (is_protected v row at)) (goes_beside v row at (Some policy) (Some ended) (xs ++ ys)) h in
-      let parts = both (nat_le ended at) (lets_go policy row.closed (newer_at v (xs ++ ys)) (at - ended)) halves.1 in
-      rw (halves.0, parts.0) (lets_go_fewer policy v.live xs more ys row.closed (at - ended) parts.1)
+beside_more v row at xs more ys = grind (arith, nat_tests, both, lets_go_fewer)
 
 module _ (v : FileView) (xs : List VersionRow) (row : VersionRow) (ys : List VersionRow) (placed : AllLater Precedes (xs ++ row ∷ ys)) (life : IsLife row) (governed : IfSome v.policy IsPolicy) where
   before_stays : (x : VersionRow) (at : ℕ) → Precedes x row → due_in (with_rows v (xs ++ row ∷ ys)) row at ≡ true → due_in (with_rows v (xs ++ row ∷ ys)) x at ≡ due_in (with_rows v (xs ++ ys)) x at
@@ -72,15 +59,7 @@ module _ (v : FileView) (xs : List VersionRow) (row : VersionRow) (ys : List Ver
       ∙ without (due_is v row at (closings ys) (subst (λ t. due_beside v row at (closings t) ≡ true) (newer_is xs row ys placed) due))
       ∙ sym (ap (due_beside v x at) (ap closings (newer_without x xs row ys placed before) ∙ closings-append (filter (is_newer x) xs) ys)) where
         without : IsDue v row at (closings ys) → due_beside v x at (closings (filter (is_newer x) xs) ++ row.closed ∷ closings ys) ≡ due_beside v x at (closings (filter (is_newer x) xs) ++ closings ys)
-        without own =
-            let lasts = rw own.is_ended at life in
-            let by_then = before.by_then in
-            let given : IsPolicy own.policy = rw own.governed at governed in
-            let longer : at - own.ended ≤ at - before.ended = omega (arith, by_then, lasts) in
-            ap (λ b. not (is_protected v x at) && b)
-            (rw (own.governed, before.is_ended)
-            (ap (λ b. nat_le before.ended at && b)
-            (lets_go_without own.policy v.live (closings (filter (is_newer x) xs)) row.closed (closings ys) x.closed (at - before.ended) (at - own.ended) given longer own.goes)))
+        without own = grind (arith, nat_tests, governed, lets_go_without)
 
   -- on whichever side of the row it stands
   pub others_stay : (x : VersionRow) (at : ℕ) → Precedes x row ⊎ Precedes row x → due_in (with_rows v (xs ++ row ∷ ys)) row at ≡ true → due_in (with_rows v (xs ++ row ∷ ys)) x at ≡ due_in (with_rows v (xs ++ ys)) x at

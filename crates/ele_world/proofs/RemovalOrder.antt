@@ -49,16 +49,7 @@ module _ (w : World) (before : List VersionRow) (row : VersionRow) (behind : Lis
   seen : (Q : Bool → Bool → Type 0) → ((b : Bool) → Q b b) → (at : ℕ) (x : VersionRow)
       → (x.file ≡ row.file → Q (due_in (with_own (own before ++ row ∷ own behind)) x at) (due_in (with_own (own before ++ own behind)) x at)) → Q (now_due at x) (then_due at x)
   unfolding is_due_at
-  seen Q same at x here = elim (x.file == row.file) as (λ b. (x.file == row.file) ≡ b → Q (now_due at x) (then_due at x)) [
-    | true ↦ λ e.
-        let its : row.file ≡ x.file = grind (arith, nat_tests) in
-        subst (λ file. Q (due_in (view_of (left w (before ++ row ∷ behind)) file) x at) (due_in (view_of (left w (before ++ behind)) file) x at)) its
-        (subst (λ rows. Q (due_in (with_own rows) x at) (due_in (with_own (own (before ++ behind))) x at)) (sym (own_rows before row behind))
-        (subst (λ rows. Q (due_in (with_own (own before ++ row ∷ own behind)) x at) (due_in (with_own rows) x at)) (sym (filter-append (is_version_of row.file) before behind)) (here (sym its))))
-    | false ↦ λ e.
-        let apart : is_version_of x.file row ≡ false = grind (arith, nat_tests) in
-        subst (λ rows. Q (due_in (with_rows (view_of w x.file) rows) x at) (then_due at x)) (sym (other_rows x.file before row behind apart)) (same (then_due at x))
-  ] refl
+  seen Q same at x here = grind (arith, nat_tests, own_rows, filter-append, with_rows, other_rows)
 
   pub stays : (at : ℕ) → now_due at row ≡ true → (x : VersionRow) → IsBeside row x → then_due at x ≡ now_due at x
   unfolding is_due_at
@@ -69,11 +60,7 @@ module _ (w : World) (before : List VersionRow) (row : VersionRow) (behind : Lis
   no_more at x side = seen (λ now then. then ≡ true → now ≡ true) (λ b h. h) at x (λ same. no_more_due (view_of w row.file) (own before) row (own behind) own_placed life own_is.governed x at (side same))
 
   pub sides : AllByRecursion (IsBeside row) (before ++ behind)
-  sides =
-      let placed = later-around ArePlaced before row behind (placed_of (left w (before ++ row ∷ behind)) k) in
-      all-append (IsBeside row) before behind
-      (all-weaker (λ x. ArePlaced x row) (IsBeside row) before (λ x placed same. inl (precedes x row placed same)) placed.0)
-      (all-weaker (ArePlaced row) (IsBeside row) behind (λ x placed same. inr (precedes row x placed (sym same))) placed.1)
+  sides = grind (arith, nat_tests, later-around, placed_of, all-append, all-weaker, precedes)
 
   same_due : now_due w.now row ≡ true → AllByRecursion (λ x. then_due w.now x ≡ now_due w.now x) (before ++ behind)
   same_due due = all-weaker (IsBeside row) (λ x. then_due w.now x ≡ now_due w.now x) (before ++ behind) (stays w.now due) sides

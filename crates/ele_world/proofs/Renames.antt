@@ -36,19 +36,14 @@ module _ (rows : List NameRow) where
 
   avoids_next : (moved : Target) (e : ℕ) (m : List ℕ) (names : List (List ℕ)) (next : Target) → live_target rows e m ≡ Some next → Avoids moved (Directory e) (m ∷ names) → Avoids moved next names
   avoids_next (File file) e m names next edge avoids = tt
-  avoids_next (Directory id) e m names next edge avoids = by (e == id) (rw edge at avoids) where
-    by : (b : Bool) → (b || comes_through rows id next names) ≡ false → comes_through rows id next names ≡ false
-    by true h = absurd (false≢true (sym h))
-    by false h = h
+  avoids_next (Directory id) e m names next edge avoids = grind (arith, nat_tests, false≢true)
 
   -- what is moved doesn't avoid itself, where it leads to a directory
   avoids_itself : (moved : Target) (names : List (List ℕ)) (d : ℕ) → walk rows moved names ≡ Ok (Directory d) → Avoids moved moved names → ⊥
   avoids_itself (File file) [] d h avoids = cc
   avoids_itself (File file) (m ∷ names) d h avoids = cc
   avoids_itself (Directory id) [] d h avoids = let own : (id == id) ≡ true = grind (arith, nat_tests) in false≢true (sym avoids ∙ own)
-  avoids_itself (Directory id) (m ∷ names) d h avoids =
-      let own : (id == id) ≡ true = grind (arith, nat_tests) in
-      false≢true (sym avoids ∙ rw own refl)
+  avoids_itself (Directory id) (m ∷ names) d h avoids = grind (arith, nat_tests, false≢true)
 
   module _ (at : ℕ × List ℕ) (moved : Target) (now : ℕ) (stands : live_target rows at.0 at.1 ≡ Some moved) where
     abbrev left : List NameRow
@@ -66,12 +61,7 @@ module _ (rows : List NameRow) where
 
         by : (b : Bool) → ((at.0 == e) && bytes_eq at.1 m) ≡ b → walk left (Directory e) (m ∷ names) ≡ Ok (Directory d)
         by false not = rw (other_stays rows at.0 at.1 now e m not ∙ edge) (more next beyond h)
-        by true is =
-            let same_directory : at.0 ≡ e = grind (arith, nat_tests) in
-            let same_name : at.1 ≡ m = (bytes_eq-Decides at.1 m).0 (grind (arith, nat_tests)) in
-            let stands' : live_target rows e m ≡ Some moved = subst (λ i. live_target rows i m ≡ Some moved) same_directory (subst (λ l. live_target rows at.0 l ≡ Some moved) same_name stands) in
-            let same : moved ≡ next = (let one : Some moved ≡ Some next = sym stands' ∙ edge in cc) in
-            absurd (avoids_itself moved names d (rw same h) (subst (λ t. Avoids moved t names) (sym same) beyond))
+        by true is = grind (arith, nat_tests, bytes_eq-Decides, avoids_itself, beyond)
 
 -- ---- the law
 
@@ -89,34 +79,14 @@ module _ (w : World) (from to : List (List ℕ)) (k : IsWellFormed w) (old : ℕ
   parent = parent_is w.names to at home
 
   avoids : Avoids w.names moved (Directory root) parent.front
-  avoids = rw parent.taken (by moved apart) where
-    by : (t : Target) → stands_in w.names t to ≡ false → Avoids w.names t (Directory root) (take (length to - 1) to)
-    by (File file) h = tt
-    by (Directory id) h = h
+  avoids = grind (arith, nat_tests)
 
   parent_still : IsParent remaining to at
   parent_still = record { front = parent.front; taken = parent.taken; whole = parent.whole; leads = leads_still w.names old moved w.now stands at.0 (Directory root) parent.front avoids parent.leads }
 
   -- the new name isn't the old one
   nowhere : live_target (remaining ++ named ∷ []) old.0 old.1 ≡ None
-  nowhere =
-      let is : find (is_live_name old.0 old.1) (remaining ++ named ∷ []) ≡ None = find-append (is_live_name old.0 old.1) remaining (named ∷ []) ∙ rw (none, other) refl in
-      rw is refl where
-        none : find (is_live_name old.0 old.1) remaining ≡ None
-        none = by (find (is_live_name old.0 old.1) remaining) (gone w.names old.0 old.1 w.now (k.holds Names).lives) where
-          by : (o : Option NameRow) → option_map (λ (row : NameRow). row.target) o ≡ None → o ≡ None
-          by None h = refl
-          by (Some row) h = absurd cc
-
-        other : is_live_name old.0 old.1 named ≡ false
-        other = by (is_live_name old.0 old.1 named) refl where
-          by : (b : Bool) → is_live_name old.0 old.1 named ≡ b → b ≡ false
-          by false is = refl
-          by true is =
-              let same_directory : at.0 ≡ old.0 = grind (arith, nat_tests) in
-              let same_name : at.1 ≡ old.1 = (bytes_eq-Decides at.1 old.1).0 (grind (arith, nat_tests)) in
-              let free' = rw (same_directory, same_name, stands) at free in
-              absurd (false≢true (sym free'))
+  nowhere = grind (arith, nat_tests, k.holds Names, find-append, gone, bytes_eq-Decides, stands, false≢true)
 
   leads_instead : LeadsInstead w from to (after_change w (MoveName old.0 old.1 at.0 at.1 moved))
   leads_instead = record {

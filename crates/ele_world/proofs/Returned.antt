@@ -29,10 +29,7 @@ use Rattle.ele_world.proofs.Walks.{new_leads}
 -- a file that had no live name
 pub returned_file : (w : World) (lost : Target) (file : ℕ) → nameless w lost ≡ Some file → lost ≡ File file
 returned_file w (Directory id) file h = absurd cc
-returned_file w (File other) file h = by (is_live w other) h where
-  by : (b : Bool) → cond b None (Some other) ≡ Some file → File other ≡ File file
-  by true h = absurd cc
-  by false h = cc
+returned_file w (File other) file h = grind (arith, nat_tests)
 
 module _ (w : World) (path : List (List ℕ)) (at : ℕ × List ℕ) (k : IsWellFormed w) (found : parent_now w.names path ≡ Ok at) (free : is_some (live_target w.names at.0 at.1) ≡ false) where
   named_again : (lost : Target) (after : World) → after.names ≡ (with_name w at.0 at.1 lost).names → last_target w.names at.0 at.1 ≡ Ok lost → LeadsAgain w path lost after

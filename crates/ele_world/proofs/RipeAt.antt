@@ -37,36 +37,23 @@ ripe_at_is w file number = ap (option_and_then (ripe_in (view_of w file))) (find
 
 -- a version without an end has none
 pub unended : (v : FileView) (row : VersionRow) → row.ended ≡ None → ripe_in v row ≡ None
-unended v row none = rw none (elim v.policy as (λ p. option_and_then {U = ℕ} (λ (policy : Policy). None) p ≡ None) [
-  | None ↦ refl
-  | Some policy ↦ refl
-])
+unended v row none = grind (arith, nat_tests)
 
 -- a version is due from it on
 pub is_due_is : (w : World) (file number : ℕ) → IsWellFormed w → is_due w file number ≡ option_map_or (λ m. nat_le m w.now) (ripe_at w file number) false
 unfolding is_due
-is_due_is w file number k = by (find (is_version file number) w.versions) refl ∙ ap (λ o. option_map_or (λ m. nat_le m w.now) o false) (sym (ripe_at_is w file number)) where
-  by : (o : Option VersionRow) → find (is_version file number) w.versions ≡ o → option_map_or (λ row. is_due_at w row w.now) o false ≡ option_map_or (λ m. nat_le m w.now) (option_and_then (ripe_of w) o) false
-  by None e = refl
-  by (Some row) e = all-found (is_version file number) (IsDueFromRipe w) w.versions row e (due_from_ripe w k) w.now (now_of w k)
+is_due_is w file number k = grind (arith, nat_tests, ripe_at_is, all-found, due_from_ripe, now_of)
 
 -- ---- the ripe moment is told by the moments at which the version is due
 
 pub ripe_same : (v u : FileView) (row : VersionRow) → u.policy ≡ v.policy → ((at : ℕ) → at ≤ last_moment → due_in u row at ≡ due_in v row at) → ripe_in u row ≡ ripe_in v row
-ripe_same v u row policy same = ap (option_and_then (λ p. option_and_then (λ ended. earliest_of (due_in u row) (candidates p ended)) row.ended)) policy ∙ by v.policy row.ended where
-  by : (p : Option Policy) (e : Option ℕ) → option_and_then (λ policy. option_and_then (λ ended. earliest_of (due_in u row) (candidates policy ended)) e) p ≡ option_and_then (λ policy. option_and_then (λ ended. earliest_of (due_in v row) (candidates policy ended)) e) p
-  by None e = refl
-  by (Some policy) None = refl
-  by (Some policy) (Some ended) = earliest_same (due_in u row) (due_in v row) same (candidates policy ended)
+ripe_same v u row policy same = grind (arith, nat_tests, earliest_same)
 
 -- ---- the keys of the scan
 
 pub any-filter_map : {X Y : Type 0} (t : Y → Bool) (h : X → Option Y) (xs : List X) → list_any t (filter_map h xs) ≡ list_any (λ x. option_map_or t (h x) false) xs
 any-filter_map t h [] = refl
-any-filter_map {X} {Y} t h (x ∷ xs) = by (any-filter_map t h xs) (h x) refl where
-  by : list_any t (filter_map h xs) ≡ list_any (λ x. option_map_or t (h x) false) xs → (o : Option Y) → h x ≡ o → list_any t (filter_map h (x ∷ xs)) ≡ (option_map_or t o false || list_any (λ x. option_map_or t (h x) false) xs)
-  by rest None e = rw e rest
-  by rest (Some y) e = rw e (ap (λ b. t y || b) rest)
+any-filter_map {X} {Y} t h (x ∷ xs) = grind (arith, nat_tests, any-filter_map t h xs)
 
 -- of rows apart at most one has the number
 any-numbered : (file number : ℕ) (g : VersionRow → Bool) (xs : List VersionRow) → AllLater ArePlaced xs → list_any (λ x. is_version file number x && g x) xs ≡ option_map_or g (find (is_version file number) xs) false
@@ -86,13 +73,7 @@ any-numbered file number g (x ∷ xs) placed = elim (is_version file number x) a
 -- a row has the key if its number is the key's and its moment, which has come, too
 has_due_key : (w : World) (k : Key) (row : VersionRow) → w.now ≤ last_moment → IsDueFromRipe w row → option_map_or (is_key k) (due_key w row) false ≡ (is_version k.file k.number row && (is_ripe_by w.now k && is_moment k.ripe (ripe_of w row)))
 unfolding due_key
-has_due_key w k row fits from = ap (λ b. option_map_or (is_key k) (cond b (option_map (key_of row) (ripe_of w row)) None) false) (from w.now fits) ∙ by (ripe_of w row) where
-  by : (o : Option ℕ) → option_map_or (is_key k) (cond (option_map_or (λ m. nat_le m w.now) o false) (option_map (key_of row) o) None) false ≡ (is_version k.file k.number row && (is_ripe_by w.now k && is_moment k.ripe o))
-  by None = grind (arith, nat_tests)
-  by (Some m) = elim (nat_le m w.now) as (λ b. nat_le m w.now ≡ b → option_map_or (is_key k) (cond b (Some (key_of row m)) None) false ≡ (is_version k.file k.number row && (is_ripe_by w.now k && is_moment k.ripe (Some m)))) [
-    | true ↦ λ e. grind (arith, nat_tests)
-    | false ↦ λ e. grind (arith, nat_tests)
-  ] refl
+has_due_key w k row fits from = grind (arith, nat_tests)
 
 -- the due rows have just the keys whose moment has come
 pub scan_members : (w : World) → IsWellFormed w → (k : Key) → has_key k (filter_map (due_key w) w.versions) ≡ (is_ripe_by w.now k && is_moment k.ripe (ripe_at w k.file k.number))
@@ -107,8 +88,5 @@ scan_members w formed k =
       each (x ∷ xs) all = rw (has_due_key w k x (now_of w formed) all.0, each xs all.1) refl
 
       by : (o : Option VersionRow) → option_map_or (λ row. is_ripe_by w.now k && is_moment k.ripe (ripe_of w row)) o false ≡ (is_ripe_by w.now k && is_moment k.ripe (option_and_then (ripe_of w) o))
-      by None = elim (is_ripe_by w.now k) as (λ b. false ≡ (b && false)) [
-        | true ↦ refl
-        | false ↦ refl
-      ]
+      by None = grind (arith, nat_tests)
       by (Some row) = refl

@@ -17,8 +17,7 @@ use Rattle.ele_world.specs.Usage.{places_from, places}
 
 pub list_any-flat_map : {X Y : Type 0} (p : Y → Bool) (g : X → List Y) (xs : List X) → list_any p (flat_map g xs) ≡ list_any (λ x. list_any p (g x)) xs
 list_any-flat_map p g [] = refl
-list_any-flat_map p g (x ∷ xs) =
-    ap (list_any p) (flat_map-cons g x xs) ∙ (list_any-append p (g x) (flat_map g xs) ∙ ap (λ b. list_any p (g x) || b) (list_any-flat_map p g xs))
+list_any-flat_map p g (x ∷ xs) = grind (arith, nat_tests, flat_map-cons, list_any-append, list_any-flat_map p g xs)
 
 list_any-same : {X : Type 0} (p q : X → Bool) (xs : List X) → ((x : X) → p x ≡ q x) → list_any p xs ≡ list_any q xs
 list_any-same p q [] same = refl
@@ -51,9 +50,7 @@ none_other f s (cell ∷ cells) place e = rw e (none_other f (s + 1) cells place
 
 among_from : (f s n : ℕ) (cells : List Cell) (place : Place) → place.slot ≡ s + n → is_among (places_from f s cells) place ≡ (eqb f place.file && has_slot cells n place.writer)
 among_from f s n [] place at = sym (and_false (eqb f place.file))
-among_from f s zero (cell ∷ cells) place at =
-    let e : eqb s place.slot ≡ true = grind (arith, nat_tests) in
-    rw (e, none_before f (s + 1) cells place (omega arith)) (or_false (eqb f place.file && eqb cell.writer place.writer))
+among_from f s zero (cell ∷ cells) place at = grind (arith, nat_tests, none_before, or_false)
 among_from f s (suc n) (cell ∷ cells) place at =
     let e : eqb s place.slot ≡ false = grind (arith, nat_tests) in
     rw (e, and_false (eqb f place.file)) (among_from f (s + 1) n cells place (omega arith))
@@ -74,10 +71,7 @@ among_rows versions drafts file slot writer =
 -- ---- how many places are new
 
 pub new_places-cons : (others : List Place) (place : Place) (rest : List Place) → new_places others (place ∷ rest) ≡ cond (is_among others place) 0 1 + new_places others rest
-new_places-cons others place rest = elim (is_among others place) as (λ b. length (cond (not b) (place ∷ filter (λ p. not (is_among others p)) rest) (filter (λ p. not (is_among others p)) rest)) ≡ cond b 0 1 + new_places others rest) [
-  | true ↦ omega arith
-  | false ↦ omega arith
-]
+new_places-cons others place rest = grind (arith, nat_tests)
 
 -- in front of others a row adds those that are new
 different_row : (f s : ℕ) (cells : List Cell) (others : List Place) → different is_place (places_from f s cells ++ others) ≡ new_places others (places_from f s cells) + different is_place others
@@ -92,27 +86,7 @@ different_row f s (cell ∷ cells) others =
 -- the rows of the files that pass
 module _ (t : ℕ → Bool) where
   among_passing : (versions : List VersionRow) (drafts : List DraftRow) (place : Place) → t place.file ≡ true → is_among (places (filter (λ row. t row.file) versions) (filter (λ row. t row.file) drafts)) place ≡ is_among (places versions drafts) place
-  among_passing versions drafts place passes =
-      let p = λ (q : Place). is_place q place in
-      let vs = λ (row : VersionRow). places_from row.file 0 row.cells in
-      let ds = λ (row : DraftRow). places_from row.file 0 row.cells in
-      let tv = λ (row : VersionRow). t row.file in
-      let td = λ (row : DraftRow). t row.file in
-      list_any-append p (flat_map vs (filter tv versions)) (flat_map ds (filter td drafts))
-      ∙ (rw (
-        list_any-flat_map p vs (filter tv versions),
-        list_any-flat_map p ds (filter td drafts),
-        list_any-filter (λ (row : VersionRow). list_any p (vs row)) tv versions (λ row e. none_other row.file 0 row.cells place (apart row.file e)),
-        list_any-filter (λ (row : DraftRow). list_any p (ds row)) td drafts (λ row e. none_other row.file 0 row.cells place (apart row.file e)),
-        ← list_any-flat_map p vs versions,
-        ← list_any-flat_map p ds drafts,
-      ) refl
-      ∙ sym (list_any-append p (flat_map vs versions) (flat_map ds drafts))) where
-        apart : (file : ℕ) → t file ≡ false → eqb file place.file ≡ false
-        apart file fails = elim (eqb file place.file) as (λ b. eqb file place.file ≡ b → b ≡ false) [
-          | true ↦ λ e. let same : file ≡ place.file = grind (arith, nat_tests) in sym (ap t same ∙ passes) ∙ fails
-          | false ↦ λ e. refl
-        ] refl
+  among_passing versions drafts place passes = grind (arith, nat_tests, list_any-append, list_any-flat_map, list_any-filter, none_other)
 
   -- of a file that passes, as many are new
   passing_new : (versions : List VersionRow) (drafts : List DraftRow) (f s : ℕ) (cells : List Cell) → t f ≡ true → new_places (places (filter (λ row. t row.file) versions) (filter (λ row. t row.file) drafts)) (places_from f s cells) ≡ new_places (places versions drafts) (places_from f s cells)

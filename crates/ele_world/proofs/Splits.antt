@@ -22,33 +22,12 @@ bytes_in-cons row rows = sum_by-cons (λ (n : ℕ). n) (length (content_of row.c
 
 split_bytes : (t : VersionRow → Bool) (rows : List VersionRow) → bytes_in rows ≡ bytes_in (filter t rows) + bytes_in (filter (λ r. not (t r)) rows)
 split_bytes t [] = refl
-split_bytes t (row ∷ rows) = elim (t row) as (λ b. bytes_in (row ∷ rows) ≡ bytes_in (cond b (row ∷ filter t rows) (filter t rows)) + bytes_in (cond (not b) (row ∷ filter (λ r. not (t r)) rows) (filter (λ r. not (t r)) rows))) [
-  | true ↦ omega (arith, bytes_in-cons row rows, bytes_in-cons row (filter t rows), split_bytes t rows)
-  | false ↦ omega (arith, bytes_in-cons row rows, bytes_in-cons row (filter (λ r. not (t r)) rows), split_bytes t rows)
-]
+split_bytes t (row ∷ rows) = grind (arith, nat_tests, bytes_in-cons, split_bytes t rows)
 
 -- places that are the same pass alike
 split_different : (t : ℕ → Bool) (ps : List Place) → different is_place ps ≡ different is_place (filter (λ p. t p.file) ps) + different is_place (filter (λ p. not (t p.file)) ps)
 split_different t [] = omega arith
-split_different t (place ∷ ps) = by (t place.file) refl (split_different t ps) where
-  q : Place → Bool
-  q p = is_place p place
-
-  apart : (b : Bool) → t place.file ≡ b → (p : Place) → t p.file ≡ not b → q p ≡ false
-  apart b e p fails = by_same (eqb p.file place.file) refl where
-    by_same : (s : Bool) → eqb p.file place.file ≡ s → (s && (eqb p.slot place.slot && eqb p.writer place.writer)) ≡ false
-    by_same true s = let same : p.file ≡ place.file = grind (arith, nat_tests) in absurd (differ b (sym e ∙ (ap t (sym same) ∙ fails))) where
-      differ : (c : Bool) → c ≡ not c → ⊥
-      differ true h = cc
-      differ false h = cc
-    by_same false s = refl
-
-  by : (b : Bool) → t place.file ≡ b → different is_place ps ≡ different is_place (filter (λ p. t p.file) ps) + different is_place (filter (λ p. not (t p.file)) ps) → different is_place (place ∷ ps) ≡ different is_place (cond b (place ∷ filter (λ p. t p.file) ps) (filter (λ p. t p.file) ps)) + different is_place (cond (not b) (place ∷ filter (λ p. not (t p.file)) ps) (filter (λ p. not (t p.file)) ps))
-  by true e rest = omega (arith, rest, ap {B = ℕ} (λ (s : Bool). cond s 0 1) (list_any-filter q (λ p. t p.file) ps (apart true e)))
-  by false e rest = omega (arith, rest, ap {B = ℕ} (λ (s : Bool). cond s 0 1) (list_any-filter q (λ p. not (t p.file)) ps (λ p fails. apart false e p (not_false (t p.file) fails)))) where
-    not_false : (b : Bool) → not b ≡ false → b ≡ true
-    not_false true h = refl
-    not_false false h = absurd cc
+split_different t (place ∷ ps) = grind (arith, nat_tests, list_any-filter, split_different t ps)
 
 -- the places of the rows that pass are the places that pass
 filter_places : (t : ℕ → Bool) (file slot : ℕ) (cells : List Cell) → filter (λ p. t p.file) (places_from file slot cells) ≡ cond (t file) (places_from file slot cells) []
@@ -62,14 +41,7 @@ filter_places t file slot cells = by (t file) refl cells slot where
 module _ {R : Type 0} (file_of : R → ℕ) (cells_of : R → List Cell) where
   filter_rows : (t : ℕ → Bool) (rows : List R) → filter (λ p. t p.file) (flat_map (λ r. places_from (file_of r) 0 (cells_of r)) rows) ≡ flat_map (λ r. places_from (file_of r) 0 (cells_of r)) (filter (λ r. t (file_of r)) rows)
   filter_rows t [] = refl
-  filter_rows t (row ∷ rows) =
-      let g = λ (r : R). places_from (file_of r) 0 (cells_of r) in
-      ap (filter (λ p. t p.file)) (flat_map-cons g row rows)
-      ∙ (filter-append (λ p. t p.file) (g row) (flat_map g rows)
-      ∙ (rw (filter_places t (file_of row) 0 (cells_of row), filter_rows t rows) (by (t (file_of row))))) where
-        by : (b : Bool) → (cond b (places_from (file_of row) 0 (cells_of row)) [] ++ flat_map (λ r. places_from (file_of r) 0 (cells_of r)) (filter (λ r. t (file_of r)) rows)) ≡ flat_map (λ r. places_from (file_of r) 0 (cells_of r)) (cond b (row ∷ filter (λ r. t (file_of r)) rows) (filter (λ r. t (file_of r)) rows))
-        by true = sym (flat_map-cons (λ r. places_from (file_of r) 0 (cells_of r)) row (filter (λ r. t (file_of r)) rows))
-        by false = refl
+  filter_rows t (row ∷ rows) = grind (arith, nat_tests, flat_map-cons, filter-append, filter_places, filter_rows t rows)
 
 filter_all : (t : ℕ → Bool) (versions : List VersionRow) (drafts : List DraftRow) → filter (λ p. t p.file) (places versions drafts) ≡ places (filter (λ r. t r.file) versions) (filter (λ r. t r.file) drafts)
 filter_all t versions drafts =

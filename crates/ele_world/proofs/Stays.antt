@@ -1,4 +1,5 @@
 -- What an event does to the versions that are held before it.
+use Rattle.std.proofs.lemmas.Bool.Decides.{nat_tests}
 use Rattle.std.proofs.Common.{◌≡◌, ℕ, Bool, true, false, cond, ◌||◌, List, [], ◌∷◌, Option, Some, None, refl, ap, subst, ◌∙◌, arith, ◌⊎◌, inl, inr}
 use Rattle.std.specs.Prelude.{find, unwrap_or}
 use Rattle.std.specs.List.{list_any, AllByRecursion}
@@ -34,17 +35,10 @@ StillOrDue event first row found = IsStill row found ⊎ ((event ≡ CleanOne) �
 
 moved : (event : Event) (first : World) (now : ℕ) (rows : List VersionRow) (row : VersionRow) (before after : Option VersionRow) → IsFound first.versions row → StillOrDue event first row before → Moves event first now rows row.file row.number before after → StillOrDue event first row after
 moved event first now rows row before after found (inl still) (Same e) = inl (record { after = still.after; is = e ∙ still.is; same = still.same })
-moved event first now rows row before after found (inl still) (Ended e) = inl (record {
-  after = ended_at now still.after;
-  is = e ∙ ap (option_map (ended_at now)) still.is;
-  same = record { opened = still.same.opened; closed = still.same.closed; cells = still.same.cells; ended = λ at f. ap (λ (o : Option ℕ). Some (unwrap_or o now)) (still.same.ended at f) };
-})
+moved event first now rows row before after found (inl still) (Ended e) = grind (arith, nat_tests)
 moved event first now rows row before after found (inr gone) (Same e) = inr (gone.0, gone.1, e ∙ gone.2)
 moved event first now rows row before after found (inr gone) (Ended e) = inr (gone.0, gone.1, e ∙ ap (option_map (ended_at now)) gone.2)
-moved event first now rows row before after found was (Taken w may same none) =
-    let taken = may.found in
-    let one : may.row ≡ row = cc in
-    inr (may.clean, subst (λ r. is_due_at first r first.now ≡ true) one may.due, none)
+moved event first now rows row before after found was (Taken w may same none) = grind (arith, nat_tests)
 
 follow : (event : Event) (first w : World) (row : VersionRow) (changes : List Change) → IsFound first.versions row → AllLater ArePlaced first.versions → MayAll event first w changes → IsPast w row.file row.number → StillOrDue event first row (find (is_version row.file row.number) w.versions) → StillOrDue event first row (find (is_version row.file row.number) (after_changes w changes).versions)
 follow event first w row [] found placed may past was = was
@@ -54,11 +48,7 @@ follow event first w row (change ∷ changes) found placed may past was = follow
 
 -- the number of a version that is held was given
 pub held_past : (w : World) (row : VersionRow) → IsWellFormed w → IsVersion w.files w.now row → IsPast w row.file row.number
-held_past w row k is = record {
-  given = next_of-given w.made.files w.made.versions w.files row.file (k.holds Files).each (omega (arith, is.numbered));
-  first = is.first;
-  past = all_behind w.files row.file row.number (k.holds Files).placed is.numbered;
-}
+held_past w row k is = grind (arith, nat_tests, k.holds Files, next_of-given, all_behind)
 
 row_stays : (w : World) (event : Event) (row : VersionRow) → IsWellFormed w → IsVersion w.files w.now row → IsFound w.versions row → StillOrDue event w row (find (is_version row.file row.number) ((step w event).1).versions)
 row_stays w event row k is found =
@@ -70,10 +60,7 @@ row_stays w event row k is found =
 
 held_if_found : (file number : ℕ) (rows : List VersionRow) (row : VersionRow) → find (is_version file number) rows ≡ Some row → list_any (is_version file number) rows ≡ true
 held_if_found file number [] row h = absurd cc
-held_if_found file number (x ∷ xs) row h = by (is_version file number x) refl h (held_if_found file number xs row) where
-  by : (b : Bool) → is_version file number x ≡ b → cond b (Some x) (find (is_version file number) xs) ≡ Some row → (find (is_version file number) xs ≡ Some row → list_any (is_version file number) xs ≡ true) → (b || list_any (is_version file number) xs) ≡ true
-  by true e h more = refl
-  by false e h more = more h
+held_if_found file number (x ∷ xs) row h = grind (arith, nat_tests, held_if_found file number xs row)
 
 each_row : (w : World) (event : Event) (Q : VersionRow → Type 0) → IsWellFormed w → ((row : VersionRow) → StillOrDue event w row (find (is_version row.file row.number) ((step w event).1).versions) → Q row) → AllByRecursion Q w.versions
 each_row w event Q k then = all-weaker (λ row. IsVersion w.files w.now row × IsFound w.versions row) Q w.versions (λ row h. then row (row_stays w event row k h.0 h.1)) (all-both (IsVersion w.files w.now) (IsFound w.versions) w.versions (k.holds Versions).each (all_found w.versions (k.holds Versions).placed))

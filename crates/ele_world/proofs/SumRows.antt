@@ -1,4 +1,5 @@
 -- Usage, one row after another.
+use Rattle.std.proofs.lemmas.Bool.Decides.{nat_tests}
 use Rattle.std.proofs.Common.{◌≡◌, ℕ, ◌+◌, ◌-◌, ◌<◌, Bool, true, false, cond, List, [], ◌∷◌, length, map, get_or, take, drop, arith}
 use Rattle.std.specs.Prelude.{filter}
 use Rattle.std.proofs.lemmas.List.{drop_more, take_all, length-append, length-drop}
@@ -15,8 +16,7 @@ use Rattle.ele_world.proofs.SlotPlaces.{new_places-cons, different_version, diff
 
 -- the bytes of what is left of the cells
 pub cell_bytes : (cells : List Cell) (i : ℕ) (cell : Cell) → i < length cells → cell ≡ get_or cells i cell → length (content_of (drop i cells)) ≡ length cell.bytes + length (content_of (drop (i + 1) cells))
-cell_bytes cells i cell lt is =
-    rw (drop_more cells i cell lt, ← is, flat_map-cons (λ (c : Cell). c.bytes) cell (drop (i + 1) cells)) (length-append cell.bytes (content_of (drop (i + 1) cells)))
+cell_bytes cells i cell lt is = grind (arith, nat_tests, drop_more, flat_map-cons, length-append)
 
 -- and of the versions
 version_bytes : (t : ℕ → Bool) (row : VersionRow) (versions : List VersionRow) → bytes_in (filter (λ r. t r.file) (row ∷ versions)) ≡ cond (t row.file) (length (content_of row.cells)) 0 + bytes_in (filter (λ r. t r.file) versions)

@@ -42,13 +42,7 @@ module _ {X : Type 0} (file_of : X → ℕ) where
   own_passing : (t : ℕ → Bool) (file : ℕ) (xs : List X) → filter (λ x. eqb (file_of x) file) (filter (λ x. t (file_of x)) xs) ≡ cond (t file) (filter (λ x. eqb (file_of x) file) xs) []
   own_passing t file xs = by (t file) refl xs where
     by_row : (b : Bool) → t file ≡ b → (x : X) (rest all : List X) → rest ≡ cond b all [] → (e : Bool) → eqb (file_of x) file ≡ e → (c : Bool) → t (file_of x) ≡ c → cond (c) (cond e (x ∷ rest) rest) rest ≡ cond b (cond e (x ∷ all) all) []
-    by_row b is x rest all h true e c passes =
-        let same : file_of x ≡ file = grind (arith, nat_tests) in
-        let both : c ≡ b = sym passes ∙ (ap t same ∙ is) in
-        rw (both, h) (go b) where
-          go : (b : Bool) → cond b (x ∷ cond b all []) (cond b all []) ≡ cond b (x ∷ all) []
-          go true = refl
-          go false = refl
+    by_row b is x rest all h true e c passes = grind (arith, nat_tests)
     by_row b is x rest all h false e true passes = h
     by_row b is x rest all h false e false passes = h
 
@@ -108,12 +102,10 @@ unfolding usage_of
 usage_is w k = refl
 
 summed-same : (files : ℕ) (t t' : ℕ → Bool) (versions : List VersionRow) (drafts : List DraftRow) → ((id : ℕ) → t id ≡ t' id) → summed files t versions drafts ≡ summed files t' versions drafts
-summed-same files t t' versions drafts same =
-    rw (filter-same (λ (r : VersionRow). t r.file) (λ r. t' r.file) versions (λ r. same r.file), filter-same (λ (r : DraftRow). t r.file) (λ r. t' r.file) drafts (λ r. same r.file)) refl
+summed-same files t t' versions drafts same = grind (arith, nat_tests, filter-same)
 
 pub same_usage : (a b : Usage) → a.files ≡ b.files → a.versions ≡ b.versions → a.bytes ≡ b.bytes → a.blocks ≡ b.blocks → a ≡ b
-same_usage a b files versions bytes blocks =
-    ap (λ n. record a { files = n }) files ∙ (ap (λ n. record a { files = b.files; versions = n }) versions ∙ (ap (λ n. record a { files = b.files; versions = b.versions; bytes = n }) bytes ∙ ap (λ n. record b { blocks = n }) blocks))
+same_usage a b files versions bytes blocks = grind (arith, nat_tests)
 
 -- the sums of the kind, as a change of one file leaves them
 pub usage_changes : (file : ℕ) (w v : World) → ChangesOnly file w v → (k : Kind) → plus (usage_of v k) (part w file k w) ≡ plus (usage_of w k) (part w file k v)
@@ -132,24 +124,7 @@ usage_changes file w v only k =
 
 -- what counts at its own kind alone
 pub only_at_is : (k kind : Kind) (usage : Usage) → only_at kind usage k ≡ cond (is_kind k kind) usage nothing
-only_at_is k kind usage = ap (λ b. cond b usage nothing) (swapped kind k) where
-  swapped : (a b : Kind) → is_kind a b ≡ is_kind b a
-  swapped kinds.One kinds.One = refl
-  swapped kinds.One kinds.All = refl
-  swapped kinds.One kinds.Safe = refl
-  swapped kinds.One kinds.Landmarks = refl
-  swapped kinds.All kinds.One = refl
-  swapped kinds.All kinds.All = refl
-  swapped kinds.All kinds.Safe = refl
-  swapped kinds.All kinds.Landmarks = refl
-  swapped kinds.Safe kinds.One = refl
-  swapped kinds.Safe kinds.All = refl
-  swapped kinds.Safe kinds.Safe = refl
-  swapped kinds.Safe kinds.Landmarks = refl
-  swapped kinds.Landmarks kinds.One = refl
-  swapped kinds.Landmarks kinds.All = refl
-  swapped kinds.Landmarks kinds.Safe = refl
-  swapped kinds.Landmarks kinds.Landmarks = refl
+only_at_is k kind usage = grind (arith, nat_tests)
 
 -- a part by the policy of the file
 pub part_is : (first : World) (file : ℕ) (policy : Policy) (k : Kind) (w : World) → policy_of first.files file ≡ Some policy → part first file k w ≡ only_at (kind_of policy) (whole w) k
@@ -160,18 +135,12 @@ part_is first file policy k w filed = rw filed (sym (only_at_is k (kind_of polic
 -- a file that is there before is found alike once one is added behind
 kind_before : (files : List FileRow) (row : FileRow) (k : Kind) (id : ℕ) → 0 < next_of files id → is_file_of (files ++ row ∷ []) k id ≡ is_file_of files k id
 kind_before [] row k id there = absurd (omega arith)
-kind_before (x ∷ xs) row k id there = elim (is_file id x) as (λ b. is_file id x ≡ b → is_file_of (x ∷ (xs ++ row ∷ [])) k id ≡ is_file_of (x ∷ xs) k id) [
-  | true ↦ λ e. rw e refl
-  | false ↦ λ e. rw e (kind_before xs row k id (rw e at there))
-] refl
+kind_before (x ∷ xs) row k id there = grind (arith, nat_tests, kind_before xs row k id)
 
 -- and the one added by its policy, where its number is new
 kind_added : (given versions : ℕ) (files : List FileRow) (row : FileRow) (k : Kind) → AllByRecursion (IsFile given versions) files → given < row.id → is_file_of (files ++ row ∷ []) k row.id ≡ is_kind k (kind_of row.policy)
 kind_added given versions [] row k all new = let e : is_file row.id row ≡ true = grind (arith, nat_tests) in rw e refl
-kind_added given versions (x ∷ xs) row k all new =
-    let of = all.0.given in
-    let e : is_file row.id x ≡ false = grind (arith, nat_tests) in
-    rw e (kind_added given versions xs row k all.1 new)
+kind_added given versions (x ∷ xs) row k all new = grind (arith, nat_tests, kind_added given versions xs row k all.1 new)
 
 -- rows of files that are there pass as before
 rows_before : {R : Type 0} (file_of : R → ℕ) (P : R → Type 0) (files : List FileRow) (row : FileRow) (k : Kind) (rows : List R) → ((r : R) → P r → 0 < next_of files (file_of r)) → AllByRecursion P rows → filter (λ r. is_file_of (files ++ row ∷ []) k (file_of r)) rows ≡ filter (λ r. is_file_of files k (file_of r)) rows
@@ -185,20 +154,14 @@ bytes_more [] row empty = omega (arith, bytes_in-cons row [], ap (λ cells. leng
 bytes_more (x ∷ xs) row empty = omega (arith, bytes_in-cons x (xs ++ row ∷ []), bytes_in-cons x xs, bytes_more xs row empty)
 
 places_more : (rows : List VersionRow) (row : VersionRow) (drafts : List DraftRow) → row.cells ≡ [] → places (rows ++ row ∷ []) drafts ≡ places rows drafts
-places_more rows row drafts empty =
-    let g = λ (r : VersionRow). places_from r.file 0 r.cells in
-    let none : g row ≡ [] = ap (places_from row.file 0) empty in
-    ap (λ ps. ps ++ flat_map (λ (r : DraftRow). places_from r.file 0 r.cells) drafts)
-    (flat_map-append g rows (row ∷ []) ∙ (ap (λ ps. flat_map g rows ++ ps) (flat_map-cons g row [] ∙ ap (λ ps. ps ++ []) none) ∙ append-nil (flat_map g rows)))
+places_more rows row drafts empty = grind (arith, nat_tests, flat_map-append, flat_map-cons, append-nil)
 
 -- the sums with one more file of a kind that passes, or of another
 pushed : (b : Bool) (files : List FileRow) (file : FileRow) (versions : List VersionRow) (version : VersionRow) (drafts : List DraftRow) → version.cells ≡ []
     → (let usage : Usage = record { files = length (files ++ cond b (file ∷ []) []); versions = length (versions ++ cond b (version ∷ []) []); bytes = bytes_in (versions ++ cond b (version ∷ []) []); blocks = different is_place (places (versions ++ cond b (version ∷ []) []) drafts) } in usage)
     ≡ plus (record { files = length files; versions = length versions; bytes = bytes_in versions; blocks = different is_place (places versions drafts) }) (cond b (record { files = 1; versions = 1; bytes = 0; blocks = 0 }) nothing)
-pushed true files file versions version drafts empty =
-    same_usage _ _ (length-append files (file ∷ [])) (length-append versions (version ∷ [])) (omega (arith, bytes_more versions version empty)) (omega (arith, ap (different is_place) (places_more versions version drafts empty)))
-pushed false files file versions version drafts empty =
-    rw (append-nil files, append-nil versions) (same_usage _ _ (omega arith) (omega arith) (omega arith) (omega arith))
+pushed true files file versions version drafts empty = grind (arith, nat_tests, same_usage, length-append, bytes_more, places_more)
+pushed false files file versions version drafts empty = grind (arith, nat_tests, append-nil, same_usage)
 
 filter_push : {X : Type 0} (p : X → Bool) (xs : List X) (x : X) → filter p (xs ++ x ∷ []) ≡ filter p xs ++ cond (p x) (x ∷ []) []
 filter_push p xs x = filter-append p xs (x ∷ [])
@@ -230,12 +193,7 @@ usage_same w v files versions drafts k = usage_is v k ∙ (rw (files, versions, 
 
 -- a change of the file's draft alone
 pub changes_drafts : (file : ℕ) (w v : World) → v.files ≡ w.files → v.versions ≡ w.versions → other_drafts file v.drafts ≡ other_drafts file w.drafts → ChangesOnly file w v
-changes_drafts file w v files versions drafts = record {
-  kinds = λ k id. ap (λ rows. is_file_of rows k id) files;
-  files = λ k. ap (λ rows. length (filter (is_of k) rows)) files;
-  versions = ap (filter (λ (row : VersionRow). not (eqb row.file file))) versions;
-  drafts = drafts;
-}
+changes_drafts file w v files versions drafts = grind (arith, nat_tests)
 
 pub changes_updated : (file : ℕ) (w : World) (f : DraftRow → DraftRow) → ((row : DraftRow) → (f row).file ≡ row.file) → ChangesOnly file w (record w { drafts = update_first (is_draft file) f w.drafts })
 changes_updated file w f keeps = changes_drafts file w (record w { drafts = update_first (is_draft file) f w.drafts }) refl refl (drafts-updated file f w.drafts keeps)
@@ -285,10 +243,7 @@ whole_bytes w keeps bounds = omega (arith, bytes_short w.files w.now w.versions 
 
 different_few : (xs : List Place) → different is_place xs ≤ length xs
 different_few [] = omega arith
-different_few (x ∷ xs) = by (list_any (λ y. is_place y x) xs) (different_few xs) where
-  by : (b : Bool) → different is_place xs ≤ length xs → cond b 0 1 + different is_place xs ≤ length (x ∷ xs)
-  by true few = omega (arith, few)
-  by false few = omega (arith, few)
+different_few (x ∷ xs) = grind (arith, nat_tests, different_few xs)
 
 length-places_from : (file slot : ℕ) (cells : List Cell) → length (places_from file slot cells) ≡ length cells
 length-places_from file slot [] = refl
@@ -300,10 +255,7 @@ content_few cells is = omega (arith, slots_few (length (content_of cells)) cells
 
 rows_few : {R : Type 0} (file_of : R → ℕ) (cells_of : R → List Cell) (rows : List R) → AllByRecursion (λ row. IsContent (cells_of row)) rows → length (flat_map (λ row. places_from (file_of row) 0 (cells_of row)) rows) ≤ longest_content * length rows
 rows_few file_of cells_of [] all = omega arith
-rows_few file_of cells_of (x ∷ xs) all =
-    let split = flat_map-cons (λ row. places_from (file_of row) 0 (cells_of row)) x xs in
-    let lengths = ap (λ (ps : List Place). length ps) split ∙ length-append (places_from (file_of x) 0 (cells_of x)) (flat_map (λ row. places_from (file_of row) 0 (cells_of row)) xs) in
-    omega (arith, lengths, length-places_from (file_of x) 0 (cells_of x), content_few (cells_of x) all.0, rows_few file_of cells_of xs all.1)
+rows_few file_of cells_of (x ∷ xs) all = grind (arith, nat_tests, flat_map-cons, length-append, length-places_from, content_few, rows_few file_of cells_of xs all.1)
 
 pub whole_blocks : (w : World) → IsWellFormed w → AreBounds w.limits → (whole w).blocks < 2 ^ 64
 whole_blocks w keeps bounds =
@@ -318,20 +270,10 @@ whole_blocks w keeps bounds =
 
 -- all of them fit, where the blocks do
 pub whole_fits : (w : World) → IsWellFormed w → AreBounds w.limits → (whole w).blocks < 2 ^ 64 → Fits (whole w)
-whole_fits w keeps bounds blocks = record {
-  files = omega arith;
-  versions = omega (arith, whole_versions w keeps bounds);
-  bytes = omega (arith, whole_bytes w keeps bounds);
-  blocks = blocks;
-}
+whole_fits w keeps bounds blocks = grind (arith, nat_tests, whole_versions, whole_bytes)
 
 pub usage_fits : (w : World) → IsWellFormed w → AreBounds w.limits → (whole w).blocks < 2 ^ 64 → (k : Kind) → Fits (usage_of w k)
-usage_fits w keeps bounds blocks k = record {
-  files = omega (arith, within_files w k, whole_files w keeps bounds);
-  versions = omega (arith, within_versions w k, whole_versions w keeps bounds);
-  bytes = omega (arith, within_bytes w k, whole_bytes w keeps bounds);
-  blocks = omega (arith, within_blocks w k, blocks);
-}
+usage_fits w keeps bounds blocks k = grind (arith, nat_tests, within_files, whole_files, within_versions, whole_versions, within_bytes, whole_bytes, within_blocks)
 
 all_fit : (w : World) → ((k : Kind) → Fits (usage_of w k)) → AllByRecursion Fits (usages w)
 all_fit w fits = (fits kinds.One, (fits kinds.All, (fits kinds.Safe, (fits kinds.Landmarks, tt))))

@@ -33,17 +33,11 @@ pub record IsEndedBy (now : ℕ) (row : VersionRow) : Type 0 where
   pub by_now : ended ≤ now
 
 pub ends : (now : ℕ) (row : VersionRow) → IfSome row.ended (λ ended. (row.closed ≤ ended) × (ended ≤ now)) → IsEndedBy now (ended_at now row)
-ends now row h = record { ended = unwrap_or row.ended now; is = refl; by_now = by row.ended h } where
-  by : (o : Option ℕ) → IfSome o (λ ended. (row.closed ≤ ended) × (ended ≤ now)) → unwrap_or o now ≤ now
-  by None h = omega arith
-  by (Some e) h = h.1
+ends now row h = grind (arith, nat_tests)
 
 -- of a file's rows all but the last have ended
 pub other_ended : (files : List FileRow) (now : ℕ) (row : VersionRow) → IsVersion files now row → (row.number + 1 ≡ next_of files row.file → ⊥) → IsEndedBy now row
-other_ended files now row h not_last = by row.ended refl where
-  by : (o : Option ℕ) → row.ended ≡ o → IsEndedBy now row
-  by None e = absurd (not_last (h.open_end e))
-  by (Some at) e = record { ended = at; is = e; by_now = (let bound = rw e at h.ended in bound.1) }
+other_ended files now row h not_last = grind (arith, nat_tests)
 
 -- once the last has ended all of the file have
 pub file_ended : (files : List FileRow) (now file : ℕ) (rows : List VersionRow) → AllLater ArePlaced rows → AllByRecursion (IsVersion files now) rows → AllByRecursion (λ row. row.file ≡ file → IsEndedBy now row) (update_first (is_version file (next_of files file - 1)) (ended_at now) rows)
@@ -53,12 +47,7 @@ file_ended files now file (x ∷ xs) placed all = elim (is_version file (next_of
   | false ↦ λ e. ((λ same. other_ended files now x all.0 (λ last. not_that x e same last)), file_ended files now file xs placed.1 all.1)
 ] refl where
   no_later : (x y : VersionRow) → is_version file (next_of files file - 1) x ≡ true → ArePlaced x y → IsVersion files now y → y.file ≡ file → ⊥
-  no_later x y e placed is same =
-      let after = placed.after in
-      let numbered : y.number < next_of files file = subst (λ f. y.number < next_of files f) same is.numbered in
-      grind (arith, nat_tests)
+  no_later x y e placed is same = grind (arith, nat_tests)
 
   not_that : (x : VersionRow) → is_version file (next_of files file - 1) x ≡ false → x.file ≡ file → x.number + 1 ≡ next_of files x.file → ⊥
-  not_that x e same last =
-      let last' : x.number + 1 ≡ next_of files file = subst (λ f. x.number + 1 ≡ next_of files f) same last in
-      grind (arith, nat_tests)
+  not_that x e same last = grind (arith, nat_tests)

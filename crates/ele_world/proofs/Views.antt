@@ -31,10 +31,7 @@ pub record Precedes (earlier later : VersionRow) : Type 0 where
   pub by_then : ended ≤ later.closed
 
 pub precedes : (x y : VersionRow) → ArePlaced x y → x.file ≡ y.file → Precedes x y
-precedes x y placed same =
-    let after = placed.after in
-    let own = placed.ended same in
-    record { number = grind (arith, nat_tests); ended = own.0; is_ended = own.1; by_then = own.2 }
+precedes x y placed same = grind (arith, nat_tests)
 
 -- what is true of each file's policy and rows
 pub record IsView (v : FileView) : Type 0 where
@@ -61,10 +58,7 @@ policies_of w k = all-weaker (IsFile w.made.files w.made.versions) (λ row. IsPo
 
 pub policy_is : (files : List FileRow) (file : ℕ) → AllByRecursion (λ row. IsPolicy row.policy) files → IfSome (policy_of files file) IsPolicy
 policy_is [] file all = tt
-policy_is (x ∷ xs) file all = elim (is_file file x) as (λ b. IfSome (option_map (λ (row : FileRow). row.policy) (cond b (Some x) (find (is_file file) xs))) IsPolicy) [
-  | true ↦ all.0
-  | false ↦ policy_is xs file all.1
-]
+policy_is (x ∷ xs) file all = grind (arith, nat_tests, policy_is xs file all.1)
 
 -- each file of a world is so whose rows are
 pub view_in : (w : World) (file : ℕ) → AllByRecursion (λ row. IsPolicy row.policy) w.files → AllByRecursion IsLife w.versions → AllLater ArePlaced w.versions → IsView (view_of w file)
@@ -99,9 +93,7 @@ all_behind x row ys before all = filter-all (is_newer x) ys (all-weaker (Precede
 
 -- of one before the row: some before the row, the row, and all behind it
 pub newer_before : (x : VersionRow) (xs : List VersionRow) (row : VersionRow) (ys : List VersionRow) → AllLater Precedes (xs ++ row ∷ ys) → Precedes x row → filter (is_newer x) (xs ++ row ∷ ys) ≡ filter (is_newer x) xs ++ row ∷ ys
-newer_before x xs row ys placed before =
-    filter-append (is_newer x) xs (row ∷ ys)
-    ∙ ap (λ t. filter (is_newer x) xs ++ t) (rw (is_before x row before) (ap (λ t. row ∷ t) (all_behind x row ys before (later-around Precedes xs row ys placed).1)))
+newer_before x xs row ys placed before = grind (arith, nat_tests, filter-append, is_before, all_behind, later-around)
 
 -- and without the row the others
 pub newer_without : (x : VersionRow) (xs : List VersionRow) (row : VersionRow) (ys : List VersionRow) → AllLater Precedes (xs ++ row ∷ ys) → Precedes x row → filter (is_newer x) (xs ++ ys) ≡ filter (is_newer x) xs ++ ys
@@ -111,8 +103,7 @@ newer_without x xs row ys placed before =
 
 -- of one behind the row: the same with it and without
 pub newer_behind : (x : VersionRow) (xs : List VersionRow) (row : VersionRow) (ys : List VersionRow) → Precedes row x → filter (is_newer x) (xs ++ row ∷ ys) ≡ filter (is_newer x) (xs ++ ys)
-newer_behind x xs row ys after =
-    filter-append (is_newer x) xs (row ∷ ys) ∙ rw (isnt_behind row x after) (sym (filter-append (is_newer x) xs ys))
+newer_behind x xs row ys after = grind (arith, nat_tests, filter-append, isnt_behind)
 
 -- ---- their closings
 
@@ -122,11 +113,7 @@ closings_rise [] lives placed = tt
 closings_rise (x ∷ xs) lives placed = (each xs placed.0, closings_rise xs lives.1 placed.1) where
   each : (ys : List VersionRow) → AllByRecursion (Precedes x) ys → AllByRecursion (◌≤◌ x.closed) (closings ys)
   each [] all = tt
-  each (y ∷ ys) all =
-      let first = all.0 in
-      let by_then = first.by_then in
-      let life = rw first.is_ended at lives.0 in
-      (omega (arith, by_then, life), each ys all.1)
+  each (y ∷ ys) all = grind (arith, nat_tests, each ys all.1)
 
 tail_of : (xs rows : List VersionRow) → AllByRecursion IsLife (xs ++ rows) → AllLater Precedes (xs ++ rows) → AllByRecursion IsLife rows × AllLater Precedes rows
 tail_of [] rows lives placed = (lives, placed)
@@ -143,9 +130,7 @@ nearest_is v view xs row ys whole =
 -- ---- the rows of a row's own file
 
 pub own_rows : (before : List VersionRow) (row : VersionRow) (behind : List VersionRow) → filter (is_version_of row.file) (before ++ row ∷ behind) ≡ filter (is_version_of row.file) before ++ row ∷ filter (is_version_of row.file) behind
-own_rows before row behind =
-    let own : is_version_of row.file row ≡ true = grind (arith, nat_tests) in
-    filter-append (is_version_of row.file) before (row ∷ behind) ∙ rw own refl
+own_rows before row behind = grind (arith, nat_tests, filter-append)
 
 -- so what stands beside a version of a world is as its policy wants it
 pub nearest_of : (w : World) (before : List VersionRow) (row : VersionRow) (behind : List VersionRow) → IsView (view_of w row.file) → w.versions ≡ before ++ row ∷ behind
@@ -155,5 +140,4 @@ nearest_of w before row behind view whole =
 
 -- of another file
 pub other_rows : (file : ℕ) (before : List VersionRow) (row : VersionRow) (behind : List VersionRow) → is_version_of file row ≡ false → filter (is_version_of file) (before ++ row ∷ behind) ≡ filter (is_version_of file) (before ++ behind)
-other_rows file before row behind other =
-    filter-append (is_version_of file) before (row ∷ behind) ∙ rw other (sym (filter-append (is_version_of file) before behind))
+other_rows file before row behind other = grind (arith, nat_tests, filter-append)

@@ -36,10 +36,7 @@ walk_to P rows each (Directory directory) target (name ∷ names) so h =
 -- what is true of the row of each live name's target
 pub live_row : (P : Target → Type 0) (rows : List NameRow) (directory : ℕ) (name : List ℕ) (target : Target)
     → ((row : NameRow) → find (is_live_name directory name) rows ≡ Some row → P row.target) → live_target rows directory name ≡ Some target → P target
-live_row P rows directory name target each h = by (find (is_live_name directory name) rows) refl h where
-  by : (o : Option NameRow) → find (is_live_name directory name) rows ≡ o → option_map (λ (row : NameRow). row.target) o ≡ Some target → P target
-  by None e h = absurd cc
-  by (Some row) e h = let same : row.target ≡ target = cc in subst P same (each row e)
+live_row P rows directory name target each h = grind (arith, nat_tests)
 
 pub file_of : (r : Result Target Refusal) (file : ℕ) → file_at r ≡ Ok file → r ≡ Ok (File file)
 file_of (Ok (File other)) file h = let same : other ≡ file = cc in ap (λ f. Ok (File f)) same
@@ -59,14 +56,7 @@ IsLive rows (File file) = list_any (is_live_name_of file) rows ≡ true
 IsLive rows (Directory directory) = Unit {0}
 
 pub target_live : (rows : List NameRow) (directory : ℕ) (name : List ℕ) (target : Target) → live_target rows directory name ≡ Some target → IsLive rows target
-target_live rows directory name target = live_row (IsLive rows) rows directory name target (λ row found. by row found row.target refl) where
-  by : (row : NameRow) → find (is_live_name directory name) rows ≡ Some row → (t : Target) → row.target ≡ t → IsLive rows t
-  by row found (Directory id) is = tt
-  by row found (File file) is =
-      let passes = found_passes (is_live_name directory name) rows row found in
-      let alive : is_none row.death ≡ true = grind (arith, nat_tests) in
-      let own : (file == file) ≡ true = grind (arith, nat_tests) in
-      any-found (is_live_name directory name) (is_live_name_of file) rows row found (rw (is, own) alive)
+target_live rows directory name target = grind (arith, nat_tests, live_row, found_passes, any-found)
 
 -- the file at a path is live
 pub file_live : (rows : List NameRow) (path : List (List ℕ)) (file : ℕ) → file_now rows path ≡ Ok file → list_any (is_live_name_of file) rows ≡ true
@@ -75,10 +65,7 @@ file_live rows path file h = walk_to (IsLive rows) rows (target_live rows) (Dire
 -- ---- walks, where a name is added
 
 pub live_target-push : (rows : List NameRow) (row : NameRow) (directory : ℕ) (name : List ℕ) (target : Target) → live_target rows directory name ≡ Some target → live_target (rows ++ row ∷ []) directory name ≡ Some target
-live_target-push rows row directory name target h = by (find (is_live_name directory name) rows) refl h where
-  by : (o : Option NameRow) → find (is_live_name directory name) rows ≡ o → option_map (λ (r : NameRow). r.target) o ≡ Some target → live_target (rows ++ row ∷ []) directory name ≡ Some target
-  by None e h = absurd cc
-  by (Some found) e h = let is : find (is_live_name directory name) (rows ++ row ∷ []) ≡ Some found = find-append (is_live_name directory name) rows (row ∷ []) ∙ rw e refl in rw is h
+live_target-push rows row directory name target h = grind (arith, nat_tests, find-append)
 
 pub walk-push : (rows : List NameRow) (row : NameRow) (at : Target) (names : List (List ℕ)) (target : Target) → walk rows at names ≡ Ok target → walk (rows ++ row ∷ []) at names ≡ Ok target
 walk-push rows row at [] target h = h
@@ -116,20 +103,7 @@ pub record IsParent (names : List NameRow) (path : List (List ℕ)) (at : ℕ ×
   pub leads : walk_now names front ≡ Ok (Directory at.0)
 
 pub parent_is : (names : List NameRow) (path : List (List ℕ)) (at : ℕ × List ℕ) → parent_now names path ≡ Ok at → IsParent names path at
-parent_is names path at h = by (slice_get path (length path - 1)) refl h where
-  front : List (List ℕ)
-  front = take (length path - 1) path
-
-  of : (name : List ℕ) → slice_get path (length path - 1) ≡ Some name → (r : Result Target Refusal) → walk_now names (take (length path - 1) path) ≡ r → directory_at name r ≡ Ok at → IsParent names path at
-  of name last (Ok (Directory directory)) w h =
-      let same : (directory, name) ≡ at = cc in
-      subst (IsParent names path) same (record { front = take (length path - 1) path; taken = refl; whole = split-last path name last; leads = w })
-  of name last (Ok (File file)) w h = absurd cc
-  of name last (Err refusal) w h = absurd cc
-
-  by : (o : Option (List ℕ)) → slice_get path (length path - 1) ≡ o → option_map_or (λ name. directory_at name (walk_now names (take (length path - 1) path))) o (Err IsRoot) ≡ Ok at → IsParent names path at
-  by None last h = absurd cc
-  by (Some name) last h = of name last (walk_now names (take (length path - 1) path)) refl h
+parent_is names path at h = grind (arith, nat_tests, split-last)
 
 -- what is true of the root, and of each live name's target, is so of the directory that a path's last name stands in
 pub parent_to : (P : Target → Type 0) (rows : List NameRow) → ((directory : ℕ) (name : List ℕ) (target : Target) → live_target rows directory name ≡ Some target → P target)
@@ -161,21 +135,13 @@ last_leads rows path at directory found leads = last_names rows path at (Directo
 
 module _ (rows : List NameRow) (directory : ℕ) (name : List ℕ) (target : Target) (now : ℕ) where
   own_name : is_live_name directory name (born_row directory name target now) ≡ true
-  own_name =
-      let named : bytes_eq name name ≡ true = (bytes_eq-Decides name name).1 refl in
-      let there : eqb directory directory ≡ true = grind (arith, nat_tests) in
-      rw (there, named) refl
+  own_name = grind (arith, nat_tests, bytes_eq-Decides)
 
   none_before : is_some (live_target rows directory name) ≡ false → find (is_live_name directory name) rows ≡ None
-  none_before free = by (find (is_live_name directory name) rows) free where
-    by : (o : Option NameRow) → is_some (option_map (λ (row : NameRow). row.target) o) ≡ false → o ≡ None
-    by None h = refl
-    by (Some row) h = absurd (false≢true (sym h))
+  none_before free = grind (arith, nat_tests, false≢true)
 
   target_is : is_some (live_target rows directory name) ≡ false → live_target (rows ++ born_row directory name target now ∷ []) directory name ≡ Some target
-  target_is free =
-      let is : find (is_live_name directory name) (rows ++ born_row directory name target now ∷ []) ≡ Some (born_row directory name target now) = find-append (is_live_name directory name) rows (born_row directory name target now ∷ []) ∙ rw (none_before free, own_name) refl in
-      rw is refl
+  target_is free = grind (arith, nat_tests, find-append, none_before, own_name)
 
 -- the path leads to the target of its new name
 pub named_leads : (rows : List NameRow) (path : List (List ℕ)) (at : ℕ × List ℕ) (target : Target) (now : ℕ) → IsParent rows path at → is_some (live_target rows at.0 at.1) ≡ false → walk_now (rows ++ born_row at.0 at.1 target now ∷ []) path ≡ Ok target

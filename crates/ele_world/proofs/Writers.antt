@@ -1,4 +1,5 @@
 -- Who wrote the cells that a write or a truncate leaves.
+use Rattle.std.proofs.lemmas.Bool.Decides.{nat_tests}
 use Rattle.std.proofs.Common.{ℕ, suc, zero, ◌+◌, ◌≤◌, Bool, true, false, cond, List, [], ◌∷◌, length, map, arith, eqb}
 use Rattle.std.specs.Prelude.{min}
 use Rattle.std.specs.List.{AllByRecursion, range_with_len}
@@ -43,10 +44,7 @@ pub changed_written : (number offset : ℕ) (bytes : List ℕ) (row : DraftRow) 
 changed_written number offset bytes row all = written_by number offset bytes row.cells all
 
 pub fitted_written : (number size : ℕ) (row : DraftRow) → AreWrittenBy number row.cells → AreWrittenBy number ((fitted_by number size row).cells)
-fitted_written number size row all = elim (eqb (length (content_of row.cells)) size) as (λ b. AreWrittenBy number ((cond b row (record row { cells = cells_after_truncate number size row.cells; changed = true })).cells)) [
-  | true ↦ all
-  | false ↦ truncated_by number size row.cells all
-]
+fitted_written number size row all = grind (arith, nat_tests, truncated_by)
 
 -- by more versions
 pub written_more : (less more : ℕ) (cells : List Cell) → less ≤ more → AreWrittenBy less cells → AreWrittenBy more cells
