@@ -1,5 +1,5 @@
 -- The changes of each event may be made, each in its turn.
-use Rattle.std.proofs.Common.{◌≡◌, ℕ, ◌<◌, true, List, [], ◌∷◌, Option, Some, None, refl, subst, arith}
+use Rattle.std.proofs.Common.{rules, ◌≡◌, ℕ, ◌<◌, true, List, [], ◌∷◌, Option, Some, None, refl, subst, arith}
 use Rattle.std.specs.Prelude.{find, is_some, nat_le, Ok, false}
 use Rattle.std.specs.List.{list_any, AllByRecursion}
 use Rattle.std.specs.Option.{option_map_or}
@@ -44,11 +44,7 @@ begun : (w : World) (file : ℕ) → list_any (is_draft file) (insert_before (is
 begun w file = let own : is_draft file (new_draft w file) ≡ true = grind (arith, nat_tests) in rw (list_any-insert_before (is_draft_after file) (is_draft file) (new_draft w file) w.drafts, own) refl
 
 pub takes : (w : World) (key : Key) → IsWellFormed w → first_due w ≡ Some key → MayTake CleanOne w w key.file key.number
-takes w key k first =
-    let due = first_is_due w key (k.holds Versions).placed first in
-    record { clean = refl; row = due.row; found = due.found; due = due.due; ended = due_has_ended w due.row w.now due.due; unread = unread due.row due.found due.due; same = refl } where
-      unread : (row : VersionRow) → find (is_version key.file key.number) w.versions ≡ Some row → is_due_at w row w.now ≡ true → is_open w.handles key.file key.number ≡ false
-      unread row found due = grind (arith, nat_tests, found_passes, due_is_unread)
+takes w key k first = grind (arith, nat_tests, k.holds Versions, first_is_due w key (k.holds Versions).placed first, due_has_ended w, found_passes, due_is_unread)
 
 -- the draft becomes a version, once the last handle and the draft have gone
 finishes : (w : World) (handle file : ℕ) (draft : DraftRow) → IsWellFormed w → find (is_draft file) w.drafts ≡ Some draft → MayAppend (after_changes w (ShutHandle handle ∷ EndDraft file ∷ [])) file draft.opened draft.cells
@@ -64,9 +60,7 @@ reverts w file number row k there meant room =
 
 -- a path's last name isn't live, and may be made
 pub may_name : (w : World) (path : List (List ℕ)) (at : ℕ × List ℕ) → IsWellFormed w → parent_now w.names path ≡ Ok at → is_some (live_target w.names at.0 at.1) ≡ false → nat_le w.limits.names w.made.names ≡ false → MayName w at.0 at.1
-may_name w path at k found free names =
-    let home = parent_home w path at k found in
-    record { room = grind (arith, nat_tests); free = free; home = home.0; reached = home.1 }
+may_name w path at k found free names = grind (arith, nat_tests, parent_home w path)
 
 -- the directory that the path leads to has no live name in it
 may_end : (w : World) (path : List (List ℕ)) (at : ℕ × List ℕ) (directory : ℕ) → parent_now w.names path ≡ Ok at → directory_now w.names path ≡ Ok directory → list_any (is_live_in directory) w.names ≡ false → MayEnd w at.0 at.1
@@ -83,17 +77,8 @@ allowed w (Create path) k = grind (arith, nat_tests, k.holds Directories, may_na
 allowed w (Link from to) k = grind (arith, nat_tests, k.holds Names, may_name, file_there, file_live)
 allowed w (Unlink path) k = λ at found file leads. (last_names w.names path at (File file) found (file_of (walk_now w.names path) file leads), tt)
 allowed w (Rename from to) k = grind (arith, nat_tests, last_names, may_name)
-allowed w (Undelete path) k = λ at found free lost last returns. (
-  λ live names. (may_add w at lost k (may_name w path at k found free names) last live returns, tt),
-  λ file nameless drafts names versions. (may_revive w at lost file (may_name w path at k found free names) nameless returns (grind (arith, nat_tests)), tt),
-)
-allowed w (OpenWrite path) k = λ file found handles. (
-  λ has. (record { next = refl; room = grind (arith, nat_tests); drafted = has; held = tt }, tt),
-  λ none versions. (
-    record { there = file_there w.files w.now w.names path file (k.holds Names).each found; none = none; room = grind (arith, nat_tests) },
-    (record { next = refl; room = grind (arith, nat_tests); drafted = begun w file; held = tt }, tt),
-  ),
-)
+allowed w (Undelete path) k = search (rules, may_add, may_name, may_revive)
+allowed w (OpenWrite path) k = search (rules, k.holds Names, file_there, begun)
 allowed w (OpenRead tagged) k = λ row found handles. (record { next = refl; room = grind (arith, nat_tests); drafted = tt; held = meant_held w row.file row (is_at w tagged row found) }, tt)
 allowed w (Write handle offset bytes) k = λ file found. (λ none. tt, λ some fits. (grind (arith, nat_tests), tt))
 allowed w (Truncate handle size) k = λ file found fits. (grind (arith, nat_tests), tt)

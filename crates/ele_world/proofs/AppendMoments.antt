@@ -1,6 +1,6 @@
 -- Which ripe moments change where a file has a version more: that of its newest held one, which ends unless it had, and gets a
 -- neighbour, and the new one's own.
-use Rattle.std.proofs.Common.{◌≡◌, ℕ, ◌<◌, ◌==◌, Bool, true, false, cond, ◌&&◌, ◌||◌, List, [], ◌∷◌, Option, Some, None, refl, ap, sym, ◌∙◌, arith}
+use Rattle.std.proofs.Common.{rules, ◌≡◌, ℕ, ◌<◌, ◌==◌, Bool, true, false, cond, ◌&&◌, ◌||◌, List, [], ◌∷◌, Option, Some, None, refl, ap, sym, ◌∙◌, arith}
 use Rattle.std.specs.Prelude.{nat_lt, option_and_then, unwrap_or}
 use Rattle.std.specs.List.{AllByRecursion, list_any}
 use Rattle.std.specs.Option.{option_map_or}
@@ -69,13 +69,7 @@ module _ (w : World) (file opened : ℕ) (cells : List Cell) (k : MayGrow w file
 
   -- it has its moment where it ends at once
   pub next_after : ripe_at appended file next ≡ cond (is_live w file) None (near_moment (is_marked w.groups file) (policy_of w.files file) None w.now w.now)
-  next_after =
-      let unread = unread_unheld w.versions w.handles file next k.readers (any_none (is_version file next) w.versions none_there) in
-      ripe_at_near appended file next then_ordered
-      ∙ rw (unread, new_found w file k.versions.each opened cells, policy, none_behind w file opened cells k.versions) (by (is_live w file)) where
-        by : (b : Bool) → option_and_then (near_moment (is_marked w.groups file) (policy_of w.files file) None w.now) (cond b None (Some w.now)) ≡ cond b None (near_moment (is_marked w.groups file) (policy_of w.files file) None w.now w.now)
-        by true = refl
-        by false = refl
+  next_after = grind (arith, nat_tests, unread_unheld w.versions w.handles file next k.readers (any_none (is_version file next) w.versions none_there), any_none (is_version file next) w.versions none_there, none_there, ripe_at_near appended file next then_ordered, then_ordered, new_found w file k.versions.each opened cells, policy, none_behind w file opened cells k.versions)
 
   -- the newest held one isn't the next one
   pub newest_before : (row : VersionRow) → newest_of w.versions file ≡ Some row → row.number < next
@@ -87,9 +81,7 @@ module _ (w : World) (file opened : ℕ) (cells : List Cell) (k : MayGrow w file
 
   -- and has one with the new version beside it
   pub newest_is : (row : VersionRow) → newest_of w.versions file ≡ Some row → ripe_at appended file row.number ≡ cond (is_open w.handles file row.number) None (near_moment (is_marked w.groups file) (policy_of w.files file) (Some w.now) row.closed (unwrap_or row.ended w.now))
-  newest_is row is =
-      let newest = newest_held w file k.versions row is in
-      ripe_at_near appended file row.number then_ordered ∙ rw (newest_ended w file opened cells k.versions row newest, policy, next_behind w file opened cells k.versions row newest) refl
+  newest_is row is = grind (arith, nat_tests, newest_held w file k.versions row is, ripe_at_near appended file row.number then_ordered, then_ordered, newest_ended w file opened cells k.versions row, policy, next_behind w file opened cells k.versions row)
 
   stays_unheld : (n : ℕ) → (n == next) ≡ false → AllByRecursion (λ row. is_version file n row ≡ false) w.versions → ripe_at appended file n ≡ ripe_at w file n
   stays_unheld n other none = unheld_moment appended file n (none_still w file opened cells k.versions n other none) ∙ sym (unheld_moment w file n none)

@@ -1,6 +1,6 @@
 -- A removal of the first version of the scan changes no other version's moment: from the first's moment on whatever is due
 -- stays so without it, and before that moment nothing is due, neither with it nor without.
-use Rattle.std.proofs.Common.{◌≡◌, ◌==◌, ℕ, ◌≤◌, Bool, true, false, cond, List, [], ◌∷◌, ◌++◌, Option, Some, None, IfSome, refl, ap, sym, subst, ◌∙◌, fold, slice_get, arith, ◌⊎◌, inl, inr}
+use Rattle.std.proofs.Common.{rules, ◌≡◌, ◌==◌, ℕ, ◌≤◌, Bool, true, false, cond, List, [], ◌∷◌, ◌++◌, Option, Some, None, IfSome, refl, ap, sym, subst, ◌∙◌, fold, slice_get, arith, ◌⊎◌, inl, inr}
 use Rattle.std.specs.Prelude.{find, nat_le, option_and_then}
 use Rattle.std.specs.List.{AllByRecursion, filter_map}
 use Rattle.std.specs.Option.{option_map, option_map_or}
@@ -40,11 +40,7 @@ first_least : (sorted keys : List Key) (first : Key) → slice_get (fold (insert
 first_least [] [] first is = absurd cc
 first_least (y ∷ ys) [] first is = let same : y ≡ first = cc in (rw same (omega arith), tt)
 first_least [] (x ∷ xs) first is = let rest = first_least (x ∷ []) xs first is in (tt, (rest.0, rest.1))
-first_least (y ∷ ys) (x ∷ xs) first is = by (key_cmp x y) refl (first_least (insert_key key_cmp (y ∷ ys) x) xs first is) where
-  by : (o : Ordering) → key_cmp x y ≡ o → IfSome (slice_get (match_ordering o (x ∷ y ∷ ys) (y ∷ ys) (y ∷ insert_key key_cmp ys x)) 0) (λ k. first.ripe ≤ k.ripe) × AllByRecursion (λ k. first.ripe ≤ k.ripe) xs → (first.ripe ≤ y.ripe) × AllByRecursion (λ k. first.ripe ≤ k.ripe) (x ∷ xs)
-  by Less e rest = let least = rest.0 in ((let le : x.ripe ≤ y.ripe = grind (arith, nat_tests) in omega arith), (least, rest.1))
-  by Equal e rest = let least = rest.0 in (least, ((let le : y.ripe ≤ x.ripe = grind (arith, nat_tests) in omega arith), rest.1))
-  by Greater e rest = let least = rest.0 in (least, ((let le : y.ripe ≤ x.ripe = grind (arith, nat_tests) in omega arith), rest.1))
+first_least (y ∷ ys) (x ∷ xs) first is = grind (arith, nat_tests, first_least (insert_key key_cmp (y ∷ ys) x) xs first is)
 
 all-unmapped : {X Y : Type 0} (Q : Y → Type 0) (h : X → Option Y) (xs : List X) → AllByRecursion Q (filter_map h xs) → AllByRecursion (λ x. IfSome (h x) Q) xs
 all-unmapped Q h [] all = tt
@@ -110,22 +106,10 @@ module _ (w : World) (before : List VersionRow) (row : VersionRow) (behind : Lis
         by (Some x) e = all-found (is_version file number) (λ x. ripe_of without_row x ≡ ripe_of with_row x) (before ++ behind) x e stay
 
   gone : ripe_at without_row row.file row.number ≡ None
-  gone = ripe_at_is without_row row.file row.number ∙ ap (option_and_then (ripe_of without_row)) (not_found (is_version row.file row.number) (before ++ behind)
-      (all-weaker (IsBeside row) (λ x. is_version row.file row.number x ≡ false) (before ++ behind) (λ x side. other x side (x.file == row.file) refl) (sides w before row behind k))) where
-        apart : (x : VersionRow) → Precedes x row ⊎ Precedes row x → is_version row.file row.number x ≡ false
-        apart x (inl before) = let less = before.number in grind (arith, nat_tests)
-        apart x (inr after) = let less = after.number in grind (arith, nat_tests)
-
-        other : (x : VersionRow) → IsBeside row x → (b : Bool) → (x.file == row.file) ≡ b → is_version row.file row.number x ≡ false
-        other x side true e = apart x (side (grind (arith, nat_tests)))
-        other x side false e = grind (arith, nat_tests)
+  gone = grind (arith, nat_tests, ripe_at_is without_row row.file row.number, not_found (is_version row.file row.number), all-weaker (IsBeside row), sides w)
 
   pub takes_one : find (is_version row.file row.number) (before ++ row ∷ behind) ≡ Some row → TakesOneKey with_row (key_of row first) without_row
-  takes_one found = record {
-    was = ripe_at_is with_row row.file row.number ∙ ap (option_and_then (ripe_of with_row)) found ∙ own;
-    gone = gone;
-    others = λ file number apart. others file number (grind (arith, nat_tests));
-  }
+  takes_one found = grind (arith, nat_tests, ripe_at_is with_row row.file row.number, gone, others)
 
 -- the version goes, whether its file then goes or not
 pub take_keeps_keys : (w : World) (key : Key) → IsWellFormed w → first_due w ≡ Some key → TakesOneKey w key (after_change w (Take key.file key.number))

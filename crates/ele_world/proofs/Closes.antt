@@ -1,5 +1,5 @@
 -- A close that tells of a version has made it of all that was written.
-use Rattle.std.proofs.Common.{◌≡◌, ℕ, ◌-◌, ◌<◌, Bool, true, false, List, Some, refl, ap, subst, ◌∙◌, arith, eqb}
+use Rattle.std.proofs.Common.{rules, ◌≡◌, ℕ, ◌-◌, ◌<◌, Bool, true, false, List, Some, refl, ap, subst, ◌∙◌, arith, eqb}
 use Rattle.std.specs.Prelude.{find, Ok}
 use Rattle.std.specs.Option.{option_map}
 use Rattle.std.specs.List.{AllByRecursion}

@@ -1,5 +1,5 @@
 -- At each moment that a name covers a version of its file lived, and a change keeps that.
-use Rattle.std.proofs.Common.{◌≡◌, ℕ, ◌<◌, ◌≤◌, nat_lt, Bool, true, false, cond, ◌&&◌, ◌||◌, ◌==◌, ◌++◌, IfSome, List, [], ◌∷◌, Option, Some, None, refl, arith, inl, inr, ◌⊎◌, is_none}
+use Rattle.std.proofs.Common.{rules, ◌≡◌, ℕ, ◌<◌, ◌≤◌, nat_lt, Bool, true, false, cond, ◌&&◌, ◌||◌, ◌==◌, ◌++◌, IfSome, List, [], ◌∷◌, Option, Some, None, refl, arith, inl, inr, ◌⊎◌, is_none}
 use Rattle.std.specs.Prelude.{nat_le}
 use Rattle.std.specs.List.{AllByRecursion, list_any}
 use Rattle.std.specs.Option.{option_map_or}
@@ -73,11 +73,7 @@ current_covers w known k held = all-weaker (λ name. IsNameRow w.files w.now nam
       undying name file moment own covered late dead = grind (arith, nat_tests)
 
       life : (file moment : ℕ) → w.now ≤ moment → is_live w file ≡ true → HadLife known file moment
-      life file moment late live =
-          let current = has_current w file k live in
-          let last = last_is w file current.row (k.holds Versions).each current.found in
-          let closed = last.is.closed in
-          record { row = current.row; stood = held file current.row.number current.row (rw last.number current.found); lived = rw current.no_end (grind (arith, nat_tests)) }
+      life file moment late live = grind (arith, nat_tests, k.holds Versions, has_current w file k live, last_is w file)
 
 -- ---- a change
 
@@ -89,9 +85,7 @@ module _ (event : Event) (first w : World) (change : Change) (before : Known) (t
   held file number row found = rw found refl
 
   life_on : (file moment : ℕ) → moment < w.now → HadLife (known_in w before) file moment → HadLife known file moment
-  life_on file moment less life =
-      let now = becomes event first w change before t file life.row.number life.row life.stood in
-      record { row = now.row; stood = rw now.on.number now.is; lived = now.on.lives moment less life.lived }
+  life_on file moment less life = grind (arith, nat_tests, becomes event first w change before t file life.row.number life.row life.stood)
 
   covered_on : (after_change w change).now ≤ w.now → AllByRecursion (IsCovered known) (after_change w change).names
   covered_on same = all-weaker (λ name. CoveredBefore w.now (HadLife known) name × CoveredFrom (after_change w change).now (HadLife known) name) (IsCovered known) (after_change w change).names

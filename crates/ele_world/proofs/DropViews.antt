@@ -1,5 +1,5 @@
 -- Due versions and ripe moments after a change that no file's view sees, as the dropping of an idle file.
-use Rattle.std.proofs.Common.{◌≡◌, ◌==◌, ℕ, false, not, List, [], ◌∷◌, Option, Some, None, refl, ap, sym, ◌∙◌, arith}
+use Rattle.std.proofs.Common.{rules, ◌≡◌, ◌==◌, ℕ, false, not, List, [], ◌∷◌, Option, Some, None, refl, ap, sym, ◌∙◌, arith}
 use Rattle.std.specs.Prelude.{filter, find, option_and_then}
 use Rattle.std.specs.List.{AllByRecursion, filter_map}
 use Rattle.std.proofs.lemmas.Bool.Decides.{nat_tests}

@@ -1,6 +1,6 @@
 -- The scan, one row after another.
 use Rattle.std.proofs.lemmas.Bool.Decides.{nat_tests}
-use Rattle.std.proofs.Common.{arith, ◌≡◌, ℕ, ◌+◌, ◌<◌, ◌≤◌, ◌||◌, Bool, true, false, cond, List, [], ◌∷◌, length, get_or, take, Option, Some, None, refl, ap, sym, ◌∙◌, fold, filter, ◌⊎◌, inl, inr}
+use Rattle.std.proofs.Common.{rules, arith, ◌≡◌, ℕ, ◌+◌, ◌<◌, ◌≤◌, ◌||◌, Bool, true, false, cond, List, [], ◌∷◌, length, get_or, take, Option, Some, None, refl, ap, sym, ◌∙◌, fold, filter, ◌⊎◌, inl, inr}
 use Rattle.std.specs.Prelude.{nat_le, option_and_then}
 use Rattle.std.specs.List.{filter_map, cons_option}
 use Rattle.std.proofs.lemmas.List.{take_more}
@@ -57,10 +57,7 @@ module _ (w : World) (row : VersionRow) where
   -- of one that is protected
   pub ripe-protected : is_open_or_marked w row ≡ true → IsRipeOf w row None
   unfolding ripe_of is_due_at
-  ripe-protected is =
-      let kept = protected_is w row ∙ is in
-      let none = protected_ripe (view_of w row.file) row kept in
-      (sym none, λ at fits. rw (none, kept) refl)
+  ripe-protected is = grind (arith, nat_tests, protected_is w row, protected_ripe (view_of w row.file) row)
 
   -- of one whose file is missing
   pub ripe-unfiled : policy_of w.files row.file ≡ None → IsRipeOf w row None

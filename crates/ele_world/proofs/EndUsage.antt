@@ -1,6 +1,6 @@
 -- An end that is set changes nothing of what the files use.
 use Rattle.std.proofs.lemmas.Bool.Decides.{nat_tests}
-use Rattle.std.proofs.Common.{◌≡◌, ℕ, ◌+◌, Bool, true, false, cond, List, [], ◌∷◌, ◌++◌, length, filter, refl, ap, sym, ◌∙◌, arith}
+use Rattle.std.proofs.Common.{rules, ◌≡◌, ℕ, ◌+◌, Bool, true, false, cond, List, [], ◌∷◌, ◌++◌, length, filter, refl, ap, sym, ◌∙◌, arith}
 use Rattle.std.specs.List.{flat_map}
 use Rattle.std.proofs.lemmas.List.Concat.{flat_map-cons}
 use Rattle.ele_content.specs.Content.{content_of}
@@ -32,6 +32,4 @@ alike_ended t p now (x ∷ xs) = grind (arith, nat_tests, alike-cons, alike_ende
 
 pub usage_ended : (w : World) (p : VersionRow → Bool) (now : ℕ) (k : Kind) → usage_of (record w { versions = update_first p (ended_at now) w.versions }) k ≡ usage_of w k
 unfolding usage_of
-usage_ended w p now k =
-    let same = alike_ended (is_file_of w.files k) p now w.versions in
-    rw (same.count, same.bytes, same.places) refl
+usage_ended w p now k = grind (arith, nat_tests, alike_ended (is_file_of w.files k) p now w.versions)

@@ -1,5 +1,5 @@
 -- What the marks of groups say of a file, and which changes of groups leave it.
-use Rattle.std.proofs.Common.{◌≡◌, ℕ, ◌==◌, true, false, not, cond, ◌&&◌, ◌||◌, List, [], ◌∷◌, ◌++◌, Option, refl, ap, ◌∙◌, arith, filter}
+use Rattle.std.proofs.Common.{rules, ◌≡◌, ℕ, ◌==◌, true, false, not, cond, ◌&&◌, ◌||◌, List, [], ◌∷◌, ◌++◌, Option, refl, ap, ◌∙◌, arith, filter}
 use Rattle.std.specs.List.{flat_map, list_any}
 use Rattle.std.proofs.lemmas.Bool.Decides.{nat_tests}
 use Rattle.std.proofs.lemmas.List.Folds.{list_any-append}

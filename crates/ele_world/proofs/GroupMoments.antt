@@ -1,5 +1,5 @@
 -- Which ripe moments change where marks of groups come and go: those of versions that they cover, and no other.
-use Rattle.std.proofs.Common.{◌≡◌, ℕ, true, false, cond, List, [], ◌∷◌, Option, Some, None, refl, ap, sym, subst, ◌∙◌, ◌||◌, arith}
+use Rattle.std.proofs.Common.{rules, ◌≡◌, ℕ, true, false, cond, List, [], ◌∷◌, Option, Some, None, refl, ap, sym, subst, ◌∙◌, ◌||◌, arith}
 use Rattle.std.specs.Prelude.{◌&&◌, ◌==◌, Bool, find}
 use Rattle.std.specs.List.{list_any}
 use Rattle.std.specs.Option.{option_map_or}

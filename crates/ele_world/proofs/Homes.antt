@@ -1,5 +1,5 @@
 -- The directories that names stand in.
-use Rattle.std.proofs.Common.{◌≡◌, ℕ, ◌≤◌, Bool, true, false, ◌==◌, ◌||◌, List, [], ◌∷◌, ◌++◌, Some, Ok, refl, subst, ◌∙◌, arith, ap, sym}
+use Rattle.std.proofs.Common.{rules, ◌≡◌, ℕ, ◌≤◌, Bool, true, false, ◌==◌, ◌||◌, List, [], ◌∷◌, ◌++◌, Some, Ok, refl, subst, ◌∙◌, arith, ap, sym}
 use Rattle.std.specs.Prelude.{find}
 use Rattle.std.specs.List.{AllByRecursion, list_any}
 use Rattle.std.proofs.lemmas.Bool.{false≢true}
@@ -88,7 +88,4 @@ homes_more directories names named home reached there are = grind (arith, nat_te
 -- a directory that is there has a number that was given
 pub directory_given : (made : ℕ) (rows : List DirectoryRow) (id : ℕ) → AllByRecursion (λ row. row.id ≤ made) rows → has_directory rows id ≡ true → id ≤ made
 directory_given made [] id all h = absurd (false≢true h)
-directory_given made (row ∷ rows) id all h = elim (is_directory id row) as (λ b. is_directory id row ≡ b → (b || list_any (is_directory id) rows) ≡ true → id ≤ made) [
-  | true ↦ λ e h. let given = all.0 in grind (arith, nat_tests)
-  | false ↦ λ e h. directory_given made rows id all.1 h
-] refl h
+directory_given made (row ∷ rows) id all h = grind (arith, nat_tests, directory_given made rows id all.1)

@@ -1,5 +1,5 @@
 -- The making of a directory, and the end of a name, keep a world well formed.
-use Rattle.std.proofs.Common.{◌≡◌, ℕ, ◌+◌, ◌<◌, ◌≤◌, Bool, true, false, ◌==◌, ◌&&◌, ◌||◌, List, [], ◌∷◌, ◌++◌, length-append, Option, Some, None, refl, ap, sym, subst, ◌∙◌, arith}
+use Rattle.std.proofs.Common.{rules, ◌≡◌, ℕ, ◌+◌, ◌<◌, ◌≤◌, Bool, true, false, ◌==◌, ◌&&◌, ◌||◌, List, [], ◌∷◌, ◌++◌, length-append, Option, Some, None, refl, ap, sym, subst, ◌∙◌, arith}
 use Rattle.std.specs.Prelude.{find, is_none}
 use Rattle.std.specs.List.{AllByRecursion, list_any}
 use Rattle.std.proofs.lemmas.Bool.Decides.{nat_tests}
@@ -77,10 +77,7 @@ HoldsWith Q w part = Holds w part
 
 -- with the ends each part holds
 pub with_ends : (w : World) → ((part : Part) → HoldsWith (HaveEnded w) w part) → IsWellFormed w
-with_ends w holds = record { holds = by } where
-  by : (part : Part) → Holds w part
-  by Ended = holds Ended
-  by part = holds part
+with_ends w holds = search (rules)
 
 module _ (w : World) (directory : ℕ) (name : List ℕ) (empty : (id : ℕ) → live_target w.names directory name ≡ Some (Directory id) → list_any (is_live_in id) w.names ≡ false) where
   abbrev p : NameRow → Bool

@@ -1,5 +1,5 @@
 -- Changes of drafts and handles keep a world well formed.
-use Rattle.std.proofs.Common.{◌≡◌, ℕ, ◌+◌, ◌-◌, ◌<◌, ◌≤◌, Bool, true, false, cond, ◌||◌, eqb, List, [], ◌∷◌, length, Option, Some, None, refl, ap, sym, subst, ◌∙◌, arith}
+use Rattle.std.proofs.Common.{rules, ◌≡◌, ℕ, ◌+◌, ◌-◌, ◌<◌, ◌≤◌, Bool, true, false, cond, ◌||◌, eqb, List, [], ◌∷◌, length, Option, Some, None, refl, ap, sym, subst, ◌∙◌, arith}
 use Rattle.std.specs.Prelude.{find}
 use Rattle.std.specs.List.{AllByRecursion, list_any}
 use Rattle.std.specs.Option.{option_map_or}
@@ -66,10 +66,7 @@ edit_keeps w file f same edits k = record { holds = by } where
 
   by : (part : Part) → Holds (record w { drafts = update_first (is_draft file) f w.drafts }) part
   by Counted = grind (arith, k.holds Counted, length-update_first (is_draft file) f w.drafts)
-  by Drafts = record {
-    each = all-changed (is_draft file) (IsDraft w.files w.now) f w.drafts (λ row e h. edits row (grind (arith, nat_tests)) h) (k.holds Drafts).each;
-    placed = later-update_first (is_draft file) (λ earlier later. earlier.file < later.file) f w.drafts (λ x y h. rw (same x) h) (λ x y h. rw (same y) h) (k.holds Drafts).placed;
-  }
+  by Drafts = search (rules, k.holds Drafts, all-changed, later-update_first)
   by Handles = grind (arith, nat_tests, k.holds Handles, all-weaker, readable)
   by part = k.holds part
 

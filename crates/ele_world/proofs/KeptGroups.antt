@@ -1,6 +1,6 @@
 -- Changes of groups keep a world well formed, and groups stay what they are beside other changes.
 use Rattle.std.proofs.lemmas.Bool.Decides.{nat_tests}
-use Rattle.std.proofs.Common.{◌≡◌, ℕ, ◌<◌, ◌≤◌, ◌==◌, Bool, true, false, not, cond, List, [], ◌∷◌, length-append, Option, Some, None, refl, arith}
+use Rattle.std.proofs.Common.{rules, ◌≡◌, ℕ, ◌<◌, ◌≤◌, ◌==◌, Bool, true, false, not, cond, List, [], ◌∷◌, length-append, Option, Some, None, refl, arith}
 use Rattle.std.specs.Prelude.{filter, find}
 use Rattle.std.specs.List.{AllByRecursion}
 use Rattle.std.specs.Option.{option_map_or}
@@ -67,11 +67,7 @@ pub make_group_keeps : (w : World) (name : List ℕ) → MayGroup w name → IsW
 make_group_keeps w name may k = record { holds = by } where
   by : (part : Part) → Holds (after_change w (MakeGroup name)) part
   by Counted = grind (arith, k.holds Counted)
-  by Groups = let are = k.holds Groups in record {
-    each = all-push (IsGroup w.files w.now) w.groups (new_group name) are.each (record { there = tt; apart = tt; past = tt; once = tt });
-    named = later-push AreNamedApart w.groups (new_group name) are.named (all-none (is_group name) w.groups may.free);
-    counted = simp length-append (omega (arith, are.counted));
-  }
+  by Groups = grind (arith, nat_tests, k.holds Groups, all-push (IsGroup w.files w.now) w.groups (new_group name), later-push AreNamedApart w.groups (new_group name), all-none (is_group name) w.groups may.free, length-append)
   by part = k.holds part
 
 pub drop_group_keeps : (w : World) (name : List ℕ) → IsWellFormed w → IsWellFormed (after_change w (DropGroup name))

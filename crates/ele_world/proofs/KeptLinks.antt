@@ -1,5 +1,5 @@
 -- A name more of what is there, and the end of a file's name, keep a world well formed.
-use Rattle.std.proofs.Common.{◌≡◌, ℕ, ◌-◌, Bool, true, false, cond, ◌==◌, List, [], ◌∷◌, ◌++◌, length, length-append, Some, refl, sym, subst, ◌∙◌, arith}
+use Rattle.std.proofs.Common.{rules, ◌≡◌, ℕ, ◌-◌, Bool, true, false, cond, ◌==◌, List, [], ◌∷◌, ◌++◌, length, length-append, Some, refl, sym, subst, ◌∙◌, arith}
 use Rattle.std.specs.List.{list_any, AllByRecursion}
 use Rattle.std.proofs.lemmas.Bool.{false≢true}
 use Rattle.std.proofs.lemmas.Bool.Decides.{nat_tests}
@@ -86,8 +86,7 @@ module _ (w : World) (directory : ℕ) (name : List ℕ) (file : ℕ) (leads : l
 
   -- each other file is live as before
   beside : EndBeside file left
-  beside = all-weaker (IsOfLive w.names) (λ row. (row.file == file) ≡ false → IsOfLive left.names row) w.versions
-      (λ row h other none. live_still w.now w.names directory name (File file) leads row.file (grind (arith, nat_tests)) ∙ h none) (k.holds Ended)
+  beside = grind (arith, nat_tests, k.holds Ended, all-weaker (IsOfLive w.names), live_still w.now w.names directory name (File file) leads)
 
   -- and so is the file, if another name is left
   all_live : is_live left file ≡ true → HaveEnded left

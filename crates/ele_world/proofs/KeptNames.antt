@@ -1,5 +1,5 @@
 -- The clock, policies and the making of a file keep a world well formed.
-use Rattle.std.proofs.Common.{◌≡◌, ℕ, ◌+◌, ◌<◌, ◌≤◌, Bool, true, false, ◌==◌, ◌&&◌, ◌||◌, List, [], ◌∷◌, ◌++◌, length-append, Option, Some, None, IfSome, refl, ap, sym, subst, ◌∙◌, arith, eqb}
+use Rattle.std.proofs.Common.{rules, ◌≡◌, ℕ, ◌+◌, ◌<◌, ◌≤◌, Bool, true, false, ◌==◌, ◌&&◌, ◌||◌, List, [], ◌∷◌, ◌++◌, length-append, Option, Some, None, IfSome, refl, ap, sym, subst, ◌∙◌, arith, eqb}
 use Rattle.std.specs.Prelude.{is_some, is_none}
 use Rattle.std.specs.List.{AllByRecursion, list_any}
 use Rattle.std.proofs.lemmas.Bool.Decides.{nat_tests}
@@ -56,27 +56,8 @@ time_keeps w to fits le k = record { holds = by } where
 pub govern_keeps : (w : World) (directory : ℕ) (policy : Policy) → IsPolicy policy → IsWellFormed w → IsWellFormed (after_change w (Govern directory policy))
 govern_keeps w directory policy is k = record { holds = by } where
   by : (part : Part) → Holds (after_change w (Govern directory policy)) part
-  by Directories = record {
-    rooted = list_any-update_first (is_directory directory) (is_directory root) (governed_by policy) w.directories (λ row e. refl) ∙ (k.holds Directories).rooted;
-    policies = all-update_first (is_directory directory) (λ row. IsPolicy row.default) (λ row. IsPolicy row.default) (governed_by policy) w.directories (λ row h. is) (λ row h. h) (k.holds Directories).policies;
-    placed = later-update_first (is_directory directory) (λ earlier later. earlier.id < later.id) (governed_by policy) w.directories (λ x y h. h) (λ x y h. h) (k.holds Directories).placed;
-    given = all-update_first (is_directory directory) (λ row. row.id ≤ w.made.directories) (λ row. row.id ≤ w.made.directories) (governed_by policy) w.directories (λ row h. h) (λ row h. h) (k.holds Directories).given;
-    counted = omega (arith, (k.holds Directories).counted, length-update_first (is_directory directory) (governed_by policy) w.directories);
-    few = (k.holds Directories).few;
-  }
-  by Homes = record {
-    each = all-weaker (IsHoused w.directories w.names) (IsHoused governed w.names) w.names (λ row h. record { home = still row.directory h.home; there = there row.target h.there; reached = h.reached }) (k.holds Homes).each;
-    named = all-update_first (is_directory directory) (λ row. ((row.id == root) || list_any (is_name_of_directory row.id) w.names) ≡ true) (λ row. ((row.id == root) || list_any (is_name_of_directory row.id) w.names) ≡ true) (governed_by policy) w.directories (λ row h. h) (λ row h. h) (k.holds Homes).named;
-  } where
-    governed : List DirectoryRow
-    governed = update_first (is_directory directory) (governed_by policy) w.directories
-
-    still : (id : ℕ) → has_directory w.directories id ≡ true → has_directory governed id ≡ true
-    still id h = list_any-update_first (is_directory directory) (is_directory id) (governed_by policy) w.directories (λ row e. refl) ∙ h
-
-    there : (target : Target) → IsDirectoryThere w.directories target → IsDirectoryThere governed target
-    there (File file) h = tt
-    there (Directory id) h = still id h
+  by Directories = grind (arith, nat_tests, k.holds Directories, list_any-update_first (is_directory directory) (is_directory root) (governed_by policy) w.directories, all-update_first (is_directory directory), later-update_first (is_directory directory), length-update_first (is_directory directory) (governed_by policy) w.directories)
+  by Homes = grind (arith, nat_tests, k.holds Homes, all-weaker (IsHoused w.directories w.names), all-update_first (is_directory directory), list_any-update_first (is_directory directory))
   by part = k.holds part
 
 pub put_under_keeps : (w : World) (file : ℕ) (policy : Policy) → IsPolicy policy → IsWellFormed w → IsWellFormed (after_change w (PutUnder file policy))
@@ -89,11 +70,7 @@ put_under_keeps w file policy is k = record { holds = by } where
 
   by : (part : Part) → Holds (after_change w (PutUnder file policy)) part
   by Counted = grind (arith, k.holds Counted, length-update_first (is_file file) (put_under policy) w.files)
-  by Files = record {
-    each = all-update_first (is_file file) (IsFile w.made.files w.made.versions) (IsFile w.made.files w.made.versions) (put_under policy) w.files
-        (λ row h. record { numbered = h.numbered; given = h.given; first = h.first; next = h.next; policy = is }) (λ row h. h) (k.holds Files).each;
-    placed = later-update_first (is_file file) (λ earlier later. earlier.id < later.id) (put_under policy) w.files (λ x y h. h) (λ x y h. h) (k.holds Files).placed;
-  }
+  by Files = grind (arith, nat_tests, k.holds Files, all-update_first (is_file file) (IsFile w.made.files w.made.versions) (IsFile w.made.files w.made.versions) (put_under policy) w.files, next, later-update_first (is_file file))
   by Names = grind (arith, nat_tests, k.holds Names, all-weaker, files, there-put_under)
   by Versions = grind (arith, nat_tests, k.holds Versions, all-weaker, files, next)
   by Drafts = grind (arith, nat_tests, k.holds Drafts, all-weaker, files, next)

@@ -1,5 +1,5 @@
 -- A file that has a name again, and a version like its last one, keeps a world well formed.
-use Rattle.std.proofs.Common.{◌≡◌, ℕ, ◌-◌, ◌<◌, List, length-append, Some, subst, arith, length}
+use Rattle.std.proofs.Common.{rules, ◌≡◌, ℕ, ◌-◌, ◌<◌, List, length-append, Some, subst, arith, length}
 use Rattle.std.specs.List.{AllByRecursion}
 use Rattle.std.proofs.lemmas.Bool.Decides.{nat_tests}
 use Rattle.ele_lists.proofs.Edits.{all-found, found_passes}
@@ -58,6 +58,4 @@ module _ (w : World) (directory : ℕ) (name : List ℕ) (file : ℕ) where
       })
 
   pub revive_keeps : MayRevive w directory name file → IsWellFormed w → IsWellFormed (after_change w (Revive directory name file))
-  revive_keeps may k =
-      let version = again may (k.holds Versions).each in
-      append_completes named file w.now (current_cells w file) version (named_holds may.named version.there k)
+  revive_keeps may k = grind (arith, nat_tests, k.holds Versions, again may (k.holds Versions).each, append_completes named file w.now (current_cells w file), named_holds may.named)

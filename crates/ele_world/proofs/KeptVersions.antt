@@ -1,5 +1,5 @@
 -- The making and the removal of a version keep a world well formed.
-use Rattle.std.proofs.Common.{◌≡◌, ◌≢◌, ℕ, ◌+◌, ◌-◌, ◌<◌, ◌≤◌, Bool, true, false, cond, ◌||◌, List, Option, Some, None, IfSome, refl, ap, sym, subst, ◌∙◌, arith, eqb, ◌==◌}
+use Rattle.std.proofs.Common.{rules, ◌≡◌, ◌≢◌, ℕ, ◌+◌, ◌-◌, ◌<◌, ◌≤◌, Bool, true, false, cond, ◌||◌, List, Option, Some, None, IfSome, refl, ap, sym, subst, ◌∙◌, arith, eqb, ◌==◌}
 use Rattle.std.specs.Prelude.{find, unwrap_or, is_none}
 use Rattle.std.specs.List.{list_any, AllByRecursion}
 use Rattle.std.proofs.lemmas.Bool.{false≢true}
@@ -37,10 +37,7 @@ placed_before_ended : (now : ℕ) (x y : VersionRow) → ArePlaced x y → ArePl
 placed_before_ended now x y h = record { after = h.after; ended = h.ended }
 
 pub versions_ended : (files : List FileRow) (now : ℕ) (p : VersionRow → Bool) (rows : List VersionRow) → AreVersions files now rows → AreVersions files now (update_first p (ended_at now) rows)
-versions_ended files now p rows are = record {
-  each = all-update_first p (IsVersion files now) (IsVersion files now) (ended_at now) rows (ended_version files now) (λ row h. h) are.each;
-  placed = later-update_first p ArePlaced (ended_at now) rows (placed_ended now) (placed_before_ended now) are.placed;
-}
+versions_ended files now p rows are = grind (arith, nat_tests, all-update_first p (IsVersion files now) (IsVersion files now) (ended_at now) rows (ended_version files now), ended_version files now, later-update_first p ArePlaced (ended_at now) rows (placed_ended now) (placed_before_ended now) are.placed, placed_ended now, placed_before_ended now)
 
 -- what is current in another file is so still
 pub current_ended : (file other number next now : ℕ) (rows : List VersionRow) → (file == other) ≡ false → list_any (is_current other next) (update_first (is_version file number) (ended_at now) rows) ≡ list_any (is_current other next) rows

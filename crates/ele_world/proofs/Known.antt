@@ -1,5 +1,5 @@
 -- What a history knows of versions: those that are held, and those that were removed as they last stood. One change.
-use Rattle.std.proofs.Common.{◌≡◌, ℕ, ◌-◌, ◌<◌, ◌≤◌, nat_lt, true, false, cond, ◌&&◌, List, [], Option, Some, None, refl, ap, sym, subst, ◌∙◌, arith, is_none}
+use Rattle.std.proofs.Common.{rules, ◌≡◌, ℕ, ◌-◌, ◌<◌, ◌≤◌, nat_lt, true, false, cond, ◌&&◌, List, [], Option, Some, None, refl, ap, sym, subst, ◌∙◌, arith, is_none}
 use Rattle.std.specs.Prelude.{find, nat_le, unwrap_or}
 use Rattle.std.specs.List.{AllByRecursion}
 use Rattle.std.specs.Option.{option_map_or, option_or, option_map}
@@ -70,9 +70,7 @@ pub held_row : (w : World) (file number : ℕ) (row : VersionRow) → IsWellForm
 held_row w file number row k found = grind (arith, nat_tests, k.holds Versions, found_passes, all-found)
 
 found_past : (w : World) (file number : ℕ) (row : VersionRow) → IsWellFormed w → row_of w file number ≡ Some row → IsPast w file number
-found_past w file number row k found =
-    let it = held_row w file number row k found in
-    subst (λ f. IsPast w f number) it.own (subst (λ n. IsPast w row.file n) it.numbered (held_past w row k it.is))
+found_past w file number row k found = grind (arith, nat_tests, held_row w file number row k found, held_past w row k)
 
 -- its end, if it has one, has come
 ended_row : (w : World) (row : VersionRow) → IsVersion w.files w.now row → is_none row.ended ≡ false → IsEndedBy w.now row
@@ -173,11 +171,7 @@ module _ (event : Event) (first w : World) (change : Change) (before : Known) (t
         Goes take.row found none (t.first_held file number take.row take.found) (ended_row w take.row (held_row w file number take.row t.formed found).is take.ended)
 
   pub becomes : (file number : ℕ) (old : VersionRow) → known_in w before file number ≡ Some old → Becomes w.now old (known_in after before file number)
-  becomes file number old is = by (turned file number (known_past w (known_in w before) file number old t.formed t.known is)) where
-    by : Turning file number → Becomes w.now old (known_in after before file number)
-    by (Stays e) = record { row = old; is = rw e is; on = same_on w.now old }
-    by (Ends row e ended) = let was = rw e at is in let one : row ≡ old = cc in record { row = ended_at w.now old; is = rw (ended, one) refl; on = ended_on w.now old }
-    by (Goes row e none known ended) = let was = rw e at is in let one : row ≡ old = cc in record { row = old; is = rw (none, known, one) refl; on = same_on w.now old }
+  becomes file number old is = grind (arith, nat_tests, turned file number (known_past w (known_in w before) file number old t.formed t.known is), known_past w (known_in w before) file number old t.formed t.known is, same_on w.now old, ended_on w.now old)
 
   -- a new version's number wasn't given
   not_given : (file number : ℕ) (row : VersionRow) → row_of w file number ≡ None → row_of after file number ≡ Some row → IsPast w file number → ⊥

@@ -1,6 +1,6 @@
 -- After a link both paths lead to the file; after an unlink its path leads nowhere, and with the last name the file ended.
 use Rattle.std.proofs.lemmas.Bool.Decides.{nat_tests}
-use Rattle.std.proofs.Common.{arith, ◌≡◌, ℕ, List, Option, Some, Ok, refl, ap, sym, ◌∙◌}
+use Rattle.std.proofs.Common.{rules, arith, ◌≡◌, ℕ, List, Option, Some, Ok, refl, ap, sym, ◌∙◌}
 use Rattle.std.specs.Prelude.{unwrap_or}
 use Rattle.std.specs.Option.{option_map}
 use Rattle.ele_world.specs.Change.{after_change, EndFileName}

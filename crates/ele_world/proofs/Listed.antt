@@ -1,5 +1,5 @@
 -- The listing of a directory at a moment, by what each name stood for then.
-use Rattle.std.proofs.Common.{◌≡◌, ℕ, ◌≤◌, ◌==◌, Bool, true, false, cond, ◌&&◌, List, [], ◌∷◌, fold, Option, Some, None, refl, ap, sym, ◌∙◌, filter, find, nat_lt, arith}
+use Rattle.std.proofs.Common.{rules, ◌≡◌, ℕ, ◌≤◌, ◌==◌, Bool, true, false, cond, ◌&&◌, List, [], ◌∷◌, fold, Option, Some, None, refl, ap, sym, ◌∙◌, filter, find, nat_lt, arith}
 use Rattle.std.specs.List.{AllByRecursion}
 use Rattle.std.specs.List.Sorted.{IsStrictlySortedBy}
 use Rattle.std.specs.Map.{keys_of, lookup}
@@ -47,25 +47,7 @@ module _ (d t : ℕ) where
   listed_found : (n : List ℕ) (rows : List NameRow) (listed : List Entry) → AllLater AreApart rows
       → lookup (is_at (slice_cmp nat_cmp n)) (fold more listed (filter (stood_in d t) rows)) ≡ option_or (target_at rows t d n) (lookup (is_at (slice_cmp nat_cmp n)) listed)
   listed_found n [] listed apart = refl
-  listed_found n (row ∷ rows) listed apart = by (λ l. listed_found n rows l apart.1) (row.directory == d) (covers t row) (bytes_eq row.name n) refl refl refl where
-    at_name : List Entry → Option Target
-    at_name entries = lookup (is_at (slice_cmp nat_cmp n)) entries
-
-    last : (c : Bool) → (row.directory == d) ≡ true → covers t row ≡ true → bytes_eq row.name n ≡ c
-        → option_or (target_at rows t d n) (cond c (Some row.target) (at_name listed)) ≡ option_or (option_map (λ (row : NameRow). row.target) (cond (c && true) (Some row) (find (stood n) rows))) (at_name listed)
-    last false ea eb e = refl
-    last true ea eb e = rw (alone n row rows (rw (ea, e, eb) refl) apart.0) refl
-
-    by : ((l : List Entry) → at_name (fold more l (filter (stood_in d t) rows)) ≡ option_or (target_at rows t d n) (at_name l))
-        → (a b c : Bool) → (row.directory == d) ≡ a → covers t row ≡ b → bytes_eq row.name n ≡ c
-        → at_name (fold more listed (cond (a && b) (row ∷ filter (stood_in d t) rows) (filter (stood_in d t) rows))) ≡ option_or (option_map (λ (row : NameRow). row.target) (cond ((a && c) && b) (Some row) (find (stood n) rows))) (at_name listed)
-    by rest false b c ea eb ec = rest listed
-    by rest true false true ea eb ec = rest listed
-    by rest true false false ea eb ec = rest listed
-    by rest true true c ea eb ec =
-        rest (more listed row)
-        ∙ ap (option_or (target_at rows t d n)) (lookup-insert_entry nat_list_cmp_total n listed row.name row.target ∙ ap (λ b. cond b (Some row.target) (at_name listed)) (is_eq-slice_cmp row.name n ∙ ec))
-        ∙ last c ea eb ec
+  listed_found n (row ∷ rows) listed apart = grind (arith, nat_tests, listed_found n rows, alone n, lookup-insert_entry nat_list_cmp_total n listed, is_eq-slice_cmp)
 
 in_order : (rows : List NameRow) → IsStrictlySortedBy (slice_cmp nat_cmp) (keys_of (fold more [] rows))
 unfolding IsStrictlySortedBy

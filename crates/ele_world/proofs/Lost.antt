@@ -1,6 +1,6 @@
 -- What a dead name last stood for, and that it may have its name again.
 use Rattle.std.proofs.lemmas.Bool.Decides.{nat_tests}
-use Rattle.std.proofs.Common.{arith, ◌≡◌, ℕ, ◌-◌, Bool, true, false, cond, not, List, Option, Some, None, Ok, Err, refl, sym, subst}
+use Rattle.std.proofs.Common.{rules, arith, ◌≡◌, ℕ, ◌-◌, Bool, true, false, cond, not, List, Option, Some, None, Ok, Err, refl, sym, subst}
 use Rattle.std.specs.Prelude.{is_some}
 use Rattle.std.specs.List.{list_any, AllByRecursion}
 use Rattle.std.specs.Option.{option_map, option_map_or}
@@ -40,15 +40,7 @@ lost_is P rows directory name lost all h = let last = last_row rows directory na
 
 -- to what has a live name, or is a directory, a name may be added
 pub may_add : (w : World) (at : ℕ × List ℕ) (lost : Target) → IsWellFormed w → MayName w at.0 at.1 → last_target w.names at.0 at.1 ≡ Ok lost → nameless w lost ≡ None → not (may_return w lost) ≡ false → MayAdd w at.0 at.1 lost
-may_add w at lost k named last live returns = record {
-  named = named;
-  there = lost_is (IsThere w.files) w.names at.0 at.1 lost (all-weaker (IsNameRow w.files w.now) (λ row. IsThere w.files row.target) w.names (λ row h. h.there) (k.holds Names).each) last;
-  housed = lost_is (IsDirectoryThere w.directories) w.names at.0 at.1 lost (all-weaker (IsHoused w.directories w.names) (λ row. IsDirectoryThere w.directories row.target) w.names (λ row h. h.there) (k.holds Homes).each) last;
-  more = more lost live returns;
-} where
-  more : (lost : Target) → nameless w lost ≡ None → not (may_return w lost) ≡ false → MayHaveMore w lost
-  more (File file) live returns = grind (arith, nat_tests)
-  more (Directory id) live returns = grind (arith, nat_tests, false≢true)
+may_add w at lost k named last live returns = grind (arith, nat_tests, k.holds Names, k.holds Homes, lost_is (IsThere w.files) w.names at.0 at.1, all-weaker (IsNameRow w.files w.now), lost_is (IsDirectoryThere w.directories) w.names at.0 at.1, all-weaker (IsHoused w.directories w.names), false≢true)
 
 -- a file without a live name may be revived
 pub may_revive : (w : World) (at : ℕ × List ℕ) (lost : Target) (file : ℕ) → MayName w at.0 at.1 → nameless w lost ≡ Some file → not (may_return w lost) ≡ false → HasRoom w → MayRevive w at.0 at.1 file

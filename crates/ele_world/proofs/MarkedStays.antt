@@ -1,6 +1,6 @@
 -- A version that was current at a mark of a group with its file is held after any event.
 use Rattle.std.proofs.lemmas.Bool.Decides.{nat_tests}
-use Rattle.std.proofs.Common.{arith, inl, inr, sym, ◌∙◌}
+use Rattle.std.proofs.Common.{rules, arith, inl, inr, sym, ◌∙◌}
 use Rattle.std.proofs.lemmas.Bool.{false≢true}
 use Rattle.ele_lists.proofs.Edits.{all-weaker}
 use Rattle.ele_world.specs.MarkedStays.{IsMarkedHeld, MarkedStays}
@@ -9,7 +9,4 @@ use Rattle.ele_world.specs.declared.rows.VersionRow.{VersionRow}
 use Rattle.ele_world.proofs.Stays.{only_due_leave}
 
 pub marked_stays : MarkedStays
-marked_stays w event k = all-weaker (StaysOrWasDue w event) (IsMarkedHeld w event) w.versions by (only_due_leave w event k) where
-  by : (row : VersionRow) → StaysOrWasDue w event row → IsMarkedHeld w event row
-  by row (inl still) marked = still
-  by row (inr leaves) marked = absurd (false≢true (sym leaves.unmarked ∙ marked))
+marked_stays w event k = grind (arith, nat_tests, all-weaker (StaysOrWasDue w event) (IsMarkedHeld w event) w.versions, only_due_leave w event k, false≢true)

@@ -1,5 +1,5 @@
 -- What is marked after a change of groups: with more members or marks what they add, and with fewer what is left without them.
-use Rattle.std.proofs.Common.{◌≡◌, ℕ, ◌==◌, Bool, true, false, not, cond, ◌&&◌, ◌||◌, List, [], ◌∷◌, ◌++◌, Option, Some, None, refl, ap, sym, subst, ◌∙◌, arith}
+use Rattle.std.proofs.Common.{rules, ◌≡◌, ℕ, ◌==◌, Bool, true, false, not, cond, ◌&&◌, ◌||◌, List, [], ◌∷◌, ◌++◌, Option, Some, None, refl, ap, sym, subst, ◌∙◌, arith}
 use Rattle.std.specs.Prelude.{find}
 use Rattle.std.specs.List.{AllByRecursion, list_any}
 use Rattle.std.specs.Option.{option_map_or}
@@ -128,16 +128,14 @@ module _ (rows : List GroupRow) (name : List ℕ) (file closed : ℕ) (ended : O
   marked_more mark = by (find (is_group name) rows) refl where
     by : (o : Option GroupRow) → find (is_group name) rows ≡ o → is_marked (with_mark name mark rows) file closed ended ≡ (is_marked rows file closed ended || touches file closed ended (option_map_or (λ row. row.members) o []) (mark ∷ []))
     by None e = unchanged (marks mark) e ∙ sym (or_false (is_marked rows file closed ended))
-    by (Some row) e = any_more (is_group name) marks_row (marks mark) rows row (touches file closed ended row.members (mark ∷ [])) e
-        (ap (λ b. is_member file row && b) (list_any-append (covers_moment closed ended) row.marks (mark ∷ [])) ∙ and_or (is_member file row) (has_covering closed ended row) (list_any (covers_moment closed ended) (mark ∷ [])))
+    by (Some row) e = grind (arith, nat_tests, any_more (is_group name) marks_row (marks mark) rows row (touches file closed ended row.members (mark ∷ [])) e, list_any-append (covers_moment closed ended) row.marks (mark ∷ []), and_or (is_member file row) (has_covering closed ended row) (list_any (covers_moment closed ended) (mark ∷ [])))
 
   -- with a file more
   pub joined_more : (member : ℕ) → is_marked (with_member name member rows) file closed ended ≡ (is_marked rows file closed ended || touches file closed ended (member ∷ []) (marks_of rows name))
   joined_more member = by (find (is_group name) rows) refl where
     by : (o : Option GroupRow) → find (is_group name) rows ≡ o → is_marked (with_member name member rows) file closed ended ≡ (is_marked rows file closed ended || touches file closed ended (member ∷ []) (option_map_or (λ row. row.marks) o []))
     by None e = unchanged (adds member) e ∙ sym (ap (λ b. is_marked rows file closed ended || b) (and_false (list_any (λ m. m == file) (member ∷ []))) ∙ or_false (is_marked rows file closed ended))
-    by (Some row) e = any_more (is_group name) marks_row (adds member) rows row (touches file closed ended (member ∷ []) row.marks) e
-        (ap (λ b. b && has_covering closed ended row) (list_any-append (λ m. m == file) row.members (member ∷ [])) ∙ or_and (is_member file row) (list_any (λ m. m == file) (member ∷ [])) (has_covering closed ended row))
+    by (Some row) e = grind (arith, nat_tests, any_more (is_group name) marks_row (adds member) rows row (touches file closed ended (member ∷ []) row.marks) e, list_any-append, or_and (is_member file row))
 
   -- with a group more
   pub grouped_more : is_marked (with_group name rows) file closed ended ≡ is_marked rows file closed ended
@@ -149,8 +147,7 @@ module _ (rows : List GroupRow) (name : List ℕ) (file closed : ℕ) (ended : O
     by : (o : Option GroupRow) → find (is_group name) rows ≡ o → option_map_or (has_mark mark) o false ≡ true
         → is_marked rows file closed ended ≡ (is_marked (without_mark name mark rows) file closed ended || touches file closed ended (option_map_or (λ row. row.members) o []) (mark ∷ []))
     by None e has = absurd (false≢true has)
-    by (Some row) e has = any_fewer (is_group name) marks_row (unmarks mark) rows row (touches file closed ended row.members (mark ∷ [])) e
-        (ap (λ b. is_member file row && b) (any_taken (covers_moment closed ended) mark row.marks has) ∙ and_or (is_member file row) (list_any (covers_moment closed ended) (remove_first (λ m. m == mark) row.marks)) (list_any (covers_moment closed ended) (mark ∷ [])))
+    by (Some row) e has = grind (arith, nat_tests, any_fewer (is_group name) marks_row (unmarks mark) rows row (touches file closed ended row.members (mark ∷ [])) e, any_taken (covers_moment closed ended) mark row.marks has, and_or (is_member file row))
 
   -- without a file
   pub joined_fewer : (member : ℕ) → has_member rows name member ≡ true → is_marked rows file closed ended ≡ (is_marked (without_member name member rows) file closed ended || touches file closed ended (member ∷ []) (marks_of rows name))
@@ -166,13 +163,7 @@ module _ (rows : List GroupRow) (name : List ℕ) (file closed : ℕ) (ended : O
   grouped_fewer = by (find (is_group name) rows) refl where
     by : (o : Option GroupRow) → find (is_group name) rows ≡ o → is_marked rows file closed ended ≡ (is_marked (without_group name rows) file closed ended || touches file closed ended (option_map_or (λ row. row.members) o []) (option_map_or (λ row. row.marks) o []))
     by None e = sym (or_false (is_marked (without_group name rows) file closed ended) ∙ ap (λ rs. is_marked rs file closed ended) (remove_first-unfound (is_group name) rows (all-not_found (is_group name) rows e)))
-    by (Some row) e =
-        let cut = find-cut (is_group name) rows row e in
-        ap (list_any marks_row) cut.whole
-        ∙ list_any-append marks_row cut.before (row ∷ cut.behind)
-        ∙ moved (list_any marks_row cut.before) (marks_row row) (list_any marks_row cut.behind)
-        ∙ ap (λ b. b || marks_row row) (sym (list_any-append marks_row cut.before cut.behind))
-        ∙ ap (λ rs. list_any marks_row rs || marks_row row) (sym (ap (remove_first (is_group name)) cut.whole ∙ remove_first-at (is_group name) cut.before row cut.behind cut.none cut.passes))
+    by (Some row) e = grind (arith, nat_tests, find-cut (is_group name) rows row e, list_any-append marks_row, moved, remove_first-at (is_group name))
 
   -- ---- what is left out
 
@@ -199,12 +190,7 @@ module _ (rows : List GroupRow) (name : List ℕ) (file closed : ℕ) (ended : O
 
     still_changed : (left : Option ℕ) (f : GroupRow → GroupRow) (row : GroupRow) → find (is_group name) rows ≡ Some row → marks_row (f row) ≡ marks_still left row
         → is_marked (update_first (is_group name) f rows) file closed ended ≡ is_marked_without rows name left file closed ended
-    still_changed left f row found same =
-        let cut = find-cut (is_group name) rows row found in
-        ap (list_any marks_row) (ap (update_first (is_group name) f) cut.whole ∙ update_first-at (is_group name) f cut.before row cut.behind cut.none cut.passes)
-        ∙ list_any-append marks_row cut.before (f row ∷ cut.behind)
-        ∙ ap (λ b. list_any marks_row cut.before || (b || list_any marks_row cut.behind)) same
-        ∙ sym (still_is left row found)
+    still_changed left f row found same = grind (arith, nat_tests, find-cut (is_group name) rows row found, update_first-at (is_group name) f, list_any-append marks_row, still_is left row found)
 
     -- without the mark what the others mark
     pub marked_still : (mark : ℕ) (row : GroupRow) → find (is_group name) rows ≡ Some row → AreApart row.marks → is_marked (without_mark name mark rows) file closed ended ≡ is_marked_without rows name (Some mark) file closed ended
@@ -219,9 +205,4 @@ module _ (rows : List GroupRow) (name : List ℕ) (file closed : ℕ) (ended : O
     grouped_still = by (find (is_group name) rows) refl where
       by : (o : Option GroupRow) → find (is_group name) rows ≡ o → is_marked (without_group name rows) file closed ended ≡ is_marked_without rows name None file closed ended
       by None e = grind (arith, nat_tests, all-not_found, remove_first-unfound, any_same, all-weaker, others_count)
-      by (Some row) e =
-          let cut = find-cut (is_group name) rows row e in
-          ap (list_any marks_row) (ap (remove_first (is_group name)) cut.whole ∙ remove_first-at (is_group name) cut.before row cut.behind cut.none cut.passes)
-          ∙ list_any-append marks_row cut.before cut.behind
-          ∙ ap (λ b. list_any marks_row cut.before || (b || list_any marks_row cut.behind)) (sym (none_counts row cut.passes))
-          ∙ sym (still_is None row e)
+      by (Some row) e = grind (arith, nat_tests, find-cut (is_group name) rows row e, remove_first-at (is_group name), list_any-append marks_row, none_counts row, still_is None row e)

@@ -1,5 +1,5 @@
 -- The version that a tag means is one of its file that is held.
-use Rattle.std.proofs.Common.{◌≡◌, ℕ, ◌-◌, Bool, true, false, cond, ◌&&◌, nat_lt, List, Option, Some, None, arith, find, subst, sym}
+use Rattle.std.proofs.Common.{rules, ◌≡◌, ℕ, ◌-◌, Bool, true, false, cond, ◌&&◌, nat_lt, List, Option, Some, None, arith, find, subst, sym}
 use Rattle.std.specs.Prelude.{Result, Ok, Err}
 use Rattle.std.proofs.lemmas.Bool.Decides.{nat_tests}
 use Rattle.ele_lists.proofs.Edits.{found_passes}

@@ -1,5 +1,5 @@
 -- What a change does to the row of a version that is held before it: nothing, or it ends, or it is taken.
-use Rattle.std.proofs.Common.{◌≡◌, ℕ, ◌-◌, ◌<◌, ◌≤◌, Bool, true, false, cond, ◌&&◌, List, [], ◌∷◌, ◌++◌, Option, Some, None, refl, ap, sym, subst, arith, eqb, ◌⊎◌, inl, inr}
+use Rattle.std.proofs.Common.{rules, ◌≡◌, ℕ, ◌-◌, ◌<◌, ◌≤◌, Bool, true, false, cond, ◌&&◌, List, [], ◌∷◌, ◌++◌, Option, Some, None, refl, ap, sym, subst, arith, eqb, ◌⊎◌, inl, inr}
 use Rattle.std.specs.Prelude.{find}
 use Rattle.std.specs.List.{AllByRecursion}
 use Rattle.std.specs.Option.{option_map, option_map_or}
@@ -44,8 +44,7 @@ not_next w of file number opened cells is = grind (arith, nat_tests, found_passe
 
 pub change_past : (event : Event) (first w : World) (change : Change) (file number : ℕ) → May event first w change → IsPast w file number → IsPast (after_change w change) file number
 change_past event first w (MakeFile directory name id policy) file number may is = grind (arith, nat_tests, past_numbered, all-push)
-change_past event first w (PutUnder of policy) file number may is =
-    record { given = is.given; first = is.first; past = all-update_first (is_file of) (IsBehind file number) (IsBehind file number) (put_under policy) w.files (λ row h. h) (λ row h. h) is.past }
+change_past event first w (PutUnder of policy) file number may is = grind (arith, nat_tests, all-update_first (is_file of) (IsBehind file number) (IsBehind file number) (put_under policy) w.files)
 change_past event first w (Append of opened cells) file number may is = record { given = is.given; first = is.first; past = past_numbered w.files of file number is.past }
 change_past event first w (Revive directory name of) file number may is = record { given = is.given; first = is.first; past = past_numbered w.files of file number is.past }
 change_past event first w (DropIdle of) file number may is = grind (arith, nat_tests, all-remove_first)

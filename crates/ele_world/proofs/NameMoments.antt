@@ -1,5 +1,5 @@
 -- Which ripe moments change where names come, go or move: with a file's last name that of its last version, and no other.
-use Rattle.std.proofs.Common.{◌≡◌, ℕ, ◌-◌, Bool, true, false, ◌==◌, ◌&&◌, List, Some, None, refl, ap, ◌∙◌, arith, cond}
+use Rattle.std.proofs.Common.{rules, ◌≡◌, ℕ, ◌-◌, Bool, true, false, ◌==◌, ◌&&◌, List, Some, None, refl, ap, ◌∙◌, arith, cond}
 use Rattle.std.specs.Prelude.{find, option_and_then}
 use Rattle.std.proofs.lemmas.Bool.Decides.{nat_tests}
 use Rattle.ele_lists.proofs.Found.{find-update_other}
@@ -41,14 +41,7 @@ module _ (w : World) (directory : ℕ) (name : List ℕ) (file : ℕ) where
 
   -- those of all other versions stay
   pub other_moments : IsWellFormed w → (f n : ℕ) → ((f == file) && (n == last)) ≡ false → ripe_at after f n ≡ ripe_at w f n
-  other_moments k f n apart = found_moment w after f n (in_order_of w k) (ended_in_order k) (λ closed ended. refl) refl refl (next (is_live after file)) (by (is_live after file)) where
-    next : (b : Bool) → next_closing (cond b w.versions (with_end w file)) f n ≡ next_closing w.versions f n
-    next true = refl
-    next false = next_closing-ended (is_version file last) w.now w.versions f n
-
-    by : (b : Bool) → find (is_version f n) (cond b w.versions (with_end w file)) ≡ find (is_version f n) w.versions
-    by true = refl
-    by false = find-update_other (is_version file last) (is_version f n) (ended_at w.now) w.versions (λ row h. (grind (arith, nat_tests), grind (arith, nat_tests)))
+  other_moments k f n apart = grind (arith, nat_tests, found_moment w after f n (in_order_of w k) (ended_in_order k), in_order_of w k, ended_in_order k, next_closing-ended (is_version file last) w.now w.versions f n, find-update_other (is_version file last) (is_version f n) (ended_at w.now) w.versions)
 
   module _ (current : HasCurrent w file) where
     -- its last version, which had none, gets one, as it ends now

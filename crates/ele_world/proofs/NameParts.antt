@@ -1,5 +1,5 @@
 -- A name more, and the end of one, in the parts of a well-formed world that speak of names.
-use Rattle.std.proofs.Common.{◌≡◌, ℕ, ◌≤◌, Bool, true, false, ◌==◌, ◌&&◌, List, [], ◌∷◌, ◌++◌, Option, Some, None, refl, sym, subst, ◌∙◌, arith, eqb, ◌+◌, ◌<◌, length}
+use Rattle.std.proofs.Common.{rules, ◌≡◌, ℕ, ◌≤◌, Bool, true, false, ◌==◌, ◌&&◌, List, [], ◌∷◌, ◌++◌, Option, Some, None, refl, sym, subst, ◌∙◌, arith, eqb, ◌+◌, ◌<◌, length}
 use Rattle.std.specs.Prelude.{find, is_some, is_none}
 use Rattle.std.specs.List.{AllByRecursion, list_any}
 use Rattle.std.specs.Option.{option_map}
@@ -26,10 +26,7 @@ dead_name : (files : List FileRow) (now directory : ℕ) (name : List ℕ) (x y 
 dead_name files now directory name x y dead is same_directory same_name birth = grind (arith, nat_tests, bytes_eq-Decides, false≢true)
 
 no_live : (names : List NameRow) (directory : ℕ) (name : List ℕ) → is_some (live_target names directory name) ≡ false → AllByRecursion (λ row. is_live_name directory name row ≡ false) names
-no_live names directory name h = all-not_found (is_live_name directory name) names (by (find (is_live_name directory name) names) h) where
-  by : (o : Option NameRow) → is_some (option_map (λ (row : NameRow). row.target) o) ≡ false → o ≡ None
-  by None h = refl
-  by (Some row) h = absurd (false≢true (sym h))
+no_live names directory name h = grind (arith, nat_tests, all-not_found (is_live_name directory name) names, false≢true)
 
 -- each row of a name that isn't live is over when the name is born again
 pub all_apart : (files : List FileRow) (now : ℕ) (names : List NameRow) (directory : ℕ) (name : List ℕ) (named : NameRow) → AllByRecursion (IsNameRow files now) names → is_some (live_target names directory name) ≡ false
@@ -77,21 +74,14 @@ module _ (now : ℕ) (names : List NameRow) (directory : ℕ) (name : List ℕ) 
   after = update_first p (dies now) names
 
   pub names_end : (files : List FileRow) → AreNames files now names → AreNames files now after
-  names_end files are = record {
-    each = all-update_first p (IsNameRow files now) (IsNameRow files now) (dies now) names (λ row h. record { there = h.there; born = h.born; dead = (h.born, omega arith) }) (λ row h. h) are.each;
-    lives = later-update_found p AreApart (dies now) names over (λ x y h. h) are.lives;
-  } where
-    over : (x y : NameRow) → p x ≡ true → AreApart x y → AreApart (dies now x) y
-    over x y live apart = λ d n. let dead = apart d n in let none = still_none directory name x live in absurd (let no : is_none x.death ≡ false = rw dead.1 refl in false≢true (sym no ∙ none))
+  names_end files are = grind (arith, nat_tests, all-update_first p (IsNameRow files now) (IsNameRow files now) (dies now) names, later-update_found p AreApart (dies now) names, still_none directory name, false≢true)
 
   pub tree_end : AllLater AreOthers names → AllLater AreOthers after
   tree_end = later-update_first p AreOthers (dies now) names (λ x y h id live. absurd (false≢true (sym (and_false _) ∙ live))) (λ x y h id live. and_false _)
 
   -- a name that wasn't live isn't
   pub free_still : (other : ℕ) (new : List ℕ) → is_some (live_target names other new) ≡ false → is_some (live_target after other new) ≡ false
-  free_still other new free =
-      let none = all-update_first p (λ row. is_live_name other new row ≡ false) (λ row. is_live_name other new row ≡ false) (dies now) names (λ row h. dies_so now other new row) (λ row h. h) (no_live names other new free) in
-      rw (not_found (is_live_name other new) after none) refl
+  free_still other new free = grind (arith, nat_tests, all-update_first p, dies_so now other new, no_live names other new free, not_found (is_live_name other new) after)
 
   -- the row that dies stands for the name's target
   pub found_target : (target : Target) → live_target names directory name ≡ Some target → (row : NameRow) → find p names ≡ Some row → row.target ≡ target

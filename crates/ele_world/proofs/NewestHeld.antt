@@ -1,5 +1,5 @@
 -- The newest held version of a file, and the place at which its next one comes in.
-use Rattle.std.proofs.Common.{◌≡◌, ℕ, ◌+◌, ◌-◌, ◌<◌, ◌≤◌, ◌==◌, Bool, true, false, cond, ◌&&◌, ◌||◌, List, [], ◌∷◌, Option, Some, None, IfSome, refl, ap, sym, subst, ◌∙◌, arith}
+use Rattle.std.proofs.Common.{rules, ◌≡◌, ℕ, ◌+◌, ◌-◌, ◌<◌, ◌≤◌, ◌==◌, Bool, true, false, cond, ◌&&◌, ◌||◌, List, [], ◌∷◌, Option, Some, None, IfSome, refl, ap, sym, subst, ◌∙◌, arith}
 use Rattle.std.specs.Prelude.{find}
 use Rattle.std.specs.List.{AllByRecursion, list_any}
 use Rattle.std.specs.Option.{option_map, option_or}
@@ -51,14 +51,7 @@ IsNoNewer file number x = is_newer_of file number x ≡ false
 
 newest_most : (file : ℕ) (rows : List VersionRow) (row : VersionRow) → AllLater ArePlaced rows → newest_of rows file ≡ Some row → AllByRecursion (IsNoNewer file row.number) rows
 newest_most file [] row placed is = absurd cc
-newest_most file (x ∷ xs) row placed is = by (newest_of xs file) (is_version_of file x) refl refl (newest_most file xs row placed.1) is where
-  by : (o : Option VersionRow) (b : Bool) → newest_of xs file ≡ o → is_version_of file x ≡ b → (newest_of xs file ≡ Some row → AllByRecursion (IsNoNewer file row.number) xs) → option_or o (cond b (Some x) None) ≡ Some row → AllByRecursion (IsNoNewer file row.number) (x ∷ xs)
-  by (Some y) b e f rest h = grind (arith, nat_tests, last_has)
-  by None true e f rest h =
-      let same : x ≡ row = cc in
-      subst (λ (r : VersionRow). AllByRecursion (IsNoNewer file r.number) (x ∷ xs)) same
-      (grind (arith, nat_tests), all-weaker (λ z. is_version_of file z ≡ false) (IsNoNewer file x.number) xs (λ z other. grind (arith, nat_tests)) (last-none (is_version_of file) xs e))
-  by None false e f rest h = absurd cc
+newest_most file (x ∷ xs) row placed is = grind (arith, nat_tests, newest_most file xs, last_has, all-weaker, last-none (is_version_of file) xs)
 
 pub record IsNewest (w : World) (file : ℕ) (row : VersionRow) : Type 0 where
   pub own : row.file ≡ file
@@ -120,11 +113,7 @@ module _ (w : World) (file opened : ℕ) (cells : List Cell) (are : AreVersions 
   life false = omega arith
 
   pub next_in_order : AllByRecursion (λ row. IsPolicy row.policy) w.files → AreInOrder appended.files appended.versions
-  next_in_order policies = record {
-    policies = all-update_first (is_file file) (λ row. IsPolicy row.policy) (λ row. IsPolicy row.policy) numbered_on w.files (λ row given. given) (λ row given. given) policies;
-    lives = all-insert_before behind IsLife new (with_end w file) (life (is_live w file)) (lives_in w.files w.now (with_end w file) ended.each);
-    placed = placed;
-  }
+  next_in_order policies = grind (arith, nat_tests, all-update_first (is_file file), all-insert_before behind IsLife new (with_end w file) (life (is_live w file)) (lives_in w.files w.now (with_end w file) ended.each), life (is_live w file), lives_in w.files w.now (with_end w file) ended.each, placed)
 
   -- each other version is found as before, but that its file's last one ends
   pub found_after : (f n : ℕ) → is_version f n new ≡ false → find (is_version f n) appended.versions ≡ find (is_version f n) (with_end w file)
@@ -139,14 +128,11 @@ module _ (w : World) (file opened : ℕ) (cells : List Cell) (are : AreVersions 
 
   -- and what wasn't held isn't
   pub none_still : (n : ℕ) → (n == next) ≡ false → AllByRecursion (λ row. is_version file n row ≡ false) w.versions → AllByRecursion (λ row. is_version file n row ≡ false) appended.versions
-  none_still n other none = all-insert_before behind (λ row. is_version file n row ≡ false) new (with_end w file) (grind (arith, nat_tests))
-      (all-update_first p (λ row. is_version file n row ≡ false) (λ row. is_version file n row ≡ false) (ended_at w.now) w.versions (λ row h. h) (λ row h. h) none)
+  none_still n other none = grind (arith, nat_tests, all-insert_before behind, all-update_first p)
 
   -- the new one is the newest
   pub none_behind : next_closing appended.versions file next ≡ None
-  none_behind =
-      ap (option_map (λ (row : VersionRow). row.closed)) (find-insert_before behind (is_newer_of file next) new (with_end w file) (grind (arith, nat_tests)))
-      ∙ none_past w.files w.now (with_end w file) file next ended.each (omega arith)
+  none_behind = grind (arith, nat_tests, find-insert_before behind (is_newer_of file next) new (with_end w file), none_past w.files w.now (with_end w file) file next ended.each)
 
   -- and stands next behind the former newest, which has an end
   module _ (row : VersionRow) (newest : IsNewest w file row) where
@@ -166,10 +152,7 @@ module _ (w : World) (file opened : ℕ) (cells : List Cell) (are : AreVersions 
               ∙ ap Some (of row.ended refl (λ last. let last' : row.number + 1 ≡ next = last ∙ ap (next_of w.files) newest.own in absurd (false≢true (grind (arith, nat_tests)))))
 
     pub next_behind : next_closing appended.versions file row.number ≡ Some w.now
-    next_behind =
-        let before = newest.before in
-        ap (option_map (λ (x : VersionRow). x.closed)) (find-inserted behind (is_newer_of file row.number) new (with_end w file) (grind (arith, nat_tests))
-        (all-update_first p (IsNoNewer file row.number) (IsNoNewer file row.number) (ended_at w.now) w.versions (λ x h. h) (λ x h. h) newest.most))
+    next_behind = grind (arith, nat_tests, find-inserted behind (is_newer_of file row.number) new (with_end w file), all-update_first p (IsNoNewer file row.number) (IsNoNewer file row.number) (ended_at w.now) w.versions)
 
     -- what stands behind an older one is as before
     pub next_still : (n : ℕ) → n < row.number → next_closing appended.versions file n ≡ next_closing w.versions file n

@@ -1,5 +1,5 @@
 -- In a run one version of a file lived at each moment that a name of the file covers.
-use Rattle.std.proofs.Common.{◌≡◌, ℕ, ◌<◌, ◌≤◌, true, false, List, [], ◌∷◌, Option, Some, None, refl, ap, sym, subst, ◌∙◌, arith, ◌⊎◌, inl, inr}
+use Rattle.std.proofs.Common.{rules, ◌≡◌, ℕ, ◌<◌, ◌≤◌, true, false, List, [], ◌∷◌, Option, Some, None, refl, ap, sym, subst, ◌∙◌, arith, ◌⊎◌, inl, inr}
 use Rattle.std.specs.Prelude.{find, Ok, Err}
 use Rattle.std.specs.List.{AllByRecursion}
 use Rattle.std.specs.Option.{option_or}
@@ -97,11 +97,7 @@ module _ (first : World) (events : List Event) (k : IsWellFormed (run_of first e
   w = run_of first events
 
   only : (number : ℕ) (other : VersionRow) → last_stood first events file number ≡ Some other → lives_at moment other ≡ true → number ≡ life.row.number
-  only number other stood lives = by (cases_lt number life.row.number) (cases_lt life.row.number number) where
-    by : (number < life.row.number) ⊎ (life.row.number ≤ number) → (life.row.number < number) ⊎ (number ≤ life.row.number) → number ≡ life.row.number
-    by (inl less) h = absurd (not_both moment other life.row (s.placed file number life.row.number other life.row stood life.stood less) lives life.lived)
-    by (inr more) (inl less) = absurd (not_both moment life.row other (s.placed file life.row.number number life.row other life.stood stood less) life.lived lives)
-    by (inr more) (inr less) = omega (arith, more, less)
+  only number other stood lives = grind (arith, nat_tests, cases_lt number life.row.number, cases_lt life.row.number number, not_both moment other life.row, not_both moment life.row other)
 
   -- a version that is found for the moment is this one
   found_is : (row : VersionRow) → find (had_life file moment) w.versions ≡ Some row → (row ≡ life.row) × (row_of w file life.row.number ≡ Some row)

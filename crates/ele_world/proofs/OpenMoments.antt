@@ -1,6 +1,6 @@
 -- Which ripe moments change where handles come and go: that of a version that a handle reads, and no other.
 use Rattle.std.proofs.lemmas.Bool.Decides.{nat_tests}
-use Rattle.std.proofs.Common.{arith, ◌≡◌, ℕ, ◌||◌, Bool, true, false, cond, [], ◌∷◌, Some, None, refl, ap, sym, ◌∙◌, find}
+use Rattle.std.proofs.Common.{rules, arith, ◌≡◌, ℕ, ◌||◌, Bool, true, false, cond, [], ◌∷◌, Some, None, refl, ap, sym, ◌∙◌, find}
 use Rattle.std.specs.Prelude.{Ok, Err}
 use Rattle.std.specs.Option.{option_map_or}
 use Rattle.std.proofs.lemmas.List.Folds.{list_any-append}
@@ -36,10 +36,7 @@ module _ (w : World) (number : ℕ) (reads : Reads) where
 
   -- and what it reads has none
   pub opened_own : AreInOrder w.files w.versions → (f n : ℕ) → reads_version f n reads ≡ true → ripe_at (after_change w (OpenHandle number reads)) f n ≡ None
-  opened_own ordered f n own = read_moment (after_change w (OpenHandle number reads)) f n ordered (open_more f n ∙ rw own (or_true (is_open w.handles f n))) where
-    or_true : (b : Bool) → (b || true) ≡ true
-    or_true true = refl
-    or_true false = refl
+  opened_own ordered f n own = grind (arith, nat_tests, read_moment (after_change w (OpenHandle number reads)) f n ordered, open_more f n)
 
 module _ (w : World) (number : ℕ) (reads : Reads) (is : reads_by w.handles number ≡ Ok reads) where
   -- the handle's row reads this

@@ -1,5 +1,5 @@
 -- A version that a handle reads is held after any event.
-use Rattle.std.proofs.Common.{◌≡◌, inl, inr, ℕ, true, Option, Some, None, refl, sym, subst, ◌∙◌, arith, find}
+use Rattle.std.proofs.Common.{rules, ◌≡◌, inl, inr, ℕ, true, Option, Some, None, refl, sym, subst, ◌∙◌, arith, find}
 use Rattle.std.specs.Prelude.{Ok, Err}
 use Rattle.std.specs.Option.{option_map_or}
 use Rattle.std.proofs.lemmas.Bool.{false≢true}

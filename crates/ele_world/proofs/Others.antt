@@ -1,5 +1,5 @@
 -- The rows of other files stay where one file's rows change.
-use Rattle.std.proofs.Common.{◌≡◌, ℕ, Bool, true, false, not, ◌&&◌, cond, List, [], ◌∷◌, length, Option, refl, ap, ◌∙◌, arith, eqb}
+use Rattle.std.proofs.Common.{rules, ◌≡◌, ℕ, Bool, true, false, not, ◌&&◌, cond, List, [], ◌∷◌, length, Option, refl, ap, ◌∙◌, arith, eqb}
 use Rattle.std.specs.Prelude.{filter}
 use Rattle.std.specs.List.{list_any}
 use Rattle.std.specs.Option.{option_map_or}
@@ -34,10 +34,7 @@ pub drafts-begun : (row : DraftRow) (rows : List DraftRow) → other_drafts row.
 drafts-begun row rows = grind (arith, nat_tests, filter-insert_before)
 
 pub drafts-opened : (w : World) (file : ℕ) → other_drafts file (with_draft w file) ≡ other_drafts file w.drafts
-drafts-opened w file = elim (list_any (is_draft file) w.drafts) as (λ b. other_drafts file (cond b w.drafts (insert_before (is_draft_after file) (new_draft w file) w.drafts)) ≡ other_drafts file w.drafts) [
-  | true ↦ refl
-  | false ↦ drafts-begun (new_draft w file) w.drafts
-]
+drafts-opened w file = grind (arith, nat_tests, drafts-begun (new_draft w file) w.drafts)
 
 -- ---- versions
 

@@ -1,6 +1,6 @@
 -- A pass, one clean event after another.
 use Rattle.std.proofs.lemmas.Bool.Decides.{nat_tests}
-use Rattle.std.proofs.Common.{◌≡◌, ℕ, suc, zero, ◌+◌, ◌<◌, ◌≤◌, List, length, Option, Some, None, refl, ap, sym, subst, ◌∙◌, arith, add-one, ◌⊎◌, inl, inr}
+use Rattle.std.proofs.Common.{rules, ◌≡◌, ℕ, suc, zero, ◌+◌, ◌<◌, ◌≤◌, List, length, Option, Some, None, refl, ap, sym, subst, ◌∙◌, arith, add-one, ◌⊎◌, inl, inr}
 use Rattle.std.specs.Prelude.{IsSome}
 use Rattle.std.proofs.lemmas.Bool.{cases_lt}
 use Rattle.ele_due.specs.declared.key.Key.{Key}
@@ -40,10 +40,7 @@ clean_removes : (w : World) → IsWellFormed w → IsSome (first_due w) → leng
 clean_removes w keeps some = by (first_due w) refl some where
   by : (o : Option Key) → first_due w ≡ o → IsSome o → length ((clean_of w o).1).versions + 1 ≡ length w.versions
   by None e h = absurd cc
-  by (Some key) e h =
-      let due = first_is_due w key (placed_of w keeps) e in
-      ap (λ (rows : List VersionRow). length rows + 1) (dropped_versions (after_change w (Take key.file key.number)) key.file)
-      ∙ length-remove_first (is_version key.file key.number) w.versions due.row due.found
+  by (Some key) e h = grind (arith, nat_tests, first_is_due w key (placed_of w keeps) e, placed_of w keeps, dropped_versions (after_change w (Take key.file key.number)) key.file, length-remove_first (is_version key.file key.number) w.versions)
 
 -- and so many by so many events
 cleaned_removes : (n : ℕ) (w : World) → IsWellFormed w → ((k : ℕ) → k < n → IsSome (first_due (after_cleans k w))) → length (after_cleans n w).versions + n ≡ length w.versions

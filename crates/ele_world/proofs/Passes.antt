@@ -1,6 +1,6 @@
 -- A pass that nothing disturbs removes the due versions, and no others.
 use Rattle.std.proofs.lemmas.Bool.Decides.{nat_tests}
-use Rattle.std.proofs.Common.{arith, ◌≡◌, ℕ, suc, zero, ◌≤◌, Bool, true, false, cond, not, List, [], ◌∷◌, Option, Some, None, refl, ap, sym, ◌∙◌}
+use Rattle.std.proofs.Common.{rules, arith, ◌≡◌, ℕ, suc, zero, ◌≤◌, Bool, true, false, cond, not, List, [], ◌∷◌, Option, Some, None, refl, ap, sym, ◌∙◌}
 use Rattle.std.specs.Prelude.{nat_le, slice_get, fold, is_some}
 use Rattle.std.specs.declared.cmp.Ordering.{Ordering}
 use Rattle.std.specs.declared.cmp.Ordering.TheVariants.{Less, Equal, Greater}
@@ -48,9 +48,7 @@ clean_keeps_kept w k = by (first_due w) refl where
 
 pub cleaned_keeps_kept : (n : ℕ) (w : World) → IsWellFormed w → (kept_rows (after_cleans n w) ≡ kept_rows w) × IsWellFormed (after_cleans n w)
 cleaned_keeps_kept zero w k = (refl, k)
-cleaned_keeps_kept (suc n) w k =
-    let rest = cleaned_keeps_kept n ((clean_step w).1) (step_keeps w CleanOne tt k) in
-    (rest.0 ∙ clean_keeps_kept w k, rest.1)
+cleaned_keeps_kept (suc n) w k = grind (arith, nat_tests, cleaned_keeps_kept n ((clean_step w).1) (step_keeps w CleanOne tt k), step_keeps w CleanOne tt k, clean_keeps_kept w k)
 
 -- ---- where the scan is empty nothing is due
 
@@ -90,7 +88,4 @@ nothing_due w k h =
 
 -- what a pass leaves
 pub pass_leaves_kept : (w : World) (removed : ℕ) (after : World) → IsWellFormed w → IsPass w removed after → after.versions ≡ kept_rows w
-pass_leaves_kept w removed after k pass =
-    let there = cleaned_keeps_kept removed w k in
-    let none = rw pass.after_is at pass.last in
-    ap (λ (u : World). u.versions) pass.after_is ∙ sym (nothing_due (after_cleans removed w) there.1 none) ∙ there.0
+pass_leaves_kept w removed after k pass = grind (arith, nat_tests, cleaned_keeps_kept removed w k, nothing_due (after_cleans removed w))

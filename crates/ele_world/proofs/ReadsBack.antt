@@ -1,6 +1,6 @@
 -- A version that is held has the cells that it had when it closed.
 use Rattle.std.proofs.lemmas.Bool.Decides.{nat_tests}
-use Rattle.std.proofs.Common.{arith, ◌≡◌, ℕ, List, [], ◌∷◌, Option, Some, None, IfSome, refl, subst}
+use Rattle.std.proofs.Common.{rules, arith, ◌≡◌, ℕ, List, [], ◌∷◌, Option, Some, None, IfSome, refl, subst}
 use Rattle.std.specs.Prelude.{find, Ok}
 use Rattle.std.specs.List.{AllByRecursion}
 use Rattle.ele_content.specs.declared.cell.Cell.{Cell}
@@ -50,10 +50,7 @@ module _ (event : Event) (first : World) (placed : AllLater ArePlaced first.vers
 
   all_fixed : (w : World) (changes : List Change) → MayAll event first w changes → IsFixed w file number cells → IsFixed (after_changes w changes) file number cells
   all_fixed w [] may fixed = fixed
-  all_fixed w (change ∷ changes) may fixed = all_fixed (after_change w change) changes may.1 (record {
-    past = change_past event first w change file number may.0 fixed.past;
-    same = moved w.now w.versions _ _ fixed.same (change_moves event first file number w change placed may.0 fixed.past);
-  })
+  all_fixed w (change ∷ changes) may fixed = grind (arith, nat_tests, all_fixed (after_change w change) changes may.1, change_past event first w change file number may.0 fixed.past, moved w.now w.versions, change_moves event first file number w change placed may.0 fixed.past)
 
 run_fixed : (w : World) (events : List Event) (file number : ℕ) (cells : List Cell) → AllByRecursion IsEvent events → IsWellFormed w → IsFixed w file number cells → IsFixed (run_of w events) file number cells
 run_fixed w [] file number cells are k fixed = fixed

@@ -1,5 +1,5 @@
 -- The law of the order of removal, from one file to all.
-use Rattle.std.proofs.Common.{◌≡◌, ◌==◌, ℕ, Bool, true, false, not, List, ◌∷◌, ◌++◌, refl, ap, sym, subst, ◌∙◌, filter, arith, ◌⊎◌, inl, inr}
+use Rattle.std.proofs.Common.{rules, ◌≡◌, ◌==◌, ℕ, Bool, true, false, not, List, ◌∷◌, ◌++◌, refl, ap, sym, subst, ◌∙◌, filter, arith, ◌⊎◌, inl, inr}
 use Rattle.std.specs.List.{AllByRecursion}
 use Rattle.std.proofs.lemmas.List.Elements.{filter-append}
 use Rattle.std.proofs.lemmas.Bool.Decides.{nat_tests}

@@ -1,5 +1,5 @@
 -- After a rename the new path leads where the old one led, and the old one nowhere.
-use Rattle.std.proofs.Common.{◌≡◌, ℕ, Bool, true, false, ◌==◌, ◌&&◌, ◌||◌, List, [], ◌∷◌, ◌++◌, Option, Some, None, Ok, Err, refl, sym, subst, ◌∙◌, arith, length, ◌-◌, take}
+use Rattle.std.proofs.Common.{rules, ◌≡◌, ℕ, Bool, true, false, ◌==◌, ◌&&◌, ◌||◌, List, [], ◌∷◌, ◌++◌, Option, Some, None, Ok, Err, refl, sym, subst, ◌∙◌, arith, length, ◌-◌, take}
 use Rattle.std.specs.Prelude.{find, is_some}
 use Rattle.std.specs.Option.{option_map, option_map_or}
 use Rattle.std.specs.Str.{bytes_eq}
@@ -55,13 +55,7 @@ module _ (rows : List NameRow) where
     leads_still d (Directory e) (m ∷ names) avoids h = onward (λ next. leads_still d next names) (live_target rows e m) refl h where
       onward : ((next : Target) → Avoids moved next names → walk rows next names ≡ Ok (Directory d) → walk left next names ≡ Ok (Directory d)) → (o : Option Target) → live_target rows e m ≡ o → option_map_or (λ target. walk rows target names) o (Err NoEntry) ≡ Ok (Directory d) → walk left (Directory e) (m ∷ names) ≡ Ok (Directory d)
       onward more None edge h = absurd cc
-      onward more (Some next) edge h = by ((at.0 == e) && bytes_eq at.1 m) refl where
-        beyond : Avoids moved next names
-        beyond = avoids_next moved e m names next edge avoids
-
-        by : (b : Bool) → ((at.0 == e) && bytes_eq at.1 m) ≡ b → walk left (Directory e) (m ∷ names) ≡ Ok (Directory d)
-        by false not = rw (other_stays rows at.0 at.1 now e m not ∙ edge) (more next beyond h)
-        by true is = grind (arith, nat_tests, bytes_eq-Decides, avoids_itself, beyond)
+      onward more (Some next) edge h = grind (arith, nat_tests, avoids_next moved e m names next edge avoids, other_stays rows at.0 at.1 now e m, bytes_eq-Decides, avoids_itself)
 
 -- ---- the law
 

@@ -1,5 +1,5 @@
 -- After an undelete its path leads to what the name last stood for.
-use Rattle.std.proofs.Common.{◌≡◌, ℕ, ◌-◌, Bool, true, false, cond, List, [], Option, Some, None, Ok, refl, ap, subst, ◌∙◌, arith}
+use Rattle.std.proofs.Common.{rules, ◌≡◌, ℕ, ◌-◌, Bool, true, false, cond, List, [], Option, Some, None, Ok, refl, ap, subst, ◌∙◌, arith}
 use Rattle.std.specs.Prelude.{find, is_some}
 use Rattle.std.specs.Option.{option_map_or}
 use Rattle.std.proofs.lemmas.Bool.Decides.{nat_tests}
@@ -50,17 +50,7 @@ module _ (w : World) (path : List (List ℕ)) (at : ℕ × List ℕ) (k : IsWell
         ∙ new_found (with_name w at.0 at.1 (File file)) file (k.holds Versions).each w.now (current_cells w file)
 
     version_again : (number : ℕ) → next_of w.files file ≡ number → last_target w.names at.0 at.1 ≡ Ok (File file) → HasVersionAgain w path number revived
-    version_again number same last = record {
-      file = file;
-      last = may.last;
-      current = new;
-      named = named_again (File file) revived refl last;
-      was = may.held;
-      is = current_is;
-      numbered = same;
-      no_end = rw (named_live w at.0 at.1 file) refl;
-      cells = ap (λ (o : Option VersionRow). option_map_or (λ (row : VersionRow). row.cells) o []) may.held;
-    }
+    version_again number same last = grind (arith, nat_tests, named_again (File file) revived refl last, current_is, named_live w at.0 at.1 file)
 
 abbrev Leads : World → List (List ℕ) → Reply × World → Type 0
 Leads w path answer = (answer.0 ≡ reply.Done → HasNameAgain w path answer.1) × ((number : ℕ) → answer.0 ≡ reply.Version number → HasVersionAgain w path number answer.1)

@@ -1,6 +1,6 @@
 -- What a revert leaves.
 use Rattle.std.proofs.lemmas.Bool.Decides.{nat_tests}
-use Rattle.std.proofs.Common.{◌≡◌, ℕ, ◌-◌, ◌<◌, Some, refl, sym, subst, arith, find}
+use Rattle.std.proofs.Common.{rules, ◌≡◌, ℕ, ◌-◌, ◌<◌, Some, refl, sym, subst, arith, find}
 use Rattle.ele_lists.specs.Lists.{update_first}
 use Rattle.ele_world.specs.Change.{next_version, numbered_on, with_version}
 use Rattle.ele_world.specs.RevertKeeps.{CopiesVersion, RevertKeeps}

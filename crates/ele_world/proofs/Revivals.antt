@@ -1,6 +1,6 @@
 -- A file that has a name again: its last version had ended, it may have its next one, and what changes for usage.
 use Rattle.std.proofs.lemmas.Bool.Decides.{nat_tests}
-use Rattle.std.proofs.Common.{◌≡◌, ℕ, ◌-◌, ◌<◌, true, List, Option, Some, None, refl, ap, sym, subst, ◌∙◌, arith}
+use Rattle.std.proofs.Common.{rules, ◌≡◌, ℕ, ◌-◌, ◌<◌, true, List, Option, Some, None, refl, ap, sym, subst, ◌∙◌, arith}
 use Rattle.std.specs.List.{AllByRecursion, list_any}
 use Rattle.std.proofs.lemmas.Bool.{false≢true}
 use Rattle.ele_lists.proofs.Edits.{all-found}
@@ -39,11 +39,4 @@ module _ (w : World) (directory : ℕ) (name : List ℕ) (file : ℕ) (may : May
 -- ---- usage
 
 pub changes_revived : (w : World) (directory : ℕ) (name : List ℕ) (file : ℕ) → ChangesOnly file w (after_change w (Revive directory name file))
-changes_revived w directory name file =
-    let next = next_of w.files file in
-    record {
-      kinds = λ k id. kinds-numbered w.files file k id;
-      files = λ k. files-numbered w.files file k;
-      versions = versions-finished file next (next - 1) w.now (next_version (with_name w directory name (File file)) file w.now (current_cells w file)) w.versions refl;
-      drafts = refl;
-    }
+changes_revived w directory name file = grind (arith, nat_tests, kinds-numbered w.files file, files-numbered w.files file, versions-finished file)

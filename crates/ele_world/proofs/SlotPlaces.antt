@@ -1,5 +1,5 @@
 -- Which places the rows have, one row after another.
-use Rattle.std.proofs.Common.{◌≡◌, ℕ, ◌+◌, ◌<◌, zero, suc, Bool, true, false, not, ◌&&◌, ◌||◌, cond, List, [], ◌∷◌, ◌++◌, length, refl, ap, sym, ◌∙◌, arith, eqb, append_assoc}
+use Rattle.std.proofs.Common.{rules, ◌≡◌, ℕ, ◌+◌, ◌<◌, zero, suc, Bool, true, false, not, ◌&&◌, ◌||◌, cond, List, [], ◌∷◌, ◌++◌, length, refl, ap, sym, ◌∙◌, arith, eqb, append_assoc}
 use Rattle.std.specs.Prelude.{filter}
 use Rattle.std.specs.List.{list_any, flat_map}
 use Rattle.std.proofs.lemmas.Bool.Decides.{nat_tests}
@@ -91,30 +91,11 @@ module _ (t : ℕ → Bool) where
   -- of a file that passes, as many are new
   passing_new : (versions : List VersionRow) (drafts : List DraftRow) (f s : ℕ) (cells : List Cell) → t f ≡ true → new_places (places (filter (λ row. t row.file) versions) (filter (λ row. t row.file) drafts)) (places_from f s cells) ≡ new_places (places versions drafts) (places_from f s cells)
   passing_new versions drafts f s [] passes = refl
-  passing_new versions drafts f s (cell ∷ cells) passes =
-      let place : Place = record { file = f; slot = s; writer = cell.writer } in
-      let rest = places_from f (s + 1) cells in
-      rw (
-        new_places-cons (places (filter (λ row. t row.file) versions) (filter (λ row. t row.file) drafts)) place rest,
-        new_places-cons (places versions drafts) place rest,
-        among_passing versions drafts place passes,
-        passing_new versions drafts f (s + 1) cells passes,
-      ) refl
+  passing_new versions drafts f s (cell ∷ cells) passes = grind (arith, nat_tests, new_places-cons (places versions drafts), among_passing versions drafts, passing_new versions drafts f (s + 1) cells passes)
 
   -- one more version in front
   pub different_version : (row : VersionRow) (versions : List VersionRow) (drafts : List DraftRow) → different_of t (row ∷ versions) drafts ≡ cond (t row.file) (new_places (places versions drafts) (places_from row.file 0 row.cells)) 0 + different_of t versions drafts
-  different_version row versions drafts = elim (t row.file) as (λ b. t row.file ≡ b → different is_place (places (cond b (row ∷ filter (λ r. t r.file) versions) (filter (λ r. t r.file) versions)) (filter (λ r. t r.file) drafts)) ≡ cond b (new_places (places versions drafts) (places_from row.file 0 row.cells)) 0 + different_of t versions drafts) [
-    | true ↦ λ e.
-        let own = places_from row.file 0 row.cells in
-        let vs = λ (r : VersionRow). places_from r.file 0 r.cells in
-        let ds = λ (r : DraftRow). places_from r.file 0 r.cells in
-        let some = filter (λ (r : VersionRow). t r.file) versions in
-        let others = filter (λ (r : DraftRow). t r.file) drafts in
-        ap (different is_place) (ap (λ (ps : List Place). ps ++ flat_map ds others) (flat_map-cons vs row some) ∙ append_assoc own (flat_map vs some) (flat_map ds others))
-        ∙ (different_row row.file 0 row.cells (places some others)
-        ∙ ap (λ n. n + different is_place (places some others)) (passing_new versions drafts row.file 0 row.cells e))
-    | false ↦ λ e. omega arith
-  ] refl
+  different_version row versions drafts = grind (arith, nat_tests, flat_map-cons, append_assoc, different_row row.file 0 row.cells, passing_new versions drafts row.file 0 row.cells)
 
   -- one more draft in front
   pub different_draft : (row : DraftRow) (drafts : List DraftRow) → different_of t [] (row ∷ drafts) ≡ cond (t row.file) (new_places (places [] drafts) (places_from row.file 0 row.cells)) 0 + different_of t [] drafts

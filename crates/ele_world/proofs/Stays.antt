@@ -1,6 +1,6 @@
 -- What an event does to the versions that are held before it.
 use Rattle.std.proofs.lemmas.Bool.Decides.{nat_tests}
-use Rattle.std.proofs.Common.{◌≡◌, ℕ, Bool, true, false, cond, ◌||◌, List, [], ◌∷◌, Option, Some, None, refl, ap, subst, ◌∙◌, arith, ◌⊎◌, inl, inr}
+use Rattle.std.proofs.Common.{rules, ◌≡◌, ℕ, Bool, true, false, cond, ◌||◌, List, [], ◌∷◌, Option, Some, None, refl, ap, subst, ◌∙◌, arith, ◌⊎◌, inl, inr}
 use Rattle.std.specs.Prelude.{find, unwrap_or}
 use Rattle.std.specs.List.{list_any, AllByRecursion}
 use Rattle.std.specs.Option.{option_map}
@@ -42,19 +42,14 @@ moved event first now rows row before after found was (Taken w may same none) = 
 
 follow : (event : Event) (first w : World) (row : VersionRow) (changes : List Change) → IsFound first.versions row → AllLater ArePlaced first.versions → MayAll event first w changes → IsPast w row.file row.number → StillOrDue event first row (find (is_version row.file row.number) w.versions) → StillOrDue event first row (find (is_version row.file row.number) (after_changes w changes).versions)
 follow event first w row [] found placed may past was = was
-follow event first w row (change ∷ changes) found placed may past was = follow event first (after_change w change) row changes found placed may.1
-    (change_past event first w change row.file row.number may.0 past)
-    (moved event first w.now w.versions row _ _ found was (change_moves event first row.file row.number w change placed may.0 past))
+follow event first w row (change ∷ changes) found placed may past was = grind (arith, nat_tests, follow event first (after_change w change) row changes found placed may.1 (change_past event first w change row.file row.number may.0 past), change_past event first w change row.file row.number may.0 past, moved event first w.now w.versions row, change_moves event first row.file row.number w change placed may.0 past)
 
 -- the number of a version that is held was given
 pub held_past : (w : World) (row : VersionRow) → IsWellFormed w → IsVersion w.files w.now row → IsPast w row.file row.number
 held_past w row k is = grind (arith, nat_tests, k.holds Files, next_of-given, all_behind)
 
 row_stays : (w : World) (event : Event) (row : VersionRow) → IsWellFormed w → IsVersion w.files w.now row → IsFound w.versions row → StillOrDue event w row (find (is_version row.file row.number) ((step w event).1).versions)
-row_stays w event row k is found =
-    let by = reached event w (plan w event) (allowed w event k) in
-    let start : IsStill row (find (is_version row.file row.number) w.versions) = record { after = row; is = found; same = record { opened = refl; closed = refl; cells = refl; ended = λ at e. e } } in
-    rw by.is (follow event w w row by.changes found (k.holds Versions).placed by.may (held_past w row k is) (inl start))
+row_stays w event row k is found = grind (arith, nat_tests, k.holds Versions, reached event w (plan w event) (allowed w event k), allowed w event k, follow event w w, held_past w)
 
 -- ---- both laws
 
@@ -66,13 +61,7 @@ each_row : (w : World) (event : Event) (Q : VersionRow → Type 0) → IsWellFor
 each_row w event Q k then = all-weaker (λ row. IsVersion w.files w.now row × IsFound w.versions row) Q w.versions (λ row h. then row (row_stays w event row k h.0 h.1)) (all-both (IsVersion w.files w.now) (IsFound w.versions) w.versions (k.holds Versions).each (all_found w.versions (k.holds Versions).placed))
 
 pub only_due_leave : (w : World) (event : Event) → IsWellFormed w → AllByRecursion (StaysOrWasDue w event) w.versions
-only_due_leave w event k = each_row w event (StaysOrWasDue w event) k leaves where
-  leaves : (row : VersionRow) → StillOrDue event w row (find (is_version row.file row.number) ((step w event).1).versions) → StaysOrWasDue w event row
-  leaves row (inl still) = inl (held_if_found row.file row.number ((step w event).1).versions still.after still.is)
-  leaves row (inr gone) = inr (record { clean = gone.0; due = gone.1; unread = due_is_unread w row w.now gone.1; unmarked = due_is_unmarked w row w.now gone.1 })
+only_due_leave w event k = grind (arith, nat_tests, each_row w event (StaysOrWasDue w event) k, held_if_found, due_is_unread w, due_is_unmarked w)
 
 pub held_stays : (w : World) (event : Event) → IsWellFormed w → AllByRecursion (StaysSame w event) w.versions
-held_stays w event k = each_row w event (StaysSame w event) k same where
-  same : (row : VersionRow) → StillOrDue event w row (find (is_version row.file row.number) ((step w event).1).versions) → StaysSame w event row
-  same row (inl still) = λ after found. let was = still.is in let one : still.after ≡ after = cc in subst (IsSameVersion row) one still.same
-  same row (inr gone) = λ after found. absurd (let none = gone.2 in cc)
+held_stays w event k = grind (arith, nat_tests, each_row w event (StaysSame w event) k)

@@ -1,6 +1,6 @@
 -- Usage, one row after another.
 use Rattle.std.proofs.lemmas.Bool.Decides.{nat_tests}
-use Rattle.std.proofs.Common.{◌≡◌, ℕ, ◌+◌, ◌-◌, ◌<◌, Bool, true, false, cond, List, [], ◌∷◌, length, map, get_or, take, drop, arith}
+use Rattle.std.proofs.Common.{rules, ◌≡◌, ℕ, ◌+◌, ◌-◌, ◌<◌, Bool, true, false, cond, List, [], ◌∷◌, length, map, get_or, take, drop, arith}
 use Rattle.std.specs.Prelude.{filter}
 use Rattle.std.proofs.lemmas.List.{drop_more, take_all, length-append, length-drop}
 use Rattle.std.proofs.lemmas.List.Concat.{flat_map-cons}
@@ -38,10 +38,7 @@ version_places : (t : ℕ → Bool) (versions : List VersionRow) (drafts : List 
 version_places t versions drafts i row lt is = rw (drop_more versions i row lt, ← is) (different_version t row (drop (i + 1) versions) drafts)
 
 pub version_counts : (t : ℕ → Bool) (versions : List VersionRow) (drafts : List DraftRow) (i : ℕ) (row : VersionRow) (cells : List Cell) (count : ℕ) → i < length versions → row ≡ get_or versions i row → t row.file ≡ true → cells ≡ row.cells → count ≡ new_places (places (take (length versions - (i + 1)) (drop (i + 1) versions)) drafts) (places_from row.file 0 cells) → different_of t (drop i versions) drafts ≡ count + different_of t (drop (i + 1) versions) drafts
-version_counts t versions drafts i row cells count lt is passes own more =
-    let step = rw passes at (version_places t versions drafts i row lt is) in
-    let counted = rw (take_all (length versions - (i + 1)) (drop (i + 1) versions) (omega (arith, length-drop (i + 1) versions)), own) at more in
-    omega (arith, step, counted)
+version_counts t versions drafts i row cells count lt is passes own more = grind (arith, nat_tests, version_places t versions drafts i row lt is, take_all (length versions - (i + 1)) (drop (i + 1) versions), length-drop (i + 1) versions)
 
 pub version_skips : (t : ℕ → Bool) (versions : List VersionRow) (drafts : List DraftRow) (i : ℕ) (row : VersionRow) → i < length versions → row ≡ get_or versions i row → t row.file ≡ false → different_of t (drop i versions) drafts ≡ different_of t (drop (i + 1) versions) drafts
 version_skips t versions drafts i row lt is fails = let step = rw fails at (version_places t versions drafts i row lt is) in omega (arith, step)
@@ -51,10 +48,7 @@ draft_places : (t : ℕ → Bool) (drafts : List DraftRow) (i : ℕ) (row : Draf
 draft_places t drafts i row lt is = rw (drop_more drafts i row lt, ← is) (different_draft t row (drop (i + 1) drafts))
 
 pub draft_counts : (t : ℕ → Bool) (drafts : List DraftRow) (i : ℕ) (row : DraftRow) (cells : List Cell) (count : ℕ) → i < length drafts → row ≡ get_or drafts i row → t row.file ≡ true → cells ≡ row.cells → count ≡ new_places (places [] (take (length drafts - (i + 1)) (drop (i + 1) drafts))) (places_from row.file 0 cells) → different_of t [] (drop i drafts) ≡ count + different_of t [] (drop (i + 1) drafts)
-draft_counts t drafts i row cells count lt is passes own more =
-    let step = rw passes at (draft_places t drafts i row lt is) in
-    let counted = rw (take_all (length drafts - (i + 1)) (drop (i + 1) drafts) (omega (arith, length-drop (i + 1) drafts)), own) at more in
-    omega (arith, step, counted)
+draft_counts t drafts i row cells count lt is passes own more = grind (arith, nat_tests, draft_places t drafts i row lt is, take_all (length drafts - (i + 1)) (drop (i + 1) drafts), length-drop (i + 1) drafts)
 
 pub draft_skips : (t : ℕ → Bool) (drafts : List DraftRow) (i : ℕ) (row : DraftRow) → i < length drafts → row ≡ get_or drafts i row → t row.file ≡ false → different_of t [] (drop i drafts) ≡ different_of t [] (drop (i + 1) drafts)
 draft_skips t drafts i row lt is fails = let step = rw fails at (draft_places t drafts i row lt is) in omega (arith, step)

@@ -1,5 +1,5 @@
 -- How changes of the world change usage.
-use Rattle.std.proofs.Common.{◌≡◌, ℕ, ◌+◌, ◌*◌, ◌^◌, ◌<◌, ◌≤◌, Bool, true, false, not, cond, List, [], ◌∷◌, ◌++◌, length, Some, refl, ap, sym, ◌∙◌, arith, eqb}
+use Rattle.std.proofs.Common.{rules, ◌≡◌, ℕ, ◌+◌, ◌*◌, ◌^◌, ◌<◌, ◌≤◌, Bool, true, false, not, cond, List, [], ◌∷◌, ◌++◌, length, Some, refl, ap, sym, ◌∙◌, arith, eqb}
 use Rattle.std.specs.Prelude.{filter}
 use Rattle.std.specs.List.{AllByRecursion, flat_map, list_any}
 use Rattle.std.proofs.lemmas.Bool.Decides.{nat_tests}
@@ -144,9 +144,7 @@ kind_added given versions (x ∷ xs) row k all new = grind (arith, nat_tests, ki
 
 -- rows of files that are there pass as before
 rows_before : {R : Type 0} (file_of : R → ℕ) (P : R → Type 0) (files : List FileRow) (row : FileRow) (k : Kind) (rows : List R) → ((r : R) → P r → 0 < next_of files (file_of r)) → AllByRecursion P rows → filter (λ r. is_file_of (files ++ row ∷ []) k (file_of r)) rows ≡ filter (λ r. is_file_of files k (file_of r)) rows
-rows_before file_of P files row k rows there all =
-    filter-same_all (λ r. is_file_of (files ++ row ∷ []) k (file_of r)) (λ r. is_file_of files k (file_of r)) rows
-    (all-weaker P (λ r. is_file_of (files ++ row ∷ []) k (file_of r) ≡ is_file_of files k (file_of r)) rows (λ r h. kind_before files row k (file_of r) (there r h)) all)
+rows_before file_of P files row k rows there all = search (rules, filter-same_all, all-weaker, kind_before)
 
 -- a version without cells, behind the others
 bytes_more : (rows : List VersionRow) (row : VersionRow) → row.cells ≡ [] → bytes_in (rows ++ row ∷ []) ≡ bytes_in rows

@@ -1,5 +1,5 @@
 -- A file's rows in a well-formed world, and which are newer than one of them, by its place.
-use Rattle.std.proofs.Common.{◌≡◌, ℕ, ◌<◌, ◌≤◌, true, false, cond, List, [], ◌∷◌, ◌++◌, Some, refl, ap, sym, subst, ◌∙◌, filter, arith, slice_get}
+use Rattle.std.proofs.Common.{rules, ◌≡◌, ℕ, ◌<◌, ◌≤◌, true, false, cond, List, [], ◌∷◌, ◌++◌, Some, refl, ap, sym, subst, ◌∙◌, filter, arith, slice_get}
 use Rattle.std.specs.Prelude.{IfSome, find}
 use Rattle.std.specs.List.{AllByRecursion}
 use Rattle.std.specs.Option.{option_map}
@@ -62,11 +62,7 @@ policy_is (x ∷ xs) file all = grind (arith, nat_tests, policy_is xs file all.1
 
 -- each file of a world is so whose rows are
 pub view_in : (w : World) (file : ℕ) → AllByRecursion (λ row. IsPolicy row.policy) w.files → AllByRecursion IsLife w.versions → AllLater ArePlaced w.versions → IsView (view_of w file)
-view_in w file policies lives placed = record {
-  governed = policy_is w.files file policies;
-  lives = all-filter IsLife (is_version_of file) w.versions lives;
-  placed = later-filter ArePlaced Precedes (is_version_of file) w.versions (λ x y own other placed. precedes x y placed (grind (arith, nat_tests))) placed;
-}
+view_in w file policies lives placed = grind (arith, nat_tests, policy_is w.files file policies, all-filter IsLife (is_version_of file) w.versions lives, later-filter ArePlaced Precedes (is_version_of file) w.versions, precedes)
 
 pub view_is : (w : World) → IsWellFormed w → (file : ℕ) → IsView (view_of w file)
 view_is w k file = view_in w file (policies_of w k) (lives_of w k) (placed_of w k)
@@ -81,12 +77,7 @@ isnt_behind x y h = let less = h.number in grind (arith, nat_tests)
 
 -- they are those behind
 pub newer_is : (xs : List VersionRow) (row : VersionRow) (ys : List VersionRow) → AllLater Precedes (xs ++ row ∷ ys) → filter (is_newer row) (xs ++ row ∷ ys) ≡ ys
-newer_is xs row ys placed =
-    let around = later-around Precedes xs row ys placed in
-    let itself : is_newer row row ≡ false = grind (arith, nat_tests) in
-    filter-append (is_newer row) xs (row ∷ ys)
-    ∙ ap (λ t. t ++ filter (is_newer row) (row ∷ ys)) (filter-none (is_newer row) xs (all-weaker (λ x. Precedes x row) (λ x. is_newer row x ≡ false) xs (λ x h. isnt_behind x row h) around.0))
-    ∙ rw itself (filter-all (is_newer row) ys (all-weaker (Precedes row) (λ y. is_newer row y ≡ true) ys (λ y h. is_before row y h) around.1))
+newer_is xs row ys placed = grind (arith, nat_tests, later-around Precedes xs, filter-append, filter-none, all-weaker, isnt_behind, filter-all, is_before)
 
 all_behind : (x row : VersionRow) (ys : List VersionRow) → Precedes x row → AllByRecursion (Precedes row) ys → filter (is_newer x) ys ≡ ys
 all_behind x row ys before all = filter-all (is_newer x) ys (all-weaker (Precedes row) (λ y. is_newer x y ≡ true) ys (λ y h. let one = before.number in let two = h.number in grind (arith, nat_tests)) all)
@@ -97,9 +88,7 @@ newer_before x xs row ys placed before = grind (arith, nat_tests, filter-append,
 
 -- and without the row the others
 pub newer_without : (x : VersionRow) (xs : List VersionRow) (row : VersionRow) (ys : List VersionRow) → AllLater Precedes (xs ++ row ∷ ys) → Precedes x row → filter (is_newer x) (xs ++ ys) ≡ filter (is_newer x) xs ++ ys
-newer_without x xs row ys placed before =
-    filter-append (is_newer x) xs ys
-    ∙ ap (λ t. filter (is_newer x) xs ++ t) (all_behind x row ys before (later-around Precedes xs row ys placed).1)
+newer_without x xs row ys placed before = grind (arith, nat_tests, filter-append (is_newer x) xs ys, all_behind x row ys before (later-around Precedes xs row ys placed).1, later-around Precedes xs row ys placed)
 
 -- of one behind the row: the same with it and without
 pub newer_behind : (x : VersionRow) (xs : List VersionRow) (row : VersionRow) (ys : List VersionRow) → Precedes row x → filter (is_newer x) (xs ++ row ∷ ys) ≡ filter (is_newer x) (xs ++ ys)
@@ -135,8 +124,7 @@ own_rows before row behind = grind (arith, nat_tests, filter-append)
 -- so what stands beside a version of a world is as its policy wants it
 pub nearest_of : (w : World) (before : List VersionRow) (row : VersionRow) (behind : List VersionRow) → IsView (view_of w row.file) → w.versions ≡ before ++ row ∷ behind
     → IsNearest row.closed (slice_get (beside (view_of w row.file) row).newer 0) (beside (view_of w row.file) row)
-nearest_of w before row behind view whole =
-    nearest_is (view_of w row.file) view (filter (is_version_of row.file) before) row (filter (is_version_of row.file) behind) (ap (filter (is_version_of row.file)) whole ∙ own_rows before row behind)
+nearest_of w before row behind view whole = grind (arith, nat_tests, nearest_is (view_of w row.file) view (filter (is_version_of row.file) before) row (filter (is_version_of row.file) behind) (ap (filter (is_version_of row.file)) whole ∙ own_rows before row behind), own_rows before row behind)
 
 -- of another file
 pub other_rows : (file : ℕ) (before : List VersionRow) (row : VersionRow) (behind : List VersionRow) → is_version_of file row ≡ false → filter (is_version_of file) (before ++ row ∷ behind) ≡ filter (is_version_of file) (before ++ behind)

@@ -1,6 +1,6 @@
 -- Who wrote the cells that a write or a truncate leaves.
 use Rattle.std.proofs.lemmas.Bool.Decides.{nat_tests}
-use Rattle.std.proofs.Common.{ℕ, suc, zero, ◌+◌, ◌≤◌, Bool, true, false, cond, List, [], ◌∷◌, length, map, arith, eqb}
+use Rattle.std.proofs.Common.{rules, ℕ, suc, zero, ◌+◌, ◌≤◌, Bool, true, false, cond, List, [], ◌∷◌, length, map, arith, eqb}
 use Rattle.std.specs.Prelude.{min}
 use Rattle.std.specs.List.{AllByRecursion, range_with_len}
 use Rattle.ele_content.specs.declared.cell.Cell.{Cell}
@@ -25,20 +25,11 @@ either-le false m n h = h
 
 written_by : (number offset : ℕ) (bytes : List ℕ) (cells : List Cell) → AreWrittenBy number cells → AreWrittenBy number (cells_after_write number offset bytes cells)
 unfolding cells_after_write
-written_by number offset bytes cells all =
-    let old = content_of cells in
-    let new : List ℕ = content_after_write old offset bytes in
-    let from = min offset (length old) in
-    all-map (λ cell. cell.writer ≤ number) (λ slot. record { writer = cond (meets from (offset + length bytes) slot) number (writer_at cells slot); bytes = slot_bytes new slot }) (range_with_len 0 (slot_count (length new)))
-    (λ slot. either-le (meets from (offset + length bytes) slot) number (writer_at cells slot) (writer_at-le number cells slot all))
+written_by number offset bytes cells all = search (rules, all-map, either-le, writer_at-le)
 
 truncated_by : (number size : ℕ) (cells : List Cell) → AreWrittenBy number cells → AreWrittenBy number (cells_after_truncate number size cells)
 unfolding cells_after_truncate
-truncated_by number size cells all =
-    let old = content_of cells in
-    let new : List ℕ = content_after_truncate old size in
-    all-map (λ cell. cell.writer ≤ number) (λ slot. record { writer = cond (refits (length old) size slot) number (writer_at cells slot); bytes = slot_bytes new slot }) (range_with_len 0 (slot_count size))
-    (λ slot. either-le (refits (length old) size slot) number (writer_at cells slot) (writer_at-le number cells slot all))
+truncated_by number size cells all = search (rules, all-map, either-le, writer_at-le)
 
 pub changed_written : (number offset : ℕ) (bytes : List ℕ) (row : DraftRow) → AreWrittenBy number row.cells → AreWrittenBy number ((changed_by number offset bytes row).cells)
 changed_written number offset bytes row all = written_by number offset bytes row.cells all
