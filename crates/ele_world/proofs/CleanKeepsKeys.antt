@@ -102,8 +102,7 @@ module _ (w : World) (before : List VersionRow) (row : VersionRow) (behind : Lis
       ∙ ap (option_and_then (ripe_of with_row)) (sym (find-without (is_version file number) before row behind apart))
       ∙ sym (ripe_at_is with_row file number) where
         by : (o : Option VersionRow) → find (is_version file number) (before ++ behind) ≡ o → option_and_then (ripe_of without_row) o ≡ option_and_then (ripe_of with_row) o
-        by None e = refl
-        by (Some x) e = all-found (is_version file number) (λ x. ripe_of without_row x ≡ ripe_of with_row x) (before ++ behind) x e stay
+        by o e = grind (arith, nat_tests, all-found, stay)
 
   gone : ripe_at without_row row.file row.number ≡ None
   gone = grind (arith, nat_tests, ripe_at_is without_row row.file row.number, not_found (is_version row.file row.number), all-weaker (IsBeside row), sides w)

@@ -46,8 +46,7 @@ module _ (w v : World) (same : SeesSame w v) where
       ∙ by (find (is_version file number) w.versions) refl
       ∙ sym (ripe_at_is w file number) where
         by : (o : Option VersionRow) → find (is_version file number) w.versions ≡ o → option_and_then (ripe_of v) o ≡ option_and_then (ripe_of w) o
-        by None e = refl
-        by (Some row) e = all-found (is_version file number) (λ row. ripe_of v row ≡ ripe_of w row) w.versions row e ripe_of_same
+        by o e = grind (arith, nat_tests, all-found, ripe_of_same)
 
   pub kept_same : kept_rows v ≡ kept_rows w
   kept_same = grind (arith, nat_tests, filter-same_all, all-weaker, due_now_same)

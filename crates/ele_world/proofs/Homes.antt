@@ -69,8 +69,7 @@ named_housed directories more names named wider home reached there each =
     (λ row h. record { home = wider row.directory h.home; there = stays row.target h.there; reached = λ none. reached_more names named row.directory (h.reached none) }) each)
     (record { home = wider named.directory home; there = there; reached = λ none. reached_more names named named.directory reached }) where
       stays : (target : Target) → IsDirectoryThere directories target → IsDirectoryThere more target
-      stays (File file) h = tt
-      stays (Directory id) h = wider id h
+      stays target h = grind (arith, nat_tests)
 
 -- the root, or a directory that has a name, live or dead
 abbrev pub HasName : List NameRow → DirectoryRow → Type 0

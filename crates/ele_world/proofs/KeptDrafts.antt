@@ -34,8 +34,7 @@ start_keeps w file may k = record { holds = by } where
   current = current_is w file k
 
   readable : (reads : Reads) → IsReadable w.drafts reads → IsReadable (insert_before (is_draft_after file) (new_draft w file) w.drafts) reads
-  readable (Version of number) there = tt
-  readable (Draft id) there = list_any-insert_before (is_draft_after file) (is_draft id) (new_draft w file) w.drafts ∙ ap (λ b. is_draft id (new_draft w file) || b) there ∙ or_true (is_draft id (new_draft w file))
+  readable reads there = grind (arith, nat_tests, list_any-insert_before, or_true)
 
   by : (part : Part) → Holds (after_change w (StartDraft file)) part
   by Counted = grind (arith, k.holds Counted, length-insert_before (is_draft_after file) (new_draft w file) w.drafts)
@@ -61,8 +60,7 @@ all-changed p P f (x ∷ xs) changes all = grind (arith, nat_tests, all-changed 
 edit_keeps : (w : World) (file : ℕ) (f : DraftRow → DraftRow) → ((row : DraftRow) → (f row).file ≡ row.file) → ((row : DraftRow) → row.file ≡ file → IsDraft w.files w.now row → IsDraft w.files w.now (f row)) → IsWellFormed w → IsWellFormed (record w { drafts = update_first (is_draft file) f w.drafts })
 edit_keeps w file f same edits k = record { holds = by } where
   readable : (reads : Reads) → IsReadable w.drafts reads → IsReadable (update_first (is_draft file) f w.drafts) reads
-  readable (Version of number) there = tt
-  readable (Draft id) there = list_any-update_first (is_draft file) (is_draft id) f w.drafts (λ x e. ap (λ (i : ℕ). eqb i id) (same x)) ∙ there
+  readable reads there = grind (arith, nat_tests, list_any-update_first)
 
   by : (part : Part) → Holds (record w { drafts = update_first (is_draft file) f w.drafts }) part
   by Counted = grind (arith, k.holds Counted, length-update_first (is_draft file) f w.drafts)
@@ -84,8 +82,7 @@ truncate_keeps w file size fits k = grind (arith, nat_tests, edit_keeps, same_fi
 pub end_keeps : (w : World) (file : ℕ) → list_any (is_writer file) w.handles ≡ false → IsWellFormed w → IsWellFormed (after_change w (EndDraft file))
 end_keeps w file unwritten k = record { holds = by } where
   readable : (reads : Reads) → writes file reads ≡ false → IsReadable w.drafts reads → IsReadable (remove_first (is_draft file) w.drafts) reads
-  readable (Version of number) other there = tt
-  readable (Draft id) other there = list_any-remove_first (is_draft file) (is_draft id) w.drafts (λ x found. let passes = found_passes (is_draft file) w.drafts x found in grind (arith, nat_tests)) ∙ there
+  readable reads other there = grind (arith, nat_tests, list_any-remove_first, found_passes)
 
   by : (part : Part) → Holds (after_change w (EndDraft file)) part
   by Counted = grind (arith, k.holds Counted, length-remove_first-le (is_draft file) w.drafts)

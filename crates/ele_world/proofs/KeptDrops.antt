@@ -45,8 +45,7 @@ module _ (w : World) (file : ℕ) (idle : IsIdle w file) where
   names = filter keep w.names
 
   there_still : (target : Target) → not (is_target_file file target) ≡ true → IsThere w.files target → IsThere files target
-  there_still (File other) stays h = rw (next_of-removed w.files file other (not_true (other == file) stays)) h
-  there_still (Directory id) stays h = tt
+  there_still target stays h = grind (arith, nat_tests, next_of-removed, not_true)
 
   -- directories are named and reached as before
   named_still : (id : ℕ) → list_any (is_name_of_directory id) names ≡ list_any (is_name_of_directory id) w.names

@@ -34,8 +34,7 @@ add_name_keeps w directory name target may k = record { holds = by } where
 
   -- what it makes live was so
   was_live : (t : Target) (file : ℕ) → MayHaveMore w t → is_live_name_of file (born_row directory name t w.now) ≡ true → is_live w file ≡ true
-  was_live (Directory id) file more own = absurd (false≢true own)
-  was_live (File of) file more own = let same : of ≡ file = grind (arith, nat_tests) in subst (λ f. is_live w f ≡ true) same more
+  was_live t file more own = grind (arith, nat_tests, false≢true)
 
   by : (part : Part) → Holds (after_change w (AddName directory name target)) part
   by Counted = counted_more w (length (w.names ++ named ∷ [])) k may.named.room (simp length-append (omega arith))

@@ -63,8 +63,7 @@ module _ (w : World) (from : ℕ) (old : List ℕ) (to : ℕ) (new : List ℕ) (
 
   -- each file that was live is
   lives_on : (file : ℕ) (b : Bool) → is_target_file file target ≡ b → list_any (is_live_name_of file) w.names ≡ true → list_any (is_live_name_of file) (left ++ named ∷ []) ≡ true
-  lives_on file true own live = any_last (is_live_name_of file) left named (rw own refl)
-  lives_on file false other live = any_more (is_live_name_of file) left named (live_still w.now w.names from old target may.stands file other ∙ live)
+  lives_on file b own live = grind (arith, nat_tests, any_last, any_more, live_still)
 
   pub move_name_keeps : IsWellFormed (after_change w (MoveName from old to new target))
   move_name_keeps = record { holds = by } where

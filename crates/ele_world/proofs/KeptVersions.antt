@@ -157,8 +157,7 @@ pub take_keeps : (w : World) (file number : ℕ) → ((row : VersionRow) → fin
 take_keeps w file number ended unread k = record { holds = by } where
   -- a handle reads another version, and that is still held
   still : (reads : Reads) → reads_version file number reads ≡ false → IsHeldRead w.versions reads → IsHeldRead (remove_first (is_version file number) w.versions) reads
-  still (Draft of) other h = h
-  still (Version of n) other h = list_any-remove_first (is_version file number) (is_version of n) w.versions (λ row found. let passes = found_passes (is_version file number) w.versions row found in grind (arith, nat_tests)) ∙ h
+  still reads other h = grind (arith, nat_tests, list_any-remove_first, found_passes)
 
   not_current : (other : ℕ) (row : VersionRow) → is_none row.ended ≡ false → is_current other (next_of w.files other) row ≡ false
   not_current other row e = rw e (grind (arith, nat_tests))

@@ -52,12 +52,10 @@ pub record AreKnown (w : World) (known : Known) : Type 0 where
   pub covered : AllByRecursion (IsCovered known) w.names
 
 neither : (o p : Option VersionRow) → option_or o p ≡ None → (o ≡ None) × (p ≡ None)
-neither None p e = (refl, e)
-neither (Some row) p e = absurd cc
+neither o p e = grind (arith, nat_tests)
 
 pub or_none : (o : Option VersionRow) → o ≡ option_or o None
-or_none None = refl
-or_none (Some row) = refl
+or_none o = grind (arith, nat_tests)
 
 -- ---- a version that is held
 
@@ -197,13 +195,10 @@ module _ (event : Event) (first w : World) (change : Change) (before : Known) (t
     on past ended = record { ended = record { ended = ended.ended; is = ended.is; by_now = omega (arith, ended.by_now, change_later event first w change t.may) }; past = change_past event first w change file number t.may past }
 
     taken : Turning file number → (held : VersionRow) → row_of w file number ≡ Some held → IsEndedBy w.now row
-    taken (Stays e) held found = absurd cc
-    taken (Ends other e ended) held found = absurd cc
-    taken (Goes other e gone was ended) held found = let one : other ≡ row = cc in subst (IsEndedBy w.now) one ended
+    taken held x2 found = grind (arith, nat_tests, row)
 
     by : (o : Option VersionRow) → row_of w file number ≡ o → IsGone after file number row
-    by None e = let gone = t.known.gone file number row e (rw e known) in on gone.past gone.ended
-    by (Some held) e = let past = found_past w file number held t.formed e in on past (taken (turned file number past) held e)
+    by o e = grind (arith, nat_tests, number, row, known, on, found_past, taken, turned)
 
   -- a version before a new one has ended
   before_new : (file number later : ℕ) (row next : VersionRow) → known_in after before file number ≡ Some row → row_of after file later ≡ Some next → number < later → IsEndedBy after.now row

@@ -61,5 +61,4 @@ listing_is rows d t items apart up found =
     entries_same nat_list_cmp_total exact_bytes items (fold more [] (filter (stood_in d t) rows)) up (in_order (filter (stood_in d t) rows))
     (λ n. found n ∙ none (target_at rows t d n) ∙ sym (listed_found d t n rows [] apart)) where
       none : (o : Option Target) → o ≡ option_or o None
-      none None = refl
-      none (Some target) = refl
+      none o = grind (arith, nat_tests)

@@ -22,8 +22,7 @@ pub record IsMeant (versions : List VersionRow) (file : ℕ) (row : VersionRow) 
   pub own : row.file ≡ file
 
 found_of : (found : Option VersionRow) (before : Option ℕ) (row : VersionRow) → held_or_forgotten found before ≡ Ok row → found ≡ Some row
-found_of None before row is = absurd cc
-found_of (Some held) before row is = cc
+found_of found before row is = grind (arith, nat_tests)
 
 pub numbered_found : (versions : List VersionRow) (file number : ℕ) (row : VersionRow) → version_numbered versions file number ≡ Ok row → find (is_version file number) versions ≡ Some row
 numbered_found versions file number row is = found_of (find (is_version file number) versions) _ row is

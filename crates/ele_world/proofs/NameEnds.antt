@@ -54,8 +54,7 @@ module _ (rows after : List NameRow) (at : ℕ × List ℕ) (nowhere : live_targ
   ends_along (File file) (m ∷ names) h = absurd cc
   ends_along (Directory e) (m ∷ names) h = by (λ next. ends_along next names) ((at.0 == e) && bytes_eq at.1 m) refl where
     by : ((next : Target) → walk rows next names ≡ Ok (Directory at.0) → walk after next (names ++ at.1 ∷ []) ≡ Err NoEntry) → (b : Bool) → ((at.0 == e) && bytes_eq at.1 m) ≡ b → walk after (Directory e) (m ∷ (names ++ at.1 ∷ [])) ≡ Err NoEntry
-    by more true is = grind (arith, nat_tests, bytes_eq-Decides)
-    by more false not = grind (arith, nat_tests)
+    by more x2 is = grind (arith, nat_tests, bytes_eq-Decides)
 
   pub path_ends : (path : List (List ℕ)) → parent_now rows path ≡ Ok at → walk_now after path ≡ Err NoEntry
   path_ends path found = let parent = parent_is rows path at found in ap (walk_now after) parent.whole ∙ ends_along (Directory root) parent.front parent.leads

@@ -128,8 +128,7 @@ dead_found rows d n =
     ∙ ap (option_filter is_dead) (newest_found d n rows [])
     ∙ by (last_passing (is_named d n) rows)) where
       by : (o : Option NameRow) → option_filter is_dead (option_or o None) ≡ passing is_dead o
-      by None = refl
-      by (Some row) = refl
+      by o = grind (arith, nat_tests)
 
 -- ---- those that may come back
 

@@ -141,8 +141,7 @@ module _ (w : World) (file opened : ℕ) (cells : List Cell) (are : AreVersions 
         let before = newest.before in
         found_after file row.number (grind (arith, nat_tests)) ∙ by (row.number == next - 1) refl where
           of : (o : Option ℕ) → row.ended ≡ o → (row.number + 1 ≡ next_of w.files row.file → ⊥) → row ≡ ended_at w.now row
-          of None is not_last = absurd (not_last (newest.is.open_end is))
-          of (Some at) is not_last = ap (λ (o : Option ℕ). record row { ended = o }) (rw is refl)
+          of o is not_last = grind (arith, nat_tests, ended)
 
           by : (b : Bool) → (row.number == next - 1) ≡ b → find (is_version file row.number) (with_end w file) ≡ Some (ended_at w.now row)
           by true e = grind (arith, nat_tests, find-updated)

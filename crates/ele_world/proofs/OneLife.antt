@@ -41,12 +41,10 @@ same_known w known other same s = record {
 
 -- what is known twice is known
 known_once : (o p : Option VersionRow) → option_or o (option_or o p) ≡ option_or o p
-known_once None p = refl
-known_once (Some row) p = refl
+known_once o p = grind (arith, nat_tests)
 
 known_rest : (o p q : Option VersionRow) → option_or (option_or o p) q ≡ option_or o (option_or p q)
-known_rest None p q = refl
-known_rest (Some row) p q = refl
+known_rest o p q = grind (arith, nat_tests)
 
 all_known : (event : Event) (first w : World) (changes : List Change) (before : Known) → AllLater ArePlaced first.versions
     → ((file number : ℕ) (row : VersionRow) → row_of first file number ≡ Some row → before file number ≡ Some row)
@@ -122,8 +120,7 @@ module _ (first : World) (events : List Event) (k : IsWellFormed (run_of first e
   gone_forgotten : is_held w file life.row.number ≡ false → (before : Option ℕ) × (version_living w.versions file moment ≡ Err (Forgotten before))
   gone_forgotten gone = (last_number (had_closed file moment) w.versions, by (find (had_life file moment) w.versions) refl) where
     by : (o : Option VersionRow) → find (had_life file moment) w.versions ≡ o → held_or_forgotten o (last_number (had_closed file moment) w.versions) ≡ Err (Forgotten (last_number (had_closed file moment) w.versions))
-    by None e = refl
-    by (Some row) e = grind (arith, nat_tests, found_is, any-found, found_passes, false≢true)
+    by o e = grind (arith, nat_tests, found_is, any-found, found_passes, false≢true)
 
   has_one_life : HasOneLife first events file moment
   has_one_life = record { row = life.row; stood = life.stood; lived = life.lived; only = only; held = held_reads; gone = gone_forgotten }

@@ -35,8 +35,7 @@ module _ (rows : List NameRow) where
   Avoids (Directory id) from names = comes_through rows id from names ≡ false
 
   avoids_next : (moved : Target) (e : ℕ) (m : List ℕ) (names : List (List ℕ)) (next : Target) → live_target rows e m ≡ Some next → Avoids moved (Directory e) (m ∷ names) → Avoids moved next names
-  avoids_next (File file) e m names next edge avoids = tt
-  avoids_next (Directory id) e m names next edge avoids = grind (arith, nat_tests, false≢true)
+  avoids_next moved e m names next edge avoids = grind (arith, nat_tests, false≢true)
 
   -- what is moved doesn't avoid itself, where it leads to a directory
   avoids_itself : (moved : Target) (names : List (List ℕ)) (d : ℕ) → walk rows moved names ≡ Ok (Directory d) → Avoids moved moved names → ⊥

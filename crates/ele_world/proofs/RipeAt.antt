@@ -88,5 +88,4 @@ scan_members w formed k =
       each (x ∷ xs) all = rw (has_due_key w k x (now_of w formed) all.0, each xs all.1) refl
 
       by : (o : Option VersionRow) → option_map_or (λ row. is_ripe_by w.now k && is_moment k.ripe (ripe_of w row)) o false ≡ (is_ripe_by w.now k && is_moment k.ripe (option_and_then (ripe_of w) o))
-      by None = grind (arith, nat_tests)
-      by (Some row) = refl
+      by o = grind (arith, nat_tests)

@@ -39,9 +39,7 @@ pub live_row : (P : Target → Type 0) (rows : List NameRow) (directory : ℕ) (
 live_row P rows directory name target each h = grind (arith, nat_tests)
 
 pub file_of : (r : Result Target Refusal) (file : ℕ) → file_at r ≡ Ok file → r ≡ Ok (File file)
-file_of (Ok (File other)) file h = let same : other ≡ file = cc in ap (λ f. Ok (File f)) same
-file_of (Ok (Directory directory)) file h = absurd cc
-file_of (Err refusal) file h = absurd cc
+file_of r file h = grind (arith, nat_tests)
 
 -- the file at a path is there
 pub file_there : (files : List FileRow) (now : ℕ) (rows : List NameRow) (path : List (List ℕ)) (file : ℕ) → AllByRecursion (IsNameRow files now) rows → file_now rows path ≡ Ok file → 0 < next_of files file
@@ -111,9 +109,7 @@ pub parent_to : (P : Target → Type 0) (rows : List NameRow) → ((directory : 
 parent_to P rows each path at so h = let parent = parent_is rows path at h in walk_to P rows each (Directory root) (Directory at.0) parent.front so parent.leads
 
 directory_of : (r : Result Target Refusal) (directory : ℕ) → directory_in r ≡ Ok directory → r ≡ Ok (Directory directory)
-directory_of (Ok (File file)) directory h = absurd cc
-directory_of (Ok (Directory other)) directory h = let same : other ≡ directory = cc in ap (λ d. Ok (Directory d)) same
-directory_of (Err refusal) directory h = absurd cc
+directory_of r directory h = grind (arith, nat_tests)
 
 -- the path's last name is that of what the path leads to
 pub last_names : (rows : List NameRow) (path : List (List ℕ)) (at : ℕ × List ℕ) (target : Target) → parent_now rows path ≡ Ok at → walk_now rows path ≡ Ok target → live_target rows at.0 at.1 ≡ Some target
@@ -125,8 +121,7 @@ last_names rows path at target found leads = by (live_target rows at.0 at.1) (sy
   on = ap (walk_now rows) parent.whole ∙ walk-on rows (Directory root) (Directory at.0) parent.front (at.1 ∷ []) parent.leads
 
   by : (o : Option Target) → option_map_or (λ (target : Target). Ok target) o (Err NoEntry) ≡ Ok target → o ≡ Some target
-  by None h = absurd cc
-  by (Some other) h = cc
+  by o h = grind (arith, nat_tests)
 
 pub last_leads : (rows : List NameRow) (path : List (List ℕ)) (at : ℕ × List ℕ) (directory : ℕ) → parent_now rows path ≡ Ok at → directory_now rows path ≡ Ok directory → live_target rows at.0 at.1 ≡ Some (Directory directory)
 last_leads rows path at directory found leads = last_names rows path at (Directory directory) found (directory_of (walk_now rows path) directory leads)
