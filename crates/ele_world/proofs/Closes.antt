@@ -37,8 +37,7 @@ writes_file w handle file (Draft other) is of = ap file_written is ∙ ap Ok (cc
 writes_file w handle file (Version other number) is of = absurd cc
 
 pub close_keeps : (w : World) (handle number : ℕ) → IsWellFormed w → (step w (Close handle)).0 ≡ reply.Closed (Some number) → KeepsDraft w handle number ((step w (Close handle)).1)
-close_keeps w handle number k = in_all w (λ answer. answer.0 ≡ reply.Closed (Some number) → KeepsDraft w handle number (answer.1)) (plan w (Close handle)) (
-  λ refusal e. absurd cc,
+close_keeps w handle number k = in_all w (λ answer. answer.0 ≡ reply.Closed (Some number) → KeepsDraft w handle number (answer.1)) (plan w (Close handle)) (λ refusal e. absurd cc) (
   λ read reads. (
     λ e. absurd cc,
     λ file its. (
@@ -60,5 +59,5 @@ close_keeps w handle number k = in_all w (λ answer. answer.0 ≡ reply.Closed (
         ),
       ),
     ),
-  ),
+  )
 )

@@ -68,18 +68,8 @@ module _ (w : World) (path : List (List ℕ)) (at : ℕ × List ℕ) (k : IsWell
   }
 
 pub make_dir_leads : (w : World) (path : List (List ℕ)) (id : ℕ) → IsWellFormed w → (step w (MakeDir path)).0 ≡ reply.Directory id → LeadsToDirectory w path id ((step w (MakeDir path)).1)
-make_dir_leads w path id k = in_all w (λ answer. answer.0 ≡ reply.Directory id → LeadsToDirectory w path id (answer.1)) (plan w (MakeDir path)) (
-  λ refusal e. absurd cc,
-  λ at found. (
-    λ e. absurd cc,
-    λ free. (
-      λ e. absurd cc,
-      λ directories. (
-        λ e. absurd cc,
-        λ names. λ e.
-            let same : w.made.directories + 1 ≡ id = cc in
-            subst (λ n. LeadsToDirectory w path n (after_change w (MakeDirectory at.0 at.1 (w.made.directories + 1) (default_of w.directories at.0)))) same (leads_to w path at k found free),
-      ),
-    ),
-  ),
+make_dir_leads w path id k = in_all w (λ answer. answer.0 ≡ reply.Directory id → LeadsToDirectory w path id (answer.1)) (plan w (MakeDir path)) (λ refusal e. absurd cc) (
+  λ at found free directories names e.
+      let same : w.made.directories + 1 ≡ id = cc in
+      subst (λ n. LeadsToDirectory w path n (after_change w (MakeDirectory at.0 at.1 (w.made.directories + 1) (default_of w.directories at.0)))) same (leads_to w path at k found free)
 )

@@ -39,22 +39,9 @@ module _ (w : World) (path : List (List ℕ)) (at : ℕ × List ℕ) (policy : P
   leads_to found free = record { named = named found free; empty = ap (option_map (λ (row : VersionRow). row.cells)) current_is }
 
 pub create_leads : (w : World) (path : List (List ℕ)) (file : ℕ) → IsWellFormed w → (step w (Create path)).0 ≡ reply.File file → LeadsToNew path file ((step w (Create path)).1)
-create_leads w path file k = in_all w (λ answer. answer.0 ≡ reply.File file → LeadsToNew path file (answer.1)) (plan w (Create path)) (
-  λ refusal e. absurd cc,
-  λ at found. (
-    λ e. absurd cc,
-    λ free. (
-      λ e. absurd cc,
-      λ files. (
-        λ e. absurd cc,
-        λ names. (
-          λ e. absurd cc,
-          λ versions. λ e.
-              let same : w.made.files + 1 ≡ file = cc in
-              let policy = default_of w.directories at.0 in
-              rw (made_is w at.0 at.1 policy k) (subst (λ n. LeadsToNew path n (created w at.0 at.1 (w.made.files + 1) policy)) same (leads_to w path at policy k found free)),
-        ),
-      ),
-    ),
-  ),
+create_leads w path file k = in_all w (λ answer. answer.0 ≡ reply.File file → LeadsToNew path file (answer.1)) (plan w (Create path)) (λ refusal e. absurd cc) (
+  λ at found free files names versions e.
+      let same : w.made.files + 1 ≡ file = cc in
+      let policy = default_of w.directories at.0 in
+      rw (made_is w at.0 at.1 policy k) (subst (λ n. LeadsToNew path n (created w at.0 at.1 (w.made.files + 1) policy)) same (leads_to w path at policy k found free))
 )

@@ -27,13 +27,7 @@ link_leads w from to k = grind (arith, nat_tests, in_all, new_leads, walk-push, 
 -- ---- an unlink
 
 pub unlink_ends : UnlinkEnds
-unlink_ends w path k = in_all w (λ answer. answer.0 ≡ Done → EndsName w path (answer.1)) (plan w (Unlink path)) (
-  λ refusal e. absurd cc,
-  λ at found. (
-    λ refusal e. absurd cc,
-    λ file leads e. ends at found file leads,
-  ),
-) where
+unlink_ends w path k = in_all w (λ answer. answer.0 ≡ Done → EndsName w path (answer.1)) (plan w (Unlink path)) (λ refusal e. absurd cc) (λ at found file leads e. ends at found file leads) where
   ends : (at : ℕ × List ℕ) → parent_now w.names path ≡ Ok at → (file : ℕ) → file_now w.names path ≡ Ok file → EndsName w path (after_change w (EndFileName at.0 at.1 file))
   ends at found file leads =
       let named = last_names w.names path at (File file) found (file_of (walk_now w.names path) file leads) in

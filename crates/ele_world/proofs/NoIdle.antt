@@ -29,7 +29,7 @@ use Rattle.ele_world.proofs.Allowed.{takes}
 use Rattle.ele_world.proofs.Dropped.{dropped}
 use Rattle.ele_world.proofs.Keeps.{change_keeps}
 use Rattle.ele_world.proofs.KeptDrafts.{same_file, end_keeps, shut_keeps}
-use Rattle.ele_world.proofs.Outcomes.{InMakes, in_makes}
+use Rattle.ele_world.proofs.Outcomes.{InAll, in_all}
 use Rattle.ele_world.proofs.StepKeeps.{step_keeps}
 
 -- the file has a held version or a draft
@@ -122,7 +122,7 @@ idle_gone w file k but = dropped AreBusy w file (λ idle. gone) (λ busy. all-we
 
 -- ---- each event
 
-tidy : (w : World) (event : Event) → IsWellFormed w → AreBusy w → InMakes w AreBusy (plan w event)
+tidy : (w : World) (event : Event) → IsWellFormed w → AreBusy w → InAll w (λ answer. AreBusy (answer.1)) (plan w event)
 tidy w (Clock to) k all = λ later. all
 tidy w (Tick seconds) k all = λ fits. all
 tidy w (MakeDir path) k all = λ at found free directories names. all
@@ -138,7 +138,7 @@ tidy w (Undelete path) k all = λ at parent free lost last may. (
 )
 tidy w (OpenWrite path) k all = λ file found handles. (λ has. all, λ none versions. begun w file all)
 tidy w (OpenRead tagged) k all = λ row found handles. all
-tidy w (Write handle offset bytes) k all = λ file found. (λ none. tt, λ some fits. edited w file (changed_by (next_of w.files file) offset bytes) (λ row. refl) all)
+tidy w (Write handle offset bytes) k all = λ file found. (λ none. all, λ some fits. edited w file (changed_by (next_of w.files file) offset bytes) (λ row. refl) all)
 tidy w (Truncate handle size) k all = λ file found fits. edited w file (fitted_by (next_of w.files file) size) (same_file (next_of w.files file) size) all
 tidy w (Close handle) k all = λ read found. (
   all,
@@ -164,19 +164,23 @@ tidy w (GroupAdd name path) k all = λ has file found free members. all
 tidy w (GroupRemove name path) k all = λ has file found member. all
 tidy w (Mark name mark) k all = λ has past free marks. all
 tidy w (Unmark name mark) k all = λ has marked. all
-tidy w CleanOne k all = (tt, λ key first. idle_gone (after_change w (Take key.file key.number)) key.file (change_keeps CleanOne w w (Take key.file key.number) tt (takes w key k first) k) (taken w key.file key.number all))
-tidy w (Read (Of handle)) k all = λ read found. tt
-tidy w (Read (Tagged tagged)) k all = λ row found. tt
-tidy w (Stat tagged) k all = λ target found told is. tt
-tidy w (Versions at) k all = λ file found. tt
-tidy w (ListNames at) k all = λ directory found. tt
-tidy w Restorable k all = tt
-tidy w Due k all = tt
-tidy w UsageAll k all = tt
-tidy w GroupsAll k all = tt
+tidy w CleanOne k all = (all, λ key first. idle_gone (after_change w (Take key.file key.number)) key.file (change_keeps CleanOne w w (Take key.file key.number) tt (takes w key k first) k) (taken w key.file key.number all))
+tidy w (Read (Of handle)) k all = λ read found. all
+tidy w (Read (Tagged tagged)) k all = λ row found. all
+tidy w (Stat tagged) k all = λ target found told is. all
+tidy w (Versions at) k all = λ file found. all
+tidy w (ListNames at) k all = λ directory found. all
+tidy w Restorable k all = all
+tidy w Due k all = all
+tidy w UsageAll k all = all
+tidy w GroupsAll k all = all
 
 pub no_idle_stays : NoIdleStays
-no_idle_stays w event k none = grind (arith, nat_tests, all-weaker, busy_is, in_makes, tidy, false≢true)
+no_idle_stays w event k none =
+    let all = all-weaker (λ row. is_idle w row.id ≡ false) (λ row. has_rows w row.id ≡ true) w.files (λ row busy. busy_is w row.id k busy) none in
+    let v = (step w event).1 in
+    all-weaker (λ row. has_rows v row.id ≡ true) (λ row. is_idle v row.id ≡ false) v.files (λ row busy. grind (arith, nat_tests, busy))
+    (in_all w (λ answer. AreBusy (answer.1)) (plan w event) (λ refusal. all) (tidy w event k all))
 
 pub runs_have_none : (w : World) (events : List Event) → AllByRecursion IsEvent events → IsWellFormed w → HasNoIdle w → HasNoIdle (run_of w events)
 runs_have_none w [] are k none = none

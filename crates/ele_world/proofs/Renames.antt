@@ -89,22 +89,5 @@ module _ (w : World) (from to : List (List ℕ)) (k : IsWellFormed w) (old : ℕ
   }
 
 pub rename_leads : RenameLeads
-rename_leads w from to k = in_all w (λ answer. answer.0 ≡ Done → LeadsInstead w from to (answer.1)) (plan w (Rename from to)) (
-  λ refusal e. absurd cc,
-  λ old found. (
-    λ refusal e. absurd cc,
-    λ moved leads. (
-      λ refusal e. absurd cc,
-      λ at home. (
-        λ e. absurd cc,
-        λ apart. (
-          λ e. absurd cc,
-          λ free. (
-            λ e. absurd cc,
-            λ names e. leads_instead w from to k old found moved leads at home apart free,
-          ),
-        ),
-      ),
-    ),
-  ),
-)
+rename_leads w from to k = in_all w (λ answer. answer.0 ≡ Done → LeadsInstead w from to (answer.1)) (plan w (Rename from to)) (λ refusal e. absurd cc) 
+  (λ old found moved leads at home apart free names e. leads_instead w from to k old found moved leads at home apart free)

@@ -56,37 +56,15 @@ abbrev Leads : World → List (List ℕ) → Reply × World → Type 0
 Leads w path answer = (answer.0 ≡ reply.Done → HasNameAgain w path answer.1) × ((number : ℕ) → answer.0 ≡ reply.Version number → HasVersionAgain w path number answer.1)
 
 pub undelete_leads : (w : World) (path : List (List ℕ)) → IsWellFormed w → Leads w path (step w (Undelete path))
-undelete_leads w path k = in_all w (Leads w path) (plan w (Undelete path)) (
-  λ refusal. (λ e. absurd cc, λ number e. absurd cc),
-  λ at found. (
-    (λ e. absurd cc, λ number e. absurd cc),
-    λ free. (
-      λ refusal. (λ e. absurd cc, λ number e. absurd cc),
-      λ lost last. (
-        (λ e. absurd cc, λ number e. absurd cc),
-        λ returns. (
-          (
-            (λ e. absurd cc, λ number e. absurd cc),
-            λ names. (λ e. record { target = lost; named = named_again w path at k found free lost (with_name w at.0 at.1 lost) refl last; versions = refl }, λ number e. absurd cc),
-          ),
-          λ file none. (
-            (λ e. absurd cc, λ number e. absurd cc),
-            λ drafts. (
-              (λ e. absurd cc, λ number e. absurd cc),
-              λ names. (
-                (λ e. absurd cc, λ number e. absurd cc),
-                λ versions. (
-                  λ e. absurd cc,
-                  λ number e.
-                      let may = may_revive w at lost file (may_name w path at k found free names) none returns (grind (arith, nat_tests)) in
-                      let same : next_of w.files file ≡ number = cc in
-                      version_again w path at k found free file may number same (subst (λ t. last_target w.names at.0 at.1 ≡ Ok t) (returned_file w lost file none) last),
-                ),
-              ),
-            ),
-          ),
-        ),
-      ),
+undelete_leads w path k = in_all w (Leads w path) (plan w (Undelete path)) (λ refusal. (λ e. absurd cc, λ number e. absurd cc)) (
+  λ at found free lost last returns. (
+    λ names. (λ e. record { target = lost; named = named_again w path at k found free lost (with_name w at.0 at.1 lost) refl last; versions = refl }, λ number e. absurd cc),
+    λ file none drafts names versions. (
+      λ e. absurd cc,
+      λ number e.
+          let may = may_revive w at lost file (may_name w path at k found free names) none returns (grind (arith, nat_tests)) in
+          let same : next_of w.files file ≡ number = cc in
+          version_again w path at k found free file may number same (subst (λ t. last_target w.names at.0 at.1 ≡ Ok t) (returned_file w lost file none) last),
     ),
-  ),
+  )
 )
