@@ -27,10 +27,6 @@ use Rattle.ele_world.proofs.Usages.{same_usage, only_at_is}
 abbrev pub one_file : Usage
 one_file = record { files = 1; versions = 0; bytes = 0; blocks = 0 }
 
--- all versions and drafts are as before, and each other file is of its kind
-pub dropped_whole : (w : World) (file : ℕ) → whole (after_change w (DropIdle file)) ≡ whole w
-dropped_whole w file = dropped (λ v. whole v ≡ whole w) w file (λ idle. refl) (λ busy. refl)
-
 pub kind_other : (files : List FileRow) (file other : ℕ) (k : Kind) → (other == file) ≡ false → is_file_of (remove_first (is_file file) files) k other ≡ is_file_of files k other
 kind_other files file other k apart = ap (λ o. option_map_or (λ (policy : Policy). is_kind k (kind_of policy)) o false) (policy_of-removed files file other apart)
 
@@ -50,10 +46,6 @@ without_usage w file k idle =
     let drafts = filter-same_all (λ (row : DraftRow). is_file_of (remove_first (is_file file) w.files) k row.file) (λ row. is_file_of w.files k row.file) w.drafts
     (all-weaker (λ (row : DraftRow). (row.file == file) ≡ false) (λ row. is_file_of (remove_first (is_file file) w.files) k row.file ≡ is_file_of w.files k row.file) w.drafts (λ row apart. kind_other w.files file row.file k apart) (idle_drafts w file idle)) in
     rw (versions, drafts) (less (is_file_of w.files k file) _ _ (fewer_files w.files file k) refl refl refl)
-
--- a dropped file counted for one file of its kind
-pub dropped_usage : (w : World) (file : ℕ) (k : Kind) → plus (usage_of (after_change w (DropIdle file)) k) (cond (is_idle w file && is_file_of w.files k file) one_file nothing) ≡ usage_of w k
-dropped_usage w file k = grind (arith, nat_tests, without_usage, idle_is, same_usage)
 
 -- the same by the file's policy
 pub dropped_at : (w : World) (file : ℕ) (policy : Policy) → policy_of w.files file ≡ Some policy → is_idle w file ≡ true → (k : Kind) → plus (usage_of (without_file w file) k) (only_at (kind_of policy) one_file k) ≡ usage_of w k

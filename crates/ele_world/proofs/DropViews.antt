@@ -23,10 +23,6 @@ pub record SeesSame (w v : World) : Type 0 where
   pub versions : v.versions ≡ w.versions
   pub views : AllByRecursion (λ (row : VersionRow). view_of v row.file ≡ view_of w row.file) w.versions
 
-filter_map-same_all : {X Y : Type 0} (g h : X → Option Y) (xs : List X) → AllByRecursion (λ x. g x ≡ h x) xs → filter_map g xs ≡ filter_map h xs
-filter_map-same_all g h [] same = refl
-filter_map-same_all g h (x ∷ xs) same = rw (same.0, filter_map-same_all g h xs same.1) refl
-
 module _ (w v : World) (same : SeesSame w v) where
   pub due_same : AllByRecursion (λ row. (at : ℕ) → is_due_at v row at ≡ is_due_at w row at) w.versions
   unfolding is_due_at
@@ -51,15 +47,6 @@ module _ (w v : World) (same : SeesSame w v) where
   pub kept_same : kept_rows v ≡ kept_rows w
   kept_same = grind (arith, nat_tests, filter-same_all, all-weaker, due_now_same)
 
-  -- the scan
-  pub scan_same : scan v ≡ scan w
-  unfolding scan due_key
-  scan_same =
-      ap (λ (rows : List VersionRow). in_order (filter_map (due_key v) rows)) same.versions
-      ∙ ap in_order (filter_map-same_all (due_key v) (due_key w) w.versions
-      (all-weaker (λ row. (is_due_at v row v.now ≡ is_due_at w row w.now) × (ripe_of v row ≡ ripe_of w row)) (λ row. due_key v row ≡ due_key w row) w.versions (λ row e. rw (e.0, e.1) refl)
-      (all-both _ _ w.versions due_now_same ripe_of_same)))
-
 -- ---- the dropping of an idle file
 
 -- a name that goes makes no other file live
@@ -79,6 +66,3 @@ dropped_sees w file = grind (arith, nat_tests, dropped, all-weaker, view_other, 
 -- each version has its ripe moment, and is due, as before
 pub ripe_at_dropped : (w : World) (file other number : ℕ) → ripe_at (after_change w (DropIdle file)) other number ≡ ripe_at w other number
 ripe_at_dropped w file = ripe_at_same w (after_change w (DropIdle file)) (dropped_sees w file)
-
-pub scan_dropped : (w : World) (file : ℕ) → scan (after_change w (DropIdle file)) ≡ scan w
-scan_dropped w file = scan_same w (after_change w (DropIdle file)) (dropped_sees w file)

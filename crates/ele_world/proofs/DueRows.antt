@@ -57,9 +57,6 @@ first_of Q (x ∷ xs) key h all = let same : x ≡ key = cc in rw (← same) all
 pub first_is_due : (w : World) (key : Key) → AllLater ArePlaced w.versions → first_due w ≡ Some key → IsDueKey w key
 first_is_due w key placed h = first_of (IsDueKey w) (scan w) key h (scan_due w placed)
 
-abbrev due_if : World → VersionRow → ℕ → Bool → Option Policy → Option ℕ → Bool
-due_if w row at b p o = not b && option_map_or (λ policy. option_map_or (λ ended. is_due_by policy row.closed (beside (view_of w row.file) row) ended at) o false) p false
-
 -- what is due has ended
 pub due_has_ended : (w : World) (row : VersionRow) (at : ℕ) → is_due_at w row at ≡ true → is_none row.ended ≡ false
 unfolding is_due_at

@@ -18,7 +18,7 @@ use Rattle.ele_world.specs.World.{World, is_open, is_version, policy_of}
 use Rattle.ele_world.specs.declared.limits.Counts.{Counts}
 use Rattle.ele_world.specs.declared.rows.GroupRow.{GroupRow}
 use Rattle.ele_world.specs.declared.rows.VersionRow.{VersionRow}
-use Rattle.ele_world.proofs.MarksChanged.{grouped_fewer, grouped_more, grouped_still, joined_fewer, joined_more, joined_still, marked_fewer, marked_more, marked_still, or_false, or_true, touches}
+use Rattle.ele_world.proofs.MarksChanged.{grouped_fewer, grouped_still, joined_fewer, joined_more, joined_still, marked_fewer, marked_more, marked_still, or_false, or_true, touches}
 use Rattle.ele_world.proofs.Neighbours.{IfHeld, found_moment, in_order_of, moment_none, moment_same, ripe_at_near}
 
 -- the file's version with that number, if it is held, was current at one of the marks
@@ -113,7 +113,3 @@ group_goes w name k =
     goes w k (without_group name w.groups) w.made (members_of w.groups name) (marks_of w.groups name) name None
     (λ file closed ended. grouped_fewer w.groups name file closed ended)
     (λ file closed ended touched. grouped_still w.groups name file closed ended (named w k))
-
--- a new group has no file and no mark
-pub group_comes : (w : World) (name : List ℕ) → IsWellFormed w → (file number : ℕ) → ripe_at (after_change w (MakeGroup name)) file number ≡ ripe_at w file number
-group_comes w name k file number = found_moment w (after_change w (MakeGroup name)) file number (in_order_of w k) (in_order_of w k) (λ closed ended. grouped_more w.groups name file closed ended) refl refl refl refl

@@ -137,10 +137,6 @@ module _ (rows : List GroupRow) (name : List ℕ) (file closed : ℕ) (ended : O
     by None e = unchanged (adds member) e ∙ sym (ap (λ b. is_marked rows file closed ended || b) (and_false (list_any (λ m. m == file) (member ∷ []))) ∙ or_false (is_marked rows file closed ended))
     by (Some row) e = grind (arith, nat_tests, any_more (is_group name) marks_row (adds member) rows row (touches file closed ended (member ∷ []) row.marks) e, list_any-append, or_and (is_member file row))
 
-  -- with a group more
-  pub grouped_more : is_marked (with_group name rows) file closed ended ≡ is_marked rows file closed ended
-  grouped_more = list_any-append marks_row rows (record { name = name; members = []; marks = [] } ∷ []) ∙ or_false (is_marked rows file closed ended)
-
   -- without a mark
   pub marked_fewer : (mark : ℕ) → is_marked_at rows name mark ≡ true → is_marked rows file closed ended ≡ (is_marked (without_mark name mark rows) file closed ended || touches file closed ended (members_of rows name) (mark ∷ []))
   marked_fewer mark has = by (find (is_group name) rows) refl has where

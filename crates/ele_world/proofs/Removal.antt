@@ -45,9 +45,6 @@ closings-append : (xs ys : List VersionRow) → closings (xs ++ ys) ≡ closings
 closings-append [] ys = refl
 closings-append (x ∷ xs) ys = ap (λ t. x.closed ∷ t) (closings-append xs ys)
 
-abbrev goes_beside : FileView → VersionRow → ℕ → Option Policy → Option ℕ → List ℕ → Bool
-goes_beside v row at p e newer = option_map_or (λ policy. option_map_or (λ ended. is_due_by policy row.closed (newer_at v newer) ended at) e false) p false
-
 -- what is due beside fewer is due beside more
 beside_more : (v : FileView) (row : VersionRow) (at : ℕ) (xs : List ℕ) (more : ℕ) (ys : List ℕ) → due_beside v row at (xs ++ ys) ≡ true → due_beside v row at (xs ++ more ∷ ys) ≡ true
 beside_more v row at xs more ys = grind (arith, nat_tests, both, lets_go_fewer)

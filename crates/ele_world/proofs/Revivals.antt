@@ -18,16 +18,6 @@ module _ (w : World) (directory : ℕ) (name : List ℕ) (file : ℕ) (may : May
   each : AllByRecursion (IsVersion w.files w.now) w.versions
   each = (k.holds Versions).each
 
-  -- the last version had ended, as the file had no live name
-  pub last_ended : ended_at w.now may.last ≡ may.last
-  last_ended = by may.last.ended refl where
-    by : (o : Option ℕ) → may.last.ended ≡ o → ended_at w.now may.last ≡ may.last
-    by None none =
-        let its = last_is w file may.last each may.held in
-        let live : IsOfLive w.names may.last = all-found (is_version file (next_of w.files file - 1)) (IsOfLive w.names) w.versions may.last may.held (k.holds Ended) in
-        absurd (false≢true (sym may.nameless ∙ subst (λ f. list_any (is_live_name_of f) w.names ≡ true) its.own (live none)))
-    by (Some at) is = ap (λ (o : Option ℕ). record may.last { ended = o }) (rw is refl)
-
   -- the file may have its next version once it has the name
   pub named_grows : MayGrow (with_name w directory name (File file)) file
   named_grows =

@@ -31,9 +31,6 @@ and_false : (b : Bool) → (b && false) ≡ false
 and_false true = refl
 and_false false = refl
 
-self_eq : (n : ℕ) → eqb n n ≡ true
-self_eq n = grind (arith, nat_tests)
-
 -- ---- a row
 
 -- a slot before the first one

@@ -126,10 +126,6 @@ usage_changes file w v only k =
 pub only_at_is : (k kind : Kind) (usage : Usage) → only_at kind usage k ≡ cond (is_kind k kind) usage nothing
 only_at_is k kind usage = grind (arith, nat_tests)
 
--- a part by the policy of the file
-pub part_is : (first : World) (file : ℕ) (policy : Policy) (k : Kind) (w : World) → policy_of first.files file ≡ Some policy → part first file k w ≡ only_at (kind_of policy) (whole w) k
-part_is first file policy k w filed = rw filed (sym (only_at_is k (kind_of policy) (whole w)))
-
 -- ---- a new file
 
 -- a file that is there before is found alike once one is added behind
@@ -265,10 +261,6 @@ whole_blocks w keeps bounds =
     let all = length-append (flat_map (λ (row : VersionRow). places_from row.file 0 row.cells) w.versions) (flat_map (λ (row : DraftRow). places_from row.file 0 row.cells) w.drafts) in
     let few : length (places w.versions w.drafts) ≤ longest_content * 2000000 = omega (arith, all, versions, drafts) in
     omega (arith, different_few (places w.versions w.drafts), few)
-
--- all of them fit, where the blocks do
-pub whole_fits : (w : World) → IsWellFormed w → AreBounds w.limits → (whole w).blocks < 2 ^ 64 → Fits (whole w)
-whole_fits w keeps bounds blocks = grind (arith, nat_tests, whole_versions, whole_bytes)
 
 pub usage_fits : (w : World) → IsWellFormed w → AreBounds w.limits → (whole w).blocks < 2 ^ 64 → (k : Kind) → Fits (usage_of w k)
 usage_fits w keeps bounds blocks k = grind (arith, nat_tests, within_files, whole_files, within_versions, whole_versions, within_bytes, whole_bytes, within_blocks)
