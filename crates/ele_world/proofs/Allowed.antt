@@ -1,24 +1,21 @@
 -- The changes of each event may be made, each in its turn.
-use Rattle.std.proofs.Common.{rules, ◌≡◌, ℕ, ◌<◌, true, List, [], ◌∷◌, Option, Some, None, refl, subst, arith}
+use Rattle.std.proofs.Common.{rules, ◌≡◌, ℕ, ◌<◌, true, List, [], ◌∷◌, Some, refl, subst, arith}
 use Rattle.std.specs.Prelude.{find, is_some, nat_le, Ok, false}
 use Rattle.std.specs.List.{list_any, AllByRecursion}
-use Rattle.std.specs.Option.{option_map_or}
 use Rattle.std.proofs.lemmas.Bool.Decides.{nat_tests}
 use Rattle.ele_due.specs.declared.key.Key.{Key}
 use Rattle.ele_lists.proofs.Edits.{all-found, found_passes, length-remove_first, list_any-insert_before}
-use Rattle.ele_policy.specs.declared.policy.Policy.TheVariants.{Safe}
 use Rattle.ele_lists.specs.Lists.{insert_before}
 use Rattle.ele_world.specs.Change.{new_draft, EndDraft, ShutHandle, after_changes}
 use Rattle.ele_world.specs.NameRows.{is_live_in}
 use Rattle.ele_time_path.specs.declared.tagged.Tag.TheVariants as tag
-use Rattle.ele_world.specs.Due.{is_due_at}
 use Rattle.ele_world.specs.Scan.{first_due}
 use Rattle.ele_world.specs.Step.{plan}
 use Rattle.ele_world.specs.Tagged.{version_meant}
 use Rattle.ele_world.specs.Walk.{live_target, directory_now, parent_now, walk_now}
 use Rattle.ele_policy.specs.Policy.{IsPolicy}
-use Rattle.ele_world.specs.WellFormed.{AreWrittenBy, IsDraft, IsVersion, Counted, Directories, Names, Versions, Drafts, IsWellFormed}
-use Rattle.ele_world.specs.World.{World, is_directory, default_of, is_open, is_version, next_of, is_draft, is_draft_after}
+use Rattle.ele_world.specs.WellFormed.{IsVersion, Counted, Directories, Names, Versions, Drafts, IsWellFormed}
+use Rattle.ele_world.specs.World.{World, default_of, next_of, is_draft, is_draft_after}
 use Rattle.ele_world.specs.declared.event.Event.{Event}
 use Rattle.ele_world.specs.declared.event.Event.TheVariants.{Clock, Tick, MakeDir, RemoveDir, Create, Link, Unlink, Rename, Undelete, OpenWrite, OpenRead, Write, Truncate, Close, Revert, SetPolicy, SetDefault, GroupMake, GroupDrop, GroupAdd, GroupRemove, Mark, Unmark, CleanOne, Read, Stat, Versions as VersionsOf, List as ListNames, Restorable, Due, UsageAll, GroupsAll}
 use Rattle.ele_world.specs.declared.event.Source.TheVariants.{Tagged, Of}

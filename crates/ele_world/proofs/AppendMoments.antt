@@ -1,6 +1,6 @@
 -- Which ripe moments change where a file has a version more: that of its newest held one, which ends unless it had, and gets a
 -- neighbour, and the new one's own.
-use Rattle.std.proofs.Common.{rules, ◌≡◌, ℕ, ◌<◌, ◌==◌, Bool, true, false, cond, ◌&&◌, ◌||◌, List, [], ◌∷◌, Option, Some, None, refl, ap, sym, ◌∙◌, arith}
+use Rattle.std.proofs.Common.{◌≡◌, ℕ, ◌<◌, ◌==◌, Bool, true, false, cond, ◌&&◌, ◌||◌, List, [], ◌∷◌, Option, Some, None, refl, ap, sym, ◌∙◌, arith}
 use Rattle.std.specs.Prelude.{nat_lt, option_and_then, unwrap_or}
 use Rattle.std.specs.List.{AllByRecursion, list_any}
 use Rattle.std.specs.Option.{option_map_or}
@@ -11,7 +11,6 @@ use Rattle.ele_policy.specs.Policy.{IsPolicy}
 use Rattle.ele_world.specs.declared.rows.VersionRow.{VersionRow}
 use Rattle.ele_world.specs.Change.{with_version}
 use Rattle.ele_world.specs.Due.{ripe_of, ripe_at}
-use Rattle.ele_world.specs.FileView.{is_version_of}
 use Rattle.ele_world.specs.GroupRows.{is_marked}
 use Rattle.ele_world.specs.Neighbours.{is_newer_of, near_moment, newest_of}
 use Rattle.ele_world.specs.WellFormed.{AreHeldRead, AreVersions, IsVersion, Readers, Versions, IsWellFormed}

@@ -1,12 +1,8 @@
 -- A removal of the first version of the scan changes no other version's moment: from the first's moment on whatever is due
 -- stays so without it, and before that moment nothing is due, neither with it nor without.
-use Rattle.std.proofs.Common.{rules, ◌≡◌, ◌==◌, ℕ, ◌≤◌, Bool, true, false, cond, List, [], ◌∷◌, ◌++◌, Option, Some, None, IfSome, refl, ap, sym, subst, ◌∙◌, fold, slice_get, arith, ◌⊎◌, inl, inr}
+use Rattle.std.proofs.Common.{◌≡◌, ℕ, ◌≤◌, Bool, true, false, List, [], ◌∷◌, ◌++◌, Option, Some, None, IfSome, refl, ap, sym, subst, ◌∙◌, fold, slice_get, arith}
 use Rattle.std.specs.Prelude.{find, nat_le, option_and_then}
 use Rattle.std.specs.List.{AllByRecursion, filter_map}
-use Rattle.std.specs.Option.{option_map, option_map_or}
-use Rattle.std.specs.declared.cmp.Ordering.{Ordering}
-use Rattle.std.specs.declared.cmp.Ordering.TheVariants.{Less, Equal, Greater}
-use Rattle.std.specs.Ordering.{match_ordering}
 use Rattle.std.specs.BTreeSet.{insert_key}
 use Rattle.std.proofs.lemmas.Bool.Decides.{nat_tests}
 use Rattle.ele_due.specs.declared.key.Key.{Key}
@@ -31,7 +27,7 @@ use Rattle.ele_world.proofs.DueRows.{first_is_due}
 use Rattle.ele_world.proofs.RemovalOrder.{left, IsBeside, stays, no_more, sides}
 use Rattle.ele_world.proofs.RipeAt.{ripe_at_is, ripe_same}
 use Rattle.ele_world.proofs.RipeMoments.{due_from_ripe}
-use Rattle.ele_world.proofs.Views.{Precedes, now_of, placed_of}
+use Rattle.ele_world.proofs.Views.{now_of, placed_of}
 
 -- ---- the first key is ripe before the others
 

@@ -1,6 +1,5 @@
 -- What a clean answers and leaves, where the first due version is known.
-use Rattle.std.proofs.lemmas.Bool.Decides.{nat_tests}
-use Rattle.std.proofs.Common.{rules, arith, [], ◌∷◌, Option}
+use Rattle.std.proofs.Common.{[], ◌∷◌, Option}
 use Rattle.ele_due.specs.declared.key.Key.{Key}
 use Rattle.ele_world.specs.Change.{Take, DropIdle}
 use Rattle.ele_world.specs.Plan.{Tell, Make, IfFound, outcome}

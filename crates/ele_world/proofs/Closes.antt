@@ -1,5 +1,5 @@
 -- A close that tells of a version has made it of all that was written.
-use Rattle.std.proofs.Common.{rules, ◌≡◌, ℕ, ◌-◌, ◌<◌, Bool, true, false, List, Some, refl, ap, subst, ◌∙◌, arith, eqb}
+use Rattle.std.proofs.Common.{◌≡◌, ℕ, ◌-◌, false, List, Some, ap, subst, ◌∙◌, arith}
 use Rattle.std.specs.Prelude.{find, Ok}
 use Rattle.std.specs.Option.{option_map}
 use Rattle.std.specs.List.{AllByRecursion}
@@ -38,26 +38,26 @@ writes_file w handle file (Version other number) is of = absurd cc
 
 pub close_keeps : (w : World) (handle number : ℕ) → IsWellFormed w → (step w (Close handle)).0 ≡ reply.Closed (Some number) → KeepsDraft w handle number ((step w (Close handle)).1)
 close_keeps w handle number k = in_all w (λ answer. answer.0 ≡ reply.Closed (Some number) → KeepsDraft w handle number (answer.1)) (plan w (Close handle)) (λ refusal e. absurd cc) (
-  λ read reads. (
-    λ e. absurd cc,
-    λ file its. (
-      λ other e. absurd cc,
-      λ last. (
-        λ e. absurd cc,
-        λ draft found. (
-          λ changed e.
-              let same : next_of w.files file ≡ number = cc in
-              record {
-                file = file;
-                draft = draft;
-                written = writes_file w handle file read reads its;
-                drafted = found;
-                kept = subst (λ n. option_map (λ (row : VersionRow). row.cells) (find (is_version file n) (with_version w file draft.opened draft.cells).versions) ≡ Some draft.cells) same
-                    (ap (option_map (λ (row : VersionRow). row.cells)) (new_found w file (k.holds Versions).each draft.opened draft.cells));
-              },
-          λ stays e. absurd cc,
+    λ read reads. (
+      λ e. absurd cc,
+      λ file its. (
+        λ other e. absurd cc,
+        λ last. (
+          λ e. absurd cc,
+          λ draft found. (
+            λ changed e.
+                let same : next_of w.files file ≡ number = cc in
+                record {
+                  file = file;
+                  draft = draft;
+                  written = writes_file w handle file read reads its;
+                  drafted = found;
+                  kept = subst (λ n. option_map (λ (row : VersionRow). row.cells) (find (is_version file n) (with_version w file draft.opened draft.cells).versions) ≡ Some draft.cells) same
+                      (ap (option_map (λ (row : VersionRow). row.cells)) (new_found w file (k.holds Versions).each draft.opened draft.cells));
+                },
+            λ stays e. absurd cc,
+          ),
         ),
       ),
-    ),
-  )
-)
+    )
+    )

@@ -1,8 +1,7 @@
 -- At each moment that a name covers a version of its file lived, and a change keeps that.
-use Rattle.std.proofs.Common.{rules, ◌≡◌, ℕ, ◌<◌, ◌≤◌, nat_lt, Bool, true, false, cond, ◌&&◌, ◌||◌, ◌==◌, ◌++◌, IfSome, List, [], ◌∷◌, Option, Some, None, refl, arith, inl, inr, ◌⊎◌, is_none}
+use Rattle.std.proofs.Common.{◌≡◌, ℕ, ◌<◌, ◌≤◌, true, ◌&&◌, ◌++◌, IfSome, List, [], ◌∷◌, Some, refl, arith, inl, inr, ◌⊎◌, is_none}
 use Rattle.std.specs.Prelude.{nat_le}
 use Rattle.std.specs.List.{AllByRecursion, list_any}
-use Rattle.std.specs.Option.{option_map_or}
 use Rattle.std.proofs.lemmas.Bool.{false≢true, cases_lt}
 use Rattle.std.proofs.lemmas.Bool.Decides.{nat_tests}
 use Rattle.ele_lists.specs.Lists.{update_first}

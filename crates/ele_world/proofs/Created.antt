@@ -1,14 +1,14 @@
 -- What the making of a file comes to: a row behind the files, the names and the versions.
-use Rattle.std.proofs.Common.{rules, ◌≡◌, ℕ, ◌+◌, ◌-◌, ◌<◌, Bool, true, false, ◌||◌, List, [], ◌∷◌, ◌++◌, None, refl, ap, ◌∙◌, arith}
-use Rattle.std.specs.List.{list_any, AllByRecursion}
+use Rattle.std.proofs.Common.{◌≡◌, ℕ, ◌+◌, ◌<◌, Bool, true, false, List, [], ◌∷◌, ◌++◌, None, refl, ap, arith}
+use Rattle.std.specs.List.{AllByRecursion}
 use Rattle.std.proofs.lemmas.Bool.Decides.{nat_tests}
 use Rattle.std.proofs.lemmas.List.Folds.{list_any-append}
 use Rattle.ele_lists.specs.Lists.{update_first, insert_before}
 use Rattle.ele_lists.proofs.Edits.{all-weaker}
 use Rattle.ele_policy.specs.declared.policy.Policy.{Policy}
-use Rattle.ele_world.specs.Change.{numbered_on, ended_at, next_version, with_end, with_file, with_name, after_change, MakeFile}
-use Rattle.ele_world.specs.WellFormed.{IsFile, IsVersion, Files, Versions, IsWellFormed}
-use Rattle.ele_world.specs.World.{World, next_of, is_file, is_live, is_live_name_of, is_version, is_version_after}
+use Rattle.ele_world.specs.Change.{numbered_on, next_version, with_end, with_file, with_name, after_change, MakeFile}
+use Rattle.ele_world.specs.WellFormed.{Files, Versions, IsWellFormed}
+use Rattle.ele_world.specs.World.{World, next_of, is_file, is_live, is_version_after}
 use Rattle.ele_world.specs.declared.rows.FileRow.{FileRow}
 use Rattle.ele_world.specs.declared.rows.NameRow.{NameRow}
 use Rattle.ele_world.specs.declared.rows.Target.TheVariants.{File}

@@ -1,12 +1,12 @@
 -- A live file has a current version, which ends with its last name.
-use Rattle.std.proofs.Common.{rules, ◌≡◌, ℕ, ◌-◌, true, Option, Some, None, refl, subst, arith, ap, ◌∙◌}
-use Rattle.std.specs.Prelude.{find, is_none}
+use Rattle.std.proofs.Common.{◌≡◌, ℕ, ◌-◌, true, Some, None, refl, arith, ap, ◌∙◌}
+use Rattle.std.specs.Prelude.{find}
 use Rattle.std.proofs.lemmas.Bool.{false≢true}
 use Rattle.std.proofs.lemmas.Bool.Decides.{nat_tests}
 use Rattle.ele_world.specs.declared.rows.VersionRow.{VersionRow}
-use Rattle.ele_world.specs.WellFormed.{is_current, Versions, Current, IsWellFormed}
+use Rattle.ele_world.specs.WellFormed.{Versions, Current, IsWellFormed}
 use Rattle.ele_world.specs.World.{World, next_of, is_live, is_version, current_of}
-use Rattle.ele_world.proofs.Versions.{IsFound, all_found}
+use Rattle.ele_world.proofs.Versions.{all_found}
 use Rattle.ele_world.proofs.Elements.{one_of, find-updated}
 use Rattle.std.specs.Option.{option_map}
 use Rattle.ele_world.specs.Change.{ended_at, with_end}

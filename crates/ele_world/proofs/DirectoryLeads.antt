@@ -1,19 +1,17 @@
 -- After a mkdir its path leads to the new directory.
-use Rattle.std.proofs.Common.{rules, ◌≡◌, ℕ, ◌+◌, ◌≤◌, Bool, true, false, ◌==◌, ◌&&◌, List, [], ◌∷◌, ◌++◌, Some, Ok, refl, ap, subst, ◌∙◌, arith}
-use Rattle.std.specs.Prelude.{find, is_none, is_some}
+use Rattle.std.proofs.Common.{◌≡◌, ℕ, ◌+◌, ◌≤◌, Bool, true, false, ◌==◌, ◌&&◌, List, [], ◌∷◌, ◌++◌, Ok, refl, ap, subst, ◌∙◌, arith}
+use Rattle.std.specs.Prelude.{is_some}
 use Rattle.std.specs.List.{AllByRecursion, list_any}
-use Rattle.std.specs.Option.{option_map_or}
 use Rattle.std.proofs.lemmas.Bool.Decides.{nat_tests}
 use Rattle.std.proofs.lemmas.List.Folds.{find-append, list_any-append}
 use Rattle.ele_lists.proofs.Edits.{all-weaker, not_found}
 use Rattle.ele_policy.specs.declared.policy.Policy.{Policy}
-use Rattle.ele_policy.specs.declared.policy.Policy.TheVariants.{Safe}
 use Rattle.ele_world.specs.Change.{after_change, MakeDirectory}
 use Rattle.ele_world.specs.MakeDirLeads.{LeadsToDirectory}
 use Rattle.ele_world.specs.NameRows.{born_row, is_live_in}
 use Rattle.ele_world.specs.Step.{plan, step}
 use Rattle.ele_world.specs.Walk.{live_target, directory_in, parent_now}
-use Rattle.ele_world.specs.WellFormed.{IsHoused, Directories, Homes, IsWellFormed}
+use Rattle.ele_world.specs.WellFormed.{Directories, Homes, IsWellFormed}
 use Rattle.ele_world.specs.World.{World, is_directory, default_of}
 use Rattle.ele_world.specs.declared.event.Event.TheVariants.{MakeDir}
 use Rattle.ele_world.specs.declared.reply.Reply.TheVariants as reply
@@ -69,7 +67,7 @@ module _ (w : World) (path : List (List ℕ)) (at : ℕ × List ℕ) (k : IsWell
 
 pub make_dir_leads : (w : World) (path : List (List ℕ)) (id : ℕ) → IsWellFormed w → (step w (MakeDir path)).0 ≡ reply.Directory id → LeadsToDirectory w path id ((step w (MakeDir path)).1)
 make_dir_leads w path id k = in_all w (λ answer. answer.0 ≡ reply.Directory id → LeadsToDirectory w path id (answer.1)) (plan w (MakeDir path)) (λ refusal e. absurd cc) (
-  λ at found free directories names e.
-      let same : w.made.directories + 1 ≡ id = cc in
-      subst (λ n. LeadsToDirectory w path n (after_change w (MakeDirectory at.0 at.1 (w.made.directories + 1) (default_of w.directories at.0)))) same (leads_to w path at k found free)
-)
+    λ at found free directories names e.
+    let same : w.made.directories + 1 ≡ id = cc in
+    subst (λ n. LeadsToDirectory w path n (after_change w (MakeDirectory at.0 at.1 (w.made.directories + 1) (default_of w.directories at.0)))) same (leads_to w path at k found free)
+    )

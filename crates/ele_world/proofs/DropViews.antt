@@ -1,14 +1,13 @@
 -- Due versions and ripe moments after a change that no file's view sees, as the dropping of an idle file.
-use Rattle.std.proofs.Common.{rules, ◌≡◌, ◌==◌, ℕ, false, not, List, [], ◌∷◌, Option, Some, None, refl, ap, sym, ◌∙◌, arith}
-use Rattle.std.specs.Prelude.{filter, find, option_and_then}
-use Rattle.std.specs.List.{AllByRecursion, filter_map}
+use Rattle.std.proofs.Common.{◌≡◌, ◌==◌, ℕ, false, not, List, Option, refl, ap, sym, ◌∙◌, arith}
+use Rattle.std.specs.Prelude.{find, option_and_then}
+use Rattle.std.specs.List.{AllByRecursion}
 use Rattle.std.proofs.lemmas.Bool.Decides.{nat_tests}
-use Rattle.ele_lists.proofs.Edits.{all-any, all-both, all-weaker, all-found}
+use Rattle.ele_lists.proofs.Edits.{all-any, all-weaker, all-found}
 use Rattle.ele_lists.proofs.Filters.{filter-same_all, list_any-filter}
 use Rattle.ele_world.specs.Change.{DropIdle, without_file, after_change}
 use Rattle.ele_world.specs.Due.{is_due_at, ripe_of, ripe_at, kept_rows}
 use Rattle.ele_world.specs.FileView.{FileView, view_of, due_in, ripe_in}
-use Rattle.ele_world.specs.Scan.{due_key, in_order, scan}
 use Rattle.ele_world.specs.World.{World, is_version, is_live, is_live_name_of, is_target_file}
 use Rattle.ele_world.specs.declared.rows.Target.{Target}
 use Rattle.ele_world.specs.declared.rows.Target.TheVariants.{File, Directory}

@@ -1,13 +1,12 @@
 -- The scan, one row after another.
 use Rattle.std.proofs.lemmas.Bool.Decides.{nat_tests}
-use Rattle.std.proofs.Common.{rules, arith, ◌≡◌, ℕ, ◌+◌, ◌<◌, ◌≤◌, ◌||◌, Bool, true, false, cond, List, [], ◌∷◌, length, get_or, take, Option, Some, None, refl, ap, sym, ◌∙◌, fold, filter, ◌⊎◌, inl, inr}
+use Rattle.std.proofs.Common.{arith, ◌≡◌, ℕ, ◌+◌, ◌<◌, ◌≤◌, ◌||◌, Bool, true, false, cond, List, [], ◌∷◌, length, get_or, take, Option, Some, None, refl, ap, sym, ◌∙◌, fold, filter, ◌⊎◌, inl, inr}
 use Rattle.std.specs.Prelude.{nat_le, option_and_then}
 use Rattle.std.specs.List.{filter_map, cons_option}
 use Rattle.std.proofs.lemmas.List.{take_more}
 use Rattle.std.proofs.lemmas.List.Elements.{filter_map-append}
 use Rattle.std.proofs.lemmas.Grind.{fold-append}
 use Rattle.std.specs.BTreeSet.{insert_key}
-use Rattle.std.specs.Option.{option_map, option_map_or}
 use Rattle.ele_due.specs.declared.key.Key.{Key}
 use Rattle.ele_lists.proofs.Filters.{filter-both}
 use Rattle.ele_moment.specs.Last.{last_moment}

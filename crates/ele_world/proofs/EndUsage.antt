@@ -1,9 +1,8 @@
 -- An end that is set changes nothing of what the files use.
 use Rattle.std.proofs.lemmas.Bool.Decides.{nat_tests}
-use Rattle.std.proofs.Common.{rules, ◌≡◌, ℕ, ◌+◌, Bool, true, false, cond, List, [], ◌∷◌, ◌++◌, length, filter, refl, ap, sym, ◌∙◌, arith}
+use Rattle.std.proofs.Common.{◌≡◌, ℕ, Bool, List, [], ◌∷◌, length, filter, refl, arith}
 use Rattle.std.specs.List.{flat_map}
 use Rattle.std.proofs.lemmas.List.Concat.{flat_map-cons}
-use Rattle.ele_content.specs.Content.{content_of}
 use Rattle.ele_content.specs.Place.{Place}
 use Rattle.ele_lists.specs.Lists.{update_first}
 use Rattle.ele_policy.specs.declared.policy.Kind.{Kind}

@@ -1,5 +1,5 @@
 -- Which ripe moments change where marks of groups come and go: those of versions that they cover, and no other.
-use Rattle.std.proofs.Common.{rules, ◌≡◌, ℕ, true, false, cond, List, [], ◌∷◌, Option, Some, None, refl, ap, sym, subst, ◌∙◌, ◌||◌, arith}
+use Rattle.std.proofs.Common.{◌≡◌, ℕ, true, false, cond, List, [], ◌∷◌, Option, Some, None, refl, sym, subst, ◌||◌, arith}
 use Rattle.std.specs.Prelude.{◌&&◌, ◌==◌, Bool, find}
 use Rattle.std.specs.List.{list_any}
 use Rattle.std.specs.Option.{option_map_or}
@@ -8,7 +8,7 @@ use Rattle.std.proofs.lemmas.Bool.{false≢true}
 use Rattle.std.proofs.lemmas.Bool.Decides.{nat_tests}
 use Rattle.ele_lists.specs.Lists.{AllLater}
 use Rattle.ele_lists.proofs.Edits.{all-found}
-use Rattle.ele_world.specs.Change.{MakeGroup, DropGroup, AddMember, RemoveMember, AddMark, RemoveMark, after_change}
+use Rattle.ele_world.specs.Change.{DropGroup, AddMember, RemoveMember, AddMark, RemoveMark, after_change}
 use Rattle.ele_world.specs.Due.{ripe_at}
 use Rattle.ele_world.specs.GroupRows.{covers_moment, group_named, has_mark, has_member, is_group, is_marked, is_marked_at, is_member, with_mark, with_member, without_group, without_mark, without_member}
 use Rattle.ele_world.specs.GroupsAsked.{is_marked_without, members_of, marks_of}
@@ -19,7 +19,7 @@ use Rattle.ele_world.specs.declared.limits.Counts.{Counts}
 use Rattle.ele_world.specs.declared.rows.GroupRow.{GroupRow}
 use Rattle.ele_world.specs.declared.rows.VersionRow.{VersionRow}
 use Rattle.ele_world.proofs.MarksChanged.{grouped_fewer, grouped_still, joined_fewer, joined_more, joined_still, marked_fewer, marked_more, marked_still, or_false, or_true, touches}
-use Rattle.ele_world.proofs.Neighbours.{IfHeld, found_moment, in_order_of, moment_none, moment_same, ripe_at_near}
+use Rattle.ele_world.proofs.Neighbours.{IfHeld, in_order_of, moment_none, moment_same, ripe_at_near}
 
 -- the file's version with that number, if it is held, was current at one of the marks
 abbrev pub is_covered : List ℕ → List VersionRow → ℕ → ℕ → Bool

@@ -1,16 +1,15 @@
 -- The directories that names stand in.
-use Rattle.std.proofs.Common.{rules, ◌≡◌, ℕ, ◌≤◌, Bool, true, false, ◌==◌, ◌||◌, List, [], ◌∷◌, ◌++◌, Some, Ok, refl, subst, ◌∙◌, arith, ap, sym}
-use Rattle.std.specs.Prelude.{find}
+use Rattle.std.proofs.Common.{◌≡◌, ℕ, ◌≤◌, Bool, true, false, ◌==◌, ◌||◌, List, [], ◌∷◌, ◌++◌, Some, Ok, refl, ◌∙◌, arith}
 use Rattle.std.specs.List.{AllByRecursion, list_any}
 use Rattle.std.proofs.lemmas.Bool.{false≢true}
 use Rattle.std.proofs.lemmas.Bool.Decides.{nat_tests}
 use Rattle.std.proofs.lemmas.List.Folds.{list_any-append}
 use Rattle.ele_lists.proofs.Edits.{all-push, all-weaker, all-found, found_passes, list_any-update_first}
 use Rattle.ele_lists.proofs.Found.{any-found}
-use Rattle.ele_world.specs.NameRows.{is_live_directory, is_name_of_directory, dies}
-use Rattle.ele_world.specs.Walk.{is_live_name, live_target, parent_now}
+use Rattle.ele_world.specs.NameRows.{is_name_of_directory, dies}
+use Rattle.ele_world.specs.Walk.{live_target, parent_now}
 use Rattle.ele_world.specs.WellFormed.{has_directory, is_reached, IsDirectoryThere, IsHoused, Directories, Homes, IsWellFormed, AreHoused, IsOfLive}
-use Rattle.ele_world.specs.World.{World, root, is_directory, is_live_name_of}
+use Rattle.ele_world.specs.World.{World, root, is_live_name_of}
 use Rattle.ele_world.specs.declared.rows.DirectoryRow.{DirectoryRow}
 use Rattle.ele_world.specs.declared.rows.NameRow.{NameRow}
 use Rattle.ele_world.specs.declared.rows.Target.{Target}

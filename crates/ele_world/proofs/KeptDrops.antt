@@ -1,5 +1,5 @@
 -- The dropping of an idle file keeps a world well formed.
-use Rattle.std.proofs.Common.{rules, ◌≡◌, ◌==◌, ℕ, ◌<◌, Bool, true, false, not, ◌||◌, List, refl, ap, sym, subst, ◌∙◌, arith}
+use Rattle.std.proofs.Common.{◌≡◌, ◌==◌, ℕ, Bool, true, false, not, ◌||◌, List, refl, ap, sym, ◌∙◌, arith}
 use Rattle.std.specs.Prelude.{filter}
 use Rattle.std.specs.List.{list_any}
 use Rattle.std.proofs.lemmas.Bool.{false≢true}
@@ -11,7 +11,7 @@ use Rattle.ele_lists.proofs.Filters.{list_any-filter, any-filtered}
 use Rattle.ele_lists.proofs.Sums.{length-split}
 use Rattle.ele_world.specs.Change.{DropIdle, without_file, after_change}
 use Rattle.ele_world.specs.NameRows.{is_target_directory, is_name_of_directory, is_live_directory}
-use Rattle.ele_world.specs.WellFormed.{is_reached, IsFile, IsThere, IsNameRow, AreApart, IsHoused, AreOthers, IsVersion, IsDraft, is_current, Part, Counted, Files, Names, Homes, Tree, Versions, Drafts, Current, Holds, IsWellFormed, IsOfLive, Ended, Groups}
+use Rattle.ele_world.specs.WellFormed.{is_reached, IsThere, IsNameRow, AreApart, AreOthers, IsVersion, IsDraft, is_current, Part, Counted, Files, Names, Homes, Tree, Versions, Drafts, Current, Holds, IsWellFormed, IsOfLive, Ended, Groups}
 use Rattle.ele_world.specs.World.{World, root, is_file, next_of, is_live, is_live_name_of, is_target_file}
 use Rattle.ele_world.specs.declared.rows.FileRow.{FileRow}
 use Rattle.ele_world.specs.declared.rows.NameRow.{NameRow}

@@ -1,5 +1,5 @@
 -- A name that moves keeps a world well formed.
-use Rattle.std.proofs.Common.{rules, ◌≡◌, ℕ, Bool, true, false, ◌==◌, ◌&&◌, ◌||◌, List, [], ◌∷◌, ◌++◌, length, length-append, Some, refl, sym, ◌∙◌, arith}
+use Rattle.std.proofs.Common.{◌≡◌, ℕ, Bool, true, ◌==◌, List, [], ◌∷◌, ◌++◌, length, length-append, Some, refl, arith}
 use Rattle.std.specs.Prelude.{find}
 use Rattle.std.specs.List.{list_any}
 use Rattle.std.proofs.lemmas.Bool.{false≢true}
@@ -16,7 +16,7 @@ use Rattle.ele_world.specs.declared.rows.Target.TheVariants.{File, Directory}
 use Rattle.ele_world.specs.NameRows.{born_row, dies, is_live_directory, is_target_directory}
 use Rattle.ele_world.specs.Walk.{is_live_name}
 use Rattle.ele_world.specs.WellFormed.{IsNameRow, IsDirectoryThere, is_reached, IsHoused, AreOthers, Part, Counted, Names, Homes, Tree, Current, Holds, IsWellFormed, IsThere, IsOfLive, Ended}
-use Rattle.ele_world.specs.World.{World, root, is_target_file, is_live_name_of, is_live}
+use Rattle.ele_world.specs.World.{World, is_target_file, is_live_name_of, is_live}
 use Rattle.ele_world.proofs.Homes.{any_less, any_more, named_end, named_more, or_last, any_last}
 use Rattle.ele_world.proofs.May.{MayMove}
 use Rattle.ele_world.proofs.NameParts.{and_false, free_still, IsUnnamed, names_end, names_more, still_none, tree_end, tree_more, counted_more, found_target, live_still}

@@ -1,5 +1,5 @@
 -- The making and the removal of a version keep a world well formed.
-use Rattle.std.proofs.Common.{rules, ◌≡◌, ◌≢◌, ℕ, ◌+◌, ◌-◌, ◌<◌, ◌≤◌, Bool, true, false, cond, ◌||◌, List, Option, Some, None, IfSome, refl, ap, sym, subst, ◌∙◌, arith, eqb, ◌==◌}
+use Rattle.std.proofs.Common.{◌≡◌, ◌≢◌, ℕ, ◌+◌, ◌-◌, ◌<◌, Bool, true, false, cond, ◌||◌, List, Option, Some, None, refl, ap, subst, ◌∙◌, arith, eqb, ◌==◌}
 use Rattle.std.specs.Prelude.{find, unwrap_or, is_none}
 use Rattle.std.specs.List.{list_any, AllByRecursion}
 use Rattle.std.proofs.lemmas.Bool.{false≢true}
@@ -11,7 +11,6 @@ use Rattle.ele_world.specs.Change.{numbered_on, ended_at, next_version, with_end
 use Rattle.ele_world.specs.WellFormed.{IsFile, IsNameRow, IsVersion, ArePlaced, IsDraft, is_current, HaveCurrent, IsHeldRead, Part, Counted, Files, Names, Versions, Drafts, Readers, Current, Holds, IsWellFormed, AreVersions, IsOfLive, Ended, Groups}
 use Rattle.ele_world.specs.World.{World, next_of, is_file, is_live, is_open, is_version, is_version_after, reads_version}
 use Rattle.ele_world.specs.declared.rows.Reads.{Reads}
-use Rattle.ele_world.specs.declared.rows.Reads.TheVariants.{Draft, Version}
 use Rattle.ele_world.proofs.Readers.{read_on}
 use Rattle.ele_world.specs.declared.rows.FileRow.{FileRow}
 use Rattle.ele_world.specs.declared.rows.VersionRow.{VersionRow}

@@ -1,6 +1,6 @@
 -- After a create its path leads to the new file.
-use Rattle.std.proofs.Common.{rules, ◌≡◌, ℕ, ◌+◌, ◌-◌, ◌<◌, true, false, List, [], ◌∷◌, ◌++◌, Some, Ok, refl, ap, subst, ◌∙◌, arith}
-use Rattle.std.specs.Prelude.{find, is_some}
+use Rattle.std.proofs.Common.{◌≡◌, ℕ, ◌+◌, false, List, [], ◌∷◌, ◌++◌, Some, Ok, ap, subst, arith}
+use Rattle.std.specs.Prelude.{is_some}
 use Rattle.std.specs.Option.{option_map}
 use Rattle.std.proofs.lemmas.Bool.Decides.{nat_tests}
 use Rattle.std.proofs.lemmas.List.Folds.{find-append}
@@ -10,7 +10,7 @@ use Rattle.ele_world.specs.CreateLeads.{LeadsToNew}
 use Rattle.ele_world.specs.Step.{plan, step}
 use Rattle.ele_world.specs.Walk.{live_target, file_at, file_now, parent_now}
 use Rattle.ele_world.specs.WellFormed.{Files, IsWellFormed}
-use Rattle.ele_world.specs.World.{World, default_of, next_of, is_version, current_of}
+use Rattle.ele_world.specs.World.{World, default_of, next_of, current_of}
 use Rattle.ele_world.specs.declared.event.Event.TheVariants.{Create}
 use Rattle.ele_world.specs.declared.reply.Reply.TheVariants as reply
 use Rattle.ele_world.specs.declared.rows.Target.TheVariants.{File}
@@ -40,8 +40,8 @@ module _ (w : World) (path : List (List ℕ)) (at : ℕ × List ℕ) (policy : P
 
 pub create_leads : (w : World) (path : List (List ℕ)) (file : ℕ) → IsWellFormed w → (step w (Create path)).0 ≡ reply.File file → LeadsToNew path file ((step w (Create path)).1)
 create_leads w path file k = in_all w (λ answer. answer.0 ≡ reply.File file → LeadsToNew path file (answer.1)) (plan w (Create path)) (λ refusal e. absurd cc) (
-  λ at found free files names versions e.
-      let same : w.made.files + 1 ≡ file = cc in
-      let policy = default_of w.directories at.0 in
-      rw (made_is w at.0 at.1 policy k) (subst (λ n. LeadsToNew path n (created w at.0 at.1 (w.made.files + 1) policy)) same (leads_to w path at policy k found free))
-)
+    λ at found free files names versions e.
+    let same : w.made.files + 1 ≡ file = cc in
+    let policy = default_of w.directories at.0 in
+    rw (made_is w at.0 at.1 policy k) (subst (λ n. LeadsToNew path n (created w at.0 at.1 (w.made.files + 1) policy)) same (leads_to w path at policy k found free))
+    )

@@ -1,13 +1,12 @@
 -- The listing of a directory at a moment, by what each name stood for then.
-use Rattle.std.proofs.Common.{rules, ◌≡◌, ℕ, ◌≤◌, ◌==◌, Bool, true, false, cond, ◌&&◌, List, [], ◌∷◌, fold, Option, Some, None, refl, ap, sym, ◌∙◌, filter, find, nat_lt, arith}
+use Rattle.std.proofs.Common.{◌≡◌, ℕ, ◌≤◌, Bool, true, false, ◌&&◌, List, [], ◌∷◌, fold, Option, Some, None, refl, sym, ◌∙◌, filter, find, nat_lt, arith}
 use Rattle.std.specs.List.{AllByRecursion}
 use Rattle.std.specs.List.Sorted.{IsStrictlySortedBy}
 use Rattle.std.specs.Map.{keys_of, lookup}
 use Rattle.std.specs.BTreeMap.{insert_entry, is_at}
-use Rattle.std.specs.Option.{option_map, option_map_or, option_or}
+use Rattle.std.specs.Option.{option_map_or, option_or}
 use Rattle.std.specs.Ordering.{nat_cmp}
 use Rattle.std.specs.Cmp.Lexicographic.{slice_cmp, nat_list_cmp_total}
-use Rattle.std.specs.Str.{bytes_eq}
 use Rattle.std.proofs.lemmas.Bool.Decides.{nat_tests}
 use Rattle.std.proofs.lemmas.Map.Lookups.{exact_bytes}
 use Rattle.std.proofs.lemmas.Map.Text.{is_eq-slice_cmp}
@@ -15,7 +14,7 @@ use Rattle.std.proofs.lemmas.Slice.Eq.{bytes_eq-Decides}
 use Rattle.ele_lists.specs.Lists.{AllLater}
 use Rattle.ele_lists.proofs.Edits.{all-weaker, not_found}
 use Rattle.ele_lists.proofs.Entries.{entries_same, sorted-insert_entry, lookup-insert_entry}
-use Rattle.ele_world.specs.NameRows.{covers, is_named, lives_past, target_at}
+use Rattle.ele_world.specs.NameRows.{covers, is_named, target_at}
 use Rattle.ele_world.specs.Told.{stood_in, listing}
 use Rattle.ele_world.specs.WellFormed.{AreApart}
 use Rattle.ele_world.specs.declared.rows.NameRow.{NameRow}

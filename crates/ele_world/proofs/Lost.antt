@@ -1,23 +1,20 @@
 -- What a dead name last stood for, and that it may have its name again.
 use Rattle.std.proofs.lemmas.Bool.Decides.{nat_tests}
-use Rattle.std.proofs.Common.{rules, arith, ◌≡◌, ℕ, ◌-◌, Bool, true, false, cond, not, List, Option, Some, None, Ok, Err, refl, sym, subst}
+use Rattle.std.proofs.Common.{arith, ◌≡◌, ℕ, true, false, not, List, Some, None, Ok, subst}
 use Rattle.std.specs.Prelude.{is_some}
-use Rattle.std.specs.List.{list_any, AllByRecursion}
-use Rattle.std.specs.Option.{option_map, option_map_or}
+use Rattle.std.specs.List.{AllByRecursion}
 use Rattle.std.proofs.lemmas.Bool.{false≢true}
-use Rattle.ele_lists.specs.Last.{last_passing, passing}
+use Rattle.ele_lists.specs.Last.{last_passing}
 use Rattle.ele_lists.proofs.Cuts.{any-found}
 use Rattle.ele_lists.proofs.Edits.{all-weaker}
 use Rattle.ele_lists.proofs.Lasts.{last_has}
-use Rattle.ele_world.specs.NameRows.{is_named, is_live_directory, last_dead}
+use Rattle.ele_world.specs.NameRows.{is_named, last_dead}
 use Rattle.ele_world.specs.Restorable.{last_target, may_return, nameless}
 use Rattle.ele_world.specs.WellFormed.{IsThere, IsDirectoryThere, IsNameRow, IsHoused, Names, Homes, IsWellFormed}
-use Rattle.ele_world.specs.World.{World, next_of, is_held, is_live, is_version}
-use Rattle.ele_world.specs.declared.refusal.Refusal.TheVariants.{NoEntry}
+use Rattle.ele_world.specs.World.{World}
 use Rattle.ele_world.specs.declared.rows.NameRow.{NameRow}
 use Rattle.ele_world.specs.declared.rows.Target.{Target}
-use Rattle.ele_world.specs.declared.rows.Target.TheVariants.{File, Directory}
-use Rattle.ele_world.proofs.May.{HasRoom, MayName, MayHaveMore, MayAdd, MayRevive}
+use Rattle.ele_world.proofs.May.{HasRoom, MayName, MayAdd, MayRevive}
 
 pub lost_dead : (rows : List NameRow) (directory : ℕ) (name : List ℕ) (lost : Target) → last_target rows directory name ≡ Ok lost → last_dead rows directory name ≡ Some lost
 lost_dead rows directory name lost = grind (arith, nat_tests)

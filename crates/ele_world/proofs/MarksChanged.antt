@@ -1,5 +1,5 @@
 -- What is marked after a change of groups: with more members or marks what they add, and with fewer what is left without them.
-use Rattle.std.proofs.Common.{rules, ◌≡◌, ℕ, ◌==◌, Bool, true, false, not, cond, ◌&&◌, ◌||◌, List, [], ◌∷◌, ◌++◌, Option, Some, None, refl, ap, sym, subst, ◌∙◌, arith}
+use Rattle.std.proofs.Common.{◌≡◌, ℕ, ◌==◌, Bool, true, false, not, ◌&&◌, ◌||◌, List, [], ◌∷◌, ◌++◌, Option, Some, None, refl, ap, sym, ◌∙◌, arith}
 use Rattle.std.specs.Prelude.{find}
 use Rattle.std.specs.List.{AllByRecursion, list_any}
 use Rattle.std.specs.Option.{option_map_or}
@@ -13,8 +13,8 @@ use Rattle.ele_lists.proofs.Alls.{later-around}
 use Rattle.ele_lists.proofs.Cuts.{IsCut, find-cut, remove_first-at, remove_first-unfound, update_first-at, update_first-unfound}
 use Rattle.ele_lists.proofs.Edits.{all-any, all-not_found, all-weaker}
 use Rattle.ele_world.specs.declared.rows.GroupRow.{GroupRow}
-use Rattle.ele_world.specs.GroupRows.{adds, covers_moment, has_covering, has_mark, has_member, is_group, is_marked, is_marked_at, is_member, marks, removes, unmarks, with_group, with_mark, with_member, without_group, without_mark, without_member}
-use Rattle.ele_world.specs.GroupsAsked.{has_covering_without, is_left_out, is_marked_without, marks_of, members_of}
+use Rattle.ele_world.specs.GroupRows.{adds, covers_moment, has_covering, has_mark, has_member, is_group, is_marked, is_marked_at, is_member, marks, removes, unmarks, with_mark, with_member, without_group, without_mark, without_member}
+use Rattle.ele_world.specs.GroupsAsked.{has_covering_without, is_marked_without, marks_of, members_of}
 
 -- ---- tests of truth
 

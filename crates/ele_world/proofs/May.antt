@@ -1,6 +1,4 @@
 -- What each change needs, so that it leaves a well-formed world, and takes only what was due.
-use Rattle.std.proofs.lemmas.Bool.Decides.{nat_tests}
-use Rattle.std.proofs.Common.{rules, arith}
 use Rattle.std.specs.Prelude.{◌≡◌, ℕ, ◌+◌, ◌<◌, ◌≤◌, true, false, List, [], ◌∷◌, length, Some, None, Ok, is_some, is_none, find}
 use Rattle.std.specs.List.{list_any}
 use Rattle.ele_content.specs.declared.cell.Cell.{Cell}

@@ -1,7 +1,6 @@
 -- Where a name has died its path leads nowhere; so after a rmdir.
-use Rattle.std.proofs.Common.{rules, ◌≡◌, ℕ, Bool, true, false, ◌==◌, ◌&&◌, List, [], ◌∷◌, ◌++◌, Option, Some, None, Ok, Err, refl, ap, sym, subst, ◌∙◌, arith}
+use Rattle.std.proofs.Common.{◌≡◌, ℕ, Bool, true, false, ◌==◌, ◌&&◌, List, [], ◌∷◌, ◌++◌, Some, None, Ok, Err, refl, ap, ◌∙◌, arith}
 use Rattle.std.specs.Prelude.{is_none}
-use Rattle.std.specs.Option.{option_map, option_map_or}
 use Rattle.std.specs.Str.{bytes_eq}
 use Rattle.std.proofs.lemmas.Bool.{false≢true}
 use Rattle.std.proofs.lemmas.Bool.Decides.{nat_tests}
@@ -10,7 +9,7 @@ use Rattle.ele_lists.specs.Lists.{update_first, AllLater}
 use Rattle.ele_lists.proofs.Alls.{later-weaker}
 use Rattle.ele_lists.proofs.Found.{find-update_other, find-update_none}
 use Rattle.ele_world.specs.NameRows.{dies}
-use Rattle.ele_world.specs.Step.{plan, step}
+use Rattle.ele_world.specs.Step.{step}
 use Rattle.ele_world.specs.Walk.{is_live_name, live_target, walk, walk_now, parent_now}
 use Rattle.ele_world.specs.WellFormed.{AreApart, Names, IsWellFormed}
 use Rattle.ele_world.specs.World.{World, root}

@@ -1,9 +1,9 @@
 -- A version's ripe moment: none while a handle reads it or it is marked, and else what its policy, its own moments and its next
 -- held neighbour tell.
-use Rattle.std.proofs.Common.{rules, ◌≡◌, ℕ, ◌+◌, ◌<◌, ◌≤◌, ◌==◌, ◌&&◌, ◌||◌, Bool, true, false, not, cond, List, [], ◌∷◌, ◌++◌, Option, Some, None, refl, ap, sym, subst, ◌∙◌, arith, filter, slice_get}
-use Rattle.std.specs.Prelude.{find, nat_lt, option_and_then, IfSome}
+use Rattle.std.proofs.Common.{◌≡◌, ℕ, ◌+◌, ◌≤◌, ◌==◌, ◌&&◌, ◌||◌, Bool, true, false, not, cond, List, [], ◌∷◌, ◌++◌, Option, Some, None, refl, ap, subst, ◌∙◌, arith, filter, slice_get}
+use Rattle.std.specs.Prelude.{find, option_and_then, IfSome}
 use Rattle.std.specs.List.{AllByRecursion, list_any}
-use Rattle.std.specs.Option.{option_map, option_map_or}
+use Rattle.std.specs.Option.{option_map_or}
 use Rattle.std.proofs.lemmas.Bool.Decides.{nat_tests}
 use Rattle.std.proofs.lemmas.Option.{slice_get-map}
 use Rattle.ele_lists.proofs.Cuts.{find-cut}
@@ -19,7 +19,7 @@ use Rattle.ele_world.specs.declared.rows.FileRow.{FileRow}
 use Rattle.ele_world.specs.declared.rows.VersionRow.{VersionRow}
 use Rattle.ele_world.specs.Change.{ended_at}
 use Rattle.ele_world.specs.Due.{ripe_of, ripe_at}
-use Rattle.ele_world.specs.FileView.{FileView, view_of, is_version_of, is_newer, beside, ripe_in}
+use Rattle.ele_world.specs.FileView.{FileView, view_of, beside, ripe_in}
 use Rattle.ele_world.specs.GroupRows.{covers_moment, is_marked}
 use Rattle.ele_world.specs.Neighbours.{is_newer_of, near_moment, next_closing, moment_under, free_moment}
 use Rattle.ele_world.specs.WellFormed.{ArePlaced, AreVersions, IsVersion, Versions, IsWellFormed}

@@ -1,8 +1,8 @@
 -- The newest held version of a file, and the place at which its next one comes in.
-use Rattle.std.proofs.Common.{rules, ◌≡◌, ℕ, ◌+◌, ◌-◌, ◌<◌, ◌≤◌, ◌==◌, Bool, true, false, cond, ◌&&◌, ◌||◌, List, [], ◌∷◌, Option, Some, None, IfSome, refl, ap, sym, subst, ◌∙◌, arith}
+use Rattle.std.proofs.Common.{◌≡◌, ℕ, ◌+◌, ◌-◌, ◌<◌, ◌≤◌, ◌==◌, Bool, true, false, cond, ◌&&◌, ◌||◌, List, [], ◌∷◌, Option, Some, None, IfSome, refl, ap, sym, subst, ◌∙◌, arith}
 use Rattle.std.specs.Prelude.{find}
 use Rattle.std.specs.List.{AllByRecursion, list_any}
-use Rattle.std.specs.Option.{option_map, option_or}
+use Rattle.std.specs.Option.{option_map}
 use Rattle.std.proofs.lemmas.Bool.{false≢true}
 use Rattle.std.proofs.lemmas.Bool.Decides.{nat_tests}
 use Rattle.ele_content.specs.declared.cell.Cell.{Cell}
@@ -13,7 +13,7 @@ use Rattle.ele_lists.proofs.Edits.{all-both, all-insert_before, all-update_first
 use Rattle.ele_lists.proofs.Found.{any-found, find-inserted, find-update_other}
 use Rattle.ele_lists.proofs.Lasts.{last_has}
 use Rattle.ele_policy.specs.Policy.{IsPolicy}
-use Rattle.ele_world.specs.Change.{ended_at, next_version, numbered_on, with_end, with_version}
+use Rattle.ele_world.specs.Change.{ended_at, next_version, with_end, with_version}
 use Rattle.ele_world.specs.FileView.{is_version_of}
 use Rattle.ele_world.specs.Neighbours.{is_newer_of, newest_of, next_closing}
 use Rattle.ele_world.specs.WellFormed.{ArePlaced, AreVersions, IsVersion}
@@ -22,7 +22,7 @@ use Rattle.ele_world.specs.declared.rows.VersionRow.{VersionRow}
 use Rattle.ele_world.proofs.Elements.{find-updated}
 use Rattle.ele_world.proofs.KeptVersions.{versions_ended}
 use Rattle.ele_world.proofs.Neighbours.{AreInOrder, next_closing-ended, none_past}
-use Rattle.ele_world.proofs.Versions.{IsEndedBy, IsFound, all_found, file_ended}
+use Rattle.ele_world.proofs.Versions.{IsEndedBy, all_found, file_ended}
 use Rattle.ele_world.proofs.Views.{IsLife, lives_in}
 
 last-none : {X : Type 0} (p : X → Bool) (xs : List X) → last_passing p xs ≡ None → AllByRecursion (λ x. p x ≡ false) xs

@@ -1,6 +1,6 @@
 -- No event leaves a file of which nothing is left. In a well-formed world a live file has a version, so what counts is whether
 -- each file has a version or a draft.
-use Rattle.std.proofs.Common.{rules, ◌≡◌, ◌==◌, ℕ, ◌+◌, ◌-◌, Bool, true, false, not, ◌&&◌, ◌||◌, cond, List, [], ◌∷◌, refl, ap, sym, subst, ◌∙◌, arith}
+use Rattle.std.proofs.Common.{◌≡◌, ◌==◌, ℕ, ◌+◌, Bool, true, false, not, ◌||◌, List, [], ◌∷◌, refl, sym, subst, ◌∙◌, arith}
 use Rattle.std.specs.List.{AllByRecursion, list_any}
 use Rattle.std.proofs.lemmas.Bool.{false≢true}
 use Rattle.std.proofs.lemmas.Bool.Decides.{nat_tests}
@@ -12,13 +12,13 @@ use Rattle.ele_lists.proofs.Edits.{all-push, all-weaker, all-both, all-update_fi
 use Rattle.ele_lists.proofs.Found.{any-found}
 use Rattle.ele_lists.proofs.Keys.{remove_first-key}
 use Rattle.ele_policy.specs.declared.policy.Policy.{Policy}
-use Rattle.ele_world.specs.Change.{Take, MakeFile, PutUnder, EndFileName, EndDraft, DropIdle, ShutHandle, StartDraft, after_change, is_idle, ended_at, numbered_on, put_under, next_version, new_draft, current_cells, changed_by, fitted_by, with_file, with_name, without_name, with_end, with_version, without_file}
+use Rattle.ele_world.specs.Change.{Take, MakeFile, PutUnder, EndFileName, EndDraft, DropIdle, ShutHandle, StartDraft, after_change, is_idle, numbered_on, put_under, current_cells, changed_by, fitted_by, with_file, with_name, with_version, without_file}
 use Rattle.ele_world.specs.FileView.{is_version_of}
 use Rattle.ele_world.specs.NoIdleStays.{HasNoIdle, NoIdleStays}
 use Rattle.ele_world.specs.Run.{run_of, IsEvent}
 use Rattle.ele_world.specs.Step.{plan, step}
-use Rattle.ele_world.specs.WellFormed.{is_current, Files, Current, IsWellFormed}
-use Rattle.ele_world.specs.World.{World, default_of, is_file, is_version, is_version_after, is_draft, is_draft_after, is_live, has_draft, next_of}
+use Rattle.ele_world.specs.WellFormed.{Files, Current, IsWellFormed}
+use Rattle.ele_world.specs.World.{World, default_of, is_file, is_draft, is_live, has_draft, next_of}
 use Rattle.ele_world.specs.declared.event.Event.{Event}
 use Rattle.ele_world.specs.declared.event.Event.TheVariants.{Clock, Tick, MakeDir, RemoveDir, Create, Link, Unlink, Rename, Undelete, OpenWrite, OpenRead, Write, Truncate, Close, Revert, SetPolicy, SetDefault, GroupMake, GroupDrop, GroupAdd, GroupRemove, Mark, Unmark, CleanOne, Read, Stat, Versions, List as ListNames, Restorable, Due, UsageAll, GroupsAll}
 use Rattle.ele_world.specs.declared.event.Source.TheVariants.{Tagged, Of}

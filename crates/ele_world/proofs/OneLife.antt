@@ -1,5 +1,5 @@
 -- In a run one version of a file lived at each moment that a name of the file covers.
-use Rattle.std.proofs.Common.{rules, ◌≡◌, ℕ, ◌<◌, ◌≤◌, true, false, List, [], ◌∷◌, Option, Some, None, refl, ap, sym, subst, ◌∙◌, arith, ◌⊎◌, inl, inr}
+use Rattle.std.proofs.Common.{◌≡◌, ℕ, true, false, List, [], ◌∷◌, Option, Some, None, refl, ap, sym, ◌∙◌, arith}
 use Rattle.std.specs.Prelude.{find, Ok, Err}
 use Rattle.std.specs.List.{AllByRecursion}
 use Rattle.std.specs.Option.{option_or}
@@ -27,7 +27,7 @@ use Rattle.ele_world.proofs.Known.{Known, known_in, HadLife, IsCovered, AreKnown
 use Rattle.ele_world.proofs.Moves.{row_of}
 use Rattle.ele_world.proofs.May.{MayAll}
 use Rattle.ele_world.proofs.StepKeeps.{fresh_is, step_keeps, run_keeps}
-use Rattle.ele_world.proofs.Versions.{IsEndedBy, IsFound, all_found}
+use Rattle.ele_world.proofs.Versions.{IsEndedBy, all_found}
 
 -- ---- events
 

@@ -1,6 +1,6 @@
 -- Which ripe moments change where handles come and go: that of a version that a handle reads, and no other.
 use Rattle.std.proofs.lemmas.Bool.Decides.{nat_tests}
-use Rattle.std.proofs.Common.{rules, arith, ◌≡◌, ℕ, ◌||◌, Bool, true, false, cond, [], ◌∷◌, Some, None, refl, ap, sym, ◌∙◌, find}
+use Rattle.std.proofs.Common.{arith, ◌≡◌, ℕ, ◌||◌, Bool, true, false, cond, [], ◌∷◌, Some, None, refl, ap, sym, ◌∙◌, find}
 use Rattle.std.specs.Prelude.{Ok, Err}
 use Rattle.std.specs.Option.{option_map_or}
 use Rattle.std.proofs.lemmas.List.Folds.{list_any-append}

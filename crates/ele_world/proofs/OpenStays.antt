@@ -1,7 +1,6 @@
 -- A version that a handle reads is held after any event.
-use Rattle.std.proofs.Common.{rules, ◌≡◌, inl, inr, ℕ, true, Option, Some, None, refl, sym, subst, ◌∙◌, arith, find}
-use Rattle.std.specs.Prelude.{Ok, Err}
-use Rattle.std.specs.Option.{option_map_or}
+use Rattle.std.proofs.Common.{◌≡◌, inl, inr, ℕ, true, Some, sym, subst, ◌∙◌, arith, find}
+use Rattle.std.specs.Prelude.{Ok}
 use Rattle.std.proofs.lemmas.Bool.{false≢true}
 use Rattle.std.proofs.lemmas.Bool.Decides.{nat_tests}
 use Rattle.ele_lists.proofs.Cuts.{any-found as first_passing}
@@ -12,7 +11,6 @@ use Rattle.ele_world.specs.OpenStays.{OpenStays}
 use Rattle.ele_world.specs.Step.{step}
 use Rattle.ele_world.specs.WellFormed.{IsHeldRead, Readers}
 use Rattle.ele_world.specs.World.{World, is_handle, is_held, is_open, is_version, reads_by, reads_version}
-use Rattle.ele_world.specs.declared.refusal.Refusal.TheVariants.{NoHandle}
 use Rattle.ele_world.specs.declared.rows.HandleRow.{HandleRow}
 use Rattle.ele_world.specs.declared.rows.Reads.{Reads}
 use Rattle.ele_world.specs.declared.rows.Reads.TheVariants.{Version}

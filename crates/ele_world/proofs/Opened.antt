@@ -1,6 +1,5 @@
 -- What opening a handle comes to, whether the file has a draft or not.
-use Rattle.std.proofs.lemmas.Bool.Decides.{nat_tests}
-use Rattle.std.proofs.Common.{rules, arith, ℕ, cond, List, [], ◌∷◌, ◌++◌}
+use Rattle.std.proofs.Common.{ℕ, cond, List, [], ◌∷◌, ◌++◌}
 use Rattle.ele_lists.specs.Lists.{insert_before}
 use Rattle.ele_world.specs.Change.{new_draft}
 use Rattle.ele_world.specs.World.{World, has_draft, is_draft_after}

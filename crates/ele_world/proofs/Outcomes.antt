@@ -1,6 +1,5 @@
 -- What holds of all that a plan may come to holds of what it comes to.
-use Rattle.std.proofs.lemmas.Bool.Decides.{nat_tests}
-use Rattle.std.proofs.Common.{rules, arith, ◌≡◌, true, false, Some, None, Ok, Err, refl}
+use Rattle.std.proofs.Common.{◌≡◌, true, false, Some, None, Ok, Err, refl}
 use Rattle.ele_world.specs.Change.{after_changes}
 use Rattle.ele_world.specs.Plan.{Plan, Tell, Make, Unless, When, Need, IfFound, refused, outcome}
 use Rattle.ele_world.specs.World.{World}

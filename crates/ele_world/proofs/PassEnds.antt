@@ -1,13 +1,13 @@
 -- A pass, one clean event after another.
 use Rattle.std.proofs.lemmas.Bool.Decides.{nat_tests}
-use Rattle.std.proofs.Common.{rules, ◌≡◌, ℕ, suc, zero, ◌+◌, ◌<◌, ◌≤◌, List, length, Option, Some, None, refl, ap, sym, subst, ◌∙◌, arith, add-one, ◌⊎◌, inl, inr}
+use Rattle.std.proofs.Common.{◌≡◌, ℕ, suc, zero, ◌+◌, ◌<◌, List, length, Option, Some, None, refl, ap, arith, add-one}
 use Rattle.std.specs.Prelude.{IsSome}
 use Rattle.std.proofs.lemmas.Bool.{cases_lt}
 use Rattle.ele_due.specs.declared.key.Key.{Key}
 use Rattle.ele_lists.proofs.Edits.{length-remove_first}
 use Rattle.ele_world.specs.declared.event.Event.TheVariants.{CleanOne}
 use Rattle.ele_world.specs.declared.rows.VersionRow.{VersionRow}
-use Rattle.ele_world.specs.Due.{is_due_at, kept_rows}
+use Rattle.ele_world.specs.Due.{is_due_at}
 use Rattle.ele_world.specs.Pass.{IsCleaned, HasRemoved, IsFinished}
 use Rattle.ele_world.specs.Run.{after_cleans, IsPass}
 use Rattle.ele_world.specs.Scan.{first_due}

@@ -1,12 +1,9 @@
 -- A pass that nothing disturbs removes the due versions, and no others.
 use Rattle.std.proofs.lemmas.Bool.Decides.{nat_tests}
-use Rattle.std.proofs.Common.{rules, arith, ◌≡◌, ℕ, suc, zero, ◌≤◌, Bool, true, false, cond, not, List, [], ◌∷◌, Option, Some, None, refl, ap, sym, ◌∙◌}
-use Rattle.std.specs.Prelude.{nat_le, slice_get, fold, is_some}
-use Rattle.std.specs.declared.cmp.Ordering.{Ordering}
-use Rattle.std.specs.declared.cmp.Ordering.TheVariants.{Less, Equal, Greater}
+use Rattle.std.proofs.Common.{arith, ◌≡◌, ℕ, suc, zero, ◌≤◌, true, false, not, List, [], ◌∷◌, Option, Some, None, refl, ap, ◌∙◌}
+use Rattle.std.specs.Prelude.{slice_get, fold, is_some}
 use Rattle.std.specs.BTreeSet.{insert_key}
 use Rattle.std.specs.List.{AllByRecursion, filter_map}
-use Rattle.std.specs.Option.{option_map, option_map_or}
 use Rattle.std.proofs.lemmas.Bool.{false≢true}
 use Rattle.ele_moment.specs.Last.{last_moment}
 use Rattle.ele_world.specs.declared.event.Event.TheVariants.{CleanOne}
@@ -17,7 +14,7 @@ use Rattle.ele_lists.specs.Lists.{remove_first}
 use Rattle.ele_lists.proofs.Edits.{all-both, all-weaker}
 use Rattle.ele_world.specs.RipeMoments.{IsDueFromRipe}
 use Rattle.ele_world.specs.Run.{after_cleans, IsPass}
-use Rattle.ele_world.specs.Scan.{key_cmp, key_of, due_key, scan, first_due}
+use Rattle.ele_world.specs.Scan.{key_cmp, due_key, scan, first_due}
 use Rattle.ele_world.specs.Change.{Take, after_change}
 use Rattle.ele_world.specs.Step.{clean_step}
 use Rattle.ele_world.specs.WellFormed.{IsWellFormed}

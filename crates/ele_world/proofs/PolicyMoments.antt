@@ -1,6 +1,5 @@
 -- Which ripe moments change where a file gets another policy: those of its own versions, and no other.
-use Rattle.std.proofs.lemmas.Bool.Decides.{nat_tests}
-use Rattle.std.proofs.Common.{rules, arith, ◌≡◌, ℕ, ◌<◌, ◌==◌, false, cond, Option, Some, None, ap, ◌∙◌}
+use Rattle.std.proofs.Common.{◌≡◌, ℕ, ◌<◌, ◌==◌, false, cond, Option, Some, None, ap, ◌∙◌}
 use Rattle.ele_policy.specs.declared.policy.Policy.{Policy}
 use Rattle.ele_policy.specs.Policy.{IsPolicy}
 use Rattle.ele_world.specs.Change.{PutUnder, after_change}

@@ -1,14 +1,12 @@
 -- Versions that handles read.
-use Rattle.std.proofs.Common.{rules, arith, sym, ◌≡◌, ℕ, Bool, true, false, cond, ◌==◌, ◌||◌, ◌&&◌, List, [], ◌∷◌, Some, None, refl, ap, ◌∙◌}
-use Rattle.std.specs.List.{list_any, cons_option}
+use Rattle.std.proofs.Common.{arith, ◌≡◌, ℕ, true, false, ◌==◌, List, [], ◌∷◌, refl}
+use Rattle.std.specs.List.{list_any}
 use Rattle.std.proofs.lemmas.Bool.Decides.{nat_tests}
 use Rattle.ele_lists.proofs.Edits.{all-weaker}
-use Rattle.ele_world.specs.FileView.{number_read, numbers_read}
-use Rattle.ele_world.specs.WellFormed.{IsHeldRead, AreHeldRead}
-use Rattle.ele_world.specs.World.{is_open, is_version, reads_version}
+use Rattle.ele_world.specs.FileView.{numbers_read}
+use Rattle.ele_world.specs.WellFormed.{AreHeldRead}
+use Rattle.ele_world.specs.World.{is_open, is_version}
 use Rattle.ele_world.specs.declared.rows.HandleRow.{HandleRow}
-use Rattle.ele_world.specs.declared.rows.Reads.{Reads}
-use Rattle.ele_world.specs.declared.rows.Reads.TheVariants.{Draft, Version}
 use Rattle.ele_world.specs.declared.rows.VersionRow.{VersionRow}
 
 -- a version is open if its number is among those of its file that are read

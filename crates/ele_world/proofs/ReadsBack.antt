@@ -1,6 +1,6 @@
 -- A version that is held has the cells that it had when it closed.
 use Rattle.std.proofs.lemmas.Bool.Decides.{nat_tests}
-use Rattle.std.proofs.Common.{rules, arith, ◌≡◌, ℕ, List, [], ◌∷◌, Option, Some, None, IfSome, refl, subst}
+use Rattle.std.proofs.Common.{arith, ◌≡◌, ℕ, List, [], ◌∷◌, Option, Some, None, IfSome, refl, subst}
 use Rattle.std.specs.Prelude.{find, Ok}
 use Rattle.std.specs.List.{AllByRecursion}
 use Rattle.ele_content.specs.declared.cell.Cell.{Cell}
@@ -12,8 +12,8 @@ use Rattle.ele_world.specs.ReadsAsClosed.{ReadsRow}
 use Rattle.ele_world.specs.Run.{run_of, IsEvent}
 use Rattle.ele_world.specs.Step.{plan, step}
 use Rattle.ele_world.specs.Tagged.{version_at}
-use Rattle.ele_world.specs.WellFormed.{AllLater, ArePlaced, IsVersion, Versions, Readers, IsHeldRead, IsWellFormed}
-use Rattle.ele_world.specs.World.{World, is_version, reads_by, is_handle}
+use Rattle.ele_world.specs.WellFormed.{AllLater, ArePlaced, IsVersion, Versions, Readers, IsWellFormed}
+use Rattle.ele_world.specs.World.{World, is_version, reads_by}
 use Rattle.ele_world.specs.declared.event.Event.{Event}
 use Rattle.ele_world.specs.declared.event.Event.TheVariants.{Read}
 use Rattle.ele_world.specs.declared.event.Source.TheVariants.{Tagged, Of}

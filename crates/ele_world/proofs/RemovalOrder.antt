@@ -1,5 +1,5 @@
 -- The law of the order of removal, from one file to all.
-use Rattle.std.proofs.Common.{rules, ◌≡◌, ◌==◌, ℕ, Bool, true, false, not, List, ◌∷◌, ◌++◌, refl, ap, sym, subst, ◌∙◌, filter, arith, ◌⊎◌, inl, inr}
+use Rattle.std.proofs.Common.{◌≡◌, ℕ, Bool, true, not, List, ◌∷◌, ◌++◌, refl, ap, sym, subst, ◌∙◌, filter, arith, ◌⊎◌}
 use Rattle.std.specs.List.{AllByRecursion}
 use Rattle.std.proofs.lemmas.List.Elements.{filter-append}
 use Rattle.std.proofs.lemmas.Bool.Decides.{nat_tests}
@@ -9,7 +9,7 @@ use Rattle.ele_world.specs.declared.rows.VersionRow.{VersionRow}
 use Rattle.ele_world.specs.Due.{is_due_at}
 use Rattle.ele_world.specs.FileView.{FileView, view_of, is_version_of, due_in}
 use Rattle.ele_world.specs.RemovalOrder.{LeavesDue, RemovalOrder}
-use Rattle.ele_world.specs.WellFormed.{IsWellFormed, ArePlaced}
+use Rattle.ele_world.specs.WellFormed.{IsWellFormed}
 use Rattle.ele_world.specs.World.{World}
 use Rattle.ele_lists.proofs.Alls.{all-append, all-around, later-around}
 use Rattle.ele_lists.proofs.Filters.{filter-same_all}

@@ -1,8 +1,7 @@
 -- After a rename the new path leads where the old one led, and the old one nowhere.
-use Rattle.std.proofs.Common.{rules, ◌≡◌, ℕ, Bool, true, false, ◌==◌, ◌&&◌, ◌||◌, List, [], ◌∷◌, ◌++◌, Option, Some, None, Ok, Err, refl, sym, subst, ◌∙◌, arith, length, ◌-◌, take}
-use Rattle.std.specs.Prelude.{find, is_some}
-use Rattle.std.specs.Option.{option_map, option_map_or}
-use Rattle.std.specs.Str.{bytes_eq}
+use Rattle.std.proofs.Common.{◌≡◌, ℕ, true, false, ◌==◌, List, [], ◌∷◌, ◌++◌, Option, Some, None, Ok, Err, refl, sym, ◌∙◌, arith}
+use Rattle.std.specs.Prelude.{is_some}
+use Rattle.std.specs.Option.{option_map_or}
 use Rattle.std.proofs.lemmas.Bool.{false≢true}
 use Rattle.std.proofs.lemmas.Bool.Decides.{nat_tests}
 use Rattle.std.proofs.lemmas.List.Folds.{find-append}
@@ -89,5 +88,5 @@ module _ (w : World) (from to : List (List ℕ)) (k : IsWellFormed w) (old : ℕ
   }
 
 pub rename_leads : RenameLeads
-rename_leads w from to k = in_all w (λ answer. answer.0 ≡ Done → LeadsInstead w from to (answer.1)) (plan w (Rename from to)) (λ refusal e. absurd cc) 
-  (λ old found moved leads at home apart free names e. leads_instead w from to k old found moved leads at home apart free)
+rename_leads w from to k = in_all w (λ answer. answer.0 ≡ Done → LeadsInstead w from to (answer.1)) (plan w (Rename from to)) (λ refusal e. absurd cc)
+    (λ old found moved leads at home apart free names e. leads_instead w from to k old found moved leads at home apart free)

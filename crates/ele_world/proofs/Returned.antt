@@ -1,7 +1,6 @@
 -- After an undelete its path leads to what the name last stood for.
-use Rattle.std.proofs.Common.{rules, ◌≡◌, ℕ, ◌-◌, Bool, true, false, cond, List, [], Option, Some, None, Ok, refl, ap, subst, ◌∙◌, arith}
+use Rattle.std.proofs.Common.{◌≡◌, ℕ, ◌-◌, false, List, Some, Ok, refl, ap, subst, ◌∙◌, arith}
 use Rattle.std.specs.Prelude.{find, is_some}
-use Rattle.std.specs.Option.{option_map_or}
 use Rattle.std.proofs.lemmas.Bool.Decides.{nat_tests}
 use Rattle.ele_world.specs.Change.{after_change, Revive, current_cells, next_version, with_name}
 use Rattle.ele_world.specs.Restorable.{last_target, nameless}
@@ -9,7 +8,7 @@ use Rattle.ele_world.specs.Step.{plan, step}
 use Rattle.ele_world.specs.UndeleteLeads.{LeadsAgain, HasNameAgain, HasVersionAgain}
 use Rattle.ele_world.specs.Walk.{live_target, parent_now}
 use Rattle.ele_world.specs.WellFormed.{Versions, IsWellFormed}
-use Rattle.ele_world.specs.World.{World, next_of, is_live, is_version, current_of}
+use Rattle.ele_world.specs.World.{World, next_of, is_version, current_of}
 use Rattle.ele_world.specs.declared.event.Event.TheVariants.{Undelete}
 use Rattle.ele_world.specs.declared.reply.Reply.{Reply}
 use Rattle.ele_world.specs.declared.reply.Reply.TheVariants as reply
@@ -57,14 +56,14 @@ Leads w path answer = (answer.0 ≡ reply.Done → HasNameAgain w path answer.1)
 
 pub undelete_leads : (w : World) (path : List (List ℕ)) → IsWellFormed w → Leads w path (step w (Undelete path))
 undelete_leads w path k = in_all w (Leads w path) (plan w (Undelete path)) (λ refusal. (λ e. absurd cc, λ number e. absurd cc)) (
-  λ at found free lost last returns. (
-    λ names. (λ e. record { target = lost; named = named_again w path at k found free lost (with_name w at.0 at.1 lost) refl last; versions = refl }, λ number e. absurd cc),
-    λ file none drafts names versions. (
-      λ e. absurd cc,
-      λ number e.
-          let may = may_revive w at lost file (may_name w path at k found free names) none returns (grind (arith, nat_tests)) in
-          let same : next_of w.files file ≡ number = cc in
-          version_again w path at k found free file may number same (subst (λ t. last_target w.names at.0 at.1 ≡ Ok t) (returned_file w lost file none) last),
-    ),
-  )
-)
+    λ at found free lost last returns. (
+      λ names. (λ e. record { target = lost; named = named_again w path at k found free lost (with_name w at.0 at.1 lost) refl last; versions = refl }, λ number e. absurd cc),
+      λ file none drafts names versions. (
+        λ e. absurd cc,
+        λ number e.
+            let may = may_revive w at lost file (may_name w path at k found free names) none returns (grind (arith, nat_tests)) in
+            let same : next_of w.files file ≡ number = cc in
+            version_again w path at k found free file may number same (subst (λ t. last_target w.names at.0 at.1 ≡ Ok t) (returned_file w lost file none) last),
+      ),
+    )
+    )

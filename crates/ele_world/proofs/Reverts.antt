@@ -1,6 +1,5 @@
 -- What a revert leaves.
-use Rattle.std.proofs.lemmas.Bool.Decides.{nat_tests}
-use Rattle.std.proofs.Common.{rules, ◌≡◌, ℕ, ◌-◌, ◌<◌, Some, refl, sym, subst, arith, find}
+use Rattle.std.proofs.Common.{◌≡◌, ℕ, ◌-◌, ◌<◌, Some, refl, sym, subst, arith, find}
 use Rattle.ele_lists.specs.Lists.{update_first}
 use Rattle.ele_world.specs.Change.{next_version, numbered_on, with_version}
 use Rattle.ele_world.specs.RevertKeeps.{CopiesVersion, RevertKeeps}
@@ -20,17 +19,17 @@ last w file there = omega (arith, next_of-numbered_on w.files file there)
 
 pub revert_keeps : RevertKeeps
 revert_keeps w path number made k = in_all w (λ answer. answer.0 ≡ reply.Version made → CopiesVersion w path number made (answer.1)) (plan w (Revert path number)) (λ refusal e. absurd cc) (
-  λ file named row meant drafts versions e. record {
-    file = file;
-    was = row;
-    is = next_version w file w.now row.cells;
-    named = named;
-    meant = meant;
-    current = subst (λ n. find (is_version file n) (with_version w file w.now row.cells).versions ≡ Some (next_version w file w.now row.cells)) (sym (last w file (file_there w.files w.now w.names path file (k.holds Names).each named)))
-        (new_found w file (k.holds Versions).each w.now row.cells);
-    numbered = cc;
-    cells = refl;
-    opened = refl;
-    closed = refl;
-  }
-)
+    λ file named row meant drafts versions e. record {
+      file = file;
+      was = row;
+      is = next_version w file w.now row.cells;
+      named = named;
+      meant = meant;
+      current = subst (λ n. find (is_version file n) (with_version w file w.now row.cells).versions ≡ Some (next_version w file w.now row.cells)) (sym (last w file (file_there w.files w.now w.names path file (k.holds Names).each named)))
+          (new_found w file (k.holds Versions).each w.now row.cells);
+      numbered = cc;
+      cells = refl;
+      opened = refl;
+      closed = refl;
+    }
+    )

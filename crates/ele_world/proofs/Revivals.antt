@@ -1,13 +1,11 @@
 -- A file that has a name again: its last version had ended, it may have its next one, and what changes for usage.
 use Rattle.std.proofs.lemmas.Bool.Decides.{nat_tests}
-use Rattle.std.proofs.Common.{rules, ◌≡◌, ℕ, ◌-◌, ◌<◌, true, List, Option, Some, None, refl, ap, sym, subst, ◌∙◌, arith}
-use Rattle.std.specs.List.{AllByRecursion, list_any}
-use Rattle.std.proofs.lemmas.Bool.{false≢true}
-use Rattle.ele_lists.proofs.Edits.{all-found}
-use Rattle.ele_world.specs.Change.{after_change, Revive, current_cells, ended_at, next_version, with_name}
-use Rattle.ele_world.specs.WellFormed.{Ended, IsOfLive, IsVersion, Versions, IsWellFormed}
+use Rattle.std.proofs.Common.{ℕ, ◌<◌, List, subst, arith}
+use Rattle.std.specs.List.{AllByRecursion}
+use Rattle.ele_world.specs.Change.{after_change, Revive, with_name}
+use Rattle.ele_world.specs.WellFormed.{IsVersion, Versions, IsWellFormed}
 use Rattle.ele_world.specs.Whole.{ChangesOnly}
-use Rattle.ele_world.specs.World.{World, next_of, is_live_name_of, is_version}
+use Rattle.ele_world.specs.World.{World, next_of}
 use Rattle.ele_world.specs.declared.rows.Target.TheVariants.{File}
 use Rattle.ele_world.proofs.AppendMoments.{MayGrow, may_grow}
 use Rattle.ele_world.proofs.KeptRevived.{last_is}

@@ -1,8 +1,8 @@
 -- The ripe moment of a version that is found by its number, and the scan as the moments that have come.
-use Rattle.std.proofs.Common.{rules, ◌≡◌, ℕ, ◌≤◌, Bool, true, false, cond, ◌&&◌, ◌||◌, List, [], ◌∷◌, Option, Some, None, refl, ap, sym, ◌∙◌, arith}
+use Rattle.std.proofs.Common.{◌≡◌, ℕ, ◌≤◌, Bool, true, false, cond, ◌&&◌, ◌||◌, List, [], ◌∷◌, Option, Some, None, refl, ap, sym, ◌∙◌, arith}
 use Rattle.std.specs.Prelude.{find, nat_le, option_and_then}
 use Rattle.std.specs.List.{AllByRecursion, filter_map, list_any}
-use Rattle.std.specs.Option.{option_map, option_map_or}
+use Rattle.std.specs.Option.{option_map_or}
 use Rattle.std.proofs.lemmas.Bool.Decides.{nat_tests}
 use Rattle.ele_due.specs.declared.key.Key.{Key}
 use Rattle.ele_due.specs.HasKey.{has_key}
@@ -11,14 +11,12 @@ use Rattle.ele_lists.specs.Lists.{AllLater}
 use Rattle.ele_lists.proofs.Edits.{found_passes, all-found}
 use Rattle.ele_moment.specs.Last.{last_moment}
 use Rattle.ele_policy.proofs.Earliest.{earliest_same}
-use Rattle.ele_policy.specs.declared.policy.Policy.{Policy}
-use Rattle.ele_policy.specs.Ripe.{candidates, earliest_of}
 use Rattle.ele_world.specs.declared.rows.VersionRow.{VersionRow}
-use Rattle.ele_world.specs.Due.{is_due, is_due_at, ripe_of, ripe_at}
+use Rattle.ele_world.specs.Due.{is_due, ripe_of, ripe_at}
 use Rattle.ele_world.specs.Neighbours.{is_moment}
 use Rattle.ele_world.specs.FileView.{FileView, view_of, is_version_of, is_numbered, due_in, ripe_in, ripe_numbered}
 use Rattle.ele_world.specs.RipeMoments.{IsDueFromRipe}
-use Rattle.ele_world.specs.Scan.{due_key, key_of}
+use Rattle.ele_world.specs.Scan.{due_key}
 use Rattle.ele_world.specs.WellFormed.{ArePlaced, IsWellFormed}
 use Rattle.ele_world.specs.World.{World, is_version}
 use Rattle.ele_lists.proofs.Filters.{find-filter_both}

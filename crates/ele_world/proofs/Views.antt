@@ -1,8 +1,7 @@
 -- A file's rows in a well-formed world, and which are newer than one of them, by its place.
-use Rattle.std.proofs.Common.{rules, ◌≡◌, ℕ, ◌<◌, ◌≤◌, true, false, cond, List, [], ◌∷◌, ◌++◌, Some, refl, ap, sym, subst, ◌∙◌, filter, arith, slice_get}
-use Rattle.std.specs.Prelude.{IfSome, find}
+use Rattle.std.proofs.Common.{◌≡◌, ℕ, ◌<◌, ◌≤◌, true, false, List, [], ◌∷◌, ◌++◌, Some, refl, ap, sym, subst, ◌∙◌, filter, arith, slice_get}
+use Rattle.std.specs.Prelude.{IfSome}
 use Rattle.std.specs.List.{AllByRecursion}
-use Rattle.std.specs.Option.{option_map}
 use Rattle.std.proofs.lemmas.List.Elements.{filter-append}
 use Rattle.std.proofs.lemmas.Option.{IfSome_then}
 use Rattle.std.proofs.lemmas.Bool.Decides.{nat_tests}
@@ -15,7 +14,7 @@ use Rattle.ele_world.specs.declared.rows.FileRow.{FileRow}
 use Rattle.ele_world.specs.declared.rows.VersionRow.{VersionRow}
 use Rattle.ele_world.specs.FileView.{FileView, view_of, is_version_of, is_newer, closings, beside}
 use Rattle.ele_world.specs.WellFormed.{Now, Files, Versions, IsFile, IsVersion, ArePlaced, IsWellFormed}
-use Rattle.ele_world.specs.World.{World, is_file, policy_of}
+use Rattle.ele_world.specs.World.{World, policy_of}
 use Rattle.ele_lists.proofs.Alls.{all-filter, later-filter, later-around}
 use Rattle.ele_lists.proofs.Filters.{filter-all, filter-none}
 

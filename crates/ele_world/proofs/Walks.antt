@@ -1,21 +1,20 @@
 -- What a path leads to, where it stands, and where a name is added.
-use Rattle.std.proofs.Common.{rules, ◌≡◌, ℕ, suc, zero, ◌+◌, ◌-◌, ◌<◌, true, false, List, [], ◌∷◌, ◌++◌, length, take, Option, Some, None, Result, Ok, Err, refl, ap, sym, subst, ◌∙◌, arith, eqb, ◌==◌}
-use Rattle.std.specs.Prelude.{find, is_some, slice_get, is_none}
+use Rattle.std.proofs.Common.{◌≡◌, ℕ, suc, zero, ◌+◌, ◌-◌, ◌<◌, true, false, List, [], ◌∷◌, ◌++◌, length, take, Option, Some, None, Result, Ok, Err, refl, ap, sym, ◌∙◌, arith}
+use Rattle.std.specs.Prelude.{find, is_some, slice_get}
 use Rattle.std.specs.List.{AllByRecursion, list_any}
-use Rattle.std.specs.Option.{option_map, option_map_or}
-use Rattle.std.specs.Str.{bytes_eq}
+use Rattle.std.specs.Option.{option_map_or}
 use Rattle.std.proofs.lemmas.Bool.{false≢true}
 use Rattle.std.proofs.lemmas.Bool.Decides.{nat_tests}
 use Rattle.std.proofs.lemmas.List.Folds.{find-append}
 use Rattle.std.proofs.lemmas.Slice.Eq.{bytes_eq-Decides}
 use Rattle.ele_world.specs.declared.refusal.Refusal.{Refusal}
-use Rattle.ele_world.specs.declared.refusal.Refusal.TheVariants.{NoEntry, IsRoot}
+use Rattle.ele_world.specs.declared.refusal.Refusal.TheVariants.{NoEntry}
 use Rattle.ele_world.specs.declared.rows.FileRow.{FileRow}
 use Rattle.ele_world.specs.declared.rows.NameRow.{NameRow}
 use Rattle.ele_world.specs.declared.rows.Target.{Target}
 use Rattle.ele_world.specs.declared.rows.Target.TheVariants.{File, Directory}
 use Rattle.ele_world.specs.NameRows.{born_row}
-use Rattle.ele_world.specs.Walk.{is_live_name, live_target, walk, walk_now, file_at, file_now, directory_in, directory_now, directory_at, parent_now}
+use Rattle.ele_world.specs.Walk.{is_live_name, live_target, walk, walk_now, file_at, file_now, directory_in, directory_now, parent_now}
 use Rattle.ele_world.specs.WellFormed.{IsNameRow, IsThere}
 use Rattle.ele_world.specs.World.{next_of, root, is_live_name_of}
 use Rattle.ele_lists.proofs.Edits.{all-found, found_passes}

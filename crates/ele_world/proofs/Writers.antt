@@ -1,10 +1,9 @@
 -- Who wrote the cells that a write or a truncate leaves.
 use Rattle.std.proofs.lemmas.Bool.Decides.{nat_tests}
-use Rattle.std.proofs.Common.{rules, ℕ, suc, zero, ◌+◌, ◌≤◌, Bool, true, false, cond, List, [], ◌∷◌, length, map, arith, eqb}
-use Rattle.std.specs.Prelude.{min}
-use Rattle.std.specs.List.{AllByRecursion, range_with_len}
+use Rattle.std.proofs.Common.{rules, ℕ, suc, zero, ◌≤◌, Bool, true, false, cond, List, [], ◌∷◌, map, arith}
+use Rattle.std.specs.List.{AllByRecursion}
 use Rattle.ele_content.specs.declared.cell.Cell.{Cell}
-use Rattle.ele_content.specs.Content.{content_of, content_after_write, content_after_truncate, slot_bytes, slot_count, writer_at, meets, refits, cells_after_write, cells_after_truncate}
+use Rattle.ele_content.specs.Content.{writer_at, cells_after_write, cells_after_truncate}
 use Rattle.ele_lists.proofs.Edits.{all-weaker}
 use Rattle.ele_world.specs.Change.{changed_by, fitted_by}
 use Rattle.ele_world.specs.WellFormed.{AreWrittenBy}

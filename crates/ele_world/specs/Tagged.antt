@@ -1,5 +1,5 @@
 -- Which version a tag means: the one with that number, or the one that lived at that moment, and no other.
-use Rattle.std.specs.Prelude.{ℕ, ◌-◌, nat_lt, nat_le, Bool, true, ◌&&◌, List, Option, find, Result, Ok, Err, if◌then◌else◌}
+use Rattle.std.specs.Prelude.{ℕ, ◌-◌, nat_lt, nat_le, Bool, ◌&&◌, List, Option, find, Result, Ok, Err, if◌then◌else◌}
 use Rattle.std.specs.Option.{option_map, option_map_or, unwrap_or}
 use Rattle.ele_lists.specs.Last.{last_passing}
 use Rattle.ele_time_path.specs.declared.path_at.PathAt.{PathAt}
