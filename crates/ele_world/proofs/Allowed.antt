@@ -1,27 +1,8 @@
 -- The changes of each event may be made, each in its turn.
-use Rattle.std.proofs.Common.{rules, ◌≡◌, ℕ, ◌<◌, true, List, [], ◌∷◌, Some, refl, subst, arith}
-use Rattle.std.specs.Prelude.{find, is_some, nat_le, Ok, false}
-use Rattle.std.specs.List.{list_any, AllByRecursion}
-use Rattle.std.proofs.lemmas.Bool.Decides.{nat_tests}
-use Rattle.ele_due.specs.declared.key.Key.{Key}
-use Rattle.ele_lists.proofs.Edits.{all-found, found_passes, length-remove_first, list_any-insert_before}
-use Rattle.ele_lists.specs.Lists.{insert_before}
-use Rattle.ele_world.specs.Change.{new_draft, EndDraft, ShutHandle, after_changes}
-use Rattle.ele_world.specs.NameRows.{is_live_in}
+use Rattle.ele_world.proofs.Basics.{rules, ◌≡◌, ℕ, ◌<◌, true, List, [], ◌∷◌, Some, refl, subst, arith, find, is_some, nat_le, Ok, false, list_any, AllByRecursion, nat_tests, all-found, found_passes, length-remove_first, list_any-insert_before, insert_before}
+use Rattle.ele_world.proofs.Words.{Key, new_draft, EndDraft, ShutHandle, after_changes, is_live_in, first_due, plan, version_meant, live_target, directory_now, parent_now, walk_now, IsPolicy, IsVersion, Counted, Directories, Names, Versions, Drafts, IsWellFormed, World, default_of, next_of, is_draft, is_draft_after, Event, Clock, Tick, MakeDir, RemoveDir, Create, Link, Unlink, Rename, Undelete, OpenWrite, OpenRead, Write, Truncate, Close, Revert, SetPolicy, SetDefault, GroupMake, GroupDrop, GroupAdd, GroupRemove, Mark, Unmark, CleanOne, Read, Stat, Restorable, Due, UsageAll, GroupsAll, Tagged, Of, DirectoryRow, DraftRow, VersionRow, File}
 use Rattle.ele_time_path.specs.declared.tagged.Tag.TheVariants as tag
-use Rattle.ele_world.specs.Scan.{first_due}
-use Rattle.ele_world.specs.Step.{plan}
-use Rattle.ele_world.specs.Tagged.{version_meant}
-use Rattle.ele_world.specs.Walk.{live_target, directory_now, parent_now, walk_now}
-use Rattle.ele_policy.specs.Policy.{IsPolicy}
-use Rattle.ele_world.specs.WellFormed.{IsVersion, Counted, Directories, Names, Versions, Drafts, IsWellFormed}
-use Rattle.ele_world.specs.World.{World, default_of, next_of, is_draft, is_draft_after}
-use Rattle.ele_world.specs.declared.event.Event.{Event}
-use Rattle.ele_world.specs.declared.event.Event.TheVariants.{Clock, Tick, MakeDir, RemoveDir, Create, Link, Unlink, Rename, Undelete, OpenWrite, OpenRead, Write, Truncate, Close, Revert, SetPolicy, SetDefault, GroupMake, GroupDrop, GroupAdd, GroupRemove, Mark, Unmark, CleanOne, Read, Stat, Versions as VersionsOf, List as ListNames, Restorable, Due, UsageAll, GroupsAll}
-use Rattle.ele_world.specs.declared.event.Source.TheVariants.{Tagged, Of}
-use Rattle.ele_world.specs.declared.rows.DirectoryRow.{DirectoryRow}
-use Rattle.ele_world.specs.declared.rows.DraftRow.{DraftRow}
-use Rattle.ele_world.specs.declared.rows.VersionRow.{VersionRow}
+use Rattle.ele_world.specs.declared.event.Event.TheVariants.{Versions as VersionsOf, List as ListNames}
 use Rattle.ele_world.proofs.DueRows.{first_is_due, due_has_ended, due_is_unread}
 use Rattle.ele_world.proofs.Homes.{parent_home}
 use Rattle.ele_world.proofs.Lost.{may_add, may_revive}
@@ -29,7 +10,6 @@ use Rattle.ele_world.proofs.May.{HasRoom, MayName, MayEnd, MayAppend, MayTake, M
 use Rattle.ele_world.proofs.Meant.{is_meant, meant_held, is_at}
 use Rattle.ele_world.proofs.Writers.{written_more}
 use Rattle.ele_world.proofs.Walks.{file_there, last_leads, file_live, file_of, last_names}
-use Rattle.ele_world.specs.declared.rows.Target.TheVariants.{File}
 
 -- ---- what the checks found
 

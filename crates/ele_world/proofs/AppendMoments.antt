@@ -1,20 +1,7 @@
 -- Which ripe moments change where a file has a version more: that of its newest held one, which ends unless it had, and gets a
 -- neighbour, and the new one's own.
-use Rattle.std.proofs.Common.{◌≡◌, ℕ, ◌<◌, ◌==◌, Bool, true, false, cond, ◌&&◌, ◌||◌, List, [], ◌∷◌, Option, Some, None, refl, ap, sym, ◌∙◌, arith}
-use Rattle.std.specs.Prelude.{nat_lt, option_and_then, unwrap_or}
-use Rattle.std.specs.List.{AllByRecursion, list_any}
-use Rattle.std.specs.Option.{option_map_or}
-use Rattle.std.proofs.lemmas.Bool.Decides.{nat_tests}
-use Rattle.ele_content.specs.declared.cell.Cell.{Cell}
-use Rattle.ele_lists.proofs.Edits.{all-weaker, not_found}
-use Rattle.ele_policy.specs.Policy.{IsPolicy}
-use Rattle.ele_world.specs.declared.rows.VersionRow.{VersionRow}
-use Rattle.ele_world.specs.Change.{with_version}
-use Rattle.ele_world.specs.Due.{ripe_of, ripe_at}
-use Rattle.ele_world.specs.GroupRows.{is_marked}
-use Rattle.ele_world.specs.Neighbours.{is_newer_of, near_moment, newest_of}
-use Rattle.ele_world.specs.WellFormed.{AreHeldRead, AreVersions, IsVersion, Readers, Versions, IsWellFormed}
-use Rattle.ele_world.specs.World.{World, is_live, is_open, is_version, next_of, policy_of}
+use Rattle.ele_world.proofs.Basics.{◌≡◌, ℕ, ◌<◌, ◌==◌, Bool, true, false, cond, ◌&&◌, ◌||◌, List, [], ◌∷◌, Option, Some, None, refl, ap, sym, ◌∙◌, arith, nat_lt, option_and_then, unwrap_or, AllByRecursion, list_any, option_map_or, nat_tests, all-weaker, not_found}
+use Rattle.ele_world.proofs.Words.{Cell, IsPolicy, VersionRow, with_version, ripe_of, ripe_at, is_marked, is_newer_of, near_moment, newest_of, AreHeldRead, AreVersions, IsVersion, Readers, Versions, IsWellFormed, World, is_live, is_open, is_version, next_of, policy_of}
 use Rattle.ele_world.proofs.Closes.{new_found, none_next}
 use Rattle.ele_world.proofs.Files.{policies-numbered}
 use Rattle.ele_world.proofs.Neighbours.{AreInOrder, found_moment, ripe_at_near, versions_in_order}

@@ -1,26 +1,10 @@
 -- A removal of the first version of the scan changes no other version's moment: from the first's moment on whatever is due
 -- stays so without it, and before that moment nothing is due, neither with it nor without.
-use Rattle.std.proofs.Common.{◌≡◌, ℕ, ◌≤◌, Bool, true, false, List, [], ◌∷◌, ◌++◌, Option, Some, None, IfSome, refl, ap, sym, subst, ◌∙◌, fold, slice_get, arith}
-use Rattle.std.specs.Prelude.{find, nat_le, option_and_then}
-use Rattle.std.specs.List.{AllByRecursion, filter_map}
-use Rattle.std.specs.BTreeSet.{insert_key}
-use Rattle.std.proofs.lemmas.Bool.Decides.{nat_tests}
-use Rattle.ele_due.specs.declared.key.Key.{Key}
+use Rattle.ele_world.proofs.Basics.{◌≡◌, ℕ, ◌≤◌, Bool, true, false, List, [], ◌∷◌, ◌++◌, Option, Some, None, IfSome, refl, ap, sym, subst, ◌∙◌, fold, slice_get, arith, find, nat_le, option_and_then, AllByRecursion, filter_map, insert_key, nat_tests, remove_first, all-weaker, all-both, all-found, not_found, all-append, all-around, find-cut, remove_first-at, find-without}
+use Rattle.ele_world.proofs.Words.{Key, last_moment, VersionRow, ripe_at, view_of, TakesOneKey, CleanKeepsKeys, IsDueFromRipe, key_of, first_due, Take, after_change, IsWellFormed, World, is_version}
 use Rattle.ele_due.specs.Key.{key_cmp}
-use Rattle.ele_lists.specs.Lists.{remove_first}
-use Rattle.ele_lists.proofs.Edits.{all-weaker, all-both, all-found, not_found}
-use Rattle.ele_moment.specs.Last.{last_moment}
-use Rattle.ele_world.specs.declared.rows.VersionRow.{VersionRow}
-use Rattle.ele_world.specs.Due.{is_due_at, ripe_of, ripe_at}
-use Rattle.ele_world.specs.FileView.{view_of}
-use Rattle.ele_world.specs.CleanKeepsKeys.{TakesOneKey, CleanKeepsKeys}
-use Rattle.ele_world.specs.RipeMoments.{IsDueFromRipe}
-use Rattle.ele_world.specs.Scan.{due_key, key_of, scan, first_due}
-use Rattle.ele_world.specs.Change.{Take, after_change}
-use Rattle.ele_world.specs.WellFormed.{IsWellFormed}
-use Rattle.ele_world.specs.World.{World, is_version}
-use Rattle.ele_lists.proofs.Alls.{all-append, all-around}
-use Rattle.ele_lists.proofs.Cuts.{find-cut, remove_first-at, find-without}
+use Rattle.ele_world.specs.Due.{is_due_at, ripe_of}
+use Rattle.ele_world.specs.Scan.{due_key, scan}
 use Rattle.ele_world.proofs.Cleans.{clean_of}
 use Rattle.ele_world.proofs.DropViews.{ripe_at_dropped}
 use Rattle.ele_world.proofs.DueRows.{first_is_due}

@@ -1,22 +1,7 @@
 -- A close that tells of a version has made it of all that was written.
-use Rattle.std.proofs.Common.{◌≡◌, ℕ, ◌-◌, false, List, Some, ap, subst, ◌∙◌, arith}
-use Rattle.std.specs.Prelude.{find, Ok}
-use Rattle.std.specs.Option.{option_map}
-use Rattle.std.specs.List.{AllByRecursion}
-use Rattle.std.proofs.lemmas.Bool.Decides.{nat_tests}
-use Rattle.ele_lists.proofs.Edits.{all-update_first}
-use Rattle.ele_lists.proofs.Found.{find-inserted}
-use Rattle.ele_world.specs.Change.{ended_at, next_version, with_end, with_version}
-use Rattle.ele_world.specs.CloseKeeps.{KeepsDraft}
-use Rattle.ele_world.specs.Step.{draft_read, plan, step}
-use Rattle.ele_world.specs.WellFormed.{IsVersion, Versions, IsWellFormed}
-use Rattle.ele_world.specs.World.{World, next_of, is_version, is_version_after, file_by, file_written, reads_by}
-use Rattle.ele_world.specs.declared.event.Event.TheVariants.{Close}
+use Rattle.ele_world.proofs.Basics.{◌≡◌, ℕ, ◌-◌, false, List, Some, ap, subst, ◌∙◌, arith, find, Ok, option_map, AllByRecursion, nat_tests, all-update_first, find-inserted}
+use Rattle.ele_world.proofs.Words.{ended_at, next_version, with_end, with_version, KeepsDraft, draft_read, plan, step, IsVersion, Versions, IsWellFormed, World, next_of, is_version, is_version_after, file_by, file_written, reads_by, Close, FileRow, Reads, Draft, Version, VersionRow}
 use Rattle.ele_world.specs.declared.reply.Reply.TheVariants as reply
-use Rattle.ele_world.specs.declared.rows.FileRow.{FileRow}
-use Rattle.ele_world.specs.declared.rows.Reads.{Reads}
-use Rattle.ele_world.specs.declared.rows.Reads.TheVariants.{Draft, Version}
-use Rattle.ele_world.specs.declared.rows.VersionRow.{VersionRow}
 use Rattle.ele_world.proofs.Outcomes.{in_all}
 
 -- no version has the file's next number

@@ -1,22 +1,6 @@
 -- At each moment that a name covers a version of its file lived, and a change keeps that.
-use Rattle.std.proofs.Common.{◌≡◌, ℕ, ◌<◌, ◌≤◌, true, ◌&&◌, ◌++◌, IfSome, List, [], ◌∷◌, Some, refl, arith, inl, inr, ◌⊎◌, is_none}
-use Rattle.std.specs.Prelude.{nat_le}
-use Rattle.std.specs.List.{AllByRecursion, list_any}
-use Rattle.std.proofs.lemmas.Bool.{false≢true, cases_lt}
-use Rattle.std.proofs.lemmas.Bool.Decides.{nat_tests}
-use Rattle.ele_lists.specs.Lists.{update_first}
-use Rattle.ele_lists.proofs.Alls.{all-filter}
-use Rattle.ele_lists.proofs.Edits.{all-both, all-push, all-weaker}
-use Rattle.ele_world.specs.Change.{Change, Time, MakeDirectory, EndName, AddName, MoveName, EndFileName, Revive, MakeFile, DropIdle, after_change}
-use Rattle.ele_world.specs.NameRows.{born_row, covers, dies}
-use Rattle.ele_world.specs.Walk.{is_live_name}
-use Rattle.ele_world.specs.WellFormed.{IsNameRow, Names, Versions, IsWellFormed}
-use Rattle.ele_world.specs.World.{World, is_live, is_live_name_of}
-use Rattle.ele_world.specs.declared.event.Event.{Event}
-use Rattle.ele_world.specs.declared.rows.NameRow.{NameRow}
-use Rattle.ele_world.specs.declared.rows.Target.{Target}
-use Rattle.ele_world.specs.declared.rows.Target.TheVariants.{File, Directory}
-use Rattle.ele_world.specs.declared.rows.VersionRow.{VersionRow}
+use Rattle.ele_world.proofs.Basics.{◌≡◌, ℕ, ◌<◌, ◌≤◌, true, ◌&&◌, ◌++◌, IfSome, List, [], ◌∷◌, Some, refl, arith, inl, inr, ◌⊎◌, is_none, nat_le, AllByRecursion, list_any, false≢true, cases_lt, nat_tests, update_first, all-filter, all-both, all-push, all-weaker}
+use Rattle.ele_world.proofs.Words.{Change, Time, MakeDirectory, EndName, AddName, MoveName, EndFileName, Revive, MakeFile, DropIdle, after_change, born_row, covers, dies, is_live_name, IsNameRow, Names, Versions, IsWellFormed, World, is_live, is_live_name_of, Event, NameRow, Target, File, Directory, VersionRow}
 use Rattle.ele_world.proofs.Currents.{has_current}
 use Rattle.ele_world.proofs.Dropped.{dropped, stays_named}
 use Rattle.ele_world.proofs.KeptRevived.{last_is}

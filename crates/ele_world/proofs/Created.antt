@@ -1,18 +1,6 @@
 -- What the making of a file comes to: a row behind the files, the names and the versions.
-use Rattle.std.proofs.Common.{◌≡◌, ℕ, ◌+◌, ◌<◌, Bool, true, false, List, [], ◌∷◌, ◌++◌, None, refl, ap, arith}
-use Rattle.std.specs.List.{AllByRecursion}
-use Rattle.std.proofs.lemmas.Bool.Decides.{nat_tests}
-use Rattle.std.proofs.lemmas.List.Folds.{list_any-append}
-use Rattle.ele_lists.specs.Lists.{update_first, insert_before}
-use Rattle.ele_lists.proofs.Edits.{all-weaker}
-use Rattle.ele_policy.specs.declared.policy.Policy.{Policy}
-use Rattle.ele_world.specs.Change.{numbered_on, next_version, with_end, with_file, with_name, after_change, MakeFile}
-use Rattle.ele_world.specs.WellFormed.{Files, Versions, IsWellFormed}
-use Rattle.ele_world.specs.World.{World, next_of, is_file, is_live, is_version_after}
-use Rattle.ele_world.specs.declared.rows.FileRow.{FileRow}
-use Rattle.ele_world.specs.declared.rows.NameRow.{NameRow}
-use Rattle.ele_world.specs.declared.rows.Target.TheVariants.{File}
-use Rattle.ele_world.specs.declared.rows.VersionRow.{VersionRow}
+use Rattle.ele_world.proofs.Basics.{◌≡◌, ℕ, ◌+◌, ◌<◌, Bool, true, false, List, [], ◌∷◌, ◌++◌, None, refl, ap, arith, AllByRecursion, nat_tests, list_any-append, update_first, insert_before, all-weaker}
+use Rattle.ele_world.proofs.Words.{Policy, numbered_on, next_version, with_end, with_file, with_name, after_change, MakeFile, Files, Versions, IsWellFormed, World, next_of, is_file, is_live, is_version_after, FileRow, NameRow, File, VersionRow}
 use Rattle.ele_world.proofs.Files.{next_of-given, next_of-new}
 
 -- ---- a change at the end of a list

@@ -1,15 +1,8 @@
 -- A live file has a current version, which ends with its last name.
-use Rattle.std.proofs.Common.{◌≡◌, ℕ, ◌-◌, true, Some, None, refl, arith, ap, ◌∙◌}
-use Rattle.std.specs.Prelude.{find}
-use Rattle.std.proofs.lemmas.Bool.{false≢true}
-use Rattle.std.proofs.lemmas.Bool.Decides.{nat_tests}
-use Rattle.ele_world.specs.declared.rows.VersionRow.{VersionRow}
-use Rattle.ele_world.specs.WellFormed.{Versions, Current, IsWellFormed}
-use Rattle.ele_world.specs.World.{World, next_of, is_live, is_version, current_of}
+use Rattle.ele_world.proofs.Basics.{◌≡◌, ℕ, ◌-◌, true, Some, None, refl, arith, ap, ◌∙◌, find, false≢true, nat_tests, option_map}
+use Rattle.ele_world.proofs.Words.{VersionRow, Versions, Current, IsWellFormed, World, next_of, is_live, is_version, current_of, ended_at, with_end}
 use Rattle.ele_world.proofs.Versions.{all_found}
 use Rattle.ele_world.proofs.Elements.{one_of, find-updated}
-use Rattle.std.specs.Option.{option_map}
-use Rattle.ele_world.specs.Change.{ended_at, with_end}
 
 -- its last version is held, and has no end
 pub record HasCurrent (w : World) (file : ℕ) : Type 0 where

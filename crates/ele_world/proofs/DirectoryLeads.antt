@@ -1,22 +1,7 @@
 -- After a mkdir its path leads to the new directory.
-use Rattle.std.proofs.Common.{◌≡◌, ℕ, ◌+◌, ◌≤◌, Bool, true, false, ◌==◌, ◌&&◌, List, [], ◌∷◌, ◌++◌, Ok, refl, ap, subst, ◌∙◌, arith}
-use Rattle.std.specs.Prelude.{is_some}
-use Rattle.std.specs.List.{AllByRecursion, list_any}
-use Rattle.std.proofs.lemmas.Bool.Decides.{nat_tests}
-use Rattle.std.proofs.lemmas.List.Folds.{find-append, list_any-append}
-use Rattle.ele_lists.proofs.Edits.{all-weaker, not_found}
-use Rattle.ele_policy.specs.declared.policy.Policy.{Policy}
-use Rattle.ele_world.specs.Change.{after_change, MakeDirectory}
-use Rattle.ele_world.specs.MakeDirLeads.{LeadsToDirectory}
-use Rattle.ele_world.specs.NameRows.{born_row, is_live_in}
-use Rattle.ele_world.specs.Step.{plan, step}
-use Rattle.ele_world.specs.Walk.{live_target, directory_in, parent_now}
-use Rattle.ele_world.specs.WellFormed.{Directories, Homes, IsWellFormed}
-use Rattle.ele_world.specs.World.{World, is_directory, default_of}
-use Rattle.ele_world.specs.declared.event.Event.TheVariants.{MakeDir}
+use Rattle.ele_world.proofs.Basics.{◌≡◌, ℕ, ◌+◌, ◌≤◌, Bool, true, false, ◌==◌, ◌&&◌, List, [], ◌∷◌, ◌++◌, Ok, refl, ap, subst, ◌∙◌, arith, is_some, AllByRecursion, list_any, nat_tests, find-append, list_any-append, all-weaker, not_found}
+use Rattle.ele_world.proofs.Words.{Policy, after_change, MakeDirectory, LeadsToDirectory, born_row, is_live_in, plan, step, live_target, directory_in, parent_now, Directories, Homes, IsWellFormed, World, is_directory, default_of, MakeDir, DirectoryRow, Directory}
 use Rattle.ele_world.specs.declared.reply.Reply.TheVariants as reply
-use Rattle.ele_world.specs.declared.rows.DirectoryRow.{DirectoryRow}
-use Rattle.ele_world.specs.declared.rows.Target.TheVariants.{Directory}
 use Rattle.ele_world.proofs.Homes.{or_last, parent_home, directory_given}
 use Rattle.ele_world.proofs.Outcomes.{in_all}
 use Rattle.ele_world.proofs.Walks.{new_leads}

@@ -1,24 +1,7 @@
 -- What the files of each kind use after the dropping of an idle file: as much as before, but for the file.
-use Rattle.std.proofs.lemmas.Bool.Decides.{nat_tests}
-use Rattle.std.proofs.Common.{◌≡◌, ◌==◌, ℕ, ◌+◌, Bool, true, false, cond, List, length, Some, refl, ap, arith}
-use Rattle.std.specs.Prelude.{filter}
-use Rattle.std.specs.Option.{option_map_or}
-use Rattle.ele_lists.specs.Lists.{remove_first}
-use Rattle.ele_lists.proofs.Edits.{all-weaker}
-use Rattle.ele_lists.proofs.Filters.{filter-same_all}
-use Rattle.ele_lists.proofs.Sums.{length-filter_removed}
-use Rattle.ele_policy.specs.declared.policy.Kind.{Kind}
-use Rattle.ele_policy.specs.declared.policy.Policy.{Policy}
-use Rattle.ele_policy.specs.Policy.{kind_of, is_kind}
-use Rattle.ele_usage.specs.declared.usage.Usage.{Usage}
-use Rattle.ele_usage.specs.OnlyAt.{only_at}
-use Rattle.ele_usage.specs.Sums.{nothing, plus}
-use Rattle.ele_world.specs.Change.{is_idle, without_file}
-use Rattle.ele_world.specs.Usage.{is_of, is_file_of, usage_of}
-use Rattle.ele_world.specs.World.{World, is_file, policy_of}
-use Rattle.ele_world.specs.declared.rows.DraftRow.{DraftRow}
-use Rattle.ele_world.specs.declared.rows.FileRow.{FileRow}
-use Rattle.ele_world.specs.declared.rows.VersionRow.{VersionRow}
+use Rattle.ele_world.proofs.Basics.{nat_tests, ◌≡◌, ◌==◌, ℕ, ◌+◌, Bool, true, false, cond, List, length, Some, refl, ap, arith, filter, option_map_or, remove_first, all-weaker, filter-same_all, length-filter_removed}
+use Rattle.ele_world.proofs.Words.{Kind, Policy, kind_of, is_kind, Usage, only_at, nothing, plus, is_idle, without_file, is_of, is_file_of, World, is_file, policy_of, DraftRow, FileRow, VersionRow}
+use Rattle.ele_world.specs.Usage.{usage_of}
 use Rattle.ele_world.proofs.Dropped.{IsIdle, idle_is, idle_versions, idle_drafts, policy_of-removed}
 use Rattle.ele_world.proofs.Usages.{same_usage, only_at_is}
 

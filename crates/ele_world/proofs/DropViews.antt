@@ -1,17 +1,7 @@
 -- Due versions and ripe moments after a change that no file's view sees, as the dropping of an idle file.
-use Rattle.std.proofs.Common.{◌≡◌, ◌==◌, ℕ, false, not, List, Option, refl, ap, sym, ◌∙◌, arith}
-use Rattle.std.specs.Prelude.{find, option_and_then}
-use Rattle.std.specs.List.{AllByRecursion}
-use Rattle.std.proofs.lemmas.Bool.Decides.{nat_tests}
-use Rattle.ele_lists.proofs.Edits.{all-any, all-weaker, all-found}
-use Rattle.ele_lists.proofs.Filters.{filter-same_all, list_any-filter}
-use Rattle.ele_world.specs.Change.{DropIdle, without_file, after_change}
-use Rattle.ele_world.specs.Due.{is_due_at, ripe_of, ripe_at, kept_rows}
-use Rattle.ele_world.specs.FileView.{FileView, view_of, due_in, ripe_in}
-use Rattle.ele_world.specs.World.{World, is_version, is_live, is_live_name_of, is_target_file}
-use Rattle.ele_world.specs.declared.rows.Target.{Target}
-use Rattle.ele_world.specs.declared.rows.Target.TheVariants.{File, Directory}
-use Rattle.ele_world.specs.declared.rows.VersionRow.{VersionRow}
+use Rattle.ele_world.proofs.Basics.{◌≡◌, ◌==◌, ℕ, false, not, List, Option, refl, ap, sym, ◌∙◌, arith, find, option_and_then, AllByRecursion, nat_tests, all-any, all-weaker, all-found, filter-same_all, list_any-filter}
+use Rattle.ele_world.proofs.Words.{DropIdle, without_file, after_change, ripe_at, kept_rows, FileView, view_of, due_in, ripe_in, World, is_version, is_live, is_live_name_of, is_target_file, Target, File, Directory, VersionRow}
+use Rattle.ele_world.specs.Due.{is_due_at, ripe_of}
 use Rattle.ele_world.proofs.Dropped.{dropped, stays_named, idle_versions, policy_of-removed}
 use Rattle.ele_world.proofs.GroupMarks.{marks_forgotten}
 use Rattle.ele_world.proofs.RipeAt.{ripe_at_is}

@@ -1,18 +1,6 @@
 -- What the dropping of a file comes to: it goes with its names, where nothing was left of it, or nothing changes.
-use Rattle.std.proofs.Common.{◌≡◌, ◌==◌, ℕ, Bool, true, false, not, List, refl, ap, arith}
-use Rattle.std.specs.Prelude.{find}
-use Rattle.std.specs.List.{AllByRecursion, list_any}
-use Rattle.std.specs.Option.{option_map, option_map_or}
-use Rattle.std.proofs.lemmas.Bool.Decides.{nat_tests}
-use Rattle.ele_lists.specs.Lists.{remove_first}
-use Rattle.ele_lists.proofs.Edits.{all-none, find-remove_first}
-use Rattle.ele_world.specs.Change.{DropIdle, is_idle, without_file, after_change}
-use Rattle.ele_world.specs.FileView.{is_version_of}
-use Rattle.ele_world.specs.World.{World, is_file, next_of, policy_of, is_live, has_draft, is_draft, is_target_file}
-use Rattle.ele_world.specs.declared.rows.DraftRow.{DraftRow}
-use Rattle.ele_world.specs.declared.rows.FileRow.{FileRow}
-use Rattle.ele_world.specs.declared.rows.NameRow.{NameRow}
-use Rattle.ele_world.specs.declared.rows.VersionRow.{VersionRow}
+use Rattle.ele_world.proofs.Basics.{◌≡◌, ◌==◌, ℕ, Bool, true, false, not, List, refl, ap, arith, find, AllByRecursion, list_any, option_map, option_map_or, nat_tests, remove_first, all-none, find-remove_first}
+use Rattle.ele_world.proofs.Words.{DropIdle, is_idle, without_file, after_change, is_version_of, World, is_file, next_of, policy_of, is_live, has_draft, is_draft, is_target_file, DraftRow, FileRow, NameRow, VersionRow}
 
 -- nothing is left of the file
 pub record IsIdle (w : World) (file : ℕ) : Type 0 where

@@ -1,27 +1,9 @@
 -- The scan, one row after another.
-use Rattle.std.proofs.lemmas.Bool.Decides.{nat_tests}
-use Rattle.std.proofs.Common.{arith, ◌≡◌, ℕ, ◌+◌, ◌<◌, ◌≤◌, ◌||◌, Bool, true, false, cond, List, [], ◌∷◌, length, get_or, take, Option, Some, None, refl, ap, sym, ◌∙◌, fold, filter, ◌⊎◌, inl, inr}
-use Rattle.std.specs.Prelude.{nat_le, option_and_then}
-use Rattle.std.specs.List.{filter_map, cons_option}
-use Rattle.std.proofs.lemmas.List.{take_more}
-use Rattle.std.proofs.lemmas.List.Elements.{filter_map-append}
-use Rattle.std.proofs.lemmas.Grind.{fold-append}
-use Rattle.std.specs.BTreeSet.{insert_key}
-use Rattle.ele_due.specs.declared.key.Key.{Key}
-use Rattle.ele_lists.proofs.Filters.{filter-both}
-use Rattle.ele_moment.specs.Last.{last_moment}
-use Rattle.ele_policy.specs.declared.policy.Policy.{Policy}
-use Rattle.ele_policy.specs.declared.policy.Policy.TheVariants.{One, All, Safe}
-use Rattle.ele_policy.specs.Policy.{IsPolicy}
-use Rattle.ele_policy.specs.Ripe.{Beside, ripe_by}
-use Rattle.ele_world.specs.declared.rows.VersionRow.{VersionRow}
+use Rattle.ele_world.proofs.Basics.{nat_tests, arith, ◌≡◌, ℕ, ◌+◌, ◌<◌, ◌≤◌, ◌||◌, Bool, true, false, cond, List, [], ◌∷◌, length, get_or, take, Option, Some, None, refl, ap, sym, ◌∙◌, fold, filter, ◌⊎◌, inl, inr, nat_le, option_and_then, filter_map, cons_option, take_more, filter_map-append, fold-append, insert_key, filter-both}
+use Rattle.ele_world.proofs.Words.{Key, last_moment, Policy, One, All, Safe, IsPolicy, Beside, VersionRow, view_of, is_version_of, is_newer, beside, closings, is_protected, is_marked, is_newer_of, IsDueFromRipe, in_order, key_cmp, key_of, World, is_live, is_open, policy_of}
+use Rattle.ele_policy.specs.Ripe.{ripe_by}
 use Rattle.ele_world.specs.Due.{is_due_at, ripe_of}
-use Rattle.ele_world.specs.FileView.{view_of, is_version_of, is_newer, beside, closings, is_protected}
-use Rattle.ele_world.specs.GroupRows.{is_marked}
-use Rattle.ele_world.specs.Neighbours.{is_newer_of}
-use Rattle.ele_world.specs.RipeMoments.{IsDueFromRipe}
-use Rattle.ele_world.specs.Scan.{in_order, key_cmp, due_key, key_of}
-use Rattle.ele_world.specs.World.{World, is_live, is_open, policy_of}
+use Rattle.ele_world.specs.Scan.{due_key}
 use Rattle.ele_world.proofs.GroupMarks.{marks_tell}
 use Rattle.ele_world.proofs.Readers.{numbers_are}
 use Rattle.ele_world.proofs.RipeAt.{unended}

@@ -1,18 +1,8 @@
 -- The first key of the scan is that of a due row.
-use Rattle.std.proofs.lemmas.Bool.Decides.{nat_tests}
-use Rattle.std.proofs.Common.{arith, ◌≡◌, ℕ, Bool, true, false, ◌||◌, List, [], ◌∷◌, Option, Some, refl, sym, ◌∙◌}
-use Rattle.std.specs.Prelude.{find, is_none, slice_get, fold}
-use Rattle.std.specs.BTreeSet.{insert_key}
-use Rattle.std.specs.List.{AllByRecursion, filter_map}
-use Rattle.std.proofs.lemmas.Bool.{false≢true}
-use Rattle.ele_due.specs.declared.key.Key.{Key}
-use Rattle.ele_world.specs.declared.rows.VersionRow.{VersionRow}
-use Rattle.ele_world.specs.Due.{is_due_at, ripe_of}
-use Rattle.ele_world.specs.FileView.{view_of, is_protected}
-use Rattle.ele_world.specs.GroupRows.{is_marked}
-use Rattle.ele_world.specs.Scan.{key_cmp, due_key, scan, first_due}
-use Rattle.ele_world.specs.WellFormed.{AllLater, ArePlaced}
-use Rattle.ele_world.specs.World.{World, is_open, is_version}
+use Rattle.ele_world.proofs.Basics.{nat_tests, arith, ◌≡◌, ℕ, Bool, true, false, ◌||◌, List, [], ◌∷◌, Option, Some, refl, sym, ◌∙◌, find, is_none, slice_get, fold, insert_key, AllByRecursion, filter_map, false≢true, AllLater}
+use Rattle.ele_world.proofs.Words.{Key, VersionRow, ripe_of, view_of, is_protected, is_marked, key_cmp, first_due, ArePlaced, World, is_open, is_version}
+use Rattle.ele_world.specs.Due.{is_due_at}
+use Rattle.ele_world.specs.Scan.{due_key, scan}
 use Rattle.ele_world.proofs.GroupMarks.{marks_tell}
 use Rattle.ele_world.proofs.Readers.{numbers_are}
 use Rattle.ele_world.proofs.Versions.{IsFound, all_found}

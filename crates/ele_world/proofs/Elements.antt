@@ -1,12 +1,5 @@
 -- Elements that pass a test, and a change of one of them.
-use Rattle.std.proofs.lemmas.Bool.Decides.{nat_tests}
-use Rattle.std.proofs.Common.{arith, ◌≡◌, Bool, true, false, List, [], ◌∷◌, Option, Some, refl}
-use Rattle.std.specs.Prelude.{find}
-use Rattle.std.specs.List.{AllByRecursion, list_any}
-use Rattle.std.specs.Option.{option_map}
-use Rattle.std.proofs.lemmas.Bool.{false≢true}
-use Rattle.ele_lists.specs.Lists.{update_first, AllLater}
-use Rattle.ele_lists.proofs.Edits.{all-found, all-weaker}
+use Rattle.ele_world.proofs.Basics.{nat_tests, arith, ◌≡◌, Bool, true, false, List, [], ◌∷◌, Option, Some, refl, find, AllByRecursion, list_any, option_map, false≢true, update_first, AllLater, all-found, all-weaker}
 
 -- one of those that pass, and what all have
 pub one_of : {X : Type 0} (t : X → Bool) (P : X → Type 0) (xs : List X) → AllByRecursion P xs → list_any t xs ≡ true → (x : X) × (t x ≡ true) × P x

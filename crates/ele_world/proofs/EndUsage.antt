@@ -1,15 +1,7 @@
 -- An end that is set changes nothing of what the files use.
-use Rattle.std.proofs.lemmas.Bool.Decides.{nat_tests}
-use Rattle.std.proofs.Common.{◌≡◌, ℕ, Bool, List, [], ◌∷◌, length, filter, refl, arith}
-use Rattle.std.specs.List.{flat_map}
-use Rattle.std.proofs.lemmas.List.Concat.{flat_map-cons}
-use Rattle.ele_content.specs.Place.{Place}
-use Rattle.ele_lists.specs.Lists.{update_first}
-use Rattle.ele_policy.specs.declared.policy.Kind.{Kind}
-use Rattle.ele_world.specs.Change.{ended_at}
-use Rattle.ele_world.specs.declared.rows.VersionRow.{VersionRow}
-use Rattle.ele_world.specs.Usage.{is_file_of, places_from, bytes_in, usage_of}
-use Rattle.ele_world.specs.World.{World}
+use Rattle.ele_world.proofs.Basics.{nat_tests, ◌≡◌, ℕ, Bool, List, [], ◌∷◌, length, filter, refl, arith, flat_map, flat_map-cons, update_first}
+use Rattle.ele_world.proofs.Words.{Place, Kind, ended_at, VersionRow, is_file_of, places_from, bytes_in, World}
+use Rattle.ele_world.specs.Usage.{usage_of}
 use Rattle.ele_world.proofs.Splits.{bytes_in-cons}
 
 abbrev slots : List VersionRow → List Place

@@ -1,17 +1,6 @@
 -- The next number and the policy of a file, after changes of the file rows.
-use Rattle.std.proofs.Common.{◌≡◌, ◌≢◌, ◌==◌, ℕ, ◌+◌, ◌<◌, ◌≤◌, true, false, List, [], ◌∷◌, ◌++◌, Some, refl, ap, arith}
-use Rattle.std.specs.List.{AllByRecursion}
-use Rattle.std.specs.Option.{option_map, option_map_or}
-use Rattle.std.proofs.lemmas.Bool.Decides.{nat_tests}
-use Rattle.ele_world.specs.declared.rows.FileRow.{FileRow}
-use Rattle.ele_world.specs.declared.rows.Target.{Target}
-use Rattle.ele_world.specs.declared.rows.Target.TheVariants.{File, Directory}
-use Rattle.ele_lists.specs.Lists.{update_first}
-use Rattle.ele_lists.proofs.Found.{find-update_other}
-use Rattle.ele_policy.specs.declared.policy.Policy.{Policy}
-use Rattle.ele_world.specs.Change.{numbered_on, put_under}
-use Rattle.ele_world.specs.WellFormed.{IsFile, IsThere}
-use Rattle.ele_world.specs.World.{is_file, next_of, policy_of}
+use Rattle.ele_world.proofs.Basics.{◌≡◌, ◌≢◌, ◌==◌, ℕ, ◌+◌, ◌<◌, ◌≤◌, true, false, List, [], ◌∷◌, ◌++◌, Some, refl, ap, arith, AllByRecursion, option_map, option_map_or, nat_tests, update_first, find-update_other}
+use Rattle.ele_world.proofs.Words.{FileRow, Target, File, Directory, Policy, numbered_on, put_under, IsFile, IsThere, is_file, next_of, policy_of}
 use Rattle.ele_world.proofs.Elements.{find-update_still}
 
 -- a file that is there keeps its number when rows are added behind

@@ -1,11 +1,6 @@
 -- What the marks of groups say of a file, and which changes of groups leave it.
-use Rattle.std.proofs.Common.{◌≡◌, ℕ, ◌==◌, false, not, List, [], ◌∷◌, Option, refl, arith}
-use Rattle.std.specs.List.{list_any}
-use Rattle.std.proofs.lemmas.Bool.Decides.{nat_tests}
-use Rattle.std.proofs.lemmas.List.Folds.{list_any-append}
-use Rattle.ele_lists.proofs.Filters.{list_any-filter}
-use Rattle.ele_world.specs.declared.rows.GroupRow.{GroupRow}
-use Rattle.ele_world.specs.GroupRows.{covers_moment, forgets, forgotten, is_marked, is_member, marks_over}
+use Rattle.ele_world.proofs.Basics.{◌≡◌, ℕ, ◌==◌, false, not, List, [], ◌∷◌, Option, refl, arith, list_any, nat_tests, list_any-append, list_any-filter}
+use Rattle.ele_world.proofs.Words.{GroupRow, covers_moment, forgets, forgotten, is_marked, is_member, marks_over}
 
 -- a file's marks cover what groups that have it cover
 pub marks_tell : (rows : List GroupRow) (file closed : ℕ) (ended : Option ℕ) → list_any (covers_moment closed ended) (marks_over rows file) ≡ is_marked rows file closed ended

@@ -1,23 +1,8 @@
 -- The directories that names stand in.
-use Rattle.std.proofs.Common.{◌≡◌, ℕ, ◌≤◌, Bool, true, false, ◌==◌, ◌||◌, List, [], ◌∷◌, ◌++◌, Some, Ok, refl, ◌∙◌, arith}
-use Rattle.std.specs.List.{AllByRecursion, list_any}
-use Rattle.std.proofs.lemmas.Bool.{false≢true}
-use Rattle.std.proofs.lemmas.Bool.Decides.{nat_tests}
-use Rattle.std.proofs.lemmas.List.Folds.{list_any-append}
-use Rattle.ele_lists.proofs.Edits.{all-push, all-weaker, all-found, found_passes, list_any-update_first}
-use Rattle.ele_lists.proofs.Found.{any-found}
-use Rattle.ele_world.specs.NameRows.{is_name_of_directory, dies}
-use Rattle.ele_world.specs.Walk.{live_target, parent_now}
-use Rattle.ele_world.specs.WellFormed.{has_directory, is_reached, IsDirectoryThere, IsHoused, Directories, Homes, IsWellFormed, AreHoused, IsOfLive}
-use Rattle.ele_world.specs.World.{World, root, is_live_name_of}
-use Rattle.ele_world.specs.declared.rows.DirectoryRow.{DirectoryRow}
-use Rattle.ele_world.specs.declared.rows.NameRow.{NameRow}
-use Rattle.ele_world.specs.declared.rows.Target.{Target}
-use Rattle.ele_world.specs.declared.rows.Target.TheVariants.{File, Directory}
+use Rattle.ele_world.proofs.Basics.{◌≡◌, ℕ, ◌≤◌, Bool, true, false, ◌==◌, ◌||◌, List, [], ◌∷◌, ◌++◌, Some, Ok, refl, ◌∙◌, arith, AllByRecursion, list_any, false≢true, nat_tests, list_any-append, all-push, all-weaker, all-found, found_passes, list_any-update_first, any-found, update_first}
+use Rattle.ele_world.proofs.Words.{is_name_of_directory, dies, live_target, parent_now, has_directory, is_reached, IsDirectoryThere, IsHoused, Directories, Homes, IsWellFormed, AreHoused, IsOfLive, World, root, is_live_name_of, DirectoryRow, NameRow, Target, File, Directory, VersionRow}
 use Rattle.ele_world.proofs.Walks.{live_row, parent_to}
 use Rattle.ele_world.proofs.NameParts.{still_none}
-use Rattle.ele_lists.specs.Lists.{update_first}
-use Rattle.ele_world.specs.declared.rows.VersionRow.{VersionRow}
 
 pub or_last : (a b : Bool) → b ≡ true → (a || b) ≡ true
 or_last true b h = refl

@@ -1,22 +1,6 @@
 -- The dropping of an idle file keeps a world well formed.
-use Rattle.std.proofs.Common.{◌≡◌, ◌==◌, ℕ, Bool, true, false, not, ◌||◌, List, refl, ap, sym, ◌∙◌, arith}
-use Rattle.std.specs.Prelude.{filter}
-use Rattle.std.specs.List.{list_any}
-use Rattle.std.proofs.lemmas.Bool.{false≢true}
-use Rattle.std.proofs.lemmas.Bool.Decides.{nat_tests}
-use Rattle.ele_lists.specs.Lists.{remove_first}
-use Rattle.ele_lists.proofs.Alls.{all-filter, filter-passes, later-filter}
-use Rattle.ele_lists.proofs.Edits.{all-weaker, all-both, all-remove_first, later-remove_first, length-remove_first-le}
-use Rattle.ele_lists.proofs.Filters.{list_any-filter, any-filtered}
-use Rattle.ele_lists.proofs.Sums.{length-split}
-use Rattle.ele_world.specs.Change.{DropIdle, without_file, after_change}
-use Rattle.ele_world.specs.NameRows.{is_target_directory, is_name_of_directory, is_live_directory}
-use Rattle.ele_world.specs.WellFormed.{is_reached, IsThere, IsNameRow, AreApart, AreOthers, IsVersion, IsDraft, is_current, Part, Counted, Files, Names, Homes, Tree, Versions, Drafts, Current, Holds, IsWellFormed, IsOfLive, Ended, Groups}
-use Rattle.ele_world.specs.World.{World, root, is_file, next_of, is_live, is_live_name_of, is_target_file}
-use Rattle.ele_world.specs.declared.rows.FileRow.{FileRow}
-use Rattle.ele_world.specs.declared.rows.NameRow.{NameRow}
-use Rattle.ele_world.specs.declared.rows.Target.{Target}
-use Rattle.ele_world.specs.declared.rows.Target.TheVariants.{File, Directory}
+use Rattle.ele_world.proofs.Basics.{◌≡◌, ◌==◌, ℕ, Bool, true, false, not, ◌||◌, List, refl, ap, sym, ◌∙◌, arith, filter, list_any, false≢true, nat_tests, remove_first, all-filter, filter-passes, later-filter, all-weaker, all-both, all-remove_first, later-remove_first, length-remove_first-le, list_any-filter, any-filtered, length-split}
+use Rattle.ele_world.proofs.Words.{DropIdle, without_file, after_change, is_target_directory, is_name_of_directory, is_live_directory, is_reached, IsThere, IsNameRow, AreApart, AreOthers, IsVersion, IsDraft, is_current, Part, Counted, Files, Names, Homes, Tree, Versions, Drafts, Current, Holds, IsWellFormed, IsOfLive, Ended, Groups, World, root, is_file, next_of, is_live, is_live_name_of, is_target_file, FileRow, NameRow, Target, File, Directory}
 use Rattle.ele_world.proofs.Dropped.{IsIdle, dropped, stays_named, idle_versions, idle_drafts, next_of-removed}
 use Rattle.ele_world.proofs.KeptGroups.{groups_forgotten}
 

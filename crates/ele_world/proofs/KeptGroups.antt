@@ -1,21 +1,6 @@
 -- Changes of groups keep a world well formed, and groups stay what they are beside other changes.
-use Rattle.std.proofs.lemmas.Bool.Decides.{nat_tests}
-use Rattle.std.proofs.Common.{◌≡◌, ℕ, ◌<◌, ◌≤◌, ◌==◌, Bool, true, false, not, List, [], ◌∷◌, length-append, Option, Some, None, refl, arith}
-use Rattle.std.specs.Prelude.{filter, find}
-use Rattle.std.specs.List.{AllByRecursion}
-use Rattle.std.specs.Option.{option_map_or}
-use Rattle.std.specs.Str.{bytes_eq}
-use Rattle.std.proofs.lemmas.Bool.{not-true}
-use Rattle.std.proofs.lemmas.List.{length-map}
-use Rattle.ele_lists.specs.Lists.{update_first}
-use Rattle.ele_lists.proofs.Alls.{all-filter, all-map, filter-passes, later-filter, later-map}
-use Rattle.ele_lists.proofs.Edits.{all-both, all-none, all-push, all-remove_first, all-weaker, later-push, later-remove_first, later-update_first, length-remove_first-le, length-update_first}
-use Rattle.ele_world.specs.Change.{AddMark, AddMember, DropGroup, MakeGroup, RemoveMark, RemoveMember, after_change}
-use Rattle.ele_world.specs.GroupRows.{adds, forgets, forgotten, has_mark, is_group, is_member, marks, new_group, removes, unmarks}
-use Rattle.ele_world.specs.WellFormed.{AreGroups, Counted, Groups, Holds, IsGroup, IsWellFormed, Part}
-use Rattle.ele_world.specs.World.{World, next_of}
-use Rattle.ele_world.specs.declared.rows.FileRow.{FileRow}
-use Rattle.ele_world.specs.declared.rows.GroupRow.{GroupRow}
+use Rattle.ele_world.proofs.Basics.{nat_tests, ◌≡◌, ℕ, ◌<◌, ◌≤◌, ◌==◌, Bool, true, false, not, List, [], ◌∷◌, length-append, Option, Some, None, refl, arith, filter, find, AllByRecursion, option_map_or, bytes_eq, not-true, length-map, update_first, all-filter, all-map, filter-passes, later-filter, later-map, all-both, all-none, all-push, all-remove_first, all-weaker, later-push, later-remove_first, later-update_first, length-remove_first-le, length-update_first}
+use Rattle.ele_world.proofs.Words.{AddMark, AddMember, DropGroup, MakeGroup, RemoveMark, RemoveMember, after_change, adds, forgets, forgotten, has_mark, is_group, is_member, marks, new_group, removes, unmarks, AreGroups, Counted, Groups, Holds, IsGroup, IsWellFormed, Part, World, next_of, FileRow, GroupRow}
 use Rattle.ele_world.proofs.May.{MayGroup, MayJoin, MayMark}
 
 abbrev AreTwo : ℕ → ℕ → Type 0

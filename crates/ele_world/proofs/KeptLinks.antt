@@ -1,17 +1,6 @@
 -- A name more of what is there, and the end of a file's name, keep a world well formed.
-use Rattle.std.proofs.Common.{◌≡◌, ℕ, ◌-◌, Bool, true, false, cond, ◌==◌, List, [], ◌∷◌, ◌++◌, length, length-append, Some, refl, sym, subst, ◌∙◌, arith}
-use Rattle.std.specs.List.{list_any, AllByRecursion}
-use Rattle.std.proofs.lemmas.Bool.{false≢true}
-use Rattle.std.proofs.lemmas.Bool.Decides.{nat_tests}
-use Rattle.ele_lists.proofs.Edits.{all-none, length-update_first, list_any-update_first, all-weaker, all-both, all-update_first}
-use Rattle.ele_world.specs.Change.{after_change, ended_at, with_end, without_name, AddName, EndFileName}
-use Rattle.ele_world.specs.declared.rows.NameRow.{NameRow}
-use Rattle.ele_world.specs.declared.rows.Target.{Target}
-use Rattle.ele_world.specs.declared.rows.Target.TheVariants.{File, Directory}
-use Rattle.ele_world.specs.NameRows.{born_row, is_live_directory, is_live_in}
-use Rattle.ele_world.specs.Walk.{live_target}
-use Rattle.ele_world.specs.WellFormed.{Part, Counted, Names, Homes, Tree, Versions, Readers, Current, Holds, IsWellFormed, is_current, HaveEnded, IsOfLive, Ended}
-use Rattle.ele_world.specs.World.{World, next_of, is_live, is_live_name_of, is_version}
+use Rattle.ele_world.proofs.Basics.{◌≡◌, ℕ, ◌-◌, Bool, true, false, cond, ◌==◌, List, [], ◌∷◌, ◌++◌, length, length-append, Some, refl, sym, subst, ◌∙◌, arith, list_any, AllByRecursion, false≢true, nat_tests, all-none, length-update_first, list_any-update_first, all-weaker, all-both, all-update_first}
+use Rattle.ele_world.proofs.Words.{after_change, ended_at, with_end, without_name, AddName, EndFileName, NameRow, Target, File, Directory, born_row, is_live_directory, is_live_in, live_target, Part, Counted, Names, Homes, Tree, Versions, Readers, Current, Holds, IsWellFormed, is_current, HaveEnded, IsOfLive, Ended, World, next_of, is_live, is_live_name_of, is_version, VersionRow}
 use Rattle.ele_world.proofs.Readers.{read_on}
 use Rattle.ele_world.proofs.Homes.{any_less, homes_more, ended_more}
 use Rattle.ele_world.proofs.KeptDirectories.{HoldsWith, with_ends, end_name_holds}
@@ -19,7 +8,6 @@ use Rattle.ele_world.proofs.KeptVersions.{versions_ended, current_ended}
 use Rattle.ele_world.proofs.May.{MayHaveMore, MayAdd}
 use Rattle.ele_world.proofs.NameParts.{IsUnnamed, names_more, tree_more, counted_more, live_still}
 use Rattle.ele_world.proofs.Versions.{IsEndedBy, file_ended}
-use Rattle.ele_world.specs.declared.rows.VersionRow.{VersionRow}
 
 -- ---- a name more
 

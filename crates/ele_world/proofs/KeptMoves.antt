@@ -1,22 +1,6 @@
 -- A name that moves keeps a world well formed.
-use Rattle.std.proofs.Common.{◌≡◌, ℕ, Bool, true, ◌==◌, List, [], ◌∷◌, ◌++◌, length, length-append, Some, refl, arith}
-use Rattle.std.specs.Prelude.{find}
-use Rattle.std.specs.List.{list_any}
-use Rattle.std.proofs.lemmas.Bool.{false≢true}
-use Rattle.std.proofs.lemmas.Bool.Decides.{nat_tests}
-use Rattle.std.proofs.lemmas.List.Folds.{list_any-append}
-use Rattle.ele_lists.specs.Lists.{update_first}
-use Rattle.ele_lists.proofs.Alls.{later-weaker}
-use Rattle.ele_lists.proofs.Edits.{all-found, all-push, all-update_first, found_passes, length-update_first, all-weaker}
-use Rattle.ele_lists.proofs.Found.{any-found, list_any-update_fails, list_any-update_found}
-use Rattle.ele_world.specs.Change.{after_change, MoveName}
-use Rattle.ele_world.specs.declared.rows.NameRow.{NameRow}
-use Rattle.ele_world.specs.declared.rows.Target.{Target}
-use Rattle.ele_world.specs.declared.rows.Target.TheVariants.{File, Directory}
-use Rattle.ele_world.specs.NameRows.{born_row, dies, is_live_directory, is_target_directory}
-use Rattle.ele_world.specs.Walk.{is_live_name}
-use Rattle.ele_world.specs.WellFormed.{IsNameRow, IsDirectoryThere, is_reached, IsHoused, AreOthers, Part, Counted, Names, Homes, Tree, Current, Holds, IsWellFormed, IsThere, IsOfLive, Ended}
-use Rattle.ele_world.specs.World.{World, is_target_file, is_live_name_of, is_live}
+use Rattle.ele_world.proofs.Basics.{◌≡◌, ℕ, Bool, true, ◌==◌, List, [], ◌∷◌, ◌++◌, length, length-append, Some, refl, arith, find, list_any, false≢true, nat_tests, list_any-append, update_first, later-weaker, all-found, all-push, all-update_first, found_passes, length-update_first, all-weaker, any-found, list_any-update_fails, list_any-update_found}
+use Rattle.ele_world.proofs.Words.{after_change, MoveName, NameRow, Target, File, Directory, born_row, dies, is_live_directory, is_target_directory, is_live_name, IsNameRow, IsDirectoryThere, is_reached, IsHoused, AreOthers, Part, Counted, Names, Homes, Tree, Current, Holds, IsWellFormed, IsThere, IsOfLive, Ended, World, is_target_file, is_live_name_of, is_live}
 use Rattle.ele_world.proofs.Homes.{any_less, any_more, named_end, named_more, or_last, any_last}
 use Rattle.ele_world.proofs.May.{MayMove}
 use Rattle.ele_world.proofs.NameParts.{and_false, free_still, IsUnnamed, names_end, names_more, still_none, tree_end, tree_more, counted_more, found_target, live_still}

@@ -1,24 +1,7 @@
 -- The clock, policies and the making of a file keep a world well formed.
-use Rattle.std.proofs.Common.{◌≡◌, ℕ, ◌+◌, ◌≤◌, Bool, true, false, ◌&&◌, ◌||◌, List, [], ◌∷◌, ◌++◌, length-append, None, refl, ap, sym, subst, ◌∙◌, arith, eqb}
-use Rattle.std.specs.Prelude.{is_some, is_none}
-use Rattle.std.specs.List.{AllByRecursion, list_any}
-use Rattle.std.proofs.lemmas.Bool.Decides.{nat_tests}
-use Rattle.std.proofs.lemmas.List.Folds.{list_any-append}
-use Rattle.ele_moment.specs.Last.{last_moment}
-use Rattle.ele_lists.specs.Lists.{update_first}
-use Rattle.ele_lists.proofs.Edits.{all-push, all-weaker, all-update_first, later-push, later-update_first, length-update_first, list_any-update_first}
-use Rattle.ele_policy.specs.declared.policy.Policy.{Policy}
-use Rattle.ele_world.specs.Change.{governed_by, put_under, after_change, Time, Govern, MakeFile, PutUnder}
-use Rattle.ele_world.specs.Walk.{live_target}
-use Rattle.ele_policy.specs.Policy.{IsPolicy}
-use Rattle.ele_world.specs.WellFormed.{IsHoused, IsFile, IsNameRow, AreApart, IsVersion, IsDraft, is_current, HaveCurrent, Part, Now, Counted, Directories, Files, Names, Homes, Versions, Drafts, Readers, Current, Holds, IsWellFormed, Tree, Ended, Groups}
-use Rattle.ele_world.specs.World.{World, root, is_directory, is_file, next_of, is_live, is_live_name_of, is_target_file, is_version}
+use Rattle.ele_world.proofs.Basics.{◌≡◌, ℕ, ◌+◌, ◌≤◌, Bool, true, false, ◌&&◌, ◌||◌, List, [], ◌∷◌, ◌++◌, length-append, None, refl, ap, sym, subst, ◌∙◌, arith, eqb, is_some, is_none, AllByRecursion, list_any, nat_tests, list_any-append, update_first, all-push, all-weaker, all-update_first, later-push, later-update_first, length-update_first, list_any-update_first}
+use Rattle.ele_world.proofs.Words.{last_moment, Policy, governed_by, put_under, after_change, Time, Govern, MakeFile, PutUnder, live_target, IsPolicy, IsHoused, IsFile, IsNameRow, AreApart, IsVersion, IsDraft, is_current, HaveCurrent, Part, Now, Counted, Directories, Files, Names, Homes, Versions, Drafts, Readers, Current, Holds, IsWellFormed, Tree, Ended, Groups, World, root, is_directory, is_file, next_of, is_live, is_live_name_of, is_target_file, is_version, DraftRow, FileRow, NameRow, File, VersionRow}
 use Rattle.ele_world.proofs.Readers.{read_on}
-use Rattle.ele_world.specs.declared.rows.DraftRow.{DraftRow}
-use Rattle.ele_world.specs.declared.rows.FileRow.{FileRow}
-use Rattle.ele_world.specs.declared.rows.NameRow.{NameRow}
-use Rattle.ele_world.specs.declared.rows.Target.TheVariants.{File}
-use Rattle.ele_world.specs.declared.rows.VersionRow.{VersionRow}
 use Rattle.ele_world.proofs.Created.{new_file, new_name, first_version, created, made_is}
 use Rattle.ele_world.proofs.Files.{next_of-push, next_of-push_other, next_of-given, next_of-new, next_of-put_under, there-push, there-put_under}
 use Rattle.ele_world.proofs.Homes.{any_more, homes_more, ended_more, any_last}

@@ -1,15 +1,6 @@
 -- A file that has a name again, and a version like its last one, keeps a world well formed.
-use Rattle.std.proofs.Common.{◌≡◌, ℕ, ◌-◌, ◌<◌, List, length-append, Some, subst, arith, length}
-use Rattle.std.specs.List.{AllByRecursion}
-use Rattle.std.proofs.lemmas.Bool.Decides.{nat_tests}
-use Rattle.ele_lists.proofs.Edits.{all-found, found_passes}
-use Rattle.ele_world.specs.Change.{after_change, Revive, current_cells, with_name}
-use Rattle.ele_world.specs.NameRows.{born_row}
-use Rattle.ele_world.specs.WellFormed.{IsVersion, Part, Counted, Names, Homes, Tree, Versions, Current, IsWellFormed, Ended}
-use Rattle.ele_world.specs.World.{World, next_of, is_live_name_of, current_of}
-use Rattle.ele_world.specs.declared.rows.NameRow.{NameRow}
-use Rattle.ele_world.specs.declared.rows.Target.TheVariants.{File}
-use Rattle.ele_world.specs.declared.rows.VersionRow.{VersionRow}
+use Rattle.ele_world.proofs.Basics.{◌≡◌, ℕ, ◌-◌, ◌<◌, List, length-append, Some, subst, arith, length, AllByRecursion, nat_tests, all-found, found_passes}
+use Rattle.ele_world.proofs.Words.{after_change, Revive, current_cells, with_name, born_row, IsVersion, Part, Counted, Names, Homes, Tree, Versions, Current, IsWellFormed, Ended, World, next_of, is_live_name_of, current_of, NameRow, File, VersionRow}
 use Rattle.ele_world.proofs.Homes.{any_less, homes_more, ended_more}
 use Rattle.ele_world.proofs.KeptVersions.{HoldsBeside, append_completes}
 use Rattle.ele_world.proofs.May.{MayName, MayRevive, MayAppend}

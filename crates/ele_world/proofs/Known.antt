@@ -1,21 +1,6 @@
 -- What a history knows of versions: those that are held, and those that were removed as they last stood. One change.
-use Rattle.std.proofs.Common.{◌≡◌, ℕ, ◌-◌, ◌<◌, ◌≤◌, true, false, cond, List, [], Option, Some, None, refl, ap, sym, subst, ◌∙◌, arith, is_none}
-use Rattle.std.specs.Prelude.{find}
-use Rattle.std.specs.List.{AllByRecursion}
-use Rattle.std.specs.Option.{option_or, option_map}
-use Rattle.std.proofs.lemmas.Bool.{false≢true}
-use Rattle.std.proofs.lemmas.Bool.Decides.{nat_tests}
-use Rattle.ele_content.specs.declared.cell.Cell.{Cell}
-use Rattle.ele_lists.proofs.Edits.{all-found, all-insert_before, all-not_found, all-remove_first, all-update_first, all-weaker, found_passes}
-use Rattle.ele_world.specs.Change.{current_cells, Change, Time, EndFileName, Revive, MakeFile, Append, Take, DropIdle, after_change, ended_at, next_version, with_end, with_file, with_name, with_version, without_name}
-use Rattle.ele_world.specs.NameRows.{covers}
-use Rattle.ele_world.specs.Tagged.{lives_at}
-use Rattle.ele_world.specs.WellFormed.{AllLater, ArePlaced, IsVersion, Versions, IsWellFormed}
-use Rattle.ele_world.specs.World.{World, is_live, is_version, is_version_after, next_of}
-use Rattle.ele_world.specs.declared.event.Event.{Event}
-use Rattle.ele_world.specs.declared.rows.NameRow.{NameRow}
-use Rattle.ele_world.specs.declared.rows.Target.TheVariants.{File}
-use Rattle.ele_world.specs.declared.rows.VersionRow.{VersionRow}
+use Rattle.ele_world.proofs.Basics.{◌≡◌, ℕ, ◌-◌, ◌<◌, ◌≤◌, true, false, cond, List, [], Option, Some, None, refl, ap, sym, subst, ◌∙◌, arith, is_none, find, AllByRecursion, option_or, option_map, false≢true, nat_tests, all-found, all-insert_before, all-not_found, all-remove_first, all-update_first, all-weaker, found_passes, AllLater}
+use Rattle.ele_world.proofs.Words.{Cell, current_cells, Change, Time, EndFileName, Revive, MakeFile, Append, Take, DropIdle, after_change, ended_at, next_version, with_end, with_file, with_name, with_version, without_name, covers, lives_at, ArePlaced, IsVersion, Versions, IsWellFormed, World, is_live, is_version, is_version_after, next_of, Event, NameRow, File, VersionRow}
 use Rattle.ele_world.proofs.Dropped.{dropped}
 use Rattle.ele_world.proofs.May.{May}
 use Rattle.ele_world.proofs.Moves.{IsBehind, IsPast, change_past, Moves, row_of, Same, Ended, Taken, change_moves}

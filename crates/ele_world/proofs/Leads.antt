@@ -1,20 +1,7 @@
 -- After a create its path leads to the new file.
-use Rattle.std.proofs.Common.{◌≡◌, ℕ, ◌+◌, false, List, [], ◌∷◌, ◌++◌, Some, Ok, ap, subst, arith}
-use Rattle.std.specs.Prelude.{is_some}
-use Rattle.std.specs.Option.{option_map}
-use Rattle.std.proofs.lemmas.Bool.Decides.{nat_tests}
-use Rattle.std.proofs.lemmas.List.Folds.{find-append}
-use Rattle.ele_lists.proofs.Edits.{all-weaker, not_found}
-use Rattle.ele_policy.specs.declared.policy.Policy.{Policy}
-use Rattle.ele_world.specs.CreateLeads.{LeadsToNew}
-use Rattle.ele_world.specs.Step.{plan, step}
-use Rattle.ele_world.specs.Walk.{live_target, file_at, file_now, parent_now}
-use Rattle.ele_world.specs.WellFormed.{Files, IsWellFormed}
-use Rattle.ele_world.specs.World.{World, default_of, next_of, current_of}
-use Rattle.ele_world.specs.declared.event.Event.TheVariants.{Create}
+use Rattle.ele_world.proofs.Basics.{◌≡◌, ℕ, ◌+◌, false, List, [], ◌∷◌, ◌++◌, Some, Ok, ap, subst, arith, is_some, option_map, nat_tests, find-append, all-weaker, not_found}
+use Rattle.ele_world.proofs.Words.{Policy, LeadsToNew, plan, step, live_target, file_at, file_now, parent_now, Files, IsWellFormed, World, default_of, next_of, current_of, Create, File, VersionRow}
 use Rattle.ele_world.specs.declared.reply.Reply.TheVariants as reply
-use Rattle.ele_world.specs.declared.rows.Target.TheVariants.{File}
-use Rattle.ele_world.specs.declared.rows.VersionRow.{VersionRow}
 use Rattle.ele_world.proofs.Created.{new_file, new_name, first_version, created, made_is, versions_before}
 use Rattle.ele_world.proofs.Files.{next_of-new}
 use Rattle.ele_world.proofs.Outcomes.{in_all}

@@ -1,3 +1,5 @@
+pub mod Basics
+pub mod Words
 pub mod Elements
 pub mod Readers
 pub mod Files

@@ -1,17 +1,6 @@
 -- After a link both paths lead to the file; after an unlink its path leads nowhere, and with the last name the file ended.
-use Rattle.std.proofs.lemmas.Bool.Decides.{nat_tests}
-use Rattle.std.proofs.Common.{arith, ◌≡◌, ℕ, List, Option, Some, Ok, refl, ap, ◌∙◌}
-use Rattle.std.specs.Prelude.{unwrap_or}
-use Rattle.std.specs.Option.{option_map}
-use Rattle.ele_world.specs.Change.{after_change, EndFileName}
-use Rattle.ele_world.specs.declared.event.Event.TheVariants.{Unlink}
-use Rattle.ele_world.specs.declared.reply.Reply.TheVariants.{Done}
-use Rattle.ele_world.specs.declared.rows.Target.TheVariants.{File}
-use Rattle.ele_world.specs.declared.rows.VersionRow.{VersionRow}
-use Rattle.ele_world.specs.LinkLeads.{LinkLeads}
-use Rattle.ele_world.specs.Step.{plan}
-use Rattle.ele_world.specs.UnlinkEnds.{EndsName, UnlinkEnds}
-use Rattle.ele_world.specs.Walk.{file_now, parent_now, walk_now}
+use Rattle.ele_world.proofs.Basics.{nat_tests, arith, ◌≡◌, ℕ, List, Option, Some, Ok, refl, ap, ◌∙◌, unwrap_or, option_map}
+use Rattle.ele_world.proofs.Words.{after_change, EndFileName, Unlink, Done, File, VersionRow, LinkLeads, plan, EndsName, UnlinkEnds, file_now, parent_now, walk_now}
 use Rattle.ele_world.proofs.Currents.{has_current, last_ends}
 use Rattle.ele_world.proofs.NameEnds.{dead_path}
 use Rattle.ele_world.proofs.Outcomes.{in_all}

@@ -1,24 +1,8 @@
 -- The listing of a directory at a moment, by what each name stood for then.
-use Rattle.std.proofs.Common.{◌≡◌, ℕ, ◌≤◌, Bool, true, false, ◌&&◌, List, [], ◌∷◌, fold, Option, Some, None, refl, sym, ◌∙◌, filter, find, nat_lt, arith}
-use Rattle.std.specs.List.{AllByRecursion}
+use Rattle.ele_world.proofs.Basics.{◌≡◌, ℕ, ◌≤◌, Bool, true, false, ◌&&◌, List, [], ◌∷◌, fold, Option, Some, None, refl, sym, ◌∙◌, filter, find, nat_lt, arith, AllByRecursion, keys_of, lookup, insert_entry, is_at, option_map_or, option_or, nat_cmp, slice_cmp, nat_list_cmp_total, nat_tests, exact_bytes, is_eq-slice_cmp, bytes_eq-Decides, AllLater, all-weaker, not_found, entries_same, sorted-insert_entry, lookup-insert_entry}
+use Rattle.ele_world.proofs.Words.{covers, is_named, target_at, stood_in, AreApart, NameRow, Target}
 use Rattle.std.specs.List.Sorted.{IsStrictlySortedBy}
-use Rattle.std.specs.Map.{keys_of, lookup}
-use Rattle.std.specs.BTreeMap.{insert_entry, is_at}
-use Rattle.std.specs.Option.{option_map_or, option_or}
-use Rattle.std.specs.Ordering.{nat_cmp}
-use Rattle.std.specs.Cmp.Lexicographic.{slice_cmp, nat_list_cmp_total}
-use Rattle.std.proofs.lemmas.Bool.Decides.{nat_tests}
-use Rattle.std.proofs.lemmas.Map.Lookups.{exact_bytes}
-use Rattle.std.proofs.lemmas.Map.Text.{is_eq-slice_cmp}
-use Rattle.std.proofs.lemmas.Slice.Eq.{bytes_eq-Decides}
-use Rattle.ele_lists.specs.Lists.{AllLater}
-use Rattle.ele_lists.proofs.Edits.{all-weaker, not_found}
-use Rattle.ele_lists.proofs.Entries.{entries_same, sorted-insert_entry, lookup-insert_entry}
-use Rattle.ele_world.specs.NameRows.{covers, is_named, target_at}
-use Rattle.ele_world.specs.Told.{stood_in, listing}
-use Rattle.ele_world.specs.WellFormed.{AreApart}
-use Rattle.ele_world.specs.declared.rows.NameRow.{NameRow}
-use Rattle.ele_world.specs.declared.rows.Target.{Target}
+use Rattle.ele_world.specs.Told.{listing}
 
 abbrev Entry : Type 0
 Entry = List ℕ × Target

@@ -1,19 +1,7 @@
 -- What a dead name last stood for, and that it may have its name again.
-use Rattle.std.proofs.lemmas.Bool.Decides.{nat_tests}
-use Rattle.std.proofs.Common.{arith, ◌≡◌, ℕ, true, false, not, List, Some, None, Ok, subst}
-use Rattle.std.specs.Prelude.{is_some}
-use Rattle.std.specs.List.{AllByRecursion}
-use Rattle.std.proofs.lemmas.Bool.{false≢true}
-use Rattle.ele_lists.specs.Last.{last_passing}
+use Rattle.ele_world.proofs.Basics.{nat_tests, arith, ◌≡◌, ℕ, true, false, not, List, Some, None, Ok, subst, is_some, AllByRecursion, false≢true, last_passing, all-weaker, last_has}
+use Rattle.ele_world.proofs.Words.{is_named, last_dead, last_target, may_return, nameless, IsThere, IsDirectoryThere, IsNameRow, IsHoused, Names, Homes, IsWellFormed, World, NameRow, Target}
 use Rattle.ele_lists.proofs.Cuts.{any-found}
-use Rattle.ele_lists.proofs.Edits.{all-weaker}
-use Rattle.ele_lists.proofs.Lasts.{last_has}
-use Rattle.ele_world.specs.NameRows.{is_named, last_dead}
-use Rattle.ele_world.specs.Restorable.{last_target, may_return, nameless}
-use Rattle.ele_world.specs.WellFormed.{IsThere, IsDirectoryThere, IsNameRow, IsHoused, Names, Homes, IsWellFormed}
-use Rattle.ele_world.specs.World.{World}
-use Rattle.ele_world.specs.declared.rows.NameRow.{NameRow}
-use Rattle.ele_world.specs.declared.rows.Target.{Target}
 use Rattle.ele_world.proofs.May.{HasRoom, MayName, MayAdd, MayRevive}
 
 pub lost_dead : (rows : List NameRow) (directory : ℕ) (name : List ℕ) (lost : Target) → last_target rows directory name ≡ Ok lost → last_dead rows directory name ≡ Some lost

@@ -1,10 +1,6 @@
 -- A version that was current at a mark of a group with its file is held after any event.
-use Rattle.std.proofs.lemmas.Bool.Decides.{nat_tests}
-use Rattle.std.proofs.Common.{arith}
-use Rattle.std.proofs.lemmas.Bool.{false≢true}
-use Rattle.ele_lists.proofs.Edits.{all-weaker}
-use Rattle.ele_world.specs.MarkedStays.{IsMarkedHeld, MarkedStays}
-use Rattle.ele_world.specs.OnlyDueLeave.{StaysOrWasDue}
+use Rattle.ele_world.proofs.Basics.{nat_tests, arith, false≢true, all-weaker}
+use Rattle.ele_world.proofs.Words.{IsMarkedHeld, MarkedStays, StaysOrWasDue}
 use Rattle.ele_world.proofs.Stays.{only_due_leave}
 
 pub marked_stays : MarkedStays

@@ -1,26 +1,6 @@
 -- What each change needs, so that it leaves a well-formed world, and takes only what was due.
-use Rattle.std.specs.Prelude.{◌≡◌, ℕ, ◌+◌, ◌<◌, ◌≤◌, true, false, List, [], ◌∷◌, length, Some, None, Ok, is_some, is_none, find}
-use Rattle.std.specs.List.{list_any}
-use Rattle.ele_content.specs.declared.cell.Cell.{Cell}
-use Rattle.ele_content.specs.Content.{longest_content}
-use Rattle.ele_moment.specs.Last.{last_moment}
-use Rattle.ele_policy.specs.declared.policy.Policy.{Policy}
-use Rattle.ele_world.specs.Change.{Change, Time, Govern, MakeDirectory, EndName, AddName, MoveName, EndFileName, Revive, MakeFile, PutUnder, Append, Take, StartDraft, WriteDraft, TruncateDraft, EndDraft, OpenHandle, ShutHandle, DropIdle, MakeGroup, DropGroup, AddMember, RemoveMember, AddMark, RemoveMark, after_change}
-use Rattle.ele_world.specs.Due.{is_due_at}
-use Rattle.ele_world.specs.GroupRows.{has_group, has_member, is_marked_at}
-use Rattle.ele_world.specs.NameRows.{is_live_in, is_live_directory}
-use Rattle.ele_world.specs.Plan.{Plan, Tell, Make, Unless, When, Need, IfFound}
-use Rattle.ele_world.specs.Run.{IsEvent}
-use Rattle.ele_world.specs.Walk.{live_target}
-use Rattle.ele_policy.specs.Policy.{IsPolicy}
-use Rattle.ele_world.specs.WellFormed.{IsThere, IsDirectoryThere, has_directory, is_reached, IsContent, AreWrittenBy, IsReadable, IsHeldRead}
-use Rattle.ele_world.specs.World.{World, next_of, is_version, is_live, current_of, is_open, has_draft, is_writer}
-use Rattle.ele_world.specs.declared.event.Event.{Event}
-use Rattle.ele_world.specs.declared.event.Event.TheVariants.{CleanOne}
-use Rattle.ele_world.specs.declared.rows.Reads.{Reads}
-use Rattle.ele_world.specs.declared.rows.Target.{Target}
-use Rattle.ele_world.specs.declared.rows.Target.TheVariants.{File, Directory}
-use Rattle.ele_world.specs.declared.rows.VersionRow.{VersionRow}
+use Rattle.ele_world.proofs.Basics.{◌≡◌, ℕ, ◌+◌, ◌<◌, ◌≤◌, true, false, List, [], ◌∷◌, length, Some, None, Ok, is_some, is_none, find, list_any}
+use Rattle.ele_world.proofs.Words.{Cell, longest_content, last_moment, Policy, Change, Time, Govern, MakeDirectory, EndName, AddName, MoveName, EndFileName, Revive, MakeFile, PutUnder, Append, Take, StartDraft, WriteDraft, TruncateDraft, EndDraft, OpenHandle, ShutHandle, DropIdle, MakeGroup, DropGroup, AddMember, RemoveMember, AddMark, RemoveMark, after_change, is_due_at, has_group, has_member, is_marked_at, is_live_in, is_live_directory, Plan, Tell, Make, Unless, When, Need, IfFound, IsEvent, live_target, IsPolicy, IsThere, IsDirectoryThere, has_directory, is_reached, IsContent, AreWrittenBy, IsReadable, IsHeldRead, World, next_of, is_version, is_live, current_of, is_open, has_draft, is_writer, Event, CleanOne, Reads, Target, File, Directory, VersionRow}
 
 abbrev pub HasRoom : World → Type 0
 HasRoom w = w.made.versions + length w.drafts < w.limits.versions

@@ -1,18 +1,7 @@
 -- The version that a tag means is one of its file that is held.
-use Rattle.std.proofs.Common.{◌≡◌, ℕ, ◌-◌, Bool, true, List, Option, Some, arith, find, subst, sym}
-use Rattle.std.specs.Prelude.{Result, Ok, Err}
-use Rattle.std.proofs.lemmas.Bool.Decides.{nat_tests}
-use Rattle.ele_lists.proofs.Edits.{found_passes}
-use Rattle.ele_lists.proofs.Found.{any-found}
-use Rattle.ele_time_path.specs.declared.tagged.Tag.{Tag}
+use Rattle.ele_world.proofs.Basics.{◌≡◌, ℕ, ◌-◌, Bool, true, List, Option, Some, arith, find, subst, sym, Result, Ok, Err, nat_tests, found_passes, any-found}
+use Rattle.ele_world.proofs.Words.{Tag, TaggedPath, held_or_forgotten, version_meant, version_numbered, version_found, version_at, walk_meant, file_at, World, is_held, is_version, next_of, Refusal, FileRow, VersionRow}
 use Rattle.ele_time_path.specs.declared.tagged.Tag.TheVariants as tag
-use Rattle.ele_time_path.specs.declared.tagged.TaggedPath.{TaggedPath}
-use Rattle.ele_world.specs.Tagged.{held_or_forgotten, version_meant, version_numbered, version_found, version_at, walk_meant}
-use Rattle.ele_world.specs.Walk.{file_at}
-use Rattle.ele_world.specs.World.{World, is_held, is_version, next_of}
-use Rattle.ele_world.specs.declared.refusal.Refusal.{Refusal}
-use Rattle.ele_world.specs.declared.rows.FileRow.{FileRow}
-use Rattle.ele_world.specs.declared.rows.VersionRow.{VersionRow}
 
 -- it was found by a test that only the file's versions pass
 pub record IsMeant (versions : List VersionRow) (file : ℕ) (row : VersionRow) : Type 0 where

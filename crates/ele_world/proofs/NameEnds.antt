@@ -1,24 +1,6 @@
 -- Where a name has died its path leads nowhere; so after a rmdir.
-use Rattle.std.proofs.Common.{◌≡◌, ℕ, Bool, true, false, ◌==◌, ◌&&◌, List, [], ◌∷◌, ◌++◌, Some, None, Ok, Err, refl, ap, ◌∙◌, arith}
-use Rattle.std.specs.Prelude.{is_none}
-use Rattle.std.specs.Str.{bytes_eq}
-use Rattle.std.proofs.lemmas.Bool.{false≢true}
-use Rattle.std.proofs.lemmas.Bool.Decides.{nat_tests}
-use Rattle.std.proofs.lemmas.Slice.Eq.{bytes_eq-Decides}
-use Rattle.ele_lists.specs.Lists.{update_first, AllLater}
-use Rattle.ele_lists.proofs.Alls.{later-weaker}
-use Rattle.ele_lists.proofs.Found.{find-update_other, find-update_none}
-use Rattle.ele_world.specs.NameRows.{dies}
-use Rattle.ele_world.specs.Step.{step}
-use Rattle.ele_world.specs.Walk.{is_live_name, live_target, walk, walk_now, parent_now}
-use Rattle.ele_world.specs.WellFormed.{AreApart, Names, IsWellFormed}
-use Rattle.ele_world.specs.World.{World, root}
-use Rattle.ele_world.specs.declared.event.Event.TheVariants.{RemoveDir}
-use Rattle.ele_world.specs.declared.refusal.Refusal.TheVariants.{NoEntry}
-use Rattle.ele_world.specs.declared.reply.Reply.TheVariants.{Done}
-use Rattle.ele_world.specs.declared.rows.NameRow.{NameRow}
-use Rattle.ele_world.specs.declared.rows.Target.{Target}
-use Rattle.ele_world.specs.declared.rows.Target.TheVariants.{File, Directory}
+use Rattle.ele_world.proofs.Basics.{◌≡◌, ℕ, Bool, true, false, ◌==◌, ◌&&◌, List, [], ◌∷◌, ◌++◌, Some, None, Ok, Err, refl, ap, ◌∙◌, arith, is_none, bytes_eq, false≢true, nat_tests, bytes_eq-Decides, update_first, AllLater, later-weaker, find-update_other, find-update_none}
+use Rattle.ele_world.proofs.Words.{dies, step, is_live_name, live_target, walk, walk_now, parent_now, AreApart, Names, IsWellFormed, World, root, RemoveDir, NoEntry, Done, NameRow, Target, File, Directory}
 use Rattle.ele_world.proofs.NameParts.{still_none, dies_so}
 use Rattle.ele_world.proofs.Outcomes.{in_all}
 use Rattle.ele_world.proofs.Walks.{parent_is}

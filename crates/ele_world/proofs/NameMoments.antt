@@ -1,15 +1,7 @@
 -- Which ripe moments change where names come, go or move: with a file's last name that of its last version, and no other.
-use Rattle.std.proofs.Common.{◌≡◌, ℕ, ◌-◌, true, false, ◌==◌, ◌&&◌, List, Some, None, refl, ap, ◌∙◌, arith, cond}
-use Rattle.std.specs.Prelude.{find, option_and_then}
-use Rattle.std.proofs.lemmas.Bool.Decides.{nat_tests}
-use Rattle.ele_lists.proofs.Found.{find-update_other}
-use Rattle.ele_world.specs.Change.{ended_at, with_end, after_change, EndFileName}
-use Rattle.ele_world.specs.Due.{ripe_of, ripe_at}
-use Rattle.ele_world.specs.FileView.{view_of}
-use Rattle.ele_world.specs.GroupRows.{is_marked}
-use Rattle.ele_world.specs.Neighbours.{near_moment, next_closing}
-use Rattle.ele_world.specs.WellFormed.{AreVersions, Versions, IsWellFormed}
-use Rattle.ele_world.specs.World.{World, policy_of, next_of, is_live, is_open, is_version}
+use Rattle.ele_world.proofs.Basics.{◌≡◌, ℕ, ◌-◌, true, false, ◌==◌, ◌&&◌, List, Some, None, refl, ap, ◌∙◌, arith, cond, find, option_and_then, nat_tests, find-update_other}
+use Rattle.ele_world.proofs.Words.{ended_at, with_end, after_change, EndFileName, ripe_at, view_of, is_marked, near_moment, next_closing, AreVersions, Versions, IsWellFormed, World, policy_of, next_of, is_live, is_open, is_version}
+use Rattle.ele_world.specs.Due.{ripe_of}
 use Rattle.ele_world.proofs.Currents.{HasCurrent, last_ends}
 use Rattle.ele_world.proofs.KeptVersions.{versions_ended}
 use Rattle.ele_world.proofs.Neighbours.{AreInOrder, found_moment, in_order_of, next_closing-ended, none_past, ripe_at_near, versions_in_order}

@@ -1,21 +1,6 @@
 -- A name more, and the end of one, in the parts of a well-formed world that speak of names.
-use Rattle.std.proofs.Common.{◌≡◌, ℕ, ◌≤◌, Bool, true, false, ◌&&◌, List, [], ◌∷◌, ◌++◌, Some, refl, sym, ◌∙◌, arith, ◌+◌, ◌<◌, length}
-use Rattle.std.specs.Prelude.{find, is_some, is_none}
-use Rattle.std.specs.List.{AllByRecursion, list_any}
-use Rattle.std.proofs.lemmas.Bool.{false≢true}
-use Rattle.std.proofs.lemmas.Bool.Decides.{nat_tests}
-use Rattle.std.proofs.lemmas.Slice.Eq.{bytes_eq-Decides}
-use Rattle.ele_lists.specs.Lists.{update_first}
-use Rattle.ele_lists.proofs.Edits.{all-any, all-push, all-weaker, all-both, all-update_first, all-not_found, later-push, later-update_first, not_found}
-use Rattle.ele_lists.proofs.Found.{later-update_found, list_any-update_found}
-use Rattle.ele_world.specs.NameRows.{born_row, dies, is_live_directory}
-use Rattle.ele_world.specs.Walk.{live_target, is_live_name}
-use Rattle.ele_world.specs.WellFormed.{AllLater, IsThere, IsNameRow, AreApart, AreNames, AreOthers, AreCounted, Counted, IsWellFormed}
-use Rattle.ele_world.specs.declared.rows.FileRow.{FileRow}
-use Rattle.ele_world.specs.declared.rows.NameRow.{NameRow}
-use Rattle.ele_world.specs.declared.rows.Target.{Target}
-use Rattle.ele_world.specs.declared.rows.Target.TheVariants.{File, Directory}
-use Rattle.ele_world.specs.World.{World, is_target_file, is_live_name_of}
+use Rattle.ele_world.proofs.Basics.{◌≡◌, ℕ, ◌≤◌, Bool, true, false, ◌&&◌, List, [], ◌∷◌, ◌++◌, Some, refl, sym, ◌∙◌, arith, ◌+◌, ◌<◌, length, find, is_some, is_none, AllByRecursion, list_any, false≢true, nat_tests, bytes_eq-Decides, update_first, all-any, all-push, all-weaker, all-both, all-update_first, all-not_found, later-push, later-update_first, not_found, later-update_found, list_any-update_found, AllLater}
+use Rattle.ele_world.proofs.Words.{born_row, dies, is_live_directory, live_target, is_live_name, IsThere, IsNameRow, AreApart, AreNames, AreOthers, AreCounted, Counted, IsWellFormed, FileRow, NameRow, Target, File, Directory, World, is_target_file, is_live_name_of}
 
 -- ---- a name more
 

@@ -1,29 +1,9 @@
 -- A version's ripe moment: none while a handle reads it or it is marked, and else what its policy, its own moments and its next
 -- held neighbour tell.
-use Rattle.std.proofs.Common.{◌≡◌, ℕ, ◌+◌, ◌≤◌, ◌==◌, ◌&&◌, ◌||◌, Bool, true, false, not, cond, List, [], ◌∷◌, ◌++◌, Option, Some, None, refl, ap, subst, ◌∙◌, arith, filter, slice_get}
-use Rattle.std.specs.Prelude.{find, option_and_then, IfSome}
-use Rattle.std.specs.List.{AllByRecursion, list_any}
-use Rattle.std.specs.Option.{option_map_or}
-use Rattle.std.proofs.lemmas.Bool.Decides.{nat_tests}
-use Rattle.std.proofs.lemmas.Option.{slice_get-map}
-use Rattle.ele_lists.proofs.Cuts.{find-cut}
-use Rattle.ele_lists.proofs.Filters.{find-filter_both}
-use Rattle.ele_lists.specs.Lists.{AllLater, update_first}
-use Rattle.ele_lists.proofs.Edits.{all-weaker, not_found}
-use Rattle.ele_policy.proofs.Earliest.{never_due}
-use Rattle.ele_policy.proofs.Waits.{ripe_nearest}
-use Rattle.ele_policy.specs.declared.policy.Policy.{Policy}
-use Rattle.ele_policy.specs.Policy.{IsPolicy}
-use Rattle.ele_policy.specs.Ripe.{IsNearest, is_due_by, alone, candidates, earliest_of, ripe_by}
-use Rattle.ele_world.specs.declared.rows.FileRow.{FileRow}
-use Rattle.ele_world.specs.declared.rows.VersionRow.{VersionRow}
-use Rattle.ele_world.specs.Change.{ended_at}
-use Rattle.ele_world.specs.Due.{ripe_of, ripe_at}
-use Rattle.ele_world.specs.FileView.{FileView, view_of, beside, ripe_in}
-use Rattle.ele_world.specs.GroupRows.{covers_moment, is_marked}
-use Rattle.ele_world.specs.Neighbours.{is_newer_of, near_moment, next_closing, moment_under, free_moment}
-use Rattle.ele_world.specs.WellFormed.{ArePlaced, AreVersions, IsVersion, Versions, IsWellFormed}
-use Rattle.ele_world.specs.World.{World, is_open, is_version, next_of, policy_of}
+use Rattle.ele_world.proofs.Basics.{◌≡◌, ℕ, ◌+◌, ◌≤◌, ◌==◌, ◌&&◌, ◌||◌, Bool, true, false, not, cond, List, [], ◌∷◌, ◌++◌, Option, Some, None, refl, ap, subst, ◌∙◌, arith, filter, slice_get, find, option_and_then, IfSome, AllByRecursion, list_any, option_map_or, nat_tests, slice_get-map, find-cut, find-filter_both, AllLater, update_first, all-weaker, not_found}
+use Rattle.ele_world.proofs.Words.{never_due, ripe_nearest, Policy, IsPolicy, IsNearest, is_due_by, alone, candidates, earliest_of, FileRow, VersionRow, ended_at, ripe_at, FileView, view_of, beside, ripe_in, covers_moment, is_marked, is_newer_of, near_moment, next_closing, moment_under, free_moment, ArePlaced, AreVersions, IsVersion, Versions, IsWellFormed, World, is_open, is_version, next_of, policy_of}
+use Rattle.ele_policy.specs.Ripe.{ripe_by}
+use Rattle.ele_world.specs.Due.{ripe_of}
 use Rattle.ele_world.proofs.GroupMarks.{marks_tell}
 use Rattle.ele_world.proofs.Readers.{numbers_are}
 use Rattle.ele_world.proofs.RipeAt.{ripe_at_is}

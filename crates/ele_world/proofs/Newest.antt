@@ -1,34 +1,8 @@
 -- The newest row of each name, and the names that may come back among those whose newest row is dead.
-use Rattle.std.proofs.lemmas.Bool.Decides.{nat_tests}
-use Rattle.std.proofs.Common.{arith, ◌≡◌, ℕ, ◌+◌, ◌<◌, Bool, true, false, cond, ◌&&◌, List, [], ◌∷◌, length, map, get_or, take, fold, Option, Some, None, refl, ap, sym, subst, ◌∙◌, filter}
-use Rattle.std.specs.Prelude.{find, is_some, unwrap_or}
-use Rattle.std.specs.List.{AllByRecursion, filter_map}
+use Rattle.ele_world.proofs.Basics.{nat_tests, arith, ◌≡◌, ℕ, ◌+◌, ◌<◌, Bool, true, false, cond, ◌&&◌, List, [], ◌∷◌, length, map, get_or, take, fold, Option, Some, None, refl, ap, sym, subst, ◌∙◌, filter, find, is_some, unwrap_or, AllByRecursion, filter_map, keys_of, values_of, lookup, insert_entry, is_at, option_map, option_or, Ordering, Less, Equal, Greater, nat_cmp, ordering_then, is_eq, IsTotalOrder, nat_cmp_total, unsigned_tied, eq_by_cmp_equiv, slice_cmp, nat_list_cmp_total, then_total, on_total, fold-append, take_more, option_filter, lookup-filter-values, IsDistinct-from_sorted, CmpEqualImpliesEq, exact_pairs, exact_unsigned, exact_bytes, lookup-map_values, keys_of-map_values, is_eq-slice_cmp, last_passing, passing, entries_same, filter_map-map, sorted-insert_entry, lookup-insert_entry, sorted-filter_entries, all-insert_entry}
+use Rattle.ele_world.proofs.Words.{is_named, last_dead, name_cmp, newest_rows, returning_name, returning, World, is_file, next_of, DeadName, FileRow, NameRow, Target}
 use Rattle.std.specs.List.Sorted.{IsStrictlySortedBy}
-use Rattle.std.specs.Map.{keys_of, values_of, lookup}
-use Rattle.std.specs.BTreeMap.{insert_entry, is_at}
-use Rattle.std.specs.Option.{option_map, option_or}
-use Rattle.std.specs.declared.cmp.Ordering.{Ordering}
-use Rattle.std.specs.declared.cmp.Ordering.TheVariants.{Less, Equal, Greater}
-use Rattle.std.specs.Ordering.{nat_cmp, ordering_then, is_eq}
-use Rattle.std.specs.Cmp.{IsTotalOrder, nat_cmp_total, unsigned_tied, eq_by_cmp_equiv}
-use Rattle.std.specs.Cmp.Lexicographic.{slice_cmp, nat_list_cmp_total}
-use Rattle.std.proofs.lemmas.Cmp.{then_total, on_total}
-use Rattle.std.proofs.lemmas.Grind.{fold-append}
-use Rattle.std.proofs.lemmas.List.{take_more}
-use Rattle.std.proofs.lemmas.Map.Entries.{option_filter, lookup-filter-values}
-use Rattle.std.proofs.lemmas.Map.Keys.{IsDistinct-from_sorted}
-use Rattle.std.proofs.lemmas.Map.Lookups.{CmpEqualImpliesEq, exact_pairs, exact_unsigned, exact_bytes}
-use Rattle.std.proofs.lemmas.Map.Made.{lookup-map_values, keys_of-map_values}
-use Rattle.std.proofs.lemmas.Map.Text.{is_eq-slice_cmp}
-use Rattle.ele_lists.specs.Last.{last_passing, passing}
-use Rattle.ele_lists.proofs.Entries.{entries_same, filter_map-map, sorted-insert_entry, lookup-insert_entry, sorted-filter_entries, all-insert_entry}
-use Rattle.ele_world.specs.NameRows.{is_named, last_dead}
-use Rattle.ele_world.specs.Restorable.{name_cmp, newest_rows, returning_name, returning, restorable}
-use Rattle.ele_world.specs.World.{World, is_file, next_of}
-use Rattle.ele_world.specs.declared.rows.DeadName.{DeadName}
-use Rattle.ele_world.specs.declared.rows.FileRow.{FileRow}
-use Rattle.ele_world.specs.declared.rows.NameRow.{NameRow}
-use Rattle.ele_world.specs.declared.rows.Target.{Target}
+use Rattle.ele_world.specs.Restorable.{restorable}
 
 abbrev Key : Type 0
 Key = ℕ × List ℕ

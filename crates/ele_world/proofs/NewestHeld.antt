@@ -1,24 +1,6 @@
 -- The newest held version of a file, and the place at which its next one comes in.
-use Rattle.std.proofs.Common.{◌≡◌, ℕ, ◌+◌, ◌-◌, ◌<◌, ◌≤◌, ◌==◌, Bool, true, false, cond, ◌&&◌, ◌||◌, List, [], ◌∷◌, Option, Some, None, IfSome, refl, ap, sym, subst, ◌∙◌, arith}
-use Rattle.std.specs.Prelude.{find}
-use Rattle.std.specs.List.{AllByRecursion, list_any}
-use Rattle.std.specs.Option.{option_map}
-use Rattle.std.proofs.lemmas.Bool.{false≢true}
-use Rattle.std.proofs.lemmas.Bool.Decides.{nat_tests}
-use Rattle.ele_content.specs.declared.cell.Cell.{Cell}
-use Rattle.ele_lists.specs.Last.{last_passing}
-use Rattle.ele_lists.specs.Lists.{AllLater, insert_before}
-use Rattle.ele_lists.proofs.Alls.{later-weaker}
-use Rattle.ele_lists.proofs.Edits.{all-both, all-insert_before, all-update_first, all-weaker, find-insert_before, later-insert_before, list_any-update_first}
-use Rattle.ele_lists.proofs.Found.{any-found, find-inserted, find-update_other}
-use Rattle.ele_lists.proofs.Lasts.{last_has}
-use Rattle.ele_policy.specs.Policy.{IsPolicy}
-use Rattle.ele_world.specs.Change.{ended_at, next_version, with_end, with_version}
-use Rattle.ele_world.specs.FileView.{is_version_of}
-use Rattle.ele_world.specs.Neighbours.{is_newer_of, newest_of, next_closing}
-use Rattle.ele_world.specs.WellFormed.{ArePlaced, AreVersions, IsVersion}
-use Rattle.ele_world.specs.World.{World, is_file, is_live, is_version, is_version_after, next_of}
-use Rattle.ele_world.specs.declared.rows.VersionRow.{VersionRow}
+use Rattle.ele_world.proofs.Basics.{◌≡◌, ℕ, ◌+◌, ◌-◌, ◌<◌, ◌≤◌, ◌==◌, Bool, true, false, cond, ◌&&◌, ◌||◌, List, [], ◌∷◌, Option, Some, None, IfSome, refl, ap, sym, subst, ◌∙◌, arith, find, AllByRecursion, list_any, option_map, false≢true, nat_tests, last_passing, AllLater, insert_before, later-weaker, all-both, all-insert_before, all-update_first, all-weaker, find-insert_before, later-insert_before, list_any-update_first, any-found, find-inserted, find-update_other, last_has}
+use Rattle.ele_world.proofs.Words.{Cell, IsPolicy, ended_at, next_version, with_end, with_version, is_version_of, is_newer_of, newest_of, next_closing, ArePlaced, AreVersions, IsVersion, World, is_file, is_live, is_version, is_version_after, next_of, VersionRow}
 use Rattle.ele_world.proofs.Elements.{find-updated}
 use Rattle.ele_world.proofs.KeptVersions.{versions_ended}
 use Rattle.ele_world.proofs.Neighbours.{AreInOrder, next_closing-ended, none_past}

@@ -1,25 +1,7 @@
 -- In a run one version of a file lived at each moment that a name of the file covers.
-use Rattle.std.proofs.Common.{◌≡◌, ℕ, true, false, List, [], ◌∷◌, Option, Some, None, refl, ap, sym, ◌∙◌, arith}
-use Rattle.std.specs.Prelude.{find, Ok, Err}
-use Rattle.std.specs.List.{AllByRecursion}
-use Rattle.std.specs.Option.{option_or}
-use Rattle.std.proofs.lemmas.Bool.{false≢true, cases_lt}
-use Rattle.std.proofs.lemmas.Bool.Decides.{nat_tests}
+use Rattle.ele_world.proofs.Basics.{◌≡◌, ℕ, true, false, List, [], ◌∷◌, Option, Some, None, refl, ap, sym, ◌∙◌, arith, find, Ok, Err, AllByRecursion, option_or, false≢true, cases_lt, nat_tests, all-found, all-not_found, all-weaker, found_passes, any-found, AllLater}
+use Rattle.ele_world.proofs.Words.{Bounds, AreBounds, Change, after_change, after_changes, last_stood, HasOneLife, NamesOneLife, OneLife, run_of, IsEvent, plan, step, had_closed, had_life, held_or_forgotten, last_number, lives_at, version_living, ArePlaced, Versions, IsWellFormed, World, fresh_world, is_held, is_version, Event, Forgotten, VersionRow}
 use Rattle.ele_lists.proofs.Cuts.{any-found as first_passing}
-use Rattle.ele_lists.proofs.Edits.{all-found, all-not_found, all-weaker, found_passes}
-use Rattle.ele_lists.proofs.Found.{any-found}
-use Rattle.ele_world.specs.Bounds.{Bounds, AreBounds}
-use Rattle.ele_world.specs.Change.{Change, after_change, after_changes}
-use Rattle.ele_world.specs.Ever.{last_stood}
-use Rattle.ele_world.specs.OneLife.{HasOneLife, NamesOneLife, OneLife}
-use Rattle.ele_world.specs.Run.{run_of, IsEvent}
-use Rattle.ele_world.specs.Step.{plan, step}
-use Rattle.ele_world.specs.Tagged.{had_closed, had_life, held_or_forgotten, last_number, lives_at, version_living}
-use Rattle.ele_world.specs.WellFormed.{AllLater, ArePlaced, Versions, IsWellFormed}
-use Rattle.ele_world.specs.World.{World, fresh_world, is_held, is_version}
-use Rattle.ele_world.specs.declared.event.Event.{Event}
-use Rattle.ele_world.specs.declared.refusal.Refusal.TheVariants.{Forgotten}
-use Rattle.ele_world.specs.declared.rows.VersionRow.{VersionRow}
 use Rattle.ele_world.proofs.Allowed.{allowed}
 use Rattle.ele_world.proofs.Covered.{change_known}
 use Rattle.ele_world.proofs.Keeps.{change_keeps, reached}

@@ -1,18 +1,6 @@
 -- Which ripe moments change where handles come and go: that of a version that a handle reads, and no other.
-use Rattle.std.proofs.lemmas.Bool.Decides.{nat_tests}
-use Rattle.std.proofs.Common.{arith, ◌≡◌, ℕ, ◌||◌, Bool, true, false, cond, [], ◌∷◌, Some, None, refl, ap, sym, ◌∙◌, find}
-use Rattle.std.specs.Prelude.{Ok, Err}
-use Rattle.std.specs.Option.{option_map_or}
-use Rattle.std.proofs.lemmas.List.Folds.{list_any-append}
-use Rattle.ele_lists.specs.Lists.{remove_first}
-use Rattle.ele_lists.proofs.Edits.{list_any-remove_first}
-use Rattle.ele_world.specs.Change.{after_change, OpenHandle, ShutHandle}
-use Rattle.ele_world.specs.Due.{ripe_at}
-use Rattle.ele_world.specs.declared.refusal.Refusal.TheVariants.{NoHandle}
-use Rattle.ele_world.specs.declared.rows.HandleRow.{HandleRow}
-use Rattle.ele_world.specs.declared.rows.Reads.{Reads}
-use Rattle.ele_world.specs.Neighbours.{free_moment}
-use Rattle.ele_world.specs.World.{World, is_handle, is_open, reads_by, reads_version}
+use Rattle.ele_world.proofs.Basics.{nat_tests, arith, ◌≡◌, ℕ, ◌||◌, Bool, true, false, cond, [], ◌∷◌, Some, None, refl, ap, sym, ◌∙◌, find, Ok, Err, option_map_or, list_any-append, remove_first, list_any-remove_first}
+use Rattle.ele_world.proofs.Words.{after_change, OpenHandle, ShutHandle, ripe_at, NoHandle, HandleRow, Reads, free_moment, World, is_handle, is_open, reads_by, reads_version}
 use Rattle.ele_world.proofs.Neighbours.{AreInOrder, found_moment, ripe_at_near}
 
 -- an open version has none

@@ -1,20 +1,7 @@
 -- A version that a handle reads is held after any event.
-use Rattle.std.proofs.Common.{◌≡◌, inl, inr, ℕ, true, Some, sym, subst, ◌∙◌, arith, find}
-use Rattle.std.specs.Prelude.{Ok}
-use Rattle.std.proofs.lemmas.Bool.{false≢true}
-use Rattle.std.proofs.lemmas.Bool.Decides.{nat_tests}
+use Rattle.ele_world.proofs.Basics.{◌≡◌, inl, inr, ℕ, true, Some, sym, subst, ◌∙◌, arith, find, Ok, false≢true, nat_tests, all-found, found_passes, any-found}
+use Rattle.ele_world.proofs.Words.{StaysOrWasDue, OpenStays, step, IsHeldRead, Readers, World, is_handle, is_held, is_open, is_version, reads_by, reads_version, HandleRow, Reads, Version, VersionRow}
 use Rattle.ele_lists.proofs.Cuts.{any-found as first_passing}
-use Rattle.ele_lists.proofs.Edits.{all-found, found_passes}
-use Rattle.ele_lists.proofs.Found.{any-found}
-use Rattle.ele_world.specs.OnlyDueLeave.{StaysOrWasDue}
-use Rattle.ele_world.specs.OpenStays.{OpenStays}
-use Rattle.ele_world.specs.Step.{step}
-use Rattle.ele_world.specs.WellFormed.{IsHeldRead, Readers}
-use Rattle.ele_world.specs.World.{World, is_handle, is_held, is_open, is_version, reads_by, reads_version}
-use Rattle.ele_world.specs.declared.rows.HandleRow.{HandleRow}
-use Rattle.ele_world.specs.declared.rows.Reads.{Reads}
-use Rattle.ele_world.specs.declared.rows.Reads.TheVariants.{Version}
-use Rattle.ele_world.specs.declared.rows.VersionRow.{VersionRow}
 use Rattle.ele_world.proofs.Stays.{only_due_leave}
 
 -- the handle's row

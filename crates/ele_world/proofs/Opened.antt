@@ -1,10 +1,6 @@
 -- What opening a handle comes to, whether the file has a draft or not.
-use Rattle.std.proofs.Common.{ℕ, cond, List, [], ◌∷◌, ◌++◌}
-use Rattle.ele_lists.specs.Lists.{insert_before}
-use Rattle.ele_world.specs.Change.{new_draft}
-use Rattle.ele_world.specs.World.{World, has_draft, is_draft_after}
-use Rattle.ele_world.specs.declared.rows.DraftRow.{DraftRow}
-use Rattle.ele_world.specs.declared.rows.Reads.TheVariants.{Draft}
+use Rattle.ele_world.proofs.Basics.{ℕ, cond, List, [], ◌∷◌, ◌++◌, insert_before}
+use Rattle.ele_world.proofs.Words.{new_draft, World, has_draft, is_draft_after, DraftRow, Draft}
 
 -- the drafts with one of the file: that which is there, or else a new one
 abbrev pub with_draft : World → ℕ → List DraftRow

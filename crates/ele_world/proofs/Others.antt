@@ -1,22 +1,8 @@
 -- The rows of other files stay where one file's rows change.
-use Rattle.std.proofs.Common.{◌≡◌, ℕ, true, false, not, List, [], ◌∷◌, length, Option, refl, ap, arith, eqb}
-use Rattle.std.specs.Prelude.{filter}
-use Rattle.std.specs.Option.{option_map_or}
-use Rattle.std.proofs.lemmas.Bool.Decides.{nat_tests}
-use Rattle.ele_lists.specs.Lists.{update_first, remove_first, insert_before}
-use Rattle.ele_lists.proofs.Edits.{found_passes}
-use Rattle.ele_policy.specs.declared.policy.Kind.{Kind}
-use Rattle.ele_policy.specs.declared.policy.Policy.{Policy}
-use Rattle.ele_policy.specs.Policy.{kind_of, is_kind}
-use Rattle.ele_world.specs.declared.rows.DraftRow.{DraftRow}
-use Rattle.ele_world.specs.declared.rows.FileRow.{FileRow}
-use Rattle.ele_world.specs.declared.rows.VersionRow.{VersionRow}
-use Rattle.ele_world.specs.Change.{numbered_on, ended_at, new_draft}
+use Rattle.ele_world.proofs.Basics.{◌≡◌, ℕ, true, false, not, List, [], ◌∷◌, length, Option, refl, ap, arith, eqb, filter, option_map_or, nat_tests, update_first, remove_first, insert_before, found_passes, filter-update_first, filter-remove_first, filter-insert_before}
+use Rattle.ele_world.proofs.Words.{Kind, Policy, kind_of, is_kind, DraftRow, FileRow, VersionRow, numbered_on, ended_at, new_draft, is_of, is_file_of, World, is_draft, is_draft_after, is_file, is_version, is_version_after}
 use Rattle.ele_world.proofs.Opened.{with_draft}
-use Rattle.ele_world.specs.Usage.{is_of, is_file_of}
-use Rattle.ele_world.specs.World.{World, is_draft, is_draft_after, is_file, is_version, is_version_after}
 use Rattle.ele_world.proofs.Files.{policies-numbered}
-use Rattle.ele_lists.proofs.Filters.{filter-update_first, filter-remove_first, filter-insert_before}
 
 -- ---- drafts
 

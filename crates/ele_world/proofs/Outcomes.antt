@@ -1,10 +1,6 @@
 -- What holds of all that a plan may come to holds of what it comes to.
-use Rattle.std.proofs.Common.{◌≡◌, true, false, Some, None, Ok, Err, refl}
-use Rattle.ele_world.specs.Change.{after_changes}
-use Rattle.ele_world.specs.Plan.{Plan, Tell, Make, Unless, When, Need, IfFound, refused, outcome}
-use Rattle.ele_world.specs.World.{World}
-use Rattle.ele_world.specs.declared.refusal.Refusal.{Refusal}
-use Rattle.ele_world.specs.declared.reply.Reply.{Reply}
+use Rattle.ele_world.proofs.Basics.{◌≡◌, true, false, Some, None, Ok, Err, refl}
+use Rattle.ele_world.proofs.Words.{after_changes, Plan, Tell, Make, Unless, When, Need, IfFound, refused, outcome, World, Refusal, Reply}
 
 -- of each refusal, and of all that it may tell or make
 abbrev pub InAll : World → (Reply × World → Type 0) → Plan → Type 0

@@ -1,25 +1,10 @@
 -- A pass, one clean event after another.
-use Rattle.std.proofs.lemmas.Bool.Decides.{nat_tests}
-use Rattle.std.proofs.Common.{◌≡◌, ℕ, suc, zero, ◌+◌, ◌<◌, List, length, Option, Some, None, refl, ap, arith, add-one}
-use Rattle.std.specs.Prelude.{IsSome}
-use Rattle.std.proofs.lemmas.Bool.{cases_lt}
-use Rattle.ele_due.specs.declared.key.Key.{Key}
-use Rattle.ele_lists.proofs.Edits.{length-remove_first}
-use Rattle.ele_world.specs.declared.event.Event.TheVariants.{CleanOne}
-use Rattle.ele_world.specs.declared.rows.VersionRow.{VersionRow}
-use Rattle.ele_world.specs.Due.{is_due_at}
-use Rattle.ele_world.specs.Pass.{IsCleaned, HasRemoved, IsFinished}
-use Rattle.ele_world.specs.Run.{after_cleans, IsPass}
-use Rattle.ele_world.specs.Scan.{first_due}
-use Rattle.ele_world.specs.Change.{Take, after_change}
-use Rattle.ele_world.specs.Step.{clean_step}
+use Rattle.ele_world.proofs.Basics.{nat_tests, ◌≡◌, ℕ, suc, zero, ◌+◌, ◌<◌, List, length, Option, Some, None, refl, ap, arith, add-one, IsSome, cases_lt, length-remove_first, length-split}
+use Rattle.ele_world.proofs.Words.{Key, CleanOne, VersionRow, is_due_at, IsCleaned, HasRemoved, IsFinished, after_cleans, IsPass, first_due, Take, after_change, clean_step, IsWellFormed, World, is_version}
 use Rattle.ele_world.proofs.Cleans.{clean_of}
-use Rattle.ele_world.specs.WellFormed.{IsWellFormed}
-use Rattle.ele_world.specs.World.{World, is_version}
 use Rattle.ele_world.proofs.Dropped.{dropped_versions}
 use Rattle.ele_world.proofs.DueRows.{first_is_due}
 use Rattle.ele_world.proofs.Passes.{cleaned_keeps_kept, pass_leaves_kept}
-use Rattle.ele_lists.proofs.Sums.{length-split}
 use Rattle.ele_world.proofs.StepKeeps.{step_keeps}
 use Rattle.ele_world.proofs.Views.{placed_of}
 

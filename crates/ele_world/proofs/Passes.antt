@@ -1,26 +1,7 @@
 -- A pass that nothing disturbs removes the due versions, and no others.
-use Rattle.std.proofs.lemmas.Bool.Decides.{nat_tests}
-use Rattle.std.proofs.Common.{arith, ◌≡◌, ℕ, suc, zero, ◌≤◌, true, false, not, List, [], ◌∷◌, Option, Some, None, refl, ap, ◌∙◌}
-use Rattle.std.specs.Prelude.{slice_get, fold, is_some}
-use Rattle.std.specs.BTreeSet.{insert_key}
-use Rattle.std.specs.List.{AllByRecursion, filter_map}
-use Rattle.std.proofs.lemmas.Bool.{false≢true}
-use Rattle.ele_moment.specs.Last.{last_moment}
-use Rattle.ele_world.specs.declared.event.Event.TheVariants.{CleanOne}
-use Rattle.ele_due.specs.declared.key.Key.{Key}
-use Rattle.ele_world.specs.declared.rows.VersionRow.{VersionRow}
-use Rattle.ele_world.specs.Due.{is_due_at, ripe_of, kept_rows}
-use Rattle.ele_lists.specs.Lists.{remove_first}
-use Rattle.ele_lists.proofs.Edits.{all-both, all-weaker}
-use Rattle.ele_world.specs.RipeMoments.{IsDueFromRipe}
-use Rattle.ele_world.specs.Run.{after_cleans, IsPass}
-use Rattle.ele_world.specs.Scan.{key_cmp, due_key, scan, first_due}
-use Rattle.ele_world.specs.Change.{Take, after_change}
-use Rattle.ele_world.specs.Step.{clean_step}
-use Rattle.ele_world.specs.WellFormed.{IsWellFormed}
-use Rattle.ele_world.specs.World.{World, is_version}
-use Rattle.ele_lists.proofs.Cuts.{find-cut, remove_first-at}
-use Rattle.ele_lists.proofs.Filters.{filter-all}
+use Rattle.ele_world.proofs.Basics.{nat_tests, arith, ◌≡◌, ℕ, suc, zero, ◌≤◌, true, false, not, List, [], ◌∷◌, Option, Some, None, refl, ap, ◌∙◌, slice_get, fold, is_some, insert_key, AllByRecursion, filter_map, false≢true, remove_first, all-both, all-weaker, find-cut, remove_first-at, filter-all}
+use Rattle.ele_world.proofs.Words.{last_moment, CleanOne, Key, VersionRow, is_due_at, ripe_of, kept_rows, IsDueFromRipe, after_cleans, IsPass, key_cmp, first_due, Take, after_change, clean_step, IsWellFormed, World, is_version}
+use Rattle.ele_world.specs.Scan.{due_key, scan}
 use Rattle.ele_world.proofs.Cleans.{clean_of}
 use Rattle.ele_world.proofs.DropViews.{dropped_sees, kept_same}
 use Rattle.ele_world.proofs.DueRows.{first_is_due}

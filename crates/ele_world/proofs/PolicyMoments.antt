@@ -1,14 +1,6 @@
 -- Which ripe moments change where a file gets another policy: those of its own versions, and no other.
-use Rattle.std.proofs.Common.{◌≡◌, ℕ, ◌<◌, ◌==◌, false, cond, Option, Some, None, ap, ◌∙◌}
-use Rattle.ele_policy.specs.declared.policy.Policy.{Policy}
-use Rattle.ele_policy.specs.Policy.{IsPolicy}
-use Rattle.ele_world.specs.Change.{PutUnder, after_change}
-use Rattle.ele_world.specs.Due.{ripe_at}
-use Rattle.ele_world.specs.FileView.{view_of, ripe_numbered}
-use Rattle.ele_world.specs.GroupRows.{is_marked}
-use Rattle.ele_world.specs.Neighbours.{moment_under}
-use Rattle.ele_world.specs.WellFormed.{IsWellFormed}
-use Rattle.ele_world.specs.World.{World, is_open, next_of}
+use Rattle.ele_world.proofs.Basics.{◌≡◌, ℕ, ◌<◌, ◌==◌, false, cond, Option, Some, None, ap, ◌∙◌}
+use Rattle.ele_world.proofs.Words.{Policy, IsPolicy, PutUnder, after_change, ripe_at, view_of, ripe_numbered, is_marked, moment_under, IsWellFormed, World, is_open, next_of}
 use Rattle.ele_world.proofs.Files.{policy_of-put_under, policy_of-put_other}
 use Rattle.ele_world.proofs.KeptNames.{put_under_keeps}
 use Rattle.ele_world.proofs.Neighbours.{in_order_of, ripe_at_near}

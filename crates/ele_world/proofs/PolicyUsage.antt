@@ -1,30 +1,8 @@
 -- What the files of each kind use where a file gets another policy: what it uses goes from the one kind to the other.
-use Rattle.std.proofs.lemmas.Bool.Decides.{nat_tests}
-use Rattle.std.proofs.Common.{◌≡◌, ◌==◌, ℕ, ◌+◌, ◌≤◌, Bool, true, false, not, cond, List, length, Option, Some, refl, ap, ◌∙◌, arith}
-use Rattle.std.specs.Prelude.{filter, find}
-use Rattle.std.specs.Option.{option_map_or}
-use Rattle.std.proofs.lemmas.Bool.{not-true}
-use Rattle.std.proofs.lemmas.List.Sums.{length-filter}
-use Rattle.ele_lists.specs.Lists.{update_first}
-use Rattle.ele_lists.proofs.Alls.{filter-passes}
-use Rattle.ele_lists.proofs.Edits.{all-weaker}
-use Rattle.ele_lists.proofs.Filters.{filter-same_all}
-use Rattle.ele_lists.proofs.Sums.{sum_by-update_first, sum_by-found}
-use Rattle.ele_policy.specs.declared.policy.Kind.{Kind}
+use Rattle.ele_world.proofs.Basics.{nat_tests, ◌≡◌, ◌==◌, ℕ, ◌+◌, ◌≤◌, Bool, true, false, not, cond, List, length, Option, Some, refl, ap, ◌∙◌, arith, filter, find, option_map_or, not-true, length-filter, update_first, filter-passes, all-weaker, filter-same_all, sum_by-update_first, sum_by-found}
+use Rattle.ele_world.proofs.Words.{Kind, Policy, kind_of, is_kind, Usage, only_at, nothing, plus, IsWithin, PutUnder, put_under, after_change, DraftRow, FileRow, VersionRow, file_usage, is_of, is_file_of, IsWellFormed, World, is_file, policy_of}
 use Rattle.ele_policy.specs.declared.policy.Kind.TheVariants as kinds
-use Rattle.ele_policy.specs.declared.policy.Policy.{Policy}
-use Rattle.ele_policy.specs.Policy.{kind_of, is_kind}
-use Rattle.ele_usage.specs.declared.usage.Usage.{Usage}
-use Rattle.ele_usage.specs.OnlyAt.{only_at}
-use Rattle.ele_usage.specs.Sums.{nothing, plus, IsWithin}
-use Rattle.ele_world.specs.Change.{PutUnder, put_under, after_change}
-use Rattle.ele_world.specs.declared.rows.DraftRow.{DraftRow}
-use Rattle.ele_world.specs.declared.rows.FileRow.{FileRow}
-use Rattle.ele_world.specs.declared.rows.VersionRow.{VersionRow}
-use Rattle.ele_world.specs.FileUsage.{file_usage}
-use Rattle.ele_world.specs.Usage.{is_of, is_file_of, usage_of}
-use Rattle.ele_world.specs.WellFormed.{IsWellFormed}
-use Rattle.ele_world.specs.World.{World, is_file, policy_of}
+use Rattle.ele_world.specs.Usage.{usage_of}
 use Rattle.ele_world.proofs.Elements.{find-updated}
 use Rattle.ele_world.proofs.Files.{policy_of-put_other}
 use Rattle.ele_world.proofs.Splits.{Splits, count_sum, bytes_sum, blocks_sum, count_splits, bytes_splits, blocks_splits}

@@ -1,13 +1,6 @@
 -- Versions that handles read.
-use Rattle.std.proofs.Common.{arith, ◌≡◌, ℕ, true, false, ◌==◌, List, [], ◌∷◌, refl}
-use Rattle.std.specs.List.{list_any}
-use Rattle.std.proofs.lemmas.Bool.Decides.{nat_tests}
-use Rattle.ele_lists.proofs.Edits.{all-weaker}
-use Rattle.ele_world.specs.FileView.{numbers_read}
-use Rattle.ele_world.specs.WellFormed.{AreHeldRead}
-use Rattle.ele_world.specs.World.{is_open, is_version}
-use Rattle.ele_world.specs.declared.rows.HandleRow.{HandleRow}
-use Rattle.ele_world.specs.declared.rows.VersionRow.{VersionRow}
+use Rattle.ele_world.proofs.Basics.{arith, ◌≡◌, ℕ, true, false, ◌==◌, List, [], ◌∷◌, refl, list_any, nat_tests, all-weaker}
+use Rattle.ele_world.proofs.Words.{numbers_read, AreHeldRead, is_open, is_version, HandleRow, VersionRow}
 
 -- a version is open if its number is among those of its file that are read
 pub numbers_are : (rows : List HandleRow) (file number : ℕ) → list_any (λ n. n == number) (numbers_read rows file) ≡ is_open rows file number

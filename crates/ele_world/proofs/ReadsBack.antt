@@ -1,25 +1,6 @@
 -- A version that is held has the cells that it had when it closed.
-use Rattle.std.proofs.lemmas.Bool.Decides.{nat_tests}
-use Rattle.std.proofs.Common.{arith, ◌≡◌, ℕ, List, [], ◌∷◌, Option, Some, None, IfSome, refl, subst}
-use Rattle.std.specs.Prelude.{find, Ok}
-use Rattle.std.specs.List.{AllByRecursion}
-use Rattle.ele_content.specs.declared.cell.Cell.{Cell}
-use Rattle.ele_content.specs.Content.{content_of}
-use Rattle.ele_lists.proofs.Edits.{all-found, all-weaker, all-both}
-use Rattle.ele_time_path.specs.declared.tagged.TaggedPath.{TaggedPath}
-use Rattle.ele_world.specs.Change.{Change, after_change, after_changes}
-use Rattle.ele_world.specs.ReadsAsClosed.{ReadsRow}
-use Rattle.ele_world.specs.Run.{run_of, IsEvent}
-use Rattle.ele_world.specs.Step.{plan, step}
-use Rattle.ele_world.specs.Tagged.{version_at}
-use Rattle.ele_world.specs.WellFormed.{AllLater, ArePlaced, IsVersion, Versions, Readers, IsWellFormed}
-use Rattle.ele_world.specs.World.{World, is_version, reads_by}
-use Rattle.ele_world.specs.declared.event.Event.{Event}
-use Rattle.ele_world.specs.declared.event.Event.TheVariants.{Read}
-use Rattle.ele_world.specs.declared.event.Source.TheVariants.{Tagged, Of}
-use Rattle.ele_world.specs.declared.reply.Reply.TheVariants.{Bytes}
-use Rattle.ele_world.specs.declared.rows.Reads.TheVariants.{Version}
-use Rattle.ele_world.specs.declared.rows.VersionRow.{VersionRow}
+use Rattle.ele_world.proofs.Basics.{nat_tests, arith, ◌≡◌, ℕ, List, [], ◌∷◌, Option, Some, None, IfSome, refl, subst, find, Ok, AllByRecursion, all-found, all-weaker, all-both, AllLater}
+use Rattle.ele_world.proofs.Words.{Cell, content_of, TaggedPath, Change, after_change, after_changes, ReadsRow, run_of, IsEvent, plan, step, version_at, ArePlaced, IsVersion, Versions, Readers, IsWellFormed, World, is_version, reads_by, Event, Read, Tagged, Of, Bytes, Version, VersionRow}
 use Rattle.ele_world.proofs.Allowed.{allowed}
 use Rattle.ele_world.proofs.Keeps.{reached}
 use Rattle.ele_world.proofs.May.{MayAll}

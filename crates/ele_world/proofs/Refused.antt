@@ -1,16 +1,7 @@
 -- An event that is refused, or only asks, leaves the world.
-use Rattle.std.proofs.Common.{◌≡◌, Bool, true, false, Some, None, Ok, Err, refl, ap, sym, ◌∙◌}
-use Rattle.std.proofs.lemmas.Bool.{false≢true}
-use Rattle.ele_world.specs.NothingChanges.{asks}
-use Rattle.ele_world.specs.Plan.{Plan, Tell, Make, Unless, When, Need, IfFound, outcome}
-use Rattle.ele_world.specs.Step.{plan, step}
-use Rattle.ele_world.specs.World.{World}
-use Rattle.ele_world.specs.declared.event.Event.{Event}
-use Rattle.ele_world.specs.declared.event.Event.TheVariants.{Clock, Tick, MakeDir, RemoveDir, Create, Link, Unlink, Rename, Undelete, OpenWrite, OpenRead, Write, Truncate, Close, Revert, SetPolicy, SetDefault, GroupMake, GroupDrop, GroupAdd, GroupRemove, Mark, Unmark, CleanOne, Read, Stat, Versions, List as ListNames, Restorable, Due, UsageAll, GroupsAll}
-use Rattle.ele_world.specs.declared.event.Source.TheVariants.{Tagged, Of}
-use Rattle.ele_world.specs.declared.refusal.Refusal.{Refusal}
-use Rattle.ele_world.specs.declared.reply.Reply.{Reply}
-use Rattle.ele_world.specs.declared.reply.Reply.TheVariants.{Refused}
+use Rattle.ele_world.proofs.Basics.{◌≡◌, Bool, true, false, Some, None, Ok, Err, refl, ap, sym, ◌∙◌, false≢true}
+use Rattle.ele_world.proofs.Words.{asks, Plan, Tell, Make, Unless, When, Need, IfFound, outcome, plan, step, World, Event, Clock, Tick, MakeDir, RemoveDir, Create, Link, Unlink, Rename, Undelete, OpenWrite, OpenRead, Write, Truncate, Close, Revert, SetPolicy, SetDefault, GroupMake, GroupDrop, GroupAdd, GroupRemove, Mark, Unmark, CleanOne, Read, Stat, Restorable, Due, UsageAll, GroupsAll, Tagged, Of, Refusal, Reply, Refused}
+use Rattle.ele_world.specs.declared.event.Event.TheVariants.{Versions, List as ListNames}
 
 abbrev is_refusal : Reply → Bool
 is_refusal (Refused refusal) = true

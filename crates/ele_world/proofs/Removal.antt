@@ -1,16 +1,6 @@
 -- Whichever due row is taken out of a file, every other row is due as before, at each moment at which the row was due.
-use Rattle.std.proofs.Common.{◌≡◌, ℕ, ◌-◌, ◌≤◌, Bool, true, false, not, ◌&&◌, List, [], ◌∷◌, ◌++◌, Some, refl, ap, sym, subst, ◌∙◌, filter, arith, ◌⊎◌, inl, inr}
-use Rattle.std.specs.Prelude.{IfSome}
-use Rattle.std.specs.Option.{option_map_or}
-use Rattle.std.proofs.lemmas.Bool.{false≢true}
-use Rattle.std.proofs.lemmas.Bool.Decides.{nat_tests}
-use Rattle.ele_lists.specs.Lists.{AllLater}
-use Rattle.ele_policy.specs.declared.policy.Policy.{Policy}
-use Rattle.ele_policy.specs.Policy.{IsPolicy}
-use Rattle.ele_policy.specs.Ripe.{Beside, is_due_by, lets_go}
-use Rattle.ele_policy.proofs.Waits.{lets_go_without, lets_go_fewer}
-use Rattle.ele_world.specs.declared.rows.VersionRow.{VersionRow}
-use Rattle.ele_world.specs.FileView.{FileView, is_newer, closings, is_protected, due_in}
+use Rattle.ele_world.proofs.Basics.{◌≡◌, ℕ, ◌-◌, ◌≤◌, Bool, true, false, not, ◌&&◌, List, [], ◌∷◌, ◌++◌, Some, refl, ap, sym, subst, ◌∙◌, filter, arith, ◌⊎◌, inl, inr, IfSome, option_map_or, false≢true, nat_tests, AllLater}
+use Rattle.ele_world.proofs.Words.{Policy, IsPolicy, Beside, is_due_by, lets_go, lets_go_without, lets_go_fewer, VersionRow, FileView, is_newer, closings, is_protected, due_in}
 use Rattle.ele_world.proofs.Views.{IsLife, Precedes, newer_is, newer_before, newer_without, newer_behind}
 
 abbrev pub with_rows : FileView → List VersionRow → FileView

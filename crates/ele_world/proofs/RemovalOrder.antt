@@ -1,18 +1,7 @@
 -- The law of the order of removal, from one file to all.
-use Rattle.std.proofs.Common.{◌≡◌, ℕ, Bool, true, not, List, ◌∷◌, ◌++◌, refl, ap, sym, subst, ◌∙◌, filter, arith, ◌⊎◌}
-use Rattle.std.specs.List.{AllByRecursion}
-use Rattle.std.proofs.lemmas.List.Elements.{filter-append}
-use Rattle.std.proofs.lemmas.Bool.Decides.{nat_tests}
-use Rattle.ele_lists.specs.Lists.{AllLater}
-use Rattle.ele_lists.proofs.Edits.{all-weaker}
-use Rattle.ele_world.specs.declared.rows.VersionRow.{VersionRow}
+use Rattle.ele_world.proofs.Basics.{◌≡◌, ℕ, Bool, true, not, List, ◌∷◌, ◌++◌, refl, ap, sym, subst, ◌∙◌, filter, arith, ◌⊎◌, AllByRecursion, filter-append, nat_tests, AllLater, all-weaker, all-append, all-around, later-around, filter-same_all}
+use Rattle.ele_world.proofs.Words.{VersionRow, FileView, view_of, is_version_of, due_in, LeavesDue, RemovalOrder, IsWellFormed, World}
 use Rattle.ele_world.specs.Due.{is_due_at}
-use Rattle.ele_world.specs.FileView.{FileView, view_of, is_version_of, due_in}
-use Rattle.ele_world.specs.RemovalOrder.{LeavesDue, RemovalOrder}
-use Rattle.ele_world.specs.WellFormed.{IsWellFormed}
-use Rattle.ele_world.specs.World.{World}
-use Rattle.ele_lists.proofs.Alls.{all-append, all-around, later-around}
-use Rattle.ele_lists.proofs.Filters.{filter-same_all}
 use Rattle.ele_world.proofs.Removal.{with_rows, others_stay, no_more_due}
 use Rattle.ele_world.proofs.Views.{IsLife, IsView, Precedes, precedes, view_is, lives_of, placed_of, own_rows, other_rows}
 

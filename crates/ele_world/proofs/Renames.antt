@@ -1,25 +1,6 @@
 -- After a rename the new path leads where the old one led, and the old one nowhere.
-use Rattle.std.proofs.Common.{◌≡◌, ℕ, true, false, ◌==◌, List, [], ◌∷◌, ◌++◌, Option, Some, None, Ok, Err, refl, sym, ◌∙◌, arith}
-use Rattle.std.specs.Prelude.{is_some}
-use Rattle.std.specs.Option.{option_map_or}
-use Rattle.std.proofs.lemmas.Bool.{false≢true}
-use Rattle.std.proofs.lemmas.Bool.Decides.{nat_tests}
-use Rattle.std.proofs.lemmas.List.Folds.{find-append}
-use Rattle.std.proofs.lemmas.Slice.Eq.{bytes_eq-Decides}
-use Rattle.ele_lists.specs.Lists.{update_first}
-use Rattle.ele_world.specs.Change.{after_change, MoveName}
-use Rattle.ele_world.specs.declared.event.Event.TheVariants.{Rename}
-use Rattle.ele_world.specs.declared.refusal.Refusal.TheVariants.{NoEntry}
-use Rattle.ele_world.specs.declared.reply.Reply.TheVariants.{Done}
-use Rattle.ele_world.specs.declared.rows.NameRow.{NameRow}
-use Rattle.ele_world.specs.declared.rows.Target.{Target}
-use Rattle.ele_world.specs.declared.rows.Target.TheVariants.{File, Directory}
-use Rattle.ele_world.specs.NameRows.{born_row, dies}
-use Rattle.ele_world.specs.RenameLeads.{LeadsInstead, RenameLeads}
-use Rattle.ele_world.specs.Step.{plan}
-use Rattle.ele_world.specs.Walk.{is_live_name, live_target, walk, walk_now, parent_now, comes_through, stands_in}
-use Rattle.ele_world.specs.WellFormed.{Names, IsWellFormed}
-use Rattle.ele_world.specs.World.{World, root}
+use Rattle.ele_world.proofs.Basics.{◌≡◌, ℕ, true, false, ◌==◌, List, [], ◌∷◌, ◌++◌, Option, Some, None, Ok, Err, refl, sym, ◌∙◌, arith, is_some, option_map_or, false≢true, nat_tests, find-append, bytes_eq-Decides, update_first}
+use Rattle.ele_world.proofs.Words.{after_change, MoveName, Rename, NoEntry, Done, NameRow, Target, File, Directory, born_row, dies, LeadsInstead, RenameLeads, plan, is_live_name, live_target, walk, walk_now, parent_now, comes_through, stands_in, Names, IsWellFormed, World, root}
 use Rattle.ele_world.proofs.NameEnds.{gone, other_stays, path_ends}
 use Rattle.ele_world.proofs.NameParts.{free_still}
 use Rattle.ele_world.proofs.Outcomes.{in_all}

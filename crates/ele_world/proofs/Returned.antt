@@ -1,20 +1,7 @@
 -- After an undelete its path leads to what the name last stood for.
-use Rattle.std.proofs.Common.{◌≡◌, ℕ, ◌-◌, false, List, Some, Ok, refl, ap, subst, ◌∙◌, arith}
-use Rattle.std.specs.Prelude.{find, is_some}
-use Rattle.std.proofs.lemmas.Bool.Decides.{nat_tests}
-use Rattle.ele_world.specs.Change.{after_change, Revive, current_cells, next_version, with_name}
-use Rattle.ele_world.specs.Restorable.{last_target, nameless}
-use Rattle.ele_world.specs.Step.{plan, step}
-use Rattle.ele_world.specs.UndeleteLeads.{LeadsAgain, HasNameAgain, HasVersionAgain}
-use Rattle.ele_world.specs.Walk.{live_target, parent_now}
-use Rattle.ele_world.specs.WellFormed.{Versions, IsWellFormed}
-use Rattle.ele_world.specs.World.{World, next_of, is_version, current_of}
-use Rattle.ele_world.specs.declared.event.Event.TheVariants.{Undelete}
-use Rattle.ele_world.specs.declared.reply.Reply.{Reply}
+use Rattle.ele_world.proofs.Basics.{◌≡◌, ℕ, ◌-◌, false, List, Some, Ok, refl, ap, subst, ◌∙◌, arith, find, is_some, nat_tests}
+use Rattle.ele_world.proofs.Words.{after_change, Revive, current_cells, next_version, with_name, last_target, nameless, plan, step, LeadsAgain, HasNameAgain, HasVersionAgain, live_target, parent_now, Versions, IsWellFormed, World, next_of, is_version, current_of, Undelete, Reply, Target, File, Directory, VersionRow}
 use Rattle.ele_world.specs.declared.reply.Reply.TheVariants as reply
-use Rattle.ele_world.specs.declared.rows.Target.{Target}
-use Rattle.ele_world.specs.declared.rows.Target.TheVariants.{File, Directory}
-use Rattle.ele_world.specs.declared.rows.VersionRow.{VersionRow}
 use Rattle.ele_world.proofs.Allowed.{may_name}
 use Rattle.ele_world.proofs.Closes.{new_found}
 use Rattle.ele_world.proofs.Created.{named_live}

@@ -1,12 +1,6 @@
 -- What a revert leaves.
-use Rattle.std.proofs.Common.{◌≡◌, ℕ, ◌-◌, ◌<◌, Some, refl, sym, subst, arith, find}
-use Rattle.ele_lists.specs.Lists.{update_first}
-use Rattle.ele_world.specs.Change.{next_version, numbered_on, with_version}
-use Rattle.ele_world.specs.RevertKeeps.{CopiesVersion, RevertKeeps}
-use Rattle.ele_world.specs.Step.{plan}
-use Rattle.ele_world.specs.WellFormed.{Names, Versions}
-use Rattle.ele_world.specs.World.{World, is_file, is_version, next_of}
-use Rattle.ele_world.specs.declared.event.Event.TheVariants.{Revert}
+use Rattle.ele_world.proofs.Basics.{◌≡◌, ℕ, ◌-◌, ◌<◌, Some, refl, sym, subst, arith, find, update_first}
+use Rattle.ele_world.proofs.Words.{next_version, numbered_on, with_version, CopiesVersion, RevertKeeps, plan, Names, Versions, World, is_file, is_version, next_of, Revert}
 use Rattle.ele_world.specs.declared.reply.Reply.TheVariants as reply
 use Rattle.ele_world.proofs.Closes.{new_found}
 use Rattle.ele_world.proofs.Files.{next_of-numbered_on}

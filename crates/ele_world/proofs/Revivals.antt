@@ -1,12 +1,6 @@
 -- A file that has a name again: its last version had ended, it may have its next one, and what changes for usage.
-use Rattle.std.proofs.lemmas.Bool.Decides.{nat_tests}
-use Rattle.std.proofs.Common.{ℕ, ◌<◌, List, subst, arith}
-use Rattle.std.specs.List.{AllByRecursion}
-use Rattle.ele_world.specs.Change.{after_change, Revive, with_name}
-use Rattle.ele_world.specs.WellFormed.{IsVersion, Versions, IsWellFormed}
-use Rattle.ele_world.specs.Whole.{ChangesOnly}
-use Rattle.ele_world.specs.World.{World, next_of}
-use Rattle.ele_world.specs.declared.rows.Target.TheVariants.{File}
+use Rattle.ele_world.proofs.Basics.{nat_tests, ℕ, ◌<◌, List, subst, arith, AllByRecursion}
+use Rattle.ele_world.proofs.Words.{after_change, Revive, with_name, IsVersion, Versions, IsWellFormed, ChangesOnly, World, next_of, File}
 use Rattle.ele_world.proofs.AppendMoments.{MayGrow, may_grow}
 use Rattle.ele_world.proofs.KeptRevived.{last_is}
 use Rattle.ele_world.proofs.May.{MayRevive}

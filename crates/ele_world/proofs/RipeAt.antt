@@ -1,25 +1,9 @@
 -- The ripe moment of a version that is found by its number, and the scan as the moments that have come.
-use Rattle.std.proofs.Common.{◌≡◌, ℕ, ◌≤◌, Bool, true, false, cond, ◌&&◌, ◌||◌, List, [], ◌∷◌, Option, Some, None, refl, ap, sym, ◌∙◌, arith}
-use Rattle.std.specs.Prelude.{find, nat_le, option_and_then}
-use Rattle.std.specs.List.{AllByRecursion, filter_map, list_any}
-use Rattle.std.specs.Option.{option_map_or}
-use Rattle.std.proofs.lemmas.Bool.Decides.{nat_tests}
-use Rattle.ele_due.specs.declared.key.Key.{Key}
-use Rattle.ele_due.specs.HasKey.{has_key}
-use Rattle.ele_due.specs.Key.{is_key, is_ripe_by}
-use Rattle.ele_lists.specs.Lists.{AllLater}
-use Rattle.ele_lists.proofs.Edits.{found_passes, all-found}
-use Rattle.ele_moment.specs.Last.{last_moment}
-use Rattle.ele_policy.proofs.Earliest.{earliest_same}
-use Rattle.ele_world.specs.declared.rows.VersionRow.{VersionRow}
-use Rattle.ele_world.specs.Due.{is_due, ripe_of, ripe_at}
-use Rattle.ele_world.specs.Neighbours.{is_moment}
-use Rattle.ele_world.specs.FileView.{FileView, view_of, is_version_of, is_numbered, due_in, ripe_in, ripe_numbered}
-use Rattle.ele_world.specs.RipeMoments.{IsDueFromRipe}
+use Rattle.ele_world.proofs.Basics.{◌≡◌, ℕ, ◌≤◌, Bool, true, false, cond, ◌&&◌, ◌||◌, List, [], ◌∷◌, Option, Some, None, refl, ap, sym, ◌∙◌, arith, find, nat_le, option_and_then, AllByRecursion, filter_map, list_any, option_map_or, nat_tests, AllLater, found_passes, all-found, find-filter_both}
+use Rattle.ele_world.proofs.Words.{Key, has_key, is_key, is_ripe_by, last_moment, earliest_same, VersionRow, ripe_at, is_moment, FileView, view_of, is_version_of, is_numbered, due_in, ripe_in, IsDueFromRipe, ArePlaced, IsWellFormed, World, is_version}
+use Rattle.ele_world.specs.Due.{is_due, ripe_of}
+use Rattle.ele_world.specs.FileView.{ripe_numbered}
 use Rattle.ele_world.specs.Scan.{due_key}
-use Rattle.ele_world.specs.WellFormed.{ArePlaced, IsWellFormed}
-use Rattle.ele_world.specs.World.{World, is_version}
-use Rattle.ele_lists.proofs.Filters.{find-filter_both}
 use Rattle.ele_world.proofs.RipeMoments.{due_from_ripe}
 use Rattle.ele_world.proofs.Views.{now_of, placed_of}
 

@@ -1,20 +1,8 @@
 -- A held version is due from its ripe moment on, which its next held version tells.
-use Rattle.std.proofs.Common.{◌≡◌, ℕ, ◌≤◌, ◌&&◌, Bool, true, false, not, Option, Some, None, refl, ap, sym, subst, ◌∙◌}
-use Rattle.std.specs.Prelude.{nat_le, option_and_then, IfSome}
-use Rattle.std.specs.Option.{option_map_or}
-use Rattle.ele_moment.specs.Last.{last_moment}
-use Rattle.ele_policy.specs.declared.policy.Policy.{Policy}
-use Rattle.ele_policy.specs.Ripe.{is_due_by, candidates, earliest_of, ripe_by}
-use Rattle.ele_policy.proofs.Earliest.{never_due}
-use Rattle.ele_policy.proofs.Waits.{due_from}
-use Rattle.ele_policy.specs.Policy.{IsPolicy}
-use Rattle.ele_world.specs.declared.rows.VersionRow.{VersionRow}
+use Rattle.ele_world.proofs.Basics.{◌≡◌, ℕ, ◌≤◌, ◌&&◌, Bool, true, false, not, Option, Some, None, refl, ap, sym, subst, ◌∙◌, nat_le, option_and_then, IfSome, option_map_or, all-split, all-any}
+use Rattle.ele_world.proofs.Words.{last_moment, Policy, is_due_by, candidates, earliest_of, never_due, due_from, IsPolicy, VersionRow, FileView, view_of, beside, is_protected, due_in, ripe_in, IsDueFromRipe, DueFromRipe, RipeIsAnswer, RipeIsAnswered, World, policy_of}
+use Rattle.ele_policy.specs.Ripe.{ripe_by}
 use Rattle.ele_world.specs.Due.{is_due_at, ripe_of}
-use Rattle.ele_world.specs.FileView.{FileView, view_of, beside, is_protected, due_in, ripe_in}
-use Rattle.ele_world.specs.RipeMoments.{IsDueFromRipe, DueFromRipe, RipeIsAnswer, RipeIsAnswered}
-use Rattle.ele_world.specs.World.{World, policy_of}
-use Rattle.ele_lists.proofs.Alls.{all-split}
-use Rattle.ele_lists.proofs.Edits.{all-any}
 use Rattle.ele_world.proofs.Views.{view_is, nearest_of}
 
 -- whether a row is due, by whether it is protected, and by the policy and the end that it has

@@ -1,17 +1,6 @@
 -- Which places the rows have, one row after another.
-use Rattle.std.proofs.Common.{◌≡◌, ℕ, ◌+◌, ◌<◌, zero, suc, Bool, true, false, ◌&&◌, ◌||◌, cond, List, [], ◌∷◌, ◌++◌, refl, ap, sym, ◌∙◌, arith, eqb, append_assoc}
-use Rattle.std.specs.Prelude.{filter}
-use Rattle.std.specs.List.{list_any, flat_map}
-use Rattle.std.proofs.lemmas.Bool.Decides.{nat_tests}
-use Rattle.std.proofs.lemmas.List.Concat.{flat_map-cons}
-use Rattle.std.proofs.lemmas.List.Folds.{list_any-append}
-use Rattle.ele_lists.proofs.Filters.{list_any-filter}
-use Rattle.ele_content.specs.declared.cell.Cell.{Cell}
-use Rattle.ele_content.specs.Place.{Place, is_place, different}
-use Rattle.ele_world.specs.declared.rows.VersionRow.{VersionRow}
-use Rattle.ele_world.specs.declared.rows.DraftRow.{DraftRow}
-use Rattle.ele_world.specs.NewPlaces.{has_slot, is_among, new_places, different_of}
-use Rattle.ele_world.specs.Usage.{places_from, places}
+use Rattle.ele_world.proofs.Basics.{◌≡◌, ℕ, ◌+◌, ◌<◌, zero, suc, Bool, true, false, ◌&&◌, ◌||◌, cond, List, [], ◌∷◌, ◌++◌, refl, ap, sym, ◌∙◌, arith, eqb, append_assoc, filter, list_any, flat_map, nat_tests, flat_map-cons, list_any-append, list_any-filter}
+use Rattle.ele_world.proofs.Words.{Cell, Place, is_place, different, VersionRow, DraftRow, has_slot, is_among, new_places, different_of, places_from, places}
 
 -- ---- lists
 

@@ -1,19 +1,6 @@
 -- Sums over the rows of some files and over those of the others.
-use Rattle.std.proofs.Common.{◌≡◌, ℕ, ◌+◌, Bool, true, false, not, cond, List, [], ◌∷◌, length, map, refl, ap, ◌∙◌, arith}
-use Rattle.std.specs.Prelude.{filter}
-use Rattle.std.specs.List.{flat_map}
-use Rattle.std.proofs.lemmas.Bool.Decides.{nat_tests}
-use Rattle.std.proofs.lemmas.List.Concat.{flat_map-cons}
-use Rattle.std.proofs.lemmas.List.Elements.{filter-append}
-use Rattle.std.proofs.lemmas.List.Sums.{sum_by-cons}
-use Rattle.ele_content.specs.declared.cell.Cell.{Cell}
-use Rattle.ele_content.specs.Content.{content_of}
-use Rattle.ele_content.specs.Place.{Place, is_place, different}
-use Rattle.ele_world.specs.declared.rows.VersionRow.{VersionRow}
-use Rattle.ele_world.specs.declared.rows.DraftRow.{DraftRow}
-use Rattle.ele_world.specs.Usage.{places_from, places, bytes_in}
-use Rattle.ele_lists.proofs.Filters.{list_any-filter}
-use Rattle.ele_lists.proofs.Sums.{length-split}
+use Rattle.ele_world.proofs.Basics.{◌≡◌, ℕ, ◌+◌, Bool, true, false, not, cond, List, [], ◌∷◌, length, map, refl, ap, ◌∙◌, arith, filter, flat_map, nat_tests, flat_map-cons, filter-append, sum_by-cons, list_any-filter, length-split}
+use Rattle.ele_world.proofs.Words.{Cell, content_of, Place, is_place, different, VersionRow, DraftRow, places_from, places, bytes_in}
 
 -- ---- sums split
 

@@ -1,20 +1,6 @@
 -- What an event does to the versions that are held before it.
-use Rattle.std.proofs.lemmas.Bool.Decides.{nat_tests}
-use Rattle.std.proofs.Common.{◌≡◌, ℕ, true, List, [], ◌∷◌, Option, Some, None, ap, ◌∙◌, arith, ◌⊎◌, inl, inr}
-use Rattle.std.specs.Prelude.{find}
-use Rattle.std.specs.List.{list_any, AllByRecursion}
-use Rattle.std.specs.Option.{option_map}
-use Rattle.ele_lists.proofs.Edits.{all-weaker, all-both}
-use Rattle.ele_world.specs.Change.{Change, after_change, after_changes, ended_at}
-use Rattle.ele_world.specs.Due.{is_due_at}
-use Rattle.ele_world.specs.HeldStays.{IsSameVersion, StaysSame}
-use Rattle.ele_world.specs.OnlyDueLeave.{StaysOrWasDue}
-use Rattle.ele_world.specs.Step.{plan, step}
-use Rattle.ele_world.specs.WellFormed.{AllLater, ArePlaced, IsVersion, Files, Versions, IsWellFormed}
-use Rattle.ele_world.specs.World.{World, is_version}
-use Rattle.ele_world.specs.declared.event.Event.{Event}
-use Rattle.ele_world.specs.declared.event.Event.TheVariants.{CleanOne}
-use Rattle.ele_world.specs.declared.rows.VersionRow.{VersionRow}
+use Rattle.ele_world.proofs.Basics.{nat_tests, ◌≡◌, ℕ, true, List, [], ◌∷◌, Option, Some, None, ap, ◌∙◌, arith, ◌⊎◌, inl, inr, find, list_any, AllByRecursion, option_map, all-weaker, all-both, AllLater}
+use Rattle.ele_world.proofs.Words.{Change, after_change, after_changes, ended_at, is_due_at, IsSameVersion, StaysSame, StaysOrWasDue, plan, step, ArePlaced, IsVersion, Files, Versions, IsWellFormed, World, is_version, Event, CleanOne, VersionRow}
 use Rattle.ele_world.proofs.DueRows.{due_is_unmarked, due_is_unread}
 use Rattle.ele_world.proofs.Allowed.{allowed}
 use Rattle.ele_world.proofs.Files.{next_of-given}

@@ -1,13 +1,6 @@
 -- Each step, and so each run, keeps a world well formed.
-use Rattle.std.proofs.lemmas.Bool.Decides.{nat_tests}
-use Rattle.std.proofs.Common.{List, [], ◌∷◌, arith}
-use Rattle.std.specs.List.{AllByRecursion}
-use Rattle.ele_world.specs.Bounds.{Bounds, AreBounds}
-use Rattle.ele_world.specs.Run.{run_of, IsEvent}
-use Rattle.ele_world.specs.Step.{plan, step}
-use Rattle.ele_world.specs.WellFormed.{IsWellFormed}
-use Rattle.ele_world.specs.World.{World, fresh_world}
-use Rattle.ele_world.specs.declared.event.Event.{Event}
+use Rattle.ele_world.proofs.Basics.{nat_tests, List, [], ◌∷◌, arith, AllByRecursion}
+use Rattle.ele_world.proofs.Words.{Bounds, AreBounds, run_of, IsEvent, plan, step, IsWellFormed, World, fresh_world, Event}
 use Rattle.ele_world.proofs.Allowed.{allowed}
 use Rattle.ele_world.proofs.Keeps.{all_keep, reached}
 

@@ -1,17 +1,6 @@
 -- Usage, one row after another.
-use Rattle.std.proofs.lemmas.Bool.Decides.{nat_tests}
-use Rattle.std.proofs.Common.{◌≡◌, ℕ, ◌+◌, ◌-◌, ◌<◌, Bool, true, false, cond, List, [], ◌∷◌, length, map, get_or, take, drop, arith}
-use Rattle.std.specs.Prelude.{filter}
-use Rattle.std.proofs.lemmas.List.{drop_more, take_all, length-append, length-drop}
-use Rattle.std.proofs.lemmas.List.Concat.{flat_map-cons}
-use Rattle.std.proofs.lemmas.List.Sums.{sum_by-cons}
-use Rattle.ele_content.specs.declared.cell.Cell.{Cell}
-use Rattle.ele_content.specs.Content.{content_of}
-use Rattle.ele_content.specs.Place.{Place}
-use Rattle.ele_world.specs.declared.rows.DraftRow.{DraftRow}
-use Rattle.ele_world.specs.declared.rows.VersionRow.{VersionRow}
-use Rattle.ele_world.specs.NewPlaces.{is_among, new_places, different_of}
-use Rattle.ele_world.specs.Usage.{places_from, places, bytes_in}
+use Rattle.ele_world.proofs.Basics.{nat_tests, ◌≡◌, ℕ, ◌+◌, ◌-◌, ◌<◌, Bool, true, false, cond, List, [], ◌∷◌, length, map, get_or, take, drop, arith, filter, drop_more, take_all, length-append, length-drop, flat_map-cons, sum_by-cons}
+use Rattle.ele_world.proofs.Words.{Cell, content_of, Place, DraftRow, VersionRow, is_among, new_places, different_of, places_from, places, bytes_in}
 use Rattle.ele_world.proofs.SlotPlaces.{new_places-cons, different_version, different_draft}
 
 -- the bytes of what is left of the cells

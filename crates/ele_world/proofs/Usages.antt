@@ -1,38 +1,11 @@
 -- How changes of the world change usage.
-use Rattle.std.proofs.Common.{rules, ◌≡◌, ℕ, ◌+◌, ◌*◌, ◌^◌, ◌<◌, ◌≤◌, Bool, true, false, not, cond, List, [], ◌∷◌, ◌++◌, length, refl, ap, sym, ◌∙◌, arith, eqb}
-use Rattle.std.specs.Prelude.{filter}
-use Rattle.std.specs.List.{AllByRecursion, flat_map}
-use Rattle.std.proofs.lemmas.Bool.Decides.{nat_tests}
-use Rattle.std.proofs.lemmas.Grind.{flat_map-append}
-use Rattle.std.proofs.lemmas.List.{append-nil, length-append}
-use Rattle.std.proofs.lemmas.List.Concat.{flat_map-cons}
-use Rattle.std.proofs.lemmas.List.Elements.{filter-append}
-use Rattle.ele_policy.specs.declared.policy.Kind.{Kind}
+use Rattle.ele_world.proofs.Basics.{rules, ◌≡◌, ℕ, ◌+◌, ◌*◌, ◌^◌, ◌<◌, ◌≤◌, Bool, true, false, not, cond, List, [], ◌∷◌, ◌++◌, length, refl, ap, sym, ◌∙◌, arith, eqb, filter, AllByRecursion, flat_map, nat_tests, flat_map-append, append-nil, length-append, flat_map-cons, filter-append, all-weaker, update_first, remove_first, filter-same, filter-same_all, filter-swap, length-split}
+use Rattle.ele_world.proofs.Words.{Kind, Policy, kind_of, is_kind, Usage, only_at, nothing, plus, Fits, Cell, Place, is_place, different, slots_few, VersionRow, DraftRow, is_of, is_file_of, places_from, places, bytes_in, usages, whole, part, ChangesOnly, World, is_file, next_of, is_draft, is_version, FileRow, IsContent, IsFile, IsVersion, IsDraft, Counted, Files, Versions, Drafts, IsWellFormed, content_of, longest_content, AreBounds}
 use Rattle.ele_policy.specs.declared.policy.Kind.TheVariants as kinds
-use Rattle.ele_policy.specs.declared.policy.Policy.{Policy}
-use Rattle.ele_policy.specs.Policy.{kind_of, is_kind}
-use Rattle.ele_usage.specs.declared.usage.Usage.{Usage}
-use Rattle.ele_usage.specs.OnlyAt.{only_at}
-use Rattle.ele_usage.specs.Sums.{nothing, plus, Fits}
-use Rattle.ele_content.specs.declared.cell.Cell.{Cell}
-use Rattle.ele_content.specs.Place.{Place, is_place, different}
-use Rattle.ele_content.proofs.Contents.{slots_few}
-use Rattle.ele_world.specs.declared.rows.VersionRow.{VersionRow}
-use Rattle.ele_world.specs.declared.rows.DraftRow.{DraftRow}
-use Rattle.ele_world.specs.Usage.{is_of, is_file_of, places_from, places, bytes_in, usage_of, usages}
-use Rattle.ele_world.specs.Whole.{whole, part, ChangesOnly}
-use Rattle.ele_world.specs.World.{World, is_file, next_of, is_draft, is_version}
-use Rattle.ele_world.specs.declared.rows.FileRow.{FileRow}
+use Rattle.ele_world.specs.Usage.{usage_of}
 use Rattle.ele_world.proofs.Created.{new_file, first_version, created}
 use Rattle.ele_world.proofs.Opened.{opened}
-use Rattle.ele_world.specs.WellFormed.{IsContent, IsFile, IsVersion, IsDraft, Counted, Files, Versions, Drafts, IsWellFormed}
-use Rattle.ele_content.specs.Content.{content_of, longest_content}
-use Rattle.ele_lists.proofs.Edits.{all-weaker}
-use Rattle.ele_lists.specs.Lists.{update_first, remove_first}
-use Rattle.ele_world.specs.Bounds.{AreBounds}
 use Rattle.ele_world.proofs.Others.{other_drafts, drafts-updated, drafts-opened, versions-removed}
-use Rattle.ele_lists.proofs.Filters.{filter-same, filter-same_all, filter-swap}
-use Rattle.ele_lists.proofs.Sums.{length-split}
 use Rattle.ele_world.proofs.Splits.{bytes_in-cons, Splits, count_sum, bytes_sum, blocks_sum, count_splits, bytes_splits, blocks_splits}
 
 -- ---- the rows of some files

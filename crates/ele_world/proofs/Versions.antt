@@ -1,15 +1,6 @@
 -- Version rows apart and in their order.
-use Rattle.std.proofs.Common.{◌≡◌, ℕ, ◌+◌, ◌-◌, ◌≤◌, true, false, cond, List, [], ◌∷◌, Some, IfSome, refl, arith}
-use Rattle.std.specs.Prelude.{find}
-use Rattle.std.specs.List.{AllByRecursion}
-use Rattle.std.proofs.lemmas.Bool.Decides.{nat_tests}
-use Rattle.ele_world.specs.declared.rows.FileRow.{FileRow}
-use Rattle.ele_world.specs.declared.rows.VersionRow.{VersionRow}
-use Rattle.ele_lists.specs.Lists.{update_first}
-use Rattle.ele_world.specs.Change.{ended_at}
-use Rattle.ele_world.specs.WellFormed.{AllLater, IsVersion, ArePlaced}
-use Rattle.ele_world.specs.World.{is_version, next_of}
-use Rattle.ele_lists.proofs.Edits.{all-weaker, all-both}
+use Rattle.ele_world.proofs.Basics.{◌≡◌, ℕ, ◌+◌, ◌-◌, ◌≤◌, true, false, cond, List, [], ◌∷◌, Some, IfSome, refl, arith, find, AllByRecursion, nat_tests, update_first, AllLater, all-weaker, all-both}
+use Rattle.ele_world.proofs.Words.{FileRow, VersionRow, ended_at, IsVersion, ArePlaced, is_version, next_of}
 
 -- a later row isn't the earlier one
 pub apart : (x y : VersionRow) → ArePlaced x y → is_version y.file y.number x ≡ false

@@ -1,22 +1,6 @@
 -- A file's rows in a well-formed world, and which are newer than one of them, by its place.
-use Rattle.std.proofs.Common.{◌≡◌, ℕ, ◌<◌, ◌≤◌, true, false, List, [], ◌∷◌, ◌++◌, Some, refl, ap, sym, subst, ◌∙◌, filter, arith, slice_get}
-use Rattle.std.specs.Prelude.{IfSome}
-use Rattle.std.specs.List.{AllByRecursion}
-use Rattle.std.proofs.lemmas.List.Elements.{filter-append}
-use Rattle.std.proofs.lemmas.Option.{IfSome_then}
-use Rattle.std.proofs.lemmas.Bool.Decides.{nat_tests}
-use Rattle.ele_moment.specs.Last.{last_moment}
-use Rattle.ele_lists.specs.Lists.{AllLater}
-use Rattle.ele_lists.proofs.Edits.{all-weaker}
-use Rattle.ele_policy.specs.Policy.{IsPolicy}
-use Rattle.ele_policy.specs.Ripe.{IsNearest}
-use Rattle.ele_world.specs.declared.rows.FileRow.{FileRow}
-use Rattle.ele_world.specs.declared.rows.VersionRow.{VersionRow}
-use Rattle.ele_world.specs.FileView.{FileView, view_of, is_version_of, is_newer, closings, beside}
-use Rattle.ele_world.specs.WellFormed.{Now, Files, Versions, IsFile, IsVersion, ArePlaced, IsWellFormed}
-use Rattle.ele_world.specs.World.{World, policy_of}
-use Rattle.ele_lists.proofs.Alls.{all-filter, later-filter, later-around}
-use Rattle.ele_lists.proofs.Filters.{filter-all, filter-none}
+use Rattle.ele_world.proofs.Basics.{◌≡◌, ℕ, ◌<◌, ◌≤◌, true, false, List, [], ◌∷◌, ◌++◌, Some, refl, ap, sym, subst, ◌∙◌, filter, arith, slice_get, IfSome, AllByRecursion, filter-append, IfSome_then, nat_tests, AllLater, all-weaker, all-filter, later-filter, later-around, filter-all, filter-none}
+use Rattle.ele_world.proofs.Words.{last_moment, IsPolicy, IsNearest, FileRow, VersionRow, FileView, view_of, is_version_of, is_newer, closings, beside, Now, Files, Versions, IsFile, IsVersion, ArePlaced, IsWellFormed, World, policy_of}
 
 -- the version didn't end before it closed
 abbrev pub IsLife : VersionRow → Type 0

@@ -1,24 +1,6 @@
 -- What a path leads to, where it stands, and where a name is added.
-use Rattle.std.proofs.Common.{◌≡◌, ℕ, suc, zero, ◌+◌, ◌-◌, ◌<◌, true, false, List, [], ◌∷◌, ◌++◌, length, take, Option, Some, None, Result, Ok, Err, refl, ap, sym, ◌∙◌, arith}
-use Rattle.std.specs.Prelude.{find, is_some, slice_get}
-use Rattle.std.specs.List.{AllByRecursion, list_any}
-use Rattle.std.specs.Option.{option_map_or}
-use Rattle.std.proofs.lemmas.Bool.{false≢true}
-use Rattle.std.proofs.lemmas.Bool.Decides.{nat_tests}
-use Rattle.std.proofs.lemmas.List.Folds.{find-append}
-use Rattle.std.proofs.lemmas.Slice.Eq.{bytes_eq-Decides}
-use Rattle.ele_world.specs.declared.refusal.Refusal.{Refusal}
-use Rattle.ele_world.specs.declared.refusal.Refusal.TheVariants.{NoEntry}
-use Rattle.ele_world.specs.declared.rows.FileRow.{FileRow}
-use Rattle.ele_world.specs.declared.rows.NameRow.{NameRow}
-use Rattle.ele_world.specs.declared.rows.Target.{Target}
-use Rattle.ele_world.specs.declared.rows.Target.TheVariants.{File, Directory}
-use Rattle.ele_world.specs.NameRows.{born_row}
-use Rattle.ele_world.specs.Walk.{is_live_name, live_target, walk, walk_now, file_at, file_now, directory_in, directory_now, parent_now}
-use Rattle.ele_world.specs.WellFormed.{IsNameRow, IsThere}
-use Rattle.ele_world.specs.World.{next_of, root, is_live_name_of}
-use Rattle.ele_lists.proofs.Edits.{all-found, found_passes}
-use Rattle.ele_lists.proofs.Found.{any-found}
+use Rattle.ele_world.proofs.Basics.{◌≡◌, ℕ, suc, zero, ◌+◌, ◌-◌, ◌<◌, true, false, List, [], ◌∷◌, ◌++◌, length, take, Option, Some, None, Result, Ok, Err, refl, ap, sym, ◌∙◌, arith, find, is_some, slice_get, AllByRecursion, list_any, option_map_or, false≢true, nat_tests, find-append, bytes_eq-Decides, all-found, found_passes, any-found}
+use Rattle.ele_world.proofs.Words.{Refusal, NoEntry, FileRow, NameRow, Target, File, Directory, born_row, is_live_name, live_target, walk, walk_now, file_at, file_now, directory_in, directory_now, parent_now, IsNameRow, IsThere, next_of, root, is_live_name_of}
 
 -- ---- what is true of each target of a live name is so of the place that a walk ends at
 

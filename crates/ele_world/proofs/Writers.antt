@@ -1,13 +1,7 @@
 -- Who wrote the cells that a write or a truncate leaves.
-use Rattle.std.proofs.lemmas.Bool.Decides.{nat_tests}
-use Rattle.std.proofs.Common.{rules, ℕ, suc, zero, ◌≤◌, Bool, true, false, cond, List, [], ◌∷◌, map, arith}
-use Rattle.std.specs.List.{AllByRecursion}
-use Rattle.ele_content.specs.declared.cell.Cell.{Cell}
-use Rattle.ele_content.specs.Content.{writer_at, cells_after_write, cells_after_truncate}
-use Rattle.ele_lists.proofs.Edits.{all-weaker}
-use Rattle.ele_world.specs.Change.{changed_by, fitted_by}
-use Rattle.ele_world.specs.WellFormed.{AreWrittenBy}
-use Rattle.ele_world.specs.declared.rows.DraftRow.{DraftRow}
+use Rattle.ele_world.proofs.Basics.{nat_tests, rules, ℕ, suc, zero, ◌≤◌, Bool, true, false, cond, List, [], ◌∷◌, map, arith, AllByRecursion, all-weaker}
+use Rattle.ele_world.proofs.Words.{Cell, writer_at, changed_by, fitted_by, AreWrittenBy, DraftRow}
+use Rattle.ele_content.specs.Content.{cells_after_write, cells_after_truncate}
 
 writer_at-le : (number : ℕ) (cells : List Cell) (slot : ℕ) → AreWrittenBy number cells → writer_at cells slot ≤ number
 writer_at-le number [] slot all = omega arith

@@ -1,4 +1,4 @@
-use Rattle.ele_world.specs.World.{fresh_world}
+use Rattle.ele_world.proofs.Words.{fresh_world}
 use Rattle.ele_world.proofs.StepKeeps.{fresh_is, run_keeps}
 use Rattle.ele_world.proofs.laws.always_well_formed.Goals as goal
 

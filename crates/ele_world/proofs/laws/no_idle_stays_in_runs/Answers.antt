@@ -1,4 +1,4 @@
-use Rattle.ele_world.specs.World.{fresh_world}
+use Rattle.ele_world.proofs.Words.{fresh_world}
 use Rattle.ele_world.proofs.NoIdle.{runs_have_none}
 use Rattle.ele_world.proofs.StepKeeps.{fresh_is}
 use Rattle.ele_world.proofs.laws.no_idle_stays_in_runs.Goals as goal

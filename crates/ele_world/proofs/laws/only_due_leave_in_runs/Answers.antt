@@ -1,5 +1,4 @@
-use Rattle.ele_world.specs.Run.{run_of}
-use Rattle.ele_world.specs.World.{fresh_world}
+use Rattle.ele_world.proofs.Words.{run_of, fresh_world}
 use Rattle.ele_world.proofs.StepKeeps.{fresh_is, run_keeps}
 use Rattle.ele_world.proofs.Stays.{only_due_leave}
 use Rattle.ele_world.proofs.laws.only_due_leave_in_runs.Goals as goal

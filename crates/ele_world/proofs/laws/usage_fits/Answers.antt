@@ -1,4 +1,4 @@
-use Rattle.ele_world.specs.WellFormed.{Bounded}
+use Rattle.ele_world.proofs.Words.{Bounded}
 use Rattle.ele_world.proofs.Usages.{usages_fit}
 use Rattle.ele_world.proofs.laws.usage_fits.Goals as goal
 

@@ -1,6 +1,5 @@
-use Rattle.std.proofs.Common.{ap, sym, ◌∙◌}
-use Rattle.std.specs.BTreeMap.{insert_entry}
-use Rattle.ele_world.specs.Restorable.{name_cmp}
+use Rattle.ele_world.proofs.Basics.{ap, sym, ◌∙◌, insert_entry}
+use Rattle.ele_world.proofs.Words.{name_cmp}
 use Rattle.ele_world.proofs.Newest.{newest_more}
 use Rattle.ele_world.proofs.returning.newest_rows.Goals as goal
 

@@ -1,5 +1,5 @@
-use Rattle.std.proofs.Common.{◌≡◌, take}
-use Rattle.ele_world.specs.Restorable.{newest_rows}
+use Rattle.ele_world.proofs.Basics.{◌≡◌, take}
+use Rattle.ele_world.proofs.Words.{newest_rows}
 use Rattle.ele_world.proofs.returning.newest_rows.Given as goal
 
 abbrev pub invariant-loop-row : goal.invariant-loop-row

@@ -1,10 +1,5 @@
-use Rattle.std.proofs.Common.{Ok, ap, ◌∙◌, rules, tests}
-use Rattle.std.specs.List.{filter_map}
-use Rattle.std.specs.Map.{values_of}
-use Rattle.std.proofs.lemmas.Iterator.{items_from_collect}
-use Rattle.std.proofs.lemmas.Iterator.Consumers.{YieldsList-from_rest, YieldsList-from_filter_map}
-use Rattle.std.specs.declared.alloc.AllocError.{AllocError}
-use Rattle.ele_world.specs.Restorable.{newest_rows, returning}
+use Rattle.ele_world.proofs.Basics.{Ok, ap, ◌∙◌, rules, tests, filter_map, values_of, items_from_collect, YieldsList-from_rest, YieldsList-from_filter_map, AllocError}
+use Rattle.ele_world.proofs.Words.{newest_rows, returning}
 use Rattle.ele_world.proofs.Newest.{restorable_values}
 use Rattle.ele_world.proofs.returning.restorable.Goals as goal
 

@@ -1,6 +1,5 @@
-use Rattle.std.proofs.Common.{◌≡◌, take}
-use Rattle.std.specs.List.{filter_map}
-use Rattle.ele_world.specs.Scan.{in_order, due_key}
+use Rattle.ele_world.proofs.Basics.{◌≡◌, take, filter_map}
+use Rattle.ele_world.proofs.Words.{in_order, due_key}
 use Rattle.ele_world.proofs.scan.due.Given as goal
 
 abbrev pub invariant-loop-row : goal.invariant-loop-row

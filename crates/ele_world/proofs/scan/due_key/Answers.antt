@@ -1,6 +1,4 @@
-use Rattle.std.proofs.Common.{◌≡◌, ◌∙◌, sym, arith, true, false, None, Some, refl}
-use Rattle.std.specs.Prelude.{nat_le}
-use Rattle.std.proofs.lemmas.Bool.Decides.{nat_tests}
+use Rattle.ele_world.proofs.Basics.{◌≡◌, ◌∙◌, sym, arith, true, false, None, Some, refl, nat_le, nat_tests}
 use Rattle.ele_world.proofs.DueKeys.{due_key-is}
 use Rattle.ele_world.proofs.scan.due_key.Goals as goal
 

@@ -1,4 +1,4 @@
-use Rattle.std.proofs.Common.{[], ◌∙◌}
+use Rattle.ele_world.proofs.Basics.{[], ◌∙◌}
 use Rattle.ele_world.proofs.DueKeys.{looks_at_none, newer_than}
 use Rattle.ele_world.proofs.scan.ripe_by.Goals as goal
 

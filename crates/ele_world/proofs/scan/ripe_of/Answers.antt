@@ -1,6 +1,5 @@
-use Rattle.std.proofs.Common.{◌≡◌, sym, ◌∙◌, ap, false}
-use Rattle.std.proofs.lemmas.Result.{IfOk-weaker}
-use Rattle.ele_world.specs.World.{policy_of}
+use Rattle.ele_world.proofs.Basics.{◌≡◌, sym, ◌∙◌, ap, false, IfOk-weaker}
+use Rattle.ele_world.proofs.Words.{policy_of}
 use Rattle.ele_world.proofs.DueKeys.{is_open_or_marked, ripe-protected, ripe-unfiled, ripe-unended, ripe-told}
 use Rattle.ele_world.proofs.scan.ripe_of.Goals as goal
 

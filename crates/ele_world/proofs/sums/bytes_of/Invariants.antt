@@ -1,6 +1,5 @@
-use Rattle.std.proofs.Common.{◌≡◌, ◌+◌, drop}
-use Rattle.std.specs.Prelude.{filter}
-use Rattle.ele_world.specs.Usage.{bytes_in, is_file_of}
+use Rattle.ele_world.proofs.Basics.{◌≡◌, ◌+◌, drop, filter}
+use Rattle.ele_world.proofs.Words.{bytes_in, is_file_of}
 use Rattle.ele_world.proofs.sums.bytes_of.Given as goal
 
 abbrev pub invariant-loop-row : goal.invariant-loop-row

@@ -1,5 +1,5 @@
-use Rattle.std.proofs.Common.{sym, ◌∙◌, arith}
-use Rattle.ele_world.specs.Usage.{is_file_of}
+use Rattle.ele_world.proofs.Basics.{sym, ◌∙◌, arith}
+use Rattle.ele_world.proofs.Words.{is_file_of}
 use Rattle.ele_world.proofs.SumRows.{draft_counts, draft_skips}
 use Rattle.ele_world.proofs.sums.draft_blocks.Goals.{then-is_file_of, else-is_file_of}
 use Rattle.ele_world.proofs.sums.draft_blocks.Goals as goal

@@ -1,6 +1,5 @@
-use Rattle.std.proofs.Common.{◌≡◌, ◌+◌, drop, []}
-use Rattle.ele_world.specs.Usage.{is_file_of}
-use Rattle.ele_world.specs.NewPlaces.{different_of}
+use Rattle.ele_world.proofs.Basics.{◌≡◌, ◌+◌, drop, []}
+use Rattle.ele_world.proofs.Words.{is_file_of, different_of}
 use Rattle.ele_world.proofs.sums.draft_blocks.Given as goal
 
 abbrev pub invariant-loop-i : goal.invariant-loop-i

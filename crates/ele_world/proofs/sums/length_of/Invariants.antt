@@ -1,5 +1,5 @@
-use Rattle.std.proofs.Common.{◌≡◌, ◌+◌, length, drop}
-use Rattle.ele_content.specs.Content.{content_of}
+use Rattle.ele_world.proofs.Basics.{◌≡◌, ◌+◌, length, drop}
+use Rattle.ele_world.proofs.Words.{content_of}
 use Rattle.ele_world.proofs.sums.length_of.Given as goal
 
 abbrev pub invariant-loop-cell : goal.invariant-loop-cell

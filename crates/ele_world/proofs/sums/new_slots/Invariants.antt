@@ -1,6 +1,5 @@
-use Rattle.std.proofs.Common.{◌≡◌, ◌+◌, ◌≤◌, drop}
-use Rattle.ele_world.specs.NewPlaces.{new_places}
-use Rattle.ele_world.specs.Usage.{places, places_from}
+use Rattle.ele_world.proofs.Basics.{◌≡◌, ◌+◌, ◌≤◌, drop}
+use Rattle.ele_world.proofs.Words.{new_places, places, places_from}
 use Rattle.ele_world.proofs.sums.new_slots.Given as goal
 
 abbrev pub invariant-loop-slot : goal.invariant-loop-slot
