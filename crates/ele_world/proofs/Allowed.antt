@@ -1,6 +1,7 @@
 -- The changes of each event may be made, each in its turn.
 use Rattle.ele_world.proofs.Basics.{rules, ◌≡◌, ℕ, ◌<◌, true, List, [], ◌∷◌, Some, refl, subst, arith, find, is_some, nat_le, Ok, false, list_any, AllByRecursion, nat_tests, all-found, found_passes, length-remove_first, list_any-insert_before, insert_before}
-use Rattle.ele_world.proofs.Words.{Key, new_draft, EndDraft, ShutHandle, after_changes, is_live_in, first_due, plan, version_meant, live_target, directory_now, parent_now, walk_now, IsPolicy, IsVersion, Counted, Directories, Names, Versions, Drafts, IsWellFormed, World, default_of, next_of, is_draft, is_draft_after, Event, Clock, Tick, MakeDir, RemoveDir, Create, Link, Unlink, Rename, Undelete, OpenWrite, OpenRead, Write, Truncate, Close, Revert, SetPolicy, SetDefault, GroupMake, GroupDrop, GroupAdd, GroupRemove, Mark, Unmark, CleanOne, Read, Stat, Restorable, Due, UsageAll, GroupsAll, Tagged, Of, DirectoryRow, DraftRow, VersionRow, File}
+use Rattle.ele_world.proofs.Words.{Key, new_draft, EndDraft, ShutHandle, after_changes, is_live_in, first_due, plan, version_meant, live_target, directory_now, parent_now, walk_now, IsPolicy, IsVersion, Counted, Directories, Names, Versions, Drafts, IsWellFormed, World, default_of, next_of, is_draft, is_draft_after, Event, Clock}
+use Rattle.ele_world.proofs.Words.{Tick, MakeDir, RemoveDir, Create, Link, Unlink, Rename, Undelete, OpenWrite, OpenRead, Write, Truncate, Close, Revert, SetPolicy, SetDefault, GroupMake, GroupDrop, GroupAdd, GroupRemove, Mark, Unmark, CleanOne, Read, Stat, Restorable, Due, UsageAll, GroupsAll, Tagged, Of, DirectoryRow, DraftRow, VersionRow, File}
 use Rattle.ele_time_path.specs.declared.tagged.Tag.TheVariants as tag
 use Rattle.ele_world.specs.declared.event.Event.TheVariants.{Versions as VersionsOf, List as ListNames}
 use Rattle.ele_world.proofs.DueRows.{first_is_due, due_has_ended, due_is_unread}

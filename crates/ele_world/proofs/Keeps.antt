@@ -1,6 +1,7 @@
 -- Each change that may be made keeps a world well formed, and so do all changes of a plan.
 use Rattle.ele_world.proofs.Basics.{nat_tests, arith, ◌≡◌, ℕ, true, false, List, [], ◌∷◌, Some, None, Ok, Err, refl, is_none, find}
-use Rattle.ele_world.proofs.Words.{Change, Time, Govern, MakeDirectory, EndName, AddName, MoveName, EndFileName, Revive, MakeFile, PutUnder, Append, Take, StartDraft, WriteDraft, TruncateDraft, EndDraft, OpenHandle, ShutHandle, DropIdle, MakeGroup, DropGroup, AddMember, RemoveMember, AddMark, RemoveMark, after_change, after_changes, Plan, Tell, Make, Unless, When, Need, IfFound, outcome, IsEvent, IsWellFormed, World, is_version, Event, VersionRow}
+use Rattle.ele_world.proofs.Words.{Change, Time, Govern, MakeDirectory, EndName, AddName, MoveName, EndFileName, Revive, MakeFile, PutUnder, Append, Take, StartDraft, WriteDraft, TruncateDraft, EndDraft, OpenHandle, ShutHandle, DropIdle}
+use Rattle.ele_world.proofs.Words.{MakeGroup, DropGroup, AddMember, RemoveMember, AddMark, RemoveMark, after_change, after_changes, Plan, Tell, Make, Unless, When, Need, IfFound, outcome, IsEvent, IsWellFormed, World, is_version, Event, VersionRow}
 use Rattle.ele_world.proofs.KeptDrafts.{start_keeps, write_keeps, truncate_keeps, end_keeps, open_keeps, shut_keeps}
 use Rattle.ele_world.proofs.KeptDirectories.{make_directory_keeps, end_name_keeps}
 use Rattle.ele_world.proofs.KeptNames.{time_keeps, govern_keeps, put_under_keeps, make_keeps}

@@ -1,6 +1,8 @@
 -- The making of a directory, and the end of a name, keep a world well formed.
-use Rattle.ele_world.proofs.Basics.{rules, ◌≡◌, ℕ, ◌+◌, Bool, true, false, ◌==◌, ◌||◌, List, [], ◌∷◌, ◌++◌, length-append, Option, Some, None, refl, ap, sym, subst, ◌∙◌, arith, find, is_none, AllByRecursion, list_any, nat_tests, list_any-append, update_first, all-any, all-push, all-weaker, all-both, all-none, all-update_first, later-push, length-update_first, list_any-update_found, list_any-update_fails}
-use Rattle.ele_world.proofs.Words.{Policy, after_change, MakeDirectory, EndName, without_name, born_row, dies, is_live_in, is_name_of_directory, is_target_directory, is_live_directory, is_live_name, live_target, has_directory, is_reached, IsHoused, Part, Counted, Directories, Names, Homes, Current, Holds, IsWellFormed, Tree, Ended, HaveEnded, IsOfLive, World, root, is_directory, is_live_name_of, DirectoryRow, NameRow, Target, File, Directory}
+use Rattle.ele_world.proofs.Basics.{rules, ◌≡◌, ℕ, ◌+◌, Bool, true, false, ◌==◌, ◌||◌, List, [], ◌∷◌, ◌++◌, length-append, Option, Some, None, refl, ap, sym, subst, ◌∙◌, arith, find, is_none}
+use Rattle.ele_world.proofs.Basics.{AllByRecursion, list_any, nat_tests, list_any-append, update_first, all-any, all-push, all-weaker, all-both, all-none, all-update_first, later-push, length-update_first, list_any-update_found, list_any-update_fails}
+use Rattle.ele_world.proofs.Words.{Policy, after_change, MakeDirectory, EndName, without_name, born_row, dies, is_live_in, is_name_of_directory, is_target_directory, is_live_directory, is_live_name, live_target, has_directory}
+use Rattle.ele_world.proofs.Words.{is_reached, IsHoused, Part, Counted, Directories, Names, Homes, Current, Holds, IsWellFormed, Tree, Ended, HaveEnded, IsOfLive, World, root, is_directory, is_live_name_of, DirectoryRow, NameRow, Target, File, Directory}
 use Rattle.ele_world.proofs.Homes.{or_last, any_more, named_housed, HasName, named_more, named_end, directory_given, ended_more}
 use Rattle.ele_world.proofs.May.{MayMakeDirectory, MayEnd}
 use Rattle.ele_world.proofs.NameParts.{and_false, names_more, names_end, tree_more, tree_end, live_still}

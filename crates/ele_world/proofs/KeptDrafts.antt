@@ -1,6 +1,8 @@
 -- Changes of drafts and handles keep a world well formed.
-use Rattle.ele_world.proofs.Basics.{rules, ◌≡◌, ℕ, ◌+◌, ◌<◌, ◌≤◌, Bool, true, false, ◌||◌, List, [], ◌∷◌, length, refl, arith, AllByRecursion, list_any, nat_tests, update_first, remove_first, insert_before, all-push, all-weaker, all-both, later-push, all-remove_first, all-insert_before, later-update_first, later-remove_first, later-insert_before, length-update_first, length-insert_before, length-remove_first-le, all-found, all-none, found_passes, list_any-update_first, list_any-insert_before, list_any-remove_first}
-use Rattle.ele_world.proofs.Words.{longest_content, written_short, written_fills, truncated_short, truncated_fills, current_cells, new_draft, fitted_by, after_change, StartDraft, WriteDraft, TruncateDraft, EndDraft, OpenHandle, ShutHandle, IsContent, AreWrittenBy, IsDraft, IsReadable, IsHeldRead, IsHandle, Part, Counted, Versions, Drafts, Handles, Readers, Holds, IsWellFormed, World, next_of, is_draft, is_draft_after, is_handle, writes, is_writer, DraftRow, HandleRow, Reads}
+use Rattle.ele_world.proofs.Basics.{rules, ◌≡◌, ℕ, ◌+◌, ◌<◌, ◌≤◌, Bool, true, false, ◌||◌, List, [], ◌∷◌, length, refl, arith, AllByRecursion, list_any, nat_tests, update_first, remove_first, insert_before, all-push, all-weaker, all-both, later-push}
+use Rattle.ele_world.proofs.Basics.{all-remove_first, all-insert_before, later-update_first, later-remove_first, later-insert_before, length-update_first, length-insert_before, length-remove_first-le, all-found, all-none, found_passes, list_any-update_first, list_any-insert_before, list_any-remove_first}
+use Rattle.ele_world.proofs.Words.{longest_content, written_short, written_fills, truncated_short, truncated_fills, current_cells, new_draft, fitted_by, after_change, StartDraft, WriteDraft, TruncateDraft, EndDraft, OpenHandle, ShutHandle, IsContent}
+use Rattle.ele_world.proofs.Words.{AreWrittenBy, IsDraft, IsReadable, IsHeldRead, IsHandle, Part, Counted, Versions, Drafts, Handles, Readers, Holds, IsWellFormed, World, next_of, is_draft, is_draft_after, is_handle, writes, is_writer, DraftRow, HandleRow, Reads}
 use Rattle.ele_world.proofs.May.{MayStart, MayOpen}
 use Rattle.ele_world.proofs.Writers.{changed_written, fitted_written, written_more}
 

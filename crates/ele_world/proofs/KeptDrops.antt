@@ -1,6 +1,8 @@
 -- The dropping of an idle file keeps a world well formed.
-use Rattle.ele_world.proofs.Basics.{◌≡◌, ◌==◌, ℕ, Bool, true, false, not, ◌||◌, List, refl, ap, sym, ◌∙◌, arith, filter, list_any, false≢true, nat_tests, remove_first, all-filter, filter-passes, later-filter, all-weaker, all-both, all-remove_first, later-remove_first, length-remove_first-le, list_any-filter, any-filtered, length-split}
-use Rattle.ele_world.proofs.Words.{DropIdle, without_file, after_change, is_target_directory, is_name_of_directory, is_live_directory, is_reached, IsThere, IsNameRow, AreApart, AreOthers, IsVersion, IsDraft, is_current, Part, Counted, Files, Names, Homes, Tree, Versions, Drafts, Current, Holds, IsWellFormed, IsOfLive, Ended, Groups, World, root, is_file, next_of, is_live, is_live_name_of, is_target_file, FileRow, NameRow, Target, File, Directory}
+use Rattle.ele_world.proofs.Basics.{◌≡◌, ◌==◌, ℕ, Bool, true, false, not, ◌||◌, List, refl, ap, sym, ◌∙◌, arith, filter, list_any, false≢true, nat_tests, remove_first}
+use Rattle.ele_world.proofs.Basics.{all-filter, filter-passes, later-filter, all-weaker, all-both, all-remove_first, later-remove_first, length-remove_first-le, list_any-filter, any-filtered, length-split}
+use Rattle.ele_world.proofs.Words.{DropIdle, without_file, after_change, is_target_directory, is_name_of_directory, is_live_directory, is_reached, IsThere, IsNameRow, AreApart, AreOthers, IsVersion, IsDraft, is_current, Part, Counted}
+use Rattle.ele_world.proofs.Words.{Files, Names, Homes, Tree, Versions, Drafts, Current, Holds, IsWellFormed, IsOfLive, Ended, Groups, World, root, is_file, next_of, is_live, is_live_name_of, is_target_file, FileRow, NameRow, Target, File, Directory}
 use Rattle.ele_world.proofs.Dropped.{IsIdle, dropped, stays_named, idle_versions, idle_drafts, next_of-removed}
 use Rattle.ele_world.proofs.KeptGroups.{groups_forgotten}
 

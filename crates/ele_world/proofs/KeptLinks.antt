@@ -1,6 +1,7 @@
 -- A name more of what is there, and the end of a file's name, keep a world well formed.
 use Rattle.ele_world.proofs.Basics.{◌≡◌, ℕ, ◌-◌, Bool, true, false, cond, ◌==◌, List, [], ◌∷◌, ◌++◌, length, length-append, Some, refl, sym, subst, ◌∙◌, arith, list_any, AllByRecursion, false≢true, nat_tests, all-none, length-update_first, list_any-update_first, all-weaker, all-both, all-update_first}
-use Rattle.ele_world.proofs.Words.{after_change, ended_at, with_end, without_name, AddName, EndFileName, NameRow, Target, File, Directory, born_row, is_live_directory, is_live_in, live_target, Part, Counted, Names, Homes, Tree, Versions, Readers, Current, Holds, IsWellFormed, is_current, HaveEnded, IsOfLive, Ended, World, next_of, is_live, is_live_name_of, is_version, VersionRow}
+use Rattle.ele_world.proofs.Words.{after_change, ended_at, with_end, without_name, AddName, EndFileName, NameRow, Target, File, Directory, born_row, is_live_directory, is_live_in, live_target, Part}
+use Rattle.ele_world.proofs.Words.{Counted, Names, Homes, Tree, Versions, Readers, Current, Holds, IsWellFormed, is_current, HaveEnded, IsOfLive, Ended, World, next_of, is_live, is_live_name_of, is_version, VersionRow}
 use Rattle.ele_world.proofs.Readers.{read_on}
 use Rattle.ele_world.proofs.Homes.{any_less, homes_more, ended_more}
 use Rattle.ele_world.proofs.KeptDirectories.{HoldsWith, with_ends, end_name_holds}

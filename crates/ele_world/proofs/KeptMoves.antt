@@ -1,6 +1,8 @@
 -- A name that moves keeps a world well formed.
-use Rattle.ele_world.proofs.Basics.{◌≡◌, ℕ, Bool, true, ◌==◌, List, [], ◌∷◌, ◌++◌, length, length-append, Some, refl, arith, find, list_any, false≢true, nat_tests, list_any-append, update_first, later-weaker, all-found, all-push, all-update_first, found_passes, length-update_first, all-weaker, any-found, list_any-update_fails, list_any-update_found}
-use Rattle.ele_world.proofs.Words.{after_change, MoveName, NameRow, Target, File, Directory, born_row, dies, is_live_directory, is_target_directory, is_live_name, IsNameRow, IsDirectoryThere, is_reached, IsHoused, AreOthers, Part, Counted, Names, Homes, Tree, Current, Holds, IsWellFormed, IsThere, IsOfLive, Ended, World, is_target_file, is_live_name_of, is_live}
+use Rattle.ele_world.proofs.Basics.{◌≡◌, ℕ, Bool, true, ◌==◌, List, [], ◌∷◌, ◌++◌, length, length-append, Some, refl, arith, find, list_any, false≢true, nat_tests}
+use Rattle.ele_world.proofs.Basics.{list_any-append, update_first, later-weaker, all-found, all-push, all-update_first, found_passes, length-update_first, all-weaker, any-found, list_any-update_fails, list_any-update_found}
+use Rattle.ele_world.proofs.Words.{after_change, MoveName, NameRow, Target, File, Directory, born_row, dies, is_live_directory, is_target_directory, is_live_name, IsNameRow, IsDirectoryThere}
+use Rattle.ele_world.proofs.Words.{is_reached, IsHoused, AreOthers, Part, Counted, Names, Homes, Tree, Current, Holds, IsWellFormed, IsThere, IsOfLive, Ended, World, is_target_file, is_live_name_of, is_live}
 use Rattle.ele_world.proofs.Homes.{any_less, any_more, named_end, named_more, or_last, any_last}
 use Rattle.ele_world.proofs.May.{MayMove}
 use Rattle.ele_world.proofs.NameParts.{and_false, free_still, IsUnnamed, names_end, names_more, still_none, tree_end, tree_more, counted_more, found_target, live_still}

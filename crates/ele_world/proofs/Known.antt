@@ -1,6 +1,8 @@
 -- What a history knows of versions: those that are held, and those that were removed as they last stood. One change.
-use Rattle.ele_world.proofs.Basics.{◌≡◌, ℕ, ◌-◌, ◌<◌, ◌≤◌, true, false, cond, List, [], Option, Some, None, refl, ap, sym, subst, ◌∙◌, arith, is_none, find, AllByRecursion, option_or, option_map, false≢true, nat_tests, all-found, all-insert_before, all-not_found, all-remove_first, all-update_first, all-weaker, found_passes, AllLater}
-use Rattle.ele_world.proofs.Words.{Cell, current_cells, Change, Time, EndFileName, Revive, MakeFile, Append, Take, DropIdle, after_change, ended_at, next_version, with_end, with_file, with_name, with_version, without_name, covers, lives_at, ArePlaced, IsVersion, Versions, IsWellFormed, World, is_live, is_version, is_version_after, next_of, Event, NameRow, File, VersionRow}
+use Rattle.ele_world.proofs.Basics.{◌≡◌, ℕ, ◌-◌, ◌<◌, ◌≤◌, true, false, cond, List, [], Option, Some, None, refl, ap, sym, subst, ◌∙◌, arith, is_none, find}
+use Rattle.ele_world.proofs.Basics.{AllByRecursion, option_or, option_map, false≢true, nat_tests, all-found, all-insert_before, all-not_found, all-remove_first, all-update_first, all-weaker, found_passes, AllLater}
+use Rattle.ele_world.proofs.Words.{Cell, current_cells, Change, Time, EndFileName, Revive, MakeFile, Append, Take, DropIdle, after_change, ended_at, next_version, with_end, with_file, with_name}
+use Rattle.ele_world.proofs.Words.{with_version, without_name, covers, lives_at, ArePlaced, IsVersion, Versions, IsWellFormed, World, is_live, is_version, is_version_after, next_of, Event, NameRow, File, VersionRow}
 use Rattle.ele_world.proofs.Dropped.{dropped}
 use Rattle.ele_world.proofs.May.{May}
 use Rattle.ele_world.proofs.Moves.{IsBehind, IsPast, change_past, Moves, row_of, Same, Ended, Taken, change_moves}

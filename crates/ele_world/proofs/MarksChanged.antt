@@ -1,5 +1,6 @@
 -- What is marked after a change of groups: with more members or marks what they add, and with fewer what is left without them.
-use Rattle.ele_world.proofs.Basics.{◌≡◌, ℕ, ◌==◌, Bool, true, false, not, ◌&&◌, ◌||◌, List, [], ◌∷◌, ◌++◌, Option, Some, None, refl, ap, sym, ◌∙◌, arith, find, AllByRecursion, list_any, option_map_or, bytes_eq, false≢true, true≢false, nat_tests, list_any-append, bytes_eq-Decides, AllLater, update_first, remove_first, later-around, IsCut, find-cut, remove_first-at, remove_first-unfound, update_first-at, update_first-unfound, all-any, all-not_found, all-weaker}
+use Rattle.ele_world.proofs.Basics.{◌≡◌, ℕ, ◌==◌, Bool, true, false, not, ◌&&◌, ◌||◌, List, [], ◌∷◌, ◌++◌, Option, Some, None, refl, ap, sym, ◌∙◌, arith, find, AllByRecursion, list_any, option_map_or, bytes_eq, false≢true}
+use Rattle.ele_world.proofs.Basics.{true≢false, nat_tests, list_any-append, bytes_eq-Decides, AllLater, update_first, remove_first, later-around, IsCut, find-cut, remove_first-at, remove_first-unfound, update_first-at, update_first-unfound, all-any, all-not_found, all-weaker}
 use Rattle.ele_world.proofs.Words.{GroupRow, adds, covers_moment, has_covering, has_mark, has_member, is_group, is_marked, is_marked_at, is_member, marks, removes, unmarks, with_mark, with_member, without_group, without_mark, without_member, has_covering_without, is_marked_without, marks_of, members_of}
 
 -- ---- tests of truth

@@ -1,5 +1,6 @@
 -- The newest held version of a file, and the place at which its next one comes in.
-use Rattle.ele_world.proofs.Basics.{◌≡◌, ℕ, ◌+◌, ◌-◌, ◌<◌, ◌≤◌, ◌==◌, Bool, true, false, cond, ◌&&◌, ◌||◌, List, [], ◌∷◌, Option, Some, None, IfSome, refl, ap, sym, subst, ◌∙◌, arith, find, AllByRecursion, list_any, option_map, false≢true, nat_tests, last_passing, AllLater, insert_before, later-weaker, all-both, all-insert_before, all-update_first, all-weaker, find-insert_before, later-insert_before, list_any-update_first, any-found, find-inserted, find-update_other, last_has}
+use Rattle.ele_world.proofs.Basics.{◌≡◌, ℕ, ◌+◌, ◌-◌, ◌<◌, ◌≤◌, ◌==◌, Bool, true, false, cond, ◌&&◌, ◌||◌, List, [], ◌∷◌, Option, Some, None, IfSome, refl, ap, sym, subst, ◌∙◌, arith, find, AllByRecursion, list_any, option_map}
+use Rattle.ele_world.proofs.Basics.{false≢true, nat_tests, last_passing, AllLater, insert_before, later-weaker, all-both, all-insert_before, all-update_first, all-weaker, find-insert_before, later-insert_before, list_any-update_first, any-found, find-inserted, find-update_other, last_has}
 use Rattle.ele_world.proofs.Words.{Cell, IsPolicy, ended_at, next_version, with_end, with_version, is_version_of, is_newer_of, newest_of, next_closing, ArePlaced, AreVersions, IsVersion, World, is_file, is_live, is_version, is_version_after, next_of, VersionRow}
 use Rattle.ele_world.proofs.Elements.{find-updated}
 use Rattle.ele_world.proofs.KeptVersions.{versions_ended}

@@ -1,7 +1,10 @@
 -- No event leaves a file of which nothing is left. In a well-formed world a live file has a version, so what counts is whether
 -- each file has a version or a draft.
-use Rattle.ele_world.proofs.Basics.{◌≡◌, ◌==◌, ℕ, ◌+◌, Bool, true, false, not, ◌||◌, List, [], ◌∷◌, refl, sym, subst, ◌∙◌, arith, AllByRecursion, list_any, false≢true, nat_tests, update_first, remove_first, filter-passes, all-push, all-weaker, all-both, all-update_first, all-remove_first, found_passes, list_any-update_first, list_any-insert_before, list_any-remove_first, any-found, remove_first-key}
-use Rattle.ele_world.proofs.Words.{Cell, Policy, Take, MakeFile, PutUnder, EndFileName, EndDraft, DropIdle, ShutHandle, StartDraft, after_change, is_idle, numbered_on, put_under, current_cells, changed_by, fitted_by, with_file, with_name, with_version, without_file, is_version_of, HasNoIdle, NoIdleStays, run_of, IsEvent, plan, step, Files, Current, IsWellFormed, World, default_of, is_file, is_draft, is_live, has_draft, next_of, Event, Clock, Tick, MakeDir, RemoveDir, Create, Link, Unlink, Rename, Undelete, OpenWrite, OpenRead, Write, Truncate, Close, Revert, SetPolicy, SetDefault, GroupMake, GroupDrop, GroupAdd, GroupRemove, Mark, Unmark, CleanOne, Read, Stat, Restorable, Due, UsageAll, GroupsAll, Tagged, Of, DraftRow, FileRow, File}
+use Rattle.ele_world.proofs.Basics.{◌≡◌, ◌==◌, ℕ, ◌+◌, Bool, true, false, not, ◌||◌, List, [], ◌∷◌, refl, sym, subst, ◌∙◌, arith, AllByRecursion, list_any, false≢true, nat_tests, update_first}
+use Rattle.ele_world.proofs.Basics.{remove_first, filter-passes, all-push, all-weaker, all-both, all-update_first, all-remove_first, found_passes, list_any-update_first, list_any-insert_before, list_any-remove_first, any-found, remove_first-key}
+use Rattle.ele_world.proofs.Words.{Cell, Policy, Take, MakeFile, PutUnder, EndFileName, EndDraft, DropIdle, ShutHandle, StartDraft, after_change, is_idle, numbered_on, put_under, current_cells, changed_by, fitted_by, with_file, with_name, with_version}
+use Rattle.ele_world.proofs.Words.{without_file, is_version_of, HasNoIdle, NoIdleStays, run_of, IsEvent, plan, step, Files, Current, IsWellFormed, World, default_of, is_file, is_draft, is_live, has_draft, next_of, Event, Clock, Tick, MakeDir, RemoveDir}
+use Rattle.ele_world.proofs.Words.{Create, Link, Unlink, Rename, Undelete, OpenWrite, OpenRead, Write, Truncate, Close, Revert, SetPolicy, SetDefault, GroupMake, GroupDrop, GroupAdd, GroupRemove, Mark, Unmark, CleanOne, Read, Stat, Restorable, Due, UsageAll, GroupsAll, Tagged, Of, DraftRow, FileRow, File}
 use Rattle.ele_lists.proofs.Cuts.{any-found as first_passing}
 use Rattle.ele_world.specs.declared.event.Event.TheVariants.{Versions, List as ListNames}
 use Rattle.ele_world.proofs.Allowed.{takes}

@@ -1,6 +1,7 @@
 -- An event that is refused, or only asks, leaves the world.
 use Rattle.ele_world.proofs.Basics.{◌≡◌, Bool, true, false, Some, None, Ok, Err, refl, ap, sym, ◌∙◌, false≢true}
-use Rattle.ele_world.proofs.Words.{asks, Plan, Tell, Make, Unless, When, Need, IfFound, outcome, plan, step, World, Event, Clock, Tick, MakeDir, RemoveDir, Create, Link, Unlink, Rename, Undelete, OpenWrite, OpenRead, Write, Truncate, Close, Revert, SetPolicy, SetDefault, GroupMake, GroupDrop, GroupAdd, GroupRemove, Mark, Unmark, CleanOne, Read, Stat, Restorable, Due, UsageAll, GroupsAll, Tagged, Of, Refusal, Reply, Refused}
+use Rattle.ele_world.proofs.Words.{asks, Plan, Tell, Make, Unless, When, Need, IfFound, outcome, plan, step, World, Event, Clock, Tick, MakeDir, RemoveDir, Create, Link, Unlink, Rename, Undelete, OpenWrite, OpenRead, Write}
+use Rattle.ele_world.proofs.Words.{Truncate, Close, Revert, SetPolicy, SetDefault, GroupMake, GroupDrop, GroupAdd, GroupRemove, Mark, Unmark, CleanOne, Read, Stat, Restorable, Due, UsageAll, GroupsAll, Tagged, Of, Refusal, Reply, Refused}
 use Rattle.ele_world.specs.declared.event.Event.TheVariants.{Versions, List as ListNames}
 
 abbrev is_refusal : Reply → Bool
