@@ -27,8 +27,8 @@ find_command (named ∷ table) words = or_next named.1 (behind named.0 words) (f
 
 abbrev pub commands : List Command
 commands =
-    Clock ∷ Tick ∷ MakeDir ∷ RemoveDir ∷ Create ∷ Link ∷ Unlink ∷ Rename ∷ Undelete ∷ OpenWrite ∷ OpenRead ∷ Write ∷ Truncate ∷ Close ∷ Revert ∷ SetPolicy ∷ Default ∷ GroupMake ∷ GroupDrop ∷ GroupAdd ∷ GroupRemove
-    ∷ Mark ∷ Unmark ∷ Clean ∷ Read ∷ Stat ∷ Versions ∷ ListNames ∷ Restorable ∷ Due ∷ Usage ∷ Groups ∷ Pass ∷ []
+    Write ∷ Read ∷ Close ∷ OpenWrite ∷ OpenRead ∷ Clock ∷ Tick ∷ Due ∷ Clean ∷ Pass ∷ Rename ∷ Unlink ∷ Undelete ∷ Create ∷ Stat ∷ Mark ∷ Unmark ∷ MakeDir ∷ RemoveDir ∷ Link
+    ∷ Truncate ∷ Revert ∷ SetPolicy ∷ Default ∷ GroupMake ∷ GroupDrop ∷ GroupAdd ∷ GroupRemove ∷ Versions ∷ ListNames ∷ Restorable ∷ Usage ∷ Groups ∷ []
 
 -- a command with its name
 abbrev pub named : Command → List (List ℕ) × Command
