@@ -43,7 +43,7 @@ pub(crate) enum Command {
 
 /// The words that name each command, of which the second may be missing; those that come often stand
 /// in front, since a word is looked for from the first row on.
-const COMMANDS: [(&str, &str, Command); 33] = [
+static COMMANDS: [(&str, &str, Command); 33] = [
     ("write", "", Command::Write),
     ("read", "", Command::Read),
     ("close", "", Command::Close),
