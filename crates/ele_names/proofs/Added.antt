@@ -2,7 +2,7 @@
 use Rattle.std.proofs.Common.{◌≡◌, ℕ, Bool, true, false, subst, ◌+◌, ◌≤◌, ◌<◌, ◌^◌, cond, List, [], ◌∷◌, ◌++◌, length, Some, None, Option, refl, ap, ◌∙◌, arith}
 use Rattle.std.specs.List.{AllByRecursion}
 use Rattle.std.specs.List.Sorted.{IsStrictlySortedBy}
-use Rattle.std.specs.Option.{option_map_or}
+use Rattle.std.specs.Option.{option_map, option_map_or}
 use Rattle.std.specs.Ordering.{nat_cmp}
 use Rattle.std.specs.BTreeMap.{is_at, insert_entry}
 use Rattle.std.specs.Map.{keys_of, values_of}
@@ -23,6 +23,7 @@ use Rattle.ele_names.specs.Counted.{AreCounted, AreNumbered}
 use Rattle.ele_names.specs.Kept.{IsKept, IsTable, rows_of}
 use Rattle.ele_names.specs.Placed.{ArePlaced, AreListed, KeepsPlaces, names_of, number_in}
 use Rattle.ele_names.specs.Rows.{Follows}
+use Rattle.ele_names.proofs.Chained.{chained_same}
 use Rattle.ele_names.proofs.Live.{numbered_same}
 use Rattle.ele_names.proofs.Numbers.{keeps_same}
 
@@ -30,7 +31,7 @@ use Rattle.ele_names.proofs.Numbers.{keeps_same}
 pub placed_same : (names : List (ℕ × List ℕ)) (at to : ℕ → Option NameRow) (places : Places) → ((s : ℕ) → to s ≡ at s) → ArePlaced names at places → ArePlaced names to places
 placed_same names at to places same placed = record {
   named = record { each = λ q r s. placed.named.each q r s ∙ rw (same s) refl };
-  targeted = record { each = λ q r s. placed.targeted.each q r s ∙ rw (same s) refl };
+  targeted = chained_same at to places.of_target (λ s. ap (option_map (λ row. row.target)) (same s)) placed.targeted;
 }
 
 -- a row that comes and goes again leaves the places as they were
@@ -85,8 +86,8 @@ module _ (names : List (ℕ × List ℕ)) (table : Table) (kept : IsTable names 
   abbrev es : List (ℕ × NameRow)
   es = table.rows.entries
 
-  pub fresh : value_at es made ≡ None
-  fresh = not_yet made es below
+  pub fresh : (s : ℕ) → made ≤ s → value_at es s ≡ None
+  fresh s le = not_yet s es (all-weaker (λ k. k < made) (λ k. k < s) (keys_of es) (λ k h. omega (arith, le, h)) below)
 
   -- with places that say the same
   pub table_same : (t : Table) → t.rows.entries ≡ es → ArePlaced names (value_at es) t.places → IsTable names t

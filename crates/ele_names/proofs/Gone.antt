@@ -2,14 +2,14 @@
 use Rattle.std.proofs.Common.{◌≡◌, ℕ, ◌≤◌, ◌<◌, ◌^◌, Bool, true, false, cond, not, List, [], ◌∷◌, ◌++◌, length, filter, Some, None, Option, is_none, refl, sym, ap, ◌∙◌, arith, length-append}
 use Rattle.std.specs.Ordering.{nat_cmp}
 use Rattle.std.specs.BTreeMap.{is_at, insert_entry}
+use Rattle.std.specs.HashMap.{get}
 use Rattle.std.specs.Map.{keys_of, values_of, remove_entry}
+use Rattle.std.specs.Option.{option_map, option_map_or}
 use Rattle.std.proofs.lemmas.Bool.{true≢false, false≢true}
 use Rattle.std.proofs.lemmas.Cmp.{nat_cmp_total}
 use Rattle.std.proofs.lemmas.List.{map-append}
-use Rattle.std.proofs.lemmas.Bool.Decides.{nat_tests}
-use Rattle.ele_lists.specs.Index.{has, IsLastOf}
 use Rattle.ele_lists.specs.Lists.{update_first}
-use Rattle.ele_lists.specs.Serial.{value_at, is_placed}
+use Rattle.ele_lists.specs.Serial.{value_at}
 use Rattle.ele_lists.proofs.Alls.{all-append, all-around, all-mid, all-exchange, later-around, later-without, later-exchange}
 use Rattle.ele_lists.proofs.Cuts.{update_first-at}
 use Rattle.ele_lists.proofs.Edits.{all-weaker}
@@ -20,7 +20,6 @@ use Rattle.ele_lists.proofs.Serials.{IsSplitAt, split_at, all_keys_without, all_
 use Rattle.ele_moment.specs.Last.{last_moment}
 use Rattle.ele_world.specs.declared.rows.NameRow.{NameRow}
 use Rattle.ele_world.specs.declared.rows.Target.{Target}
-use Rattle.ele_world.specs.declared.rows.Target.TheVariants.{File, Directory}
 use Rattle.ele_world.specs.NameRows.{is_named}
 use Rattle.ele_world.specs.Walk.{is_live_name}
 use Rattle.ele_names.specs.declared.lives.Lives.{Lives}
@@ -30,10 +29,13 @@ use Rattle.ele_names.specs.Counted.{AreCounted, AreNumbered, Leaves}
 use Rattle.ele_names.specs.Kept.{IsKept, rows_of}
 use Rattle.ele_names.specs.Placed.{ArePlaced, AreListed, names_of, number_in}
 use Rattle.ele_names.specs.Rows.{Follows, dies}
-use Rattle.ele_names.specs.Targets.{is_other, target_cmp, target_eq}
+use Rattle.ele_names.specs.Chained.{IsLast, IsLastBelow, stands_for}
+use Rattle.ele_names.specs.Targets.{is_other, target_eq}
 use Rattle.ele_names.proofs.Added.{placed_same}
 use Rattle.ele_names.proofs.Apart.{named_dead, named_live, same_name}
+use Rattle.ele_names.proofs.Chained.{chained_same, same_target}
 use Rattle.ele_names.proofs.Counts.{leaves_without, leaves_dead}
+use Rattle.ele_names.proofs.Live.{same_serial}
 use Rattle.ele_names.proofs.Numbering.{rises_without, gone_at}
 
 filter_between : {X : Type 0} (p : X → Bool) (before : List X) (x : X) (behind : List X) → p x ≡ false → filter p (before ++ x ∷ behind) ≡ filter p (before ++ behind)
@@ -52,13 +54,6 @@ same_front (a ∷ xs) (b ∷ ys) x y h =
 -- the last entry leaves the values before it
 pub last_gone : {X : Type 0} (rows : List X) (row : X) (es fs : List (ℕ × X)) (n : ℕ) (x : X) → es ≡ fs ++ (n, x) ∷ [] → values_of es ≡ rows ++ row ∷ [] → values_of fs ≡ rows
 last_gone rows row es fs n x is are = same_front (values_of fs) rows x row (sym (map-append (λ (e : ℕ × _). e.1) fs ((n, x) ∷ [])) ∙ sym (ap values_of is) ∙ are)
-
--- a target is where it stands
-target_stands : (t u : Target) (r : ℕ) → r ≤ 0 → is_placed target_cmp t 0 u r ≡ target_eq t u
-target_stands (File a) (File b) r h = grind (arith, nat_tests)
-target_stands (File a) (Directory b) r h = refl
-target_stands (Directory a) (File b) r h = refl
-target_stands (Directory a) (Directory b) r h = grind (arith, nat_tests)
 
 module _ (a : Inside) (kept : IsKept a.table a.lives) where
   abbrev es : List (ℕ × NameRow)
@@ -95,7 +90,7 @@ module _ (a : Inside) (kept : IsKept a.table a.lives) where
           known = rw rows_are (let known = rw c.values at kept.is_table.known in all-exchange (λ row. number_in names row < length names) c.before row (dies moment row) c.behind (all-mid (λ row. number_in names row < length names) c.before row c.behind known) known);
           placed = rw places (record {
             named = index_change (value_at t.rows.entries) s row (dies moment row) a.table.places.by_name kept.is_table.placed.named at (λ q r. refl) now;
-            targeted = index_change (value_at t.rows.entries) s row (dies moment row) a.table.places.by_target kept.is_table.placed.targeted at (λ q r. refl) now;
+            targeted = chained_same (value_at es) (value_at t.rows.entries) a.table.places.of_target (λ k. targets k) kept.is_table.placed.targeted;
           });
         });
         listed = listed;
@@ -107,6 +102,12 @@ module _ (a : Inside) (kept : IsKept a.table a.lives) where
 
         now : (k : ℕ) → value_at t.rows.entries k ≡ cond (is_at (nat_cmp s) k) (Some (dies moment row)) (value_at es k)
         now k = ap (λ entries. value_at entries k) is ∙ lookup-insert_entry nat_cmp_total k es s (dies moment row)
+
+        targets : (k : ℕ) → option_map (λ row. row.target) (value_at t.rows.entries k) ≡ option_map (λ row. row.target) (value_at es k)
+        targets k = ap (option_map (λ row. row.target)) (now k) ∙ elim (is_at (nat_cmp s) k) as (λ b. is_at (nat_cmp s) k ≡ b → option_map (λ row. row.target) (cond b (Some (dies moment row)) (value_at es k)) ≡ option_map (λ row. row.target) (value_at es k)) [
+          | true ↦ λ e. rw (← same_serial s k e, at) refl
+          | false ↦ λ e. refl
+        ] refl
 
         keys_are : keys_of t.rows.entries ≡ keys_of es
         keys_are = ap keys_of is ∙ c.set_keys (dies moment row)
@@ -150,18 +151,34 @@ module _ (a : Inside) (kept : IsKept a.table a.lives) where
     pub others_stay : (target : Target) → is_other target row ≡ false → filter (is_other target) (values_of (remove_entry (is_at (nat_cmp s)) es)) ≡ filter (is_other target) (rows_of a.table)
     others_stay target its = rw (c.without, c.values) (sym (filter_between (is_other target) c.before row c.behind its))
 
-  module _ (target : Target) where
-    abbrev has_target : ℕ → ℕ → Bool
-    has_target = has target_cmp a.table.places.by_target target
+  module _ (target : Target) (found : Option ℕ) (is : found ≡ get target_eq a.table.places.of_target.newest target) where
+    last : IsLastBelow (stands_for (value_at es) target) (2 ^ 64) found
+    last = rw is (kept.is_table.placed.targeted.newest target)
 
-    pub none_of_target : ((r s : ℕ) → r ≤ 0 → s < 2 ^ 64 → has_target r s ≡ false) → filter (is_other target) (rows_of a.table) ≡ rows_of a.table
+    -- a row has a number that fits
+    fits : (s : ℕ) (row : NameRow) → value_at es s ≡ Some row → s < 2 ^ 64
+    fits s row at = found_key (λ k. k < 2 ^ 64) es s row kept.is_table.short at
+
+    pub none_of_target : found ≡ None → filter (is_other target) (rows_of a.table) ≡ rows_of a.table
     none_of_target none = filter-all (is_other target) (rows_of a.table) (all_from_each (λ row. is_other target row ≡ true) es kept.is_table.rising (λ s row at.
-        ap not (sym (target_stands row.target target 0 (omega arith)) ∙ sym (kept.is_table.placed.targeted.each target 0 s ∙ rw at refl)
-        ∙ none 0 s (omega arith) (found_key (λ k. k < 2 ^ 64) es s row kept.is_table.short at))))
+        ap not (sym (ap (λ o. option_map_or (λ row. target_eq row.target target) o false) at) ∙ (rw none at last) s (fits s row at))))
 
-    module _ (r s : ℕ) (last : IsLastOf has_target 0 r s) where
+    module _ (s : ℕ) (there : found ≡ Some s) where
+      newest : IsLast (stands_for (value_at es) target) (2 ^ 64) s
+      newest = rw there at last
+
       pub row_there : value_at es s ≡ None → ⊥
-      row_there at = false≢true (sym (kept.is_table.placed.targeted.each target r s ∙ rw at refl) ∙ last.there)
+      row_there at = false≢true (sym (ap (λ o. option_map_or (λ row. target_eq row.target target) o false) at) ∙ newest.there)
 
-      pub its_target : (row : NameRow) → value_at es s ≡ Some row → is_other target row ≡ false
-      its_target row at = ap not (sym (target_stands row.target target r last.up_to) ∙ sym (kept.is_table.placed.targeted.each target r s ∙ rw at refl) ∙ last.there)
+      module _ (row : NameRow) (at : value_at es s ≡ Some row) where
+        its : target_eq row.target target ≡ true
+        its = sym (ap (λ o. option_map_or (λ row. target_eq row.target target) o false) at) ∙ newest.there
+
+        pub its_target : is_other target row ≡ false
+        its_target = ap not its
+
+        pub is_newest : (k : ℕ) → s < k → stands_for (value_at es) row.target k ≡ false
+        is_newest k over = rw (same_target row.target target its) (elim (value_at es k) as (λ o. value_at es k ≡ o → option_map_or (λ row. target_eq row.target target) o false ≡ false) [
+          | None ↦ λ e. refl
+          | Some other ↦ λ e. sym (ap (λ o. option_map_or (λ row. target_eq row.target target) o false) e) ∙ newest.last k over (fits k other e)
+        ] refl)

@@ -5,6 +5,7 @@ pub mod Newest
 pub mod Counts
 pub mod Live
 pub mod Numbering
+pub mod Chained
 pub mod Added
 pub mod Gone
 pub mod Told

@@ -18,7 +18,7 @@ use Rattle.ele_names.specs.Counted.{AreCounted, AreNumbered, Leaves, live_at}
 use Rattle.ele_names.specs.Targets.{target_eq}
 use Rattle.ele_names.proofs.Apart.{named_and_live, named_dead, named_live}
 
-same_serial : (a b : ℕ) → is_at (nat_cmp a) b ≡ true → a ≡ b
+pub same_serial : (a b : ℕ) → is_at (nat_cmp a) b ≡ true → a ≡ b
 same_serial a b h = grind (arith, nat_tests)
 
 abbrev pub target_of : Option Live → Option Target

@@ -15,7 +15,7 @@ use Rattle.ele_lists.proofs.Entries.{lookup-insert_entry}
 use Rattle.ele_lists.proofs.Indexed.{at_itself}
 use Rattle.ele_lists.specs.Serial.{value_at}
 use Rattle.ele_lists.proofs.Edits.{all-weaker}
-use Rattle.ele_lists.proofs.Serials.{IsRising, after_head, all_keys_without, pushed, rest_rises}
+use Rattle.ele_lists.proofs.Serials.{IsRising, after_head, all_keys_without, not_yet, pushed, rest_rises}
 use Rattle.ele_names.specs.Numbered.{entries_from}
 
 here : (n : ℕ) → nat_cmp (n + 0) n ≡ Equal
@@ -144,6 +144,13 @@ module _ {X : Type 0} where
   pub at_last : (n : ℕ) (x : X) (es fs : List (ℕ × X)) → es ≡ fs ++ (n, x) ∷ [] → AllByRecursion (λ k. k < n) (keys_of fs) → value_at es n ≡ Some x
   at_last n x es fs is below =
       ap (λ entries. value_at entries n) (is ∙ sym (pushed n x fs below)) ∙ lookup-insert_entry nat_cmp_total n fs n x ∙ ap (λ b. cond b (Some x) (value_at fs n)) (at_itself n)
+
+  pub none_past : (n : ℕ) (x : X) (es fs : List (ℕ × X)) → es ≡ fs ++ (n, x) ∷ [] → AllByRecursion (λ k. k < n) (keys_of fs) → (s : ℕ) → n < s → value_at es s ≡ None
+  none_past n x es fs is below s over =
+      ap (λ entries. value_at entries s) (is ∙ sym (pushed n x fs below)) ∙ lookup-insert_entry nat_cmp_total s fs n x ∙ ap (λ b. cond b (Some x) (value_at fs s)) (beyond n s over)
+      ∙ not_yet s fs (all-weaker (λ k. k < n) (λ k. k < s) (keys_of fs) (λ k h. omega (arith, over, h)) below) where
+        beyond : (a b : ℕ) → a < b → is_at (nat_cmp a) b ≡ false
+        beyond a b h = grind (arith, nat_tests)
 
   pub without_last : (n : ℕ) (x : X) (es fs : List (ℕ × X)) → es ≡ fs ++ (n, x) ∷ [] → AllByRecursion (λ k. k < n) (keys_of fs) → remove_entry (is_at (nat_cmp n)) es ≡ fs
   without_last n x es fs is below = rw is (by fs below) where

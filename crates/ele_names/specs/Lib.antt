@@ -2,6 +2,7 @@ pub mod Rows
 pub mod Listed
 pub mod Numbered
 pub mod Targets
+pub mod Chained
 pub mod Placed
 pub mod Counted
 pub mod Kept

@@ -1,4 +1,4 @@
--- The numbers of names, and which rows the indexes are of. No public clause cites this module.
+-- The numbers of names, and which rows stand at their places. No public clause cites this module.
 use Rattle.std.specs.Prelude.{◌≡◌, ℕ, ◌<◌, ◌^◌, ◌&&◌, Bool, List, Option, length, slice_get}
 use Rattle.std.specs.Bool.{nat_eq}
 use Rattle.std.specs.HashMap.{keys}
@@ -9,7 +9,7 @@ use Rattle.ele_lists.specs.Serial.{IsIndexOf}
 use Rattle.ele_world.specs.declared.rows.NameRow.{NameRow}
 use Rattle.ele_names.specs.declared.lives.Lives.{Lives}
 use Rattle.ele_names.specs.declared.places.Places.{Places}
-use Rattle.ele_names.specs.Targets.{target_cmp}
+use Rattle.ele_names.specs.Chained.{AreChained}
 
 -- the two directories and names are one
 abbrev pub name_eq : ℕ × List ℕ → ℕ × List ℕ → Bool
@@ -38,4 +38,4 @@ pub record AreListed (lives : Lives) : Type 0 where
 -- each row stands at its places, and nothing else does
 pub record ArePlaced (names : List (ℕ × List ℕ)) (at : ℕ → Option NameRow) (places : Places) : Type 0 where
   pub named : IsIndexOf nat_cmp (number_in names) (λ row. row.birth) at places.by_name
-  pub targeted : IsIndexOf target_cmp (λ row. row.target) (λ _. 0) at places.by_target
+  pub targeted : AreChained at places.of_target

@@ -1,14 +1,8 @@
--- Targets and their order. No public clause cites this module.
+-- Targets. No public clause cites this module.
 use Rattle.std.specs.Prelude.{not, Bool}
-use Rattle.std.specs.declared.cmp.Ordering.{Ordering}
 use Rattle.ele_world.specs.declared.rows.NameRow.{NameRow}
 use Rattle.ele_world.specs.declared.rows.Target.{Target}
-use Rattle.ele_world.specs.contracts.rows.TargetOrd.TheImpl.{cmp-value}
 use Rattle.ele_world.specs.contracts.rows.TargetPartialEq.TheImpl.{eq-value}
-
--- files by number, then directories by number
-abbrev pub target_cmp : Target → Target → Ordering
-target_cmp = cmp-value.it
 
 -- the two are one
 abbrev pub target_eq : Target → Target → Bool

@@ -2,6 +2,7 @@
 //! A contract sees the rows as their list in order of making, and how many were ever made.
 #![tactic(auto)]
 
+mod chains;
 mod lives;
 mod names;
 mod numbered;

@@ -145,7 +145,7 @@ impl Names {
         ensures fewer { IsTrue result → length self.new < length self.old }
         ensures none { result ≡ false → filter (is_other target) self.new ≡ self.new }
     {
-        let Some((_, serial)) = self.table.places.by_target.last(target, 0) else {
+        let Some(serial) = self.table.places.of_target.newest(target) else {
             return false;
         };
         let Some(row) = self.table.rows.take(serial) else {

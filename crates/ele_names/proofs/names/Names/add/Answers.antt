@@ -1,4 +1,4 @@
-use Rattle.std.proofs.Common.{◌≡◌, ◌++◌, ◌∷◌, [], Some, cond, refl, sym, ap, ◌∙◌, append-nil}
+use Rattle.std.proofs.Common.{◌≡◌, ◌++◌, ◌∷◌, [], Some, cond, refl, sym, ap, ◌∙◌, append-nil, arith}
 use Rattle.std.specs.Ordering.{nat_cmp}
 use Rattle.std.specs.BTreeMap.{is_at}
 use Rattle.std.specs.Map.{values_of}
@@ -10,6 +10,7 @@ use Rattle.ele_names.specs.Kept.{IsKept, rows_of}
 use Rattle.ele_names.specs.Placed.{names_of, number_in}
 use Rattle.ele_names.specs.Rows.{Follows, born_row}
 use Rattle.ele_names.proofs.Added.{fresh, kept_known, kept_over, kept_placed, kept_pushed, placed_back, rows_pushed}
+use Rattle.ele_names.proofs.Chained.{newest_entered}
 use Rattle.ele_names.proofs.Counts.{leaves_without}
 use Rattle.ele_names.proofs.names.Names.add.Goals as goal
 
@@ -51,7 +52,8 @@ invariant_of-self-in-Err c =
     let its : number_in names row ≡ c.in_ok-number.number = rw c.reserve.ensures.names (sym c.in_ok-number.ensures.number.0) in
     let new = fresh names table kept.is_table now c.next_serial-serial.ensures.below in
     kept_placed table lives kept now c.next_serial-serial.ensures.below _ c.in-Err.ensures.err
-    (placed_back names es now row new _ (c.leave.ensures names (λ s. cond (is_at (nat_cmp now) s) (Some row) (value_at es s)) its (rw (at_itself now) refl) (c.in_ok-enter.ensures.ok names (value_at es) its new kept.is_table.placed)))
+    (placed_back names es now row (new now (omega arith)) _ (c.leave.ensures names (λ s. cond (is_at (nat_cmp now) s) (Some row) (value_at es s)) its (rw (at_itself now) refl)
+    (newest_entered (value_at es) row now new) (c.in_ok-enter.ensures.ok names (value_at es) its new kept.is_table.placed)))
 
 pub invariant_of-self-2 : goal.invariant_of-self-2
 invariant_of-self-2 c =
@@ -71,7 +73,7 @@ invariant_of-self-2 c =
     (rw (← made.ensures.next) at c.in_default.ensures.fits) c.in_ok-enter.ensures.born (rw (its, c.reserve.ensures.names) c.in_ok-number.ensures.number.1) (rw (← c.self.view_is) at c.requires)
     (c.in_ok-enter.ensures.ok names (value_at table.rows.entries) its new kept.is_table.placed)
     (c.enter-2.ensures.counted rows (rows ++ row ∷ []) leaves kept.counts)
-    (c.enter-2.ensures.numbered (value_at table.rows.entries) new kept.numbered)
+    (c.enter-2.ensures.numbered (value_at table.rows.entries) (new made.result (omega arith)) kept.numbered)
 
 pub returns-clause-ok : goal.returns-clause-ok
 returns-clause-ok c =

@@ -1,4 +1,4 @@
-use Rattle.std.proofs.Common.{refl}
+use Rattle.std.proofs.Common.{refl, arith}
 use Rattle.std.proofs.lemmas.Result.{err_from_is_err_and}
 use Rattle.ele_lists.proofs.Indexed.{index_insert, index_same, index_undo}
 use Rattle.ele_names.proofs.places.Places.enter.Goals as goal
@@ -11,15 +11,15 @@ returns-in_err-insert-clause-err c = let p = err_from_is_err_and c.from_residual
 
 pub returns-in-Err-clause-err : goal.returns-in-Err-clause-err
 returns-in-Err-clause-err c = λ names at its fresh placed. record {
-  named = index_undo c.args.serial c.args.self.now.by_name c.insert.new.self c.remove.new.self c.args.row.now placed.named fresh
+  named = index_undo c.args.serial c.args.self.now.by_name c.insert.new.self c.remove.new.self c.args.row.now placed.named (fresh c.args.serial (omega arith))
       (rw (c.birth_of-birth.ensures.value, ← its) at c.in_ok-insert.ensures.ok)
       (rw (c.birth_of-birth.ensures.value, ← its) at c.remove.ensures);
-  targeted = index_same at at c.args.self.now.by_target c.insert-2.new.self placed.targeted c.in-Err.ensures.err (λ q r s. refl);
+  targeted = c.in-Err.ensures.err at fresh placed.targeted;
 }
 
 pub returns-clause-ok : goal.returns-clause-ok
 returns-clause-ok c = λ names at its fresh placed. record {
-  named = index_insert c.args.serial c.args.self.now.by_name c.insert.new.self c.args.row.now placed.named fresh
+  named = index_insert c.args.serial c.args.self.now.by_name c.insert.new.self c.args.row.now placed.named (fresh c.args.serial (omega arith))
       (rw (c.birth_of-birth.ensures.value, ← its) at c.in_ok-insert.ensures.ok);
-  targeted = index_insert c.args.serial c.args.self.now.by_target c.insert-2.new.self c.args.row.now placed.targeted fresh c.in_default.ensures.ok;
+  targeted = c.in_default.ensures.ok at fresh placed.targeted;
 }
