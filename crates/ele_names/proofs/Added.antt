@@ -1,28 +1,6 @@
 -- A row at the end of the others.
-use Rattle.std.proofs.Common.{◌≡◌, ℕ, Bool, true, false, subst, ◌+◌, ◌≤◌, ◌<◌, ◌^◌, cond, List, [], ◌∷◌, ◌++◌, length, Some, None, Option, refl, ap, ◌∙◌, arith}
-use Rattle.std.specs.List.{AllByRecursion}
-use Rattle.std.specs.List.Sorted.{IsStrictlySortedBy}
-use Rattle.std.specs.Option.{option_map, option_map_or}
-use Rattle.std.specs.Ordering.{nat_cmp}
-use Rattle.std.specs.BTreeMap.{is_at, insert_entry}
-use Rattle.std.specs.Map.{keys_of, values_of}
-use Rattle.std.proofs.lemmas.Bool.Decides.{nat_tests}
-use Rattle.std.proofs.lemmas.List.{map-append}
-use Rattle.ele_lists.specs.Serial.{value_at, is_placed}
-use Rattle.std.proofs.lemmas.Cmp.{nat_cmp_total}
-use Rattle.ele_lists.proofs.Entries.{lookup-insert_entry, sorted-insert_entry}
-use Rattle.ele_lists.proofs.Edits.{all-push, all-weaker, later-push}
-use Rattle.ele_lists.proofs.Serials.{pushed, not_yet, split_at}
-use Rattle.ele_lists.proofs.Alls.{all-mid}
-use Rattle.ele_moment.specs.Last.{last_moment}
-use Rattle.ele_world.specs.declared.rows.NameRow.{NameRow}
-use Rattle.ele_names.specs.declared.lives.Lives.{Lives}
-use Rattle.ele_names.specs.declared.places.Places.{Places}
-use Rattle.ele_names.specs.declared.table.Table.{Table}
-use Rattle.ele_names.specs.Counted.{AreCounted, AreNumbered}
-use Rattle.ele_names.specs.Kept.{IsKept, IsTable, rows_of}
-use Rattle.ele_names.specs.Placed.{ArePlaced, AreListed, KeepsPlaces, names_of, number_in}
-use Rattle.ele_names.specs.Rows.{Follows}
+use Rattle.ele_names.proofs.Basics.{◌≡◌, ℕ, Bool, true, false, subst, ◌+◌, ◌≤◌, ◌<◌, ◌^◌, cond, List, [], ◌∷◌, ◌++◌, length, Some, None, Option, refl, ap, ◌∙◌, arith, AllByRecursion, IsStrictlySortedBy, option_map, option_map_or, nat_cmp, is_at, insert_entry, keys_of, values_of, nat_tests, map-append, value_at, is_placed, nat_cmp_total, lookup-insert_entry, sorted-insert_entry, all-push, all-weaker, later-push, pushed, not_yet, split_at, all-mid}
+use Rattle.ele_names.proofs.Words.{last_moment, NameRow, Lives, Places, Table, AreCounted, AreNumbered, IsKept, IsTable, rows_of, ArePlaced, AreListed, KeepsPlaces, names_of, number_in, Follows}
 use Rattle.ele_names.proofs.Chained.{chained_same}
 use Rattle.ele_names.proofs.Live.{numbered_same}
 use Rattle.ele_names.proofs.Numbers.{keeps_same}

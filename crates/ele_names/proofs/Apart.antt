@@ -1,21 +1,6 @@
 -- Rows of one name are over when a later one is born, so the newest decides.
-use Rattle.std.proofs.Common.{◌≡◌, ℕ, ◌≤◌, Bool, true, false, ◌&&◌, ◌==◌, nat_le, nat_lt, List, [], ◌∷◌, Some, Option, is_none, refl, ap, sym, ◌∙◌, arith, find, cond}
-use Rattle.std.specs.List.{AllByRecursion}
-use Rattle.std.specs.Option.{option_map_or}
-use Rattle.std.specs.Str.{bytes_eq}
-use Rattle.std.proofs.lemmas.Bool.{false≢true}
-use Rattle.std.proofs.lemmas.Bool.Decides.{nat_tests}
-use Rattle.std.proofs.lemmas.Slice.Eq.{bytes_eq-Decides}
-use Rattle.ele_lists.specs.Lists.{AllLater}
-use Rattle.ele_lists.specs.Last.{last_passing, passing}
-use Rattle.ele_lists.proofs.Alls.{later-weaker}
-use Rattle.ele_lists.proofs.Lasts.{find_last}
-use Rattle.ele_moment.specs.Last.{last_moment}
-use Rattle.ele_world.specs.declared.rows.NameRow.{NameRow}
-use Rattle.ele_world.specs.NameRows.{is_named, covers, lives_past}
-use Rattle.ele_world.specs.Walk.{is_live_name}
-use Rattle.ele_names.specs.Kept.{is_born_by}
-use Rattle.ele_names.specs.Rows.{Follows}
+use Rattle.ele_names.proofs.Basics.{◌≡◌, ℕ, ◌≤◌, Bool, true, false, ◌&&◌, ◌==◌, nat_le, nat_lt, List, [], ◌∷◌, Some, Option, is_none, refl, ap, sym, ◌∙◌, arith, find, cond, AllByRecursion, option_map_or, bytes_eq, false≢true, nat_tests, bytes_eq-Decides, AllLater, last_passing, passing, later-weaker, find_last}
+use Rattle.ele_names.proofs.Words.{last_moment, NameRow, is_named, covers, lives_past, is_live_name, is_born_by, Follows}
 
 pub split : (a b : Bool) → (a && b) ≡ true → (a ≡ true) × (b ≡ true)
 split true b h = (refl, h)

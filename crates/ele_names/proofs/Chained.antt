@@ -1,17 +1,6 @@
 -- The rows of each target, where a newer one comes or the newest goes.
-use Rattle.std.proofs.Common.{◌≡◌, ℕ, zero, suc, ◌≤◌, ◌<◌, ◌^◌, Bool, true, false, cond, List, [], ◌∷◌, ◌++◌, length, take, slice_get, slice_set, Option, Some, None, refl, sym, ap, ◌∙◌, arith, inl, inr}
-use Rattle.std.specs.BTreeMap.{is_at}
-use Rattle.std.specs.HashMap.{get}
-use Rattle.std.specs.Option.{option_and_then, option_map, option_map_or}
-use Rattle.std.specs.Ordering.{nat_cmp}
-use Rattle.std.proofs.lemmas.Bool.{false≢true, cases_lt}
-use Rattle.std.proofs.lemmas.Bool.Decides.{nat_tests}
-use Rattle.ele_world.specs.declared.rows.NameRow.{NameRow}
-use Rattle.ele_world.specs.declared.rows.Target.{Target}
-use Rattle.ele_world.specs.declared.rows.Target.TheVariants.{File, Directory}
-use Rattle.ele_names.specs.declared.chains.Chains.{Chains}
-use Rattle.ele_names.specs.Chained.{AreChained, HasOlder, IsLastBelow, stands_for}
-use Rattle.ele_names.specs.Targets.{target_eq}
+use Rattle.ele_names.proofs.Basics.{◌≡◌, ℕ, zero, suc, ◌≤◌, ◌<◌, ◌^◌, Bool, true, false, cond, List, [], ◌∷◌, ◌++◌, length, take, slice_get, slice_set, Option, Some, None, refl, sym, ap, ◌∙◌, arith, inl, inr, is_at, get, option_and_then, option_map, option_map_or, nat_cmp, false≢true, cases_lt, nat_tests}
+use Rattle.ele_names.proofs.Words.{NameRow, Target, File, Directory, Chains, AreChained, HasOlder, IsLastBelow, stands_for, target_eq}
 use Rattle.ele_names.proofs.Live.{same_serial}
 
 pub same_target : (t u : Target) → target_eq t u ≡ true → t ≡ u

@@ -1,22 +1,7 @@
 -- Live rows and counts of them, where one comes or goes.
-use Rattle.std.proofs.Common.{◌≡◌, ℕ, ◌==◌, ◌&&◌, Bool, true, false, cond, not, nat_lt, is_none, List, [], ◌∷◌, ◌++◌, Some, None, refl, sym, ap, ◌∙◌, arith}
-use Rattle.std.specs.List.{count_by, list_any, AllByRecursion}
-use Rattle.std.proofs.lemmas.Bool.{true≢false}
-use Rattle.ele_lists.specs.Lists.{AllLater}
-use Rattle.ele_lists.proofs.Alls.{all-append, later-around}
-use Rattle.ele_lists.proofs.Edits.{all-any, all-weaker}
-use Rattle.ele_lists.proofs.Sums.{sum_by-around, sum_by-same, any-count}
-use Rattle.ele_world.specs.declared.rows.NameRow.{NameRow}
-use Rattle.ele_world.specs.declared.rows.Target.{Target}
-use Rattle.ele_world.specs.declared.rows.Target.TheVariants.{File, Directory}
-use Rattle.ele_world.specs.NameRows.{is_live_in, is_target_directory, is_live_directory}
-use Rattle.std.proofs.lemmas.Bool.Decides.{nat_tests}
-use Rattle.ele_world.specs.NameRows.{is_named}
-use Rattle.ele_world.specs.Walk.{is_live_name, live_target}
-use Rattle.ele_names.specs.Counted.{is_live_of, Leaves}
-use Rattle.ele_names.specs.Rows.{Follows}
+use Rattle.ele_names.proofs.Basics.{◌≡◌, ℕ, ◌==◌, ◌&&◌, Bool, true, false, cond, not, nat_lt, is_none, List, [], ◌∷◌, ◌++◌, Some, None, refl, sym, ap, ◌∙◌, arith, count_by, list_any, AllByRecursion, true≢false, AllLater, all-append, later-around, all-any, all-weaker, sum_by-around, sum_by-same, any-count, nat_tests}
+use Rattle.ele_names.proofs.Words.{NameRow, Target, File, Directory, is_live_in, is_target_directory, is_live_directory, is_named, is_live_name, live_target, is_live_of, Leaves, Follows, target_eq}
 use Rattle.ele_names.proofs.Apart.{named_and_live, named_dead, same_name}
-use Rattle.ele_names.specs.Targets.{target_eq}
 
 -- what a test counts of one row that is live, or dead
 pub live_one : (a b : Bool) → b ≡ true → ◌≡◌ {A = ℕ} (cond (a && b) 1 0) (cond a 1 0)

@@ -1,23 +1,7 @@
 -- A name more, which is live nowhere.
-use Rattle.std.proofs.Common.{◌≡◌, ℕ, ◌+◌, ◌<◌, ◌≤◌, ◌^◌, true, false, cond, List, [], ◌∷◌, ◌++◌, length, slice_get, Option, Some, None, refl, sym, ap, subst, ◌∙◌, arith, length-append, inl, inr}
-use Rattle.std.specs.Option.{option_and_then, option_map_or}
-use Rattle.std.specs.Ordering.{nat_cmp}
-use Rattle.std.specs.BTreeMap.{is_at}
-use Rattle.std.specs.HashMap.{get}
-use Rattle.std.specs.Map.{keys_of}
-use Rattle.std.proofs.lemmas.List.{length-map, map-append, get_or_append_left, get_or_push}
-use Rattle.std.proofs.lemmas.Option.{slice_get_past, slice_get-get_or}
-use Rattle.std.proofs.lemmas.Bool.{cases_lt}
-use Rattle.std.proofs.lemmas.Bool.Decides.{nat_tests}
+use Rattle.ele_names.proofs.Basics.{◌≡◌, ℕ, ◌+◌, ◌<◌, ◌≤◌, ◌^◌, true, false, cond, List, [], ◌∷◌, ◌++◌, length, slice_get, Option, Some, None, refl, sym, ap, subst, ◌∙◌, arith, length-append, inl, inr, option_and_then, option_map_or, nat_cmp, is_at, get, keys_of, length-map, map-append, get_or_append_left, get_or_push, slice_get_past, slice_get-get_or, cases_lt, nat_tests, insert_entry-new, has, is_entry, is_placed, index_insert, index_same}
+use Rattle.ele_names.proofs.Words.{Live, Lives, live_at, AreListed, name_eq, names_of, place_in}
 use Rattle.indexmap.specs.IndexMap.{insert_entry}
-use Rattle.indexmap.proofs.CallerLemmas.{insert_entry-new}
-use Rattle.ele_lists.specs.Index.{has, is_entry}
-use Rattle.ele_lists.specs.Serial.{is_placed}
-use Rattle.ele_lists.proofs.Indexed.{index_insert, index_same}
-use Rattle.ele_names.specs.declared.lives.Live.{Live}
-use Rattle.ele_names.specs.declared.lives.Lives.{Lives}
-use Rattle.ele_names.specs.Counted.{live_at}
-use Rattle.ele_names.specs.Placed.{AreListed, name_eq, names_of, place_in}
 use Rattle.ele_names.proofs.Numbers.{exact, missing}
 
 -- the element behind a list

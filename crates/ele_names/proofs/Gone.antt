@@ -1,36 +1,6 @@
 -- A row between others that dies, or leaves.
-use Rattle.std.proofs.Common.{◌≡◌, ℕ, ◌≤◌, ◌<◌, ◌^◌, Bool, true, false, cond, not, List, [], ◌∷◌, ◌++◌, length, filter, Some, None, Option, is_none, refl, sym, ap, ◌∙◌, arith, length-append}
-use Rattle.std.specs.Ordering.{nat_cmp}
-use Rattle.std.specs.BTreeMap.{is_at, insert_entry}
-use Rattle.std.specs.HashMap.{get}
-use Rattle.std.specs.Map.{keys_of, values_of, remove_entry}
-use Rattle.std.specs.Option.{option_map, option_map_or}
-use Rattle.std.proofs.lemmas.Bool.{true≢false, false≢true}
-use Rattle.std.proofs.lemmas.Cmp.{nat_cmp_total}
-use Rattle.std.proofs.lemmas.List.{map-append}
-use Rattle.ele_lists.specs.Lists.{update_first}
-use Rattle.ele_lists.specs.Serial.{value_at}
-use Rattle.ele_lists.proofs.Alls.{all-append, all-around, all-mid, all-exchange, later-around, later-without, later-exchange}
-use Rattle.ele_lists.proofs.Cuts.{update_first-at}
-use Rattle.ele_lists.proofs.Edits.{all-weaker}
-use Rattle.ele_lists.proofs.Entries.{lookup-insert_entry}
-use Rattle.ele_lists.proofs.Filters.{filter-all}
-use Rattle.ele_lists.proofs.Indexed.{index_change}
-use Rattle.ele_lists.proofs.Serials.{IsSplitAt, split_at, all_keys_without, all_from_each, found_key}
-use Rattle.ele_moment.specs.Last.{last_moment}
-use Rattle.ele_world.specs.declared.rows.NameRow.{NameRow}
-use Rattle.ele_world.specs.declared.rows.Target.{Target}
-use Rattle.ele_world.specs.NameRows.{is_named}
-use Rattle.ele_world.specs.Walk.{is_live_name}
-use Rattle.ele_names.specs.declared.lives.Lives.{Lives}
-use Rattle.ele_names.specs.declared.names.Names.TheInside.{Inside}
-use Rattle.ele_names.specs.declared.table.Table.{Table}
-use Rattle.ele_names.specs.Counted.{AreCounted, AreNumbered, Leaves}
-use Rattle.ele_names.specs.Kept.{IsKept, rows_of}
-use Rattle.ele_names.specs.Placed.{ArePlaced, AreListed, names_of, number_in}
-use Rattle.ele_names.specs.Rows.{Follows, dies}
-use Rattle.ele_names.specs.Chained.{IsLast, IsLastBelow, stands_for}
-use Rattle.ele_names.specs.Targets.{is_other, target_eq}
+use Rattle.ele_names.proofs.Basics.{◌≡◌, ℕ, ◌≤◌, ◌<◌, ◌^◌, Bool, true, false, cond, not, List, [], ◌∷◌, ◌++◌, length, filter, Some, None, Option, is_none, refl, sym, ap, ◌∙◌, arith, length-append, nat_cmp, is_at, insert_entry, get, keys_of, values_of, remove_entry, option_map, option_map_or, true≢false, false≢true, nat_cmp_total, map-append, update_first, value_at, all-append, all-around, all-mid, all-exchange, later-around, later-without, later-exchange, update_first-at, all-weaker, lookup-insert_entry, filter-all, index_change, IsSplitAt, split_at, all_keys_without, all_from_each, found_key}
+use Rattle.ele_names.proofs.Words.{last_moment, NameRow, Target, is_named, is_live_name, Lives, Inside, Table, AreCounted, AreNumbered, Leaves, IsKept, rows_of, ArePlaced, AreListed, names_of, number_in, Follows, dies, IsLast, IsLastBelow, stands_for, is_other, target_eq}
 use Rattle.ele_names.proofs.Added.{placed_same}
 use Rattle.ele_names.proofs.Apart.{named_dead, named_live, same_name}
 use Rattle.ele_names.proofs.Chained.{chained_same, same_target}

@@ -1,3 +1,5 @@
+pub mod Basics
+pub mod Words
 pub mod Apart
 pub mod Numbers
 pub mod Given

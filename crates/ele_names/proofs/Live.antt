@@ -1,21 +1,6 @@
 -- The live rows by directory and name, where one comes or goes.
-use Rattle.std.proofs.Common.{◌≡◌, ℕ, true, false, cond, List, Some, None, Option, is_none, refl, sym, ap, ◌∙◌, arith}
-use Rattle.std.specs.Bool.{nat_eq}
-use Rattle.std.specs.Option.{option_and_then, option_map, option_map_or}
-use Rattle.std.specs.Ordering.{nat_cmp}
-use Rattle.std.specs.BTreeMap.{is_at}
-use Rattle.std.proofs.lemmas.Bool.{true≢false, false≢true}
-use Rattle.std.proofs.lemmas.Bool.Decides.{nat_tests}
-use Rattle.ele_lists.specs.Tally.{counted}
-use Rattle.ele_lists.proofs.Indexed.{at_itself}
-use Rattle.ele_world.specs.declared.rows.NameRow.{NameRow}
-use Rattle.ele_world.specs.declared.rows.Target.{Target}
-use Rattle.ele_world.specs.NameRows.{is_named}
-use Rattle.ele_world.specs.Walk.{is_live_name, live_target}
-use Rattle.ele_names.specs.declared.lives.Live.{Live}
-use Rattle.ele_names.specs.declared.lives.Lives.{Lives}
-use Rattle.ele_names.specs.Counted.{AreCounted, AreNumbered, Leaves, live_at}
-use Rattle.ele_names.specs.Targets.{target_eq}
+use Rattle.ele_names.proofs.Basics.{◌≡◌, ℕ, true, false, cond, List, Some, None, Option, is_none, refl, sym, ap, ◌∙◌, arith, nat_eq, option_and_then, option_map, option_map_or, nat_cmp, is_at, true≢false, false≢true, nat_tests, counted, at_itself}
+use Rattle.ele_names.proofs.Words.{NameRow, Target, is_named, is_live_name, live_target, Live, Lives, AreCounted, AreNumbered, Leaves, live_at, target_eq}
 use Rattle.ele_names.proofs.Apart.{named_and_live, named_dead, named_live}
 
 pub same_serial : (a b : ℕ) → is_at (nat_cmp a) b ≡ true → a ≡ b

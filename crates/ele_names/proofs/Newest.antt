@@ -1,22 +1,6 @@
 -- What the index by name says of the rows.
-use Rattle.std.proofs.Common.{◌≡◌, ℕ, ◌≤◌, ◌<◌, ◌^◌, Bool, true, false, ◌&&◌, ◌==◌, nat_le, List, length, Some, None, Option, refl, sym, ◌∙◌, arith, inl, inr}
-use Rattle.std.specs.declared.cmp.Ordering.{Ordering}
-use Rattle.std.specs.declared.cmp.Ordering.TheVariants.{Less, Equal, Greater}
-use Rattle.std.specs.Ordering.{nat_cmp, ordering_then, is_eq}
-use Rattle.std.specs.Cmp.{unsigned_tied}
-use Rattle.std.proofs.lemmas.Bool.{false≢true, cases_lt}
-use Rattle.std.proofs.lemmas.Bool.Decides.{nat_tests}
-use Rattle.ele_lists.specs.Last.{last_passing}
-use Rattle.ele_lists.specs.Index.{has, IsLastOf}
-use Rattle.ele_lists.specs.Serial.{value_at, is_placed}
-use Rattle.ele_lists.proofs.Alls.{all-mid}
-use Rattle.ele_lists.proofs.Serials.{split_at, found_key, later_at, none_last, is_last, not_true}
-use Rattle.ele_world.specs.declared.rows.NameRow.{NameRow}
-use Rattle.ele_world.specs.NameRows.{is_named}
-use Rattle.ele_names.specs.declared.table.Table.{Table}
-use Rattle.ele_names.specs.Kept.{IsTable, rows_of, is_born_by}
-use Rattle.ele_names.specs.Placed.{number_in, place_in}
-use Rattle.ele_names.specs.Rows.{Follows}
+use Rattle.ele_names.proofs.Basics.{◌≡◌, ℕ, ◌≤◌, ◌<◌, ◌^◌, Bool, true, false, ◌&&◌, ◌==◌, nat_le, List, length, Some, None, Option, refl, sym, ◌∙◌, arith, inl, inr, Ordering, Less, Equal, Greater, nat_cmp, ordering_then, is_eq, unsigned_tied, false≢true, cases_lt, nat_tests, last_passing, has, IsLastOf, value_at, is_placed, all-mid, split_at, found_key, later_at, none_last, is_last, not_true}
+use Rattle.ele_names.proofs.Words.{NameRow, is_named, Table, IsTable, rows_of, is_born_by, number_in, place_in, Follows}
 use Rattle.ele_names.proofs.Apart.{same_name, split}
 use Rattle.ele_names.proofs.Numbers.{named_place, one_place}
 

@@ -1,22 +1,6 @@
 -- Rows at the places of their numbers.
-use Rattle.std.proofs.Common.{◌≡◌, ℕ, zero, suc, ◌+◌, ◌≤◌, ◌<◌, sym, Bool, true, false, List, [], ◌∷◌, ◌++◌, length, slice_get, slice_set, Option, Some, None, IsSome, cond, filter_map, inl, inr, refl, ap, subst, ◌∙◌, arith}
-use Rattle.std.specs.List.{AllByRecursion}
-use Rattle.std.specs.List.Sorted.{IsStrictlySortedBy}
-use Rattle.std.specs.declared.cmp.Ordering.TheVariants.{Less, Equal, Greater}
-use Rattle.std.specs.Ordering.{nat_cmp}
-use Rattle.std.specs.BTreeMap.{is_at, insert_entry}
-use Rattle.std.specs.Map.{keys_of, values_of, remove_entry}
-use Rattle.std.specs.Option.{option_and_then}
-use Rattle.std.proofs.lemmas.Bool.{false≢true, cases_lt}
-use Rattle.std.proofs.lemmas.Bool.Decides.{nat_tests}
-use Rattle.std.proofs.lemmas.Cmp.{nat_cmp_total}
-use Rattle.std.proofs.lemmas.Option.{slice_get_past}
-use Rattle.ele_lists.proofs.Entries.{lookup-insert_entry}
-use Rattle.ele_lists.proofs.Indexed.{at_itself}
-use Rattle.ele_lists.specs.Serial.{value_at}
-use Rattle.ele_lists.proofs.Edits.{all-weaker}
-use Rattle.ele_lists.proofs.Serials.{IsRising, after_head, all_keys_without, not_yet, pushed, rest_rises}
-use Rattle.ele_names.specs.Numbered.{entries_from}
+use Rattle.ele_names.proofs.Basics.{◌≡◌, ℕ, zero, suc, ◌+◌, ◌≤◌, ◌<◌, sym, Bool, true, false, List, [], ◌∷◌, ◌++◌, length, slice_get, slice_set, Option, Some, None, IsSome, cond, filter_map, inl, inr, refl, ap, subst, ◌∙◌, arith, AllByRecursion, IsStrictlySortedBy, Less, Equal, Greater, nat_cmp, is_at, insert_entry, keys_of, values_of, remove_entry, option_and_then, false≢true, cases_lt, nat_tests, nat_cmp_total, slice_get_past, lookup-insert_entry, at_itself, value_at, all-weaker, IsRising, after_head, all_keys_without, not_yet, pushed, rest_rises}
+use Rattle.ele_names.proofs.Words.{entries_from}
 
 here : (n : ℕ) → nat_cmp (n + 0) n ≡ Equal
 here n = grind (arith, nat_tests)

@@ -1,27 +1,7 @@
 -- Names that are told one after the other, with what they stand for.
-use Rattle.std.proofs.Common.{◌≡◌, ◌⊎◌, ℕ, ◌<◌, ◌^◌, Bool, true, false, cond, ◌==◌, List, [], ◌∷◌, length, map, slice_get, Some, None, Option, is_some, refl, sym, ap, subst, ◌∙◌, inl, inr, arith}
-use Rattle.std.specs.Option.{option_map, option_map_or}
-use Rattle.std.specs.declared.cmp.Ordering.{Ordering}
-use Rattle.std.specs.declared.cmp.Ordering.TheVariants.{Less, Equal, Greater}
-use Rattle.std.specs.Ordering.{nat_cmp, is_eq}
-use Rattle.std.specs.Cmp.{IsTotalOrder, nat_cmp_total}
-use Rattle.std.specs.Cmp.Lexicographic.{slice_cmp}
-use Rattle.std.specs.BTreeMap.{is_at, insert_entry}
-use Rattle.std.specs.List.{list_any}
-use Rattle.std.specs.Map.{lookup}
-use Rattle.std.proofs.lemmas.Bool.{false≢true, true≢false}
-use Rattle.std.proofs.lemmas.Cmp.{tied_itself, nat_list_cmp_total, on_total, then_total}
-use Rattle.std.proofs.lemmas.Map.Lookups.{CmpEqualImpliesEq, exact_bytes, exact_pairs, exact_unsigned}
-use Rattle.std.proofs.lemmas.Option.{slice_get_within}
-use Rattle.ele_lists.specs.Index.{has}
-use Rattle.ele_lists.specs.Last.{passing}
-use Rattle.ele_lists.proofs.Entries.{lookup-insert_entry}
-use Rattle.ele_world.specs.declared.rows.Target.{Target}
-use Rattle.ele_world.specs.NameRows.{target_at, last_dead}
-use Rattle.ele_names.specs.declared.names.Names.TheInside.{Inside}
-use Rattle.ele_names.specs.Listed.{by_name, name_cmp}
-use Rattle.ele_names.specs.Kept.{IsKept, rows_of}
-use Rattle.ele_names.specs.Placed.{name_eq, names_of, place_in}
+use Rattle.ele_names.proofs.Basics.{◌≡◌, ◌⊎◌, ℕ, ◌<◌, ◌^◌, Bool, true, false, cond, ◌==◌, List, [], ◌∷◌, length, map, slice_get, Some, None, Option, is_some, refl, sym, ap, subst, ◌∙◌, inl, inr, arith, option_map, option_map_or, Ordering, Less, Equal, Greater, nat_cmp, is_eq, IsTotalOrder, slice_cmp, is_at, insert_entry, list_any, lookup, false≢true, true≢false, tied_itself, nat_list_cmp_total, on_total, then_total, CmpEqualImpliesEq, exact_bytes, exact_pairs, exact_unsigned, slice_get_within, has, passing, lookup-insert_entry}
+use Rattle.ele_names.proofs.Words.{Target, target_at, last_dead, Inside, by_name, name_cmp, IsKept, rows_of, name_eq, names_of, place_in}
+use Rattle.std.specs.Cmp.{nat_cmp_total}
 use Rattle.ele_names.proofs.Apart.{covering_is_newest, born_by_end, equal}
 use Rattle.ele_names.proofs.Newest.{none_known}
 use Rattle.ele_names.proofs.Numbers.{exact, known, any_known, at_place}

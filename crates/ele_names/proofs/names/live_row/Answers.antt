@@ -1,5 +1,4 @@
-use Rattle.std.proofs.Common.{sym, ap, ◌∙◌}
-use Rattle.ele_lists.specs.Serial.{value_at}
+use Rattle.ele_names.proofs.Basics.{sym, ap, ◌∙◌, value_at}
 use Rattle.ele_names.proofs.Live.{target_of, stands_live, row_of_live}
 use Rattle.ele_names.proofs.names.live_row.Goals as goal
 

@@ -1,7 +1,5 @@
-use Rattle.std.proofs.Common.{◌≡◌, drop}
-use Rattle.ele_world.specs.WalkAt.{walk_covering}
-use Rattle.ele_world.specs.World.{root}
-use Rattle.ele_world.specs.declared.rows.Target.TheVariants.{Directory}
+use Rattle.ele_names.proofs.Basics.{◌≡◌, drop}
+use Rattle.ele_names.proofs.Words.{walk_covering, root, Directory}
 use Rattle.ele_names.proofs.walk.walk_back.Given as goal
 
 abbrev pub invariant-loop-name : goal.invariant-loop-name

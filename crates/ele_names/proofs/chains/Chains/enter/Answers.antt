@@ -1,5 +1,4 @@
-use Rattle.std.proofs.Common.{Some, ◌<◌, length, append_assoc, refl, ap, ◌∙◌, arith}
-use Rattle.std.proofs.lemmas.Result.{err_from_is_err_and}
+use Rattle.ele_names.proofs.Basics.{Some, ◌<◌, length, append_assoc, refl, ap, ◌∙◌, arith, err_from_is_err_and}
 use Rattle.ele_names.proofs.Chained.{chained_entered, chained_kept, cut_kept, set_kept, set_own}
 use Rattle.ele_names.proofs.chains.Chains.enter.Goals as goal
 

@@ -1,8 +1,5 @@
-use Rattle.std.proofs.Common.{◌≡◌, ℕ, List, length, length-append, ◌∷◌, [], refl, sym, ap, ◌∙◌, ◌++◌, arith}
-use Rattle.std.specs.Map.{keys_of}
-use Rattle.ele_names.specs.declared.lives.Lives.{Lives}
-use Rattle.ele_names.specs.Counted.{live_at}
-use Rattle.ele_names.specs.Placed.{names_of}
+use Rattle.ele_names.proofs.Basics.{◌≡◌, ℕ, List, length, length-append, ◌∷◌, [], refl, sym, ap, ◌∙◌, ◌++◌, arith, keys_of}
+use Rattle.ele_names.proofs.Words.{Lives, live_at, names_of}
 use Rattle.ele_names.proofs.Given.{names_pushed, names_counted, same_live, listed_pushed, listed_same}
 use Rattle.ele_names.proofs.Live.{counted_same, numbered_same}
 use Rattle.ele_names.proofs.Numbers.{keeps_pushed, pushed_place}

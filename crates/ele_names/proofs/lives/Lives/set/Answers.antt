@@ -1,7 +1,5 @@
-use Rattle.std.proofs.Common.{◌∙◌, ap}
-use Rattle.std.specs.Map.{keys_of}
-use Rattle.indexmap.proofs.CallerLemmas.{keys-insert_entry-present}
-use Rattle.ele_names.specs.Placed.{name_eq}
+use Rattle.ele_names.proofs.Basics.{◌∙◌, ap, keys_of, keys-insert_entry-present}
+use Rattle.ele_names.proofs.Words.{name_eq}
 use Rattle.ele_names.proofs.Live.{live_set}
 use Rattle.ele_names.proofs.Numbers.{not_missing, present}
 use Rattle.ele_names.proofs.lives.Lives.set.Goals as goal

@@ -1,14 +1,5 @@
-use Rattle.std.proofs.Common.{◌≡◌, ◌++◌, ◌∷◌, [], Some, cond, refl, sym, ap, ◌∙◌, append-nil, arith}
-use Rattle.std.specs.Ordering.{nat_cmp}
-use Rattle.std.specs.BTreeMap.{is_at}
-use Rattle.std.specs.Map.{values_of}
-use Rattle.ele_lists.specs.Serial.{value_at}
-use Rattle.ele_lists.proofs.Edits.{later-push}
-use Rattle.ele_lists.proofs.Indexed.{at_itself}
-use Rattle.ele_names.specs.Counted.{Leaves}
-use Rattle.ele_names.specs.Kept.{IsKept, rows_of}
-use Rattle.ele_names.specs.Placed.{names_of, number_in}
-use Rattle.ele_names.specs.Rows.{Follows, born_row}
+use Rattle.ele_names.proofs.Basics.{◌≡◌, ◌++◌, ◌∷◌, [], Some, cond, refl, sym, ap, ◌∙◌, append-nil, arith, nat_cmp, is_at, values_of, value_at, later-push, at_itself}
+use Rattle.ele_names.proofs.Words.{Leaves, IsKept, rows_of, names_of, number_in, Follows, born_row}
 use Rattle.ele_names.proofs.Added.{fresh, kept_known, kept_over, kept_placed, kept_pushed, placed_back, rows_pushed}
 use Rattle.ele_names.proofs.Chained.{newest_entered}
 use Rattle.ele_names.proofs.Counts.{leaves_without}

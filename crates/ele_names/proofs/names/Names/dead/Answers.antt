@@ -1,12 +1,5 @@
-use Rattle.std.proofs.Common.{◌≡◌, ◌∷◌, Ok, map, ap, ◌∙◌, rules, tests}
-use Rattle.std.specs.List.{list_any}
-use Rattle.std.specs.declared.alloc.AllocError.{AllocError}
-use Rattle.std.proofs.lemmas.Iterator.{items_from_collect, YieldsList-from_map}
-use Rattle.std.proofs.lemmas.Iterator.Consumers.{YieldsList-from_rest}
-use Rattle.ele_world.specs.NameRows.{last_dead}
-use Rattle.ele_names.specs.Kept.{rows_of}
-use Rattle.ele_names.specs.Listed.{by_name, name_cmp}
-use Rattle.ele_names.specs.Placed.{name_eq}
+use Rattle.ele_names.proofs.Basics.{◌≡◌, ◌∷◌, Ok, map, ap, ◌∙◌, rules, tests, list_any, AllocError, items_from_collect, YieldsList-from_map, YieldsList-from_rest}
+use Rattle.ele_names.proofs.Words.{last_dead, rows_of, by_name, name_cmp, name_eq}
 use Rattle.ele_names.proofs.Told.{dead_begun, dead_next, name_exact, name_total, parted, parted_back, told_all, told_one}
 use Rattle.ele_names.proofs.names.Names.dead.Goals as goal
 

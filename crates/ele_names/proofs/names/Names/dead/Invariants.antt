@@ -1,8 +1,5 @@
-use Rattle.std.specs.List.{list_any}
-use Rattle.ele_world.specs.NameRows.{last_dead}
-use Rattle.ele_names.specs.Kept.{rows_of}
-use Rattle.ele_names.specs.Listed.{name_cmp}
-use Rattle.ele_names.specs.Placed.{name_eq}
+use Rattle.ele_names.proofs.Basics.{list_any}
+use Rattle.ele_names.proofs.Words.{last_dead, rows_of, name_cmp, name_eq}
 use Rattle.ele_names.proofs.Told.{AreTold}
 use Rattle.ele_names.proofs.names.Names.dead.Given as goal
 

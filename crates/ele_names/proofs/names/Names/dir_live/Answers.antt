@@ -1,8 +1,5 @@
-use Rattle.std.proofs.Common.{refl}
-use Rattle.ele_lists.proofs.Sums.{any-count}
-use Rattle.ele_world.specs.declared.rows.Target.TheVariants.{Directory}
-use Rattle.ele_world.specs.NameRows.{is_live_directory}
-use Rattle.ele_names.specs.Kept.{rows_of}
+use Rattle.ele_names.proofs.Basics.{refl, any-count}
+use Rattle.ele_names.proofs.Words.{Directory, is_live_directory, rows_of}
 use Rattle.ele_names.proofs.Counts.{directory_names}
 use Rattle.ele_names.proofs.names.Names.dir_live.Goals as goal
 

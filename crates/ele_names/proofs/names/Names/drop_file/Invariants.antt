@@ -1,6 +1,5 @@
-use Rattle.std.proofs.Common.{◌≡◌, length, filter}
-use Rattle.ele_world.specs.declared.rows.Target.TheVariants.{File}
-use Rattle.ele_names.specs.Targets.{is_other}
+use Rattle.ele_names.proofs.Basics.{◌≡◌, length, filter}
+use Rattle.ele_names.proofs.Words.{File, is_other}
 use Rattle.ele_names.proofs.names.Names.drop_file.Given as goal
 
 abbrev pub invariant-loop-file : goal.invariant-loop-file

@@ -1,6 +1,5 @@
-use Rattle.std.proofs.Common.{refl}
-use Rattle.ele_world.specs.NameRows.{is_live_in}
-use Rattle.ele_names.specs.Kept.{rows_of}
+use Rattle.ele_names.proofs.Basics.{refl}
+use Rattle.ele_names.proofs.Words.{is_live_in, rows_of}
 use Rattle.ele_names.proofs.Counts.{none_counted}
 use Rattle.ele_names.proofs.names.Names.is_empty.Goals as goal
 

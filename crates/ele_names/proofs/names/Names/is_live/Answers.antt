@@ -1,6 +1,5 @@
-use Rattle.std.proofs.Common.{refl}
-use Rattle.ele_lists.proofs.Sums.{any-count}
-use Rattle.ele_world.specs.World.{is_live_name_of}
+use Rattle.ele_names.proofs.Basics.{refl, any-count}
+use Rattle.ele_names.proofs.Words.{is_live_name_of}
 use Rattle.ele_names.proofs.names.Names.is_live.Goals as goal
 
 pub returns : goal.returns

@@ -1,14 +1,5 @@
-use Rattle.std.proofs.Common.{Ok, ◌∷◌}
-use Rattle.std.specs.Cmp.Lexicographic.{slice_cmp}
-use Rattle.std.specs.Ordering.{nat_cmp}
-use Rattle.std.specs.declared.alloc.AllocError.{AllocError}
-use Rattle.std.proofs.lemmas.Cmp.{nat_list_cmp_total}
-use Rattle.std.proofs.lemmas.Iterator.{items_from_collect}
-use Rattle.std.proofs.lemmas.Iterator.Consumers.{YieldsList-from_rest}
-use Rattle.std.proofs.lemmas.Map.Lookups.{exact_bytes}
-use Rattle.ele_world.specs.NameRows.{target_at}
-use Rattle.ele_names.specs.Kept.{rows_of}
-use Rattle.ele_names.specs.Placed.{names_of}
+use Rattle.ele_names.proofs.Basics.{Ok, ◌∷◌, slice_cmp, nat_cmp, AllocError, nat_list_cmp_total, items_from_collect, YieldsList-from_rest, exact_bytes}
+use Rattle.ele_names.proofs.Words.{target_at, rows_of, names_of}
 use Rattle.ele_names.proofs.Told.{is_left, list_begun, list_next, list_stands, told_all, told_one}
 use Rattle.ele_names.proofs.names.Names.list.Goals as goal
 

@@ -1,11 +1,5 @@
-use Rattle.std.proofs.Common.{◌≡◌, true}
-use Rattle.std.specs.Cmp.Lexicographic.{slice_cmp}
-use Rattle.std.specs.List.{AllByRecursion}
-use Rattle.std.specs.Ordering.{nat_cmp}
-use Rattle.ele_lists.specs.Index.{has}
-use Rattle.ele_world.specs.NameRows.{target_at}
-use Rattle.ele_names.specs.Kept.{rows_of}
-use Rattle.ele_names.specs.Placed.{names_of}
+use Rattle.ele_names.proofs.Basics.{◌≡◌, true, slice_cmp, AllByRecursion, nat_cmp, has}
+use Rattle.ele_names.proofs.Words.{target_at, rows_of, names_of}
 use Rattle.ele_names.proofs.Told.{AreTold, is_left}
 use Rattle.ele_names.proofs.names.Names.list.Given as goal
 

@@ -1,6 +1,5 @@
-use Rattle.std.proofs.Common.{sym, ◌∙◌, arith}
-use Rattle.ele_lists.specs.Serial.{value_at}
-use Rattle.ele_names.specs.Placed.{names_of}
+use Rattle.ele_names.proofs.Basics.{sym, ◌∙◌, arith, value_at}
+use Rattle.ele_names.proofs.Words.{names_of}
 use Rattle.ele_names.proofs.Gone.{kept_without, last_gone, row_known}
 use Rattle.ele_names.proofs.Chained.{none_stands}
 use Rattle.ele_names.proofs.Numbering.{at_last, none_past, without_last}

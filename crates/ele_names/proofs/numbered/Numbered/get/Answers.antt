@@ -1,7 +1,4 @@
-use Rattle.std.proofs.Common.{◌≡◌, ◌≤◌, Some, length, refl, sym, ap, slice_get, ◌∙◌, arith}
-use Rattle.std.specs.Option.{option_and_then}
-use Rattle.std.proofs.lemmas.Bool.Decides.{nat_tests}
-use Rattle.std.proofs.lemmas.Option.{slice_get_past, slice_get_read}
+use Rattle.ele_names.proofs.Basics.{◌≡◌, ◌≤◌, Some, length, refl, sym, ap, slice_get, ◌∙◌, arith, option_and_then, nat_tests, slice_get_past, slice_get_read}
 use Rattle.ele_names.proofs.Numbering.{at_place}
 use Rattle.ele_names.proofs.numbered.Numbered.get.Goals as goal
 

@@ -1,7 +1,5 @@
-use Rattle.std.proofs.Common.{◌<◌, subst, sym, ◌∙◌, arith}
-use Rattle.std.specs.List.{AllByRecursion}
-use Rattle.std.specs.Map.{keys_of}
-use Rattle.ele_names.specs.Numbered.{entries_from}
+use Rattle.ele_names.proofs.Basics.{◌<◌, subst, sym, ◌∙◌, arith, AllByRecursion, keys_of}
+use Rattle.ele_names.proofs.Words.{entries_from}
 use Rattle.ele_names.proofs.Numbering.{all_below, from_few}
 use Rattle.ele_names.proofs.numbered.Numbered.next_serial.Goals as goal
 

@@ -1,8 +1,5 @@
-use Rattle.std.proofs.Common.{Option, ◌∙◌, sym, rules, tests}
-use Rattle.std.proofs.lemmas.Iterator.{YieldsList-from_slice}
-use Rattle.std.proofs.lemmas.Iterator.Adapters.{option_map_id}
-use Rattle.std.proofs.lemmas.Iterator.Consumers.{YieldsList-from_filter_map, nth_from_yields_List}
-use Rattle.ele_world.specs.declared.rows.NameRow.{NameRow}
+use Rattle.ele_names.proofs.Basics.{Option, ◌∙◌, sym, rules, tests, YieldsList-from_slice, option_map_id, YieldsList-from_filter_map, nth_from_yields_List}
+use Rattle.ele_names.proofs.Words.{NameRow}
 use Rattle.ele_names.proofs.Numbering.{from_values}
 use Rattle.ele_names.proofs.numbered.Numbered.nth.Goals as goal
 

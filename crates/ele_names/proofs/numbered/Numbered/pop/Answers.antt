@@ -1,9 +1,5 @@
-use Rattle.std.proofs.Common.{◌≡◌, ℕ, ◌∷◌, [], ◌++◌, Some, None, length, IsSome, length-append, refl, sym, ap, subst, ◌<◌, ◌∙◌, arith}
-use Rattle.std.specs.List.{AllByRecursion}
-use Rattle.std.specs.Map.{keys_of}
-use Rattle.std.specs.Option.{option_to_list}
-use Rattle.std.proofs.lemmas.Bool.{false≢true}
-use Rattle.ele_names.specs.Numbered.{entries_from}
+use Rattle.ele_names.proofs.Basics.{◌≡◌, ℕ, ◌∷◌, [], ◌++◌, Some, None, length, IsSome, length-append, refl, sym, ap, subst, ◌<◌, ◌∙◌, arith, AllByRecursion, keys_of, option_to_list, false≢true}
+use Rattle.ele_names.proofs.Words.{entries_from}
 use Rattle.ele_names.proofs.Numbering.{all_below, from_none, place_pushed, none_taken}
 use Rattle.ele_names.proofs.numbered.Numbered.pop.Goals as goal
 

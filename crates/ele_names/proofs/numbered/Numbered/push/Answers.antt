@@ -1,6 +1,5 @@
-use Rattle.std.proofs.Common.{sym, ◌∙◌, length}
-use Rattle.ele_lists.proofs.Serials.{pushed}
-use Rattle.ele_names.specs.Numbered.{entries_from}
+use Rattle.ele_names.proofs.Basics.{sym, ◌∙◌, length, pushed}
+use Rattle.ele_names.proofs.Words.{entries_from}
 use Rattle.ele_names.proofs.Numbering.{all_below, place_pushed}
 use Rattle.ele_names.proofs.numbered.Numbered.push.Goals as goal
 

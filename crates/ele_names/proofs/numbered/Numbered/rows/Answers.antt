@@ -1,8 +1,5 @@
-use Rattle.std.proofs.Common.{Option, Ok, rules, tests}
-use Rattle.std.proofs.lemmas.Iterator.{YieldsList-from_slice, items_from_collect}
-use Rattle.std.proofs.lemmas.Iterator.Consumers.{YieldsList-from_filter_map}
-use Rattle.std.specs.declared.alloc.AllocError.{AllocError}
-use Rattle.ele_world.specs.declared.rows.NameRow.{NameRow}
+use Rattle.ele_names.proofs.Basics.{Option, Ok, rules, tests, YieldsList-from_slice, items_from_collect, YieldsList-from_filter_map, AllocError}
+use Rattle.ele_names.proofs.Words.{NameRow}
 use Rattle.ele_names.proofs.Numbering.{from_values}
 use Rattle.ele_names.proofs.numbered.Numbered.rows.Goals as goal
 

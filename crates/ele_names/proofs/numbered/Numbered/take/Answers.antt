@@ -1,6 +1,4 @@
-use Rattle.std.proofs.Common.{◌≡◌, ◌<◌, length, Some, sym, ap, subst, slice_get, ◌∙◌}
-use Rattle.std.specs.Option.{option_and_then}
-use Rattle.std.proofs.lemmas.Option.{slice_get-get_or}
+use Rattle.ele_names.proofs.Basics.{◌≡◌, ◌<◌, length, Some, sym, ap, subst, slice_get, ◌∙◌, option_and_then, slice_get-get_or}
 use Rattle.ele_names.proofs.Numbering.{placed_within, at_place, place_cleared}
 use Rattle.ele_names.proofs.numbered.Numbered.take.Goals as goal
 

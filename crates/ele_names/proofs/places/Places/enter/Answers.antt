@@ -1,6 +1,4 @@
-use Rattle.std.proofs.Common.{refl, arith}
-use Rattle.std.proofs.lemmas.Result.{err_from_is_err_and}
-use Rattle.ele_lists.proofs.Indexed.{index_insert, index_same, index_undo}
+use Rattle.ele_names.proofs.Basics.{refl, arith, err_from_is_err_and, index_insert, index_same, index_undo}
 use Rattle.ele_names.proofs.places.Places.enter.Goals as goal
 
 pub returns-in_err-insert-clause-err : goal.returns-in_err-insert-clause-err
