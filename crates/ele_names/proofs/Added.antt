@@ -7,10 +7,7 @@ use Rattle.ele_names.proofs.Numbers.{keeps_same}
 
 -- the places are of whatever has the same rows
 pub placed_same : (names : List (ℕ × List ℕ)) (at to : ℕ → Option NameRow) (places : Places) → ((s : ℕ) → to s ≡ at s) → ArePlaced names at places → ArePlaced names to places
-placed_same names at to places same placed = record {
-  named = record { each = λ q r s. placed.named.each q r s ∙ rw (same s) refl };
-  targeted = chained_same at to places.of_target (λ s. ap (option_map (λ row. row.target)) (same s)) placed.targeted;
-}
+placed_same names at to places same placed = grind (arith, nat_tests, same, chained_same, option_map)
 
 -- a row that comes and goes again leaves the places as they were
 pub placed_back : (names : List (ℕ × List ℕ)) (es : List (ℕ × NameRow)) (n : ℕ) (row : NameRow) → value_at es n ≡ None → (places : Places)
@@ -26,14 +23,7 @@ placed_back names es n row fresh places placed = placed_same names _ (value_at e
 -- no row
 pub table_new : (names : List (ℕ × List ℕ)) (t : Table) → t.rows.entries ≡ [] → ArePlaced names (λ _. None) t.places → IsTable names t
 unfolding IsStrictlySortedBy
-table_new names t is placed = record {
-  rising = rw is tt;
-  short = rw is tt;
-  born = rw is tt;
-  apart = rw is tt;
-  known = rw is tt;
-  placed = placed_same names (λ _. None) (value_at t.rows.entries) t.places (λ s. rw is refl) placed;
-}
+table_new names t is placed = grind (arith, nat_tests, placed_same, value_at)
 
 -- a table over more names
 module _ (old new : List (ℕ × List ℕ)) (keeps : KeepsPlaces old new) (table : Table) (is : IsTable old table) where
@@ -69,14 +59,7 @@ module _ (names : List (ℕ × List ℕ)) (table : Table) (kept : IsTable names 
 
   -- with places that say the same
   pub table_same : (t : Table) → t.rows.entries ≡ es → ArePlaced names (value_at es) t.places → IsTable names t
-  table_same t is placed = record {
-    rising = rw is kept.rising;
-    short = rw is kept.short;
-    born = rw is kept.born;
-    apart = rw is kept.apart;
-    known = rw is kept.known;
-    placed = rw is placed;
-  }
+  table_same t is placed = grind (arith, nat_tests)
 
   module _ (row : NameRow) where
     pub rows_pushed : values_of (insert_entry nat_cmp es made row) ≡ rows_of table ++ row ∷ []
@@ -118,12 +101,7 @@ module _ (table : Table) (lives : Lives) (kept : IsKept table lives) where
   module _ (made : ℕ) (below : AllByRecursion (λ k. k < made) (keys_of table.rows.entries)) where
     -- with places that say the same
     pub kept_placed : (t : Table) → t.rows.entries ≡ table.rows.entries → ArePlaced (names_of lives) (value_at table.rows.entries) t.places → IsKept t lives
-    kept_placed t is placed = record {
-      is_table = table_same (names_of lives) table kept.is_table made below t is placed;
-      listed = kept.listed;
-      counts = rw is kept.counts;
-      numbered = rw is kept.numbered;
-    }
+    kept_placed t is placed = grind (arith, nat_tests, table_same, names_of)
 
     pub kept_pushed : (row : NameRow) (t : Table) (new : Lives) → names_of new ≡ names_of lives → (AreListed lives → AreListed new) → t.rows.entries ≡ insert_entry nat_cmp table.rows.entries made row
         → made + 1 < 2 ^ 64 → row.birth ≤ last_moment → number_in (names_of lives) row < length (names_of lives) → AllByRecursion (λ earlier. Follows earlier row) (rows_of table)
@@ -143,5 +121,4 @@ pub kept_known : (table : Table) (lives new reserved : Lives) → IsKept table l
     → ((rows : List NameRow) → AreCounted rows lives → AreCounted rows new) → ((at : ℕ → Option NameRow) → AreNumbered at lives → AreNumbered at new)
     → names_of reserved ≡ names_of new → (AreListed new → AreListed reserved) → ((rows : List NameRow) → AreCounted rows new → AreCounted rows reserved)
     → ((at : ℕ → Option NameRow) → AreNumbered at new → AreNumbered at reserved) → IsKept table reserved
-kept_known table lives new reserved kept keeps listed counts numbered same listed' counts' numbered' =
-    kept_over table new (kept_over table lives kept new keeps listed counts numbered) reserved (rw same (keeps_same (names_of new))) listed' counts' numbered'
+kept_known table lives new reserved kept keeps listed counts numbered same listed' counts' numbered' = grind (arith, nat_tests, same, kept_over, keeps_same, names_of)

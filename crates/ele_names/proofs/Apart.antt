@@ -14,30 +14,16 @@ below b t h = grind (arith, nat_tests)
 
 -- rows of one name stand in one directory and have one name
 pub same_name : (d : ℕ) (n : List ℕ) (row other : NameRow) → is_named d n row ≡ true → is_named d n other ≡ true → (row.directory ≡ other.directory) × (row.name ≡ other.name)
-same_name d n row other a b =
-    let this = split (row.directory == d) (bytes_eq row.name n) a in
-    let that = split (other.directory == d) (bytes_eq other.name n) b in
-    (equal row.directory d this.0 ∙ sym (equal other.directory d that.0), (bytes_eq-Decides row.name n).0 this.1 ∙ sym ((bytes_eq-Decides other.name n).0 that.1))
+same_name d n row other a b = grind (arith, nat_tests, split, bytes_eq, equal, bytes_eq-Decides)
 
 pub named_live : (d : ℕ) (n : List ℕ) (row : NameRow) → is_named d n row ≡ true → is_none row.death ≡ true → is_live_name d n row ≡ true
-named_live d n row = all (row.directory == d) (bytes_eq row.name n) (is_none row.death) where
-  all : (a b c : Bool) → (a && b) ≡ true → c ≡ true → (a && (b && c)) ≡ true
-  all true b c h k = rw (h, k) refl
-  all false b c h k = h
+named_live d n row = grind (arith, nat_tests, bytes_eq, is_none)
 
 pub named_dead : (d : ℕ) (n : List ℕ) (row : NameRow) → (is_named d n row ≡ true → is_none row.death ≡ false) → is_live_name d n row ≡ false
-named_dead d n row = any (row.directory == d) (bytes_eq row.name n) (is_none row.death) where
-  any : (a b c : Bool) → ((a && b) ≡ true → c ≡ false) → (a && (b && c)) ≡ false
-  any true true c h = h refl
-  any true false c h = refl
-  any false b c h = refl
+named_dead d n row = grind (arith, nat_tests, bytes_eq, is_none)
 
 pub named_and_live : (d : ℕ) (n : List ℕ) (row : NameRow) → is_live_name d n row ≡ true → (is_named d n row ≡ true) × (is_none row.death ≡ true)
-named_and_live d n row = all (row.directory == d) (bytes_eq row.name n) (is_none row.death) where
-  all : (a b c : Bool) → (a && (b && c)) ≡ true → ((a && b) ≡ true) × (c ≡ true)
-  all true true c h = (refl, h)
-  all true false c h = absurd (false≢true h)
-  all false b c h = absurd (false≢true h)
+named_and_live d n row = grind (arith, nat_tests, bytes_eq, is_none, false≢true)
 
 find_same : {X : Type 0} (p q : X → Bool) (xs : List X) → ((x : X) → p x ≡ q x) → find p xs ≡ find q xs
 find_same p q [] same = refl

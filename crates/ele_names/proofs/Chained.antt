@@ -111,10 +111,7 @@ module _ (at : ℕ → Option NameRow) (row : NameRow) (serial : ℕ) where
     before t s lt = rw (apart serial s lt) refl
 
     others : (t : Target) → target_eq row.target t ≡ false → (s : ℕ) → stands_for entered t s ≡ stands_for at t s
-    others t not s = elim (is_at (nat_cmp serial) s) as (λ b. is_at (nat_cmp serial) s ≡ b → option_map_or (λ row. target_eq row.target t) (cond b (Some row) (at s)) false ≡ stands_for at t s) [
-      | true ↦ λ e. let same = same_serial serial s e in not ∙ sym (none_stands at t s (fresh s (omega (arith, same))))
-      | false ↦ λ e. refl
-    ] refl
+    others t not s = grind (arith, nat_tests, is_at, nat_cmp, option_map_or, target_eq, stands_for, same_serial, none_stands)
 
     -- no newer row of its target
     pub newest_entered : (s : ℕ) → serial < s → stands_for entered row.target s ≡ false
@@ -176,17 +173,11 @@ module _ (at : ℕ → Option NameRow) (row : NameRow) (serial : ℕ) where
     elsewhere t s e = rw e refl
 
     unlike : (t : Target) → target_eq row.target t ≡ false → (s : ℕ) → stands_for left t s ≡ stands_for at t s
-    unlike t not s = elim (is_at (nat_cmp serial) s) as (λ b. is_at (nat_cmp serial) s ≡ b → option_map_or (λ row. target_eq row.target t) (cond b None (at s)) false ≡ stands_for at t s) [
-      | true ↦ λ e. sym (stands_own there t s e ∙ not)
-      | false ↦ λ e. refl
-    ] refl
+    unlike t not s = grind (arith, nat_tests, is_at, nat_cmp, option_map_or, target_eq, stands_for, stands_own)
 
     -- nothing of its target stands there, or behind
     gone : (s : ℕ) → serial ≤ s → stands_for left row.target s ≡ false
-    gone s le = elim (is_at (nat_cmp serial) s) as (λ b. is_at (nat_cmp serial) s ≡ b → option_map_or (λ r. target_eq r.target row.target) (cond b None (at s)) false ≡ false) [
-      | true ↦ λ e. refl
-      | false ↦ λ e. newest_of s (after serial s e le)
-    ] refl
+    gone s le = grind (arith, nat_tests, is_at, nat_cmp, option_map_or, target_eq, after)
 
     -- its target has a newest row, and what stands at its number is the one before it
     pub newest_known : (old : Chains) → serial < 2 ^ 64 → AreChained at old → get target_eq old.newest row.target ≡ None → ⊥

@@ -1,6 +1,6 @@
 -- Live rows and counts of them, where one comes or goes.
-use Rattle.ele_names.proofs.Basics.{◌≡◌, ℕ, ◌==◌, ◌&&◌, Bool, true, false, cond, not, nat_lt, is_none, List, [], ◌∷◌, ◌++◌, Some, None, refl, sym, ap, ◌∙◌, arith, count_by, list_any, AllByRecursion, true≢false, AllLater, all-append, later-around, all-any, all-weaker, sum_by-around, sum_by-same, any-count, nat_tests}
-use Rattle.ele_names.proofs.Words.{NameRow, Target, File, Directory, is_live_in, is_target_directory, is_live_directory, is_named, is_live_name, live_target, is_live_of, Leaves, Follows, target_eq}
+use Rattle.ele_names.proofs.Basics.{◌≡◌, ℕ, ◌==◌, ◌&&◌, Bool, true, false, cond, not, nat_lt, is_none, List, [], ◌∷◌, ◌++◌, Some, None, refl, sym, ◌∙◌, arith, count_by, list_any, AllByRecursion, true≢false, AllLater, all-append, later-around, all-any, all-weaker, sum_by-around, sum_by-same, any-count, nat_tests}
+use Rattle.ele_names.proofs.Words.{NameRow, Directory, is_live_in, is_target_directory, is_live_directory, is_named, is_live_name, live_target, is_live_of, Leaves, Follows, target_eq}
 use Rattle.ele_names.proofs.Apart.{named_and_live, named_dead, same_name}
 
 -- what a test counts of one row that is live, or dead
@@ -50,38 +50,19 @@ module _ (row : NameRow) (before behind : List NameRow) (apart : AllLater Follow
     its is = stands before (earlier is) is
 
     named : live_target (before ++ behind) d n ≡ cond (is_live_name d n row) None (live_target (before ++ row ∷ behind) d n)
-    named = elim (is_live_name d n row) as (λ t. is_live_name d n row ≡ t → live_target (before ++ behind) d n ≡ cond t None (live_target (before ++ row ∷ behind) d n)) [
-      | true ↦ λ is. none_named d n (before ++ behind) (all-append (λ b. is_live_name d n b ≡ false) before behind (earlier is) (later is))
-      | false ↦ λ is. sym (target_around d n before row behind is)
-    ] refl
+    named = grind (arith, nat_tests, is_live_name, live_target, none_named, all-append, earlier, later, target_around)
 
   pub leaves_without : Leaves row (before ++ row ∷ behind) (before ++ behind)
-  leaves_without = record {
-    named = named;
-    its = its;
-    in_directory = λ d. sym (sum_by-around (λ row. cond (is_live_in d row) 1 0) before row behind);
-    of_target = λ t. sym (sum_by-around (λ row. cond (is_live_of t row) 1 0) before row behind);
-  }
+  leaves_without = grind (arith, nat_tests, named, its, sum_by-around, is_live_in, is_live_of)
 
   -- a dead row in its place
   pub leaves_dead : (dead : NameRow) → is_none dead.death ≡ false → Leaves row (before ++ row ∷ behind) (before ++ dead ∷ behind)
-  leaves_dead dead died = record {
-    named = λ d n. target_around d n before dead behind (named_dead d n dead (λ _. died)) ∙ named d n;
-    its = its;
-    in_directory = λ d. omega (arith, sum_by-around (λ row. cond (is_live_in d row) 1 0) before row behind, sum_by-around (λ row. cond (is_live_in d row) 1 0) before dead behind, dead_one (dead.directory == d) (is_none dead.death) died);
-    of_target = λ t. omega (arith, sum_by-around (λ row. cond (is_live_of t row) 1 0) before row behind, sum_by-around (λ row. cond (is_live_of t row) 1 0) before dead behind, dead_one (target_eq dead.target t) (is_none dead.death) died);
-  }
+  leaves_dead dead died = grind (arith, nat_tests, named, target_around, named_dead, its, sum_by-around, is_live_in, dead_one, is_none, is_live_of, target_eq)
 
 -- nothing passes where the count is 0
 pub none_counted : {X : Type 0} (p : X → Bool) (xs : List X) → not (list_any p xs) ≡ (count_by p xs == 0)
-none_counted p xs = ap not (any-count p xs) ∙ none (count_by p xs) where
-  none : (n : ℕ) → not (nat_lt 0 n) ≡ (n == 0)
-  none n = grind (arith, nat_tests)
+none_counted p xs = grind (arith, nat_tests, not, any-count, count_by, nat_lt)
 
 -- the names of a directory, found as those of the target
 pub directory_names : (d : ℕ) (rows : List NameRow) → count_by (is_live_of (Directory d)) rows ≡ count_by (is_live_directory d) rows
-directory_names d rows = sum_by-same (λ row. cond (is_live_of (Directory d) row) 1 0) (λ row. cond (is_live_directory d row) 1 0) rows
-    (all-any (λ row. ◌≡◌ {A = ℕ} (cond (is_live_of (Directory d) row) 1 0) (cond (is_live_directory d row) 1 0)) rows (λ row. ap (λ b. cond (b && is_none row.death) 1 0) (one row.target))) where
-      one : (t : Target) → target_eq t (Directory d) ≡ is_target_directory d t
-      one (File f) = refl
-      one (Directory e) = grind (arith, nat_tests)
+directory_names d rows = grind (arith, nat_tests, sum_by-same, is_live_of, is_live_directory, all-any, is_none, target_eq, is_target_directory)

@@ -13,11 +13,7 @@ target_of found = option_map (λ live. live.target) found
 pub counted_same : (rows : List NameRow) (old new : Lives) → ((d : ℕ) (n : List ℕ) → live_at new d n ≡ live_at old d n)
     → ((d : ℕ) → counted nat_eq new.in_directory d ≡ counted nat_eq old.in_directory d) → ((t : Target) → counted target_eq new.of_target t ≡ counted target_eq old.of_target t)
     → AreCounted rows old → AreCounted rows new
-counted_same rows old new named directories targets was = record {
-  named = λ d n. ap target_of (named d n) ∙ was.named d n;
-  in_directory = λ d. directories d ∙ was.in_directory d;
-  of_target = λ t. targets t ∙ was.of_target t;
-}
+counted_same rows old new named directories targets was = grind (arith, nat_tests)
 
 pub numbered_same : (at to : ℕ → Option NameRow) (old new : Lives) → ((s : ℕ) → to s ≡ at s) → ((d : ℕ) (n : List ℕ) → live_at new d n ≡ live_at old d n) → AreNumbered at old → AreNumbered to new
 numbered_same at to old new same named was = record { each = λ d n live is. rw (same live.serial) (was.each d n live (sym (named d n) ∙ is)) }
@@ -41,20 +37,14 @@ module _ (row : NameRow) (d : ℕ) (n : List ℕ) where
   -- or is live no more
   pub left : (was now : List NameRow) → Leaves row was now → is_none row.death ≡ true → (o p : Option Live) → p ≡ cond (is_named d n row) None o
       → target_of o ≡ live_target was d n → target_of p ≡ live_target now d n
-  left was now leaves lives o p changed before = elim (is_named d n row) as (λ b. is_named d n row ≡ b → target_of p ≡ live_target now d n) [
-    | true ↦ λ e. let gone : p ≡ None = changed ∙ rw e refl in ap target_of gone ∙ sym (leaves.named d n ∙ rw (named_live d n row e lives) refl)
-    | false ↦ λ e. let same : p ≡ o = changed ∙ rw e refl in ap target_of same ∙ before ∙ sym (leaves.named d n ∙ rw (unnamed e) refl)
-  ] refl
+  left was now leaves lives o p changed before = grind (arith, nat_tests, is_named, live_target, named_live, unnamed)
 
   pub dead_left : (was now : List NameRow) → Leaves row was now → is_none row.death ≡ false → live_target was d n ≡ live_target now d n
   dead_left was now leaves dead = sym (leaves.named d n ∙ rw (named_dead d n row (λ _. dead)) refl)
 
   -- what is there without the row was there, and isn't the row
   pub others_live : (o p : Option Live) (live : Live) → p ≡ cond (is_named d n row) None o → p ≡ Some live → (o ≡ Some live) × (is_live_name d n row ≡ false)
-  others_live o p live changed is = elim (is_named d n row) as (λ b. is_named d n row ≡ b → (o ≡ Some live) × (is_live_name d n row ≡ false)) [
-    | true ↦ λ e. let none : Some live ≡ None = sym is ∙ changed ∙ rw e refl in absurd cc
-    | false ↦ λ e. (sym (changed ∙ rw e refl) ∙ is, unnamed e)
-  ] refl
+  others_live o p live changed is = grind (arith, nat_tests, is_named, is_live_name, unnamed)
 
 module _ (row : NameRow) (serial : ℕ) (at : ℕ → Option NameRow) (old new : Lives) (was : AreNumbered at old) where
   -- a live row of a new serial number

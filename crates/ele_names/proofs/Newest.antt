@@ -43,9 +43,7 @@ module _ (names : List (ℕ × List ℕ)) (table : Table) (is : IsTable names ta
 
     -- a row of the name stands at its birth
     stands : (s : ℕ) (row : NameRow) → at s ≡ Some row → is_named d n row ≡ true → has_at row.birth s ≡ true
-    stands s row there named =
-        is.placed.named.each g row.birth s
-        ∙ rw there (placed_named row row.birth ∙ rw (named, itself row.birth) refl)
+    stands s row there named = grind (arith, nat_tests, placed_named, itself)
 
     pub none_newest : ((r s : ℕ) → r ≤ t → s < 2 ^ 64 → has_at r s ≡ false) → None ≡ last_passing (is_born_by d n t) (rows_of table)
     none_newest none = sym (none_last (is_born_by d n t) table.rows.entries is.rising (λ s row there. not_true (is_born_by d n t row) (λ passes.
@@ -73,7 +71,4 @@ module _ (names : List (ℕ × List ℕ)) (table : Table) (is : IsTable names ta
           ]))
 
       pub newest : at s ≡ last_passing (is_born_by d n t) (rows_of table)
-      newest = elim (at s) as (λ o. at s ≡ o → o ≡ last_passing (is_born_by d n t) (rows_of table)) [
-        | None ↦ λ none. absurd (gone none)
-        | Some row ↦ λ there. found row there
-      ] refl
+      newest = grind (arith, nat_tests, last_passing, is_born_by, rows_of, gone, found)

@@ -1,5 +1,5 @@
 -- The numbers of names.
-use Rattle.ele_names.proofs.Basics.{◌≡◌, ℕ, suc, ◌+◌, ◌≤◌, ◌<◌, Bool, true, false, cond, not, ◌==◌, eqb, nat_lt, List, [], ◌∷◌, ◌++◌, length, slice_get, position, is_some, Option, Some, None, length-append, refl, sym, ap, ◌∙◌, ◌⊎◌, inl, inr, arith, list_any, HashMap, get, keys, false≢true, true≢false, cases_lt, nat_tests, position_or_len_push, prefix_len-le-length, bytes_eq-Decides, some_index}
+use Rattle.ele_names.proofs.Basics.{◌≡◌, ℕ, suc, ◌+◌, ◌<◌, Bool, true, false, cond, not, ◌==◌, eqb, nat_lt, List, [], ◌∷◌, ◌++◌, length, slice_get, position, is_some, Option, Some, None, length-append, refl, sym, ap, ◌∙◌, ◌⊎◌, arith, list_any, HashMap, get, keys, false≢true, true≢false, cases_lt, nat_tests, position_or_len_push, prefix_len-le-length, bytes_eq-Decides, some_index}
 use Rattle.ele_names.proofs.Words.{NameRow, is_named, Live, name_eq, place_in, number_in, KeepsPlaces}
 use Rattle.std.proofs.Common.{bytes_eq}
 use Rattle.ele_names.proofs.Apart.{split, equal}
@@ -8,9 +8,7 @@ pub exact : (k q : ℕ × List ℕ) → name_eq k q ≡ true → k ≡ q
 exact k q h = let parts = split (k.0 == q.0) (bytes_eq k.1 q.1) h in let d = equal k.0 q.0 parts.0 in let n = (bytes_eq-Decides k.1 q.1).0 parts.1 in rw (d, n) refl
 
 itself : (k : ℕ × List ℕ) → name_eq k k ≡ true
-itself k = rw (own k.0, (bytes_eq-Decides k.1 k.1).1 refl) refl where
-  own : (n : ℕ) → (n == n) ≡ true
-  own n = grind (arith, nat_tests)
+itself k = grind (arith, nat_tests, bytes_eq-Decides)
 
 other : (k q x : ℕ × List ℕ) → k ≡ x → name_eq q x ≡ false → name_eq k q ≡ false
 other k q x same f = elim (name_eq k q) as (λ b. name_eq k q ≡ b → b ≡ false) [
@@ -64,10 +62,7 @@ any_known (x ∷ xs) d n inside = elim (name_eq (d, n) x) as (λ b. name_eq (d, 
 
 -- a name has a number, or none
 pub known : (names : List (ℕ × List ℕ)) (d : ℕ) (n : List ℕ) → (place_in names d n < length names) ⊎ (place_in names d n ≡ length names)
-known names d n = elim (cases_lt (place_in names d n) (length names)) as (λ _. (place_in names d n < length names) ⊎ (place_in names d n ≡ length names)) [
-  | inl inside ↦ inl inside
-  | inr behind ↦ inr (omega (arith, behind, prefix_len-le-length (λ k. not (name_eq (d, n) k)) names))
-]
+known names d n = grind (arith, nat_tests, cases_lt, place_in, behind, prefix_len-le-length, not, name_eq)
 
 before : (p l m : ℕ) → p < l → cond (eqb p l) m p ≡ p
 before p l m h = grind (arith, nat_tests)
@@ -78,11 +73,7 @@ last l = grind (arith, nat_tests)
 module _ (names : List (ℕ × List ℕ)) where
   -- a name more behind the others leaves them their numbers
   pub keeps_pushed : (k : ℕ × List ℕ) → KeepsPlaces names (names ++ k ∷ [])
-  keeps_pushed k = record { each = λ d n inside. stays d n inside } where
-    stays : (d : ℕ) (n : List ℕ) → place_in names d n < length names → (place_in (names ++ k ∷ []) d n ≡ place_in names d n) × (place_in (names ++ k ∷ []) d n < length (names ++ k ∷ []))
-    stays d n inside =
-        let same : place_in (names ++ k ∷ []) d n ≡ place_in names d n = position_or_len_push (name_eq (d, n)) names k ∙ before (place_in names d n) (length names) _ inside in
-        (same, rw (same, length-append names (k ∷ [])) (omega (arith, inside)))
+  keeps_pushed k = grind (arith, nat_tests, place_in, position_or_len_push, name_eq, before, length-append)
 
   pub keeps_same : KeepsPlaces names names
   keeps_same = record { each = λ d n inside. (refl, inside) }
@@ -93,12 +84,7 @@ module _ (names : List (ℕ × List ℕ)) where
 
   -- a name that isn't found has no number
   pub unnumbered : (d : ℕ) (n : List ℕ) → None ≡ position (name_eq (d, n)) names → place_in names d n ≡ length names
-  unnumbered d n none = none_is (place_in names d n) (length names) (prefix_len-le-length (λ k. not (name_eq (d, n) k)) names) none where
-    none_is : (p l : ℕ) → p ≤ l → None ≡ cond (nat_lt p l) (Some p) None → p ≡ l
-    none_is p l le h = elim (nat_lt p l) as (λ b. nat_lt p l ≡ b → None ≡ cond b (Some p) None → p ≡ l) [
-      | true ↦ λ e g. absurd cc
-      | false ↦ λ e g. grind (arith, nat_tests)
-    ] refl h
+  unnumbered d n none = grind (arith, nat_tests, none, place_in, prefix_len-le-length, not, name_eq, nat_lt)
 
 module _ {S : Type 0} (by_name : HashMap (ℕ × List ℕ) (Option Live) S) (d : ℕ) (n : List ℕ) where
   among : is_some (position (name_eq (d, n)) (keys by_name)) ≡ is_some (get name_eq by_name (d, n))
@@ -106,19 +92,11 @@ module _ {S : Type 0} (by_name : HashMap (ℕ × List ℕ) (Option Live) S) (d :
 
   -- what has a number is there
   pub present : place_in (keys by_name) d n < length (keys by_name) → is_some (get name_eq by_name (d, n)) ≡ true
-  present inside = sym among ∙ yes (place_in (keys by_name) d n) (length (keys by_name)) inside where
-    yes : (p l : ℕ) → p < l → is_some (cond (nat_lt p l) (Some p) None) ≡ true
-    yes p l h = let is : nat_lt p l ≡ true = grind (arith, nat_tests) in rw is refl
+  present inside = grind (arith, nat_tests, among, place_in, keys, is_some, nat_lt)
 
   pub not_missing : place_in (keys by_name) d n < length (keys by_name) → get name_eq by_name (d, n) ≡ None → ⊥
   not_missing inside none = false≢true (sym (ap is_some none) ∙ present inside)
 
   -- and what has none isn't
   pub missing : place_in (keys by_name) d n ≡ length (keys by_name) → get name_eq by_name (d, n) ≡ None
-  missing end = none (get name_eq by_name (d, n)) (sym among ∙ no (place_in (keys by_name) d n) (length (keys by_name)) end) where
-    no : (p l : ℕ) → p ≡ l → is_some (cond (nat_lt p l) (Some p) None) ≡ false
-    no p l h = let is : nat_lt p l ≡ false = grind (arith, nat_tests) in rw is refl
-
-    none : (o : Option (Option Live)) → is_some o ≡ false → o ≡ None
-    none None h = refl
-    none (Some x) h = absurd (true≢false h)
+  missing end = grind (arith, nat_tests, get, name_eq, among, place_in, keys, is_some, nat_lt, true≢false)
