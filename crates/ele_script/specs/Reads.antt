@@ -1,12 +1,10 @@
 -- What is read of the words behind a command. No public clause cites this module.
 use Rattle.std.specs.Prelude.{◌≡◌, ◌≢◌, ℕ, List, [], ◌∷◌, length, Bool, true, ◌⊎◌, Result, Ok, Err}
 use Rattle.std.specs.List.{list_any}
-use Rattle.ele_world.specs.declared.event.Event.{Event}
 use Rattle.ele_script.specs.declared.command.Command.{Command}
 use Rattle.ele_script.specs.declared.fault.LineFault.{LineFault}
 use Rattle.ele_script.specs.declared.fault.LineFault.TheVariants.{NoMemory, Syntax}
 use Rattle.ele_script.specs.declared.reading.Line.{Line}
-use Rattle.ele_script.specs.declared.reading.Line.TheVariants as asks
 use Rattle.ele_script.specs.Value.{WordKind, SourceWord, Value}
 use Rattle.ele_script.specs.PathWord.{begins_path}
 use Rattle.ele_script.specs.Command.{kinds_behind}
@@ -43,8 +41,3 @@ pub record SpellsBehind (command : Command) (words : List (List ℕ)) (asked : L
 abbrev pub ReadsLine : Command → List (List ℕ) → Result Line LineFault → Type 0
 ReadsLine command words (Ok asked) = SpellsBehind command words asked
 ReadsLine command words (Err fault) = IsRefused (behind_takes command words) (kinds_behind command) words fault
-
--- so of an event
-abbrev pub ReadsEvent : Command → List (List ℕ) → Result Event LineFault → Type 0
-ReadsEvent command words (Ok event) = SpellsBehind command words (asks.Event event)
-ReadsEvent command words (Err fault) = IsRefused (behind_takes command words) (kinds_behind command) words fault

@@ -10,7 +10,7 @@ use crate::word;
 use ele_moment::{Moment, Name};
 use ele_policy::Policy;
 use ele_time_path::{Path, PathAt, TaggedPath};
-use ele_world::{ByteList, Event, Source};
+use ele_world::{ByteList, Source};
 use std::alloc::Global;
 
 /// The only word.
@@ -38,15 +38,14 @@ fn two<'l>(words: &[&'l [u8]]) -> Result<(&'l [u8], &'l [u8]), LineFault>
     Ok((*first, *second))
 }
 
-/// No word, behind the command of an event.
-pub(crate) fn nothing(words: &[&[u8]], event: Event) -> Result<Event, LineFault>
-    ensures none { Reads [] (λ _. []) (map (λ word. word.now) words.now) result }
-    ensures event { IfOk result (λ made. made ≡ event) }
+/// No word.
+pub(crate) fn nothing(words: &[&[u8]]) -> Result<(), LineFault>
+    ensures { Reads [] (λ _. []) (map (λ word. word.now) words.now) result }
 {
     if !words.is_empty() {
         return Err(LineFault::Syntax);
     }
-    Ok(event)
+    Ok(())
 }
 
 /// A number.

@@ -5,8 +5,7 @@ ghost use Rattle.ele_script.specs.Memory.{TakesMemory};
 ghost use Rattle.ele_script.specs.Words.{words_of, is_worded, ends_word};
 ghost use Rattle.ele_script.specs.Spells.{Spells, SpellsLine, SpellsWords};
 ghost use Rattle.ele_script.specs.EventOf.{event_of};
-ghost use Rattle.ele_script.specs.Reads.{ReadsLine, ReadsEvent};
-ghost use Rattle.ele_script.specs.declared.command.Command.TheVariants as Command;
+ghost use Rattle.ele_script.specs.Reads.{ReadsLine};
 ghost use Rattle.ele_script.specs.FirstFault.{IsFirstFault, IsEventFault, IsFaultOfWords};
 
 use crate::arguments::{
@@ -143,70 +142,72 @@ fn line_of(alloc: Global, words: &[&[u8]]) -> Result<Line, LineFault>
     line_behind(alloc, command, behind)
 }
 
-/// What the words behind a command make of it.
+/// What the words behind a command make of it. Each arm makes its line at once, so that no event is
+/// moved on its way.
 fn line_behind(alloc: Global, command: Command, words: &[&[u8]]) -> Result<Line, LineFault>
     ensures { ReadsLine command (map (λ word. word.now) words.now) result }
 {
     match command {
-        Command::Pass => number(words).map(Line::Pass),
-        _ => event_behind(alloc, command, words).map(Line::Event),
-    }
-}
-
-/// The event that the words behind its command make of it.
-fn event_behind(alloc: Global, command: Command, words: &[&[u8]]) -> Result<Event, LineFault>
-    requires { command ≢ Command.Pass }
-    ensures { ReadsEvent command (map (λ word. word.now) words.now) result }
-{
-    match command {
-        Command::Clock => moment(words).map(Event::Clock),
-        Command::Tick => number(words).map(Event::Tick),
-        Command::MakeDir => path(alloc, words).map(Event::MakeDir),
-        Command::RemoveDir => path(alloc, words).map(Event::RemoveDir),
-        Command::Create => path(alloc, words).map(Event::Create),
-        Command::Link => two_paths(alloc, words).map(|(from, to)| Event::Link(from, to)),
-        Command::Unlink => path(alloc, words).map(Event::Unlink),
-        Command::Rename => two_paths(alloc, words).map(|(from, to)| Event::Rename(from, to)),
-        Command::Undelete => path(alloc, words).map(Event::Undelete),
-        Command::OpenWrite => path(alloc, words).map(Event::OpenWrite),
-        Command::OpenRead => tagged(alloc, words).map(Event::OpenRead),
+        Command::Clock => moment(words).map(|moment| Line::Event(Event::Clock(moment))),
+        Command::Tick => number(words).map(|seconds| Line::Event(Event::Tick(seconds))),
+        Command::MakeDir => path(alloc, words).map(|path| Line::Event(Event::MakeDir(path))),
+        Command::RemoveDir => path(alloc, words).map(|path| Line::Event(Event::RemoveDir(path))),
+        Command::Create => path(alloc, words).map(|path| Line::Event(Event::Create(path))),
+        Command::Link => {
+            two_paths(alloc, words).map(|(from, to)| Line::Event(Event::Link(from, to)))
+        }
+        Command::Unlink => path(alloc, words).map(|path| Line::Event(Event::Unlink(path))),
+        Command::Rename => {
+            two_paths(alloc, words).map(|(from, to)| Line::Event(Event::Rename(from, to)))
+        }
+        Command::Undelete => path(alloc, words).map(|path| Line::Event(Event::Undelete(path))),
+        Command::OpenWrite => path(alloc, words).map(|path| Line::Event(Event::OpenWrite(path))),
+        Command::OpenRead => tagged(alloc, words).map(|path| Line::Event(Event::OpenRead(path))),
         Command::Write => {
             let read = two_numbers_and_bytes(alloc, words);
-            read.map(|(handle, offset, bytes)| Event::Write(Handle(handle), offset, bytes))
+            read.map(|(handle, at, bytes)| Line::Event(Event::Write(Handle(handle), at, bytes)))
         }
         Command::Truncate => {
-            two_numbers(words).map(|(handle, size)| Event::Truncate(Handle(handle), size))
+            let read = two_numbers(words);
+            read.map(|(handle, size)| Line::Event(Event::Truncate(Handle(handle), size)))
         }
-        Command::Close => number(words).map(|handle| Event::Close(Handle(handle))),
+        Command::Close => number(words).map(|handle| Line::Event(Event::Close(Handle(handle)))),
         Command::Revert => {
             let read = path_and_number(alloc, words);
-            read.map(|(path, number)| Event::Revert(path, VersionNo(number)))
+            read.map(|(path, number)| Line::Event(Event::Revert(path, VersionNo(number))))
         }
         Command::SetPolicy => {
-            path_and_policy(alloc, words).map(|(path, policy)| Event::SetPolicy(path, policy))
+            let read = path_and_policy(alloc, words);
+            read.map(|(path, policy)| Line::Event(Event::SetPolicy(path, policy)))
         }
         Command::Default => {
-            path_and_policy(alloc, words).map(|(path, policy)| Event::SetDefault(path, policy))
+            let read = path_and_policy(alloc, words);
+            read.map(|(path, policy)| Line::Event(Event::SetDefault(path, policy)))
         }
-        Command::GroupMake => name(words).map(Event::GroupMake),
-        Command::GroupDrop => name(words).map(Event::GroupDrop),
+        Command::GroupMake => name(words).map(|name| Line::Event(Event::GroupMake(name))),
+        Command::GroupDrop => name(words).map(|name| Line::Event(Event::GroupDrop(name))),
         Command::GroupAdd => {
-            name_and_path(alloc, words).map(|(name, path)| Event::GroupAdd(name, path))
+            name_and_path(alloc, words).map(|(name, path)| Line::Event(Event::GroupAdd(name, path)))
         }
         Command::GroupRemove => {
-            name_and_path(alloc, words).map(|(name, path)| Event::GroupRemove(name, path))
+            let read = name_and_path(alloc, words);
+            read.map(|(name, path)| Line::Event(Event::GroupRemove(name, path)))
         }
-        Command::Mark => name_and_moment(words).map(|(name, moment)| Event::Mark(name, moment)),
-        Command::Unmark => name_and_moment(words).map(|(name, moment)| Event::Unmark(name, moment)),
-        Command::Clean => nothing(words, Event::CleanOne),
-        Command::Read => source(alloc, words).map(Event::Read),
-        Command::Stat => tagged(alloc, words).map(Event::Stat),
-        Command::Versions => path_at(alloc, words).map(Event::Versions),
-        Command::ListNames => path_at(alloc, words).map(Event::List),
-        Command::Restorable => nothing(words, Event::Restorable),
-        Command::Due => nothing(words, Event::Due),
-        Command::Usage => nothing(words, Event::UsageAll),
-        Command::Groups => nothing(words, Event::GroupsAll),
-        Command::Pass => unreachable!(),
+        Command::Mark => {
+            name_and_moment(words).map(|(name, moment)| Line::Event(Event::Mark(name, moment)))
+        }
+        Command::Unmark => {
+            name_and_moment(words).map(|(name, moment)| Line::Event(Event::Unmark(name, moment)))
+        }
+        Command::Clean => nothing(words).map(|()| Line::Event(Event::CleanOne)),
+        Command::Read => source(alloc, words).map(|source| Line::Event(Event::Read(source))),
+        Command::Stat => tagged(alloc, words).map(|path| Line::Event(Event::Stat(path))),
+        Command::Versions => path_at(alloc, words).map(|path| Line::Event(Event::Versions(path))),
+        Command::ListNames => path_at(alloc, words).map(|path| Line::Event(Event::List(path))),
+        Command::Restorable => nothing(words).map(|()| Line::Event(Event::Restorable)),
+        Command::Due => nothing(words).map(|()| Line::Event(Event::Due)),
+        Command::Usage => nothing(words).map(|()| Line::Event(Event::UsageAll)),
+        Command::Groups => nothing(words).map(|()| Line::Event(Event::GroupsAll)),
+        Command::Pass => number(words).map(Line::Pass),
     }
 }
