@@ -1,11 +1,6 @@
 -- Numbers of which none stands twice in a list, where one is taken out.
-use Rattle.std.proofs.Common.{◌≡◌, ℕ, ◌==◌, Bool, true, false, cond, not, ◌&&◌, List, [], ◌∷◌, refl, ap, ◌∙◌, arith}
-use Rattle.std.specs.Prelude.{filter}
-use Rattle.std.specs.List.{list_any, AllByRecursion}
-use Rattle.std.proofs.lemmas.Bool.Decides.{nat_tests}
-use Rattle.ele_lists.specs.Lists.{remove_first}
-use Rattle.ele_lists.proofs.Edits.{list_any-remove_first, found_passes}
-use Rattle.ele_groups.specs.Timed.{AreApart}
+use Rattle.ele_groups.proofs.Basics.{◌≡◌, ℕ, ◌==◌, Bool, true, false, cond, not, ◌&&◌, List, [], ◌∷◌, refl, ap, arith, filter, list_any, AllByRecursion, nat_tests, remove_first, list_any-remove_first, found_passes}
+use Rattle.ele_groups.proofs.Words.{AreApart}
 
 pub is_same : (x y : ℕ) → (x == y) ≡ true → x ≡ y
 is_same x y h = grind (arith, nat_tests)
@@ -38,10 +33,7 @@ nothing false = refl
 
 -- the others stay
 pub any_removed : (k t : ℕ) (xs : List ℕ) → AreApart xs → list_any (λ x. x == t) (remove_first (λ x. x == k) xs) ≡ (list_any (λ x. x == t) xs && not (k == t))
-any_removed k t xs apart = elim (k == t) as (λ b. (k == t) ≡ b → list_any (λ x. x == t) (remove_first (λ x. x == k) xs) ≡ (list_any (λ x. x == t) xs && not b)) [
-  | true ↦ λ e. let same = is_same k t e in rw (← same) (gone k xs apart ∙ nothing (list_any (λ x. x == k) xs))
-  | false ↦ λ e. others k t xs e ∙ both_ways (list_any (λ x. x == t) xs)
-] refl
+any_removed k t xs apart = grind (arith, nat_tests, list_any, remove_first, not, is_same, gone, nothing, others, both_ways)
 
 kept_all : (k : ℕ) (xs : List ℕ) → AllByRecursion (λ y. (k == y) ≡ false) xs → xs ≡ filter (λ x. not (x == k)) xs
 kept_all k [] all = refl

@@ -1,19 +1,6 @@
 -- A row changed at its serial number, or taken out.
-use Rattle.std.proofs.Common.{◌≡◌, ℕ, ◌<◌, ◌≤◌, Bool, true, false, cond, ◌||◌, ◌&&◌, List, [], ◌∷◌, Option, Some, None, refl, ap, arith, inl, inr}
-use Rattle.std.specs.Prelude.{find, nat_lt, Result, Ok, Err, OnOk, OnErr}
-use Rattle.std.specs.BTreeMap.{is_at}
-use Rattle.std.specs.List.{list_any, AllByRecursion}
-use Rattle.std.specs.Map.{keys_of, values_of, set_value, remove_entry}
-use Rattle.std.specs.Option.{option_map, option_map_or}
-use Rattle.std.specs.Ordering.{nat_cmp}
-use Rattle.std.proofs.lemmas.Bool.{false≢true}
-use Rattle.std.proofs.lemmas.Bool.Decides.{nat_tests}
-use Rattle.ele_lists.specs.Lists.{update_first, remove_first}
-use Rattle.ele_lists.specs.Serial.{value_at}
-use Rattle.ele_lists.proofs.Serials.{IsRising, after_head, head_or_later, rest_rises, not_true}
-use Rattle.ele_lists.proofs.Indexed.{at_itself}
-use Rattle.ele_world.specs.declared.rows.GroupRow.{GroupRow}
-use Rattle.ele_groups.specs.Kept.{changed_at}
+use Rattle.ele_groups.proofs.Basics.{◌≡◌, ℕ, ◌<◌, ◌≤◌, Bool, true, false, cond, ◌||◌, ◌&&◌, List, [], ◌∷◌, Option, Some, None, refl, ap, arith, inl, inr, find, nat_lt, Result, Ok, Err, OnOk, OnErr, is_at, list_any, AllByRecursion, keys_of, values_of, set_value, remove_entry, option_map, option_map_or, nat_cmp, false≢true, nat_tests, update_first, remove_first, value_at, IsRising, after_head, head_or_later, rest_rises, not_true, at_itself}
+use Rattle.ele_groups.proofs.Words.{GroupRow, changed_at}
 
 pub same_serial : (a b : ℕ) → is_at (nat_cmp a) b ≡ true → a ≡ b
 same_serial a b h = grind (arith, nat_tests)
@@ -68,13 +55,7 @@ module _ (serial : ℕ) (f : GroupRow → GroupRow) where
 
   -- a test of the rows that sees no change
   pub changed_same : (p : GroupRow → Bool) → ((row : GroupRow) → p (f row) ≡ p row) → (es : Entries) (t : ℕ) → option_map_or p (value_at (changed_at serial f es) t) false ≡ option_map_or p (value_at es t) false
-  changed_same p same es t = elim (is_at (nat_cmp serial) t) as (λ b. is_at (nat_cmp serial) t ≡ b → option_map_or p (value_at (changed_at serial f es) t) false ≡ option_map_or p (value_at es t) false) [
-    | true ↦ λ i. let here = same_serial serial t i in rw (← here, changed_here es) (mapped (value_at es serial))
-    | false ↦ λ i. rw (changed_elsewhere es t i) refl
-  ] refl where
-    mapped : (o : Option GroupRow) → option_map_or p (option_map f o) false ≡ option_map_or p o false
-    mapped None = refl
-    mapped (Some row) = same row
+  changed_same p same es t = grind (arith, nat_tests, is_at, nat_cmp, option_map_or, value_at, changed_at, same_serial, changed_here, changed_elsewhere, option_map)
 
 -- the only row that passes, and what a change of it or its removal leaves
 pub record IsOne (p : GroupRow → Bool) (es : Entries) (serial : ℕ) (v : GroupRow) : Type 0 where

@@ -1,23 +1,6 @@
 -- Whether a mark covers, those of the group left out.
-use Rattle.std.proofs.Common.{◌≡◌, ℕ, ◌<◌, ◌^◌, ◌==◌, Bool, true, false, ◌&&◌, not, List, [], ◌∷◌, Option, Some, None, refl, sym, ◌∙◌, arith}
-use Rattle.std.specs.List.{list_any, AllByRecursion}
-use Rattle.std.specs.List.Sorted.{IsStrictlySortedBy}
-use Rattle.std.specs.Map.{keys_of, values_of}
-use Rattle.std.specs.Option.{option_map_or}
-use Rattle.std.specs.Ordering.{nat_cmp}
-use Rattle.std.proofs.lemmas.Bool.{false≢true}
-use Rattle.std.proofs.lemmas.Bool.Decides.{nat_tests}
-use Rattle.ele_lists.specs.declared.index.Index.{Index}
-use Rattle.ele_lists.specs.Index.{has}
-use Rattle.ele_lists.specs.Serial.{value_at}
-use Rattle.ele_lists.proofs.Edits.{all-weaker}
-use Rattle.ele_lists.proofs.Serials.{not_yet}
-use Rattle.ele_world.specs.declared.rows.GroupRow.{GroupRow}
-use Rattle.ele_world.specs.GroupRows.{covers_moment, is_group, is_member}
-use Rattle.ele_world.specs.GroupsAsked.{is_left_out, has_covering_without}
-use Rattle.ele_groups.specs.declared.span.Except.{Except}
-use Rattle.ele_groups.specs.Except.{has_covering_but, is_marked_row}
-use Rattle.ele_groups.specs.Kept.{ArePlaced, has_file}
+use Rattle.ele_groups.proofs.Basics.{◌≡◌, ℕ, ◌<◌, ◌^◌, ◌==◌, Bool, true, false, ◌&&◌, not, List, [], ◌∷◌, Option, Some, None, refl, sym, ◌∙◌, arith, list_any, AllByRecursion, IsStrictlySortedBy, keys_of, values_of, option_map_or, nat_cmp, false≢true, nat_tests, Index, has, value_at, all-weaker, not_yet}
+use Rattle.ele_groups.proofs.Words.{GroupRow, covers_moment, is_group, is_member, is_left_out, has_covering_without, Except, has_covering_but, is_marked_row, ArePlaced, has_file}
 use Rattle.ele_groups.proofs.Changed.{any_value, no_value, both_hold, by_bound}
 use Rattle.ele_groups.proofs.Named.{none_any}
 use Rattle.ele_groups.proofs.Placed.{stands, second_holds}
@@ -46,10 +29,7 @@ module _ (except : Option Except) (file closed : ℕ) (ended : Option ℕ) (es :
 
   first_of : (o : Option GroupRow) → option_map_or passes o false ≡ true → has_file file o ≡ true
   first_of None h = h
-  first_of (Some row) h = first (is_member file row) (covering row) h where
-    first : (a b : Bool) → (a && b) ≡ true → a ≡ true
-    first true b h = refl
-    first false b h = h
+  first_of (Some row) h = grind (arith, nat_tests, is_member)
 
   second_of : (o : Option GroupRow) → option_map_or passes o false ≡ true → option_map_or covering o false ≡ true
   second_of None h = h
@@ -57,10 +37,7 @@ module _ (except : Option Except) (file closed : ℕ) (ended : Option ℕ) (es :
 
   -- one of them was looked at and doesn't cover
   pub left_next : (e : ℕ × ℕ × ℕ) (xs : List (ℕ × ℕ × ℕ)) → AreLeft (e ∷ xs) → option_map_or covering (value_at es e.2) false ≡ false → AreLeft xs
-  left_next e xs left fails = λ s fits holds. elim (e.2 == s) as (λ b. (e.2 == s) ≡ b → list_any (λ e. e.2 == s) xs ≡ true) [
-    | true ↦ λ is. let same : e.2 ≡ s = grind (arith, nat_tests) in absurd (false≢true (sym fails ∙ rw same (second_of (value_at es s) holds)))
-    | false ↦ λ is. rw is at (left s fits holds)
-  ] refl
+  left_next e xs left fails = grind (arith, nat_tests, list_any, false≢true, second_of, value_at)
 
   -- none is left
   pub none_left : IsStrictlySortedBy nat_cmp (keys_of es) → AllByRecursion (λ s. s < 2 ^ 64) (keys_of es) → AreLeft [] → list_any passes (values_of es) ≡ false

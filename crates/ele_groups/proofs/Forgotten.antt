@@ -1,15 +1,6 @@
 -- A file taken out of the groups that have it.
-use Rattle.std.proofs.Common.{◌≡◌, ℕ, ◌==◌, ◌<◌, true, false, cond, ◌||◌, not, List, [], ◌∷◌, length, refl, ap, arith}
-use Rattle.std.specs.Prelude.{filter}
-use Rattle.std.specs.BTreeMap.{is_at}
-use Rattle.std.specs.List.{list_any, AllByRecursion}
-use Rattle.std.specs.Map.{values_of}
-use Rattle.std.specs.Ordering.{nat_cmp}
-use Rattle.std.proofs.lemmas.Bool.{true≢false, false≢true}
-use Rattle.ele_lists.specs.Serial.{value_at}
-use Rattle.ele_world.specs.declared.rows.GroupRow.{GroupRow}
-use Rattle.ele_world.specs.GroupRows.{forgets, forgotten, is_member}
-use Rattle.ele_groups.specs.Kept.{changed_at, has_file}
+use Rattle.ele_groups.proofs.Basics.{◌≡◌, ℕ, ◌==◌, ◌<◌, true, false, cond, ◌||◌, not, List, [], ◌∷◌, length, refl, ap, arith, filter, is_at, list_any, AllByRecursion, values_of, nat_cmp, true≢false, false≢true, value_at}
+use Rattle.ele_groups.proofs.Words.{GroupRow, forgets, forgotten, is_member, changed_at, has_file}
 use Rattle.ele_groups.proofs.Changed.{Entries}
 
 module _ (file : ℕ) where

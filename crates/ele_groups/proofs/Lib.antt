@@ -1,3 +1,5 @@
+pub mod Basics
+pub mod Words
 mod Apart
 mod Times
 mod Covered

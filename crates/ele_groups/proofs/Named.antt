@@ -1,27 +1,6 @@
 -- The group of a name, by its serial number.
-use Rattle.std.proofs.Common.{◌≡◌, ℕ, ◌==◌, ◌+◌, ◌<◌, ◌≤◌, ◌^◌, Bool, true, false, cond, ◌&&◌, List, [], ◌∷◌, ◌++◌, Option, Some, None, is_some, refl, sym, ap, ◌∙◌, arith}
-use Rattle.std.specs.Prelude.{find}
-use Rattle.std.specs.BTreeMap.{is_at, insert_entry}
-use Rattle.std.specs.List.{list_any, AllByRecursion}
-use Rattle.std.specs.List.Sorted.{IsStrictlySortedBy}
-use Rattle.std.specs.Map.{keys_of, values_of, remove_entry}
-use Rattle.std.specs.Option.{option_map_or}
-use Rattle.std.specs.Ordering.{nat_cmp}
-use Rattle.std.specs.Str.{bytes_eq}
-use Rattle.std.proofs.lemmas.Bool.{true≢false, false≢true}
-use Rattle.std.proofs.lemmas.Bool.Decides.{nat_tests}
-use Rattle.std.proofs.lemmas.List.{map-append}
-use Rattle.std.proofs.lemmas.Slice.Eq.{bytes_eq-Decides}
-use Rattle.ele_lists.specs.Lists.{update_first, remove_first}
-use Rattle.ele_lists.specs.declared.index.Index.{Index}
-use Rattle.ele_lists.specs.Index.{has}
-use Rattle.ele_lists.specs.Serial.{value_at}
-use Rattle.ele_lists.proofs.Edits.{all-push, all-weaker, not_found}
-use Rattle.ele_lists.proofs.Cuts.{update_first-unfound, remove_first-unfound}
-use Rattle.ele_lists.proofs.Serials.{pushed, not_yet, not_true, all_keys_without}
-use Rattle.ele_world.specs.declared.rows.GroupRow.{GroupRow}
-use Rattle.ele_world.specs.GroupRows.{is_group, is_member, new_group}
-use Rattle.ele_groups.specs.Kept.{AreKept, ArePlaced, changed_at, has_name, has_file}
+use Rattle.ele_groups.proofs.Basics.{◌≡◌, ℕ, ◌==◌, ◌+◌, ◌<◌, ◌≤◌, ◌^◌, Bool, true, false, cond, ◌&&◌, List, [], ◌∷◌, ◌++◌, Option, Some, None, is_some, refl, sym, ap, ◌∙◌, arith, find, is_at, insert_entry, list_any, AllByRecursion, IsStrictlySortedBy, keys_of, values_of, remove_entry, option_map_or, nat_cmp, bytes_eq, true≢false, false≢true, nat_tests, map-append, bytes_eq-Decides, update_first, remove_first, Index, has, value_at, all-push, all-weaker, not_found, update_first-unfound, remove_first-unfound, pushed, not_yet, not_true, all_keys_without}
+use Rattle.ele_groups.proofs.Words.{GroupRow, is_group, is_member, new_group, AreKept, ArePlaced, changed_at, has_name, has_file}
 use Rattle.ele_groups.proofs.Changed.{Entries, IsOne, one, any_value, no_value, changed_keys, changed_same, same_serial}
 
 pub none_any : (p : GroupRow → Bool) (rows : List GroupRow) → AllByRecursion (λ row. p row ≡ false) rows → list_any p rows ≡ false
@@ -93,10 +72,7 @@ module _ (es : Entries) (made : ℕ) (number : List ℕ → Option ℕ) (places 
       by (Some s) is = sym (any_value (is_group name) es s (kept.named.numbered name s is))
 
     pub unfound : list_any (is_group name) (values_of es) ≡ false → number name ≡ None
-    unfound none = by (number name) refl where
-      by : (o : Option ℕ) → number name ≡ o → o ≡ None
-      by None is = refl
-      by (Some s) is = absurd (true≢false (ap is_some (sym is) ∙ has_group_is ∙ none))
+    unfound none = grind (arith, nat_tests, true≢false, is_some, has_group_is)
 
   -- a group changed that keeps its name
   pub kept_changed : (s : ℕ) (f : GroupRow → GroupRow) (to : Index ℕ) → ((n : List ℕ) (row : GroupRow) → is_group n (f row) ≡ is_group n row) → ArePlaced (value_at (changed_at s f es)) to → AreKept (changed_at s f es) made number to

@@ -1,17 +1,6 @@
 -- The groups of a file, by their serial numbers.
-use Rattle.std.proofs.Common.{◌≡◌, ℕ, ◌==◌, ◌<◌, ◌≤◌, ◌^◌, Bool, true, false, cond, ◌&&◌, ◌||◌, not, List, [], ◌∷◌, ◌++◌, Option, Some, None, refl, sym, ◌∙◌, arith, inl, inr}
-use Rattle.std.specs.BTreeMap.{is_at}
-use Rattle.std.specs.List.{list_any}
-use Rattle.std.specs.Ordering.{nat_cmp}
-use Rattle.std.proofs.lemmas.Bool.{false≢true}
-use Rattle.std.proofs.lemmas.Bool.Decides.{nat_tests}
-use Rattle.std.proofs.lemmas.List.Folds.{list_any-append}
-use Rattle.ele_lists.specs.declared.index.Index.{Index}
-use Rattle.ele_lists.specs.Index.{has, is_entry, IsLastOf}
-use Rattle.ele_lists.specs.Serial.{value_at}
-use Rattle.ele_world.specs.declared.rows.GroupRow.{GroupRow}
-use Rattle.ele_world.specs.GroupRows.{adds}
-use Rattle.ele_groups.specs.Kept.{ArePlaced, IsLastBy, has_file, is_place_of, changed_at}
+use Rattle.ele_groups.proofs.Basics.{◌≡◌, ℕ, ◌==◌, ◌<◌, ◌≤◌, ◌^◌, Bool, true, false, cond, ◌&&◌, ◌||◌, not, List, [], ◌∷◌, ◌++◌, Option, Some, None, refl, sym, ◌∙◌, arith, inl, inr, is_at, list_any, nat_cmp, false≢true, nat_tests, list_any-append, Index, has, is_entry, IsLastOf, value_at}
+use Rattle.ele_groups.proofs.Words.{GroupRow, adds, ArePlaced, IsLastBy, has_file, is_place_of, changed_at}
 use Rattle.ele_groups.proofs.Changed.{changed_here, changed_elsewhere}
 
 entry : (file s q r t : ℕ) → is_entry nat_cmp file s s q r t ≡ ((s == t) && (r == t) && (file == q))
@@ -131,17 +120,7 @@ pub left_more : (file s : ℕ) (files : List ℕ) (first mid new : Index ℕ)
     → ((q r t : ℕ) → has nat_cmp mid q r t ≡ (has nat_cmp first q r t && not (is_place_of files s q r t)))
     → ((q r t : ℕ) → has nat_cmp new q r t ≡ cond (is_entry nat_cmp file s s q r t) false (has nat_cmp mid q r t))
     → (q r t : ℕ) → has nat_cmp new q r t ≡ (has nat_cmp first q r t && not (is_place_of (files ++ file ∷ []) s q r t))
-left_more file s files first mid new left changed q r t =
-    changed q r t ∙ rw (left q r t, entry file s q r t, list_any-append (λ member. member == q) files (file ∷ [])) (cases (s == t) (r == t) (file == q) (list_any (λ member. member == q) files) (has nat_cmp first q r t)) where
-      cases : (g r f m h : Bool) → cond (g && r && f) false (h && not (g && r && m)) ≡ (h && not (g && r && (m || (f || false))))
-      cases false r f m h = refl
-      cases true false f m h = refl
-      cases true true true true true = refl
-      cases true true true true false = refl
-      cases true true true false true = refl
-      cases true true true false false = refl
-      cases true true false true h = refl
-      cases true true false false h = refl
+left_more file s files first mid new left changed q r t = grind (arith, nat_tests, left, entry, list_any-append, list_any, has, nat_cmp, not)
 
 module _ (at : ℕ → Option GroupRow) (places : Index ℕ) (placed : ArePlaced at places) (file : ℕ) where
   -- a group of the file stands at its place

@@ -1,19 +1,6 @@
 -- Marks and their times, after a change, and within bounds.
-use Rattle.std.proofs.Common.{◌≡◌, ℕ, ◌==◌, Bool, true, false, cond, not, ◌||◌, ◌&&◌, List, [], ◌∷◌, ◌++◌, Option, Some, None, is_some, refl, sym, ap, ◌∙◌, arith, ◌+◌}
-use Rattle.std.specs.Prelude.{min, max, nat_lt}
-use Rattle.std.specs.BTreeMap.{is_at}
-use Rattle.std.specs.BTreeSet.{BTreeSet, contains}
-use Rattle.std.specs.List.{list_any}
-use Rattle.std.specs.Option.{MatchOption}
-use Rattle.std.specs.Ordering.{nat_cmp, is_gt}
-use Rattle.std.specs.declared.cmp.Ordering.TheVariants.{Less}
-use Rattle.std.proofs.lemmas.Bool.{true≢false, false≢true}
-use Rattle.std.proofs.lemmas.Bool.Decides.{nat_tests}
-use Rattle.std.proofs.lemmas.List.Folds.{list_any-append}
-use Rattle.ele_lists.specs.Lists.{remove_first}
-use Rattle.ele_lists.proofs.Edits.{later-push, later-remove_first, all-none}
-use Rattle.ele_world.specs.GroupRows.{covers_moment}
-use Rattle.ele_groups.specs.Timed.{AreTimed}
+use Rattle.ele_groups.proofs.Basics.{◌≡◌, ℕ, ◌==◌, Bool, true, false, cond, not, ◌||◌, ◌&&◌, List, [], ◌∷◌, ◌++◌, Option, Some, None, is_some, refl, sym, ap, ◌∙◌, arith, ◌+◌, min, max, nat_lt, is_at, BTreeSet, contains, list_any, MatchOption, nat_cmp, is_gt, Less, true≢false, false≢true, nat_tests, list_any-append, remove_first, later-push, later-remove_first, all-none}
+use Rattle.ele_groups.proofs.Words.{covers_moment, AreTimed}
 use Rattle.ele_groups.proofs.Apart.{is_same, gone, others}
 
 same_at : (k t : ℕ) → is_at (nat_cmp k) t ≡ (k == t)
@@ -33,13 +20,7 @@ module _ (made : List ℕ) (times new : BTreeSet ℕ) (timed : AreTimed made tim
   }
 
   pub timed_without : (k : ℕ) → k ≡ mark → ((t : ℕ) → contains nat_cmp new t ≡ cond (is_at (nat_cmp k) t) false (contains nat_cmp times t)) → AreTimed (remove_first (λ x. x == mark) made) new
-  timed_without k is changed = record {
-    apart = later-remove_first (λ x. x == mark) (λ x y. (x == y) ≡ false) made timed.apart;
-    same = λ t. changed t ∙ rw (is, same_at mark t) (elim (mark == t) as (λ b. (mark == t) ≡ b → cond b false (contains nat_cmp times t) ≡ list_any (λ x. x == t) (remove_first (λ x. x == mark) made)) [
-      | true ↦ λ e. let same = is_same mark t e in rw (← same) (sym (gone mark made timed.apart))
-      | false ↦ λ e. timed.same t ∙ sym (others mark t made e)
-    ] refl);
-  }
+  timed_without k is changed = grind (arith, nat_tests, later-remove_first, same_at, contains, nat_cmp, list_any, remove_first, is_same, gone, others)
 
 module _ (p : ℕ → Bool) where
   any_at : (k : ℕ) (xs : List ℕ) → list_any (λ x. x == k) xs ≡ true → p k ≡ true → list_any p xs ≡ true

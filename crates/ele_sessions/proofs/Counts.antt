@@ -1,14 +1,7 @@
 -- How many handles read a thing, before and after a handle comes or goes.
-use Rattle.std.proofs.Common.{◌≡◌, ℕ, ◌+◌, Bool, cond, nat_lt, List, [], ◌∷◌, ◌++◌, Some, refl, sym, ap, ◌∙◌, append-nil}
-use Rattle.std.specs.List.{count_by, sum_by, list_any, find}
-use Rattle.ele_lists.specs.Lists.{remove_first}
-use Rattle.ele_lists.proofs.Edits.{all-any}
-use Rattle.ele_lists.proofs.Sums.{sum_by-around, sum_by-remove_first, sum_by-same, any-count}
-use Rattle.ele_sessions.specs.Kept.{reads_eq, reading}
-use Rattle.ele_sessions.specs.Sessions.{writes, reads_version, is_handle, is_writer, is_reader}
-use Rattle.ele_sessions.specs.declared.entries.OpenHandle.{OpenHandle}
-use Rattle.ele_sessions.specs.declared.reads.Reads.{Reads}
-use Rattle.ele_sessions.specs.declared.reads.Reads.TheVariants.{Draft, Version}
+use Rattle.ele_sessions.proofs.Basics.{◌≡◌, ℕ, ◌+◌, Bool, cond, nat_lt, List, [], ◌∷◌, ◌++◌, Some, refl, sym, ap, ◌∙◌, append-nil, count_by, sum_by, list_any, find, remove_first, all-any, sum_by-around, sum_by-remove_first, sum_by-same, any-count}
+use Rattle.ele_sessions.proofs.Words.{reads_eq, reading, writes, reads_version, is_handle, is_writer, is_reader, OpenHandle, Reads, Version}
+use Rattle.ele_sessions.specs.declared.reads.Reads.TheVariants.{Draft}
 
 abbrev pub one : Reads → OpenHandle → ℕ
 one what h = cond (reads_eq h.reads what) 1 0

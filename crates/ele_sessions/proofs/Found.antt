@@ -1,21 +1,6 @@
 -- The entry that a search found, as the list of drafts shows it.
-use Rattle.std.proofs.Common.{◌≡◌, ℕ, true, false, length, eqb, List, get_or, Some, None, Result, Ok, Err, refl, sym, ap, ◌∙◌}
-use Rattle.std.proofs.Math.ListN.{set}
-use Rattle.std.proofs.Math.Seq.{map-set_same}
-use Rattle.std.specs.List.{find, remove, insert, list_any, position}
-use Rattle.std.specs.Option.{unwrap_or}
-use Rattle.std.specs.Result.{OnErr, IfErr}
-use Rattle.ele_lists.specs.Keys.{has_key, is_behind}
-use Rattle.std.proofs.lemmas.Bool.{false≢true}
-use Rattle.ele_blocks.specs.Layout.{Layout}
-use Rattle.ele_sessions.specs.declared.entries.Entry.{Entry}
-use Rattle.ele_sessions.specs.declared.entries.OpenHandle.{OpenHandle}
-use Rattle.ele_sessions.specs.Changes.{RewritesDraft, rewritten_by, has_length}
-use Rattle.ele_sessions.specs.Inside.{IsAt, IsGap, drafts_of, draft_in, file_in, number_in}
-use Rattle.ele_lists.specs.Lists.{remove_first, insert_before}
-use Rattle.ele_sessions.specs.Sessions.{Draft, is_draft, is_draft_after, is_handle}
-use Rattle.ele_lists.proofs.Places.{find-position, find-none}
-use Rattle.ele_lists.proofs.ShownAt.{find-shown, set-shown, remove-shown, any-shown, any-missing, find-missing, insert-shown, remove-place}
+use Rattle.ele_sessions.proofs.Basics.{◌≡◌, ℕ, true, false, length, eqb, List, get_or, Some, None, Result, Ok, Err, refl, sym, ap, ◌∙◌, set, map-set_same, find, remove, insert, list_any, position, unwrap_or, OnErr, IfErr, has_key, is_behind, false≢true, remove_first, insert_before, find-position, find-none, find-shown, set-shown, remove-shown, any-shown, any-missing, find-missing, insert-shown, remove-place}
+use Rattle.ele_sessions.proofs.Words.{Layout, Entry, OpenHandle, RewritesDraft, rewritten_by, has_length, IsAt, IsGap, drafts_of, draft_in, file_in, number_in, Draft, is_draft, is_draft_after, is_handle}
 
 -- what holds anyway, said of an error
 pub on_err : {T E : Type 0} (r : Result T E) (P : Type 0) → P → OnErr r P

@@ -1,23 +1,6 @@
 -- That the fields keep their order and counts when a handle comes or goes.
-use Rattle.std.proofs.Common.{◌≡◌, ℕ, ◌+◌, ◌-◌, true, false, MatchBool, Ok, cond, nat_lt, List, [], ◌∷◌, ◌++◌, Option, Some, None, refl, sym, ap, ◌∙◌, arith}
-use Rattle.std.specs.List.{list_any, find}
-use Rattle.std.proofs.lemmas.List.{length-append}
-use Rattle.std.proofs.lemmas.Bool.Decides.{nat_tests}
-use Rattle.ele_lists.specs.Lists.{remove_first}
-use Rattle.ele_lists.specs.Tally.{counted}
-use Rattle.ele_lists.specs.declared.tally.Tally.{Tally}
-use Rattle.ele_lists.proofs.Cuts.{remove_first-unfound}
-use Rattle.ele_lists.proofs.Edits.{all-not_found, length-remove_first-le}
-use Rattle.ele_blocks.specs.Changes.{IsResized}
-use Rattle.ele_blocks.specs.Layout.{Layout}
-use Rattle.ele_blocks.specs.Store.{Store}
-use Rattle.ele_sessions.specs.Changes.{RewritesDraft, Resizes, has_length}
-use Rattle.ele_sessions.specs.Closes.{left_drafts}
-use Rattle.ele_sessions.specs.Kept.{Keeps, reads_eq, reading}
-use Rattle.ele_sessions.specs.Orderly.{AreOrderly}
-use Rattle.ele_sessions.specs.Sessions.{Draft, AllSessions, is_handle, is_writer, is_reader, is_draft, reads_by, file_by}
-use Rattle.ele_sessions.specs.declared.entries.OpenHandle.{OpenHandle}
-use Rattle.ele_sessions.specs.declared.reads.Reads.{Reads}
+use Rattle.ele_sessions.proofs.Basics.{◌≡◌, ℕ, ◌+◌, ◌-◌, true, Ok, cond, nat_lt, List, [], ◌∷◌, ◌++◌, Option, Some, None, refl, sym, ap, ◌∙◌, arith, list_any, find, length-append, nat_tests, remove_first, counted, Tally, remove_first-unfound, all-not_found, length-remove_first-le}
+use Rattle.ele_sessions.proofs.Words.{Layout, Store, RewritesDraft, Resizes, has_length, left_drafts, Keeps, reads_eq, reading, AreOrderly, Draft, AllSessions, is_handle, is_writer, is_reader, is_draft, reads_by, file_by, OpenHandle, Reads}
 use Rattle.ele_sessions.specs.declared.reads.Reads.TheVariants as reads
 use Rattle.ele_sessions.proofs.Counts.{reading-push, reading-left, any-writer, any-reader}
 use Rattle.ele_sessions.proofs.Orders.{reader_left, writer_left, its_draft, rewritten}
@@ -36,17 +19,10 @@ read_by hs number what is = by (find (is_handle number) hs) refl where
 
 -- a file that is written through the handle
 pub written_by : (hs : List OpenHandle) (number file : ℕ) → Ok file ≡ file_by hs number → Some (reads.Draft file) ≡ reads_by hs number
-written_by hs number file is = by (reads_by hs number) refl where
-  by : (o : Option Reads) → reads_by hs number ≡ o → Some (reads.Draft file) ≡ reads_by hs number
-  by None e = absurd (let h = rw e at is in cc)
-  by (Some (reads.Draft f)) e = let h = rw e at is in let same : file ≡ f = cc in ap (λ n. Some (reads.Draft n)) same ∙ sym e
-  by (Some (reads.Version f n)) e = absurd (let h = rw e at is in cc)
+written_by hs number file is = grind (arith, nat_tests, is, reads_by)
 
 pub none_left : (hs : List OpenHandle) (number : ℕ) → None ≡ reads_by hs number → remove_first (is_handle number) hs ≡ hs
-none_left hs number none = remove_first-unfound (is_handle number) hs (all-not_found (is_handle number) hs (by (find (is_handle number) hs) refl)) where
-  by : (o : Option OpenHandle) → find (is_handle number) hs ≡ o → find (is_handle number) hs ≡ None
-  by None e = e
-  by (Some h) e = absurd (let h' = rw e at none in cc)
+none_left hs number none = grind (arith, nat_tests, remove_first-unfound, is_handle, all-not_found, find)
 
 module _ (s : AllSessions) (counts : Tally Reads) (keeps : Keeps s counts) where
   pub entered_keeps : (h : OpenHandle) (ds : List Draft) (ready counts' : Tally Reads) → AreOrderly (record { drafts = ds; handles = s.handles ++ h ∷ []; opened = s.opened + 1 }) → ((what : Reads) → counted reads_eq ready what ≡ counted reads_eq counts what) → ((what : Reads) → counted reads_eq counts' what ≡ counted reads_eq ready what + cond (reads_eq h.reads what) 1 0) → Keeps (record { drafts = ds; handles = s.handles ++ h ∷ []; opened = s.opened + 1 }) counts'
@@ -64,10 +40,7 @@ module _ (s : AllSessions) (counts : Tally Reads) (keeps : Keeps s counts) where
   rewritten_keeps ds file Made h = rw h.made (record { orderly = rewritten s keeps.orderly file h.layout; few = keeps.few; counted = keeps.counted })
 
   pub resized_keeps : (t u : Store) (ds : List Draft) (file size : ℕ) → Resizes t u s.drafts ds file size → Keeps (record s { drafts = ds }) counts
-  resized_keeps t u ds file size = elim (has_length size (find (is_draft file) s.drafts)) as (λ b. MatchBool b ((ds ≡ s.drafts) × (u ≡ t)) (RewritesDraft s.drafts ds file (λ was. IsResized t u was.number size was.layout)) → Keeps (record s { drafts = ds }) counts) [
-    | true ↦ λ h. rw h.0 keeps
-    | false ↦ λ h. rewritten_keeps ds file (λ was. IsResized t u was.number size was.layout) h
-  ]
+  resized_keeps t u ds file size = grind (arith, nat_tests, has_length, find, is_draft, rewritten_keeps)
 
   -- one handle fewer
   module _ (number : ℕ) (what : Reads) (read : Some what ≡ reads_by s.handles number) where
@@ -85,11 +58,7 @@ module _ (s : AllSessions) (counts : Tally Reads) (keeps : Keeps s counts) where
       counted_left other = omega (arith, fewer other, keeps.counted other, fewer_by other)
 
       left_keeps : (ds : List Draft) → AreOrderly (record s { drafts = ds; handles = rest }) → Keeps (record s { drafts = ds; handles = rest }) counts'
-      left_keeps ds orderly = record {
-        orderly = orderly;
-        few = omega (arith, length-remove_first-le (is_handle number) s.handles, keeps.few);
-        counted = counted_left;
-      }
+      left_keeps ds orderly = grind (arith, nat_tests, length-remove_first-le, is_handle, counted, counted_left)
 
       pub reader_keeps : (file version : ℕ) → what ≡ reads.Version file version → Keeps (record s { handles = rest }) counts'
       reader_keeps file version is = left_keeps s.drafts (reader_left s keeps.orderly number its.handle its.found file version (its.is ∙ is))

@@ -1,3 +1,5 @@
+pub mod Basics
+pub mod Words
 pub mod Found
 pub mod Counts
 pub mod Orders

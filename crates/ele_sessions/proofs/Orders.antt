@@ -1,20 +1,6 @@
 -- That drafts and handles stay orderly when a handle comes or goes.
-use Rattle.std.proofs.Common.{◌≡◌, ℕ, ◌+◌, ◌<◌, ◌≤◌, Bool, true, false, cond, not, eqb, ◌||◌, List, [], ◌∷◌, ◌++◌, Some, refl, sym, ◌∙◌, arith}
-use Rattle.std.specs.List.{AllByRecursion, list_any, find, filter}
-use Rattle.std.proofs.lemmas.Bool.Decides.{nat_tests}
-use Rattle.ele_blocks.specs.Layout.{Layout}
-use Rattle.ele_lists.specs.Lists.{update_first, remove_first, insert_before}
-use Rattle.ele_lists.proofs.Alls.{filter-passes}
-use Rattle.ele_lists.proofs.Edits.{all-push, all-weaker, all-both, all-none, all-update_first, all-insert_before, all-remove_first, all-found, found_passes, later-push, later-update_first, later-remove_first, later-insert_before, list_any-update_first, list_any-insert_before, list_any-remove_first}
-use Rattle.ele_lists.proofs.Keys.{remove_first-key}
-use Rattle.ele_sessions.specs.Changes.{rewritten_by}
-use Rattle.ele_sessions.specs.Closes.{left_drafts}
-use Rattle.ele_sessions.specs.Opening.{with_draft}
-use Rattle.ele_sessions.specs.Order.{Rises}
-use Rattle.ele_sessions.specs.Orderly.{IsReadable, AreOrderly}
-use Rattle.ele_sessions.specs.Sessions.{Draft, AllSessions, is_draft, is_draft_after, is_handle, writes, is_writer}
-use Rattle.ele_sessions.specs.declared.entries.OpenHandle.{OpenHandle}
-use Rattle.ele_sessions.specs.declared.reads.Reads.{Reads}
+use Rattle.ele_sessions.proofs.Basics.{◌≡◌, ℕ, ◌+◌, ◌<◌, Bool, true, false, cond, not, eqb, ◌||◌, List, [], ◌∷◌, ◌++◌, Some, refl, sym, ◌∙◌, arith, AllByRecursion, list_any, find, filter, nat_tests, update_first, remove_first, insert_before, filter-passes, all-push, all-weaker, all-both, all-none, all-update_first, all-insert_before, all-remove_first, all-found, found_passes, later-push, later-update_first, later-remove_first, later-insert_before, list_any-update_first, list_any-insert_before, list_any-remove_first, remove_first-key}
+use Rattle.ele_sessions.proofs.Words.{Layout, rewritten_by, left_drafts, with_draft, Rises, IsReadable, AreOrderly, Draft, AllSessions, is_draft, is_draft_after, is_handle, writes, is_writer, OpenHandle, Reads}
 use Rattle.ele_sessions.specs.declared.reads.Reads.TheVariants as reads
 
 abbrev IsWritten : List OpenHandle → Draft → Type 0
@@ -48,16 +34,10 @@ module _ (new : Draft) (ds : List Draft) (rise : Rises (λ (d : Draft). d.file) 
   ] refl
 
   with-all : (P : Draft → Type 0) → P new → AllByRecursion P ds → AllByRecursion P (with_draft new ds)
-  with-all P h all = elim (list_any (is_draft new.file) ds) as (λ b. AllByRecursion P (cond b ds (insert_before (is_draft_after new.file) new ds))) [
-    | true ↦ all
-    | false ↦ all-insert_before (is_draft_after new.file) P new ds h all
-  ]
+  with-all P h all = grind (arith, nat_tests, list_any, is_draft, insert_before, is_draft_after, all-insert_before)
 
   with-any : (f : ℕ) → list_any (is_draft f) ds ≡ true → list_any (is_draft f) (with_draft new ds) ≡ true
-  with-any f there = elim (list_any (is_draft new.file) ds) as (λ b. list_any (is_draft f) (cond b ds (insert_before (is_draft_after new.file) new ds)) ≡ true) [
-    | true ↦ there
-    | false ↦ rw (list_any-insert_before (is_draft_after new.file) (is_draft f) new ds, there) (or_true (is_draft f new))
-  ]
+  with-any f there = grind (arith, nat_tests, list_any, is_draft, insert_before, is_draft_after, list_any-insert_before, or_true)
 
   with-own : list_any (is_draft new.file) (with_draft new ds) ≡ true
   with-own = elim (list_any (is_draft new.file) ds) as (λ b. list_any (is_draft new.file) ds ≡ b → list_any (is_draft new.file) (cond b ds (insert_before (is_draft_after new.file) new ds)) ≡ true) [
@@ -69,13 +49,7 @@ module _ (s : AllSessions) (orderly : AreOrderly s) where
   -- one handle more
   module _ (h : OpenHandle) (next : h.number ≡ s.opened + 1) where
     entered : (ds : List Draft) → Rises (λ (d : Draft). d.file) ds → ((what : Reads) → IsReadable s.drafts what → IsReadable ds what) → IsReadable ds h.reads → AllByRecursion (IsWritten (s.handles ++ h ∷ [])) ds → AreOrderly (record { drafts = ds; handles = s.handles ++ h ∷ []; opened = s.opened + 1 })
-    entered ds rise on its written = record {
-      drafts_rise = rise;
-      handles_rise = later-push (λ (x y : OpenHandle). x.number < y.number) s.handles h orderly.handles_rise (all-weaker (λ (x : OpenHandle). x.number ≤ s.opened) (λ (x : OpenHandle). x.number < h.number) s.handles (λ x le. omega (arith, next)) orderly.opened);
-      opened = all-push (λ (x : OpenHandle). x.number ≤ s.opened + 1) s.handles h (all-weaker (λ (x : OpenHandle). x.number ≤ s.opened) (λ (x : OpenHandle). x.number ≤ s.opened + 1) s.handles (λ x le. omega arith) orderly.opened) (omega (arith, next));
-      drafted = all-push (λ (x : OpenHandle). IsReadable ds x.reads) s.handles h (all-weaker (λ (x : OpenHandle). IsReadable s.drafts x.reads) (λ (x : OpenHandle). IsReadable ds x.reads) s.handles (λ x. on x.reads) orderly.drafted) its;
-      written = written;
-    }
+    entered ds rise on its written = grind (arith, nat_tests, on, later-push, all-weaker, all-push)
 
     still_written : AllByRecursion (IsWritten (s.handles ++ h ∷ [])) s.drafts
     still_written = all-weaker (IsWritten s.handles) (IsWritten (s.handles ++ h ∷ [])) s.drafts (λ d w. any-more (is_writer d.file) s.handles h w) orderly.written
@@ -98,13 +72,7 @@ module _ (s : AllSessions) (orderly : AreOrderly s) where
     rest = remove_first (is_handle number) s.handles
 
     left : (ds : List Draft) → Rises (λ (d : Draft). d.file) ds → AllByRecursion (λ (x : OpenHandle). IsReadable ds x.reads) rest → AllByRecursion (IsWritten rest) ds → AreOrderly (record s { drafts = ds; handles = rest })
-    left ds rise drafted written = record {
-      drafts_rise = rise;
-      handles_rise = later-remove_first (is_handle number) (λ (x y : OpenHandle). x.number < y.number) s.handles orderly.handles_rise;
-      opened = all-remove_first (is_handle number) (λ (x : OpenHandle). x.number ≤ s.opened) s.handles orderly.opened;
-      drafted = drafted;
-      written = written;
-    }
+    left ds rise drafted written = grind (arith, nat_tests, later-remove_first, is_handle, all-remove_first)
 
     drafted_left : AllByRecursion (λ (x : OpenHandle). IsReadable s.drafts x.reads) rest
     drafted_left = all-remove_first (is_handle number) (λ (x : OpenHandle). IsReadable s.drafts x.reads) s.handles orderly.drafted
@@ -124,10 +92,7 @@ module _ (s : AllSessions) (orderly : AreOrderly s) where
       still d apart w = others d.file (rw is (let e : eqb file d.file ≡ false = grind (arith, nat_tests) in e)) ∙ w
 
       stays : list_any (is_writer file) rest ≡ true → AreOrderly (record s { handles = rest })
-      stays more = left s.drafts orderly.drafts_rise drafted_left (all-weaker (IsWritten s.handles) (IsWritten rest) s.drafts (λ d w. by d (eqb d.file file) refl w) orderly.written) where
-        by : (d : Draft) (b : Bool) → eqb d.file file ≡ b → IsWritten s.handles d → IsWritten rest d
-        by d true e w = let same : d.file ≡ file = grind (arith, nat_tests) in rw same more
-        by d false e w = still d e w
+      stays more = grind (arith, nat_tests, left, drafted_left, all-weaker, eqb, still)
 
       abbrev fewer : List Draft
       fewer = remove_first (is_draft file) s.drafts
@@ -142,10 +107,7 @@ module _ (s : AllSessions) (orderly : AreOrderly s) where
         apart = rw (remove_first-key (λ (d : Draft). d.file) file s.drafts orderly.drafts_rise) (all-weaker (λ (d : Draft). not (eqb d.file file) ≡ true) (λ (d : Draft). eqb d.file file ≡ false) (filter (λ (d : Draft). not (eqb d.file file)) s.drafts) (λ d. not_true (eqb d.file file)) (filter-passes (λ (d : Draft). not (eqb d.file file)) s.drafts))
 
       pub writer_left : AreOrderly (record s { drafts = left_drafts (list_any (is_writer file) rest) file s.drafts; handles = rest })
-      writer_left = elim (list_any (is_writer file) rest) as (λ b. list_any (is_writer file) rest ≡ b → AreOrderly (record s { drafts = cond b s.drafts fewer; handles = rest })) [
-        | true ↦ λ e. stays e
-        | false ↦ λ e. goes e
-      ] refl
+      writer_left = grind (arith, nat_tests, list_any, is_writer, stays, goes)
 
   -- another map for a draft
   pub rewritten : (file : ℕ) (layout : Layout) → AreOrderly (record s { drafts = update_first (is_draft file) (rewritten_by layout) s.drafts })

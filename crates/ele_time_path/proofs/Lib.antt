@@ -1,3 +1,5 @@
+pub mod Basics
+pub mod Words
 pub mod Names
 pub mod Pieces
 pub mod Spelled

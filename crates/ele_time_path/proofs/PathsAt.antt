@@ -1,15 +1,6 @@
 -- Words of paths at a moment: each one path at one moment, or one fault.
-use Rattle.std.proofs.Common.{◌≡◌, ℕ, get_or, ◌∷◌, List, refl, sym, ap, subst, ◌∙◌, arith, Option, Some, None, Result, Ok, Err}
-use Rattle.ele_moment.specs.Spelled.{SpellsMoment}
-use Rattle.ele_time_path.specs.declared.fault.PathAtFault.{PathAtFault}
-use Rattle.ele_time_path.specs.declared.fault.PathAtFault.TheVariants.{Path, Numbered}
-use Rattle.ele_time_path.specs.declared.path_at.PathAt.{PathAt}
-use Rattle.ele_time_path.specs.declared.tagged.Tag.TheVariants.{Now}
-use Rattle.ele_time_path.specs.declared.tagged.TaggedPath.{TaggedPath}
-use Rattle.ele_time_path.specs.Path.{SpellsPath}
-use Rattle.ele_time_path.specs.Tagged.{SpellsTag}
-use Rattle.ele_time_path.specs.TaggedFault.{path_part, tag_part, of_tag}
-use Rattle.ele_time_path.specs.PathAt.{tag_at, SpellsPathAt, IsNumbered, IsMomentFault, IsPathAtFault}
+use Rattle.ele_time_path.proofs.Basics.{◌≡◌, ℕ, get_or, ◌∷◌, List, refl, sym, ap, subst, ◌∙◌, arith, Option, Some, None, Result, Ok, Err}
+use Rattle.ele_time_path.proofs.Words.{SpellsMoment, PathAtFault, Path, Numbered, PathAt, Now, TaggedPath, SpellsPath, SpellsTag, path_part, tag_part, of_tag, tag_at, SpellsPathAt, IsNumbered, IsMomentFault, IsPathAtFault}
 use Rattle.ele_time_path.proofs.Spelled.{one_path}
 use Rattle.ele_time_path.proofs.Tags.{spelled_parts}
 use Rattle.ele_time_path.proofs.TaggedFaults.{tagged_faultless, one_tagged_fault}

@@ -1,16 +1,6 @@
 -- Words and their pieces.
-use Rattle.std.proofs.Common.{◌≡◌, eqb, ℕ, ◌+◌, ◌<◌, ◌≤◌, leb, true, false, List, [], ◌∷◌, ◌++◌, length, take, drop, get_or, refl, sym, ap, ◌∙◌, arith, Some, None, length-append}
-use Rattle.std.specs.Prelude.{All, slice_get}
-use Rattle.std.specs.List.{filter_map, enumerate_from, join_with_byte, cons_option}
-use Rattle.std.proofs.lemmas.Bool.Decides.{nat_tests}
-use Rattle.std.proofs.lemmas.List.{append-nil, take-append-drop, drop_more}
-use Rattle.std.proofs.lemmas.List.Elements.{All-head, All-tail, All-weaker, All-push}
-use Rattle.std.proofs.lemmas.List.Sums.{AllPass-from_list_all}
-use Rattle.std.proofs.lemmas.List.Splits.{slice_split_none, slice_split_at, length-slice_split, join_with_byte-slice_split}
-use Rattle.ele_moment.specs.Name.{IsName, is_name_byte}
-use Rattle.ele_time_path.specs.declared.fault.PathFault.{PathFault}
-use Rattle.ele_time_path.specs.Path.{IsPath, path_text, pieces_of}
-use Rattle.ele_time_path.specs.FirstFault.{piece_fault, piece_faults}
+use Rattle.ele_time_path.proofs.Basics.{◌≡◌, eqb, ℕ, ◌+◌, ◌<◌, ◌≤◌, leb, true, false, List, [], ◌∷◌, ◌++◌, length, take, drop, get_or, refl, sym, ap, ◌∙◌, arith, Some, None, length-append, All, slice_get, filter_map, enumerate_from, join_with_byte, cons_option, nat_tests, append-nil, take-append-drop, drop_more, All-head, All-tail, All-weaker, All-push, AllPass-from_list_all, slice_split_none, slice_split_at, length-slice_split, join_with_byte-slice_split}
+use Rattle.ele_time_path.proofs.Words.{IsName, is_name_byte, PathFault, IsPath, path_text, pieces_of, piece_fault, piece_faults}
 use Rattle.ele_time_path.proofs.Names.{is_name-decides}
 
 abbrev pub faults_from : ℕ → List (List ℕ) → List PathFault

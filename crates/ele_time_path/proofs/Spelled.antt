@@ -1,14 +1,6 @@
 -- What a word spells.
-use Rattle.std.proofs.Common.{◌≡◌, eqb, ℕ, ◌-◌, ◌≤◌, get_or, take, drop, subst, List, [], ◌∷◌, ◌++◌, length, refl, sym, ap, ◌∙◌, arith, ◌⊎◌, inl, inr, Some, None}
-use Rattle.std.specs.Prelude.{slice_get, All}
-use Rattle.std.proofs.lemmas.List.{append-nil, take_all}
-use Rattle.std.proofs.lemmas.List.Elements.{All-head}
-use Rattle.std.proofs.lemmas.List.Splits.{length-slice_split}
-use Rattle.ele_moment.specs.Name.{IsName}
-use Rattle.ele_time_path.specs.declared.fault.PathFault.{PathFault}
-use Rattle.ele_time_path.specs.declared.fault.PathFault.TheVariants.{NoMemory}
-use Rattle.ele_time_path.specs.Path.{IsPath, SpellsPath, path_text, pieces_of}
-use Rattle.ele_time_path.specs.FirstFault.{piece_faults, path_fault}
+use Rattle.ele_time_path.proofs.Basics.{◌≡◌, eqb, ℕ, ◌-◌, ◌≤◌, get_or, take, drop, subst, List, [], ◌∷◌, ◌++◌, length, refl, sym, ap, ◌∙◌, arith, ◌⊎◌, inl, inr, Some, None, slice_get, All, append-nil, take_all, All-head, length-slice_split}
+use Rattle.ele_time_path.proofs.Words.{IsName, PathFault, NoMemory, IsPath, SpellsPath, path_text, pieces_of, piece_faults, path_fault}
 use Rattle.ele_time_path.proofs.Pieces.{names_pass, pieces_of_text, text_of_pieces, faults_from}
 
 -- pieces that are a path are what the word spells

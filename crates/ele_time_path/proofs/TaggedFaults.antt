@@ -1,13 +1,6 @@
 -- The faults of words of paths with tags: none where one is spelled, and else one.
-use Rattle.std.proofs.Common.{◌≡◌, ℕ, get_or, ◌∷◌, List, sym, ap, subst, ◌∙◌, arith, Some}
-use Rattle.ele_time_path.specs.declared.fault.PathFault.{PathFault}
-use Rattle.ele_time_path.specs.declared.tagged.Tag.{Tag}
-use Rattle.ele_time_path.specs.declared.tagged.Tag.TheVariants.{Now, At, Number}
-use Rattle.ele_time_path.specs.declared.tagged.TaggedPath.{TaggedPath}
-use Rattle.ele_time_path.specs.FirstFault.{path_fault}
-use Rattle.ele_time_path.specs.Path.{SpellsPath}
-use Rattle.ele_time_path.specs.Tagged.{SpellsTag, SpellsTaggedPath}
-use Rattle.ele_time_path.specs.TaggedFault.{path_part, tag_part, IsTagFault, IsTaggedFault, of_path, of_tag, no_moment, no_number}
+use Rattle.ele_time_path.proofs.Basics.{◌≡◌, ℕ, get_or, ◌∷◌, List, sym, ap, subst, ◌∙◌, arith, Some}
+use Rattle.ele_time_path.proofs.Words.{PathFault, Tag, Now, At, Number, TaggedPath, path_fault, SpellsPath, SpellsTag, SpellsTaggedPath, path_part, tag_part, IsTagFault, IsTaggedFault, of_path, of_tag, no_moment, no_number}
 use Rattle.ele_time_path.proofs.Spelled.{spelled_faultless}
 use Rattle.ele_time_path.proofs.Tags.{spelled_parts}
 

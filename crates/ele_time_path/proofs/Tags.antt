@@ -1,39 +1,18 @@
 -- Words of paths with tags, cut at their first marks.
-use Rattle.std.proofs.Common.{◌≡◌, ℕ, ◌+◌, ◌≤◌, true, false, not, cond, nat_lt, List, [], ◌∷◌, ◌++◌, length, refl, sym, ap, subst, ◌∙◌, arith, suc, Some, None, Option, Ok, Err, Result, inl, inr, ◌⊎◌}
-use Rattle.std.specs.Prelude.{All}
-use Rattle.std.specs.List.{position, position_or_len}
-use Rattle.std.proofs.lemmas.Bool.Decides.{nat_tests}
-use Rattle.std.proofs.lemmas.List.Elements.{All-head, All-tail, All-weaker, All-append, All-cons}
-use Rattle.std.proofs.lemmas.List.Sums.{AllPass-from_list_all, prefix_len-le-length}
-use Rattle.ele_moment.specs.Name.{IsName, is_name_byte}
-use Rattle.ele_moment.specs.Number.{SpellsNumber}
-use Rattle.ele_moment.specs.Spelled.{SpellsMoment}
-use Rattle.ele_time_path.specs.declared.fault.PathFault.{PathFault}
-use Rattle.ele_time_path.specs.declared.fault.PathFault.TheVariants.{BadMoment, BadPath, NoMemory}
-use Rattle.ele_time_path.specs.declared.tagged.Tag.{Tag}
-use Rattle.ele_time_path.specs.declared.tagged.Tag.TheVariants.{Now, At, Number}
-use Rattle.ele_time_path.specs.declared.tagged.TaggedPath.{TaggedPath}
-use Rattle.ele_time_path.specs.Begins.{is_tag_text}
-use Rattle.ele_time_path.specs.FirstFault.{path_fault}
-use Rattle.ele_time_path.specs.Path.{SpellsPath, path_text}
-use Rattle.ele_time_path.specs.Tagged.{is_mark, SpellsTag, SpellsTaggedPath}
-use Rattle.ele_time_path.specs.TaggedFault.{path_part, tag_part, IsTagFault, no_moment, no_number}
+use Rattle.ele_time_path.proofs.Basics.{◌≡◌, ℕ, ◌≤◌, true, false, not, nat_lt, List, [], ◌∷◌, ◌++◌, length, refl, sym, ap, subst, ◌∙◌, arith, suc, Some, None, Option, Ok, Err, Result, ◌⊎◌, All, position, position_or_len, nat_tests, All-head, All-tail, All-weaker, All-append, All-cons, AllPass-from_list_all, prefix_len-le-length}
+use Rattle.ele_time_path.proofs.Words.{IsName, is_name_byte, SpellsNumber, SpellsMoment, PathFault, BadMoment, BadPath, NoMemory, Tag, Now, At, Number, TaggedPath, is_tag_text, path_fault, SpellsPath, path_text, is_mark, SpellsTag, SpellsTaggedPath, path_part, tag_part, IsTagFault, no_moment, no_number}
 use Rattle.ele_time_path.proofs.Spelled.{one_path, no_other_fault}
 
 -- a word with no mark is all path
 pub unmarked : (word : List ℕ) → position is_mark word ≡ None → length word ≡ position_or_len is_mark word
-unmarked word none = all (position_or_len is_mark word) (length word) (prefix_len-le-length (λ b. not (is_mark b)) word) none where
-  all : (n m : ℕ) → n ≤ m → cond (nat_lt n m) (Some n) None ≡ None → m ≡ n
-  all n m le none = grind (arith, nat_tests)
+unmarked word none = grind (arith, nat_tests, position_or_len, is_mark, prefix_len-le-length, not, nat_lt)
 
 pub cut_fits : (word : List ℕ) → position_or_len is_mark word ≤ length word
 cut_fits word = prefix_len-le-length (λ b. not (is_mark b)) word
 
 -- a byte that is no mark belongs to the path
 unmarked_step : (byte : ℕ) (word : List ℕ) → is_mark byte ≡ false → (path_part (byte ∷ word) ≡ byte ∷ path_part word) × (tag_part (byte ∷ word) ≡ tag_part word)
-unmarked_step byte word plain =
-    let more : 1 + position_or_len is_mark word ≡ suc (position_or_len is_mark word) = omega arith in
-    rw (plain, more) (refl, refl)
+unmarked_step byte word plain = grind (arith, nat_tests, position_or_len, is_mark, suc)
 
 -- behind the path the text of a tag begins
 pub tag_begins : (word : List ℕ) → is_tag_text (tag_part word) ≡ true
@@ -58,10 +37,7 @@ names_unmarked (name ∷ names) are =
     (names_unmarked names (All-tail IsName name names are)))
 
 path_unmarked : (text : List ℕ) (names : List (List ℕ)) → SpellsPath text names → HasNoMark text
-path_unmarked text names h = elim h.form [
-  | inl root ↦ subst HasNoMark (sym root.0) (All-cons (λ byte. is_mark byte ≡ false) 47 [] refl (λ k d lt. absurd (omega arith)))
-  | inr more ↦ subst HasNoMark (sym more.1) (names_unmarked names h.is.named)
-]
+path_unmarked text names h = grind (arith, nat_tests, is_mark, names_unmarked)
 
 tag_marked : (text : List ℕ) (tag : Tag) → SpellsTag text tag → is_tag_text text ≡ true
 tag_marked [] Now h = refl

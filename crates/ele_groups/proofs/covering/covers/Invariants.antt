@@ -1,7 +1,4 @@
-use Rattle.std.proofs.Common.{◌≡◌, true}
-use Rattle.std.specs.List.{AllByRecursion}
-use Rattle.std.specs.Ordering.{nat_cmp}
-use Rattle.ele_lists.specs.Index.{has}
+use Rattle.ele_groups.proofs.Basics.{◌≡◌, true, AllByRecursion, nat_cmp, has}
 use Rattle.ele_groups.proofs.Covered.{AreLeft}
 use Rattle.ele_groups.proofs.covering.covers.Given as goal
 

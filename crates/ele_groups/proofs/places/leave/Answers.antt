@@ -1,5 +1,4 @@
-use Rattle.std.proofs.Common.{take}
-use Rattle.std.proofs.lemmas.List.{take_more}
+use Rattle.ele_groups.proofs.Basics.{take, take_more}
 use Rattle.ele_groups.proofs.Placed.{left_more}
 use Rattle.ele_groups.proofs.places.leave.Goals as goal
 

@@ -1,7 +1,5 @@
-use Rattle.std.proofs.Common.{◌≡◌, ℕ, ◌&&◌, not, take}
-use Rattle.std.specs.Ordering.{nat_cmp}
-use Rattle.ele_lists.specs.Index.{has}
-use Rattle.ele_groups.specs.Kept.{is_place_of}
+use Rattle.ele_groups.proofs.Basics.{◌≡◌, ℕ, ◌&&◌, not, take, nat_cmp, has}
+use Rattle.ele_groups.proofs.Words.{is_place_of}
 use Rattle.ele_groups.proofs.places.leave.Given as goal
 
 abbrev pub invariant-loop-file : goal.invariant-loop-file

@@ -1,9 +1,5 @@
-use Rattle.std.proofs.Common.{◌∙◌, sym, ap}
-use Rattle.std.specs.BTreeMap.{is_at}
-use Rattle.std.specs.Map.{set_value}
-use Rattle.std.specs.Ordering.{nat_cmp}
-use Rattle.std.proofs.lemmas.Map.Steps.{set_value_same}
-use Rattle.ele_world.specs.GroupRows.{adds}
+use Rattle.ele_groups.proofs.Basics.{◌∙◌, sym, ap, is_at, set_value, nat_cmp, set_value_same}
+use Rattle.ele_groups.proofs.Words.{adds}
 use Rattle.ele_groups.proofs.Changed.{written, unwritten, ok_then, err_then}
 use Rattle.ele_groups.proofs.rows.add_to.Goals as goal
 

@@ -1,8 +1,5 @@
-use Rattle.std.proofs.Common.{◌∙◌, sym, ap}
-use Rattle.std.specs.BTreeMap.{is_at}
-use Rattle.std.specs.Map.{set_value}
-use Rattle.std.specs.Ordering.{nat_cmp}
-use Rattle.ele_world.specs.GroupRows.{unmarks}
+use Rattle.ele_groups.proofs.Basics.{◌∙◌, sym, ap, is_at, set_value, nat_cmp}
+use Rattle.ele_groups.proofs.Words.{unmarks}
 use Rattle.ele_groups.proofs.Changed.{written, unwritten}
 use Rattle.ele_groups.proofs.rows.unmark_at.Goals as goal
 

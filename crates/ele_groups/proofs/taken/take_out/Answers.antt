@@ -1,5 +1,4 @@
-use Rattle.std.proofs.Common.{sym, ◌∙◌}
-use Rattle.ele_lists.proofs.Places.{remove_first-none}
+use Rattle.ele_groups.proofs.Basics.{sym, ◌∙◌, remove_first-none}
 use Rattle.ele_groups.proofs.taken.take_out.Goals as goal
 
 pub returns-in_default : goal.returns-in_default

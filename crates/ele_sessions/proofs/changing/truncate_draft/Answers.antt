@@ -1,8 +1,5 @@
-use Rattle.std.proofs.Common.{◌≡◌, refl, sym, ◌∙◌, true, false, eqb, arith}
-use Rattle.std.proofs.lemmas.Bool.{false≢true}
-use Rattle.std.proofs.lemmas.Bool.Decides.{nat_tests}
-use Rattle.ele_sessions.specs.Inside.{IsAt, IsGap, file_in, draft_in}
-use Rattle.ele_blocks.specs.Changes.{IsResized}
+use Rattle.ele_sessions.proofs.Basics.{◌≡◌, refl, sym, ◌∙◌, true, false, eqb, arith, false≢true, nat_tests}
+use Rattle.ele_sessions.proofs.Words.{IsAt, IsGap, file_in, draft_in, IsResized}
 use Rattle.ele_sessions.proofs.Found.{not_missing, found_draft, length_found, drafts_stay, rewrites, on_err}
 use Rattle.ele_sessions.proofs.changing.truncate_draft.Goals as goal
 

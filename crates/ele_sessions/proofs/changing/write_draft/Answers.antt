@@ -1,6 +1,5 @@
-use Rattle.std.proofs.Common.{refl}
-use Rattle.ele_sessions.specs.Inside.{IsAt, IsGap, file_in, draft_in}
-use Rattle.ele_blocks.specs.Changes.{IsWritten}
+use Rattle.ele_sessions.proofs.Basics.{refl}
+use Rattle.ele_sessions.proofs.Words.{IsAt, IsGap, file_in, draft_in, IsWritten}
 use Rattle.ele_sessions.proofs.Found.{not_missing, found_draft, drafts_stay, rewrites, on_err}
 use Rattle.ele_sessions.proofs.changing.write_draft.Goals as goal
 

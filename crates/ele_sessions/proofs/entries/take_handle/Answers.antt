@@ -1,9 +1,6 @@
-use Rattle.std.proofs.Common.{refl, sym, ◌∙◌}
-use Rattle.ele_sessions.specs.Inside.{IsAt, IsGap, number_in}
+use Rattle.ele_sessions.proofs.Basics.{refl, sym, ◌∙◌, remove_first-unfound, all-not_found}
+use Rattle.ele_sessions.proofs.Words.{IsAt, IsGap, number_in, is_handle}
 use Rattle.ele_sessions.proofs.Found.{found_handle, removed_handle, no_handle}
-use Rattle.ele_lists.proofs.Cuts.{remove_first-unfound}
-use Rattle.ele_lists.proofs.Edits.{all-not_found}
-use Rattle.ele_sessions.specs.Sessions.{is_handle}
 use Rattle.ele_sessions.proofs.entries.take_handle.Goals as goal
 
 pub returns-in_default-clause-reads : goal.returns-in_default-clause-reads

@@ -1,9 +1,5 @@
-use Rattle.std.proofs.Common.{rules, tests, ◌≡◌, ◌==◌, ◌∙◌, length, ℕ, List, refl, arith, inr}
-use Rattle.std.proofs.lemmas.Result.{err_from_is_err_and}
-use Rattle.std.proofs.lemmas.List.{map-append}
-use Rattle.std.proofs.lemmas.Iterator.Splits.{YieldsList-from_slice_split}
-use Rattle.std.proofs.lemmas.Iterator.Consumers.{YieldsList-at, YieldsList-so_far, YieldsList-turn, YieldsList-end}
-use Rattle.ele_time_path.specs.Path.{pieces_of}
+use Rattle.ele_time_path.proofs.Basics.{rules, tests, ◌≡◌, ◌==◌, ◌∙◌, length, ℕ, List, refl, arith, inr, err_from_is_err_and, map-append, YieldsList-from_slice_split, YieldsList-at, YieldsList-so_far, YieldsList-turn, YieldsList-end}
+use Rattle.ele_time_path.proofs.Words.{pieces_of}
 use Rattle.ele_time_path.proofs.Pieces.{next_fault, one_more}
 use Rattle.ele_time_path.proofs.path.read_names.Goals as goal
 

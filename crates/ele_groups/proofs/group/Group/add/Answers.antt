@@ -1,5 +1,4 @@
-use Rattle.ele_lists.proofs.Edits.{later-push, all-none}
-use Rattle.std.proofs.Common.{◌==◌, ◌≡◌, false}
+use Rattle.ele_groups.proofs.Basics.{later-push, all-none, ◌==◌, ◌≡◌, false}
 use Rattle.ele_groups.proofs.group.Group.add.Goals as goal
 
 pub invariant_of-self-2 : goal.invariant_of-self-2

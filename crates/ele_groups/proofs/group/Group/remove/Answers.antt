@@ -1,5 +1,4 @@
-use Rattle.std.proofs.Common.{◌==◌, ◌≡◌, false, refl}
-use Rattle.ele_lists.proofs.Edits.{later-remove_first}
+use Rattle.ele_groups.proofs.Basics.{◌==◌, ◌≡◌, false, refl, later-remove_first}
 use Rattle.ele_groups.proofs.Apart.{any_removed, filtered}
 use Rattle.ele_groups.proofs.group.Group.remove.Goals as goal
 

@@ -1,6 +1,5 @@
-use Rattle.std.proofs.Common.{◌≡◌, length}
-use Rattle.std.specs.Prelude.{filter}
-use Rattle.ele_world.specs.GroupRows.{forgotten, is_member}
+use Rattle.ele_groups.proofs.Basics.{◌≡◌, length, filter}
+use Rattle.ele_groups.proofs.Words.{forgotten, is_member}
 use Rattle.ele_groups.proofs.groups.Groups.forget_file.Given as goal
 
 abbrev pub invariant-loop-file : goal.invariant-loop-file

@@ -1,7 +1,5 @@
-use Rattle.std.proofs.Common.{refl, arith}
-use Rattle.std.specs.Map.{values_of}
-use Rattle.ele_lists.specs.Serial.{value_at}
-use Rattle.ele_world.specs.GroupRows.{forgets, is_member}
+use Rattle.ele_groups.proofs.Basics.{refl, arith, values_of, value_at}
+use Rattle.ele_groups.proofs.Words.{forgets, is_member}
 use Rattle.ele_groups.proofs.Changed.{no_value, by_bound}
 use Rattle.ele_groups.proofs.Forgotten.{none_forgotten, forgotten_first, fewer_have}
 use Rattle.ele_groups.proofs.Named.{kept_changed, absent}

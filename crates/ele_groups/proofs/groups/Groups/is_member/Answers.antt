@@ -1,5 +1,4 @@
-use Rattle.std.proofs.Common.{sym, refl}
-use Rattle.ele_lists.specs.Serial.{value_at}
+use Rattle.ele_groups.proofs.Basics.{sym, refl, value_at}
 use Rattle.ele_groups.proofs.Named.{found_at, not_found_at}
 use Rattle.ele_groups.proofs.groups.Groups.is_member.Goals as goal
 

@@ -1,10 +1,5 @@
-use Rattle.std.proofs.Common.{◌≡◌, nat_lt, ap, ◌∙◌}
-use Rattle.std.specs.List.{list_any}
-use Rattle.ele_lists.proofs.ShownAt.{rises-map}
-use Rattle.ele_sessions.specs.Closes.{closing_of, closed_of, left_handles}
-use Rattle.ele_sessions.specs.Inside.{draft_in}
-use Rattle.ele_sessions.specs.Kept.{sessions_of}
-use Rattle.ele_sessions.specs.Sessions.{Draft, is_writer}
+use Rattle.ele_sessions.proofs.Basics.{◌≡◌, nat_lt, ap, ◌∙◌, list_any, rises-map}
+use Rattle.ele_sessions.proofs.Words.{closing_of, closed_of, left_handles, draft_in, sessions_of, Draft, is_writer}
 use Rattle.ele_sessions.proofs.Keepings.{none_left, reader_keeps, writer_keeps, stays_now, draft_there}
 use Rattle.ele_sessions.proofs.sessions.Sessions.close.Goals as goal
 

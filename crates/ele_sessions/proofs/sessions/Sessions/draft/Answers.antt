@@ -1,8 +1,6 @@
-use Rattle.std.proofs.Common.{refl}
-use Rattle.ele_sessions.specs.Inside.{IsAt, IsGap, file_in, draft_in}
+use Rattle.ele_sessions.proofs.Basics.{refl, rises-map}
+use Rattle.ele_sessions.proofs.Words.{IsAt, IsGap, file_in, draft_in, Draft}
 use Rattle.ele_sessions.proofs.Found.{found_draft, missing_draft}
-use Rattle.ele_sessions.specs.Sessions.{Draft}
-use Rattle.ele_lists.proofs.ShownAt.{rises-map}
 use Rattle.ele_sessions.proofs.sessions.Sessions.draft.Goals as goal
 
 pub place_of-requires : goal.place_of-requires

@@ -1,9 +1,5 @@
-use Rattle.std.proofs.Common.{refl}
-use Rattle.ele_lists.proofs.ShownAt.{rises-map}
-use Rattle.ele_sessions.specs.Inside.{draft_in}
-use Rattle.ele_sessions.specs.Kept.{sessions_of}
-use Rattle.ele_sessions.specs.Opening.{new_draft}
-use Rattle.ele_sessions.specs.Sessions.{Draft}
+use Rattle.ele_sessions.proofs.Basics.{refl, rises-map}
+use Rattle.ele_sessions.proofs.Words.{draft_in, sessions_of, new_draft, Draft}
 use Rattle.ele_sessions.proofs.Keepings.{entered_keeps}
 use Rattle.ele_sessions.proofs.Orders.{writer_entered}
 use Rattle.ele_sessions.proofs.sessions.Sessions.open_write.Goals as goal

@@ -1,8 +1,5 @@
-use Rattle.std.proofs.Common.{refl}
-use Rattle.ele_lists.proofs.ShownAt.{rises-map}
-use Rattle.ele_sessions.specs.Inside.{draft_in}
-use Rattle.ele_sessions.specs.Kept.{sessions_of}
-use Rattle.ele_sessions.specs.Sessions.{Draft}
+use Rattle.ele_sessions.proofs.Basics.{refl, rises-map}
+use Rattle.ele_sessions.proofs.Words.{draft_in, sessions_of, Draft}
 use Rattle.ele_sessions.proofs.Keepings.{written_by, draft_there, rewritten_keeps}
 use Rattle.ele_sessions.proofs.sessions.Sessions.write.Goals as goal
 

@@ -1,5 +1,4 @@
-use Rattle.std.proofs.Common.{rules, Ok, ap, inl, inr, refl}
-use Rattle.std.proofs.lemmas.Result.{err_from_is_err_and}
+use Rattle.ele_time_path.proofs.Basics.{rules, Ok, ap, inl, inr, refl, err_from_is_err_and}
 use Rattle.ele_time_path.proofs.Spelled.{spelled_behind, one_path, no_fault_behind}
 use Rattle.ele_time_path.proofs.path.Path.read.Goals as goal
 

@@ -1,5 +1,4 @@
-use Rattle.std.proofs.Common.{Ok, ap, inl, inr, refl}
-use Rattle.std.proofs.lemmas.Result.{err_from_is_err_and}
+use Rattle.ele_time_path.proofs.Basics.{Ok, ap, inl, inr, refl, err_from_is_err_and}
 use Rattle.ele_time_path.proofs.Tags.{cut_fits, tag_begins, no_path_fault}
 use Rattle.ele_time_path.proofs.PathsAt.{tagged_at, one_at, fault_behind, no_moment_fault}
 use Rattle.ele_time_path.proofs.path_at.PathAt.read.Goals as goal

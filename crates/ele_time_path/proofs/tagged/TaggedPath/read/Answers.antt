@@ -1,6 +1,5 @@
-use Rattle.std.proofs.Common.{Ok, ap, inl, inr, refl}
-use Rattle.std.proofs.lemmas.Result.{err_from_is_err_and}
-use Rattle.ele_time_path.specs.TaggedFault.{of_tag}
+use Rattle.ele_time_path.proofs.Basics.{Ok, ap, inl, inr, refl, err_from_is_err_and}
+use Rattle.ele_time_path.proofs.Words.{of_tag}
 use Rattle.ele_time_path.proofs.Tags.{cut_fits, tag_begins, no_path_fault, no_tag_fault, one_value}
 use Rattle.ele_time_path.proofs.tagged.TaggedPath.read.Goals as goal
 
