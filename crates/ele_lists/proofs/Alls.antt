@@ -1,9 +1,5 @@
 -- What holds of all elements, or between them, in parts of lists, lists after one another, filters and views.
-use Rattle.std.proofs.Common.{◌≡◌, ℕ, zero, suc, ◌<◌, Bool, true, false, cond, List, [], ◌∷◌, ◌++◌, length, map, reverse, get_or, Some, refl, sym, ◌∙◌, arith, append_assoc}
-use Rattle.std.specs.Prelude.{filter, slice_get}
-use Rattle.std.specs.List.{AllByRecursion, flat_map}
-use Rattle.std.proofs.lemmas.List.{reverse-append}
-use Rattle.ele_lists.specs.Lists.{AllLater}
+use Rattle.ele_lists.proofs.Basics.{AllByRecursion, AllLater, Bool, List, Some, [], append_assoc, arith, cond, false, filter, flat_map, get_or, length, map, refl, reverse, reverse-append, slice_get, suc, sym, true, zero, ℕ, ◌++◌, ◌<◌, ◌∙◌, ◌∷◌, ◌≡◌}
 use Rattle.ele_lists.proofs.Edits.{all-weaker}
 
 module _ {X : Type 0} (P : X → Type 0) where
@@ -47,11 +43,6 @@ module _ {X : Type 0} (P : X → Type 0) where
   all-got [] i x all e = absurd cc
   all-got (y ∷ xs) zero x all e = let same : y ≡ x = cc in rw (← same) all.0
   all-got (y ∷ xs) (suc i) x all e = all-got xs i x all.1 e
-
-  -- what holds at each place holds of all
-  pub all-places : (xs : List X) → ((i : ℕ) (x : X) → slice_get xs i ≡ Some x → P x) → AllByRecursion P xs
-  all-places [] each = tt
-  all-places (x ∷ xs) each = (each 0 x refl, all-places xs (λ i y e. each (suc i) y e))
 
   pub all-reverse : (xs : List X) → AllByRecursion P xs → AllByRecursion P (reverse xs)
   all-reverse [] all = tt

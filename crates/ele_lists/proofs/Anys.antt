@@ -1,6 +1,5 @@
 -- Whether any element passes, beside an element more or less.
-use Rattle.std.proofs.Common.{◌≡◌, Bool, true, false, ◌||◌, List, [], ◌∷◌, ◌++◌, refl, ap, sym}
-use Rattle.std.specs.List.{AllByRecursion, list_any}
+use Rattle.ele_lists.proofs.Basics.{AllByRecursion, Bool, List, [], ap, false, list_any, refl, sym, true, ◌++◌, ◌||◌, ◌∷◌, ◌≡◌}
 
 or_true : (b : Bool) → (b || true) ≡ true
 or_true true = refl

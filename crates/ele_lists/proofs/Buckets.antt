@@ -1,18 +1,9 @@
 -- Buckets with rising ids, each with rows tagged by its id, seen as one flat list: finds, filters and changes of one bucket's rows are those of the flat list.
-use Rattle.std.proofs.Common.{◌≡◌, ℕ, ◌<◌, Bool, true, false, cond, eqb, List, [], ◌∷◌, ◌++◌, Option, Some, None, refl, ap, sym, ◌∙◌, arith}
-use Rattle.std.specs.Prelude.{find, filter}
-use Rattle.std.specs.List.{AllByRecursion, flat_map}
-use Rattle.std.specs.Option.{option_and_then, option_or, option_map_or}
-use Rattle.std.proofs.lemmas.Bool.{false≢true}
-use Rattle.std.proofs.lemmas.Bool.Decides.{nat_tests}
-use Rattle.std.proofs.lemmas.List.Folds.{find-append}
-use Rattle.std.proofs.lemmas.List.{append-nil}
-use Rattle.std.proofs.lemmas.List.Elements.{filter-append}
-use Rattle.ele_lists.specs.Lists.{update_first, remove_first, insert_before, AllLater}
-use Rattle.ele_lists.proofs.Edits.{all-weaker, not_found}
+use Rattle.ele_lists.proofs.Basics.{AllByRecursion, AllLater, Bool, List, None, Option, Some, [], ap, append-nil, arith, cond, eqb, false, false≢true, filter, filter-append, find, find-append, flat_map, insert_before, nat_tests, option_and_then, option_map_or, option_or, refl, remove_first, sym, true, update_first, ℕ, ◌++◌, ◌<◌, ◌∙◌, ◌∷◌, ◌≡◌}
 use Rattle.ele_lists.proofs.Alls.{all-flat_map}
-use Rattle.ele_lists.proofs.Filters.{filter-all, filter-none}
 use Rattle.ele_lists.proofs.Cuts.{find-skip, update_first-skip, update_first-front, remove_first-skip, remove_first-front, insert_before-skip, insert_before-front}
+use Rattle.ele_lists.proofs.Edits.{all-weaker, not_found}
+use Rattle.ele_lists.proofs.Filters.{filter-all, filter-none}
 
 -- a change of a flat list that goes past rows of lesser tags, and leaves rows of greater ones
 pub record IsLocal {X : Type 0} (tag : X → ℕ) (k : ℕ) (E : List X → List X) : Type 0 where

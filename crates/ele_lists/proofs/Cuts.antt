@@ -1,10 +1,5 @@
 -- A list cut at an element: at the first that passes, at a place, or where one comes in; and what finds and changes do there.
-use Rattle.std.proofs.Common.{◌≡◌, ℕ, ◌<◌, Bool, true, false, cond, List, [], ◌∷◌, ◌++◌, length, map, get_or, Some, refl, ap, sym, ◌∙◌, arith, zero, suc, append_assoc}
-use Rattle.std.proofs.Math.ListN.{set}
-use Rattle.std.proofs.lemmas.Bool.{false≢true}
-use Rattle.std.specs.Prelude.{find}
-use Rattle.std.specs.List.{AllByRecursion, flat_map, list_any, remove}
-use Rattle.ele_lists.specs.Lists.{update_first, remove_first, insert_before}
+use Rattle.ele_lists.proofs.Basics.{AllByRecursion, Bool, List, Some, [], ap, append_assoc, cond, false, false≢true, find, flat_map, insert_before, list_any, refl, remove_first, sym, true, update_first, ◌++◌, ◌∙◌, ◌∷◌, ◌≡◌}
 
 -- the first that passes, with what stands before and behind it
 pub record IsCut {X : Type 0} (p : X → Bool) (xs : List X) (x : X) : Type 0 where
@@ -110,52 +105,6 @@ module _ {X : Type 0} (p : X → Bool) where
   update_first-same f xs x found same =
       let cut = find-cut xs x found in
       rw cut.whole (update_first-at f cut.before x cut.behind cut.none cut.passes ∙ ap (λ z. cut.before ++ z ∷ cut.behind) same)
-
-  -- where an element comes in
-  pub record IsOpened (y : X) (xs : List X) : Type 0 where
-    pub before : List X
-    pub behind : List X
-    pub is : xs ≡ before ++ behind
-    pub opened : insert_before p y xs ≡ before ++ y ∷ behind
-
-  pub open_before : (y : X) (xs : List X) → IsOpened y xs
-  open_before y [] = record { before = []; behind = []; is = refl; opened = refl }
-  open_before y (x ∷ xs) = elim (p x) as (λ b. p x ≡ b → IsOpened y (x ∷ xs)) [
-    | true ↦ λ e. record { before = []; behind = x ∷ xs; is = refl; opened = rw e refl }
-    | false ↦ λ e.
-        let rest = open_before y xs in
-        record { before = x ∷ rest.before; behind = rest.behind; is = ap (λ zs. x ∷ zs) rest.is; opened = rw e (ap (λ zs. x ∷ zs) rest.opened) }
-  ] refl
-
-module _ {X : Type 0} where
-  -- the element at a place, with what stands before and behind it
-  pub record Cut (xs : List X) (i : ℕ) (d : X) : Type 0 where
-    pub before : List X
-    pub after : List X
-    pub whole : xs ≡ before ++ get_or xs i d ∷ after
-    pub changed : (y : X) → set xs i y ≡ before ++ y ∷ after
-    pub again : (y z : X) → set (set xs i y) i z ≡ before ++ z ∷ after
-    pub there : (y e : X) → get_or (set xs i y) i e ≡ y
-    pub removed : remove xs i ≡ before ++ after
-
-  pub cut_at : (xs : List X) (i : ℕ) (d : X) → i < length xs → Cut xs i d
-  cut_at [] i d lt = absurd (omega arith)
-  cut_at (x ∷ xs) zero d lt = record { before = []; after = xs; whole = refl; changed = λ y. refl; again = λ y z. refl; there = λ y e. refl; removed = refl }
-  cut_at (x ∷ xs) (suc i) d lt =
-      let rest = cut_at xs i d (omega arith) in
-      record {
-        before = x ∷ rest.before;
-        after = rest.after;
-        whole = ap (λ ys. x ∷ ys) rest.whole;
-        changed = λ y. ap (λ ys. x ∷ ys) (rest.changed y);
-        again = λ y z. ap (λ ys. x ∷ ys) (rest.again y z);
-        there = rest.there;
-        removed = ap (λ ys. x ∷ ys) rest.removed;
-      }
-
-pub map-exchange : {X Y : Type 0} (h : X → Y) (xs : List X) (x y : X) (zs : List X) → h y ≡ h x → map h (xs ++ y ∷ zs) ≡ map h (xs ++ x ∷ zs)
-map-exchange h [] x y zs same = ap (λ w. w ∷ map h zs) same
-map-exchange h (z ∷ xs) x y zs same = ap (λ ws. h z ∷ ws) (map-exchange h xs x y zs same)
 
 -- lists after one another, cut at one of them
 pub flat_map-cut : {X Y : Type 0} (h : X → List Y) (xs : List X) (x : X) (zs : List X) → flat_map h (xs ++ x ∷ zs) ≡ flat_map h xs ++ (h x ++ flat_map h zs)

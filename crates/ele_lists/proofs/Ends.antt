@@ -1,15 +1,7 @@
 -- The last element: of lists after one another, at its place, in a reversed list, and what an update of it keeps.
-use Rattle.std.proofs.Math.ListN.{set}
-use Rattle.std.proofs.Common.{get_or, ap, ◌≡◌, ℕ, zero, suc, ◌-◌, ◌≤◌, Bool, true, false, cond, ◌||◌, List, [], ◌∷◌, ◌++◌, length, take, reverse, Option, Some, None, refl, ◌∙◌, arith}
-use Rattle.std.specs.Prelude.{find, slice_get, is_some}
-use Rattle.std.specs.Option.{option_or}
-use Rattle.std.specs.List.{list_any, AllByRecursion}
-use Rattle.std.proofs.lemmas.List.{reverse-append}
-use Rattle.std.proofs.lemmas.List.Folds.{find-append}
-use Rattle.ele_lists.specs.Lists.{AllLater}
-use Rattle.ele_lists.specs.Ends.{last_of, update_last}
-use Rattle.ele_lists.proofs.Edits.{not_found}
+use Rattle.ele_lists.proofs.Basics.{AllByRecursion, AllLater, Bool, List, None, Option, Some, [], ap, arith, cond, false, find, find-append, get_or, is_some, last_of, length, list_any, option_or, refl, reverse, reverse-append, set, slice_get, suc, take, true, update_last, zero, ℕ, ◌++◌, ◌-◌, ◌||◌, ◌∙◌, ◌∷◌, ◌≡◌, ◌≤◌}
 use Rattle.ele_lists.proofs.Alls.{all-reverse}
+use Rattle.ele_lists.proofs.Edits.{not_found}
 
 module _ {X : Type 0} where
   pub last-append : (xs ys : List X) (y : X) → last_of (xs ++ y ∷ ys) ≡ last_of (y ∷ ys)

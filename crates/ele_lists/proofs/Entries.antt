@@ -1,17 +1,6 @@
 -- The entries of a map by rising key: one more, some of them, and two maps in which each look-up finds the same.
-use Rattle.std.proofs.Common.{◌≡◌, Bool, true, false, cond, List, [], ◌∷◌, map, Option, Some, None, refl, ap, sym, ◌∙◌, filter}
-use Rattle.std.specs.List.{AllByRecursion, filter_map, cons_option}
+use Rattle.ele_lists.proofs.Basics.{AllByRecursion, Bool, CmpEqualImpliesEq, Equal, Greater, IsDistinct-from_sorted, IsTotalOrder, Less, List, None, Option, Ordering, Some, [], ap, cond, cons_option, eq_by_cmp_equiv, false, filter, filter_map, insert_entry, is_at, is_eq, keys_of, lookup, lookup-none, lookup_tail, map, match_ordering, none_below_head, none_past_head, ordering_reverse, refl, sym, true, ◌∙◌, ◌∷◌, ◌≡◌}
 use Rattle.std.specs.List.Sorted.{IsStrictlySortedBy}
-use Rattle.std.specs.Map.{keys_of, lookup}
-use Rattle.std.specs.BTreeMap.{insert_entry, is_at}
-use Rattle.std.specs.declared.cmp.Ordering.{Ordering}
-use Rattle.std.specs.declared.cmp.Ordering.TheVariants.{Less, Equal, Greater}
-use Rattle.std.specs.Ordering.{is_eq, match_ordering, ordering_reverse}
-use Rattle.std.specs.Cmp.{IsTotalOrder, eq_by_cmp_equiv}
-use Rattle.std.proofs.lemmas.Map.{lookup-none}
-use Rattle.std.proofs.lemmas.Map.Entries.{lookup_tail, none_past_head, none_below_head}
-use Rattle.std.proofs.lemmas.Map.Keys.{IsDistinct-from_sorted}
-use Rattle.std.proofs.lemmas.Map.Lookups.{CmpEqualImpliesEq}
 
 equal_is : (x : Ordering) → is_eq x ≡ true → x ≡ Equal
 equal_is Less h = absurd cc

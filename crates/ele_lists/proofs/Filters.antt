@@ -1,8 +1,5 @@
 -- Filters: of all or none, of one another, beside finds and views, and beside a change that they drop or keep.
-use Rattle.std.proofs.Common.{◌≡◌, Bool, true, false, ◌&&◌, ◌||◌, cond, List, [], ◌∷◌, map, Some, refl, ap, sym, ◌∙◌}
-use Rattle.std.specs.Prelude.{filter, find}
-use Rattle.std.specs.List.{list_any, AllByRecursion}
-use Rattle.ele_lists.specs.Lists.{update_first, remove_first, insert_before}
+use Rattle.ele_lists.proofs.Basics.{AllByRecursion, Bool, List, Some, [], ap, cond, false, filter, find, insert_before, list_any, refl, remove_first, sym, true, update_first, ◌&&◌, ◌||◌, ◌∙◌, ◌∷◌, ◌≡◌}
 
 module _ {X : Type 0} (p : X → Bool) where
   pub filter-all : (xs : List X) → AllByRecursion (λ x. p x ≡ true) xs → filter p xs ≡ xs
@@ -12,13 +9,6 @@ module _ {X : Type 0} (p : X → Bool) where
   pub filter-none : (xs : List X) → AllByRecursion (λ x. p x ≡ false) xs → filter p xs ≡ []
   filter-none [] all = refl
   filter-none (x ∷ xs) all = rw all.0 (filter-none xs all.1)
-
-  pub filter-map : {Y : Type 0} (h : Y → X) (ys : List Y) → filter p (map h ys) ≡ map h (filter (λ y. p (h y)) ys)
-  filter-map h [] = refl
-  filter-map h (y ∷ ys) = elim (p (h y)) as (λ b. cond b (h y ∷ filter p (map h ys)) (filter p (map h ys)) ≡ map h (cond b (y ∷ filter (λ y. p (h y)) ys) (filter (λ y. p (h y)) ys))) [
-    | true ↦ ap (λ zs. h y ∷ zs) (filter-map h ys)
-    | false ↦ filter-map h ys
-  ]
 
 module _ {X : Type 0} (p q : X → Bool) where
   pub filter-same_all : (xs : List X) → AllByRecursion (λ x. p x ≡ q x) xs → filter p xs ≡ filter q xs
@@ -108,24 +98,3 @@ module _ {X : Type 0} (q p : X → Bool) where
     | true ↦ rw fails refl
     | false ↦ rw (filter-insert_before y xs fails) refl
   ]
-
-  -- which keeps each that passes
-  pub filter-remove_kept : (xs : List X) → ((x : X) → p x ≡ true → q x ≡ true) → filter q (remove_first p xs) ≡ remove_first p (filter q xs)
-  filter-remove_kept [] keeps = refl
-  filter-remove_kept (x ∷ xs) keeps = elim (p x) as (λ b. p x ≡ b → filter q (cond b xs (x ∷ remove_first p xs)) ≡ remove_first p (cond (q x) (x ∷ filter q xs) (filter q xs))) [
-    | true ↦ λ e. rw (keeps x e) (rw e refl)
-    | false ↦ λ e. by (q x) e (filter-remove_kept xs keeps)
-  ] refl where
-    by : (b : Bool) → p x ≡ false → filter q (remove_first p xs) ≡ remove_first p (filter q xs) → cond b (x ∷ filter q (remove_first p xs)) (filter q (remove_first p xs)) ≡ remove_first p (cond b (x ∷ filter q xs) (filter q xs))
-    by true e rest = rw e (ap (λ ys. x ∷ ys) rest)
-    by false e rest = rest
-
-  pub filter-update_kept : (f : X → X) (xs : List X) → ((x : X) → p x ≡ true → q x ≡ true) → ((x : X) → p x ≡ true → q (f x) ≡ true) → filter q (update_first p f xs) ≡ update_first p f (filter q xs)
-  filter-update_kept f [] was is = refl
-  filter-update_kept f (x ∷ xs) was is = elim (p x) as (λ b. p x ≡ b → filter q (cond b (f x ∷ xs) (x ∷ update_first p f xs)) ≡ update_first p f (cond (q x) (x ∷ filter q xs) (filter q xs))) [
-    | true ↦ λ e. rw (was x e, is x e) (rw e refl)
-    | false ↦ λ e. by (q x) e (filter-update_kept f xs was is)
-  ] refl where
-    by : (b : Bool) → p x ≡ false → filter q (update_first p f xs) ≡ update_first p f (filter q xs) → cond b (x ∷ filter q (update_first p f xs)) (filter q (update_first p f xs)) ≡ update_first p f (cond b (x ∷ filter q xs) (filter q xs))
-    by true e rest = rw e (ap (λ ys. x ∷ ys) rest)
-    by false e rest = rest

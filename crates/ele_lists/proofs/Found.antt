@@ -1,8 +1,5 @@
 -- The element that is found, and a change of it.
-use Rattle.std.proofs.Common.{◌≡◌, Bool, true, false, cond, ◌||◌, List, [], ◌∷◌, Some, None, refl, ap}
-use Rattle.std.specs.Prelude.{find}
-use Rattle.std.specs.List.{list_any, AllByRecursion}
-use Rattle.ele_lists.specs.Lists.{update_first, insert_before, AllLater}
+use Rattle.ele_lists.proofs.Basics.{AllByRecursion, AllLater, Bool, List, None, Some, [], ap, cond, false, find, insert_before, list_any, refl, true, update_first, ◌||◌, ◌∷◌, ◌≡◌}
 use Rattle.ele_lists.proofs.Edits.{all-weaker, all-update_first, not_found}
 
 -- a test t beside the test p by which it is found

@@ -1,22 +1,5 @@
 -- What lies between two entries of one group.
-use Rattle.std.proofs.Common.{◌≡◌, ◌==◌, ℕ, ◌≤◌, ◌<◌, ◌^◌, true, false, IsTrue, refl, ◌∙◌, arith, ◌⊎◌}
-use Rattle.std.specs.declared.cmp.Ordering.{Ordering}
-use Rattle.std.specs.declared.cmp.Ordering.TheVariants.{Less, Equal, Greater}
-use Rattle.std.specs.Ordering.{nat_cmp, ordering_then, ordering_reverse, is_gt, is_lt, is_eq}
-use Rattle.std.specs.Cmp.{IsTotalOrder, nat_cmp_total}
-use Rattle.std.specs.BTreeMap.{is_at}
-use Rattle.std.specs.BTreeMap.Range.{IsLeBy, IsInRange, range_contains}
-use Rattle.std.specs.BTreeSet.{keys_between}
-use Rattle.std.specs.declared.ops.Bound.{Bound}
-use Rattle.std.specs.declared.ops.Bound.TheVariants.{Included}
-use Rattle.std.specs.List.{list_any}
-use Rattle.std.proofs.lemmas.Cmp.{then_total, on_total, eq_by_cmp_equiv, tied_itself}
-use Rattle.std.proofs.lemmas.Bool.{false≢true}
-use Rattle.std.proofs.lemmas.Map.Steps.{list_any_congr}
-use Rattle.std.proofs.lemmas.Map.Views.{any-filter_same, range_contains-from_IsInRange}
-use Rattle.std.proofs.lemmas.Bool.Decides.{nat_tests}
-use Rattle.ele_lists.specs.Index.{entry_cmp, has, IsLastOf}
-use Rattle.ele_lists.specs.declared.index.Index.{Index}
+use Rattle.ele_lists.proofs.Basics.{Bound, Equal, Greater, Included, Index, IsInRange, IsLastOf, IsLeBy, IsTotalOrder, IsTrue, Less, Ordering, any-filter_same, arith, entry_cmp, eq_by_cmp_equiv, false, false≢true, has, is_at, is_eq, is_gt, is_lt, keys_between, list_any, list_any_congr, nat_cmp, nat_cmp_total, nat_tests, on_total, ordering_reverse, ordering_then, range_contains, range_contains-from_IsInRange, refl, then_total, tied_itself, true, ℕ, ◌<◌, ◌==◌, ◌^◌, ◌∙◌, ◌≡◌, ◌≤◌, ◌⊎◌}
 use Rattle.ele_lists.proofs.Anys.{any-weaker}
 
 first_le : (x y z : Ordering) → is_gt (ordering_then (ordering_then x y) z) ≡ false → is_gt x ≡ false

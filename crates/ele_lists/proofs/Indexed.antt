@@ -1,15 +1,5 @@
 -- An index after a change of the values that it is of.
-use Rattle.std.proofs.Common.{◌≡◌, ℕ, Bool, true, false, cond, ◌&&◌, Some, None, Option, refl, sym, ap, ◌∙◌}
-use Rattle.std.specs.Option.{option_map_or}
-use Rattle.std.specs.declared.cmp.Ordering.{Ordering}
-use Rattle.std.specs.declared.cmp.Ordering.TheVariants.{Less, Equal, Greater}
-use Rattle.std.specs.Ordering.{nat_cmp, ordering_then, is_eq}
-use Rattle.std.specs.BTreeMap.{is_at}
-use Rattle.std.proofs.lemmas.Map.Lookups.{exact_unsigned}
-use Rattle.std.proofs.lemmas.Cmp.{tied_itself, nat_cmp_total}
-use Rattle.ele_lists.specs.Index.{has, is_entry}
-use Rattle.ele_lists.specs.Serial.{is_placed, IsIndexOf}
-use Rattle.ele_lists.specs.declared.index.Index.{Index}
+use Rattle.ele_lists.proofs.Basics.{Bool, Equal, Greater, Index, IsIndexOf, Less, None, Option, Ordering, Some, ap, cond, exact_unsigned, false, has, is_at, is_entry, is_eq, is_placed, nat_cmp, nat_cmp_total, option_map_or, ordering_then, refl, sym, tied_itself, true, ℕ, ◌&&◌, ◌∙◌, ◌≡◌}
 
 is_equal : (o : Ordering) → is_eq o ≡ true → o ≡ Equal
 is_equal Less h = cc

@@ -1,16 +1,8 @@
 -- Rows of rising keys: what a binary search by a key finds (`place_of`), and that rising keys are parted at any key.
-use Rattle.std.proofs.Common.{sym, ◌∙◌, ◌≡◌, ◌≢◌, ℕ, ◌<◌, ◌≤◌, Bool, true, false, ltb, leb, eqb, not, filter, ap, cond, List, [], ◌∷◌, length, get_or, Some, None, refl, arith, unwrap_or}
-use Rattle.std.specs.List.{position, position_or_len}
-use Rattle.std.specs.List.Sorted.{IsPartitionedBy, IsPartitionPoint, IsNonDecreasingBy}
-use Rattle.std.proofs.lemmas.List.Sorted.{IsPartitionedBy-ltb}
-use Rattle.std.proofs.lemmas.List.Sums.{position_or_len_is}
-use Rattle.std.proofs.lemmas.Bool.Decides.{nat_tests}
-use Rattle.ele_lists.specs.Lists.{remove_first, AllLater}
-use Rattle.ele_lists.specs.Chunks.{Sinks}
+use Rattle.ele_lists.proofs.Basics.{AllLater, Bool, IsNonDecreasingBy, IsPartitionPoint, IsPartitionedBy, IsPartitionedBy-ltb, List, None, Rises, Sinks, Some, [], ap, arith, cond, eqb, false, filter, get_or, has_key, is_behind, leb, length, ltb, nat_tests, not, position, position_or_len, position_or_len_is, refl, remove_first, sym, true, unwrap_or, ℕ, ◌<◌, ◌∙◌, ◌∷◌, ◌≡◌, ◌≢◌, ◌≤◌}
+use Rattle.ele_lists.proofs.Alls.{later-place, later-weaker}
 use Rattle.ele_lists.proofs.Edits.{all-weaker}
 use Rattle.ele_lists.proofs.Filters.{filter-all}
-use Rattle.ele_lists.specs.Keys.{Rises, has_key, is_behind}
-use Rattle.ele_lists.proofs.Alls.{later-place, later-weaker}
 
 module _ {X : Type 0} (p : X → Bool) (xs : List X) where
   -- the first place that passes

@@ -1,10 +1,5 @@
 -- The last element that passes, and what all others then are.
-use Rattle.std.proofs.Common.{◌≡◌, Bool, true, false, cond, ◌&&◌, List, [], ◌∷◌, Some, None, refl, ap, ◌∙◌, find}
-use Rattle.std.specs.Option.{option_or}
-use Rattle.std.specs.List.{AllByRecursion}
-use Rattle.ele_lists.specs.Lists.{AllLater}
-use Rattle.ele_lists.proofs.Edits.{all-any}
-use Rattle.ele_lists.specs.Last.{last_passing, passing}
+use Rattle.ele_lists.proofs.Basics.{AllByRecursion, AllLater, Bool, List, None, Some, [], ap, cond, false, find, last_passing, option_or, passing, refl, true, ◌&&◌, ◌∙◌, ◌∷◌, ◌≡◌}
 
 module _ {X : Type 0} where
   module _ (p : X → Bool) where
@@ -34,6 +29,3 @@ module _ {X : Type 0} where
         | false ↦ find_last q xs apart.1 ∙ ap (passing q) e
       ]
     ] refl
-
-    pub last_passes : (xs : List X) (x : X) → last_passing p xs ≡ Some x → p x ≡ true
-    last_passes xs x h = (last_has (λ _. Unit {0}) xs x (all-any (λ _. Unit {0}) xs (λ _. tt)) h).1

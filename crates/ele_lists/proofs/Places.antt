@@ -1,12 +1,5 @@
 -- The first element that passes by its place, and what a write, a removal, an insertion or a read there is (`first_places`).
-use Rattle.std.proofs.Common.{◌≡◌, ℕ, ◌<◌, ◌≤◌, Bool, true, false, List, [], ◌∷◌, ◌++◌, length, get_or, Option, Some, None, refl, ap, sym, ◌∙◌, arith, suc, zero, unwrap_or, nat_lt}
-use Rattle.std.proofs.Math.ListN.{set}
-use Rattle.std.specs.List.{find, position, position_or_len, insert, remove, list_any}
-use Rattle.std.proofs.lemmas.List.Quantifiers.{position-Some}
-use Rattle.std.proofs.lemmas.List.Edits.{insert_end}
-use Rattle.std.proofs.lemmas.Bool.{false≢true}
-use Rattle.std.proofs.lemmas.Bool.Decides.{nat_tests}
-use Rattle.ele_lists.specs.Lists.{update_first, remove_first, insert_before}
+use Rattle.ele_lists.proofs.Basics.{Bool, List, None, Option, Some, [], ap, arith, false, false≢true, find, get_or, insert, insert_before, insert_end, length, list_any, nat_lt, nat_tests, position, position-Some, position_or_len, refl, remove, remove_first, set, suc, sym, true, unwrap_or, update_first, zero, ℕ, ◌++◌, ◌<◌, ◌∙◌, ◌∷◌, ◌≡◌, ◌≤◌}
 
 module _ {X : Type 0} (p : X → Bool) where
   update_at : (f : X → X) (xs : List X) (i : ℕ) (d : X) → i < length xs → p (get_or xs i d) ≡ true → ((k : ℕ) → k < i → p (get_or xs k d) ≡ false) → update_first p f xs ≡ set xs i (f (get_or xs i d))

@@ -1,24 +1,8 @@
 -- Chunks as one list: a place in them, a search's seam, and a row more, less or changed (for the functions of src/seam.rt).
-use Rattle.std.proofs.Common.{◌≡◌, ◌≢◌, ℕ, zero, suc, ◌<◌, ◌≤◌, Bool, true, false, List, [], ◌∷◌, ◌++◌, length, take, drop, get_or, Option, Some, None, refl, ap, sym, ◌∙◌, arith, ◌⊎◌, inl, inr, ltb}
-use Rattle.std.specs.Prelude.{slice_get, remove, find, IfSome, Vec, vec_len, ◌==◌}
-use Rattle.std.specs.declared.alloc.Global.{Global}
-use Rattle.std.specs.Option.{option_and_then, option_map_or, option_or, ForSome}
-use Rattle.std.specs.List.{AllByRecursion, AllWithin, position}
-use Rattle.std.specs.List.Sorted.{IsPartitionedBy, IsPartitionPoint}
-use Rattle.std.proofs.Math.ListN.{set}
-use Rattle.std.proofs.lemmas.Bool.{false≢true, cases_lt}
-use Rattle.std.proofs.lemmas.Bool.Decides.{nat_tests}
-use Rattle.std.proofs.lemmas.List.Quantifiers.{position-Some}
-use Rattle.std.proofs.lemmas.Option.{slice_get_past, slice_get_within, slice_get-get_or}
-use Rattle.std.proofs.lemmas.Grind.{flat_map-append}
-use Rattle.std.proofs.lemmas.List.{append_assoc, append-nil, take-append-drop, take_all, drop_all}
-use Rattle.ele_lists.specs.Lists.{AllLater}
-use Rattle.ele_lists.specs.Ends.{last_of, update_last}
-use Rattle.ele_lists.specs.Keys.{Rises, has_key}
-use Rattle.ele_lists.specs.Chunks.{flat, AreFilled, rows_at, before_place, behind_place, last_room, room_of, ends_before, Sinks, IsSeam, IsPlaceOf, IsFresh}
-use Rattle.ele_lists.proofs.Edits.{all-weaker, length-remove_first}
+use Rattle.ele_lists.proofs.Basics.{AllByRecursion, AllLater, AllWithin, AreFilled, Bool, Global, IsPartitionPoint, IsPartitionedBy, IsPlaceOf, IsSeam, List, None, Option, Rises, Sinks, Some, Vec, [], ap, append-nil, append_assoc, arith, before_place, behind_place, cases_lt, drop, drop_all, ends_before, false, false≢true, find, flat, get_or, has_key, inl, inr, last_of, last_room, length, ltb, nat_tests, option_and_then, option_map_or, position, position-Some, refl, remove, room_of, rows_at, set, slice_get, slice_get-get_or, slice_get_past, slice_get_within, suc, sym, take, take-append-drop, take_all, true, update_last, vec_len, zero, ℕ, ◌++◌, ◌<◌, ◌==◌, ◌∙◌, ◌∷◌, ◌≡◌, ◌≢◌, ◌≤◌, ◌⊎◌}
 use Rattle.ele_lists.proofs.Alls.{all-append, all-left, all-right, all-got, later-around, later-left, later-right, later-place}
 use Rattle.ele_lists.proofs.Cuts.{find-at, remove_first-at}
+use Rattle.ele_lists.proofs.Edits.{all-weaker, length-remove_first}
 use Rattle.ele_lists.proofs.Ends.{last-append, last-take, last_at, all-last, later-across, update_last-append}
 
 -- what holds at the places within holds of the part
@@ -131,9 +115,6 @@ module _ {X : Type 0} where
     by [] e h = absurd (omega arith)
     by (x ∷ xs) e h = rw e (last-append c.items (xs ++ flat cs) x)
 
-  pub last-before_none : (cs : List (Vec X Global)) (i : ℕ) → last_of (before_place cs i 0) ≡ last_of (flat (take i cs))
-  last-before_none cs i = ap last_of (append-nil (flat (take i cs)))
-
   pub last-before_some : (cs : List (Vec X Global)) (i k : ℕ) → suc k ≤ length (rows_at cs i) → last_of (before_place cs i (suc k)) ≡ slice_get (rows_at cs i) k
   last-before_some cs i k h = at (rows_at cs i) h where
     at : (xs : List X) → suc k ≤ length xs → last_of (flat (take i cs) ++ take (suc k) xs) ≡ slice_get xs k
@@ -176,11 +157,6 @@ module _ {X : Type 0} where
   last_room-set (c ∷ d ∷ cs) (suc zero) here now is more = last_room-set (d ∷ cs) zero here now is more
   last_room-set (c ∷ d ∷ cs) (suc (suc i)) here now is more = last_room-set (d ∷ cs) (suc i) here now is more
 
-  pub filled-set : (cs : List (Vec X Global)) (i : ℕ) (now : Vec X Global) → AreFilled cs → 0 < length now.items → AreFilled (set cs i now)
-  filled-set [] i now filled more = tt
-  filled-set (c ∷ cs) zero now filled more = (more, filled.1)
-  filled-set (c ∷ cs) (suc i) now filled more = (filled.0, filled-set cs i now filled.1 more)
-
   -- ---- the last chunk
 
   pub room_needs : (cs : List (Vec X Global)) → 1 ≤ last_room cs → 1 ≤ length cs
@@ -217,12 +193,6 @@ module _ {X : Type 0} where
       by (d ∷ f ∷ ds) zero h e = absurd (omega arith)
       by (d ∷ f ∷ ds) (suc zero) h e = by (f ∷ ds) zero (omega arith) e
       by (d ∷ f ∷ ds) (suc (suc m)) h e = by (f ∷ ds) (suc m) (omega arith) e
-
-  -- a chunk more, of one row
-  pub flat-push : (cs : List (Vec X Global)) (c : Vec X Global) (x : X) → c.items ≡ x ∷ [] → flat (cs ++ c ∷ []) ≡ flat cs ++ x ∷ []
-  flat-push cs c x is =
-      flat_map-append (λ (chunk : Vec X Global). chunk.items) cs (c ∷ [])
-      ∙ ap (λ xs. flat cs ++ xs) (append-nil c.items ∙ is)
 
 -- ---- a search
 
@@ -383,8 +353,3 @@ module _ {X : Type 0} where
               let least = fails.0 in
               let above : this < key x = grind (arith, nat_tests, unlike, least) in
               (grind (arith, nat_tests, unlike), all-weaker (λ y. key x < key y) (λ y. has_key key this y ≡ false) xs (λ y lt. grind (arith, nat_tests, above, lt)) rises.0)
-
--- the emptied chunk is kept, or the one that was
-pub fresh_or : {X : Type 0} (emptied fresh : Option (Vec X Global)) → IfSome emptied (λ chunk. chunk.items ≡ []) → IfSome emptied (λ chunk. 1 ≤ room_of chunk) → ForSome fresh IsFresh → ForSome (option_or emptied fresh) IsFresh
-fresh_or None fresh empty room was = was
-fresh_or (Some one) fresh empty room was = λ chunk is. let same : one ≡ chunk = cc in rw (← same) (record { empty = empty; room = room })

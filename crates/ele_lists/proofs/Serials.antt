@@ -1,17 +1,7 @@
 -- Values in order of their serial numbers.
-use Rattle.std.proofs.Common.{◌≡◌, ℕ, ◌≤◌, ◌<◌, Bool, true, false, cond, List, [], ◌∷◌, ◌++◌, Some, None, refl, sym, ap, subst, arith, ◌⊎◌, inl, inr}
-use Rattle.std.specs.List.{AllByRecursion}
-use Rattle.std.specs.List.Sorted.{IsStrictlySortedBy}
-use Rattle.std.specs.declared.cmp.Ordering.TheVariants.{Less, Equal, Greater}
-use Rattle.std.specs.Ordering.{nat_cmp}
-use Rattle.std.specs.BTreeMap.{is_at, insert_entry}
-use Rattle.std.specs.Map.{remove_entry, keys_of, values_of}
-use Rattle.std.proofs.lemmas.Map.Lookups.{exact_unsigned}
-use Rattle.std.proofs.lemmas.Bool.Decides.{nat_tests}
-use Rattle.ele_lists.specs.Lists.{AllLater}
-use Rattle.ele_lists.specs.Last.{last_passing}
-use Rattle.ele_lists.specs.Serial.{value_at}
+use Rattle.ele_lists.proofs.Basics.{AllByRecursion, AllLater, Bool, Equal, Greater, Less, List, None, Some, [], ap, arith, cond, exact_unsigned, false, inl, inr, insert_entry, is_at, keys_of, last_passing, nat_cmp, nat_tests, refl, remove_entry, subst, sym, true, value_at, values_of, ℕ, ◌++◌, ◌<◌, ◌∷◌, ◌≡◌, ◌≤◌, ◌⊎◌}
 use Rattle.ele_lists.proofs.Indexed.{at_itself}
+use Rattle.std.specs.List.Sorted.{IsStrictlySortedBy}
 
 less : (a b : ℕ) → nat_cmp a b ≡ Less → a < b
 less a b h = grind (arith, nat_tests)

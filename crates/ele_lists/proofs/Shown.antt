@@ -1,10 +1,5 @@
 -- Finds, tests and changes of a view of a list, as those of the list itself; and whether something is there behind a reference.
-use Rattle.std.proofs.Common.{◌≡◌, Bool, true, false, cond, ◌||◌, List, [], ◌∷◌, map, Option, Some, None, refl, ap}
-use Rattle.std.specs.Prelude.{find, is_some}
-use Rattle.std.specs.List.{list_any}
-use Rattle.std.specs.Borrow.{Bor}
-use Rattle.std.specs.Option.{option_map, option_copied}
-use Rattle.ele_lists.specs.Lists.{update_first, remove_first, insert_before}
+use Rattle.ele_lists.proofs.Basics.{Bool, Bor, List, None, Option, Some, [], ap, cond, false, find, insert_before, is_some, list_any, map, option_copied, option_map, refl, remove_first, true, update_first, ◌||◌, ◌∷◌, ◌≡◌}
 
 module _ {X Y : Type 0} (h : X → Y) (p : Y → Bool) where
   pub find-map : (xs : List X) → find p (map h xs) ≡ option_map h (find (λ x. p (h x)) xs)

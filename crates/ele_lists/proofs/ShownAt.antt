@@ -1,11 +1,5 @@
 -- What is done at the place that `position` gives, as a view of the list shows it.
-use Rattle.std.proofs.Common.{◌≡◌, ℕ, ◌<◌, Bool, true, false, List, [], ◌∷◌, length, map, get_or, Some, None, refl, ap, sym, ◌∙◌, arith, zero, suc, unwrap_or}
-use Rattle.std.proofs.Math.ListN.{set}
-use Rattle.std.specs.List.{find, position, insert, remove, list_any}
-use Rattle.std.specs.Option.{option_map}
-use Rattle.std.proofs.lemmas.List.Quantifiers.{position-Some}
-use Rattle.ele_lists.specs.Lists.{update_first, remove_first, insert_before}
-use Rattle.ele_lists.specs.Keys.{Rises}
+use Rattle.ele_lists.proofs.Basics.{Bool, List, None, Rises, Some, [], ap, arith, false, find, get_or, insert, insert_before, length, list_any, map, option_map, position, position-Some, refl, remove, remove_first, set, suc, sym, true, unwrap_or, update_first, zero, ℕ, ◌<◌, ◌∙◌, ◌∷◌, ◌≡◌}
 use Rattle.ele_lists.proofs.Alls.{map-later}
 use Rattle.ele_lists.proofs.Places.{find-position, find-none, remove_first-position, insert_before-place, list_any-position}
 use Rattle.ele_lists.proofs.Shown.{find-map, any-map, remove_first-map, insert_before-map}
@@ -16,12 +10,6 @@ remove-place {X} q xs i at = by xs refl where
   by : (ys : List X) → xs ≡ ys → remove xs i ≡ remove_first q xs
   by [] e = absurd (let at' = rw e at at in cc)
   by (d ∷ ys) e = sym (remove_first-position q xs i d at)
-
-pub place-within : {X : Type 0} (q : X → Bool) (xs : List X) (i : ℕ) → position q xs ≡ Some i → i < length xs
-place-within {X} q xs i at = by xs refl where
-  by : (ys : List X) → xs ≡ ys → i < length xs
-  by [] e = absurd (let at' = rw e at at in cc)
-  by (d ∷ ys) e = (position-Some q xs i d at).0
 
 found-any : {X : Type 0} (p : X → Bool) (xs : List X) (x : X) → find p xs ≡ Some x → list_any p xs ≡ true
 found-any p [] x found = absurd cc
@@ -41,26 +29,13 @@ module _ {X Y : Type 0} (g : X → Y) (p : Y → Bool) where
       let first : p (g z) ≡ false = earlier 0 (omega arith) in
       rw first (ap (λ ws. g z ∷ ws) (set_at f xs i x y (omega arith) passes (λ k h. earlier (suc k) (omega arith)) is made))
 
-  find_set_at : (xs : List X) (i : ℕ) (y : X) → i < length xs → ((k : ℕ) → k < i → q (get_or xs k y) ≡ false) → q y ≡ true → find p (map g (set xs i y)) ≡ Some (g y)
-  find_set_at [] i y lt earlier passes = absurd (omega arith)
-  find_set_at (z ∷ xs) zero y lt earlier passes = rw passes refl
-  find_set_at (z ∷ xs) (suc i) y lt earlier passes =
-      let first : p (g z) ≡ false = earlier 0 (omega arith) in
-      rw first (find_set_at xs i y (omega arith) (λ k h. earlier (suc k) (omega arith)) passes)
-
   -- where an element passes
   module _ (xs : List X) (i : ℕ) (at : position (λ x. p (g x)) xs ≡ Some i) where
-    pub passes-shown : (x : X) → x ≡ get_or xs i x → p (g x) ≡ true
-    passes-shown x is = rw (ap q is) (position-Some q xs i x at).1
-
     pub find-shown : (x : X) → x ≡ get_or xs i x → find p (map g xs) ≡ Some (g x)
     find-shown x is = find-map g p xs ∙ ap (option_map g) (find-position q xs i x at) ∙ ap (λ y. Some (g y)) (sym is)
 
     pub set-shown : (f : Y → Y) (x y : X) → x ≡ get_or xs i x → g y ≡ f (g x) → map g (set xs i y) ≡ update_first p f (map g xs)
     set-shown f x y is made = let found = position-Some q xs i x at in set_at f xs i x y found.0 found.1 found.2 is made
-
-    pub find_set-shown : (y : X) → p (g y) ≡ true → find p (map g (set xs i y)) ≡ Some (g y)
-    find_set-shown y passes = let found = position-Some q xs i y at in find_set_at xs i y found.0 found.2 passes
 
     pub remove-shown : map g (remove xs i) ≡ remove_first p (map g xs)
     remove-shown = ap (map g) (remove-place q xs i at) ∙ sym (remove_first-map g p q (λ x. refl) xs)

@@ -1,11 +1,5 @@
 -- Sums and counts over lists, and what a change at one place makes of them.
-use Rattle.std.proofs.Common.{◌≡◌, ℕ, ◌+◌, ◌≤◌, Bool, true, false, not, cond, ◌||◌, List, [], ◌∷◌, ◌++◌, length, map, Some, refl, sym, ◌∙◌, arith}
-use Rattle.std.specs.Prelude.{find, filter, nat_lt}
-use Rattle.std.specs.List.{AllByRecursion, list_any, flat_map, sum_by, count_by}
-use Rattle.std.specs.Option.{option_map_or}
-use Rattle.std.proofs.lemmas.Bool.Decides.{nat_tests}
-use Rattle.std.proofs.lemmas.List.Sums.{sum_by-cons, sum_by-append}
-use Rattle.ele_lists.specs.Lists.{update_first, remove_first, insert_before}
+use Rattle.ele_lists.proofs.Basics.{AllByRecursion, Bool, List, Some, [], arith, cond, count_by, false, filter, find, flat_map, insert_before, length, list_any, map, nat_lt, nat_tests, not, option_map_or, refl, remove_first, sum_by, sum_by-append, sum_by-cons, true, update_first, ℕ, ◌++◌, ◌+◌, ◌||◌, ◌∙◌, ◌∷◌, ◌≡◌, ◌≤◌}
 
 module _ {X : Type 0} (f : X → ℕ) where
   -- the changes
@@ -55,29 +49,10 @@ module _ {X : Type 0} (f : X → ℕ) where
   sum_by-flat_map h [] = refl
   sum_by-flat_map h (y ∷ ys) = omega (arith, sum_by-append f (h y) (flat_map h ys), sum_by-cons (λ y. sum_by f (h y)) y ys, sum_by-flat_map h ys)
 
-  pub sum_by-filter : (t : X → Bool) (xs : List X) → sum_by f (filter t xs) ≡ sum_by (λ x. cond (t x) (f x) 0) xs
-  sum_by-filter t [] = refl
-  sum_by-filter t (x ∷ xs) = sym (sum_by-cons (λ y. cond (t y) (f y) 0) x xs ∙ elim (t x) as (λ b. cond b (f x) 0 + sum_by (λ y. cond (t y) (f y) 0) xs ≡ sum_by f (cond b (x ∷ filter t xs) (filter t xs))) [
-    | true ↦ omega (arith, sum_by-cons f x (filter t xs), sum_by-filter t xs)
-    | false ↦ omega (arith, sum_by-filter t xs)
-  ])
-
-  -- what passes and what doesn't make the whole
-  pub sum_by-split : (t : X → Bool) (xs : List X) → sum_by f xs ≡ sum_by f (filter t xs) + sum_by f (filter (λ x. not (t x)) xs)
-  sum_by-split t [] = refl
-  sum_by-split t (x ∷ xs) = elim (t x) as (λ b. sum_by f (x ∷ xs) ≡ sum_by f (cond b (x ∷ filter t xs) (filter t xs)) + sum_by f (cond (not b) (x ∷ filter (λ y. not (t y)) xs) (filter (λ y. not (t y)) xs))) [
-    | true ↦ omega (arith, sum_by-cons f x xs, sum_by-cons f x (filter t xs), sum_by-split t xs)
-    | false ↦ omega (arith, sum_by-cons f x xs, sum_by-cons f x (filter (λ y. not (t y)) xs), sum_by-split t xs)
-  ]
-
 module _ {X : Type 0} (f g : X → ℕ) where
   pub sum_by-same : (xs : List X) → AllByRecursion (λ x. f x ≡ g x) xs → sum_by f xs ≡ sum_by g xs
   sum_by-same [] same = refl
   sum_by-same (x ∷ xs) same = omega (arith, sum_by-cons f x xs, sum_by-cons g x xs, same.0, sum_by-same xs same.1)
-
-  pub sum_by-plus : (xs : List X) → sum_by (λ x. f x + g x) xs ≡ sum_by f xs + sum_by g xs
-  sum_by-plus [] = refl
-  sum_by-plus (x ∷ xs) = omega (arith, sum_by-cons (λ y. f y + g y) x xs, sum_by-cons f x xs, sum_by-cons g x xs, sum_by-plus xs)
 
 module _ {X : Type 0} (p : X → Bool) where
   abbrev one : X → ℕ

@@ -1,5 +1,4 @@
-use Rattle.std.proofs.Common.{sym, ◌∙◌}
-use Rattle.ele_lists.proofs.Keys.{place-there}
+use Rattle.ele_lists.proofs.Words.{place-there, sym, ◌∙◌}
 use Rattle.ele_lists.proofs.keyed.place_if_dense.Goals as goal
 
 pub returns-in-Some : goal.returns-in-Some

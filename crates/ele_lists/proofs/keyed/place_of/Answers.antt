@@ -1,6 +1,4 @@
-use Rattle.std.proofs.Common.{ltb, sym, ◌∙◌, rules}
-use Rattle.std.proofs.lemmas.List.Sorted.{IsPartitionPoint-from_clause}
-use Rattle.ele_lists.proofs.Keys.{rises-parted, place-found, place-missing, place-gap, end-missing, end-gap}
+use Rattle.ele_lists.proofs.Words.{IsPartitionPoint-from_clause, end-gap, end-missing, ltb, place-found, place-gap, place-missing, rises-parted, rules, sym, ◌∙◌}
 use Rattle.ele_lists.proofs.keyed.place_of.Goals as goal
 
 pub returns-in-Some-get-clause-found : goal.returns-in-Some-get-clause-found

@@ -1,5 +1,4 @@
-use Rattle.std.proofs.Common.{◌-◌, arith}
-use Rattle.ele_lists.proofs.Ends.{update_last-set}
+use Rattle.ele_lists.proofs.Words.{arith, update_last-set, ◌-◌}
 use Rattle.ele_lists.proofs.seam.change_end.Goals as goal
 
 pub returns-clause-rows : goal.returns-clause-rows

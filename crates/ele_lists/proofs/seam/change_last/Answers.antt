@@ -1,9 +1,4 @@
-use Rattle.std.proofs.Common.{◌≡◌, ◌-◌, ◌<◌, Some, length, get_or, arith}
-use Rattle.std.specs.Prelude.{slice_get}
-use Rattle.std.proofs.lemmas.Bool.Decides.{nat_tests}
-use Rattle.std.proofs.lemmas.Option.{slice_get-get_or}
-use Rattle.ele_lists.proofs.Alls.{all-got}
-use Rattle.ele_lists.proofs.Seams.{flat-change_last, last_room-change}
+use Rattle.ele_lists.proofs.Words.{Some, all-got, arith, flat-change_last, get_or, last_room-change, length, nat_tests, slice_get, slice_get-get_or, ◌-◌, ◌<◌, ◌≡◌}
 use Rattle.ele_lists.proofs.seam.change_last.Goals as goal
 
 pub returns-clause-rows : goal.returns-clause-rows

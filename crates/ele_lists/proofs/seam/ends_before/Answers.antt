@@ -1,7 +1,4 @@
-use Rattle.std.proofs.Common.{◌≡◌, Some, ap, sym, ◌∙◌}
-use Rattle.std.specs.Option.{option_copied}
-use Rattle.ele_lists.specs.Ends.{last_of}
-use Rattle.ele_lists.proofs.Ends.{last-slice_get}
+use Rattle.ele_lists.proofs.Words.{Some, ap, last-slice_get, last_of, option_copied, sym, ◌∙◌, ◌≡◌}
 use Rattle.ele_lists.proofs.seam.ends_before.Goals as goal
 
 pub returns-in-Some : goal.returns-in-Some

@@ -1,7 +1,4 @@
-use Rattle.std.proofs.Common.{◌≡◌, Some, refl, length}
-use Rattle.std.specs.Prelude.{slice_get}
-use Rattle.std.proofs.lemmas.Option.{slice_get_read}
-use Rattle.ele_lists.proofs.Seams.{chunk_rises, dense_found}
+use Rattle.ele_lists.proofs.Words.{Some, chunk_rises, dense_found, length, refl, slice_get, slice_get_read, ◌≡◌}
 use Rattle.ele_lists.proofs.seam.find_dense.Goals as goal
 
 pub place_if_dense-requires : goal.place_if_dense-requires

@@ -1,7 +1,4 @@
-use Rattle.std.proofs.Common.{◌≡◌, ap, sym, ◌∙◌}
-use Rattle.std.specs.Option.{option_copied}
-use Rattle.ele_lists.proofs.Keys.{before_sinks}
-use Rattle.ele_lists.proofs.Seams.{key_found, key_missing}
+use Rattle.ele_lists.proofs.Words.{ap, before_sinks, key_found, key_missing, option_copied, sym, ◌∙◌, ◌≡◌}
 use Rattle.ele_lists.proofs.seam.find_key.Goals as goal
 
 pub seek-chunk-requires-clause-sinks : goal.seek-chunk-requires-clause-sinks

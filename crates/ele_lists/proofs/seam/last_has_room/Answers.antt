@@ -1,8 +1,4 @@
-use Rattle.std.proofs.Common.{◌≡◌, Some, ap, sym, ◌∙◌, arith}
-use Rattle.std.specs.Option.{option_copied}
-use Rattle.std.proofs.lemmas.Bool.Decides.{nat_tests}
-use Rattle.ele_lists.specs.Ends.{last_of}
-use Rattle.ele_lists.proofs.Ends.{last-slice_get}
+use Rattle.ele_lists.proofs.Words.{Some, ap, arith, last-slice_get, last_of, nat_tests, option_copied, sym, ◌∙◌, ◌≡◌}
 use Rattle.ele_lists.proofs.seam.last_has_room.Goals as goal
 
 pub returns-in-Some : goal.returns-in-Some

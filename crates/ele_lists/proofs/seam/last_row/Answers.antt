@@ -1,8 +1,4 @@
-use Rattle.std.proofs.Common.{◌≡◌, Some, ap, sym, ◌∙◌}
-use Rattle.std.specs.Option.{option_copied}
-use Rattle.ele_lists.specs.Ends.{last_of}
-use Rattle.ele_lists.proofs.Ends.{last-slice_get}
-use Rattle.ele_lists.proofs.Seams.{last-flat}
+use Rattle.ele_lists.proofs.Words.{Some, ap, last-flat, last-slice_get, last_of, option_copied, sym, ◌∙◌, ◌≡◌}
 use Rattle.ele_lists.proofs.seam.last_row.Goals as goal
 
 pub returns : goal.returns

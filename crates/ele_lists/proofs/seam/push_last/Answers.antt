@@ -1,7 +1,4 @@
-use Rattle.std.proofs.Common.{◌≡◌, ◌-◌, Some, length, get_or, arith}
-use Rattle.std.specs.Prelude.{slice_get}
-use Rattle.std.proofs.lemmas.Option.{slice_get-get_or}
-use Rattle.ele_lists.proofs.Seams.{flat-set_last, last_room-here, room_needs}
+use Rattle.ele_lists.proofs.Words.{Some, arith, flat-set_last, get_or, last_room-here, length, room_needs, slice_get, slice_get-get_or, ◌-◌, ◌≡◌}
 use Rattle.ele_lists.proofs.seam.push_last.Goals as goal
 
 pub put-requires : goal.put-requires

@@ -1,7 +1,4 @@
-use Rattle.std.proofs.Common.{◌≡◌, ◌≤◌, suc, ◌-◌, ap, sym, ◌∙◌, arith, length}
-use Rattle.ele_lists.specs.Ends.{last_of}
-use Rattle.ele_lists.specs.Chunks.{before_place, rows_at}
-use Rattle.ele_lists.proofs.Seams.{last-before_some}
+use Rattle.ele_lists.proofs.Words.{ap, arith, before_place, last-before_some, last_of, length, rows_at, suc, sym, ◌-◌, ◌∙◌, ◌≡◌, ◌≤◌}
 use Rattle.ele_lists.proofs.seam.row_before.Goals as goal
 
 pub returns-then-place-gt0 : goal.returns-then-place-gt0

@@ -1,9 +1,4 @@
-use Rattle.std.proofs.Common.{◌≡◌, ◌<◌, [], Some, length, refl, ap, sym, ◌∙◌, arith, get_or-set_same}
-use Rattle.std.specs.Prelude.{slice_get}
-use Rattle.std.proofs.Math.ListN.{set, length-set}
-use Rattle.std.proofs.lemmas.Option.{slice_get_read}
-use Rattle.ele_lists.specs.Chunks.{flat}
-use Rattle.ele_lists.proofs.Seams.{flat-taken, flat-remove_empty, last_room-set, has_chunk, rows-here, empty_chunk}
+use Rattle.ele_lists.proofs.Words.{Some, [], ap, arith, empty_chunk, flat, flat-remove_empty, flat-taken, get_or-set_same, has_chunk, last_room-set, length, length-set, refl, rows-here, set, slice_get, slice_get_read, sym, ◌<◌, ◌∙◌, ◌≡◌}
 use Rattle.ele_lists.proofs.seam.take_out.Goals as goal
 
 pub returns-then-is_empty-clause-rows : goal.returns-then-is_empty-clause-rows

@@ -1,8 +1,4 @@
-use Rattle.std.proofs.Common.{◌≡◌, true, false, not, ap, sym, ◌∙◌}
-use Rattle.ele_lists.specs.Chunks.{before_place, behind_place}
-use Rattle.ele_lists.proofs.Edits.{all-weaker}
-use Rattle.ele_lists.proofs.Ends.{find-parted}
-use Rattle.ele_lists.proofs.Seams.{place_split, first_behind}
+use Rattle.ele_lists.proofs.Words.{all-weaker, ap, before_place, behind_place, false, find-parted, first_behind, not, place_split, sym, true, ◌∙◌, ◌≡◌}
 use Rattle.ele_lists.proofs.chunks.Chunks.first_behind.Goals as goal
 
 pub returns : goal.returns

@@ -1,8 +1,4 @@
-use Rattle.std.proofs.Common.{◌≡◌, sym, ap, ◌∙◌}
-use Rattle.std.specs.Prelude.{slice_get}
-use Rattle.ele_lists.specs.Chunks.{rows_at}
-use Rattle.ele_lists.specs.Keys.{has_key}
-use Rattle.ele_lists.proofs.Edits.{not_found}
+use Rattle.ele_lists.proofs.Words.{ap, has_key, not_found, rows_at, slice_get, sym, ◌∙◌, ◌≡◌}
 use Rattle.ele_lists.proofs.chunks.Chunks.get.Goals as goal
 
 pub returns-in_err-chunk : goal.returns-in_err-chunk

@@ -1,7 +1,4 @@
-use Rattle.std.proofs.Common.{◌≡◌, sym, ◌∙◌}
-use Rattle.ele_lists.specs.Chunks.{before_place, behind_place}
-use Rattle.ele_lists.proofs.Ends.{find_last-parted}
-use Rattle.ele_lists.proofs.Seams.{place_split}
+use Rattle.ele_lists.proofs.Words.{before_place, behind_place, find_last-parted, place_split, sym, ◌∙◌, ◌≡◌}
 use Rattle.ele_lists.proofs.chunks.Chunks.last_before.Goals as goal
 
 pub returns : goal.returns

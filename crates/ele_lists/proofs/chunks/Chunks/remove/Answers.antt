@@ -1,7 +1,4 @@
-use Rattle.std.proofs.Common.{sym}
-use Rattle.ele_lists.specs.Keys.{has_key}
-use Rattle.ele_lists.proofs.Edits.{not_found}
-use Rattle.ele_lists.proofs.Cuts.{remove_first-unfound}
+use Rattle.ele_lists.proofs.Words.{has_key, not_found, remove_first-unfound, sym}
 use Rattle.ele_lists.proofs.chunks.Chunks.remove.Goals as goal
 
 pub returns-in_err-chunk-clause-row : goal.returns-in_err-chunk-clause-row

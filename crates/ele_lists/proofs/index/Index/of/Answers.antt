@@ -1,8 +1,4 @@
-use Rattle.std.proofs.Common.{◌≡◌, true}
-use Rattle.std.proofs.lemmas.List.Elements.{recursion_from_All, All-weaker}
-use Rattle.std.specs.BTreeSet.{IsKeyInRange}
-use Rattle.ele_lists.specs.Index.{has, entry_cmp}
-use Rattle.ele_lists.proofs.Groups.{of_group, found_of_group, least, greatest}
+use Rattle.ele_lists.proofs.Words.{All-weaker, IsKeyInRange, entry_cmp, found_of_group, greatest, has, least, of_group, recursion_from_All, true, ◌≡◌}
 use Rattle.ele_lists.proofs.index.Index.of.Goals as goal
 
 pub returns-clause-each : goal.returns-clause-each
