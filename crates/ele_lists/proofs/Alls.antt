@@ -1,6 +1,6 @@
 -- What holds of all elements, or between them, in parts of lists, lists after one another, filters and views.
-use Rattle.ele_lists.proofs.Basics.{AllByRecursion, AllLater, Bool, List, Some, [], append_assoc, arith, cond, false, filter, flat_map, get_or, length, map, refl, reverse, reverse-append, slice_get, suc, sym, true, zero, ℕ, ◌++◌, ◌<◌, ◌∙◌, ◌∷◌, ◌≡◌}
-use Rattle.ele_lists.proofs.Edits.{all-weaker}
+use Rattle.ele_lists.proofs.Basics.{AllByRecursion, AllLater, Bool, List, Some, [], append_assoc, arith, filter, flat_map, get_or, length, map, refl, reverse, reverse-append, slice_get, suc, sym, true, zero, ℕ, ◌++◌, ◌<◌, ◌∙◌, ◌∷◌, ◌≡◌}
+use Rattle.ele_lists.proofs.Edits.{all-both, all-weaker}
 
 module _ {X : Type 0} (P : X → Type 0) where
   pub all-append : (xs ys : List X) → AllByRecursion P xs → AllByRecursion P ys → AllByRecursion P (xs ++ ys)
@@ -50,18 +50,12 @@ module _ {X : Type 0} (P : X → Type 0) where
 
   pub all-filter : (p : X → Bool) (xs : List X) → AllByRecursion P xs → AllByRecursion P (filter p xs)
   all-filter p [] all = tt
-  all-filter p (x ∷ xs) all = elim (p x) as (λ b. AllByRecursion P (cond b (x ∷ filter p xs) (filter p xs))) [
-    | true ↦ (all.0, all-filter p xs all.1)
-    | false ↦ all-filter p xs all.1
-  ]
+  all-filter p (x ∷ xs) all = grind (arith, all-filter p xs)
 
 -- those that pass do
 pub filter-passes : {X : Type 0} (p : X → Bool) (xs : List X) → AllByRecursion (λ x. p x ≡ true) (filter p xs)
 filter-passes p [] = tt
-filter-passes p (x ∷ xs) = elim (p x) as (λ b. p x ≡ b → AllByRecursion (λ x. p x ≡ true) (cond b (x ∷ filter p xs) (filter p xs))) [
-  | true ↦ λ e. (e, filter-passes p xs)
-  | false ↦ λ e. filter-passes p xs
-] refl
+filter-passes p (x ∷ xs) = grind (arith, filter-passes p xs)
 
 module _ {X Y : Type 0} (h : X → Y) (P : Y → Type 0) where
   pub all-map : (xs : List X) → AllByRecursion (λ x. P (h x)) xs → AllByRecursion P (map h xs)
@@ -119,16 +113,7 @@ module _ {X : Type 0} (R : X → X → Type 0) where
   -- between those that pass
   pub later-filter : (S : X → X → Type 0) (p : X → Bool) (xs : List X) → ((x y : X) → p x ≡ true → p y ≡ true → R x y → S x y) → AllLater R xs → AllLater S (filter p xs)
   later-filter S p [] gives later = tt
-  later-filter S p (x ∷ xs) gives later = elim (p x) as (λ b. p x ≡ b → AllLater S (cond b (x ∷ filter p xs) (filter p xs))) [
-    | true ↦ λ e. (each e xs later.0, later-filter S p xs gives later.1)
-    | false ↦ λ e. later-filter S p xs gives later.1
-  ] refl where
-    each : p x ≡ true → (ys : List X) → AllByRecursion (R x) ys → AllByRecursion (S x) (filter p ys)
-    each e [] all = tt
-    each e (y ∷ ys) all = elim (p y) as (λ b. p y ≡ b → AllByRecursion (S x) (cond b (y ∷ filter p ys) (filter p ys))) [
-      | true ↦ λ f. (gives x y e f all.0, each e ys all.1)
-      | false ↦ λ f. each e ys all.1
-    ] refl
+  later-filter S p (x ∷ xs) gives later = grind (arith, all-both (R x) (λ y. p y ≡ true) (filter p xs), all-filter (R x) p xs, filter-passes p xs, all-weaker (λ y. R x y × (p y ≡ true)) (S x) (filter p xs), later-filter S p xs)
 
 -- between elements of a view, and back
 pub later-map : {X Y : Type 0} (h : X → Y) (R : Y → Y → Type 0) (xs : List X) → AllLater (λ x y. R (h x) (h y)) xs → AllLater R (map h xs)
