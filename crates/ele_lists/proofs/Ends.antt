@@ -1,5 +1,5 @@
 -- The last element: of lists after one another, at its place, in a reversed list, and what an update of it keeps.
-use Rattle.ele_lists.proofs.Basics.{AllByRecursion, AllLater, Bool, List, None, Option, Some, [], ap, arith, cond, false, find, find-append, get_or, is_some, last_of, length, list_any, option_or, refl, reverse, reverse-append, set, slice_get, suc, take, true, update_last, zero, ℕ, ◌++◌, ◌-◌, ◌||◌, ◌∙◌, ◌∷◌, ◌≡◌, ◌≤◌}
+use Rattle.ele_lists.proofs.Basics.{AllByRecursion, AllLater, Bool, List, None, Option, Some, [], ap, arith, cond, false, find, find-append, get_or, is_some, last_of, length, list_any, option_or, refl, reverse, reverse-append, set, slice_get, suc, take, true, update_last, zero, ℕ, ◌++◌, ◌-◌, ◌∷◌, ◌≡◌, ◌≤◌}
 use Rattle.ele_lists.proofs.Alls.{all-reverse}
 use Rattle.ele_lists.proofs.Edits.{not_found}
 
@@ -55,17 +55,7 @@ module _ {X : Type 0} (p : X → Bool) where
 
   pub find_last-is_some : (xs : List X) → is_some (find p (reverse xs)) ≡ list_any p xs
   find_last-is_some [] = refl
-  find_last-is_some (x ∷ xs) = rw (find_last-cons x xs) (elim (p x) as (λ b. is_some (option_or (find p (reverse xs)) (cond b (Some x) None)) ≡ (b || list_any p xs)) [
-    | true ↦ any (find p (reverse xs))
-    | false ↦ same (find p (reverse xs)) ∙ find_last-is_some xs
-  ]) where
-    any : (o : Option X) → is_some (option_or o (Some x)) ≡ true
-    any None = refl
-    any (Some y) = refl
-
-    same : (o : Option X) → is_some (option_or o None) ≡ is_some o
-    same None = refl
-    same (Some y) = refl
+  find_last-is_some (x ∷ xs) = grind (arith, find_last-cons x xs, find_last-is_some xs)
 
   either : (x : X) (xs : List X) (o : Option X) → option_or (last_of (x ∷ xs)) o ≡ last_of (x ∷ xs)
   either x [] o = refl
@@ -74,8 +64,7 @@ module _ {X : Type 0} (p : X → Bool) where
   last_passing : (xs : List X) → AllByRecursion (λ x. p x ≡ true) xs → find p (reverse xs) ≡ last_of xs
   last_passing [] all = refl
   last_passing (x ∷ []) all = rw all.0 refl
-  last_passing (x ∷ y ∷ xs) all =
-      rw (find_last-cons x (y ∷ xs), last_passing (y ∷ xs) all.1) (either y xs (cond (p x) (Some x) None))
+  last_passing (x ∷ y ∷ xs) all = grind (arith, find_last-cons x (y ∷ xs), last_passing (y ∷ xs), either y xs)
 
   -- of a list cut in two, all passing before the cut and none behind it
   pub find_last-parted : (before behind : List X) → AllByRecursion (λ x. p x ≡ true) before → AllByRecursion (λ x. p x ≡ false) behind → find p (reverse (before ++ behind)) ≡ last_of before

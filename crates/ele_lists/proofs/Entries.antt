@@ -1,5 +1,5 @@
 -- The entries of a map by rising key: one more, some of them, and two maps in which each look-up finds the same.
-use Rattle.ele_lists.proofs.Basics.{AllByRecursion, Bool, CmpEqualImpliesEq, Equal, Greater, IsDistinct-from_sorted, IsTotalOrder, Less, List, None, Option, Ordering, Some, [], ap, cond, cons_option, eq_by_cmp_equiv, false, filter, filter_map, insert_entry, is_at, is_eq, keys_of, lookup, lookup-none, lookup_tail, map, match_ordering, none_below_head, none_past_head, ordering_reverse, refl, sym, true, ◌∙◌, ◌∷◌, ◌≡◌}
+use Rattle.ele_lists.proofs.Basics.{AllByRecursion, Bool, CmpEqualImpliesEq, Equal, Greater, IsDistinct-from_sorted, IsTotalOrder, Less, List, None, Option, Ordering, Some, [], ap, arith, cond, cons_option, eq_by_cmp_equiv, false, filter, filter_map, insert_entry, is_at, is_eq, keys_of, lookup, lookup-none, lookup_tail, map, match_ordering, none_below_head, none_past_head, ordering_reverse, refl, sym, true, ◌∙◌, ◌∷◌, ◌≡◌}
 use Rattle.std.specs.List.Sorted.{IsStrictlySortedBy}
 
 equal_is : (x : Ordering) → is_eq x ≡ true → x ≡ Equal
@@ -11,36 +11,22 @@ module _ {K X : Type 0} where
   -- what holds of the entries, after one more
   pub all-insert_entry : (P : K × X → Type 0) (cmp : K → K → Ordering) (es : List (K × X)) (k : K) (v : X) → P (k, v) → ((e : K × X) → cmp k e.0 ≡ Equal → P (e.0, v)) → AllByRecursion P es → AllByRecursion P (insert_entry cmp es k v)
   all-insert_entry P cmp [] k v own same all = (own, tt)
-  all-insert_entry P cmp (e ∷ es) k v own same all = by (cmp k e.0) refl (all-insert_entry P cmp es k v own same all.1) where
-    by : (x : Ordering) → cmp k e.0 ≡ x → AllByRecursion P (insert_entry cmp es k v) → AllByRecursion P (match_ordering x ((k, v) ∷ e ∷ es) ((e.0, v) ∷ es) (e ∷ insert_entry cmp es k v))
-    by Less h rest = (own, all)
-    by Equal h rest = (same e h, all.1)
-    by Greater h rest = (all.0, rest)
+  all-insert_entry P cmp (e ∷ es) k v own same all = grind (arith, all-insert_entry P cmp es)
 
   -- and of the keys
   all_keys-insert_entry : (P : K → Type 0) (cmp : K → K → Ordering) (es : List (K × X)) (k : K) (v : X) → P k → AllByRecursion P (keys_of es) → AllByRecursion P (keys_of (insert_entry cmp es k v))
   all_keys-insert_entry P cmp [] k v own all = (own, tt)
-  all_keys-insert_entry P cmp (e ∷ es) k v own all = by (cmp k e.0) (all_keys-insert_entry P cmp es k v own all.1) where
-    by : (x : Ordering) → AllByRecursion P (keys_of (insert_entry cmp es k v)) → AllByRecursion P (keys_of (match_ordering x ((k, v) ∷ e ∷ es) ((e.0, v) ∷ es) (e ∷ insert_entry cmp es k v)))
-    by Less rest = (own, all)
-    by Equal rest = all
-    by Greater rest = (all.0, rest)
+  all_keys-insert_entry P cmp (e ∷ es) k v own all = grind (arith, all_keys-insert_entry P cmp es)
 
   all_keys-filter : (P : K → Type 0) (p : K × X → Bool) (es : List (K × X)) → AllByRecursion P (keys_of es) → AllByRecursion P (keys_of (filter p es))
   all_keys-filter P p [] all = tt
-  all_keys-filter P p (e ∷ es) all = by (p e) (all_keys-filter P p es all.1) where
-    by : (b : Bool) → AllByRecursion P (keys_of (filter p es)) → AllByRecursion P (keys_of (cond b (e ∷ filter p es) (filter p es)))
-    by true rest = (all.0, rest)
-    by false rest = rest
+  all_keys-filter P p (e ∷ es) all = grind (arith, all_keys-filter P p es)
 
   -- some of them rise as well
   pub sorted-filter_entries : (cmp : K → K → Ordering) (p : K × X → Bool) (es : List (K × X)) → IsStrictlySortedBy cmp (keys_of es) → IsStrictlySortedBy cmp (keys_of (filter p es))
   unfolding IsStrictlySortedBy
   sorted-filter_entries cmp p [] up = tt
-  sorted-filter_entries cmp p (e ∷ es) up = by (p e) (sorted-filter_entries cmp p es up.1) where
-    by : (b : Bool) → IsStrictlySortedBy cmp (keys_of (filter p es)) → IsStrictlySortedBy cmp (keys_of (cond b (e ∷ filter p es) (filter p es)))
-    by true rest = (all_keys-filter (λ k. cmp e.0 k ≡ Less) p es up.0, rest)
-    by false rest = rest
+  sorted-filter_entries cmp p (e ∷ es) up = grind (arith, all_keys-filter (λ k. cmp e.0 k ≡ Less) p es, sorted-filter_entries cmp p es)
 
 module _ {K X : Type 0} {cmp : K → K → Ordering} (o : IsTotalOrder cmp) where
   pub sorted-insert_entry : (es : List (K × X)) (k : K) (v : X) → IsStrictlySortedBy cmp (keys_of es) → IsStrictlySortedBy cmp (keys_of (insert_entry cmp es k v))

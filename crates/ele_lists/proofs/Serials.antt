@@ -1,5 +1,5 @@
 -- Values in order of their serial numbers.
-use Rattle.ele_lists.proofs.Basics.{AllByRecursion, AllLater, Bool, Equal, Greater, Less, List, None, Some, [], ap, arith, cond, exact_unsigned, false, inl, inr, insert_entry, is_at, keys_of, last_passing, nat_cmp, nat_tests, refl, remove_entry, subst, sym, true, value_at, values_of, ℕ, ◌++◌, ◌<◌, ◌∷◌, ◌≡◌, ◌≤◌, ◌⊎◌}
+use Rattle.ele_lists.proofs.Basics.{AllByRecursion, AllLater, Bool, Equal, Greater, Less, List, None, Some, [], ap, arith, exact_unsigned, false, inl, inr, insert_entry, is_at, keys_of, last_passing, nat_cmp, nat_tests, refl, remove_entry, subst, true, value_at, values_of, ℕ, ◌++◌, ◌<◌, ◌∷◌, ◌≡◌, ◌≤◌, ◌⊎◌}
 use Rattle.ele_lists.proofs.Indexed.{at_itself}
 use Rattle.std.specs.List.Sorted.{IsStrictlySortedBy}
 
@@ -24,11 +24,7 @@ module _ {X : Type 0} where
   -- what all serial numbers have, that of a value has
   pub found_key : (P : ℕ → Type 0) (es : List (ℕ × X)) (s : ℕ) (v : X) → AllByRecursion P (keys_of es) → value_at es s ≡ Some v → P s
   found_key P [] s v all h = absurd cc
-  found_key P (e ∷ es) s v all h = elim (nat_cmp s e.0) as (λ o. nat_cmp s e.0 ≡ o → P s) [
-    | Less ↦ λ f. found_key P es s v all.1 (rw f at h)
-    | Equal ↦ λ f. subst P (sym (exact_unsigned s e.0 f)) all.0
-    | Greater ↦ λ f. found_key P es s v all.1 (rw f at h)
-  ] refl
+  found_key P (e ∷ es) s v all h = grind (arith, exact_unsigned, found_key P es s v)
 
   pub after_head : (e : ℕ × X) (es : List (ℕ × X)) (s : ℕ) (v : X) → IsRising (e ∷ es) → value_at es s ≡ Some v → (e.0 < s) × (value_at (e ∷ es) s ≡ Some v)
   unfolding IsStrictlySortedBy
@@ -42,11 +38,7 @@ module _ {X : Type 0} where
 
   -- the value is the first, or one behind it
   pub head_or_later : (e : ℕ × X) (es : List (ℕ × X)) (s : ℕ) (v : X) → IsRising (e ∷ es) → value_at (e ∷ es) s ≡ Some v → ((s ≡ e.0) × (e.1 ≡ v)) ⊎ ((e.0 < s) × (value_at es s ≡ Some v))
-  head_or_later e es s v up h = elim (nat_cmp s e.0) as (λ o. nat_cmp s e.0 ≡ o → ((s ≡ e.0) × (e.1 ≡ v)) ⊎ ((e.0 < s) × (value_at es s ≡ Some v))) [
-    | Less ↦ λ f. let there : value_at es s ≡ Some v = rw f at h in inr ((after_head e es s v up there).0, there)
-    | Equal ↦ λ f. let h' : Some e.1 ≡ Some v = rw f at h in inl (exact_unsigned s e.0 f, cc)
-    | Greater ↦ λ f. let there : value_at es s ≡ Some v = rw f at h in inr ((after_head e es s v up there).0, there)
-  ] refl
+  head_or_later e es s v up h = grind (arith, exact_unsigned, after_head e es s v)
 
   -- what each value is to each later one, by serial numbers
   pub later_at : (R : X → X → Type 0) (es : List (ℕ × X)) (s t : ℕ) (v w : X) → IsRising es → AllLater R (values_of es) → value_at es s ≡ Some v → value_at es t ≡ Some w → s < t → R v w
@@ -119,10 +111,7 @@ module _ {X : Type 0} where
 
   pub all_keys_without : (P : ℕ → Type 0) (test : ℕ → Bool) (es : List (ℕ × X)) → AllByRecursion P (keys_of es) → AllByRecursion P (keys_of (remove_entry test es))
   all_keys_without P test [] all = tt
-  all_keys_without P test (e ∷ es) all = elim (test e.0) as (λ b. AllByRecursion P (keys_of (cond b es (e ∷ remove_entry test es)))) [
-    | true ↦ all.1
-    | false ↦ (all.0, all_keys_without P test es all.1)
-  ]
+  all_keys_without P test (e ∷ es) all = grind (arith, all_keys_without P test es)
 
   -- a serial number above all
   pub pushed : (n : ℕ) (v : X) (es : List (ℕ × X)) → AllByRecursion (λ k. k < n) (keys_of es) → insert_entry nat_cmp es n v ≡ es ++ (n, v) ∷ []
