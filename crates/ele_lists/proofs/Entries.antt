@@ -1,5 +1,6 @@
 -- The entries of a map by rising key: one more, some of them, and two maps in which each look-up finds the same.
-use Rattle.ele_lists.proofs.Basics.{AllByRecursion, Bool, CmpEqualImpliesEq, Equal, Greater, IsDistinct-from_sorted, IsTotalOrder, Less, List, None, Option, Ordering, Some, [], ap, arith, cond, cons_option, eq_by_cmp_equiv, false, filter, filter_map, insert_entry, is_at, is_eq, keys_of, lookup, lookup-none, lookup_tail, map, match_ordering, none_below_head, none_past_head, ordering_reverse, refl, sym, true, ◌∙◌, ◌∷◌, ◌≡◌}
+use Rattle.ele_lists.proofs.Basics.{AllByRecursion, Bool, CmpEqualImpliesEq, Equal, Greater, IsDistinct-from_sorted, IsTotalOrder, Less, List, Option, Ordering, Some, [], ap, arith, cond, cons_option, eq_by_cmp_equiv, false, filter, filter_map, insert_entry, is_at, is_eq, keys_of, lookup, lookup-none, lookup_tail, map, none_below_head, none_past_head, ordering_reverse, refl, sym, true, ◌∙◌, ◌∷◌, ◌≡◌}
+use Rattle.ele_lists.proofs.Edits.{all-weaker}
 use Rattle.std.specs.List.Sorted.{IsStrictlySortedBy}
 
 equal_is : (x : Ordering) → is_eq x ≡ true → x ≡ Equal
@@ -32,42 +33,19 @@ module _ {K X : Type 0} {cmp : K → K → Ordering} (o : IsTotalOrder cmp) wher
   pub sorted-insert_entry : (es : List (K × X)) (k : K) (v : X) → IsStrictlySortedBy cmp (keys_of es) → IsStrictlySortedBy cmp (keys_of (insert_entry cmp es k v))
   unfolding IsStrictlySortedBy
   sorted-insert_entry [] k v up = (tt, tt)
-  sorted-insert_entry (e ∷ es) k v up = by (cmp k e.0) refl (sorted-insert_entry es k v up.1) where
-    above : cmp k e.0 ≡ Less → (fs : List (K × X)) → AllByRecursion (λ y. cmp e.0 y ≡ Less) (keys_of fs) → AllByRecursion (λ y. cmp k y ≡ Less) (keys_of fs)
-    above h [] all = tt
-    above h (f ∷ fs) all = (o.trans k e.0 f.0 h all.0, above h fs all.1)
-
-    by : (x : Ordering) → cmp k e.0 ≡ x → IsStrictlySortedBy cmp (keys_of (insert_entry cmp es k v)) → IsStrictlySortedBy cmp (keys_of (match_ordering x ((k, v) ∷ e ∷ es) ((e.0, v) ∷ es) (e ∷ insert_entry cmp es k v)))
-    by Less h rest = ((h, above h es up.0), up)
-    by Equal h rest = up
-    by Greater h rest = (all_keys-insert_entry (λ y. cmp e.0 y ≡ Less) cmp es k v (o.antisymm e.0 k ∙ ap ordering_reverse h) up.0, rest)
+  sorted-insert_entry (e ∷ es) k v up = grind (arith, o.trans, o.antisymm e.0 k, all-weaker (λ y. cmp e.0 y ≡ Less) (λ y. cmp k y ≡ Less) (keys_of es), all_keys-insert_entry (λ y. cmp e.0 y ≡ Less) cmp es k v, sorted-insert_entry es k v)
 
   -- one more is found at its key, and at others what was
   pub lookup-insert_entry : (q : K) (es : List (K × X)) (k : K) (v : X) → lookup (is_at (cmp q)) (insert_entry cmp es k v) ≡ cond (is_eq (cmp k q)) (Some v) (lookup (is_at (cmp q)) es)
-  lookup-insert_entry q [] k v = ap (λ b. cond b (Some v) None) ((eq_by_cmp_equiv o).symm q k)
-  lookup-insert_entry q (e ∷ es) k v = by (cmp k e.0) refl (lookup-insert_entry q es k v) where
-    twice : (b : Bool) (old : Option X) → cond b (Some v) old ≡ cond b (Some v) (cond b (Some e.1) old)
-    twice true old = refl
-    twice false old = refl
-
-    passed : cmp k e.0 ≡ Greater → (b : Bool) → is_eq (cmp k q) ≡ b → cond (is_eq (cmp q e.0)) (Some e.1) (cond b (Some v) (lookup (is_at (cmp q)) es)) ≡ cond b (Some v) (cond (is_eq (cmp q e.0)) (Some e.1) (lookup (is_at (cmp q)) es))
-    passed h true same = rw (sym (o.congr k q e.0 (equal_is (cmp k q) same)) ∙ h) refl
-    passed h false same = refl
-
-    by : (x : Ordering) → cmp k e.0 ≡ x → lookup (is_at (cmp q)) (insert_entry cmp es k v) ≡ cond (is_eq (cmp k q)) (Some v) (lookup (is_at (cmp q)) es)
-        → lookup (is_at (cmp q)) (match_ordering x ((k, v) ∷ e ∷ es) ((e.0, v) ∷ es) (e ∷ insert_entry cmp es k v)) ≡ cond (is_eq (cmp k q)) (Some v) (lookup (is_at (cmp q)) (e ∷ es))
-    by Less h rest = ap (λ b. cond b (Some v) (lookup (is_at (cmp q)) (e ∷ es))) ((eq_by_cmp_equiv o).symm q k)
-    by Equal h rest =
-        let same : is_eq (cmp k q) ≡ is_eq (cmp q e.0) = ap is_eq (o.congr k e.0 q h) ∙ (eq_by_cmp_equiv o).symm e.0 q in
-        rw same (twice (is_eq (cmp q e.0)) (lookup (is_at (cmp q)) es))
-    by Greater h rest = rw rest (passed h (is_eq (cmp k q)) refl)
+  lookup-insert_entry q [] k v = grind (arith, (eq_by_cmp_equiv o).symm q k)
+  lookup-insert_entry q (e ∷ es) k v = grind (arith, (eq_by_cmp_equiv o).symm q k, (eq_by_cmp_equiv o).symm e.0 q, o.congr k e.0 q, o.congr k q e.0, lookup-insert_entry q es k v)
 
   -- they are the same, where keys that compare alike are
   pub entries_same : CmpEqualImpliesEq cmp → (es fs : List (K × X)) → IsStrictlySortedBy cmp (keys_of es) → IsStrictlySortedBy cmp (keys_of fs) → ((q : K) → lookup (is_at (cmp q)) es ≡ lookup (is_at (cmp q)) fs) → es ≡ fs
   unfolding IsStrictlySortedBy
   entries_same exact [] [] up also same = refl
-  entries_same exact (e ∷ es) [] up also same = absurd (let h = rw ((eq_by_cmp_equiv o).refl e.0) at (same e.0) in cc)
-  entries_same exact [] (f ∷ fs) up also same = absurd (let h = rw ((eq_by_cmp_equiv o).refl f.0) at (same f.0) in cc)
+  entries_same exact (e ∷ es) [] up also same = grind (arith, (eq_by_cmp_equiv o).refl e.0, same e.0)
+  entries_same exact [] (f ∷ fs) up also same = grind (arith, (eq_by_cmp_equiv o).refl f.0, same f.0)
   entries_same exact (e ∷ es) (f ∷ fs) up also same = by (cmp e.0 f.0) refl (entries_same exact es fs up.1 also.1) where
     here : (e : K × X) (es fs : List (K × X)) → lookup (is_at (cmp e.0)) (e ∷ es) ≡ lookup (is_at (cmp e.0)) fs → lookup (is_at (cmp e.0)) fs ≡ Some e.1
     here e es fs h = sym h ∙ rw ((eq_by_cmp_equiv o).refl e.0) refl

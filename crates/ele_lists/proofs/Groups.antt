@@ -1,18 +1,12 @@
 -- What lies between two entries of one group.
-use Rattle.ele_lists.proofs.Basics.{Bound, Equal, Greater, Included, Index, IsInRange, IsLastOf, IsLeBy, IsTotalOrder, IsTrue, Less, Ordering, any-filter_same, arith, entry_cmp, eq_by_cmp_equiv, false, false≢true, has, is_at, is_eq, is_gt, is_lt, keys_between, list_any, list_any_congr, nat_cmp, nat_cmp_total, nat_tests, on_total, ordering_reverse, ordering_then, range_contains, range_contains-from_IsInRange, refl, then_total, tied_itself, true, ℕ, ◌<◌, ◌==◌, ◌^◌, ◌∙◌, ◌≡◌, ◌≤◌, ◌⊎◌}
+use Rattle.ele_lists.proofs.Basics.{Bound, Equal, Included, Index, IsInRange, IsLastOf, IsLeBy, IsTotalOrder, IsTrue, Ordering, any-filter_same, arith, entry_cmp, eq_by_cmp_equiv, false, has, is_at, is_eq, is_gt, is_lt, keys_between, list_any, list_any_congr, nat_cmp, nat_cmp_total, nat_tests, on_total, ordering_reverse, ordering_then, range_contains, range_contains-from_IsInRange, refl, then_total, tied_itself, true, ℕ, ◌<◌, ◌==◌, ◌^◌, ◌∙◌, ◌≡◌, ◌≤◌, ◌⊎◌}
 use Rattle.ele_lists.proofs.Anys.{any-weaker}
 
 first_le : (x y z : Ordering) → is_gt (ordering_then (ordering_then x y) z) ≡ false → is_gt x ≡ false
-first_le Less y z h = refl
-first_le Equal y z h = refl
-first_le Greater y z h = h
+first_le x y z h = grind arith
 
 level : (x y : Ordering) → x ≡ ordering_reverse y → is_gt x ≡ false → is_gt y ≡ false → x ≡ Equal
-level Less Less e a b = cc
-level Less Equal e a b = cc
-level Less Greater e a b = absurd cc
-level Equal y e a b = refl
-level Greater y e a b = absurd cc
+level x y e a b = grind arith
 
 rank_le : (x : Ordering) (r rank s t : ℕ) → x ≡ Equal → is_gt (ordering_then (ordering_then x (nat_cmp r rank)) (nat_cmp s t)) ≡ false → r ≤ rank
 rank_le x r rank s t e h = grind (arith, nat_tests)
@@ -32,9 +26,7 @@ module _ {G : Type 0} {cmp : G → G → Ordering} (o : IsTotalOrder cmp) where
 
   -- what has the group in its place
   has_same : (index : Index G) (g h : G) (r s : ℕ) → cmp g h ≡ Equal → has cmp index g r s ≡ has cmp index h r s
-  has_same index g h r s e = list_any_congr (eq_by_cmp_equiv entry_total) (g, r, s) (h, r, s) index.entries.keys (same (cmp g h) e (nat_cmp r r) (tied_itself nat_cmp_total r) (nat_cmp s s) (tied_itself nat_cmp_total s)) where
-    same : (x : Ordering) → x ≡ Equal → (y : Ordering) → y ≡ Equal → (z : Ordering) → z ≡ Equal → is_eq (ordering_then (ordering_then x y) z) ≡ true
-    same x a y b z d = rw (a, b, d) refl
+  has_same index g h r s e = list_any_congr (eq_by_cmp_equiv entry_total) (g, r, s) (h, r, s) index.entries.keys (grind (arith, tied_itself nat_cmp_total r, tied_itself nat_cmp_total s))
 
   module _ (index : Index G) (g : G) (rank : ℕ) where
     -- the least and the greatest entry of the group up to the rank
@@ -70,9 +62,7 @@ abbrev pub greatest : {G : Type 0} → G → Bound (G × ℕ × ℕ)
 greatest g = Included (g, 18446744073709551615, 18446744073709551615)
 
 parts : (x : Ordering) (r q s t : ℕ) → is_eq (ordering_then (ordering_then x (nat_cmp r q)) (nat_cmp s t)) ≡ true → (x ≡ Equal) × (r ≡ q) × (s ≡ t)
-parts Less r q s t h = absurd (false≢true h)
-parts Equal r q s t h = grind (arith, nat_tests)
-parts Greater r q s t h = absurd (false≢true h)
+parts x r q s t h = grind (arith, nat_tests)
 
 module _ {G : Type 0} {cmp : G → G → Ordering} (o : IsTotalOrder cmp) (index : Index G) (g : G) (r s : ℕ) where
   -- what stands there is found among all of the group

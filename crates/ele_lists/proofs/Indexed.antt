@@ -1,21 +1,11 @@
 -- An index after a change of the values that it is of.
-use Rattle.ele_lists.proofs.Basics.{Bool, Equal, Greater, Index, IsIndexOf, Less, None, Option, Ordering, Some, ap, cond, exact_unsigned, false, has, is_at, is_entry, is_eq, is_placed, nat_cmp, nat_cmp_total, option_map_or, ordering_then, refl, sym, tied_itself, true, ℕ, ◌&&◌, ◌∙◌, ◌≡◌}
+use Rattle.ele_lists.proofs.Basics.{Bool, Equal, Index, IsIndexOf, None, Option, Ordering, Some, ap, arith, cond, exact_unsigned, false, has, is_at, is_entry, is_eq, is_placed, nat_cmp, nat_cmp_total, option_map_or, ordering_then, refl, sym, tied_itself, true, ℕ, ◌&&◌, ◌∙◌, ◌≡◌}
 
 is_equal : (o : Ordering) → is_eq o ≡ true → o ≡ Equal
-is_equal Less h = cc
-is_equal Equal h = refl
-is_equal Greater h = cc
+is_equal o h = grind arith
 
 both : (x y : Ordering) → is_eq (ordering_then x y) ≡ (is_eq y && is_eq x)
-both Less Less = refl
-both Less Equal = refl
-both Less Greater = refl
-both Equal Less = refl
-both Equal Equal = refl
-both Equal Greater = refl
-both Greater Less = refl
-both Greater Equal = refl
-both Greater Greater = refl
+both x y = grind arith
 
 pub at_itself : (n : ℕ) → is_at (nat_cmp n) n ≡ true
 at_itself n = ap is_eq (tied_itself nat_cmp_total n)
