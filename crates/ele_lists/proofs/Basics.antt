@@ -13,7 +13,7 @@ pub use Rattle.std.proofs.lemmas.Bool.{cases_lt, false≢true}
 pub use Rattle.std.proofs.lemmas.Bool.Decides.{nat_tests}
 pub use Rattle.std.proofs.lemmas.Cmp.{eq_by_cmp_equiv, nat_cmp_total, on_total, then_total, tied_itself}
 pub use Rattle.std.proofs.lemmas.Grind.{flat_map-append}
-pub use Rattle.std.proofs.lemmas.List.{append-nil, drop_all, reverse-append, take-append-drop, take_all, with_items_is}
+pub use Rattle.std.proofs.lemmas.List.{append-nil, drop_all, length-take, nil_from_length, reverse-append, take-append-drop, take_all, with_items_is}
 pub use Rattle.std.proofs.lemmas.List.Edits.{insert_end}
 pub use Rattle.std.proofs.lemmas.List.Elements.{All-weaker, filter-append, recursion_from_All}
 pub use Rattle.std.proofs.lemmas.List.Folds.{find-append}

@@ -11,10 +11,8 @@ module _ {X : Type 0} where
 
   pub last_at : (xs : List X) (n : ℕ) → length xs ≡ suc n → slice_get xs n ≡ last_of xs
   last_at [] n h = absurd (omega arith)
-  last_at (x ∷ []) zero h = refl
-  last_at (x ∷ []) (suc n) h = absurd (omega arith)
-  last_at (x ∷ y ∷ xs) zero h = absurd (omega arith)
-  last_at (x ∷ y ∷ xs) (suc n) h = last_at (y ∷ xs) n (omega arith)
+  last_at (x ∷ []) n h = grind arith
+  last_at (x ∷ y ∷ xs) n h = grind (arith, last_at (y ∷ xs) (n - 1))
 
   pub last-slice_get : (xs : List X) → slice_get xs (length xs - 1) ≡ last_of xs
   last-slice_get [] = refl
@@ -80,10 +78,8 @@ module _ {X : Type 0} (p : X → Bool) where
 module _ {X : Type 0} (f : X → X) where
   pub update_last-set : (xs : List X) (n : ℕ) (x : X) → length xs ≡ suc n → x ≡ get_or xs n x → set xs n (f x) ≡ update_last f xs
   update_last-set [] n x long is = absurd (omega arith)
-  update_last-set (y ∷ []) zero x long is = ap (λ z. f z ∷ []) is
-  update_last-set (y ∷ []) (suc n) x long is = absurd (omega arith)
-  update_last-set (y ∷ z ∷ xs) zero x long is = absurd (omega arith)
-  update_last-set (y ∷ z ∷ xs) (suc n) x long is = ap (λ ys. y ∷ ys) (update_last-set (z ∷ xs) n x (omega arith) is)
+  update_last-set (y ∷ []) n x long is = grind arith
+  update_last-set (y ∷ z ∷ xs) n x long is = grind (arith, update_last-set (z ∷ xs) (n - 1) x)
 
   pub length-update_last : (xs : List X) → length (update_last f xs) ≡ length xs
   length-update_last [] = refl

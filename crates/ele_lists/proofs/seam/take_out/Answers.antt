@@ -1,4 +1,4 @@
-use Rattle.ele_lists.proofs.Words.{Some, [], ap, arith, empty_chunk, flat, flat-remove_empty, flat-taken, get_or-set_same, has_chunk, last_room-set, length, length-set, refl, rows-here, set, slice_get, slice_get_read, sym, ◌<◌, ◌∙◌, ◌≡◌}
+use Rattle.ele_lists.proofs.Words.{Some, [], ap, arith, flat, flat-remove_empty, flat-taken, get_or-set_same, has_chunk, last_room-set, length, length-set, nat_tests, nil_from_length, refl, rows-here, set, slice_get, slice_get_read, sym, ◌<◌, ◌∙◌, ◌≡◌}
 use Rattle.ele_lists.proofs.seam.take_out.Goals as goal
 
 pub returns-then-is_empty-clause-rows : goal.returns-then-is_empty-clause-rows
@@ -11,7 +11,7 @@ returns-then-is_empty-clause-rows g c =
     let there : slice_get (set cs i now) i ≡ Some now = slice_get_read (set cs i now) (length cs) i now (sym (length-set cs i now)) within (sym (get_or-set_same cs i now now within)) in
     let shown : c.index.result.now ≡ now = c.index.ensures ∙ get_or-set_same cs i now c.index.result.now within in
     let none = c.if-is_empty.ensures in
-    let empty : now.items ≡ [] = empty_chunk now (rw shown at none) in
+    let empty : now.items ≡ [] = nil_from_length now.items (let none_there = rw shown at none in let long = now.ok.0 in grind (arith, nat_tests)) in
     ap flat c.remove.ensures.items
     ∙ flat-remove_empty (set cs i now) i now there empty
     ∙ flat-taken cs i c.args.place c.index_mut.result.now now here c.remove-row.ensures.items
