@@ -65,6 +65,9 @@ module _ {X : Type 0} where
   taken_on (y ∷ xs) zero x h = grind arith
   taken_on (y ∷ xs) (suc k) x h = taken_on xs k x h
 
+  pub chunk_read : (cs : List (Vec X Global)) (i j : ℕ) (here : Vec X Global) → j < length (rows_at cs i) → here ≡ get_or cs i here → slice_get cs i ≡ Some here
+  chunk_read cs i j here place is = slice_get_read cs (length cs) i here refl (has_chunk cs i j place) is
+
   -- what stands from a place on is the row there and what stands behind it
   pub behind_more : (cs : List (Vec X Global)) (i j : ℕ) (x : X) → slice_get (rows_at cs i) j ≡ Some x → behind_place cs i j ≡ x ∷ behind_place cs i (suc j)
   behind_more cs i j x is = grind (arith, taken_on (rows_at cs i) j x)
