@@ -1,17 +1,10 @@
 -- Values in order of their serial numbers.
-use Rattle.ele_lists.proofs.Basics.{AllByRecursion, AllLater, Bool, Equal, Greater, Less, List, None, Some, [], ap, arith, exact_unsigned, false, inl, inr, insert_entry, is_at, keys_of, last_passing, nat_cmp, nat_tests, refl, remove_entry, true, value_at, values_of, ℕ, ◌++◌, ◌<◌, ◌∷◌, ◌≡◌, ◌≤◌, ◌⊎◌}
+use Rattle.ele_lists.proofs.Basics.{AllByRecursion, AllLater, Bool, Equal, Greater, Less, List, None, Some, [], arith, exact_unsigned, false, inl, inr, insert_entry, is_at, keys_of, last_passing, nat_cmp, nat_tests, refl, remove_entry, true, value_at, values_of, ℕ, ◌++◌, ◌<◌, ◌∷◌, ◌≡◌, ◌≤◌, ◌⊎◌}
 use Rattle.ele_lists.proofs.Indexed.{at_itself}
 use Rattle.std.specs.List.Sorted.{IsStrictlySortedBy}
 
-less : (a b : ℕ) → nat_cmp a b ≡ Less → a < b
-less a b h = grind (arith, nat_tests)
-
-above : (a b : ℕ) → b < a → nat_cmp a b ≡ Greater
-above a b h = grind (arith, nat_tests)
-
 pub not_true : (b : Bool) → (b ≡ true → ⊥) → b ≡ false
-not_true true h = absurd (h refl)
-not_true false h = refl
+not_true b h = grind arith
 
 module _ {X : Type 0} where
   -- each serial number is below those after it
@@ -25,9 +18,7 @@ module _ {X : Type 0} where
 
   pub after_head : (e : ℕ × X) (es : List (ℕ × X)) (s : ℕ) (v : X) → IsRising (e ∷ es) → value_at es s ≡ Some v → (e.0 < s) × (value_at (e ∷ es) s ≡ Some v)
   unfolding IsStrictlySortedBy
-  after_head e es s v up h =
-      let later : e.0 < s = less e.0 s (found_key (λ k. nat_cmp e.0 k ≡ Less) es s v up.0 h) in
-      (later, rw (above s e.0 later) h)
+  after_head e es s v up h = grind (arith, nat_tests, found_key (λ k. nat_cmp e.0 k ≡ Less) es s v up.0 h)
 
   pub rest_rises : (e : ℕ × X) (es : List (ℕ × X)) → IsRising (e ∷ es) → IsRising es
   unfolding IsStrictlySortedBy
@@ -85,11 +76,11 @@ module _ {X : Type 0} where
   -- a serial number above all
   pub pushed : (n : ℕ) (v : X) (es : List (ℕ × X)) → AllByRecursion (λ k. k < n) (keys_of es) → insert_entry nat_cmp es n v ≡ es ++ (n, v) ∷ []
   pushed n v [] below = refl
-  pushed n v (e ∷ es) below = rw (above n e.0 below.0) (ap (λ (l : List (ℕ × X)). e ∷ l) (pushed n v es below.1))
+  pushed n v (e ∷ es) below = grind (arith, nat_tests, pushed n v es)
 
   pub not_yet : (n : ℕ) (es : List (ℕ × X)) → AllByRecursion (λ k. k < n) (keys_of es) → value_at es n ≡ None
   not_yet n [] below = refl
-  not_yet n (e ∷ es) below = rw (above n e.0 below.0) (not_yet n es below.1)
+  not_yet n (e ∷ es) below = grind (arith, nat_tests, not_yet n es)
 
   -- what holds of the value at each serial number holds of all values
   pub all_from_each : (P : X → Type 0) (es : List (ℕ × X)) → IsRising es → ((s : ℕ) (v : X) → value_at es s ≡ Some v → P v) → AllByRecursion P (values_of es)
