@@ -1,5 +1,5 @@
 -- What holds of all elements, or between them, in parts of lists, lists after one another, filters and views.
-use Rattle.ele_lists.proofs.Basics.{AllByRecursion, AllLater, Bool, List, Some, [], append_assoc, arith, filter, flat_map, get_or, length, map, refl, reverse, reverse-append, slice_get, suc, sym, true, zero, ℕ, ◌++◌, ◌<◌, ◌∙◌, ◌∷◌, ◌≡◌}
+use Rattle.ele_lists.proofs.Basics.{AllByRecursion, AllLater, Bool, List, Some, [], append_assoc, arith, filter, flat_map, get_or, length, map, refl, reverse, reverse-append, slice_get, sym, true, ℕ, ◌++◌, ◌-◌, ◌<◌, ◌∙◌, ◌∷◌, ◌≡◌}
 use Rattle.ele_lists.proofs.Edits.{all-both, all-weaker}
 
 module _ {X : Type 0} (P : X → Type 0) where
@@ -36,13 +36,11 @@ module _ {X : Type 0} (P : X → Type 0) where
 
   pub all-place : (xs : List X) (i : ℕ) (d : X) → AllByRecursion P xs → i < length xs → P (get_or xs i d)
   all-place [] i d all lt = absurd (omega arith)
-  all-place (x ∷ xs) zero d all lt = all.0
-  all-place (x ∷ xs) (suc i) d all lt = all-place xs i d all.1 (omega arith)
+  all-place (x ∷ xs) i d all lt = grind (arith, all-place xs (i - 1) d)
 
   pub all-got : (xs : List X) (i : ℕ) (x : X) → AllByRecursion P xs → slice_get xs i ≡ Some x → P x
   all-got [] i x all e = absurd cc
-  all-got (y ∷ xs) zero x all e = let same : y ≡ x = cc in rw (← same) all.0
-  all-got (y ∷ xs) (suc i) x all e = all-got xs i x all.1 e
+  all-got (y ∷ xs) i x all e = grind (arith, all-got xs (i - 1) x)
 
   pub all-reverse : (xs : List X) → AllByRecursion P xs → AllByRecursion P (reverse xs)
   all-reverse [] all = tt
@@ -106,9 +104,7 @@ module _ {X : Type 0} (R : X → X → Type 0) where
 
   pub later-place : (xs : List X) (i j : ℕ) (d : X) → AllLater R xs → i < j → j < length xs → R (get_or xs i d) (get_or xs j d)
   later-place [] i j d later lt within = absurd (omega arith)
-  later-place (x ∷ xs) i zero d later lt within = absurd (omega arith)
-  later-place (x ∷ xs) zero (suc j) d later lt within = all-place (R x) xs j d later.0 (omega arith)
-  later-place (x ∷ xs) (suc i) (suc j) d later lt within = later-place xs i j d later.1 (omega arith) (omega arith)
+  later-place (x ∷ xs) i j d later lt within = grind (arith, all-place (R x) xs (j - 1) d, later-place xs (i - 1) (j - 1) d)
 
   -- between those that pass
   pub later-filter : (S : X → X → Type 0) (p : X → Bool) (xs : List X) → ((x y : X) → p x ≡ true → p y ≡ true → R x y → S x y) → AllLater R xs → AllLater S (filter p xs)

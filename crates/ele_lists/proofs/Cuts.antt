@@ -1,5 +1,5 @@
 -- A list cut at an element: at the first that passes, at a place, or where one comes in; and what finds and changes do there.
-use Rattle.ele_lists.proofs.Basics.{AllByRecursion, Bool, List, Some, [], ap, append_assoc, arith, cond, false, false≢true, find, flat_map, insert_before, list_any, refl, remove_first, sym, true, update_first, ◌++◌, ◌∙◌, ◌∷◌, ◌≡◌}
+use Rattle.ele_lists.proofs.Basics.{AllByRecursion, Bool, List, Some, [], ap, append_assoc, arith, cond, false, find, flat_map, insert_before, list_any, refl, remove_first, sym, true, update_first, ◌++◌, ◌∙◌, ◌∷◌, ◌≡◌}
 
 -- the first that passes, with what stands before and behind it
 pub record IsCut {X : Type 0} (p : X → Bool) (xs : List X) (x : X) : Type 0 where
@@ -21,7 +21,7 @@ module _ {X : Type 0} (p : X → Bool) where
 
   -- where one passes, it is found
   pub any-found : (xs : List X) → list_any p xs ≡ true → (x : X) × (find p xs ≡ Some x)
-  any-found [] h = absurd (false≢true h)
+  any-found [] h = absurd cc
   any-found (x ∷ xs) h = elim (p x) as (λ b. p x ≡ b → (y : X) × (cond b (Some x) (find p xs) ≡ Some y)) [
     | true ↦ λ e. (x, refl)
     | false ↦ λ e. any-found xs (rw e at h)

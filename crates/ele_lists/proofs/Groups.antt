@@ -30,11 +30,7 @@ module _ {G : Type 0} {cmp : G → G → Ordering} (o : IsTotalOrder cmp) where
     last_of_group e inside there last =
         let same = here e inside in
         let back = o.antisymm e.0 g in
-        record {
-          there = of_group e inside there;
-          up_to = grind (arith, nat_tests, inside.1);
-          last = λ q t h k has. grind (arith, nat_tests, last (g, q, t) (in_group q t h k) has);
-        }
+        record { there = of_group e inside there; up_to = grind (arith, nat_tests, inside.1); last = λ q t h k has. grind (arith, nat_tests, last (g, q, t) (in_group q t h k) has) }
 
 -- the bounds of a group
 abbrev pub least : {G : Type 0} → G → Bound (G × ℕ × ℕ)

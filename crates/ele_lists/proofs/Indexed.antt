@@ -14,9 +14,7 @@ module _ {G X : Type 0} {cmp : G → G → Ordering} {group : X → G} {rank : X
       → ((s : ℕ) → is_at (nat_cmp n) s ≡ false → to s ≡ at s)
       → ((q : G) (r : ℕ) → cond (is_placed cmp (group v) (rank v) q r) b (has cmp old q r n) ≡ option_map_or (λ x. is_placed cmp (group x) (rank x) q r) (to n) false)
       → IsIndexOf cmp group rank to new
-  step old new to b v was changed elsewhere here = record {
-    each = λ q r s. changed q r s ∙ rw (both (ordering_then (cmp (group v) q) (nat_cmp (rank v) r)) (nat_cmp n s)) (cases q r s (is_at (nat_cmp n) s) refl);
-  } where
+  step old new to b v was changed elsewhere here = record { each = λ q r s. changed q r s ∙ rw (both (ordering_then (cmp (group v) q) (nat_cmp (rank v) r)) (nat_cmp n s)) (cases q r s (is_at (nat_cmp n) s) refl) } where
     cases : (q : G) (r s : ℕ) (t : Bool) → is_at (nat_cmp n) s ≡ t → cond (t && is_placed cmp (group v) (rank v) q r) b (has cmp old q r s) ≡ option_map_or (λ x. is_placed cmp (group x) (rank x) q r) (to s) false
     cases q r s true e = let same : n ≡ s = exact_unsigned n s (grind arith) in rw (← same) (here q r)
     cases q r s false e = was.each q r s ∙ ap (λ o. option_map_or (λ x. is_placed cmp (group x) (rank x) q r) o false) (sym (elsewhere s e))

@@ -1,12 +1,11 @@
 -- The first element that passes by its place, and what a write, a removal, an insertion or a read there is (`first_places`).
-use Rattle.ele_lists.proofs.Basics.{Bool, List, None, Some, [], arith, false, find, get_or, insert, insert_before, insert_end, length, list_any, nat_tests, position, refl, remove, remove_first, set, suc, unwrap_or, update_first, zero, ℕ, ◌++◌, ◌∷◌, ◌≡◌, ◌≤◌}
+use Rattle.ele_lists.proofs.Basics.{Bool, List, None, Some, [], arith, false, find, get_or, insert, insert_before, insert_end, length, list_any, nat_tests, position, refl, remove, remove_first, set, suc, unwrap_or, update_first, zero, ℕ, ◌++◌, ◌-◌, ◌∷◌, ◌≡◌, ◌≤◌}
 
 module _ {X : Type 0} (p : X → Bool) where
   -- where the first one that passes is known
   pub update_first-position : (f : X → X) (xs : List X) (i : ℕ) (d : X) → position p xs ≡ Some i → update_first p f xs ≡ set xs i (f (get_or xs i d))
   update_first-position f [] i d h = grind (arith, nat_tests)
-  update_first-position f (x ∷ xs) zero d h = grind (arith, nat_tests)
-  update_first-position f (x ∷ xs) (suc i) d h = grind (arith, nat_tests, update_first-position f xs i d)
+  update_first-position f (x ∷ xs) i d h = grind (arith, nat_tests, update_first-position f xs (i - 1) d)
 
   pub remove_at : (xs : List X) (i : ℕ) → position p xs ≡ Some i → remove_first p xs ≡ remove xs i
   remove_at [] i h = grind (arith, nat_tests)
@@ -23,8 +22,7 @@ module _ {X : Type 0} (p : X → Bool) where
 
   pub find-position : (xs : List X) (i : ℕ) (d : X) → position p xs ≡ Some i → find p xs ≡ Some (get_or xs i d)
   find-position [] i d h = grind (arith, nat_tests)
-  find-position (x ∷ xs) zero d h = grind (arith, nat_tests)
-  find-position (x ∷ xs) (suc i) d h = grind (arith, nat_tests, find-position xs i d)
+  find-position (x ∷ xs) i d h = grind (arith, nat_tests, find-position xs (i - 1) d)
 
   -- where none passes
   pub list_any-position : (xs : List X) → position p xs ≡ None → list_any p xs ≡ false

@@ -74,8 +74,7 @@ module _ {X : Type 0} where
 
   first_on : (xs rest : List X) (j : ℕ) → j < length xs → slice_get (drop j xs ++ rest) 0 ≡ slice_get xs j
   first_on [] rest j h = absurd (omega arith)
-  first_on (x ∷ xs) rest zero h = refl
-  first_on (x ∷ xs) rest (suc j) h = first_on xs rest j (omega arith)
+  first_on (x ∷ xs) rest j h = grind (arith, first_on xs rest (j - 1))
 
   -- the row at a place stands first behind it
   pub first_behind : (cs : List (Vec X Global)) (i j : ℕ) → (i < length cs → j < length (rows_at cs i)) → slice_get (behind_place cs i j) 0 ≡ slice_get (rows_at cs i) j
@@ -95,8 +94,7 @@ module _ {X : Type 0} where
 
   flat-set : (cs : List (Vec X Global)) (i : ℕ) (here now : Vec X Global) → slice_get cs i ≡ Some here → flat (set cs i now) ≡ flat (take i cs) ++ (now.items ++ flat (drop (suc i) cs))
   flat-set [] i here now is = grind arith
-  flat-set (c ∷ cs) zero here now is = refl
-  flat-set (c ∷ cs) (suc i) here now is = ap (λ xs. c.items ++ xs) (flat-set cs i here now is) ∙ sym (append_assoc c.items (flat (take i cs)) (now.items ++ flat (drop (suc i) cs)))
+  flat-set (c ∷ cs) i here now is = grind (arith, flat-set cs (i - 1) here now, append_assoc c.items (flat (take (i - 1) cs)) (now.items ++ flat (drop i cs)))
 
   -- one row less in one chunk
   pub flat-taken : (cs : List (Vec X Global)) (i j : ℕ) (here now : Vec X Global) → slice_get cs i ≡ Some here → now.items ≡ remove here.items j → flat (set cs i now) ≡ before_place cs i j ++ behind_place cs i (suc j)
