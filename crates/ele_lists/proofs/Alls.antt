@@ -100,7 +100,8 @@ module _ {X : Type 0} (R : X → X → Type 0) where
   -- with another in the place of one
   pub later-exchange : (xs : List X) (x y : X) (ys : List X) → ((z : X) → R z x → R z y) → ((zs : List X) → AllByRecursion (R x) zs → AllByRecursion (R y) zs) → AllLater R (xs ++ x ∷ ys) → AllLater R (xs ++ y ∷ ys)
   later-exchange [] x y ys second first later = (first ys later.0, later.1)
-  later-exchange (z ∷ xs) x y ys second first later = (all-exchange (R z) xs x y ys (second z (all-mid (R z) xs x ys later.0)) later.0, later-exchange xs x y ys second first later.1)
+  later-exchange (z ∷ xs) x y ys second first later =
+      (all-exchange (R z) xs x y ys (second z (all-mid (R z) xs x ys later.0)) later.0, later-exchange xs x y ys second first later.1)
 
   pub later-place : (xs : List X) (i j : ℕ) (d : X) → AllLater R xs → i < j → j < length xs → R (get_or xs i d) (get_or xs j d)
   later-place [] i j d later lt within = absurd (omega arith)

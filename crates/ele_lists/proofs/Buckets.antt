@@ -45,7 +45,8 @@ module _ {B X : Type 0} (id : B → ℕ) (rows : B → List X) (tag : X → ℕ)
   lesser b lt = all-weaker (λ x. tag x ≡ id b) (λ x. tag x < k) (rows b) (λ x same. omega (arith, lt, same)) (tagged b)
 
   greater : (bs : List B) → AllByRecursion (λ b. k < id b) bs → AllByRecursion (λ x. k < tag x) (flat_map rows bs)
-  greater bs all = all-flat_map rows (λ x. k < tag x) (λ b. k < id b) bs (λ b lt. all-weaker (λ x. tag x ≡ id b) (λ x. k < tag x) (rows b) (λ x same. omega (arith, lt, same)) (tagged b)) all
+  greater bs all =
+      all-flat_map rows (λ x. k < tag x) (λ b. k < id b) bs (λ b lt. all-weaker (λ x. tag x ≡ id b) (λ x. k < tag x) (rows b) (λ x same. omega (arith, lt, same)) (tagged b)) all
 
   behind : (b : B) (bs : List B) → id b ≡ k → AllByRecursion (λ c. id b < id c) bs → AllByRecursion (λ c. k < id c) bs
   behind b bs same all = all-weaker (λ c. id b < id c) (λ c. k < id c) bs (λ c lt. omega (arith, lt, same)) all
@@ -67,4 +68,7 @@ module _ {B X : Type 0} (id : B → ℕ) (rows : B → List X) (tag : X → ℕ)
   filter-buckets [] rise = refl
   filter-buckets (a ∷ bs) rise =
       let own = λ (x : X). eqb (tag x) k in
-      grind (arith, nat_tests, filter-append own (rows a) (flat_map rows bs), filter-all own (rows a), filter-none own (rows a), filter-none own (flat_map rows bs), greater bs, behind a bs, append-nil (rows a), tagged a, all-weaker (λ x. tag x ≡ id a) (λ x. own x ≡ true) (rows a), all-weaker (λ x. tag x ≡ id a) (λ x. own x ≡ false) (rows a), all-weaker (λ x. k < tag x) (λ x. own x ≡ false) (flat_map rows bs), filter-buckets bs)
+      let mine = all-weaker (λ x. tag x ≡ id a) (λ x. own x ≡ true) (rows a) in
+      let apart = all-weaker (λ x. tag x ≡ id a) (λ x. own x ≡ false) (rows a) in
+      let greater_apart = all-weaker (λ x. k < tag x) (λ x. own x ≡ false) (flat_map rows bs) in
+      grind (arith, nat_tests, filter-append own (rows a) (flat_map rows bs), filter-all own (rows a), filter-none own (rows a), filter-none own (flat_map rows bs), greater bs, behind a bs, append-nil (rows a), tagged a, mine, apart, greater_apart, filter-buckets bs)

@@ -78,7 +78,8 @@ module _ {X : Type 0} where
 
   -- the row at a place stands first behind it
   pub first_behind : (cs : List (Vec X Global)) (i j : ℕ) → (i < length cs → j < length (rows_at cs i)) → slice_get (behind_place cs i j) 0 ≡ slice_get (rows_at cs i) j
-  first_behind cs i j within = grind (arith, slice_get_past cs i, drop_all (suc i) cs, drop_all j (rows_at cs i), slice_get_past (rows_at cs i) j, first_on (rows_at cs i) (flat (drop (suc i) cs)) j)
+  first_behind cs i j within =
+      grind (arith, slice_get_past cs i, drop_all (suc i) cs, drop_all j (rows_at cs i), slice_get_past (rows_at cs i) j, first_on (rows_at cs i) (flat (drop (suc i) cs)) j)
 
   last-behind : (xs ys zs : List X) → 0 < length ys → last_of (xs ++ (ys ++ zs)) ≡ last_of (ys ++ zs)
   last-behind xs [] zs h = absurd (omega arith)
@@ -126,21 +127,24 @@ module _ {X : Type 0} where
     last_room-here = ap (λ o. option_map_or room_of o 0) (sym (last_at cs n long) ∙ is)
 
     last_whole : flat cs ≡ flat (take n cs) ++ here.items
-    last_whole = flat_split cs n ∙ ap (λ xs. flat (take n cs) ++ xs) (ap (λ ds. rows_at cs n ++ flat ds) (drop_all (suc n) cs (omega arith)) ∙ (append-nil (rows_at cs n) ∙ rows-here cs n here is))
+    last_whole =
+        flat_split cs n ∙ ap (λ xs. flat (take n cs) ++ xs) (ap (λ ds. rows_at cs n ++ flat ds) (drop_all (suc n) cs (omega arith)) ∙ (append-nil (rows_at cs n) ∙ rows-here cs n here is))
 
     last_set : (now : Vec X Global) → flat (set cs n now) ≡ flat (take n cs) ++ now.items
     last_set now = flat-set cs n here now is ∙ ap (λ xs. flat (take n cs) ++ xs) (ap (λ ds. now.items ++ flat ds) (drop_all (suc n) cs (omega arith)) ∙ append-nil now.items)
 
     -- a row more in it
     pub flat-set_last : (now : Vec X Global) (x : X) → now.items ≡ here.items ++ x ∷ [] → flat (set cs n now) ≡ flat cs ++ x ∷ []
-    flat-set_last now x more = last_set now ∙ ap (λ xs. flat (take n cs) ++ xs) more ∙ sym (append_assoc (flat (take n cs)) here.items (x ∷ [])) ∙ ap (λ xs. xs ++ x ∷ []) (sym last_whole)
+    flat-set_last now x more =
+        last_set now ∙ ap (λ xs. flat (take n cs) ++ xs) more ∙ sym (append_assoc (flat (take n cs)) here.items (x ∷ [])) ∙ ap (λ xs. xs ++ x ∷ []) (sym last_whole)
 
     -- its last row changed
     pub flat-change_last : (f : X → X) (now : Vec X Global) → 0 < length here.items → now.items ≡ update_last f here.items → flat (set cs n now) ≡ update_last f (flat cs)
     flat-change_last f now filled changed = grind (arith, last_set now, last_whole, update_last-behind f (flat (take n cs)) here.items filled)
 
     pub last_room-change : (now : Vec X Global) → room_of now ≡ room_of here → last_room (set cs n now) ≡ last_room cs
-    last_room-change now same = grind (arith, last_room-here, last_at (set cs n now) n, length-set cs n now, slice_get_read (set cs n now) (length cs) n now, get_or-set_same cs n now now)
+    last_room-change now same =
+        grind (arith, last_room-here, last_at (set cs n now) n, length-set cs n now, slice_get_read (set cs n now) (length cs) n now, get_or-set_same cs n now now)
 
 module _ {X : Type 0} (p : X → Bool) where
   abbrev pub chunk_ends : Vec X Global → Bool
