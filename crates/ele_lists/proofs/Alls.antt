@@ -1,10 +1,6 @@
 -- What holds of all elements, or between them, in parts of lists, lists after one another, filters and views.
-use Rattle.std.proofs.Common.{◌≡◌, ℕ, zero, suc, ◌<◌, Bool, true, false, cond, List, [], ◌∷◌, ◌++◌, length, map, reverse, get_or, Some, refl, sym, ◌∙◌, arith, append_assoc}
-use Rattle.std.specs.Prelude.{filter, slice_get}
-use Rattle.std.specs.List.{AllByRecursion, flat_map}
-use Rattle.std.proofs.lemmas.List.{reverse-append}
-use Rattle.ele_lists.specs.Lists.{AllLater}
-use Rattle.ele_lists.proofs.Edits.{all-weaker}
+use Rattle.ele_lists.proofs.Basics.{AllByRecursion, AllLater, Bool, List, Some, [], append_assoc, arith, filter, flat_map, get_or, length, map, refl, reverse, reverse-append, slice_get, sym, true, ℕ, ◌++◌, ◌-◌, ◌<◌, ◌∙◌, ◌∷◌, ◌≡◌}
+use Rattle.ele_lists.proofs.Edits.{all-both, all-weaker}
 
 module _ {X : Type 0} (P : X → Type 0) where
   pub all-append : (xs ys : List X) → AllByRecursion P xs → AllByRecursion P ys → AllByRecursion P (xs ++ ys)
@@ -40,18 +36,11 @@ module _ {X : Type 0} (P : X → Type 0) where
 
   pub all-place : (xs : List X) (i : ℕ) (d : X) → AllByRecursion P xs → i < length xs → P (get_or xs i d)
   all-place [] i d all lt = absurd (omega arith)
-  all-place (x ∷ xs) zero d all lt = all.0
-  all-place (x ∷ xs) (suc i) d all lt = all-place xs i d all.1 (omega arith)
+  all-place (x ∷ xs) i d all lt = grind (arith, all-place xs (i - 1) d)
 
   pub all-got : (xs : List X) (i : ℕ) (x : X) → AllByRecursion P xs → slice_get xs i ≡ Some x → P x
   all-got [] i x all e = absurd cc
-  all-got (y ∷ xs) zero x all e = let same : y ≡ x = cc in rw (← same) all.0
-  all-got (y ∷ xs) (suc i) x all e = all-got xs i x all.1 e
-
-  -- what holds at each place holds of all
-  pub all-places : (xs : List X) → ((i : ℕ) (x : X) → slice_get xs i ≡ Some x → P x) → AllByRecursion P xs
-  all-places [] each = tt
-  all-places (x ∷ xs) each = (each 0 x refl, all-places xs (λ i y e. each (suc i) y e))
+  all-got (y ∷ xs) i x all e = grind (arith, all-got xs (i - 1) x)
 
   pub all-reverse : (xs : List X) → AllByRecursion P xs → AllByRecursion P (reverse xs)
   all-reverse [] all = tt
@@ -59,18 +48,12 @@ module _ {X : Type 0} (P : X → Type 0) where
 
   pub all-filter : (p : X → Bool) (xs : List X) → AllByRecursion P xs → AllByRecursion P (filter p xs)
   all-filter p [] all = tt
-  all-filter p (x ∷ xs) all = elim (p x) as (λ b. AllByRecursion P (cond b (x ∷ filter p xs) (filter p xs))) [
-    | true ↦ (all.0, all-filter p xs all.1)
-    | false ↦ all-filter p xs all.1
-  ]
+  all-filter p (x ∷ xs) all = grind (arith, all-filter p xs)
 
 -- those that pass do
 pub filter-passes : {X : Type 0} (p : X → Bool) (xs : List X) → AllByRecursion (λ x. p x ≡ true) (filter p xs)
 filter-passes p [] = tt
-filter-passes p (x ∷ xs) = elim (p x) as (λ b. p x ≡ b → AllByRecursion (λ x. p x ≡ true) (cond b (x ∷ filter p xs) (filter p xs))) [
-  | true ↦ λ e. (e, filter-passes p xs)
-  | false ↦ λ e. filter-passes p xs
-] refl
+filter-passes p (x ∷ xs) = grind (arith, filter-passes p xs)
 
 module _ {X Y : Type 0} (h : X → Y) (P : Y → Type 0) where
   pub all-map : (xs : List X) → AllByRecursion (λ x. P (h x)) xs → AllByRecursion P (map h xs)
@@ -117,27 +100,17 @@ module _ {X : Type 0} (R : X → X → Type 0) where
   -- with another in the place of one
   pub later-exchange : (xs : List X) (x y : X) (ys : List X) → ((z : X) → R z x → R z y) → ((zs : List X) → AllByRecursion (R x) zs → AllByRecursion (R y) zs) → AllLater R (xs ++ x ∷ ys) → AllLater R (xs ++ y ∷ ys)
   later-exchange [] x y ys second first later = (first ys later.0, later.1)
-  later-exchange (z ∷ xs) x y ys second first later = (all-exchange (R z) xs x y ys (second z (all-mid (R z) xs x ys later.0)) later.0, later-exchange xs x y ys second first later.1)
+  later-exchange (z ∷ xs) x y ys second first later =
+      (all-exchange (R z) xs x y ys (second z (all-mid (R z) xs x ys later.0)) later.0, later-exchange xs x y ys second first later.1)
 
   pub later-place : (xs : List X) (i j : ℕ) (d : X) → AllLater R xs → i < j → j < length xs → R (get_or xs i d) (get_or xs j d)
   later-place [] i j d later lt within = absurd (omega arith)
-  later-place (x ∷ xs) i zero d later lt within = absurd (omega arith)
-  later-place (x ∷ xs) zero (suc j) d later lt within = all-place (R x) xs j d later.0 (omega arith)
-  later-place (x ∷ xs) (suc i) (suc j) d later lt within = later-place xs i j d later.1 (omega arith) (omega arith)
+  later-place (x ∷ xs) i j d later lt within = grind (arith, all-place (R x) xs (j - 1) d, later-place xs (i - 1) (j - 1) d)
 
   -- between those that pass
   pub later-filter : (S : X → X → Type 0) (p : X → Bool) (xs : List X) → ((x y : X) → p x ≡ true → p y ≡ true → R x y → S x y) → AllLater R xs → AllLater S (filter p xs)
   later-filter S p [] gives later = tt
-  later-filter S p (x ∷ xs) gives later = elim (p x) as (λ b. p x ≡ b → AllLater S (cond b (x ∷ filter p xs) (filter p xs))) [
-    | true ↦ λ e. (each e xs later.0, later-filter S p xs gives later.1)
-    | false ↦ λ e. later-filter S p xs gives later.1
-  ] refl where
-    each : p x ≡ true → (ys : List X) → AllByRecursion (R x) ys → AllByRecursion (S x) (filter p ys)
-    each e [] all = tt
-    each e (y ∷ ys) all = elim (p y) as (λ b. p y ≡ b → AllByRecursion (S x) (cond b (y ∷ filter p ys) (filter p ys))) [
-      | true ↦ λ f. (gives x y e f all.0, each e ys all.1)
-      | false ↦ λ f. each e ys all.1
-    ] refl
+  later-filter S p (x ∷ xs) gives later = grind (arith, all-both (R x) (λ y. p y ≡ true) (filter p xs), all-filter (R x) p xs, filter-passes p xs, all-weaker (λ y. R x y × (p y ≡ true)) (S x) (filter p xs), later-filter S p xs)
 
 -- between elements of a view, and back
 pub later-map : {X Y : Type 0} (h : X → Y) (R : Y → Y → Type 0) (xs : List X) → AllLater (λ x y. R (h x) (h y)) xs → AllLater R (map h xs)

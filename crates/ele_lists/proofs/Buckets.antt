@@ -1,18 +1,9 @@
 -- Buckets with rising ids, each with rows tagged by its id, seen as one flat list: finds, filters and changes of one bucket's rows are those of the flat list.
-use Rattle.std.proofs.Common.{◌≡◌, ℕ, ◌<◌, Bool, true, false, cond, eqb, List, [], ◌∷◌, ◌++◌, Option, Some, None, refl, ap, sym, ◌∙◌, arith}
-use Rattle.std.specs.Prelude.{find, filter}
-use Rattle.std.specs.List.{AllByRecursion, flat_map}
-use Rattle.std.specs.Option.{option_and_then, option_or, option_map_or}
-use Rattle.std.proofs.lemmas.Bool.{false≢true}
-use Rattle.std.proofs.lemmas.Bool.Decides.{nat_tests}
-use Rattle.std.proofs.lemmas.List.Folds.{find-append}
-use Rattle.std.proofs.lemmas.List.{append-nil}
-use Rattle.std.proofs.lemmas.List.Elements.{filter-append}
-use Rattle.ele_lists.specs.Lists.{update_first, remove_first, insert_before, AllLater}
-use Rattle.ele_lists.proofs.Edits.{all-weaker, not_found}
+use Rattle.ele_lists.proofs.Basics.{AllByRecursion, AllLater, Bool, List, Some, [], ap, append-nil, arith, eqb, false, filter, filter-append, find, find-append, flat_map, insert_before, nat_tests, option_and_then, option_map_or, refl, remove_first, true, update_first, ℕ, ◌++◌, ◌<◌, ◌∙◌, ◌∷◌, ◌≡◌}
 use Rattle.ele_lists.proofs.Alls.{all-flat_map}
-use Rattle.ele_lists.proofs.Filters.{filter-all, filter-none}
 use Rattle.ele_lists.proofs.Cuts.{find-skip, update_first-skip, update_first-front, remove_first-skip, remove_first-front, insert_before-skip, insert_before-front}
+use Rattle.ele_lists.proofs.Edits.{all-found, all-weaker, found_passes, not_found}
+use Rattle.ele_lists.proofs.Filters.{filter-all, filter-none}
 
 -- a change of a flat list that goes past rows of lesser tags, and leaves rows of greater ones
 pub record IsLocal {X : Type 0} (tag : X → ℕ) (k : ℕ) (E : List X → List X) : Type 0 where
@@ -22,29 +13,17 @@ pub record IsLocal {X : Type 0} (tag : X → ℕ) (k : ℕ) (E : List X → List
 module _ {X : Type 0} (tag : X → ℕ) (k : ℕ) where
   -- a test that only rows of this tag pass
   module _ (p : X → Bool) (own : (x : X) → p x ≡ true → tag x ≡ k) where
-    other : (x : X) → (tag x ≡ k → ⊥) → p x ≡ false
-    other x apart = by (p x) refl where
-      by : (b : Bool) → p x ≡ b → b ≡ false
-      by true e = absurd (apart (own x e))
-      by false e = refl
-
     pub lesser_fail : (xs : List X) → AllByRecursion (λ x. tag x < k) xs → AllByRecursion (λ x. p x ≡ false) xs
-    lesser_fail xs all = all-weaker (λ x. tag x < k) (λ x. p x ≡ false) xs (λ x lt. other x (λ same. omega (arith, lt, same))) all
+    lesser_fail xs all = all-weaker (λ x. tag x < k) (λ x. p x ≡ false) xs (λ x lt. grind (arith, own x)) all
 
     pub greater_fail : (xs : List X) → AllByRecursion (λ x. k < tag x) xs → AllByRecursion (λ x. p x ≡ false) xs
-    greater_fail xs all = all-weaker (λ x. k < tag x) (λ x. p x ≡ false) xs (λ x lt. other x (λ same. omega (arith, lt, same))) all
+    greater_fail xs all = all-weaker (λ x. k < tag x) (λ x. p x ≡ false) xs (λ x lt. grind (arith, own x)) all
 
     pub local-update_first : (f : X → X) → IsLocal tag k (update_first p f)
-    local-update_first f = record {
-      past = λ xs ys all. update_first-skip p f xs ys (lesser_fail xs all);
-      short = λ xs ys all. update_first-front p f xs ys (greater_fail ys all);
-    }
+    local-update_first f = record { past = λ xs ys all. update_first-skip p f xs ys (lesser_fail xs all); short = λ xs ys all. update_first-front p f xs ys (greater_fail ys all) }
 
     pub local-remove_first : IsLocal tag k (remove_first p)
-    local-remove_first = record {
-      past = λ xs ys all. remove_first-skip p xs ys (lesser_fail xs all);
-      short = λ xs ys all. remove_first-front p xs ys (greater_fail ys all);
-    }
+    local-remove_first = record { past = λ xs ys all. remove_first-skip p xs ys (lesser_fail xs all); short = λ xs ys all. remove_first-front p xs ys (greater_fail ys all) }
 
   -- a row comes in before the first that passes: none of a lesser tag does, and each of a greater one
   pub local-insert_before : (r : X → Bool) (y : X) → ((x : X) → tag x < k → r x ≡ false) → ((x : X) → k < tag x → r x ≡ true) → IsLocal tag k (insert_before r y)
@@ -55,10 +34,7 @@ module _ {X : Type 0} (tag : X → ℕ) (k : ℕ) where
 
   -- one after another
   pub local-after : (E F : List X → List X) → IsLocal tag k E → IsLocal tag k F → IsLocal tag k (λ xs. E (F xs))
-  local-after E F e f = record {
-    past = λ xs ys all. ap E (f.past xs ys all) ∙ e.past xs (F ys) all;
-    short = λ xs ys all. ap E (f.short xs ys all) ∙ e.short (F xs) ys all;
-  }
+  local-after E F e f = record { past = λ xs ys all. ap E (f.past xs ys all) ∙ e.past xs (F ys) all; short = λ xs ys all. ap E (f.short xs ys all) ∙ e.short (F xs) ys all }
 
 module _ {B X : Type 0} (id : B → ℕ) (rows : B → List X) (tag : X → ℕ) (tagged : (b : B) → AllByRecursion (λ x. tag x ≡ id b) (rows b)) (k : ℕ) where
   abbrev pub is_bucket : B → Bool
@@ -69,7 +45,8 @@ module _ {B X : Type 0} (id : B → ℕ) (rows : B → List X) (tag : X → ℕ)
   lesser b lt = all-weaker (λ x. tag x ≡ id b) (λ x. tag x < k) (rows b) (λ x same. omega (arith, lt, same)) (tagged b)
 
   greater : (bs : List B) → AllByRecursion (λ b. k < id b) bs → AllByRecursion (λ x. k < tag x) (flat_map rows bs)
-  greater bs all = all-flat_map rows (λ x. k < tag x) (λ b. k < id b) bs (λ b lt. all-weaker (λ x. tag x ≡ id b) (λ x. k < tag x) (rows b) (λ x same. omega (arith, lt, same)) (tagged b)) all
+  greater bs all =
+      all-flat_map rows (λ x. k < tag x) (λ b. k < id b) bs (λ b lt. all-weaker (λ x. tag x ≡ id b) (λ x. k < tag x) (rows b) (λ x same. omega (arith, lt, same)) (tagged b)) all
 
   behind : (b : B) (bs : List B) → id b ≡ k → AllByRecursion (λ c. id b < id c) bs → AllByRecursion (λ c. k < id c) bs
   behind b bs same all = all-weaker (λ c. id b < id c) (λ c. k < id c) bs (λ c lt. omega (arith, lt, same)) all
@@ -77,51 +54,21 @@ module _ {B X : Type 0} (id : B → ℕ) (rows : B → List X) (tag : X → ℕ)
   -- a local change of the flat list is that change of the bucket's rows
   pub bucket_changes : (E : List X → List X) → IsLocal tag k E → (c : B → B) (bs : List B) (b : B) → AllLater (λ x y. id x < id y) bs → find is_bucket bs ≡ Some b → rows (c b) ≡ E (rows b) → E (flat_map rows bs) ≡ flat_map rows (update_first is_bucket c bs)
   bucket_changes E local c [] b rise found changed = absurd cc
-  bucket_changes E local c (a ∷ bs) b rise found changed = by (is_bucket a) refl (λ found'. bucket_changes E local c bs b rise.1 found' changed) where
-    by : (t : Bool) → is_bucket a ≡ t → (find is_bucket bs ≡ Some b → E (flat_map rows bs) ≡ flat_map rows (update_first is_bucket c bs)) → E (rows a ++ flat_map rows bs) ≡ flat_map rows (cond t (c a ∷ bs) (a ∷ update_first is_bucket c bs))
-    by true e rest =
-        let found' = rw e at found in
-        let same : a ≡ b = cc in
-        let its : id a ≡ k = grind (arith, nat_tests, e) in
-        local.short (rows a) (flat_map rows bs) (greater bs (behind a bs its rise.0)) ∙ ap (λ xs. xs ++ flat_map rows bs) (ap (λ z. E (rows z)) same ∙ sym changed ∙ ap (λ z. rows (c z)) (sym same))
-    by false e rest =
-        local.past (rows a) (flat_map rows bs) (lesser a (below bs rise.0 (rw e at found))) ∙ ap (λ xs. rows a ++ xs) (rest (rw e at found))
-      where
-        below : (ds : List B) → AllByRecursion (λ d. id a < id d) ds → find is_bucket ds ≡ Some b → id a < k
-        below [] all h = absurd cc
-        below (d ∷ ds) all h = elim (is_bucket d) as (λ t. is_bucket d ≡ t → id a < k) [
-          | true ↦ λ e. let its : id d ≡ k = grind (arith, nat_tests, e) in omega (arith, all.0, its)
-          | false ↦ λ e. below ds all.1 (rw e at h)
-        ] refl
+  bucket_changes E local c (a ∷ bs) b rise found changed =
+      grind (arith, nat_tests, local.short (rows a) (flat_map rows bs), local.past (rows a) (flat_map rows bs), greater bs, behind a bs, lesser a, all-found is_bucket (λ d. id a < id d) bs b, found_passes is_bucket bs b, bucket_changes E local c bs b)
 
   -- what only rows of the tag pass is found in the bucket
   pub find-buckets : (p : X → Bool) → ((x : X) → p x ≡ true → tag x ≡ k) → (bs : List B) → AllLater (λ x y. id x < id y) bs → find p (flat_map rows bs) ≡ option_and_then (λ b. find p (rows b)) (find is_bucket bs)
   find-buckets p own [] rise = refl
-  find-buckets p own (a ∷ bs) rise = by (is_bucket a) refl (find-buckets p own bs rise.1) where
-    either : (o : Option X) → option_or o None ≡ o
-    either None = refl
-    either (Some x) = refl
-
-    by : (t : Bool) → is_bucket a ≡ t → find p (flat_map rows bs) ≡ option_and_then (λ b. find p (rows b)) (find is_bucket bs) → find p (rows a ++ flat_map rows bs) ≡ option_and_then (λ b. find p (rows b)) (cond t (Some a) (find is_bucket bs))
-    by true e rest =
-        let its : id a ≡ k = grind (arith, nat_tests, e) in
-        let none = not_found p (flat_map rows bs) (greater_fail tag k p own (flat_map rows bs) (greater bs (behind a bs its rise.0))) in
-        find-append p (rows a) (flat_map rows bs) ∙ (ap (option_or (find p (rows a))) none ∙ either (find p (rows a)))
-    by false e rest = find-skip p (rows a) (flat_map rows bs) (all-weaker (λ x. tag x ≡ id a) (λ x. p x ≡ false) (rows a) (λ x same. other tag k p own x (λ its. let apart : eqb (id a) k ≡ true = grind (arith, nat_tests, same, its) in false≢true (sym e ∙ apart))) (tagged a)) ∙ rest
+  find-buckets p own (a ∷ bs) rise =
+      grind (arith, nat_tests, find-append p (rows a) (flat_map rows bs), find-skip p (rows a) (flat_map rows bs), not_found p (flat_map rows bs), greater_fail tag k p own (flat_map rows bs), greater bs, behind a bs, all-weaker (λ x. tag x ≡ id a) (λ x. p x ≡ false) (rows a), tagged a, find-buckets p own bs)
 
   -- the rows of the tag are the bucket's
   pub filter-buckets : (bs : List B) → AllLater (λ x y. id x < id y) bs → filter (λ x. eqb (tag x) k) (flat_map rows bs) ≡ option_map_or rows (find is_bucket bs) []
   filter-buckets [] rise = refl
-  filter-buckets (a ∷ bs) rise = filter-append own_tag (rows a) (flat_map rows bs) ∙ by (is_bucket a) refl (filter-buckets bs rise.1) where
-    own_tag : X → Bool
-    own_tag x = eqb (tag x) k
-
-    by : (t : Bool) → is_bucket a ≡ t → filter own_tag (flat_map rows bs) ≡ option_map_or rows (find is_bucket bs) [] → filter own_tag (rows a) ++ filter own_tag (flat_map rows bs) ≡ option_map_or rows (cond t (Some a) (find is_bucket bs)) []
-    by true e rest =
-        let its : id a ≡ k = grind (arith, nat_tests, e) in
-        let mine = filter-all own_tag (rows a) (all-weaker (λ x. tag x ≡ id a) (λ x. own_tag x ≡ true) (rows a) (λ x same. grind (arith, nat_tests, same, its)) (tagged a)) in
-        let none = filter-none own_tag (flat_map rows bs) (all-weaker (λ x. k < tag x) (λ x. own_tag x ≡ false) (flat_map rows bs) (λ x lt. grind (arith, nat_tests, lt)) (greater bs (behind a bs its rise.0))) in
-        rw (mine, none) (append-nil (rows a))
-    by false e rest =
-        let apart = filter-none own_tag (rows a) (all-weaker (λ x. tag x ≡ id a) (λ x. own_tag x ≡ false) (rows a) (λ x same. ap (λ n. eqb n k) same ∙ e) (tagged a)) in
-        rw apart rest
+  filter-buckets (a ∷ bs) rise =
+      let own = λ (x : X). eqb (tag x) k in
+      let mine = all-weaker (λ x. tag x ≡ id a) (λ x. own x ≡ true) (rows a) in
+      let apart = all-weaker (λ x. tag x ≡ id a) (λ x. own x ≡ false) (rows a) in
+      let greater_apart = all-weaker (λ x. k < tag x) (λ x. own x ≡ false) (flat_map rows bs) in
+      grind (arith, nat_tests, filter-append own (rows a) (flat_map rows bs), filter-all own (rows a), filter-none own (rows a), filter-none own (flat_map rows bs), greater bs, behind a bs, append-nil (rows a), tagged a, mine, apart, greater_apart, filter-buckets bs)

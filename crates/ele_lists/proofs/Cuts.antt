@@ -1,10 +1,5 @@
 -- A list cut at an element: at the first that passes, at a place, or where one comes in; and what finds and changes do there.
-use Rattle.std.proofs.Common.{◌≡◌, ℕ, ◌<◌, Bool, true, false, cond, List, [], ◌∷◌, ◌++◌, length, map, get_or, Some, refl, ap, sym, ◌∙◌, arith, zero, suc, append_assoc}
-use Rattle.std.proofs.Math.ListN.{set}
-use Rattle.std.proofs.lemmas.Bool.{false≢true}
-use Rattle.std.specs.Prelude.{find}
-use Rattle.std.specs.List.{AllByRecursion, flat_map, list_any, remove}
-use Rattle.ele_lists.specs.Lists.{update_first, remove_first, insert_before}
+use Rattle.ele_lists.proofs.Basics.{AllByRecursion, Bool, List, Some, [], ap, append_assoc, arith, cond, false, find, flat_map, insert_before, list_any, refl, remove_first, sym, true, update_first, ◌++◌, ◌∙◌, ◌∷◌, ◌≡◌}
 
 -- the first that passes, with what stands before and behind it
 pub record IsCut {X : Type 0} (p : X → Bool) (xs : List X) (x : X) : Type 0 where
@@ -18,10 +13,7 @@ module _ {X : Type 0} (p : X → Bool) where
   pub find-cut : (xs : List X) (x : X) → find p xs ≡ Some x → IsCut p xs x
   find-cut [] x found = absurd cc
   find-cut (y ∷ xs) x found = elim (p y) as (λ b. p y ≡ b → IsCut p (y ∷ xs) x) [
-    | true ↦ λ e.
-        let found' = rw e at found in
-        let same : y ≡ x = cc in
-        record { before = []; behind = xs; whole = ap (λ z. z ∷ xs) same; passes = rw (← same) e; none = tt }
+    | true ↦ λ e. record { before = []; behind = xs; whole = grind arith; passes = grind arith; none = tt }
     | false ↦ λ e.
         let rest = find-cut xs x (rw e at found) in
         record { before = y ∷ rest.before; behind = rest.behind; whole = ap (λ zs. y ∷ zs) rest.whole; passes = rest.passes; none = (e, rest.none) }
@@ -29,7 +21,7 @@ module _ {X : Type 0} (p : X → Bool) where
 
   -- where one passes, it is found
   pub any-found : (xs : List X) → list_any p xs ≡ true → (x : X) × (find p xs ≡ Some x)
-  any-found [] h = absurd (false≢true h)
+  any-found [] h = absurd cc
   any-found (x ∷ xs) h = elim (p x) as (λ b. p x ≡ b → (y : X) × (cond b (Some x) (find p xs) ≡ Some y)) [
     | true ↦ λ e. (x, refl)
     | false ↦ λ e. any-found xs (rw e at h)
@@ -67,12 +59,6 @@ module _ {X : Type 0} (p : X → Bool) where
   pub remove_first-at : (before : List X) (x : X) (behind : List X) → AllByRecursion (λ y. p y ≡ false) before → p x ≡ true → remove_first p (before ++ x ∷ behind) ≡ before ++ behind
   remove_first-at before x behind none passes = remove_first-skip before (x ∷ behind) none ∙ rw passes refl
 
-  pub insert_before-at : (y : X) (before behind : List X) → AllByRecursion (λ x. p x ≡ false) before → AllByRecursion (λ x. p x ≡ true) behind → insert_before p y (before ++ behind) ≡ before ++ y ∷ behind
-  insert_before-at y before behind none passes = insert_before-skip y before behind none ∙ ap (λ ys. before ++ ys) (first behind passes) where
-    first : (xs : List X) → AllByRecursion (λ x. p x ≡ true) xs → insert_before p y xs ≡ y ∷ xs
-    first [] all = refl
-    first (x ∷ xs) all = rw all.0 refl
-
   -- where none passes at all, nothing is changed
   pub update_first-unfound : (f : X → X) (xs : List X) → AllByRecursion (λ x. p x ≡ false) xs → update_first p f xs ≡ xs
   update_first-unfound f [] none = refl
@@ -85,77 +71,22 @@ module _ {X : Type 0} (p : X → Bool) where
   -- where none passes behind, a change happens in front
   pub update_first-front : (f : X → X) (xs ys : List X) → AllByRecursion (λ x. p x ≡ false) ys → update_first p f (xs ++ ys) ≡ update_first p f xs ++ ys
   update_first-front f [] ys none = update_first-unfound f ys none
-  update_first-front f (x ∷ xs) ys none = elim (p x) as (λ b. cond b (f x ∷ (xs ++ ys)) (x ∷ update_first p f (xs ++ ys)) ≡ cond b (f x ∷ xs) (x ∷ update_first p f xs) ++ ys) [
-    | true ↦ refl
-    | false ↦ ap (λ zs. x ∷ zs) (update_first-front f xs ys none)
-  ]
+  update_first-front f (x ∷ xs) ys none = grind (arith, update_first-front f xs ys)
 
   pub remove_first-front : (xs ys : List X) → AllByRecursion (λ x. p x ≡ false) ys → remove_first p (xs ++ ys) ≡ remove_first p xs ++ ys
   remove_first-front [] ys none = remove_first-unfound ys none
-  remove_first-front (x ∷ xs) ys none = elim (p x) as (λ b. cond b (xs ++ ys) (x ∷ remove_first p (xs ++ ys)) ≡ cond b xs (x ∷ remove_first p xs) ++ ys) [
-    | true ↦ refl
-    | false ↦ ap (λ zs. x ∷ zs) (remove_first-front xs ys none)
-  ]
+  remove_first-front (x ∷ xs) ys none = grind (arith, remove_first-front xs ys)
 
   -- where all behind pass, what comes in stands in front of them
   pub insert_before-front : (y : X) (xs ys : List X) → AllByRecursion (λ x. p x ≡ true) ys → insert_before p y (xs ++ ys) ≡ insert_before p y xs ++ ys
-  insert_before-front y [] ys all = insert_before-at y [] ys tt all
-  insert_before-front y (x ∷ xs) ys all = elim (p x) as (λ b. cond b (y ∷ x ∷ (xs ++ ys)) (x ∷ insert_before p y (xs ++ ys)) ≡ cond b (y ∷ x ∷ xs) (x ∷ insert_before p y xs) ++ ys) [
-    | true ↦ refl
-    | false ↦ ap (λ zs. x ∷ zs) (insert_before-front y xs ys all)
-  ]
+  insert_before-front y [] [] all = refl
+  insert_before-front y [] (z ∷ ys) all = grind arith
+  insert_before-front y (x ∷ xs) ys all = grind (arith, insert_before-front y xs ys)
 
   -- an update of what is found, where it is the same after it
   pub update_first-same : (f : X → X) (xs : List X) (x : X) → find p xs ≡ Some x → f x ≡ x → update_first p f xs ≡ xs
-  update_first-same f xs x found same =
-      let cut = find-cut xs x found in
-      rw cut.whole (update_first-at f cut.before x cut.behind cut.none cut.passes ∙ ap (λ z. cut.before ++ z ∷ cut.behind) same)
-
-  -- where an element comes in
-  pub record IsOpened (y : X) (xs : List X) : Type 0 where
-    pub before : List X
-    pub behind : List X
-    pub is : xs ≡ before ++ behind
-    pub opened : insert_before p y xs ≡ before ++ y ∷ behind
-
-  pub open_before : (y : X) (xs : List X) → IsOpened y xs
-  open_before y [] = record { before = []; behind = []; is = refl; opened = refl }
-  open_before y (x ∷ xs) = elim (p x) as (λ b. p x ≡ b → IsOpened y (x ∷ xs)) [
-    | true ↦ λ e. record { before = []; behind = x ∷ xs; is = refl; opened = rw e refl }
-    | false ↦ λ e.
-        let rest = open_before y xs in
-        record { before = x ∷ rest.before; behind = rest.behind; is = ap (λ zs. x ∷ zs) rest.is; opened = rw e (ap (λ zs. x ∷ zs) rest.opened) }
-  ] refl
-
-module _ {X : Type 0} where
-  -- the element at a place, with what stands before and behind it
-  pub record Cut (xs : List X) (i : ℕ) (d : X) : Type 0 where
-    pub before : List X
-    pub after : List X
-    pub whole : xs ≡ before ++ get_or xs i d ∷ after
-    pub changed : (y : X) → set xs i y ≡ before ++ y ∷ after
-    pub again : (y z : X) → set (set xs i y) i z ≡ before ++ z ∷ after
-    pub there : (y e : X) → get_or (set xs i y) i e ≡ y
-    pub removed : remove xs i ≡ before ++ after
-
-  pub cut_at : (xs : List X) (i : ℕ) (d : X) → i < length xs → Cut xs i d
-  cut_at [] i d lt = absurd (omega arith)
-  cut_at (x ∷ xs) zero d lt = record { before = []; after = xs; whole = refl; changed = λ y. refl; again = λ y z. refl; there = λ y e. refl; removed = refl }
-  cut_at (x ∷ xs) (suc i) d lt =
-      let rest = cut_at xs i d (omega arith) in
-      record {
-        before = x ∷ rest.before;
-        after = rest.after;
-        whole = ap (λ ys. x ∷ ys) rest.whole;
-        changed = λ y. ap (λ ys. x ∷ ys) (rest.changed y);
-        again = λ y z. ap (λ ys. x ∷ ys) (rest.again y z);
-        there = rest.there;
-        removed = ap (λ ys. x ∷ ys) rest.removed;
-      }
-
-pub map-exchange : {X Y : Type 0} (h : X → Y) (xs : List X) (x y : X) (zs : List X) → h y ≡ h x → map h (xs ++ y ∷ zs) ≡ map h (xs ++ x ∷ zs)
-map-exchange h [] x y zs same = ap (λ w. w ∷ map h zs) same
-map-exchange h (z ∷ xs) x y zs same = ap (λ ws. h z ∷ ws) (map-exchange h xs x y zs same)
+  update_first-same f [] x found same = refl
+  update_first-same f (y ∷ xs) x found same = grind (arith, update_first-same f xs x)
 
 -- lists after one another, cut at one of them
 pub flat_map-cut : {X Y : Type 0} (h : X → List Y) (xs : List X) (x : X) (zs : List X) → flat_map h (xs ++ x ∷ zs) ≡ flat_map h xs ++ (h x ++ flat_map h zs)

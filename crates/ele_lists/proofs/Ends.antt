@@ -1,15 +1,7 @@
 -- The last element: of lists after one another, at its place, in a reversed list, and what an update of it keeps.
-use Rattle.std.proofs.Math.ListN.{set}
-use Rattle.std.proofs.Common.{get_or, ap, ◌≡◌, ℕ, zero, suc, ◌-◌, ◌≤◌, Bool, true, false, cond, ◌||◌, List, [], ◌∷◌, ◌++◌, length, take, reverse, Option, Some, None, refl, ◌∙◌, arith}
-use Rattle.std.specs.Prelude.{find, slice_get, is_some}
-use Rattle.std.specs.Option.{option_or}
-use Rattle.std.specs.List.{list_any, AllByRecursion}
-use Rattle.std.proofs.lemmas.List.{reverse-append}
-use Rattle.std.proofs.lemmas.List.Folds.{find-append}
-use Rattle.ele_lists.specs.Lists.{AllLater}
-use Rattle.ele_lists.specs.Ends.{last_of, update_last}
-use Rattle.ele_lists.proofs.Edits.{not_found}
+use Rattle.ele_lists.proofs.Basics.{AllByRecursion, AllLater, Bool, List, None, Option, Some, [], ap, arith, cond, false, find, find-append, get_or, is_some, last_of, length, list_any, option_or, refl, reverse, reverse-append, set, slice_get, suc, take, true, update_last, zero, ℕ, ◌++◌, ◌-◌, ◌∷◌, ◌≡◌, ◌≤◌}
 use Rattle.ele_lists.proofs.Alls.{all-reverse}
+use Rattle.ele_lists.proofs.Edits.{not_found}
 
 module _ {X : Type 0} where
   pub last-append : (xs ys : List X) (y : X) → last_of (xs ++ y ∷ ys) ≡ last_of (y ∷ ys)
@@ -19,10 +11,8 @@ module _ {X : Type 0} where
 
   pub last_at : (xs : List X) (n : ℕ) → length xs ≡ suc n → slice_get xs n ≡ last_of xs
   last_at [] n h = absurd (omega arith)
-  last_at (x ∷ []) zero h = refl
-  last_at (x ∷ []) (suc n) h = absurd (omega arith)
-  last_at (x ∷ y ∷ xs) zero h = absurd (omega arith)
-  last_at (x ∷ y ∷ xs) (suc n) h = last_at (y ∷ xs) n (omega arith)
+  last_at (x ∷ []) n h = grind arith
+  last_at (x ∷ y ∷ xs) n h = grind (arith, last_at (y ∷ xs) (n - 1))
 
   pub last-slice_get : (xs : List X) → slice_get xs (length xs - 1) ≡ last_of xs
   last-slice_get [] = refl
@@ -63,17 +53,7 @@ module _ {X : Type 0} (p : X → Bool) where
 
   pub find_last-is_some : (xs : List X) → is_some (find p (reverse xs)) ≡ list_any p xs
   find_last-is_some [] = refl
-  find_last-is_some (x ∷ xs) = rw (find_last-cons x xs) (elim (p x) as (λ b. is_some (option_or (find p (reverse xs)) (cond b (Some x) None)) ≡ (b || list_any p xs)) [
-    | true ↦ any (find p (reverse xs))
-    | false ↦ same (find p (reverse xs)) ∙ find_last-is_some xs
-  ]) where
-    any : (o : Option X) → is_some (option_or o (Some x)) ≡ true
-    any None = refl
-    any (Some y) = refl
-
-    same : (o : Option X) → is_some (option_or o None) ≡ is_some o
-    same None = refl
-    same (Some y) = refl
+  find_last-is_some (x ∷ xs) = grind (arith, find_last-cons x xs, find_last-is_some xs)
 
   either : (x : X) (xs : List X) (o : Option X) → option_or (last_of (x ∷ xs)) o ≡ last_of (x ∷ xs)
   either x [] o = refl
@@ -82,8 +62,7 @@ module _ {X : Type 0} (p : X → Bool) where
   last_passing : (xs : List X) → AllByRecursion (λ x. p x ≡ true) xs → find p (reverse xs) ≡ last_of xs
   last_passing [] all = refl
   last_passing (x ∷ []) all = rw all.0 refl
-  last_passing (x ∷ y ∷ xs) all =
-      rw (find_last-cons x (y ∷ xs), last_passing (y ∷ xs) all.1) (either y xs (cond (p x) (Some x) None))
+  last_passing (x ∷ y ∷ xs) all = grind (arith, find_last-cons x (y ∷ xs), last_passing (y ∷ xs), either y xs)
 
   -- of a list cut in two, all passing before the cut and none behind it
   pub find_last-parted : (before behind : List X) → AllByRecursion (λ x. p x ≡ true) before → AllByRecursion (λ x. p x ≡ false) behind → find p (reverse (before ++ behind)) ≡ last_of before
@@ -99,10 +78,8 @@ module _ {X : Type 0} (p : X → Bool) where
 module _ {X : Type 0} (f : X → X) where
   pub update_last-set : (xs : List X) (n : ℕ) (x : X) → length xs ≡ suc n → x ≡ get_or xs n x → set xs n (f x) ≡ update_last f xs
   update_last-set [] n x long is = absurd (omega arith)
-  update_last-set (y ∷ []) zero x long is = ap (λ z. f z ∷ []) is
-  update_last-set (y ∷ []) (suc n) x long is = absurd (omega arith)
-  update_last-set (y ∷ z ∷ xs) zero x long is = absurd (omega arith)
-  update_last-set (y ∷ z ∷ xs) (suc n) x long is = ap (λ ys. y ∷ ys) (update_last-set (z ∷ xs) n x (omega arith) is)
+  update_last-set (y ∷ []) n x long is = grind arith
+  update_last-set (y ∷ z ∷ xs) n x long is = grind (arith, update_last-set (z ∷ xs) (n - 1) x)
 
   pub length-update_last : (xs : List X) → length (update_last f xs) ≡ length xs
   length-update_last [] = refl

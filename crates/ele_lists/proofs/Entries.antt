@@ -1,125 +1,50 @@
 -- The entries of a map by rising key: one more, some of them, and two maps in which each look-up finds the same.
-use Rattle.std.proofs.Common.{◌≡◌, Bool, true, false, cond, List, [], ◌∷◌, map, Option, Some, None, refl, ap, sym, ◌∙◌, filter}
-use Rattle.std.specs.List.{AllByRecursion, filter_map, cons_option}
+use Rattle.ele_lists.proofs.Basics.{AllByRecursion, Bool, CmpEqualImpliesEq, Equal, IsDistinct-from_sorted, IsTotalOrder, Less, List, Option, Ordering, Some, [], ap, arith, cond, cons_option, eq_by_cmp_equiv, filter, filter_map, insert_entry, is_at, is_eq, keys_of, lookup, lookup-none, map, none_below_head, none_past_head, refl, ◌∷◌, ◌≡◌}
+use Rattle.ele_lists.proofs.Edits.{all-weaker}
 use Rattle.std.specs.List.Sorted.{IsStrictlySortedBy}
-use Rattle.std.specs.Map.{keys_of, lookup}
-use Rattle.std.specs.BTreeMap.{insert_entry, is_at}
-use Rattle.std.specs.declared.cmp.Ordering.{Ordering}
-use Rattle.std.specs.declared.cmp.Ordering.TheVariants.{Less, Equal, Greater}
-use Rattle.std.specs.Ordering.{is_eq, match_ordering, ordering_reverse}
-use Rattle.std.specs.Cmp.{IsTotalOrder, eq_by_cmp_equiv}
-use Rattle.std.proofs.lemmas.Map.{lookup-none}
-use Rattle.std.proofs.lemmas.Map.Entries.{lookup_tail, none_past_head, none_below_head}
-use Rattle.std.proofs.lemmas.Map.Keys.{IsDistinct-from_sorted}
-use Rattle.std.proofs.lemmas.Map.Lookups.{CmpEqualImpliesEq}
-
-equal_is : (x : Ordering) → is_eq x ≡ true → x ≡ Equal
-equal_is Less h = absurd cc
-equal_is Equal h = refl
-equal_is Greater h = absurd cc
 
 module _ {K X : Type 0} where
   -- what holds of the entries, after one more
   pub all-insert_entry : (P : K × X → Type 0) (cmp : K → K → Ordering) (es : List (K × X)) (k : K) (v : X) → P (k, v) → ((e : K × X) → cmp k e.0 ≡ Equal → P (e.0, v)) → AllByRecursion P es → AllByRecursion P (insert_entry cmp es k v)
   all-insert_entry P cmp [] k v own same all = (own, tt)
-  all-insert_entry P cmp (e ∷ es) k v own same all = by (cmp k e.0) refl (all-insert_entry P cmp es k v own same all.1) where
-    by : (x : Ordering) → cmp k e.0 ≡ x → AllByRecursion P (insert_entry cmp es k v) → AllByRecursion P (match_ordering x ((k, v) ∷ e ∷ es) ((e.0, v) ∷ es) (e ∷ insert_entry cmp es k v))
-    by Less h rest = (own, all)
-    by Equal h rest = (same e h, all.1)
-    by Greater h rest = (all.0, rest)
+  all-insert_entry P cmp (e ∷ es) k v own same all = grind (arith, all-insert_entry P cmp es)
 
   -- and of the keys
   all_keys-insert_entry : (P : K → Type 0) (cmp : K → K → Ordering) (es : List (K × X)) (k : K) (v : X) → P k → AllByRecursion P (keys_of es) → AllByRecursion P (keys_of (insert_entry cmp es k v))
   all_keys-insert_entry P cmp [] k v own all = (own, tt)
-  all_keys-insert_entry P cmp (e ∷ es) k v own all = by (cmp k e.0) (all_keys-insert_entry P cmp es k v own all.1) where
-    by : (x : Ordering) → AllByRecursion P (keys_of (insert_entry cmp es k v)) → AllByRecursion P (keys_of (match_ordering x ((k, v) ∷ e ∷ es) ((e.0, v) ∷ es) (e ∷ insert_entry cmp es k v)))
-    by Less rest = (own, all)
-    by Equal rest = all
-    by Greater rest = (all.0, rest)
+  all_keys-insert_entry P cmp (e ∷ es) k v own all = grind (arith, all_keys-insert_entry P cmp es)
 
   all_keys-filter : (P : K → Type 0) (p : K × X → Bool) (es : List (K × X)) → AllByRecursion P (keys_of es) → AllByRecursion P (keys_of (filter p es))
   all_keys-filter P p [] all = tt
-  all_keys-filter P p (e ∷ es) all = by (p e) (all_keys-filter P p es all.1) where
-    by : (b : Bool) → AllByRecursion P (keys_of (filter p es)) → AllByRecursion P (keys_of (cond b (e ∷ filter p es) (filter p es)))
-    by true rest = (all.0, rest)
-    by false rest = rest
+  all_keys-filter P p (e ∷ es) all = grind (arith, all_keys-filter P p es)
 
   -- some of them rise as well
   pub sorted-filter_entries : (cmp : K → K → Ordering) (p : K × X → Bool) (es : List (K × X)) → IsStrictlySortedBy cmp (keys_of es) → IsStrictlySortedBy cmp (keys_of (filter p es))
   unfolding IsStrictlySortedBy
   sorted-filter_entries cmp p [] up = tt
-  sorted-filter_entries cmp p (e ∷ es) up = by (p e) (sorted-filter_entries cmp p es up.1) where
-    by : (b : Bool) → IsStrictlySortedBy cmp (keys_of (filter p es)) → IsStrictlySortedBy cmp (keys_of (cond b (e ∷ filter p es) (filter p es)))
-    by true rest = (all_keys-filter (λ k. cmp e.0 k ≡ Less) p es up.0, rest)
-    by false rest = rest
+  sorted-filter_entries cmp p (e ∷ es) up = grind (arith, all_keys-filter (λ k. cmp e.0 k ≡ Less) p es, sorted-filter_entries cmp p es)
 
 module _ {K X : Type 0} {cmp : K → K → Ordering} (o : IsTotalOrder cmp) where
   pub sorted-insert_entry : (es : List (K × X)) (k : K) (v : X) → IsStrictlySortedBy cmp (keys_of es) → IsStrictlySortedBy cmp (keys_of (insert_entry cmp es k v))
   unfolding IsStrictlySortedBy
   sorted-insert_entry [] k v up = (tt, tt)
-  sorted-insert_entry (e ∷ es) k v up = by (cmp k e.0) refl (sorted-insert_entry es k v up.1) where
-    above : cmp k e.0 ≡ Less → (fs : List (K × X)) → AllByRecursion (λ y. cmp e.0 y ≡ Less) (keys_of fs) → AllByRecursion (λ y. cmp k y ≡ Less) (keys_of fs)
-    above h [] all = tt
-    above h (f ∷ fs) all = (o.trans k e.0 f.0 h all.0, above h fs all.1)
-
-    by : (x : Ordering) → cmp k e.0 ≡ x → IsStrictlySortedBy cmp (keys_of (insert_entry cmp es k v)) → IsStrictlySortedBy cmp (keys_of (match_ordering x ((k, v) ∷ e ∷ es) ((e.0, v) ∷ es) (e ∷ insert_entry cmp es k v)))
-    by Less h rest = ((h, above h es up.0), up)
-    by Equal h rest = up
-    by Greater h rest = (all_keys-insert_entry (λ y. cmp e.0 y ≡ Less) cmp es k v (o.antisymm e.0 k ∙ ap ordering_reverse h) up.0, rest)
+  sorted-insert_entry (e ∷ es) k v up = grind (arith, o.trans, o.antisymm e.0 k, all-weaker (λ y. cmp e.0 y ≡ Less) (λ y. cmp k y ≡ Less) (keys_of es), all_keys-insert_entry (λ y. cmp e.0 y ≡ Less) cmp es k v, sorted-insert_entry es k v)
 
   -- one more is found at its key, and at others what was
   pub lookup-insert_entry : (q : K) (es : List (K × X)) (k : K) (v : X) → lookup (is_at (cmp q)) (insert_entry cmp es k v) ≡ cond (is_eq (cmp k q)) (Some v) (lookup (is_at (cmp q)) es)
-  lookup-insert_entry q [] k v = ap (λ b. cond b (Some v) None) ((eq_by_cmp_equiv o).symm q k)
-  lookup-insert_entry q (e ∷ es) k v = by (cmp k e.0) refl (lookup-insert_entry q es k v) where
-    twice : (b : Bool) (old : Option X) → cond b (Some v) old ≡ cond b (Some v) (cond b (Some e.1) old)
-    twice true old = refl
-    twice false old = refl
-
-    passed : cmp k e.0 ≡ Greater → (b : Bool) → is_eq (cmp k q) ≡ b → cond (is_eq (cmp q e.0)) (Some e.1) (cond b (Some v) (lookup (is_at (cmp q)) es)) ≡ cond b (Some v) (cond (is_eq (cmp q e.0)) (Some e.1) (lookup (is_at (cmp q)) es))
-    passed h true same = rw (sym (o.congr k q e.0 (equal_is (cmp k q) same)) ∙ h) refl
-    passed h false same = refl
-
-    by : (x : Ordering) → cmp k e.0 ≡ x → lookup (is_at (cmp q)) (insert_entry cmp es k v) ≡ cond (is_eq (cmp k q)) (Some v) (lookup (is_at (cmp q)) es)
-        → lookup (is_at (cmp q)) (match_ordering x ((k, v) ∷ e ∷ es) ((e.0, v) ∷ es) (e ∷ insert_entry cmp es k v)) ≡ cond (is_eq (cmp k q)) (Some v) (lookup (is_at (cmp q)) (e ∷ es))
-    by Less h rest = ap (λ b. cond b (Some v) (lookup (is_at (cmp q)) (e ∷ es))) ((eq_by_cmp_equiv o).symm q k)
-    by Equal h rest =
-        let same : is_eq (cmp k q) ≡ is_eq (cmp q e.0) = ap is_eq (o.congr k e.0 q h) ∙ (eq_by_cmp_equiv o).symm e.0 q in
-        rw same (twice (is_eq (cmp q e.0)) (lookup (is_at (cmp q)) es))
-    by Greater h rest = rw rest (passed h (is_eq (cmp k q)) refl)
+  lookup-insert_entry q [] k v = grind (arith, (eq_by_cmp_equiv o).symm q k)
+  lookup-insert_entry q (e ∷ es) k v = grind (arith, (eq_by_cmp_equiv o).symm q k, (eq_by_cmp_equiv o).symm e.0 q, o.congr k e.0 q, o.congr k q e.0, lookup-insert_entry q es k v)
 
   -- they are the same, where keys that compare alike are
   pub entries_same : CmpEqualImpliesEq cmp → (es fs : List (K × X)) → IsStrictlySortedBy cmp (keys_of es) → IsStrictlySortedBy cmp (keys_of fs) → ((q : K) → lookup (is_at (cmp q)) es ≡ lookup (is_at (cmp q)) fs) → es ≡ fs
   unfolding IsStrictlySortedBy
   entries_same exact [] [] up also same = refl
-  entries_same exact (e ∷ es) [] up also same = absurd (let h = rw ((eq_by_cmp_equiv o).refl e.0) at (same e.0) in cc)
-  entries_same exact [] (f ∷ fs) up also same = absurd (let h = rw ((eq_by_cmp_equiv o).refl f.0) at (same f.0) in cc)
-  entries_same exact (e ∷ es) (f ∷ fs) up also same = by (cmp e.0 f.0) refl (entries_same exact es fs up.1 also.1) where
-    here : (e : K × X) (es fs : List (K × X)) → lookup (is_at (cmp e.0)) (e ∷ es) ≡ lookup (is_at (cmp e.0)) fs → lookup (is_at (cmp e.0)) fs ≡ Some e.1
-    here e es fs h = sym h ∙ rw ((eq_by_cmp_equiv o).refl e.0) refl
-
-    rest_same : e.0 ≡ f.0 → (q : K) → lookup (is_at (cmp q)) es ≡ lookup (is_at (cmp q)) fs
-    rest_same key q = of (is_eq (cmp q e.0)) refl where
-      of : (b : Bool) → is_eq (cmp q e.0) ≡ b → lookup (is_at (cmp q)) es ≡ lookup (is_at (cmp q)) fs
-      of true at =
-          lookup-none (is_at (cmp q)) es (none_past_head (eq_by_cmp_equiv o) q e es (IsDistinct-from_sorted cmp (keys_of (e ∷ es)) up) at)
-          ∙ sym (lookup-none (is_at (cmp q)) fs (none_past_head (eq_by_cmp_equiv o) q f fs (IsDistinct-from_sorted cmp (keys_of (f ∷ fs)) also) (rw (← key) at)))
-      of false at = sym (lookup_tail (is_at (cmp q)) e es at) ∙ same q ∙ lookup_tail (is_at (cmp q)) f fs (rw (← key) at)
-
-    by : (x : Ordering) → cmp e.0 f.0 ≡ x → (((q : K) → lookup (is_at (cmp q)) es ≡ lookup (is_at (cmp q)) fs) → es ≡ fs) → e ∷ es ≡ f ∷ fs
-    by Less h rest = absurd (let none = lookup-none (is_at (cmp e.0)) (f ∷ fs) (none_below_head o e.0 f fs also h) in let some = here e es (f ∷ fs) (same e.0) in cc)
-    by Greater h rest = absurd (
-        let below : cmp f.0 e.0 ≡ Less = o.antisymm f.0 e.0 ∙ ap ordering_reverse h in
-        let none = lookup-none (is_at (cmp f.0)) (e ∷ es) (none_below_head o f.0 e es up below) in
-        let some = here f fs (e ∷ es) (sym (same f.0)) in cc)
-    by Equal h rest =
-        let key = exact e.0 f.0 h in
-        let some = here e es (f ∷ fs) (same e.0) in
-        let at : is_eq (cmp e.0 f.0) ≡ true = ap is_eq h in
-        let found : Some f.1 ≡ Some e.1 = sym (rw at refl) ∙ some in
-        let value : e.1 ≡ f.1 = cc in
-        rw (rest (rest_same key)) (ap (λ (p : K × X). p ∷ fs) (pair key value)) where
-          pair : e.0 ≡ f.0 → e.1 ≡ f.1 → e ≡ f
-          pair key value = rw (key, value) refl
+  entries_same exact (e ∷ es) [] up also same = grind (arith, (eq_by_cmp_equiv o).refl e.0, same e.0)
+  entries_same exact [] (f ∷ fs) up also same = grind (arith, (eq_by_cmp_equiv o).refl f.0, same f.0)
+  entries_same exact (e ∷ es) (f ∷ fs) up also same =
+      let key : e.0 ≡ f.0 = grind (arith, exact e.0 f.0, (eq_by_cmp_equiv o).refl e.0, (eq_by_cmp_equiv o).refl f.0, o.antisymm f.0 e.0, same e.0, same f.0, lookup-none (is_at (cmp e.0)) (f ∷ fs), none_below_head o e.0 f fs also, lookup-none (is_at (cmp f.0)) (e ∷ es), none_below_head o f.0 e es up) in
+      let rest : (q : K) → lookup (is_at (cmp q)) es ≡ lookup (is_at (cmp q)) fs = λ q. grind (arith, same q, lookup-none (is_at (cmp q)) es, lookup-none (is_at (cmp q)) fs, none_past_head (eq_by_cmp_equiv o) q e es (IsDistinct-from_sorted cmp (keys_of (e ∷ es)) up), none_past_head (eq_by_cmp_equiv o) q f fs (IsDistinct-from_sorted cmp (keys_of (f ∷ fs)) also)) in
+      grind (arith, same e.0, (eq_by_cmp_equiv o).refl e.0, entries_same exact es fs up.1 also.1 rest)
 
 pub filter_map-map : {X Y Z : Type 0} (g : Y → Option Z) (h : X → Y) (xs : List X) → filter_map g (map h xs) ≡ filter_map (λ x. g (h x)) xs
 filter_map-map g h [] = refl

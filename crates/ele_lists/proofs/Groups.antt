@@ -1,47 +1,6 @@
 -- What lies between two entries of one group.
-use Rattle.std.proofs.Common.{◌≡◌, ◌==◌, ℕ, ◌≤◌, ◌<◌, ◌^◌, true, false, IsTrue, refl, ◌∙◌, arith, ◌⊎◌}
-use Rattle.std.specs.declared.cmp.Ordering.{Ordering}
-use Rattle.std.specs.declared.cmp.Ordering.TheVariants.{Less, Equal, Greater}
-use Rattle.std.specs.Ordering.{nat_cmp, ordering_then, ordering_reverse, is_gt, is_lt, is_eq}
-use Rattle.std.specs.Cmp.{IsTotalOrder, nat_cmp_total}
-use Rattle.std.specs.BTreeMap.{is_at}
-use Rattle.std.specs.BTreeMap.Range.{IsLeBy, IsInRange, range_contains}
-use Rattle.std.specs.BTreeSet.{keys_between}
-use Rattle.std.specs.declared.ops.Bound.{Bound}
-use Rattle.std.specs.declared.ops.Bound.TheVariants.{Included}
-use Rattle.std.specs.List.{list_any}
-use Rattle.std.proofs.lemmas.Cmp.{then_total, on_total, eq_by_cmp_equiv, tied_itself}
-use Rattle.std.proofs.lemmas.Bool.{false≢true}
-use Rattle.std.proofs.lemmas.Map.Steps.{list_any_congr}
-use Rattle.std.proofs.lemmas.Map.Views.{any-filter_same, range_contains-from_IsInRange}
-use Rattle.std.proofs.lemmas.Bool.Decides.{nat_tests}
-use Rattle.ele_lists.specs.Index.{entry_cmp, has, IsLastOf}
-use Rattle.ele_lists.specs.declared.index.Index.{Index}
+use Rattle.ele_lists.proofs.Basics.{Bound, Equal, Included, Index, IsLastOf, IsLeBy, IsTotalOrder, IsTrue, Ordering, any-filter_same, arith, entry_cmp, eq_by_cmp_equiv, false, has, is_at, is_lt, keys_between, list_any, list_any_congr, nat_cmp_total, nat_tests, on_total, range_contains, range_contains-from_IsInRange, then_total, tied_itself, true, ℕ, ◌<◌, ◌==◌, ◌^◌, ◌∙◌, ◌≡◌, ◌≤◌}
 use Rattle.ele_lists.proofs.Anys.{any-weaker}
-
-first_le : (x y z : Ordering) → is_gt (ordering_then (ordering_then x y) z) ≡ false → is_gt x ≡ false
-first_le Less y z h = refl
-first_le Equal y z h = refl
-first_le Greater y z h = h
-
-level : (x y : Ordering) → x ≡ ordering_reverse y → is_gt x ≡ false → is_gt y ≡ false → x ≡ Equal
-level Less Less e a b = cc
-level Less Equal e a b = cc
-level Less Greater e a b = absurd cc
-level Equal y e a b = refl
-level Greater y e a b = absurd cc
-
-rank_le : (x : Ordering) (r rank s t : ℕ) → x ≡ Equal → is_gt (ordering_then (ordering_then x (nat_cmp r rank)) (nat_cmp s t)) ≡ false → r ≤ rank
-rank_le x r rank s t e h = grind (arith, nat_tests)
-
-from_start : (x : Ordering) (q t : ℕ) → x ≡ Equal → is_gt (ordering_then (ordering_then x (nat_cmp 0 q)) (nat_cmp 0 t)) ≡ false
-from_start x q t e = grind (arith, nat_tests)
-
-to_end : (x : Ordering) (q rank t m : ℕ) → x ≡ Equal → q ≤ rank → t ≤ m → is_gt (ordering_then (ordering_then x (nat_cmp q rank)) (nat_cmp t m)) ≡ false
-to_end x q rank t m e a b = grind (arith, nat_tests)
-
-not_later : (x : Ordering) (r q s t : ℕ) → x ≡ Equal → is_lt (ordering_then (ordering_then x (nat_cmp r q)) (nat_cmp s t)) ≡ false → (q < r) ⊎ ((q ≡ r) × (t ≤ s))
-not_later x r q s t e h = grind (arith, nat_tests)
 
 module _ {G : Type 0} {cmp : G → G → Ordering} (o : IsTotalOrder cmp) where
   pub entry_total : IsTotalOrder (entry_cmp cmp)
@@ -49,9 +8,8 @@ module _ {G : Type 0} {cmp : G → G → Ordering} (o : IsTotalOrder cmp) where
 
   -- what has the group in its place
   has_same : (index : Index G) (g h : G) (r s : ℕ) → cmp g h ≡ Equal → has cmp index g r s ≡ has cmp index h r s
-  has_same index g h r s e = list_any_congr (eq_by_cmp_equiv entry_total) (g, r, s) (h, r, s) index.entries.keys (same (cmp g h) e (nat_cmp r r) (tied_itself nat_cmp_total r) (nat_cmp s s) (tied_itself nat_cmp_total s)) where
-    same : (x : Ordering) → x ≡ Equal → (y : Ordering) → y ≡ Equal → (z : Ordering) → z ≡ Equal → is_eq (ordering_then (ordering_then x y) z) ≡ true
-    same x a y b z d = rw (a, b, d) refl
+  has_same index g h r s e =
+      list_any_congr (eq_by_cmp_equiv entry_total) (g, r, s) (h, r, s) index.entries.keys (grind (arith, tied_itself nat_cmp_total r, tied_itself nat_cmp_total s))
 
   module _ (index : Index G) (g : G) (rank : ℕ) where
     -- the least and the greatest entry of the group up to the rank
@@ -59,10 +17,10 @@ module _ {G : Type 0} {cmp : G → G → Ordering} (o : IsTotalOrder cmp) where
     InGroup e = IsLeBy (entry_cmp cmp) (g, 0, 0) e × IsLeBy (entry_cmp cmp) e (g, rank, 18446744073709551615)
 
     pub in_group : (q t : ℕ) → q ≤ rank → t < 2 ^ 64 → InGroup (g, q, t)
-    in_group q t h k = (from_start (cmp g g) q t (tied_itself o g), to_end (cmp g g) q rank t 18446744073709551615 (tied_itself o g) h (omega arith))
+    in_group q t h k = (grind (arith, nat_tests, tied_itself o g), grind (arith, nat_tests, tied_itself o g))
 
     here : (e : G × ℕ × ℕ) → InGroup e → cmp g e.0 ≡ Equal
-    here e inside = level (cmp g e.0) (cmp e.0 g) (o.antisymm g e.0) (first_le (cmp g e.0) (nat_cmp 0 e.1) (nat_cmp 0 e.2) inside.0) (first_le (cmp e.0 g) (nat_cmp e.1 rank) (nat_cmp e.2 18446744073709551615) inside.1)
+    here e inside = grind (arith, o.antisymm g e.0, inside.0, inside.1)
 
     pub of_group : (e : G × ℕ × ℕ) → InGroup e → IsTrue (has cmp index e.0 e.1 e.2) → has cmp index g e.1 e.2 ≡ true
     of_group e inside there = rw (has_same index g e.0 e.1 e.2 (here e inside)) there
@@ -71,13 +29,9 @@ module _ {G : Type 0} {cmp : G → G → Ordering} (o : IsTotalOrder cmp) where
         → ((e' : G × ℕ × ℕ) → InGroup e' → IsTrue (has cmp index e'.0 e'.1 e'.2) → is_lt (entry_cmp cmp e e') ≡ false)
         → IsLastOf (has cmp index g) rank e.1 e.2
     last_of_group e inside there last =
-        let same : cmp g e.0 ≡ Equal = here e inside in
-        let back : cmp e.0 g ≡ Equal = o.antisymm e.0 g ∙ rw same refl in
-        record {
-          there = of_group e inside there;
-          up_to = rank_le (cmp e.0 g) e.1 rank e.2 18446744073709551615 back inside.1;
-          last = λ q t h k has. not_later (cmp e.0 g) e.1 q e.2 t back (last (g, q, t) (in_group q t h k) has);
-        }
+        let same = here e inside in
+        let back = o.antisymm e.0 g in
+        record { there = of_group e inside there; up_to = grind (arith, nat_tests, inside.1); last = λ q t h k has. grind (arith, nat_tests, last (g, q, t) (in_group q t h k) has) }
 
 -- the bounds of a group
 abbrev pub least : {G : Type 0} → G → Bound (G × ℕ × ℕ)
@@ -86,25 +40,10 @@ least g = Included (g, 0, 0)
 abbrev pub greatest : {G : Type 0} → G → Bound (G × ℕ × ℕ)
 greatest g = Included (g, 18446744073709551615, 18446744073709551615)
 
-parts : (x : Ordering) (r q s t : ℕ) → is_eq (ordering_then (ordering_then x (nat_cmp r q)) (nat_cmp s t)) ≡ true → (x ≡ Equal) × (r ≡ q) × (s ≡ t)
-parts Less r q s t h = absurd (false≢true h)
-parts Equal r q s t h = grind (arith, nat_tests)
-parts Greater r q s t h = absurd (false≢true h)
-
 module _ {G : Type 0} {cmp : G → G → Ordering} (o : IsTotalOrder cmp) (index : Index G) (g : G) (r s : ℕ) where
   -- what stands there is found among all of the group
   pub found_of_group : r < 2 ^ 64 → s < 2 ^ 64 → has cmp index g r s ≡ true
       → list_any (λ e. e.2 == s) (keys_between (entry_cmp cmp) (least g) (greatest g) index.entries) ≡ true
   found_of_group fits small there =
-      any-weaker (is_at (entry_cmp cmp (g, r, s))) (λ e. e.2 == s) (keys_between (entry_cmp cmp) (least g) (greatest g) index.entries)
-      (λ e is. serial e (parts (cmp g e.0) r e.1 s e.2 is).2)
-      (any-filter_same (is_at (entry_cmp cmp (g, r, s))) (range_contains (entry_cmp cmp) (least g) (greatest g)) true (λ e is. range_contains-from_IsInRange (entry_total o) (least g) (greatest g) e (within e (parts (cmp g e.0) r e.1 s e.2 is))) index.entries.keys ∙ there) where
-        serial : (e : G × ℕ × ℕ) → s ≡ e.2 → (e.2 == s) ≡ true
-        serial e is = grind (arith, nat_tests)
-
-        within : (e : G × ℕ × ℕ) → (cmp g e.0 ≡ Equal) × (r ≡ e.1) × (s ≡ e.2) → IsInRange (entry_cmp cmp) (least g) (greatest g) e
-        within e same =
-            let back : cmp e.0 g ≡ Equal = o.antisymm e.0 g ∙ rw same.0 refl in
-            let rank = same.1 in
-            let number = same.2 in
-            (from_start (cmp g e.0) e.1 e.2 same.0, to_end (cmp e.0 g) e.1 18446744073709551615 e.2 18446744073709551615 back (omega arith) (omega arith))
+      any-weaker (is_at (entry_cmp cmp (g, r, s))) (λ e. e.2 == s) (keys_between (entry_cmp cmp) (least g) (greatest g) index.entries) (λ e is. grind (arith, nat_tests))
+      (any-filter_same (is_at (entry_cmp cmp (g, r, s))) (range_contains (entry_cmp cmp) (least g) (greatest g)) true (λ e is. range_contains-from_IsInRange (entry_total o) (least g) (greatest g) e (grind (arith, nat_tests, is), grind (arith, nat_tests, is, o.antisymm e.0 g))) index.entries.keys ∙ there)

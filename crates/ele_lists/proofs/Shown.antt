@@ -1,18 +1,10 @@
 -- Finds, tests and changes of a view of a list, as those of the list itself; and whether something is there behind a reference.
-use Rattle.std.proofs.Common.{◌≡◌, Bool, true, false, cond, ◌||◌, List, [], ◌∷◌, map, Option, Some, None, refl, ap}
-use Rattle.std.specs.Prelude.{find, is_some}
-use Rattle.std.specs.List.{list_any}
-use Rattle.std.specs.Borrow.{Bor}
-use Rattle.std.specs.Option.{option_map, option_copied}
-use Rattle.ele_lists.specs.Lists.{update_first, remove_first, insert_before}
+use Rattle.ele_lists.proofs.Basics.{Bool, Bor, List, None, Option, Some, [], ap, arith, find, insert_before, is_some, list_any, map, option_copied, option_map, refl, remove_first, update_first, ◌||◌, ◌∷◌, ◌≡◌}
 
 module _ {X Y : Type 0} (h : X → Y) (p : Y → Bool) where
   pub find-map : (xs : List X) → find p (map h xs) ≡ option_map h (find (λ x. p (h x)) xs)
   find-map [] = refl
-  find-map (x ∷ xs) = elim (p (h x)) as (λ b. cond b (Some (h x)) (find p (map h xs)) ≡ option_map h (cond b (Some x) (find (λ x. p (h x)) xs))) [
-    | true ↦ refl
-    | false ↦ find-map xs
-  ]
+  find-map (x ∷ xs) = grind (arith, find-map xs)
 
   pub any-map : (xs : List X) → list_any p (map h xs) ≡ list_any (λ x. p (h x)) xs
   any-map [] = refl
@@ -22,24 +14,15 @@ module _ {X Y : Type 0} (h : X → Y) (p : Y → Bool) where
 module _ {X Y : Type 0} (h : X → Y) (p : Y → Bool) (q : X → Bool) (same : (x : X) → p (h x) ≡ q x) where
   pub remove_first-map : (xs : List X) → remove_first p (map h xs) ≡ map h (remove_first q xs)
   remove_first-map [] = refl
-  remove_first-map (x ∷ xs) = rw (same x) (elim (q x) as (λ b. cond b (map h xs) (h x ∷ remove_first p (map h xs)) ≡ map h (cond b xs (x ∷ remove_first q xs))) [
-    | true ↦ refl
-    | false ↦ ap (λ ys. h x ∷ ys) (remove_first-map xs)
-  ])
+  remove_first-map (x ∷ xs) = grind (arith, same x, remove_first-map xs)
 
   pub update_first-map : (f : Y → Y) (g : X → X) → ((x : X) → f (h x) ≡ h (g x)) → (xs : List X) → update_first p f (map h xs) ≡ map h (update_first q g xs)
   update_first-map f g made [] = refl
-  update_first-map f g made (x ∷ xs) = rw (same x) (elim (q x) as (λ b. cond b (f (h x) ∷ map h xs) (h x ∷ update_first p f (map h xs)) ≡ map h (cond b (g x ∷ xs) (x ∷ update_first q g xs))) [
-    | true ↦ ap (λ y. y ∷ map h xs) (made x)
-    | false ↦ ap (λ ys. h x ∷ ys) (update_first-map f g made xs)
-  ])
+  update_first-map f g made (x ∷ xs) = grind (arith, same x, update_first-map f g made xs)
 
   pub insert_before-map : (y : X) (xs : List X) → insert_before p (h y) (map h xs) ≡ map h (insert_before q y xs)
   insert_before-map y [] = refl
-  insert_before-map y (x ∷ xs) = rw (same x) (elim (q x) as (λ b. cond b (h y ∷ h x ∷ map h xs) (h x ∷ insert_before p (h y) (map h xs)) ≡ map h (cond b (y ∷ x ∷ xs) (x ∷ insert_before q y xs))) [
-    | true ↦ refl
-    | false ↦ ap (λ ys. h x ∷ ys) (insert_before-map y xs)
-  ])
+  insert_before-map y (x ∷ xs) = grind (arith, same x, insert_before-map y xs)
 
 -- what is there behind a reference
 pub is_some-copied : {X : Type 0} (o : Option (Bor X)) → is_some (option_copied o) ≡ is_some o

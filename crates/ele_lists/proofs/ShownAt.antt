@@ -1,87 +1,40 @@
 -- What is done at the place that `position` gives, as a view of the list shows it.
-use Rattle.std.proofs.Common.{◌≡◌, ℕ, ◌<◌, Bool, true, false, List, [], ◌∷◌, length, map, get_or, Some, None, refl, ap, sym, ◌∙◌, arith, zero, suc, unwrap_or}
-use Rattle.std.proofs.Math.ListN.{set}
-use Rattle.std.specs.List.{find, position, insert, remove, list_any}
-use Rattle.std.specs.Option.{option_map}
-use Rattle.std.proofs.lemmas.List.Quantifiers.{position-Some}
-use Rattle.ele_lists.specs.Lists.{update_first, remove_first, insert_before}
-use Rattle.ele_lists.specs.Keys.{Rises}
+use Rattle.ele_lists.proofs.Basics.{Bool, List, None, Rises, Some, [], arith, false, find, get_or, insert, insert_before, length, list_any, map, nat_tests, position, refl, remove, remove_first, set, suc, sym, true, unwrap_or, update_first, zero, ℕ, ◌-◌, ◌<◌, ◌∙◌, ◌∷◌, ◌≡◌}
 use Rattle.ele_lists.proofs.Alls.{map-later}
-use Rattle.ele_lists.proofs.Places.{find-position, find-none, remove_first-position, insert_before-place, list_any-position}
+use Rattle.ele_lists.proofs.Places.{find-position, find-none, remove_at, insert_before-place, list_any-position}
 use Rattle.ele_lists.proofs.Shown.{find-map, any-map, remove_first-map, insert_before-map}
 
 -- the element of that place goes; the place is one of the list
 pub remove-place : {X : Type 0} (q : X → Bool) (xs : List X) (i : ℕ) → position q xs ≡ Some i → remove xs i ≡ remove_first q xs
-remove-place {X} q xs i at = by xs refl where
-  by : (ys : List X) → xs ≡ ys → remove xs i ≡ remove_first q xs
-  by [] e = absurd (let at' = rw e at at in cc)
-  by (d ∷ ys) e = sym (remove_first-position q xs i d at)
-
-pub place-within : {X : Type 0} (q : X → Bool) (xs : List X) (i : ℕ) → position q xs ≡ Some i → i < length xs
-place-within {X} q xs i at = by xs refl where
-  by : (ys : List X) → xs ≡ ys → i < length xs
-  by [] e = absurd (let at' = rw e at at in cc)
-  by (d ∷ ys) e = (position-Some q xs i d at).0
-
-found-any : {X : Type 0} (p : X → Bool) (xs : List X) (x : X) → find p xs ≡ Some x → list_any p xs ≡ true
-found-any p [] x found = absurd cc
-found-any p (y ∷ xs) x found = elim (p y) as (λ b. p y ≡ b → list_any p (y ∷ xs) ≡ true) [
-  | true ↦ λ e. rw e refl
-  | false ↦ λ e. rw e (found-any p xs x (rw e at found))
-] refl
+remove-place q xs i at = sym (remove_at q xs i at)
 
 module _ {X Y : Type 0} (g : X → Y) (p : Y → Bool) where
-  abbrev q : X → Bool
-  q x = p (g x)
-
-  set_at : (f : Y → Y) (xs : List X) (i : ℕ) (x y : X) → i < length xs → q (get_or xs i x) ≡ true → ((k : ℕ) → k < i → q (get_or xs k x) ≡ false) → x ≡ get_or xs i x → g y ≡ f (g x) → map g (set xs i y) ≡ update_first p f (map g xs)
-  set_at f [] i x y lt passes earlier is made = absurd (omega arith)
-  set_at f (z ∷ xs) zero x y lt passes earlier is made = rw passes (ap (λ w. w ∷ map g xs) (made ∙ ap (λ v. f (g v)) is))
-  set_at f (z ∷ xs) (suc i) x y lt passes earlier is made =
-      let first : p (g z) ≡ false = earlier 0 (omega arith) in
-      rw first (ap (λ ws. g z ∷ ws) (set_at f xs i x y (omega arith) passes (λ k h. earlier (suc k) (omega arith)) is made))
-
-  find_set_at : (xs : List X) (i : ℕ) (y : X) → i < length xs → ((k : ℕ) → k < i → q (get_or xs k y) ≡ false) → q y ≡ true → find p (map g (set xs i y)) ≡ Some (g y)
-  find_set_at [] i y lt earlier passes = absurd (omega arith)
-  find_set_at (z ∷ xs) zero y lt earlier passes = rw passes refl
-  find_set_at (z ∷ xs) (suc i) y lt earlier passes =
-      let first : p (g z) ≡ false = earlier 0 (omega arith) in
-      rw first (find_set_at xs i y (omega arith) (λ k h. earlier (suc k) (omega arith)) passes)
-
   -- where an element passes
-  module _ (xs : List X) (i : ℕ) (at : position (λ x. p (g x)) xs ≡ Some i) where
-    pub passes-shown : (x : X) → x ≡ get_or xs i x → p (g x) ≡ true
-    passes-shown x is = rw (ap q is) (position-Some q xs i x at).1
+  pub find-shown : (xs : List X) (i : ℕ) (at : position (λ x. p (g x)) xs ≡ Some i) (x : X) → x ≡ get_or xs i x → find p (map g xs) ≡ Some (g x)
+  find-shown xs i at x is = grind (arith, find-map g p xs, find-position (λ x. p (g x)) xs i x)
 
-    pub find-shown : (x : X) → x ≡ get_or xs i x → find p (map g xs) ≡ Some (g x)
-    find-shown x is = find-map g p xs ∙ ap (option_map g) (find-position q xs i x at) ∙ ap (λ y. Some (g y)) (sym is)
+  pub set-shown : (xs : List X) (i : ℕ) (at : position (λ x. p (g x)) xs ≡ Some i) (f : Y → Y) (x y : X) → x ≡ get_or xs i x → g y ≡ f (g x) → map g (set xs i y) ≡ update_first p f (map g xs)
+  set-shown [] i at f x y is made = grind (arith, nat_tests)
+  set-shown (z ∷ xs) zero at f x y is made = grind (arith, nat_tests)
+  set-shown (z ∷ xs) (suc i) at f x y is made = grind (arith, nat_tests, set-shown xs i)
 
-    pub set-shown : (f : Y → Y) (x y : X) → x ≡ get_or xs i x → g y ≡ f (g x) → map g (set xs i y) ≡ update_first p f (map g xs)
-    set-shown f x y is made = let found = position-Some q xs i x at in set_at f xs i x y found.0 found.1 found.2 is made
+  pub remove-shown : (xs : List X) (i : ℕ) (at : position (λ x. p (g x)) xs ≡ Some i) → map g (remove xs i) ≡ remove_first p (map g xs)
+  remove-shown xs i at = grind (arith, remove-place (λ x. p (g x)) xs i, remove_first-map g p (λ x. p (g x)) (λ x. refl) xs)
 
-    pub find_set-shown : (y : X) → p (g y) ≡ true → find p (map g (set xs i y)) ≡ Some (g y)
-    find_set-shown y passes = let found = position-Some q xs i y at in find_set_at xs i y found.0 found.2 passes
-
-    pub remove-shown : map g (remove xs i) ≡ remove_first p (map g xs)
-    remove-shown = ap (map g) (remove-place q xs i at) ∙ sym (remove_first-map g p q (λ x. refl) xs)
-
-    pub any-shown : list_any p (map g xs) ≡ true
-    any-shown = any-map g p xs ∙ by xs refl where
-      by : (ys : List X) → xs ≡ ys → list_any q xs ≡ true
-      by [] e = absurd (let at' = rw e at at in cc)
-      by (d ∷ ys) e = found-any q xs (get_or xs i d) (find-position q xs i d at)
+  pub any-shown : (xs : List X) (i : ℕ) (at : position (λ x. p (g x)) xs ≡ Some i) → list_any p (map g xs) ≡ true
+  any-shown [] i at = grind (arith, nat_tests)
+  any-shown (x ∷ xs) i at = grind (arith, nat_tests, any-shown xs (i - 1))
 
   -- or none does
-  module _ (xs : List X) (none : position (λ x. p (g x)) xs ≡ None) where
-    pub any-missing : list_any p (map g xs) ≡ false
-    any-missing = any-map g p xs ∙ list_any-position q xs none
+  pub any-missing : (xs : List X) (none : position (λ x. p (g x)) xs ≡ None) → list_any p (map g xs) ≡ false
+  any-missing xs none = any-map g p xs ∙ list_any-position (λ x. p (g x)) xs none
 
-    pub find-missing : find p (map g xs) ≡ None
-    find-missing = find-map g p xs ∙ ap (option_map g) (find-none q xs none)
+  pub find-missing : (xs : List X) (none : position (λ x. p (g x)) xs ≡ None) → find p (map g xs) ≡ None
+  find-missing xs none = grind (arith, find-map g p xs, find-none (λ x. p (g x)) xs)
 
   -- an element comes in before the first that passes, or at the end
   pub insert-shown : (xs : List X) (i : ℕ) (y : X) → unwrap_or (position (λ x. p (g x)) xs) (length xs) ≡ i → map g (insert xs i y) ≡ insert_before p (g y) (map g xs)
-  insert-shown xs i y is = ap (λ j. map g (insert xs j y)) (sym is) ∙ (ap (map g) (sym (insert_before-place q y xs)) ∙ sym (insert_before-map g p q (λ x. refl) y xs))
+  insert-shown xs i y is = grind (arith, insert_before-place (λ x. p (g x)) y xs, insert_before-map g p (λ x. p (g x)) (λ x. refl) y xs)
 
 -- keys that rise as a view shows them
 pub rises-map : {X Y : Type 0} (g : X → Y) (key : Y → ℕ) (xs : List X) → Rises key (map g xs) → Rises (λ x. key (g x)) xs

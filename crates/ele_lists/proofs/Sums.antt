@@ -1,42 +1,24 @@
 -- Sums and counts over lists, and what a change at one place makes of them.
-use Rattle.std.proofs.Common.{◌≡◌, ℕ, ◌+◌, ◌≤◌, Bool, true, false, not, cond, ◌||◌, List, [], ◌∷◌, ◌++◌, length, map, Some, refl, sym, ◌∙◌, arith}
-use Rattle.std.specs.Prelude.{find, filter, nat_lt}
-use Rattle.std.specs.List.{AllByRecursion, list_any, flat_map, sum_by, count_by}
-use Rattle.std.specs.Option.{option_map_or}
-use Rattle.std.proofs.lemmas.Bool.Decides.{nat_tests}
-use Rattle.std.proofs.lemmas.List.Sums.{sum_by-cons, sum_by-append}
-use Rattle.ele_lists.specs.Lists.{update_first, remove_first, insert_before}
+use Rattle.ele_lists.proofs.Basics.{AllByRecursion, Bool, List, Some, [], arith, cond, count_by, false, filter, find, flat_map, insert_before, length, list_any, map, nat_lt, nat_tests, not, option_map_or, refl, remove_first, sum_by, sum_by-append, sum_by-cons, true, update_first, ℕ, ◌++◌, ◌+◌, ◌∷◌, ◌≡◌, ◌≤◌}
 
 module _ {X : Type 0} (f : X → ℕ) where
   -- the changes
   pub sum_by-update_first : (p : X → Bool) (g : X → X) (xs : List X) (x : X) → find p xs ≡ Some x → sum_by f (update_first p g xs) + f x ≡ sum_by f xs + f (g x)
   sum_by-update_first p g [] x found = absurd cc
-  sum_by-update_first p g (y ∷ xs) x found = elim (p y) as (λ b. p y ≡ b → sum_by f (cond b (g y ∷ xs) (y ∷ update_first p g xs)) + f x ≡ sum_by f (y ∷ xs) + f (g x)) [
-    | true ↦ λ e. let found' = rw e at found in let same : y ≡ x = cc in rw same (omega (arith, sum_by-cons f (g x) xs, sum_by-cons f x xs))
-    | false ↦ λ e. omega (arith, sum_by-cons f y (update_first p g xs), sum_by-cons f y xs, sum_by-update_first p g xs x (rw e at found))
-  ] refl
+  sum_by-update_first p g (y ∷ xs) x found = grind (arith, sum_by-cons f, sum_by-update_first p g xs x)
 
   pub sum_by-remove_first : (p : X → Bool) (xs : List X) (x : X) → find p xs ≡ Some x → sum_by f (remove_first p xs) + f x ≡ sum_by f xs
   sum_by-remove_first p [] x found = absurd cc
-  sum_by-remove_first p (y ∷ xs) x found = elim (p y) as (λ b. p y ≡ b → sum_by f (cond b xs (y ∷ remove_first p xs)) + f x ≡ sum_by f (y ∷ xs)) [
-    | true ↦ λ e. let found' = rw e at found in let same : y ≡ x = cc in rw same (omega (arith, sum_by-cons f x xs))
-    | false ↦ λ e. omega (arith, sum_by-cons f y (remove_first p xs), sum_by-cons f y xs, sum_by-remove_first p xs x (rw e at found))
-  ] refl
+  sum_by-remove_first p (y ∷ xs) x found = grind (arith, sum_by-cons f, sum_by-remove_first p xs x)
 
   pub sum_by-insert_before : (p : X → Bool) (y : X) (xs : List X) → sum_by f (insert_before p y xs) ≡ f y + sum_by f xs
   sum_by-insert_before p y [] = sum_by-cons f y []
-  sum_by-insert_before p y (x ∷ xs) = elim (p x) as (λ b. sum_by f (cond b (y ∷ x ∷ xs) (x ∷ insert_before p y xs)) ≡ f y + sum_by f (x ∷ xs)) [
-    | true ↦ sum_by-cons f y (x ∷ xs)
-    | false ↦ omega (arith, sum_by-cons f x (insert_before p y xs), sum_by-cons f x xs, sum_by-insert_before p y xs)
-  ]
+  sum_by-insert_before p y (x ∷ xs) = grind (arith, sum_by-cons f y (x ∷ xs), sum_by-cons f x (insert_before p y xs), sum_by-cons f x xs, sum_by-insert_before p y xs)
 
   -- an update that no summand sees
   pub sum_by-update_same : (p : X → Bool) (g : X → X) (xs : List X) → ((x : X) → f (g x) ≡ f x) → sum_by f (update_first p g xs) ≡ sum_by f xs
   sum_by-update_same p g [] same = refl
-  sum_by-update_same p g (x ∷ xs) same = elim (p x) as (λ b. sum_by f (cond b (g x ∷ xs) (x ∷ update_first p g xs)) ≡ sum_by f (x ∷ xs)) [
-    | true ↦ omega (arith, sum_by-cons f (g x) xs, sum_by-cons f x xs, same x)
-    | false ↦ omega (arith, sum_by-cons f x (update_first p g xs), sum_by-cons f x xs, sum_by-update_same p g xs same)
-  ]
+  sum_by-update_same p g (x ∷ xs) same = grind (arith, sum_by-cons f, sum_by-update_same p g xs)
 
   -- one element between others
   pub sum_by-around : (before : List X) (x : X) (behind : List X) → sum_by f (before ++ x ∷ behind) ≡ sum_by f (before ++ behind) + f x
@@ -55,29 +37,10 @@ module _ {X : Type 0} (f : X → ℕ) where
   sum_by-flat_map h [] = refl
   sum_by-flat_map h (y ∷ ys) = omega (arith, sum_by-append f (h y) (flat_map h ys), sum_by-cons (λ y. sum_by f (h y)) y ys, sum_by-flat_map h ys)
 
-  pub sum_by-filter : (t : X → Bool) (xs : List X) → sum_by f (filter t xs) ≡ sum_by (λ x. cond (t x) (f x) 0) xs
-  sum_by-filter t [] = refl
-  sum_by-filter t (x ∷ xs) = sym (sum_by-cons (λ y. cond (t y) (f y) 0) x xs ∙ elim (t x) as (λ b. cond b (f x) 0 + sum_by (λ y. cond (t y) (f y) 0) xs ≡ sum_by f (cond b (x ∷ filter t xs) (filter t xs))) [
-    | true ↦ omega (arith, sum_by-cons f x (filter t xs), sum_by-filter t xs)
-    | false ↦ omega (arith, sum_by-filter t xs)
-  ])
-
-  -- what passes and what doesn't make the whole
-  pub sum_by-split : (t : X → Bool) (xs : List X) → sum_by f xs ≡ sum_by f (filter t xs) + sum_by f (filter (λ x. not (t x)) xs)
-  sum_by-split t [] = refl
-  sum_by-split t (x ∷ xs) = elim (t x) as (λ b. sum_by f (x ∷ xs) ≡ sum_by f (cond b (x ∷ filter t xs) (filter t xs)) + sum_by f (cond (not b) (x ∷ filter (λ y. not (t y)) xs) (filter (λ y. not (t y)) xs))) [
-    | true ↦ omega (arith, sum_by-cons f x xs, sum_by-cons f x (filter t xs), sum_by-split t xs)
-    | false ↦ omega (arith, sum_by-cons f x xs, sum_by-cons f x (filter (λ y. not (t y)) xs), sum_by-split t xs)
-  ]
-
 module _ {X : Type 0} (f g : X → ℕ) where
   pub sum_by-same : (xs : List X) → AllByRecursion (λ x. f x ≡ g x) xs → sum_by f xs ≡ sum_by g xs
   sum_by-same [] same = refl
   sum_by-same (x ∷ xs) same = omega (arith, sum_by-cons f x xs, sum_by-cons g x xs, same.0, sum_by-same xs same.1)
-
-  pub sum_by-plus : (xs : List X) → sum_by (λ x. f x + g x) xs ≡ sum_by f xs + sum_by g xs
-  sum_by-plus [] = refl
-  sum_by-plus (x ∷ xs) = omega (arith, sum_by-cons (λ y. f y + g y) x xs, sum_by-cons f x xs, sum_by-cons g x xs, sum_by-plus xs)
 
 module _ {X : Type 0} (p : X → Bool) where
   abbrev one : X → ℕ
@@ -86,36 +49,18 @@ module _ {X : Type 0} (p : X → Bool) where
   -- whether one passes is whether the count is more than none
   pub any-count : (xs : List X) → list_any p xs ≡ nat_lt 0 (count_by p xs)
   any-count [] = refl
-  any-count (x ∷ xs) = elim (p x) as (λ b. p x ≡ b → (b || list_any p xs) ≡ nat_lt 0 (count_by p (x ∷ xs))) [
-    | true ↦ λ e. let here : one x ≡ 1 = rw e refl in let more = sum_by-cons one x xs in grind (arith, nat_tests, here, more)
-    | false ↦ λ e. let here : one x ≡ 0 = rw e refl in let more = sum_by-cons one x xs in any-count xs ∙ grind (arith, nat_tests, here, more)
-  ] refl
+  any-count (x ∷ xs) = grind (arith, nat_tests, sum_by-cons one x xs, any-count xs)
 
   -- one that passed and is changed so that it doesn't makes the count one less
   pub count-update_first : (t : X → Bool) (g : X → X) (xs : List X) (x : X) → find t xs ≡ Some x → p x ≡ true → p (g x) ≡ false → count_by p (update_first t g xs) + 1 ≡ count_by p xs
-  count-update_first t g xs x found was is =
-      let before : one x ≡ 1 = rw was refl in
-      let after : one (g x) ≡ 0 = rw is refl in
-      omega (arith, sum_by-update_first one t g xs x found, before, after)
+  count-update_first t g xs x found was is = grind (arith, sum_by-update_first one t g xs x)
 
 -- what passes and what doesn't
 pub length-split : {X : Type 0} (t : X → Bool) (xs : List X) → length xs ≡ length (filter t xs) + length (filter (λ x. not (t x)) xs)
 length-split t [] = refl
-length-split t (x ∷ xs) = elim (t x) as (λ b. length (x ∷ xs) ≡ length (cond b (x ∷ filter t xs) (filter t xs)) + length (cond (not b) (x ∷ filter (λ y. not (t y)) xs) (filter (λ y. not (t y)) xs))) [
-  | true ↦ omega (arith, length-split t xs)
-  | false ↦ omega (arith, length-split t xs)
-]
+length-split t (x ∷ xs) = grind (arith, length-split t xs)
 
 -- of those that pass one is fewer, where the removed one does
 pub length-filter_removed : {X : Type 0} (t p : X → Bool) (xs : List X) → length (filter t (remove_first p xs)) + option_map_or (λ x. cond (t x) 1 0) (find p xs) 0 ≡ length (filter t xs)
 length-filter_removed t p [] = omega arith
-length-filter_removed t p (x ∷ xs) = elim (p x) as (λ b. length (filter t (cond b xs (x ∷ remove_first p xs))) + option_map_or (λ x. cond (t x) 1 0) (cond b (Some x) (find p xs)) 0 ≡ length (filter t (x ∷ xs))) [
-  | true ↦ elim (t x) as (λ b. length (filter t xs) + cond b 1 0 ≡ length (cond b (x ∷ filter t xs) (filter t xs))) [
-    | true ↦ omega arith
-    | false ↦ omega arith
-  ]
-  | false ↦ elim (t x) as (λ b. length (cond b (x ∷ filter t (remove_first p xs)) (filter t (remove_first p xs))) + option_map_or (λ x. cond (t x) 1 0) (find p xs) 0 ≡ length (cond b (x ∷ filter t xs) (filter t xs))) [
-    | true ↦ omega (arith, length-filter_removed t p xs)
-    | false ↦ length-filter_removed t p xs
-  ]
-]
+length-filter_removed t p (x ∷ xs) = grind (arith, length-filter_removed t p xs)

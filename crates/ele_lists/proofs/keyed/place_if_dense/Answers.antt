@@ -1,8 +1,5 @@
-use Rattle.std.proofs.Common.{sym, ◌∙◌}
-use Rattle.ele_lists.proofs.Keys.{place-there}
+use Rattle.ele_lists.proofs.Words.{arith, place-there}
 use Rattle.ele_lists.proofs.keyed.place_if_dense.Goals as goal
 
 pub returns-in-Some : goal.returns-in-Some
-returns-in-Some g c =
-    let got = c.in-Some.ensures.lookup in
-    place-there g.T.Keyed.key c.args.rows.now c.args.key c.in_ok-at.at c.in-Some.row.now c.requires got.3.0 got.3.1 (sym c.key.ensures ∙ c.if-key.true)
+returns-in-Some g c = let got = c.in-Some.ensures.lookup in place-there g.T.Keyed.key _ c.args.key _ _ c.requires got.3.0 got.3.1 (grind arith)

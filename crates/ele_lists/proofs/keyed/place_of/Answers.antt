@@ -1,42 +1,19 @@
-use Rattle.std.proofs.Common.{ltb, sym, ◌∙◌, rules}
-use Rattle.std.proofs.lemmas.List.Sorted.{IsPartitionPoint-from_clause}
-use Rattle.ele_lists.proofs.Keys.{rises-parted, place-found, place-missing, place-gap, end-missing, end-gap}
+use Rattle.ele_lists.proofs.Words.{IsPartitionPoint-from_clause, arith, end-gap, end-missing, ltb, place-found, place-gap, place-missing, rises-parted, rules}
 use Rattle.ele_lists.proofs.keyed.place_of.Goals as goal
 
 pub returns-in-Some-get-clause-found : goal.returns-in-Some-get-clause-found
 returns-in-Some-get-clause-found g c =
-    let key = g.T.Keyed.key in
-    let rows = c.args.rows.now in
-    let cut = IsPartitionPoint-from_clause (λ row. ltb (key row) c.args.key) rows c.partition_point-at.result c.partition_point-at.ensures.partitioned (rises-parted key rows c.args.key c.requires) (λ a r f called. search rules) in
+    let cut = IsPartitionPoint-from_clause (λ row. ltb (g.T.Keyed.key row) c.args.key) _ _ c.partition_point-at.ensures.partitioned (rises-parted g.T.Keyed.key _ c.args.key c.requires) (λ a r f called. search rules) in
     let got = c.in-Some-get.ensures.lookup in
-    place-found key rows c.args.key c.partition_point-at.result cut c.in-Some-get.row.now c.requires got.3.0 got.3.1 (sym c.key.ensures ∙ c.if-key.true)
+    place-found g.T.Keyed.key _ c.args.key _ cut _ c.requires got.3.0 got.3.1 (grind arith)
 
-pub returns-in_default-get-clause-missing : goal.returns-in_default-get-clause-missing
-returns-in_default-get-clause-missing g c =
-    let key = g.T.Keyed.key in
-    let rows = c.args.rows.now in
-    let cut = IsPartitionPoint-from_clause (λ row. ltb (key row) c.args.key) rows c.partition_point-at.result c.partition_point-at.ensures.partitioned (rises-parted key rows c.args.key c.requires) (λ a r f called. search rules) in
+pub returns-in_default-get : goal.returns-in_default-get
+returns-in_default-get g c =
+    let cut = IsPartitionPoint-from_clause (λ row. ltb (g.T.Keyed.key row) c.args.key) _ _ c.partition_point-at.ensures.partitioned (rises-parted g.T.Keyed.key _ c.args.key c.requires) (λ a r f called. search rules) in
     let got = c.in-Some-get.ensures.lookup in
-    place-missing key rows c.args.key c.partition_point-at.result cut c.in-Some-get.row.now c.requires got.3.0 got.3.1 (λ same. c.if-key.false (c.key.ensures ∙ same))
+    record { found = tt; missing = place-missing g.T.Keyed.key _ c.args.key _ cut _ c.requires got.3.0 got.3.1 (grind arith); gap = place-gap g.T.Keyed.key _ c.args.key _ cut _ c.requires got.3.0 got.3.1 (grind arith) }
 
-pub returns-in_default-get-clause-gap : goal.returns-in_default-get-clause-gap
-returns-in_default-get-clause-gap g c =
-    let key = g.T.Keyed.key in
-    let rows = c.args.rows.now in
-    let cut = IsPartitionPoint-from_clause (λ row. ltb (key row) c.args.key) rows c.partition_point-at.result c.partition_point-at.ensures.partitioned (rises-parted key rows c.args.key c.requires) (λ a r f called. search rules) in
-    let got = c.in-Some-get.ensures.lookup in
-    place-gap key rows c.args.key c.partition_point-at.result cut c.in-Some-get.row.now c.requires got.3.0 got.3.1 (λ same. c.if-key.false (c.key.ensures ∙ same))
-
-pub returns-in_default-get-2-clause-missing : goal.returns-in_default-get-2-clause-missing
-returns-in_default-get-2-clause-missing g c =
-    let key = g.T.Keyed.key in
-    let rows = c.args.rows.now in
-    let cut = IsPartitionPoint-from_clause (λ row. ltb (key row) c.args.key) rows c.partition_point-at.result c.partition_point-at.ensures.partitioned (rises-parted key rows c.args.key c.requires) (λ a r f called. search rules) in
-    end-missing key rows c.args.key c.partition_point-at.result cut (search rules)
-
-pub returns-in_default-get-2-clause-gap : goal.returns-in_default-get-2-clause-gap
-returns-in_default-get-2-clause-gap g c =
-    let key = g.T.Keyed.key in
-    let rows = c.args.rows.now in
-    let cut = IsPartitionPoint-from_clause (λ row. ltb (key row) c.args.key) rows c.partition_point-at.result c.partition_point-at.ensures.partitioned (rises-parted key rows c.args.key c.requires) (λ a r f called. search rules) in
-    end-gap key rows c.args.key c.partition_point-at.result cut (search rules) c.partition_point-at.ensures.bound
+pub returns-in_default-get-2 : goal.returns-in_default-get-2
+returns-in_default-get-2 g c =
+    let cut = IsPartitionPoint-from_clause (λ row. ltb (g.T.Keyed.key row) c.args.key) _ _ c.partition_point-at.ensures.partitioned (rises-parted g.T.Keyed.key _ c.args.key c.requires) (λ a r f called. search rules) in
+    record { found = tt; missing = end-missing g.T.Keyed.key _ c.args.key _ cut (search rules); gap = end-gap g.T.Keyed.key _ c.args.key _ cut (search rules) c.partition_point-at.ensures.bound }

@@ -1,25 +1,15 @@
-use Rattle.std.proofs.Common.{◌≡◌, ◌-◌, ◌<◌, Some, length, get_or, arith}
-use Rattle.std.specs.Prelude.{slice_get}
-use Rattle.std.proofs.lemmas.Bool.Decides.{nat_tests}
-use Rattle.std.proofs.lemmas.Option.{slice_get-get_or}
-use Rattle.ele_lists.proofs.Alls.{all-got}
-use Rattle.ele_lists.proofs.Seams.{flat-change_last, last_room-change}
+use Rattle.ele_lists.proofs.Words.{all-got, arith, flat-change_last, last_room-change, length, nat_tests, slice_get-get_or, ◌-◌, ◌<◌}
 use Rattle.ele_lists.proofs.seam.change_last.Goals as goal
 
 pub returns-clause-rows : goal.returns-clause-rows
 returns-clause-rows g c =
     let cs = c.args.chunks.now in
-    let n = length cs - 1 in
-    let some : 0 < length cs = let e = c.if-is_empty.ensures in grind (arith, nat_tests, e) in
-    let here = get_or cs n c.index-chunks-last.result in
-    let is : slice_get cs n ≡ Some here = slice_get-get_or cs n c.index-chunks-last.result (omega arith) in
-    flat-change_last cs n here (omega arith) is (g.C.Change.changed c.args.change.now) c.change_end.new.rows (all-got _ cs n here c.requires is) c.change_end.ensures.rows
+    let some : 0 < length cs = grind (arith, nat_tests, c.if-is_empty.ensures) in
+    let is = slice_get-get_or cs (length cs - 1) c.index-chunks-last.result (omega arith) in
+    flat-change_last cs _ _ (omega arith) is (g.C.Change.changed c.args.change.now) _ (all-got _ cs _ _ c.requires is) c.change_end.ensures.rows
 
 pub returns-clause-room : goal.returns-clause-room
 returns-clause-room g c =
     let cs = c.args.chunks.now in
-    let n = length cs - 1 in
-    let some : 0 < length cs = let e = c.if-is_empty.ensures in grind (arith, nat_tests, e) in
-    let here = get_or cs n c.index-chunks-last.result in
-    let is : slice_get cs n ≡ Some here = slice_get-get_or cs n c.index-chunks-last.result (omega arith) in
-    last_room-change cs n here (omega arith) is c.change_end.new.rows (omega (arith, c.change_end.ensures.len, c.change_end.ensures.room))
+    let some : 0 < length cs = grind (arith, nat_tests, c.if-is_empty.ensures) in
+    last_room-change cs _ _ (omega arith) (slice_get-get_or cs (length cs - 1) c.index-chunks-last.result (omega arith)) _ (omega (arith, c.change_end.ensures.len, c.change_end.ensures.room))

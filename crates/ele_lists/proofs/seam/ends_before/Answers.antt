@@ -1,10 +1,5 @@
-use Rattle.std.proofs.Common.{◌≡◌, Some, ap, sym, ◌∙◌}
-use Rattle.std.specs.Option.{option_copied}
-use Rattle.ele_lists.specs.Ends.{last_of}
-use Rattle.ele_lists.proofs.Ends.{last-slice_get}
+use Rattle.ele_lists.proofs.Words.{arith, last-slice_get}
 use Rattle.ele_lists.proofs.seam.ends_before.Goals as goal
 
 pub returns-in-Some : goal.returns-in-Some
-returns-in-Some g c =
-    let last : last_of c.args.chunk.now ≡ Some c.in-Some.last.now = sym (last-slice_get c.args.chunk.now) ∙ sym c.last.ensures.value ∙ ap option_copied c.in-Some.is in
-    rw last c.is_behind.ensures
+returns-in-Some g c = grind (arith, last-slice_get c.args.chunk.now)

@@ -1,14 +1,8 @@
-use Rattle.std.proofs.Common.{◌≡◌, Some, ap, sym, ◌∙◌, arith}
-use Rattle.std.specs.Option.{option_copied}
-use Rattle.std.proofs.lemmas.Bool.Decides.{nat_tests}
-use Rattle.ele_lists.specs.Ends.{last_of}
-use Rattle.ele_lists.proofs.Ends.{last-slice_get}
+use Rattle.ele_lists.proofs.Words.{Some, arith, last-slice_get, last_of, nat_tests, ◌≡◌}
 use Rattle.ele_lists.proofs.seam.last_has_room.Goals as goal
 
 pub returns-in-Some : goal.returns-in-Some
 returns-in-Some g c =
-    let cs = c.args.chunks.now in
-    let last : last_of cs ≡ Some c.in-Some.chunk.now = sym (last-slice_get cs) ∙ sym c.last.ensures.value ∙ ap option_copied c.in-Some.is in
-    let len = c.len.ensures in
-    let capacity = c.capacity.ensures in
-    rw last ((λ h. grind (arith, nat_tests, h, len, capacity)), (λ h. grind (arith, nat_tests, h, len, capacity)))
+    let last = last-slice_get c.args.chunks.now in
+    let last' : last_of c.args.chunks.now ≡ Some c.in-Some.chunk.now = grind arith in
+    rw last' ((λ h. grind (arith, nat_tests, h, c.len.ensures, c.capacity.ensures)), (λ h. grind (arith, nat_tests, h, c.len.ensures, c.capacity.ensures)))

@@ -1,12 +1,7 @@
-use Rattle.std.proofs.Common.{◌≡◌, Some, ap, sym, ◌∙◌}
-use Rattle.std.specs.Option.{option_copied}
-use Rattle.ele_lists.specs.Ends.{last_of}
-use Rattle.ele_lists.proofs.Ends.{last-slice_get}
-use Rattle.ele_lists.proofs.Seams.{last-flat}
+use Rattle.ele_lists.proofs.Words.{Some, arith, last-flat, last-slice_get, last_of, ◌≡◌}
 use Rattle.ele_lists.proofs.seam.last_row.Goals as goal
 
 pub returns : goal.returns
 returns g c =
-    let cs = c.args.chunks.now in
-    let last : last_of cs ≡ Some c.in_ok-last.field-0.now = sym (last-slice_get cs) ∙ sym c.last.ensures.value ∙ ap option_copied c.in_ok-last.was in
-    rw (last-flat cs c.requires, last, c.last-2.ensures.value, c.deref.ensures.value) (last-slice_get c.in_ok-last.field-0.now.items)
+    let last : last_of c.args.chunks.now ≡ Some c.in_ok-last.field-0.now = grind (arith, last-slice_get c.args.chunks.now) in
+    rw (last-flat c.args.chunks.now c.requires, last, c.last-2.ensures.value, c.deref.ensures.value) (last-slice_get c.in_ok-last.field-0.now.items)

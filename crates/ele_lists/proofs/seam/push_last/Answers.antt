@@ -1,23 +1,15 @@
-use Rattle.std.proofs.Common.{◌≡◌, ◌-◌, Some, length, get_or, arith}
-use Rattle.std.specs.Prelude.{slice_get}
-use Rattle.std.proofs.lemmas.Option.{slice_get-get_or}
-use Rattle.ele_lists.proofs.Seams.{flat-set_last, last_room-here, room_needs}
+use Rattle.ele_lists.proofs.Words.{arith, flat-set_last, last_room-here, length, room_needs, slice_get-get_or, ◌-◌}
 use Rattle.ele_lists.proofs.seam.push_last.Goals as goal
 
 pub put-requires : goal.put-requires
 put-requires g c =
     let cs = c.args.chunks.now in
     let some = room_needs cs c.requires.room in
-    let n = length cs - 1 in
-    let here = get_or cs n c.index-chunks-last.result in
-    let is : slice_get cs n ≡ Some here = slice_get-get_or cs n c.index-chunks-last.result (omega arith) in
-    let same = last_room-here cs n here (omega arith) is in
-    let room = c.requires.room in
-    omega (arith, same, room)
+    let is = slice_get-get_or cs (length cs - 1) c.index-chunks-last.result (omega arith) in
+    omega (arith, last_room-here cs (length cs - 1) _ (omega arith) is, c.requires.room)
 
 pub returns-clause-rows : goal.returns-clause-rows
 returns-clause-rows g c =
     let cs = c.args.chunks.now in
     let some = room_needs cs c.requires.room in
-    let n = length cs - 1 in
-    flat-set_last cs n (get_or cs n c.index-chunks-last.result) (omega arith) (slice_get-get_or cs n c.index-chunks-last.result (omega arith)) c.put.new.items c.args.row c.put.ensures.items
+    flat-set_last cs (length cs - 1) _ (omega arith) (slice_get-get_or cs (length cs - 1) c.index-chunks-last.result (omega arith)) c.put.new.items c.args.row c.put.ensures.items

@@ -1,12 +1,5 @@
-use Rattle.std.proofs.Common.{◌≡◌, ◌≤◌, suc, ◌-◌, ap, sym, ◌∙◌, arith, length}
-use Rattle.ele_lists.specs.Ends.{last_of}
-use Rattle.ele_lists.specs.Chunks.{before_place, rows_at}
-use Rattle.ele_lists.proofs.Seams.{last-before_some}
+use Rattle.ele_lists.proofs.Words.{arith, last-before_some, ◌-◌}
 use Rattle.ele_lists.proofs.seam.row_before.Goals as goal
 
 pub returns-then-place-gt0 : goal.returns-then-place-gt0
-returns-then-place-gt0 g c =
-    let cs = c.args.chunks.now in
-    let e : suc (c.args.place - 1) ≡ c.args.place = omega arith in
-    let le : suc (c.args.place - 1) ≤ length (rows_at cs c.args.chunk) = let h = c.requires.place in omega arith in
-    c.row_at.ensures ∙ sym (last-before_some cs c.args.chunk (c.args.place - 1) le) ∙ ap (λ j. last_of (before_place cs c.args.chunk j)) e
+returns-then-place-gt0 g c = grind (arith, c.row_at.ensures, last-before_some c.args.chunks.now c.args.chunk (c.args.place - 1))

@@ -1,9 +1,4 @@
-use Rattle.std.proofs.Common.{◌≡◌, false, Some, refl, arith, rules, length}
-use Rattle.std.specs.Prelude.{slice_get}
-use Rattle.std.specs.List.Sorted.{IsPartitionedBy}
-use Rattle.std.proofs.lemmas.Option.{slice_get_read}
-use Rattle.std.proofs.lemmas.List.Sorted.{IsPartitionPoint-from_clause}
-use Rattle.ele_lists.proofs.Seams.{all-take, sinks-parted, chunk_ends, chunks_sink, here_parted, seam_here, seam_past}
+use Rattle.ele_lists.proofs.Words.{IsPartitionPoint-from_clause, IsPartitionedBy, Some, all-take, arith, chunk_ends, chunks_sink, false, here_parted, length, refl, rules, seam_here, seam_past, sinks-parted, slice_get, slice_get_read, ◌≡◌}
 use Rattle.ele_lists.proofs.seam.seek.Goals as goal
 
 pub returns-in-Some : goal.returns-in-Some

@@ -1,48 +1,29 @@
-use Rattle.std.proofs.Common.{◌≡◌, ◌<◌, [], Some, length, refl, ap, sym, ◌∙◌, arith, get_or-set_same}
-use Rattle.std.specs.Prelude.{slice_get}
-use Rattle.std.proofs.Math.ListN.{set, length-set}
-use Rattle.std.proofs.lemmas.Option.{slice_get_read}
-use Rattle.ele_lists.specs.Chunks.{flat}
-use Rattle.ele_lists.proofs.Seams.{flat-taken, flat-remove_empty, last_room-set, has_chunk, rows-here, empty_chunk}
+use Rattle.ele_lists.proofs.Words.{ap, arith, chunk_read, flat, flat-remove_empty, flat-taken, get_or-set_same, has_chunk, last_room-set, length, length-set, nat_tests, nil_from_length, refl, rows-here, set, slice_get_read, sym, ◌∙◌, ◌≡◌}
 use Rattle.ele_lists.proofs.seam.take_out.Goals as goal
 
 pub returns-then-is_empty-clause-rows : goal.returns-then-is_empty-clause-rows
 returns-then-is_empty-clause-rows g c =
     let cs = c.args.chunks.now.items in
-    let i = c.args.chunk in
     let now = c.remove-row.new.self in
-    let within : i < length cs = has_chunk cs i c.args.place c.requires.place in
-    let here : slice_get cs i ≡ Some c.index_mut.result.now = slice_get_read cs (length cs) i c.index_mut.result.now refl within c.index_mut.ensures.value in
-    let there : slice_get (set cs i now) i ≡ Some now = slice_get_read (set cs i now) (length cs) i now (sym (length-set cs i now)) within (sym (get_or-set_same cs i now now within)) in
-    let shown : c.index.result.now ≡ now = c.index.ensures ∙ get_or-set_same cs i now c.index.result.now within in
-    let none = c.if-is_empty.ensures in
-    let empty : now.items ≡ [] = empty_chunk now (rw shown at none) in
-    ap flat c.remove.ensures.items
-    ∙ flat-remove_empty (set cs i now) i now there empty
-    ∙ flat-taken cs i c.args.place c.index_mut.result.now now here c.remove-row.ensures.items
+    let within = has_chunk cs c.args.chunk c.args.place c.requires.place in
+    let here = chunk_read cs c.args.chunk c.args.place _ c.requires.place c.index_mut.ensures.value in
+    let there = slice_get_read (set cs c.args.chunk now) (length cs) c.args.chunk now (sym (length-set cs c.args.chunk now)) within (sym (get_or-set_same cs c.args.chunk now now within)) in
+    let shown : c.index.result.now ≡ now = c.index.ensures ∙ get_or-set_same cs c.args.chunk now c.index.result.now within in
+    let empty = nil_from_length now.items (let none_there = rw shown at c.if-is_empty.ensures in let long = now.ok.0 in grind (arith, nat_tests)) in
+    ap flat c.remove.ensures.items ∙ flat-remove_empty _ c.args.chunk now there empty ∙ flat-taken cs c.args.chunk c.args.place _ now here c.remove-row.ensures.items
 
 pub returns-else-is_empty-clause-row : goal.returns-else-is_empty-clause-row
 returns-else-is_empty-clause-row g c =
     let cs = c.args.chunks.now.items in
-    let i = c.args.chunk in
-    let within : i < length cs = has_chunk cs i c.args.place c.requires.place in
-    let here : slice_get cs i ≡ Some c.index_mut.result.now = slice_get_read cs (length cs) i c.index_mut.result.now refl within c.index_mut.ensures.value in
-    let rows = rows-here cs i c.index_mut.result.now here in
-    let inside = c.requires.place in
-    rw rows (slice_get_read c.index_mut.result.now.items (length c.index_mut.result.now.items) c.args.place c.remove-row.result refl (rw rows at inside) c.remove-row.ensures.value)
+    let rows = rows-here cs c.args.chunk _ (chunk_read cs c.args.chunk c.args.place c.index_mut.result.now c.requires.place c.index_mut.ensures.value) in
+    rw rows (slice_get_read _ _ c.args.place c.remove-row.result refl (rw rows at c.requires.place) c.remove-row.ensures.value)
 
 pub returns-else-is_empty-clause-rows : goal.returns-else-is_empty-clause-rows
 returns-else-is_empty-clause-rows g c =
-    let cs = c.args.chunks.now.items in
-    let i = c.args.chunk in
-    let within : i < length cs = has_chunk cs i c.args.place c.requires.place in
-    let here : slice_get cs i ≡ Some c.index_mut.result.now = slice_get_read cs (length cs) i c.index_mut.result.now refl within c.index_mut.ensures.value in
-    flat-taken cs i c.args.place c.index_mut.result.now c.remove-row.new.self here c.remove-row.ensures.items
+    let here = chunk_read c.args.chunks.now.items c.args.chunk c.args.place c.index_mut.result.now c.requires.place c.index_mut.ensures.value in
+    flat-taken c.args.chunks.now.items c.args.chunk c.args.place _ c.remove-row.new.self here c.remove-row.ensures.items
 
 pub returns-else-is_empty-clause-kept : goal.returns-else-is_empty-clause-kept
 returns-else-is_empty-clause-kept g c =
-    let cs = c.args.chunks.now.items in
-    let i = c.args.chunk in
-    let within : i < length cs = has_chunk cs i c.args.place c.requires.place in
-    let here : slice_get cs i ≡ Some c.index_mut.result.now = slice_get_read cs (length cs) i c.index_mut.result.now refl within c.index_mut.ensures.value in
-    record { chunks = refl; room = last_room-set cs i c.index_mut.result.now c.remove-row.new.self here (let len = c.remove-row.ensures.len in let capacity = c.remove-row.ensures.capacity in omega (arith, len, capacity)) }
+    let here = chunk_read c.args.chunks.now.items c.args.chunk c.args.place c.index_mut.result.now c.requires.place c.index_mut.ensures.value in
+    record { chunks = refl; room = last_room-set c.args.chunks.now.items c.args.chunk _ c.remove-row.new.self here (omega (arith, c.remove-row.ensures.len, c.remove-row.ensures.capacity)) }

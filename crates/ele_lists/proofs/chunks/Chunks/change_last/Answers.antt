@@ -1,8 +1,4 @@
-use Rattle.std.proofs.Common.{◌≡◌, ap, ◌∙◌}
-use Rattle.std.proofs.lemmas.List.{with_items_is}
-use Rattle.ele_lists.specs.Chunks.{flat}
-use Rattle.ele_lists.specs.Ends.{update_last}
-use Rattle.ele_lists.proofs.Ends.{length-update_last}
+use Rattle.ele_lists.proofs.Words.{ap, flat, length-update_last, update_last, with_items_is, ◌∙◌, ◌≡◌}
 use Rattle.ele_lists.proofs.chunks.Chunks.change_last.Goals as goal
 
 pub invariant_of-self : goal.invariant_of-self

@@ -1,8 +1,4 @@
-use Rattle.std.proofs.Common.{◌≡◌, true, false, not, ap, sym, ◌∙◌}
-use Rattle.ele_lists.specs.Chunks.{before_place, behind_place}
-use Rattle.ele_lists.proofs.Edits.{all-weaker}
-use Rattle.ele_lists.proofs.Ends.{find-parted}
-use Rattle.ele_lists.proofs.Seams.{place_split, first_behind}
+use Rattle.ele_lists.proofs.Words.{all-weaker, ap, false, find-parted, first_behind, not, place_split, sym, true, ◌∙◌, ◌≡◌}
 use Rattle.ele_lists.proofs.chunks.Chunks.first_behind.Goals as goal
 
 pub returns : goal.returns
@@ -13,7 +9,6 @@ returns g c =
     let j = c.seek-chunk.result.1 in
     let seam = c.seek-chunk.ensures in
     let same : c.deref-2.result.now ≡ cs = c.deref-2.ensures.value ∙ sym c.deref.ensures.value in
-    let fails = all-weaker (λ x. p x ≡ true) (λ x. not (p x) ≡ false) (before_place cs i j) (λ x e. ap not e) seam.passes in
-    let passes = all-weaker (λ x. p x ≡ false) (λ x. not (p x) ≡ true) (behind_place cs i j) (λ x e. ap not e) seam.fails in
-    rw (← c.self.view_is, ← c.deref.ensures.value, place_split cs i j, find-parted (λ x. not (p x)) (before_place cs i j) (behind_place cs i j) fails passes, first_behind cs i j seam.within, ← same)
-    c.row_at.ensures
+    let fails = all-weaker _ (λ x. not (p x) ≡ false) _ (λ x e. ap not e) seam.passes in
+    let passes = all-weaker _ (λ x. not (p x) ≡ true) _ (λ x e. ap not e) seam.fails in
+    rw (← c.self.view_is, ← c.deref.ensures.value, place_split cs i j, find-parted (λ x. not (p x)) _ _ fails passes, first_behind cs i j seam.within, ← same) c.row_at.ensures

@@ -1,17 +1,8 @@
-use Rattle.std.proofs.Common.{◌≡◌, sym, ap, ◌∙◌}
-use Rattle.std.specs.Prelude.{slice_get}
-use Rattle.ele_lists.specs.Chunks.{rows_at}
-use Rattle.ele_lists.specs.Keys.{has_key}
-use Rattle.ele_lists.proofs.Edits.{not_found}
+use Rattle.ele_lists.proofs.Words.{arith, not_found, sym}
 use Rattle.ele_lists.proofs.chunks.Chunks.get.Goals as goal
 
 pub returns-in_err-chunk : goal.returns-in_err-chunk
-returns-in_err-chunk g c =
-    rw (c.from_residual.ensures, ← c.self.view_is, ← c.deref.ensures.value)
-    (sym (not_found (has_key g.T.Keyed.key c.args.key) _ c.in_err-chunk.ensures.missing))
+returns-in_err-chunk g c = rw (c.from_residual.ensures, ← c.self.view_is, ← c.deref.ensures.value) (sym (not_found _ _ c.in_err-chunk.ensures.missing))
 
 pub returns : goal.returns
-returns g c =
-    let same : c.deref-2.result.now ≡ c.deref.result.now = c.deref-2.ensures.value ∙ sym c.deref.ensures.value in
-    rw (← c.self.view_is, ← c.deref.ensures.value)
-    (c.row_at.ensures ∙ ap (λ cs. slice_get (rows_at cs c.in_ok-chunk.chunk) c.in_ok-chunk.place) same ∙ sym c.in_ok-chunk.ensures.found.found)
+returns g c = grind (arith, c.row_at.ensures, c.self.view_is, c.deref.ensures.value, c.deref-2.ensures.value, c.in_ok-chunk.ensures.found.found)

@@ -1,7 +1,4 @@
-use Rattle.std.proofs.Common.{◌≡◌, sym, ◌∙◌}
-use Rattle.ele_lists.specs.Chunks.{before_place, behind_place}
-use Rattle.ele_lists.proofs.Ends.{find_last-parted}
-use Rattle.ele_lists.proofs.Seams.{place_split}
+use Rattle.ele_lists.proofs.Words.{find_last-parted, place_split, sym, ◌∙◌, ◌≡◌}
 use Rattle.ele_lists.proofs.chunks.Chunks.last_before.Goals as goal
 
 pub returns : goal.returns
@@ -9,7 +6,5 @@ returns g c =
     let cs = c.deref.result.now in
     let i = c.seek-chunk.result.0 in
     let j = c.seek-chunk.result.1 in
-    let seam = c.seek-chunk.ensures in
     let same : c.deref-2.result.now ≡ cs = c.deref-2.ensures.value ∙ sym c.deref.ensures.value in
-    rw (← c.self.view_is, ← c.deref.ensures.value, place_split cs i j, find_last-parted (g.C.Cut.before c.args.cut.now) (before_place cs i j) (behind_place cs i j) seam.passes seam.fails, ← same)
-    c.row_before.ensures
+    rw (← c.self.view_is, ← c.deref.ensures.value, place_split cs i j, find_last-parted _ _ _ c.seek-chunk.ensures.passes c.seek-chunk.ensures.fails, ← same) c.row_before.ensures

@@ -1,4 +1,4 @@
-use Rattle.ele_lists.proofs.Groups.{in_group, last_of_group}
+use Rattle.ele_lists.proofs.Words.{in_group, last_of_group}
 use Rattle.ele_lists.proofs.index.Index.last.Goals as goal
 
 pub returns-in_err-rank-clause-none : goal.returns-in_err-rank-clause-none
