@@ -1,25 +1,9 @@
 -- What is answered of versions, drafts and handles, as the rows show it.
-use Rattle.std.proofs.Common.{◌≡◌, ◌<◌, arith, ℕ, Bool, true, false, cond, ◌||◌, List, [], ◌∷◌, length, map, Option, Some, None, is_some, refl, sym, ap, ◌∙◌}
-use Rattle.std.specs.List.{find, flat_map, list_any}
-use Rattle.std.specs.Option.{option_map, option_map_or, option_copied}
-use Rattle.std.specs.Borrow.{Bor}
-use Rattle.ele_blocks.specs.Layout.{Layout, shown}
-use Rattle.ele_blocks.specs.LivesIn.{LivesIn}
-use Rattle.ele_blocks.specs.Store.{Store}
-use Rattle.ele_files.specs.Meant.{stamps_in}
-use Rattle.ele_world.specs.Told.{stamps_of}
-use Rattle.ele_files.specs.Held.{Held, cells_of_draft, cells_of_version}
-use Rattle.ele_files.specs.Inside.{Keeps, file_row, is_id, rows_in, draft_in, held_in}
-use Rattle.ele_files.specs.declared.file.File.{File}
+use Rattle.ele_files.proofs.Words.{AllSessions, Bool, Bor, Draft, DraftRow, File, Held, Keeps, Layout, List, LivesIn, LogRow, None, Option, Some, Store, [], ap, arith, cells_of_draft, cells_of_version, cond, content_of, draft_in, false, file_row, find, flat_map, held_in, is_id, is_numbered, is_some, is_version, length, list_any, map, next_of, option_copied, option_map, option_map_or, refl, rows_in, shown, stamps_in, stamps_of, sym, true, ℕ, ◌<◌, ◌||◌, ◌∙◌, ◌∷◌, ◌≡◌}
 use Rattle.ele_files.proofs.Stock.{draft_lives, row_lives}
 use Rattle.ele_files.proofs.Rows.{next-found, version-of, version-none, draft-found, any-draft}
-use Rattle.ele_inode_log.specs.declared.row.VersionRow as log
-use Rattle.ele_inode_log.specs.Rows.{is_numbered}
 use Rattle.ele_sessions.specs.Sessions as sessions
-use Rattle.ele_sessions.specs.Sessions.{Draft, AllSessions}
-use Rattle.ele_content.specs.Content.{content_of}
-use Rattle.ele_world.specs.declared.rows.DraftRow.{DraftRow}
-use Rattle.ele_world.specs.World.{is_version, is_draft, next_of}
+use Rattle.ele_world.specs.World.{is_draft}
 
 -- a test passes somewhere if something is found
 pub any-found : {X : Type 0} (p : X → Bool) (xs : List X) → is_some (find p xs) ≡ list_any p xs
@@ -38,7 +22,7 @@ module _ (s : Store) (file number : ℕ) (files : List File) (a : AllSessions) (
     pub stamps-no_row : find (is_numbered number) f.log.rows ≡ None → option_map stamps_of (find (is_version file number) (flat_map (rows_in s) files)) ≡ None
     stamps-no_row none = rw (version-of s file number files kept.rise f found, none) refl
 
-    pub stamps-is : (row : log.VersionRow) → find (is_numbered number) f.log.rows ≡ Some row → option_map stamps_of (find (is_version file number) (flat_map (rows_in s) files)) ≡ Some (stamps_in row)
+    pub stamps-is : (row : LogRow) → find (is_numbered number) f.log.rows ≡ Some row → option_map stamps_of (find (is_version file number) (flat_map (rows_in s) files)) ≡ Some (stamps_in row)
     stamps-is row is = rw (version-of s file number files kept.rise f found, is, kept.laws.long s row.cells (row_lives s files a kept file (is_numbered number) f row found is)) refl
 
 -- the cells of a version
@@ -50,7 +34,7 @@ module _ (s : Store) (file number : ℕ) (files : List File) (a : AllSessions) (
     pub cells-no_row : find (is_numbered number) f.log.rows ≡ None → cells_of_version (held_in s files a) file number ≡ []
     cells-no_row none = rw (version-of s file number files kept.rise f found, none) refl
 
-    pub cells-is : (row : log.VersionRow) → find (is_numbered number) f.log.rows ≡ Some row → cells_of_version (held_in s files a) file number ≡ shown s row.cells
+    pub cells-is : (row : LogRow) → find (is_numbered number) f.log.rows ≡ Some row → cells_of_version (held_in s files a) file number ≡ shown s row.cells
     cells-is row is = rw (version-of s file number files kept.rise f found, is) refl
 
 -- a file that has a next number is there

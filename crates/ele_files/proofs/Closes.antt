@@ -1,36 +1,12 @@
 -- What goes with a handle, and what the last writer of a changed draft leaves.
-use Rattle.std.proofs.Common.{◌≡◌, ℕ, Bool, true, false, cond, List, map, Option, Some, None, is_some, refl, ap, sym, ◌∙◌, [], ◌∷◌, get_or, Result, Ok, Err, arith}
-use Rattle.std.specs.Prelude.{find}
-use Rattle.std.specs.List.{list_any, AllByRecursion, position}
-use Rattle.std.specs.Option.{option_and_then, option_map}
-use Rattle.ele_blocks.specs.Layout.{Layout}
-use Rattle.ele_blocks.specs.LivesIn.{LivesIn}
-use Rattle.ele_blocks.specs.Store.{Store}
-use Rattle.ele_files.specs.Appending.{IsGivenUp, opening_of, next_row, HasAppended}
-use Rattle.ele_files.specs.Closing.{last_draft, changed_opening, opening_by, leaving, left_of, left_by, IsPast, finishing}
-use Rattle.ele_files.specs.Held.{Held, changed_at, Became, rows_of, with_rows, cells_of_draft}
-use Rattle.ele_files.specs.Inside.{draft_in, handle_in, held_in, Keeps, file_row, row_stock, draft_stock, stock_of, IsDraftKept, is_id}
-use Rattle.ele_files.specs.declared.file.File.{File}
+use Rattle.ele_files.proofs.Words.{AllByRecursion, AllSessions, Became, Bool, Draft, EndDraft, Err, File, HasAppended, Held, HeldRows, IsDraftKept, IsGivenUp, IsPast, Keeps, Layout, List, LivesIn, None, Ok, OnErr, Option, Reads, Result, Rises, ShutHandle, Some, Store, World, [], after_changes, all-found, all-not_found, all-remove_first, ap, arith, cells_of_draft, changed_at, changed_opening, closed, closed_of, closing, closing_of, cond, draft_in, draft_stock, false, file_by, file_closing, file_row, find, finishing, get_or, handle_in, held_in, is_draft, is_id, is_some, is_writer, last_draft, leaving, left_by, left_drafts, left_handles, left_of, list_any, map, next_of, next_row, opening_by, opening_of, option_and_then, option_map, position, refl, remove_first, remove_first-map, remove_first-unfound, result_ok, row_stock, rows_of, set, stock_of, sym, true, with_rows, ℕ, ◌∙◌, ◌∷◌, ◌≡◌}
 use Rattle.ele_files.proofs.Drafts.{same_drafts, dropped, drafts_apart, its_file}
 use Rattle.ele_files.proofs.Looks.{IsSeen}
 use Rattle.ele_files.proofs.Rows.{draft-found, handle_file-shown, reads_by-shown, reads_of, left-shown, no-file, next-found, its_id, file_past}
 use Rattle.ele_files.proofs.Stock.{draft_lives, draft_apart}
-use Rattle.ele_lists.specs.Lists.{remove_first}
-use Rattle.ele_lists.proofs.Cuts.{remove_first-unfound}
-use Rattle.ele_lists.proofs.Edits.{all-not_found, all-found, all-remove_first}
-use Rattle.ele_lists.proofs.Shown.{remove_first-map}
-use Rattle.ele_sessions.specs.Closes.{left_handles, file_closing, left_drafts, closing_of, closing, closed_of, closed}
-use Rattle.ele_sessions.specs.Sessions.{Draft, AllSessions, is_draft, is_writer}
-use Rattle.std.proofs.Math.ListN.{set}
-use Rattle.std.specs.Result.{OnErr, result_ok}
 use Rattle.ele_files.proofs.Appends.{appended_keeps, appended_shows}
 use Rattle.ele_files.proofs.Exchanges.{IsReached, reached}
-use Rattle.ele_inode_log.specs.Rows.{HeldRows}
-use Rattle.ele_sessions.specs.Order.{Rises}
-use Rattle.ele_world.specs.Change.{ShutHandle, EndDraft, after_changes}
-use Rattle.ele_world.specs.World.{World, file_by, next_of}
 use Rattle.ele_sessions.specs.Sessions as sessions
-use Rattle.ele_sessions.specs.declared.reads.Reads.{Reads}
 use Rattle.ele_sessions.specs.declared.reads.Reads.TheVariants as reads
 use Rattle.ele_world.specs.World as world
 

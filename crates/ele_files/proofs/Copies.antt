@@ -1,32 +1,7 @@
 -- How far a copy of rows has come.
-use Rattle.std.proofs.Common.{◌≡◌, ℕ, ◌+◌, ◌<◌, ◌≤◌, Bool, true, false, eqb, List, [], ◌∷◌, ◌++◌, map, take, length, get_or, Option, Some, None, refl, sym, ap, ◌∙◌, arith, zero, suc, append_assoc, subst}
-use Rattle.std.specs.List.{find, filter, slice_get, flat_map, AllByRecursion}
-use Rattle.std.proofs.lemmas.List.{append-nil, map-append, take_all, take_more}
-use Rattle.std.proofs.lemmas.Grind.{flat_map-append}
-use Rattle.std.proofs.lemmas.Option.{slice_get_within, get_or_from_slice_get}
-use Rattle.std.specs.Option.{option_map}
-use Rattle.std.proofs.lemmas.Bool.Decides.{nat_tests}
-use Rattle.ele_content.specs.declared.cell.Cell.{Cell}
-use Rattle.ele_blocks.specs.declared.slot.Slot.{Slot}
-use Rattle.ele_blocks.specs.Layout.{Layout, slots_of, cell_of, cell_by, shown}
-use Rattle.ele_blocks.specs.LivesIn.{LivesIn}
-use Rattle.ele_blocks.specs.Store.{Store, bytes_at, owners_at}
-use Rattle.ele_blocks.specs.Stock.{StockLaws}
-use Rattle.ele_inode_log.specs.declared.row.VersionRow.{VersionRow}
-use Rattle.ele_files.specs.Inside.{IsFileKept, IsRowOf, row_in, draft_in}
-use Rattle.ele_files.specs.Meant.{stamps_in}
-use Rattle.ele_files.specs.declared.file.File.{File}
-use Rattle.ele_world.specs.declared.rows.Stamps.{Stamps}
-use Rattle.ele_inode_log.specs.Rows.{is_after, Precedes}
-use Rattle.ele_inode_log.specs.declared.row.VersionRow as log
-use Rattle.ele_lists.proofs.Alls.{all-got, later-weaker}
-use Rattle.ele_lists.proofs.Filters.{filter-all}
+use Rattle.ele_files.proofs.Words.{AllByRecursion, AllLater, Bool, Cell, Draft, DraftRow, File, IsFileKept, IsRowOf, Layout, List, LivesIn, LogRow, None, Option, Precedes, Slot, Some, Stamps, StockLaws, Store, [], all-got, all-weaker, ap, append-nil, append_assoc, arith, bytes_at, cell_by, cell_of, draft_in, eqb, false, filter, filter-all, find, flat_map, flat_map-append, found_passes, get_or, get_or_from_slice_get, is_after, later-weaker, length, map, map-append, nat_tests, option_map, owners_at, refl, row_in, shown, slice_get, slice_get_within, slots_of, stamps_in, subst, suc, sym, take, take_all, take_more, true, zero, ℕ, ◌++◌, ◌+◌, ◌<◌, ◌∙◌, ◌∷◌, ◌≡◌, ◌≤◌}
 use Rattle.ele_sessions.specs.Sessions as sessions
-use Rattle.ele_sessions.specs.Sessions.{Draft}
-use Rattle.ele_world.specs.declared.rows.DraftRow.{DraftRow}
 use Rattle.ele_world.specs.declared.rows.VersionRow as world
-use Rattle.ele_lists.specs.Lists.{AllLater}
-use Rattle.ele_lists.proofs.Edits.{all-weaker, found_passes}
 
 module _ {X Y : Type 0} (g : X → Y) where
   -- one element more
@@ -76,10 +51,10 @@ module _ {X Y : Type 0} (g : X → Y) (o : Option X) where
     by (Some x) e = (x, e, let h' = rw e at h in cc)
 
 -- the rows that are left behind one that was found
-all-after : (behind : ℕ) (x : VersionRow) (xs : List VersionRow) → behind ≤ x.number → AllByRecursion (λ (y : VersionRow). x.number < y.number) xs → filter (is_after behind) xs ≡ xs
-all-after behind x xs le all = filter-all (is_after behind) xs (all-weaker (λ (y : VersionRow). x.number < y.number) (λ y. is_after behind y ≡ true) xs (λ y lt. grind (arith, nat_tests, le)) all)
+all-after : (behind : ℕ) (x : LogRow) (xs : List LogRow) → behind ≤ x.number → AllByRecursion (λ (y : LogRow). x.number < y.number) xs → filter (is_after behind) xs ≡ xs
+all-after behind x xs le all = filter-all (is_after behind) xs (all-weaker (λ (y : LogRow). x.number < y.number) (λ y. is_after behind y ≡ true) xs (λ y lt. grind (arith, nat_tests, le)) all)
 
-pub left-behind : (behind : ℕ) (xs : List VersionRow) (row : VersionRow) → AllLater (λ (x y : VersionRow). x.number < y.number) xs → find (is_after behind) xs ≡ Some row → filter (is_after behind) xs ≡ row ∷ filter (is_after row.number) xs
+pub left-behind : (behind : ℕ) (xs : List LogRow) (row : LogRow) → AllLater (λ (x y : LogRow). x.number < y.number) xs → find (is_after behind) xs ≡ Some row → filter (is_after behind) xs ≡ row ∷ filter (is_after row.number) xs
 left-behind behind [] row rise h = absurd cc
 left-behind behind (x ∷ xs) row rise h = elim (is_after behind x) as (λ b. is_after behind x ≡ b → filter (is_after behind) (x ∷ xs) ≡ row ∷ filter (is_after row.number) (x ∷ xs)) [
   | true ↦ λ e.
@@ -89,7 +64,7 @@ left-behind behind (x ∷ xs) row rise h = elim (is_after behind x) as (λ b. is
       let self : is_after x.number x ≡ false = grind (arith, nat_tests) in
       let skip : filter (is_after x.number) (x ∷ xs) ≡ xs = rw self (all-after x.number x xs (omega arith) rise.0) in
       let first : filter (is_after behind) (x ∷ xs) ≡ x ∷ filter (is_after behind) xs = rw e refl in
-      subst (λ (r : VersionRow). filter (is_after behind) (x ∷ xs) ≡ r ∷ filter (is_after r.number) (x ∷ xs)) same (first ∙ (ap (λ ys. x ∷ ys) (all-after behind x xs (omega (arith, lt)) rise.0) ∙ sym (ap (λ ys. x ∷ ys) skip)))
+      subst (λ (r : LogRow). filter (is_after behind) (x ∷ xs) ≡ r ∷ filter (is_after r.number) (x ∷ xs)) same (first ∙ (ap (λ ys. x ∷ ys) (all-after behind x xs (omega (arith, lt)) rise.0) ∙ sym (ap (λ ys. x ∷ ys) skip)))
   | false ↦ λ e.
       let more = left-behind behind xs row rise.1 (rw e at h) in
       let passes : is_after behind row ≡ true = found_passes (is_after behind) xs row (rw e at h) in
@@ -118,13 +93,13 @@ module _ (laws : StockLaws) (s : Store) (m : Layout) (lives : LivesIn s m) (k : 
 
 -- the rows of a log
 module _ (f : File) (kept : IsFileKept f) where
-  rise : AllLater (λ (x y : log.VersionRow). x.number < y.number) f.log.rows
-  rise = later-weaker Precedes (λ (x y : log.VersionRow). x.number < y.number) f.log.rows (λ x y p. p.number) kept.order.order
+  rise : AllLater (λ (x y : LogRow). x.number < y.number) f.log.rows
+  rise = later-weaker Precedes (λ (x y : LogRow). x.number < y.number) f.log.rows (λ x y p. p.number) kept.order.order
 
   pub log-all : filter (is_after 0) f.log.rows ≡ f.log.rows
   log-all = filter-all (is_after 0) f.log.rows (all-weaker (IsRowOf f.next) (λ row. is_after 0 row ≡ true) f.log.rows (λ row is. let h = is.first in grind (arith, nat_tests)) kept.rows)
 
-  module _ (behind : ℕ) (row : log.VersionRow) (found : Some row ≡ find (is_after behind) f.log.rows) where
+  module _ (behind : ℕ) (row : LogRow) (found : Some row ≡ find (is_after behind) f.log.rows) where
     pub log-left : filter (is_after behind) f.log.rows ≡ row ∷ filter (is_after row.number) f.log.rows
     log-left = left-behind behind f.log.rows row rise (sym found)
 

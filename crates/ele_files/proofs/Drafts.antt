@@ -1,37 +1,8 @@
 -- A draft goes, or gets another map by a write or a truncate.
-use Rattle.std.proofs.Common.{◌≡◌, ◌≢◌, ℕ, ◌<◌, Bool, true, false, cond, eqb, List, [], ◌∷◌, map, Some, refl, ap, sym, ◌∙◌, arith, ◌≤◌, length, Option, None, Result, Ok, Err}
-use Rattle.std.specs.Prelude.{find, MatchBool}
-use Rattle.std.specs.List.{flat_map, AllByRecursion}
-use Rattle.std.specs.Option.{option_map_or, IsSomeAnd, option_map}
-use Rattle.std.proofs.lemmas.Bool.Decides.{nat_tests}
-use Rattle.ele_blocks.specs.Layout.{Layout, shown}
-use Rattle.ele_blocks.specs.Owes.{Moves}
-use Rattle.ele_blocks.specs.Renews.{Renews}
-use Rattle.ele_blocks.specs.Stock.{IsEarlier, ShowsSame, Stays}
-use Rattle.ele_blocks.specs.Store.{Store}
-use Rattle.ele_files.specs.Inside.{file_row, draft_in, held_in, row_stock, file_stock, draft_stock, stock_of, IsRowOf, IsFileKept, IsDraftKept, Keeps}
-use Rattle.ele_files.specs.declared.file.File.{File}
+use Rattle.ele_files.proofs.Words.{AllByRecursion, AllLater, AllSessions, AreOrderly, Bool, Draft, DraftRow, Err, File, Held, IsDraftKept, IsEarlier, IsFileKept, IsResized, IsRowOf, IsSomeAnd, Keeps, Layout, List, LivesIn, MatchBool, Moves, None, Ok, OnErr, OnOk, Option, Renews, Result, Rewrites, RewritesDraft, Rises, ShowsSame, Some, Stays, Store, Truncates, Writes, [], all-append, all-both, all-flat_map, all-found, all-left, all-map, all-remove_first, all-right, all-update_first, all-weaker, ap, arith, changed_by, cond, content_of, draft_by, draft_for, draft_in, draft_stock, eqb, false, false≢true, file_row, file_stock, find, fitted, fitted_by, fitted_of, flat_map, found_passes, handle_file, has_length, held_in, is_draft, is_file, length, longest_content, map, nat_tests, next_of, option_map, option_map_or, refl, remove_first, remove_first-map, rewritten_by, row_stock, shown, stock_of, sym, true, update_first, update_first-same, written_by, written_of, ℕ, ◌<◌, ◌∙◌, ◌∷◌, ◌≡◌, ◌≢◌, ◌≤◌}
 use Rattle.ele_files.proofs.Looks.{IsSeen, held_stays, versions_same}
 use Rattle.ele_files.proofs.Stock.{draft_apart, draft_changed, draft_lives}
-use Rattle.ele_lists.specs.Lists.{update_first, remove_first, AllLater}
-use Rattle.ele_lists.proofs.Alls.{all-append, all-left, all-right, all-map, all-flat_map}
-use Rattle.ele_lists.proofs.Edits.{all-weaker, all-both, all-found, all-remove_first, all-update_first, found_passes}
-use Rattle.ele_lists.proofs.Shown.{remove_first-map}
-use Rattle.ele_sessions.specs.Changes.{rewritten_by, RewritesDraft, Rewrites, Writes, Truncates, has_length}
-use Rattle.ele_sessions.specs.Order.{Rises}
-use Rattle.ele_sessions.specs.Sessions.{Draft, AllSessions, is_draft, handle_file, draft_by, draft_for}
-use Rattle.ele_world.specs.World.{next_of, is_file}
-use Rattle.ele_world.specs.declared.rows.DraftRow.{DraftRow}
-use Rattle.std.specs.Result.{OnOk, OnErr}
-use Rattle.std.proofs.lemmas.Bool.{false≢true}
-use Rattle.ele_content.specs.Content.{content_of, longest_content}
-use Rattle.ele_blocks.specs.Changes.{IsResized}
-use Rattle.ele_blocks.specs.LivesIn.{LivesIn}
-use Rattle.ele_files.specs.Held.{Held, written_of, written_by, fitted_of, fitted}
 use Rattle.ele_files.proofs.Rows.{handle_file-shown, draft-found}
-use Rattle.ele_lists.proofs.Cuts.{update_first-same}
-use Rattle.ele_sessions.specs.Orderly.{AreOrderly}
-use Rattle.ele_world.specs.Change.{changed_by, fitted_by}
 use Rattle.ele_world.specs.World as world
 use Rattle.ele_files.specs.Held as held
 use Rattle.ele_sessions.specs.Changes as session

@@ -1,25 +1,8 @@
 -- A file has another policy, and all else stays.
-use Rattle.std.proofs.Common.{◌≡◌, ◌<◌, ℕ, Bool, true, false, cond, eqb, List, [], ◌∷◌, ◌++◌, map, find, get_or, Some, None, refl, ap, sym, ◌∙◌}
-use Rattle.std.proofs.Math.ListN.{set}
-use Rattle.std.specs.List.{flat_map, position}
-use Rattle.std.specs.Option.{option_map, option_map_or}
-use Rattle.ele_blocks.specs.Store.{Store}
-use Rattle.ele_files.specs.Held.{changed_at}
-use Rattle.ele_files.specs.Inside.{IsDraftKept, IsFileKept, Keeps, file_row, file_stock, held_in, is_id, rows_in}
-use Rattle.ele_files.specs.declared.file.File.{File}
+use Rattle.ele_files.proofs.Words.{AllSessions, Bool, File, FileRow, IsDraftKept, IsFileKept, Keeps, List, None, Policy, PutUnder, Some, Store, [], all-not_found, all-update_first, all-weaker, ap, changed_at, cond, eqb, false, file_row, file_stock, find, flat_map, get_or, held_in, is_file, is_id, later-update_first, map, next_of, option_map, option_map_or, position, refl, rows_in, set, set-first, sym, true, update_first, update_first-map, update_first-unfound, ℕ, ◌++◌, ◌<◌, ◌∙◌, ◌∷◌, ◌≡◌}
 use Rattle.ele_files.proofs.Looks.{IsSeen}
 use Rattle.ele_files.proofs.Rows.{file_row-found, no-file}
-use Rattle.ele_lists.specs.Lists.{update_first}
-use Rattle.ele_lists.proofs.Cuts.{update_first-unfound}
-use Rattle.ele_lists.proofs.Edits.{all-not_found, all-update_first, all-weaker, later-update_first}
-use Rattle.ele_lists.proofs.Places.{set-first}
-use Rattle.ele_lists.proofs.Shown.{update_first-map}
-use Rattle.ele_policy.specs.declared.policy.Policy.{Policy}
-use Rattle.ele_sessions.specs.Sessions.{AllSessions}
-use Rattle.ele_world.specs.declared.rows.FileRow.{FileRow}
 use Rattle.ele_world.specs.Change as world
-use Rattle.ele_world.specs.Change.{PutUnder}
-use Rattle.ele_world.specs.World.{is_file, next_of}
 
 abbrev governed : Policy → File → File
 governed policy f = record f { policy = policy }

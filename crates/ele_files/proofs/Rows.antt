@@ -1,36 +1,12 @@
 -- What the rows show of the files, drafts and handles behind them.
-use Rattle.std.proofs.Common.{◌≡◌, ◌≢◌, ℕ, ◌-◌, ◌<◌, Bool, true, false, eqb, List, [], ◌∷◌, map, get_or, Option, Some, None, Result, Ok, Err, refl, sym, ap, ◌∙◌, arith}
-use Rattle.std.specs.List.{find, position, list_any, flat_map, AllByRecursion}
-use Rattle.std.specs.Option.{option_map, option_map_or, option_and_then, ok_or}
-use Rattle.std.specs.Result.{result_ok, result_map_both}
-use Rattle.std.proofs.lemmas.Bool.{false≢true}
-use Rattle.std.proofs.lemmas.Bool.Decides.{nat_tests}
-use Rattle.ele_files.specs.Appending.{IsRowPast, ended_by, ended_rows}
-use Rattle.ele_files.specs.Closing.{IsPast}
-use Rattle.ele_files.specs.Held.{handle_file, fault_of, file_or_fault}
-use Rattle.ele_files.specs.Inside.{is_id, file_row, row_in, rows_in, draft_in, reads_in, handle_in}
-use Rattle.ele_files.specs.declared.file.File.{File}
-use Rattle.ele_blocks.specs.Store.{Store}
-use Rattle.ele_inode_log.specs.declared.row.VersionRow as log
-use Rattle.ele_inode_log.specs.Rows.{is_numbered}
-use Rattle.ele_lists.specs.Lists.{update_first, remove_first, AllLater}
-use Rattle.ele_lists.proofs.Alls.{all-map, map-all, flat_map-all}
-use Rattle.ele_lists.proofs.Buckets.{find-buckets}
-use Rattle.ele_lists.proofs.Edits.{all-any, all-found, all-none, all-weaker, found_passes}
-use Rattle.ele_lists.proofs.Places.{find-position, find-none}
-use Rattle.ele_lists.proofs.Shown.{find-map, any-map, remove_first-map, update_first-map}
+use Rattle.ele_files.proofs.Words.{AllByRecursion, AllLater, Bool, Draft, Err, File, HandleRow, IsPast, IsRowPast, List, LogRow, NoHandle, None, Ok, Option, Refusal, Result, Some, Store, VersionRow, [], all-any, all-found, all-map, all-none, all-weaker, any-map, ap, arith, draft_in, ended_at, ended_by, ended_rows, eqb, false, false≢true, fault_of, file_or_fault, file_row, file_written, find, find-buckets, find-map, find-none, find-position, flat_map, flat_map-all, found_passes, get_or, handle_in, is_file, is_handle, is_id, is_numbered, is_open, is_version, list_any, map, map-all, nat_tests, next_of, ok_or, option_and_then, option_map, option_map_or, policy_of, position, reads_by, reads_in, reads_version, refl, remove_first, remove_first-map, result_map_both, result_ok, row_in, rows_in, sym, true, update_first, update_first-map, writes, ℕ, ◌-◌, ◌<◌, ◌∙◌, ◌∷◌, ◌≡◌, ◌≢◌}
+use Rattle.ele_files.specs.Held.{handle_file}
 use Rattle.ele_sessions.specs.Sessions as sessions
-use Rattle.ele_sessions.specs.Sessions.{Draft}
 use Rattle.ele_sessions.specs.declared.entries.OpenHandle.{OpenHandle}
 use Rattle.ele_sessions.specs.declared.reads.Reads as session
 use Rattle.ele_sessions.specs.declared.reads.Reads.TheVariants as session_reads
-use Rattle.ele_world.specs.Change.{ended_at}
-use Rattle.ele_world.specs.declared.refusal.Refusal.{Refusal}
-use Rattle.ele_world.specs.declared.refusal.Refusal.TheVariants.{NoHandle}
-use Rattle.ele_world.specs.declared.rows.HandleRow.{HandleRow}
 use Rattle.ele_world.specs.declared.rows.Reads.{Reads}
-use Rattle.ele_world.specs.declared.rows.VersionRow.{VersionRow}
-use Rattle.ele_world.specs.World.{is_file, is_version, is_draft, is_handle, is_writer, is_open, writes, reads_version, file_written, reads_by, policy_of, next_of}
+use Rattle.ele_world.specs.World.{is_draft, is_writer}
 
 -- ---- files
 
@@ -70,7 +46,7 @@ own_version file number row h = elim (eqb row.file file) as (λ b. eqb row.file 
 ] refl
 
 -- a file's row is its version of that number
-pub same_number : (s : Store) (id file number : ℕ) → id ≡ file → (row : log.VersionRow) → is_version file number (row_in s id row) ≡ is_numbered number row
+pub same_number : (s : Store) (id file number : ℕ) → id ≡ file → (row : LogRow) → is_version file number (row_in s id row) ≡ is_numbered number row
 same_number s id file number is row = let e : eqb id file ≡ true = grind (arith, nat_tests) in rw e refl
 
 -- so the row that ends is that version
@@ -93,7 +69,7 @@ module _ (s : Store) (file number : ℕ) (files : List File) (rise : AllLater (�
 
   pub version-of : (f : File) → find (is_id file) files ≡ Some f → version ≡ option_map (row_in s f.id) (find (is_numbered number) f.log.rows)
   version-of f found = found_in ∙ (ap (option_and_then (λ f. find (is_version file number) (rows_in s f))) found ∙ (find-map (row_in s f.id) (is_version file number) f.log.rows ∙ ap (option_map (row_in s f.id)) (alike f.log.rows))) where
-    alike : (rows : List log.VersionRow) → find (λ row. is_version file number (row_in s f.id row)) rows ≡ find (is_numbered number) rows
+    alike : (rows : List LogRow) → find (λ row. is_version file number (row_in s f.id row)) rows ≡ find (is_numbered number) rows
     alike rows = let e : eqb f.id file ≡ true = found_passes (is_id file) files f found in rw e refl
 
 -- ---- drafts and handles

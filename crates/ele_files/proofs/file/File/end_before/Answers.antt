@@ -1,11 +1,5 @@
-use Rattle.std.proofs.Common.{◌≡◌, Some, None, refl, sym, ◌∙◌, ◌-◌}
-use Rattle.std.specs.Prelude.{find}
-use Rattle.ele_files.specs.Appending.{ended_by}
-use Rattle.ele_files.proofs.Endings.{last_row, can_end, no_end, keeps_end}
-use Rattle.ele_lists.proofs.Cuts.{update_first-unfound, update_first-same}
+use Rattle.ele_files.proofs.Lemmas.{None, Some, all-not_found, ended_by, find, is_numbered, refl, sym, update_first-same, update_first-unfound, ◌-◌, ◌∙◌, ◌≡◌, can_end, keeps_end, last_row, no_end}
 use Rattle.ele_files.proofs.file.File.end_before.Goals as goal
-use Rattle.ele_inode_log.specs.Rows.{is_numbered}
-use Rattle.ele_lists.proofs.Edits.{all-not_found}
 
 pub end_last-requires : goal.end_last-requires
 end_last-requires c =

@@ -1,4 +1,4 @@
-use Rattle.std.proofs.Common.{Ok, ap, sym, refl, ◌∙◌}
+use Rattle.ele_files.proofs.Lemmas.{Ok, ap, refl, sym, ◌∙◌}
 use Rattle.ele_files.proofs.file.File.living.Goals as goal
 
 pub returns-in_default-clause-value : goal.returns-in_default-clause-value

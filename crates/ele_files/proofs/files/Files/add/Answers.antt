@@ -1,6 +1,4 @@
-use Rattle.std.proofs.Common.{refl, ◌∙◌}
-use Rattle.ele_files.specs.declared.file.File.{File}
-use Rattle.ele_files.proofs.Appends.{fresh_kept, added_keeps, added_shows}
+use Rattle.ele_files.proofs.Lemmas.{File, refl, ◌∙◌, added_keeps, added_shows, fresh_kept}
 use Rattle.ele_files.proofs.files.Files.add.Goals as goal
 
 pub append-first-requires-clause-kept : goal.append-first-requires-clause-kept

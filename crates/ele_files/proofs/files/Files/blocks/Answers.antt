@@ -1,9 +1,5 @@
-use Rattle.std.proofs.Common.{ap, ◌∙◌}
-use Rattle.ele_blocks.specs.Stock.{layouts_of}
-use Rattle.ele_content.specs.Place.{different, is_place}
-use Rattle.ele_files.proofs.Names.{places_shown}
+use Rattle.ele_files.proofs.Lemmas.{ap, different, is_place, layouts_of, stock_of, ◌∙◌, places_shown}
 use Rattle.ele_files.proofs.files.Files.blocks.Goals as goal
-use Rattle.ele_files.specs.Inside.{stock_of}
 
 pub returns : goal.returns
 returns c =

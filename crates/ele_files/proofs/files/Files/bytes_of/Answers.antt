@@ -1,7 +1,4 @@
-use Rattle.std.proofs.Common.{sym, ap, ◌∙◌}
-use Rattle.ele_files.proofs.Counted.{own_bytes, own_few, own_kept}
-use Rattle.ele_files.proofs.Tagged.{none_shown}
-use Rattle.ele_world.specs.Usage.{bytes_in}
+use Rattle.ele_files.proofs.Lemmas.{ap, bytes_in, sym, ◌∙◌, none_shown, own_bytes, own_few, own_kept}
 use Rattle.ele_files.proofs.files.Files.bytes_of.Goals as goal
 
 pub log_bytes-requires-clause-kept : goal.log_bytes-requires-clause-kept

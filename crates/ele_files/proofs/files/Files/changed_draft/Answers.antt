@@ -1,6 +1,4 @@
-use Rattle.std.proofs.Common.{ap, ◌∙◌}
-use Rattle.ele_files.specs.Appending.{opening_of}
-use Rattle.ele_files.proofs.Closes.{opening_shown}
+use Rattle.ele_files.proofs.Lemmas.{ap, opening_of, ◌∙◌, opening_shown}
 use Rattle.ele_files.proofs.files.Files.changed_draft.Goals as goal
 
 pub returns : goal.returns

@@ -1,9 +1,5 @@
-use Rattle.std.proofs.Common.{◌++◌, ◌∷◌, [], refl, sym, ap, ◌∙◌, arith}
-use Rattle.std.proofs.lemmas.Option.{slice_get_past}
-use Rattle.ele_files.proofs.Asked.{draft_shown}
-use Rattle.ele_files.proofs.Copies.{draft-there, draft-next, taken-all}
+use Rattle.ele_files.proofs.Lemmas.{[], ap, arith, draft_in, refl, slice_get_past, sym, ◌++◌, ◌∙◌, ◌∷◌, draft-next, draft-there, draft_shown, taken-all}
 use Rattle.ele_files.proofs.files.Files.draft_rows.Goals as goal
-use Rattle.ele_files.specs.Inside.{draft_in}
 
 pub unreachable-requires-in_default-draft : goal.unreachable-requires-in_default-draft
 unreachable-requires-in_default-draft c =

@@ -1,5 +1,4 @@
-use Rattle.std.proofs.Common.{◌∙◌}
-use Rattle.ele_files.proofs.Asked.{drafted}
+use Rattle.ele_files.proofs.Lemmas.{◌∙◌, drafted}
 use Rattle.ele_files.proofs.files.Files.has_draft.Goals as goal
 
 pub returns : goal.returns

@@ -1,5 +1,4 @@
-use Rattle.std.proofs.Common.{sym}
-use Rattle.ele_files.proofs.Drops.{unheld, any_held}
+use Rattle.ele_files.proofs.Lemmas.{sym, any_held, unheld}
 use Rattle.ele_files.proofs.files.Files.has_version.Goals as goal
 
 pub returns-in-Some : goal.returns-in-Some

@@ -1,11 +1,4 @@
-use Rattle.std.proofs.Common.{[], subst, sym, ap, refl, ◌∙◌}
-use Rattle.std.specs.Option.{option_map_or}
-use Rattle.std.proofs.lemmas.Result.{on_ok_weaker}
-use Rattle.ele_blocks.specs.Layout.{shown}
-use Rattle.ele_files.specs.Met.{Meets}
-use Rattle.ele_files.proofs.Asked.{draft_shown}
-use Rattle.ele_files.proofs.Counted.{draft_places, meets_none}
-use Rattle.ele_world.specs.Usage.{places_from}
+use Rattle.ele_files.proofs.Lemmas.{Meets, [], ap, on_ok_weaker, option_map_or, places_from, refl, shown, subst, sym, ◌∙◌, draft_places, draft_shown, meets_none}
 use Rattle.ele_files.proofs.files.Files.meet_draft.Goals as goal
 
 pub meet-requires-clause-lives : goal.meet-requires-clause-lives

@@ -1,10 +1,4 @@
-use Rattle.std.proofs.Common.{List, [], subst, sym}
-use Rattle.std.proofs.lemmas.Result.{on_ok_weaker}
-use Rattle.ele_files.specs.Met.{Meets}
-use Rattle.ele_files.proofs.Counted.{meets_none, own_kept, own_lives, own_places}
-use Rattle.ele_files.proofs.Tagged.{none_shown}
-use Rattle.ele_world.specs.Usage.{places}
-use Rattle.ele_world.specs.declared.rows.VersionRow.{VersionRow}
+use Rattle.ele_files.proofs.Lemmas.{List, Meets, VersionRow, [], on_ok_weaker, places, subst, sym, meets_none, none_shown, own_kept, own_lives, own_places}
 use Rattle.ele_files.proofs.files.Files.meet_versions.Goals as goal
 
 pub meet_log-requires-clause-kept : goal.meet_log-requires-clause-kept

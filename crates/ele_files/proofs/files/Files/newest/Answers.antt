@@ -1,7 +1,4 @@
-use Rattle.std.proofs.Common.{Some, ap, sym, ◌∙◌}
-use Rattle.std.specs.Option.{option_map}
-use Rattle.ele_files.specs.Meant.{stamps_in}
-use Rattle.ele_files.proofs.Neighbours.{newest_none, newest_shown}
+use Rattle.ele_files.proofs.Lemmas.{Some, ap, option_map, stamps_in, sym, ◌∙◌, newest_none, newest_shown}
 use Rattle.ele_files.proofs.files.Files.newest.Goals as goal
 
 pub returns-in_err-held-clause-value : goal.returns-in_err-held-clause-value

@@ -1,4 +1,4 @@
-use Rattle.ele_files.proofs.Openings.{reader_opens}
+use Rattle.ele_files.proofs.Lemmas.{reader_opens}
 use Rattle.ele_files.proofs.files.Files.open_read.Goals as goal
 
 pub invariant_of-self : goal.invariant_of-self

@@ -1,6 +1,4 @@
-use Rattle.std.proofs.Common.{None, arith, sym}
-use Rattle.ele_files.proofs.Openings.{first_lives, maps_seen, opens}
-use Rattle.ele_files.proofs.Rows.{next-found}
+use Rattle.ele_files.proofs.Lemmas.{None, arith, sym, first_lives, maps_seen, next-found, opens}
 use Rattle.ele_files.proofs.files.Files.open_write.Goals as goal
 
 pub unreachable-requires : goal.unreachable-requires

@@ -1,5 +1,4 @@
-use Rattle.std.proofs.Common.{Ok, ap, sym, ◌∙◌}
-use Rattle.ele_files.proofs.Rows.{reads_of, reads_by-shown}
+use Rattle.ele_files.proofs.Lemmas.{Ok, ap, sym, ◌∙◌, reads_by-shown, reads_of}
 use Rattle.ele_files.proofs.files.Files.reads_by.Goals as goal
 
 pub returns-in-Some : goal.returns-in-Some

@@ -1,10 +1,5 @@
-use Rattle.std.proofs.Common.{◌∙◌, arith}
-use Rattle.std.proofs.Math.ListN.{set}
-use Rattle.ele_files.specs.Inside.{held_of}
-use Rattle.ele_files.proofs.Closes.{on_err}
-use Rattle.ele_files.proofs.Openings.{maps_seen}
-use Rattle.ele_files.proofs.Places.{its_few, ready_past, waits}
-use Rattle.ele_files.proofs.Restores.{IsRestored, lives, not_lost, not_missing, restored}
+use Rattle.ele_files.proofs.Lemmas.{arith, held_of, set, ◌∙◌, IsRestored, its_few, maps_seen, not_lost, on_err, ready_past, restored, waits}
+use Rattle.ele_files.proofs.Restores.{lives, not_missing}
 use Rattle.ele_files.proofs.files.Files.restore.Goals as goal
 use Rattle.ele_files.proofs.files.Files.restore.Goals.{After-self-2-1}
 

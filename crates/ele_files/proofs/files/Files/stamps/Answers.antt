@@ -1,5 +1,4 @@
-use Rattle.std.proofs.Common.{Some, ap, sym, ◌∙◌}
-use Rattle.ele_files.proofs.Asked.{stamps-none, stamps-no_row, stamps-is}
+use Rattle.ele_files.proofs.Lemmas.{Some, ap, sym, ◌∙◌, stamps-is, stamps-no_row, stamps-none}
 use Rattle.ele_files.proofs.files.Files.stamps.Goals as goal
 
 pub returns-in_err-held-clause-value : goal.returns-in_err-held-clause-value

@@ -1,8 +1,4 @@
-use Rattle.std.proofs.Common.{map, sym, ap, ◌∙◌}
-use Rattle.ele_files.specs.Inside.{IsFileKept, is_id}
-use Rattle.ele_files.proofs.Tagged.{list_shown, none_shown}
-use Rattle.ele_lists.proofs.Edits.{all-found}
-use Rattle.ele_world.specs.Told.{stamps_of}
+use Rattle.ele_files.proofs.Lemmas.{IsFileKept, all-found, ap, is_id, map, stamps_of, sym, ◌∙◌, list_shown, none_shown}
 use Rattle.ele_files.proofs.files.Files.stamps_of_file.Goals as goal
 
 pub log_stamps-requires : goal.log_stamps-requires

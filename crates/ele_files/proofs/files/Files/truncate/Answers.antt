@@ -1,5 +1,4 @@
-use Rattle.ele_files.proofs.Rows.{fault-shown}
-use Rattle.ele_files.proofs.Drafts.{draft_by_lives, cut, length_seen}
+use Rattle.ele_files.proofs.Lemmas.{cut, draft_by_lives, fault-shown, length_seen}
 use Rattle.ele_files.proofs.files.Files.truncate.Goals as goal
 
 pub truncate-requires : goal.truncate-requires

@@ -1,9 +1,4 @@
-use Rattle.std.proofs.Common.{ap, sym, find, ◌∙◌}
-use Rattle.std.specs.Option.{option_map}
-use Rattle.ele_files.proofs.Tagged.{at_shown, forgotten_none, none_lived, told_found}
-use Rattle.ele_inode_log.specs.Rows.{has_closed_by, lives_at}
-use Rattle.ele_lists.specs.Last.{last_passing}
-use Rattle.ele_world.specs.Told.{stamps_of}
+use Rattle.ele_files.proofs.Lemmas.{ap, find, has_closed_by, last_passing, lives_at, option_map, stamps_of, sym, ◌∙◌, at_shown, forgotten_none, none_lived, told_found}
 use Rattle.ele_files.proofs.files.Files.version_at.Goals as goal
 
 pub returns-in_err-held-clause-value : goal.returns-in_err-held-clause-value

@@ -1,8 +1,4 @@
-use Rattle.std.proofs.Common.{sym, ap, ◌∙◌}
-use Rattle.ele_files.proofs.Asked.{cells-is, cells-no_row, cells-none}
-use Rattle.ele_files.proofs.Stock.{row_lives}
-use Rattle.ele_content.specs.Content.{content_of}
-use Rattle.ele_inode_log.specs.Rows.{is_numbered}
+use Rattle.ele_files.proofs.Lemmas.{ap, content_of, is_numbered, sym, ◌∙◌, cells-is, cells-no_row, cells-none, row_lives}
 use Rattle.ele_files.proofs.files.Files.version_content.Goals as goal
 
 pub returns-in_default-clause-bytes : goal.returns-in_default-clause-bytes

@@ -1,6 +1,4 @@
-use Rattle.std.proofs.Common.{sym, ◌∙◌}
-use Rattle.ele_files.proofs.Asked.{no_file}
-use Rattle.ele_files.proofs.Tagged.{meant_shown}
+use Rattle.ele_files.proofs.Lemmas.{sym, ◌∙◌, meant_shown, no_file}
 use Rattle.ele_files.proofs.files.Files.version_meant.Goals as goal
 
 pub unreachable-requires : goal.unreachable-requires

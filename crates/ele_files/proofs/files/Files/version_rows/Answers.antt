@@ -1,11 +1,5 @@
-use Rattle.std.proofs.Common.{◌++◌, subst, sym, ap, ◌∙◌}
-use Rattle.std.specs.List.{flat_map, AllByRecursion}
-use Rattle.ele_files.proofs.Copies.{gathered-next}
-use Rattle.ele_files.proofs.Stock.{LogLives, logs_live}
+use Rattle.ele_files.proofs.Lemmas.{AllByRecursion, IsFileKept, all-place, ap, flat_map, rows_in, subst, sym, take_all, ◌++◌, ◌∙◌, LogLives, gathered-next, logs_live}
 use Rattle.ele_files.proofs.files.Files.version_rows.Goals as goal
-use Rattle.ele_files.specs.Inside.{rows_in, IsFileKept}
-use Rattle.ele_lists.proofs.Alls.{all-place}
-use Rattle.std.proofs.lemmas.List.{take_all}
 
 pub copy_log-requires-clause-kept : goal.copy_log-requires-clause-kept
 copy_log-requires-clause-kept c =

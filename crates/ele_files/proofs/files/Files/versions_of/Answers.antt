@@ -1,6 +1,4 @@
-use Rattle.std.proofs.Common.{length, sym, ap, ◌∙◌}
-use Rattle.ele_files.proofs.Counted.{own_count}
-use Rattle.ele_files.proofs.Tagged.{none_shown}
+use Rattle.ele_files.proofs.Lemmas.{ap, length, sym, ◌∙◌, none_shown, own_count}
 use Rattle.ele_files.proofs.files.Files.versions_of.Goals as goal
 
 pub returns-in-Some : goal.returns-in-Some

@@ -1,8 +1,4 @@
-use Rattle.std.proofs.Common.{arith, sym, ap, ◌∙◌, ◌∷◌, ◌++◌, []}
-use Rattle.std.specs.List.{slice_get}
-use Rattle.std.proofs.lemmas.Option.{slice_get_past}
-use Rattle.ele_blocks.specs.Layout.{cell_of, slots_of}
-use Rattle.ele_files.proofs.Copies.{taken-all, got-some, shown-none, cell-owned, cell-next}
+use Rattle.ele_files.proofs.Lemmas.{[], ap, arith, cell_of, slice_get, slice_get_past, slots_of, sym, ◌++◌, ◌∙◌, ◌∷◌, cell-next, cell-owned, got-some, shown-none, taken-all}
 use Rattle.ele_files.proofs.files.copies.copy_cells.Goals as goal
 
 pub unreachable-requires : goal.unreachable-requires

@@ -1,14 +1,5 @@
-use Rattle.std.proofs.Common.{◌++◌, map, sym, ap, ◌∙◌}
-use Rattle.std.specs.List.{filter}
-use Rattle.std.proofs.lemmas.List.{append-nil}
-use Rattle.ele_files.proofs.Copies.{log-all, log-fewer, log-next}
+use Rattle.ele_files.proofs.Lemmas.{LivesIn, LogRow, all-found, all-not_found, ap, append-nil, filter, filter-none, is_after, map, row_in, rows_in, sym, ◌++◌, ◌∙◌, log-all, log-fewer, log-next}
 use Rattle.ele_files.proofs.files.copies.copy_log.Goals as goal
-use Rattle.ele_files.specs.Inside.{row_in, rows_in}
-use Rattle.ele_inode_log.specs.Rows.{is_after}
-use Rattle.ele_inode_log.specs.declared.row.VersionRow.{VersionRow}
-use Rattle.ele_blocks.specs.LivesIn.{LivesIn}
-use Rattle.ele_lists.proofs.Edits.{all-found, all-not_found}
-use Rattle.ele_lists.proofs.Filters.{filter-none}
 
 pub loop-row-init : goal.loop-row-init
 loop-row-init c =
@@ -16,7 +7,7 @@ loop-row-init c =
     ap (λ xs. c.args.rows.now.items ++ map (row_in c.args.store.now f.id) xs) (log-all f c.requires.kept)
 
 pub copy_cells-requires-clause-lives : goal.copy_cells-requires-clause-lives
-copy_cells-requires-clause-lives c = all-found (is_after c.loop-row.behind) (λ (row : VersionRow). LivesIn c.args.store.now row.cells) c.args.file.now.log.rows c.in-Some.row.now (sym c.in-Some.ensures) c.requires.lives
+copy_cells-requires-clause-lives c = all-found (is_after c.loop-row.behind) (λ (row : LogRow). LivesIn c.args.store.now row.cells) c.args.file.now.log.rows c.in-Some.row.now (sym c.in-Some.ensures) c.requires.lives
 
 pub loop-row-smaller : goal.loop-row-smaller
 loop-row-smaller c = log-fewer c.args.file.now c.requires.kept c.loop-row.behind c.in-Some.row.now c.in-Some.ensures

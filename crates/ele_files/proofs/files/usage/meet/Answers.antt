@@ -1,12 +1,4 @@
-use Rattle.std.proofs.Common.{◌++◌, List, map, take, subst, sym, arith}
-use Rattle.std.specs.List.{slice_get}
-use Rattle.std.proofs.lemmas.Option.{slice_get_past}
-use Rattle.ele_blocks.specs.Layout.{cell_of, slots_of}
-use Rattle.ele_content.specs.declared.cell.Cell.{Cell}
-use Rattle.ele_files.specs.Met.{Counts}
-use Rattle.ele_files.proofs.Copies.{got-some, shown-none, taken-all}
-use Rattle.ele_files.proofs.Counted.{meets_none, met_next, places-next}
-use Rattle.ele_world.specs.Usage.{places_from}
+use Rattle.ele_files.proofs.Lemmas.{Cell, Counts, List, arith, cell_of, map, places_from, slice_get, slice_get_past, slots_of, subst, sym, take, ◌++◌, got-some, meets_none, met_next, places-next, shown-none, taken-all}
 use Rattle.ele_files.proofs.files.usage.meet.Goals as goal
 
 pub loop-slot-init : goal.loop-slot-init

@@ -1,11 +1,4 @@
-use Rattle.std.proofs.Common.{◌++◌, ◌∷◌, [], map, sym, ap, ◌∙◌}
-use Rattle.std.specs.List.{filter}
-use Rattle.std.proofs.lemmas.List.{append-nil}
-use Rattle.ele_files.specs.Meant.{stamps_in}
-use Rattle.ele_files.proofs.Copies.{log-all, log-fewer, told-next}
-use Rattle.ele_inode_log.specs.Rows.{is_after}
-use Rattle.ele_lists.proofs.Edits.{all-not_found}
-use Rattle.ele_lists.proofs.Filters.{filter-none}
+use Rattle.ele_files.proofs.Lemmas.{[], all-not_found, ap, append-nil, filter, filter-none, is_after, map, stamps_in, sym, ◌++◌, ◌∙◌, ◌∷◌, log-all, log-fewer, told-next}
 use Rattle.ele_files.proofs.files.versions.log_stamps.Goals as goal
 
 pub loop-row-init : goal.loop-row-init
