@@ -1,5 +1,5 @@
 -- A handle that writes a file comes, and with the file's first handle a draft.
-use Rattle.ele_files.proofs.Words.{AllSessions, Bool, Draft, Err, File, Held, IsDraftKept, IsFileKept, IsRowOf, Keeps, Layout, List, LivesIn, LogRow, MatchBool, Moves, None, Ok, OnErr, OnOk, OpenHandle, Opens, Option, Result, Some, Stays, Store, Tagged, [], all-found, all-insert_before, ap, arith, changed_at, draft_in, draft_stock, empty_layout, false, file_row, file_stock, find, first_draft, flat_map, handle_in, held_in, insert_before, insert_before-map, is_draft, is_draft_after, is_id, is_numbered, is_version, length, length-append, length-map, list_any, map, map-append, new_draft, next_of, opened_by, option_map, option_map_or, refl, row_in, row_stock, rows_in, shown, stock_of, sum_by, sym, true, with_draft, ℕ, ◌++◌, ◌+◌, ◌-◌, ◌∙◌, ◌∷◌, ◌≡◌}
+use Rattle.ele_files.proofs.Words.{AllSessions, Bool, Draft, Err, File, Held, IsDraftKept, IsFileKept, IsRowOf, Keeps, Layout, List, LivesIn, LogRow, MatchBool, Moves, None, Ok, OnErr, OnOk, OpenHandle, Opens, Option, Result, Some, Stays, Store, Tagged, [], all-found, all-insert_before, ap, arith, changed_at, draft_in, draft_stock, empty_layout, false, file_row, file_stock, find, first_draft, flat_map, handle_in, held_in, insert_before, insert_before-map, is_draft, is_draft_after, is_id, is_numbered, is_version, length, length-append, length-map, list_any, map, map-append, new_draft, next_of, opened_by, option_map, option_map_or, refl, row_in, row_stock, rows_in, shown, stock_of, sum_by, sym, true, ℕ, ◌++◌, ◌+◌, ◌-◌, ◌∙◌, ◌∷◌, ◌≡◌}
 use Rattle.ele_files.proofs.Copied.{row_copied, row_same}
 use Rattle.ele_files.proofs.Drafts.{same_drafts}
 use Rattle.ele_files.proofs.Looks.{IsSeen, versions_stay, drafts_stay}

@@ -6,12 +6,10 @@ meet-requires-clause-lives c = (draft_shown _ _ _ c.self.invariant c.args.file _
 
 pub returns-in-Some : goal.returns-in-Some
 returns-in-Some c =
-    let i = c.self.inside in
-    let is = draft_places i.store i.sessions c.args.file c.drafts_open-open.ensures.orderly.drafts_rise ∙ ap (λ o. option_map_or (λ m. places_from c.args.file 0 (shown i.store m)) o []) (sym c.in-Some.ensures) in
+    let is = draft_places c.self.inside.store c.self.inside.sessions c.args.file c.drafts_open-open.ensures.orderly.drafts_rise ∙ ap (λ o. option_map_or (λ m. places_from c.args.file 0 (shown c.self.inside.store m)) o []) (sym c.in-Some.ensures) in
     on_ok_weaker c.meet.result (λ meets. rw (← c.self.view_is) (subst (Meets c.args.file c.args.met.now.keys c.meet.new.met.keys) (sym is) (meets c.args.file))) c.meet.ensures
 
 pub returns-in-None : goal.returns-in-None
 returns-in-None c =
-    let i = c.self.inside in
-    let is = draft_places i.store i.sessions c.args.file c.drafts_open-open.ensures.orderly.drafts_rise ∙ ap (λ o. option_map_or (λ m. places_from c.args.file 0 (shown i.store m)) o []) (sym c.in-None.ensures) in
+    let is = draft_places c.self.inside.store c.self.inside.sessions c.args.file c.drafts_open-open.ensures.orderly.drafts_rise ∙ ap (λ o. option_map_or (λ m. places_from c.args.file 0 (shown c.self.inside.store m)) o []) (sym c.in-None.ensures) in
     rw (← c.self.view_is) (subst (Meets c.args.file c.args.met.now.keys c.args.met.now.keys) (sym is) (meets_none c.args.file c.args.met.now.keys))

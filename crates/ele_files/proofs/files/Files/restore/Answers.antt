@@ -20,9 +20,8 @@ copy-requires-clause-lives c = lives _ _ _ c.self.invariant c.args.file c.args.n
 
 pub copy-requires-clause-few : goal.copy-requires-clause-few
 copy-requires-clause-few c =
-    let i = c.self.inside in
     let few = rw (← c.self.view_is) at c.requires.few in
-    c.self.invariant.laws.few i.store _ c.self.invariant.stocked (omega (arith, few, maps_seen i.store i.files.items i.sessions.drafts))
+    c.self.invariant.laws.few _ _ c.self.invariant.stocked (omega (arith, few, maps_seen c.self.inside.store c.self.inside.files.items c.self.inside.sessions.drafts))
 
 pub invariant_of-self-in_err-map : goal.invariant_of-self-in_err-map
 invariant_of-self-in_err-map c = rw c.in_err-map.ensures.err (waits _ _ _ c.self.invariant c.args.file _ _ (rw c.deref.ensures.value at c.in-Some.ensures) (rw (← c.get_mut-held.ensures.value) at c.index_mut.ensures.value) c.reserve.new.self c.reserve.ensures.rows).keeps

@@ -15,8 +15,7 @@ loop-row-smaller c = log-fewer c.args.file.now c.requires.kept c.loop-row.behind
 pub loop-row-preserved : goal.loop-row-preserved
 loop-row-preserved c =
     let f = c.args.file.now in
-    ap (λ rows. rows ++ map (row_in c.args.store.now f.id) (filter (is_after c.in-Some.row.now.number) f.log.rows)) c.in_ok-push.ensures.items
-    ∙ log-next f c.requires.kept c.loop-row.behind c.in-Some.row.now c.in-Some.ensures c.args.store.now c.loop-row.rows.items (c.args.rows.now.items ++ rows_in c.args.store.now f) c.in_ok-cells.cells c.in_ok-cells.ensures c.loop-row.invariant
+    ap (λ rows. rows ++ map (row_in c.args.store.now f.id) (filter (is_after c.in-Some.row.now.number) f.log.rows)) c.in_ok-push.ensures.items ∙ log-next f c.requires.kept c.loop-row.behind c.in-Some.row.now c.in-Some.ensures c.args.store.now c.loop-row.rows.items (c.args.rows.now.items ++ rows_in c.args.store.now f) c.in_ok-cells.cells c.in_ok-cells.ensures c.loop-row.invariant
 
 pub returns : goal.returns
 returns c =

@@ -12,8 +12,7 @@ loop-row-smaller c = log-fewer c.args.file.now c.requires c.loop-row.behind c.in
 pub loop-row-preserved : goal.loop-row-preserved
 loop-row-preserved c =
     let f = c.args.file.now in
-    ap (λ xs. xs ++ map stamps_in (filter (is_after c.in-Some.row.now.number) f.log.rows)) (c.in_ok-push.ensures.items ∙ ap (λ stamps. c.loop-row.list.items ++ stamps ∷ []) c.stamps_of.ensures)
-    ∙ told-next f c.requires c.loop-row.behind c.in-Some.row.now c.in-Some.ensures c.loop-row.list.items c.loop-row.invariant
+    ap (λ xs. xs ++ map stamps_in (filter (is_after c.in-Some.row.now.number) f.log.rows)) (c.in_ok-push.ensures.items ∙ ap (λ stamps. c.loop-row.list.items ++ stamps ∷ []) c.stamps_of.ensures) ∙ told-next f c.requires c.loop-row.behind c.in-Some.row.now c.in-Some.ensures c.loop-row.list.items c.loop-row.invariant
 
 pub returns : goal.returns
 returns c =
