@@ -8,10 +8,7 @@ use Rattle.ele_world.specs.World.{is_draft}
 -- a test passes somewhere if something is found
 pub any-found : {X : Type 0} (p : X → Bool) (xs : List X) → is_some (find p xs) ≡ list_any p xs
 any-found p [] = refl
-any-found p (x ∷ xs) = elim (p x) as (λ b. is_some (cond b (Some x) (find p xs)) ≡ (b || list_any p xs)) [
-  | true ↦ refl
-  | false ↦ any-found p xs
-]
+any-found p (x ∷ xs) = grind (arith, any-found p xs)
 
 -- the stamps of a version
 module _ (s : Store) (file number : ℕ) (files : List File) (a : AllSessions) (kept : Keeps s files a) where

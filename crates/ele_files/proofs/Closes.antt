@@ -37,8 +37,7 @@ module _ (s : Store) (files : List File) (ss : AllSessions) (handle : ℕ) where
     ends false None = refl
     ends false (Some d) = of_change d.changed d refl where
       of_change : (c : Bool) (d : Draft) → d.changed ≡ c → opening_of (Some (file_closing false (Some d)).0) ≡ changed_opening (Some (draft_in s d))
-      of_change true d e = rw e refl
-      of_change false d e = rw e refl
+      of_change c d e = grind (arith, e)
 
     by : (o : Option Reads) → opening_of (option_map (λ answer. answer.0) (closing_of ss handle o)) ≡ option_and_then (λ file. changed_opening (last_draft shown handle file)) (result_ok (sessions.file_written o))
     by None = refl
@@ -113,13 +112,10 @@ module _ (s : Store) (files : List File) (ss : AllSessions) (handle file opened 
         of_draft : sessions.reads_by ss.handles handle ≡ Some (reads.Draft file)
         of_draft = of_reads (sessions.reads_by ss.handles handle) of_file where
           of_reads : (o : Option Reads) → result_ok (sessions.file_written o) ≡ Some file → o ≡ Some (reads.Draft file)
-          of_reads None is = absurd cc
-          of_reads (Some (reads.Version f version)) is = absurd cc
-          of_reads (Some (reads.Draft f)) is = let same : f ≡ file = cc in ap (λ n. Some (reads.Draft n)) same
+          of_reads o is = grind (arith, is)
 
         then : (d : Draft) (c : Bool) → cond c (Some d.opened) None ≡ Some opened → d.opened ≡ opened
-        then d true is = cc
-        then d false is = absurd cc
+        then d c is = grind (arith, is)
 
         by : (b : Bool) (o : Option Draft) → list_any (is_writer file) (left_handles ss handle) ≡ b → find (is_draft file) ss.drafts ≡ o → changed_opening (cond b None (option_map (draft_in s) o)) ≡ Some opened → IsLast ss handle file opened
         by true o alone found is = absurd cc

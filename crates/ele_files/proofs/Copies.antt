@@ -27,10 +27,7 @@ module _ {X : Type 0} where
   -- where keys rise, an element is the first of its key
   pub found-got : (key : X → ℕ) (xs : List X) (i : ℕ) (x : X) → AllLater (λ y z. key y < key z) xs → slice_get xs i ≡ Some x → find (λ y. eqb (key y) (key x)) xs ≡ Some x
   found-got key [] i x rise h = absurd cc
-  found-got key (y ∷ ys) zero x rise h =
-      let same : y ≡ x = cc in
-      let passes : eqb (key y) (key x) ≡ true = let e : key y ≡ key x = ap key same in grind (arith, nat_tests) in
-      rw passes (ap (λ z. Some z) same)
+  found-got key (y ∷ ys) zero x rise h = grind (arith, nat_tests, h)
   found-got key (y ∷ ys) (suc i) x rise h =
       let lt : key y < key x = all-got (λ z. key y < key z) ys i x rise.0 h in
       let fails : eqb (key y) (key x) ≡ false = grind (arith, nat_tests) in
@@ -39,10 +36,7 @@ module _ {X : Type 0} where
 -- what an option's element shows
 module _ {X Y : Type 0} (g : X → Y) (o : Option X) where
   pub shown-none : None ≡ option_map g o → o ≡ None
-  shown-none h = by o refl where
-    by : (a : Option X) → o ≡ a → o ≡ None
-    by None e = e
-    by (Some x) e = absurd (let h' = rw e at h in cc)
+  shown-none h = grind (arith, h)
 
   pub shown-some : (y : Y) → Some y ≡ option_map g o → (x : X) × (o ≡ Some x) × (g x ≡ y)
   shown-some y h = by o refl where
@@ -56,21 +50,7 @@ all-after behind x xs le all = filter-all (is_after behind) xs (all-weaker (λ (
 
 pub left-behind : (behind : ℕ) (xs : List LogRow) (row : LogRow) → AllLater (λ (x y : LogRow). x.number < y.number) xs → find (is_after behind) xs ≡ Some row → filter (is_after behind) xs ≡ row ∷ filter (is_after row.number) xs
 left-behind behind [] row rise h = absurd cc
-left-behind behind (x ∷ xs) row rise h = elim (is_after behind x) as (λ b. is_after behind x ≡ b → filter (is_after behind) (x ∷ xs) ≡ row ∷ filter (is_after row.number) (x ∷ xs)) [
-  | true ↦ λ e.
-      let h' = rw e at h in
-      let same : x ≡ row = cc in
-      let lt : behind < x.number = grind (arith, nat_tests) in
-      let self : is_after x.number x ≡ false = grind (arith, nat_tests) in
-      let skip : filter (is_after x.number) (x ∷ xs) ≡ xs = rw self (all-after x.number x xs (omega arith) rise.0) in
-      let first : filter (is_after behind) (x ∷ xs) ≡ x ∷ filter (is_after behind) xs = rw e refl in
-      subst (λ (r : LogRow). filter (is_after behind) (x ∷ xs) ≡ r ∷ filter (is_after r.number) (x ∷ xs)) same (first ∙ (ap (λ ys. x ∷ ys) (all-after behind x xs (omega (arith, lt)) rise.0) ∙ sym (ap (λ ys. x ∷ ys) skip)))
-  | false ↦ λ e.
-      let more = left-behind behind xs row rise.1 (rw e at h) in
-      let passes : is_after behind row ≡ true = found_passes (is_after behind) xs row (rw e at h) in
-      let fails : is_after row.number x ≡ false = grind (arith, nat_tests) in
-      rw (e, fails) more
-] refl
+left-behind behind (x ∷ xs) row rise h = grind (arith, nat_tests, h, all-after x.number x xs, all-after behind x xs, rise.0, left-behind behind xs row rise.1, found_passes (is_after behind) xs row)
 
 -- the cells of a map
 abbrev cell_from : Store → ℕ × ℕ → Cell

@@ -29,10 +29,7 @@ different-push (x ∷ xs) place =
       alike h = ap (is_among xs) (is_same place x h)
 
       by : (b c d : Bool) → (b ≡ true → d ≡ c) → cond (c || (b || false)) 0 1 + (different is_place xs + cond d 0 1) ≡ cond c 0 1 + different is_place xs + cond (b || d) 0 1
-      by true true d same = rw (same refl) (omega arith)
-      by true false d same = rw (same refl) (omega arith)
-      by false true d same = omega arith
-      by false false d same = omega arith
+      by b c d same = grind (arith, same)
 
 -- ---- one slot more
 
@@ -48,17 +45,13 @@ module _ (file slot writer : ℕ) where
     has = λ s w. has (s, w) ∙ rw (counts.has s w, list_any-append (λ p. is_place p (record { file = file; slot = s; writer = w })) (before ++ places) (met ∷ [])) (either (is_key slot writer (s, w)) (is_among (before ++ places) (record { file = file; slot = s; writer = w })));
   }) where
     one : (b : Bool) → length was + cond (not b) 1 0 ≡ different is_place (before ++ places) + cond b 0 1
-    one true = rw counts.count refl
-    one false = rw counts.count refl
+    one b = grind (arith, counts.count)
 
     itself : eqb file file ≡ true
     itself = grind (arith, nat_tests)
 
     either : (b c : Bool) → cond b true c ≡ (c || ((eqb file file && b) || false))
-    either true true = refl
-    either true false = rw itself refl
-    either false true = refl
-    either false false = rw itself refl
+    either b c = grind (arith, itself)
 
 -- ---- the slots of a map
 

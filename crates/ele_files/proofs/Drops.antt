@@ -29,9 +29,7 @@ module _ (s : Store) (id : ℕ) (files : List File) (rise : AllLater (λ (x y : 
 -- ---- the file's row goes
 
 neither : (a b : Bool) → (not a && not b) ≡ true → (a ≡ false) × (b ≡ false)
-neither true b h = absurd (false≢true h)
-neither false true h = absurd (false≢true h)
-neither false false h = (refl, refl)
+neither a b h = (grind (arith, h), grind (arith, h))
 
 some_item : {X : Type 0} (p : X → Bool) (xs : List X) (i : ℕ) → Some i ≡ position p xs → X
 some_item p [] i at = absurd cc

@@ -8,18 +8,11 @@ pub record IsLastRow (rows : List LogRow) (number now : ℕ) (row : LogRow) : Ty
   pub ended : update_last (ended_at now) rows ≡ update_first (is_numbered number) (ended_by now) rows
 
 not_some : (o : Option ℕ) (P : ℕ → Type 0) → o ≡ None → IsSomeAnd o P → ⊥
-not_some None P e h = h
-not_some (Some n) P e h = cc
+not_some o P e h = rw e at h
 
 pub last_row : (rows : List LogRow) (number now : ℕ) (row : LogRow) → AllLater Precedes rows → find (is_numbered number) rows ≡ Some row → row.ended ≡ None → IsLastRow rows number now row
 last_row [] number now row order found endless = absurd cc
-last_row (x ∷ []) number now row order found endless = elim (eqb x.number number) as (λ b. eqb x.number number ≡ b → IsLastRow (x ∷ []) number now row) [
-  | true ↦ λ e.
-      let h = rw e at found in
-      let is : x ≡ row = cc in
-      record { last = ap (λ r. Some r) is; ended = rw (e, is, endless) refl }
-  | false ↦ λ e. absurd (let h = rw e at found in cc)
-] refl
+last_row (x ∷ []) number now row order found endless = record { last = grind (arith, nat_tests, found); ended = grind (arith, nat_tests, found, endless) }
 last_row (x ∷ y ∷ rows) number now row order found endless = elim (eqb x.number number) as (λ b. eqb x.number number ≡ b → IsLastRow (x ∷ y ∷ rows) number now row) [
   | true ↦ λ e.
       let h = rw e at found in
@@ -36,15 +29,11 @@ can_end rows number now row past order found endless =
     rw is.last (record { no_end = endless; closed = (all-found (is_numbered number) (IsRowPast now) rows row found past).closed })
 
 pub no_end : (o : Option ℕ) → is_some o ≡ false → o ≡ None
-no_end None h = refl
-no_end (Some ended) h = absurd cc
+no_end o h = grind arith
 
 -- a row that has an end keeps it
 pub keeps_end : (now : ℕ) (row : LogRow) → is_some row.ended ≡ true → ended_by now row ≡ row
-keeps_end now row has = ap (λ o. record row { ended = o }) (by row.ended has) where
-  by : (o : Option ℕ) → is_some o ≡ true → Some (unwrap_or o now) ≡ o
-  by None h = absurd cc
-  by (Some ended) h = refl
+keeps_end now row has = grind (arith, has)
 
 module _ (next now : ℕ) (new : LogRow) (number : new.number ≡ next) (closed : new.closed ≡ now) where
   -- no row stands behind that before the next one
@@ -77,16 +66,10 @@ module _ (next now : ℕ) (new : LogRow) (number : new.number ≡ next) (closed 
 -- a file whose version before the next one ends
 module _ (f : File) (now : ℕ) (kept : IsFileKept f) (past : AllByRecursion (IsRowPast now) f.log.rows) where
   ended_in_time : (row : LogRow) → EndsInTime row × IsRowPast now row → EndsInTime (ended_by now row)
-  ended_in_time row h = by row.ended h.0 where
-    by : (o : Option ℕ) → IfSome o (λ ended. row.closed ≤ ended) → row.closed ≤ unwrap_or o now
-    by None ends = h.1.closed
-    by (Some ended) ends = ends
+  ended_in_time row h = let e = h.0 in let p = h.1.closed in grind (arith, e, p)
 
   ended_before : (x y : LogRow) → Precedes x y → Precedes (ended_by now x) y
-  ended_before x y h = record { number = h.number; ended = by x.ended h.ended } where
-    by : (o : Option ℕ) → IsSomeAnd o (λ ended. ended ≤ y.closed) → unwrap_or o now ≤ y.closed
-    by None ends = absurd ends
-    by (Some ended) ends = ends
+  ended_before x y h = record { number = h.number; ended = let e = h.ended in grind (arith, e) }
 
   pub of_rows : AllByRecursion (IsRowOf f.next) (ended_rows f now)
   of_rows = all-update_first (is_numbered (f.next - 1)) (IsRowOf f.next) (IsRowOf f.next) (ended_by now) f.log.rows (λ row h. record { first = h.first; number = h.number; open_end = λ endless. absurd cc }) (λ row h. h) kept.rows
@@ -109,10 +92,7 @@ module _ (f : File) (now : ℕ) (kept : IsFileKept f) (past : AllByRecursion (Is
     before_new = all_precede f.next now new refl refl f.log.rows kept.order.order kept.rows past
 
     ends_in_time : EndsInTime new
-    ends_in_time = by live where
-      by : (b : Bool) → IfSome (cond b None (Some now)) (λ ended. now ≤ ended)
-      by true = tt
-      by false = omega arith
+    ends_in_time = grind (arith, nat_tests)
 
     more : (row : LogRow) → IsRowOf f.next row × Precedes row new → IsRowOf (f.next + 1) row
     more row h = record {

@@ -65,10 +65,7 @@ others_stay number row (x ∷ rows) is later =
 
 filter_removes : (number : ℕ) (rows : List LogRow) → AllLater Precedes rows → filter (is_other number) rows ≡ remove_first (is_numbered number) rows
 filter_removes number [] order = refl
-filter_removes number (x ∷ rows) order = elim (eqb x.number number) as (λ b. eqb x.number number ≡ b → cond (not b) (x ∷ filter (is_other number) rows) (filter (is_other number) rows) ≡ cond b rows (x ∷ remove_first (is_numbered number) rows)) [
-  | true ↦ λ e. others_stay number x rows (grind (arith, nat_tests)) order.0
-  | false ↦ λ e. ap (λ xs. x ∷ xs) (filter_removes number rows order.1)
-] refl
+filter_removes number (x ∷ rows) order = grind (arith, nat_tests, others_stay number x rows, order.0, filter_removes number rows order.1)
 
 -- the file that a search reached
 pub record IsReached (files : List File) (id i : ℕ) (f : File) : Type 0 where

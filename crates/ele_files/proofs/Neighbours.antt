@@ -10,8 +10,7 @@ last-kept : {X : Type 0} (p : X → Bool) (xs : List X) → last (filter p xs) �
 last-kept p [] = refl
 last-kept {X} p (x ∷ xs) = by (last-kept p xs) (p x) where
   none : (o : Option X) → o ≡ option_or o None
-  none None = refl
-  none (Some y) = refl
+  none o = grind arith
 
   by : last (filter p xs) ≡ last_passing p xs → (b : Bool) → last (cond b (x ∷ filter p xs) (filter p xs)) ≡ option_or (last_passing p xs) (cond b (Some x) None)
   by rest true = ap (λ o. option_or o (Some x)) rest
@@ -47,5 +46,4 @@ module _ (s : Store) (files : List File) (a : AllSessions) (kept : Keeps s files
         ap (option_map (λ (row : VersionRow). row.closed)) (find_shown s files a kept file f found (is_newer_of file number) (is_after number) (λ row e. grind (arith, nat_tests)) (λ row. rw (own s files a kept file f found) refl))
         ∙ by (find (is_after number) f.log.rows) where
           by : (o : Option LogRow) → option_map (λ (row : VersionRow). row.closed) (option_map (row_in s f.id) o) ≡ option_map (λ (row : LogRow). row.closed) o
-          by None = refl
-          by (Some row) = refl
+          by o = grind arith

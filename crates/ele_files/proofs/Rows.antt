@@ -21,12 +21,10 @@ module _ (files : List File) (id : ℕ) where
   file_row-found = find-map file_row (is_file id) files
 
   pub policy-found : (o : Option File) → find (is_id id) files ≡ o → policy_of (map file_row files) id ≡ option_map (λ f. f.policy) o
-  policy-found None is = rw (file_row-found, is) refl
-  policy-found (Some x) is = rw (file_row-found, is) refl
+  policy-found o is = rw (file_row-found, is) (grind arith)
 
   pub next-found : (o : Option File) → find (is_id id) files ≡ o → next_of (map file_row files) id ≡ option_map_or (λ f. f.next) o 0
-  next-found None is = rw (file_row-found, is) refl
-  next-found (Some x) is = rw (file_row-found, is) refl
+  next-found o is = rw (file_row-found, is) (grind arith)
 
 pub its_id : (files : List File) (id : ℕ) (f : File) → find (is_id id) files ≡ Some f → f.id ≡ id
 its_id files id f found = let e = found_passes (is_id id) files f found in grind (arith, nat_tests)
@@ -40,10 +38,7 @@ pub tagged : (s : Store) (f : File) → AllByRecursion (λ row. file_of row ≡ 
 tagged s f = all-map (row_in s f.id) (λ row. row.file ≡ f.id) f.log.rows (all-any (λ row. f.id ≡ f.id) f.log.rows (λ row. refl))
 
 pub own_version : (file number : ℕ) (row : VersionRow) → is_version file number row ≡ true → row.file ≡ file
-own_version file number row h = elim (eqb row.file file) as (λ b. eqb row.file file ≡ b → row.file ≡ file) [
-  | true ↦ λ e. grind (arith, nat_tests)
-  | false ↦ λ e. absurd (false≢true (rw e at h))
-] refl
+own_version file number row h = grind (arith, nat_tests)
 
 -- a file's row is its version of that number
 pub same_number : (s : Store) (id file number : ℕ) → id ≡ file → (row : LogRow) → is_version file number (row_in s id row) ≡ is_numbered number row
@@ -117,8 +112,7 @@ module _ (p : Reads → Bool) (q : session.Reads → Bool) (same : (what : sessi
 pub left-shown : (hs : List OpenHandle) (number file : ℕ) → list_any (is_writer file) (remove_first (is_handle number) (map handle_in hs)) ≡ list_any (sessions.is_writer file) (remove_first (sessions.is_handle number) hs)
 left-shown hs number file = ap (list_any (is_writer file)) (remove_first-map handle_in (is_handle number) (sessions.is_handle number) (λ x. refl) hs) ∙ any-read (writes file) (sessions.writes file) same (remove_first (sessions.is_handle number) hs) where
   same : (what : session.Reads) → writes file (reads_in what) ≡ sessions.writes file what
-  same (session_reads.Draft other) = refl
-  same (session_reads.Version other n) = refl
+  same what = grind arith
 
 pub open-shown : (hs : List OpenHandle) (file number : ℕ) → is_open (map handle_in hs) file number ≡ list_any (sessions.is_reader file number) hs
 open-shown hs file number = any-read (reads_version file number) (sessions.reads_version file number) same hs where

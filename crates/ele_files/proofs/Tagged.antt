@@ -15,16 +15,13 @@ last-filter {X} p q (x ∷ xs) own = by (last-filter p q xs own) (q x) (p x) ref
   by rest false true e f = absurd (false≢true (sym e ∙ own x f))
   by rest false false e f = rest ∙ none (last_passing p xs) where
     none : (o : Option X) → o ≡ option_or o None
-    none None = refl
-    none (Some y) = refl
+    none o = grind arith
 
 pub last-map : {X Y : Type 0} (p : Y → Bool) (h : X → Y) (q : X → Bool) (xs : List X) → ((x : X) → p (h x) ≡ q x) → last_passing p (map h xs) ≡ option_map h (last_passing q xs)
 last-map p h q [] same = refl
 last-map p h q (x ∷ xs) same = rw (last-map p h q xs same, same x) (by (last_passing q xs) (q x)) where
   by : (o : Option _) (b : Bool) → option_or (option_map h o) (cond b (Some (h x)) None) ≡ option_map h (option_or o (cond b (Some x) None))
-  by None true = refl
-  by None false = refl
-  by (Some y) b = refl
+  by o b = grind arith
 
 -- ---- the world's look-ups, as those of the log
 
@@ -53,8 +50,7 @@ module _ (s : Store) (files : List File) (a : AllSessions) (kept : Keeps s files
       ap (option_map (λ (row : VersionRow). row.number)) (sym (last-filter p (is_version_of file) versions its) ∙ ap (last_passing p) own_rows ∙ last-map p (row_in s f.id) q f.log.rows same)
       ∙ by (last_passing q f.log.rows) where
         by : (o : Option LogRow) → option_map (λ (row : VersionRow). row.number) (option_map (row_in s f.id) o) ≡ option_map (λ (row : LogRow). row.number) o
-        by None = refl
-        by (Some row) = refl
+        by o = grind arith
 
   told : (q r : LogRow → Bool) (o : Option LogRow) → find q f.log.rows ≡ o
       → result_map_both stamps_of (λ (refusal : Refusal). refusal) (held_or_forgotten (option_map (row_in s f.id) o) (option_map (λ (row : LogRow). row.number) (last_passing r f.log.rows))) ≡ told_or_forgotten o (last_passing r f.log.rows)
@@ -84,8 +80,7 @@ module _ (s : Store) (files : List File) (a : AllSessions) (kept : Keeps s files
   meant_shown (tag.At moment) = living_shown moment
   meant_shown (tag.Number number) = rw (next-found files file (Some f) found) (by (nat_lt 0 number && nat_lt number f.next)) where
     by : (b : Bool) → result_map_both stamps_of (λ (refusal : Refusal). refusal) (cond b (version_numbered versions file number) (Err NoVersion)) ≡ cond b (row_numbered f number) (Err NoVersion)
-    by true = numbered_shown number
-    by false = refl
+    by b = grind (arith, numbered_shown number)
 
   -- what is told of each
   pub list_shown : map stamps_of (filter (is_version_of file) versions) ≡ map stamps_in f.log.rows
@@ -106,9 +101,7 @@ none_lived s files a kept file moment none =
 
 -- what was told is what was found
 pub told_found : (found before : Option LogRow) (stamps : Stamps) → told_or_forgotten found before ≡ Ok stamps → option_map stamps_in found ≡ Some stamps
-told_found None before stamps is = absurd cc
-told_found (Some row) before stamps is = cc
+told_found found before stamps is = grind (arith, is)
 
 pub forgotten_none : (found before : Option LogRow) (refusal : Refusal) → told_or_forgotten found before ≡ Err refusal → option_map stamps_in found ≡ None
-forgotten_none None before refusal is = refl
-forgotten_none (Some row) before refusal is = absurd cc
+forgotten_none found before refusal is = grind (arith, is)
