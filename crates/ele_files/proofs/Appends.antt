@@ -50,11 +50,7 @@ module _ (s : Store) (files : List File) (id : ℕ) (f g : File) (found : find (
   }
 
   row_later : (n : ℕ) → n < f.next → (ltb id f.id || (eqb f.id id && ltb f.next n)) ≡ false
-  row_later n lt =
-      let a : ltb id f.id ≡ false = grind (arith, nat_tests, is) in
-      let b : ltb f.next n ≡ false = grind (arith, nat_tests) in
-      let e : eqb f.id id ≡ true = grind (arith, nat_tests, is) in
-      rw (a, e, b) refl
+  row_later n lt = grind (arith, nat_tests, is)
 
   none_later : AllByRecursion (λ row. is_version_after id f.next row ≡ false) (map (row_in s f.id) (ended_rows f now))
   none_later = all-map (row_in s f.id) (λ row. is_version_after id f.next row ≡ false) (ended_rows f now) (all-weaker (IsRowOf f.next) (λ row. is_version_after id f.next (row_in s f.id row) ≡ false) (ended_rows f now) (λ row h. row_later row.number h.number) (of_rows f now its_kept past))
@@ -115,10 +111,7 @@ module _ (s : Store) (files : List File) (a : AllSessions) (kept : Keeps s files
 
   -- no draft is of the file
   undrafted : AllByRecursion (λ d. d.file ≢ f.id) a.drafts
-  undrafted = all-weaker (IsDraftKept files) (λ d. d.file ≢ f.id) a.drafts (λ d k same.
-      let zero : next_of (map file_row files) f.id ≡ 0 = next-found files f.id None (not_found (is_id f.id) files others) in
-      let number : d.number ≡ next_of (map file_row files) f.id = k.number ∙ ap (next_of (map file_row files)) same in
-      omega (arith, k.there, number, zero)) kept.drafts_kept
+  undrafted = grind (arith, nat_tests, all-weaker, next-found, not_found, others)
 
   placed : after (files ++ f ∷ []) f.id f x found ≡ files ++ x ∷ []
   placed = update_first-at (is_id f.id) (over x) files f [] others (grind (arith, nat_tests)) ∙ ap (λ g. files ++ g ∷ []) (sym (rw (appended.id, appended.policy) refl))

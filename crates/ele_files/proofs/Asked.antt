@@ -1,5 +1,5 @@
 -- What is answered of versions, drafts and handles, as the rows show it.
-use Rattle.ele_files.proofs.Words.{AllSessions, Bool, Bor, Draft, DraftRow, File, Held, Keeps, Layout, List, LivesIn, LogRow, None, Option, Some, Store, [], ap, arith, cells_of_draft, cells_of_version, cond, content_of, draft_in, false, file_row, find, flat_map, held_in, is_id, is_numbered, is_some, is_version, length, list_any, map, next_of, option_copied, option_map, option_map_or, refl, rows_in, shown, stamps_in, stamps_of, sym, true, ℕ, ◌<◌, ◌||◌, ◌∙◌, ◌∷◌, ◌≡◌}
+use Rattle.ele_files.proofs.Words.{AllSessions, Bool, Bor, Draft, DraftRow, File, Held, Keeps, Layout, List, LivesIn, LogRow, None, Option, Some, Store, [], ap, arith, cells_of_draft, cells_of_version, content_of, draft_in, file_row, find, flat_map, held_in, is_id, is_numbered, is_some, is_version, length, list_any, map, nat_tests, next_of, option_copied, option_map, option_map_or, refl, rows_in, shown, stamps_in, stamps_of, sym, ℕ, ◌<◌, ◌∙◌, ◌∷◌, ◌≡◌}
 use Rattle.ele_files.proofs.Stock.{draft_lives, row_lives}
 use Rattle.ele_files.proofs.Rows.{next-found, version-of, version-none, draft-found, any-draft}
 use Rattle.ele_sessions.specs.Sessions as sessions
@@ -40,8 +40,7 @@ no_file files file none there = let zero = next-found files file None none in om
 
 -- the draft of a file
 copied : (o : Option (Bor Layout)) → is_some (option_copied o) ≡ is_some o
-copied None = refl
-copied (Some m) = refl
+copied x0 = grind (arith, nat_tests)
 
 module _ (s : Store) (files : List File) (ss : AllSessions) (file : ℕ) where
   pub drafted : (o : Option (Bor Layout)) → option_copied o ≡ option_map (λ (d : Draft). d.layout) (sessions.draft_of ss file) → is_some o ≡ list_any (is_draft file) (map (draft_in s) ss.drafts)
@@ -59,11 +58,4 @@ pub record IsDraftOf (s : Store) (h : Held) (file : ℕ) (o : Option Layout) : T
 pub draft_shown : (s : Store) (files : List File) (ss : AllSessions) (kept : Keeps s files ss) (file : ℕ) (o : Option Layout) → o ≡ option_map (λ (d : Draft). d.layout) (sessions.draft_of ss file) → IsDraftOf s (held_in s files ss) file o
 draft_shown s files ss kept file o is = rw is (by (sessions.draft_of ss file) refl) where
   by : (d : Option Draft) → sessions.draft_of ss file ≡ d → IsDraftOf s (held_in s files ss) file (option_map (λ (d : Draft). d.layout) d)
-  by None none = record { lives = λ m h. absurd cc; cells = rw (draft-found s file ss.drafts, none) refl; long = rw (draft-found s file ss.drafts, none) refl }
-  by (Some d) found =
-      let lives = draft_lives s files ss kept file d found in
-      record {
-        lives = λ m h. let same : d.layout ≡ m = cc in rw (← same) lives;
-        cells = rw (draft-found s file ss.drafts, found) refl;
-        long = rw (draft-found s file ss.drafts, found) (ap (λ n. Some n) (kept.laws.long s d.layout lives));
-      }
+  by x0 none = grind (arith, nat_tests, draft-found, draft_lives)

@@ -1,5 +1,5 @@
 -- What goes with a handle, and what the last writer of a changed draft leaves.
-use Rattle.ele_files.proofs.Words.{AllByRecursion, AllSessions, Became, Bool, Draft, EndDraft, Err, File, HasAppended, Held, HeldRows, IsDraftKept, IsGivenUp, IsPast, Keeps, Layout, List, LivesIn, None, Ok, OnErr, Option, Reads, Result, Rises, ShutHandle, Some, Store, [], after_changes, all-found, all-not_found, all-remove_first, ap, arith, cells_of_draft, changed_at, changed_opening, closed, closed_of, closing, closing_of, cond, draft_in, draft_stock, false, file_by, file_closing, file_row, find, finishing, get_or, handle_in, held_in, is_draft, is_id, is_some, is_writer, last_draft, leaving, left_by, left_drafts, left_handles, left_of, list_any, map, next_of, next_row, opening_by, opening_of, option_and_then, option_map, position, refl, remove_first, remove_first-map, remove_first-unfound, result_ok, row_stock, rows_of, set, stock_of, sym, true, with_rows, ℕ, ◌∙◌, ◌∷◌, ◌≡◌}
+use Rattle.ele_files.proofs.Words.{AllByRecursion, AllSessions, Became, Bool, Draft, EndDraft, File, HasAppended, Held, HeldRows, IsDraftKept, IsGivenUp, IsPast, Keeps, Layout, List, LivesIn, None, Ok, OnErr, Option, Reads, Result, Rises, ShutHandle, Some, Store, [], after_changes, all-found, all-not_found, all-remove_first, ap, arith, cells_of_draft, changed_at, changed_opening, closed, closed_of, closing, closing_of, cond, draft_in, draft_stock, false, file_by, file_closing, file_row, find, finishing, get_or, handle_in, held_in, is_draft, is_id, is_some, is_writer, last_draft, leaving, left_by, left_drafts, left_handles, left_of, list_any, map, nat_tests, next_of, next_row, opening_by, opening_of, option_and_then, option_map, position, refl, remove_first, remove_first-map, remove_first-unfound, result_ok, row_stock, rows_of, set, stock_of, sym, true, with_rows, ℕ, ◌∙◌, ◌∷◌, ◌≡◌}
 use Rattle.ele_files.proofs.Drafts.{same_drafts, dropped, drafts_apart, its_file}
 use Rattle.ele_files.proofs.Looks.{IsSeen}
 use Rattle.ele_files.proofs.Rows.{draft-found, handle_file-shown, reads_by-shown, reads_of, left-shown, no-file, next-found, its_id, file_past}
@@ -33,16 +33,10 @@ module _ (s : Store) (files : List File) (ss : AllSessions) (handle : ℕ) where
   pub opening_shown : opening_of (option_map (λ answer. answer.0) (closing ss handle)) ≡ opening_by shown handle
   opening_shown = rw (handle_file-shown ss.handles handle) (by (sessions.reads_by ss.handles handle)) where
     ends : (b : Bool) (o : Option Draft) → opening_of (Some (file_closing b o).0) ≡ changed_opening (cond b None (option_map (draft_in s) o))
-    ends true o = refl
-    ends false None = refl
-    ends false (Some d) = of_change d.changed d refl where
-      of_change : (c : Bool) (d : Draft) → d.changed ≡ c → opening_of (Some (file_closing false (Some d)).0) ≡ changed_opening (Some (draft_in s d))
-      of_change c d e = grind (arith, e)
+    ends x0 o = grind (arith, nat_tests)
 
     by : (o : Option Reads) → opening_of (option_map (λ answer. answer.0) (closing_of ss handle o)) ≡ option_and_then (λ file. changed_opening (last_draft shown handle file)) (result_ok (sessions.file_written o))
-    by None = refl
-    by (Some (reads.Version file version)) = refl
-    by (Some (reads.Draft file)) = rw (last_shown file) (ends (list_any (is_writer file) (left_handles ss handle)) (find (is_draft file) ss.drafts))
+    by x0 = grind (arith, nat_tests, last_shown, ends)
 
   -- ---- the handle is left
 
@@ -50,9 +44,7 @@ module _ (s : Store) (files : List File) (ss : AllSessions) (handle : ℕ) where
     pub given_lives : (m : Layout) → given ss handle ≡ Some m → LivesIn s m
     given_lives m = by (sessions.reads_by ss.handles handle) where
       ends : (file : ℕ) (b : Bool) (o : Option Draft) → find (is_draft file) ss.drafts ≡ o → (file_closing b o).1 ≡ Some m → LivesIn s m
-      ends file true o found is = absurd cc
-      ends file false None found is = absurd cc
-      ends file false (Some d) found is = let same : d.layout ≡ m = cc in rw (← same) (draft_lives s files ss kept file d found)
+      ends file x1 o found is = grind (arith, nat_tests, draft_lives)
 
       by : (o : Option Reads) → option_and_then (λ answer. answer.1) (closing_of ss handle o) ≡ Some m → LivesIn s m
       by None is = absurd cc
@@ -110,23 +102,13 @@ module _ (s : Store) (files : List File) (ss : AllSessions) (handle file opened 
         of_file = sym (handle_file-shown ss.handles handle) ∙ ap result_ok writes
 
         of_draft : sessions.reads_by ss.handles handle ≡ Some (reads.Draft file)
-        of_draft = of_reads (sessions.reads_by ss.handles handle) of_file where
-          of_reads : (o : Option Reads) → result_ok (sessions.file_written o) ≡ Some file → o ≡ Some (reads.Draft file)
-          of_reads o is = grind (arith, is)
+        of_draft = grind (arith, nat_tests, of_file)
 
         then : (d : Draft) (c : Bool) → cond c (Some d.opened) None ≡ Some opened → d.opened ≡ opened
         then d c is = grind (arith, is)
 
         by : (b : Bool) (o : Option Draft) → list_any (is_writer file) (left_handles ss handle) ≡ b → find (is_draft file) ss.drafts ≡ o → changed_opening (cond b None (option_map (draft_in s) o)) ≡ Some opened → IsLast ss handle file opened
-        by true o alone found is = absurd cc
-        by false None alone found is = absurd cc
-        by false (Some d) alone found is = record {
-          draft = d;
-          found = found;
-          its_opening = then d d.changed is;
-          out = ap (λ o. option_and_then (λ a. a.1) (closing_of ss handle o)) of_draft ∙ rw (alone, found) refl;
-          left = ap (closed_of ss handle) of_draft ∙ rw alone refl;
-        }
+        by x0 o alone found is = grind (arith, nat_tests, then, of_draft)
 
   abbrev d : Draft
   d = is_last.draft
@@ -188,5 +170,4 @@ module _ (s : Store) (files : List File) (ss : AllSessions) (handle file opened 
       finished rise = record { keeps = keeps_it rise; number = sym next_is; shows = shows_it }
 
 pub on_err : {T E : Type 0} (r : Result T E) (P : Type 0) → P → OnErr r P
-on_err (Ok x) P p = tt
-on_err (Err e) P p = p
+on_err x0 x1 p = grind (arith, nat_tests)

@@ -1,5 +1,5 @@
 -- How far a copy of rows has come.
-use Rattle.ele_files.proofs.Words.{AllByRecursion, AllLater, Bool, Cell, Draft, DraftRow, File, IsFileKept, IsRowOf, Layout, List, LivesIn, LogRow, None, Option, Precedes, Slot, Some, Stamps, StockLaws, Store, [], all-got, all-weaker, ap, append-nil, append_assoc, arith, bytes_at, cell_by, cell_of, draft_in, eqb, false, filter, filter-all, find, flat_map, flat_map-append, found_passes, get_or, get_or_from_slice_get, is_after, later-weaker, length, map, map-append, nat_tests, option_map, owners_at, refl, row_in, shown, slice_get, slice_get_within, slots_of, stamps_in, subst, suc, sym, take, take_all, take_more, true, zero, ℕ, ◌++◌, ◌+◌, ◌<◌, ◌∙◌, ◌∷◌, ◌≡◌, ◌≤◌}
+use Rattle.ele_files.proofs.Words.{AllByRecursion, AllLater, Bool, Cell, Draft, DraftRow, File, IsFileKept, IsRowOf, Layout, List, LivesIn, LogRow, None, Option, Precedes, Slot, Some, Stamps, StockLaws, Store, [], all-got, all-weaker, ap, append-nil, append_assoc, arith, bytes_at, cell_by, cell_of, draft_in, eqb, filter, filter-all, find, flat_map, flat_map-append, found_passes, get_or, get_or_from_slice_get, is_after, later-weaker, length, map, map-append, nat_tests, option_map, owners_at, row_in, shown, slice_get, slice_get_within, slots_of, stamps_in, subst, suc, sym, take, take_all, take_more, true, zero, ℕ, ◌++◌, ◌+◌, ◌<◌, ◌∙◌, ◌∷◌, ◌≡◌, ◌≤◌}
 use Rattle.ele_sessions.specs.Sessions as sessions
 use Rattle.ele_world.specs.declared.rows.VersionRow as world
 
@@ -28,10 +28,7 @@ module _ {X : Type 0} where
   pub found-got : (key : X → ℕ) (xs : List X) (i : ℕ) (x : X) → AllLater (λ y z. key y < key z) xs → slice_get xs i ≡ Some x → find (λ y. eqb (key y) (key x)) xs ≡ Some x
   found-got key [] i x rise h = absurd cc
   found-got key (y ∷ ys) zero x rise h = grind (arith, nat_tests, h)
-  found-got key (y ∷ ys) (suc i) x rise h =
-      let lt : key y < key x = all-got (λ z. key y < key z) ys i x rise.0 h in
-      let fails : eqb (key y) (key x) ≡ false = grind (arith, nat_tests) in
-      rw fails (found-got key ys i x rise.1 h)
+  found-got key (y ∷ ys) (suc i) x rise h = grind (arith, nat_tests, all-got, found-got key ys i x rise.1 h)
 
 -- what an option's element shows
 module _ {X Y : Type 0} (g : X → Y) (o : Option X) where
@@ -39,10 +36,7 @@ module _ {X Y : Type 0} (g : X → Y) (o : Option X) where
   shown-none h = grind (arith, h)
 
   pub shown-some : (y : Y) → Some y ≡ option_map g o → (x : X) × (o ≡ Some x) × (g x ≡ y)
-  shown-some y h = by o refl where
-    by : (a : Option X) → o ≡ a → (x : X) × (o ≡ Some x) × (g x ≡ y)
-    by None e = absurd (let h' = rw e at h in cc)
-    by (Some x) e = (x, e, let h' = rw e at h in cc)
+  shown-some y h = grind (arith, nat_tests)
 
 -- the rows that are left behind one that was found
 all-after : (behind : ℕ) (x : LogRow) (xs : List LogRow) → behind ≤ x.number → AllByRecursion (λ (y : LogRow). x.number < y.number) xs → filter (is_after behind) xs ≡ xs
@@ -61,9 +55,7 @@ module _ (laws : StockLaws) (s : Store) (m : Layout) (lives : LivesIn s m) (k : 
   slot = shown-some (λ (x : Slot). (x.writer, x.block)) (slice_get (slots_of s m) k) cell got
 
   pub cell-owned : 0 < owners_at s cell.1
-  cell-owned =
-      let owned : 0 < owners_at s slot.0.block = laws.owned s m k slot.0 lives slot.1 in
-      rw (ap (λ (c : ℕ × ℕ). c.1) slot.2) at owned
+  cell-owned = grind (arith, nat_tests)
 
   pub cell-next : (bytes : List ℕ) → bytes ≡ bytes_at s cell.1 → map (cell_of s) (take (k + 1) (slots_of s m)) ≡ map (cell_of s) (take k (slots_of s m)) ++ record { writer = cell.0; bytes = bytes } ∷ []
   cell-next bytes is =

@@ -1,5 +1,5 @@
 -- The places of a file's maps, counted by the slots that were met.
-use Rattle.ele_files.proofs.Words.{AllByRecursion, AllLater, AllSessions, Bool, Cell, Counts, Draft, DraftRow, File, IsFileKept, Keeps, Layout, List, LivesIn, LogRow, Meets, None, Option, Place, Slot, Some, StockLaws, Store, Usage, VersionRow, [], all-found, all-weaker, ap, append-nil, append_assoc, arith, bytes_at, bytes_in, cell_of, cond, content_of, different, draft_in, draft_of, eqb, false, file_usage, filter, filter-buckets, find, flat_map, flat_map_single, found_passes, is_among, is_id, is_key, is_place, is_version_of, length, length-map, length-split, length-take-le, list_any, list_any-append, log_bytes, log_places, map, nat_tests, not, option_map, option_map_or, places, places_from, refl, row_in, rows_in, shown, slice_get, slots_of, subst, sum-map, sum_by-cons, sum_by-map, sum_by-same, sym, take, true, ℕ, ◌&&◌, ◌*◌, ◌++◌, ◌+◌, ◌<◌, ◌^◌, ◌||◌, ◌∙◌, ◌∷◌, ◌≡◌, ◌≤◌}
+use Rattle.ele_files.proofs.Words.{AllByRecursion, AllLater, AllSessions, Bool, Cell, Counts, Draft, DraftRow, File, IsFileKept, Keeps, Layout, List, LivesIn, LogRow, Meets, None, Option, Place, Slot, Some, StockLaws, Store, Usage, VersionRow, [], all-found, all-weaker, ap, append-nil, append_assoc, arith, bytes_at, bytes_in, cell_of, cond, different, draft_in, draft_of, eqb, false, file_usage, filter, filter-buckets, find, flat_map, flat_map_single, found_passes, is_among, is_id, is_key, is_place, is_version_of, length, length-map, length-split, length-take-le, list_any, list_any-append, log_bytes, log_places, map, nat_tests, not, option_map, option_map_or, places, places_from, refl, row_in, rows_in, shown, slice_get, slots_of, subst, sum-map, sum_by-cons, sum_by-map, sum_by-same, sym, take, true, ℕ, ◌&&◌, ◌*◌, ◌++◌, ◌+◌, ◌<◌, ◌^◌, ◌||◌, ◌∙◌, ◌∷◌, ◌≡◌, ◌≤◌}
 use Rattle.ele_files.proofs.Copies.{cell-next}
 use Rattle.ele_files.proofs.Rows.{its_id}
 use Rattle.ele_files.proofs.Stock.{logs_live}
@@ -13,9 +13,7 @@ same_place : (x y : Place) → is_place x y ≡ true → (x.file ≡ y.file) × 
 same_place x y h = (grind (arith, nat_tests), grind (arith, nat_tests), grind (arith, nat_tests))
 
 is_same : (x y : Place) → is_place x y ≡ true → x ≡ y
-is_same x y h =
-    let same = same_place x y h in
-    rw (same.0, same.1, same.2) refl
+is_same x y h = grind (arith, nat_tests, same_place)
 
 turned : (x y : Place) → is_place x y ≡ is_place y x
 turned x y = grind (arith, nat_tests)
@@ -23,13 +21,7 @@ turned x y = grind (arith, nat_tests)
 -- a place behind others counts unless it is one of them
 different-push : (places : List Place) (place : Place) → different is_place (places ++ place ∷ []) ≡ different is_place places + cond (is_among places place) 0 1
 different-push [] place = refl
-different-push (x ∷ xs) place =
-    rw (list_any-append (λ y. is_place y x) xs (place ∷ []), different-push xs place, turned x place) (by (is_place place x) (is_among xs x) (is_among xs place) alike) where
-      alike : is_place place x ≡ true → is_among xs place ≡ is_among xs x
-      alike h = ap (is_among xs) (is_same place x h)
-
-      by : (b c d : Bool) → (b ≡ true → d ≡ c) → cond (c || (b || false)) 0 1 + (different is_place xs + cond d 0 1) ≡ cond c 0 1 + different is_place xs + cond (b || d) 0 1
-      by b c d same = grind (arith, same)
+different-push (x ∷ xs) place = grind (arith, nat_tests, list_any-append, turned, is_same, different-push xs place)
 
 -- ---- one slot more
 
@@ -64,12 +56,8 @@ pub meets_then : (file : ℕ) (was then now : List (ℕ × ℕ)) (places more : 
 meets_then file was then now places more first second before counts = subst (Counts file now) (append_assoc before places more) (second (before ++ places) (first before counts))
 
 places_from-push : (file first : ℕ) (cells : List Cell) (cell : Cell) → places_from file first (cells ++ cell ∷ []) ≡ places_from file first cells ++ record { file = file; slot = first + length cells; writer = cell.writer } ∷ []
-places_from-push file first [] cell =
-    let at : first ≡ first + 0 = omega arith in
-    ap (λ n. record { file = file; slot = n; writer = cell.writer } ∷ []) at
-places_from-push file first (c ∷ cells) cell =
-    let at : first + 1 + length cells ≡ first + length (c ∷ cells) = omega arith in
-    ap (λ ps. record { file = file; slot = first; writer = c.writer } ∷ ps) (places_from-push file (first + 1) cells cell ∙ ap (λ n. places_from file (first + 1) cells ++ record { file = file; slot = n; writer = cell.writer } ∷ []) at)
+places_from-push file first [] cell = grind (arith, nat_tests)
+places_from-push file first (c ∷ cells) cell = grind (arith, nat_tests, places_from-push file (first + 1) cells cell)
 
 module _ (laws : StockLaws) (s : Store) (m : Layout) (lives : LivesIn s m) (k : ℕ) (cell : ℕ × ℕ) (got : Some cell ≡ option_map (λ (x : Slot). (x.writer, x.block)) (slice_get (slots_of s m) k)) (within : k ≤ length (slots_of s m)) (file : ℕ) where
   abbrev so_far : List Cell
@@ -91,10 +79,7 @@ bytes_few laws s [] lives = omega arith
 bytes_few laws s (row ∷ rows) lives = omega (arith, sum_by-cons (λ (r : LogRow). r.cells.size) row rows, laws.short s row.cells lives.0, bytes_few laws s rows lives.1)
 
 pub bytes_shown : StockLaws → (s : Store) (file : ℕ) (rows : List LogRow) → LogLives s rows → log_bytes rows ≡ bytes_in (map (row_in s file) rows)
-bytes_shown laws s file rows lives =
-    let bytes : VersionRow → ℕ = λ row. length (content_of row.cells) in
-    sum_by-same (λ (row : LogRow). row.cells.size) (λ row. bytes (row_in s file row)) rows (all-weaker (λ (row : LogRow). LivesIn s row.cells) (λ row. row.cells.size ≡ bytes (row_in s file row)) rows (λ row lives. sym (laws.long s row.cells lives)) lives)
-    ∙ sym (sum_by-map bytes (row_in s file) rows) ∙ sym (sum-map bytes (map (row_in s file) rows))
+bytes_shown laws s file rows lives = grind (arith, nat_tests, sum_by-same, all-weaker, sum_by-map, sum-map)
 
 pub places_shown : (s : Store) (file : ℕ) (rows : List LogRow) → log_places s rows file ≡ flat_map (λ (row : VersionRow). places_from row.file 0 row.cells) (map (row_in s file) rows)
 places_shown s file [] = refl

@@ -1,5 +1,5 @@
 -- A draft goes, or gets another map by a write or a truncate.
-use Rattle.ele_files.proofs.Words.{AllByRecursion, AllLater, AllSessions, AreOrderly, Bool, Draft, DraftRow, Err, File, Held, IsDraftKept, IsEarlier, IsFileKept, IsResized, IsRowOf, IsSomeAnd, Keeps, Layout, List, LivesIn, MatchBool, Moves, None, Ok, OnErr, OnOk, Option, Renews, Result, Rewrites, RewritesDraft, Rises, ShowsSame, Some, Stays, Store, Truncates, Writes, [], all-append, all-both, all-flat_map, all-found, all-left, all-map, all-remove_first, all-right, all-update_first, all-weaker, ap, arith, changed_by, cond, content_of, draft_by, draft_for, draft_in, draft_stock, eqb, false, false≢true, file_row, file_stock, find, fitted, fitted_by, fitted_of, flat_map, found_passes, handle_file, has_length, held_in, is_draft, is_file, length, longest_content, map, nat_tests, next_of, option_map, option_map_or, refl, remove_first, remove_first-map, rewritten_by, row_stock, shown, stock_of, sym, true, update_first, update_first-same, written_by, written_of, ℕ, ◌<◌, ◌∙◌, ◌∷◌, ◌≡◌, ◌≢◌, ◌≤◌}
+use Rattle.ele_files.proofs.Words.{AllByRecursion, AllLater, AllSessions, AreOrderly, Bool, Draft, DraftRow, File, Held, IsDraftKept, IsEarlier, IsFileKept, IsResized, IsRowOf, IsSomeAnd, Keeps, Layout, List, LivesIn, MatchBool, Moves, None, OnErr, OnOk, Option, Renews, Result, Rewrites, RewritesDraft, Rises, ShowsSame, Some, Stays, Store, Truncates, Writes, [], all-append, all-both, all-flat_map, all-found, all-left, all-map, all-remove_first, all-right, all-update_first, all-weaker, ap, arith, changed_by, cond, content_of, draft_by, draft_for, draft_in, draft_stock, eqb, false, false≢true, file_row, file_stock, find, fitted, fitted_by, fitted_of, flat_map, found_passes, handle_file, has_length, held_in, is_draft, is_file, length, longest_content, map, nat_tests, next_of, option_map, option_map_or, refl, remove_first, remove_first-map, rewritten_by, row_stock, shown, stock_of, sym, true, update_first, update_first-same, written_by, written_of, ℕ, ◌<◌, ◌∙◌, ◌∷◌, ◌≡◌, ◌≢◌, ◌≤◌}
 use Rattle.ele_files.proofs.Looks.{IsSeen, held_stays, versions_same}
 use Rattle.ele_files.proofs.Stock.{draft_apart, draft_changed, draft_lives}
 use Rattle.ele_files.proofs.Rows.{handle_file-shown, draft-found}
@@ -89,20 +89,14 @@ module _ (s t : Store) (files : List File) (a b : AllSessions) (kept : Keeps s f
 
       seen : (ds : List Draft) → find (is_draft file) ds ≡ Some d → AllByRecursion (ShowsSame s t) (map draft_stock (remove_first (is_draft file) ds)) → map (draft_in t) (update_first (is_draft file) (rewritten_by now) ds) ≡ update_first (world.is_draft file) change (map (draft_in s) ds)
       seen [] h all = absurd cc
-      seen (x ∷ ds) h all = by (is_draft file x) refl (seen ds) where
-        by : (v : Bool) → is_draft file x ≡ v → (find (is_draft file) ds ≡ Some d → AllByRecursion (ShowsSame s t) (map draft_stock (remove_first (is_draft file) ds)) → map (draft_in t) (update_first (is_draft file) (rewritten_by now) ds) ≡ update_first (world.is_draft file) change (map (draft_in s) ds)) → map (draft_in t) (cond v (rewritten_by now x ∷ ds) (x ∷ update_first (is_draft file) (rewritten_by now) ds)) ≡ cond v (change (draft_in s x) ∷ map (draft_in s) ds) (draft_in s x ∷ update_first (world.is_draft file) change (map (draft_in s) ds))
-        by true e more = let h' = rw e at h in let same : x ≡ d = cc in rw (same, changed, beside ds (rw e at all)) refl
-        by false e more = let all' : AllByRecursion (ShowsSame s t) (map draft_stock (x ∷ remove_first (is_draft file) ds)) = rw e at all in rw (all'.0.same, more (rw e at h) all'.1) refl
+      seen (x ∷ ds) h all = grind (arith, nat_tests, changed, beside, seen ds)
 
 -- ---- a write or a truncate through a handle
 
 module _ (s : Store) (files : List File) (a : AllSessions) (kept : Keeps s files a) where
   -- the draft that is written through the handle lives in the store
   pub draft_by_lives : (handle : ℕ) (d : Draft) → draft_by a handle ≡ Some d → LivesIn s d.layout
-  draft_by_lives handle d = of_file (handle_file a.handles handle) where
-    of_file : (o : Option ℕ) → draft_for a o ≡ Some d → LivesIn s d.layout
-    of_file None e = absurd cc
-    of_file (Some file) e = draft_lives s files a kept file d e
+  draft_by_lives handle d = grind (arith, nat_tests, draft_lives)
 
   abbrev rows : Held
   rows = held_in s files a
@@ -114,11 +108,7 @@ module _ (s : Store) (files : List File) (a : AllSessions) (kept : Keeps s files
   pub length_seen : (handle size : ℕ) → held.has_length rows handle size ≡ true → (has_length size (draft_by a handle) ≡ true) × (size ≤ longest_content)
   length_seen handle size has = of_file (handle_file a.handles handle) (rw (handle_file-shown a.handles handle) at has) where
     of_draft : (file : ℕ) (o : Option Draft) → find (is_draft file) a.drafts ≡ o → option_map_or (λ row. eqb (length (content_of row.cells)) size) (option_map (draft_in s) o) false ≡ true → (has_length size o ≡ true) × (size ≤ longest_content)
-    of_draft file None found e = absurd (false≢true e)
-    of_draft file (Some d) found e =
-        let long : eqb d.layout.size size ≡ true = rw (length_is file size d found) at e in
-        let is : d.layout.size ≡ size = grind (arith, nat_tests) in
-        (long, omega (arith, is, kept.laws.short s d.layout (draft_lives s files a kept file d found)))
+    of_draft file x1 found e = grind (arith, nat_tests, false≢true, length_is, draft_lives)
 
     of_file : (o : Option ℕ) → held.has_length_of rows o size ≡ true → (has_length size (draft_for a o) ≡ true) × (size ≤ longest_content)
     of_file None e = absurd (false≢true e)
@@ -177,8 +167,7 @@ module _ (s : Store) (files : List File) (a : AllSessions) (kept : Keeps s files
     -- whatever the call answers
     module _ {T E : Type 0} where
       answered : (r : Result T E) (P : Type 0) (h : Held) → (P → IsSeen t files b h) → OnOk r P → OnErr r (session.Stays s t a b) → Keeps t files b × OnOk r (held_in t files b ≡ h)
-      answered (Ok x) P h seen done left = ((seen done).keeps, (seen done).shows)
-      answered (Err e) P h seen done left = ((stays left).keeps, tt)
+      answered x0 x1 h seen done left = grind (arith, nat_tests, stays)
 
       pub wrote : (handle offset : ℕ) (bytes : List ℕ) (r : Result T E) → OnOk r (Writes s t a b handle offset bytes) → OnErr r (session.Stays s t a b) → Keeps t files b × OnOk r (held_in t files b ≡ written_by rows handle offset bytes)
       wrote handle offset bytes r = answered r (Writes s t a b handle offset bytes) (written_by rows handle offset bytes) (written handle offset bytes)

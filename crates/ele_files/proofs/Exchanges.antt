@@ -1,5 +1,5 @@
 -- One file has other rows: as many, or one fewer.
-use Rattle.ele_files.proofs.Words.{AllByRecursion, AllLater, AllSessions, Bool, Draft, EndsInTime, File, FileRow, HeldRows, IsDraftKept, IsFileKept, IsRowOf, Keeps, List, LivesIn, LogRow, Moves, None, Precedes, Some, Stays, Store, VersionRow, [], all-found, all-not_found, all-remove_first, all-update_first, all-weaker, ap, arith, bucket_changes, cond, content_of, eqb, false, file_row, filter, find, find-cut, flat_map, get_or, held_in, is_file, is_id, is_numbered, is_other, is_version, later-remove_first, later-update_first, length, local-remove_first, map, nat_tests, not, option_map, position, refl, remove_first, remove_first-map, remove_first-unfound, row_in, row_stock, rows_in, set, set-first, stock_of, sym, true, update_first, update_first-at, update_first-map, update_first-same, without, ℕ, ◌++◌, ◌<◌, ◌∙◌, ◌∷◌, ◌≡◌}
+use Rattle.ele_files.proofs.Words.{AllByRecursion, AllLater, AllSessions, Bool, Draft, EndsInTime, File, FileRow, HeldRows, IsDraftKept, IsFileKept, IsRowOf, Keeps, List, LivesIn, LogRow, Moves, None, Precedes, Some, Stays, Store, VersionRow, [], all-found, all-not_found, all-remove_first, all-update_first, all-weaker, ap, arith, bucket_changes, content_of, file_row, filter, find, find-cut, flat_map, get_or, held_in, is_file, is_id, is_numbered, is_other, is_version, later-remove_first, later-update_first, length, local-remove_first, map, nat_tests, option_map, position, refl, remove_first, remove_first-map, remove_first-unfound, row_in, row_stock, rows_in, set, set-first, stock_of, sym, update_first, update_first-at, update_first-map, update_first-same, without, ℕ, ◌++◌, ◌<◌, ◌∙◌, ◌∷◌, ◌≡◌}
 use Rattle.ele_files.proofs.Rows.{file_row-found, file_of, tagged, file-at, no-file, its_id, own_version, same_number, version-of, version-none}
 use Rattle.ele_files.proofs.Stock.{over, rows_stay, row_apart, row_lives}
 use Rattle.ele_files.proofs.Looks.{IsSeen, held_stays}
@@ -58,10 +58,7 @@ module _ (files : List File) (id : ℕ) (f g : File) (found : find (is_id id) fi
 -- numbers rise, so a number is removed once
 others_stay : (number : ℕ) (row : LogRow) (rows : List LogRow) → row.number ≡ number → AllByRecursion (Precedes row) rows → filter (is_other number) rows ≡ rows
 others_stay number row [] is later = refl
-others_stay number row (x ∷ rows) is later =
-    let above : row.number < x.number = later.0.number in
-    let other : eqb x.number number ≡ false = grind (arith, nat_tests) in
-    rw other (ap (λ xs. x ∷ xs) (others_stay number row rows is later.1))
+others_stay number row (x ∷ rows) is later = grind (arith, nat_tests, others_stay number row rows is later.1)
 
 filter_removes : (number : ℕ) (rows : List LogRow) → AllLater Precedes rows → filter (is_other number) rows ≡ remove_first (is_numbered number) rows
 filter_removes number [] order = refl
@@ -80,9 +77,7 @@ reached files id i f place is = record {
 
 -- no file has the number
 pub missing : (s : Store) (files : List File) (a : AllSessions) (kept : Keeps s files a) (id number : ℕ) → None ≡ position (is_id id) files → (find (is_version id number) (flat_map (rows_in s) files) ≡ None) × (held_in s files a ≡ without (held_in s files a) id number)
-missing s files a kept id number none =
-    let unfound = version-none s id number files kept.rise (no-file files id none) in
-    (unfound, rw (remove_first-unfound (is_version id number) (flat_map (rows_in s) files) (all-not_found (is_version id number) (flat_map (rows_in s) files) unfound)) refl)
+missing s files a kept id number none = grind (arith, nat_tests, version-none, no-file, remove_first-unfound, all-not_found)
 
 -- the file at its place, where no row has the number any more
 module _ (s : Store) (files : List File) (a : AllSessions) (kept : Keeps s files a) (id number i : ℕ) (f : File) (place : Some i ≡ position (is_id id) files) (is : f ≡ get_or files i f) (these : HeldRows) (rows : these.rows ≡ filter (is_other number) f.log.rows) where

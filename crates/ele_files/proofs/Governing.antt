@@ -1,5 +1,5 @@
 -- A file has another policy, and all else stays.
-use Rattle.ele_files.proofs.Words.{AllSessions, Bool, File, FileRow, IsDraftKept, IsFileKept, Keeps, List, None, Policy, PutUnder, Some, Store, [], all-not_found, all-update_first, all-weaker, ap, changed_at, cond, eqb, false, file_row, file_stock, find, flat_map, get_or, held_in, is_file, is_id, later-update_first, map, next_of, option_map, option_map_or, position, refl, rows_in, set, set-first, sym, true, update_first, update_first-map, update_first-unfound, ℕ, ◌++◌, ◌<◌, ◌∙◌, ◌∷◌, ◌≡◌}
+use Rattle.ele_files.proofs.Words.{AllSessions, Bool, File, FileRow, IsDraftKept, IsFileKept, Keeps, List, None, Policy, PutUnder, Some, Store, [], all-not_found, all-update_first, all-weaker, ap, arith, changed_at, cond, eqb, false, file_row, file_stock, find, flat_map, get_or, held_in, is_file, is_id, later-update_first, map, nat_tests, next_of, option_map, option_map_or, position, refl, rows_in, set, set-first, sym, true, update_first, update_first-map, update_first-unfound, ℕ, ◌<◌, ◌∙◌, ◌∷◌, ◌≡◌}
 use Rattle.ele_files.proofs.Looks.{IsSeen}
 use Rattle.ele_files.proofs.Rows.{file_row-found, no-file}
 use Rattle.ele_world.specs.Change as world
@@ -10,10 +10,7 @@ governed policy f = record f { policy = policy }
 -- what each element shows stays where it shows the same once it has changed
 flat_map-same : {X Y : Type 0} (h : X → List Y) (p : X → Bool) (g : X → X) (xs : List X) → ((x : X) → h (g x) ≡ h x) → flat_map h (update_first p g xs) ≡ flat_map h xs
 flat_map-same h p g [] same = refl
-flat_map-same h p g (x ∷ xs) same = elim (p x) as (λ b. flat_map h (cond b (g x ∷ xs) (x ∷ update_first p g xs)) ≡ h x ++ flat_map h xs) [
-  | true ↦ ap (λ ys. ys ++ flat_map h xs) (same x)
-  | false ↦ ap (λ ys. h x ++ ys) (flat_map-same h p g xs same)
-]
+flat_map-same h p g (x ∷ xs) same = grind (arith, nat_tests, flat_map-same h p g xs same)
 
 module _ (s : Store) (files : List File) (a : AllSessions) (kept : Keeps s files a) (id : ℕ) (policy : Policy) where
   abbrev after : List File → List File

@@ -1,5 +1,5 @@
 -- A file's newest version and its next closing, as its log shows them.
-use Rattle.ele_files.proofs.Words.{AllSessions, Bool, File, IsFileKept, IsRowOf, Keeps, List, LogRow, None, Option, Some, Store, VersionRow, [], all-found, all-weaker, ap, arith, cond, false, filter, filter-all, find, find-filter, flat_map, is_after, is_before, is_id, is_newer_of, is_version_of, last_passing, map, nat_tests, newest_of, next_closing, option_map, option_or, refl, row_in, rows_in, stamps_in, stamps_of, sym, true, ℕ, ◌∙◌, ◌∷◌, ◌≡◌}
+use Rattle.ele_files.proofs.Words.{AllSessions, Bool, File, IsFileKept, IsRowOf, Keeps, List, LogRow, None, Option, Some, Store, VersionRow, [], all-found, all-weaker, ap, arith, filter, filter-all, find, find-filter, flat_map, is_after, is_before, is_id, is_newer_of, is_version_of, last_passing, map, nat_tests, newest_of, next_closing, option_map, refl, row_in, rows_in, stamps_in, stamps_of, sym, true, ℕ, ◌∙◌, ◌∷◌, ◌≡◌}
 use Rattle.ele_files.proofs.Tagged.{find_shown, last-map, list_shown, none_shown, own}
 
 -- the last of all that pass
@@ -8,13 +8,7 @@ last xs = last_passing (λ _. true) xs
 
 last-kept : {X : Type 0} (p : X → Bool) (xs : List X) → last (filter p xs) ≡ last_passing p xs
 last-kept p [] = refl
-last-kept {X} p (x ∷ xs) = by (last-kept p xs) (p x) where
-  none : (o : Option X) → o ≡ option_or o None
-  none o = grind arith
-
-  by : last (filter p xs) ≡ last_passing p xs → (b : Bool) → last (cond b (x ∷ filter p xs) (filter p xs)) ≡ option_or (last_passing p xs) (cond b (Some x) None)
-  by rest true = ap (λ o. option_or o (Some x)) rest
-  by rest false = rest ∙ none (last_passing p xs)
+last-kept {X} p (x ∷ xs) = grind (arith, nat_tests, last-kept p xs)
 
 module _ (s : Store) (files : List File) (a : AllSessions) (kept : Keeps s files a) (file : ℕ) where
   abbrev versions : List VersionRow

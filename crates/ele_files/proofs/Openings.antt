@@ -1,5 +1,5 @@
 -- A handle that writes a file comes, and with the file's first handle a draft.
-use Rattle.ele_files.proofs.Words.{AllSessions, Bool, Draft, Err, File, Held, IsDraftKept, IsFileKept, IsRowOf, Keeps, Layout, List, LivesIn, LogRow, MatchBool, Moves, None, Ok, OnErr, OnOk, OpenHandle, Opens, Option, Result, Some, Stays, Store, Tagged, [], all-found, all-insert_before, ap, arith, changed_at, draft_in, draft_stock, empty_layout, false, file_row, file_stock, find, first_draft, flat_map, handle_in, held_in, insert_before, insert_before-map, is_draft, is_draft_after, is_id, is_numbered, is_version, length, length-append, length-map, list_any, map, map-append, new_draft, next_of, opened_by, option_map, option_map_or, refl, row_in, row_stock, rows_in, shown, stock_of, sum_by, sym, true, ℕ, ◌++◌, ◌+◌, ◌-◌, ◌∙◌, ◌∷◌, ◌≡◌}
+use Rattle.ele_files.proofs.Words.{AllSessions, Bool, Draft, Err, File, Held, IsDraftKept, IsFileKept, IsRowOf, Keeps, Layout, List, LivesIn, LogRow, MatchBool, Moves, None, Ok, OnErr, OnOk, OpenHandle, Opens, Option, Result, Some, Stays, Store, Tagged, [], all-found, all-insert_before, ap, arith, changed_at, draft_in, draft_stock, empty_layout, false, file_row, file_stock, find, first_draft, flat_map, handle_in, held_in, insert_before, insert_before-map, is_draft, is_draft_after, is_id, is_numbered, is_version, length, length-append, length-map, list_any, map, map-append, nat_tests, new_draft, next_of, opened_by, option_map, option_map_or, refl, row_in, row_stock, rows_in, shown, stock_of, sum_by, sym, true, ℕ, ◌++◌, ◌+◌, ◌-◌, ◌∙◌, ◌∷◌, ◌≡◌}
 use Rattle.ele_files.proofs.Copied.{row_copied, row_same}
 use Rattle.ele_files.proofs.Drafts.{same_drafts}
 use Rattle.ele_files.proofs.Looks.{IsSeen, versions_stay, drafts_stay}
@@ -123,8 +123,7 @@ module _ (s : Store) (files : List File) (a : AllSessions) (kept : Keeps s files
     -- whatever the call answers
     pub opens : {T E : Type 0} (m : Layout) → m ≡ first_map f → (r : Result T E) → OnOk r (b ≡ opening.opened_by a (new_draft file f.next at m)) → OnOk r (Opens s t a.drafts file m) → OnErr r (b ≡ a) → OnErr r (t ≡ s)
         → Keeps t files b × OnOk r (held_in t files b ≡ opened_by (held_in s files a) file at)
-    opens m is (Ok x) done moved left store = let seen = opened (list_any (is_draft file) a.drafts) refl (rw is at moved) in rw (done, is) (seen.keeps, seen.shows)
-    opens m is (Err e) done moved left store = (rw (store, left) kept, tt)
+    opens m is x2 done moved left store = grind (arith, nat_tests, opened)
 
 -- a handle that reads a version comes
 module _ (s : Store) (files : List File) (a b : AllSessions) (kept : Keeps s files a) (file number : ℕ) where

@@ -1,5 +1,5 @@
 -- What the rows show of the files, drafts and handles behind them.
-use Rattle.ele_files.proofs.Words.{AllByRecursion, AllLater, Bool, Draft, Err, File, HandleRow, IsPast, IsRowPast, List, LogRow, NoHandle, None, Ok, Option, Refusal, Result, Some, Store, VersionRow, [], all-any, all-found, all-map, all-none, all-weaker, any-map, ap, arith, draft_in, ended_at, ended_by, ended_rows, eqb, false, false≢true, fault_of, file_or_fault, file_row, file_written, find, find-buckets, find-map, find-none, find-position, flat_map, flat_map-all, found_passes, get_or, handle_in, is_file, is_handle, is_id, is_numbered, is_open, is_version, list_any, map, map-all, nat_tests, next_of, ok_or, option_and_then, option_map, option_map_or, policy_of, position, reads_by, reads_in, reads_version, refl, remove_first, remove_first-map, result_map_both, result_ok, row_in, rows_in, sym, true, update_first, update_first-map, writes, ℕ, ◌-◌, ◌<◌, ◌∙◌, ◌∷◌, ◌≡◌, ◌≢◌}
+use Rattle.ele_files.proofs.Words.{AllByRecursion, AllLater, Bool, Draft, File, HandleRow, IsPast, IsRowPast, List, LogRow, NoHandle, None, Option, Refusal, Result, Some, Store, VersionRow, [], all-any, all-found, all-map, all-none, all-weaker, any-map, ap, arith, draft_in, ended_at, ended_by, ended_rows, eqb, false, file_or_fault, file_row, find, find-buckets, find-map, find-none, find-position, flat_map, flat_map-all, found_passes, get_or, handle_in, is_file, is_handle, is_id, is_numbered, is_open, is_version, list_any, map, map-all, nat_tests, next_of, ok_or, option_and_then, option_map, option_map_or, policy_of, position, reads_by, reads_in, reads_version, refl, remove_first, remove_first-map, row_in, rows_in, sym, true, update_first, update_first-map, writes, ℕ, ◌-◌, ◌<◌, ◌∙◌, ◌∷◌, ◌≡◌, ◌≢◌}
 use Rattle.ele_files.specs.Held.{handle_file}
 use Rattle.ele_sessions.specs.Sessions as sessions
 use Rattle.ele_sessions.specs.declared.entries.OpenHandle.{OpenHandle}
@@ -63,9 +63,7 @@ module _ (s : Store) (file number : ℕ) (files : List File) (rise : AllLater (�
   version-none none = found_in ∙ ap (option_and_then (λ f. find (is_version file number) (rows_in s f))) none
 
   pub version-of : (f : File) → find (is_id file) files ≡ Some f → version ≡ option_map (row_in s f.id) (find (is_numbered number) f.log.rows)
-  version-of f found = found_in ∙ (ap (option_and_then (λ f. find (is_version file number) (rows_in s f))) found ∙ (find-map (row_in s f.id) (is_version file number) f.log.rows ∙ ap (option_map (row_in s f.id)) (alike f.log.rows))) where
-    alike : (rows : List LogRow) → find (λ row. is_version file number (row_in s f.id row)) rows ≡ find (is_numbered number) rows
-    alike rows = let e : eqb f.id file ≡ true = found_passes (is_id file) files f found in rw e refl
+  version-of f found = grind (arith, nat_tests, found_in, find-map, found_passes)
 
 -- ---- drafts and handles
 
@@ -84,24 +82,13 @@ abbrev pub reads_of : Option session.Reads → Result Reads Refusal
 reads_of o = ok_or (option_map reads_in o) NoHandle
 
 pub reads_by-shown : (hs : List OpenHandle) (number : ℕ) → reads_by (map handle_in hs) number ≡ reads_of (sessions.reads_by hs number)
-reads_by-shown hs number = ap (λ (o : Option HandleRow). option_map_or (λ row. Ok row.reads) o (Err NoHandle)) (find-map handle_in (is_handle number) hs) ∙ by (find (sessions.is_handle number) hs) where
-  by : (o : Option OpenHandle) → option_map_or (λ row. Ok row.reads) (option_map handle_in o) (Err NoHandle) ≡ reads_of (option_map (λ (h : OpenHandle). h.reads) o)
-  by None = refl
-  by (Some h) = refl
+reads_by-shown hs number = grind (arith, nat_tests, find-map)
 
 pub handle_file-shown : (hs : List OpenHandle) (number : ℕ) → handle_file (map handle_in hs) number ≡ sessions.handle_file hs number
-handle_file-shown hs number = ap (λ r. result_ok (file_written r)) (reads_by-shown hs number) ∙ by (sessions.reads_by hs number) where
-  by : (o : Option session.Reads) → result_ok (file_written (reads_of o)) ≡ result_ok (sessions.file_written o)
-  by None = refl
-  by (Some (session_reads.Draft file)) = refl
-  by (Some (session_reads.Version file n)) = refl
+handle_file-shown hs number = grind (arith, nat_tests, reads_by-shown)
 
 pub fault-shown : (hs : List OpenHandle) (number : ℕ) → file_or_fault (map handle_in hs) number ≡ sessions.file_by hs number
-fault-shown hs number = ap (λ r. result_map_both (λ file. file) fault_of (file_written r)) (reads_by-shown hs number) ∙ by (sessions.reads_by hs number) where
-  by : (o : Option session.Reads) → result_map_both (λ file. file) fault_of (file_written (reads_of o)) ≡ sessions.file_written o
-  by None = refl
-  by (Some (session_reads.Draft file)) = refl
-  by (Some (session_reads.Version file n)) = refl
+fault-shown hs number = grind (arith, nat_tests, reads_by-shown)
 
 -- a test of what handles read
 module _ (p : Reads → Bool) (q : session.Reads → Bool) (same : (what : session.Reads) → p (reads_in what) ≡ q what) where

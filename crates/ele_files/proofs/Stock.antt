@@ -1,5 +1,5 @@
 -- The maps of files and drafts as one stock, where one file or one draft has changed.
-use Rattle.ele_files.proofs.Words.{AllByRecursion, AllSessions, Bool, Draft, File, Keeps, List, LivesIn, LogRow, SameStock, Some, Store, Tagged, [], all-found, all-left, all-right, all-split, arith, draft_stock, ended_by, ended_rows, file_stock, find, flat_map, flat_map-all, insert_before, is_draft, is_id, is_numbered, map, map-all, refl, remove_first, row_stock, stock_of, sum_by, sum_by-append, sum_by-around, sum_by-cons, sum_by-flat_map, sum_by-insert_before, sum_by-map, sum_by-remove_first, sum_by-update_first, sum_by-update_same, sum_by_push, update_first, ℕ, ◌++◌, ◌+◌, ◌-◌, ◌∷◌, ◌≡◌}
+use Rattle.ele_files.proofs.Words.{AllByRecursion, AllSessions, Bool, Draft, File, Keeps, List, LivesIn, LogRow, SameStock, Some, Store, Tagged, [], all-found, all-left, all-right, all-split, arith, draft_stock, ended_by, ended_rows, file_stock, find, flat_map, flat_map-all, insert_before, is_draft, is_id, is_numbered, map, map-all, nat_tests, refl, remove_first, row_stock, stock_of, sum_by, sum_by-append, sum_by-around, sum_by-cons, sum_by-flat_map, sum_by-insert_before, sum_by-map, sum_by-remove_first, sum_by-update_first, sum_by-update_same, sum_by_push, update_first, ℕ, ◌++◌, ◌+◌, ◌-◌, ◌∷◌, ◌≡◌}
 
 -- a file with the rows and the next number of g
 abbrev pub over : File → File → File
@@ -38,14 +38,7 @@ module _ (files : List File) (drafts : List Draft) where
   -- one file has other rows
   module _ (id : ℕ) (f g : File) (found : find (is_id id) files ≡ Some f) where
     exchanged : (k : Tagged → ℕ) → sum_by k (stock_of (update_first (is_id id) (over g) files) drafts) + sum_by (λ row. k (row_stock f.id row)) f.log.rows ≡ sum_by k (stock_of files drafts) + sum_by (λ row. k (row_stock f.id row)) g.log.rows
-    exchanged k = omega (
-      arith,
-      total k files drafts,
-      total k (update_first (is_id id) (over g) files) drafts,
-      sum_by-update_first (λ x. sum_by k (file_stock x)) (is_id id) (over g) files f found,
-      sum_by-map k (row_stock f.id) f.log.rows,
-      sum_by-map k (row_stock f.id) g.log.rows,
-    )
+    exchanged k = grind (arith, nat_tests, total, sum_by-update_first, sum_by-map)
 
     pub row_apart : (q : LogRow → Bool) (row : LogRow) → find q f.log.rows ≡ Some row → g.log.rows ≡ remove_first q f.log.rows → SameStock (stock_of files drafts) (row_stock f.id row ∷ stock_of (update_first (is_id id) (over g) files) drafts)
     row_apart q row held rows = record {

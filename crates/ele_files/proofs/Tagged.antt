@@ -1,5 +1,5 @@
 -- The version that a tag means, as the log of its file shows it.
-use Rattle.ele_files.proofs.Words.{AllByRecursion, AllSessions, Bool, Err, File, Keeps, List, LivesIn, LogRow, NoVersion, None, Ok, Option, Refusal, Some, Stamps, Store, Tag, VersionRow, [], all-found, ap, arith, cond, eqb, false, false≢true, file_row, filter, filter-buckets, find, find-filter, find-map, flat_map, found_passes, had_closed, had_life, has_closed_by, held_or_forgotten, is_before, is_id, is_numbered, is_version, is_version_of, last_number, last_passing, lives_at, map, nat_lt, nat_tests, option_map, option_map_or, option_or, refl, result_map_both, row_in, row_living, row_meant, row_numbered, rows_in, stamps_in, stamps_of, sym, told_or_forgotten, true, version_living, version_meant, version_numbered, ℕ, ◌&&◌, ◌-◌, ◌∙◌, ◌∷◌, ◌≡◌}
+use Rattle.ele_files.proofs.Words.{AllByRecursion, AllSessions, Bool, Err, File, Keeps, List, LivesIn, LogRow, NoVersion, None, Ok, Option, Refusal, Some, Stamps, Store, Tag, VersionRow, [], all-found, ap, arith, cond, eqb, false≢true, file_row, filter, filter-buckets, find, find-filter, find-map, flat_map, found_passes, had_closed, had_life, has_closed_by, held_or_forgotten, is_before, is_id, is_numbered, is_version, is_version_of, last_number, last_passing, lives_at, map, nat_lt, nat_tests, option_map, option_map_or, refl, result_map_both, row_in, row_living, row_meant, row_numbered, rows_in, stamps_in, stamps_of, sym, told_or_forgotten, true, version_living, version_meant, version_numbered, ℕ, ◌&&◌, ◌-◌, ◌∙◌, ◌∷◌, ◌≡◌}
 use Rattle.ele_files.proofs.Rows.{file_of, next-found, tagged}
 use Rattle.ele_files.proofs.Stock.{logs_live, row_lives}
 use Rattle.ele_time_path.specs.declared.tagged.Tag.TheVariants as tag
@@ -9,19 +9,11 @@ use Rattle.ele_world.specs.Tagged as world
 
 last-filter : {X : Type 0} (p q : X → Bool) (xs : List X) → ((x : X) → p x ≡ true → q x ≡ true) → last_passing p (filter q xs) ≡ last_passing p xs
 last-filter p q [] own = refl
-last-filter {X} p q (x ∷ xs) own = by (last-filter p q xs own) (q x) (p x) refl refl where
-  by : last_passing p (filter q xs) ≡ last_passing p xs → (b c : Bool) → q x ≡ b → p x ≡ c → last_passing p (cond b (x ∷ filter q xs) (filter q xs)) ≡ option_or (last_passing p xs) (cond c (Some x) None)
-  by rest true c e f = rw (f, rest) refl
-  by rest false true e f = absurd (false≢true (sym e ∙ own x f))
-  by rest false false e f = rest ∙ none (last_passing p xs) where
-    none : (o : Option X) → o ≡ option_or o None
-    none o = grind arith
+last-filter {X} p q (x ∷ xs) own = grind (arith, nat_tests, false≢true, last-filter p q xs own)
 
 pub last-map : {X Y : Type 0} (p : Y → Bool) (h : X → Y) (q : X → Bool) (xs : List X) → ((x : X) → p (h x) ≡ q x) → last_passing p (map h xs) ≡ option_map h (last_passing q xs)
 last-map p h q [] same = refl
-last-map p h q (x ∷ xs) same = rw (last-map p h q xs same, same x) (by (last_passing q xs) (q x)) where
-  by : (o : Option _) (b : Bool) → option_or (option_map h o) (cond b (Some (h x)) None) ≡ option_map h (option_or o (cond b (Some x) None))
-  by o b = grind arith
+last-map p h q (x ∷ xs) same = grind (arith, nat_tests, last-map p h q xs same)
 
 -- ---- the world's look-ups, as those of the log
 
@@ -38,11 +30,7 @@ module _ (s : Store) (files : List File) (a : AllSessions) (kept : Keeps s files
 
   pub find_shown : (p : VersionRow → Bool) (q : LogRow → Bool) → ((row : VersionRow) → p row ≡ true → is_version_of file row ≡ true) → ((row : LogRow) → p (row_in s f.id row) ≡ q row)
       → find p versions ≡ option_map (row_in s f.id) (find q f.log.rows)
-  find_shown p q its same =
-      sym (find-filter p (is_version_of file) versions its) ∙ ap (find p) own_rows ∙ find-map (row_in s f.id) p f.log.rows ∙ ap (option_map (row_in s f.id)) (find-same (λ row. p (row_in s f.id row)) q f.log.rows same) where
-        find-same : (p q : LogRow → Bool) (xs : List LogRow) → ((x : LogRow) → p x ≡ q x) → find p xs ≡ find q xs
-        find-same p q [] same = refl
-        find-same p q (x ∷ xs) same = rw (same x, find-same p q xs same) refl
+  find_shown p q its same = grind (arith, nat_tests, find-filter, own_rows, find-map)
 
   last_shown : (p : VersionRow → Bool) (q : LogRow → Bool) → ((row : VersionRow) → p row ≡ true → is_version_of file row ≡ true) → ((row : LogRow) → p (row_in s f.id row) ≡ q row)
       → last_number p versions ≡ option_map (λ (row : LogRow). row.number) (last_passing q f.log.rows)
@@ -54,8 +42,7 @@ module _ (s : Store) (files : List File) (a : AllSessions) (kept : Keeps s files
 
   told : (q r : LogRow → Bool) (o : Option LogRow) → find q f.log.rows ≡ o
       → result_map_both stamps_of (λ (refusal : Refusal). refusal) (held_or_forgotten (option_map (row_in s f.id) o) (option_map (λ (row : LogRow). row.number) (last_passing r f.log.rows))) ≡ told_or_forgotten o (last_passing r f.log.rows)
-  told q r None is = refl
-  told q r (Some row) is = rw (kept.laws.long s row.cells (row_lives s files a kept file q f row found is)) refl
+  told q r x2 is = grind (arith, nat_tests, row_lives)
 
   numbered_shown : (number : ℕ) → result_map_both stamps_of (λ (refusal : Refusal). refusal) (version_numbered versions file number) ≡ row_numbered f number
   numbered_shown number =
