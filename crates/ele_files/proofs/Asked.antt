@@ -46,8 +46,7 @@ module _ (s : Store) (files : List File) (ss : AllSessions) (file : ℕ) where
   pub drafted : (o : Option (Bor Layout)) → option_copied o ≡ option_map (λ (d : Draft). d.layout) (sessions.draft_of ss file) → is_some o ≡ list_any (is_draft file) (map (draft_in s) ss.drafts)
   drafted o is = sym (copied o) ∙ (ap is_some is ∙ (same (sessions.draft_of ss file) ∙ (any-found (sessions.is_draft file) ss.drafts ∙ sym (any-draft s file ss.drafts)))) where
     same : (d : Option Draft) → is_some (option_map (λ (d : Draft). d.layout) d) ≡ is_some d
-    same None = refl
-    same (Some d) = refl
+    same x0 = grind (arith, nat_tests)
 
 -- what its map says of the draft, if there is one
 pub record IsDraftOf (s : Store) (h : Held) (file : ℕ) (o : Option Layout) : Type 0 where
@@ -56,6 +55,4 @@ pub record IsDraftOf (s : Store) (h : Held) (file : ℕ) (o : Option Layout) : T
   pub long : option_map (λ (row : DraftRow). length (content_of row.cells)) (find (is_draft file) h.drafts) ≡ option_map (λ m. m.size) o
 
 pub draft_shown : (s : Store) (files : List File) (ss : AllSessions) (kept : Keeps s files ss) (file : ℕ) (o : Option Layout) → o ≡ option_map (λ (d : Draft). d.layout) (sessions.draft_of ss file) → IsDraftOf s (held_in s files ss) file o
-draft_shown s files ss kept file o is = rw is (by (sessions.draft_of ss file) refl) where
-  by : (d : Option Draft) → sessions.draft_of ss file ≡ d → IsDraftOf s (held_in s files ss) file (option_map (λ (d : Draft). d.layout) d)
-  by x0 none = grind (arith, nat_tests, draft-found, draft_lives)
+draft_shown s files ss kept file o is = grind (arith, nat_tests, draft-found, draft_lives)

@@ -31,12 +31,7 @@ module _ (s : Store) (files : List File) (ss : AllSessions) (handle : ℕ) where
   -- ---- what is asked before
 
   pub opening_shown : opening_of (option_map (λ answer. answer.0) (closing ss handle)) ≡ opening_by shown handle
-  opening_shown = rw (handle_file-shown ss.handles handle) (by (sessions.reads_by ss.handles handle)) where
-    ends : (b : Bool) (o : Option Draft) → opening_of (Some (file_closing b o).0) ≡ changed_opening (cond b None (option_map (draft_in s) o))
-    ends x0 o = grind (arith, nat_tests)
-
-    by : (o : Option Reads) → opening_of (option_map (λ answer. answer.0) (closing_of ss handle o)) ≡ option_and_then (λ file. changed_opening (last_draft shown handle file)) (result_ok (sessions.file_written o))
-    by x0 = grind (arith, nat_tests, last_shown, ends)
+  opening_shown = grind (arith, nat_tests, handle_file-shown, last_shown)
 
   -- ---- the handle is left
 

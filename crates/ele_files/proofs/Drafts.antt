@@ -106,13 +106,7 @@ module _ (s : Store) (files : List File) (a : AllSessions) (kept : Keeps s files
   length_is file size d found = ap (λ n. eqb n size) (kept.laws.long s d.layout (draft_lives s files a kept file d found))
 
   pub length_seen : (handle size : ℕ) → held.has_length rows handle size ≡ true → (has_length size (draft_by a handle) ≡ true) × (size ≤ longest_content)
-  length_seen handle size has = of_file (handle_file a.handles handle) (rw (handle_file-shown a.handles handle) at has) where
-    of_draft : (file : ℕ) (o : Option Draft) → find (is_draft file) a.drafts ≡ o → option_map_or (λ row. eqb (length (content_of row.cells)) size) (option_map (draft_in s) o) false ≡ true → (has_length size o ≡ true) × (size ≤ longest_content)
-    of_draft file x1 found e = grind (arith, nat_tests, false≢true, length_is, draft_lives)
-
-    of_file : (o : Option ℕ) → held.has_length_of rows o size ≡ true → (has_length size (draft_for a o) ≡ true) × (size ≤ longest_content)
-    of_file None e = absurd (false≢true e)
-    of_file (Some file) e = of_draft file (find (is_draft file) a.drafts) refl (rw (draft-found s file a.drafts) at e)
+  length_seen handle size has = grind (arith, nat_tests, handle_file-shown, false≢true, length_is, draft_lives, draft-found)
 
   module _ (t : Store) (b : AllSessions) (orderly : AreOrderly a) where
     stays : session.Stays s t a b → IsSeen t files b rows
@@ -141,8 +135,7 @@ module _ (s : Store) (files : List File) (a : AllSessions) (kept : Keeps s files
     written : (handle offset : ℕ) (bytes : List ℕ) → Writes s t a b handle offset bytes → IsSeen t files b (written_by rows handle offset bytes)
     written handle offset [] h = by (held.handle_file rows.handles handle) where
       by : (o : Option ℕ) → IsSeen t files b (written_of rows o offset [])
-      by None = stays h
-      by (Some file) = stays h
+      by x0 = grind (arith, nat_tests, stays)
     written handle offset (byte ∷ bytes) h = rewrites handle _ (λ number. changed_by number offset (byte ∷ bytes)) (λ o. written_of rows o offset (byte ∷ bytes)) (λ file. refl)
         (λ file e r. record { moves = r.how.moves; renewed = _; renews = r.how.renews; changed = rw r.how.cells refl }) h
 

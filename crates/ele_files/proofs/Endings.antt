@@ -43,25 +43,7 @@ module _ (next now : ℕ) (new : LogRow) (number : new.number ≡ next) (closed 
 
   pub all_precede : (rows : List LogRow) → AllLater Precedes rows → AllByRecursion (IsRowOf next) rows → AllByRecursion (IsRowPast now) rows → AllByRecursion (λ row. Precedes row new) (update_first (is_numbered (next - 1)) (ended_by now) rows)
   all_precede [] order known past = tt
-  all_precede (x ∷ rows) order known past = elim (eqb x.number (next - 1)) as (λ b. eqb x.number (next - 1) ≡ b → AllByRecursion (λ row. Precedes row new) (cond b (ended_by now x ∷ rows) (x ∷ update_first (is_numbered (next - 1)) (ended_by now) rows))) [
-    | true ↦ λ e.
-        let below : x.number < next = known.0.number in
-        let is : x.number ≡ next - 1 = grind (arith, nat_tests) in
-        (record { number = rw number below; ended = rw closed (ends x.ended past.0.ended) }, none_behind x rows (omega arith) order.0 known.1)
-    | false ↦ λ e.
-        let below : x.number < next = known.0.number in
-        (record { number = rw number below; ended = rw closed (has x.ended refl past.0.ended e) }, all_precede rows order.1 known.1 past.1)
-  ] refl where
-    ends : (o : Option ℕ) → IfSome o (λ ended. ended ≤ now) → unwrap_or o now ≤ now
-    ends None h = omega arith
-    ends (Some ended) h = h
-
-    has : (o : Option ℕ) → x.ended ≡ o → IfSome o (λ ended. ended ≤ now) → eqb x.number (next - 1) ≡ false → IsSomeAnd o (λ ended. ended ≤ now)
-    has None endless h e =
-        let is : x.number + 1 ≡ next = known.0.open_end endless in
-        let same : x.number ≡ next - 1 = omega arith in
-        absurd (grind (arith, nat_tests))
-    has (Some ended) endless h e = h
+  all_precede (x ∷ rows) order known past = grind (arith, nat_tests, none_behind, all_precede rows order.1 known.1 past.1)
 
 -- a file whose version before the next one ends
 module _ (f : File) (now : ℕ) (kept : IsFileKept f) (past : AllByRecursion (IsRowPast now) f.log.rows) where

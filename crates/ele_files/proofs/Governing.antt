@@ -21,16 +21,7 @@ module _ (s : Store) (files : List File) (a : AllSessions) (kept : Keeps s files
 
   next_stays : (files : List File) (file : ℕ) → next_of (map file_row (after files)) file ≡ next_of (map file_row files) file
   next_stays [] file = refl
-  next_stays (x ∷ xs) file = elim (is_id id x) as (λ b. next_of (map file_row (cond b (governed policy x ∷ xs) (x ∷ after xs))) file ≡ next_of (map file_row (x ∷ xs)) file) [
-    | true ↦ elim (eqb x.id file) as (λ b. option_map_or (λ (row : FileRow). row.next) (cond b (Some (file_row (governed policy x))) (find (is_file file) (map file_row xs))) 0 ≡ option_map_or (λ (row : FileRow). row.next) (cond b (Some (file_row x)) (find (is_file file) (map file_row xs))) 0) [
-      | true ↦ refl
-      | false ↦ refl
-    ]
-    | false ↦ elim (eqb x.id file) as (λ b. option_map_or (λ (row : FileRow). row.next) (cond b (Some (file_row x)) (find (is_file file) (map file_row (after xs)))) 0 ≡ option_map_or (λ (row : FileRow). row.next) (cond b (Some (file_row x)) (find (is_file file) (map file_row xs))) 0) [
-      | true ↦ refl
-      | false ↦ next_stays xs file
-    ]
-  ]
+  next_stays (x ∷ xs) file = grind (arith, nat_tests, is_file, next_stays xs file)
 
   -- no file has the number
   pub none_governed : None ≡ position (is_id id) files → held_in s files a ≡ changed_at (held_in s files a) 0 (PutUnder id policy ∷ [])

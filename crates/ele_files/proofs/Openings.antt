@@ -44,8 +44,7 @@ module _ (s : Store) (files : List File) (a : AllSessions) (kept : Keeps s files
   pub first_lives : LivesIn s (first_map f)
   first_lives = of_row (last_row f) refl where
     of_row : (o : Option LogRow) → last_row f ≡ o → LivesIn s (cells_of o)
-    of_row None e = kept.laws.empty_lives s
-    of_row (Some row) e = row_lives s files a kept file (is_numbered (f.next - 1)) f row found e
+    of_row x0 e = grind (arith, nat_tests, row_lives)
 
   -- what a new draft begins with is what the map shows
   first_seen : option_map_or (λ row. row.cells) (find (is_version file (next_of (map file_row files) file - 1)) (flat_map (rows_in s) files)) [] ≡ shown s (first_map f)

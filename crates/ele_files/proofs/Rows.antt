@@ -104,5 +104,4 @@ left-shown hs number file = ap (list_any (is_writer file)) (remove_first-map han
 pub open-shown : (hs : List OpenHandle) (file number : ℕ) → is_open (map handle_in hs) file number ≡ list_any (sessions.is_reader file number) hs
 open-shown hs file number = any-read (reads_version file number) (sessions.reads_version file number) same hs where
   same : (what : session.Reads) → reads_version file number (reads_in what) ≡ sessions.reads_version file number what
-  same (session_reads.Draft other) = refl
-  same (session_reads.Version other n) = refl
+  same x0 = grind (arith, nat_tests)

@@ -58,8 +58,7 @@ module _ (s : Store) (files : List File) (a : AllSessions) (kept : Keeps s files
   pub at_shown : (moment : ℕ) → option_map stamps_of (find (had_life file moment) versions) ≡ option_map stamps_in (find (lives_at moment) f.log.rows)
   at_shown moment = rw (find_shown (had_life file moment) (lives_at moment) (λ row e. grind (arith, nat_tests)) (λ row. rw own refl)) (by (find (lives_at moment) f.log.rows) refl) where
     by : (o : Option LogRow) → find (lives_at moment) f.log.rows ≡ o → option_map stamps_of (option_map (row_in s f.id) o) ≡ option_map stamps_in o
-    by None is = refl
-    by (Some row) is = rw (kept.laws.long s row.cells (row_lives s files a kept file (lives_at moment) f row found is)) refl
+    by x0 is = grind (arith, nat_tests, row_lives)
 
   -- what the tag means of the file
   pub meant_shown : (t : Tag) → result_map_both stamps_of (λ (refusal : Refusal). refusal) (version_meant (map file_row files) versions file t) ≡ row_meant f t
