@@ -76,7 +76,6 @@ module _ (s : Store) (files : List File) (ss : AllSessions) (handle : ℕ) where
 pub record IsLast (ss : AllSessions) (handle file opened : ℕ) : Type 0 where
   pub draft : Draft
   pub found : find (is_draft file) ss.drafts ≡ Some draft
-  pub its_opening : draft.opened ≡ opened
   pub out : given ss handle ≡ Some draft.layout
   pub left : closed ss handle ≡ without_handle ss handle file false
 

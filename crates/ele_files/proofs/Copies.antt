@@ -1,5 +1,5 @@
 -- How far a copy of rows has come.
-use Rattle.ele_files.proofs.Words.{AllByRecursion, AllLater, Bool, Cell, Draft, DraftRow, File, IsFileKept, IsRowOf, Layout, List, LivesIn, LogRow, None, Option, Precedes, Slot, Some, Stamps, StockLaws, Store, [], all-got, all-weaker, ap, append-nil, append_assoc, arith, bytes_at, cell_by, cell_of, draft_in, eqb, filter, filter-all, find, flat_map, flat_map-append, found_passes, get_or, get_or_from_slice_get, is_after, later-weaker, length, map, map-append, nat_tests, option_map, owners_at, row_in, shown, slice_get, slice_get_within, slots_of, stamps_in, subst, suc, sym, take, take_all, take_more, true, zero, ℕ, ◌++◌, ◌+◌, ◌<◌, ◌∙◌, ◌∷◌, ◌≡◌, ◌≤◌}
+use Rattle.ele_files.proofs.Words.{AllByRecursion, AllLater, Bool, Cell, Draft, DraftRow, File, IsFileKept, IsRowOf, Layout, List, LivesIn, LogRow, None, Option, Precedes, Slot, Some, Stamps, StockLaws, Store, [], all-got, all-weaker, ap, append_assoc, arith, bytes_at, cell_by, cell_of, draft_in, eqb, filter, filter-all, find, found_passes, get_or, get_or_from_slice_get, is_after, later-weaker, length, map, map-append, nat_tests, option_map, row_in, shown, slice_get, slice_get_within, slots_of, stamps_in, subst, suc, sym, take, take_more, true, zero, ℕ, ◌++◌, ◌+◌, ◌<◌, ◌∙◌, ◌∷◌, ◌≡◌, ◌≤◌}
 use Rattle.ele_sessions.specs.Sessions as sessions
 use Rattle.ele_world.specs.declared.rows.VersionRow as world
 
@@ -8,22 +8,7 @@ module _ {X Y : Type 0} (g : X → Y) where
   pub taken-next : (xs : List X) (i : ℕ) (x : X) → slice_get xs i ≡ Some x → map g (take (i + 1) xs) ≡ map g (take i xs) ++ g x ∷ []
   taken-next xs i x h = ap (map g) (take_more xs i x (slice_get_within xs i x h)) ∙ (map-append g (take i xs) (get_or xs i x ∷ []) ∙ ap (λ y. map g (take i xs) ++ g y ∷ []) (get_or_from_slice_get xs i x x h))
 
-  -- all of them
-  pub taken-all : (xs : List X) (i : ℕ) → slice_get xs i ≡ None → map g (take i xs) ≡ map g xs
-  taken-all [] i h = ap (map g) (take_all i [] (omega arith))
-  taken-all (y ∷ ys) zero h = absurd cc
-  taken-all (y ∷ ys) (suc i) h = ap (λ zs. g y ∷ zs) (taken-all ys i h)
-
--- the lists of one element more
-pub gathered-next : {X Y : Type 0} (g : X → List Y) (xs : List X) (i : ℕ) (x : X) → i < length xs → x ≡ get_or xs i x → flat_map g (take (i + 1) xs) ≡ flat_map g (take i xs) ++ g x
-gathered-next g xs i x lt is = ap (flat_map g) (take_more xs i x lt) ∙ (flat_map-append g (take i xs) (get_or xs i x ∷ []) ∙ ap (λ ys. flat_map g (take i xs) ++ ys) (append-nil (g (get_or xs i x)) ∙ ap g (sym is)))
-
 module _ {X : Type 0} where
-  pub got-some : (xs : List X) (i : ℕ) → i < length xs → slice_get xs i ≡ None → ⊥
-  got-some [] i lt h = omega arith
-  got-some (x ∷ xs) zero lt h = cc
-  got-some (x ∷ xs) (suc i) lt h = got-some xs i (omega arith) h
-
   -- where keys rise, an element is the first of its key
   pub found-got : (key : X → ℕ) (xs : List X) (i : ℕ) (x : X) → AllLater (λ y z. key y < key z) xs → slice_get xs i ≡ Some x → find (λ y. eqb (key y) (key x)) xs ≡ Some x
   found-got key [] i x rise h = absurd cc
@@ -32,9 +17,6 @@ module _ {X : Type 0} where
 
 -- what an option's element shows
 module _ {X Y : Type 0} (g : X → Y) (o : Option X) where
-  pub shown-none : None ≡ option_map g o → o ≡ None
-  shown-none h = grind (arith, h)
-
   pub shown-some : (y : Y) → Some y ≡ option_map g o → (x : X) × (o ≡ Some x) × (g x ≡ y)
   shown-some y h = grind (arith, nat_tests)
 
@@ -54,14 +36,10 @@ module _ (laws : StockLaws) (s : Store) (m : Layout) (lives : LivesIn s m) (k : 
   slot : (x : Slot) × (slice_get (slots_of s m) k ≡ Some x) × ((x.writer, x.block) ≡ cell)
   slot = shown-some (λ (x : Slot). (x.writer, x.block)) (slice_get (slots_of s m) k) cell got
 
-  pub cell-owned : 0 < owners_at s cell.1
-  cell-owned = grind (arith, nat_tests)
-
   pub cell-next : (bytes : List ℕ) → bytes ≡ bytes_at s cell.1 → map (cell_of s) (take (k + 1) (slots_of s m)) ≡ map (cell_of s) (take k (slots_of s m)) ++ record { writer = cell.0; bytes = bytes } ∷ []
   cell-next bytes is =
-      let next = taken-next (cell_of s) (slots_of s m) k slot.0 slot.1 in
       let made : cell_of s slot.0 ≡ record { writer = cell.0; bytes = bytes } = ap (cell_from s) slot.2 ∙ ap (cell_by cell.0) (sym is) in
-      next ∙ ap (λ (c : Cell). map (cell_of s) (take k (slots_of s m)) ++ c ∷ []) made
+      (taken-next (cell_of s) (slots_of s m) k slot.0 slot.1) ∙ ap (λ (c : Cell). map (cell_of s) (take k (slots_of s m)) ++ c ∷ []) made
 
 -- the rows of a log
 module _ (f : File) (kept : IsFileKept f) where

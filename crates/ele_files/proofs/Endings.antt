@@ -1,5 +1,5 @@
 -- The rows of a file when its next version closes.
-use Rattle.ele_files.proofs.Words.{AllByRecursion, AllLater, AreInOrder, Bool, CanEndAt, EndsInTime, File, HasAppended, HasRows, IfSome, IsFileKept, IsRowOf, IsRowPast, IsSomeAnd, Layout, List, LogRow, None, Option, Precedes, Some, [], all-append, all-both, all-found, all-update_first, all-weaker, ap, arith, cond, ended_by, ended_rows, eqb, false, find, is_numbered, is_some, last_of, later-push, later-update_first, nat_tests, next_row, refl, true, unwrap_or, update_first, update_last, ℕ, ◌+◌, ◌-◌, ◌<◌, ◌∙◌, ◌∷◌, ◌≡◌, ◌≤◌}
+use Rattle.ele_files.proofs.Words.{AllByRecursion, AllLater, AreInOrder, Bool, CanEndAt, EndsInTime, File, HasAppended, HasRows, IsFileKept, IsRowOf, IsRowPast, IsSomeAnd, Layout, List, LogRow, None, Option, Precedes, Some, [], all-append, all-both, all-found, all-update_first, all-weaker, ap, arith, ended_by, ended_rows, eqb, false, find, is_numbered, is_some, last_of, later-push, later-update_first, nat_tests, next_row, refl, true, update_first, update_last, ℕ, ◌+◌, ◌-◌, ◌∙◌, ◌∷◌, ◌≡◌, ◌≤◌}
 use Rattle.ele_inode_log.specs.Rows.{ended_at}
 
 -- a row without an end is the last

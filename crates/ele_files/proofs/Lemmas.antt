@@ -3,7 +3,7 @@ pub use Rattle.ele_files.proofs.Words.{AllByRecursion, Cell, Counts, File, IsFil
 pub use Rattle.ele_files.proofs.Appends.{added_keeps, added_shows, fresh_kept}
 pub use Rattle.ele_files.proofs.Asked.{cells-is, cells-no_row, cells-none, draft_shown, drafted, no_file, stamps-is, stamps-no_row, stamps-none}
 pub use Rattle.ele_files.proofs.Closes.{IsFinished, finished, given, given_lives, its_map, leaves, not_missing, on_err, opening_shown}
-pub use Rattle.ele_files.proofs.Copies.{cell-next, cell-owned, draft-next, draft-there, gathered-next, got-some, log-all, log-fewer, log-left, log-next, shown-none, taken-all, told-next}
+pub use Rattle.ele_files.proofs.Copies.{cell-next, draft-next, draft-there, log-all, log-fewer, log-left, log-next, told-next}
 pub use Rattle.ele_files.proofs.Counted.{draft_places, meets_none, meets_then, met_next, none_count, own_bytes, own_count, own_few, own_kept, own_lives, own_places, places-next, usage_counts}
 pub use Rattle.ele_files.proofs.Drafts.{cut, draft_by_lives, length_seen, wrote}
 pub use Rattle.ele_files.proofs.Drops.{any_held, drops_at, none_drops, unheld}
@@ -14,7 +14,7 @@ pub use Rattle.ele_files.proofs.Governing.{governs, none_governed}
 pub use Rattle.ele_files.proofs.Looks.{IsSeen}
 pub use Rattle.ele_files.proofs.Names.{places_shown}
 pub use Rattle.ele_files.proofs.Neighbours.{closing_none, closing_shown, newest_none, newest_shown}
-pub use Rattle.ele_files.proofs.Openings.{first_lives, maps_seen, opens, reader_opens}
+pub use Rattle.ele_files.proofs.Openings.{first_lives, maps_seen, opens}
 pub use Rattle.ele_files.proofs.Places.{its_few, its_past, ready_past, waits}
 pub use Rattle.ele_files.proofs.Restores.{IsRestored, not_lost, restored}
 pub use Rattle.ele_files.proofs.Rows.{fault-shown, file-at, file_row-found, handle_file-shown, next-found, no-file, open-shown, policy-found, reads_by-shown, reads_of}

@@ -1,5 +1,5 @@
 -- A handle that writes a file comes, and with the file's first handle a draft.
-use Rattle.ele_files.proofs.Words.{AllSessions, Bool, Draft, Err, File, Held, IsDraftKept, IsFileKept, IsRowOf, Keeps, Layout, List, LivesIn, LogRow, MatchBool, Moves, None, Ok, OnErr, OnOk, OpenHandle, Opens, Option, Result, Some, Stays, Store, Tagged, [], all-found, all-insert_before, ap, arith, changed_at, draft_in, draft_stock, empty_layout, false, file_row, file_stock, find, first_draft, flat_map, handle_in, held_in, insert_before, insert_before-map, is_draft, is_draft_after, is_id, is_numbered, is_version, length, length-append, length-map, list_any, map, map-append, nat_tests, new_draft, next_of, opened_by, option_map, option_map_or, refl, row_in, row_stock, rows_in, shown, stock_of, sum_by, sym, true, ℕ, ◌++◌, ◌+◌, ◌-◌, ◌∙◌, ◌∷◌, ◌≡◌}
+use Rattle.ele_files.proofs.Words.{AllSessions, Bool, Draft, File, IsDraftKept, IsFileKept, IsRowOf, Keeps, Layout, List, LivesIn, LogRow, MatchBool, Moves, None, OnErr, OnOk, Opens, Option, Result, Some, Stays, Store, Tagged, [], all-found, all-insert_before, ap, arith, draft_in, draft_stock, empty_layout, false, file_row, file_stock, find, first_draft, flat_map, handle_in, held_in, insert_before, insert_before-map, is_draft, is_draft_after, is_id, is_numbered, is_version, length, length-append, length-map, list_any, map, map-append, nat_tests, new_draft, next_of, opened_by, option_map, option_map_or, refl, row_in, row_stock, rows_in, shown, stock_of, sum_by, sym, true, ℕ, ◌++◌, ◌+◌, ◌-◌, ◌∙◌, ◌∷◌, ◌≡◌}
 use Rattle.ele_files.proofs.Copied.{row_copied, row_same}
 use Rattle.ele_files.proofs.Drafts.{same_drafts}
 use Rattle.ele_files.proofs.Looks.{IsSeen, versions_stay, drafts_stay}
@@ -7,7 +7,6 @@ use Rattle.ele_files.proofs.Rows.{its_id, next-found, version-of, any-draft}
 use Rattle.ele_files.proofs.Stock.{draft_begun, row_lives}
 use Rattle.ele_sessions.specs.Opening as opening
 use Rattle.ele_sessions.specs.declared.reads.Reads.TheVariants as session
-use Rattle.ele_world.specs.declared.rows.Reads.TheVariants as world_reads
 use Rattle.ele_world.specs.World as world
 
 -- the map of the version before the next one, or that of no bytes
@@ -123,18 +122,3 @@ module _ (s : Store) (files : List File) (a : AllSessions) (kept : Keeps s files
     pub opens : {T E : Type 0} (m : Layout) → m ≡ first_map f → (r : Result T E) → OnOk r (b ≡ opening.opened_by a (new_draft file f.next at m)) → OnOk r (Opens s t a.drafts file m) → OnErr r (b ≡ a) → OnErr r (t ≡ s)
         → Keeps t files b × OnOk r (held_in t files b ≡ opened_by (held_in s files a) file at)
     opens m is x2 done moved left store = grind (arith, nat_tests, opened)
-
--- a handle that reads a version comes
-module _ (s : Store) (files : List File) (a b : AllSessions) (kept : Keeps s files a) (file number : ℕ) where
-  abbrev with_reader : Held
-  with_reader = changed_at (held_in s files a) 0 (OpenHandle (a.opened + 1) (world_reads.Version file number) ∷ [])
-
-  reader_seen : IsSeen s files (opening.reader_opened a file number) with_reader
-  reader_seen = record {
-    keeps = same_drafts s files a (opening.reader_opened a file number) refl kept;
-    shows = rw (map-append handle_in a.handles (record { number = a.opened + 1; reads = session.Version file number } ∷ [])) refl;
-  }
-
-  pub reader_opens : {T E : Type 0} (r : Result T E) → OnOk r (b ≡ opening.reader_opened a file number) → OnErr r (b ≡ a) → Keeps s files b × OnOk r (held_in s files b ≡ with_reader)
-  reader_opens (Ok x) done left = rw done (reader_seen.keeps, reader_seen.shows)
-  reader_opens (Err e) done left = (rw left kept, tt)

@@ -4,7 +4,6 @@ use Rattle.ele_files.specs.Held.{handle_file}
 use Rattle.ele_sessions.specs.Sessions as sessions
 use Rattle.ele_sessions.specs.declared.entries.OpenHandle.{OpenHandle}
 use Rattle.ele_sessions.specs.declared.reads.Reads as session
-use Rattle.ele_sessions.specs.declared.reads.Reads.TheVariants as session_reads
 use Rattle.ele_world.specs.declared.rows.Reads.{Reads}
 use Rattle.ele_world.specs.World.{is_draft, is_writer}
 
