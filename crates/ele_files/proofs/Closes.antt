@@ -50,10 +50,7 @@ module _ (s : Store) (files : List File) (ss : AllSessions) (handle : ℕ) where
       pub leaves : IsGivenUp s t (given ss handle) → IsSeen t files (closed ss handle) (left_by shown handle)
       leaves = rw (reads_by-shown ss.handles handle) (by (sessions.reads_by ss.handles handle)) where
         stays : (file : ℕ) (b : Bool) → left_drafts b file ss.drafts ≡ ss.drafts → t ≡ s → IsSeen t files (without_handle ss handle file b) (changed_at shown 0 (leaving handle file false))
-        stays file b drafts gone = record {
-          keeps = rw gone (same_drafts s files ss (without_handle ss handle file b) drafts kept);
-          shows = rw (gone, drafts, handles_left) refl;
-        }
+        stays file b drafts gone = grind (arith, nat_tests, same_drafts, handles_left)
 
         ends : (file : ℕ) (b : Bool) (o : Option Draft) → find (is_draft file) ss.drafts ≡ o → IsGivenUp s t (file_closing b o).1 → IsSeen t files (without_handle ss handle file b) (changed_at shown 0 (leaving handle file (is_some (cond b None (option_map (draft_in s) o)))))
         ends file true o found gone = stays file true refl gone
@@ -64,10 +61,7 @@ module _ (s : Store) (files : List File) (ss : AllSessions) (handle : ℕ) where
 
         by : (o : Option Reads) → IsGivenUp s t (option_and_then (λ answer. answer.1) (closing_of ss handle o)) → IsSeen t files (closed_of ss handle o) (left_of shown handle (reads_of o))
         by None gone = record { keeps = rw gone kept; shows = rw gone refl }
-        by (Some (reads.Version file version)) gone = record {
-          keeps = rw gone (same_drafts s files ss (record ss { handles = left_handles ss handle }) refl kept);
-          shows = rw (gone, handles_left) refl;
-        }
+        by (Some (reads.Version file version)) gone = grind (arith, nat_tests, same_drafts, handles_left)
         by (Some (reads.Draft file)) gone = rw (last_shown file) (ends file (list_any (is_writer file) (left_handles ss handle)) (find (is_draft file) ss.drafts) refl gone)
 
 -- ---- a version is made of the draft

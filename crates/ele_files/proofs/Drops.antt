@@ -1,5 +1,5 @@
 -- A file of which nothing is held.
-use Rattle.ele_files.proofs.Words.{AllLater, AllSessions, Bool, Draft, File, FileRow, IsDraftKept, IsFileKept, IsTrue, Keeps, List, LogRow, None, Option, Some, Store, [], all-both, all-remove_first, all-weaker, ap, arith, eqb, false, false≢true, file_row, find, find-buckets, find-cut, find-position, find-remove_first, flat_map, flat_map-append, flat_map-cut, found_passes, get_or, held_in, is_bare, is_file, is_id, is_some, is_version_of, later-remove_first, list_any, map, nat_tests, not, option_and_then, option_map_or, position, refl, remove, remove_first, remove_first-at, remove_first-map, remove_first-none, remove_first-position, row_in, rows_in, stock_of, sym, true, without_file, ℕ, ◌&&◌, ◌++◌, ◌<◌, ◌↔◌, ◌∙◌, ◌∷◌, ◌≡◌, ◌≢◌}
+use Rattle.ele_files.proofs.Words.{AllLater, AllSessions, Bool, Draft, File, IsDraftKept, IsFileKept, IsTrue, Keeps, List, LogRow, None, Some, Store, [], all-both, all-remove_first, all-weaker, ap, arith, eqb, false, false≢true, file_row, find, find-buckets, find-cut, find-position, find-remove_first, flat_map, flat_map-append, flat_map-cut, found_passes, get_or, held_in, is_bare, is_file, is_id, is_some, is_version_of, later-remove_first, list_any, map, nat_tests, not, option_and_then, position, refl, remove, remove_first, remove_first-at, remove_first-map, remove_first-none, remove_first-position, row_in, rows_in, stock_of, sym, true, without_file, ℕ, ◌&&◌, ◌++◌, ◌<◌, ◌↔◌, ◌∙◌, ◌∷◌, ◌≡◌, ◌≢◌}
 use Rattle.ele_files.proofs.Asked.{any-found}
 use Rattle.ele_files.proofs.Looks.{IsSeen}
 use Rattle.ele_files.proofs.Rows.{file_of, tagged, undrafted}
@@ -75,10 +75,7 @@ module _ (s : Store) (files : List File) (a : AllSessions) (kept : Keeps s files
         ∙ ap (flat_map (rows_in s)) (sym left))))
 
     draft_stays : (d : Draft) → IsDraftKept files d × (d.file ≢ id) → IsDraftKept fewer d
-    draft_stays d h = record {
-      there = h.0.there;
-      number = rw rows_left (h.0.number ∙ ap (λ (o : Option FileRow). option_map_or (λ row. row.next) o 0) (sym (find-remove_first (is_file id) (is_file d.file) (map file_row files) (λ row is. let other = h.1 in grind (arith, nat_tests)))));
-    }
+    draft_stays d h = grind (arith, nat_tests, rows_left, find-remove_first, is_file)
 
     pub drops : IsSeen s fewer a (without_file (held_in s files a) id)
     drops = record {

@@ -77,11 +77,7 @@ module _ (f : File) (now : ℕ) (kept : IsFileKept f) (past : AllByRecursion (Is
     ends_in_time = grind (arith, nat_tests)
 
     more : (row : LogRow) → IsRowOf f.next row × Precedes row new → IsRowOf (f.next + 1) row
-    more row h = record {
-      first = h.0.first;
-      number = let below = h.0.number in omega arith;
-      open_end = λ endless. absurd (not_some row.ended (λ ended. ended ≤ now) endless h.1.ended);
-    }
+    more row h = grind (arith, nat_tests, not_some)
 
     pub closed_kept : (g : File) → HasAppended f g now new → IsFileKept g
     closed_kept g closed = record {

@@ -70,10 +70,7 @@ pub record IsReached (files : List File) (id i : ℕ) (f : File) : Type 0 where
   pub changed : (g : File) → g.id ≡ f.id → g.policy ≡ f.policy → set files i g ≡ after files id f g found
 
 pub reached : (files : List File) (id i : ℕ) (f : File) → Some i ≡ position (is_id id) files → f ≡ get_or files i f → IsReached files id i f
-reached files id i f place is = record {
-  found = file-at files id i f place is;
-  changed = λ g its_id its_policy. set-first (is_id id) (over g) files i f g (sym place) is (rw (its_id, its_policy) refl);
-}
+reached files id i f place is = grind (arith, nat_tests, file-at, set-first)
 
 -- no file has the number
 pub missing : (s : Store) (files : List File) (a : AllSessions) (kept : Keeps s files a) (id number : ℕ) → None ≡ position (is_id id) files → (find (is_version id number) (flat_map (rows_in s) files) ≡ None) × (held_in s files a ≡ without (held_in s files a) id number)

@@ -1,5 +1,5 @@
 -- All that answers use, in one place.
-pub use Rattle.ele_files.proofs.Words.{AllByRecursion, Cell, Counts, File, IsFileKept, List, LivesIn, LogRow, Meets, None, Ok, Precedes, Some, VersionRow, [], all-found, all-last, all-not_found, all-place, ap, append-nil, arith, bytes_in, cell_of, closed, content_of, different, draft_in, ended_by, file_row, filter, filter-none, find, flat_map, handle_in, has_closed_by, held_of, is_after, is_id, is_numbered, is_place, last_passing, layouts_of, left_by, length, lives_at, log_bytes, log_places, map, on_ok_weaker, opening_of, option_and_then, option_map, option_map_or, places, places_from, refl, row_in, rows_in, set, shown, slice_get, slice_get_past, slots_of, stamps_in, stamps_of, stock_of, subst, sum_by-cons, sym, take, take_all, update_first-same, update_first-unfound, ℕ, ◌++◌, ◌+◌, ◌-◌, ◌∙◌, ◌∷◌, ◌≡◌}
+pub use Rattle.ele_files.proofs.Words.{AllByRecursion, Cell, Counts, File, IsFileKept, List, LivesIn, LogRow, Meets, None, Ok, Precedes, Some, VersionRow, [], all-found, all-last, all-not_found, all-place, ap, append-nil, arith, bytes_in, cell_of, closed, content_of, different, draft_in, ended_by, file_row, filter, filter-none, find, flat_map, handle_in, has_closed_by, held_of, is_after, is_id, is_numbered, is_place, last_passing, layouts_of, left_by, length, lives_at, log_bytes, log_places, map, nat_tests, on_ok_weaker, opening_of, option_and_then, option_map, option_map_or, places, places_from, refl, row_in, rows_in, set, shown, slice_get, slice_get_past, slots_of, stamps_in, stamps_of, stock_of, subst, sum_by-cons, sym, take, take_all, update_first-same, update_first-unfound, ℕ, ◌++◌, ◌+◌, ◌-◌, ◌∙◌, ◌∷◌, ◌≡◌}
 pub use Rattle.ele_files.proofs.Appends.{added_keeps, added_shows, fresh_kept}
 pub use Rattle.ele_files.proofs.Asked.{cells-is, cells-no_row, cells-none, draft_shown, drafted, no_file, stamps-is, stamps-no_row, stamps-none}
 pub use Rattle.ele_files.proofs.Closes.{IsFinished, finished, given, given_lives, its_map, leaves, not_missing, on_err, opening_shown}

@@ -1,4 +1,4 @@
-use Rattle.ele_files.proofs.Lemmas.{[], ap, refl, sym, ◌++◌, ◌∙◌, ◌∷◌, draft-next, draft-there, draft_shown}
+use Rattle.ele_files.proofs.Lemmas.{arith, draft-next, draft-there, draft_shown, nat_tests, refl}
 use Rattle.ele_files.proofs.files.Files.draft_rows.Goals as goal
 
 pub unreachable-requires-in_default-draft : goal.unreachable-requires-in_default-draft
@@ -9,6 +9,4 @@ pub copy_cells-requires-clause-lives : goal.copy_cells-requires-clause-lives
 copy_cells-requires-clause-lives c = (draft_shown _ _ _ c.self.invariant c.in-Some.draft.0 _ c.in-Some-draft.ensures).lives _ refl
 
 pub loop-place-preserved : goal.loop-place-preserved
-loop-place-preserved c =
-    let next = draft-next c.self.inside.store c.self.inside.sessions.drafts c.drafts_open.ensures.orderly.drafts_rise c.loop-place.place c.in-Some.draft c.in-Some.ensures c.in-Some-draft.map.now c.in_ok-cells.cells c.in-Some-draft.ensures c.in_ok-cells.ensures in
-    c.in_ok-push.ensures.items ∙ (ap (λ rows. rows ++ record { file = c.in-Some.draft.0; opened = c.in-Some.draft.1; cells = c.in_ok-cells.cells; changed = c.in-Some.draft.2 } ∷ []) c.loop-place.invariant ∙ sym next)
+loop-place-preserved c = grind (arith, nat_tests, draft-next)

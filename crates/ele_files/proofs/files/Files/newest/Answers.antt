@@ -1,4 +1,4 @@
-use Rattle.ele_files.proofs.Lemmas.{Some, ap, option_map, stamps_in, sym, ◌∙◌, newest_none, newest_shown}
+use Rattle.ele_files.proofs.Lemmas.{Some, ap, newest_none, newest_shown, option_map, stamps_in, sym, ◌∙◌}
 use Rattle.ele_files.proofs.files.Files.newest.Goals as goal
 
 pub returns-in_err-held-clause-value : goal.returns-in_err-held-clause-value

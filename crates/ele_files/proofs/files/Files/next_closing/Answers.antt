@@ -1,4 +1,4 @@
-use Rattle.ele_files.proofs.Lemmas.{LogRow, ap, option_map, sym, ◌∙◌, closing_none, closing_shown}
+use Rattle.ele_files.proofs.Lemmas.{LogRow, ap, closing_none, closing_shown, option_map, sym, ◌∙◌}
 use Rattle.ele_files.proofs.files.Files.next_closing.Goals as goal
 
 pub returns-in_err-held-clause-value : goal.returns-in_err-held-clause-value

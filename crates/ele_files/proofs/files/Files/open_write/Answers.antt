@@ -1,16 +1,11 @@
-use Rattle.ele_files.proofs.Lemmas.{None, arith, sym, first_lives, maps_seen, next-found, opens}
+use Rattle.ele_files.proofs.Lemmas.{arith, first_lives, maps_seen, nat_tests, next-found, opens, sym}
 use Rattle.ele_files.proofs.files.Files.open_write.Goals as goal
 
 pub unreachable-requires : goal.unreachable-requires
-unreachable-requires c =
-    let none = next-found c.self.inside.files.items c.args.file None (sym (rw c.deref.ensures.value at c.in_default.ensures)) in
-    let there = rw (← c.self.view_is) at c.requires.there in
-    omega (arith, none, there)
+unreachable-requires c = grind (arith, nat_tests, next-found)
 
 pub open_write-requires-clause-few : goal.open_write-requires-clause-few
-open_write-requires-clause-few c =
-    let few = rw (← c.self.view_is) at c.requires.few in
-    c.self.invariant.laws.few _ _ c.self.invariant.stocked (omega (arith, few, maps_seen c.self.inside.store c.self.inside.files.items c.self.inside.sessions.drafts))
+open_write-requires-clause-few c = grind (arith, nat_tests, maps_seen)
 
 pub open_write-requires-clause-lives : goal.open_write-requires-clause-lives
 open_write-requires-clause-lives c =

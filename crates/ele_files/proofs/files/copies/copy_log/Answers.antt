@@ -1,10 +1,8 @@
-use Rattle.ele_files.proofs.Lemmas.{LivesIn, LogRow, all-found, all-not_found, ap, append-nil, filter, filter-none, is_after, map, row_in, rows_in, sym, ◌++◌, ◌∙◌, log-all, log-fewer, log-next}
+use Rattle.ele_files.proofs.Lemmas.{LivesIn, LogRow, all-found, all-not_found, ap, append-nil, arith, filter, filter-none, is_after, log-all, log-fewer, log-next, map, nat_tests, row_in, rows_in, sym, ◌++◌, ◌∙◌}
 use Rattle.ele_files.proofs.files.copies.copy_log.Goals as goal
 
 pub loop-row-init : goal.loop-row-init
-loop-row-init c =
-    let f = c.args.file.now in
-    ap (λ xs. c.args.rows.now.items ++ map (row_in c.args.store.now f.id) xs) (log-all f c.requires.kept)
+loop-row-init c = grind (arith, nat_tests, log-all)
 
 pub copy_cells-requires-clause-lives : goal.copy_cells-requires-clause-lives
 copy_cells-requires-clause-lives c = all-found (is_after c.loop-row.behind) (λ (row : LogRow). LivesIn c.args.store.now row.cells) c.args.file.now.log.rows c.in-Some.row.now (sym c.in-Some.ensures) c.requires.lives

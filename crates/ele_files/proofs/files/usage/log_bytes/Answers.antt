@@ -1,4 +1,4 @@
-use Rattle.ele_files.proofs.Lemmas.{LogRow, all-not_found, ap, arith, filter, filter-none, is_after, log_bytes, sum_by-cons, sym, log-all, log-fewer, log-left}
+use Rattle.ele_files.proofs.Lemmas.{LogRow, all-not_found, ap, arith, filter, filter-none, is_after, log-all, log-fewer, log-left, log_bytes, nat_tests, sum_by-cons}
 use Rattle.ele_files.proofs.files.usage.log_bytes.Goals as goal
 
 pub loop-row-init : goal.loop-row-init
@@ -20,7 +20,4 @@ loop-row-preserved c =
     omega (arith, c.loop-row.invariant, c.length-bytes.ensures, ap log_bytes (log-left f c.requires.kept c.loop-row.behind row c.in-Some.ensures), sum_by-cons (λ (r : LogRow). r.cells.size) row (filter (is_after row.number) f.log.rows))
 
 pub returns : goal.returns
-returns c =
-    let rows = c.args.file.now.log.rows in
-    let none = filter-none (is_after c.loop-row.behind) rows (all-not_found (is_after c.loop-row.behind) rows (sym c.in_default.ensures)) in
-    omega (arith, c.loop-row.invariant, ap log_bytes none)
+returns c = grind (arith, nat_tests, filter-none, all-not_found)

@@ -1,4 +1,4 @@
-use Rattle.ele_files.proofs.Lemmas.{List, LivesIn, LogRow, Meets, all-found, all-not_found, filter, filter-none, is_after, log_places, places_from, shown, subst, sym, log-all, log-fewer, log-left, meets_none, meets_then}
+use Rattle.ele_files.proofs.Lemmas.{List, LivesIn, LogRow, Meets, all-found, all-not_found, filter, filter-none, is_after, log-all, log-fewer, log-left, log_places, meets_none, meets_then, places_from, shown, subst, sym}
 use Rattle.ele_files.proofs.files.usage.meet_log.Goals as goal
 
 pub loop-row-init : goal.loop-row-init
