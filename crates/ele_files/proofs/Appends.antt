@@ -1,36 +1,10 @@
 -- A file's next version is appended, and the first one of a new file.
-use Rattle.std.proofs.Common.{◌≡◌, ◌≢◌, ℕ, ◌-◌, ◌<◌, Bool, true, false, ◌||◌, ◌&&◌, eqb, ltb, List, [], ◌∷◌, ◌++◌, map, Some, None, cond, refl, ap, sym, ◌∙◌, arith, ◌+◌, append-nil, subst}
-use Rattle.std.specs.Prelude.{find}
-use Rattle.std.specs.List.{AllByRecursion, flat_map}
-use Rattle.std.proofs.lemmas.Bool.Decides.{nat_tests}
-use Rattle.std.proofs.lemmas.List.{map-append}
-use Rattle.ele_blocks.specs.Layout.{Layout, shown}
-use Rattle.ele_blocks.specs.Stock.{IsStocked, StockLaws, empty_layout}
-use Rattle.ele_blocks.specs.Store.{Store}
-use Rattle.ele_files.specs.Appending.{IsRowPast, ended_rows, next_row, HasAppended}
-use Rattle.ele_content.specs.declared.cell.Cell.{Cell}
-use Rattle.ele_files.specs.Held.{Held, rows_of, GotFile, with_rows}
-use Rattle.ele_files.specs.Inside.{file_row, row_in, rows_in, held_in, row_stock, stock_of, IsRowOf, IsFileKept, IsDraftKept, Keeps, is_id}
-use Rattle.ele_files.specs.declared.file.File.{File}
+use Rattle.ele_files.proofs.Words.{AllByRecursion, AllLater, AllSessions, Append, Bool, Cell, Draft, File, FileRow, GotFile, HasAppended, Held, IsDraftKept, IsFileKept, IsLocal, IsRowOf, IsRowPast, IsStocked, Keeps, Layout, List, LogRow, None, Some, StockLaws, Store, VersionRow, World, [], after_change, all-both, all-found, all-map, all-push, all-weaker, ap, append-nil, arith, bucket_changes, cond, empty_layout, ended_at, ended_rows, eqb, false, file_row, find, find-at, flat_map, flat_map-append, held_in, insert_before, is_file, is_id, is_live, is_version, is_version_after, later-push, local-after, local-insert_before, local-update_first, ltb, map, map-all, map-append, named_live, nat_tests, next_of, next_of-numbered_other, next_of-push, next_row, not_found, numbered_on, refl, row_in, row_stock, rows_in, rows_of, shown, stock_of, subst, sym, true, update_first, update_first-at, with_file, with_name, with_rows, ℕ, ◌&&◌, ◌++◌, ◌+◌, ◌-◌, ◌<◌, ◌||◌, ◌∙◌, ◌∷◌, ◌≡◌, ◌≢◌}
 use Rattle.ele_files.proofs.Endings.{closed_kept, of_rows}
 use Rattle.ele_files.proofs.Exchanges.{after, rise_over, files_over, rows_over}
 use Rattle.ele_files.proofs.Rows.{its_id, next-found, file_of, tagged, own_version, ended_shown}
 use Rattle.ele_files.proofs.Stock.{over, row_added, file_added}
-use Rattle.ele_lists.specs.Lists.{update_first, insert_before, AllLater}
-use Rattle.ele_lists.proofs.Alls.{all-map, map-all}
-use Rattle.ele_lists.proofs.Buckets.{IsLocal, bucket_changes, local-after, local-update_first, local-insert_before}
-use Rattle.ele_lists.proofs.Edits.{all-weaker, all-both, all-found, all-push, later-push, not_found}
-use Rattle.ele_sessions.specs.Sessions.{Draft, AllSessions}
-use Rattle.ele_world.proofs.Files.{next_of-numbered_other, next_of-push}
-use Rattle.ele_world.specs.Change.{Append, after_change, numbered_on, ended_at, with_file, with_name}
-use Rattle.ele_world.specs.World.{World, is_file, is_live, is_version, is_version_after, next_of}
 use Rattle.ele_world.specs.declared.rows.Target.TheVariants as target
-use Rattle.ele_world.specs.declared.rows.VersionRow.{VersionRow}
-use Rattle.std.proofs.lemmas.Grind.{flat_map-append}
-use Rattle.ele_lists.proofs.Cuts.{find-at, update_first-at}
-use Rattle.ele_world.proofs.Created.{named_live}
-use Rattle.ele_world.specs.declared.rows.FileRow.{FileRow}
-use Rattle.ele_inode_log.specs.declared.row.VersionRow as log
 
 -- what comes in behind all
 insert_end : {X : Type 0} (p : X → Bool) (y : X) (xs : List X) → AllByRecursion (λ x. p x ≡ false) xs → insert_before p y xs ≡ xs ++ y ∷ []
@@ -50,7 +24,7 @@ with_next h id opened now live cells =
     }
 
 module _ (s : Store) (files : List File) (id : ℕ) (f g : File) (found : find (is_id id) files ≡ Some f) (rise : AllLater (λ (x y : File). x.id < y.id) files) (files_kept : AllByRecursion IsFileKept files) (opened now : ℕ) (live : Bool) (cells : Layout) (closed : HasAppended f g now (next_row f.next opened now live cells)) (past : AllByRecursion (IsRowPast now) f.log.rows) where
-  abbrev new : log.VersionRow
+  abbrev new : LogRow
   new = next_row f.next opened now live cells
 
   its_kept : IsFileKept f
@@ -76,11 +50,7 @@ module _ (s : Store) (files : List File) (id : ℕ) (f g : File) (found : find (
   }
 
   row_later : (n : ℕ) → n < f.next → (ltb id f.id || (eqb f.id id && ltb f.next n)) ≡ false
-  row_later n lt =
-      let a : ltb id f.id ≡ false = grind (arith, nat_tests, is) in
-      let b : ltb f.next n ≡ false = grind (arith, nat_tests) in
-      let e : eqb f.id id ≡ true = grind (arith, nat_tests, is) in
-      rw (a, e, b) refl
+  row_later n lt = grind (arith, nat_tests, is)
 
   none_later : AllByRecursion (λ row. is_version_after id f.next row ≡ false) (map (row_in s f.id) (ended_rows f now))
   none_later = all-map (row_in s f.id) (λ row. is_version_after id f.next row ≡ false) (ended_rows f now) (all-weaker (IsRowOf f.next) (λ row. is_version_after id f.next (row_in s f.id row) ≡ false) (ended_rows f now) (λ row h. row_later row.number h.number) (of_rows f now its_kept past))
@@ -141,10 +111,7 @@ module _ (s : Store) (files : List File) (a : AllSessions) (kept : Keeps s files
 
   -- no draft is of the file
   undrafted : AllByRecursion (λ d. d.file ≢ f.id) a.drafts
-  undrafted = all-weaker (IsDraftKept files) (λ d. d.file ≢ f.id) a.drafts (λ d k same.
-      let zero : next_of (map file_row files) f.id ≡ 0 = next-found files f.id None (not_found (is_id f.id) files others) in
-      let number : d.number ≡ next_of (map file_row files) f.id = k.number ∙ ap (next_of (map file_row files)) same in
-      omega (arith, k.there, number, zero)) kept.drafts_kept
+  undrafted = grind (arith, nat_tests, all-weaker, next-found, not_found, others)
 
   placed : after (files ++ f ∷ []) f.id f x found ≡ files ++ x ∷ []
   placed = update_first-at (is_id f.id) (over x) files f [] others (grind (arith, nat_tests)) ∙ ap (λ g. files ++ g ∷ []) (sym (rw (appended.id, appended.policy) refl))

@@ -1,33 +1,14 @@
 -- What is answered of versions, drafts and handles, as the rows show it.
-use Rattle.std.proofs.Common.{◌≡◌, ◌<◌, arith, ℕ, Bool, true, false, cond, ◌||◌, List, [], ◌∷◌, length, map, Option, Some, None, is_some, refl, sym, ap, ◌∙◌}
-use Rattle.std.specs.List.{find, flat_map, list_any}
-use Rattle.std.specs.Option.{option_map, option_map_or, option_copied}
-use Rattle.std.specs.Borrow.{Bor}
-use Rattle.ele_blocks.specs.Layout.{Layout, shown}
-use Rattle.ele_blocks.specs.LivesIn.{LivesIn}
-use Rattle.ele_blocks.specs.Store.{Store}
-use Rattle.ele_files.specs.Meant.{stamps_in}
-use Rattle.ele_world.specs.Told.{stamps_of}
-use Rattle.ele_files.specs.Held.{Held, cells_of_draft, cells_of_version}
-use Rattle.ele_files.specs.Inside.{Keeps, file_row, is_id, rows_in, draft_in, held_in}
-use Rattle.ele_files.specs.declared.file.File.{File}
+use Rattle.ele_files.proofs.Words.{AllSessions, Bool, Bor, Draft, DraftRow, File, Held, Keeps, Layout, List, LivesIn, LogRow, None, Option, Some, Store, [], ap, arith, cells_of_draft, cells_of_version, content_of, draft_in, file_row, find, flat_map, held_in, is_id, is_numbered, is_some, is_version, length, list_any, map, nat_tests, next_of, option_copied, option_map, option_map_or, refl, rows_in, shown, stamps_in, stamps_of, sym, ℕ, ◌<◌, ◌∙◌, ◌∷◌, ◌≡◌}
 use Rattle.ele_files.proofs.Stock.{draft_lives, row_lives}
 use Rattle.ele_files.proofs.Rows.{next-found, version-of, version-none, draft-found, any-draft}
-use Rattle.ele_inode_log.specs.declared.row.VersionRow as log
-use Rattle.ele_inode_log.specs.Rows.{is_numbered}
 use Rattle.ele_sessions.specs.Sessions as sessions
-use Rattle.ele_sessions.specs.Sessions.{Draft, AllSessions}
-use Rattle.ele_content.specs.Content.{content_of}
-use Rattle.ele_world.specs.declared.rows.DraftRow.{DraftRow}
-use Rattle.ele_world.specs.World.{is_version, is_draft, next_of}
+use Rattle.ele_world.specs.World.{is_draft}
 
 -- a test passes somewhere if something is found
 pub any-found : {X : Type 0} (p : X → Bool) (xs : List X) → is_some (find p xs) ≡ list_any p xs
 any-found p [] = refl
-any-found p (x ∷ xs) = elim (p x) as (λ b. is_some (cond b (Some x) (find p xs)) ≡ (b || list_any p xs)) [
-  | true ↦ refl
-  | false ↦ any-found p xs
-]
+any-found p (x ∷ xs) = grind (arith, any-found p xs)
 
 -- the stamps of a version
 module _ (s : Store) (file number : ℕ) (files : List File) (a : AllSessions) (kept : Keeps s files a) where
@@ -38,7 +19,7 @@ module _ (s : Store) (file number : ℕ) (files : List File) (a : AllSessions) (
     pub stamps-no_row : find (is_numbered number) f.log.rows ≡ None → option_map stamps_of (find (is_version file number) (flat_map (rows_in s) files)) ≡ None
     stamps-no_row none = rw (version-of s file number files kept.rise f found, none) refl
 
-    pub stamps-is : (row : log.VersionRow) → find (is_numbered number) f.log.rows ≡ Some row → option_map stamps_of (find (is_version file number) (flat_map (rows_in s) files)) ≡ Some (stamps_in row)
+    pub stamps-is : (row : LogRow) → find (is_numbered number) f.log.rows ≡ Some row → option_map stamps_of (find (is_version file number) (flat_map (rows_in s) files)) ≡ Some (stamps_in row)
     stamps-is row is = rw (version-of s file number files kept.rise f found, is, kept.laws.long s row.cells (row_lives s files a kept file (is_numbered number) f row found is)) refl
 
 -- the cells of a version
@@ -50,7 +31,7 @@ module _ (s : Store) (file number : ℕ) (files : List File) (a : AllSessions) (
     pub cells-no_row : find (is_numbered number) f.log.rows ≡ None → cells_of_version (held_in s files a) file number ≡ []
     cells-no_row none = rw (version-of s file number files kept.rise f found, none) refl
 
-    pub cells-is : (row : log.VersionRow) → find (is_numbered number) f.log.rows ≡ Some row → cells_of_version (held_in s files a) file number ≡ shown s row.cells
+    pub cells-is : (row : LogRow) → find (is_numbered number) f.log.rows ≡ Some row → cells_of_version (held_in s files a) file number ≡ shown s row.cells
     cells-is row is = rw (version-of s file number files kept.rise f found, is) refl
 
 -- a file that has a next number is there
@@ -59,15 +40,13 @@ no_file files file none there = let zero = next-found files file None none in om
 
 -- the draft of a file
 copied : (o : Option (Bor Layout)) → is_some (option_copied o) ≡ is_some o
-copied None = refl
-copied (Some m) = refl
+copied x0 = grind (arith, nat_tests)
 
 module _ (s : Store) (files : List File) (ss : AllSessions) (file : ℕ) where
   pub drafted : (o : Option (Bor Layout)) → option_copied o ≡ option_map (λ (d : Draft). d.layout) (sessions.draft_of ss file) → is_some o ≡ list_any (is_draft file) (map (draft_in s) ss.drafts)
   drafted o is = sym (copied o) ∙ (ap is_some is ∙ (same (sessions.draft_of ss file) ∙ (any-found (sessions.is_draft file) ss.drafts ∙ sym (any-draft s file ss.drafts)))) where
     same : (d : Option Draft) → is_some (option_map (λ (d : Draft). d.layout) d) ≡ is_some d
-    same None = refl
-    same (Some d) = refl
+    same x0 = grind (arith, nat_tests)
 
 -- what its map says of the draft, if there is one
 pub record IsDraftOf (s : Store) (h : Held) (file : ℕ) (o : Option Layout) : Type 0 where
@@ -76,13 +55,4 @@ pub record IsDraftOf (s : Store) (h : Held) (file : ℕ) (o : Option Layout) : T
   pub long : option_map (λ (row : DraftRow). length (content_of row.cells)) (find (is_draft file) h.drafts) ≡ option_map (λ m. m.size) o
 
 pub draft_shown : (s : Store) (files : List File) (ss : AllSessions) (kept : Keeps s files ss) (file : ℕ) (o : Option Layout) → o ≡ option_map (λ (d : Draft). d.layout) (sessions.draft_of ss file) → IsDraftOf s (held_in s files ss) file o
-draft_shown s files ss kept file o is = rw is (by (sessions.draft_of ss file) refl) where
-  by : (d : Option Draft) → sessions.draft_of ss file ≡ d → IsDraftOf s (held_in s files ss) file (option_map (λ (d : Draft). d.layout) d)
-  by None none = record { lives = λ m h. absurd cc; cells = rw (draft-found s file ss.drafts, none) refl; long = rw (draft-found s file ss.drafts, none) refl }
-  by (Some d) found =
-      let lives = draft_lives s files ss kept file d found in
-      record {
-        lives = λ m h. let same : d.layout ≡ m = cc in rw (← same) lives;
-        cells = rw (draft-found s file ss.drafts, found) refl;
-        long = rw (draft-found s file ss.drafts, found) (ap (λ n. Some n) (kept.laws.long s d.layout lives));
-      }
+draft_shown s files ss kept file o is = grind (arith, nat_tests, draft-found, draft_lives)

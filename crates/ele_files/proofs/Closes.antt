@@ -1,36 +1,12 @@
 -- What goes with a handle, and what the last writer of a changed draft leaves.
-use Rattle.std.proofs.Common.{◌≡◌, ℕ, Bool, true, false, cond, List, map, Option, Some, None, is_some, refl, ap, sym, ◌∙◌, [], ◌∷◌, get_or, Result, Ok, Err, arith}
-use Rattle.std.specs.Prelude.{find}
-use Rattle.std.specs.List.{list_any, AllByRecursion, position}
-use Rattle.std.specs.Option.{option_and_then, option_map}
-use Rattle.ele_blocks.specs.Layout.{Layout}
-use Rattle.ele_blocks.specs.LivesIn.{LivesIn}
-use Rattle.ele_blocks.specs.Store.{Store}
-use Rattle.ele_files.specs.Appending.{IsGivenUp, opening_of, next_row, HasAppended}
-use Rattle.ele_files.specs.Closing.{last_draft, changed_opening, opening_by, leaving, left_of, left_by, IsPast, finishing}
-use Rattle.ele_files.specs.Held.{Held, changed_at, Became, rows_of, with_rows, cells_of_draft}
-use Rattle.ele_files.specs.Inside.{draft_in, handle_in, held_in, Keeps, file_row, row_stock, draft_stock, stock_of, IsDraftKept, is_id}
-use Rattle.ele_files.specs.declared.file.File.{File}
+use Rattle.ele_files.proofs.Words.{AllByRecursion, AllSessions, Became, Bool, Draft, EndDraft, File, HasAppended, Held, HeldRows, IsDraftKept, IsGivenUp, IsPast, Keeps, Layout, List, LivesIn, None, Ok, OnErr, Option, Reads, Result, Rises, ShutHandle, Some, Store, [], after_changes, all-found, all-not_found, all-remove_first, ap, arith, cells_of_draft, changed_at, changed_opening, closed, closed_of, closing, closing_of, cond, draft_in, draft_stock, false, file_by, file_closing, file_row, find, finishing, get_or, handle_in, held_in, is_draft, is_id, is_some, is_writer, last_draft, leaving, left_by, left_drafts, left_handles, left_of, list_any, map, nat_tests, next_of, next_row, opening_by, opening_of, option_and_then, option_map, position, refl, remove_first, remove_first-map, remove_first-unfound, result_ok, row_stock, rows_of, set, stock_of, sym, true, with_rows, ℕ, ◌∙◌, ◌∷◌, ◌≡◌}
 use Rattle.ele_files.proofs.Drafts.{same_drafts, dropped, drafts_apart, its_file}
 use Rattle.ele_files.proofs.Looks.{IsSeen}
 use Rattle.ele_files.proofs.Rows.{draft-found, handle_file-shown, reads_by-shown, reads_of, left-shown, no-file, next-found, its_id, file_past}
 use Rattle.ele_files.proofs.Stock.{draft_lives, draft_apart}
-use Rattle.ele_lists.specs.Lists.{remove_first}
-use Rattle.ele_lists.proofs.Cuts.{remove_first-unfound}
-use Rattle.ele_lists.proofs.Edits.{all-not_found, all-found, all-remove_first}
-use Rattle.ele_lists.proofs.Shown.{remove_first-map}
-use Rattle.ele_sessions.specs.Closes.{left_handles, file_closing, left_drafts, closing_of, closing, closed_of, closed}
-use Rattle.ele_sessions.specs.Sessions.{Draft, AllSessions, is_draft, is_writer}
-use Rattle.std.proofs.Math.ListN.{set}
-use Rattle.std.specs.Result.{OnErr, result_ok}
 use Rattle.ele_files.proofs.Appends.{appended_keeps, appended_shows}
 use Rattle.ele_files.proofs.Exchanges.{IsReached, reached}
-use Rattle.ele_inode_log.specs.Rows.{HeldRows}
-use Rattle.ele_sessions.specs.Order.{Rises}
-use Rattle.ele_world.specs.Change.{ShutHandle, EndDraft, after_changes}
-use Rattle.ele_world.specs.World.{World, file_by, next_of}
 use Rattle.ele_sessions.specs.Sessions as sessions
-use Rattle.ele_sessions.specs.declared.reads.Reads.{Reads}
 use Rattle.ele_sessions.specs.declared.reads.Reads.TheVariants as reads
 use Rattle.ele_world.specs.World as world
 
@@ -55,19 +31,7 @@ module _ (s : Store) (files : List File) (ss : AllSessions) (handle : ℕ) where
   -- ---- what is asked before
 
   pub opening_shown : opening_of (option_map (λ answer. answer.0) (closing ss handle)) ≡ opening_by shown handle
-  opening_shown = rw (handle_file-shown ss.handles handle) (by (sessions.reads_by ss.handles handle)) where
-    ends : (b : Bool) (o : Option Draft) → opening_of (Some (file_closing b o).0) ≡ changed_opening (cond b None (option_map (draft_in s) o))
-    ends true o = refl
-    ends false None = refl
-    ends false (Some d) = of_change d.changed d refl where
-      of_change : (c : Bool) (d : Draft) → d.changed ≡ c → opening_of (Some (file_closing false (Some d)).0) ≡ changed_opening (Some (draft_in s d))
-      of_change true d e = rw e refl
-      of_change false d e = rw e refl
-
-    by : (o : Option Reads) → opening_of (option_map (λ answer. answer.0) (closing_of ss handle o)) ≡ option_and_then (λ file. changed_opening (last_draft shown handle file)) (result_ok (sessions.file_written o))
-    by None = refl
-    by (Some (reads.Version file version)) = refl
-    by (Some (reads.Draft file)) = rw (last_shown file) (ends (list_any (is_writer file) (left_handles ss handle)) (find (is_draft file) ss.drafts))
+  opening_shown = grind (arith, nat_tests, handle_file-shown, last_shown)
 
   -- ---- the handle is left
 
@@ -75,9 +39,7 @@ module _ (s : Store) (files : List File) (ss : AllSessions) (handle : ℕ) where
     pub given_lives : (m : Layout) → given ss handle ≡ Some m → LivesIn s m
     given_lives m = by (sessions.reads_by ss.handles handle) where
       ends : (file : ℕ) (b : Bool) (o : Option Draft) → find (is_draft file) ss.drafts ≡ o → (file_closing b o).1 ≡ Some m → LivesIn s m
-      ends file true o found is = absurd cc
-      ends file false None found is = absurd cc
-      ends file false (Some d) found is = let same : d.layout ≡ m = cc in rw (← same) (draft_lives s files ss kept file d found)
+      ends file x1 o found is = grind (arith, nat_tests, draft_lives)
 
       by : (o : Option Reads) → option_and_then (λ answer. answer.1) (closing_of ss handle o) ≡ Some m → LivesIn s m
       by None is = absurd cc
@@ -88,10 +50,7 @@ module _ (s : Store) (files : List File) (ss : AllSessions) (handle : ℕ) where
       pub leaves : IsGivenUp s t (given ss handle) → IsSeen t files (closed ss handle) (left_by shown handle)
       leaves = rw (reads_by-shown ss.handles handle) (by (sessions.reads_by ss.handles handle)) where
         stays : (file : ℕ) (b : Bool) → left_drafts b file ss.drafts ≡ ss.drafts → t ≡ s → IsSeen t files (without_handle ss handle file b) (changed_at shown 0 (leaving handle file false))
-        stays file b drafts gone = record {
-          keeps = rw gone (same_drafts s files ss (without_handle ss handle file b) drafts kept);
-          shows = rw (gone, drafts, handles_left) refl;
-        }
+        stays file b drafts gone = grind (arith, nat_tests, same_drafts, handles_left)
 
         ends : (file : ℕ) (b : Bool) (o : Option Draft) → find (is_draft file) ss.drafts ≡ o → IsGivenUp s t (file_closing b o).1 → IsSeen t files (without_handle ss handle file b) (changed_at shown 0 (leaving handle file (is_some (cond b None (option_map (draft_in s) o)))))
         ends file true o found gone = stays file true refl gone
@@ -102,10 +61,7 @@ module _ (s : Store) (files : List File) (ss : AllSessions) (handle : ℕ) where
 
         by : (o : Option Reads) → IsGivenUp s t (option_and_then (λ answer. answer.1) (closing_of ss handle o)) → IsSeen t files (closed_of ss handle o) (left_of shown handle (reads_of o))
         by None gone = record { keeps = rw gone kept; shows = rw gone refl }
-        by (Some (reads.Version file version)) gone = record {
-          keeps = rw gone (same_drafts s files ss (record ss { handles = left_handles ss handle }) refl kept);
-          shows = rw (gone, handles_left) refl;
-        }
+        by (Some (reads.Version file version)) gone = grind (arith, nat_tests, same_drafts, handles_left)
         by (Some (reads.Draft file)) gone = rw (last_shown file) (ends file (list_any (is_writer file) (left_handles ss handle)) (find (is_draft file) ss.drafts) refl gone)
 
 -- ---- a version is made of the draft
@@ -114,7 +70,6 @@ module _ (s : Store) (files : List File) (ss : AllSessions) (handle : ℕ) where
 pub record IsLast (ss : AllSessions) (handle file opened : ℕ) : Type 0 where
   pub draft : Draft
   pub found : find (is_draft file) ss.drafts ≡ Some draft
-  pub its_opening : draft.opened ≡ opened
   pub out : given ss handle ≡ Some draft.layout
   pub left : closed ss handle ≡ without_handle ss handle file false
 
@@ -135,26 +90,13 @@ module _ (s : Store) (files : List File) (ss : AllSessions) (handle file opened 
         of_file = sym (handle_file-shown ss.handles handle) ∙ ap result_ok writes
 
         of_draft : sessions.reads_by ss.handles handle ≡ Some (reads.Draft file)
-        of_draft = of_reads (sessions.reads_by ss.handles handle) of_file where
-          of_reads : (o : Option Reads) → result_ok (sessions.file_written o) ≡ Some file → o ≡ Some (reads.Draft file)
-          of_reads None is = absurd cc
-          of_reads (Some (reads.Version f version)) is = absurd cc
-          of_reads (Some (reads.Draft f)) is = let same : f ≡ file = cc in ap (λ n. Some (reads.Draft n)) same
+        of_draft = grind (arith, nat_tests, of_file)
 
         then : (d : Draft) (c : Bool) → cond c (Some d.opened) None ≡ Some opened → d.opened ≡ opened
-        then d true is = cc
-        then d false is = absurd cc
+        then d c is = grind (arith, is)
 
         by : (b : Bool) (o : Option Draft) → list_any (is_writer file) (left_handles ss handle) ≡ b → find (is_draft file) ss.drafts ≡ o → changed_opening (cond b None (option_map (draft_in s) o)) ≡ Some opened → IsLast ss handle file opened
-        by true o alone found is = absurd cc
-        by false None alone found is = absurd cc
-        by false (Some d) alone found is = record {
-          draft = d;
-          found = found;
-          its_opening = then d d.changed is;
-          out = ap (λ o. option_and_then (λ a. a.1) (closing_of ss handle o)) of_draft ∙ rw (alone, found) refl;
-          left = ap (closed_of ss handle) of_draft ∙ rw alone refl;
-        }
+        by x0 o alone found is = grind (arith, nat_tests, then, of_draft)
 
   abbrev d : Draft
   d = is_last.draft
@@ -216,5 +158,4 @@ module _ (s : Store) (files : List File) (ss : AllSessions) (handle file opened 
       finished rise = record { keeps = keeps_it rise; number = sym next_is; shows = shows_it }
 
 pub on_err : {T E : Type 0} (r : Result T E) (P : Type 0) → P → OnErr r P
-on_err (Ok x) P p = tt
-on_err (Err e) P p = p
+on_err x0 x1 p = grind (arith, nat_tests)

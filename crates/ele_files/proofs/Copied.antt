@@ -1,21 +1,8 @@
 -- A copy of a held version's map comes into the store.
-use Rattle.std.proofs.Common.{◌≡◌, ℕ, ◌+◌, ◌≤◌, Bool, List, [], ◌∷◌, map, Some, refl}
-use Rattle.std.specs.Prelude.{find}
-use Rattle.std.specs.List.{flat_map, AllByRecursion}
-use Rattle.ele_blocks.specs.Layout.{shown}
-use Rattle.ele_blocks.specs.Owes.{Moves}
-use Rattle.ele_blocks.specs.Stock.{Tagged, SameStock, ShowsSame, Stays}
-use Rattle.ele_blocks.specs.Store.{Store}
-use Rattle.ele_files.specs.Inside.{Keeps, is_id, row_stock, file_stock, draft_stock, stock_of}
-use Rattle.ele_files.specs.declared.file.File.{File}
+use Rattle.ele_files.proofs.Words.{AllByRecursion, AllSessions, Bool, File, Keeps, List, LogRow, Moves, SameStock, ShowsSame, Some, Stays, Store, Tagged, [], all-found, all-left, draft_stock, file_stock, find, flat_map, flat_map-all, is_id, map, map-all, refl, remove_first, row_stock, shown, stock_of, update_first, ℕ, ◌+◌, ◌∷◌, ◌≡◌, ◌≤◌}
 use Rattle.ele_files.proofs.Stock.{over, row_apart}
-use Rattle.ele_inode_log.specs.declared.row.VersionRow as log
-use Rattle.ele_lists.specs.Lists.{update_first, remove_first}
-use Rattle.ele_lists.proofs.Alls.{all-left, flat_map-all, map-all}
-use Rattle.ele_lists.proofs.Edits.{all-found}
-use Rattle.ele_sessions.specs.Sessions.{AllSessions}
 
-module _ (s t : Store) (files : List File) (a : AllSessions) (kept : Keeps s files a) (id : ℕ) (f : File) (found : find (is_id id) files ≡ Some f) (q : log.VersionRow → Bool) (row : log.VersionRow) (held : find q f.log.rows ≡ Some row) where
+module _ (s t : Store) (files : List File) (a : AllSessions) (kept : Keeps s files a) (id : ℕ) (f : File) (found : find (is_id id) files ≡ Some f) (q : LogRow → Bool) (row : LogRow) (held : find q f.log.rows ≡ Some row) where
   -- the stock has it too, for whatever file's later version
   pub row_copied : Moves s t [] (row.cells ∷ []) → (below : ℕ) → row.number + 1 ≤ below → (us : List Tagged) → SameStock us (record (row_stock f.id row) { below = below } ∷ stock_of files a.drafts) → Stays s t (stock_of files a.drafts) us
   row_copied moves below later us is =

@@ -1,101 +1,32 @@
 -- How far a copy of rows has come.
-use Rattle.std.proofs.Common.{◌≡◌, ℕ, ◌+◌, ◌<◌, ◌≤◌, Bool, true, false, eqb, List, [], ◌∷◌, ◌++◌, map, take, length, get_or, Option, Some, None, refl, sym, ap, ◌∙◌, arith, zero, suc, append_assoc, subst}
-use Rattle.std.specs.List.{find, filter, slice_get, flat_map, AllByRecursion}
-use Rattle.std.proofs.lemmas.List.{append-nil, map-append, take_all, take_more}
-use Rattle.std.proofs.lemmas.Grind.{flat_map-append}
-use Rattle.std.proofs.lemmas.Option.{slice_get_within, get_or_from_slice_get}
-use Rattle.std.specs.Option.{option_map}
-use Rattle.std.proofs.lemmas.Bool.Decides.{nat_tests}
-use Rattle.ele_content.specs.declared.cell.Cell.{Cell}
-use Rattle.ele_blocks.specs.declared.slot.Slot.{Slot}
-use Rattle.ele_blocks.specs.Layout.{Layout, slots_of, cell_of, cell_by, shown}
-use Rattle.ele_blocks.specs.LivesIn.{LivesIn}
-use Rattle.ele_blocks.specs.Store.{Store, bytes_at, owners_at}
-use Rattle.ele_blocks.specs.Stock.{StockLaws}
-use Rattle.ele_inode_log.specs.declared.row.VersionRow.{VersionRow}
-use Rattle.ele_files.specs.Inside.{IsFileKept, IsRowOf, row_in, draft_in}
-use Rattle.ele_files.specs.Meant.{stamps_in}
-use Rattle.ele_files.specs.declared.file.File.{File}
-use Rattle.ele_world.specs.declared.rows.Stamps.{Stamps}
-use Rattle.ele_inode_log.specs.Rows.{is_after, Precedes}
-use Rattle.ele_inode_log.specs.declared.row.VersionRow as log
-use Rattle.ele_lists.proofs.Alls.{all-got, later-weaker}
-use Rattle.ele_lists.proofs.Filters.{filter-all}
+use Rattle.ele_files.proofs.Words.{AllByRecursion, AllLater, Bool, Cell, Draft, DraftRow, File, IsFileKept, IsRowOf, Layout, List, LivesIn, LogRow, None, Option, Precedes, Slot, Some, Stamps, StockLaws, Store, [], all-got, all-weaker, ap, append_assoc, arith, bytes_at, cell_by, cell_of, draft_in, eqb, filter, filter-all, find, found_passes, get_or, get_or_from_slice_get, is_after, later-weaker, length, map, map-append, nat_tests, option_map, row_in, shown, slice_get, slice_get_within, slots_of, stamps_in, subst, suc, sym, take, take_more, true, zero, ℕ, ◌++◌, ◌+◌, ◌<◌, ◌∙◌, ◌∷◌, ◌≡◌, ◌≤◌}
 use Rattle.ele_sessions.specs.Sessions as sessions
-use Rattle.ele_sessions.specs.Sessions.{Draft}
-use Rattle.ele_world.specs.declared.rows.DraftRow.{DraftRow}
 use Rattle.ele_world.specs.declared.rows.VersionRow as world
-use Rattle.ele_lists.specs.Lists.{AllLater}
-use Rattle.ele_lists.proofs.Edits.{all-weaker, found_passes}
 
 module _ {X Y : Type 0} (g : X → Y) where
   -- one element more
   pub taken-next : (xs : List X) (i : ℕ) (x : X) → slice_get xs i ≡ Some x → map g (take (i + 1) xs) ≡ map g (take i xs) ++ g x ∷ []
   taken-next xs i x h = ap (map g) (take_more xs i x (slice_get_within xs i x h)) ∙ (map-append g (take i xs) (get_or xs i x ∷ []) ∙ ap (λ y. map g (take i xs) ++ g y ∷ []) (get_or_from_slice_get xs i x x h))
 
-  -- all of them
-  pub taken-all : (xs : List X) (i : ℕ) → slice_get xs i ≡ None → map g (take i xs) ≡ map g xs
-  taken-all [] i h = ap (map g) (take_all i [] (omega arith))
-  taken-all (y ∷ ys) zero h = absurd cc
-  taken-all (y ∷ ys) (suc i) h = ap (λ zs. g y ∷ zs) (taken-all ys i h)
-
--- the lists of one element more
-pub gathered-next : {X Y : Type 0} (g : X → List Y) (xs : List X) (i : ℕ) (x : X) → i < length xs → x ≡ get_or xs i x → flat_map g (take (i + 1) xs) ≡ flat_map g (take i xs) ++ g x
-gathered-next g xs i x lt is = ap (flat_map g) (take_more xs i x lt) ∙ (flat_map-append g (take i xs) (get_or xs i x ∷ []) ∙ ap (λ ys. flat_map g (take i xs) ++ ys) (append-nil (g (get_or xs i x)) ∙ ap g (sym is)))
-
 module _ {X : Type 0} where
-  pub got-some : (xs : List X) (i : ℕ) → i < length xs → slice_get xs i ≡ None → ⊥
-  got-some [] i lt h = omega arith
-  got-some (x ∷ xs) zero lt h = cc
-  got-some (x ∷ xs) (suc i) lt h = got-some xs i (omega arith) h
-
   -- where keys rise, an element is the first of its key
   pub found-got : (key : X → ℕ) (xs : List X) (i : ℕ) (x : X) → AllLater (λ y z. key y < key z) xs → slice_get xs i ≡ Some x → find (λ y. eqb (key y) (key x)) xs ≡ Some x
   found-got key [] i x rise h = absurd cc
-  found-got key (y ∷ ys) zero x rise h =
-      let same : y ≡ x = cc in
-      let passes : eqb (key y) (key x) ≡ true = let e : key y ≡ key x = ap key same in grind (arith, nat_tests) in
-      rw passes (ap (λ z. Some z) same)
-  found-got key (y ∷ ys) (suc i) x rise h =
-      let lt : key y < key x = all-got (λ z. key y < key z) ys i x rise.0 h in
-      let fails : eqb (key y) (key x) ≡ false = grind (arith, nat_tests) in
-      rw fails (found-got key ys i x rise.1 h)
+  found-got key (y ∷ ys) zero x rise h = grind (arith, nat_tests, h)
+  found-got key (y ∷ ys) (suc i) x rise h = grind (arith, nat_tests, all-got, found-got key ys i x rise.1 h)
 
 -- what an option's element shows
 module _ {X Y : Type 0} (g : X → Y) (o : Option X) where
-  pub shown-none : None ≡ option_map g o → o ≡ None
-  shown-none h = by o refl where
-    by : (a : Option X) → o ≡ a → o ≡ None
-    by None e = e
-    by (Some x) e = absurd (let h' = rw e at h in cc)
-
   pub shown-some : (y : Y) → Some y ≡ option_map g o → (x : X) × (o ≡ Some x) × (g x ≡ y)
-  shown-some y h = by o refl where
-    by : (a : Option X) → o ≡ a → (x : X) × (o ≡ Some x) × (g x ≡ y)
-    by None e = absurd (let h' = rw e at h in cc)
-    by (Some x) e = (x, e, let h' = rw e at h in cc)
+  shown-some y h = grind (arith, nat_tests)
 
 -- the rows that are left behind one that was found
-all-after : (behind : ℕ) (x : VersionRow) (xs : List VersionRow) → behind ≤ x.number → AllByRecursion (λ (y : VersionRow). x.number < y.number) xs → filter (is_after behind) xs ≡ xs
-all-after behind x xs le all = filter-all (is_after behind) xs (all-weaker (λ (y : VersionRow). x.number < y.number) (λ y. is_after behind y ≡ true) xs (λ y lt. grind (arith, nat_tests, le)) all)
+all-after : (behind : ℕ) (x : LogRow) (xs : List LogRow) → behind ≤ x.number → AllByRecursion (λ (y : LogRow). x.number < y.number) xs → filter (is_after behind) xs ≡ xs
+all-after behind x xs le all = filter-all (is_after behind) xs (all-weaker (λ (y : LogRow). x.number < y.number) (λ y. is_after behind y ≡ true) xs (λ y lt. grind (arith, nat_tests, le)) all)
 
-pub left-behind : (behind : ℕ) (xs : List VersionRow) (row : VersionRow) → AllLater (λ (x y : VersionRow). x.number < y.number) xs → find (is_after behind) xs ≡ Some row → filter (is_after behind) xs ≡ row ∷ filter (is_after row.number) xs
+pub left-behind : (behind : ℕ) (xs : List LogRow) (row : LogRow) → AllLater (λ (x y : LogRow). x.number < y.number) xs → find (is_after behind) xs ≡ Some row → filter (is_after behind) xs ≡ row ∷ filter (is_after row.number) xs
 left-behind behind [] row rise h = absurd cc
-left-behind behind (x ∷ xs) row rise h = elim (is_after behind x) as (λ b. is_after behind x ≡ b → filter (is_after behind) (x ∷ xs) ≡ row ∷ filter (is_after row.number) (x ∷ xs)) [
-  | true ↦ λ e.
-      let h' = rw e at h in
-      let same : x ≡ row = cc in
-      let lt : behind < x.number = grind (arith, nat_tests) in
-      let self : is_after x.number x ≡ false = grind (arith, nat_tests) in
-      let skip : filter (is_after x.number) (x ∷ xs) ≡ xs = rw self (all-after x.number x xs (omega arith) rise.0) in
-      let first : filter (is_after behind) (x ∷ xs) ≡ x ∷ filter (is_after behind) xs = rw e refl in
-      subst (λ (r : VersionRow). filter (is_after behind) (x ∷ xs) ≡ r ∷ filter (is_after r.number) (x ∷ xs)) same (first ∙ (ap (λ ys. x ∷ ys) (all-after behind x xs (omega (arith, lt)) rise.0) ∙ sym (ap (λ ys. x ∷ ys) skip)))
-  | false ↦ λ e.
-      let more = left-behind behind xs row rise.1 (rw e at h) in
-      let passes : is_after behind row ≡ true = found_passes (is_after behind) xs row (rw e at h) in
-      let fails : is_after row.number x ≡ false = grind (arith, nat_tests) in
-      rw (e, fails) more
-] refl
+left-behind behind (x ∷ xs) row rise h = grind (arith, nat_tests, h, all-after x.number x xs, all-after behind x xs, rise.0, left-behind behind xs row rise.1, found_passes (is_after behind) xs row)
 
 -- the cells of a map
 abbrev cell_from : Store → ℕ × ℕ → Cell
@@ -105,26 +36,20 @@ module _ (laws : StockLaws) (s : Store) (m : Layout) (lives : LivesIn s m) (k : 
   slot : (x : Slot) × (slice_get (slots_of s m) k ≡ Some x) × ((x.writer, x.block) ≡ cell)
   slot = shown-some (λ (x : Slot). (x.writer, x.block)) (slice_get (slots_of s m) k) cell got
 
-  pub cell-owned : 0 < owners_at s cell.1
-  cell-owned =
-      let owned : 0 < owners_at s slot.0.block = laws.owned s m k slot.0 lives slot.1 in
-      rw (ap (λ (c : ℕ × ℕ). c.1) slot.2) at owned
-
   pub cell-next : (bytes : List ℕ) → bytes ≡ bytes_at s cell.1 → map (cell_of s) (take (k + 1) (slots_of s m)) ≡ map (cell_of s) (take k (slots_of s m)) ++ record { writer = cell.0; bytes = bytes } ∷ []
   cell-next bytes is =
-      let next = taken-next (cell_of s) (slots_of s m) k slot.0 slot.1 in
       let made : cell_of s slot.0 ≡ record { writer = cell.0; bytes = bytes } = ap (cell_from s) slot.2 ∙ ap (cell_by cell.0) (sym is) in
-      next ∙ ap (λ (c : Cell). map (cell_of s) (take k (slots_of s m)) ++ c ∷ []) made
+      (taken-next (cell_of s) (slots_of s m) k slot.0 slot.1) ∙ ap (λ (c : Cell). map (cell_of s) (take k (slots_of s m)) ++ c ∷ []) made
 
 -- the rows of a log
 module _ (f : File) (kept : IsFileKept f) where
-  rise : AllLater (λ (x y : log.VersionRow). x.number < y.number) f.log.rows
-  rise = later-weaker Precedes (λ (x y : log.VersionRow). x.number < y.number) f.log.rows (λ x y p. p.number) kept.order.order
+  rise : AllLater (λ (x y : LogRow). x.number < y.number) f.log.rows
+  rise = later-weaker Precedes (λ (x y : LogRow). x.number < y.number) f.log.rows (λ x y p. p.number) kept.order.order
 
   pub log-all : filter (is_after 0) f.log.rows ≡ f.log.rows
   log-all = filter-all (is_after 0) f.log.rows (all-weaker (IsRowOf f.next) (λ row. is_after 0 row ≡ true) f.log.rows (λ row is. let h = is.first in grind (arith, nat_tests)) kept.rows)
 
-  module _ (behind : ℕ) (row : log.VersionRow) (found : Some row ≡ find (is_after behind) f.log.rows) where
+  module _ (behind : ℕ) (row : LogRow) (found : Some row ≡ find (is_after behind) f.log.rows) where
     pub log-left : filter (is_after behind) f.log.rows ≡ row ∷ filter (is_after row.number) f.log.rows
     log-left = left-behind behind f.log.rows row rise (sym found)
 

@@ -1,42 +1,11 @@
 -- The places of a file's maps, counted by the slots that were met.
-use Rattle.std.proofs.Common.{◌≡◌, ℕ, ◌+◌, ◌*◌, ◌<◌, ◌≤◌, ◌^◌, Bool, true, false, not, ◌&&◌, ◌||◌, cond, eqb, List, [], ◌∷◌, ◌++◌, map, take, length, Option, Some, None, refl, sym, ap, subst, ◌∙◌, arith, append_assoc}
-use Rattle.std.specs.List.{AllByRecursion, filter, find, flat_map, list_any, slice_get}
-use Rattle.std.specs.Option.{option_map, option_map_or}
-use Rattle.std.proofs.lemmas.Bool.Decides.{nat_tests}
-use Rattle.std.proofs.lemmas.List.{append-nil, length-map, length-take-le}
-use Rattle.std.proofs.lemmas.List.Concat.{flat_map_single}
-use Rattle.std.proofs.lemmas.List.Folds.{list_any-append}
-use Rattle.std.proofs.lemmas.List.Sums.{sum-map, sum_by-cons}
-use Rattle.ele_blocks.specs.declared.slot.Slot.{Slot}
-use Rattle.ele_blocks.specs.Layout.{Layout, cell_of, shown, slots_of}
-use Rattle.ele_blocks.specs.LivesIn.{LivesIn}
-use Rattle.ele_blocks.specs.Stock.{StockLaws}
-use Rattle.ele_blocks.specs.Store.{Store, bytes_at}
-use Rattle.ele_content.specs.declared.cell.Cell.{Cell}
-use Rattle.ele_content.specs.Content.{content_of}
-use Rattle.ele_content.specs.Place.{Place, different, is_place}
-use Rattle.ele_files.specs.Inside.{IsFileKept, Keeps, draft_in, is_id, row_in, rows_in}
-use Rattle.ele_files.specs.Met.{Counts, Meets, is_key, log_bytes, log_places}
-use Rattle.ele_files.specs.declared.file.File.{File}
+use Rattle.ele_files.proofs.Words.{AllByRecursion, AllLater, AllSessions, Bool, Cell, Counts, Draft, DraftRow, File, IsFileKept, Keeps, Layout, List, LivesIn, LogRow, Meets, None, Option, Place, Slot, Some, StockLaws, Store, Usage, VersionRow, [], all-found, all-weaker, ap, append-nil, append_assoc, arith, bytes_at, bytes_in, cell_of, cond, different, draft_in, draft_of, eqb, false, file_usage, filter, filter-buckets, find, flat_map, flat_map_single, found_passes, is_among, is_id, is_key, is_place, is_version_of, length, length-map, length-split, length-take-le, list_any, list_any-append, log_bytes, log_places, map, nat_tests, not, option_map, option_map_or, places, places_from, refl, row_in, rows_in, shown, slice_get, slots_of, subst, sum-map, sum_by-cons, sum_by-map, sum_by-same, sym, take, true, ℕ, ◌&&◌, ◌*◌, ◌++◌, ◌+◌, ◌<◌, ◌^◌, ◌||◌, ◌∙◌, ◌∷◌, ◌≡◌, ◌≤◌}
 use Rattle.ele_files.proofs.Copies.{cell-next}
 use Rattle.ele_files.proofs.Rows.{its_id}
 use Rattle.ele_files.proofs.Stock.{logs_live}
 use Rattle.ele_files.proofs.Tagged.{own_rows}
-use Rattle.ele_inode_log.specs.declared.row.VersionRow as log
-use Rattle.ele_lists.specs.Lists.{AllLater}
-use Rattle.ele_lists.proofs.Buckets.{filter-buckets}
-use Rattle.ele_lists.proofs.Edits.{all-found, all-weaker, found_passes}
-use Rattle.ele_lists.proofs.Sums.{length-split, sum_by-map, sum_by-same}
 use Rattle.ele_sessions.specs.Sessions as sessions
-use Rattle.ele_sessions.specs.Sessions.{AllSessions, Draft, draft_of}
-use Rattle.ele_world.specs.declared.Usage.{Usage}
-use Rattle.ele_world.specs.FileView.{is_version_of}
-use Rattle.ele_world.specs.NewPlaces.{is_among}
-use Rattle.ele_world.specs.FileUsage.{file_usage}
-use Rattle.ele_world.specs.Usage.{bytes_in, places, places_from}
 use Rattle.ele_world.specs.World.{is_draft}
-use Rattle.ele_world.specs.declared.rows.DraftRow.{DraftRow}
-use Rattle.ele_world.specs.declared.rows.VersionRow.{VersionRow}
 
 -- ---- different places
 
@@ -44,9 +13,7 @@ same_place : (x y : Place) → is_place x y ≡ true → (x.file ≡ y.file) × 
 same_place x y h = (grind (arith, nat_tests), grind (arith, nat_tests), grind (arith, nat_tests))
 
 is_same : (x y : Place) → is_place x y ≡ true → x ≡ y
-is_same x y h =
-    let same = same_place x y h in
-    rw (same.0, same.1, same.2) refl
+is_same x y h = grind (arith, nat_tests, same_place)
 
 turned : (x y : Place) → is_place x y ≡ is_place y x
 turned x y = grind (arith, nat_tests)
@@ -54,16 +21,7 @@ turned x y = grind (arith, nat_tests)
 -- a place behind others counts unless it is one of them
 different-push : (places : List Place) (place : Place) → different is_place (places ++ place ∷ []) ≡ different is_place places + cond (is_among places place) 0 1
 different-push [] place = refl
-different-push (x ∷ xs) place =
-    rw (list_any-append (λ y. is_place y x) xs (place ∷ []), different-push xs place, turned x place) (by (is_place place x) (is_among xs x) (is_among xs place) alike) where
-      alike : is_place place x ≡ true → is_among xs place ≡ is_among xs x
-      alike h = ap (is_among xs) (is_same place x h)
-
-      by : (b c d : Bool) → (b ≡ true → d ≡ c) → cond (c || (b || false)) 0 1 + (different is_place xs + cond d 0 1) ≡ cond c 0 1 + different is_place xs + cond (b || d) 0 1
-      by true true d same = rw (same refl) (omega arith)
-      by true false d same = rw (same refl) (omega arith)
-      by false true d same = omega arith
-      by false false d same = omega arith
+different-push (x ∷ xs) place = grind (arith, nat_tests, list_any-append, turned, is_same, different-push xs place)
 
 -- ---- one slot more
 
@@ -79,17 +37,13 @@ module _ (file slot writer : ℕ) where
     has = λ s w. has (s, w) ∙ rw (counts.has s w, list_any-append (λ p. is_place p (record { file = file; slot = s; writer = w })) (before ++ places) (met ∷ [])) (either (is_key slot writer (s, w)) (is_among (before ++ places) (record { file = file; slot = s; writer = w })));
   }) where
     one : (b : Bool) → length was + cond (not b) 1 0 ≡ different is_place (before ++ places) + cond b 0 1
-    one true = rw counts.count refl
-    one false = rw counts.count refl
+    one b = grind (arith, counts.count)
 
     itself : eqb file file ≡ true
     itself = grind (arith, nat_tests)
 
     either : (b c : Bool) → cond b true c ≡ (c || ((eqb file file && b) || false))
-    either true true = refl
-    either true false = rw itself refl
-    either false true = refl
-    either false false = rw itself refl
+    either b c = grind (arith, itself)
 
 -- ---- the slots of a map
 
@@ -102,12 +56,8 @@ pub meets_then : (file : ℕ) (was then now : List (ℕ × ℕ)) (places more : 
 meets_then file was then now places more first second before counts = subst (Counts file now) (append_assoc before places more) (second (before ++ places) (first before counts))
 
 places_from-push : (file first : ℕ) (cells : List Cell) (cell : Cell) → places_from file first (cells ++ cell ∷ []) ≡ places_from file first cells ++ record { file = file; slot = first + length cells; writer = cell.writer } ∷ []
-places_from-push file first [] cell =
-    let at : first ≡ first + 0 = omega arith in
-    ap (λ n. record { file = file; slot = n; writer = cell.writer } ∷ []) at
-places_from-push file first (c ∷ cells) cell =
-    let at : first + 1 + length cells ≡ first + length (c ∷ cells) = omega arith in
-    ap (λ ps. record { file = file; slot = first; writer = c.writer } ∷ ps) (places_from-push file (first + 1) cells cell ∙ ap (λ n. places_from file (first + 1) cells ++ record { file = file; slot = n; writer = cell.writer } ∷ []) at)
+places_from-push file first [] cell = grind (arith, nat_tests)
+places_from-push file first (c ∷ cells) cell = grind (arith, nat_tests, places_from-push file (first + 1) cells cell)
 
 module _ (laws : StockLaws) (s : Store) (m : Layout) (lives : LivesIn s m) (k : ℕ) (cell : ℕ × ℕ) (got : Some cell ≡ option_map (λ (x : Slot). (x.writer, x.block)) (slice_get (slots_of s m) k)) (within : k ≤ length (slots_of s m)) (file : ℕ) where
   abbrev so_far : List Cell
@@ -121,20 +71,17 @@ module _ (laws : StockLaws) (s : Store) (m : Layout) (lives : LivesIn s m) (k : 
 
 -- ---- the bytes of a log
 
-abbrev LogLives : Store → List log.VersionRow → Type 0
-LogLives s rows = AllByRecursion (λ (row : log.VersionRow). LivesIn s row.cells) rows
+abbrev LogLives : Store → List LogRow → Type 0
+LogLives s rows = AllByRecursion (λ (row : LogRow). LivesIn s row.cells) rows
 
-pub bytes_few : StockLaws → (s : Store) (rows : List log.VersionRow) → LogLives s rows → log_bytes rows ≤ length rows * 1048576
+pub bytes_few : StockLaws → (s : Store) (rows : List LogRow) → LogLives s rows → log_bytes rows ≤ length rows * 1048576
 bytes_few laws s [] lives = omega arith
-bytes_few laws s (row ∷ rows) lives = omega (arith, sum_by-cons (λ (r : log.VersionRow). r.cells.size) row rows, laws.short s row.cells lives.0, bytes_few laws s rows lives.1)
+bytes_few laws s (row ∷ rows) lives = omega (arith, sum_by-cons (λ (r : LogRow). r.cells.size) row rows, laws.short s row.cells lives.0, bytes_few laws s rows lives.1)
 
-pub bytes_shown : StockLaws → (s : Store) (file : ℕ) (rows : List log.VersionRow) → LogLives s rows → log_bytes rows ≡ bytes_in (map (row_in s file) rows)
-bytes_shown laws s file rows lives =
-    let bytes : VersionRow → ℕ = λ row. length (content_of row.cells) in
-    sum_by-same (λ (row : log.VersionRow). row.cells.size) (λ row. bytes (row_in s file row)) rows (all-weaker (λ (row : log.VersionRow). LivesIn s row.cells) (λ row. row.cells.size ≡ bytes (row_in s file row)) rows (λ row lives. sym (laws.long s row.cells lives)) lives)
-    ∙ sym (sum_by-map bytes (row_in s file) rows) ∙ sym (sum-map bytes (map (row_in s file) rows))
+pub bytes_shown : StockLaws → (s : Store) (file : ℕ) (rows : List LogRow) → LogLives s rows → log_bytes rows ≡ bytes_in (map (row_in s file) rows)
+bytes_shown laws s file rows lives = grind (arith, nat_tests, sum_by-same, all-weaker, sum_by-map, sum-map)
 
-pub places_shown : (s : Store) (file : ℕ) (rows : List log.VersionRow) → log_places s rows file ≡ flat_map (λ (row : VersionRow). places_from row.file 0 row.cells) (map (row_in s file) rows)
+pub places_shown : (s : Store) (file : ℕ) (rows : List LogRow) → log_places s rows file ≡ flat_map (λ (row : VersionRow). places_from row.file 0 row.cells) (map (row_in s file) rows)
 places_shown s file [] = refl
 places_shown s file (row ∷ rows) = ap (λ ps. places_from file 0 (shown s row.cells) ++ ps) (places_shown s file rows)
 

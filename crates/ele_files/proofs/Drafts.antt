@@ -1,37 +1,8 @@
 -- A draft goes, or gets another map by a write or a truncate.
-use Rattle.std.proofs.Common.{◌≡◌, ◌≢◌, ℕ, ◌<◌, Bool, true, false, cond, eqb, List, [], ◌∷◌, map, Some, refl, ap, sym, ◌∙◌, arith, ◌≤◌, length, Option, None, Result, Ok, Err}
-use Rattle.std.specs.Prelude.{find, MatchBool}
-use Rattle.std.specs.List.{flat_map, AllByRecursion}
-use Rattle.std.specs.Option.{option_map_or, IsSomeAnd, option_map}
-use Rattle.std.proofs.lemmas.Bool.Decides.{nat_tests}
-use Rattle.ele_blocks.specs.Layout.{Layout, shown}
-use Rattle.ele_blocks.specs.Owes.{Moves}
-use Rattle.ele_blocks.specs.Renews.{Renews}
-use Rattle.ele_blocks.specs.Stock.{IsEarlier, ShowsSame, Stays}
-use Rattle.ele_blocks.specs.Store.{Store}
-use Rattle.ele_files.specs.Inside.{file_row, draft_in, held_in, row_stock, file_stock, draft_stock, stock_of, IsRowOf, IsFileKept, IsDraftKept, Keeps}
-use Rattle.ele_files.specs.declared.file.File.{File}
+use Rattle.ele_files.proofs.Words.{AllByRecursion, AllLater, AllSessions, AreOrderly, Bool, Draft, DraftRow, File, Held, IsDraftKept, IsEarlier, IsFileKept, IsResized, IsRowOf, IsSomeAnd, Keeps, Layout, List, LivesIn, MatchBool, Moves, None, OnErr, OnOk, Option, Renews, Result, Rewrites, RewritesDraft, Rises, ShowsSame, Some, Stays, Store, Truncates, Writes, [], all-append, all-both, all-flat_map, all-found, all-left, all-map, all-remove_first, all-right, all-update_first, all-weaker, ap, arith, changed_by, cond, content_of, draft_by, draft_for, draft_in, draft_stock, eqb, false, false≢true, file_row, file_stock, find, fitted, fitted_by, fitted_of, flat_map, found_passes, handle_file, has_length, held_in, is_draft, is_file, length, longest_content, map, nat_tests, next_of, option_map, option_map_or, refl, remove_first, remove_first-map, rewritten_by, row_stock, shown, stock_of, sym, true, update_first, update_first-same, written_by, written_of, ℕ, ◌<◌, ◌∙◌, ◌∷◌, ◌≡◌, ◌≢◌, ◌≤◌}
 use Rattle.ele_files.proofs.Looks.{IsSeen, held_stays, versions_same}
 use Rattle.ele_files.proofs.Stock.{draft_apart, draft_changed, draft_lives}
-use Rattle.ele_lists.specs.Lists.{update_first, remove_first, AllLater}
-use Rattle.ele_lists.proofs.Alls.{all-append, all-left, all-right, all-map, all-flat_map}
-use Rattle.ele_lists.proofs.Edits.{all-weaker, all-both, all-found, all-remove_first, all-update_first, found_passes}
-use Rattle.ele_lists.proofs.Shown.{remove_first-map}
-use Rattle.ele_sessions.specs.Changes.{rewritten_by, RewritesDraft, Rewrites, Writes, Truncates, has_length}
-use Rattle.ele_sessions.specs.Order.{Rises}
-use Rattle.ele_sessions.specs.Sessions.{Draft, AllSessions, is_draft, handle_file, draft_by, draft_for}
-use Rattle.ele_world.specs.World.{next_of, is_file}
-use Rattle.ele_world.specs.declared.rows.DraftRow.{DraftRow}
-use Rattle.std.specs.Result.{OnOk, OnErr}
-use Rattle.std.proofs.lemmas.Bool.{false≢true}
-use Rattle.ele_content.specs.Content.{content_of, longest_content}
-use Rattle.ele_blocks.specs.Changes.{IsResized}
-use Rattle.ele_blocks.specs.LivesIn.{LivesIn}
-use Rattle.ele_files.specs.Held.{Held, written_of, written_by, fitted_of, fitted}
 use Rattle.ele_files.proofs.Rows.{handle_file-shown, draft-found}
-use Rattle.ele_lists.proofs.Cuts.{update_first-same}
-use Rattle.ele_sessions.specs.Orderly.{AreOrderly}
-use Rattle.ele_world.specs.Change.{changed_by, fitted_by}
 use Rattle.ele_world.specs.World as world
 use Rattle.ele_files.specs.Held as held
 use Rattle.ele_sessions.specs.Changes as session
@@ -118,20 +89,14 @@ module _ (s t : Store) (files : List File) (a b : AllSessions) (kept : Keeps s f
 
       seen : (ds : List Draft) → find (is_draft file) ds ≡ Some d → AllByRecursion (ShowsSame s t) (map draft_stock (remove_first (is_draft file) ds)) → map (draft_in t) (update_first (is_draft file) (rewritten_by now) ds) ≡ update_first (world.is_draft file) change (map (draft_in s) ds)
       seen [] h all = absurd cc
-      seen (x ∷ ds) h all = by (is_draft file x) refl (seen ds) where
-        by : (v : Bool) → is_draft file x ≡ v → (find (is_draft file) ds ≡ Some d → AllByRecursion (ShowsSame s t) (map draft_stock (remove_first (is_draft file) ds)) → map (draft_in t) (update_first (is_draft file) (rewritten_by now) ds) ≡ update_first (world.is_draft file) change (map (draft_in s) ds)) → map (draft_in t) (cond v (rewritten_by now x ∷ ds) (x ∷ update_first (is_draft file) (rewritten_by now) ds)) ≡ cond v (change (draft_in s x) ∷ map (draft_in s) ds) (draft_in s x ∷ update_first (world.is_draft file) change (map (draft_in s) ds))
-        by true e more = let h' = rw e at h in let same : x ≡ d = cc in rw (same, changed, beside ds (rw e at all)) refl
-        by false e more = let all' : AllByRecursion (ShowsSame s t) (map draft_stock (x ∷ remove_first (is_draft file) ds)) = rw e at all in rw (all'.0.same, more (rw e at h) all'.1) refl
+      seen (x ∷ ds) h all = grind (arith, nat_tests, changed, beside, seen ds)
 
 -- ---- a write or a truncate through a handle
 
 module _ (s : Store) (files : List File) (a : AllSessions) (kept : Keeps s files a) where
   -- the draft that is written through the handle lives in the store
   pub draft_by_lives : (handle : ℕ) (d : Draft) → draft_by a handle ≡ Some d → LivesIn s d.layout
-  draft_by_lives handle d = of_file (handle_file a.handles handle) where
-    of_file : (o : Option ℕ) → draft_for a o ≡ Some d → LivesIn s d.layout
-    of_file None e = absurd cc
-    of_file (Some file) e = draft_lives s files a kept file d e
+  draft_by_lives handle d = grind (arith, nat_tests, draft_lives)
 
   abbrev rows : Held
   rows = held_in s files a
@@ -141,17 +106,7 @@ module _ (s : Store) (files : List File) (a : AllSessions) (kept : Keeps s files
   length_is file size d found = ap (λ n. eqb n size) (kept.laws.long s d.layout (draft_lives s files a kept file d found))
 
   pub length_seen : (handle size : ℕ) → held.has_length rows handle size ≡ true → (has_length size (draft_by a handle) ≡ true) × (size ≤ longest_content)
-  length_seen handle size has = of_file (handle_file a.handles handle) (rw (handle_file-shown a.handles handle) at has) where
-    of_draft : (file : ℕ) (o : Option Draft) → find (is_draft file) a.drafts ≡ o → option_map_or (λ row. eqb (length (content_of row.cells)) size) (option_map (draft_in s) o) false ≡ true → (has_length size o ≡ true) × (size ≤ longest_content)
-    of_draft file None found e = absurd (false≢true e)
-    of_draft file (Some d) found e =
-        let long : eqb d.layout.size size ≡ true = rw (length_is file size d found) at e in
-        let is : d.layout.size ≡ size = grind (arith, nat_tests) in
-        (long, omega (arith, is, kept.laws.short s d.layout (draft_lives s files a kept file d found)))
-
-    of_file : (o : Option ℕ) → held.has_length_of rows o size ≡ true → (has_length size (draft_for a o) ≡ true) × (size ≤ longest_content)
-    of_file None e = absurd (false≢true e)
-    of_file (Some file) e = of_draft file (find (is_draft file) a.drafts) refl (rw (draft-found s file a.drafts) at e)
+  length_seen handle size has = grind (arith, nat_tests, handle_file-shown, false≢true, length_is, draft_lives, draft-found)
 
   module _ (t : Store) (b : AllSessions) (orderly : AreOrderly a) where
     stays : session.Stays s t a b → IsSeen t files b rows
@@ -180,8 +135,7 @@ module _ (s : Store) (files : List File) (a : AllSessions) (kept : Keeps s files
     written : (handle offset : ℕ) (bytes : List ℕ) → Writes s t a b handle offset bytes → IsSeen t files b (written_by rows handle offset bytes)
     written handle offset [] h = by (held.handle_file rows.handles handle) where
       by : (o : Option ℕ) → IsSeen t files b (written_of rows o offset [])
-      by None = stays h
-      by (Some file) = stays h
+      by x0 = grind (arith, nat_tests, stays)
     written handle offset (byte ∷ bytes) h = rewrites handle _ (λ number. changed_by number offset (byte ∷ bytes)) (λ o. written_of rows o offset (byte ∷ bytes)) (λ file. refl)
         (λ file e r. record { moves = r.how.moves; renewed = _; renews = r.how.renews; changed = rw r.how.cells refl }) h
 
@@ -206,8 +160,7 @@ module _ (s : Store) (files : List File) (a : AllSessions) (kept : Keeps s files
     -- whatever the call answers
     module _ {T E : Type 0} where
       answered : (r : Result T E) (P : Type 0) (h : Held) → (P → IsSeen t files b h) → OnOk r P → OnErr r (session.Stays s t a b) → Keeps t files b × OnOk r (held_in t files b ≡ h)
-      answered (Ok x) P h seen done left = ((seen done).keeps, (seen done).shows)
-      answered (Err e) P h seen done left = ((stays left).keeps, tt)
+      answered x0 x1 h seen done left = grind (arith, nat_tests, stays)
 
       pub wrote : (handle offset : ℕ) (bytes : List ℕ) (r : Result T E) → OnOk r (Writes s t a b handle offset bytes) → OnErr r (session.Stays s t a b) → Keeps t files b × OnOk r (held_in t files b ≡ written_by rows handle offset bytes)
       wrote handle offset bytes r = answered r (Writes s t a b handle offset bytes) (written_by rows handle offset bytes) (written handle offset bytes)

@@ -1,31 +1,10 @@
 -- A file of which nothing is held.
-use Rattle.std.proofs.Common.{◌≡◌, ◌≢◌, ℕ, ◌<◌, Bool, true, false, not, ◌&&◌, eqb, List, [], ◌∷◌, ◌++◌, get_or, map, Option, Some, None, is_some, refl, ap, sym, ◌∙◌, arith}
-use Rattle.std.specs.Prelude.{find, IsTrue, ◌↔◌}
-use Rattle.std.specs.List.{flat_map, list_any, position, remove}
-use Rattle.std.specs.Option.{option_and_then, option_map_or}
-use Rattle.std.proofs.lemmas.Bool.{false≢true}
-use Rattle.std.proofs.lemmas.Bool.Decides.{nat_tests}
-use Rattle.std.proofs.lemmas.Grind.{flat_map-append}
-use Rattle.ele_blocks.specs.Store.{Store}
-use Rattle.ele_files.specs.Held.{is_bare, without_file}
-use Rattle.ele_files.specs.Inside.{IsDraftKept, IsFileKept, Keeps, file_row, row_in, rows_in, held_in, is_id, stock_of}
-use Rattle.ele_files.specs.declared.file.File.{File}
+use Rattle.ele_files.proofs.Words.{AllLater, AllSessions, Bool, Draft, File, IsDraftKept, IsFileKept, IsTrue, Keeps, List, LogRow, None, Some, Store, [], all-both, all-remove_first, all-weaker, ap, arith, eqb, false, false≢true, file_row, find, find-buckets, find-cut, find-position, find-remove_first, flat_map, flat_map-append, flat_map-cut, found_passes, get_or, held_in, is_bare, is_file, is_id, is_some, is_version_of, later-remove_first, list_any, map, nat_tests, not, option_and_then, position, refl, remove, remove_first, remove_first-at, remove_first-map, remove_first-none, remove_first-position, row_in, rows_in, stock_of, sym, true, without_file, ℕ, ◌&&◌, ◌++◌, ◌<◌, ◌↔◌, ◌∙◌, ◌∷◌, ◌≡◌, ◌≢◌}
 use Rattle.ele_files.proofs.Asked.{any-found}
 use Rattle.ele_files.proofs.Looks.{IsSeen}
 use Rattle.ele_files.proofs.Rows.{file_of, tagged, undrafted}
 use Rattle.ele_files.proofs.Stock.{file_dropped}
-use Rattle.ele_inode_log.specs.declared.row.VersionRow as log
-use Rattle.ele_lists.specs.Lists.{remove_first, AllLater}
-use Rattle.ele_lists.proofs.Buckets.{find-buckets}
-use Rattle.ele_lists.proofs.Edits.{all-both, all-remove_first, all-weaker, find-remove_first, found_passes, later-remove_first}
-use Rattle.ele_lists.proofs.Cuts.{find-cut, flat_map-cut, remove_first-at}
-use Rattle.ele_lists.proofs.Places.{find-position, remove_first-none, remove_first-position}
-use Rattle.ele_lists.proofs.Shown.{remove_first-map}
-use Rattle.ele_sessions.specs.Sessions.{Draft, AllSessions}
-use Rattle.ele_world.specs.FileView.{is_version_of}
-use Rattle.ele_world.specs.declared.rows.FileRow.{FileRow}
 use Rattle.ele_world.specs.World as world
-use Rattle.ele_world.specs.World.{is_file, next_of}
 
 module _ (s : Store) (id : ℕ) (files : List File) (rise : AllLater (λ (x y : File). x.id < y.id) files) where
   found_in : find (is_version_of id) (flat_map (rows_in s) files) ≡ option_and_then (λ f. find (is_version_of id) (rows_in s f)) (find (is_id id) files)
@@ -42,7 +21,7 @@ module _ (s : Store) (id : ℕ) (files : List File) (rise : AllLater (λ (x y : 
   -- whether it has any
   pub any_held : (f : File) → find (is_id id) files ≡ Some f → (none : Bool) → IsTrue none ↔ (f.log.rows ≡ []) → not none ≡ list_any (is_version_of id) (flat_map (rows_in s) files)
   any_held f found none is = by none f.log.rows is ∙ sym (held_by f found) where
-    by : (b : Bool) (rows : List log.VersionRow) → IsTrue b ↔ (rows ≡ []) → not b ≡ list_any (is_version_of id) (map (row_in s f.id) rows)
+    by : (b : Bool) (rows : List LogRow) → IsTrue b ↔ (rows ≡ []) → not b ≡ list_any (is_version_of id) (map (row_in s f.id) rows)
     by true rows h = rw (h.0 refl) refl
     by false [] h = absurd (false≢true (h.1 refl))
     by false (row ∷ rows) h = let e : eqb f.id id ≡ true = found_passes (is_id id) files f found in rw e refl
@@ -50,9 +29,7 @@ module _ (s : Store) (id : ℕ) (files : List File) (rise : AllLater (λ (x y : 
 -- ---- the file's row goes
 
 neither : (a b : Bool) → (not a && not b) ≡ true → (a ≡ false) × (b ≡ false)
-neither true b h = absurd (false≢true h)
-neither false true h = absurd (false≢true h)
-neither false false h = (refl, refl)
+neither a b h = (grind (arith, h), grind (arith, h))
 
 some_item : {X : Type 0} (p : X → Bool) (xs : List X) (i : ℕ) → Some i ≡ position p xs → X
 some_item p [] i at = absurd cc
@@ -61,7 +38,7 @@ some_item p (x ∷ xs) i at = x
 -- each row is a version
 no_rows : (s : Store) (id : ℕ) (f : File) → is_id id f ≡ true → list_any (is_version_of id) (rows_in s f) ≡ false → f.log.rows ≡ []
 no_rows s id f is none = by f.log.rows none where
-  by : (rows : List log.VersionRow) → list_any (is_version_of id) (map (row_in s f.id) rows) ≡ false → rows ≡ []
+  by : (rows : List LogRow) → list_any (is_version_of id) (map (row_in s f.id) rows) ≡ false → rows ≡ []
   by [] h = refl
   by (row ∷ rows) h = absurd (false≢true (sym (rw is at h)))
 
@@ -98,10 +75,7 @@ module _ (s : Store) (files : List File) (a : AllSessions) (kept : Keeps s files
         ∙ ap (flat_map (rows_in s)) (sym left))))
 
     draft_stays : (d : Draft) → IsDraftKept files d × (d.file ≢ id) → IsDraftKept fewer d
-    draft_stays d h = record {
-      there = h.0.there;
-      number = rw rows_left (h.0.number ∙ ap (λ (o : Option FileRow). option_map_or (λ row. row.next) o 0) (sym (find-remove_first (is_file id) (is_file d.file) (map file_row files) (λ row is. let other = h.1 in grind (arith, nat_tests)))));
-    }
+    draft_stays d h = grind (arith, nat_tests, rows_left, find-remove_first, is_file)
 
     pub drops : IsSeen s fewer a (without_file (held_in s files a) id)
     drops = record {

@@ -1,103 +1,57 @@
 -- The rows of a file when its next version closes.
-use Rattle.std.proofs.Common.{◌≡◌, ℕ, ◌+◌, ◌-◌, ◌<◌, ◌≤◌, Bool, true, false, cond, eqb, List, [], ◌∷◌, Option, Some, None, refl, ap, ◌∙◌, arith}
-use Rattle.std.specs.Prelude.{find, is_some, unwrap_or, IfSome, IsSomeAnd}
-use Rattle.std.specs.List.{AllByRecursion}
-use Rattle.std.proofs.lemmas.Bool.Decides.{nat_tests}
-use Rattle.ele_blocks.specs.Layout.{Layout}
-use Rattle.ele_files.specs.Appending.{IsRowPast, ended_by, ended_rows, next_row, HasRows, HasAppended}
-use Rattle.ele_files.specs.Inside.{IsRowOf, IsFileKept}
-use Rattle.ele_files.specs.declared.file.File.{File}
-use Rattle.ele_inode_log.specs.declared.row.VersionRow as log
-use Rattle.ele_inode_log.specs.Rows.{AllLater, AreInOrder, Precedes, EndsInTime, CanEndAt, is_numbered, last_of, update_last, ended_at}
-use Rattle.ele_lists.specs.Lists.{update_first}
-use Rattle.ele_lists.proofs.Alls.{all-append}
-use Rattle.ele_lists.proofs.Edits.{all-weaker, all-both, all-found, all-update_first, later-update_first, later-push}
+use Rattle.ele_files.proofs.Words.{AllByRecursion, AllLater, AreInOrder, Bool, CanEndAt, EndsInTime, File, HasAppended, HasRows, IsFileKept, IsRowOf, IsRowPast, IsSomeAnd, Layout, List, LogRow, None, Option, Precedes, Some, [], all-append, all-both, all-found, all-update_first, all-weaker, ap, arith, ended_by, ended_rows, eqb, false, find, is_numbered, is_some, last_of, later-push, later-update_first, nat_tests, next_row, refl, true, update_first, update_last, ℕ, ◌+◌, ◌-◌, ◌∙◌, ◌∷◌, ◌≡◌, ◌≤◌}
+use Rattle.ele_inode_log.specs.Rows.{ended_at}
 
 -- a row without an end is the last
-pub record IsLastRow (rows : List log.VersionRow) (number now : ℕ) (row : log.VersionRow) : Type 0 where
+pub record IsLastRow (rows : List LogRow) (number now : ℕ) (row : LogRow) : Type 0 where
   pub last : last_of rows ≡ Some row
   pub ended : update_last (ended_at now) rows ≡ update_first (is_numbered number) (ended_by now) rows
 
 not_some : (o : Option ℕ) (P : ℕ → Type 0) → o ≡ None → IsSomeAnd o P → ⊥
-not_some None P e h = h
-not_some (Some n) P e h = cc
+not_some o P e h = rw e at h
 
-pub last_row : (rows : List log.VersionRow) (number now : ℕ) (row : log.VersionRow) → AllLater Precedes rows → find (is_numbered number) rows ≡ Some row → row.ended ≡ None → IsLastRow rows number now row
+pub last_row : (rows : List LogRow) (number now : ℕ) (row : LogRow) → AllLater Precedes rows → find (is_numbered number) rows ≡ Some row → row.ended ≡ None → IsLastRow rows number now row
 last_row [] number now row order found endless = absurd cc
-last_row (x ∷ []) number now row order found endless = elim (eqb x.number number) as (λ b. eqb x.number number ≡ b → IsLastRow (x ∷ []) number now row) [
-  | true ↦ λ e.
-      let h = rw e at found in
-      let is : x ≡ row = cc in
-      record { last = ap (λ r. Some r) is; ended = rw (e, is, endless) refl }
-  | false ↦ λ e. absurd (let h = rw e at found in cc)
-] refl
+last_row (x ∷ []) number now row order found endless = record { last = grind (arith, nat_tests, found); ended = grind (arith, nat_tests, found, endless) }
 last_row (x ∷ y ∷ rows) number now row order found endless = elim (eqb x.number number) as (λ b. eqb x.number number ≡ b → IsLastRow (x ∷ y ∷ rows) number now row) [
   | true ↦ λ e.
       let h = rw e at found in
       let is : x ≡ row = cc in
-      absurd (not_some x.ended (λ ended. ended ≤ y.closed) (ap (λ (r : log.VersionRow). r.ended) is ∙ endless) order.0.0.ended)
+      absurd (not_some x.ended (λ ended. ended ≤ y.closed) (ap (λ (r : LogRow). r.ended) is ∙ endless) order.0.0.ended)
   | false ↦ λ e.
       let rest = last_row (y ∷ rows) number now row order.1 (rw e at found) endless in
       record { last = rest.last; ended = rw e (ap (λ rs. x ∷ rs) rest.ended) }
 ] refl
 
-pub can_end : (rows : List log.VersionRow) (number now : ℕ) (row : log.VersionRow) → AllByRecursion (IsRowPast now) rows → AllLater Precedes rows → find (is_numbered number) rows ≡ Some row → row.ended ≡ None → IsSomeAnd (last_of rows) (CanEndAt now)
+pub can_end : (rows : List LogRow) (number now : ℕ) (row : LogRow) → AllByRecursion (IsRowPast now) rows → AllLater Precedes rows → find (is_numbered number) rows ≡ Some row → row.ended ≡ None → IsSomeAnd (last_of rows) (CanEndAt now)
 can_end rows number now row past order found endless =
     let is = last_row rows number now row order found endless in
     rw is.last (record { no_end = endless; closed = (all-found (is_numbered number) (IsRowPast now) rows row found past).closed })
 
 pub no_end : (o : Option ℕ) → is_some o ≡ false → o ≡ None
-no_end None h = refl
-no_end (Some ended) h = absurd cc
+no_end o h = grind arith
 
 -- a row that has an end keeps it
-pub keeps_end : (now : ℕ) (row : log.VersionRow) → is_some row.ended ≡ true → ended_by now row ≡ row
-keeps_end now row has = ap (λ o. record row { ended = o }) (by row.ended has) where
-  by : (o : Option ℕ) → is_some o ≡ true → Some (unwrap_or o now) ≡ o
-  by None h = absurd cc
-  by (Some ended) h = refl
+pub keeps_end : (now : ℕ) (row : LogRow) → is_some row.ended ≡ true → ended_by now row ≡ row
+keeps_end now row has = grind (arith, has)
 
-module _ (next now : ℕ) (new : log.VersionRow) (number : new.number ≡ next) (closed : new.closed ≡ now) where
+module _ (next now : ℕ) (new : LogRow) (number : new.number ≡ next) (closed : new.closed ≡ now) where
   -- no row stands behind that before the next one
-  none_behind : (x : log.VersionRow) (rows : List log.VersionRow) → x.number + 1 ≡ next → AllByRecursion (Precedes x) rows → AllByRecursion (IsRowOf next) rows → AllByRecursion (λ row. Precedes row new) rows
+  none_behind : (x : LogRow) (rows : List LogRow) → x.number + 1 ≡ next → AllByRecursion (Precedes x) rows → AllByRecursion (IsRowOf next) rows → AllByRecursion (λ row. Precedes row new) rows
   none_behind x [] is later known = tt
   none_behind x (y ∷ rows) is later known = absurd (let a = later.0.number in let b = known.0.number in omega arith)
 
-  pub all_precede : (rows : List log.VersionRow) → AllLater Precedes rows → AllByRecursion (IsRowOf next) rows → AllByRecursion (IsRowPast now) rows → AllByRecursion (λ row. Precedes row new) (update_first (is_numbered (next - 1)) (ended_by now) rows)
+  pub all_precede : (rows : List LogRow) → AllLater Precedes rows → AllByRecursion (IsRowOf next) rows → AllByRecursion (IsRowPast now) rows → AllByRecursion (λ row. Precedes row new) (update_first (is_numbered (next - 1)) (ended_by now) rows)
   all_precede [] order known past = tt
-  all_precede (x ∷ rows) order known past = elim (eqb x.number (next - 1)) as (λ b. eqb x.number (next - 1) ≡ b → AllByRecursion (λ row. Precedes row new) (cond b (ended_by now x ∷ rows) (x ∷ update_first (is_numbered (next - 1)) (ended_by now) rows))) [
-    | true ↦ λ e.
-        let below : x.number < next = known.0.number in
-        let is : x.number ≡ next - 1 = grind (arith, nat_tests) in
-        (record { number = rw number below; ended = rw closed (ends x.ended past.0.ended) }, none_behind x rows (omega arith) order.0 known.1)
-    | false ↦ λ e.
-        let below : x.number < next = known.0.number in
-        (record { number = rw number below; ended = rw closed (has x.ended refl past.0.ended e) }, all_precede rows order.1 known.1 past.1)
-  ] refl where
-    ends : (o : Option ℕ) → IfSome o (λ ended. ended ≤ now) → unwrap_or o now ≤ now
-    ends None h = omega arith
-    ends (Some ended) h = h
-
-    has : (o : Option ℕ) → x.ended ≡ o → IfSome o (λ ended. ended ≤ now) → eqb x.number (next - 1) ≡ false → IsSomeAnd o (λ ended. ended ≤ now)
-    has None endless h e =
-        let is : x.number + 1 ≡ next = known.0.open_end endless in
-        let same : x.number ≡ next - 1 = omega arith in
-        absurd (grind (arith, nat_tests))
-    has (Some ended) endless h e = h
+  all_precede (x ∷ rows) order known past = grind (arith, nat_tests, none_behind, all_precede rows order.1 known.1 past.1)
 
 -- a file whose version before the next one ends
 module _ (f : File) (now : ℕ) (kept : IsFileKept f) (past : AllByRecursion (IsRowPast now) f.log.rows) where
-  ended_in_time : (row : log.VersionRow) → EndsInTime row × IsRowPast now row → EndsInTime (ended_by now row)
-  ended_in_time row h = by row.ended h.0 where
-    by : (o : Option ℕ) → IfSome o (λ ended. row.closed ≤ ended) → row.closed ≤ unwrap_or o now
-    by None ends = h.1.closed
-    by (Some ended) ends = ends
+  ended_in_time : (row : LogRow) → EndsInTime row × IsRowPast now row → EndsInTime (ended_by now row)
+  ended_in_time row h = let e = h.0 in let p = h.1.closed in grind (arith, e, p)
 
-  ended_before : (x y : log.VersionRow) → Precedes x y → Precedes (ended_by now x) y
-  ended_before x y h = record { number = h.number; ended = by x.ended h.ended } where
-    by : (o : Option ℕ) → IsSomeAnd o (λ ended. ended ≤ y.closed) → unwrap_or o now ≤ y.closed
-    by None ends = absurd ends
-    by (Some ended) ends = ends
+  ended_before : (x y : LogRow) → Precedes x y → Precedes (ended_by now x) y
+  ended_before x y h = record { number = h.number; ended = let e = h.ended in grind (arith, e) }
 
   pub of_rows : AllByRecursion (IsRowOf f.next) (ended_rows f now)
   of_rows = all-update_first (is_numbered (f.next - 1)) (IsRowOf f.next) (IsRowOf f.next) (ended_by now) f.log.rows (λ row h. record { first = h.first; number = h.number; open_end = λ endless. absurd cc }) (λ row h. h) kept.rows
@@ -113,24 +67,17 @@ module _ (f : File) (now : ℕ) (kept : IsFileKept f) (past : AllByRecursion (Is
 
   -- and the row of its next version
   module _ (opened : ℕ) (live : Bool) (cells : Layout) where
-    abbrev new : log.VersionRow
+    abbrev new : LogRow
     new = next_row f.next opened now live cells
 
     before_new : AllByRecursion (λ row. Precedes row new) (ended_rows f now)
     before_new = all_precede f.next now new refl refl f.log.rows kept.order.order kept.rows past
 
     ends_in_time : EndsInTime new
-    ends_in_time = by live where
-      by : (b : Bool) → IfSome (cond b None (Some now)) (λ ended. now ≤ ended)
-      by true = tt
-      by false = omega arith
+    ends_in_time = grind (arith, nat_tests)
 
-    more : (row : log.VersionRow) → IsRowOf f.next row × Precedes row new → IsRowOf (f.next + 1) row
-    more row h = record {
-      first = h.0.first;
-      number = let below = h.0.number in omega arith;
-      open_end = λ endless. absurd (not_some row.ended (λ ended. ended ≤ now) endless h.1.ended);
-    }
+    more : (row : LogRow) → IsRowOf f.next row × Precedes row new → IsRowOf (f.next + 1) row
+    more row h = grind (arith, nat_tests, not_some)
 
     pub closed_kept : (g : File) → HasAppended f g now new → IsFileKept g
     closed_kept g closed = record {

@@ -1,33 +1,16 @@
 -- The version before a file's next one ends.
-use Rattle.std.proofs.Common.{◌≡◌, ℕ, ◌-◌, List, map, flat_map, get_or, Some, None, refl, ap, ◌∙◌}
-use Rattle.std.proofs.Math.ListN.{set}
-use Rattle.std.specs.List.{AllByRecursion, position}
-use Rattle.ele_blocks.specs.Store.{Store}
-use Rattle.ele_files.specs.Appending.{ended_rows, HasRows}
-use Rattle.ele_files.specs.Closing.{IsPast}
-use Rattle.ele_files.specs.Held.{current_ended}
-use Rattle.ele_files.specs.Inside.{Keeps, file_row, row_in, rows_in, held_in, is_id, stock_of}
-use Rattle.ele_files.specs.declared.file.File.{File}
+use Rattle.ele_files.proofs.Words.{AllByRecursion, AllSessions, File, HasRows, IsPast, Keeps, List, None, Some, Store, all-not_found, ap, arith, bucket_changes, current_ended, ended_at, ended_rows, flat_map, get_or, held_in, is_id, is_version, local-update_first, map, nat_tests, position, refl, row_in, rows_in, set, stock_of, update_first, update_first-unfound, ℕ, ◌-◌, ◌∙◌, ◌≡◌}
 use Rattle.ele_files.proofs.Endings.{ended_kept}
 use Rattle.ele_files.proofs.Exchanges.{IsReached, reached, after, rise_over, files_over, drafts_over, rows_same}
 use Rattle.ele_files.proofs.Looks.{IsSeen}
 use Rattle.ele_files.proofs.Places.{its_kept, its_past}
 use Rattle.ele_files.proofs.Rows.{file_of, tagged, own_version, ended_shown, its_id, next-found, no-file, version-none}
 use Rattle.ele_files.proofs.Stock.{over, rows_ended}
-use Rattle.ele_lists.specs.Lists.{update_first}
-use Rattle.ele_lists.proofs.Buckets.{bucket_changes, local-update_first}
-use Rattle.ele_lists.proofs.Cuts.{update_first-unfound}
-use Rattle.ele_lists.proofs.Edits.{all-not_found}
-use Rattle.ele_sessions.specs.Sessions.{AllSessions}
-use Rattle.ele_world.specs.Change.{ended_at}
-use Rattle.ele_world.specs.World.{is_version, next_of}
 
 module _ (s : Store) (files : List File) (a : AllSessions) (kept : Keeps s files a) (id now : ℕ) where
   -- no file has the number
   pub none_ends : None ≡ position (is_id id) files → held_in s files a ≡ current_ended (held_in s files a) id now
-  none_ends none =
-      let number : ℕ = next_of (map file_row files) id - 1 in
-      rw (update_first-unfound (is_version id number) (ended_at now) (flat_map (rows_in s) files) (all-not_found (is_version id number) (flat_map (rows_in s) files) (version-none s id number files kept.rise (no-file files id none)))) refl
+  none_ends none = grind (arith, nat_tests, update_first-unfound, all-not_found, version-none, no-file)
 
   module _ (i : ℕ) (f g : File) (place : Some i ≡ position (is_id id) files) (is : f ≡ get_or files i f) (past : AllByRecursion (IsPast now) (held_in s files a).versions) (ended : HasRows f g (ended_rows f now)) where
     abbrev at : IsReached files id i f

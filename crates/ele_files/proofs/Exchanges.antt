@@ -1,33 +1,8 @@
 -- One file has other rows: as many, or one fewer.
-use Rattle.std.proofs.Common.{◌≡◌, ℕ, ◌<◌, Bool, List, ◌∷◌, ◌++◌, map, Some, refl, ap, sym, ◌∙◌, true, false, cond, not, eqb, [], length, get_or, None, arith}
-use Rattle.std.specs.Prelude.{find, filter}
-use Rattle.std.specs.List.{AllByRecursion, flat_map, position}
-use Rattle.std.specs.Option.{option_map}
-use Rattle.ele_blocks.specs.Store.{Store}
-use Rattle.ele_files.specs.Inside.{file_row, row_in, rows_in, held_in, IsFileKept, IsDraftKept, Keeps, is_id, stock_of, row_stock, IsRowOf}
-use Rattle.ele_files.specs.declared.file.File.{File}
+use Rattle.ele_files.proofs.Words.{AllByRecursion, AllLater, AllSessions, Bool, Draft, EndsInTime, File, FileRow, HeldRows, IsDraftKept, IsFileKept, IsRowOf, Keeps, List, LivesIn, LogRow, Moves, None, Precedes, Some, Stays, Store, VersionRow, [], all-found, all-not_found, all-remove_first, all-update_first, all-weaker, ap, arith, bucket_changes, content_of, file_row, filter, find, find-cut, flat_map, get_or, held_in, is_file, is_id, is_numbered, is_other, is_version, later-remove_first, later-update_first, length, local-remove_first, map, nat_tests, option_map, position, refl, remove_first, remove_first-map, remove_first-unfound, row_in, row_stock, rows_in, set, set-first, stock_of, sym, update_first, update_first-at, update_first-map, update_first-same, without, ℕ, ◌++◌, ◌<◌, ◌∙◌, ◌∷◌, ◌≡◌}
 use Rattle.ele_files.proofs.Rows.{file_row-found, file_of, tagged, file-at, no-file, its_id, own_version, same_number, version-of, version-none}
 use Rattle.ele_files.proofs.Stock.{over, rows_stay, row_apart, row_lives}
-use Rattle.ele_lists.specs.Lists.{update_first, AllLater, remove_first}
-use Rattle.ele_lists.proofs.Buckets.{bucket_changes, local-remove_first}
-use Rattle.ele_lists.proofs.Cuts.{find-cut, update_first-at, update_first-same, remove_first-unfound}
-use Rattle.ele_lists.proofs.Edits.{all-update_first, all-weaker, later-update_first, all-found, all-remove_first, all-not_found, later-remove_first}
-use Rattle.ele_lists.proofs.Shown.{update_first-map, remove_first-map}
-use Rattle.ele_sessions.specs.Sessions.{Draft, AllSessions}
-use Rattle.ele_world.specs.World.{is_file, is_version}
-use Rattle.ele_world.specs.declared.rows.FileRow.{FileRow}
-use Rattle.std.proofs.Math.ListN.{set}
-use Rattle.std.proofs.lemmas.Bool.Decides.{nat_tests}
-use Rattle.ele_blocks.specs.LivesIn.{LivesIn}
-use Rattle.ele_blocks.specs.Owes.{Moves}
-use Rattle.ele_blocks.specs.Stock.{Stays}
-use Rattle.ele_content.specs.Content.{content_of}
-use Rattle.ele_files.specs.Held.{without}
 use Rattle.ele_files.proofs.Looks.{IsSeen, held_stays}
-use Rattle.ele_inode_log.specs.Rows.{HeldRows, Precedes, EndsInTime, is_numbered, is_other}
-use Rattle.ele_lists.proofs.Places.{set-first}
-use Rattle.ele_world.specs.declared.rows.VersionRow.{VersionRow}
-use Rattle.ele_inode_log.specs.declared.row.VersionRow as log
 
 -- two changes of what is found that are the same there
 pub update_first-alike : {X : Type 0} (p : X → Bool) (f g : X → X) (xs : List X) (x : X) → find p xs ≡ Some x → f x ≡ g x → update_first p f xs ≡ update_first p g xs
@@ -81,19 +56,13 @@ module _ (files : List File) (id : ℕ) (f g : File) (found : find (is_id id) fi
 -- ---- a version leaves its file, and its map the store
 
 -- numbers rise, so a number is removed once
-others_stay : (number : ℕ) (row : log.VersionRow) (rows : List log.VersionRow) → row.number ≡ number → AllByRecursion (Precedes row) rows → filter (is_other number) rows ≡ rows
+others_stay : (number : ℕ) (row : LogRow) (rows : List LogRow) → row.number ≡ number → AllByRecursion (Precedes row) rows → filter (is_other number) rows ≡ rows
 others_stay number row [] is later = refl
-others_stay number row (x ∷ rows) is later =
-    let above : row.number < x.number = later.0.number in
-    let other : eqb x.number number ≡ false = grind (arith, nat_tests) in
-    rw other (ap (λ xs. x ∷ xs) (others_stay number row rows is later.1))
+others_stay number row (x ∷ rows) is later = grind (arith, nat_tests, others_stay number row rows is later.1)
 
-filter_removes : (number : ℕ) (rows : List log.VersionRow) → AllLater Precedes rows → filter (is_other number) rows ≡ remove_first (is_numbered number) rows
+filter_removes : (number : ℕ) (rows : List LogRow) → AllLater Precedes rows → filter (is_other number) rows ≡ remove_first (is_numbered number) rows
 filter_removes number [] order = refl
-filter_removes number (x ∷ rows) order = elim (eqb x.number number) as (λ b. eqb x.number number ≡ b → cond (not b) (x ∷ filter (is_other number) rows) (filter (is_other number) rows) ≡ cond b rows (x ∷ remove_first (is_numbered number) rows)) [
-  | true ↦ λ e. others_stay number x rows (grind (arith, nat_tests)) order.0
-  | false ↦ λ e. ap (λ xs. x ∷ xs) (filter_removes number rows order.1)
-] refl
+filter_removes number (x ∷ rows) order = grind (arith, nat_tests, others_stay number x rows, order.0, filter_removes number rows order.1)
 
 -- the file that a search reached
 pub record IsReached (files : List File) (id i : ℕ) (f : File) : Type 0 where
@@ -101,16 +70,11 @@ pub record IsReached (files : List File) (id i : ℕ) (f : File) : Type 0 where
   pub changed : (g : File) → g.id ≡ f.id → g.policy ≡ f.policy → set files i g ≡ after files id f g found
 
 pub reached : (files : List File) (id i : ℕ) (f : File) → Some i ≡ position (is_id id) files → f ≡ get_or files i f → IsReached files id i f
-reached files id i f place is = record {
-  found = file-at files id i f place is;
-  changed = λ g its_id its_policy. set-first (is_id id) (over g) files i f g (sym place) is (rw (its_id, its_policy) refl);
-}
+reached files id i f place is = grind (arith, nat_tests, file-at, set-first)
 
 -- no file has the number
 pub missing : (s : Store) (files : List File) (a : AllSessions) (kept : Keeps s files a) (id number : ℕ) → None ≡ position (is_id id) files → (find (is_version id number) (flat_map (rows_in s) files) ≡ None) × (held_in s files a ≡ without (held_in s files a) id number)
-missing s files a kept id number none =
-    let unfound = version-none s id number files kept.rise (no-file files id none) in
-    (unfound, rw (remove_first-unfound (is_version id number) (flat_map (rows_in s) files) (all-not_found (is_version id number) (flat_map (rows_in s) files) unfound)) refl)
+missing s files a kept id number none = grind (arith, nat_tests, version-none, no-file, remove_first-unfound, all-not_found)
 
 -- the file at its place, where no row has the number any more
 module _ (s : Store) (files : List File) (a : AllSessions) (kept : Keeps s files a) (id number i : ℕ) (f : File) (place : Some i ≡ position (is_id id) files) (is : f ≡ get_or files i f) (these : HeldRows) (rows : these.rows ≡ filter (is_other number) f.log.rows) where
@@ -153,7 +117,7 @@ module _ (s : Store) (files : List File) (a : AllSessions) (kept : Keeps s files
   )
 
   -- its row has left, and the map the store
-  module _ (row : log.VersionRow) (held : find (is_numbered number) f.log.rows ≡ Some row) where
+  module _ (row : LogRow) (held : find (is_numbered number) f.log.rows ≡ Some row) where
     pub lives : LivesIn s row.cells
     lives = row_lives s files a kept id (is_numbered number) f row at.found held
 

@@ -1,25 +1,8 @@
 -- A file has another policy, and all else stays.
-use Rattle.std.proofs.Common.{◌≡◌, ◌<◌, ℕ, Bool, true, false, cond, eqb, List, [], ◌∷◌, ◌++◌, map, find, get_or, Some, None, refl, ap, sym, ◌∙◌}
-use Rattle.std.proofs.Math.ListN.{set}
-use Rattle.std.specs.List.{flat_map, position}
-use Rattle.std.specs.Option.{option_map, option_map_or}
-use Rattle.ele_blocks.specs.Store.{Store}
-use Rattle.ele_files.specs.Held.{changed_at}
-use Rattle.ele_files.specs.Inside.{IsDraftKept, IsFileKept, Keeps, file_row, file_stock, held_in, is_id, rows_in}
-use Rattle.ele_files.specs.declared.file.File.{File}
+use Rattle.ele_files.proofs.Words.{AllSessions, Bool, File, IsDraftKept, IsFileKept, Keeps, List, None, Policy, PutUnder, Some, Store, [], all-not_found, all-update_first, all-weaker, ap, arith, changed_at, file_row, file_stock, flat_map, get_or, held_in, is_file, is_id, later-update_first, map, nat_tests, next_of, option_map, position, refl, rows_in, set, set-first, sym, update_first, update_first-map, update_first-unfound, ℕ, ◌<◌, ◌∙◌, ◌∷◌, ◌≡◌}
 use Rattle.ele_files.proofs.Looks.{IsSeen}
 use Rattle.ele_files.proofs.Rows.{file_row-found, no-file}
-use Rattle.ele_lists.specs.Lists.{update_first}
-use Rattle.ele_lists.proofs.Cuts.{update_first-unfound}
-use Rattle.ele_lists.proofs.Edits.{all-not_found, all-update_first, all-weaker, later-update_first}
-use Rattle.ele_lists.proofs.Places.{set-first}
-use Rattle.ele_lists.proofs.Shown.{update_first-map}
-use Rattle.ele_policy.specs.declared.policy.Policy.{Policy}
-use Rattle.ele_sessions.specs.Sessions.{AllSessions}
-use Rattle.ele_world.specs.declared.rows.FileRow.{FileRow}
 use Rattle.ele_world.specs.Change as world
-use Rattle.ele_world.specs.Change.{PutUnder}
-use Rattle.ele_world.specs.World.{is_file, next_of}
 
 abbrev governed : Policy → File → File
 governed policy f = record f { policy = policy }
@@ -27,10 +10,7 @@ governed policy f = record f { policy = policy }
 -- what each element shows stays where it shows the same once it has changed
 flat_map-same : {X Y : Type 0} (h : X → List Y) (p : X → Bool) (g : X → X) (xs : List X) → ((x : X) → h (g x) ≡ h x) → flat_map h (update_first p g xs) ≡ flat_map h xs
 flat_map-same h p g [] same = refl
-flat_map-same h p g (x ∷ xs) same = elim (p x) as (λ b. flat_map h (cond b (g x ∷ xs) (x ∷ update_first p g xs)) ≡ h x ++ flat_map h xs) [
-  | true ↦ ap (λ ys. ys ++ flat_map h xs) (same x)
-  | false ↦ ap (λ ys. h x ++ ys) (flat_map-same h p g xs same)
-]
+flat_map-same h p g (x ∷ xs) same = grind (arith, nat_tests, flat_map-same h p g xs same)
 
 module _ (s : Store) (files : List File) (a : AllSessions) (kept : Keeps s files a) (id : ℕ) (policy : Policy) where
   abbrev after : List File → List File
@@ -41,16 +21,7 @@ module _ (s : Store) (files : List File) (a : AllSessions) (kept : Keeps s files
 
   next_stays : (files : List File) (file : ℕ) → next_of (map file_row (after files)) file ≡ next_of (map file_row files) file
   next_stays [] file = refl
-  next_stays (x ∷ xs) file = elim (is_id id x) as (λ b. next_of (map file_row (cond b (governed policy x ∷ xs) (x ∷ after xs))) file ≡ next_of (map file_row (x ∷ xs)) file) [
-    | true ↦ elim (eqb x.id file) as (λ b. option_map_or (λ (row : FileRow). row.next) (cond b (Some (file_row (governed policy x))) (find (is_file file) (map file_row xs))) 0 ≡ option_map_or (λ (row : FileRow). row.next) (cond b (Some (file_row x)) (find (is_file file) (map file_row xs))) 0) [
-      | true ↦ refl
-      | false ↦ refl
-    ]
-    | false ↦ elim (eqb x.id file) as (λ b. option_map_or (λ (row : FileRow). row.next) (cond b (Some (file_row x)) (find (is_file file) (map file_row (after xs)))) 0 ≡ option_map_or (λ (row : FileRow). row.next) (cond b (Some (file_row x)) (find (is_file file) (map file_row xs))) 0) [
-      | true ↦ refl
-      | false ↦ next_stays xs file
-    ]
-  ]
+  next_stays (x ∷ xs) file = grind (arith, nat_tests, is_file, next_stays xs file)
 
   -- no file has the number
   pub none_governed : None ≡ position (is_id id) files → held_in s files a ≡ changed_at (held_in s files a) 0 (PutUnder id policy ∷ [])

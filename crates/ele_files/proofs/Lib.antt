@@ -1,3 +1,4 @@
+pub mod Words
 pub mod Stock
 pub mod Looks
 pub mod Rows
@@ -19,3 +20,4 @@ pub mod Copies
 pub mod Counted
 pub mod Names
 pub mod Closes
+pub mod Lemmas

@@ -1,14 +1,5 @@
 -- What files and drafts show through another store, where their maps show the same.
-use Rattle.std.proofs.Common.{◌≡◌, ℕ, List, [], ◌∷◌, map, refl}
-use Rattle.std.specs.List.{AllByRecursion, flat_map}
-use Rattle.ele_blocks.specs.Stock.{ShowsSame}
-use Rattle.ele_blocks.specs.Store.{Store}
-use Rattle.ele_files.specs.Held.{Held}
-use Rattle.ele_files.specs.Inside.{row_in, rows_in, draft_in, held_in, row_stock, file_stock, draft_stock, stock_of, Keeps}
-use Rattle.ele_files.specs.declared.file.File.{File}
-use Rattle.ele_inode_log.specs.declared.row.VersionRow as log
-use Rattle.ele_lists.proofs.Alls.{all-left, all-right}
-use Rattle.ele_sessions.specs.Sessions.{Draft, AllSessions}
+use Rattle.ele_files.proofs.Words.{AllByRecursion, AllSessions, Draft, File, Held, Keeps, List, LogRow, ShowsSame, Store, [], all-left, all-right, draft_in, draft_stock, file_stock, flat_map, held_in, map, refl, row_in, row_stock, rows_in, stock_of, ℕ, ◌∷◌, ◌≡◌}
 
 -- the fields keep their laws, and show these rows
 pub record IsSeen (s : Store) (files : List File) (ss : AllSessions) (h : Held) : Type 0 where
@@ -16,7 +7,7 @@ pub record IsSeen (s : Store) (files : List File) (ss : AllSessions) (h : Held) 
   pub shows : held_in s files ss ≡ h
 
 module _ (s t : Store) where
-  rows_same : (file : ℕ) (rows : List log.VersionRow) → AllByRecursion (ShowsSame s t) (map (row_stock file) rows) → map (row_in t file) rows ≡ map (row_in s file) rows
+  rows_same : (file : ℕ) (rows : List LogRow) → AllByRecursion (ShowsSame s t) (map (row_stock file) rows) → map (row_in t file) rows ≡ map (row_in s file) rows
   rows_same file [] all = refl
   rows_same file (r ∷ rows) all = rw (all.0.same, rows_same file rows all.1) refl
 

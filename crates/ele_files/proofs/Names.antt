@@ -1,21 +1,5 @@
 -- The places of all maps, as the rows show them.
-use Rattle.std.proofs.Common.{◌≡◌, ℕ, ◌+◌, List, [], ◌∷◌, ◌++◌, map, refl, ap, ◌∙◌}
-use Rattle.std.specs.List.{flat_map}
-use Rattle.std.proofs.lemmas.List.{map-append}
-use Rattle.std.proofs.lemmas.Grind.{flat_map-append}
-use Rattle.ele_blocks.specs.declared.slot.Slot.{Slot}
-use Rattle.ele_blocks.specs.Distinct.{Named, names_of, names_from}
-use Rattle.ele_blocks.specs.Layout.{cell_of, slots_of, shown}
-use Rattle.ele_blocks.specs.Stock.{Tagged, names_in}
-use Rattle.ele_blocks.specs.Store.{Store}
-use Rattle.ele_content.specs.Place.{Place}
-use Rattle.ele_files.specs.Inside.{row_in, rows_in, draft_in, row_stock, file_stock, draft_stock, stock_of}
-use Rattle.ele_files.specs.declared.file.File.{File}
-use Rattle.ele_inode_log.specs.declared.row.VersionRow as log
-use Rattle.ele_sessions.specs.Sessions.{Draft}
-use Rattle.ele_world.specs.Usage.{places_from, places}
-use Rattle.ele_world.specs.declared.rows.VersionRow.{VersionRow}
-use Rattle.ele_world.specs.declared.rows.DraftRow.{DraftRow}
+use Rattle.ele_files.proofs.Words.{Draft, DraftRow, File, List, LogRow, Named, Place, Slot, Store, Tagged, VersionRow, [], ap, cell_of, draft_in, draft_stock, file_stock, flat_map, flat_map-append, map, map-append, names_from, names_in, names_of, places, places_from, refl, row_in, row_stock, rows_in, shown, slots_of, stock_of, ℕ, ◌++◌, ◌+◌, ◌∙◌, ◌∷◌, ◌≡◌}
 
 abbrev place : Named → Place
 place n = n.place
@@ -38,7 +22,7 @@ module _ (s : Store) where
   stock-places [] = refl
   stock-places (t ∷ ts) = rw (map-append place (names_of s t.file t.layout) (names_in s ts), slot-places t.file 0 (slots_of s t.layout), stock-places ts) refl
 
-  log-places : (file : ℕ) (rows : List log.VersionRow) → flat_map tag_places (map (row_stock file) rows) ≡ flat_map row_places (map (row_in s file) rows)
+  log-places : (file : ℕ) (rows : List LogRow) → flat_map tag_places (map (row_stock file) rows) ≡ flat_map row_places (map (row_in s file) rows)
   log-places file [] = refl
   log-places file (x ∷ xs) = ap (λ ps. row_places (row_in s file x) ++ ps) (log-places file xs)
 

@@ -1,23 +1,6 @@
 -- A file's newest version and its next closing, as its log shows them.
-use Rattle.std.proofs.Common.{◌≡◌, ℕ, Bool, true, false, cond, List, [], ◌∷◌, map, filter, Option, Some, None, refl, ap, sym, ◌∙◌, arith, find}
-use Rattle.std.specs.List.{flat_map}
-use Rattle.std.specs.Option.{option_map, option_or}
-use Rattle.std.proofs.lemmas.Bool.Decides.{nat_tests}
-use Rattle.ele_blocks.specs.Store.{Store}
-use Rattle.ele_files.specs.Inside.{IsFileKept, IsRowOf, Keeps, is_id, row_in, rows_in}
-use Rattle.ele_files.specs.Meant.{stamps_in}
-use Rattle.ele_files.specs.declared.file.File.{File}
+use Rattle.ele_files.proofs.Words.{AllSessions, Bool, File, IsFileKept, IsRowOf, Keeps, List, LogRow, None, Option, Some, Store, VersionRow, [], all-found, all-weaker, ap, arith, filter, filter-all, find, find-filter, flat_map, is_after, is_before, is_id, is_newer_of, is_version_of, last_passing, map, nat_tests, newest_of, next_closing, option_map, refl, row_in, rows_in, stamps_in, stamps_of, sym, true, ℕ, ◌∙◌, ◌∷◌, ◌≡◌}
 use Rattle.ele_files.proofs.Tagged.{find_shown, last-map, list_shown, none_shown, own}
-use Rattle.ele_inode_log.specs.declared.row.VersionRow as log
-use Rattle.ele_inode_log.specs.Rows.{is_after, is_before}
-use Rattle.ele_lists.specs.Last.{last_passing}
-use Rattle.ele_lists.proofs.Edits.{all-found, all-weaker}
-use Rattle.ele_lists.proofs.Filters.{filter-all, find-filter}
-use Rattle.ele_sessions.specs.Sessions.{AllSessions}
-use Rattle.ele_world.specs.FileView.{is_version_of}
-use Rattle.ele_world.specs.Neighbours.{is_newer_of, newest_of, next_closing}
-use Rattle.ele_world.specs.Told.{stamps_of}
-use Rattle.ele_world.specs.declared.rows.VersionRow.{VersionRow}
 
 -- the last of all that pass
 abbrev last : {X : Type 0} → List X → Option X
@@ -25,14 +8,7 @@ last xs = last_passing (λ _. true) xs
 
 last-kept : {X : Type 0} (p : X → Bool) (xs : List X) → last (filter p xs) ≡ last_passing p xs
 last-kept p [] = refl
-last-kept {X} p (x ∷ xs) = by (last-kept p xs) (p x) where
-  none : (o : Option X) → o ≡ option_or o None
-  none None = refl
-  none (Some y) = refl
-
-  by : last (filter p xs) ≡ last_passing p xs → (b : Bool) → last (cond b (x ∷ filter p xs) (filter p xs)) ≡ option_or (last_passing p xs) (cond b (Some x) None)
-  by rest true = ap (λ o. option_or o (Some x)) rest
-  by rest false = rest ∙ none (last_passing p xs)
+last-kept {X} p (x ∷ xs) = grind (arith, nat_tests, last-kept p xs)
 
 module _ (s : Store) (files : List File) (a : AllSessions) (kept : Keeps s files a) (file : ℕ) where
   abbrev versions : List VersionRow
@@ -59,10 +35,9 @@ module _ (s : Store) (files : List File) (a : AllSessions) (kept : Keeps s files
         ∙ last-map (λ _. true) stamps_in (λ _. true) f.log.rows (λ row. refl)
         ∙ ap (option_map stamps_in) (ap last (sym before_next) ∙ last-kept (is_before f.next) f.log.rows)
 
-    pub closing_shown : (number : ℕ) → next_closing versions file number ≡ option_map (λ (row : log.VersionRow). row.closed) (find (is_after number) f.log.rows)
+    pub closing_shown : (number : ℕ) → next_closing versions file number ≡ option_map (λ (row : LogRow). row.closed) (find (is_after number) f.log.rows)
     closing_shown number =
         ap (option_map (λ (row : VersionRow). row.closed)) (find_shown s files a kept file f found (is_newer_of file number) (is_after number) (λ row e. grind (arith, nat_tests)) (λ row. rw (own s files a kept file f found) refl))
         ∙ by (find (is_after number) f.log.rows) where
-          by : (o : Option log.VersionRow) → option_map (λ (row : VersionRow). row.closed) (option_map (row_in s f.id) o) ≡ option_map (λ (row : log.VersionRow). row.closed) o
-          by None = refl
-          by (Some row) = refl
+          by : (o : Option LogRow) → option_map (λ (row : VersionRow). row.closed) (option_map (row_in s f.id) o) ≡ option_map (λ (row : LogRow). row.closed) o
+          by o = grind arith

@@ -1,43 +1,19 @@
 -- A handle that writes a file comes, and with the file's first handle a draft.
-use Rattle.std.proofs.Common.{◌≡◌, ℕ, ◌+◌, ◌-◌, Bool, true, false, List, [], ◌∷◌, ◌++◌, length, map, Option, Some, None, Result, Ok, Err, refl, sym, ap, ◌∙◌, arith, length-append}
-use Rattle.std.specs.Prelude.{find, MatchBool}
-use Rattle.std.specs.List.{flat_map, list_any, sum_by}
-use Rattle.std.specs.Option.{option_map, option_map_or}
-use Rattle.std.specs.Result.{OnOk, OnErr}
-use Rattle.std.proofs.lemmas.List.{map-append, length-map}
-use Rattle.ele_blocks.specs.Layout.{Layout, shown}
-use Rattle.ele_blocks.specs.LivesIn.{LivesIn}
-use Rattle.ele_blocks.specs.Owes.{Moves}
-use Rattle.ele_blocks.specs.Stock.{Tagged, Stays, empty_layout}
-use Rattle.ele_blocks.specs.Store.{Store}
-use Rattle.ele_files.specs.declared.file.File.{File}
-use Rattle.ele_files.specs.Held.{Held, changed_at, opened_by, first_draft}
-use Rattle.ele_files.specs.Inside.{IsRowOf, IsFileKept, IsDraftKept, Keeps, is_id, file_row, row_in, rows_in, draft_in, handle_in, held_in, row_stock, file_stock, draft_stock, stock_of}
+use Rattle.ele_files.proofs.Words.{AllSessions, Bool, Draft, File, IsDraftKept, IsFileKept, IsRowOf, Keeps, Layout, List, LivesIn, LogRow, MatchBool, Moves, None, OnErr, OnOk, Opens, Option, Result, Some, Stays, Store, Tagged, [], all-found, all-insert_before, ap, arith, draft_in, draft_stock, empty_layout, false, file_row, file_stock, find, first_draft, flat_map, handle_in, held_in, insert_before, insert_before-map, is_draft, is_draft_after, is_id, is_numbered, is_version, length, length-append, length-map, list_any, map, map-append, nat_tests, new_draft, next_of, opened_by, option_map, option_map_or, refl, row_in, row_stock, rows_in, shown, stock_of, sum_by, sym, true, ℕ, ◌++◌, ◌+◌, ◌-◌, ◌∙◌, ◌∷◌, ◌≡◌}
 use Rattle.ele_files.proofs.Copied.{row_copied, row_same}
 use Rattle.ele_files.proofs.Drafts.{same_drafts}
 use Rattle.ele_files.proofs.Looks.{IsSeen, versions_stay, drafts_stay}
 use Rattle.ele_files.proofs.Rows.{its_id, next-found, version-of, any-draft}
 use Rattle.ele_files.proofs.Stock.{draft_begun, row_lives}
-use Rattle.ele_inode_log.specs.declared.row.VersionRow.{VersionRow}
-use Rattle.ele_inode_log.specs.declared.row.VersionRow as log
-use Rattle.ele_inode_log.specs.Rows.{is_numbered}
-use Rattle.ele_lists.specs.Lists.{insert_before}
-use Rattle.ele_lists.proofs.Edits.{all-found, all-insert_before}
-use Rattle.ele_lists.proofs.Shown.{insert_before-map}
-use Rattle.ele_sessions.specs.Opening.{new_draft, with_draft, Opens}
 use Rattle.ele_sessions.specs.Opening as opening
-use Rattle.ele_sessions.specs.Sessions.{Draft, AllSessions, is_draft, is_draft_after}
 use Rattle.ele_sessions.specs.declared.reads.Reads.TheVariants as session
-use Rattle.ele_world.specs.Change.{OpenHandle}
-use Rattle.ele_world.specs.declared.rows.Reads.TheVariants as world_reads
-use Rattle.ele_world.specs.World.{next_of, is_version}
 use Rattle.ele_world.specs.World as world
 
 -- the map of the version before the next one, or that of no bytes
-abbrev pub cells_of : Option VersionRow → Layout
+abbrev pub cells_of : Option LogRow → Layout
 cells_of row = option_map_or (λ row. row.cells) row empty_layout
 
-abbrev pub last_row : File → Option VersionRow
+abbrev pub last_row : File → Option LogRow
 last_row f = find (is_numbered (f.next - 1)) f.log.rows
 
 abbrev pub first_map : File → Layout
@@ -66,16 +42,14 @@ module _ (s : Store) (files : List File) (a : AllSessions) (kept : Keeps s files
 
   pub first_lives : LivesIn s (first_map f)
   first_lives = of_row (last_row f) refl where
-    of_row : (o : Option VersionRow) → last_row f ≡ o → LivesIn s (cells_of o)
-    of_row None e = kept.laws.empty_lives s
-    of_row (Some row) e = row_lives s files a kept file (is_numbered (f.next - 1)) f row found e
+    of_row : (o : Option LogRow) → last_row f ≡ o → LivesIn s (cells_of o)
+    of_row x0 e = grind (arith, nat_tests, row_lives)
 
   -- what a new draft begins with is what the map shows
   first_seen : option_map_or (λ row. row.cells) (find (is_version file (next_of (map file_row files) file - 1)) (flat_map (rows_in s) files)) [] ≡ shown s (first_map f)
   first_seen = rw (its_next, version-of s file (f.next - 1) files kept.rise f found) (of_row (last_row f)) where
-    of_row : (o : Option VersionRow) → option_map_or (λ row. row.cells) (option_map (row_in s f.id) o) [] ≡ shown s (cells_of o)
-    of_row None = refl
-    of_row (Some row) = refl
+    of_row : (o : Option LogRow) → option_map_or (λ row. row.cells) (option_map (row_in s f.id) o) [] ≡ shown s (cells_of o)
+    of_row o = grind arith
 
   module _ (t : Store) (b : AllSessions) (at : ℕ) where
     abbrev new : Draft
@@ -98,7 +72,7 @@ module _ (s : Store) (files : List File) (a : AllSessions) (kept : Keeps s files
         us : List Tagged
         us = stock_of files (insert_before (is_draft_after file) new a.drafts)
 
-        of_row : (o : Option VersionRow) → last_row f ≡ o → Begins
+        of_row : (o : Option LogRow) → last_row f ≡ o → Begins
         of_row None e =
             let none : first_map f ≡ empty_layout = ap cells_of e in
             let tag : Tagged = record { file = file; below = f.next + 1; layout = empty_layout } in
@@ -112,7 +86,7 @@ module _ (s : Store) (files : List File) (a : AllSessions) (kept : Keeps s files
             }
         of_row (Some row) e =
             let its : first_map f ≡ row.cells = ap cells_of e in
-            let is : log.VersionRow → Bool = is_numbered (f.next - 1) in
+            let is : LogRow → Bool = is_numbered (f.next - 1) in
             let below = (all-found is (IsRowOf f.next) f.log.rows row e file_kept.rows).number in
             let id : f.id ≡ file = its_id files file f found in
             let same_tag : record (row_stock f.id row) { below = f.next + 1 } ≡ draft_stock new = rw (id, its) refl in
@@ -147,20 +121,4 @@ module _ (s : Store) (files : List File) (a : AllSessions) (kept : Keeps s files
     -- whatever the call answers
     pub opens : {T E : Type 0} (m : Layout) → m ≡ first_map f → (r : Result T E) → OnOk r (b ≡ opening.opened_by a (new_draft file f.next at m)) → OnOk r (Opens s t a.drafts file m) → OnErr r (b ≡ a) → OnErr r (t ≡ s)
         → Keeps t files b × OnOk r (held_in t files b ≡ opened_by (held_in s files a) file at)
-    opens m is (Ok x) done moved left store = let seen = opened (list_any (is_draft file) a.drafts) refl (rw is at moved) in rw (done, is) (seen.keeps, seen.shows)
-    opens m is (Err e) done moved left store = (rw (store, left) kept, tt)
-
--- a handle that reads a version comes
-module _ (s : Store) (files : List File) (a b : AllSessions) (kept : Keeps s files a) (file number : ℕ) where
-  abbrev with_reader : Held
-  with_reader = changed_at (held_in s files a) 0 (OpenHandle (a.opened + 1) (world_reads.Version file number) ∷ [])
-
-  reader_seen : IsSeen s files (opening.reader_opened a file number) with_reader
-  reader_seen = record {
-    keeps = same_drafts s files a (opening.reader_opened a file number) refl kept;
-    shows = rw (map-append handle_in a.handles (record { number = a.opened + 1; reads = session.Version file number } ∷ [])) refl;
-  }
-
-  pub reader_opens : {T E : Type 0} (r : Result T E) → OnOk r (b ≡ opening.reader_opened a file number) → OnErr r (b ≡ a) → Keeps s files b × OnOk r (held_in s files b ≡ with_reader)
-  reader_opens (Ok x) done left = rw done (reader_seen.keeps, reader_seen.shows)
-  reader_opens (Err e) done left = (rw left kept, tt)
+    opens m is x2 done moved left store = grind (arith, nat_tests, opened)

@@ -1,19 +1,8 @@
 -- The file at its place, where its log has room for a version more.
-use Rattle.std.proofs.Common.{◌≡◌, ℕ, ◌<◌, List, get_or, Some, refl}
-use Rattle.std.proofs.Math.ListN.{set}
-use Rattle.std.specs.List.{AllByRecursion, position}
-use Rattle.ele_blocks.specs.Store.{Store}
-use Rattle.ele_files.specs.Appending.{IsRowPast}
-use Rattle.ele_files.specs.Closing.{IsPast}
-use Rattle.ele_files.specs.Inside.{IsFileKept, Keeps, file_row, held_in, is_id}
-use Rattle.ele_files.specs.declared.file.File.{File}
+use Rattle.ele_files.proofs.Words.{AllByRecursion, AllSessions, File, HeldRows, IsFileKept, IsPast, IsRowPast, Keeps, List, Some, Store, all-found, file_row, get_or, held_in, is_id, map-all, position, refl, set, ℕ, ◌<◌, ◌≡◌}
 use Rattle.ele_files.proofs.Exchanges.{same_keeps, same_shows, IsReached, reached}
 use Rattle.ele_files.proofs.Looks.{IsSeen}
 use Rattle.ele_files.proofs.Rows.{file_past}
-use Rattle.ele_inode_log.specs.Rows.{HeldRows}
-use Rattle.ele_lists.proofs.Alls.{map-all}
-use Rattle.ele_lists.proofs.Edits.{all-found}
-use Rattle.ele_sessions.specs.Sessions.{AllSessions}
 
 module _ (s : Store) (files : List File) (a : AllSessions) (kept : Keeps s files a) (file i : ℕ) (f : File) (place : Some i ≡ position (is_id file) files) (is : f ≡ get_or files i f) where
   abbrev at : IsReached files file i f

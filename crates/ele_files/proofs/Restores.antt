@@ -1,18 +1,5 @@
 -- A held version comes again as its file's next one.
-use Rattle.std.proofs.Common.{◌≡◌, ℕ, ◌+◌, Bool, false, List, [], ◌∷◌, get_or, Option, Some, None, refl, sym, ◌∙◌, arith}
-use Rattle.std.proofs.Math.ListN.{set}
-use Rattle.std.specs.Prelude.{find, IsSome}
-use Rattle.std.specs.List.{AllByRecursion, list_any, position}
-use Rattle.ele_blocks.specs.Layout.{Layout, shown}
-use Rattle.ele_blocks.specs.LivesIn.{LivesIn}
-use Rattle.ele_blocks.specs.Owes.{Moves}
-use Rattle.ele_blocks.specs.Stock.{Stays}
-use Rattle.ele_blocks.specs.Store.{Store}
-use Rattle.ele_files.specs.Appending.{next_row, HasAppended}
-use Rattle.ele_files.specs.Closing.{IsPast}
-use Rattle.ele_files.specs.Held.{Held, Became, with_rows, cells_of_version}
-use Rattle.ele_files.specs.Inside.{IsRowOf, Keeps, held_in, is_id, row_stock, stock_of}
-use Rattle.ele_files.specs.declared.file.File.{File}
+use Rattle.ele_files.proofs.Words.{AllByRecursion, AllSessions, Append, Became, Bool, File, HasAppended, Held, HeldRows, IsPast, IsRowOf, IsSome, Keeps, Layout, List, LivesIn, LogRow, Moves, None, Option, Some, Stays, Store, [], all-found, arith, cells_of_version, false, find, get_or, held_in, is_id, is_numbered, is_version, list_any, next_of, next_row, position, refl, row_stock, set, shown, stock_of, sym, with_rows, ℕ, ◌+◌, ◌∙◌, ◌∷◌, ◌≡◌}
 use Rattle.ele_files.proofs.Appends.{appended_keeps, appended_shows}
 use Rattle.ele_files.proofs.Copied.{row_copied, row_same}
 use Rattle.ele_files.proofs.Exchanges.{IsReached, reached}
@@ -20,12 +7,6 @@ use Rattle.ele_files.proofs.Looks.{held_stays}
 use Rattle.ele_files.proofs.Places.{its_kept, its_past}
 use Rattle.ele_files.proofs.Rows.{undrafted, next-found, no-file, version-none, version-of}
 use Rattle.ele_files.proofs.Stock.{row_lives}
-use Rattle.ele_inode_log.specs.Rows.{HeldRows, is_numbered}
-use Rattle.ele_inode_log.specs.declared.row.VersionRow as log
-use Rattle.ele_lists.proofs.Edits.{all-found}
-use Rattle.ele_sessions.specs.Sessions.{AllSessions}
-use Rattle.ele_world.specs.Change.{Append}
-use Rattle.ele_world.specs.World.{is_version, next_of}
 use Rattle.ele_world.specs.World as world
 
 some_found : {X : Type 0} (o : Option X) → IsSome o → o ≡ None → ⊥
@@ -53,7 +34,7 @@ module _ (s : Store) (files : List File) (a : AllSessions) (kept : Keeps s files
     pub not_lost : None ≡ find (is_numbered number) these.rows → ⊥
     not_lost none = some_found (find (is_version file number) (held_in s files a).versions) some (rw (version-of s file number files kept.rise f at.found, ← rows_stay, ← none) refl)
 
-    module _ (row : log.VersionRow) (held : Some row ≡ find (is_numbered number) these.rows) where
+    module _ (row : LogRow) (held : Some row ≡ find (is_numbered number) these.rows) where
       its_row : find (is_numbered number) f.log.rows ≡ Some row
       its_row = rw (← rows_stay) (sym held)
 
@@ -61,7 +42,7 @@ module _ (s : Store) (files : List File) (a : AllSessions) (kept : Keeps s files
       lives = row_lives s files a kept file (is_numbered number) f row at.found its_row
 
       module _ (t : Store) (moves : Moves s t [] (row.cells ∷ [])) (alone : list_any (world.is_draft file) (held_in s files a).drafts ≡ false) (now : ℕ) (live : Bool) (m : Layout) (same : m ≡ row.cells) (l : File) (appended : HasAppended k l now (next_row f.next now now live m)) (past : AllByRecursion (IsPast now) (held_in s files a).versions) where
-        abbrev new : log.VersionRow
+        abbrev new : LogRow
         new = next_row f.next now now live row.cells
 
         f_appended : HasAppended f l now new

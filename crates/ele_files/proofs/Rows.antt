@@ -1,36 +1,11 @@
 -- What the rows show of the files, drafts and handles behind them.
-use Rattle.std.proofs.Common.{◌≡◌, ◌≢◌, ℕ, ◌-◌, ◌<◌, Bool, true, false, eqb, List, [], ◌∷◌, map, get_or, Option, Some, None, Result, Ok, Err, refl, sym, ap, ◌∙◌, arith}
-use Rattle.std.specs.List.{find, position, list_any, flat_map, AllByRecursion}
-use Rattle.std.specs.Option.{option_map, option_map_or, option_and_then, ok_or}
-use Rattle.std.specs.Result.{result_ok, result_map_both}
-use Rattle.std.proofs.lemmas.Bool.{false≢true}
-use Rattle.std.proofs.lemmas.Bool.Decides.{nat_tests}
-use Rattle.ele_files.specs.Appending.{IsRowPast, ended_by, ended_rows}
-use Rattle.ele_files.specs.Closing.{IsPast}
-use Rattle.ele_files.specs.Held.{handle_file, fault_of, file_or_fault}
-use Rattle.ele_files.specs.Inside.{is_id, file_row, row_in, rows_in, draft_in, reads_in, handle_in}
-use Rattle.ele_files.specs.declared.file.File.{File}
-use Rattle.ele_blocks.specs.Store.{Store}
-use Rattle.ele_inode_log.specs.declared.row.VersionRow as log
-use Rattle.ele_inode_log.specs.Rows.{is_numbered}
-use Rattle.ele_lists.specs.Lists.{update_first, remove_first, AllLater}
-use Rattle.ele_lists.proofs.Alls.{all-map, map-all, flat_map-all}
-use Rattle.ele_lists.proofs.Buckets.{find-buckets}
-use Rattle.ele_lists.proofs.Edits.{all-any, all-found, all-none, all-weaker, found_passes}
-use Rattle.ele_lists.proofs.Places.{find-position, find-none}
-use Rattle.ele_lists.proofs.Shown.{find-map, any-map, remove_first-map, update_first-map}
+use Rattle.ele_files.proofs.Words.{AllByRecursion, AllLater, Bool, Draft, File, HandleRow, IsPast, IsRowPast, List, LogRow, NoHandle, None, Option, Refusal, Result, Some, Store, VersionRow, [], all-any, all-found, all-map, all-none, all-weaker, any-map, ap, arith, draft_in, ended_at, ended_by, ended_rows, eqb, false, file_or_fault, file_row, find, find-buckets, find-map, find-none, find-position, flat_map, flat_map-all, found_passes, get_or, handle_in, is_file, is_handle, is_id, is_numbered, is_open, is_version, list_any, map, map-all, nat_tests, next_of, ok_or, option_and_then, option_map, option_map_or, policy_of, position, reads_by, reads_in, reads_version, refl, remove_first, remove_first-map, row_in, rows_in, sym, true, update_first, update_first-map, writes, ℕ, ◌-◌, ◌<◌, ◌∙◌, ◌∷◌, ◌≡◌, ◌≢◌}
+use Rattle.ele_files.specs.Held.{handle_file}
 use Rattle.ele_sessions.specs.Sessions as sessions
-use Rattle.ele_sessions.specs.Sessions.{Draft}
 use Rattle.ele_sessions.specs.declared.entries.OpenHandle.{OpenHandle}
 use Rattle.ele_sessions.specs.declared.reads.Reads as session
-use Rattle.ele_sessions.specs.declared.reads.Reads.TheVariants as session_reads
-use Rattle.ele_world.specs.Change.{ended_at}
-use Rattle.ele_world.specs.declared.refusal.Refusal.{Refusal}
-use Rattle.ele_world.specs.declared.refusal.Refusal.TheVariants.{NoHandle}
-use Rattle.ele_world.specs.declared.rows.HandleRow.{HandleRow}
 use Rattle.ele_world.specs.declared.rows.Reads.{Reads}
-use Rattle.ele_world.specs.declared.rows.VersionRow.{VersionRow}
-use Rattle.ele_world.specs.World.{is_file, is_version, is_draft, is_handle, is_writer, is_open, writes, reads_version, file_written, reads_by, policy_of, next_of}
+use Rattle.ele_world.specs.World.{is_draft, is_writer}
 
 -- ---- files
 
@@ -45,12 +20,10 @@ module _ (files : List File) (id : ℕ) where
   file_row-found = find-map file_row (is_file id) files
 
   pub policy-found : (o : Option File) → find (is_id id) files ≡ o → policy_of (map file_row files) id ≡ option_map (λ f. f.policy) o
-  policy-found None is = rw (file_row-found, is) refl
-  policy-found (Some x) is = rw (file_row-found, is) refl
+  policy-found o is = rw (file_row-found, is) (grind arith)
 
   pub next-found : (o : Option File) → find (is_id id) files ≡ o → next_of (map file_row files) id ≡ option_map_or (λ f. f.next) o 0
-  next-found None is = rw (file_row-found, is) refl
-  next-found (Some x) is = rw (file_row-found, is) refl
+  next-found o is = rw (file_row-found, is) (grind arith)
 
 pub its_id : (files : List File) (id : ℕ) (f : File) → find (is_id id) files ≡ Some f → f.id ≡ id
 its_id files id f found = let e = found_passes (is_id id) files f found in grind (arith, nat_tests)
@@ -64,13 +37,10 @@ pub tagged : (s : Store) (f : File) → AllByRecursion (λ row. file_of row ≡ 
 tagged s f = all-map (row_in s f.id) (λ row. row.file ≡ f.id) f.log.rows (all-any (λ row. f.id ≡ f.id) f.log.rows (λ row. refl))
 
 pub own_version : (file number : ℕ) (row : VersionRow) → is_version file number row ≡ true → row.file ≡ file
-own_version file number row h = elim (eqb row.file file) as (λ b. eqb row.file file ≡ b → row.file ≡ file) [
-  | true ↦ λ e. grind (arith, nat_tests)
-  | false ↦ λ e. absurd (false≢true (rw e at h))
-] refl
+own_version file number row h = grind (arith, nat_tests)
 
 -- a file's row is its version of that number
-pub same_number : (s : Store) (id file number : ℕ) → id ≡ file → (row : log.VersionRow) → is_version file number (row_in s id row) ≡ is_numbered number row
+pub same_number : (s : Store) (id file number : ℕ) → id ≡ file → (row : LogRow) → is_version file number (row_in s id row) ≡ is_numbered number row
 same_number s id file number is row = let e : eqb id file ≡ true = grind (arith, nat_tests) in rw e refl
 
 -- so the row that ends is that version
@@ -92,9 +62,7 @@ module _ (s : Store) (file number : ℕ) (files : List File) (rise : AllLater (�
   version-none none = found_in ∙ ap (option_and_then (λ f. find (is_version file number) (rows_in s f))) none
 
   pub version-of : (f : File) → find (is_id file) files ≡ Some f → version ≡ option_map (row_in s f.id) (find (is_numbered number) f.log.rows)
-  version-of f found = found_in ∙ (ap (option_and_then (λ f. find (is_version file number) (rows_in s f))) found ∙ (find-map (row_in s f.id) (is_version file number) f.log.rows ∙ ap (option_map (row_in s f.id)) (alike f.log.rows))) where
-    alike : (rows : List log.VersionRow) → find (λ row. is_version file number (row_in s f.id row)) rows ≡ find (is_numbered number) rows
-    alike rows = let e : eqb f.id file ≡ true = found_passes (is_id file) files f found in rw e refl
+  version-of f found = grind (arith, nat_tests, found_in, find-map, found_passes)
 
 -- ---- drafts and handles
 
@@ -113,24 +81,13 @@ abbrev pub reads_of : Option session.Reads → Result Reads Refusal
 reads_of o = ok_or (option_map reads_in o) NoHandle
 
 pub reads_by-shown : (hs : List OpenHandle) (number : ℕ) → reads_by (map handle_in hs) number ≡ reads_of (sessions.reads_by hs number)
-reads_by-shown hs number = ap (λ (o : Option HandleRow). option_map_or (λ row. Ok row.reads) o (Err NoHandle)) (find-map handle_in (is_handle number) hs) ∙ by (find (sessions.is_handle number) hs) where
-  by : (o : Option OpenHandle) → option_map_or (λ row. Ok row.reads) (option_map handle_in o) (Err NoHandle) ≡ reads_of (option_map (λ (h : OpenHandle). h.reads) o)
-  by None = refl
-  by (Some h) = refl
+reads_by-shown hs number = grind (arith, nat_tests, find-map)
 
 pub handle_file-shown : (hs : List OpenHandle) (number : ℕ) → handle_file (map handle_in hs) number ≡ sessions.handle_file hs number
-handle_file-shown hs number = ap (λ r. result_ok (file_written r)) (reads_by-shown hs number) ∙ by (sessions.reads_by hs number) where
-  by : (o : Option session.Reads) → result_ok (file_written (reads_of o)) ≡ result_ok (sessions.file_written o)
-  by None = refl
-  by (Some (session_reads.Draft file)) = refl
-  by (Some (session_reads.Version file n)) = refl
+handle_file-shown hs number = grind (arith, nat_tests, reads_by-shown)
 
 pub fault-shown : (hs : List OpenHandle) (number : ℕ) → file_or_fault (map handle_in hs) number ≡ sessions.file_by hs number
-fault-shown hs number = ap (λ r. result_map_both (λ file. file) fault_of (file_written r)) (reads_by-shown hs number) ∙ by (sessions.reads_by hs number) where
-  by : (o : Option session.Reads) → result_map_both (λ file. file) fault_of (file_written (reads_of o)) ≡ sessions.file_written o
-  by None = refl
-  by (Some (session_reads.Draft file)) = refl
-  by (Some (session_reads.Version file n)) = refl
+fault-shown hs number = grind (arith, nat_tests, reads_by-shown)
 
 -- a test of what handles read
 module _ (p : Reads → Bool) (q : session.Reads → Bool) (same : (what : session.Reads) → p (reads_in what) ≡ q what) where
@@ -141,11 +98,9 @@ module _ (p : Reads → Bool) (q : session.Reads → Bool) (same : (what : sessi
 pub left-shown : (hs : List OpenHandle) (number file : ℕ) → list_any (is_writer file) (remove_first (is_handle number) (map handle_in hs)) ≡ list_any (sessions.is_writer file) (remove_first (sessions.is_handle number) hs)
 left-shown hs number file = ap (list_any (is_writer file)) (remove_first-map handle_in (is_handle number) (sessions.is_handle number) (λ x. refl) hs) ∙ any-read (writes file) (sessions.writes file) same (remove_first (sessions.is_handle number) hs) where
   same : (what : session.Reads) → writes file (reads_in what) ≡ sessions.writes file what
-  same (session_reads.Draft other) = refl
-  same (session_reads.Version other n) = refl
+  same what = grind arith
 
 pub open-shown : (hs : List OpenHandle) (file number : ℕ) → is_open (map handle_in hs) file number ≡ list_any (sessions.is_reader file number) hs
 open-shown hs file number = any-read (reads_version file number) (sessions.reads_version file number) same hs where
   same : (what : session.Reads) → reads_version file number (reads_in what) ≡ sessions.reads_version file number what
-  same (session_reads.Draft other) = refl
-  same (session_reads.Version other n) = refl
+  same x0 = grind (arith, nat_tests)

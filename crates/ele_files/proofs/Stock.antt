@@ -1,21 +1,5 @@
 -- The maps of files and drafts as one stock, where one file or one draft has changed.
-use Rattle.std.proofs.Common.{◌≡◌, ℕ, ◌+◌, ◌-◌, Bool, List, [], ◌∷◌, ◌++◌, map, Some, refl, arith}
-use Rattle.std.specs.Prelude.{find}
-use Rattle.std.specs.List.{flat_map, sum_by, AllByRecursion}
-use Rattle.std.proofs.lemmas.List.Sums.{sum_by-append, sum_by-cons, sum_by_push}
-use Rattle.ele_blocks.specs.LivesIn.{LivesIn}
-use Rattle.ele_blocks.specs.Stock.{Tagged, SameStock}
-use Rattle.ele_blocks.specs.Store.{Store}
-use Rattle.ele_files.specs.Appending.{ended_by, ended_rows}
-use Rattle.ele_files.specs.Inside.{row_stock, file_stock, draft_stock, stock_of, Keeps, is_id}
-use Rattle.ele_files.specs.declared.file.File.{File}
-use Rattle.ele_inode_log.specs.declared.row.VersionRow as log
-use Rattle.ele_inode_log.specs.Rows.{is_numbered}
-use Rattle.ele_lists.specs.Lists.{update_first, remove_first, insert_before}
-use Rattle.ele_lists.proofs.Alls.{all-left, all-right, all-split, flat_map-all, map-all}
-use Rattle.ele_lists.proofs.Edits.{all-found}
-use Rattle.ele_lists.proofs.Sums.{sum_by-update_first, sum_by-remove_first, sum_by-insert_before, sum_by-update_same, sum_by-around, sum_by-map, sum_by-flat_map}
-use Rattle.ele_sessions.specs.Sessions.{Draft, AllSessions, is_draft}
+use Rattle.ele_files.proofs.Words.{AllByRecursion, AllSessions, Bool, Draft, File, Keeps, List, LivesIn, LogRow, SameStock, Some, Store, Tagged, [], all-found, all-left, all-right, all-split, arith, draft_stock, ended_by, ended_rows, file_stock, find, flat_map, flat_map-all, insert_before, is_draft, is_id, is_numbered, map, map-all, nat_tests, refl, remove_first, row_stock, stock_of, sum_by, sum_by-append, sum_by-around, sum_by-cons, sum_by-flat_map, sum_by-insert_before, sum_by-map, sum_by-remove_first, sum_by-update_first, sum_by-update_same, sum_by_push, update_first, ℕ, ◌++◌, ◌+◌, ◌-◌, ◌∷◌, ◌≡◌}
 
 -- a file with the rows and the next number of g
 abbrev pub over : File → File → File
@@ -54,19 +38,12 @@ module _ (files : List File) (drafts : List Draft) where
   -- one file has other rows
   module _ (id : ℕ) (f g : File) (found : find (is_id id) files ≡ Some f) where
     exchanged : (k : Tagged → ℕ) → sum_by k (stock_of (update_first (is_id id) (over g) files) drafts) + sum_by (λ row. k (row_stock f.id row)) f.log.rows ≡ sum_by k (stock_of files drafts) + sum_by (λ row. k (row_stock f.id row)) g.log.rows
-    exchanged k = omega (
-      arith,
-      total k files drafts,
-      total k (update_first (is_id id) (over g) files) drafts,
-      sum_by-update_first (λ x. sum_by k (file_stock x)) (is_id id) (over g) files f found,
-      sum_by-map k (row_stock f.id) f.log.rows,
-      sum_by-map k (row_stock f.id) g.log.rows,
-    )
+    exchanged k = grind (arith, nat_tests, total, sum_by-update_first, sum_by-map)
 
-    pub row_apart : (q : log.VersionRow → Bool) (row : log.VersionRow) → find q f.log.rows ≡ Some row → g.log.rows ≡ remove_first q f.log.rows → SameStock (stock_of files drafts) (row_stock f.id row ∷ stock_of (update_first (is_id id) (over g) files) drafts)
+    pub row_apart : (q : LogRow → Bool) (row : LogRow) → find q f.log.rows ≡ Some row → g.log.rows ≡ remove_first q f.log.rows → SameStock (stock_of files drafts) (row_stock f.id row ∷ stock_of (update_first (is_id id) (over g) files) drafts)
     row_apart q row held rows = record {
       sums = λ k.
-          let h : log.VersionRow → ℕ = λ r. k (row_stock f.id r) in
+          let h : LogRow → ℕ = λ r. k (row_stock f.id r) in
           let left : sum_by h g.log.rows ≡ sum_by h (remove_first q f.log.rows) = rw rows refl in
           omega (arith, exchanged k, left, sum_by-remove_first h q f.log.rows row held, sum_by-cons k (row_stock f.id row) (stock_of (update_first (is_id id) (over g) files) drafts));
     }
@@ -74,7 +51,7 @@ module _ (files : List File) (drafts : List Draft) where
     pub rows_stay : g.log.rows ≡ f.log.rows → SameStock (stock_of files drafts) (stock_of (update_first (is_id id) (over g) files) drafts)
     rows_stay rows = record {
       sums = λ k.
-          let h : log.VersionRow → ℕ = λ r. k (row_stock f.id r) in
+          let h : LogRow → ℕ = λ r. k (row_stock f.id r) in
           let same : sum_by h g.log.rows ≡ sum_by h f.log.rows = rw rows refl in
           omega (arith, exchanged k, same);
     }
@@ -82,22 +59,22 @@ module _ (files : List File) (drafts : List Draft) where
     pub rows_ended : (now : ℕ) → g.log.rows ≡ ended_rows f now → SameStock (stock_of files drafts) (stock_of (update_first (is_id id) (over g) files) drafts)
     rows_ended now rows = record {
       sums = λ k.
-          let h : log.VersionRow → ℕ = λ r. k (row_stock f.id r) in
+          let h : LogRow → ℕ = λ r. k (row_stock f.id r) in
           let same : sum_by h g.log.rows ≡ sum_by h (ended_rows f now) = rw rows refl in
           omega (arith, exchanged k, same, sum_by-update_same h (is_numbered (f.next - 1)) (ended_by now) f.log.rows (λ r. refl));
     }
 
-    pub row_added : (now : ℕ) (new : log.VersionRow) → g.log.rows ≡ ended_rows f now ++ new ∷ [] → SameStock (stock_of (update_first (is_id id) (over g) files) drafts) (row_stock f.id new ∷ stock_of files drafts)
+    pub row_added : (now : ℕ) (new : LogRow) → g.log.rows ≡ ended_rows f now ++ new ∷ [] → SameStock (stock_of (update_first (is_id id) (over g) files) drafts) (row_stock f.id new ∷ stock_of files drafts)
     row_added now new rows = record {
       sums = λ k.
-          let h : log.VersionRow → ℕ = λ r. k (row_stock f.id r) in
+          let h : LogRow → ℕ = λ r. k (row_stock f.id r) in
           let more : sum_by h g.log.rows ≡ sum_by h (ended_rows f now ++ new ∷ []) = rw rows refl in
           omega (arith, exchanged k, more, sum_by_push h (ended_rows f now) new, sum_by-update_same h (is_numbered (f.next - 1)) (ended_by now) f.log.rows (λ r. refl), sum_by-cons k (row_stock f.id new) (stock_of files drafts));
     }
 
 -- each map lives in the store
 abbrev pub LogLives : Store → File → Type 0
-LogLives s f = AllByRecursion (λ (row : log.VersionRow). LivesIn s row.cells) f.log.rows
+LogLives s f = AllByRecursion (λ (row : LogRow). LivesIn s row.cells) f.log.rows
 
 module _ (s : Store) (files : List File) (a : AllSessions) (kept : Keeps s files a) where
   each_lives : AllByRecursion (λ t. LivesIn s t.layout) (stock_of files a.drafts)
@@ -114,5 +91,5 @@ module _ (s : Store) (files : List File) (a : AllSessions) (kept : Keeps s files
   draft_lives file d found = all-found (is_draft file) (λ d. LivesIn s d.layout) a.drafts d found (map-all draft_stock (λ t. LivesIn s t.layout) a.drafts (all-right (λ t. LivesIn s t.layout) (flat_map file_stock files) (map draft_stock a.drafts) each_lives))
 
   -- a found row of a found file
-  pub row_lives : (id : ℕ) (q : log.VersionRow → Bool) (f : File) (row : log.VersionRow) → find (is_id id) files ≡ Some f → find q f.log.rows ≡ Some row → LivesIn s row.cells
-  row_lives id q f row there held = all-found q (λ (row : log.VersionRow). LivesIn s row.cells) f.log.rows row held (all-found (is_id id) (LogLives s) files f there logs_live)
+  pub row_lives : (id : ℕ) (q : LogRow → Bool) (f : File) (row : LogRow) → find (is_id id) files ≡ Some f → find q f.log.rows ≡ Some row → LivesIn s row.cells
+  row_lives id q f row there held = all-found q (λ (row : LogRow). LivesIn s row.cells) f.log.rows row held (all-found (is_id id) (LogLives s) files f there logs_live)

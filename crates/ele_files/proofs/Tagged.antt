@@ -1,57 +1,19 @@
 -- The version that a tag means, as the log of its file shows it.
-use Rattle.std.proofs.Common.{◌≡◌, ℕ, ◌-◌, ◌&&◌, eqb, nat_lt, Bool, true, false, cond, List, [], ◌∷◌, map, filter, Option, Some, None, Ok, Err, refl, ap, sym, ◌∙◌, arith, find}
-use Rattle.std.specs.List.{AllByRecursion, flat_map}
-use Rattle.std.specs.Option.{option_map, option_map_or, option_or}
-use Rattle.std.specs.Result.{result_map_both}
-use Rattle.std.proofs.lemmas.Bool.{false≢true}
-use Rattle.std.proofs.lemmas.Bool.Decides.{nat_tests}
-use Rattle.ele_blocks.specs.LivesIn.{LivesIn}
-use Rattle.ele_blocks.specs.Store.{Store}
-use Rattle.ele_files.specs.Inside.{Keeps, file_row, is_id, row_in, rows_in}
-use Rattle.ele_files.specs.Meant.{row_living, row_meant, row_numbered, stamps_in, told_or_forgotten}
-use Rattle.ele_files.specs.declared.file.File.{File}
+use Rattle.ele_files.proofs.Words.{AllByRecursion, AllSessions, Bool, Err, File, Keeps, List, LivesIn, LogRow, NoVersion, None, Ok, Option, Refusal, Some, Stamps, Store, Tag, VersionRow, [], all-found, ap, arith, cond, eqb, false≢true, file_row, filter, filter-buckets, find, find-filter, find-map, flat_map, found_passes, had_closed, had_life, has_closed_by, held_or_forgotten, is_before, is_id, is_numbered, is_version, is_version_of, last_number, last_passing, lives_at, map, nat_lt, nat_tests, option_map, option_map_or, refl, result_map_both, row_in, row_living, row_meant, row_numbered, rows_in, stamps_in, stamps_of, sym, told_or_forgotten, true, version_living, version_meant, version_numbered, ℕ, ◌&&◌, ◌-◌, ◌∙◌, ◌∷◌, ◌≡◌}
 use Rattle.ele_files.proofs.Rows.{file_of, next-found, tagged}
 use Rattle.ele_files.proofs.Stock.{logs_live, row_lives}
-use Rattle.ele_inode_log.specs.declared.row.VersionRow as log
-use Rattle.ele_inode_log.specs.Rows.{has_closed_by, is_before, is_numbered, lives_at}
-use Rattle.ele_lists.specs.Last.{last_passing}
-use Rattle.ele_lists.proofs.Buckets.{filter-buckets}
-use Rattle.ele_lists.proofs.Edits.{all-found, found_passes}
-use Rattle.ele_lists.proofs.Filters.{find-filter}
-use Rattle.ele_lists.proofs.Shown.{find-map}
-use Rattle.ele_sessions.specs.Sessions.{AllSessions}
-use Rattle.ele_time_path.specs.declared.tagged.Tag.{Tag}
 use Rattle.ele_time_path.specs.declared.tagged.Tag.TheVariants as tag
-use Rattle.ele_world.specs.FileView.{is_version_of}
 use Rattle.ele_world.specs.Tagged as world
-use Rattle.ele_world.specs.Tagged.{had_closed, had_life, held_or_forgotten, last_number, version_living, version_meant, version_numbered}
-use Rattle.ele_world.specs.Told.{stamps_of}
-use Rattle.ele_world.specs.World.{is_version}
-use Rattle.ele_world.specs.declared.refusal.Refusal.{Refusal}
-use Rattle.ele_world.specs.declared.refusal.Refusal.TheVariants.{NoVersion}
-use Rattle.ele_world.specs.declared.rows.Stamps.{Stamps}
-use Rattle.ele_world.specs.declared.rows.VersionRow.{VersionRow}
 
 -- ---- the last that passes, through a filter and a map
 
 last-filter : {X : Type 0} (p q : X → Bool) (xs : List X) → ((x : X) → p x ≡ true → q x ≡ true) → last_passing p (filter q xs) ≡ last_passing p xs
 last-filter p q [] own = refl
-last-filter {X} p q (x ∷ xs) own = by (last-filter p q xs own) (q x) (p x) refl refl where
-  by : last_passing p (filter q xs) ≡ last_passing p xs → (b c : Bool) → q x ≡ b → p x ≡ c → last_passing p (cond b (x ∷ filter q xs) (filter q xs)) ≡ option_or (last_passing p xs) (cond c (Some x) None)
-  by rest true c e f = rw (f, rest) refl
-  by rest false true e f = absurd (false≢true (sym e ∙ own x f))
-  by rest false false e f = rest ∙ none (last_passing p xs) where
-    none : (o : Option X) → o ≡ option_or o None
-    none None = refl
-    none (Some y) = refl
+last-filter {X} p q (x ∷ xs) own = grind (arith, nat_tests, false≢true, last-filter p q xs own)
 
 pub last-map : {X Y : Type 0} (p : Y → Bool) (h : X → Y) (q : X → Bool) (xs : List X) → ((x : X) → p (h x) ≡ q x) → last_passing p (map h xs) ≡ option_map h (last_passing q xs)
 last-map p h q [] same = refl
-last-map p h q (x ∷ xs) same = rw (last-map p h q xs same, same x) (by (last_passing q xs) (q x)) where
-  by : (o : Option _) (b : Bool) → option_or (option_map h o) (cond b (Some (h x)) None) ≡ option_map h (option_or o (cond b (Some x) None))
-  by None true = refl
-  by None false = refl
-  by (Some y) b = refl
+last-map p h q (x ∷ xs) same = grind (arith, nat_tests, last-map p h q xs same)
 
 -- ---- the world's look-ups, as those of the log
 
@@ -66,27 +28,21 @@ module _ (s : Store) (files : List File) (a : AllSessions) (kept : Keeps s files
   pub own : eqb f.id file ≡ true
   own = found_passes (is_id file) files f found
 
-  pub find_shown : (p : VersionRow → Bool) (q : log.VersionRow → Bool) → ((row : VersionRow) → p row ≡ true → is_version_of file row ≡ true) → ((row : log.VersionRow) → p (row_in s f.id row) ≡ q row)
+  pub find_shown : (p : VersionRow → Bool) (q : LogRow → Bool) → ((row : VersionRow) → p row ≡ true → is_version_of file row ≡ true) → ((row : LogRow) → p (row_in s f.id row) ≡ q row)
       → find p versions ≡ option_map (row_in s f.id) (find q f.log.rows)
-  find_shown p q its same =
-      sym (find-filter p (is_version_of file) versions its) ∙ ap (find p) own_rows ∙ find-map (row_in s f.id) p f.log.rows ∙ ap (option_map (row_in s f.id)) (find-same (λ row. p (row_in s f.id row)) q f.log.rows same) where
-        find-same : (p q : log.VersionRow → Bool) (xs : List log.VersionRow) → ((x : log.VersionRow) → p x ≡ q x) → find p xs ≡ find q xs
-        find-same p q [] same = refl
-        find-same p q (x ∷ xs) same = rw (same x, find-same p q xs same) refl
+  find_shown p q its same = grind (arith, nat_tests, find-filter, own_rows, find-map)
 
-  last_shown : (p : VersionRow → Bool) (q : log.VersionRow → Bool) → ((row : VersionRow) → p row ≡ true → is_version_of file row ≡ true) → ((row : log.VersionRow) → p (row_in s f.id row) ≡ q row)
-      → last_number p versions ≡ option_map (λ (row : log.VersionRow). row.number) (last_passing q f.log.rows)
+  last_shown : (p : VersionRow → Bool) (q : LogRow → Bool) → ((row : VersionRow) → p row ≡ true → is_version_of file row ≡ true) → ((row : LogRow) → p (row_in s f.id row) ≡ q row)
+      → last_number p versions ≡ option_map (λ (row : LogRow). row.number) (last_passing q f.log.rows)
   last_shown p q its same =
       ap (option_map (λ (row : VersionRow). row.number)) (sym (last-filter p (is_version_of file) versions its) ∙ ap (last_passing p) own_rows ∙ last-map p (row_in s f.id) q f.log.rows same)
       ∙ by (last_passing q f.log.rows) where
-        by : (o : Option log.VersionRow) → option_map (λ (row : VersionRow). row.number) (option_map (row_in s f.id) o) ≡ option_map (λ (row : log.VersionRow). row.number) o
-        by None = refl
-        by (Some row) = refl
+        by : (o : Option LogRow) → option_map (λ (row : VersionRow). row.number) (option_map (row_in s f.id) o) ≡ option_map (λ (row : LogRow). row.number) o
+        by o = grind arith
 
-  told : (q r : log.VersionRow → Bool) (o : Option log.VersionRow) → find q f.log.rows ≡ o
-      → result_map_both stamps_of (λ (refusal : Refusal). refusal) (held_or_forgotten (option_map (row_in s f.id) o) (option_map (λ (row : log.VersionRow). row.number) (last_passing r f.log.rows))) ≡ told_or_forgotten o (last_passing r f.log.rows)
-  told q r None is = refl
-  told q r (Some row) is = rw (kept.laws.long s row.cells (row_lives s files a kept file q f row found is)) refl
+  told : (q r : LogRow → Bool) (o : Option LogRow) → find q f.log.rows ≡ o
+      → result_map_both stamps_of (λ (refusal : Refusal). refusal) (held_or_forgotten (option_map (row_in s f.id) o) (option_map (λ (row : LogRow). row.number) (last_passing r f.log.rows))) ≡ told_or_forgotten o (last_passing r f.log.rows)
+  told q r x2 is = grind (arith, nat_tests, row_lives)
 
   numbered_shown : (number : ℕ) → result_map_both stamps_of (λ (refusal : Refusal). refusal) (version_numbered versions file number) ≡ row_numbered f number
   numbered_shown number =
@@ -101,9 +57,8 @@ module _ (s : Store) (files : List File) (a : AllSessions) (kept : Keeps s files
   -- and that which lived at the moment
   pub at_shown : (moment : ℕ) → option_map stamps_of (find (had_life file moment) versions) ≡ option_map stamps_in (find (lives_at moment) f.log.rows)
   at_shown moment = rw (find_shown (had_life file moment) (lives_at moment) (λ row e. grind (arith, nat_tests)) (λ row. rw own refl)) (by (find (lives_at moment) f.log.rows) refl) where
-    by : (o : Option log.VersionRow) → find (lives_at moment) f.log.rows ≡ o → option_map stamps_of (option_map (row_in s f.id) o) ≡ option_map stamps_in o
-    by None is = refl
-    by (Some row) is = rw (kept.laws.long s row.cells (row_lives s files a kept file (lives_at moment) f row found is)) refl
+    by : (o : Option LogRow) → find (lives_at moment) f.log.rows ≡ o → option_map stamps_of (option_map (row_in s f.id) o) ≡ option_map stamps_in o
+    by x0 is = grind (arith, nat_tests, row_lives)
 
   -- what the tag means of the file
   pub meant_shown : (t : Tag) → result_map_both stamps_of (λ (refusal : Refusal). refusal) (version_meant (map file_row files) versions file t) ≡ row_meant f t
@@ -111,13 +66,12 @@ module _ (s : Store) (files : List File) (a : AllSessions) (kept : Keeps s files
   meant_shown (tag.At moment) = living_shown moment
   meant_shown (tag.Number number) = rw (next-found files file (Some f) found) (by (nat_lt 0 number && nat_lt number f.next)) where
     by : (b : Bool) → result_map_both stamps_of (λ (refusal : Refusal). refusal) (cond b (version_numbered versions file number) (Err NoVersion)) ≡ cond b (row_numbered f number) (Err NoVersion)
-    by true = numbered_shown number
-    by false = refl
+    by b = grind (arith, numbered_shown number)
 
   -- what is told of each
   pub list_shown : map stamps_of (filter (is_version_of file) versions) ≡ map stamps_in f.log.rows
-  list_shown = ap (map stamps_of) own_rows ∙ each f.log.rows (all-found (is_id file) (λ f. AllByRecursion (λ (row : log.VersionRow). LivesIn s row.cells) f.log.rows) files f found (logs_live s files a kept)) where
-    each : (rows : List log.VersionRow) → AllByRecursion (λ (row : log.VersionRow). LivesIn s row.cells) rows → map stamps_of (map (row_in s f.id) rows) ≡ map stamps_in rows
+  list_shown = ap (map stamps_of) own_rows ∙ each f.log.rows (all-found (is_id file) (λ f. AllByRecursion (λ (row : LogRow). LivesIn s row.cells) f.log.rows) files f found (logs_live s files a kept)) where
+    each : (rows : List LogRow) → AllByRecursion (λ (row : LogRow). LivesIn s row.cells) rows → map stamps_of (map (row_in s f.id) rows) ≡ map stamps_in rows
     each [] all = refl
     each (row ∷ rows) all = rw (kept.laws.long s row.cells all.0, each rows all.1) refl
 
@@ -132,10 +86,8 @@ none_lived s files a kept file moment none =
     ∙ ap (find (had_life file moment)) (none_shown s files a kept file none)
 
 -- what was told is what was found
-pub told_found : (found before : Option log.VersionRow) (stamps : Stamps) → told_or_forgotten found before ≡ Ok stamps → option_map stamps_in found ≡ Some stamps
-told_found None before stamps is = absurd cc
-told_found (Some row) before stamps is = cc
+pub told_found : (found before : Option LogRow) (stamps : Stamps) → told_or_forgotten found before ≡ Ok stamps → option_map stamps_in found ≡ Some stamps
+told_found found before stamps is = grind (arith, is)
 
-pub forgotten_none : (found before : Option log.VersionRow) (refusal : Refusal) → told_or_forgotten found before ≡ Err refusal → option_map stamps_in found ≡ None
-forgotten_none None before refusal is = refl
-forgotten_none (Some row) before refusal is = absurd cc
+pub forgotten_none : (found before : Option LogRow) (refusal : Refusal) → told_or_forgotten found before ≡ Err refusal → option_map stamps_in found ≡ None
+forgotten_none found before refusal is = grind (arith, is)

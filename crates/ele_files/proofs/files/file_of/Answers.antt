@@ -1,5 +1,4 @@
-use Rattle.std.proofs.Common.{sym}
-use Rattle.ele_files.proofs.Rows.{file-at, no-file}
+use Rattle.ele_files.proofs.Lemmas.{sym, file-at, no-file}
 use Rattle.ele_files.proofs.files.file_of.Goals as goal
 
 pub returns-in_err-at : goal.returns-in_err-at

@@ -1,29 +1,14 @@
-use Rattle.std.proofs.Common.{◌≡◌, Some, None, refl, sym, ◌∙◌, ◌-◌}
-use Rattle.std.specs.Prelude.{find}
-use Rattle.ele_files.specs.Appending.{ended_by}
-use Rattle.ele_files.proofs.Endings.{last_row, can_end, no_end, keeps_end}
-use Rattle.ele_lists.proofs.Cuts.{update_first-unfound, update_first-same}
+use Rattle.ele_files.proofs.Lemmas.{all-not_found, arith, can_end, keeps_end, last_row, nat_tests, no_end, update_first-same, update_first-unfound}
 use Rattle.ele_files.proofs.file.File.end_before.Goals as goal
-use Rattle.ele_inode_log.specs.Rows.{is_numbered}
-use Rattle.ele_lists.proofs.Edits.{all-not_found}
 
 pub end_last-requires : goal.end_last-requires
-end_last-requires c =
-    let found : find (is_numbered (c.args.self.now.next - 1)) c.args.self.now.log.rows ≡ Some c.in-Some.row.now = rw c.before-2.ensures at (sym c.in-Some.ensures.row) in
-    can_end c.args.self.now.log.rows (c.args.self.now.next - 1) c.args.now c.in-Some.row.now c.requires.past c.requires.kept.order.order found (no_end c.in-Some.row.now.ended c.if-is_none.ensures)
+end_last-requires c = grind (arith, nat_tests, can_end, no_end)
 
 pub returns-then-is_none-clause-ended : goal.returns-then-is_none-clause-ended
-returns-then-is_none-clause-ended c =
-    let found : find (is_numbered (c.args.self.now.next - 1)) c.args.self.now.log.rows ≡ Some c.in-Some.row.now = rw c.before-2.ensures at (sym c.in-Some.ensures.row) in
-    let is = last_row c.args.self.now.log.rows (c.args.self.now.next - 1) c.args.now c.in-Some.row.now c.requires.kept.order.order found (no_end c.in-Some.row.now.ended c.if-is_none.ensures) in
-    record { id = refl; policy = refl; next = refl; rows = c.end_last.ensures.ended ∙ is.ended }
+returns-then-is_none-clause-ended c = grind (arith, nat_tests, last_row, no_end)
 
 pub returns-else-is_none-clause-ended : goal.returns-else-is_none-clause-ended
-returns-else-is_none-clause-ended c =
-    let found : find (is_numbered (c.args.self.now.next - 1)) c.args.self.now.log.rows ≡ Some c.in-Some.row.now = rw c.before-2.ensures at (sym c.in-Some.ensures.row) in
-    record { id = refl; policy = refl; next = refl; rows = sym (update_first-same (is_numbered (c.args.self.now.next - 1)) (ended_by c.args.now) c.args.self.now.log.rows c.in-Some.row.now found (keeps_end c.args.now c.in-Some.row.now c.if-is_none.ensures)) }
+returns-else-is_none-clause-ended c = grind (arith, nat_tests, update_first-same, keeps_end)
 
 pub returns-in_default-clause-ended : goal.returns-in_default-clause-ended
-returns-in_default-clause-ended c =
-    let missing : find (is_numbered (c.args.self.now.next - 1)) c.args.self.now.log.rows ≡ None = rw c.before-2.ensures at (sym c.in_default.ensures.row) in
-    record { id = refl; policy = refl; next = refl; rows = sym (update_first-unfound (is_numbered (c.args.self.now.next - 1)) (ended_by c.args.now) c.args.self.now.log.rows (all-not_found (is_numbered (c.args.self.now.next - 1)) c.args.self.now.log.rows missing)) }
+returns-in_default-clause-ended c = grind (arith, nat_tests, update_first-unfound, all-not_found)

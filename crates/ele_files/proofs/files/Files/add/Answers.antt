@@ -1,13 +1,5 @@
-use Rattle.std.proofs.Common.{refl, ◌∙◌}
-use Rattle.ele_files.specs.declared.file.File.{File}
-use Rattle.ele_files.proofs.Appends.{fresh_kept, added_keeps, added_shows}
+use Rattle.ele_files.proofs.Lemmas.{File, added_keeps, added_shows, refl, ◌∙◌}
 use Rattle.ele_files.proofs.files.Files.add.Goals as goal
-
-pub append-first-requires-clause-kept : goal.append-first-requires-clause-kept
-append-first-requires-clause-kept c = fresh_kept _ refl (c.reserve-2.ensures.rows ∙ c.new-log.ensures)
-
-pub append-first-requires-clause-past : goal.append-first-requires-clause-past
-append-first-requires-clause-past c = rw (c.reserve-2.ensures.rows, c.new-log.ensures) tt
 
 pub invariant_of-self-2 : goal.invariant_of-self-2
 invariant_of-self-2 c =

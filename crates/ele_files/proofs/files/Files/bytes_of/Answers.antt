@@ -1,25 +1,16 @@
-use Rattle.std.proofs.Common.{sym, ap, ◌∙◌}
-use Rattle.ele_files.proofs.Counted.{own_bytes, own_few, own_kept}
-use Rattle.ele_files.proofs.Tagged.{none_shown}
-use Rattle.ele_world.specs.Usage.{bytes_in}
+use Rattle.ele_files.proofs.Lemmas.{ap, bytes_in, sym, ◌∙◌, none_shown, own_bytes, own_few, own_kept}
 use Rattle.ele_files.proofs.files.Files.bytes_of.Goals as goal
 
 pub log_bytes-requires-clause-kept : goal.log_bytes-requires-clause-kept
-log_bytes-requires-clause-kept c =
-    let i = c.self.inside in
-    own_kept i.store i.files.items i.sessions c.self.invariant c.args.file c.in-Some.held.now (sym (rw c.deref.ensures.value at c.in-Some.ensures))
+log_bytes-requires-clause-kept c = own_kept _ _ _ c.self.invariant c.args.file c.in-Some.held.now (sym (rw c.deref.ensures.value at c.in-Some.ensures))
 
 pub log_bytes-requires-clause-few : goal.log_bytes-requires-clause-few
 log_bytes-requires-clause-few c =
-    let i = c.self.inside in
-    own_few i.store i.files.items i.sessions c.self.invariant c.args.file c.in-Some.held.now (sym (rw c.deref.ensures.value at c.in-Some.ensures)) (rw (← c.self.view_is) at c.requires.few)
+    own_few _ _ _ c.self.invariant c.args.file c.in-Some.held.now (sym (rw c.deref.ensures.value at c.in-Some.ensures)) (rw (← c.self.view_is) at c.requires.few)
 
 pub returns-in-Some : goal.returns-in-Some
 returns-in-Some c =
-    let i = c.self.inside in
-    c.log_bytes.ensures ∙ rw (← c.self.view_is) (own_bytes i.store i.files.items i.sessions c.self.invariant c.args.file c.in-Some.held.now (sym (rw c.deref.ensures.value at c.in-Some.ensures)))
+    c.log_bytes.ensures ∙ rw (← c.self.view_is) (own_bytes _ _ _ c.self.invariant c.args.file c.in-Some.held.now (sym (rw c.deref.ensures.value at c.in-Some.ensures)))
 
 pub returns-in-None : goal.returns-in-None
-returns-in-None c =
-    let i = c.self.inside in
-    rw (← c.self.view_is) (sym (ap bytes_in (none_shown i.store i.files.items i.sessions c.self.invariant c.args.file (sym (rw c.deref.ensures.value at c.in-None.ensures)))))
+returns-in-None c = rw (← c.self.view_is) (sym (ap bytes_in (none_shown _ _ _ c.self.invariant c.args.file (sym (rw c.deref.ensures.value at c.in-None.ensures)))))

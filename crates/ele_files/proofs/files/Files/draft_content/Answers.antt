@@ -1,6 +1,4 @@
-use Rattle.std.proofs.Common.{refl, sym, ap, ◌∙◌}
-use Rattle.ele_content.specs.Content.{content_of}
-use Rattle.ele_files.proofs.Asked.{draft_shown}
+use Rattle.ele_files.proofs.Lemmas.{ap, content_of, refl, sym, ◌∙◌, draft_shown}
 use Rattle.ele_files.proofs.files.Files.draft_content.Goals as goal
 
 pub content-requires : goal.content-requires

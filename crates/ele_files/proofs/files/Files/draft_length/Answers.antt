@@ -1,5 +1,4 @@
-use Rattle.std.proofs.Common.{sym, ◌∙◌}
-use Rattle.ele_files.proofs.Asked.{draft_shown}
+use Rattle.ele_files.proofs.Lemmas.{sym, ◌∙◌, draft_shown}
 use Rattle.ele_files.proofs.files.Files.draft_length.Goals as goal
 
 pub returns-in_err-map : goal.returns-in_err-map

@@ -1,26 +1,12 @@
-use Rattle.std.proofs.Common.{◌++◌, ◌∷◌, [], refl, sym, ap, ◌∙◌, arith}
-use Rattle.std.proofs.lemmas.Option.{slice_get_past}
-use Rattle.ele_files.proofs.Asked.{draft_shown}
-use Rattle.ele_files.proofs.Copies.{draft-there, draft-next, taken-all}
+use Rattle.ele_files.proofs.Lemmas.{arith, draft-next, draft-there, draft_shown, nat_tests, refl}
 use Rattle.ele_files.proofs.files.Files.draft_rows.Goals as goal
-use Rattle.ele_files.specs.Inside.{draft_in}
 
 pub unreachable-requires-in_default-draft : goal.unreachable-requires-in_default-draft
 unreachable-requires-in_default-draft c =
-    let i = c.self.inside in
-    draft-there i.store i.sessions.drafts c.drafts_open.ensures.orderly.drafts_rise c.loop-place.place c.in-Some.draft c.in-Some.ensures c.in_default-draft.ensures
+    draft-there c.self.inside.store c.self.inside.sessions.drafts c.drafts_open.ensures.orderly.drafts_rise c.loop-place.place c.in-Some.draft c.in-Some.ensures c.in_default-draft.ensures
 
 pub copy_cells-requires-clause-lives : goal.copy_cells-requires-clause-lives
 copy_cells-requires-clause-lives c = (draft_shown _ _ _ c.self.invariant c.in-Some.draft.0 _ c.in-Some-draft.ensures).lives _ refl
 
 pub loop-place-preserved : goal.loop-place-preserved
-loop-place-preserved c =
-    let i = c.self.inside in
-    let next = draft-next i.store i.sessions.drafts c.drafts_open.ensures.orderly.drafts_rise c.loop-place.place c.in-Some.draft c.in-Some.ensures c.in-Some-draft.map.now c.in_ok-cells.cells c.in-Some-draft.ensures c.in_ok-cells.ensures in
-    c.in_ok-push.ensures.items ∙ (ap (λ rows. rows ++ record { file = c.in-Some.draft.0; opened = c.in-Some.draft.1; cells = c.in_ok-cells.cells; changed = c.in-Some.draft.2 } ∷ []) c.loop-place.invariant ∙ sym next)
-
-pub returns : goal.returns
-returns c =
-    let i = c.self.inside in
-    let all = taken-all (draft_in i.store) i.sessions.drafts c.loop-place.place (slice_get_past i.sessions.drafts c.loop-place.place (omega (arith, c.loop-place-test.false, c.drafts_open-place-end.ensures.value))) in
-    rw (← c.self.view_is) (c.from_vec.ensures ∙ (c.loop-place.invariant ∙ all))
+loop-place-preserved c = grind (arith, nat_tests, draft-next)

@@ -1,6 +1,5 @@
-use Rattle.std.proofs.Common.{◌≡◌, map, take}
+use Rattle.ele_files.proofs.Lemmas.{draft_in, map, take, ◌≡◌}
 use Rattle.ele_files.proofs.files.Files.draft_rows.Given as goal
-use Rattle.ele_files.specs.Inside.{draft_in}
 
 abbrev pub invariant-loop-place : goal.invariant-loop-place
 invariant-loop-place l = l.rows.items ≡ map (draft_in l.self-inside.store) (take l.place l.self-inside.sessions.drafts)

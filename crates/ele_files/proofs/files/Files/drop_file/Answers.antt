@@ -1,4 +1,4 @@
-use Rattle.ele_files.proofs.Drops.{none_drops, drops_at}
+use Rattle.ele_files.proofs.Lemmas.{drops_at, none_drops}
 use Rattle.ele_files.proofs.files.Files.drop_file.Goals as goal
 
 pub invariant_of-self : goal.invariant_of-self

@@ -1,5 +1,4 @@
-use Rattle.ele_files.proofs.Ends.{none_ends, ends}
-use Rattle.ele_files.proofs.Places.{its_past}
+use Rattle.ele_files.proofs.Lemmas.{ends, its_past, none_ends}
 use Rattle.ele_files.proofs.files.Files.end_current.Goals as goal
 
 pub end_before-requires-clause-past : goal.end_before-requires-clause-past

@@ -1,12 +1,6 @@
-use Rattle.std.proofs.Common.{◌≡◌, Some, ap, sym, ◌∙◌}
-use Rattle.std.proofs.Math.ListN.{set}
-use Rattle.std.specs.Option.{option_and_then}
-use Rattle.ele_files.specs.Inside.{held_of}
-use Rattle.ele_files.proofs.Closes.{given, on_err, its_map, not_missing, IsFinished, finished}
-use Rattle.ele_files.proofs.Places.{its_few, ready_past, waits}
+use Rattle.ele_files.proofs.Lemmas.{IsFinished, Some, ap, closed, finished, given, held_of, its_few, its_map, not_missing, on_err, option_and_then, ready_past, set, sym, waits, ◌∙◌, ◌≡◌}
 use Rattle.ele_files.proofs.files.Files.finish.Goals as goal
 use Rattle.ele_files.proofs.files.Files.finish.Goals.{After-self-2-1}
-use Rattle.ele_sessions.specs.Closes.{closed}
 
 pub unreachable-requires : goal.unreachable-requires
 unreachable-requires c = not_missing _ _ _ c.args.handle c.args.file c.args.opened c.self.invariant (rw (← c.self.view_is) at c.requires.file) (rw (← c.self.view_is) at c.requires.changed) (sym (rw c.deref.ensures.value at c.in_default.ensures))

@@ -1,5 +1,4 @@
-use Rattle.std.proofs.Common.{sym, ◌∙◌}
-use Rattle.ele_files.proofs.Rows.{open-shown}
+use Rattle.ele_files.proofs.Lemmas.{sym, ◌∙◌, open-shown}
 use Rattle.ele_files.proofs.files.Files.is_open.Goals as goal
 
 pub returns : goal.returns

@@ -1,12 +1,6 @@
-use Rattle.std.proofs.Common.{sym, ap, ◌∙◌}
-use Rattle.std.specs.Option.{option_and_then}
-use Rattle.ele_files.specs.Closing.{left_by}
-use Rattle.ele_files.specs.Inside.{held_of}
-use Rattle.ele_files.proofs.Closes.{given_lives, leaves}
-use Rattle.ele_files.proofs.Looks.{IsSeen}
+use Rattle.ele_files.proofs.Lemmas.{ap, closed, held_of, left_by, option_and_then, sym, ◌∙◌, IsSeen, given_lives, leaves}
 use Rattle.ele_files.proofs.files.Files.leave.Goals as goal
 use Rattle.ele_files.proofs.files.Files.leave.Goals.{After-give_up}
-use Rattle.ele_sessions.specs.Closes.{closed}
 
 pub give_up-requires : goal.give_up-requires
 give_up-requires c m is = given_lives _ _ _ c.args.handle c.self.invariant m (sym (c.map_of-map.ensures ∙ ap (option_and_then (λ a. a.1)) c.close.ensures.answer) ∙ is)

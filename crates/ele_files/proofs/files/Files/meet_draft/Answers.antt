@@ -1,11 +1,4 @@
-use Rattle.std.proofs.Common.{[], subst, sym, ap, refl, ◌∙◌}
-use Rattle.std.specs.Option.{option_map_or}
-use Rattle.std.proofs.lemmas.Result.{on_ok_weaker}
-use Rattle.ele_blocks.specs.Layout.{shown}
-use Rattle.ele_files.specs.Met.{Meets}
-use Rattle.ele_files.proofs.Asked.{draft_shown}
-use Rattle.ele_files.proofs.Counted.{draft_places, meets_none}
-use Rattle.ele_world.specs.Usage.{places_from}
+use Rattle.ele_files.proofs.Lemmas.{Meets, [], ap, draft_places, draft_shown, meets_none, on_ok_weaker, option_map_or, places_from, refl, shown, subst, sym, ◌∙◌}
 use Rattle.ele_files.proofs.files.Files.meet_draft.Goals as goal
 
 pub meet-requires-clause-lives : goal.meet-requires-clause-lives
@@ -13,12 +6,10 @@ meet-requires-clause-lives c = (draft_shown _ _ _ c.self.invariant c.args.file _
 
 pub returns-in-Some : goal.returns-in-Some
 returns-in-Some c =
-    let i = c.self.inside in
-    let is = draft_places i.store i.sessions c.args.file c.drafts_open-open.ensures.orderly.drafts_rise ∙ ap (λ o. option_map_or (λ m. places_from c.args.file 0 (shown i.store m)) o []) (sym c.in-Some.ensures) in
+    let is = draft_places c.self.inside.store c.self.inside.sessions c.args.file c.drafts_open-open.ensures.orderly.drafts_rise ∙ ap (λ o. option_map_or (λ m. places_from c.args.file 0 (shown c.self.inside.store m)) o []) (sym c.in-Some.ensures) in
     on_ok_weaker c.meet.result (λ meets. rw (← c.self.view_is) (subst (Meets c.args.file c.args.met.now.keys c.meet.new.met.keys) (sym is) (meets c.args.file))) c.meet.ensures
 
 pub returns-in-None : goal.returns-in-None
 returns-in-None c =
-    let i = c.self.inside in
-    let is = draft_places i.store i.sessions c.args.file c.drafts_open-open.ensures.orderly.drafts_rise ∙ ap (λ o. option_map_or (λ m. places_from c.args.file 0 (shown i.store m)) o []) (sym c.in-None.ensures) in
+    let is = draft_places c.self.inside.store c.self.inside.sessions c.args.file c.drafts_open-open.ensures.orderly.drafts_rise ∙ ap (λ o. option_map_or (λ m. places_from c.args.file 0 (shown c.self.inside.store m)) o []) (sym c.in-None.ensures) in
     rw (← c.self.view_is) (subst (Meets c.args.file c.args.met.now.keys c.args.met.now.keys) (sym is) (meets_none c.args.file c.args.met.now.keys))

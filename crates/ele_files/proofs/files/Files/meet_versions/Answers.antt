@@ -1,30 +1,18 @@
-use Rattle.std.proofs.Common.{List, [], subst, sym}
-use Rattle.std.proofs.lemmas.Result.{on_ok_weaker}
-use Rattle.ele_files.specs.Met.{Meets}
-use Rattle.ele_files.proofs.Counted.{meets_none, own_kept, own_lives, own_places}
-use Rattle.ele_files.proofs.Tagged.{none_shown}
-use Rattle.ele_world.specs.Usage.{places}
-use Rattle.ele_world.specs.declared.rows.VersionRow.{VersionRow}
+use Rattle.ele_files.proofs.Lemmas.{List, Meets, VersionRow, [], meets_none, none_shown, on_ok_weaker, own_kept, own_lives, own_places, places, subst, sym}
 use Rattle.ele_files.proofs.files.Files.meet_versions.Goals as goal
 
 pub meet_log-requires-clause-kept : goal.meet_log-requires-clause-kept
-meet_log-requires-clause-kept c =
-    let i = c.self.inside in
-    own_kept i.store i.files.items i.sessions c.self.invariant c.args.file c.in-Some.held.now (sym (rw c.deref.ensures.value at c.in-Some.ensures))
+meet_log-requires-clause-kept c = own_kept _ _ _ c.self.invariant c.args.file c.in-Some.held.now (sym (rw c.deref.ensures.value at c.in-Some.ensures))
 
 pub meet_log-requires-clause-lives : goal.meet_log-requires-clause-lives
-meet_log-requires-clause-lives c =
-    let i = c.self.inside in
-    own_lives i.store i.files.items i.sessions c.self.invariant c.args.file c.in-Some.held.now (sym (rw c.deref.ensures.value at c.in-Some.ensures))
+meet_log-requires-clause-lives c = own_lives _ _ _ c.self.invariant c.args.file c.in-Some.held.now (sym (rw c.deref.ensures.value at c.in-Some.ensures))
 
 pub returns-in-Some : goal.returns-in-Some
 returns-in-Some c =
-    let i = c.self.inside in
-    let is = own_places i.store i.files.items i.sessions c.self.invariant c.args.file c.in-Some.held.now (sym (rw c.deref.ensures.value at c.in-Some.ensures)) in
+    let is = own_places _ _ _ c.self.invariant c.args.file c.in-Some.held.now (sym (rw c.deref.ensures.value at c.in-Some.ensures)) in
     on_ok_weaker c.meet_log.result (λ meets. rw (← c.self.view_is) (subst (Meets c.args.file c.args.met.now.keys c.meet_log.new.met.keys) is (meets c.args.file))) c.meet_log.ensures
 
 pub returns-in-None : goal.returns-in-None
 returns-in-None c =
-    let i = c.self.inside in
-    let none = none_shown i.store i.files.items i.sessions c.self.invariant c.args.file (sym (rw c.deref.ensures.value at c.in-None.ensures)) in
+    let none = none_shown _ _ _ c.self.invariant c.args.file (sym (rw c.deref.ensures.value at c.in-None.ensures)) in
     rw (← c.self.view_is) (subst (λ (rows : List VersionRow). Meets c.args.file c.args.met.now.keys c.args.met.now.keys (places rows [])) (sym none) (meets_none c.args.file c.args.met.now.keys))

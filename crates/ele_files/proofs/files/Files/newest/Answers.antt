@@ -1,25 +1,16 @@
-use Rattle.std.proofs.Common.{Some, ap, sym, ◌∙◌}
-use Rattle.std.specs.Option.{option_map}
-use Rattle.ele_files.specs.Meant.{stamps_in}
-use Rattle.ele_files.proofs.Neighbours.{newest_none, newest_shown}
+use Rattle.ele_files.proofs.Lemmas.{Some, ap, newest_none, newest_shown, option_map, stamps_in, sym, ◌∙◌}
 use Rattle.ele_files.proofs.files.Files.newest.Goals as goal
 
 pub returns-in_err-held-clause-value : goal.returns-in_err-held-clause-value
 returns-in_err-held-clause-value c =
-    let i = c.self.inside in
-    let none = sym (rw c.deref.ensures.value at c.in_err-held.ensures) in
-    c.from_residual.ensures ∙ rw (← c.self.view_is) (sym (newest_none i.store i.files.items i.sessions c.self.invariant c.args.file none))
+    c.from_residual.ensures ∙ rw (← c.self.view_is) (sym (newest_none _ _ _ c.self.invariant c.args.file (sym (rw c.deref.ensures.value at c.in_err-held.ensures))))
 
 pub returns-in_err-row-clause-value : goal.returns-in_err-row-clause-value
 returns-in_err-row-clause-value c =
-    let i = c.self.inside in
     let found = sym (rw c.deref.ensures.value at c.in_ok-held.ensures) in
-    c.from_residual-in_err-row.ensures
-    ∙ rw (← c.self.view_is) (sym (newest_shown i.store i.files.items i.sessions c.self.invariant c.args.file c.in_ok-held.held.now found ∙ ap (option_map stamps_in) (sym c.in_err-row.ensures.row)))
+    c.from_residual-in_err-row.ensures ∙ rw (← c.self.view_is) (sym (newest_shown _ _ _ c.self.invariant c.args.file c.in_ok-held.held.now found ∙ ap (option_map stamps_in) (sym c.in_err-row.ensures.row)))
 
 pub returns-clause-value : goal.returns-clause-value
 returns-clause-value c =
-    let i = c.self.inside in
     let found = sym (rw c.deref.ensures.value at c.in_ok-held.ensures) in
-    ap Some c.stamps_of.ensures
-    ∙ rw (← c.self.view_is) (sym (newest_shown i.store i.files.items i.sessions c.self.invariant c.args.file c.in_ok-held.held.now found ∙ ap (option_map stamps_in) (sym c.in_ok-row.ensures.row)))
+    ap Some c.stamps_of.ensures ∙ rw (← c.self.view_is) (sym (newest_shown _ _ _ c.self.invariant c.args.file c.in_ok-held.held.now found ∙ ap (option_map stamps_in) (sym c.in_ok-row.ensures.row)))

@@ -1,24 +1,16 @@
-use Rattle.std.proofs.Common.{ap, sym, ◌∙◌}
-use Rattle.std.specs.Option.{option_map}
-use Rattle.ele_files.proofs.Neighbours.{closing_none, closing_shown}
-use Rattle.ele_inode_log.specs.declared.row.VersionRow as log
+use Rattle.ele_files.proofs.Lemmas.{LogRow, ap, closing_none, closing_shown, option_map, sym, ◌∙◌}
 use Rattle.ele_files.proofs.files.Files.next_closing.Goals as goal
 
 pub returns-in_err-held-clause-value : goal.returns-in_err-held-clause-value
 returns-in_err-held-clause-value c =
-    let i = c.self.inside in
-    let none = sym (rw c.deref.ensures.value at c.in_err-held.ensures) in
-    c.from_residual.ensures ∙ rw (← c.self.view_is) (sym (closing_none i.store i.files.items i.sessions c.self.invariant c.args.file c.args.number none))
+    c.from_residual.ensures ∙ rw (← c.self.view_is) (sym (closing_none _ _ _ c.self.invariant c.args.file c.args.number (sym (rw c.deref.ensures.value at c.in_err-held.ensures))))
 
 pub returns-in_err-row-clause-value : goal.returns-in_err-row-clause-value
 returns-in_err-row-clause-value c =
-    let i = c.self.inside in
     let found = sym (rw c.deref.ensures.value at c.in_ok-held.ensures) in
-    c.from_residual-in_err-row.ensures
-    ∙ rw (← c.self.view_is) (sym (closing_shown i.store i.files.items i.sessions c.self.invariant c.args.file c.in_ok-held.held.now found c.args.number ∙ ap (option_map (λ (row : log.VersionRow). row.closed)) (sym c.in_err-row.ensures.row)))
+    c.from_residual-in_err-row.ensures ∙ rw (← c.self.view_is) (sym (closing_shown _ _ _ c.self.invariant c.args.file c.in_ok-held.held.now found c.args.number ∙ ap (option_map (λ (row : LogRow). row.closed)) (sym c.in_err-row.ensures.row)))
 
 pub returns-clause-value : goal.returns-clause-value
 returns-clause-value c =
-    let i = c.self.inside in
     let found = sym (rw c.deref.ensures.value at c.in_ok-held.ensures) in
-    rw (← c.self.view_is) (sym (closing_shown i.store i.files.items i.sessions c.self.invariant c.args.file c.in_ok-held.held.now found c.args.number ∙ ap (option_map (λ (row : log.VersionRow). row.closed)) (sym c.in_ok-row.ensures.row)))
+    rw (← c.self.view_is) (sym (closing_shown _ _ _ c.self.invariant c.args.file c.in_ok-held.held.now found c.args.number ∙ ap (option_map (λ (row : LogRow). row.closed)) (sym c.in_ok-row.ensures.row)))

@@ -1,5 +1,4 @@
-use Rattle.std.proofs.Common.{refl, sym, ◌∙◌}
-use Rattle.ele_files.proofs.Rows.{file_row-found}
+use Rattle.ele_files.proofs.Lemmas.{refl, sym, ◌∙◌, file_row-found}
 use Rattle.ele_files.proofs.files.Files.next_of.Goals as goal
 
 pub returns-in_err-held : goal.returns-in_err-held

@@ -1,25 +1,15 @@
-use Rattle.std.proofs.Common.{None, arith, sym}
-use Rattle.ele_files.proofs.Openings.{first_lives, maps_seen, opens}
-use Rattle.ele_files.proofs.Rows.{next-found}
+use Rattle.ele_files.proofs.Lemmas.{arith, first_lives, maps_seen, nat_tests, next-found, opens, sym}
 use Rattle.ele_files.proofs.files.Files.open_write.Goals as goal
 
 pub unreachable-requires : goal.unreachable-requires
-unreachable-requires c =
-    let i = c.self.inside in
-    let none = next-found i.files.items c.args.file None (sym (rw c.deref.ensures.value at c.in_default.ensures)) in
-    let there = rw (← c.self.view_is) at c.requires.there in
-    omega (arith, none, there)
+unreachable-requires c = grind (arith, nat_tests, next-found)
 
 pub open_write-requires-clause-few : goal.open_write-requires-clause-few
-open_write-requires-clause-few c =
-    let i = c.self.inside in
-    let few = rw (← c.self.view_is) at c.requires.few in
-    c.self.invariant.laws.few i.store _ c.self.invariant.stocked (omega (arith, few, maps_seen i.store i.files.items i.sessions.drafts))
+open_write-requires-clause-few c = grind (arith, nat_tests, maps_seen)
 
 pub open_write-requires-clause-lives : goal.open_write-requires-clause-lives
 open_write-requires-clause-lives c =
-    let found = sym (rw c.deref.ensures.value at c.in-Some.ensures) in
-    rw (c.first_map-map.ensures.map, c.new-empty.ensures) (first_lives _ _ _ c.self.invariant c.args.file c.in-Some.held.now found)
+    rw (c.first_map-map.ensures.map, c.new-empty.ensures) (first_lives _ _ _ c.self.invariant c.args.file c.in-Some.held.now (sym (rw c.deref.ensures.value at c.in-Some.ensures)))
 
 pub invariant_of-self : goal.invariant_of-self
 invariant_of-self c =

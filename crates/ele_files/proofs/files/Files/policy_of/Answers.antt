@@ -1,5 +1,4 @@
-use Rattle.std.proofs.Common.{Some, None, sym, ◌∙◌}
-use Rattle.ele_files.proofs.Rows.{policy-found}
+use Rattle.ele_files.proofs.Lemmas.{None, Some, sym, ◌∙◌, policy-found}
 use Rattle.ele_files.proofs.files.Files.policy_of.Goals as goal
 
 pub returns-in_err-held : goal.returns-in_err-held

@@ -1,4 +1,4 @@
-use Rattle.ele_files.proofs.Governing.{governs, none_governed}
+use Rattle.ele_files.proofs.Lemmas.{governs, none_governed}
 use Rattle.ele_files.proofs.files.Files.put_under.Goals as goal
 
 pub invariant_of-self : goal.invariant_of-self

@@ -1,5 +1,5 @@
-use Rattle.std.proofs.Common.{sym}
-use Rattle.ele_files.proofs.Exchanges.{missing, unheld, lives, gone}
+use Rattle.ele_files.proofs.Lemmas.{sym, gone, lives, missing}
+use Rattle.ele_files.proofs.Exchanges.{unheld}
 use Rattle.ele_files.proofs.files.Files.remove.Goals as goal
 
 pub returns-in_err-at-clause-value : goal.returns-in_err-at-clause-value

@@ -1,10 +1,5 @@
-use Rattle.std.proofs.Common.{◌∙◌, arith}
-use Rattle.std.proofs.Math.ListN.{set}
-use Rattle.ele_files.specs.Inside.{held_of}
-use Rattle.ele_files.proofs.Closes.{on_err}
-use Rattle.ele_files.proofs.Openings.{maps_seen}
-use Rattle.ele_files.proofs.Places.{its_few, ready_past, waits}
-use Rattle.ele_files.proofs.Restores.{IsRestored, lives, not_lost, not_missing, restored}
+use Rattle.ele_files.proofs.Lemmas.{IsRestored, arith, held_of, its_few, maps_seen, nat_tests, not_lost, on_err, ready_past, restored, set, waits, ◌∙◌}
+use Rattle.ele_files.proofs.Restores.{lives, not_missing}
 use Rattle.ele_files.proofs.files.Files.restore.Goals as goal
 use Rattle.ele_files.proofs.files.Files.restore.Goals.{After-self-2-1}
 
@@ -24,10 +19,7 @@ pub copy-requires-clause-lives : goal.copy-requires-clause-lives
 copy-requires-clause-lives c = lives _ _ _ c.self.invariant c.args.file c.args.number (rw (← c.self.view_is) at c.requires.held) _ _ (rw c.deref.ensures.value at c.in-Some.ensures) (rw (← c.get_mut-held.ensures.value) at c.index_mut.ensures.value) c.reserve.new.self c.reserve.ensures.rows _ c.in-Some-get.ensures.row
 
 pub copy-requires-clause-few : goal.copy-requires-clause-few
-copy-requires-clause-few c =
-    let i = c.self.inside in
-    let few = rw (← c.self.view_is) at c.requires.few in
-    c.self.invariant.laws.few i.store _ c.self.invariant.stocked (omega (arith, few, maps_seen i.store i.files.items i.sessions.drafts))
+copy-requires-clause-few c = grind (arith, nat_tests, maps_seen)
 
 pub invariant_of-self-in_err-map : goal.invariant_of-self-in_err-map
 invariant_of-self-in_err-map c = rw c.in_err-map.ensures.err (waits _ _ _ c.self.invariant c.args.file _ _ (rw c.deref.ensures.value at c.in-Some.ensures) (rw (← c.get_mut-held.ensures.value) at c.index_mut.ensures.value) c.reserve.new.self c.reserve.ensures.rows).keeps

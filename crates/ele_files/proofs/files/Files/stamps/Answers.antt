@@ -1,21 +1,12 @@
-use Rattle.std.proofs.Common.{Some, ap, sym, ◌∙◌}
-use Rattle.ele_files.proofs.Asked.{stamps-none, stamps-no_row, stamps-is}
+use Rattle.ele_files.proofs.Lemmas.{arith, nat_tests, stamps-is, stamps-no_row, stamps-none, sym, ◌∙◌}
 use Rattle.ele_files.proofs.files.Files.stamps.Goals as goal
 
 pub returns-in_err-held-clause-value : goal.returns-in_err-held-clause-value
 returns-in_err-held-clause-value c =
-    let i = c.self.inside in
-    let none = sym (rw c.deref.ensures.value at c.in_err-held.ensures) in
-    c.from_residual.ensures ∙ rw (← c.self.view_is) (sym (stamps-none i.store c.args.file c.args.number i.files.items i.sessions c.self.invariant none))
+    c.from_residual.ensures ∙ rw (← c.self.view_is) (sym (stamps-none _ c.args.file c.args.number _ _ c.self.invariant (sym (rw c.deref.ensures.value at c.in_err-held.ensures))))
 
 pub returns-in_err-row-clause-value : goal.returns-in_err-row-clause-value
-returns-in_err-row-clause-value c =
-    let i = c.self.inside in
-    let found = sym (rw c.deref.ensures.value at c.in_ok-held.ensures) in
-    c.from_residual-in_err-row.ensures ∙ rw (← c.self.view_is) (sym (stamps-no_row i.store c.args.file c.args.number i.files.items i.sessions c.self.invariant c.in_ok-held.held.now found (sym c.in_err-row.ensures.row)))
+returns-in_err-row-clause-value c = grind (arith, nat_tests, stamps-no_row)
 
 pub returns-clause-value : goal.returns-clause-value
-returns-clause-value c =
-    let i = c.self.inside in
-    let found = sym (rw c.deref.ensures.value at c.in_ok-held.ensures) in
-    ap Some c.stamps_of.ensures ∙ rw (← c.self.view_is) (sym (stamps-is i.store c.args.file c.args.number i.files.items i.sessions c.self.invariant c.in_ok-held.held.now found c.in_ok-row.row.now (sym c.in_ok-row.ensures.row)))
+returns-clause-value c = grind (arith, nat_tests, stamps-is)

@@ -1,22 +1,13 @@
-use Rattle.std.proofs.Common.{map, sym, ap, ◌∙◌}
-use Rattle.ele_files.specs.Inside.{IsFileKept, is_id}
-use Rattle.ele_files.proofs.Tagged.{list_shown, none_shown}
-use Rattle.ele_lists.proofs.Edits.{all-found}
-use Rattle.ele_world.specs.Told.{stamps_of}
+use Rattle.ele_files.proofs.Lemmas.{IsFileKept, all-found, ap, is_id, map, stamps_of, sym, ◌∙◌, list_shown, none_shown}
 use Rattle.ele_files.proofs.files.Files.stamps_of_file.Goals as goal
 
 pub log_stamps-requires : goal.log_stamps-requires
-log_stamps-requires c =
-    let i = c.self.inside in
-    all-found (is_id c.args.file) IsFileKept i.files.items c.in-Some.held.now (sym (rw c.deref.ensures.value at c.in-Some.ensures)) c.self.invariant.files_kept
+log_stamps-requires c = all-found (is_id c.args.file) IsFileKept _ c.in-Some.held.now (sym (rw c.deref.ensures.value at c.in-Some.ensures)) c.self.invariant.files_kept
 
 pub returns-in_ok-list-in-Some : goal.returns-in_ok-list-in-Some
 returns-in_ok-list-in-Some c =
-    let i = c.self.inside in
-    c.from_vec.ensures ∙ c.in_ok-list-in-Some.ensures
-    ∙ rw (← c.self.view_is) (sym (list_shown i.store i.files.items i.sessions c.self.invariant c.args.file c.in-Some.held.now (sym (rw c.deref.ensures.value at c.in-Some.ensures))))
+    c.from_vec.ensures ∙ c.in_ok-list-in-Some.ensures ∙ rw (← c.self.view_is) (sym (list_shown _ _ _ c.self.invariant c.args.file c.in-Some.held.now (sym (rw c.deref.ensures.value at c.in-Some.ensures))))
 
 pub returns-in-None : goal.returns-in-None
 returns-in-None c =
-    let i = c.self.inside in
-    c.new.ensures ∙ rw (← c.self.view_is) (sym (ap (map stamps_of) (none_shown i.store i.files.items i.sessions c.self.invariant c.args.file (sym (rw c.deref.ensures.value at c.in-None.ensures)))))
+    c.new.ensures ∙ rw (← c.self.view_is) (sym (ap (map stamps_of) (none_shown _ _ _ c.self.invariant c.args.file (sym (rw c.deref.ensures.value at c.in-None.ensures)))))

@@ -1,5 +1,4 @@
-use Rattle.ele_files.proofs.Rows.{fault-shown}
-use Rattle.ele_files.proofs.Drafts.{draft_by_lives, cut, length_seen}
+use Rattle.ele_files.proofs.Lemmas.{arith, cut, draft_by_lives, fault-shown, length_seen, nat_tests}
 use Rattle.ele_files.proofs.files.Files.truncate.Goals as goal
 
 pub truncate-requires : goal.truncate-requires
@@ -18,6 +17,4 @@ pub returns-clause-ok : goal.returns-clause-ok
 returns-clause-ok c = rw (← c.self.view_is) (cut _ _ _ c.self.invariant _ _ c.truncate.ensures.orderly _ _ _ c.truncate.ensures.truncates c.truncate.ensures.err).1
 
 pub returns-clause-idle : goal.returns-clause-idle
-returns-clause-idle c = λ has.
-    let seen = length_seen _ _ _ c.self.invariant c.args.handle c.args.size (rw (← c.self.view_is) at has) in
-    c.truncate.ensures.idle seen.0 seen.1
+returns-clause-idle c = grind (arith, nat_tests, length_seen)

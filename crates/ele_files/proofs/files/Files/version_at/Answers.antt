@@ -1,29 +1,11 @@
-use Rattle.std.proofs.Common.{ap, sym, find, ◌∙◌}
-use Rattle.std.specs.Option.{option_map}
-use Rattle.ele_files.proofs.Tagged.{at_shown, forgotten_none, none_lived, told_found}
-use Rattle.ele_inode_log.specs.Rows.{has_closed_by, lives_at}
-use Rattle.ele_lists.specs.Last.{last_passing}
-use Rattle.ele_world.specs.Told.{stamps_of}
+use Rattle.ele_files.proofs.Lemmas.{arith, at_shown, forgotten_none, nat_tests, none_lived, told_found}
 use Rattle.ele_files.proofs.files.Files.version_at.Goals as goal
 
 pub returns-in_err-held-clause-value : goal.returns-in_err-held-clause-value
-returns-in_err-held-clause-value c =
-    let i = c.self.inside in
-    let none = sym (rw c.deref.ensures.value at c.in_err-held.ensures) in
-    c.from_residual.ensures ∙ rw (← c.self.view_is) (ap (option_map stamps_of) (sym (none_lived i.store i.files.items i.sessions c.self.invariant c.args.file c.args.moment none)))
+returns-in_err-held-clause-value c = grind (arith, nat_tests, none_lived)
 
 pub returns-in-Ok-clause-value : goal.returns-in-Ok-clause-value
-returns-in-Ok-clause-value c =
-    let i = c.self.inside in
-    let f = c.in_ok-held.held.now in
-    let found = sym (rw c.deref.ensures.value at c.in_ok-held.ensures) in
-    rw (← c.self.view_is) (sym (at_shown i.store i.files.items i.sessions c.self.invariant c.args.file f found c.args.moment
-    ∙ told_found (find (lives_at c.args.moment) f.log.rows) (last_passing (has_closed_by c.args.moment) f.log.rows) c.in-Ok.stamps (sym c.living.ensures.value ∙ c.in-Ok.is)))
+returns-in-Ok-clause-value c = grind (arith, nat_tests, at_shown, told_found)
 
 pub returns-in-Err-clause-value : goal.returns-in-Err-clause-value
-returns-in-Err-clause-value c =
-    let i = c.self.inside in
-    let f = c.in_ok-held.held.now in
-    let found = sym (rw c.deref.ensures.value at c.in_ok-held.ensures) in
-    rw (← c.self.view_is) (sym (at_shown i.store i.files.items i.sessions c.self.invariant c.args.file f found c.args.moment
-    ∙ forgotten_none (find (lives_at c.args.moment) f.log.rows) (last_passing (has_closed_by c.args.moment) f.log.rows) c.in-Err._refusal (sym c.living.ensures.value ∙ c.in-Err.is)))
+returns-in-Err-clause-value c = grind (arith, nat_tests, at_shown, forgotten_none)

@@ -1,15 +1,9 @@
-use Rattle.std.proofs.Common.{sym, ◌∙◌}
-use Rattle.ele_files.proofs.Asked.{no_file}
-use Rattle.ele_files.proofs.Tagged.{meant_shown}
+use Rattle.ele_files.proofs.Lemmas.{sym, ◌∙◌, meant_shown, no_file}
 use Rattle.ele_files.proofs.files.Files.version_meant.Goals as goal
 
 pub unreachable-requires : goal.unreachable-requires
-unreachable-requires c =
-    let i = c.self.inside in
-    no_file i.files.items c.args.file (sym (rw c.deref.ensures.value at c.in_default.ensures)) (rw (← c.self.view_is) at c.requires.there)
+unreachable-requires c = no_file c.self.inside.files.items c.args.file (sym (rw c.deref.ensures.value at c.in_default.ensures)) (rw (← c.self.view_is) at c.requires.there)
 
 pub returns-clause-value : goal.returns-clause-value
 returns-clause-value c =
-    let i = c.self.inside in
-    c.meant.ensures.value
-    ∙ rw (← c.self.view_is) (sym (meant_shown i.store i.files.items i.sessions c.self.invariant c.args.file c.in-Some.held.now (sym (rw c.deref.ensures.value at c.in-Some.ensures)) c.args.tag))
+    c.meant.ensures.value ∙ rw (← c.self.view_is) (sym (meant_shown _ _ _ c.self.invariant c.args.file c.in-Some.held.now (sym (rw c.deref.ensures.value at c.in-Some.ensures)) c.args.tag))

@@ -1,32 +1,8 @@
-use Rattle.std.proofs.Common.{◌++◌, subst, sym, ap, ◌∙◌}
-use Rattle.std.specs.List.{flat_map, AllByRecursion}
-use Rattle.ele_files.proofs.Copies.{gathered-next}
-use Rattle.ele_files.proofs.Stock.{LogLives, logs_live}
+use Rattle.ele_files.proofs.Lemmas.{AllByRecursion, LogLives, all-place, logs_live, subst, sym}
 use Rattle.ele_files.proofs.files.Files.version_rows.Goals as goal
-use Rattle.ele_files.specs.Inside.{rows_in, IsFileKept}
-use Rattle.ele_lists.proofs.Alls.{all-place}
-use Rattle.std.proofs.lemmas.List.{take_all}
-
-pub copy_log-requires-clause-kept : goal.copy_log-requires-clause-kept
-copy_log-requires-clause-kept c =
-    let all : AllByRecursion IsFileKept c.deref-file-items.result.now = rw c.deref-file-items.ensures.value c.self.invariant.files_kept in
-    rw c.get.ensures (subst IsFileKept (sym c.file-item.is) (all-place IsFileKept c.deref-file-items.result.now c.loop-file.file-index c.file-item.result all c.loop-file-test.true))
 
 pub copy_log-requires-clause-lives : goal.copy_log-requires-clause-lives
 copy_log-requires-clause-lives c =
-    let i = c.self.inside in
-    let all : AllByRecursion (LogLives i.store) c.deref-file-items.result.now = rw c.deref-file-items.ensures.value (logs_live i.store i.files.items i.sessions c.self.invariant) in
-    let at = all-place (LogLives i.store) c.deref-file-items.result.now c.loop-file.file-index c.file-item.result all c.loop-file-test.true in
-    rw c.get.ensures (subst (LogLives i.store) (sym c.file-item.is) at)
-
-pub loop-file-preserved : goal.loop-file-preserved
-loop-file-preserved c =
-    let s = c.self.inside.store in
-    let next = gathered-next (rows_in s) c.deref-file-items.result.now c.loop-file.file-index c.file-item.result c.loop-file-test.true c.file-item.is in
-    (rw c.get.ensures at c.in_ok-copy_log.ensures) ∙ (ap (λ rows. rows ++ rows_in s c.file-item.result) c.loop-file.invariant ∙ sym next)
-
-pub returns : goal.returns
-returns c =
-    let s = c.self.inside.store in
-    let all = take_all c.loop-file.file-index c.deref-file-items.result.now c.loop-file-test.false in
-    rw (← c.self.view_is) (c.from_vec.ensures ∙ (c.loop-file.invariant ∙ (ap (flat_map (rows_in s)) all ∙ ap (flat_map (rows_in s)) c.deref-file-items.ensures.value)))
+    let all : AllByRecursion (LogLives c.self.inside.store) c.deref-file-items.result.now = rw c.deref-file-items.ensures.value (logs_live _ _ _ c.self.invariant) in
+    let at = all-place (LogLives c.self.inside.store) c.deref-file-items.result.now c.loop-file.file-index c.file-item.result all c.loop-file-test.true in
+    rw c.get.ensures (subst (LogLives c.self.inside.store) (sym c.file-item.is) at)

@@ -1,14 +1,9 @@
-use Rattle.std.proofs.Common.{length, sym, ap, ◌∙◌}
-use Rattle.ele_files.proofs.Counted.{own_count}
-use Rattle.ele_files.proofs.Tagged.{none_shown}
+use Rattle.ele_files.proofs.Lemmas.{ap, length, sym, ◌∙◌, none_shown, own_count}
 use Rattle.ele_files.proofs.files.Files.versions_of.Goals as goal
 
 pub returns-in-Some : goal.returns-in-Some
 returns-in-Some c =
-    let i = c.self.inside in
-    c.len.ensures.count ∙ rw (← c.self.view_is) (sym (own_count i.store i.files.items i.sessions c.self.invariant c.args.file c.in-Some.held.now (sym (rw c.deref.ensures.value at c.in-Some.ensures))))
+    c.len.ensures.count ∙ rw (← c.self.view_is) (sym (own_count _ _ _ c.self.invariant c.args.file c.in-Some.held.now (sym (rw c.deref.ensures.value at c.in-Some.ensures))))
 
 pub returns-in-None : goal.returns-in-None
-returns-in-None c =
-    let i = c.self.inside in
-    rw (← c.self.view_is) (sym (ap length (none_shown i.store i.files.items i.sessions c.self.invariant c.args.file (sym (rw c.deref.ensures.value at c.in-None.ensures)))))
+returns-in-None c = rw (← c.self.view_is) (sym (ap length (none_shown _ _ _ c.self.invariant c.args.file (sym (rw c.deref.ensures.value at c.in-None.ensures)))))

@@ -1,5 +1,4 @@
-use Rattle.ele_files.proofs.Rows.{handle_file-shown, fault-shown}
-use Rattle.ele_files.proofs.Drafts.{draft_by_lives, wrote}
+use Rattle.ele_files.proofs.Lemmas.{draft_by_lives, fault-shown, handle_file-shown, wrote}
 use Rattle.ele_files.proofs.files.Files.write.Goals as goal
 
 pub write-requires : goal.write-requires

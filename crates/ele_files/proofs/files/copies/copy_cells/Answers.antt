@@ -1,31 +1,5 @@
-use Rattle.std.proofs.Common.{arith, sym, ap, ◌∙◌, ◌∷◌, ◌++◌, []}
-use Rattle.std.specs.List.{slice_get}
-use Rattle.std.proofs.lemmas.Option.{slice_get_past}
-use Rattle.ele_blocks.specs.Layout.{cell_of, slots_of}
-use Rattle.ele_files.proofs.Copies.{taken-all, got-some, shown-none, cell-owned, cell-next}
+use Rattle.ele_files.proofs.Lemmas.{arith, cell-next, nat_tests}
 use Rattle.ele_files.proofs.files.copies.copy_cells.Goals as goal
 
-pub unreachable-requires : goal.unreachable-requires
-unreachable-requires c =
-    let map = c.args.map.now in
-    let slots = slots_of c.args.store.now map in
-    let none = shown-none _ (slice_get slots c.loop-slot.slot) c.in_default.ensures.cell in
-    let count = c.requires.laws.slots c.args.store.now map c.requires.lives in
-    got-some slots c.loop-slot.slot (omega (arith, count, c.loop-slot-test.true, c.slots-slot-end.ensures)) none
-
-pub get-requires : goal.get-requires
-get-requires c = cell-owned c.requires.laws c.args.store.now c.args.map.now c.requires.lives c.loop-slot.slot c.in-Some.cell c.in-Some.ensures.cell
-
 pub loop-slot-preserved : goal.loop-slot-preserved
-loop-slot-preserved c =
-    let bytes = c.from_vec-bytes.ensures ∙ (c.in_ok-from_slice.ensures.items ∙ c.get.ensures) in
-    let next = cell-next c.requires.laws c.args.store.now c.args.map.now c.requires.lives c.loop-slot.slot c.in-Some.cell c.in-Some.ensures.cell c.from_vec-bytes.result bytes in
-    c.in_ok-push.ensures.items ∙ (ap (λ cells. cells ++ record { writer = c.in-Some.cell.0; bytes = c.from_vec-bytes.result } ∷ []) c.loop-slot.invariant ∙ sym next)
-
-pub returns : goal.returns
-returns c =
-    let s = c.args.store.now in
-    let map = c.args.map.now in
-    let count = c.requires.laws.slots s map c.requires.lives in
-    let all = taken-all (cell_of s) (slots_of s map) c.loop-slot.slot (slice_get_past (slots_of s map) c.loop-slot.slot (omega (arith, count, c.loop-slot-test.false, c.slots-slot-end.ensures))) in
-    c.from_vec.ensures ∙ (c.loop-slot.invariant ∙ all)
+loop-slot-preserved c = grind (arith, nat_tests, cell-next)

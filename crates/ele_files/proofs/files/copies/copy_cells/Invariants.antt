@@ -1,5 +1,4 @@
-use Rattle.std.proofs.Common.{◌≡◌, map, take}
-use Rattle.ele_blocks.specs.Layout.{cell_of, slots_of}
+use Rattle.ele_files.proofs.Lemmas.{cell_of, map, slots_of, take, ◌≡◌}
 use Rattle.ele_files.proofs.files.copies.copy_cells.Given as goal
 
 abbrev pub invariant-loop-slot : goal.invariant-loop-slot

@@ -1,22 +1,11 @@
-use Rattle.std.proofs.Common.{◌++◌, map, sym, ap, ◌∙◌}
-use Rattle.std.specs.List.{filter}
-use Rattle.std.proofs.lemmas.List.{append-nil}
-use Rattle.ele_files.proofs.Copies.{log-all, log-fewer, log-next}
+use Rattle.ele_files.proofs.Lemmas.{LivesIn, LogRow, all-found, all-not_found, ap, append-nil, arith, filter, filter-none, is_after, log-all, log-fewer, log-next, map, nat_tests, row_in, rows_in, sym, ◌++◌, ◌∙◌}
 use Rattle.ele_files.proofs.files.copies.copy_log.Goals as goal
-use Rattle.ele_files.specs.Inside.{row_in, rows_in}
-use Rattle.ele_inode_log.specs.Rows.{is_after}
-use Rattle.ele_inode_log.specs.declared.row.VersionRow.{VersionRow}
-use Rattle.ele_blocks.specs.LivesIn.{LivesIn}
-use Rattle.ele_lists.proofs.Edits.{all-found, all-not_found}
-use Rattle.ele_lists.proofs.Filters.{filter-none}
 
 pub loop-row-init : goal.loop-row-init
-loop-row-init c =
-    let f = c.args.file.now in
-    ap (λ xs. c.args.rows.now.items ++ map (row_in c.args.store.now f.id) xs) (log-all f c.requires.kept)
+loop-row-init c = grind (arith, nat_tests, log-all)
 
 pub copy_cells-requires-clause-lives : goal.copy_cells-requires-clause-lives
-copy_cells-requires-clause-lives c = all-found (is_after c.loop-row.behind) (λ (row : VersionRow). LivesIn c.args.store.now row.cells) c.args.file.now.log.rows c.in-Some.row.now (sym c.in-Some.ensures) c.requires.lives
+copy_cells-requires-clause-lives c = all-found (is_after c.loop-row.behind) (λ (row : LogRow). LivesIn c.args.store.now row.cells) c.args.file.now.log.rows c.in-Some.row.now (sym c.in-Some.ensures) c.requires.lives
 
 pub loop-row-smaller : goal.loop-row-smaller
 loop-row-smaller c = log-fewer c.args.file.now c.requires.kept c.loop-row.behind c.in-Some.row.now c.in-Some.ensures
@@ -24,8 +13,7 @@ loop-row-smaller c = log-fewer c.args.file.now c.requires.kept c.loop-row.behind
 pub loop-row-preserved : goal.loop-row-preserved
 loop-row-preserved c =
     let f = c.args.file.now in
-    ap (λ rows. rows ++ map (row_in c.args.store.now f.id) (filter (is_after c.in-Some.row.now.number) f.log.rows)) c.in_ok-push.ensures.items
-    ∙ log-next f c.requires.kept c.loop-row.behind c.in-Some.row.now c.in-Some.ensures c.args.store.now c.loop-row.rows.items (c.args.rows.now.items ++ rows_in c.args.store.now f) c.in_ok-cells.cells c.in_ok-cells.ensures c.loop-row.invariant
+    ap (λ rows. rows ++ map (row_in c.args.store.now f.id) (filter (is_after c.in-Some.row.now.number) f.log.rows)) c.in_ok-push.ensures.items ∙ log-next f c.requires.kept c.loop-row.behind c.in-Some.row.now c.in-Some.ensures c.args.store.now c.loop-row.rows.items (c.args.rows.now.items ++ rows_in c.args.store.now f) c.in_ok-cells.cells c.in_ok-cells.ensures c.loop-row.invariant
 
 pub returns : goal.returns
 returns c =

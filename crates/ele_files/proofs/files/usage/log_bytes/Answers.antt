@@ -1,12 +1,4 @@
-use Rattle.std.proofs.Common.{ap, sym, arith}
-use Rattle.std.specs.List.{filter}
-use Rattle.std.proofs.lemmas.List.Sums.{sum_by-cons}
-use Rattle.ele_files.specs.Met.{log_bytes}
-use Rattle.ele_files.proofs.Copies.{log-all, log-fewer, log-left}
-use Rattle.ele_inode_log.specs.Rows.{is_after}
-use Rattle.ele_inode_log.specs.declared.row.VersionRow.{VersionRow}
-use Rattle.ele_lists.proofs.Edits.{all-not_found}
-use Rattle.ele_lists.proofs.Filters.{filter-none}
+use Rattle.ele_files.proofs.Lemmas.{LogRow, all-not_found, ap, arith, filter, filter-none, is_after, log-all, log-fewer, log-left, log_bytes, nat_tests, sum_by-cons}
 use Rattle.ele_files.proofs.files.usage.log_bytes.Goals as goal
 
 pub loop-row-init : goal.loop-row-init
@@ -16,7 +8,7 @@ pub overflow_add-bytes : goal.overflow_add-bytes
 overflow_add-bytes c =
     let f = c.args.file.now in
     let row = c.in-Some.row.now in
-    omega (arith, c.loop-row.invariant, c.requires.few, c.length-bytes.ensures, ap log_bytes (log-left f c.requires.kept c.loop-row.behind row c.in-Some.ensures), sum_by-cons (λ (r : VersionRow). r.cells.size) row (filter (is_after row.number) f.log.rows))
+    omega (arith, c.loop-row.invariant, c.requires.few, c.length-bytes.ensures, ap log_bytes (log-left f c.requires.kept c.loop-row.behind row c.in-Some.ensures), sum_by-cons (λ (r : LogRow). r.cells.size) row (filter (is_after row.number) f.log.rows))
 
 pub loop-row-smaller : goal.loop-row-smaller
 loop-row-smaller c = log-fewer c.args.file.now c.requires.kept c.loop-row.behind c.in-Some.row.now c.in-Some.ensures
@@ -25,10 +17,7 @@ pub loop-row-preserved : goal.loop-row-preserved
 loop-row-preserved c =
     let f = c.args.file.now in
     let row = c.in-Some.row.now in
-    omega (arith, c.loop-row.invariant, c.length-bytes.ensures, ap log_bytes (log-left f c.requires.kept c.loop-row.behind row c.in-Some.ensures), sum_by-cons (λ (r : VersionRow). r.cells.size) row (filter (is_after row.number) f.log.rows))
+    omega (arith, c.loop-row.invariant, c.length-bytes.ensures, ap log_bytes (log-left f c.requires.kept c.loop-row.behind row c.in-Some.ensures), sum_by-cons (λ (r : LogRow). r.cells.size) row (filter (is_after row.number) f.log.rows))
 
 pub returns : goal.returns
-returns c =
-    let rows = c.args.file.now.log.rows in
-    let none = filter-none (is_after c.loop-row.behind) rows (all-not_found (is_after c.loop-row.behind) rows (sym c.in_default.ensures)) in
-    omega (arith, c.loop-row.invariant, ap log_bytes none)
+returns c = grind (arith, nat_tests, filter-none, all-not_found)

@@ -1,7 +1,4 @@
-use Rattle.std.proofs.Common.{◌≡◌, ◌+◌, length}
-use Rattle.std.specs.List.{filter}
-use Rattle.ele_files.specs.Met.{log_bytes}
-use Rattle.ele_inode_log.specs.Rows.{is_after}
+use Rattle.ele_files.proofs.Lemmas.{filter, is_after, length, log_bytes, ◌+◌, ◌≡◌}
 use Rattle.ele_files.proofs.files.usage.log_bytes.Given as goal
 
 abbrev pub invariant-loop-row : goal.invariant-loop-row

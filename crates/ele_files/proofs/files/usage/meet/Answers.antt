@@ -1,23 +1,5 @@
-use Rattle.std.proofs.Common.{◌++◌, List, map, take, subst, sym, arith}
-use Rattle.std.specs.List.{slice_get}
-use Rattle.std.proofs.lemmas.Option.{slice_get_past}
-use Rattle.ele_blocks.specs.Layout.{cell_of, slots_of}
-use Rattle.ele_content.specs.declared.cell.Cell.{Cell}
-use Rattle.ele_files.specs.Met.{Counts}
-use Rattle.ele_files.proofs.Copies.{got-some, shown-none, taken-all}
-use Rattle.ele_files.proofs.Counted.{meets_none, met_next, places-next}
-use Rattle.ele_world.specs.Usage.{places_from}
+use Rattle.ele_files.proofs.Lemmas.{Counts, arith, cell_of, map, met_next, places-next, places_from, slots_of, subst, sym, take, ◌++◌}
 use Rattle.ele_files.proofs.files.usage.meet.Goals as goal
-
-pub loop-slot-init : goal.loop-slot-init
-loop-slot-init c = λ file. meets_none file c.args.met.now.keys
-
-pub unreachable-requires : goal.unreachable-requires
-unreachable-requires c =
-    let slots = slots_of c.args.store.now c.args.map.now in
-    let none = shown-none _ (slice_get slots c.loop-slot.slot) c.in_default.ensures.cell in
-    let count = c.requires.laws.slots c.args.store.now c.args.map.now c.requires.lives in
-    got-some slots c.loop-slot.slot (omega (arith, count, c.loop-slot-test.true, c.slots-slot-end.ensures)) none
 
 pub loop-slot-preserved : goal.loop-slot-preserved
 loop-slot-preserved c = λ file before counts.
@@ -28,11 +10,3 @@ loop-slot-preserved c = λ file before counts.
     let next = places-next c.requires.laws s m c.requires.lives slot c.in-Some.cell c.in-Some.ensures.cell (omega (arith, count, c.loop-slot-test.true, c.slots-slot-end.ensures)) file in
     let new = met_next file slot c.writer.inside.0 c.loop-slot.met.keys c.insert.new.self.keys c.in_ok-_new._new c.in_ok-_new.ensures.added c.in_ok-_new.ensures.len c.in_ok-_new.ensures.updates.0 before (places_from file 0 (map (cell_of s) (take slot (slots_of s m)))) (c.loop-slot.invariant file before counts) in
     subst (λ places. Counts file c.insert.new.self.keys (before ++ places)) (sym next) (rw c.writer.view_is at new)
-
-pub returns : goal.returns
-returns c = λ file before counts.
-    let s = c.args.store.now in
-    let m = c.args.map.now in
-    let count = c.requires.laws.slots s m c.requires.lives in
-    let all = taken-all (cell_of s) (slots_of s m) c.loop-slot.slot (slice_get_past (slots_of s m) c.loop-slot.slot (omega (arith, count, c.loop-slot-test.false, c.slots-slot-end.ensures))) in
-    subst (λ (cells : List Cell). Counts file c.loop-slot.met.keys (before ++ places_from file 0 cells)) all (c.loop-slot.invariant file before counts)

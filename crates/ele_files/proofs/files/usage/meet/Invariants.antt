@@ -1,7 +1,4 @@
-use Rattle.std.proofs.Common.{ℕ, map, take}
-use Rattle.ele_blocks.specs.Layout.{cell_of, slots_of}
-use Rattle.ele_files.specs.Met.{Meets}
-use Rattle.ele_world.specs.Usage.{places_from}
+use Rattle.ele_files.proofs.Lemmas.{Meets, cell_of, map, places_from, slots_of, take, ℕ}
 use Rattle.ele_files.proofs.files.usage.meet.Given as goal
 
 abbrev pub invariant-loop-slot : goal.invariant-loop-slot

@@ -1,7 +1,4 @@
-use Rattle.std.proofs.Common.{ℕ, List, length}
-use Rattle.std.specs.List.{filter}
-use Rattle.ele_files.specs.Met.{Meets, log_places}
-use Rattle.ele_inode_log.specs.Rows.{is_after}
+use Rattle.ele_files.proofs.Lemmas.{List, Meets, filter, is_after, length, log_places, ℕ}
 use Rattle.ele_files.proofs.files.usage.meet_log.Given as goal
 
 -- what meets the rows behind has met them all

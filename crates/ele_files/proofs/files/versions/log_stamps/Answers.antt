@@ -1,26 +1,14 @@
-use Rattle.std.proofs.Common.{◌++◌, ◌∷◌, [], map, sym, ap, ◌∙◌}
-use Rattle.std.specs.List.{filter}
-use Rattle.std.proofs.lemmas.List.{append-nil}
-use Rattle.ele_files.specs.Meant.{stamps_in}
-use Rattle.ele_files.proofs.Copies.{log-all, log-fewer, told-next}
-use Rattle.ele_inode_log.specs.Rows.{is_after}
-use Rattle.ele_lists.proofs.Edits.{all-not_found}
-use Rattle.ele_lists.proofs.Filters.{filter-none}
+use Rattle.ele_files.proofs.Lemmas.{all-not_found, ap, append-nil, arith, filter-none, is_after, log-all, log-fewer, map, nat_tests, stamps_in, sym, told-next, ◌++◌, ◌∙◌}
 use Rattle.ele_files.proofs.files.versions.log_stamps.Goals as goal
 
 pub loop-row-init : goal.loop-row-init
-loop-row-init c =
-    let f = c.args.file.now in
-    ap (λ xs. xs ++ map stamps_in (filter (is_after 0) f.log.rows)) c.in_ok-list.ensures.items ∙ ap (map stamps_in) (log-all f c.requires)
+loop-row-init c = grind (arith, nat_tests, log-all)
 
 pub loop-row-smaller : goal.loop-row-smaller
 loop-row-smaller c = log-fewer c.args.file.now c.requires c.loop-row.behind c.in-Some.row.now c.in-Some.ensures
 
 pub loop-row-preserved : goal.loop-row-preserved
-loop-row-preserved c =
-    let f = c.args.file.now in
-    ap (λ xs. xs ++ map stamps_in (filter (is_after c.in-Some.row.now.number) f.log.rows)) (c.in_ok-push.ensures.items ∙ ap (λ stamps. c.loop-row.list.items ++ stamps ∷ []) c.stamps_of.ensures)
-    ∙ told-next f c.requires c.loop-row.behind c.in-Some.row.now c.in-Some.ensures c.loop-row.list.items c.loop-row.invariant
+loop-row-preserved c = grind (arith, nat_tests, told-next)
 
 pub returns : goal.returns
 returns c =

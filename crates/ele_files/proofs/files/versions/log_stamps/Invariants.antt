@@ -1,7 +1,4 @@
-use Rattle.std.proofs.Common.{◌≡◌, ◌++◌, map, length}
-use Rattle.std.specs.List.{filter}
-use Rattle.ele_files.specs.Meant.{stamps_in}
-use Rattle.ele_inode_log.specs.Rows.{is_after}
+use Rattle.ele_files.proofs.Lemmas.{filter, is_after, length, map, stamps_in, ◌++◌, ◌≡◌}
 use Rattle.ele_files.proofs.files.versions.log_stamps.Given as goal
 
 abbrev pub invariant-loop-row : goal.invariant-loop-row
