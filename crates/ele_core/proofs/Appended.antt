@@ -1,30 +1,8 @@
 -- Which keys the versions have, once a file has its next version: two came, and all others stayed.
-use Rattle.std.proofs.Common.{◌≡◌, ℕ, ◌==◌, Bool, true, false, cond, not, ◌&&◌, ◌||◌, List, Option, Some, None, refl, ap, sym, ◌∙◌, arith}
-use Rattle.std.specs.Prelude.{find, is_some, unwrap_or, option_and_then}
-use Rattle.std.specs.List.{AllByRecursion}
-use Rattle.std.specs.Option.{option_map, option_map_or}
-use Rattle.std.proofs.lemmas.Bool.{false≢true}
-use Rattle.std.proofs.lemmas.Bool.Decides.{nat_tests}
-use Rattle.ele_content.specs.declared.cell.Cell.{Cell}
+use Rattle.ele_core.proofs.Words.{◌≡◌, ℕ, ◌==◌, Bool, true, false, cond, not, ◌&&◌, ◌||◌, List, Option, Some, None, refl, ap, sym, ◌∙◌, arith, find, is_some, unwrap_or, option_and_then, AllByRecursion, option_map, option_map_or, false≢true, nat_tests, Cell, NewKeys, IsQueued, is_entry, is_new, gained_moment, own_moment, new_keys, Key, has_key, rows_of, all-found, Policy, IsPolicy, alone, FileRow, VersionRow, with_version, ripe_at, is_moment, near_moment, newest_of, is_marked, World, is_file, is_live, is_open, next_of, policy_of, MayGrow, touches, next_before, next_after, newest_before, newest_was, newest_is, others_after}
 use Rattle.ele_core.proofs.Following.{follows}
-use Rattle.ele_core.specs.declared.keys.NewKeys.{NewKeys}
-use Rattle.ele_core.specs.Queued.{IsQueued, is_entry, is_new, gained_moment, own_moment, new_keys}
-use Rattle.ele_due.specs.declared.key.Key.{Key}
-use Rattle.ele_due.specs.HasKey.{has_key}
-use Rattle.ele_files.specs.Held.{rows_of}
-use Rattle.ele_lists.proofs.Edits.{all-found}
-use Rattle.ele_policy.specs.declared.policy.Policy.{Policy}
-use Rattle.ele_policy.specs.Policy.{IsPolicy}
-use Rattle.ele_policy.specs.Ripe.{alone, ripe_by}
+use Rattle.ele_policy.specs.Ripe.{ripe_by}
 use Rattle.ele_policy.proofs.Waits.{ripe_keeps}
-use Rattle.ele_world.specs.declared.rows.FileRow.{FileRow}
-use Rattle.ele_world.specs.declared.rows.VersionRow.{VersionRow}
-use Rattle.ele_world.specs.Change.{with_version}
-use Rattle.ele_world.specs.Due.{ripe_at}
-use Rattle.ele_world.specs.Neighbours.{is_moment, near_moment, newest_of}
-use Rattle.ele_world.specs.GroupRows.{is_marked}
-use Rattle.ele_world.specs.World.{World, is_file, is_live, is_open, next_of, policy_of}
-use Rattle.ele_world.proofs.AppendMoments.{MayGrow, touches, next_before, next_after, newest_before, newest_was, newest_is, others_after}
 
 or_false : (b : Bool) → (b || false) ≡ b
 or_false true = refl

@@ -1,28 +1,9 @@
 -- What is told of one version, and of the first that are due.
-use Rattle.std.proofs.Common.{is_some, ◌≡◌, ℕ, ◌==◌, Bool, true, false, ◌&&◌, List, cond, Option, Some, None, refl, ap, sym, ◌∙◌, arith}
-use Rattle.std.specs.Prelude.{nat_le, option_and_then, slice_get}
-use Rattle.std.specs.List.{filter_map}
-use Rattle.std.specs.Option.{option_map, option_map_or}
-use Rattle.std.proofs.lemmas.Bool.Decides.{nat_tests}
-use Rattle.ele_core.specs.Inside.{world_of, IsSound}
-use Rattle.ele_core.specs.Queued.{former_moment, gained_moment}
-use Rattle.ele_core.specs.declared.rows.Rows.{Rows}
-use Rattle.ele_due.specs.declared.key.Key.{Key}
-use Rattle.ele_due.specs.HasKey.{has_key}
+use Rattle.ele_core.proofs.Words.{is_some, ◌≡◌, ℕ, ◌==◌, Bool, true, false, ◌&&◌, List, cond, Option, Some, None, refl, ap, sym, ◌∙◌, arith, nat_le, option_and_then, slice_get, filter_map, option_map, option_map_or, nat_tests, world_of, IsSound, former_moment, gained_moment, Rows, Key, has_key, is_ripe_by, Held, Stamps, VersionRow, ripe_at, free_moment, newest_of, due_key, first_due, is_marked, GroupRow, stamps_of, World, is_open, policy_of, in_order_of, ripe_at_near, is_due_is, scan_members}
 use Rattle.ele_due.specs.InOrder.{in_order}
-use Rattle.ele_due.specs.Key.{is_ripe_by, if_ripe}
-use Rattle.ele_files.specs.Held.{Held}
-use Rattle.ele_world.specs.declared.rows.Stamps.{Stamps}
-use Rattle.ele_world.specs.declared.rows.VersionRow.{VersionRow}
-use Rattle.ele_world.specs.Due.{is_due, ripe_at}
-use Rattle.ele_world.specs.Neighbours.{free_moment, newest_of}
-use Rattle.ele_world.specs.Scan.{due_key, scan, first_due}
-use Rattle.ele_world.specs.GroupRows.{is_marked}
-use Rattle.ele_world.specs.declared.rows.GroupRow.{GroupRow}
-use Rattle.ele_world.specs.Told.{stamps_of}
-use Rattle.ele_world.specs.World.{World, is_open, policy_of}
-use Rattle.ele_world.proofs.Neighbours.{in_order_of, ripe_at_near}
-use Rattle.ele_world.proofs.RipeAt.{is_due_is, scan_members}
+use Rattle.ele_due.specs.Key.{if_ripe}
+use Rattle.ele_world.specs.Due.{is_due}
+use Rattle.ele_world.specs.Scan.{scan}
 
 -- the due rows have the keys of the queue that are ripe
 pub due_keys : (rows : Rows) → IsSound rows → (k : Key) → has_key k (filter_map (due_key (world_of rows)) rows.files.versions) ≡ (is_ripe_by rows.moment k && has_key k rows.queue)

@@ -1,33 +1,8 @@
 -- The book of usage, as the files change.
-use Rattle.std.proofs.Common.{◌≡◌, ℕ, ◌+◌, ◌-◌, ◌<◌, ◌≤◌, ◌^◌, Bool, true, false, cond, eqb, List, [], ◌∷◌, ◌++◌, length, Some, Result, Ok, refl, ap, sym, subst, ◌∙◌, arith}
-use Rattle.std.specs.List.{list_any, sum_by}
-use Rattle.std.specs.Result.{result_ok}
-use Rattle.ele_core.specs.Inside.{world_of, IsSound, IsTracked}
-use Rattle.ele_core.specs.Tracked.{told, told_by, blocks_of, only_blocks, IsOwed, IsBooked}
-use Rattle.ele_core.specs.declared.rows.Rows.{Rows}
-use Rattle.ele_content.specs.Content.{content_of, cells_after_truncate}
-use Rattle.ele_files.specs.Held.{Held, changed_at, rows_after, rows_of, opened_by, written_by, written_of, fitted, fitted_of}
-use Rattle.ele_lists.specs.Lists.{update_first, insert_before}
-use Rattle.ele_lists.proofs.Sums.{sum_by-map}
-use Rattle.ele_policy.specs.declared.policy.Kind.{Kind}
+use Rattle.ele_core.proofs.Words.{◌≡◌, ℕ, ◌+◌, ◌-◌, ◌<◌, ◌≤◌, ◌^◌, Bool, true, false, cond, eqb, List, [], ◌∷◌, ◌++◌, length, Some, Result, Ok, refl, ap, sym, subst, ◌∙◌, arith, list_any, sum_by, result_ok, world_of, IsSound, IsTracked, told, told_by, blocks_of, only_blocks, IsOwed, IsBooked, Rows, content_of, Held, changed_at, rows_after, rows_of, opened_by, written_by, written_of, fitted, fitted_of, update_first, insert_before, sum_by-map, Kind, Policy, kind_of, is_kind, Usage, Book, sums_of, only_at, nothing, plus, Fits, usage_of, is_file_of, bytes_in, whole, ChangesOnly, DraftRow, VersionRow, MakeFile, OpenHandle, StartDraft, changed_by, fitted_by, new_draft, created, made_is, Draft, Refusal, World, policy_of, next_of, is_draft, is_draft_after, file_by, usage_changes, usage_same, within_files, within_versions, within_bytes, within_blocks, whole_files, whole_versions, whole_bytes, changes_opened, changes_updated, created_usage, only_at_is}
+use Rattle.ele_content.specs.Content.{cells_after_truncate}
 use Rattle.ele_policy.specs.declared.policy.Kind.TheVariants as kind
-use Rattle.ele_policy.specs.declared.policy.Policy.{Policy}
-use Rattle.ele_policy.specs.Policy.{kind_of, is_kind}
-use Rattle.ele_usage.specs.declared.usage.Usage.{Usage}
-use Rattle.ele_usage.specs.Book.{Book, sums_of}
-use Rattle.ele_usage.specs.OnlyAt.{only_at}
-use Rattle.ele_usage.specs.Sums.{nothing, plus, Fits}
-use Rattle.ele_world.specs.Usage.{usage_of, is_file_of, bytes_in}
-use Rattle.ele_world.specs.Whole.{whole, ChangesOnly}
-use Rattle.ele_world.specs.declared.rows.DraftRow.{DraftRow}
-use Rattle.ele_world.specs.declared.rows.VersionRow.{VersionRow}
-use Rattle.ele_world.specs.Change.{MakeFile, OpenHandle, StartDraft, changed_by, fitted_by, new_draft}
-use Rattle.ele_world.proofs.Created.{created, made_is}
 use Rattle.ele_world.proofs.Opened.{opened, with_draft}
-use Rattle.ele_world.specs.declared.rows.Reads.TheVariants.{Draft}
-use Rattle.ele_world.specs.declared.refusal.Refusal.{Refusal}
-use Rattle.ele_world.specs.World.{World, policy_of, next_of, is_draft, is_draft_after, file_by}
-use Rattle.ele_world.proofs.Usages.{usage_changes, usage_same, within_files, within_versions, within_bytes, within_blocks, whole_files, whole_versions, whole_bytes, changes_opened, changes_updated, created_usage, only_at_is}
 
 -- what a kind may use, but for its blocks
 pub record IsFew (u : Usage) : Type 0 where

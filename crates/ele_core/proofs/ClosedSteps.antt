@@ -1,44 +1,7 @@
 -- What closing a handle leaves, as the step of the world has it.
-use Rattle.std.proofs.Common.{◌≡◌, ◌≤◌, ◌<◌, ◌^◌, ℕ, List, Bool, true, false, cond, [], ◌∷◌, length, is_some, Option, Some, None, Result, Ok, refl, ap, sym, ◌∙◌, arith}
-use Rattle.std.specs.Prelude.{find, IfSome}
-use Rattle.std.proofs.lemmas.Bool.{false≢true}
-use Rattle.std.specs.List.{AllByRecursion}
-use Rattle.std.specs.Option.{ForSome, option_and_then, option_map, option_map_or}
-use Rattle.std.specs.Result.{result_ok}
-use Rattle.std.proofs.lemmas.Bool.Decides.{nat_tests}
-use Rattle.ele_content.specs.Content.{content_of}
-use Rattle.ele_core.specs.Inside.{IsSound}
-use Rattle.ele_core.specs.declared.keys.NewKeys.{NewKeys}
-use Rattle.ele_core.specs.Queued.{IsQueued, gained_moment, new_keys}
-use Rattle.ele_core.specs.Tracked.{told_by}
-use Rattle.ele_core.specs.declared.rows.Rows.{Rows}
-use Rattle.ele_due.specs.declared.key.Key.{Key}
-use Rattle.ele_files.specs.Closing.{changed_opening, finishing, last_draft, leaving, left_by, left_of, opening_by, IsPast}
-use Rattle.ele_files.specs.Held.{Held, changed_at, rows_of, with_rows}
-use Rattle.ele_lists.proofs.Edits.{found_passes, all-found, all-weaker}
-use Rattle.ele_world.specs.GroupRows.{is_marked}
-use Rattle.ele_world.specs.declared.event.Event.TheVariants.{Close}
-use Rattle.ele_world.specs.declared.refusal.Refusal.{Refusal}
-use Rattle.ele_world.specs.declared.reply.Reply.{Reply}
-use Rattle.ele_world.specs.declared.reply.Reply.TheVariants.{Closed}
-use Rattle.ele_world.specs.declared.rows.DraftRow.{DraftRow}
-use Rattle.ele_world.specs.declared.rows.FileRow.{FileRow}
+use Rattle.ele_core.proofs.Words.{◌≡◌, ◌≤◌, ◌<◌, ◌^◌, ℕ, List, Bool, true, false, cond, [], ◌∷◌, length, is_some, Option, Some, None, Result, Ok, refl, ap, sym, ◌∙◌, arith, find, IfSome, false≢true, AllByRecursion, option_and_then, option_map, option_map_or, result_ok, nat_tests, content_of, IsSound, NewKeys, IsQueued, gained_moment, new_keys, told_by, Rows, Key, changed_opening, finishing, last_draft, leaving, left_by, left_of, opening_by, IsPast, Held, changed_at, rows_of, with_rows, found_passes, all-found, all-weaker, is_marked, Close, Refusal, Reply, Closed, DraftRow, FileRow, Draft, Version, VersionRow, EndDraft, ShutHandle, Append, DropIdle, after_change, after_changes, found_outcome, draft_read, has_other_writer, step, IsDraft, IsFile, IsHandle, IsVersion, Counted, Drafts, Files, Handles, Versions, IsWellFormed, ChangesOnly, dropped, all_keep, drafts-removed, World, file_by, file_written, has_draft, is_draft, is_handle, is_open, next_of, policy_of, reads_by, is_moment, newest_of, AreInOrder, in_order_of, open_still, shut_others, has_row}
+use Rattle.std.specs.Option.{ForSome}
 use Rattle.ele_world.specs.declared.rows.Reads.{Reads}
-use Rattle.ele_world.specs.declared.rows.Reads.TheVariants.{Draft, Version}
-use Rattle.ele_world.specs.declared.rows.VersionRow.{VersionRow}
-use Rattle.ele_world.specs.Change.{EndDraft, ShutHandle, Append, DropIdle, after_change, after_changes}
-use Rattle.ele_world.specs.Plan.{found_outcome}
-use Rattle.ele_world.specs.Step.{draft_read, has_other_writer, step}
-use Rattle.ele_world.specs.WellFormed.{IsDraft, IsFile, IsHandle, IsVersion, Counted, Drafts, Files, Handles, Versions, IsWellFormed}
-use Rattle.ele_world.specs.Whole.{ChangesOnly}
-use Rattle.ele_world.proofs.Dropped.{dropped}
-use Rattle.ele_world.proofs.Keeps.{all_keep}
-use Rattle.ele_world.proofs.Others.{drafts-removed}
-use Rattle.ele_world.specs.World.{World, file_by, file_written, has_draft, is_draft, is_handle, is_open, next_of, policy_of, reads_by}
-use Rattle.ele_world.specs.Neighbours.{is_moment, newest_of}
-use Rattle.ele_world.proofs.Neighbours.{AreInOrder, in_order_of}
-use Rattle.ele_world.proofs.OpenMoments.{open_still, shut_others}
-use Rattle.ele_world.proofs.OpenStays.{has_row}
 
 -- the step, by what the file's draft is, and by the file that the handle writes
 abbrev draft_step : World → ℕ → ℕ → Option DraftRow → Reply × World

@@ -1,32 +1,7 @@
 -- What the book of usage has, once a handle is closed.
-use Rattle.std.proofs.Common.{◌≡◌, ℕ, ◌+◌, ◌-◌, ◌≤◌, ◌<◌, ◌^◌, Bool, true, false, cond, List, [], length, Option, Some, None, Ok, refl, ap, sym, subst, ◌∙◌, arith}
-use Rattle.std.specs.Prelude.{find}
-use Rattle.std.specs.Option.{option_map_or}
-use Rattle.ele_content.specs.Content.{content_of, longest_content}
-use Rattle.ele_content.specs.declared.cell.Cell.{Cell}
+use Rattle.ele_core.proofs.Words.{◌≡◌, ℕ, ◌+◌, ◌-◌, ◌≤◌, ◌<◌, ◌^◌, Bool, true, false, cond, List, [], length, Option, Some, None, Ok, refl, ap, sym, subst, ◌∙◌, arith, find, option_map_or, content_of, longest_content, Cell, world_of, IsSound, IsTracked, told_by, blocks_of, one_version, IsOwed, Rows, finishing, Held, cells_of_draft, rows_after, insert_before, all-found, length-update_first, length-insert_before, Kind, Book, sums_of, Usage, nothing, plus, Fits, DraftRow, VersionRow, ended_at, next_version, with_end, usage_of, is_file_of, bytes_in, IsDraft, Drafts, ChangesOnly, Draft, World, reads_by, is_draft, is_version, is_version_after, next_of, drafts-removed, versions-finished, kinds-numbered, files-numbered, sum_by-insert_before, sum_by-update_same}
 use Rattle.ele_core.proofs.Booked.{few, few_blocks, owed, drafts_owed, and_nothing, size, bytes_are}
 use Rattle.ele_core.proofs.ClosedSteps.{IsLeft}
-use Rattle.ele_core.specs.Inside.{world_of, IsSound, IsTracked}
-use Rattle.ele_core.specs.Tracked.{told_by, blocks_of, one_version, IsOwed}
-use Rattle.ele_core.specs.declared.rows.Rows.{Rows}
-use Rattle.ele_files.specs.Closing.{finishing}
-use Rattle.ele_files.specs.Held.{Held, cells_of_draft, rows_after}
-use Rattle.ele_lists.specs.Lists.{insert_before}
-use Rattle.ele_lists.proofs.Edits.{all-found, length-update_first, length-insert_before}
-use Rattle.ele_policy.specs.declared.policy.Kind.{Kind}
-use Rattle.ele_usage.specs.Book.{Book, sums_of}
-use Rattle.ele_usage.specs.declared.usage.Usage.{Usage}
-use Rattle.ele_usage.specs.Sums.{nothing, plus, Fits}
-use Rattle.ele_world.specs.declared.rows.DraftRow.{DraftRow}
-use Rattle.ele_world.specs.declared.rows.VersionRow.{VersionRow}
-use Rattle.ele_world.specs.Change.{ended_at, next_version, with_end}
-use Rattle.ele_world.specs.Usage.{usage_of, is_file_of, bytes_in}
-use Rattle.ele_world.specs.WellFormed.{IsDraft, Drafts}
-use Rattle.ele_world.specs.Whole.{ChangesOnly}
-use Rattle.ele_world.specs.declared.rows.Reads.TheVariants.{Draft}
-use Rattle.ele_world.specs.World.{World, reads_by, is_draft, is_version, is_version_after, next_of}
-use Rattle.ele_world.proofs.Others.{drafts-removed, versions-finished, kinds-numbered, files-numbered}
-use Rattle.ele_lists.proofs.Sums.{sum_by-insert_before, sum_by-update_same}
 
 -- the book has the version of the file's kind
 abbrev pub HasAdded : Held → ℕ → Book → Book → ℕ → Type 0

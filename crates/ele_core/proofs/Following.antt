@@ -1,12 +1,5 @@
 -- The queue follows a change of the world.
-use Rattle.std.proofs.Common.{◌≡◌, ℕ, ◌==◌, Bool, true, false, cond, not, ◌&&◌, ◌||◌, List, refl, ap, sym, ◌∙◌, arith}
-use Rattle.std.proofs.lemmas.Bool.Decides.{nat_tests}
-use Rattle.ele_core.specs.Queued.{IsQueued, IsRekeyed}
-use Rattle.ele_due.specs.declared.key.Key.{Key}
-use Rattle.ele_due.specs.HasKey.{has_key}
-use Rattle.ele_world.specs.Due.{ripe_at}
-use Rattle.ele_world.specs.Neighbours.{is_moment}
-use Rattle.ele_world.specs.World.{World}
+use Rattle.ele_core.proofs.Words.{◌≡◌, ℕ, ◌==◌, Bool, true, false, cond, not, ◌&&◌, ◌||◌, List, refl, ap, sym, ◌∙◌, arith, nat_tests, IsQueued, IsRekeyed, Key, has_key, ripe_at, is_moment, World}
 
 module _ (w v : World) (queue after : List Key) (queued : IsQueued w queue) where
   -- whatever versions were touched have their keys, and all others had theirs

@@ -1,45 +1,8 @@
 -- The keys and the book, once a file has another policy.
-use Rattle.std.proofs.Common.{◌≡◌, ℕ, ◌<◌, ◌==◌, Bool, true, false, cond, not, ◌&&◌, ◌||◌, List, [], ◌∷◌, Option, Some, None, refl, ap, sym, subst, ◌∙◌, arith, filter, map}
-use Rattle.std.specs.Prelude.{find, option_and_then, IfOk, Ok, Err, Result}
-use Rattle.std.specs.List.{AllByRecursion, cons_option, filter_map, list_any}
-use Rattle.std.specs.Option.{option_map_or}
-use Rattle.std.proofs.lemmas.Bool.{false≢true}
-use Rattle.std.proofs.lemmas.Bool.Decides.{nat_tests}
+use Rattle.ele_core.proofs.Words.{◌≡◌, ℕ, ◌<◌, ◌==◌, Bool, true, false, cond, not, ◌&&◌, ◌||◌, List, [], ◌∷◌, Option, Some, None, refl, ap, sym, subst, ◌∙◌, arith, filter, map, find, option_and_then, IfOk, Ok, Err, Result, AllByRecursion, cons_option, filter_map, list_any, option_map_or, false≢true, nat_tests, world_of, IsSound, IsQueued, is_under, key_under, unread_under, told_by, IsBooked, Rows, Key, has_key, is_key, Held, changed_at, rows_of, found_passes, any-found, Kind, Policy, IsPolicy, is_kind, kind_of, Usage, Book, sums_of, only_at, nothing, plus, Fits, IsWithin, GroupRow, Stamps, VersionRow, PutUnder, after_change, ripe_at, is_moment, is_version_of, stamps_of, file_usage, usage_of, usages, Bounded, IsWellFormed, World, is_open, is_version, next_of, policy_of, in_order_of, ripe_at_near, put_under_keeps, usage_same, usages_fit}
 use Rattle.ele_core.proofs.Booked.{and_nothing, booked, same_kind, same_usage}
 use Rattle.ele_core.proofs.Following.{follows}
-use Rattle.ele_core.specs.Inside.{world_of, IsSound}
-use Rattle.ele_core.specs.Queued.{IsQueued, is_under, key_under, unread_under}
-use Rattle.ele_core.specs.Tracked.{told_by, IsBooked}
-use Rattle.ele_core.specs.declared.rows.Rows.{Rows}
-use Rattle.ele_due.specs.declared.key.Key.{Key}
-use Rattle.ele_due.specs.HasKey.{has_key}
-use Rattle.ele_due.specs.Key.{is_key}
-use Rattle.ele_files.specs.Held.{Held, changed_at, rows_of}
-use Rattle.ele_lists.proofs.Edits.{found_passes}
-use Rattle.ele_lists.proofs.Found.{any-found}
-use Rattle.ele_policy.specs.declared.policy.Kind.{Kind}
 use Rattle.ele_policy.specs.declared.policy.Kind.TheVariants as kind
-use Rattle.ele_policy.specs.declared.policy.Policy.{Policy}
-use Rattle.ele_policy.specs.Policy.{IsPolicy, is_kind, kind_of}
-use Rattle.ele_usage.specs.declared.usage.Usage.{Usage}
-use Rattle.ele_usage.specs.Book.{Book, sums_of}
-use Rattle.ele_usage.specs.OnlyAt.{only_at}
-use Rattle.ele_usage.specs.Sums.{nothing, plus, Fits, IsWithin}
-use Rattle.ele_world.specs.declared.rows.GroupRow.{GroupRow}
-use Rattle.ele_world.specs.declared.rows.Stamps.{Stamps}
-use Rattle.ele_world.specs.declared.rows.VersionRow.{VersionRow}
-use Rattle.ele_world.specs.Change.{PutUnder, after_change}
-use Rattle.ele_world.specs.Due.{ripe_at}
-use Rattle.ele_world.specs.Neighbours.{is_moment}
-use Rattle.ele_world.specs.FileView.{is_version_of}
-use Rattle.ele_world.specs.Told.{stamps_of}
-use Rattle.ele_world.specs.FileUsage.{file_usage}
-use Rattle.ele_world.specs.Usage.{usage_of, usages}
-use Rattle.ele_world.specs.WellFormed.{Bounded, IsWellFormed}
-use Rattle.ele_world.specs.World.{World, is_open, is_version, next_of, policy_of}
-use Rattle.ele_world.proofs.Neighbours.{in_order_of, ripe_at_near}
-use Rattle.ele_world.proofs.KeptNames.{put_under_keeps}
-use Rattle.ele_world.proofs.Usages.{usage_same, usages_fit}
 use Rattle.ele_world.proofs.PolicyUsage.{file_within, policy_usage}
 use Rattle.ele_world.proofs.PolicyMoments.{policy_others, policy_own}
 

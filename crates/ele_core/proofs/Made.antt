@@ -1,25 +1,6 @@
 -- A new file brings no key.
-use Rattle.std.proofs.Common.{◌≡◌, ℕ, ◌==◌, ◌+◌, ◌<◌, Bool, true, false, cond, ◌||◌, List, [], ◌∷◌, Option, Some, None, refl, ap, sym, ◌∙◌, arith, filter, append-nil, subst}
-use Rattle.std.specs.Prelude.{find, option_and_then}
-use Rattle.std.specs.List.{list_any}
-use Rattle.std.specs.Option.{option_map, option_or}
-use Rattle.std.proofs.lemmas.List.Elements.{filter-append}
-use Rattle.std.proofs.lemmas.List.Folds.{find-append, list_any-append}
-use Rattle.std.proofs.lemmas.Bool.Decides.{nat_tests}
-use Rattle.ele_core.specs.Queued.{IsQueued}
-use Rattle.ele_due.specs.declared.key.Key.{Key}
-use Rattle.ele_lists.proofs.Edits.{all-found}
-use Rattle.ele_policy.specs.declared.policy.Policy.{Policy}
-use Rattle.ele_world.specs.declared.rows.FileRow.{FileRow}
-use Rattle.ele_world.specs.declared.rows.VersionRow.{VersionRow}
-use Rattle.ele_world.specs.Change.{MakeFile, after_change}
-use Rattle.ele_world.specs.Due.{ripe_of, ripe_at}
-use Rattle.ele_world.specs.Neighbours.{is_moment}
-use Rattle.ele_world.specs.FileView.{view_of, is_version_of, ripe_in}
-use Rattle.ele_world.specs.WellFormed.{IsWellFormed}
-use Rattle.ele_world.specs.World.{World, is_file, is_live_name_of, is_version, policy_of, is_live}
-use Rattle.ele_world.proofs.Created.{created, made_is, new_file, new_name, first_version, versions_before}
-use Rattle.ele_world.proofs.RipeAt.{ripe_at_is, unended}
+use Rattle.ele_core.proofs.Words.{◌≡◌, ℕ, ◌==◌, ◌+◌, ◌<◌, Bool, true, false, cond, ◌||◌, List, [], ◌∷◌, Option, Some, None, refl, ap, sym, ◌∙◌, arith, filter, append-nil, subst, find, option_and_then, list_any, option_map, option_or, filter-append, find-append, list_any-append, nat_tests, IsQueued, Key, all-found, Policy, FileRow, VersionRow, MakeFile, after_change, ripe_at, is_moment, view_of, is_version_of, ripe_in, IsWellFormed, World, is_file, is_live_name_of, is_version, policy_of, is_live, created, made_is, new_file, new_name, first_version, versions_before, ripe_at_is, unended}
+use Rattle.ele_world.specs.Due.{ripe_of}
 
 option_or-none : {X : Type 0} (o : Option X) → option_or o None ≡ o
 option_or-none None = refl

@@ -1,35 +1,7 @@
 -- The keys of versions that were current at marks: which keys these are, and that the queue follows where marks come and go.
-use Rattle.std.proofs.Common.{◌≡◌, ℕ, ◌+◌, ◌<◌, ◌==◌, ◌++◌, length, get_or, take, append_assoc, Bool, true, false, cond, not, ◌&&◌, ◌||◌, List, [], ◌∷◌, Option, Some, None, refl, ap, sym, ◌∙◌, arith}
-use Rattle.std.specs.Prelude.{find, option_and_then}
-use Rattle.std.specs.List.{filter_map, list_any, cons_option, AllByRecursion}
-use Rattle.std.specs.Option.{option_map, option_map_or}
-use Rattle.std.proofs.lemmas.List.{take_more}
-use Rattle.std.proofs.lemmas.List.Elements.{filter_map-append}
-use Rattle.std.proofs.lemmas.Bool.Decides.{nat_tests}
+use Rattle.ele_core.proofs.Words.{◌≡◌, ℕ, ◌+◌, ◌<◌, ◌==◌, ◌++◌, length, get_or, take, append_assoc, Bool, true, false, cond, not, ◌&&◌, ◌||◌, List, [], ◌∷◌, Option, Some, None, refl, ap, sym, ◌∙◌, arith, find, option_and_then, filter_map, list_any, cons_option, AllByRecursion, option_map, option_map_or, take_more, filter_map-append, nat_tests, IsQueued, key_at, keys_at, marked_but, moment_but, Left, Key, has_key, is_key, Held, rows_of, found_passes, AllLater, ripe_at, is_moment, moment_under, covers_moment, had_life, lives_at, stamps_of, ArePlaced, IsWellFormed, World, is_open, is_version, policy_of, GroupRow, Stamps, VersionRow, MarksCome, MarksGo, is_covered, is_touched, in_order_of, ripe_at_near, any-filter_map, placed_of}
 use Rattle.ele_core.proofs.Following.{follows}
-use Rattle.ele_core.specs.Queued.{IsQueued, key_at, keys_at, marked_but, moment_but}
-use Rattle.ele_core.specs.declared.marking.Left.{Left}
-use Rattle.ele_due.specs.declared.key.Key.{Key}
-use Rattle.ele_due.specs.HasKey.{has_key}
-use Rattle.ele_due.specs.Key.{is_key}
-use Rattle.ele_files.specs.Held.{Held, rows_of}
-use Rattle.ele_lists.proofs.Edits.{found_passes}
-use Rattle.ele_lists.specs.Lists.{AllLater}
-use Rattle.ele_world.specs.Due.{ripe_at}
-use Rattle.ele_world.specs.Neighbours.{is_moment, moment_under}
-use Rattle.ele_world.specs.GroupRows.{covers_moment}
-use Rattle.ele_world.specs.Tagged.{had_life, lives_at}
-use Rattle.ele_world.specs.Told.{stamps_of}
-use Rattle.ele_world.specs.WellFormed.{ArePlaced, IsWellFormed}
-use Rattle.ele_world.specs.World.{World, is_open, is_version, policy_of}
-use Rattle.ele_world.specs.declared.rows.GroupRow.{GroupRow}
-use Rattle.ele_world.specs.declared.rows.Stamps.{Stamps}
-use Rattle.ele_world.specs.declared.rows.VersionRow.{VersionRow}
-use Rattle.ele_world.proofs.GroupMoments.{MarksCome, MarksGo, is_covered, is_touched}
-use Rattle.ele_world.proofs.Neighbours.{in_order_of, ripe_at_near}
-use Rattle.ele_world.proofs.RipeAt.{any-filter_map}
 use Rattle.ele_world.proofs.SlotPlaces.{list_any-flat_map}
-use Rattle.ele_world.proofs.Views.{placed_of}
 
 -- ---- the version that was current at a moment, by its number
 

@@ -1,24 +1,7 @@
 -- Which keys the versions have, once a handle was opened or closed.
-use Rattle.std.proofs.Common.{◌≡◌, ℕ, ◌+◌, Bool, true, false, cond, not, ◌&&◌, ◌||◌, ◌==◌, List, [], ◌∷◌, Option, None, Ok, refl, ap, sym, ◌∙◌, arith}
-use Rattle.std.specs.List.{list_any}
-use Rattle.std.proofs.lemmas.Bool.Decides.{nat_tests}
+use Rattle.ele_core.proofs.Words.{◌≡◌, ℕ, ◌+◌, Bool, true, false, cond, not, ◌&&◌, ◌||◌, ◌==◌, List, [], ◌∷◌, Option, None, Ok, refl, ap, sym, ◌∙◌, arith, list_any, nat_tests, world_of, IsSound, IsQueued, IsRekeyed, Rows, Key, has_key, changed_at, opened_by, with_rows, OpenHandle, ShutHandle, StartDraft, after_change, ripe_at, free_moment, is_moment, AreInOrder, in_order_of, World, is_draft, is_handle, is_open, reads_by, reads_version, Draft, Version, opened_others, opened_own, read_moment, shut_others, shut_own, has_row, any-found}
 use Rattle.ele_core.proofs.Asked.{ripe_told}
 use Rattle.ele_core.proofs.Following.{entry_follows}
-use Rattle.ele_core.specs.Inside.{world_of, IsSound}
-use Rattle.ele_core.specs.Queued.{IsQueued, IsRekeyed}
-use Rattle.ele_core.specs.declared.rows.Rows.{Rows}
-use Rattle.ele_due.specs.declared.key.Key.{Key}
-use Rattle.ele_due.specs.HasKey.{has_key}
-use Rattle.ele_files.specs.Held.{changed_at, opened_by, with_rows}
-use Rattle.ele_world.specs.Change.{OpenHandle, ShutHandle, StartDraft, after_change}
-use Rattle.ele_world.specs.Due.{ripe_at}
-use Rattle.ele_world.specs.Neighbours.{free_moment, is_moment}
-use Rattle.ele_world.proofs.Neighbours.{AreInOrder, in_order_of}
-use Rattle.ele_world.specs.World.{World, is_draft, is_handle, is_open, reads_by, reads_version}
-use Rattle.ele_world.specs.declared.rows.Reads.TheVariants.{Draft, Version}
-use Rattle.ele_world.proofs.OpenMoments.{opened_others, opened_own, read_moment, shut_others, shut_own}
-use Rattle.ele_world.proofs.OpenStays.{has_row}
-use Rattle.ele_lists.proofs.Found.{any-found}
 
 -- a handle that writes touches no key
 pub opened_queue : (rows : Rows) (file : ℕ) → IsSound rows → IsQueued (with_rows (world_of rows) (opened_by rows.files file rows.moment)) rows.queue

@@ -1,13 +1,5 @@
 -- A pass, one clean event after another.
-use Rattle.std.proofs.Common.{◌≡◌, Bool, true, false, Option, Some, None, IsSome, is_some, refl, sym, subst, ◌∙◌}
-use Rattle.std.proofs.lemmas.Bool.{false≢true}
-use Rattle.ele_due.specs.declared.key.Key.{Key}
-use Rattle.ele_world.specs.declared.event.Event.TheVariants.{CleanOne}
-use Rattle.ele_world.specs.Scan.{first_due}
-use Rattle.ele_world.specs.Step.{clean_step}
-use Rattle.ele_world.specs.WellFormed.{IsWellFormed}
-use Rattle.ele_world.specs.World.{World}
-use Rattle.ele_world.proofs.StepKeeps.{step_keeps}
+use Rattle.ele_core.proofs.Words.{◌≡◌, Bool, true, false, Option, Some, None, IsSome, is_some, refl, sym, subst, ◌∙◌, false≢true, Key, CleanOne, first_due, clean_step, IsWellFormed, World, step_keeps}
 
 pub clean_keeps : (w v : World) → v ≡ (clean_step w).1 → IsWellFormed w → IsWellFormed v
 clean_keeps w v is k = subst IsWellFormed (sym is) (step_keeps w CleanOne tt k)

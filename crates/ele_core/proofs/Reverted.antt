@@ -1,33 +1,8 @@
 -- A file that gets a version more, with the cells of one that is held.
-use Rattle.std.proofs.Common.{◌≡◌, ◌<◌, ◌-◌, ℕ, true, List, length, Result, Ok, Err, Option, Some, None, false, nat_le, refl, sym, ap, subst, ◌∙◌, arith, find, [], ◌∷◌}
-use Rattle.std.specs.Option.{option_map, option_map_or}
-use Rattle.std.specs.Result.{result_map_both}
-use Rattle.std.proofs.lemmas.Bool.Decides.{nat_tests}
-use Rattle.ele_content.specs.Content.{content_of}
-use Rattle.ele_content.specs.declared.cell.Cell.{Cell}
+use Rattle.ele_core.proofs.Words.{◌≡◌, ◌<◌, ◌-◌, ℕ, true, List, length, Result, Ok, Err, Option, Some, None, false, nat_le, refl, sym, ap, subst, ◌∙◌, arith, find, [], ◌∷◌, option_map, option_map_or, result_map_both, nat_tests, content_of, Cell, world_of, IsSound, IsOwed, blocks_of, told_by, Rows, Became, Held, cells_of_version, rows_of, all-found, found_passes, Book, kinds-numbered, files-numbered, versions-finished, Append, after_change, next_version, with_version, step, versions_made, version_meant, stamps_of, IsVersion, Versions, ChangesOnly, World, has_draft, is_live, is_version, next_of, file_now, Revert, Refusal, made_of, numbered_found, Stamps, VersionRow}
 use Rattle.ele_core.proofs.ClosedSums.{HasAdded, version_owed}
-use Rattle.ele_core.specs.Inside.{world_of, IsSound}
-use Rattle.ele_core.specs.Tracked.{IsOwed, blocks_of, told_by}
-use Rattle.ele_core.specs.declared.rows.Rows.{Rows}
-use Rattle.ele_files.specs.Held.{Became, Held, cells_of_version, rows_of}
-use Rattle.ele_lists.proofs.Edits.{all-found, found_passes}
 use Rattle.ele_time_path.specs.declared.tagged.Tag.TheVariants as tag
-use Rattle.ele_usage.specs.Book.{Book}
-use Rattle.ele_world.proofs.Others.{kinds-numbered, files-numbered, versions-finished}
-use Rattle.ele_world.specs.Change.{Append, after_change, next_version, with_version}
-use Rattle.ele_world.specs.Step.{step, versions_made}
-use Rattle.ele_world.specs.Tagged.{version_meant}
-use Rattle.ele_world.specs.Told.{stamps_of}
-use Rattle.ele_world.specs.WellFormed.{IsVersion, Versions}
-use Rattle.ele_world.specs.Whole.{ChangesOnly}
-use Rattle.ele_world.specs.World.{World, has_draft, is_live, is_version, next_of}
-use Rattle.ele_world.specs.Walk.{file_now}
-use Rattle.ele_world.specs.declared.event.Event.TheVariants.{Revert}
-use Rattle.ele_world.specs.declared.refusal.Refusal.{Refusal}
 use Rattle.ele_world.specs.declared.reply.Reply.TheVariants.{Version}
-use Rattle.ele_world.proofs.Meant.{made_of, numbered_found}
-use Rattle.ele_world.specs.declared.rows.Stamps.{Stamps}
-use Rattle.ele_world.specs.declared.rows.VersionRow.{VersionRow}
 
 module _ (rows : Rows) (file number : ℕ) (stamps : Stamps) (sound : IsSound rows) (held : option_map stamps_of (find (is_version file number) rows.files.versions) ≡ Some stamps) where
   abbrev w : World

@@ -1,39 +1,11 @@
 -- A file that has a name again, and a version like its last one.
-use Rattle.std.proofs.Common.{◌≡◌, ℕ, ◌-◌, ◌<◌, ◌≤◌, Bool, true, false, cond, not, ◌&&◌, ◌||◌, List, [], ◌∷◌, length, Option, Some, None, is_some, refl, ap, sym, subst, ◌∙◌, arith}
-use Rattle.std.specs.Prelude.{find}
-use Rattle.std.specs.List.{list_any}
-use Rattle.std.specs.Option.{option_map, option_map_or}
-use Rattle.std.proofs.lemmas.Bool.Decides.{nat_tests}
-use Rattle.ele_content.specs.Content.{content_of, longest_content}
+use Rattle.ele_core.proofs.Words.{◌≡◌, ℕ, ◌-◌, ◌<◌, ◌≤◌, Bool, true, false, cond, not, ◌&&◌, ◌||◌, List, [], ◌∷◌, length, Option, Some, None, is_some, refl, ap, sym, subst, ◌∙◌, arith, find, list_any, option_map, option_map_or, nat_tests, content_of, longest_content, world_of, IsSound, NewKeys, IsQueued, is_entry, is_new, new_keys, blocks_of, IsOwed, Rows, stamps_of, Key, has_key, Held, Became, cells_of_version, rows_after, rows_of, all-found, found_passes, Book, Append, Revive, after_change, current_cells, next_version, with_name, ripe_at, is_moment, IsVersion, Versions, IsWellFormed, World, is_held, is_live, is_version, next_of, FileRow, File, VersionRow, named_live, MayGrow, moments_stay, in_order_of}
 use Rattle.ele_core.proofs.Appended.{appended_queue, taken_back, refused}
 use Rattle.ele_core.proofs.Booked.{retold}
 use Rattle.ele_core.proofs.ClosedSums.{HasAdded, version_owed}
-use Rattle.ele_core.specs.Inside.{world_of, IsSound}
-use Rattle.ele_core.specs.declared.keys.NewKeys.{NewKeys}
-use Rattle.ele_core.specs.Queued.{IsQueued, is_entry, is_new, new_keys}
-use Rattle.ele_core.specs.Tracked.{blocks_of, IsOwed}
-use Rattle.ele_core.specs.declared.rows.Rows.{Rows}
-use Rattle.ele_world.specs.Told.{stamps_of}
-use Rattle.ele_due.specs.declared.key.Key.{Key}
-use Rattle.ele_due.specs.HasKey.{has_key}
-use Rattle.ele_files.specs.Held.{Held, Became, cells_of_version, rows_after, rows_of}
 use Rattle.ele_lists.proofs.Cuts.{any-found}
-use Rattle.ele_lists.proofs.Edits.{all-found, found_passes}
-use Rattle.ele_usage.specs.Book.{Book}
-use Rattle.ele_world.specs.Change.{Append, Revive, after_change, current_cells, next_version, with_name}
-use Rattle.ele_world.specs.Due.{ripe_at}
-use Rattle.ele_world.specs.Neighbours.{is_moment}
-use Rattle.ele_world.specs.WellFormed.{IsVersion, Versions, IsWellFormed}
-use Rattle.ele_world.specs.World.{World, is_held, is_live, is_version, next_of}
-use Rattle.ele_world.specs.declared.rows.FileRow.{FileRow}
-use Rattle.ele_world.specs.declared.rows.Target.TheVariants.{File}
-use Rattle.ele_world.specs.declared.rows.VersionRow.{VersionRow}
-use Rattle.ele_world.proofs.Created.{named_live}
 use Rattle.ele_world.proofs.KeptRevived.{again}
 use Rattle.ele_world.proofs.May.{MayRevive}
-use Rattle.ele_world.proofs.AppendMoments.{MayGrow}
-use Rattle.ele_world.proofs.NameMoments.{moments_stay}
-use Rattle.ele_world.proofs.Neighbours.{in_order_of}
 use Rattle.ele_world.proofs.Revivals.{changes_revived, named_grows}
 
 -- ---- whether the last version is held

@@ -1,40 +1,16 @@
 -- Where a path leads by the names of any moment, and what is told of the version that its tag means.
-use Rattle.std.proofs.Common.{◌≡◌, ℕ, Bool, true, false, cond, ◌&&◌, List, [], ◌∷◌, Option, Some, None, Result, Ok, Err, refl, ap, subst, ◌∙◌, nat_lt}
-use Rattle.std.specs.Prelude.{find}
-use Rattle.std.specs.List.{AllByRecursion}
-use Rattle.std.specs.Option.{option_map, option_map_or}
-use Rattle.std.specs.Result.{result_map_both}
-use Rattle.ele_content.specs.Content.{content_of}
+use Rattle.ele_core.proofs.Words.{◌≡◌, ℕ, Bool, true, false, cond, ◌&&◌, List, [], ◌∷◌, Option, Some, None, Result, Ok, Err, refl, ap, subst, ◌∙◌, nat_lt, find, AllByRecursion, option_map, option_map_or, result_map_both, content_of, AllLater, all-found, covers, is_named, target_at, found_outcome, step, version_cells, version_at, version_found, version_meant, walk_meant, walk_then, moment_of, file_stat, listing, stamps_of, directory_in, file_at, walk_now, ArePlaced, IsNameRow, IsThere, World, is_version, root, Read, Refusal, Reply, Bytes, FileStat, NameList, NameRow, Stamps, Target, File, Directory, VersionRow, is_at, is_meant, file_there}
 use Rattle.ele_core.specs.Told.{found_of, told}
-use Rattle.ele_lists.specs.Lists.{AllLater}
-use Rattle.ele_lists.proofs.Edits.{all-found}
 use Rattle.ele_time_path.specs.declared.path_at.PathAt.{PathAt}
 use Rattle.ele_time_path.specs.declared.tagged.Tag.{Tag}
 use Rattle.ele_time_path.specs.declared.tagged.Tag.TheVariants as tag
 use Rattle.ele_time_path.specs.declared.tagged.TaggedPath.{TaggedPath}
-use Rattle.ele_world.specs.NameRows.{covers, is_named, target_at}
-use Rattle.ele_world.specs.Plan.{found_outcome}
-use Rattle.ele_world.specs.Step.{step, version_cells}
-use Rattle.ele_world.specs.Tagged.{version_at, version_found, version_meant, walk_meant, walk_then, moment_of}
-use Rattle.ele_world.specs.Told.{file_stat, listing, stamps_of}
-use Rattle.ele_world.specs.Walk.{directory_in, file_at, walk_now}
 use Rattle.ele_world.specs.WalkAt.{walk_covering}
-use Rattle.ele_world.specs.WellFormed.{ArePlaced, IsNameRow, IsThere}
-use Rattle.ele_world.specs.World.{World, is_version, policy_for, root}
-use Rattle.ele_world.specs.declared.event.Event.TheVariants.{List as ListNames, Read}
+use Rattle.ele_world.specs.World.{policy_for}
+use Rattle.ele_world.specs.declared.event.Event.TheVariants.{List as ListNames}
 use Rattle.ele_world.specs.declared.event.Source.TheVariants.{Tagged}
-use Rattle.ele_world.specs.declared.refusal.Refusal.{Refusal}
 use Rattle.ele_world.specs.declared.refusal.Refusal.TheVariants.{Future, NoEntry}
-use Rattle.ele_world.specs.declared.reply.Reply.{Reply}
-use Rattle.ele_world.specs.declared.reply.Reply.TheVariants.{Bytes, FileStat, NameList}
-use Rattle.ele_world.specs.declared.rows.NameRow.{NameRow}
-use Rattle.ele_world.specs.declared.rows.Stamps.{Stamps}
-use Rattle.ele_world.specs.declared.rows.Target.{Target}
-use Rattle.ele_world.specs.declared.rows.Target.TheVariants.{File, Directory}
-use Rattle.ele_world.specs.declared.rows.VersionRow.{VersionRow}
-use Rattle.ele_world.proofs.Meant.{is_at, is_meant}
 use Rattle.ele_world.proofs.Versions.{IsFound, all_found}
-use Rattle.ele_world.proofs.Walks.{file_there}
 
 -- ---- where a path leads is there
 

@@ -1,31 +1,8 @@
 -- What the end of a file's name leaves of the keys and of the book.
-use Rattle.std.proofs.Common.{◌≡◌, ℕ, ◌+◌, ◌-◌, ◌<◌, ◌==◌, true, false, cond, List, Option, Some, None, is_none, refl, ap, sym, subst, ◌∙◌, arith}
-use Rattle.std.specs.Prelude.{find, nat_lt}
-use Rattle.std.specs.List.{count_by}
-use Rattle.std.specs.Option.{option_map}
-use Rattle.std.proofs.lemmas.Bool.Decides.{nat_tests}
+use Rattle.ele_core.proofs.Words.{◌≡◌, ℕ, ◌+◌, ◌-◌, ◌<◌, ◌==◌, true, false, cond, List, Option, Some, None, is_none, refl, ap, sym, subst, ◌∙◌, arith, find, nat_lt, count_by, option_map, nat_tests, IsQueued, IsRekeyed, end_moment, is_marked, is_moment, near_moment, told_by, IsBooked, Key, Held, current_ended, rows_of, all-found, found_passes, any-count, count-update_first, Book, EndFileName, after_change, with_end, without_name, ripe_at, dies, is_live_name, live_target, IsNameRow, IsThere, Names, IsWellFormed, World, is_live, is_live_name_of, is_open, is_version, next_of, policy_of, NameRow, File, ended_moment, live_moments, no_moment, other_moments, target_live}
 use Rattle.ele_core.proofs.Following.{entry_follows}
-use Rattle.ele_core.specs.Queued.{IsQueued, IsRekeyed, end_moment}
-use Rattle.ele_world.specs.GroupRows.{is_marked}
-use Rattle.ele_world.specs.Neighbours.{is_moment, near_moment}
-use Rattle.ele_core.specs.Tracked.{told_by, IsBooked}
-use Rattle.ele_due.specs.declared.key.Key.{Key}
-use Rattle.ele_files.specs.Held.{Held, current_ended, rows_of}
-use Rattle.ele_lists.proofs.Edits.{all-found, found_passes}
-use Rattle.ele_lists.proofs.Sums.{any-count, count-update_first}
-use Rattle.ele_usage.specs.Book.{Book}
-use Rattle.ele_world.specs.Change.{EndFileName, after_change, with_end, without_name}
-use Rattle.ele_world.specs.Due.{ripe_at}
-use Rattle.ele_world.specs.NameRows.{dies}
-use Rattle.ele_world.specs.Walk.{is_live_name, live_target}
-use Rattle.ele_world.specs.WellFormed.{IsNameRow, IsThere, Names, IsWellFormed}
-use Rattle.ele_world.specs.World.{World, is_live, is_live_name_of, is_open, is_version, next_of, policy_of}
-use Rattle.ele_world.specs.declared.rows.NameRow.{NameRow}
-use Rattle.ele_world.specs.declared.rows.Target.TheVariants.{File}
 use Rattle.ele_world.proofs.Currents.{HasCurrent, has_current}
 use Rattle.ele_world.proofs.EndUsage.{usage_ended}
-use Rattle.ele_world.proofs.NameMoments.{ended_moment, live_moments, no_moment, other_moments}
-use Rattle.ele_world.proofs.Walks.{target_live}
 
 -- an end that is set changes nothing of the book
 pub ended_book : (h : Held) (file now : ℕ) (book : Book) → IsBooked h book → IsBooked (current_ended h file now) book

@@ -1,6 +1,5 @@
-use Rattle.std.proofs.Common.{refl, sym, ◌∙◌}
+use Rattle.ele_core.proofs.Words.{refl, sym, ◌∙◌, is_marked}
 use Rattle.ele_core.proofs.Asked.{former_told, ungoverned}
-use Rattle.ele_world.specs.GroupRows.{is_marked}
 use Rattle.ele_core.proofs.appending.former_moment.Goals as goal
 
 pub returns-then-is_open : goal.returns-then-is_open

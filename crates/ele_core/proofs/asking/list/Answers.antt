@@ -1,10 +1,5 @@
-use Rattle.std.proofs.Common.{◌≡◌, Ok, sym, ap, ◌∙◌}
-use Rattle.ele_core.specs.Inside.{world_of}
+use Rattle.ele_core.proofs.Words.{◌≡◌, Ok, sym, ap, ◌∙◌, world_of, walk_then, listing, directory_in, Names}
 use Rattle.ele_core.proofs.ToldVersions.{told_list}
-use Rattle.ele_world.specs.Tagged.{walk_then}
-use Rattle.ele_world.specs.Told.{listing}
-use Rattle.ele_world.specs.Walk.{directory_in}
-use Rattle.ele_world.specs.WellFormed.{Names}
 use Rattle.ele_world.proofs.Listed.{listing_is}
 use Rattle.ele_core.proofs.asking.list.Goals as goal
 use Rattle.ele_core.proofs.asking.list.Goals.{in-Ok, in-Err}

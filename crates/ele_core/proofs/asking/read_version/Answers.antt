@@ -1,10 +1,5 @@
-use Rattle.std.proofs.Common.{ap, sym, ◌∙◌}
-use Rattle.ele_content.specs.Content.{content_of}
-use Rattle.ele_core.specs.Inside.{world_of}
-use Rattle.ele_core.specs.declared.rows.Rows.{Rows}
+use Rattle.ele_core.proofs.Words.{ap, sym, ◌∙◌, content_of, world_of, Rows, cells_of_version, Versions}
 use Rattle.ele_core.proofs.ToldVersions.{told_read}
-use Rattle.ele_files.specs.Held.{cells_of_version}
-use Rattle.ele_world.specs.WellFormed.{Versions}
 use Rattle.ele_core.proofs.asking.read_version.Goals as goal
 
 pub returns-clause-step : goal.returns-clause-step

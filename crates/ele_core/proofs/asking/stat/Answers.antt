@@ -1,9 +1,5 @@
-use Rattle.std.proofs.Common.{◌≡◌, Ok, sym, ◌∙◌}
+use Rattle.ele_core.proofs.Words.{◌≡◌, Ok, sym, ◌∙◌, world_of, walk_meant, stat_of, Names}
 use Rattle.ele_core.proofs.ToldVersions.{meant_there, told_outcome}
-use Rattle.ele_core.specs.Inside.{world_of}
-use Rattle.ele_world.specs.Tagged.{walk_meant}
-use Rattle.ele_world.specs.Told.{stat_of}
-use Rattle.ele_world.specs.WellFormed.{Names}
 use Rattle.ele_core.proofs.asking.stat.Goals as goal
 
 pub stat_target-requires-clause-there : goal.stat_target-requires-clause-there

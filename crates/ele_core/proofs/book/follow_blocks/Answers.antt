@@ -1,5 +1,4 @@
-use Rattle.std.proofs.Common.{sym, ◌∙◌, arith}
-use Rattle.ele_policy.specs.Policy.{kind_of}
+use Rattle.ele_core.proofs.Words.{sym, ◌∙◌, arith, kind_of}
 use Rattle.ele_core.proofs.Booked.{shift_fits}
 use Rattle.ele_core.proofs.book.follow_blocks.Goals as goal
 

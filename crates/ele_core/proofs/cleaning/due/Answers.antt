@@ -1,8 +1,5 @@
-use Rattle.std.proofs.Common.{◌∙◌}
-use Rattle.std.specs.List.{filter_map}
-use Rattle.ele_core.specs.Inside.{world_of}
+use Rattle.ele_core.proofs.Words.{◌∙◌, filter_map, world_of, due_key}
 use Rattle.ele_core.proofs.Asked.{due_keys, scan_is}
-use Rattle.ele_world.specs.Scan.{due_key}
 use Rattle.ele_core.proofs.cleaning.due.Goals as goal
 
 pub returns : goal.returns

@@ -1,7 +1,5 @@
-use Rattle.std.proofs.Common.{◌+◌, sym, subst, refl, arith}
-use Rattle.ele_core.specs.Inside.{world_of}
+use Rattle.ele_core.proofs.Words.{◌+◌, sym, subst, refl, arith, world_of, IsCleaned, IsFinished}
 use Rattle.ele_core.proofs.Passing.{none_due, some_due}
-use Rattle.ele_world.specs.Pass.{IsCleaned, IsFinished}
 use Rattle.ele_world.proofs.PassEnds.{cleaned_none, cleaned_more, budget_ends, pass_finishes}
 use Rattle.ele_core.proofs.cleaning.pass.Goals as goal
 

@@ -1,11 +1,5 @@
-use Rattle.std.proofs.Common.{◌≡◌, length, sym, subst}
-use Rattle.ele_content.specs.Content.{content_of}
-use Rattle.ele_core.specs.Inside.{world_of}
+use Rattle.ele_core.proofs.Words.{◌≡◌, length, sym, subst, content_of, world_of, IsQueued, Held, with_rows, IsDueKey, first_is_due, placed_of}
 use Rattle.ele_core.proofs.Removed.{removed_bytes, removed_within, removed_owed, removed_fits, removed_queue}
-use Rattle.ele_core.specs.Queued.{IsQueued}
-use Rattle.ele_files.specs.Held.{Held, with_rows}
-use Rattle.ele_world.proofs.DueRows.{IsDueKey, first_is_due}
-use Rattle.ele_world.proofs.Views.{placed_of}
 use Rattle.ele_core.proofs.cleaning.remove.Goals as goal
 
 pub unreachable-requires : goal.unreachable-requires

@@ -1,8 +1,5 @@
-use Rattle.std.proofs.Common.{ap}
-use Rattle.ele_core.specs.Inside.{world_of}
+use Rattle.ele_core.proofs.Words.{ap, world_of, Reply, World}
 use Rattle.ele_core.proofs.Passing.{clean_keeps}
-use Rattle.ele_world.specs.declared.reply.Reply.{Reply}
-use Rattle.ele_world.specs.World.{World}
 use Rattle.ele_core.proofs.cleaning.removes.Goals as goal
 
 pub returns-clause-sound : goal.returns-clause-sound

@@ -1,14 +1,8 @@
-use Rattle.std.proofs.Common.{◌≡◌, ◌&&◌, ◌||◌, not, [], refl, sym, ap, ◌∙◌, arith}
+use Rattle.ele_core.proofs.Words.{◌≡◌, ◌&&◌, ◌||◌, not, [], refl, sym, ap, ◌∙◌, arith, world_of, is_new, new_keys, has_key, cells_of_draft, is_live, may_grow}
 use Rattle.ele_core.proofs.Bounded.{versions_few}
 use Rattle.ele_core.proofs.ClosedSteps.{drafted, file_there, finished_step, is_final, over, over_keeps, over_keys, over_queue, past, numbered, writes_file}
 use Rattle.ele_core.proofs.Appended.{appended_queue, taken_back, refused}
 use Rattle.ele_core.proofs.ClosedSums.{finished_owed, draft_short, version_fits, added_fits}
-use Rattle.ele_core.specs.Inside.{world_of}
-use Rattle.ele_core.specs.Queued.{is_new, new_keys}
-use Rattle.ele_due.specs.HasKey.{has_key}
-use Rattle.ele_files.specs.Held.{cells_of_draft}
-use Rattle.ele_world.specs.World.{is_live}
-use Rattle.ele_world.proofs.AppendMoments.{may_grow}
 use Rattle.ele_core.proofs.closing.finish.Goals as goal
 
 pub new_keys-keys-requires-clause-there : goal.new_keys-keys-requires-clause-there

@@ -1,13 +1,5 @@
-use Rattle.std.proofs.Common.{◌≡◌, [], ◌∷◌, None, ap, subst, sym, ◌∙◌}
+use Rattle.ele_core.proofs.Words.{◌≡◌, [], ◌∷◌, None, ap, subst, sym, ◌∙◌, world_of, IsQueued, IsRekeyed, IsBooked, left_of, changed_at, with_rows, ShutHandle, free_moment, is_open}
 use Rattle.ele_core.proofs.OpenedKeys.{read_on_queue, unread_queue}
-use Rattle.ele_core.specs.Inside.{world_of}
-use Rattle.ele_core.specs.Queued.{IsQueued, IsRekeyed}
-use Rattle.ele_core.specs.Tracked.{IsBooked}
-use Rattle.ele_files.specs.Closing.{left_of}
-use Rattle.ele_files.specs.Held.{changed_at, with_rows}
-use Rattle.ele_world.specs.Change.{ShutHandle}
-use Rattle.ele_world.specs.Neighbours.{free_moment}
-use Rattle.ele_world.specs.World.{is_open}
 use Rattle.ele_core.proofs.closing.unread.Goals as goal
 
 pub returns-then-not-is_open-clause-tracked : goal.returns-then-not-is_open-clause-tracked

@@ -1,6 +1,5 @@
-use Rattle.std.proofs.Common.{◌≡◌, position, Some, refl}
-use Rattle.ele_world.specs.World.{is_directory}
-use Rattle.ele_world.specs.Change.{governed_by}
+use Rattle.ele_core.proofs.Words.{◌≡◌, Some, refl, is_directory, governed_by}
+use Rattle.std.proofs.Common.{position}
 use Rattle.ele_lists.proofs.Places.{set-first}
 use Rattle.ele_core.proofs.defaults.govern.Goals as goal
 

@@ -1,10 +1,5 @@
-use Rattle.std.proofs.Common.{◌≡◌, true, refl, ap, sym, subst, ◌∙◌, arith}
+use Rattle.ele_core.proofs.Words.{◌≡◌, true, refl, ap, sym, subst, ◌∙◌, arith, world_of, IsQueued, DropIdle, is_idle, without_file, after_change, is_moment, World}
 use Rattle.ele_core.proofs.DroppedFiles.{absent_stays, dropped_within, dropped_book}
-use Rattle.ele_core.specs.Inside.{world_of}
-use Rattle.ele_core.specs.Queued.{IsQueued}
-use Rattle.ele_world.specs.Change.{DropIdle, is_idle, without_file, after_change}
-use Rattle.ele_world.specs.Neighbours.{is_moment}
-use Rattle.ele_world.specs.World.{World}
 use Rattle.ele_world.proofs.DropViews.{ripe_at_dropped}
 use Rattle.ele_core.proofs.dropping.drop_idle.Goals as goal
 

@@ -1,12 +1,6 @@
-use Rattle.std.proofs.Common.{◌≡◌, refl, ap, ◌∙◌, ◌++◌, ◌∷◌, []}
-use Rattle.ele_core.specs.Inside.{world_of}
+use Rattle.ele_core.proofs.Words.{◌≡◌, refl, ap, ◌∙◌, ◌++◌, ◌∷◌, [], world_of, update_first, MoveName, after_change, born_row, dies, is_live_name, live_target-push}
 use Rattle.ele_core.proofs.LinkedNames.{queue_stays, dies_before}
 use Rattle.ele_core.proofs.NewNames.{follows_new}
-use Rattle.ele_lists.specs.Lists.{update_first}
-use Rattle.ele_world.specs.Change.{MoveName, after_change}
-use Rattle.ele_world.specs.NameRows.{born_row, dies}
-use Rattle.ele_world.specs.Walk.{is_live_name}
-use Rattle.ele_world.proofs.Walks.{live_target-push}
 use Rattle.ele_core.proofs.links.move_name.Goals as goal
 
 pub add-requires : goal.add-requires

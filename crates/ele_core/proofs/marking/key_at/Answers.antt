@@ -1,4 +1,4 @@
-use Rattle.std.proofs.Common.{refl, sym, ◌∙◌}
+use Rattle.ele_core.proofs.Words.{refl, sym, ◌∙◌}
 use Rattle.ele_core.proofs.Marked.{key_told}
 use Rattle.ele_core.proofs.marking.key_at.Goals as goal
 

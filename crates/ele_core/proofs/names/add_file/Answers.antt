@@ -1,13 +1,8 @@
-use Rattle.std.proofs.Common.{◌≡◌, ◌+◌, refl, ap, ◌∙◌, not, filter}
-use Rattle.ele_core.specs.Tracked.{blocks_of}
+use Rattle.ele_core.proofs.Words.{◌≡◌, ◌+◌, refl, ap, ◌∙◌, not, filter, blocks_of, world_of, Directories, is_target_file, File}
 use Rattle.ele_core.proofs.Booked.{made_fits, made_book}
 use Rattle.ele_core.proofs.Bounded.{files_before}
 use Rattle.ele_core.proofs.Made.{made_queue}
 use Rattle.ele_core.proofs.NewNames.{follows_new, name_goes}
-use Rattle.ele_core.specs.Inside.{world_of}
-use Rattle.ele_world.specs.WellFormed.{Directories}
-use Rattle.ele_world.specs.World.{is_target_file}
-use Rattle.ele_world.specs.declared.rows.Target.TheVariants.{File}
 use Rattle.ele_core.proofs.names.add_file.Goals as goal
 
 pub default_of-policy-requires : goal.default_of-policy-requires

@@ -1,9 +1,6 @@
 use Rattle.ele_core.proofs.Booked.{fits, opened_owed}
-use Rattle.std.proofs.Common.{arith, subst, sym}
+use Rattle.ele_core.proofs.Words.{arith, subst, sym, world_of, IsQueued, with_rows}
 use Rattle.ele_core.proofs.OpenedKeys.{opened_queue}
-use Rattle.ele_core.specs.Inside.{world_of}
-use Rattle.ele_core.specs.Queued.{IsQueued}
-use Rattle.ele_files.specs.Held.{with_rows}
 use Rattle.ele_core.proofs.Bounded.{rows_few}
 use Rattle.ele_core.proofs.opening.add_handle.Goals as goal
 

@@ -1,10 +1,5 @@
-use Rattle.std.proofs.Common.{◌+◌, subst, sym}
+use Rattle.ele_core.proofs.Words.{◌+◌, subst, sym, IsQueued, IsRekeyed, None, world_of, IsBooked, with_rows}
 use Rattle.ele_core.proofs.OpenedKeys.{read_queue}
-use Rattle.ele_core.specs.Queued.{IsQueued, IsRekeyed}
-use Rattle.std.proofs.Common.{None}
-use Rattle.ele_core.specs.Inside.{world_of}
-use Rattle.ele_core.specs.Tracked.{IsBooked}
-use Rattle.ele_files.specs.Held.{with_rows}
 use Rattle.ele_core.proofs.opening.add_reader.Goals as goal
 
 pub returns-clause-tracked : goal.returns-clause-tracked

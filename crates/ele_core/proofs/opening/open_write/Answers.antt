@@ -1,8 +1,4 @@
-use Rattle.std.proofs.Common.{◌≡◌, Ok, sym, ◌∙◌}
-use Rattle.ele_core.specs.Inside.{world_of}
-use Rattle.ele_world.specs.Walk.{file_now}
-use Rattle.ele_world.proofs.Walks.{file_there}
-use Rattle.ele_world.specs.WellFormed.{Names}
+use Rattle.ele_core.proofs.Words.{◌≡◌, Ok, sym, ◌∙◌, world_of, file_now, file_there, Names}
 use Rattle.ele_core.proofs.opening.open_write.Goals as goal
 
 pub add_handle-requires-clause-there : goal.add_handle-requires-clause-there

@@ -1,9 +1,6 @@
-use Rattle.std.proofs.Common.{◌≡◌, ◌||◌, ◌&&◌, not, Some, refl, ap, sym, ◌∙◌, arith}
+use Rattle.ele_core.proofs.Words.{◌≡◌, ◌||◌, ◌&&◌, not, Some, refl, ap, sym, ◌∙◌, arith, world_of, has_key, policy_of}
 use Rattle.ele_core.proofs.Bounded.{rows_few}
 use Rattle.ele_core.proofs.Governed.{governed_book, governed_queue, ungoverned_queue, uses_fit, uses_within}
-use Rattle.ele_core.specs.Inside.{world_of}
-use Rattle.ele_due.specs.HasKey.{has_key}
-use Rattle.ele_world.specs.World.{policy_of}
 use Rattle.ele_core.proofs.policies.put_under.Goals as goal
 
 pub usage_of-requires : goal.usage_of-requires

@@ -1,8 +1,4 @@
-use Rattle.std.proofs.Common.{◌≡◌, Ok, sym, ◌∙◌}
-use Rattle.ele_core.specs.Inside.{world_of}
-use Rattle.ele_world.specs.Walk.{file_now}
-use Rattle.ele_world.proofs.Walks.{file_there}
-use Rattle.ele_world.specs.WellFormed.{Names}
+use Rattle.ele_core.proofs.Words.{◌≡◌, Ok, sym, ◌∙◌, world_of, file_now, file_there, Names}
 use Rattle.ele_core.proofs.policies.set_policy.Goals as goal
 
 pub put_under-requires-clause-there : goal.put_under-requires-clause-there

@@ -1,8 +1,6 @@
-use Rattle.std.proofs.Common.{◌-◌, ap, sym, ◌∙◌, is_some}
+use Rattle.ele_core.proofs.Words.{◌-◌, ap, sym, ◌∙◌, is_some, world_of, is_held, is_version}
 use Rattle.ele_core.proofs.ClosedSteps.{number_told}
 use Rattle.ele_core.proofs.Revived.{no_next, stamped, unheld}
-use Rattle.ele_core.specs.Inside.{world_of}
-use Rattle.ele_world.specs.World.{is_held, is_version}
 use Rattle.ele_core.proofs.restoring.has_last_version.Goals as goal
 
 pub returns-in_default : goal.returns-in_default

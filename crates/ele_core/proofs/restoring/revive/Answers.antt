@@ -1,14 +1,9 @@
-use Rattle.std.proofs.Common.{◌≡◌, ◌-◌, ◌&&◌, ◌||◌, not, refl, ap, ◌∙◌, arith}
-use Rattle.ele_core.specs.Queued.{is_new}
-use Rattle.ele_due.specs.HasKey.{has_key}
+use Rattle.ele_core.proofs.Words.{◌≡◌, ◌-◌, ◌&&◌, ◌||◌, not, refl, ap, ◌∙◌, arith, is_new, has_key, world_of, next_of, File}
 use Rattle.ele_core.proofs.Bounded.{rows_few}
 use Rattle.ele_core.proofs.ClosedSteps.{numbered, past}
 use Rattle.ele_core.proofs.ClosedSums.{added_fits, version_fits}
 use Rattle.ele_core.proofs.NewNames.{follows_new}
 use Rattle.ele_core.proofs.Revived.{revived_back, revived_owed, revived_queue, revived_refused, revived_rows, revived_there, version_short}
-use Rattle.ele_core.specs.Inside.{world_of}
-use Rattle.ele_world.specs.World.{next_of}
-use Rattle.ele_world.specs.declared.rows.Target.TheVariants.{File}
 use Rattle.ele_core.proofs.restoring.revive.Goals as goal
 
 pub next_number-requires : goal.next_number-requires

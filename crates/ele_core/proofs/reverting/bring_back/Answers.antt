@@ -1,15 +1,10 @@
-use Rattle.std.proofs.Common.{◌&&◌, ◌||◌, not, [], refl, sym, ap, ◌∙◌, arith}
+use Rattle.ele_core.proofs.Words.{◌&&◌, ◌||◌, not, [], refl, sym, ap, ◌∙◌, arith, world_of, is_new, new_keys, has_key, cells_of_version, may_grow}
 use Rattle.ele_core.proofs.Appended.{appended_queue, refused, taken_back}
 use Rattle.ele_core.proofs.Bounded.{rows_few, versions_few}
 use Rattle.ele_core.proofs.ClosedSteps.{numbered, past}
 use Rattle.ele_core.proofs.ClosedSums.{added_fits, version_fits}
 use Rattle.ele_core.proofs.Reverted.{became_rows, held_long, held_there, restored_owed}
 use Rattle.ele_core.proofs.Revived.{version_short}
-use Rattle.ele_core.specs.Inside.{world_of}
-use Rattle.ele_core.specs.Queued.{is_new, new_keys}
-use Rattle.ele_due.specs.HasKey.{has_key}
-use Rattle.ele_files.specs.Held.{cells_of_version}
-use Rattle.ele_world.proofs.AppendMoments.{may_grow}
 use Rattle.ele_core.proofs.reverting.bring_back.Goals as goal
 
 pub new_keys-keys-requires-clause-there : goal.new_keys-keys-requires-clause-there

@@ -1,8 +1,5 @@
-use Rattle.std.proofs.Common.{refl, sym, ◌∙◌}
+use Rattle.ele_core.proofs.Words.{refl, sym, ◌∙◌, world_of, Names, file_live, file_there}
 use Rattle.ele_core.proofs.Reverted.{is_numbered, numbered_held, reverted_step}
-use Rattle.ele_core.specs.Inside.{world_of}
-use Rattle.ele_world.specs.WellFormed.{Names}
-use Rattle.ele_world.proofs.Walks.{file_live, file_there}
 use Rattle.ele_core.proofs.reverting.revert.Goals as goal
 
 pub version_meant-meant-requires-clause-there : goal.version_meant-meant-requires-clause-there
