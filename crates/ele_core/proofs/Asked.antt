@@ -1,5 +1,5 @@
 -- What is told of one version, and of the first that are due.
-use Rattle.ele_core.proofs.Words.{is_some, ◌≡◌, ℕ, ◌==◌, Bool, true, false, ◌&&◌, List, cond, Option, Some, None, refl, ap, sym, ◌∙◌, arith, nat_le, option_and_then, slice_get, filter_map, option_map, option_map_or, nat_tests, world_of, IsSound, former_moment, gained_moment, Rows, Key, has_key, is_ripe_by, Held, Stamps, VersionRow, ripe_at, free_moment, newest_of, due_key, first_due, is_marked, GroupRow, stamps_of, World, is_open, policy_of, in_order_of, ripe_at_near, is_due_is, scan_members}
+use Rattle.ele_core.proofs.Words.{◌≡◌, ℕ, Bool, false, ◌&&◌, List, cond, Option, Some, None, refl, ap, sym, ◌∙◌, arith, nat_le, slice_get, filter_map, option_map, option_map_or, nat_tests, world_of, IsSound, former_moment, gained_moment, Rows, Key, has_key, is_ripe_by, Held, Stamps, ripe_at, free_moment, newest_of, due_key, first_due, is_marked, GroupRow, stamps_of, World, is_open, policy_of, in_order_of, ripe_at_near, is_due_is, scan_members}
 use Rattle.ele_due.specs.InOrder.{in_order}
 use Rattle.ele_due.specs.Key.{if_ripe}
 use Rattle.ele_world.specs.Due.{is_due}
@@ -21,16 +21,7 @@ first_is rows first sound is = sym (is rows.moment (filter_map (due_key (world_o
 
 -- a version is due where its key is ripe and in the queue
 pub due_by_key : (rows : Rows) (file number : ℕ) → IsSound rows → is_due (world_of rows) file number ≡ option_map_or (λ m. nat_le m rows.moment && has_key (record { ripe = m; file = file; number = number }) rows.queue) (ripe_at (world_of rows) file number) false
-due_by_key rows file number sound = is_due_is (world_of rows) file number sound.formed ∙ by (ripe_at (world_of rows) file number) refl where
-  by : (o : Option ℕ) → ripe_at (world_of rows) file number ≡ o → option_map_or (λ m. nat_le m rows.moment) o false ≡ option_map_or (λ m. nat_le m rows.moment && has_key (record { ripe = m; file = file; number = number }) rows.queue) o false
-  by None e = refl
-  by (Some m) e =
-      let itself : (m == m) ≡ true = grind (arith, nat_tests) in
-      let has : has_key (record { ripe = m; file = file; number = number }) rows.queue ≡ true = sound.tracked.queue (record { ripe = m; file = file; number = number }) ∙ rw e itself in
-      rw has (and_true (nat_le m rows.moment)) where
-        and_true : (b : Bool) → b ≡ (b && true)
-        and_true true = refl
-        and_true false = refl
+due_by_key rows file number sound = grind (arith, nat_tests, is_due_is (world_of rows) file number sound.formed)
 
 -- the ripe moment of a version, by whether a handle reads it
 pub ripe_told : (rows : Rows) (file number : ℕ) → IsSound rows → ripe_at (world_of rows) file number ≡ cond (is_open rows.files.handles file number) None (free_moment rows.groups rows.files.files rows.files.versions file number)
@@ -43,18 +34,8 @@ gained_by groups h file now number closed ended = cond (is_open h.handles file n
 
 pub former_told : (groups : List GroupRow) (h : Held) (file now : ℕ) (newest : Stamps) → option_map stamps_of (newest_of h.versions file) ≡ Some newest
     → former_moment groups h file now ≡ gained_by groups h file now newest.number newest.closed newest.ended
-former_told groups h file now newest told = by (newest_of h.versions file) told where
-  by : (o : Option VersionRow) → option_map stamps_of o ≡ Some newest → option_and_then (λ row. gained_by groups h file now row.number row.closed row.ended) o ≡ gained_by groups h file now newest.number newest.closed newest.ended
-  by None told = absurd cc
-  by (Some row) told = let same : stamps_of row ≡ newest = cc in ap (λ (s : Stamps). gained_by groups h file now s.number s.closed s.ended) same
+former_told groups h file now newest told = grind (arith, nat_tests)
 
 -- a file that isn't there has no policy, and so no moment
 pub ungoverned : (marks : ℕ → Option ℕ → Bool) (now closed : ℕ) (ended : Option ℕ) → gained_moment marks None now closed ended ≡ None
-ungoverned marks now closed None = none (marks closed (Some now)) where
-  none : (b : Bool) → ◌≡◌ {A = Option ℕ} (cond b None None) None
-  none true = refl
-  none false = refl
-ungoverned marks now closed (Some at) = none (marks closed (Some at)) where
-  none : (b : Bool) → ◌≡◌ {A = Option ℕ} (cond (is_some {T = ℕ} (cond b None None)) None (cond b None None)) None
-  none true = refl
-  none false = refl
+ungoverned marks now closed x3 = grind (arith, nat_tests)

@@ -1,5 +1,5 @@
 -- Where a name comes or moves, the keys stay.
-use Rattle.ele_core.proofs.Words.{◌≡◌, ℕ, true, false, Bool, List, [], ◌∷◌, ◌++◌, Some, refl, ap, sym, ◌∙◌, arith, is_some, false≢true, nat_tests, bytes_eq-Decides, IsQueued, Key, update_first, is_moment, born_row, dies, is_live_name, live_target, World, NameRow, Target, IsWellFormed, moments_stay, in_order_of}
+use Rattle.ele_core.proofs.Words.{◌≡◌, ℕ, false, List, [], ◌∷◌, ◌++◌, Some, ap, sym, ◌∙◌, arith, is_some, false≢true, nat_tests, bytes_eq-Decides, IsQueued, Key, update_first, is_moment, born_row, dies, is_live_name, live_target, World, NameRow, Target, IsWellFormed, moments_stay, in_order_of}
 use Rattle.ele_lists.proofs.Cuts.{update_first-front}
 
 -- the queue stays right where files and versions stay
@@ -12,14 +12,7 @@ module _ (rows : List NameRow) (from : ℕ) (old : List ℕ) (to : ℕ) (new : L
 
   -- a name that wasn't live isn't the one that was
   other_name : is_live_name from old named ≡ false
-  other_name = by (is_live_name from old named) refl where
-    by : (b : Bool) → is_live_name from old named ≡ b → b ≡ false
-    by false is = refl
-    by true is =
-        let same_directory : to ≡ from = grind (arith, nat_tests) in
-        let same_name : new ≡ old = (bytes_eq-Decides new old).0 (grind (arith, nat_tests)) in
-        let live = rw (same_directory, same_name, stands) at free in
-        absurd (false≢true (sym live))
+  other_name = grind (arith, nat_tests, bytes_eq-Decides new old, false≢true)
 
   -- so it may come before that one dies
   pub dies_before : update_first (is_live_name from old) (dies now) (rows ++ named ∷ []) ≡ update_first (is_live_name from old) (dies now) rows ++ named ∷ []

@@ -1,4 +1,4 @@
-use Rattle.ele_core.proofs.Words.{◌≡◌, ◌-◌, ◌&&◌, ◌||◌, not, refl, ap, ◌∙◌, arith, is_new, has_key, world_of, next_of, File}
+use Rattle.ele_core.proofs.Words.{nat_tests, ◌≡◌, ◌-◌, ◌&&◌, ◌||◌, not, refl, ap, ◌∙◌, arith, is_new, has_key, world_of, next_of, File}
 use Rattle.ele_core.proofs.Bounded.{rows_few}
 use Rattle.ele_core.proofs.ClosedSteps.{numbered, past}
 use Rattle.ele_core.proofs.ClosedSums.{added_fits, version_fits}
@@ -22,10 +22,7 @@ pub restore-restored-requires-clause-past : goal.restore-restored-requires-claus
 restore-restored-requires-clause-past c = past c.args.rows.now c.requires.sound
 
 pub add_version-requires : goal.add_version-requires
-add_version-requires c =
-    version_fits c.args.rows.now c.requires.sound c.version_bytes-bytes.result c.blocks-before.result
-    (version_short c.args.rows.now c.requires.sound c.args.file c.before-last.result c.version_bytes-bytes.result c.version_bytes-bytes.ensures.length)
-    c.blocks-before.ensures.value c.blocks-before.ensures.bound
+add_version-requires c = grind (arith, nat_tests, version_fits, version_short)
 
 pub follow_blocks-requires-clause-owed : goal.follow_blocks-requires-clause-owed
 follow_blocks-requires-clause-owed c =

@@ -1,4 +1,4 @@
-use Rattle.ele_core.proofs.Words.{◌&&◌, ◌||◌, not, [], refl, sym, ap, ◌∙◌, arith, world_of, is_new, new_keys, has_key, cells_of_version, may_grow}
+use Rattle.ele_core.proofs.Words.{nat_tests, ◌&&◌, ◌||◌, not, [], refl, sym, ap, ◌∙◌, arith, world_of, is_new, new_keys, has_key, cells_of_version, may_grow}
 use Rattle.ele_core.proofs.Appended.{appended_queue, refused, taken_back}
 use Rattle.ele_core.proofs.Bounded.{rows_few, versions_few}
 use Rattle.ele_core.proofs.ClosedSteps.{numbered, past}
@@ -37,10 +37,7 @@ returns-in-Err-clause-tracked c = rw c.in-Err.ensures.err (record {
 })
 
 pub add_version-requires : goal.add_version-requires
-add_version-requires c =
-    version_fits c.args.rows.now c.requires.sound c.args.stamps.now.length c.blocks-before.result
-    (version_short c.args.rows.now c.requires.sound c.args.file c.args.stamps.now.number c.args.stamps.now.length (held_long c.args.rows.now c.args.file c.args.stamps.now.number c.args.stamps.now c.requires.sound c.requires.held))
-    c.blocks-before.ensures.value c.blocks-before.ensures.bound
+add_version-requires c = grind (arith, nat_tests, version_fits, version_short, held_long)
 
 pub follow_blocks-requires-clause-owed : goal.follow_blocks-requires-clause-owed
 follow_blocks-requires-clause-owed c =
