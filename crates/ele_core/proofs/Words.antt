@@ -16,7 +16,7 @@ pub use Rattle.ele_usage.specs.Book.{Book, sums_of}
 pub use Rattle.ele_usage.specs.declared.usage.Usage.{Usage}
 pub use Rattle.ele_world.proofs.Allowed.{allowed, takes}
 pub use Rattle.ele_world.proofs.AppendMoments.{MayGrow, may_grow, newest_before, newest_is, newest_was, next_after, next_before, others_after, touches}
-pub use Rattle.ele_world.proofs.Basics.{AllByRecursion, AllLater, Bool, Err, IfSome, IsSome, List, None, Ok, Option, Result, Some, YieldsList-from_filter_map, [], all-both, all-found, all-weaker, any-found, ap, append-nil, append_assoc, arith, bytes_eq-Decides, cond, cons_option, drop, eqb, false, false≢true, filter, filter-all, filter-append, filter_map, filter_map-append, find, find-append, found_passes, get_or, inl, inr, insert_before, is_none, is_some, items_from_collect, length, length-insert_before, length-remove_first, length-update_first, list_any, list_any-append, map, nat_le, nat_lt, nat_tests, not, not_found, option_and_then, option_map, option_map_or, option_or, refl, remove_first, remove_first-unfound, rules, slice_get, subst, sym, take, take_more, tests, true, unwrap_or, update_first, ℕ, ◌&&◌, ◌++◌, ◌+◌, ◌-◌, ◌<◌, ◌==◌, ◌^◌, ◌||◌, ◌∙◌, ◌∷◌, ◌≡◌, ◌≤◌, ◌⊎◌}
+pub use Rattle.ele_world.proofs.Basics.{AllByRecursion, AllLater, Bool, Err, IsSome, List, None, Ok, Option, Result, Some, YieldsList-from_filter_map, [], all-both, all-found, all-weaker, any-found, ap, append-nil, append_assoc, arith, bytes_eq-Decides, cond, cons_option, drop, false, false≢true, filter, filter-all, filter-append, filter_map, filter_map-append, find, find-append, found_passes, get_or, insert_before, is_some, items_from_collect, length, length-insert_before, length-remove_first, length-update_first, list_any, list_any-append, map, nat_le, nat_lt, nat_tests, not, not_found, option_and_then, option_map, option_map_or, option_or, refl, remove_first, remove_first-unfound, rules, slice_get, subst, sym, take, take_more, tests, true, unwrap_or, update_first, ℕ, ◌&&◌, ◌++◌, ◌+◌, ◌-◌, ◌<◌, ◌==◌, ◌^◌, ◌||◌, ◌∙◌, ◌∷◌, ◌≡◌, ◌≤◌, ◌⊎◌}
 pub use Rattle.ele_world.proofs.Created.{created, first_version, made_is, named_live, new_file, new_name, versions_before}
 pub use Rattle.ele_world.proofs.Dropped.{dropped, stays_named}
 pub use Rattle.ele_world.proofs.DueRows.{IsDueKey, first_is_due}
@@ -34,7 +34,7 @@ pub use Rattle.ele_world.proofs.StepKeeps.{fresh_is, step_keeps}
 pub use Rattle.ele_world.proofs.Usages.{changes_opened, changes_removed, changes_updated, created_usage, only_at_is, usage_changes, usage_same, usages_fit, whole_bytes, whole_files, whole_versions, within_blocks, within_bytes, within_files, within_versions}
 pub use Rattle.ele_world.proofs.Views.{placed_of}
 pub use Rattle.ele_world.proofs.Walks.{file_live, file_of, file_there, last_names, live_target-push, target_live}
-pub use Rattle.ele_world.proofs.Words.{AddMark, AddMember, AddName, Append, AreApart, ArePlaced, Bounded, ChangesOnly, Counted, Directories, Drafts, DropGroup, DropIdle, EndDraft, EndFileName, EndName, Files, Fits, Groups, Handles, IsCleaned, IsDraft, IsEvent, IsFile, IsFinished, IsGroup, IsHandle, IsNameRow, IsPolicy, IsThere, IsVersion, IsWellFormed, IsWithin, MakeFile, MoveName, Names, OpenHandle, PutUnder, RemoveMark, RemoveMember, Revive, ShutHandle, StartDraft, Take, Versions, World, after_change, after_changes, alone, born_row, bytes_in, changed_by, clean_step, content_of, covers, covers_moment, current_cells, dies, directory_in, draft_read, due_key, ended_at, file_at, file_by, file_now, file_usage, file_written, first_due, fitted_by, forgotten, free_moment, fresh_world, governed_by, had_life, has_draft, has_key, is_directory, is_draft, is_draft_after, is_file, is_file_of, is_handle, is_held, is_idle, is_key, is_kind, is_live, is_live_name, is_live_name_of, is_marked, is_moment, is_named, is_open, is_ripe_by, is_target_file, is_version, is_version_after, is_version_of, kind_of, live_target, lives_at, longest_content, marks_of, members_of, moment_under, near_moment, new_draft, newest_of, next_of, next_version, nothing, only_at, parent_now, plus, policy_of, reads_by, reads_version, returning_name, ripe_at, ripe_in, root, step, target_at, usages, version_at, version_found, version_meant, view_of, walk_meant, walk_now, whole, with_end, with_name, with_version, without_file, without_name}
+pub use Rattle.ele_world.proofs.Words.{AddMark, AddMember, AddName, Append, AreApart, ArePlaced, Bounded, ChangesOnly, Counted, Directories, Drafts, DropGroup, DropIdle, EndDraft, EndFileName, EndName, Files, Fits, Groups, Handles, IsCleaned, IsEvent, IsFile, IsGroup, IsNameRow, IsPolicy, IsThere, IsWellFormed, IsWithin, MakeFile, MoveName, Names, OpenHandle, PutUnder, RemoveMark, RemoveMember, Revive, ShutHandle, StartDraft, Take, Versions, World, after_change, after_changes, alone, born_row, bytes_in, changed_by, clean_step, content_of, covers_moment, current_cells, dies, directory_in, draft_read, due_key, ended_at, file_at, file_by, file_now, file_usage, file_written, first_due, fitted_by, forgotten, free_moment, fresh_world, had_life, has_draft, has_key, is_draft, is_draft_after, is_file, is_file_of, is_held, is_idle, is_key, is_kind, is_live, is_live_name, is_live_name_of, is_marked, is_moment, is_open, is_ripe_by, is_target_file, is_version, is_version_after, is_version_of, kind_of, live_target, lives_at, longest_content, marks_of, members_of, moment_under, near_moment, new_draft, newest_of, next_of, next_version, nothing, only_at, parent_now, plus, policy_of, reads_by, reads_version, returning_name, ripe_at, root, step, target_at, usages, version_at, version_found, version_meant, view_of, walk_meant, walk_now, whole, with_end, with_name, with_version, without_file, without_name}
 pub use Rattle.ele_world.specs.Plan.{found_outcome}
 pub use Rattle.ele_world.specs.Step.{has_other_writer, version_cells, versions_made}
 pub use Rattle.ele_world.specs.Tagged.{moment_of, walk_then}
