@@ -1,7 +1,6 @@
 -- Which keys the versions have, once a file has its next version: two came, and all others stayed.
-use Rattle.ele_core.proofs.Words.{◌≡◌, ℕ, ◌==◌, Bool, true, false, cond, not, ◌&&◌, ◌||◌, List, Option, Some, None, refl, ap, sym, ◌∙◌, arith, unwrap_or, option_and_then, AllByRecursion, option_map_or, false≢true, nat_tests, Cell, NewKeys, IsQueued, is_entry, is_new, gained_moment, own_moment, new_keys, Key, has_key, rows_of, all-found, Policy, IsPolicy, alone, FileRow, VersionRow, with_version, ripe_at, is_moment, near_moment, newest_of, is_marked, World, is_live, is_open, next_of, policy_of, MayGrow, touches, next_before, next_after, newest_before, newest_was, newest_is, others_after}
+use Rattle.ele_core.proofs.Words.{◌≡◌, ℕ, ◌==◌, Bool, true, false, cond, not, ◌&&◌, ◌||◌, List, Option, Some, None, refl, ap, sym, ◌∙◌, arith, unwrap_or, option_and_then, AllByRecursion, option_map_or, false≢true, nat_tests, Cell, NewKeys, IsQueued, is_entry, is_new, gained_moment, own_moment, new_keys, Key, has_key, rows_of, all-found, Policy, IsPolicy, FileRow, VersionRow, with_version, ripe_at, is_moment, near_moment, newest_of, is_marked, World, is_live, is_open, next_of, policy_of, MayGrow, touches, next_before, next_after, newest_before, newest_was, newest_is, others_after}
 use Rattle.ele_core.proofs.Following.{follows}
-use Rattle.ele_policy.specs.Ripe.{ripe_by}
 use Rattle.ele_policy.proofs.Waits.{ripe_keeps}
 
 or_false : (b : Bool) → (b || false) ≡ b
@@ -20,10 +19,6 @@ policy_is files file policy all is = grind (arith, nat_tests, all-found)
 record IsGained (m : ℕ) (was came is : Option ℕ) : Type 0 where
   is_now : is_moment m is ≡ (is_moment m came || is_moment m was)
   wasnt : is_moment m came ≡ true → is_moment m was ≡ false
-
--- the moment of one that is marked or not
-abbrev near : Bool → Option Policy → ℕ → ℕ → Option ℕ → Option ℕ
-near b policy closed ended nearest = cond b None (option_and_then (λ p. ripe_by p closed (alone nearest) ended) policy)
 
 gained : (marks : ℕ → Option ℕ → Bool) (policy : Option Policy) (now closed m : ℕ) (ended : Option ℕ) → ((p : Policy) → policy ≡ Some p → IsPolicy p)
     → IsGained m (option_and_then (near_moment marks policy None closed) ended) (gained_moment marks policy now closed ended) (near_moment marks policy (Some now) closed (unwrap_or ended now))

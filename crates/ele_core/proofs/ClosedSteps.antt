@@ -1,6 +1,5 @@
 -- What closing a handle leaves, as the step of the world has it.
-use Rattle.ele_core.proofs.Words.{◌≡◌, ◌≤◌, ◌<◌, ◌^◌, ℕ, List, Bool, true, false, cond, [], ◌∷◌, length, is_some, Option, Some, None, Result, Ok, refl, ap, sym, ◌∙◌, arith, find, false≢true, AllByRecursion, option_and_then, option_map, option_map_or, result_ok, nat_tests, content_of, IsSound, NewKeys, IsQueued, gained_moment, new_keys, told_by, Rows, Key, changed_opening, finishing, last_draft, leaving, left_by, left_of, opening_by, IsPast, Held, changed_at, rows_of, with_rows, found_passes, all-found, all-weaker, is_marked, Close, Refusal, Reply, Closed, DraftRow, FileRow, Draft, Version, VersionRow, EndDraft, ShutHandle, Append, DropIdle, after_change, after_changes, found_outcome, draft_read, has_other_writer, step, Counted, Drafts, Files, Handles, Versions, IsWellFormed, ChangesOnly, dropped, all_keep, drafts-removed, World, file_by, file_written, has_draft, is_draft, is_open, next_of, policy_of, reads_by, is_moment, newest_of, AreInOrder, in_order_of, open_still, shut_others, has_row}
-use Rattle.std.specs.Option.{ForSome}
+use Rattle.ele_core.proofs.Words.{◌≡◌, ◌<◌, ◌^◌, ℕ, List, Bool, true, false, cond, [], ◌∷◌, length, is_some, Option, Some, None, Result, Ok, refl, ap, sym, ◌∙◌, arith, find, false≢true, AllByRecursion, option_and_then, option_map, option_map_or, result_ok, nat_tests, content_of, IsSound, NewKeys, IsQueued, gained_moment, new_keys, told_by, Rows, Key, changed_opening, finishing, last_draft, leaving, left_by, left_of, opening_by, IsPast, Held, changed_at, rows_of, with_rows, found_passes, all-found, all-weaker, is_marked, Close, Refusal, Reply, Closed, DraftRow, FileRow, Draft, VersionRow, EndDraft, ShutHandle, Append, DropIdle, after_change, after_changes, found_outcome, draft_read, has_other_writer, step, Counted, Drafts, Files, Handles, Versions, IsWellFormed, ChangesOnly, dropped, all_keep, drafts-removed, World, file_by, file_written, has_draft, is_draft, is_open, next_of, policy_of, reads_by, is_moment, newest_of, AreInOrder, in_order_of, open_still, shut_others, has_row}
 use Rattle.ele_world.specs.declared.rows.Reads.{Reads}
 
 -- the step, by what the file's draft is, and by the file that the handle writes
@@ -15,10 +14,6 @@ file_step w handle file = cond (has_other_writer w handle file) (Closed None, af
 
 abbrev close_of : World → ℕ → Result Reads Refusal → Reply × World
 close_of w handle found = found_outcome w found (λ read. option_map_or (file_step w handle) (draft_read read) (Closed None, after_changes w (ShutHandle handle ∷ [])))
-
--- a handle that reads a version just goes
-pub unread_step : (w : World) (handle file number : ℕ) → reads_by w.handles handle ≡ Ok (Version file number) → step w (Close handle) ≡ (Closed None, after_change w (ShutHandle handle))
-unread_step w handle file number reads = ap (close_of w handle) reads
 
 -- one that reads a draft writes the file
 pub writes_file : (w : World) (handle file : ℕ) → reads_by w.handles handle ≡ Ok (Draft file) → file_by w.handles handle ≡ Ok file
@@ -145,7 +140,3 @@ past rows sound = grind (arith, nat_tests, all-weaker, sound.formed.holds Versio
 
 pub numbered : (rows : Rows) → IsSound rows → AllByRecursion (λ row. row.next < 2 ^ 62) rows.files.files
 numbered rows sound = grind (arith, nat_tests, all-weaker, sound.formed.holds Counted, sound.formed.holds Files)
-
--- a version that is found closed by now
-pub former_past : (rows : Rows) → IsSound rows → (p : VersionRow → Bool) → ForSome (find p rows.files.versions) (λ row. row.closed ≤ rows.moment)
-former_past rows sound p row found = grind (arith, nat_tests, all-found p (IsPast rows.moment) rows.files.versions row found (past rows sound), past rows sound)

@@ -83,10 +83,6 @@ key_told left groups h file mark stamps = by (find (had_life file mark) h.versio
       ≡ option_map (λ m. record { ripe = m; file = file; number = stamps.number }) (moment_but left groups h file stamps.number stamps.closed stamps.ended)
   by x0 told = grind (arith, nat_tests)
 
--- and where none lived then there is no key
-pub no_key : (left : Option Left) (groups : List GroupRow) (h : Held) (file mark : ℕ) → option_map stamps_of (find (had_life file mark) h.versions) ≡ None → key_at left groups h file mark ≡ None
-no_key left groups h file mark = grind (arith, nat_tests)
-
 module _ (left : Option Left) (groups : List GroupRow) (h : Held) (placed : AllLater ArePlaced h.versions) (k : Key) where
   -- the key is that of the version by its moment
   abbrev has_moment : ℕ → VersionRow → Bool
