@@ -1,45 +1,17 @@
 -- Which keys the versions have, once a file has its next version: two came, and all others stayed.
-use Rattle.std.proofs.Common.{◌≡◌, ℕ, ◌==◌, Bool, true, false, cond, not, ◌&&◌, ◌||◌, List, Option, Some, None, refl, ap, sym, ◌∙◌, arith}
-use Rattle.std.specs.Prelude.{find, is_some, unwrap_or, option_and_then}
-use Rattle.std.specs.List.{AllByRecursion}
-use Rattle.std.specs.Option.{option_map, option_map_or}
-use Rattle.std.proofs.lemmas.Bool.{false≢true}
-use Rattle.std.proofs.lemmas.Bool.Decides.{nat_tests}
-use Rattle.ele_content.specs.declared.cell.Cell.{Cell}
+use Rattle.ele_core.proofs.Words.{◌≡◌, ℕ, ◌==◌, Bool, true, false, cond, not, ◌&&◌, ◌||◌, List, Option, Some, None, refl, ap, sym, ◌∙◌, arith, unwrap_or, option_and_then, AllByRecursion, option_map_or, false≢true, nat_tests, Cell, NewKeys, IsQueued, is_entry, is_new, gained_moment, own_moment, new_keys, Key, has_key, rows_of, all-found, Policy, IsPolicy, FileRow, VersionRow, with_version, ripe_at, is_moment, near_moment, newest_of, is_marked, World, is_live, is_open, next_of, policy_of, MayGrow, touches, next_before, next_after, newest_before, newest_was, newest_is, others_after}
 use Rattle.ele_core.proofs.Following.{follows}
-use Rattle.ele_core.specs.declared.keys.NewKeys.{NewKeys}
-use Rattle.ele_core.specs.Queued.{IsQueued, is_entry, is_new, gained_moment, own_moment, new_keys}
-use Rattle.ele_due.specs.declared.key.Key.{Key}
-use Rattle.ele_due.specs.HasKey.{has_key}
-use Rattle.ele_files.specs.Held.{rows_of}
-use Rattle.ele_lists.proofs.Edits.{all-found}
-use Rattle.ele_policy.specs.declared.policy.Policy.{Policy}
-use Rattle.ele_policy.specs.Policy.{IsPolicy}
-use Rattle.ele_policy.specs.Ripe.{alone, ripe_by}
 use Rattle.ele_policy.proofs.Waits.{ripe_keeps}
-use Rattle.ele_world.specs.declared.rows.FileRow.{FileRow}
-use Rattle.ele_world.specs.declared.rows.VersionRow.{VersionRow}
-use Rattle.ele_world.specs.Change.{with_version}
-use Rattle.ele_world.specs.Due.{ripe_at}
-use Rattle.ele_world.specs.Neighbours.{is_moment, near_moment, newest_of}
-use Rattle.ele_world.specs.GroupRows.{is_marked}
-use Rattle.ele_world.specs.World.{World, is_file, is_live, is_open, next_of, policy_of}
-use Rattle.ele_world.proofs.AppendMoments.{MayGrow, touches, next_before, next_after, newest_before, newest_was, newest_is, others_after}
 
 or_false : (b : Bool) → (b || false) ≡ b
-or_false true = refl
-or_false false = refl
+or_false x0 = grind (arith, nat_tests)
 
 and_false : (b : Bool) → (b && false) ≡ false
-and_false true = refl
-and_false false = refl
+and_false x0 = grind (arith, nat_tests)
 
 -- the policy that a file has is one
 pub policy_is : (files : List FileRow) (file : ℕ) (policy : Policy) → AllByRecursion (λ row. IsPolicy row.policy) files → policy_of files file ≡ Some policy → IsPolicy policy
-policy_is files file policy all is = by (find (is_file file) files) refl is where
-  by : (o : Option FileRow) → find (is_file file) files ≡ o → option_map (λ (row : FileRow). row.policy) o ≡ Some policy → IsPolicy policy
-  by None e is = absurd cc
-  by (Some row) e is = let same : row.policy ≡ policy = cc in rw (← same) (all-found (is_file file) (λ row. IsPolicy row.policy) files row e all)
+policy_is files file policy all is = grind (arith, nat_tests, all-found)
 
 -- ---- what the newest version gets
 
@@ -48,22 +20,9 @@ record IsGained (m : ℕ) (was came is : Option ℕ) : Type 0 where
   is_now : is_moment m is ≡ (is_moment m came || is_moment m was)
   wasnt : is_moment m came ≡ true → is_moment m was ≡ false
 
--- the moment of one that is marked or not
-abbrev near : Bool → Option Policy → ℕ → ℕ → Option ℕ → Option ℕ
-near b policy closed ended nearest = cond b None (option_and_then (λ p. ripe_by p closed (alone nearest) ended) policy)
-
 gained : (marks : ℕ → Option ℕ → Bool) (policy : Option Policy) (now closed m : ℕ) (ended : Option ℕ) → ((p : Policy) → policy ≡ Some p → IsPolicy p)
     → IsGained m (option_and_then (near_moment marks policy None closed) ended) (gained_moment marks policy now closed ended) (near_moment marks policy (Some now) closed (unwrap_or ended now))
-gained marks policy now closed m None given = record { is_now = sym (or_false _); wasnt = λ h. refl }
-gained marks policy now closed m (Some e) given = by (marks closed (Some e)) policy given where
-  by : (b : Bool) (policy : Option Policy) → ((p : Policy) → policy ≡ Some p → IsPolicy p)
-      → IsGained m (near b policy closed e None) (cond (is_some (near b policy closed e None)) None (near b policy closed e (Some now))) (near b policy closed e (Some now))
-  by true policy given = record { is_now = refl; wasnt = λ h. refl }
-  by false None given = record { is_now = refl; wasnt = λ h. refl }
-  by false (Some p) given = on (near false (Some p) closed e None) refl where
-    on : (o : Option ℕ) → near false (Some p) closed e None ≡ o → IsGained m o (cond (is_some o) None (near false (Some p) closed e (Some now))) (near false (Some p) closed e (Some now))
-    on None is = record { is_now = sym (or_false _); wasnt = λ h. refl }
-    on (Some x) is = rw (ripe_keeps p closed e x now (given p refl) is) (record { is_now = refl; wasnt = λ h. absurd (false≢true h) })
+gained marks policy now closed m x5 given = grind (arith, nat_tests, or_false, ripe_keeps, false≢true)
 
 module _ (w : World) (file opened : ℕ) (cells : List Cell) (k : MayGrow w file) where
   abbrev next : ℕ
@@ -99,28 +58,11 @@ module _ (w : World) (file opened : ℕ) (cells : List Cell) (k : MayGrow w file
   module _ (queue after : List Key) (queued : IsQueued w queue) where
     -- the new version's key
     its_own : (j : Key) (a c : Bool) → (j.file == file) ≡ a → (j.number == next) ≡ c → (((a && c) && is_moment j.ripe own) || has_key j queue) ≡ cond (a && c) (is_moment j.ripe (ripe_at appended j.file j.number)) (has_key j queue)
-    its_own j false c f n = refl
-    its_own j true false f n = refl
-    its_own j true true f n =
-        let file_is : j.file ≡ file = grind (arith, nat_tests) in
-        let number_is : j.number ≡ next = grind (arith, nat_tests) in
-        rw (queued j, file_is, number_is, next_before w file opened cells k, next_after w file opened cells k) (or_false (is_moment j.ripe own))
+    its_own j x1 c f n = grind (arith, nat_tests, next_before w file opened cells k, next_after w file opened cells k, or_false (is_moment j.ripe own))
 
     -- and the newest one's
     has_now : (j : Key) (newest : Option VersionRow) → newest_of w.versions file ≡ newest → (comes_with newest j || has_key j queue) ≡ cond (touched_with newest j.file j.number) (is_moment j.ripe (ripe_at appended j.file j.number)) (has_key j queue)
-    has_now j None e =
-        rw (and_false ((j.file == file) && (j.number == 0)), or_false (j.number == next)) (its_own j (j.file == file) (j.number == next) refl refl)
-    has_now j (Some row) e = by (j.file == file) (j.number == row.number) (j.number == next) refl refl refl where
-      by : (a b c : Bool) → (j.file == file) ≡ a → (j.number == row.number) ≡ b → (j.number == next) ≡ c
-          → ((((a && b) && is_moment j.ripe (came row)) || ((a && c) && is_moment j.ripe own)) || has_key j queue) ≡ cond (a && (c || b)) (is_moment j.ripe (ripe_at appended j.file j.number)) (has_key j queue)
-      by false b c f l n = refl
-      by true false false f l n = refl
-      by true false true f l n = its_own j true true f n
-      by true true true f l n = absurd (let less = newest_before w file opened cells k row e in let no : false ≡ true = grind (arith, nat_tests) in false≢true no)
-      by true true false f l n =
-          let file_is : j.file ≡ file = grind (arith, nat_tests) in
-          let number_is : j.number ≡ row.number = grind (arith, nat_tests) in
-          rw (or_false (is_moment j.ripe (came row)), queued j, file_is, number_is) (sym (newest_gains row j.ripe e).is_now)
+    has_now j x1 e = grind (arith, nat_tests, and_false, or_false, its_own, newest_before, false≢true, newest_gains)
 
     -- with the keys that come it has those of all versions
     pub appended_queue : ((j : Key) → has_key j after ≡ (comes j || has_key j queue)) → IsQueued appended after
@@ -156,8 +98,7 @@ module _ (w : World) (file opened : ℕ) (cells : List Cell) (k : MayGrow w file
     pub taken_back : ((j : Key) → has_key j after ≡ (not (comes j) && (comes j || has_key j queue))) → IsQueued w after
     taken_back edited j = edited j ∙ back (comes j) (has_key j queue) (comes_absent j) ∙ queued j where
       back : (e q : Bool) → (e ≡ true → q ≡ false) → (not e && (e || q)) ≡ q
-      back true q absent = sym (absent refl)
-      back false q absent = refl
+      back x0 q absent = grind (arith, nat_tests)
 
     abbrev keys : NewKeys
     keys = new_keys w.groups (rows_of w) file w.now (is_live w file)

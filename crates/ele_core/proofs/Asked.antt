@@ -1,28 +1,9 @@
 -- What is told of one version, and of the first that are due.
-use Rattle.std.proofs.Common.{is_some, ◌≡◌, ℕ, ◌==◌, Bool, true, false, ◌&&◌, List, cond, Option, Some, None, refl, ap, sym, ◌∙◌, arith}
-use Rattle.std.specs.Prelude.{nat_le, option_and_then, slice_get}
-use Rattle.std.specs.List.{filter_map}
-use Rattle.std.specs.Option.{option_map, option_map_or}
-use Rattle.std.proofs.lemmas.Bool.Decides.{nat_tests}
-use Rattle.ele_core.specs.Inside.{world_of, IsSound}
-use Rattle.ele_core.specs.Queued.{former_moment, gained_moment}
-use Rattle.ele_core.specs.declared.rows.Rows.{Rows}
-use Rattle.ele_due.specs.declared.key.Key.{Key}
-use Rattle.ele_due.specs.HasKey.{has_key}
+use Rattle.ele_core.proofs.Words.{◌≡◌, ℕ, Bool, false, ◌&&◌, List, cond, Option, Some, None, refl, ap, sym, ◌∙◌, arith, nat_le, slice_get, filter_map, option_map, option_map_or, nat_tests, world_of, IsSound, former_moment, gained_moment, Rows, Key, has_key, is_ripe_by, Held, Stamps, ripe_at, free_moment, newest_of, due_key, first_due, is_marked, GroupRow, stamps_of, World, is_open, policy_of, in_order_of, ripe_at_near, is_due_is, scan_members}
 use Rattle.ele_due.specs.InOrder.{in_order}
-use Rattle.ele_due.specs.Key.{is_ripe_by, if_ripe}
-use Rattle.ele_files.specs.Held.{Held}
-use Rattle.ele_world.specs.declared.rows.Stamps.{Stamps}
-use Rattle.ele_world.specs.declared.rows.VersionRow.{VersionRow}
-use Rattle.ele_world.specs.Due.{is_due, ripe_at}
-use Rattle.ele_world.specs.Neighbours.{free_moment, newest_of}
-use Rattle.ele_world.specs.Scan.{due_key, scan, first_due}
-use Rattle.ele_world.specs.GroupRows.{is_marked}
-use Rattle.ele_world.specs.declared.rows.GroupRow.{GroupRow}
-use Rattle.ele_world.specs.Told.{stamps_of}
-use Rattle.ele_world.specs.World.{World, is_open, policy_of}
-use Rattle.ele_world.proofs.Neighbours.{in_order_of, ripe_at_near}
-use Rattle.ele_world.proofs.RipeAt.{is_due_is, scan_members}
+use Rattle.ele_due.specs.Key.{if_ripe}
+use Rattle.ele_world.specs.Due.{is_due}
+use Rattle.ele_world.specs.Scan.{scan}
 
 -- the due rows have the keys of the queue that are ripe
 pub due_keys : (rows : Rows) → IsSound rows → (k : Key) → has_key k (filter_map (due_key (world_of rows)) rows.files.versions) ≡ (is_ripe_by rows.moment k && has_key k rows.queue)
@@ -40,16 +21,7 @@ first_is rows first sound is = sym (is rows.moment (filter_map (due_key (world_o
 
 -- a version is due where its key is ripe and in the queue
 pub due_by_key : (rows : Rows) (file number : ℕ) → IsSound rows → is_due (world_of rows) file number ≡ option_map_or (λ m. nat_le m rows.moment && has_key (record { ripe = m; file = file; number = number }) rows.queue) (ripe_at (world_of rows) file number) false
-due_by_key rows file number sound = is_due_is (world_of rows) file number sound.formed ∙ by (ripe_at (world_of rows) file number) refl where
-  by : (o : Option ℕ) → ripe_at (world_of rows) file number ≡ o → option_map_or (λ m. nat_le m rows.moment) o false ≡ option_map_or (λ m. nat_le m rows.moment && has_key (record { ripe = m; file = file; number = number }) rows.queue) o false
-  by None e = refl
-  by (Some m) e =
-      let itself : (m == m) ≡ true = grind (arith, nat_tests) in
-      let has : has_key (record { ripe = m; file = file; number = number }) rows.queue ≡ true = sound.tracked.queue (record { ripe = m; file = file; number = number }) ∙ rw e itself in
-      rw has (and_true (nat_le m rows.moment)) where
-        and_true : (b : Bool) → b ≡ (b && true)
-        and_true true = refl
-        and_true false = refl
+due_by_key rows file number sound = grind (arith, nat_tests, is_due_is (world_of rows) file number sound.formed)
 
 -- the ripe moment of a version, by whether a handle reads it
 pub ripe_told : (rows : Rows) (file number : ℕ) → IsSound rows → ripe_at (world_of rows) file number ≡ cond (is_open rows.files.handles file number) None (free_moment rows.groups rows.files.files rows.files.versions file number)
@@ -62,18 +34,8 @@ gained_by groups h file now number closed ended = cond (is_open h.handles file n
 
 pub former_told : (groups : List GroupRow) (h : Held) (file now : ℕ) (newest : Stamps) → option_map stamps_of (newest_of h.versions file) ≡ Some newest
     → former_moment groups h file now ≡ gained_by groups h file now newest.number newest.closed newest.ended
-former_told groups h file now newest told = by (newest_of h.versions file) told where
-  by : (o : Option VersionRow) → option_map stamps_of o ≡ Some newest → option_and_then (λ row. gained_by groups h file now row.number row.closed row.ended) o ≡ gained_by groups h file now newest.number newest.closed newest.ended
-  by None told = absurd cc
-  by (Some row) told = let same : stamps_of row ≡ newest = cc in ap (λ (s : Stamps). gained_by groups h file now s.number s.closed s.ended) same
+former_told groups h file now newest told = grind (arith, nat_tests)
 
 -- a file that isn't there has no policy, and so no moment
 pub ungoverned : (marks : ℕ → Option ℕ → Bool) (now closed : ℕ) (ended : Option ℕ) → gained_moment marks None now closed ended ≡ None
-ungoverned marks now closed None = none (marks closed (Some now)) where
-  none : (b : Bool) → ◌≡◌ {A = Option ℕ} (cond b None None) None
-  none true = refl
-  none false = refl
-ungoverned marks now closed (Some at) = none (marks closed (Some at)) where
-  none : (b : Bool) → ◌≡◌ {A = Option ℕ} (cond (is_some {T = ℕ} (cond b None None)) None (cond b None None)) None
-  none true = refl
-  none false = refl
+ungoverned marks now closed x3 = grind (arith, nat_tests)

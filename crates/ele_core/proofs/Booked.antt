@@ -1,33 +1,6 @@
 -- The book of usage, as the files change.
-use Rattle.std.proofs.Common.{◌≡◌, ℕ, ◌+◌, ◌-◌, ◌<◌, ◌≤◌, ◌^◌, Bool, true, false, cond, eqb, List, [], ◌∷◌, ◌++◌, length, Some, Result, Ok, refl, ap, sym, subst, ◌∙◌, arith}
-use Rattle.std.specs.List.{list_any, sum_by}
-use Rattle.std.specs.Result.{result_ok}
-use Rattle.ele_core.specs.Inside.{world_of, IsSound, IsTracked}
-use Rattle.ele_core.specs.Tracked.{told, told_by, blocks_of, only_blocks, IsOwed, IsBooked}
-use Rattle.ele_core.specs.declared.rows.Rows.{Rows}
-use Rattle.ele_content.specs.Content.{content_of, cells_after_truncate}
-use Rattle.ele_files.specs.Held.{Held, changed_at, rows_after, rows_of, opened_by, written_by, written_of, fitted, fitted_of}
-use Rattle.ele_lists.specs.Lists.{update_first, insert_before}
-use Rattle.ele_lists.proofs.Sums.{sum_by-map}
-use Rattle.ele_policy.specs.declared.policy.Kind.{Kind}
-use Rattle.ele_policy.specs.declared.policy.Kind.TheVariants as kind
-use Rattle.ele_policy.specs.declared.policy.Policy.{Policy}
-use Rattle.ele_policy.specs.Policy.{kind_of, is_kind}
-use Rattle.ele_usage.specs.declared.usage.Usage.{Usage}
-use Rattle.ele_usage.specs.Book.{Book, sums_of}
-use Rattle.ele_usage.specs.OnlyAt.{only_at}
-use Rattle.ele_usage.specs.Sums.{nothing, plus, Fits}
-use Rattle.ele_world.specs.Usage.{usage_of, is_file_of, bytes_in}
-use Rattle.ele_world.specs.Whole.{whole, ChangesOnly}
-use Rattle.ele_world.specs.declared.rows.DraftRow.{DraftRow}
-use Rattle.ele_world.specs.declared.rows.VersionRow.{VersionRow}
-use Rattle.ele_world.specs.Change.{MakeFile, OpenHandle, StartDraft, changed_by, fitted_by, new_draft}
-use Rattle.ele_world.proofs.Created.{created, made_is}
+use Rattle.ele_core.proofs.Words.{nat_tests, ◌≡◌, ℕ, ◌+◌, ◌-◌, ◌<◌, ◌≤◌, ◌^◌, Bool, true, cond, List, [], ◌∷◌, ◌++◌, length, Some, Result, Ok, refl, ap, sym, subst, ◌∙◌, arith, list_any, sum_by, result_ok, world_of, IsSound, IsTracked, told, told_by, blocks_of, only_blocks, IsOwed, IsBooked, Rows, content_of, Held, changed_at, rows_after, rows_of, opened_by, written_by, written_of, fitted, fitted_of, update_first, insert_before, sum_by-map, Kind, Policy, kind_of, is_kind, Usage, Book, sums_of, only_at, nothing, plus, Fits, usage_of, is_file_of, bytes_in, whole, ChangesOnly, DraftRow, VersionRow, MakeFile, OpenHandle, StartDraft, changed_by, fitted_by, new_draft, created, made_is, Draft, Refusal, World, policy_of, next_of, is_draft, is_draft_after, file_by, usage_changes, usage_same, within_files, within_versions, within_bytes, within_blocks, whole_files, whole_versions, whole_bytes, changes_opened, changes_updated, created_usage, only_at_is}
 use Rattle.ele_world.proofs.Opened.{opened, with_draft}
-use Rattle.ele_world.specs.declared.rows.Reads.TheVariants.{Draft}
-use Rattle.ele_world.specs.declared.refusal.Refusal.{Refusal}
-use Rattle.ele_world.specs.World.{World, policy_of, next_of, is_draft, is_draft_after, file_by}
-use Rattle.ele_world.proofs.Usages.{usage_changes, usage_same, within_files, within_versions, within_bytes, within_blocks, whole_files, whole_versions, whole_bytes, changes_opened, changes_updated, created_usage, only_at_is}
 
 -- what a kind may use, but for its blocks
 pub record IsFew (u : Usage) : Type 0 where
@@ -53,9 +26,7 @@ pub few_blocks : (rows : Rows) → IsTracked rows → (k : Kind) → (sums_of ro
 few_blocks rows tracked k = rw (tracked.book k) (within_blocks (told_by rows.files) k)
 
 pub fits : (rows : Rows) → IsSound rows → (k : Kind) → Fits (record (sums_of rows.book k) { blocks = 0 })
-fits rows sound k =
-    let u = few rows sound k in
-    record { files = omega (arith, u.files); versions = omega (arith, u.versions); bytes = omega (arith, u.bytes); blocks = omega arith }
+fits rows sound k = grind (arith, nat_tests, few rows sound k)
 
 -- ---- the bytes of versions are a sum
 
@@ -95,17 +66,7 @@ owed file h now book cv cb gv gb changes versions bytes known k =
     let moved = subst (λ d. plus (usage_of v k) (cond d (whole w) nothing) ≡ plus (usage_of w k) (cond d (whole v) nothing)) (sym kinds) (usage_changes file w v changes k) in
     by (is_file_of now.files k file) (usage_of v k) (usage_of w k) (sums_of book k) moved (known k) where
       by : (d : Bool) (x u s : Usage) → plus x (cond d (whole (told_by h)) nothing) ≡ plus u (cond d (whole (told_by now)) nothing) → plus s (cond d (some_versions gv gb) nothing) ≡ plus u (cond d (some_versions cv cb) nothing) → plus x (cond d (only_blocks (blocks_of h)) nothing) ≡ plus s (cond d (only_blocks (blocks_of now)) nothing)
-      by false x u s e f = e ∙ sym f
-      by true x u s e f =
-          let e1 : x.files + 0 ≡ u.files + 0 = ap (λ (t : Usage). t.files) e in
-          let e2 : x.versions + length h.versions ≡ u.versions + length now.versions = ap (λ (t : Usage). t.versions) e in
-          let e3 : x.bytes + bytes_in h.versions ≡ u.bytes + bytes_in now.versions = ap (λ (t : Usage). t.bytes) e in
-          let e4 : x.blocks + blocks_of h ≡ u.blocks + blocks_of now = ap (λ (t : Usage). t.blocks) e in
-          let f1 : s.files + 0 ≡ u.files + 0 = ap (λ (t : Usage). t.files) f in
-          let f2 : s.versions + gv ≡ u.versions + cv = ap (λ (t : Usage). t.versions) f in
-          let f3 : s.bytes + gb ≡ u.bytes + cb = ap (λ (t : Usage). t.bytes) f in
-          let f4 : s.blocks + 0 ≡ u.blocks + 0 = ap (λ (t : Usage). t.blocks) f in
-          same_usage _ _ (omega (arith, e1, f1)) (omega (arith, e2, f2, versions)) (omega (arith, e3, f3, bytes)) (omega (arith, e4, f4))
+      by x0 x u s e f = grind (arith, nat_tests, same_usage)
 
 -- where versions and their bytes are the same
 pub drafts_owed : (rows : Rows) (file : ℕ) (now : Held) (before : ℕ) → IsTracked rows → before ≡ blocks_of rows.files → now.versions ≡ rows.files.versions → ChangesOnly file (told_by rows.files) (told_by now) → IsOwed now rows.book file before
@@ -130,8 +91,7 @@ opened_owed rows file now before tracked is after =
       number = rows.files.opened + 1
 
       either : (b : Bool) → changed_at rows.files rows.moment (cond b (OpenHandle number (Draft file) ∷ []) (StartDraft file ∷ OpenHandle number (Draft file) ∷ [])) ≡ record (with_handle rows file) { drafts = cond b rows.files.drafts (insert_before (is_draft_after file) (new_draft (world_of rows) file) rows.files.drafts) }
-      either true = refl
-      either false = refl
+      either x0 = grind (arith, nat_tests)
 
 -- a draft is changed
 pub updated_owed : (rows : Rows) (file : ℕ) (now : Held) (before : ℕ) (f : DraftRow → DraftRow) → ((row : DraftRow) → (f row).file ≡ row.file) → IsTracked rows → before ≡ blocks_of rows.files → now ≡ record rows.files { drafts = update_first (is_draft file) f rows.files.drafts } → IsOwed now rows.book file before
@@ -144,10 +104,7 @@ nothing_owed : (rows : Rows) (file before : ℕ) → IsTracked rows → before �
 nothing_owed rows file before tracked is = drafts_owed rows file rows.files before tracked is refl (record { kinds = λ k id. refl; files = λ k. refl; versions = refl; drafts = refl })
 
 fitted_file : (number size : ℕ) (row : DraftRow) → (fitted_by number size row).file ≡ row.file
-fitted_file number size row = elim (eqb (length (content_of row.cells)) size) as (λ b. (cond b row (record row { cells = cells_after_truncate number size row.cells; changed = true })).file ≡ row.file) [
-  | true ↦ refl
-  | false ↦ refl
-]
+fitted_file number size row = grind (arith, nat_tests)
 
 -- bytes are written
 pub written_owed : (rows : Rows) (handle file offset : ℕ) (bytes : List ℕ) (now : Held) (before : ℕ) → IsTracked rows → Ok file ≡ file_by rows.files.handles handle → before ≡ blocks_of rows.files → now ≡ written_by rows.files handle offset bytes → IsOwed now rows.book file before
@@ -164,9 +121,7 @@ fitted_owed rows handle file size now before tracked of is after =
 -- ---- a file is made
 
 pub made_fits : (rows : Rows) (k : Kind) (before : ℕ) → IsSound rows → before ≡ blocks_of rows.files → before < 2 ^ 64 → Fits (plus (sums_of rows.book k) (record { files = 1; versions = 1; bytes = 0; blocks = 0 }))
-made_fits rows k before sound is bound =
-    let u = few rows sound k in
-    record { files = omega (arith, u.files); versions = omega (arith, u.versions); bytes = omega (arith, u.bytes); blocks = omega (arith, few_blocks rows sound.tracked k, is, bound) }
+made_fits rows k before sound is bound = grind (arith, nat_tests, few rows sound k, few_blocks rows sound.tracked k)
 
 -- a new file, its name aside, is all that its kind has more
 pub made_book : (rows : Rows) (directory : ℕ) (name : List ℕ) (policy : Policy) (now : Held) (book : Book) → IsSound rows → now ≡ rows_after (world_of rows) rows.files (MakeFile directory name (rows.made.files + 1) policy ∷ []) → ((k : Kind) → sums_of book k ≡ plus (sums_of rows.book k) (only_at (kind_of policy) (record { files = 1; versions = 1; bytes = 0; blocks = 0 }) k)) → IsBooked now book
@@ -184,19 +139,10 @@ made_book rows directory name policy now book sound after added k =
 -- ---- blocks that are shifted
 
 pub same_kind : (k : Kind) → is_kind k k ≡ true
-same_kind kind.One = refl
-same_kind kind.All = refl
-same_kind kind.Safe = refl
-same_kind kind.Landmarks = refl
+same_kind x0 = grind (arith, nat_tests)
 
 pub shift_fits : (files : Held) (book : Book) (file before : ℕ) (policy : Policy) → IsOwed files book file before → policy_of files.files file ≡ Some policy → Fits (record (sums_of book (kind_of policy)) { blocks = 0 }) → before < 2 ^ 64 → blocks_of files < 2 ^ 64 → Fits (plus (sums_of book (kind_of policy)) (only_blocks (blocks_of files - before)))
-shift_fits files book file before policy owed of room few_before few_now =
-    let k = kind_of policy in
-    let is : is_file_of files.files k file ≡ true = rw of (same_kind k) in
-    let e : plus (usage_of (told_by files) k) (only_blocks before) ≡ plus (sums_of book k) (only_blocks (blocks_of files)) = subst (λ b. plus (usage_of (told_by files) k) (cond b (only_blocks before) nothing) ≡ plus (sums_of book k) (cond b (only_blocks (blocks_of files)) nothing)) is (owed k) in
-    let blocks : (usage_of (told_by files) k).blocks + before ≡ (sums_of book k).blocks + blocks_of files = ap (λ (u : Usage). u.blocks) e in
-    let within = within_blocks (told_by files) k in
-    record { files = omega (arith, room.files); versions = omega (arith, room.versions); bytes = omega (arith, room.bytes); blocks = omega (arith, blocks, within, few_before, few_now) }
+shift_fits files book file before policy owed of room few_before few_now = grind (arith, nat_tests, same_kind, within_blocks)
 
 pub and_nothing : (u : Usage) → plus u nothing ≡ u
 and_nothing u = same_usage (plus u nothing) u (omega arith) (omega arith) (omega arith) (omega arith)

@@ -1,10 +1,5 @@
 -- How many rows a sound core may have.
-use Rattle.std.proofs.Common.{◌+◌, ◌<◌, ◌≤◌, length, arith}
-use Rattle.std.specs.List.{AllByRecursion}
-use Rattle.ele_core.specs.Inside.{IsSound}
-use Rattle.ele_core.specs.declared.rows.Rows.{Rows}
-use Rattle.ele_lists.proofs.Edits.{all-weaker}
-use Rattle.ele_world.specs.WellFormed.{IsFile, Counted, Files}
+use Rattle.ele_core.proofs.Words.{◌+◌, ◌<◌, ◌≤◌, length, arith, AllByRecursion, IsSound, Rows, all-weaker, IsFile, Counted, Files}
 
 pub versions_few : (rows : Rows) → IsSound rows → rows.made.versions + length rows.files.drafts ≤ 1000000
 versions_few rows sound = let counts = sound.formed.holds Counted in let made = counts.versions_made in let most = sound.tracked.bounds.versions in omega arith

@@ -1,32 +1,7 @@
 -- What the book of usage has, once a handle is closed.
-use Rattle.std.proofs.Common.{◌≡◌, ℕ, ◌+◌, ◌-◌, ◌≤◌, ◌<◌, ◌^◌, Bool, true, false, cond, List, [], length, Option, Some, None, Ok, refl, ap, sym, subst, ◌∙◌, arith}
-use Rattle.std.specs.Prelude.{find}
-use Rattle.std.specs.Option.{option_map_or}
-use Rattle.ele_content.specs.Content.{content_of, longest_content}
-use Rattle.ele_content.specs.declared.cell.Cell.{Cell}
+use Rattle.ele_core.proofs.Words.{nat_tests, ◌≡◌, ℕ, ◌+◌, ◌-◌, ◌≤◌, ◌<◌, ◌^◌, Bool, cond, List, length, Ok, refl, ap, sym, subst, ◌∙◌, arith, content_of, longest_content, Cell, world_of, IsSound, IsTracked, told_by, blocks_of, one_version, IsOwed, Rows, finishing, Held, cells_of_draft, rows_after, insert_before, all-found, length-update_first, length-insert_before, Kind, Book, sums_of, Usage, nothing, plus, Fits, VersionRow, ended_at, next_version, with_end, usage_of, is_file_of, bytes_in, Drafts, ChangesOnly, Draft, World, reads_by, is_version, is_version_after, next_of, drafts-removed, versions-finished, kinds-numbered, files-numbered, sum_by-insert_before, sum_by-update_same}
 use Rattle.ele_core.proofs.Booked.{few, few_blocks, owed, drafts_owed, and_nothing, size, bytes_are}
 use Rattle.ele_core.proofs.ClosedSteps.{IsLeft}
-use Rattle.ele_core.specs.Inside.{world_of, IsSound, IsTracked}
-use Rattle.ele_core.specs.Tracked.{told_by, blocks_of, one_version, IsOwed}
-use Rattle.ele_core.specs.declared.rows.Rows.{Rows}
-use Rattle.ele_files.specs.Closing.{finishing}
-use Rattle.ele_files.specs.Held.{Held, cells_of_draft, rows_after}
-use Rattle.ele_lists.specs.Lists.{insert_before}
-use Rattle.ele_lists.proofs.Edits.{all-found, length-update_first, length-insert_before}
-use Rattle.ele_policy.specs.declared.policy.Kind.{Kind}
-use Rattle.ele_usage.specs.Book.{Book, sums_of}
-use Rattle.ele_usage.specs.declared.usage.Usage.{Usage}
-use Rattle.ele_usage.specs.Sums.{nothing, plus, Fits}
-use Rattle.ele_world.specs.declared.rows.DraftRow.{DraftRow}
-use Rattle.ele_world.specs.declared.rows.VersionRow.{VersionRow}
-use Rattle.ele_world.specs.Change.{ended_at, next_version, with_end}
-use Rattle.ele_world.specs.Usage.{usage_of, is_file_of, bytes_in}
-use Rattle.ele_world.specs.WellFormed.{IsDraft, Drafts}
-use Rattle.ele_world.specs.Whole.{ChangesOnly}
-use Rattle.ele_world.specs.declared.rows.Reads.TheVariants.{Draft}
-use Rattle.ele_world.specs.World.{World, reads_by, is_draft, is_version, is_version_after, next_of}
-use Rattle.ele_world.proofs.Others.{drafts-removed, versions-finished, kinds-numbered, files-numbered}
-use Rattle.ele_lists.proofs.Sums.{sum_by-insert_before, sum_by-update_same}
 
 -- the book has the version of the file's kind
 abbrev pub HasAdded : Held → ℕ → Book → Book → ℕ → Type 0
@@ -51,8 +26,7 @@ module _ (rows : Rows) (file : ℕ) (now : Held) (new : VersionRow) (changes : C
   version_owed tracked book bytes before long same added =
       rw same (owed file rows.files now book 1 (length (content_of new.cells)) 0 0 changes (omega (arith, more_versions)) (omega (arith, more_bytes)) (λ k. ends k (is_file_of now.files k file) (rw long at added k))) where
         empty : (s : Usage) (d : Bool) → plus s (cond d nothing nothing) ≡ s
-        empty s true = and_nothing s
-        empty s false = and_nothing s
+        empty s x1 = grind (arith, nat_tests, and_nothing s)
 
         ends : (k : Kind) (d : Bool) → sums_of book k ≡ plus (sums_of rows.book k) (cond d (one_version (length (content_of new.cells))) nothing) → plus (sums_of book k) (cond d nothing nothing) ≡ plus (usage_of (told_by rows.files) k) (cond d (one_version (length (content_of new.cells))) nothing)
         ends k d has = empty (sums_of book k) d ∙ has ∙ ap (λ u. plus u (cond d (one_version (length (content_of new.cells))) nothing)) (tracked.book k)
@@ -88,20 +62,10 @@ left_owed rows handle file reads after before tracked same is = drafts_owed rows
 -- ---- bounds
 
 pub draft_short : (rows : Rows) → IsSound rows → (file bytes : ℕ) → bytes ≡ length (content_of (cells_of_draft rows.files file)) → bytes ≤ longest_content
-draft_short rows sound file bytes is = rw is (by (find (is_draft file) rows.files.drafts) refl) where
-  by : (o : Option DraftRow) → find (is_draft file) rows.files.drafts ≡ o → length (content_of (option_map_or (λ (row : DraftRow). row.cells) o [])) ≤ longest_content
-  by None e = omega arith
-  by (Some draft) e = let row : IsDraft rows.files.files rows.moment draft = all-found (is_draft file) (IsDraft rows.files.files rows.moment) rows.files.drafts draft e (sound.formed.holds Drafts).each in row.content.short
+draft_short rows sound file bytes is = grind (arith, nat_tests, all-found, sound.formed.holds Drafts)
 
 pub version_fits : (rows : Rows) → IsSound rows → (bytes before : ℕ) → bytes ≤ longest_content → before ≡ blocks_of rows.files → before < 2 ^ 64 → (k : Kind) → Fits (plus (sums_of rows.book k) (one_version bytes))
-version_fits rows sound bytes before short is bound k =
-    let u = few rows sound k in
-    record { files = omega (arith, u.files); versions = omega (arith, u.versions); bytes = omega (arith, u.bytes); blocks = omega (arith, few_blocks rows sound.tracked k) }
+version_fits rows sound bytes before short is bound k = grind (arith, nat_tests, few rows sound k, few_blocks rows sound.tracked k)
 
 pub added_fits : (rows : Rows) (now : Held) (file : ℕ) (book : Book) (bytes : ℕ) → IsSound rows → bytes ≤ longest_content → HasAdded now file rows.book book bytes → (k : Kind) → Fits (record (sums_of book k) { blocks = 0 })
-added_fits rows now file book bytes sound short added k = by (is_file_of now.files k file) (added k) where
-  by : (d : Bool) → sums_of book k ≡ plus (sums_of rows.book k) (cond d (one_version bytes) nothing) → Fits (record (sums_of book k) { blocks = 0 })
-  by d is = subst (λ (u : Usage). Fits (record u { blocks = 0 })) (sym is) (fitting d) where
-    fitting : (d : Bool) → Fits (record (plus (sums_of rows.book k) (cond d (one_version bytes) nothing)) { blocks = 0 })
-    fitting true = let u = few rows sound k in record { files = omega (arith, u.files); versions = omega (arith, u.versions); bytes = omega (arith, u.bytes); blocks = omega arith }
-    fitting false = let u = few rows sound k in record { files = omega (arith, u.files); versions = omega (arith, u.versions); bytes = omega (arith, u.bytes); blocks = omega arith }
+added_fits rows now file book bytes sound short added k = grind (arith, nat_tests, few rows sound k)

@@ -1,36 +1,7 @@
 -- What the drop of a file leaves of the rows, the keys and the book.
-use Rattle.std.proofs.Common.{◌≡◌, ℕ, ◌==◌, ◌<◌, true, false, not, cond, filter, List, [], ◌∷◌, Some, None, refl, ap, sym, ◌∙◌, arith}
-use Rattle.std.specs.Prelude.{find}
-use Rattle.std.specs.List.{AllByRecursion}
-use Rattle.std.specs.Option.{option_map}
-use Rattle.std.proofs.lemmas.Bool.Decides.{nat_tests}
+use Rattle.ele_core.proofs.Words.{◌≡◌, ℕ, ◌==◌, ◌<◌, true, false, not, cond, filter, List, [], ◌∷◌, Some, None, refl, ap, sym, ◌∙◌, arith, find, AllByRecursion, option_map, nat_tests, world_of, IsSound, told_by, IsBooked, Rows, rows_of, remove_first-unfound, all-weaker, not_found, filter-all, Kind, Policy, kind_of, Usage, Book, sums_of, only_at, plus, IsWithin, DropIdle, is_idle, without_file, after_change, forgotten, usage_of, IsGroup, IsNameRow, IsThere, Groups, Names, IsWellFormed, World, is_file, is_target_file, next_of, policy_of, FileRow, GroupRow, Target, File, dropped, stays_named, only_at_is, usage_same}
 use Rattle.ele_core.proofs.Booked.{booked, same_kind, same_usage}
-use Rattle.ele_core.specs.Inside.{world_of, IsSound}
-use Rattle.ele_core.specs.Tracked.{told_by, IsBooked}
-use Rattle.ele_core.specs.declared.rows.Rows.{Rows}
-use Rattle.ele_files.specs.Held.{rows_of}
-use Rattle.ele_lists.proofs.Cuts.{remove_first-unfound}
-use Rattle.ele_lists.proofs.Edits.{all-weaker, not_found}
-use Rattle.ele_lists.proofs.Filters.{filter-all}
-use Rattle.ele_policy.specs.declared.policy.Kind.{Kind}
-use Rattle.ele_policy.specs.declared.policy.Policy.{Policy}
-use Rattle.ele_policy.specs.Policy.{kind_of}
-use Rattle.ele_usage.specs.declared.usage.Usage.{Usage}
-use Rattle.ele_usage.specs.Book.{Book, sums_of}
-use Rattle.ele_usage.specs.OnlyAt.{only_at}
-use Rattle.ele_usage.specs.Sums.{plus, IsWithin}
-use Rattle.ele_world.specs.Change.{DropIdle, is_idle, without_file, after_change}
-use Rattle.ele_world.specs.GroupRows.{forgotten}
-use Rattle.ele_world.specs.Usage.{usage_of}
-use Rattle.ele_world.specs.WellFormed.{IsGroup, IsNameRow, IsThere, Groups, Names, IsWellFormed}
-use Rattle.ele_world.specs.World.{World, is_file, is_target_file, next_of, policy_of}
-use Rattle.ele_world.specs.declared.rows.FileRow.{FileRow}
-use Rattle.ele_world.specs.declared.rows.GroupRow.{GroupRow}
-use Rattle.ele_world.specs.declared.rows.Target.{Target}
-use Rattle.ele_world.specs.declared.rows.Target.TheVariants.{File, Directory}
-use Rattle.ele_world.proofs.Dropped.{dropped, stays_named}
 use Rattle.ele_world.proofs.DropUsage.{one_file, dropped_at}
-use Rattle.ele_world.proofs.Usages.{only_at_is, usage_same}
 
 -- ---- a file that isn't there
 
@@ -43,15 +14,7 @@ no_row (row ∷ files) file none = elim (is_file file row) as (λ b. is_file fil
 
 module _ (w : World) (file : ℕ) (k : IsWellFormed w) (none : policy_of w.files file ≡ None) where
   other_target : (target : Target) → IsThere w.files target → not (is_target_file file target) ≡ true
-  other_target (Directory d) there = refl
-  other_target (File id) there = elim (not (is_target_file file (File id))) as (λ b. not (is_target_file file (File id)) ≡ b → b ≡ true) [
-    | true ↦ λ e. refl
-    | false ↦ λ e.
-        let same : id ≡ file = grind (arith, nat_tests) in
-        let nothing : next_of w.files file ≡ 0 = rw (not_found (is_file file) w.files (no_row w.files file none)) refl in
-        let is : 0 < next_of w.files file = rw same at there in
-        absurd (omega (arith, nothing, is))
-  ] refl
+  other_target x0 there = grind (arith, nat_tests, not_found (is_file file) w.files (no_row w.files file none), no_row w.files file none)
 
   -- nor does a group have it
   no_member : (members : List ℕ) → AllByRecursion (λ member. 0 < next_of w.files member) members → filter (λ member. not (member == file)) members ≡ members
@@ -72,12 +35,7 @@ module _ (w : World) (file : ℕ) (k : IsWellFormed w) (none : policy_of w.files
 -- ---- the book
 
 without_as_many : (a b c : Usage) → plus a c ≡ plus b c → a ≡ b
-without_as_many a b c same =
-    let files = ap (λ (u : Usage). u.files) same in
-    let versions = ap (λ (u : Usage). u.versions) same in
-    let bytes = ap (λ (u : Usage). u.bytes) same in
-    let blocks = ap (λ (u : Usage). u.blocks) same in
-    same_usage a b (omega (arith, files)) (omega (arith, versions)) (omega (arith, bytes)) (omega (arith, blocks))
+without_as_many a b c same = grind (arith, nat_tests, same_usage)
 
 module _ (rows : Rows) (file : ℕ) (policy : Policy) (sound : IsSound rows) (filed : policy_of rows.files.files file ≡ Some policy) (idle : is_idle (world_of rows) file ≡ true) where
   -- its kind has it

@@ -1,15 +1,7 @@
 -- At first there is no key and no usage.
-use Rattle.std.proofs.Common.{◌≡◌, List, [], refl, sym}
-use Rattle.ele_core.specs.Queued.{IsQueued}
-use Rattle.ele_core.specs.Tracked.{told_by, IsBooked}
-use Rattle.ele_due.specs.declared.key.Key.{Key}
-use Rattle.ele_files.specs.Held.{Held}
-use Rattle.ele_policy.specs.declared.policy.Kind.{Kind}
-use Rattle.ele_usage.specs.Book.{Book, sums_of}
-use Rattle.ele_usage.specs.Sums.{nothing}
+use Rattle.ele_core.proofs.Words.{◌≡◌, List, [], refl, sym, IsQueued, told_by, IsBooked, Key, Held, Kind, Book, sums_of, nothing, World}
 use Rattle.ele_world.specs.FileView.{ripe_numbered}
 use Rattle.ele_world.specs.Usage.{usage_of}
-use Rattle.ele_world.specs.World.{World}
 
 abbrev pub no_files : Held
 no_files = record { files = []; versions = []; drafts = []; handles = []; opened = 0 }

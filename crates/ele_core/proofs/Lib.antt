@@ -1,3 +1,4 @@
+pub mod Words
 pub mod Following
 pub mod Governed
 pub mod Bounded

@@ -1,29 +1,9 @@
 -- A new file brings no key.
-use Rattle.std.proofs.Common.{◌≡◌, ℕ, ◌==◌, ◌+◌, ◌<◌, Bool, true, false, cond, ◌||◌, List, [], ◌∷◌, Option, Some, None, refl, ap, sym, ◌∙◌, arith, filter, append-nil, subst}
-use Rattle.std.specs.Prelude.{find, option_and_then}
-use Rattle.std.specs.List.{list_any}
-use Rattle.std.specs.Option.{option_map, option_or}
-use Rattle.std.proofs.lemmas.List.Elements.{filter-append}
-use Rattle.std.proofs.lemmas.List.Folds.{find-append, list_any-append}
-use Rattle.std.proofs.lemmas.Bool.Decides.{nat_tests}
-use Rattle.ele_core.specs.Queued.{IsQueued}
-use Rattle.ele_due.specs.declared.key.Key.{Key}
-use Rattle.ele_lists.proofs.Edits.{all-found}
-use Rattle.ele_policy.specs.declared.policy.Policy.{Policy}
-use Rattle.ele_world.specs.declared.rows.FileRow.{FileRow}
-use Rattle.ele_world.specs.declared.rows.VersionRow.{VersionRow}
-use Rattle.ele_world.specs.Change.{MakeFile, after_change}
-use Rattle.ele_world.specs.Due.{ripe_of, ripe_at}
-use Rattle.ele_world.specs.Neighbours.{is_moment}
-use Rattle.ele_world.specs.FileView.{view_of, is_version_of, ripe_in}
-use Rattle.ele_world.specs.WellFormed.{IsWellFormed}
-use Rattle.ele_world.specs.World.{World, is_file, is_live_name_of, is_version, policy_of, is_live}
-use Rattle.ele_world.proofs.Created.{created, made_is, new_file, new_name, first_version, versions_before}
-use Rattle.ele_world.proofs.RipeAt.{ripe_at_is, unended}
+use Rattle.ele_core.proofs.Words.{◌≡◌, ℕ, ◌==◌, ◌+◌, Bool, false, cond, List, [], ◌∷◌, Option, Some, None, refl, ap, sym, ◌∙◌, arith, append-nil, subst, find, option_and_then, option_or, filter-append, find-append, list_any-append, nat_tests, IsQueued, Key, all-found, Policy, VersionRow, MakeFile, after_change, ripe_at, is_moment, view_of, IsWellFormed, World, is_version, created, made_is, new_file, new_name, first_version, versions_before, ripe_at_is, unended}
+use Rattle.ele_world.specs.Due.{ripe_of}
 
 option_or-none : {X : Type 0} (o : Option X) → option_or o None ≡ o
-option_or-none None = refl
-option_or-none (Some x) = refl
+option_or-none x0 = grind (arith, nat_tests)
 
 module _ (w : World) (directory : ℕ) (name : List ℕ) (policy : Policy) (k : IsWellFormed w) where
   abbrev id : ℕ
@@ -34,18 +14,7 @@ module _ (w : World) (directory : ℕ) (name : List ℕ) (policy : Policy) (k : 
 
   -- no other file is touched
   same_view : (file : ℕ) → (id == file) ≡ false → view_of made file ≡ view_of w file
-  same_view file other = rw (policies, rows, live) refl where
-    policies : policy_of made.files file ≡ policy_of w.files file
-    policies = ap (option_map (λ (row : FileRow). row.policy)) (find-append (is_file file) w.files (new_file id policy ∷ []) ∙ rw other (option_or-none (find (is_file file) w.files)))
-
-    rows : filter (is_version_of file) made.versions ≡ filter (is_version_of file) w.versions
-    rows = filter-append (is_version_of file) w.versions (first_version w id ∷ []) ∙ rw other (append-nil (filter (is_version_of file) w.versions))
-
-    live : is_live made file ≡ is_live w file
-    live = list_any-append (is_live_name_of file) w.names (new_name w directory name id ∷ []) ∙ rw other (or_false (list_any (is_live_name_of file) w.names)) where
-      or_false : (b : Bool) → (b || false) ≡ b
-      or_false true = refl
-      or_false false = refl
+  same_view file other = grind (arith, nat_tests, find-append, new_file, option_or-none, filter-append, first_version, append-nil, list_any-append, new_name)
 
   -- and its first version has no end
   moment_stays : (file number : ℕ) → ripe_at made file number ≡ ripe_at w file number
@@ -56,14 +25,10 @@ module _ (w : World) (directory : ℕ) (name : List ℕ) (policy : Policy) (k : 
       ∙ by (find (is_version file number) w.versions) refl
       ∙ sym (ripe_at_is w file number) where
         new : (b : Bool) → option_and_then (ripe_of made) (cond b (Some (first_version w id)) None) ≡ None
-        new true = unended (view_of made id) (first_version w id) refl
-        new false = refl
+        new x0 = grind (arith, nat_tests, unended (view_of made id) (first_version w id) refl, first_version w id)
 
         by : (o : Option VersionRow) → find (is_version file number) w.versions ≡ o → option_and_then (ripe_of made) (option_or o (find (is_version file number) (first_version w id ∷ []))) ≡ option_and_then (ripe_of w) o
-        by None e = new (is_version file number (first_version w id))
-        by (Some row) e =
-            let before = all-found (is_version file number) (λ row. row.file < id) w.versions row e (versions_before w k) in
-            ap (λ v. ripe_in v row) (same_view row.file (grind (arith, nat_tests)))
+        by x0 e = grind (arith, nat_tests, new, first_version w id, all-found, versions_before w k, same_view)
 
   pub made_queue : (queue : List Key) → IsQueued w queue → IsQueued (after_change w (MakeFile directory name (w.made.files + 1) policy)) queue
   made_queue queue queued = subst (λ (v : World). IsQueued v queue) (sym (made_is w directory name policy k)) (λ j. queued j ∙ ap (is_moment j.ripe) (sym (moment_stays j.file j.number)))

@@ -1,35 +1,7 @@
 -- The keys of versions that were current at marks: which keys these are, and that the queue follows where marks come and go.
-use Rattle.std.proofs.Common.{◌≡◌, ℕ, ◌+◌, ◌<◌, ◌==◌, ◌++◌, length, get_or, take, append_assoc, Bool, true, false, cond, not, ◌&&◌, ◌||◌, List, [], ◌∷◌, Option, Some, None, refl, ap, sym, ◌∙◌, arith}
-use Rattle.std.specs.Prelude.{find, option_and_then}
-use Rattle.std.specs.List.{filter_map, list_any, cons_option, AllByRecursion}
-use Rattle.std.specs.Option.{option_map, option_map_or}
-use Rattle.std.proofs.lemmas.List.{take_more}
-use Rattle.std.proofs.lemmas.List.Elements.{filter_map-append}
-use Rattle.std.proofs.lemmas.Bool.Decides.{nat_tests}
+use Rattle.ele_core.proofs.Words.{◌≡◌, ℕ, ◌+◌, ◌<◌, ◌==◌, ◌++◌, length, get_or, take, append_assoc, Bool, true, false, cond, not, ◌&&◌, ◌||◌, List, [], ◌∷◌, Option, Some, None, refl, ap, sym, ◌∙◌, arith, find, option_and_then, filter_map, list_any, cons_option, AllByRecursion, option_map, option_map_or, take_more, filter_map-append, nat_tests, IsQueued, key_at, keys_at, marked_but, moment_but, Left, Key, has_key, is_key, Held, rows_of, found_passes, AllLater, ripe_at, is_moment, moment_under, covers_moment, had_life, lives_at, stamps_of, ArePlaced, IsWellFormed, World, is_open, is_version, policy_of, GroupRow, Stamps, VersionRow, MarksCome, MarksGo, is_covered, is_touched, in_order_of, ripe_at_near, any-filter_map, placed_of}
 use Rattle.ele_core.proofs.Following.{follows}
-use Rattle.ele_core.specs.Queued.{IsQueued, key_at, keys_at, marked_but, moment_but}
-use Rattle.ele_core.specs.declared.marking.Left.{Left}
-use Rattle.ele_due.specs.declared.key.Key.{Key}
-use Rattle.ele_due.specs.HasKey.{has_key}
-use Rattle.ele_due.specs.Key.{is_key}
-use Rattle.ele_files.specs.Held.{Held, rows_of}
-use Rattle.ele_lists.proofs.Edits.{found_passes}
-use Rattle.ele_lists.specs.Lists.{AllLater}
-use Rattle.ele_world.specs.Due.{ripe_at}
-use Rattle.ele_world.specs.Neighbours.{is_moment, moment_under}
-use Rattle.ele_world.specs.GroupRows.{covers_moment}
-use Rattle.ele_world.specs.Tagged.{had_life, lives_at}
-use Rattle.ele_world.specs.Told.{stamps_of}
-use Rattle.ele_world.specs.WellFormed.{ArePlaced, IsWellFormed}
-use Rattle.ele_world.specs.World.{World, is_open, is_version, policy_of}
-use Rattle.ele_world.specs.declared.rows.GroupRow.{GroupRow}
-use Rattle.ele_world.specs.declared.rows.Stamps.{Stamps}
-use Rattle.ele_world.specs.declared.rows.VersionRow.{VersionRow}
-use Rattle.ele_world.proofs.GroupMoments.{MarksCome, MarksGo, is_covered, is_touched}
-use Rattle.ele_world.proofs.Neighbours.{in_order_of, ripe_at_near}
-use Rattle.ele_world.proofs.RipeAt.{any-filter_map}
 use Rattle.ele_world.proofs.SlotPlaces.{list_any-flat_map}
-use Rattle.ele_world.proofs.Views.{placed_of}
 
 -- ---- the version that was current at a moment, by its number
 
@@ -46,13 +18,7 @@ none_living file moment x p g [] own lived all = refl
 none_living file moment x p g (y ∷ ys) own lived all = by (none_living file moment x p g ys own lived all.1) ((y.file == file) && p y) refl where
   by : option_map_or (if_living moment g) (find (λ row. (row.file == file) && p row) ys) false ≡ false
       → (b : Bool) → ((y.file == file) && p y) ≡ b → option_map_or (if_living moment g) (cond b (Some y) (find (λ row. (row.file == file) && p row) ys)) false ≡ false
-  by rest false e = rest
-  by rest true e =
-      let ended = all.0.ended (grind (arith, nat_tests)) in
-      let by_then = ended.2 in
-      let until = rw ended.1 at lived in
-      let dead : lives_at moment y ≡ false = grind (arith, nat_tests) in
-      rw dead refl
+  by rest x1 e = grind (arith, nat_tests)
 
 -- and none has a number up to its own
 none_numbered : (file number : ℕ) (x : VersionRow) (p : VersionRow → Bool) (g : VersionRow → Bool) (ys : List VersionRow) → x.file ≡ file → x.number ≡ number → AllByRecursion (ArePlaced x) ys
@@ -61,11 +27,7 @@ none_numbered file number x p g [] own its all = refl
 none_numbered file number x p g (y ∷ ys) own its all = by (none_numbered file number x p g ys own its all.1) ((y.file == file) && p y) refl where
   by : option_map_or (if_numbered number g) (find (λ row. (row.file == file) && p row) ys) false ≡ false
       → (b : Bool) → ((y.file == file) && p y) ≡ b → option_map_or (if_numbered number g) (cond b (Some y) (find (λ row. (row.file == file) && p row) ys)) false ≡ false
-  by rest false e = rest
-  by rest true e =
-      let after = all.0.after in
-      let other : (y.number == number) ≡ false = grind (arith, nat_tests) in
-      rw other refl
+  by rest x1 e = grind (arith, nat_tests)
 
 -- to find the one that lived then, and look at its number, is to find the one of that number, and look whether it lived
 living_numbered : (file number moment : ℕ) (g : VersionRow → Bool) (xs : List VersionRow) → AllLater ArePlaced xs
@@ -101,18 +63,14 @@ any-and : {X : Type 0} (p : X → Bool) (b : Bool) (xs : List X) → list_any (�
 any-and p b [] = refl
 any-and p b (x ∷ xs) = ap (λ c. (p x && b) || c) (any-and p b xs) ∙ by (p x) b (list_any p xs) where
   by : (a b c : Bool) → ((a && b) || (c && b)) ≡ ((a || c) && b)
-  by true true c = refl
-  by true false true = refl
-  by true false false = refl
-  by false b c = refl
+  by x0 b c = grind (arith, nat_tests)
 
 any-never : {X : Type 0} (xs : List X) → list_any (λ x. false) xs ≡ false
 any-never [] = refl
 any-never (x ∷ xs) = any-never xs
 
 and_false : (b : Bool) → false ≡ (b && false)
-and_false true = refl
-and_false false = refl
+and_false x0 = grind (arith, nat_tests)
 
 -- ---- the keys
 
@@ -123,17 +81,7 @@ key_told left groups h file mark stamps = by (find (had_life file mark) h.versio
   by : (o : Option VersionRow) → option_map stamps_of o ≡ Some stamps
       → option_and_then (λ row. option_map (λ m. let key : Key = record { ripe = m; file = file; number = row.number } in key) (moment_but left groups h file row.number row.closed row.ended)) o
       ≡ option_map (λ m. record { ripe = m; file = file; number = stamps.number }) (moment_but left groups h file stamps.number stamps.closed stamps.ended)
-  by None told = absurd cc
-  by (Some row) told =
-      let same : stamps_of row ≡ stamps = cc in
-      ap (λ (s : Stamps). option_map (λ m. let key : Key = record { ripe = m; file = file; number = s.number } in key) (moment_but left groups h file s.number s.closed s.ended)) same
-
--- and where none lived then there is no key
-pub no_key : (left : Option Left) (groups : List GroupRow) (h : Held) (file mark : ℕ) → option_map stamps_of (find (had_life file mark) h.versions) ≡ None → key_at left groups h file mark ≡ None
-no_key left groups h file mark = by (find (had_life file mark) h.versions) where
-  by : (o : Option VersionRow) → option_map stamps_of o ≡ None → option_and_then (λ row. option_map (λ m. let key : Key = record { ripe = m; file = file; number = row.number } in key) (moment_but left groups h file row.number row.closed row.ended)) o ≡ None
-  by None told = refl
-  by (Some row) told = absurd cc
+  by x0 told = grind (arith, nat_tests)
 
 module _ (left : Option Left) (groups : List GroupRow) (h : Held) (placed : AllLater ArePlaced h.versions) (k : Key) where
   -- the key is that of the version by its moment
@@ -141,15 +89,7 @@ module _ (left : Option Left) (groups : List GroupRow) (h : Held) (placed : AllL
   has_moment file row = (k.file == file) && is_moment k.ripe (moment_but left groups h file row.number row.closed row.ended)
 
   passes : (file mark : ℕ) → option_map_or (is_key k) (key_at left groups h file mark) false ≡ option_map_or (if_numbered k.number (has_moment file)) (find (had_life file mark) h.versions) false
-  passes file mark = by (find (had_life file mark) h.versions) where
-    of : (number : ℕ) (o : Option ℕ) → option_map_or (is_key k) (option_map (λ m. record { ripe = m; file = file; number = number }) o) false ≡ ((number == k.number) && ((k.file == file) && is_moment k.ripe o))
-    of number None = grind (arith, nat_tests)
-    of number (Some m) = grind (arith, nat_tests)
-
-    by : (o : Option VersionRow) → option_map_or (is_key k) (option_and_then (λ row. option_map (λ m. record { ripe = m; file = file; number = row.number }) (moment_but left groups h file row.number row.closed row.ended)) o) false
-        ≡ option_map_or (if_numbered k.number (has_moment file)) o false
-    by None = refl
-    by (Some row) = of row.number (moment_but left groups h file row.number row.closed row.ended)
+  passes file mark = grind (arith, nat_tests)
 
   -- the moment of the version that has the key's number
   abbrev its : Option ℕ
@@ -170,8 +110,7 @@ module _ (left : Option Left) (groups : List GroupRow) (h : Held) (placed : AllL
       ∙ covered file marks (find (is_version file k.number) h.versions)
       ∙ by (file == k.file) refl where
         other : (o : Option VersionRow) → (k.file == file) ≡ false → option_map_or (λ row. list_any (covers_moment row.closed row.ended) marks && has_moment file row) o false ≡ false
-        other None apart = refl
-        other (Some row) apart = rw apart (sym (and_false (list_any (covers_moment row.closed row.ended) marks)))
+        other x0 apart = grind (arith, nat_tests, and_false)
 
         own : (o : Option VersionRow) → find (is_version k.file k.number) h.versions ≡ o
             → option_map_or (λ row. list_any (covers_moment row.closed row.ended) marks && ((k.file == k.file) && is_moment k.ripe (moment_but left groups h k.file row.number row.closed row.ended))) o false ≡ is_its marks
@@ -193,8 +132,7 @@ module _ (left : Option Left) (groups : List GroupRow) (h : Held) (placed : AllL
       ∙ any-and (λ file. file == k.file) (is_its marks) files
       ∙ assoc (list_any (λ file. file == k.file) files) (is_covered marks h.versions k.file k.number) (is_moment k.ripe its) where
         assoc : (a b c : Bool) → (a && (b && c)) ≡ ((a && b) && c)
-        assoc true b c = refl
-        assoc false b c = refl
+        assoc x0 b c = grind (arith, nat_tests)
 
 -- ---- the queue
 
@@ -204,16 +142,7 @@ module _ (w v : World) (formed : IsWellFormed w) (files marks : List ℕ) (queue
 
   -- where marks come, the keys go that the versions had
   pub come_queue : MarksCome w v files marks → (after : List Key) → ((k : Key) → has_key k after ≡ (not (has_key k (keys_at None w.groups (rows_of w) files marks)) && has_key k queue)) → IsQueued v after
-  come_queue comes after edited = follows w v queue after queued touched comes.others (λ k. edited k ∙ ap (λ b. not b && has_key k queue) (keys_told None w.groups (rows_of w) (placed_of w formed) k files marks) ∙ by k (touched k.file k.number) refl) where
-    gone : (b : Bool) → (not b && b) ≡ false
-    gone true = refl
-    gone false = refl
-
-    by : (k : Key) (b : Bool) → touched k.file k.number ≡ b
-        → (not (b && is_moment k.ripe (its None w.groups (rows_of w) (placed_of w formed) k)) && has_key k queue) ≡ cond b (is_moment k.ripe (ripe_at v k.file k.number)) (has_key k queue)
-    by k false apart = refl
-    by k true own =
-        rw (queued k, ripe_at_near w k.file k.number (in_order_of w formed), comes.own k.file k.number own) (gone (is_moment k.ripe (its None w.groups (rows_of w) (placed_of w formed) k)))
+  come_queue comes after edited = grind (arith, nat_tests, follows, keys_told, placed_of, ripe_at_near, in_order_of)
 
   module _ (group : List ℕ) (mark : Option ℕ) (goes : MarksGo w v group mark files marks) where
     abbrev left : Option Left
@@ -227,17 +156,12 @@ module _ (w v : World) (formed : IsWellFormed w) (files marks : List ℕ) (queue
     pub go_queue : (after : List Key) → ((k : Key) → has_key k after ≡ (has_key k (keys_at left w.groups (rows_of w) files marks) || has_key k queue)) → IsQueued v after
     go_queue after edited = follows w v queue after queued touched goes.others (λ k. edited k ∙ ap (λ b. b || has_key k queue) (keys_told left w.groups (rows_of w) (placed_of w formed) k files marks) ∙ by k (touched k.file k.number) refl) where
       or_false : (b : Bool) → (b || false) ≡ b
-      or_false true = refl
-      or_false false = refl
+      or_false x0 = grind (arith, nat_tests)
 
       by : (k : Key) (b : Bool) → touched k.file k.number ≡ b
           → ((b && is_moment k.ripe (its left w.groups (rows_of w) (placed_of w formed) k)) || has_key k queue) ≡ cond b (is_moment k.ripe (ripe_at v k.file k.number)) (has_key k queue)
-      by k false apart = refl
-      by k true own = rw (absent k own, goes.own k.file k.number own) (or_false _)
+      by k x1 apart = grind (arith, nat_tests, absent, or_false)
 
     -- and where they are refused, it is as it was
     pub unfreed_queue : (after : List Key) → ((k : Key) → has_key k after ≡ (not (has_key k (keys_at left w.groups (rows_of w) files marks)) && has_key k queue)) → IsQueued w after
-    unfreed_queue after edited k = edited k ∙ ap (λ b. not b && has_key k queue) (keys_told left w.groups (rows_of w) (placed_of w formed) k files marks) ∙ by (touched k.file k.number) refl ∙ queued k where
-      by : (b : Bool) → touched k.file k.number ≡ b → (not (b && is_moment k.ripe (its left w.groups (rows_of w) (placed_of w formed) k)) && has_key k queue) ≡ has_key k queue
-      by false apart = refl
-      by true own = rw (absent k own) (sym (and_false (not (is_moment k.ripe (its left w.groups (rows_of w) (placed_of w formed) k)))))
+    unfreed_queue after edited k = grind (arith, nat_tests, keys_told, placed_of, absent, and_false)

@@ -1,20 +1,7 @@
 -- A new name, and that of a new file, which may have to go again.
-use Rattle.std.proofs.Common.{◌≡◌, ℕ, ◌+◌, true, false, not, List, [], ◌∷◌, ◌++◌, filter, refl, ◌∙◌, arith, append-nil}
-use Rattle.std.specs.Prelude.{is_some}
-use Rattle.std.specs.List.{AllByRecursion}
-use Rattle.std.proofs.lemmas.Bool.Decides.{nat_tests}
-use Rattle.std.proofs.lemmas.List.Elements.{filter-append}
-use Rattle.ele_lists.proofs.Edits.{all-weaker, all-both}
-use Rattle.ele_lists.proofs.Filters.{filter-all}
+use Rattle.ele_core.proofs.Words.{◌≡◌, ℕ, ◌+◌, true, false, not, List, [], ◌∷◌, ◌++◌, filter, refl, arith, append-nil, is_some, AllByRecursion, nat_tests, filter-append, all-weaker, all-both, filter-all, live_target, AreApart, IsNameRow, IsThere, Files, Names, IsWellFormed, World, is_target_file, NameRow, Target, File, apart_from_new}
 use Rattle.ele_names.specs.Rows.{Follows, born_row}
-use Rattle.ele_world.specs.Walk.{live_target}
-use Rattle.ele_world.specs.WellFormed.{AreApart, IsNameRow, IsThere, Files, Names, IsWellFormed}
-use Rattle.ele_world.specs.World.{World, is_target_file}
-use Rattle.ele_world.specs.declared.rows.NameRow.{NameRow}
-use Rattle.ele_world.specs.declared.rows.Target.{Target}
-use Rattle.ele_world.specs.declared.rows.Target.TheVariants.{File, Directory}
 use Rattle.ele_world.proofs.Files.{next_of-given}
-use Rattle.ele_world.proofs.KeptNames.{apart_from_new}
 
 -- the names there were are over
 pub follows_new : (w : World) (directory : ℕ) (name : List ℕ) (target : Target) → IsWellFormed w → is_some (live_target w.names directory name) ≡ false → AllByRecursion (λ row. Follows row (born_row directory name target w.now)) w.names
@@ -32,17 +19,7 @@ module _ (w : World) (directory : ℕ) (name : List ℕ) (k : IsWellFormed w) wh
   named = born_row directory name (File id) w.now
 
   other_target : (target : Target) → IsThere w.files target → not (is_target_file id target) ≡ true
-  other_target (Directory d) there = refl
-  other_target (File file) there =
-      let given = next_of-given w.made.files w.made.versions w.files file (k.holds Files).each there in
-      grind (arith, nat_tests)
+  other_target x0 there = grind (arith, nat_tests, next_of-given, k.holds Files)
 
   pub name_goes : filter (λ row. not (is_target_file id row.target)) (w.names ++ named ∷ []) ≡ w.names
-  name_goes =
-      filter-append (λ row. not (is_target_file id row.target)) w.names (named ∷ [])
-      ∙ rw own (append-nil (filter (λ row. not (is_target_file id row.target)) w.names))
-      ∙ filter-all (λ row. not (is_target_file id row.target)) w.names
-      (all-weaker (IsNameRow w.files w.now) (λ row. not (is_target_file id row.target) ≡ true) w.names (λ row h. other_target row.target h.there) (k.holds Names).each)
-    where
-      own : not (is_target_file id (File id)) ≡ false
-      own = grind (arith, nat_tests)
+  name_goes = grind (arith, nat_tests, filter-append, append-nil, filter-all, all-weaker (IsNameRow w.files w.now) (λ row. not (is_target_file id row.target) ≡ true) w.names (λ row h. other_target row.target h.there) (k.holds Names).each, other_target, k.holds Names)

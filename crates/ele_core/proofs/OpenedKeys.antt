@@ -1,24 +1,7 @@
 -- Which keys the versions have, once a handle was opened or closed.
-use Rattle.std.proofs.Common.{◌≡◌, ℕ, ◌+◌, Bool, true, false, cond, not, ◌&&◌, ◌||◌, ◌==◌, List, [], ◌∷◌, Option, None, Ok, refl, ap, sym, ◌∙◌, arith}
-use Rattle.std.specs.List.{list_any}
-use Rattle.std.proofs.lemmas.Bool.Decides.{nat_tests}
+use Rattle.ele_core.proofs.Words.{◌≡◌, ℕ, ◌+◌, Bool, true, false, cond, not, ◌&&◌, ◌||◌, ◌==◌, List, [], ◌∷◌, Option, None, Ok, refl, ap, sym, ◌∙◌, arith, list_any, nat_tests, world_of, IsSound, IsQueued, IsRekeyed, Rows, Key, has_key, changed_at, opened_by, with_rows, OpenHandle, ShutHandle, StartDraft, after_change, ripe_at, free_moment, is_moment, AreInOrder, in_order_of, World, is_draft, is_open, reads_by, reads_version, Draft, Version, opened_others, opened_own, read_moment, shut_others, shut_own, has_row, any-found}
 use Rattle.ele_core.proofs.Asked.{ripe_told}
 use Rattle.ele_core.proofs.Following.{entry_follows}
-use Rattle.ele_core.specs.Inside.{world_of, IsSound}
-use Rattle.ele_core.specs.Queued.{IsQueued, IsRekeyed}
-use Rattle.ele_core.specs.declared.rows.Rows.{Rows}
-use Rattle.ele_due.specs.declared.key.Key.{Key}
-use Rattle.ele_due.specs.HasKey.{has_key}
-use Rattle.ele_files.specs.Held.{changed_at, opened_by, with_rows}
-use Rattle.ele_world.specs.Change.{OpenHandle, ShutHandle, StartDraft, after_change}
-use Rattle.ele_world.specs.Due.{ripe_at}
-use Rattle.ele_world.specs.Neighbours.{free_moment, is_moment}
-use Rattle.ele_world.proofs.Neighbours.{AreInOrder, in_order_of}
-use Rattle.ele_world.specs.World.{World, is_draft, is_handle, is_open, reads_by, reads_version}
-use Rattle.ele_world.specs.declared.rows.Reads.TheVariants.{Draft, Version}
-use Rattle.ele_world.proofs.OpenMoments.{opened_others, opened_own, read_moment, shut_others, shut_own}
-use Rattle.ele_world.proofs.OpenStays.{has_row}
-use Rattle.ele_lists.proofs.Found.{any-found}
 
 -- a handle that writes touches no key
 pub opened_queue : (rows : Rows) (file : ℕ) → IsSound rows → IsQueued (with_rows (world_of rows) (opened_by rows.files file rows.moment)) rows.queue
@@ -44,29 +27,15 @@ module _ (w : World) (file number : ℕ) (queue : List Key) (queued : IsQueued w
 
   -- while it is open it has no key
   unkeyed : is_open w.handles file number ≡ true → (k : Key) → its k ≡ true → has_key k queue ≡ false
-  unkeyed is_read k own =
-      let file_is : k.file ≡ file = grind (arith, nat_tests) in
-      let number_is : k.number ≡ number = grind (arith, nat_tests) in
-      queued k ∙ rw (file_is, number_is, told, is_read) refl
+  unkeyed is_read k own = grind (arith, nat_tests)
 
   -- so to take its free moment's key is to take the key that it has
   pub taken_key : (after : List Key) → IsRekeyed file number free None queue after → IsRekeyed file number (ripe_at w file number) None queue after
-  taken_key after edited k = rw told (by (is_open w.handles file number) refl (its k) refl) where
-    by : (b : Bool) → is_open w.handles file number ≡ b → (e : Bool) → its k ≡ e → has_key k after ≡ ((e && false) || (not (e && is_moment k.ripe (cond b None free)) && has_key k queue))
-    by false is_read e own = rw (← own) (edited k)
-    by true is_read false own = edited k ∙ rw own refl
-    by true is_read true own = edited k ∙ rw (own, unkeyed is_read k own) (none (is_moment k.ripe free)) where
-      none : (b : Bool) → (false || (not b && false)) ≡ false
-      none true = refl
-      none false = refl
+  taken_key after edited k = grind (arith, nat_tests, unkeyed)
 
   -- and to put it and take it again is nothing
   pub put_back : is_open w.handles file number ≡ true → (between after : List Key) → IsRekeyed file number None free queue between → IsRekeyed file number free None between after → (k : Key) → has_key k after ≡ has_key k queue
-  put_back is_read between after came went k = went k ∙ rw (came k) (by (its k) refl (is_moment k.ripe free)) where
-    by : (e : Bool) → its k ≡ e → (m : Bool) → ((e && false) || (not (e && m) && ((e && m) || (not (e && false) && has_key k queue)))) ≡ has_key k queue
-    by false own m = refl
-    by true own true = sym (unkeyed is_read k own)
-    by true own false = refl
+  put_back is_read between after came went k = grind (arith, nat_tests, unkeyed)
 
 -- a handle that reads takes the key
 pub read_queue : (rows : Rows) (handle file number : ℕ) (after : List Key) → IsSound rows → IsRekeyed file number (free_moment rows.groups rows.files.files rows.files.versions file number) None rows.queue after
@@ -103,9 +72,7 @@ module _ (rows : Rows) (handle file number : ℕ) (reads : reads_by rows.files.h
   told = ripe_told rows file number sound
 
   is_read : is_open w.handles file number ≡ true
-  is_read =
-      let its = has_row w handle (Version file number) reads in
-      any-found (is_handle handle) (λ row. reads_version file number row.reads) w.handles its.row its.found (rw its.its (grind (arith, nat_tests)))
+  is_read = grind (arith, nat_tests, has_row w handle (Version file number) reads, any-found)
 
   others : (f n : ℕ) → ((f == file) && (n == number)) ≡ false → ripe_at v f n ≡ ripe_at w f n
   others f n apart = shut_others w handle (Version file number) reads ordered f n (grind (arith, nat_tests))
@@ -115,9 +82,7 @@ module _ (rows : Rows) (handle file number : ℕ) (reads : reads_by rows.files.h
 
   -- the last one has closed
   pub unread_queue : (after : List Key) → is_open v.handles file number ≡ false → IsRekeyed file number None free rows.queue after → IsQueued v after
-  unread_queue after unread came =
-      let own : ripe_at v file number ≡ free = shut_own w handle file number ordered ∙ rw unread refl in
-      entry_follows w v rows.queue after queued file number others (rw (before, own) came)
+  unread_queue after unread came = grind (arith, nat_tests, shut_own w handle file number ordered, ordered, entry_follows, others, before)
 
   -- another reads on
   pub read_on_queue : (between after : List Key) → is_open v.handles file number ≡ true → IsRekeyed file number None free rows.queue between → IsRekeyed file number free None between after → IsQueued v after
@@ -129,5 +94,4 @@ module _ (rows : Rows) (handle file number : ℕ) (reads : reads_by rows.files.h
         its_key k = (k.file == file) && (k.number == number)
 
         by : (e h : Bool) → h ≡ ((e && false) || (not (e && false) && h))
-        by true h = refl
-        by false h = refl
+        by x0 h = grind (arith, nat_tests)

@@ -1,36 +1,8 @@
 -- A clean event takes the row of the first key, and that key.
-use Rattle.std.proofs.Common.{◌≡◌, ℕ, ◌+◌, Bool, true, false, cond, List, length, Some, None, ap, sym, subst, ◌∙◌, arith}
-use Rattle.std.specs.Prelude.{find}
-use Rattle.std.specs.Option.{option_map}
-use Rattle.ele_content.specs.Content.{content_of}
+use Rattle.ele_core.proofs.Words.{nat_tests, ◌≡◌, ℕ, ◌+◌, Bool, true, cond, List, length, Some, None, ap, sym, subst, ◌∙◌, arith, find, option_map, content_of, world_of, IsSound, IsQueued, IsRekeyed, told_by, blocks_of, one_version, of_file, IsOwed, Rows, Key, Held, without, remove_first, length-remove_first, Kind, Usage, Book, sums_of, nothing, plus, Fits, IsWithin, VersionRow, first_due, Take, after_change, IsWellFormed, CleanOne, is_file_of, bytes_in, usage_of, whole, ChangesOnly, World, is_version, takes, change_keeps, IsDueKey, sum_by-remove_first, usage_changes, changes_removed}
 use Rattle.ele_core.proofs.Booked.{few, owed, some_versions, and_nothing, size, bytes_are}
 use Rattle.ele_core.proofs.Following.{entry_follows}
-use Rattle.ele_core.specs.Inside.{world_of, IsSound}
-use Rattle.ele_core.specs.Queued.{IsQueued, IsRekeyed}
-use Rattle.ele_core.specs.Tracked.{told_by, blocks_of, one_version, of_file, IsOwed}
-use Rattle.ele_core.specs.declared.rows.Rows.{Rows}
-use Rattle.ele_due.specs.declared.key.Key.{Key}
-use Rattle.ele_files.specs.Held.{Held, without}
-use Rattle.ele_lists.specs.Lists.{remove_first}
-use Rattle.ele_lists.proofs.Edits.{length-remove_first}
-use Rattle.ele_policy.specs.declared.policy.Kind.{Kind}
-use Rattle.ele_usage.specs.declared.usage.Usage.{Usage}
-use Rattle.ele_usage.specs.Book.{Book, sums_of}
-use Rattle.ele_usage.specs.Sums.{nothing, plus, Fits, IsWithin}
-use Rattle.ele_world.specs.declared.rows.VersionRow.{VersionRow}
-use Rattle.ele_world.specs.Scan.{first_due}
-use Rattle.ele_world.specs.Change.{Take, after_change}
-use Rattle.ele_world.specs.WellFormed.{IsWellFormed}
-use Rattle.ele_world.specs.declared.event.Event.TheVariants.{CleanOne}
-use Rattle.ele_world.specs.Usage.{is_file_of, bytes_in, usage_of}
-use Rattle.ele_world.specs.Whole.{whole, ChangesOnly}
-use Rattle.ele_world.specs.World.{World, is_version}
-use Rattle.ele_world.proofs.Allowed.{takes}
 use Rattle.ele_world.proofs.CleanKeepsKeys.{take_keeps_keys}
-use Rattle.ele_world.proofs.Keeps.{change_keeps}
-use Rattle.ele_world.proofs.DueRows.{IsDueKey}
-use Rattle.ele_lists.proofs.Sums.{sum_by-remove_first}
-use Rattle.ele_world.proofs.Usages.{usage_changes, changes_removed}
 
 -- the queue without the first key
 pub removed_queue : (rows : Rows) (key : Key) (queue : List Key) → IsSound rows → first_due (world_of rows) ≡ Some key → IsRekeyed key.file key.number (Some key.ripe) None rows.queue queue
@@ -63,8 +35,7 @@ removed_within rows file number row now sound found after k of =
     rw (sound.tracked.book k) (record { files = omega arith; versions = omega (arith, versions, fewer); bytes = omega (arith, bytes, less); blocks = omega arith })
 
 same_none : (d : Bool) (u : Usage) → plus u (cond d (some_versions 0 0) nothing) ≡ u
-same_none true u = and_nothing u
-same_none false u = and_nothing u
+same_none x0 u = grind (arith, nat_tests, and_nothing u)
 
 pub removed_owed : (rows : Rows) (file number before : ℕ) (row : VersionRow) (now : Held) (book : Book) → IsSound rows → find (is_version file number) rows.files.versions ≡ Some row → before ≡ blocks_of rows.files → now ≡ without rows.files file number → ((k : Kind) → plus (sums_of book k) (of_file now file (one_version (length (content_of row.cells))) k) ≡ sums_of rows.book k) → IsOwed now book file before
 removed_owed rows file number before row now book sound found is after taken =
@@ -77,13 +48,7 @@ removed_owed rows file number before row now book sound found is after taken =
     (λ k. taken k ∙ sound.tracked.book k ∙ sym (same_none (is_file_of now.files k file) (usage_of w k))))
 
 pub removed_fits : (rows : Rows) (book : Book) (now : Held) (file bytes : ℕ) → IsSound rows → ((k : Kind) → plus (sums_of book k) (of_file now file (one_version bytes) k) ≡ sums_of rows.book k) → (k : Kind) → Fits (record (sums_of book k) { blocks = 0 })
-removed_fits rows book now file bytes sound taken k =
-    let u = few rows sound k in
-    let e = taken k in
-    let files = ap (λ (u : Usage). u.files) e in
-    let versions = ap (λ (u : Usage). u.versions) e in
-    let sizes = ap (λ (u : Usage). u.bytes) e in
-    record { files = omega (arith, files, u.files); versions = omega (arith, versions, u.versions); bytes = omega (arith, sizes, u.bytes); blocks = omega arith }
+removed_fits rows book now file bytes sound taken k = grind (arith, nat_tests, few rows sound k)
 
 -- how many bytes it had
 pub removed_bytes : (w : World) (key : Key) (first : IsDueKey w key) (bytes : ℕ) → Some bytes ≡ option_map (λ (row : VersionRow). length (content_of row.cells)) (find (is_version key.file key.number) w.versions) → bytes ≡ length (content_of first.row.cells)

@@ -1,33 +1,8 @@
 -- A file that gets a version more, with the cells of one that is held.
-use Rattle.std.proofs.Common.{◌≡◌, ◌<◌, ◌-◌, ℕ, true, List, length, Result, Ok, Err, Option, Some, None, false, nat_le, refl, sym, ap, subst, ◌∙◌, arith, find, [], ◌∷◌}
-use Rattle.std.specs.Option.{option_map, option_map_or}
-use Rattle.std.specs.Result.{result_map_both}
-use Rattle.std.proofs.lemmas.Bool.Decides.{nat_tests}
-use Rattle.ele_content.specs.Content.{content_of}
-use Rattle.ele_content.specs.declared.cell.Cell.{Cell}
+use Rattle.ele_core.proofs.Words.{◌≡◌, ◌<◌, ◌-◌, ℕ, true, List, length, Ok, Some, false, nat_le, refl, sym, ap, subst, arith, find, [], ◌∷◌, option_map, result_map_both, nat_tests, content_of, Cell, world_of, IsSound, IsOwed, blocks_of, told_by, Rows, Became, Held, cells_of_version, rows_of, all-found, found_passes, Book, kinds-numbered, files-numbered, versions-finished, Append, after_change, next_version, with_version, step, versions_made, version_meant, stamps_of, Versions, ChangesOnly, World, has_draft, is_live, is_version, next_of, file_now, Revert, Refusal, made_of, numbered_found, Stamps, VersionRow}
 use Rattle.ele_core.proofs.ClosedSums.{HasAdded, version_owed}
-use Rattle.ele_core.specs.Inside.{world_of, IsSound}
-use Rattle.ele_core.specs.Tracked.{IsOwed, blocks_of, told_by}
-use Rattle.ele_core.specs.declared.rows.Rows.{Rows}
-use Rattle.ele_files.specs.Held.{Became, Held, cells_of_version, rows_of}
-use Rattle.ele_lists.proofs.Edits.{all-found, found_passes}
 use Rattle.ele_time_path.specs.declared.tagged.Tag.TheVariants as tag
-use Rattle.ele_usage.specs.Book.{Book}
-use Rattle.ele_world.proofs.Others.{kinds-numbered, files-numbered, versions-finished}
-use Rattle.ele_world.specs.Change.{Append, after_change, next_version, with_version}
-use Rattle.ele_world.specs.Step.{step, versions_made}
-use Rattle.ele_world.specs.Tagged.{version_meant}
-use Rattle.ele_world.specs.Told.{stamps_of}
-use Rattle.ele_world.specs.WellFormed.{IsVersion, Versions}
-use Rattle.ele_world.specs.Whole.{ChangesOnly}
-use Rattle.ele_world.specs.World.{World, has_draft, is_live, is_version, next_of}
-use Rattle.ele_world.specs.Walk.{file_now}
-use Rattle.ele_world.specs.declared.event.Event.TheVariants.{Revert}
-use Rattle.ele_world.specs.declared.refusal.Refusal.{Refusal}
 use Rattle.ele_world.specs.declared.reply.Reply.TheVariants.{Version}
-use Rattle.ele_world.proofs.Meant.{made_of, numbered_found}
-use Rattle.ele_world.specs.declared.rows.Stamps.{Stamps}
-use Rattle.ele_world.specs.declared.rows.VersionRow.{VersionRow}
 
 module _ (rows : Rows) (file number : ℕ) (stamps : Stamps) (sound : IsSound rows) (held : option_map stamps_of (find (is_version file number) rows.files.versions) ≡ Some stamps) where
   abbrev w : World
@@ -45,25 +20,14 @@ module _ (rows : Rows) (file number : ℕ) (stamps : Stamps) (sound : IsSound ro
     its : stamps_of row ≡ stamps
 
   has_row : HasRow
-  has_row = by (find (is_version file number) rows.files.versions) refl held where
-    by : (o : Option VersionRow) → find (is_version file number) rows.files.versions ≡ o → option_map stamps_of o ≡ Some stamps → HasRow
-    by None found told = absurd cc
-    by (Some row) found told = record { row = row; found = found; its = cc }
+  has_row = grind (arith, nat_tests)
 
   pub held_there : 0 < next_of rows.files.files file
-  held_there =
-      let h = has_row in
-      let is : IsVersion rows.files.files rows.moment h.row = all-found (is_version file number) (IsVersion rows.files.files rows.moment) rows.files.versions h.row h.found (sound.formed.holds Versions).each in
-      let passes = found_passes (is_version file number) rows.files.versions h.row h.found in
-      let own : h.row.file ≡ file = grind (arith, nat_tests) in
-      let numbered = rw own at is.numbered in
-      omega (arith, numbered)
+  held_there = grind (arith, nat_tests, has_row, all-found, found_passes, sound.formed.holds Versions)
 
   -- its length is that of its cells
   pub held_long : stamps.length ≡ length (content_of cells)
-  held_long =
-      let h = has_row in
-      sym (ap (λ (t : Stamps). t.length) h.its) ∙ sym (ap (λ o. length (content_of (option_map_or (λ (row : VersionRow). row.cells) o []))) h.found)
+  held_long = grind (arith, nat_tests, has_row)
 
   changes : ChangesOnly file (told_by rows.files) (told_by (rows_of appended))
   changes =
@@ -95,15 +59,7 @@ pub record IsNumbered (w : World) (file number : ℕ) (stamps : Stamps) : Type 0
   pub own : stamps.number ≡ number
 
 pub is_numbered : (w : World) (file number : ℕ) (stamps : Stamps) → Ok stamps ≡ result_map_both stamps_of (λ (refusal : Refusal). refusal) (version_meant w.files w.versions file (tag.Number number)) → IsNumbered w file number stamps
-is_numbered w file number stamps told = by (version_meant w.files w.versions file (tag.Number number)) refl told where
-  by : (r : Result VersionRow Refusal) → version_meant w.files w.versions file (tag.Number number) ≡ r → Ok stamps ≡ result_map_both stamps_of (λ (refusal : Refusal). refusal) r → IsNumbered w file number stamps
-  by (Err refusal) is told = absurd cc
-  by (Ok row) is told =
-      let found = numbered_found w.versions file number row (made_of w.files w.versions file number row is) in
-      let passes = found_passes (is_version file number) w.versions row found in
-      let same : stamps_of row ≡ stamps = cc in
-      let numbered : row.number ≡ number = grind (arith, nat_tests) in
-      record { row = row; meant = is; found = found; its = same; own = sym (ap (λ (t : Stamps). t.number) same) ∙ numbered }
+is_numbered w file number stamps told = grind (arith, nat_tests, numbered_found, made_of, found_passes)
 
 module _ (w : World) (path : List (List ℕ)) (file number : ℕ) (stamps : Stamps) (is : IsNumbered w file number stamps) where
   -- so it is held

@@ -1,59 +1,21 @@
 -- A file that has a name again, and a version like its last one.
-use Rattle.std.proofs.Common.{◌≡◌, ℕ, ◌-◌, ◌<◌, ◌≤◌, Bool, true, false, cond, not, ◌&&◌, ◌||◌, List, [], ◌∷◌, length, Option, Some, None, is_some, refl, ap, sym, subst, ◌∙◌, arith}
-use Rattle.std.specs.Prelude.{find}
-use Rattle.std.specs.List.{list_any}
-use Rattle.std.specs.Option.{option_map, option_map_or}
-use Rattle.std.proofs.lemmas.Bool.Decides.{nat_tests}
-use Rattle.ele_content.specs.Content.{content_of, longest_content}
+use Rattle.ele_core.proofs.Words.{◌≡◌, ℕ, ◌-◌, ◌<◌, ◌≤◌, Bool, true, false, cond, not, ◌&&◌, ◌||◌, List, [], ◌∷◌, length, Option, Some, None, is_some, refl, ap, sym, subst, ◌∙◌, arith, find, list_any, option_map, option_map_or, nat_tests, content_of, longest_content, world_of, IsSound, NewKeys, IsQueued, is_entry, is_new, new_keys, blocks_of, IsOwed, Rows, stamps_of, Key, has_key, Held, Became, cells_of_version, rows_after, rows_of, all-found, found_passes, Book, Append, Revive, after_change, current_cells, next_version, with_name, ripe_at, is_moment, Versions, IsWellFormed, World, is_held, is_live, next_of, FileRow, File, VersionRow, named_live, MayGrow, moments_stay, in_order_of}
 use Rattle.ele_core.proofs.Appended.{appended_queue, taken_back, refused}
 use Rattle.ele_core.proofs.Booked.{retold}
 use Rattle.ele_core.proofs.ClosedSums.{HasAdded, version_owed}
-use Rattle.ele_core.specs.Inside.{world_of, IsSound}
-use Rattle.ele_core.specs.declared.keys.NewKeys.{NewKeys}
-use Rattle.ele_core.specs.Queued.{IsQueued, is_entry, is_new, new_keys}
-use Rattle.ele_core.specs.Tracked.{blocks_of, IsOwed}
-use Rattle.ele_core.specs.declared.rows.Rows.{Rows}
-use Rattle.ele_world.specs.Told.{stamps_of}
-use Rattle.ele_due.specs.declared.key.Key.{Key}
-use Rattle.ele_due.specs.HasKey.{has_key}
-use Rattle.ele_files.specs.Held.{Held, Became, cells_of_version, rows_after, rows_of}
 use Rattle.ele_lists.proofs.Cuts.{any-found}
-use Rattle.ele_lists.proofs.Edits.{all-found, found_passes}
-use Rattle.ele_usage.specs.Book.{Book}
-use Rattle.ele_world.specs.Change.{Append, Revive, after_change, current_cells, next_version, with_name}
-use Rattle.ele_world.specs.Due.{ripe_at}
-use Rattle.ele_world.specs.Neighbours.{is_moment}
-use Rattle.ele_world.specs.WellFormed.{IsVersion, Versions, IsWellFormed}
-use Rattle.ele_world.specs.World.{World, is_held, is_live, is_version, next_of}
-use Rattle.ele_world.specs.declared.rows.FileRow.{FileRow}
-use Rattle.ele_world.specs.declared.rows.Target.TheVariants.{File}
-use Rattle.ele_world.specs.declared.rows.VersionRow.{VersionRow}
-use Rattle.ele_world.proofs.Created.{named_live}
 use Rattle.ele_world.proofs.KeptRevived.{again}
 use Rattle.ele_world.proofs.May.{MayRevive}
-use Rattle.ele_world.proofs.AppendMoments.{MayGrow}
-use Rattle.ele_world.proofs.NameMoments.{moments_stay}
-use Rattle.ele_world.proofs.Neighbours.{in_order_of}
 use Rattle.ele_world.proofs.Revivals.{changes_revived, named_grows}
 
 -- ---- whether the last version is held
 
 -- a file that isn't there holds none
 pub unheld : (w : World) → IsWellFormed w → (file number : ℕ) → next_of w.files file ≡ 0 → is_held w file number ≡ false
-unheld w k file number none = by (is_held w file number) refl where
-  by : (b : Bool) → is_held w file number ≡ b → b ≡ false
-  by false e = refl
-  by true e =
-      let held = any-found (is_version file number) w.versions e in
-      let row : IsVersion w.files w.now held.0 = all-found (is_version file number) (IsVersion w.files w.now) w.versions held.0 held.1 (k.holds Versions).each in
-      let passes = found_passes (is_version file number) w.versions held.0 held.1 in
-      let own : held.0.file ≡ file = grind (arith, nat_tests) in
-      let numbered = rw own at row.numbered in
-      absurd (omega (arith, numbered, none))
+unheld w k file number none = grind (arith, nat_tests, any-found, all-found, found_passes, k.holds Versions)
 
 pub no_next : (o : Option FileRow) → None ≡ option_map (λ (row : FileRow). row.next) o → option_map_or (λ (row : FileRow). row.next) o 0 ≡ 0
-no_next None e = refl
-no_next (Some row) e = absurd cc
+no_next x0 e = grind (arith, nat_tests)
 
 pub stamped : (p : VersionRow → Bool) (rows : List VersionRow) → is_some (option_map stamps_of (find p rows)) ≡ list_any p rows
 stamped p [] = refl
@@ -65,10 +27,7 @@ stamped p (row ∷ rows) = elim (p row) as (λ b. is_some (option_map stamps_of 
 -- ---- the version
 
 pub version_short : (rows : Rows) → IsSound rows → (file number bytes : ℕ) → bytes ≡ length (content_of (cells_of_version rows.files file number)) → bytes ≤ longest_content
-version_short rows sound file number bytes is = rw is (by (find (is_version file number) rows.files.versions) refl) where
-  by : (o : Option VersionRow) → find (is_version file number) rows.files.versions ≡ o → length (content_of (option_map_or (λ (row : VersionRow). row.cells) o [])) ≤ longest_content
-  by None e = omega arith
-  by (Some row) e = let is : IsVersion rows.files.files rows.moment row = all-found (is_version file number) (IsVersion rows.files.files rows.moment) rows.files.versions row e (sound.formed.holds Versions).each in is.content.short
+version_short rows sound file number bytes is = grind (arith, nat_tests, all-found, sound.formed.holds Versions)
 
 module _ (rows : Rows) (directory : ℕ) (name : List ℕ) (file : ℕ) (sound : IsSound rows) (may : MayRevive (world_of rows) directory name file) where
   abbrev w : World

@@ -1,52 +1,22 @@
 -- Where a path leads by the names of any moment, and what is told of the version that its tag means.
-use Rattle.std.proofs.Common.{◌≡◌, ℕ, Bool, true, false, cond, ◌&&◌, List, [], ◌∷◌, Option, Some, None, Result, Ok, Err, refl, ap, subst, ◌∙◌, nat_lt}
-use Rattle.std.specs.Prelude.{find}
-use Rattle.std.specs.List.{AllByRecursion}
-use Rattle.std.specs.Option.{option_map, option_map_or}
-use Rattle.std.specs.Result.{result_map_both}
-use Rattle.ele_content.specs.Content.{content_of}
+use Rattle.ele_core.proofs.Words.{arith, nat_tests, ◌≡◌, ℕ, Bool, cond, List, [], ◌∷◌, Option, Some, Result, Ok, Err, refl, ap, subst, ◌∙◌, nat_lt, find, AllByRecursion, option_map_or, result_map_both, content_of, AllLater, all-found, target_at, found_outcome, step, version_cells, version_at, version_found, version_meant, walk_meant, walk_then, moment_of, file_stat, listing, stamps_of, directory_in, file_at, walk_now, ArePlaced, IsNameRow, IsThere, World, is_version, root, Read, Refusal, Reply, Bytes, FileStat, NameList, Stamps, Target, File, Directory, VersionRow, is_at, is_meant, file_there}
 use Rattle.ele_core.specs.Told.{found_of, told}
-use Rattle.ele_lists.specs.Lists.{AllLater}
-use Rattle.ele_lists.proofs.Edits.{all-found}
 use Rattle.ele_time_path.specs.declared.path_at.PathAt.{PathAt}
 use Rattle.ele_time_path.specs.declared.tagged.Tag.{Tag}
 use Rattle.ele_time_path.specs.declared.tagged.Tag.TheVariants as tag
 use Rattle.ele_time_path.specs.declared.tagged.TaggedPath.{TaggedPath}
-use Rattle.ele_world.specs.NameRows.{covers, is_named, target_at}
-use Rattle.ele_world.specs.Plan.{found_outcome}
-use Rattle.ele_world.specs.Step.{step, version_cells}
-use Rattle.ele_world.specs.Tagged.{version_at, version_found, version_meant, walk_meant, walk_then, moment_of}
-use Rattle.ele_world.specs.Told.{file_stat, listing, stamps_of}
-use Rattle.ele_world.specs.Walk.{directory_in, file_at, walk_now}
 use Rattle.ele_world.specs.WalkAt.{walk_covering}
-use Rattle.ele_world.specs.WellFormed.{ArePlaced, IsNameRow, IsThere}
-use Rattle.ele_world.specs.World.{World, is_version, policy_for, root}
-use Rattle.ele_world.specs.declared.event.Event.TheVariants.{List as ListNames, Read}
+use Rattle.ele_world.specs.World.{policy_for}
+use Rattle.ele_world.specs.declared.event.Event.TheVariants.{List as ListNames}
 use Rattle.ele_world.specs.declared.event.Source.TheVariants.{Tagged}
-use Rattle.ele_world.specs.declared.refusal.Refusal.{Refusal}
 use Rattle.ele_world.specs.declared.refusal.Refusal.TheVariants.{Future, NoEntry}
-use Rattle.ele_world.specs.declared.reply.Reply.{Reply}
-use Rattle.ele_world.specs.declared.reply.Reply.TheVariants.{Bytes, FileStat, NameList}
-use Rattle.ele_world.specs.declared.rows.NameRow.{NameRow}
-use Rattle.ele_world.specs.declared.rows.Stamps.{Stamps}
-use Rattle.ele_world.specs.declared.rows.Target.{Target}
-use Rattle.ele_world.specs.declared.rows.Target.TheVariants.{File, Directory}
-use Rattle.ele_world.specs.declared.rows.VersionRow.{VersionRow}
-use Rattle.ele_world.proofs.Meant.{is_at, is_meant}
 use Rattle.ele_world.proofs.Versions.{IsFound, all_found}
-use Rattle.ele_world.proofs.Walks.{file_there}
 
 -- ---- where a path leads is there
 
 module _ (w : World) (each : AllByRecursion (IsNameRow w.files w.now) w.names) where
   covered_there : (moment directory : ℕ) (name : List ℕ) (target : Target) → target_at w.names moment directory name ≡ Some target → IsThere w.files target
-  covered_there moment directory name target h = by (find (λ row. is_named directory name row && covers moment row) w.names) refl h where
-    by : (o : Option NameRow) → find (λ row. is_named directory name row && covers moment row) w.names ≡ o → option_map (λ (row : NameRow). row.target) o ≡ Some target → IsThere w.files target
-    by None e h = absurd cc
-    by (Some row) e h =
-        let same : row.target ≡ target = cc in
-        let is : IsNameRow w.files w.now row = all-found (λ row. is_named directory name row && covers moment row) (IsNameRow w.files w.now) w.names row e each in
-        subst (IsThere w.files) same is.there
+  covered_there moment directory name target h = grind (arith, nat_tests, all-found)
 
   walked_there : (moment : ℕ) (at target : Target) (names : List (List ℕ)) → IsThere w.files at → walk_covering w.names moment at names ≡ Ok target → IsThere w.files target
   walked_there moment at target [] so h = let same : at ≡ target = cc in subst (IsThere w.files) same so
@@ -54,8 +24,7 @@ module _ (w : World) (each : AllByRecursion (IsNameRow w.files w.now) w.names) w
   walked_there moment (Directory directory) target (name ∷ names) so h =
       go (λ next so. walked_there moment next target names so) (target_at w.names moment directory name) refl h where
         go : ((next : Target) → IsThere w.files next → walk_covering w.names moment next names ≡ Ok target → IsThere w.files target) → (o : Option Target) → target_at w.names moment directory name ≡ o → option_map_or (λ target. walk_covering w.names moment target names) o (Err NoEntry) ≡ Ok target → IsThere w.files target
-        go onward None e h = absurd cc
-        go onward (Some next) e h = onward next (covered_there moment directory name next e) h
+        go onward x1 e h = grind (arith, nat_tests, covered_there)
 
   now_there : (path : List (List ℕ)) (target : Target) → walk_now w.names path ≡ Ok target → IsThere w.files target
   now_there path (File file) h = file_there w.files w.now w.names path file each (ap file_at h)
@@ -66,8 +35,7 @@ module _ (w : World) (each : AllByRecursion (IsNameRow w.files w.now) w.names) w
   meant_there path (tag.Number number) target h = now_there path target h
   meant_there path (tag.At moment) target h = by (nat_lt w.now moment) h where
     by : (b : Bool) → cond b (Err Future) (walk_covering w.names moment (Directory root) path) ≡ Ok target → IsThere w.files target
-    by true h = absurd cc
-    by false h = walked_there moment (Directory root) target path tt h
+    by x0 h = grind (arith, nat_tests, walked_there)
 
 -- ---- the version that is meant, by its stamps
 
@@ -95,10 +63,7 @@ pub record IsTold (w : World) (tagged : TaggedPath) (found : ℕ × Stamps) : Ty
   pub is : found ≡ (row.file, stamps_of row)
 
 pub told_row : (w : World) (tagged : TaggedPath) (found : ℕ × Stamps) → Ok found ≡ found_of (version_at w tagged) → IsTold w tagged found
-told_row w tagged found h = by (version_at w tagged) refl h where
-  by : (r : Result VersionRow Refusal) → version_at w tagged ≡ r → Ok found ≡ found_of r → IsTold w tagged found
-  by (Err refusal) e h = absurd cc
-  by (Ok row) e h = record { row = row; meant = e; is = cc }
+told_row w tagged found h = grind (arith, nat_tests)
 
 -- it is the one that is found by its file and number
 pub found_itself : (versions : List VersionRow) (passes : VersionRow → Bool) (row : VersionRow) → AllLater ArePlaced versions → find passes versions ≡ Some row → find (is_version row.file row.number) versions ≡ Some row
@@ -107,11 +72,7 @@ found_itself versions passes row placed found = all-found passes (IsFound versio
 -- what is read of it are its bytes
 module _ (w : World) (tagged : TaggedPath) (placed : AllLater ArePlaced w.versions) where
   row_bytes : (found : ℕ × Stamps) (told : IsTold w tagged found) → content_of (version_cells w found.0 found.1.number) ≡ content_of told.row.cells
-  row_bytes found told =
-      let meant = is_at w tagged told.row told.meant in
-      let itself = found_itself w.versions meant.passes told.row placed meant.found in
-      ap (λ (f : ℕ × Stamps). content_of (version_cells w f.0 f.1.number)) told.is
-      ∙ ap (λ o. content_of (option_map_or (λ (row : VersionRow). row.cells) o [])) itself
+  row_bytes found told = grind (arith, nat_tests, is_at w tagged told.row told.meant, found_itself)
 
   pub told_read : (found : ℕ × Stamps) (bytes : List ℕ) → Ok found ≡ found_of (version_at w tagged) → bytes ≡ content_of (version_cells w found.0 found.1.number) → (v : World) → v ≡ w → (Bytes bytes, v) ≡ step w (Read (Tagged tagged))
   told_read found bytes h is v same =
@@ -126,5 +87,4 @@ told_list w at directory items leads is = rw (leads, is) refl
 
 -- what is told, or why nothing is, leaves the world
 pub told_outcome : (w : World) (r : Result Reply Refusal) → (told r, w) ≡ found_outcome w r (λ reply. (reply, w))
-told_outcome w (Ok reply) = refl
-told_outcome w (Err refusal) = refl
+told_outcome w x1 = grind (arith, nat_tests)

@@ -1,31 +1,8 @@
 -- What the end of a file's name leaves of the keys and of the book.
-use Rattle.std.proofs.Common.{◌≡◌, ℕ, ◌+◌, ◌-◌, ◌<◌, ◌==◌, true, false, cond, List, Option, Some, None, is_none, refl, ap, sym, subst, ◌∙◌, arith}
-use Rattle.std.specs.Prelude.{find, nat_lt}
-use Rattle.std.specs.List.{count_by}
-use Rattle.std.specs.Option.{option_map}
-use Rattle.std.proofs.lemmas.Bool.Decides.{nat_tests}
+use Rattle.ele_core.proofs.Words.{◌≡◌, ℕ, ◌+◌, ◌-◌, ◌<◌, true, false, cond, List, Some, None, refl, ap, sym, subst, ◌∙◌, arith, find, count_by, nat_tests, IsQueued, IsRekeyed, end_moment, is_marked, is_moment, near_moment, told_by, IsBooked, Key, Held, current_ended, rows_of, all-found, found_passes, any-count, count-update_first, Book, EndFileName, after_change, with_end, without_name, ripe_at, is_live_name, live_target, Names, IsWellFormed, World, is_live, is_live_name_of, is_open, is_version, next_of, policy_of, NameRow, File, ended_moment, live_moments, no_moment, other_moments, target_live}
 use Rattle.ele_core.proofs.Following.{entry_follows}
-use Rattle.ele_core.specs.Queued.{IsQueued, IsRekeyed, end_moment}
-use Rattle.ele_world.specs.GroupRows.{is_marked}
-use Rattle.ele_world.specs.Neighbours.{is_moment, near_moment}
-use Rattle.ele_core.specs.Tracked.{told_by, IsBooked}
-use Rattle.ele_due.specs.declared.key.Key.{Key}
-use Rattle.ele_files.specs.Held.{Held, current_ended, rows_of}
-use Rattle.ele_lists.proofs.Edits.{all-found, found_passes}
-use Rattle.ele_lists.proofs.Sums.{any-count, count-update_first}
-use Rattle.ele_usage.specs.Book.{Book}
-use Rattle.ele_world.specs.Change.{EndFileName, after_change, with_end, without_name}
-use Rattle.ele_world.specs.Due.{ripe_at}
-use Rattle.ele_world.specs.NameRows.{dies}
-use Rattle.ele_world.specs.Walk.{is_live_name, live_target}
-use Rattle.ele_world.specs.WellFormed.{IsNameRow, IsThere, Names, IsWellFormed}
-use Rattle.ele_world.specs.World.{World, is_live, is_live_name_of, is_open, is_version, next_of, policy_of}
-use Rattle.ele_world.specs.declared.rows.NameRow.{NameRow}
-use Rattle.ele_world.specs.declared.rows.Target.TheVariants.{File}
 use Rattle.ele_world.proofs.Currents.{HasCurrent, has_current}
 use Rattle.ele_world.proofs.EndUsage.{usage_ended}
-use Rattle.ele_world.proofs.NameMoments.{ended_moment, live_moments, no_moment, other_moments}
-use Rattle.ele_world.proofs.Walks.{target_live}
 
 -- an end that is set changes nothing of the book
 pub ended_book : (h : Held) (file now : ℕ) (book : Book) → IsBooked h book → IsBooked (current_ended h file now) book
@@ -38,40 +15,21 @@ module _ (w : World) (directory : ℕ) (name : List ℕ) (file : ℕ) (stands : 
     own : row.target ≡ File file
 
   named : IsNamed
-  named = by (find (is_live_name directory name) w.names) refl stands where
-    by : (o : Option NameRow) → find (is_live_name directory name) w.names ≡ o → option_map (λ (row : NameRow). row.target) o ≡ Some (File file) → IsNamed
-    by None found is = absurd cc
-    by (Some row) found is = record { row = row; found = found; own = cc }
+  named = grind (arith, nat_tests)
 
   pub file_there : IsWellFormed w → 0 < next_of w.files file
-  file_there k =
-      let n = named in
-      let is : IsNameRow w.files w.now n.row = all-found (is_live_name directory name) (IsNameRow w.files w.now) w.names n.row n.found (k.holds Names).each in
-      subst (IsThere w.files) n.own is.there
+  file_there k = grind (arith, nat_tests, named, all-found, k.holds Names)
 
   -- ---- how many names are left
 
   one_less : count_by (is_live_name_of file) (without_name w directory name).names + 1 ≡ count_by (is_live_name_of file) w.names
-  one_less =
-      let n = named in
-      let passes = found_passes (is_live_name directory name) w.names n.row n.found in
-      let alive : is_none n.row.death ≡ true = grind (arith, nat_tests) in
-      let itself : (file == file) ≡ true = grind (arith, nat_tests) in
-      count-update_first (is_live_name_of file) (is_live_name directory name) (dies w.now) w.names n.row n.found (rw (n.own, itself) alive) (rw (n.own, itself) refl)
+  one_less = grind (arith, nat_tests, named, found_passes, count-update_first)
 
   pub last_ends : count_by (is_live_name_of file) w.names ≡ 1 → is_live (without_name w directory name) file ≡ false
-  last_ends last =
-      let none : count_by (is_live_name_of file) (without_name w directory name).names ≡ 0 = omega (arith, one_less, last) in
-      any-count (is_live_name_of file) (without_name w directory name).names ∙ rw none refl
+  last_ends last = grind (arith, nat_tests, one_less, any-count (is_live_name_of file) (without_name w directory name).names)
 
   pub others_live : (count_by (is_live_name_of file) w.names ≡ 1 → ⊥) → is_live (without_name w directory name) file ≡ true
-  others_live more =
-      let left = count_by (is_live_name_of file) (without_name w directory name).names in
-      any-count (is_live_name_of file) (without_name w directory name).names
-      ∙ elim (nat_lt 0 left) as (λ b. nat_lt 0 left ≡ b → b ≡ true) [
-        | true ↦ λ e. refl
-        | false ↦ λ e. absurd (more (let none : left ≡ 0 = grind (arith, nat_tests) in omega (arith, one_less, none)))
-      ] refl
+  others_live more = grind (arith, nat_tests, any-count (is_live_name_of file) (without_name w directory name).names, one_less)
 
   -- ---- while others are left
 

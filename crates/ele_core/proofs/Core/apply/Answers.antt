@@ -1,4 +1,4 @@
-use Rattle.ele_core.specs.Inside.{world_of}
+use Rattle.ele_core.proofs.Words.{world_of}
 use Rattle.ele_core.proofs.Kept.{answer_keeps}
 use Rattle.ele_core.proofs.Core.apply.Goals as goal
 

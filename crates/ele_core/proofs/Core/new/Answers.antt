@@ -1,6 +1,5 @@
-use Rattle.ele_world.specs.World.{fresh_world}
+use Rattle.ele_core.proofs.Words.{fresh_world, fresh_is}
 use Rattle.ele_core.proofs.Fresh.{no_usage, no_keys}
-use Rattle.ele_world.proofs.StepKeeps.{fresh_is}
 use Rattle.ele_core.proofs.Core.new.Goals as goal
 
 pub invariant_of-result-2 : goal.invariant_of-result-2

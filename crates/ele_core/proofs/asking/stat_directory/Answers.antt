@@ -1,4 +1,4 @@
-use Rattle.ele_world.specs.WellFormed.{Directories}
+use Rattle.ele_core.proofs.Words.{Directories}
 use Rattle.ele_core.proofs.asking.stat_directory.Goals as goal
 
 pub default_of-requires : goal.default_of-requires

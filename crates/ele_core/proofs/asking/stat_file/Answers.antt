@@ -1,5 +1,4 @@
-use Rattle.std.proofs.Common.{sym, ◌∙◌}
-use Rattle.ele_core.specs.Inside.{world_of}
+use Rattle.ele_core.proofs.Words.{sym, ◌∙◌, world_of}
 use Rattle.ele_core.proofs.ToldVersions.{told_stat}
 use Rattle.ele_core.proofs.asking.stat_file.Goals as goal
 

@@ -1,4 +1,4 @@
-use Rattle.std.proofs.Common.{refl}
+use Rattle.ele_core.proofs.Words.{refl}
 use Rattle.ele_policy.specs.declared.policy.Kind.TheVariants as kind
 use Rattle.ele_core.proofs.Booked.{booked}
 use Rattle.ele_core.proofs.asking.usage.Goals as goal

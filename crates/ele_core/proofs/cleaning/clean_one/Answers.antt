@@ -1,6 +1,5 @@
-use Rattle.std.proofs.Common.{sym, ◌∙◌}
+use Rattle.ele_core.proofs.Words.{sym, ◌∙◌, world_of}
 use Rattle.ele_core.proofs.Removed.{removed_keeps}
-use Rattle.ele_core.specs.Inside.{world_of}
 use Rattle.ele_core.proofs.cleaning.clean_one.Goals as goal
 
 pub drop_idle-requires : goal.drop_idle-requires

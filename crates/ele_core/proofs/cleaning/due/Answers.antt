@@ -1,11 +1,6 @@
-use Rattle.std.proofs.Common.{◌∙◌}
-use Rattle.std.specs.List.{filter_map}
-use Rattle.ele_core.specs.Inside.{world_of}
+use Rattle.ele_core.proofs.Words.{arith, nat_tests, world_of}
 use Rattle.ele_core.proofs.Asked.{due_keys, scan_is}
-use Rattle.ele_world.specs.Scan.{due_key}
 use Rattle.ele_core.proofs.cleaning.due.Goals as goal
 
 pub returns : goal.returns
-returns c =
-    let w = world_of c.args.rows.now in
-    c.from_vec.ensures ∙ c.in_ok-until.ensures.only (filter_map (due_key w) w.versions) (due_keys c.args.rows.now c.requires) ∙ scan_is w
+returns c = grind (arith, nat_tests, due_keys c.args.rows.now c.requires, scan_is (world_of c.args.rows.now))

@@ -1,4 +1,4 @@
-use Rattle.std.proofs.Common.{refl, ◌∙◌}
+use Rattle.ele_core.proofs.Words.{refl, ◌∙◌}
 use Rattle.ele_core.proofs.Asked.{first_is}
 use Rattle.ele_core.proofs.cleaning.due_first.Goals as goal
 

@@ -1,5 +1,4 @@
-use Rattle.ele_core.specs.Inside.{world_of, IsSound}
-use Rattle.ele_world.specs.Pass.{IsCleaned}
+use Rattle.ele_core.proofs.Words.{world_of, IsSound, IsCleaned}
 use Rattle.ele_core.proofs.cleaning.pass.Given as goal
 
 abbrev pub invariant-loop-removed : goal.invariant-loop-removed

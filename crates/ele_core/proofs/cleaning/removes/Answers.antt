@@ -1,12 +1,6 @@
-use Rattle.std.proofs.Common.{ap}
-use Rattle.ele_core.specs.Inside.{world_of}
+use Rattle.ele_core.proofs.Words.{arith, nat_tests}
 use Rattle.ele_core.proofs.Passing.{clean_keeps}
-use Rattle.ele_world.specs.declared.reply.Reply.{Reply}
-use Rattle.ele_world.specs.World.{World}
 use Rattle.ele_core.proofs.cleaning.removes.Goals as goal
 
 pub returns-clause-sound : goal.returns-clause-sound
-returns-clause-sound c = record {
-  formed = clean_keeps (world_of c.args.rows.now) (world_of c.clean_one.new.rows) (ap (λ (e : Reply × World). e.1) c.clean_one.ensures.step) c.requires.formed;
-  tracked = c.clean_one.ensures.tracked;
-}
+returns-clause-sound c = grind (arith, nat_tests, clean_keeps)

@@ -1,14 +1,8 @@
-use Rattle.std.proofs.Common.{◌≡◌, ◌&&◌, ◌||◌, not, [], refl, sym, ap, ◌∙◌, arith}
+use Rattle.ele_core.proofs.Words.{nat_tests, ◌≡◌, ◌&&◌, ◌||◌, not, [], refl, sym, ap, ◌∙◌, arith, world_of, is_new, new_keys, has_key, cells_of_draft, is_live, may_grow}
 use Rattle.ele_core.proofs.Bounded.{versions_few}
 use Rattle.ele_core.proofs.ClosedSteps.{drafted, file_there, finished_step, is_final, over, over_keeps, over_keys, over_queue, past, numbered, writes_file}
 use Rattle.ele_core.proofs.Appended.{appended_queue, taken_back, refused}
 use Rattle.ele_core.proofs.ClosedSums.{finished_owed, draft_short, version_fits, added_fits}
-use Rattle.ele_core.specs.Inside.{world_of}
-use Rattle.ele_core.specs.Queued.{is_new, new_keys}
-use Rattle.ele_due.specs.HasKey.{has_key}
-use Rattle.ele_files.specs.Held.{cells_of_draft}
-use Rattle.ele_world.specs.World.{is_live}
-use Rattle.ele_world.proofs.AppendMoments.{may_grow}
 use Rattle.ele_core.proofs.closing.finish.Goals as goal
 
 pub new_keys-keys-requires-clause-there : goal.new_keys-keys-requires-clause-there
@@ -24,10 +18,7 @@ pub finish-finished-requires-clause-past : goal.finish-finished-requires-clause-
 finish-finished-requires-clause-past c = past c.args.rows.now c.requires.sound
 
 pub add_version-requires : goal.add_version-requires
-add_version-requires c =
-    version_fits c.args.rows.now c.requires.sound c.draft_bytes-bytes.result c.blocks-before.result
-    (draft_short c.args.rows.now c.requires.sound c.args.file c.draft_bytes-bytes.result c.draft_bytes-bytes.ensures)
-    c.blocks-before.ensures.value c.blocks-before.ensures.bound
+add_version-requires c = grind (arith, nat_tests, version_fits, draft_short)
 
 pub follow_blocks-requires-clause-owed : goal.follow_blocks-requires-clause-owed
 follow_blocks-requires-clause-owed c =
@@ -40,10 +31,7 @@ follow_blocks-requires-clause-fits c =
     (draft_short c.args.rows.now c.requires.sound c.args.file c.draft_bytes-bytes.result c.draft_bytes-bytes.ensures) c.add_version.ensures
 
 pub returns-clause-step : goal.returns-clause-step
-returns-clause-step c =
-    let w = world_of c.args.rows.now in
-    let after = c.in-Ok.ensures.ok w refl (sym c.is_live-is_live.ensures) in
-    rw (after, c.in-Ok.ensures.number) (sym (finished_step w c.args.handle c.args.file c.requires.reads c.args.opened c.requires.changed))
+returns-clause-step c = grind (arith, nat_tests, finished_step, c.in-Ok.ensures.ok)
 
 pub finish-finished-requires-clause-file : goal.finish-finished-requires-clause-file
 finish-finished-requires-clause-file c = writes_file (world_of c.args.rows.now) c.args.handle c.args.file c.requires.reads

@@ -1,14 +1,7 @@
-use Rattle.std.proofs.Common.{None, ap, sym, subst, ◌∙◌}
+use Rattle.ele_core.proofs.Words.{None, ap, sym, subst, ◌∙◌, world_of, IsQueued, with_rows, DropIdle, after_change, IsWellFormed, World, Closed}
 use Rattle.ele_core.proofs.Booked.{fits}
 use Rattle.ele_core.proofs.ClosedSteps.{left_keeps, left_queue, left_step, left_world, leaves}
 use Rattle.ele_core.proofs.ClosedSums.{left_owed}
-use Rattle.ele_core.specs.Inside.{world_of}
-use Rattle.ele_core.specs.Queued.{IsQueued}
-use Rattle.ele_files.specs.Held.{with_rows}
-use Rattle.ele_world.specs.Change.{DropIdle, after_change}
-use Rattle.ele_world.specs.WellFormed.{IsWellFormed}
-use Rattle.ele_world.specs.World.{World}
-use Rattle.ele_world.specs.declared.reply.Reply.TheVariants.{Closed}
 use Rattle.ele_core.proofs.closing.leave.Goals as goal
 
 pub follow_blocks-requires-clause-owed : goal.follow_blocks-requires-clause-owed

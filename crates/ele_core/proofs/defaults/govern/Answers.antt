@@ -1,10 +1,6 @@
-use Rattle.std.proofs.Common.{◌≡◌, position, Some, refl}
-use Rattle.ele_world.specs.World.{is_directory}
-use Rattle.ele_world.specs.Change.{governed_by}
+use Rattle.ele_core.proofs.Words.{arith, nat_tests}
 use Rattle.ele_lists.proofs.Places.{set-first}
 use Rattle.ele_core.proofs.defaults.govern.Goals as goal
 
 pub returns-in-Some : goal.returns-in-Some
-returns-in-Some c =
-    let found : position (is_directory c.args.directory) c.args.directories.now.items ≡ Some c.in-Some.at = cc in
-    set-first (is_directory c.args.directory) (governed_by c.args.policy) _ _ c.index_mut-row.result.now _ found c.index_mut-row.ensures.value refl
+returns-in-Some c = grind (arith, nat_tests, set-first)

@@ -1,4 +1,4 @@
-use Rattle.ele_world.specs.WellFormed.{Directories}
+use Rattle.ele_core.proofs.Words.{Directories}
 use Rattle.ele_core.proofs.defaults.set_default.Goals as goal
 
 pub govern-requires : goal.govern-requires

@@ -1,8 +1,5 @@
-use Rattle.std.proofs.Common.{◌+◌}
+use Rattle.ele_core.proofs.Words.{◌+◌, world_of, Directory, Directories}
 use Rattle.ele_core.proofs.NewNames.{follows_new}
-use Rattle.ele_core.specs.Inside.{world_of}
-use Rattle.ele_world.specs.declared.rows.Target.TheVariants.{Directory}
-use Rattle.ele_world.specs.WellFormed.{Directories}
 use Rattle.ele_core.proofs.directories.add_directory.Goals as goal
 
 pub add-requires : goal.add-requires

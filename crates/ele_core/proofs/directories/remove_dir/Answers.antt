@@ -1,10 +1,6 @@
-use Rattle.std.proofs.Common.{refl, sym}
-use Rattle.ele_core.specs.Inside.{world_of}
+use Rattle.ele_core.proofs.Words.{refl, sym, world_of, EndName, after_change, directory_in, last_names}
 use Rattle.ele_core.proofs.LinkedNames.{queue_stays}
 use Rattle.ele_core.proofs.Placed.{placed_refused}
-use Rattle.ele_world.specs.Change.{EndName, after_change}
-use Rattle.ele_world.specs.Walk.{directory_in}
-use Rattle.ele_world.proofs.Walks.{last_names}
 use Rattle.ele_core.proofs.directories.remove_dir.Goals as goal
 
 pub returns-in-Err-clause-step : goal.returns-in-Err-clause-step

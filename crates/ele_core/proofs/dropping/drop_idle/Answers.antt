@@ -1,10 +1,5 @@
-use Rattle.std.proofs.Common.{◌≡◌, true, refl, ap, sym, subst, ◌∙◌, arith}
+use Rattle.ele_core.proofs.Words.{nat_tests, ◌≡◌, true, refl, ap, sym, subst, ◌∙◌, arith, world_of, IsQueued, DropIdle, is_idle, without_file, after_change, is_moment, World}
 use Rattle.ele_core.proofs.DroppedFiles.{absent_stays, dropped_within, dropped_book}
-use Rattle.ele_core.specs.Inside.{world_of}
-use Rattle.ele_core.specs.Queued.{IsQueued}
-use Rattle.ele_world.specs.Change.{DropIdle, is_idle, without_file, after_change}
-use Rattle.ele_world.specs.Neighbours.{is_moment}
-use Rattle.ele_world.specs.World.{World}
 use Rattle.ele_world.proofs.DropViews.{ripe_at_dropped}
 use Rattle.ele_core.proofs.dropping.drop_idle.Goals as goal
 
@@ -12,9 +7,7 @@ pub returns-in_default-clause-world : goal.returns-in_default-clause-world
 returns-in_default-clause-world c = absent_stays (world_of c.args.rows.now) c.args.file c.requires.formed (sym c.policy_of.ensures ∙ c.in_default.is)
 
 pub sub-requires : goal.sub-requires
-sub-requires c =
-    let idle : is_idle (world_of c.args.rows.now) c.args.file ≡ true = grind (arith, c.is_live.ensures, c.if-is_live.false, c.is_bare.ensures, c.if-not-is_bare.false) in
-    rw c.kind.ensures (dropped_within c.args.rows.now c.args.file c.in-Some.policy c.requires (sym c.policy_of.ensures ∙ c.in-Some.is) idle)
+sub-requires c = grind (arith, nat_tests, dropped_within, c.kind.ensures)
 
 pub returns-clause-tracked : goal.returns-clause-tracked
 returns-clause-tracked c =

@@ -1,11 +1,5 @@
-use Rattle.std.proofs.Common.{[], ◌∷◌, ◌&&◌, None, not, ap, ◌∙◌}
+use Rattle.ele_core.proofs.Words.{[], ◌∷◌, ◌&&◌, None, not, ap, ◌∙◌, world_of, keys_at, has_key, AddMark, after_change, members_of, mark_comes}
 use Rattle.ele_core.proofs.Marked.{come_queue}
-use Rattle.ele_core.specs.Inside.{world_of}
-use Rattle.ele_core.specs.Queued.{keys_at}
-use Rattle.ele_due.specs.HasKey.{has_key}
-use Rattle.ele_world.specs.Change.{AddMark, after_change}
-use Rattle.ele_world.specs.GroupsAsked.{members_of}
-use Rattle.ele_world.proofs.GroupMoments.{mark_comes}
 use Rattle.ele_core.proofs.grouping.add_mark.Goals as goal
 
 pub returns-clause-tracked : goal.returns-clause-tracked

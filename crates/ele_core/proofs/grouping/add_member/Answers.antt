@@ -1,11 +1,5 @@
-use Rattle.std.proofs.Common.{[], ◌∷◌, ◌&&◌, None, not, ap, ◌∙◌}
+use Rattle.ele_core.proofs.Words.{[], ◌∷◌, ◌&&◌, None, not, ap, ◌∙◌, world_of, keys_at, has_key, AddMember, after_change, marks_of, member_comes}
 use Rattle.ele_core.proofs.Marked.{come_queue}
-use Rattle.ele_core.specs.Inside.{world_of}
-use Rattle.ele_core.specs.Queued.{keys_at}
-use Rattle.ele_due.specs.HasKey.{has_key}
-use Rattle.ele_world.specs.Change.{AddMember, after_change}
-use Rattle.ele_world.specs.GroupsAsked.{marks_of}
-use Rattle.ele_world.proofs.GroupMoments.{member_comes}
 use Rattle.ele_core.proofs.grouping.add_member.Goals as goal
 
 pub returns-clause-tracked : goal.returns-clause-tracked

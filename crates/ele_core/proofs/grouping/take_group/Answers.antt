@@ -1,12 +1,5 @@
-use Rattle.std.proofs.Common.{◌&&◌, ◌||◌, Some, None, not, ap, ◌∙◌}
+use Rattle.ele_core.proofs.Words.{◌&&◌, ◌||◌, Some, None, not, ap, ◌∙◌, world_of, keys_at, Left, has_key, DropGroup, after_change, marks_of, members_of, group_goes}
 use Rattle.ele_core.proofs.Marked.{go_queue, unfreed_queue}
-use Rattle.ele_core.specs.Inside.{world_of}
-use Rattle.ele_core.specs.Queued.{keys_at}
-use Rattle.ele_core.specs.declared.marking.Left.{Left}
-use Rattle.ele_due.specs.HasKey.{has_key}
-use Rattle.ele_world.specs.Change.{DropGroup, after_change}
-use Rattle.ele_world.specs.GroupsAsked.{marks_of, members_of}
-use Rattle.ele_world.proofs.GroupMoments.{group_goes}
 use Rattle.ele_core.proofs.grouping.take_group.Goals as goal
 
 pub returns-in_err-put_all-clause-tracked : goal.returns-in_err-put_all-clause-tracked

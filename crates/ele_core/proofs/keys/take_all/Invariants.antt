@@ -1,6 +1,4 @@
-use Rattle.std.proofs.Common.{◌≡◌, ◌&&◌, not, drop}
-use Rattle.ele_due.specs.declared.key.Key.{Key}
-use Rattle.ele_due.specs.HasKey.{has_key}
+use Rattle.ele_core.proofs.Words.{◌≡◌, ◌&&◌, not, drop, Key, has_key}
 use Rattle.ele_core.proofs.keys.take_all.Given as goal
 
 -- what is to be left is what the rest leaves

@@ -1,8 +1,6 @@
-use Rattle.std.proofs.Common.{refl}
-use Rattle.ele_core.specs.Inside.{world_of}
+use Rattle.ele_core.proofs.Words.{refl, world_of, AddName, after_change}
 use Rattle.ele_core.proofs.LinkedNames.{queue_stays}
 use Rattle.ele_core.proofs.NewNames.{follows_new}
-use Rattle.ele_world.specs.Change.{AddName, after_change}
 use Rattle.ele_core.proofs.links.add_name.Goals as goal
 
 pub add-requires : goal.add-requires

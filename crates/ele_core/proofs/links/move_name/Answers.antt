@@ -1,29 +1,17 @@
-use Rattle.std.proofs.Common.{◌≡◌, refl, ap, ◌∙◌, ◌++◌, ◌∷◌, []}
-use Rattle.ele_core.specs.Inside.{world_of}
+use Rattle.ele_core.proofs.Words.{arith, nat_tests, ◌≡◌, refl, ◌++◌, ◌∷◌, [], world_of, update_first, MoveName, after_change, born_row, dies, is_live_name, live_target-push}
 use Rattle.ele_core.proofs.LinkedNames.{queue_stays, dies_before}
 use Rattle.ele_core.proofs.NewNames.{follows_new}
-use Rattle.ele_lists.specs.Lists.{update_first}
-use Rattle.ele_world.specs.Change.{MoveName, after_change}
-use Rattle.ele_world.specs.NameRows.{born_row, dies}
-use Rattle.ele_world.specs.Walk.{is_live_name}
-use Rattle.ele_world.proofs.Walks.{live_target-push}
 use Rattle.ele_core.proofs.links.move_name.Goals as goal
 
 pub add-requires : goal.add-requires
 add-requires c = follows_new (world_of c.args.rows.now) c.args.to.now.0 c.args.to.now.1 c.args.target.now c.requires.sound.formed c.requires.free
 
 pub kill-requires : goal.kill-requires
-kill-requires c =
-    let rows = c.args.rows.now in
-    rw (c.in_ok-add.ensures.ok, live_target-push rows.names (born_row c.args.to.now.0 c.args.to.now.1 c.args.target.now rows.moment) c.args.from.now.0 c.args.from.now.1 c.args.target.now c.requires.stands) refl
+kill-requires c = grind (arith, nat_tests, live_target-push)
 
 -- the names are those of the change
 moved : (c : goal.After-rows-1) → c.kill.new.self ≡ update_first (is_live_name c.args.from.now.0 c.args.from.now.1) (dies c.args.rows.now.moment) c.args.rows.now.names ++ born_row c.args.to.now.0 c.args.to.now.1 c.args.target.now c.args.rows.now.moment ∷ []
-moved c =
-    let rows = c.args.rows.now in
-    c.kill.ensures
-    ∙ ap (update_first (is_live_name c.args.from.now.0 c.args.from.now.1) (dies rows.moment)) c.in_ok-add.ensures.ok
-    ∙ dies_before rows.names c.args.from.now.0 c.args.from.now.1 c.args.to.now.0 c.args.to.now.1 c.args.target.now rows.moment c.requires.stands c.requires.free
+moved c = grind (arith, nat_tests, dies_before)
 
 pub returns-clause-ok : goal.returns-clause-ok
 returns-clause-ok c = rw (moved c) refl

@@ -1,7 +1,5 @@
-use Rattle.std.proofs.Common.{refl, sym}
+use Rattle.ele_core.proofs.Words.{refl, sym, world_of, last_names}
 use Rattle.ele_core.proofs.Placed.{placed_refused}
-use Rattle.ele_core.specs.Inside.{world_of}
-use Rattle.ele_world.proofs.Walks.{last_names}
 use Rattle.ele_core.proofs.links.rename.Goals as goal
 
 pub returns-in-Err-clause-step : goal.returns-in-Err-clause-step

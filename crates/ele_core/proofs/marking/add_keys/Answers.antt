@@ -1,6 +1,4 @@
-use Rattle.std.proofs.Common.{[], ◌++◌, take, ap, sym, ◌∙◌}
-use Rattle.std.specs.List.{cons_option, filter_map}
-use Rattle.ele_core.specs.Queued.{key_at}
+use Rattle.ele_core.proofs.Words.{[], ◌++◌, take, ap, sym, ◌∙◌, cons_option, filter_map, key_at}
 use Rattle.ele_core.proofs.Marked.{one_more}
 use Rattle.ele_core.proofs.marking.add_keys.Goals as goal
 

@@ -1,6 +1,4 @@
-use Rattle.std.proofs.Common.{◌≡◌, ◌++◌, take}
-use Rattle.std.specs.List.{filter_map}
-use Rattle.ele_core.specs.Queued.{key_at}
+use Rattle.ele_core.proofs.Words.{◌≡◌, ◌++◌, take, filter_map, key_at}
 use Rattle.ele_core.proofs.marking.add_keys.Given as goal
 
 abbrev pub invariant-loop-mark : goal.invariant-loop-mark

@@ -1,5 +1,4 @@
-use Rattle.std.proofs.Common.{◌≡◌, take}
-use Rattle.ele_core.specs.Queued.{keys_at}
+use Rattle.ele_core.proofs.Words.{◌≡◌, take, keys_at}
 use Rattle.ele_core.proofs.marking.keys_at.Given as goal
 
 abbrev pub invariant-loop-file : goal.invariant-loop-file

@@ -1,13 +1,8 @@
-use Rattle.std.proofs.Common.{◌≡◌, ◌+◌, refl, ap, ◌∙◌, not, filter}
-use Rattle.ele_core.specs.Tracked.{blocks_of}
+use Rattle.ele_core.proofs.Words.{arith, nat_tests, ◌≡◌, ◌+◌, refl, blocks_of, world_of, Directories, File}
 use Rattle.ele_core.proofs.Booked.{made_fits, made_book}
 use Rattle.ele_core.proofs.Bounded.{files_before}
 use Rattle.ele_core.proofs.Made.{made_queue}
 use Rattle.ele_core.proofs.NewNames.{follows_new, name_goes}
-use Rattle.ele_core.specs.Inside.{world_of}
-use Rattle.ele_world.specs.WellFormed.{Directories}
-use Rattle.ele_world.specs.World.{is_target_file}
-use Rattle.ele_world.specs.declared.rows.Target.TheVariants.{File}
 use Rattle.ele_core.proofs.names.add_file.Goals as goal
 
 pub default_of-policy-requires : goal.default_of-policy-requires
@@ -24,9 +19,7 @@ add-requires-3 c = made_fits c.args.rows.now c.kind.result (blocks_of c.args.row
 
 -- the name goes again
 names_back : (c : goal.After-drop_file) → c.drop_file.new.self ≡ c.args.rows.now.names
-names_back c =
-    c.drop_file.ensures ∙ ap (filter (λ row. not (is_target_file (c.args.rows.now.made.files + 1) row.target))) c.in_ok-add.ensures.ok
-    ∙ name_goes (world_of c.args.rows.now) c.args.directory c.args.name c.requires.sound.formed
+names_back c = grind (arith, nat_tests, name_goes (world_of c.args.rows.now) c.args.directory c.args.name c.requires.sound.formed)
 
 pub returns-in-Err-clause-err : goal.returns-in-Err-clause-err
 returns-in-Err-clause-err c = rw (names_back c, c.in-Err.ensures.err) refl

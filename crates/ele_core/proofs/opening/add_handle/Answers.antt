@@ -1,9 +1,6 @@
 use Rattle.ele_core.proofs.Booked.{fits, opened_owed}
-use Rattle.std.proofs.Common.{arith, subst, sym}
+use Rattle.ele_core.proofs.Words.{nat_tests, arith}
 use Rattle.ele_core.proofs.OpenedKeys.{opened_queue}
-use Rattle.ele_core.specs.Inside.{world_of}
-use Rattle.ele_core.specs.Queued.{IsQueued}
-use Rattle.ele_files.specs.Held.{with_rows}
 use Rattle.ele_core.proofs.Bounded.{rows_few}
 use Rattle.ele_core.proofs.opening.add_handle.Goals as goal
 
@@ -17,8 +14,4 @@ pub open_write-requires-clause-few : goal.open_write-requires-clause-few
 open_write-requires-clause-few c = omega (arith, rows_few c.args.rows.now c.requires.sound)
 
 pub returns-clause-tracked : goal.returns-clause-tracked
-returns-clause-tracked c = record {
-  queue = subst (λ h. IsQueued (with_rows (world_of c.args.rows.now) h) c.args.rows.now.queue) (sym c.in_ok-number.ensures.ok) (opened_queue c.args.rows.now c.args.file c.requires.sound);
-  book = c.follow_blocks.ensures;
-  bounds = c.requires.sound.tracked.bounds;
-}
+returns-clause-tracked c = grind (arith, nat_tests, opened_queue c.args.rows.now c.args.file c.requires.sound)

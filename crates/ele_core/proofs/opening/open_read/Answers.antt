@@ -1,9 +1,5 @@
-use Rattle.std.proofs.Common.{◌≡◌, true, ap, sym, ◌∙◌}
-use Rattle.ele_core.specs.Inside.{world_of}
-use Rattle.ele_core.specs.declared.rows.Rows.{Rows}
+use Rattle.ele_core.proofs.Words.{◌≡◌, true, ap, sym, ◌∙◌, world_of, Rows, is_at, meant_held, is_held}
 use Rattle.ele_core.proofs.ToldVersions.{told_row}
-use Rattle.ele_world.proofs.Meant.{is_at, meant_held}
-use Rattle.ele_world.specs.World.{is_held}
 use Rattle.ele_core.proofs.opening.open_read.Goals as goal
 
 pub add_reader-requires-clause-held : goal.add_reader-requires-clause-held

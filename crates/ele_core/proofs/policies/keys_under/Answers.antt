@@ -1,9 +1,5 @@
-use Rattle.std.proofs.Common.{ap, ◌∙◌}
-use Rattle.std.specs.List.{filter_map}
-use Rattle.ele_core.specs.Queued.{key_under}
+use Rattle.ele_core.proofs.Words.{ap, ◌∙◌, filter_map, key_under, has_key, Stamps}
 use Rattle.ele_core.proofs.Governed.{keys_told, then_ok}
-use Rattle.ele_due.specs.HasKey.{has_key}
-use Rattle.ele_world.specs.declared.rows.Stamps.{Stamps}
 use Rattle.ele_core.proofs.policies.keys_under.Goals as goal
 
 pub returns : goal.returns

@@ -1,9 +1,6 @@
-use Rattle.std.proofs.Common.{◌≡◌, ◌||◌, ◌&&◌, not, Some, refl, ap, sym, ◌∙◌, arith}
+use Rattle.ele_core.proofs.Words.{nat_tests, ◌≡◌, ◌||◌, ◌&&◌, not, Some, refl, ap, sym, ◌∙◌, arith, world_of, has_key, policy_of}
 use Rattle.ele_core.proofs.Bounded.{rows_few}
 use Rattle.ele_core.proofs.Governed.{governed_book, governed_queue, ungoverned_queue, uses_fit, uses_within}
-use Rattle.ele_core.specs.Inside.{world_of}
-use Rattle.ele_due.specs.HasKey.{has_key}
-use Rattle.ele_world.specs.World.{policy_of}
 use Rattle.ele_core.proofs.policies.put_under.Goals as goal
 
 pub usage_of-requires : goal.usage_of-requires
@@ -21,16 +18,10 @@ returns-in_err-put_all-clause-tracked c =
     }
 
 pub move_file-requires-clause-there : goal.move_file-requires-clause-there
-move_file-requires-clause-there c =
-    let rows = c.args.rows.now in
-    let filed : policy_of rows.files.files c.args.file ≡ Some c.in-Some.was = sym c.policy_of.ensures ∙ c.in-Some.is in
-    rw (c.kind.ensures, c.in_ok-usage.ensures) (uses_within rows c.args.file c.in-Some.was c.args.policy c.requires.sound filed c.requires.valid)
+move_file-requires-clause-there c = grind (arith, nat_tests, uses_within)
 
 pub move_file-requires-clause-room : goal.move_file-requires-clause-room
-move_file-requires-clause-room c =
-    let rows = c.args.rows.now in
-    let filed : policy_of rows.files.files c.args.file ≡ Some c.in-Some.was = sym c.policy_of.ensures ∙ c.in-Some.is in
-    rw (c.kind.ensures, c.kind-2.ensures, c.in_ok-usage.ensures) (uses_fit rows c.args.file c.in-Some.was c.args.policy c.requires.sound filed c.requires.valid)
+move_file-requires-clause-room c = grind (arith, nat_tests, uses_fit)
 
 pub returns-clause-ok : goal.returns-clause-ok
 returns-clause-ok c = rw c.put_under.ensures refl

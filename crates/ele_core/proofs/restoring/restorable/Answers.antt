@@ -1,10 +1,6 @@
-use Rattle.std.proofs.Common.{Ok, ◌∙◌, rules, tests}
-use Rattle.std.proofs.lemmas.Iterator.{items_from_collect}
+use Rattle.ele_core.proofs.Words.{Ok, ◌∙◌, rules, tests, items_from_collect, YieldsList-from_filter_map, world_of, returning_name}
 use Rattle.std.proofs.lemmas.Iterator.Adapters.{YieldsList-from_vec}
-use Rattle.std.proofs.lemmas.Iterator.Consumers.{YieldsList-from_filter_map}
 use Rattle.std.specs.declared.alloc.AllocError.{AllocError}
-use Rattle.ele_core.specs.Inside.{world_of}
-use Rattle.ele_world.specs.Restorable.{returning_name}
 use Rattle.ele_world.proofs.Newest.{restorable_is}
 use Rattle.ele_core.proofs.restoring.restorable.Goals as goal
 

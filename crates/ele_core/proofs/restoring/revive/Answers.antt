@@ -1,14 +1,9 @@
-use Rattle.std.proofs.Common.{◌≡◌, ◌-◌, ◌&&◌, ◌||◌, not, refl, ap, ◌∙◌, arith}
-use Rattle.ele_core.specs.Queued.{is_new}
-use Rattle.ele_due.specs.HasKey.{has_key}
+use Rattle.ele_core.proofs.Words.{nat_tests, ◌≡◌, ◌-◌, ◌&&◌, ◌||◌, not, refl, ap, ◌∙◌, arith, is_new, has_key, world_of, next_of, File}
 use Rattle.ele_core.proofs.Bounded.{rows_few}
 use Rattle.ele_core.proofs.ClosedSteps.{numbered, past}
 use Rattle.ele_core.proofs.ClosedSums.{added_fits, version_fits}
 use Rattle.ele_core.proofs.NewNames.{follows_new}
 use Rattle.ele_core.proofs.Revived.{revived_back, revived_owed, revived_queue, revived_refused, revived_rows, revived_there, version_short}
-use Rattle.ele_core.specs.Inside.{world_of}
-use Rattle.ele_world.specs.World.{next_of}
-use Rattle.ele_world.specs.declared.rows.Target.TheVariants.{File}
 use Rattle.ele_core.proofs.restoring.revive.Goals as goal
 
 pub next_number-requires : goal.next_number-requires
@@ -27,10 +22,7 @@ pub restore-restored-requires-clause-past : goal.restore-restored-requires-claus
 restore-restored-requires-clause-past c = past c.args.rows.now c.requires.sound
 
 pub add_version-requires : goal.add_version-requires
-add_version-requires c =
-    version_fits c.args.rows.now c.requires.sound c.version_bytes-bytes.result c.blocks-before.result
-    (version_short c.args.rows.now c.requires.sound c.args.file c.before-last.result c.version_bytes-bytes.result c.version_bytes-bytes.ensures.length)
-    c.blocks-before.ensures.value c.blocks-before.ensures.bound
+add_version-requires c = grind (arith, nat_tests, version_fits, version_short)
 
 pub follow_blocks-requires-clause-owed : goal.follow_blocks-requires-clause-owed
 follow_blocks-requires-clause-owed c =

@@ -1,7 +1,4 @@
-use Rattle.std.proofs.Common.{refl, sym}
-use Rattle.ele_core.specs.Inside.{world_of}
-use Rattle.ele_world.specs.declared.event.Event.TheVariants.{Undelete}
-use Rattle.ele_world.proofs.Allowed.{allowed}
+use Rattle.ele_core.proofs.Words.{refl, sym, world_of, Undelete, allowed}
 use Rattle.ele_core.proofs.restoring.undelete.Goals as goal
 
 pub revive-requires-clause-may : goal.revive-requires-clause-may

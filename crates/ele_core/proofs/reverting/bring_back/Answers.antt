@@ -1,15 +1,10 @@
-use Rattle.std.proofs.Common.{◌&&◌, ◌||◌, not, [], refl, sym, ap, ◌∙◌, arith}
+use Rattle.ele_core.proofs.Words.{nat_tests, ◌&&◌, ◌||◌, not, [], refl, sym, ap, ◌∙◌, arith, world_of, is_new, new_keys, has_key, cells_of_version, may_grow}
 use Rattle.ele_core.proofs.Appended.{appended_queue, refused, taken_back}
 use Rattle.ele_core.proofs.Bounded.{rows_few, versions_few}
 use Rattle.ele_core.proofs.ClosedSteps.{numbered, past}
 use Rattle.ele_core.proofs.ClosedSums.{added_fits, version_fits}
 use Rattle.ele_core.proofs.Reverted.{became_rows, held_long, held_there, restored_owed}
 use Rattle.ele_core.proofs.Revived.{version_short}
-use Rattle.ele_core.specs.Inside.{world_of}
-use Rattle.ele_core.specs.Queued.{is_new, new_keys}
-use Rattle.ele_due.specs.HasKey.{has_key}
-use Rattle.ele_files.specs.Held.{cells_of_version}
-use Rattle.ele_world.proofs.AppendMoments.{may_grow}
 use Rattle.ele_core.proofs.reverting.bring_back.Goals as goal
 
 pub new_keys-keys-requires-clause-there : goal.new_keys-keys-requires-clause-there
@@ -42,10 +37,7 @@ returns-in-Err-clause-tracked c = rw c.in-Err.ensures.err (record {
 })
 
 pub add_version-requires : goal.add_version-requires
-add_version-requires c =
-    version_fits c.args.rows.now c.requires.sound c.args.stamps.now.length c.blocks-before.result
-    (version_short c.args.rows.now c.requires.sound c.args.file c.args.stamps.now.number c.args.stamps.now.length (held_long c.args.rows.now c.args.file c.args.stamps.now.number c.args.stamps.now c.requires.sound c.requires.held))
-    c.blocks-before.ensures.value c.blocks-before.ensures.bound
+add_version-requires c = grind (arith, nat_tests, version_fits, version_short, held_long)
 
 pub follow_blocks-requires-clause-owed : goal.follow_blocks-requires-clause-owed
 follow_blocks-requires-clause-owed c =

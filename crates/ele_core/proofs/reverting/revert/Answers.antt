@@ -1,14 +1,9 @@
-use Rattle.std.proofs.Common.{refl, sym, ◌∙◌}
+use Rattle.ele_core.proofs.Words.{arith, nat_tests, refl, sym, ◌∙◌, world_of, Names, file_live, file_there}
 use Rattle.ele_core.proofs.Reverted.{is_numbered, numbered_held, reverted_step}
-use Rattle.ele_core.specs.Inside.{world_of}
-use Rattle.ele_world.specs.WellFormed.{Names}
-use Rattle.ele_world.proofs.Walks.{file_live, file_there}
 use Rattle.ele_core.proofs.reverting.revert.Goals as goal
 
 pub version_meant-meant-requires-clause-there : goal.version_meant-meant-requires-clause-there
-version_meant-meant-requires-clause-there c =
-    let w = world_of c.args.rows.now in
-    file_there w.files w.now w.names c.args.path.now c.in-Ok.file (c.requires.sound.formed.holds Names).each (sym c.file_now.ensures ∙ c.in-Ok.is)
+version_meant-meant-requires-clause-there c = grind (arith, nat_tests, file_there (world_of c.args.rows.now).files (world_of c.args.rows.now).now (world_of c.args.rows.now).names c.args.path.now c.in-Ok.file (c.requires.sound.formed.holds Names).each (sym c.file_now.ensures ∙ c.in-Ok.is), c.requires.sound.formed.holds Names)
 
 pub bring_back-requires-clause-live : goal.bring_back-requires-clause-live
 bring_back-requires-clause-live c = file_live c.args.rows.now.names c.args.path.now c.in-Ok.file (sym c.file_now.ensures ∙ c.in-Ok.is)

@@ -1,4 +1,4 @@
-use Rattle.std.proofs.Common.{arith}
+use Rattle.ele_core.proofs.Words.{arith}
 use Rattle.ele_core.proofs.Bounded.{versions_few}
 use Rattle.ele_core.proofs.rows.is_full.Goals as goal
 

@@ -1,7 +1,6 @@
-use Rattle.std.proofs.Common.{sym}
+use Rattle.ele_core.proofs.Words.{sym, world_of}
 use Rattle.ele_core.proofs.ClosedSteps.{past}
 use Rattle.ele_core.proofs.Unlinked.{file_there, last_ends, last_name_ends, ended_book, ended_queue}
-use Rattle.ele_core.specs.Inside.{world_of}
 use Rattle.ele_core.proofs.unlinking.end_last_name.Goals as goal
 
 pub next_number-next-requires : goal.next_number-next-requires

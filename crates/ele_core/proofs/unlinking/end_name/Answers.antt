@@ -1,6 +1,5 @@
-use Rattle.std.proofs.Common.{sym, ◌∙◌}
+use Rattle.ele_core.proofs.Words.{sym, ◌∙◌, world_of}
 use Rattle.ele_core.proofs.Unlinked.{others_live, other_name_ends, kept_queue}
-use Rattle.ele_core.specs.Inside.{world_of}
 use Rattle.ele_core.proofs.unlinking.end_name.Goals as goal
 
 pub returns-clause-ok : goal.returns-clause-ok

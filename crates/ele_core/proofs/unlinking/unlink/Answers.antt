@@ -1,9 +1,5 @@
-use Rattle.std.proofs.Common.{Ok, refl, sym, ap, ◌∙◌}
-use Rattle.ele_world.specs.declared.rows.Target.TheVariants.{File}
+use Rattle.ele_core.proofs.Words.{Ok, refl, sym, ap, ◌∙◌, File, world_of, last_names, file_at}
 use Rattle.ele_core.proofs.Placed.{placed_refused}
-use Rattle.ele_core.specs.Inside.{world_of}
-use Rattle.ele_world.proofs.Walks.{last_names}
-use Rattle.ele_world.specs.Walk.{file_at}
 use Rattle.ele_core.proofs.unlinking.unlink.Goals as goal
 
 pub returns-in-Err-clause-step : goal.returns-in-Err-clause-step

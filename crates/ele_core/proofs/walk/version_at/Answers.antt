@@ -1,11 +1,5 @@
-use Rattle.std.proofs.Common.{Ok, sym, ap, ◌∙◌}
-use Rattle.ele_core.specs.Inside.{world_of}
+use Rattle.ele_core.proofs.Words.{Ok, sym, ap, ◌∙◌, world_of, walk_meant, file_at, Names, File, file_of}
 use Rattle.ele_core.proofs.ToldVersions.{meant_there, told_found}
-use Rattle.ele_world.specs.Tagged.{walk_meant}
-use Rattle.ele_world.specs.Walk.{file_at}
-use Rattle.ele_world.specs.WellFormed.{Names}
-use Rattle.ele_world.specs.declared.rows.Target.TheVariants.{File}
-use Rattle.ele_world.proofs.Walks.{file_of}
 use Rattle.ele_core.proofs.walk.version_at.Goals as goal
 
 pub version_meant-requires-clause-there : goal.version_meant-requires-clause-there

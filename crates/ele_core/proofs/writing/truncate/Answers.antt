@@ -1,4 +1,4 @@
-use Rattle.std.proofs.Common.{sym, ◌∙◌}
+use Rattle.ele_core.proofs.Words.{sym, ◌∙◌}
 use Rattle.ele_core.proofs.Booked.{fits, fitted_owed}
 use Rattle.ele_core.proofs.writing.truncate.Goals as goal
 
