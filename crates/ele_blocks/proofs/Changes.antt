@@ -1,5 +1,5 @@
 -- What a write and a truncate make of a map and its store.
-use Rattle.ele_blocks.proofs.Words.{◌≡◌, ◌⊎◌, ℕ, ◌+◌, ◌-◌, ◌*◌, ◌/◌, ◌<◌, ◌≤◌, Bool, true, false, cond, ◌&&◌, List, [], ◌∷◌, ◌++◌, length, map, take, drop, get_or, min, max, replicate, refl, ap, sym, ◌∙◌, arith, zero, suc, ltb, inl, inr, ⊎_elim, slice_get, flat_map, range_with_len, option_map_or, order, take-add, false≢true, nat_tests, append-nil, length-append, length-map, length-take, length-drop, length-replicate, nil_from_length, take_all, take-take, take-append-drop, drop_all, flat_map-map, fill_by_all, slice_get-get_or, Cell, content_of, content_after_write, content_after_truncate, longest_content, slot_bytes, slot_count, writer_at, meets, refits, Slot, IsRewritten, IsWritten, IsResized, Hands, Layout, shown, slots_of, ids_of, cell_of, cell_by, is_between, LivesIn, AreSized, pieces, pieces_between, IsReplaced, Renews, times, Store, leaf_at}
+use Rattle.ele_blocks.proofs.Words.{◌≡◌, ◌⊎◌, ℕ, ◌+◌, ◌-◌, ◌*◌, ◌/◌, ◌<◌, ◌≤◌, Bool, true, false, cond, ◌&&◌, List, [], ◌∷◌, ◌++◌, length, map, take, drop, get_or, min, max, refl, ap, sym, ◌∙◌, arith, zero, suc, ltb, inl, inr, ⊎_elim, slice_get, flat_map, range_with_len, option_map_or, order, take-add, false≢true, nat_tests, append-nil, length-append, length-map, length-take, length-drop, length-replicate, nil_from_length, take_all, take-take, take-append-drop, drop_all, flat_map-map, fill_by_all, slice_get-get_or, Cell, content_of, content_after_write, content_after_truncate, longest_content, slot_bytes, slot_count, writer_at, meets, refits, Slot, IsRewritten, IsWritten, IsResized, Hands, Layout, shown, slots_of, ids_of, cell_of, cell_by, is_between, LivesIn, AreSized, pieces, pieces_between, IsReplaced, Renews, times, Store, leaf_at}
 use Rattle.ele_content.specs.Content.{cells_after_write, cells_after_truncate}
 use Rattle.ele_blocks.proofs.Hands.{hands_none, hands_with, backed_there}
 use Rattle.ele_blocks.proofs.Hands.{moved_one}
@@ -109,10 +109,7 @@ meets_between : (from to slot : ℕ) → from < to → meets from to slot ≡ is
 meets_between from to slot lt = let some : ltb from to ≡ true = grind (arith, nat_tests) in rw some (cuts_between from to slot)
 
 refits_less : (n size slot : ℕ) → size < n → refits n size slot ≡ is_between (size / 512) ((size + 511) / 512) slot
-refits_less n size slot lt =
-    let no : ltb n size ≡ false = grind (arith, nat_tests) in
-    let yes : ltb size n ≡ true = grind (arith, nat_tests) in
-    rw (no, yes) (cuts_between size size slot)
+refits_less n size slot lt = grind (arith, nat_tests, cuts_between)
 
 -- ---- the cells of a write and of a truncate
 
@@ -241,20 +238,11 @@ module _ (s : Store) (m : Layout) (w : ℕ) (lives : LivesIn s m) where
 -- ---- a truncate that fills is a write of no bytes behind the end
 
 grown_content : (content : List ℕ) (size : ℕ) → length content ≤ size → content_after_write content size [] ≡ content_after_truncate content size
-grown_content content size le =
-    let none : drop (size + 0) content ≡ [] = drop_all (size + 0) content (omega arith) in
-    let zeros : List ℕ = replicate (size - length content) 0 in
-    ap (λ l. take size content ++ zeros ++ [] ++ l) none ∙ (append-nil (take size content ++ zeros ++ []) ∙ append-nil (take size content ++ zeros))
+grown_content content size le = grind (arith, nat_tests, drop_all, append-nil)
 
 grown_cells : (w size : ℕ) (cells : List Cell) → length (content_of cells) < size → cells_after_write w size [] cells ≡ cells_after_truncate w size cells
 unfolding cells_after_write cells_after_truncate
-grown_cells w size cells lt =
-    let content = content_of cells in
-    let from : min size (length content) ≡ length content = omega arith in
-    let to : size + 0 ≡ size = omega arith in
-    let long : ltb (length content) size ≡ true = grind (arith, nat_tests) in
-    let count : length (content_after_truncate content size) ≡ size = omega (arith, length-append (take size content) (replicate (size - length content) 0), length-take size content, length-replicate {A = ℕ} (size - length content) 0) in
-    rw (grown_content content size (omega arith), from, to, long, count) refl
+grown_cells w size cells lt = grind (arith, nat_tests, length-append, length-take, length-replicate, grown_content)
 
 pub grown : (s t : Store) (m n : Layout) (w size : ℕ) → LivesIn s m → m.size < size → IsWritten s t w size [] m n → IsResized s t w size m n
 grown s t m n w size lives lt h =

@@ -1,10 +1,10 @@
 -- Values beside the counts of their owners.
-use Rattle.std.proofs.Common.{◌≡◌, ◌≢◌, refl, ap, sym, subst, ◌∙◌, arith, ℕ, zero, suc, ◌+◌, ◌-◌, ◌<◌, ◌≤◌, true, false, cond, List, [], ◌∷◌, ◌++◌, Option, Some, None, is_some, IsSome, take, IfSome, length, eqb, ltb}
+use Rattle.std.proofs.Common.{◌≡◌, ◌≢◌, refl, ap, sym, subst, ◌∙◌, arith, ℕ, zero, suc, ◌+◌, ◌-◌, ◌<◌, ◌≤◌, true, false, cond, List, [], ◌∷◌, ◌++◌, Option, Some, None, is_some, IsSome, take, IfSome, length, ltb}
 use Rattle.std.proofs.lemmas.Bool.Decides.{nat_tests}
 use Rattle.std.proofs.lemmas.List.Sums.{sum_by-cons}
 use Rattle.std.proofs.lemmas.List.{get_or_past, get_or-set_same, get_or-set_other, length-set, take_all}
 use Rattle.std.proofs.Math.ListN.{get_or, replicate, set}
-use Rattle.std.specs.Prelude.{count_by, nat_le}
+use Rattle.std.specs.Prelude.{count_by}
 use Rattle.slab.specs.Slab.{Slab, HasRoomFor, slab_len}
 use Rattle.std.specs.Option.{option_map}
 use Rattle.ele_blocks.specs.Shared.{Counted}
@@ -62,10 +62,7 @@ module _ {X : Type 0} where
 
   -- what has an owner has its count
   pub is_counted : (values : List (Option X)) (counts : List ℕ) (id : ℕ) → 0 < owners (counted values counts) id → id < length counts
-  is_counted vs cs id lt = elim (ltb id (length cs)) as (λ t. ltb id (length cs) ≡ t → id < length cs) [
-    | true ↦ λ e. grind (arith, nat_tests)
-    | false ↦ λ e. let none : get_or cs id 0 ≡ 0 = get_or_past cs id 0 (grind (arith, nat_tests)) in absurd (omega (arith, lt, owners-counted vs cs id lt, none))
-  ] refl
+  is_counted vs cs id lt = grind (arith, nat_tests, get_or_past, owners-counted)
 
   pub sets_count : (values : List (Option X)) (counts : List ℕ) (id count : ℕ) → id < length counts → Sets (counted values counts) (counted values (set counts id count)) id (option_map (with_count count) (get_or values id None))
   sets_count vs cs id c lt = record {
@@ -116,10 +113,7 @@ module _ {X : Type 0} where
 
   -- whatever stands has an owner afterwards, if what changed has
   pub owned_after : (old new : List (Option (Counted X))) (id : ℕ) (place : Option (Counted X)) → Owned old → Sets old new id place → IfSome place (λ p. 0 < p.owners) → Owned new
-  owned_after old new id place owned sets has q = elim (eqb q id) as (λ t. eqb q id ≡ t → IfSome (place_at new q) (λ p. 0 < p.owners)) [
-    | true ↦ λ e. let same : q ≡ id = grind (arith, nat_tests) in rw (same, sets.changed) has
-    | false ↦ λ e. rw (sets.others q (grind (arith, nat_tests))) (owned q)
-  ] refl
+  owned_after old new id place owned sets has q = grind (arith, nat_tests)
 
   shared_owned : (place : Option (Counted X)) → IfSome place (λ p. 0 < p.owners) → IfSome (shared place) (λ p. 0 < p.owners)
   shared_owned None has = has
@@ -127,10 +121,7 @@ module _ {X : Type 0} where
 
   released_owned : (place : Option (Counted X)) → IfSome (released place) (λ p. 0 < p.owners)
   released_owned None = tt
-  released_owned (Some p) = elim (ltb 1 p.owners) as (λ t. ltb 1 p.owners ≡ t → IfSome (cond t (Some (record p { owners = p.owners - 1 })) None) (λ p. 0 < p.owners)) [
-    | true ↦ λ e. let many : 1 < p.owners = grind (arith, nat_tests) in omega (arith, many)
-    | false ↦ λ e. tt
-  ] refl
+  released_owned (Some p) = grind (arith, nat_tests)
 
   pub owned_more : (values : List (Option X)) (counts : List ℕ) (id : ℕ) → Owned (counted values counts) → 0 < owners (counted values counts) id → Owned (counted values (set counts id (get_or counts id 0 + 1)))
   owned_more vs cs id owned lt = owned_after _ _ id _ owned (sets_more vs cs id lt) (shared_owned (place_at (counted vs cs) id) (owned id))
@@ -146,16 +137,10 @@ module _ {X : Type 0} where
 
   -- room in both
   pub room_of : (values : Slab X) (counts : List ℕ) (more : ℕ) → HasRoomFor values more → values.capacity ≤ length counts → HasRoomFor (counted_with values counts) more
-  room_of values counts more room le =
-      let both : nat_le values.capacity (length counts) ≡ true = grind (arith, nat_tests) in
-      let same = count-counted values.slots counts in
-      rw both (omega (arith, room, same))
+  room_of values counts more room le = grind (arith, nat_tests, count-counted)
 
   pub room_in : (values : Slab X) (counts : List ℕ) (more : ℕ) → HasRoomFor (counted_with values counts) (1 + more) → HasRoomFor values (1 + more) × (values.capacity ≤ length counts)
-  room_in values counts more room = elim (nat_le values.capacity (length counts)) as (λ t. nat_le values.capacity (length counts) ≡ t → count_by is_some (counted values.slots counts) + (1 + more) ≤ cond t values.capacity 0 → HasRoomFor values (1 + more) × (values.capacity ≤ length counts)) [
-    | true ↦ λ e le. (omega (arith, le, count-counted values.slots counts), grind (arith, nat_tests))
-    | false ↦ λ e le. absurd (omega (arith, le))
-  ] refl room
+  room_in values counts more room = grind (arith, nat_tests, count-counted)
 
   pub room_after : (values new : Slab X) (counts : List ℕ) (id : ℕ) → slab_len new ≡ slab_len values + 1 → new.capacity ≡ values.capacity → (more : ℕ) → HasRoomFor (counted_with values counts) (1 + more) → HasRoomFor (counted_with new (set counts id 1)) more
   room_after values new counts id longer same more room =

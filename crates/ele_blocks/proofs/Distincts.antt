@@ -1,5 +1,5 @@
 -- The blocks of a store are as many as its maps name.
-use Rattle.ele_blocks.proofs.Words.{◌≡◌, ℕ, ◌+◌, ◌<◌, ◌≤◌, Bool, true, false, ◌||◌, cond, List, [], ◌∷◌, map, Option, Some, None, is_some, refl, ap, sym, ◌∙◌, arith, eqb, ltb, zero, suc, inl, inr, ⊎_elim, order, IfSome, set, list_any, count_by, sum_by-cons, nat_tests, Counted, times, place_at, owners_of, Owned, Store, owners_at, leaf_at, Slot, Layout, slots_of, ids_of, backing, named, Owes, different, Place, is_place, blocks_of, Named, IsIn, AreOneToOne}
+use Rattle.ele_blocks.proofs.Words.{◌≡◌, ℕ, ◌+◌, ◌<◌, ◌≤◌, Bool, true, false, cond, List, [], ◌∷◌, map, Option, Some, None, is_some, refl, ap, sym, ◌∙◌, arith, eqb, ltb, zero, suc, inl, inr, ⊎_elim, order, IfSome, set, list_any, count_by, sum_by-cons, nat_tests, Counted, times, place_at, owners_of, Owned, Store, owners_at, leaf_at, Slot, Layout, slots_of, ids_of, backing, named, Owes, different, Place, is_place, blocks_of, Named, IsIn, AreOneToOne}
 use Rattle.ele_blocks.proofs.Backing.{weight, backing_some, slots_backed, slots_least}
 use Rattle.ele_blocks.proofs.Trades.{times-append}
 
@@ -62,10 +62,7 @@ some_owned (Some b) h = sym (grind (arith, nat_tests))
 
 any_times : (q : ℕ) (xs : List ℕ) → list_any (λ (y : ℕ). eqb y q) xs ≡ ltb 0 (times q xs)
 any_times q [] = refl
-any_times q (x ∷ xs) = elim (eqb x q) as (λ t. (t || list_any (λ (y : ℕ). eqb y q) xs) ≡ ltb 0 (cond t 1 0 + times q xs)) [
-  | true ↦ sym (grind (arith, nat_tests))
-  | false ↦ any_times q xs ∙ ap (ltb 0) (let e : times q xs ≡ 0 + times q xs = omega arith in e)
-]
+any_times q (x ∷ xs) = grind (arith, nat_tests, any_times q xs)
 
 -- a leaf that names something is owned
 owned_leaf : (place : Option (Counted (List Slot))) (id : ℕ) → IfSome place (λ p. 0 < p.owners) → 0 < weight place id → 0 < owners_of place

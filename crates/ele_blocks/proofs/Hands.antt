@@ -1,5 +1,5 @@
 -- How leaves change hands, one change after another.
-use Rattle.ele_blocks.proofs.Words.{Option, Counted, ◌≡◌, ℕ, ◌+◌, ◌<◌, ◌≤◌, ◌^◌, List, [], ◌∷◌, map, length, take, get_or, Some, None, refl, ap, sym, ◌∙◌, arith, ⊎_elim, unwrap_or, order, map-append, length-take-le, Slot, Hands, AreThere, cell_of, ids_of, AreBacked, backing, times, owners, place_at, value_of, shared, released, leaving, Sets, Trades, Covers, Store, owners_at, bytes_at, leaf_at, slots_in, true, Layout, is_whole, LivesIn, Moves, named, slot_count}
+use Rattle.ele_blocks.proofs.Words.{nat_tests, Option, Counted, ◌≡◌, ℕ, ◌+◌, ◌<◌, ◌≤◌, ◌^◌, List, [], ◌∷◌, map, length, take, get_or, Some, None, refl, ap, sym, ◌∙◌, arith, ⊎_elim, unwrap_or, order, map-append, length-take-le, Slot, Hands, AreThere, cell_of, ids_of, AreBacked, backing, times, owners, place_at, value_of, shared, released, leaving, Sets, Trades, Covers, Store, owners_at, bytes_at, leaf_at, slots_in, true, Layout, is_whole, LivesIn, Moves, named, slot_count}
 use Rattle.ele_blocks.proofs.Sized.{fills-map}
 use Rattle.ele_blocks.specs.Hands.{ShowsSame}
 use Rattle.ele_blocks.proofs.Backing.{backing_sets, backing_least, slots_backed, slots_least}
@@ -120,11 +120,7 @@ module _ (ids : List ℕ) (k id : ℕ) (lt : k < length ids) (is : id ≡ get_or
     release_leaves_next = omega (arith, one_more ids k id lt is, covers.owned id, h.leaves id)
 
     pub release_leaves_backed : AreBacked s0 (slots_in s0 ids) → AreBacked s (leaf_at s id)
-    release_leaves_backed backed b some =
-        let more = one_more ids k id lt is in
-        let same = ap (λ xs. times b (ids_of xs)) (h.same id (omega (arith, more, covers.owned id))) in
-        let least = slots_least s0 ids id b (omega (arith, more)) in
-        omega (arith, backed b (omega (arith, some, same, least)), h.blocks b)
+    release_leaves_backed backed b some = grind (arith, nat_tests, one_more, slots_least)
 
     pub release_leaves_more : Hands s t (λ q. times q (id ∷ [])) (λ q. 0) → Hands s0 t (λ q. times q (take (k + 1) ids)) (λ q. 0)
     release_leaves_more one = hands_with s0 t _ _ (λ q. times q (take (k + 1) ids)) (λ q. 0) (λ q. 0) (hands_then s0 s t _ _ _ _ h one) (λ q. omega (arith, times_next ids k id lt is q)) (λ q. refl)

@@ -36,10 +36,7 @@ spliced_at content offset bytes k =
 
 -- where the bytes that fall into a piece end
 part_end : (at offset n start from past : ℕ) → start ≡ min (offset - at) 512 → from ≡ min (at - offset) n → past ≡ min (at + 512 - offset) n → start + (past - from) ≡ min 512 (offset + n - at)
-part_end at offset n start from past is_start is_from is_past = ⊎_elim
-    (λ (before : at < offset). omega (arith, is_start, is_from, is_past, before))
-    (λ (le : offset ≤ at). omega (arith, is_start, is_from, is_past, le))
-    (order at offset)
+part_end at offset n start from past is_start is_from is_past = grind (arith, nat_tests, is_from)
 
 longer : (a b n k : ℕ) → max (min n (a - k)) (min n (b - k)) ≡ min n (max a b - k)
 longer a b n k = omega arith

@@ -1,6 +1,6 @@
 -- New leaves in place of others: blocks are put, those that stay are shared, leaves are put, and the
 -- old leaves released.
-use Rattle.ele_blocks.proofs.Words.{◌≡◌, ℕ, ◌+◌, ◌<◌, ◌≤◌, ◌^◌, List, [], ◌∷◌, ◌++◌, length, map, take, drop, Some, refl, ap, sym, ◌∙◌, arith, unwrap_or, flat_map, length-map, length-take-le, length-drop, flat_map-map, Slot, Hands, AreThere, laid_over, cell_of, cell_by, slot_by, ids_of, AreBacked, backing, leaf_count, IsLaid, IsRenewed, parts, times, owners, value_at, Trades, Adds, Covers, Store, bytes_at, leaf_at, slots_in, Counted, Option}
+use Rattle.ele_blocks.proofs.Words.{nat_tests, ◌≡◌, ℕ, ◌+◌, ◌<◌, ◌≤◌, ◌^◌, List, [], ◌∷◌, ◌++◌, length, map, take, drop, Some, refl, ap, sym, ◌∙◌, arith, unwrap_or, flat_map, length-map, length-take-le, length-drop, flat_map-map, Slot, Hands, AreThere, laid_over, cell_of, cell_by, slot_by, ids_of, AreBacked, backing, leaf_count, IsLaid, IsRenewed, parts, times, owners, value_at, Trades, Adds, Covers, Store, bytes_at, leaf_at, slots_in, Counted, Option}
 use Rattle.ele_blocks.proofs.Backing.{slots_least}
 use Rattle.ele_blocks.proofs.Distincts.{Blocks}
 use Rattle.ele_blocks.proofs.Hands.{cells_each, hands_then, hands_with, stay_in, leaf_there}
@@ -42,9 +42,7 @@ module _ {s b1 : Blocks} {window : List Slot} {first : ℕ} {fresh : List ℕ} (
   front_there id some = omega (arith, h.there id (omega (arith, some, times-split id first window)), h.adds.trades.owed id)
 
   pub front_few : (id : ℕ) → 0 < times id (ids_of (take first window)) → owners b1 id + length (take first window) ≤ 2 ^ 63
-  front_few id some =
-      let in_it : 0 < times id (ids_of window) = omega (arith, some, times-split id first window) in
-      omega (arith, h.few id in_it, h.adds.trades.owed id, h.adds.fresh id (h.there id in_it), length-take-le first window h.within, h)
+  front_few id some = grind (arith, nat_tests, times-split, length-take-le)
 
   module _ (b2 : Blocks) (shared : Trades b1 b2 [] (ids_of (take first window))) where
     abbrev back : List Slot

@@ -118,10 +118,7 @@ module _ {s : Store} {m : Layout} {staged : List (List ℕ)} {first kept from me
   none_behind end = drop_all to m.leaves (omega (arith, h.to_end end, leaves-count s m h.lives.whole))
 
   fit : (first - 16 * from + length staged ≤ length window) ⊎ (slots_in s back ≡ [])
-  fit = ⊎_elim
-      (λ (more : 16 * met < kept). inl (omega (arith, window_long, more, order_of)))
-      (λ (end : kept ≤ 16 * met). inr (ap (slots_in s) (none_behind end)))
-      (order (16 * met) kept)
+  fit = grind (arith, nat_tests, window_long, order_of, none_behind)
 
   pub inside : first - 16 * from ≤ length window
   inside = omega (arith, window_long, order_of)
@@ -166,23 +163,7 @@ module _ {s : Store} {m : Layout} {staged : List (List ℕ)} {first kept from me
     now_room = omega (arith, now_long, laid_long, window_long, order_of)
 
     pub placed : take (from + length now + (length m.leaves - to)) (laid_over from now m.leaves) ≡ front ++ (now ++ back)
-    placed =
-        let c_is = leaves-count s m h.lives.whole in
-        let n = from + length now + (length m.leaves - to) in
-        let head : length (front ++ now) ≡ from + length now = omega (arith, length-append front now, length-take-le from m.leaves (omega (arith, c_is, order_of))) in
-        ⊎_elim
-        (λ (more : 16 * met < kept).
-        let e = met_long more in
-        ap (λ j. take n (front ++ (now ++ drop j m.leaves))) e
-        ∙ take_all n (front ++ (now ++ back)) (omega (arith, length-append front (now ++ back), length-append now back, length-drop to m.leaves, length-take from m.leaves, c_is, e, order_of)))
-        (λ (end : kept ≤ 16 * met).
-        let none = none_behind end in
-        let zero : n ≡ from + length now = omega (arith, c_is, h.to_end end) in
-        ap (λ j. take j (front ++ (now ++ drop (from + length now) m.leaves))) zero
-        ∙ (ap (take (from + length now)) (sym (append_assoc front now (drop (from + length now) m.leaves)))
-        ∙ (take_at (front ++ now) (drop (from + length now) m.leaves) (from + length now) head
-        ∙ sym (rw none (ap (λ ys. front ++ ys) (append-nil now))))))
-        (order (16 * met) kept)
+    placed = grind (arith, nat_tests, leaves-count, length-append, length-take-le, order_of, met_long, take_all, length-drop, length-take, none_behind, append_assoc, take_at, append-nil)
 
     times_old : (q : ℕ) → times q m.leaves ≡ times q was + (times q front + times q back)
     times_old q = omega (arith, ap (times q) in_three, times-append q front (was ++ back), times-append q was back)

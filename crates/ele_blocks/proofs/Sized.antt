@@ -1,5 +1,5 @@
 -- Lists in pieces of c items, of which the last may be shorter.
-use Rattle.ele_blocks.proofs.Words.{add-one, ◌≡◌, ◌⊎◌, ℕ, ◌+◌, ◌-◌, ◌*◌, ◌<◌, ◌≤◌, true, List, [], ◌∷◌, ◌++◌, length, take, drop, map, get_or, min, refl, ap, sym, ◌∙◌, arith, zero, suc, eqb, ltb, inl, inr, ⊎_elim, flat_map, first_chunks, order, mul-suc, take-nil, take-append-add, nat_tests, flat_map-append, append-nil, append_cancel_left, take-append-drop, take_all, take-take, length-append, length-take, length-take-le, length-drop, drop-drop, drop_more, nil_from_length, take_min, drop_min, laid_over, fills, AreSized}
+use Rattle.ele_blocks.proofs.Words.{add-one, ◌≡◌, ◌⊎◌, ℕ, ◌+◌, ◌-◌, ◌*◌, ◌<◌, ◌≤◌, true, List, [], ◌∷◌, ◌++◌, length, take, drop, map, get_or, min, refl, ap, sym, ◌∙◌, arith, zero, suc, inl, inr, ⊎_elim, flat_map, first_chunks, order, mul-suc, take-nil, take-append-add, nat_tests, flat_map-append, append-nil, append_cancel_left, take-append-drop, take_all, take-take, length-append, length-take, length-take-le, length-drop, drop-drop, drop_more, nil_from_length, take_min, drop_min, laid_over, fills, AreSized}
 use Rattle.std.proofs.lemmas.List.{drop-take}
 
 -- the test is what it tests
@@ -9,10 +9,7 @@ fills_sized c f n (x ∷ xs) h = (grind (arith, nat_tests, h), grind (arith, nat
 
 pub sized_fills : {A X : Type 0} (c : ℕ) (f : A → List X) (n : ℕ) (xs : List A) → AreSized c f n xs → fills c f n xs ≡ true
 sized_fills c f n [] h = grind (arith, nat_tests, h)
-sized_fills c f n (x ∷ xs) h =
-    let a : eqb (length (f x)) (min n c) ≡ true = let e = h.0 in grind (arith, nat_tests, e) in
-    let b : ltb 0 n ≡ true = let e = h.1 in grind (arith, nat_tests, e) in
-    rw (a, b) (sized_fills c f (n - c) xs h.2)
+sized_fills c f n (x ∷ xs) h = grind (arith, nat_tests, sized_fills c f (n - c) xs h.2)
 
 pub fills-map : {A X : Type 0} (c : ℕ) (f g : A → List X) (n : ℕ) (xs : List A) → map f xs ≡ map g xs → fills c f n xs ≡ fills c g n xs
 fills-map c f g n [] e = refl

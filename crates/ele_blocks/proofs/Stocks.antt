@@ -6,7 +6,7 @@ use Rattle.ele_blocks.proofs.Hands.{StayIn, stay_in, whole_same}
 use Rattle.ele_blocks.proofs.Trades.{times-le-length}
 use Rattle.ele_blocks.proofs.Sizes.{whole_is, leaves-count, length-content, slots-count}
 use Rattle.ele_blocks.proofs.Distincts.{self_eq, as_many}
-use Rattle.ele_blocks.proofs.OneToOnes.{name_of, NoneBy, in_either, in_front, in_back, place_same, slot_owned, stays_one_to_one}
+use Rattle.ele_blocks.proofs.OneToOnes.{name_of, NoneBy, in_either, in_front, in_back, slot_owned, stays_one_to_one}
 
 -- ---- what a store is owed
 
@@ -30,9 +30,7 @@ owes_lives s m rest owes = record {
 -- a leaf is named at most 128 times by each map
 named_few : (s : Store) (leaf : ℕ) (ms : List Layout) → broken s ms ≡ 0 → named leaf ms ≤ 128 * length ms
 named_few s leaf [] h = omega arith
-named_few s leaf (m ∷ ms) h =
-    let whole : is_whole s m ≡ true = whole_of (is_whole s m) (cond (is_whole s m) 0 1) refl (omega (arith, h)) in
-    omega (arith, named_few s leaf ms (omega (arith, h)), times-le-length leaf m.leaves, leaves-count s m whole, (whole_is s m whole).short)
+named_few s leaf (m ∷ ms) h = grind (arith, nat_tests, whole_of, times-le-length, leaves-count, whole_is, named_few s leaf ms (omega (arith, h)))
 
 pub owes_uncrowded : (s : Store) (all : List Layout) → Owes s all → length all ≤ 2 ^ 50 → IsUncrowded s
 owes_uncrowded s all owes few = record { few = λ leaf. omega (arith, owes.counted leaf, named_few s leaf all owes.whole, few) }
@@ -96,11 +94,7 @@ abbrev count : Named → List Named → ℕ
 count n ns = tally (λ m. cond (is_named n m) 1 0) ns
 
 named_is : (n m : Named) → is_named n m ≡ true → n ≡ m
-named_is n m h =
-    let p = place_same n.place m.place (grind (arith, nat_tests, h)) in
-    let block : n.block ≡ m.block = grind (arith, nat_tests, h) in
-    let place : n.place ≡ m.place = rw (p.file, p.slot, p.writer) refl in
-    rw (place, block) refl
+named_is n m h = grind (arith, nat_tests)
 
 counted : (n : Named) (ns : List Named) → IsIn n ns → 0 < count n ns
 counted n [] i = absurd i
@@ -179,10 +173,7 @@ at_place p (y ∷ ys) zero x all e = let same : y ≡ x = cc in rw (← same) (g
 at_place p (y ∷ ys) (suc k) x all e = at_place p ys k x (grind (arith, nat_tests, all)) e
 
 below_renewed : (s t : Store) (writer below : ℕ) (p : ℕ → Bool) (was now : Layout) → below ≡ writer + 1 → Renews s t writer p was now → list_all (λ (slot : Slot). ltb slot.writer below) (slots_of s was) ≡ true → list_all (λ (slot : Slot). ltb slot.writer below) (slots_of t now) ≡ true
-below_renewed s t writer below p was now is renews all = all_places (λ (slot : Slot). ltb slot.writer below) (slots_of t now) (λ k x e. elim (p k) as (λ b. p k ≡ b → ltb x.writer below ≡ true) [
-  | true ↦ λ new. let fresh = rw e at (renews.fresh k new) in let w = fresh.0 in grind (arith, nat_tests)
-  | false ↦ λ old. at_place (λ (slot : Slot). ltb slot.writer below) (slots_of s was) k x all (sym (renews.stays k old (slice_get_within (slots_of t now) k x e)) ∙ e)
-] refl)
+below_renewed s t writer below p was now is renews all = grind (arith, nat_tests, all_places, at_place, slice_get_within)
 
 below_more : (below more : ℕ) (slots : List Slot) → below ≤ more → list_all (λ (slot : Slot). ltb slot.writer below) slots ≡ true → list_all (λ (slot : Slot). ltb slot.writer more) slots ≡ true
 below_more below more slots le all = all_places (λ (slot : Slot). ltb slot.writer more) slots (λ k x e. let lt = at_place (λ (slot : Slot). ltb slot.writer below) slots k x all e in grind (arith, nat_tests))

@@ -1,5 +1,5 @@
 -- How owners change hands, one change after another.
-use Rattle.ele_blocks.proofs.Words.{Slot, ids_of, map_more, length-map, ◌≡◌, ℕ, ◌+◌, ◌-◌, ◌<◌, ◌≤◌, true, false, cond, List, [], ◌∷◌, ◌++◌, ◌^◌, map, length, take, drop, get_or, add-one, append_assoc, Option, Some, None, refl, ap, sym, ◌∙◌, arith, eqb, ltb, zero, suc, nat_tests, take-suc, map-append, take-append-drop, length-take-le, Counted, times, place_at, owners, owners_of, value_of, value_at, shared, released, leaving, Sets, Trades, Adds, Covers}
+use Rattle.ele_blocks.proofs.Words.{Slot, ids_of, map_more, length-map, ◌≡◌, ℕ, ◌+◌, ◌<◌, ◌≤◌, true, false, cond, List, [], ◌∷◌, ◌++◌, ◌^◌, map, length, take, drop, get_or, add-one, append_assoc, Option, Some, None, refl, ap, sym, ◌∙◌, arith, eqb, ltb, zero, suc, nat_tests, take-suc, map-append, take-append-drop, length-take-le, Counted, times, place_at, owners, owners_of, value_of, value_at, shared, released, leaving, Sets, Trades, Adds, Covers}
 
 pub times-append : (id : ℕ) (xs ys : List ℕ) → times id (xs ++ ys) ≡ times id xs + times id ys
 times-append id [] ys = omega arith
@@ -19,10 +19,7 @@ times_at (x ∷ xs) (suc k) lt = omega (arith, times_at xs k (omega (arith, lt))
 
 pub times-le-length : (q : ℕ) (xs : List ℕ) → times q xs ≤ length xs
 times-le-length q [] = omega arith
-times-le-length q (x ∷ xs) = elim (eqb x q) as (λ t. cond t 1 0 + times q xs ≤ length (x ∷ xs)) [
-  | true ↦ omega (arith, times-le-length q xs)
-  | false ↦ omega (arith, times-le-length q xs)
-]
+times-le-length q (x ∷ xs) = grind (arith, nat_tests, times-le-length q xs)
 
 times-take-le : (q : ℕ) (xs : List ℕ) (k : ℕ) → times q (take k xs) ≤ times q xs
 times-take-le q xs k = let whole = ap (times q) (take-append-drop k xs) in omega (arith, times-append q (take k xs) (drop k xs))
@@ -46,9 +43,7 @@ module _ {X : Type 0} where
 
   -- a value is kept under a number that stood for nothing
   pub trades_put : (old new : List (Option (Counted X))) (id : ℕ) (x : X) → place_at old id ≡ None → Sets old new id (Some (record { value = x; owners = 1 })) → Trades old new [] (id ∷ [])
-  trades_put old new id x vacant h =
-      let none : owners old id ≡ 0 = rw vacant refl in
-      trades_set old new id _ [] (id ∷ []) h (λ q e. (refl, one_apart id q e)) (omega (arith, none, times-self id)) (λ lt. absurd (omega (arith, lt, none)))
+  trades_put old new id x vacant h = grind (arith, nat_tests, trades_set, one_apart, times-self)
 
   pub shared_value : (b : Option (Counted X)) → value_of (shared b) ≡ value_of b
   shared_value None = refl
@@ -64,10 +59,7 @@ module _ {X : Type 0} where
 
   released_owners : (b : Option (Counted X)) → 0 < owners_of b → owners_of (released b) + 1 ≡ owners_of b
   released_owners None lt = absurd (omega arith)
-  released_owners (Some b) lt = elim (ltb 1 b.owners) as (λ t. ltb 1 b.owners ≡ t → owners_of (cond t (Some (record b { owners = b.owners - 1 })) None) + 1 ≡ b.owners) [
-    | true ↦ λ e. grind (arith, nat_tests)
-    | false ↦ λ e. grind (arith, nat_tests)
-  ] refl
+  released_owners (Some b) lt = grind (arith, nat_tests)
 
   pub released_value : (b : Option (Counted X)) → 1 < owners_of b → value_of (released b) ≡ value_of b
   released_value None lt = absurd (omega arith)
@@ -138,10 +130,7 @@ module _ {X : Type 0} where
 
   pub leaving_none : (place : Option (Counted X)) → 0 < owners_of place → None ≡ leaving place → 1 < owners_of place
   leaving_none None lt e = absurd (omega (arith, lt))
-  leaving_none (Some p) lt e = elim (ltb 1 p.owners) as (λ t. ltb 1 p.owners ≡ t → None ≡ cond t None (Some p.value) → 1 < p.owners) [
-    | true ↦ λ more e. grind (arith, nat_tests)
-    | false ↦ λ few e. absurd cc
-  ] refl e
+  leaving_none (Some p) lt e = grind (arith, nat_tests)
 
 -- a list so far, and one more
 module _ (ids : List ℕ) (k id : ℕ) (lt : k < length ids) (is : id ≡ get_or ids k id) where
@@ -173,10 +162,7 @@ module _ (slots : List Slot) (k : ℕ) (slot : Slot) (lt : k < length slots) (is
 
   -- what holds of the blocks so far and of the next one
   pub each_more : (P : ℕ → Type 0) → ((id : ℕ) → 0 < times id (ids_of (take k slots)) → P id) → P slot.block → (id : ℕ) → 0 < times id (ids_of (take (k + 1) slots)) → P id
-  each_more P each here id some = elim (eqb slot.block id) as (λ b. eqb slot.block id ≡ b → P id) [
-    | true ↦ λ e. let same : id ≡ slot.block = grind (arith, nat_tests) in rw same here
-    | false ↦ λ e. each id (omega (arith, some, slot_next id, one_apart slot.block id e))
-  ] refl
+  each_more P each here id some = grind (arith, nat_tests, slot_next, one_apart)
 
   module _ {X : Type 0} {s0 s : List (Option (Counted X))} where
     pub release_next : Covers s0 (ids_of slots) → Trades s0 s (ids_of (take k slots)) [] → 0 < owners s slot.block
