@@ -15,12 +15,10 @@ alike (x ∷ xs) [] id h = let first : x ≡ None = sym (h 0) in rw first (omega
 alike (x ∷ xs) (y ∷ ys) id h = let first : y ≡ x = h 0 in rw first (omega (arith, alike xs ys id (λ k. h (suc k))))
 
 unfolds : (s : Leaves) (id : ℕ) → backing s id ≡ weight (place_at s 0) id + backing (drop 1 s) id
-unfolds [] id = refl
-unfolds (x ∷ xs) id = refl
+unfolds xs id = grind (arith, nat_tests)
 
 ahead : (s : Leaves) (k : ℕ) → place_at (drop 1 s) k ≡ place_at s (suc k)
-ahead [] k = refl
-ahead (x ∷ xs) k = refl
+ahead xs k = grind (arith, nat_tests)
 
 apart : (k : ℕ) → suc k ≢ 0
 apart k e = omega (arith, e)

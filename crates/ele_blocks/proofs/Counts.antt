@@ -1,5 +1,5 @@
 -- Values beside the counts of their owners.
-use Rattle.std.proofs.Common.{◌≡◌, ◌≢◌, refl, ap, sym, subst, ◌∙◌, arith, ℕ, zero, suc, ◌+◌, ◌-◌, ◌<◌, ◌≤◌, true, false, cond, List, [], ◌∷◌, ◌++◌, Option, Some, None, is_some, IsSome, take, IfSome, length, ltb}
+use Rattle.std.proofs.Common.{◌≡◌, ◌≢◌, refl, ap, sym, subst, ◌∙◌, arith, ℕ, zero, suc, ◌+◌, ◌-◌, ◌<◌, ◌≤◌, true, cond, List, [], ◌∷◌, ◌++◌, Option, Some, None, is_some, IsSome, take, IfSome, length, ltb}
 use Rattle.std.proofs.lemmas.Bool.Decides.{nat_tests}
 use Rattle.std.proofs.lemmas.List.Sums.{sum_by-cons}
 use Rattle.std.proofs.lemmas.List.{get_or_past, get_or-set_same, get_or-set_other, length-set, take_all}
@@ -40,16 +40,13 @@ module _ {X : Type 0} where
   counted-filled vs cs n k le = rw (take_all n cs le) (counted-more vs cs k)
 
   valued : (o : Option X) (n : ℕ) → value_of (option_map (with_count n) o) ≡ o
-  valued None n = refl
-  valued (Some v) n = refl
+  valued o n = grind (arith, nat_tests)
 
   owned_by : (o : Option X) (n : ℕ) → 0 < owners_of (option_map (with_count n) o) → owners_of (option_map (with_count n) o) ≡ n
-  owned_by None n lt = absurd (omega arith)
-  owned_by (Some v) n lt = refl
+  owned_by o n lt = grind (arith, nat_tests)
 
   held : (o : Option X) (n : ℕ) → 0 < owners_of (option_map (with_count n) o) → IsSome o
-  held None n lt = absurd (omega arith)
-  held (Some v) n lt = refl
+  held o n lt = grind (arith, nat_tests)
 
   pub value-counted : (values : List (Option X)) (counts : List ℕ) (id : ℕ) → value_at (counted values counts) id ≡ get_or values id None
   value-counted vs cs id = rw (place-counted vs cs id) (valued (get_or vs id None) (get_or cs id 0))
@@ -71,12 +68,10 @@ module _ {X : Type 0} where
   }
 
   more : (o : Option X) (n : ℕ) → option_map (with_count (n + 1)) o ≡ shared (option_map (with_count n) o)
-  more None n = refl
-  more (Some v) n = refl
+  more o n = grind (arith, nat_tests)
 
   less : (o : Option X) (n : ℕ) → ltb 1 n ≡ true → option_map (with_count (n - 1)) o ≡ released (option_map (with_count n) o)
-  less None n lt = refl
-  less (Some v) n lt = rw lt refl
+  less o n lt = grind (arith, nat_tests)
 
   pub sets_more : (values : List (Option X)) (counts : List ℕ) (id : ℕ) → 0 < owners (counted values counts) id → Sets (counted values counts) (counted values (set counts id (get_or counts id 0 + 1))) id (shared (place_at (counted values counts) id))
   sets_more vs cs id lt = subst (λ place. Sets (counted vs cs) (counted vs (set cs id (get_or cs id 0 + 1))) id place) (more (get_or vs id None) (get_or cs id 0) ∙ ap shared (sym (place-counted vs cs id))) (sets_count vs cs id (get_or cs id 0 + 1) (is_counted vs cs id lt))
@@ -85,16 +80,13 @@ module _ {X : Type 0} where
   sets_less vs cs id lt many = subst (λ place. Sets (counted vs cs) (counted vs (set cs id (get_or cs id 0 - 1))) id place) (less (get_or vs id None) (get_or cs id 0) (grind (arith, nat_tests)) ∙ ap released (sym (place-counted vs cs id))) (sets_count vs cs id (get_or cs id 0 - 1) (is_counted vs cs id lt))
 
   last_released : (place : Option (Counted X)) → owners_of place ≤ 1 → released place ≡ None
-  last_released None le = refl
-  last_released (Some p) le = let last : ltb 1 p.owners ≡ false = grind (arith, nat_tests) in rw last refl
+  last_released o le = grind (arith, nat_tests)
 
   last_leaves : (place : Option (Counted X)) → owners_of place ≤ 1 → leaving place ≡ value_of place
-  last_leaves None le = refl
-  last_leaves (Some p) le = let last : ltb 1 p.owners ≡ false = grind (arith, nat_tests) in rw last refl
+  last_leaves o le = grind (arith, nat_tests)
 
   pub none_leaves : (place : Option (Counted X)) → 1 < owners_of place → leaving place ≡ None
-  none_leaves None lt = absurd (omega arith)
-  none_leaves (Some p) lt = let many : ltb 1 p.owners ≡ true = grind (arith, nat_tests) in rw many refl
+  none_leaves o lt = grind (arith, nat_tests)
 
   pub sets_gone : (values new : List (Option X)) (counts : List ℕ) (id : ℕ) → owners (counted values counts) id ≤ 1 → get_or new id None ≡ None → ((other : ℕ) → other ≢ id → get_or new other None ≡ get_or values other None) → Sets (counted values counts) (counted new counts) id (released (place_at (counted values counts) id))
   sets_gone vs new cs id le gone others = rw (last_released (place_at (counted vs cs) id) le) (record {
@@ -116,12 +108,10 @@ module _ {X : Type 0} where
   owned_after old new id place owned sets has q = grind (arith, nat_tests)
 
   shared_owned : (place : Option (Counted X)) → IfSome place (λ p. 0 < p.owners) → IfSome (shared place) (λ p. 0 < p.owners)
-  shared_owned None has = has
-  shared_owned (Some p) has = omega (arith, has)
+  shared_owned o has = grind (arith, nat_tests)
 
   released_owned : (place : Option (Counted X)) → IfSome (released place) (λ p. 0 < p.owners)
-  released_owned None = tt
-  released_owned (Some p) = grind (arith, nat_tests)
+  released_owned o = grind (arith, nat_tests)
 
   pub owned_more : (values : List (Option X)) (counts : List ℕ) (id : ℕ) → Owned (counted values counts) → 0 < owners (counted values counts) id → Owned (counted values (set counts id (get_or counts id 0 + 1)))
   owned_more vs cs id owned lt = owned_after _ _ id _ owned (sets_more vs cs id lt) (shared_owned (place_at (counted vs cs) id) (owned id))

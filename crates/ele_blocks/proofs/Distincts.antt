@@ -1,5 +1,5 @@
 -- The blocks of a store are as many as its maps name.
-use Rattle.ele_blocks.proofs.Words.{◌≡◌, ℕ, ◌+◌, ◌<◌, ◌≤◌, Bool, true, false, cond, List, [], ◌∷◌, map, Option, Some, None, is_some, refl, ap, sym, ◌∙◌, arith, eqb, ltb, zero, suc, inl, inr, ⊎_elim, order, IfSome, set, list_any, count_by, sum_by-cons, nat_tests, Counted, times, place_at, owners_of, Owned, Store, owners_at, leaf_at, Slot, Layout, slots_of, ids_of, backing, named, Owes, different, Place, is_place, blocks_of, Named, IsIn, AreOneToOne}
+use Rattle.ele_blocks.proofs.Words.{◌≡◌, ℕ, ◌+◌, ◌<◌, ◌≤◌, Bool, true, false, cond, List, [], ◌∷◌, map, Option, None, is_some, refl, ap, sym, ◌∙◌, arith, eqb, ltb, zero, suc, inl, inr, ⊎_elim, order, IfSome, set, list_any, count_by, sum_by-cons, nat_tests, Counted, times, place_at, owners_of, Owned, Store, owners_at, leaf_at, Slot, Layout, slots_of, ids_of, backing, named, Owes, different, Place, is_place, blocks_of, Named, IsIn, AreOneToOne}
 use Rattle.ele_blocks.proofs.Backing.{weight, backing_some, slots_backed, slots_least}
 use Rattle.ele_blocks.proofs.Trades.{times-append}
 
@@ -24,8 +24,7 @@ taken_out (x ∷ xs) zero h = rw h (omega arith)
 taken_out (x ∷ xs) (suc id) h = omega (arith, taken_out xs id h)
 
 nothing : (t : Bool) → (let none : Option (Counted (List ℕ)) = None in none) ≡ cond t None None
-nothing true = refl
-nothing false = refl
+nothing b = grind (arith, nat_tests)
 
 place_at_set : (s : Blocks) (id q : ℕ) → place_at (set s id None) q ≡ cond (eqb id q) None (place_at s q)
 place_at_set [] id q = nothing (eqb id q)
@@ -57,8 +56,7 @@ standing_different (x ∷ xs) s h = elim (list_any (λ (y : ℕ). eqb y x) xs) a
 
 -- a block stands where it is owned
 some_owned : (b : Option (Counted (List ℕ))) → IfSome b (λ place. 0 < place.owners) → is_some b ≡ ltb 0 (owners_of b)
-some_owned None h = refl
-some_owned (Some b) h = sym (grind (arith, nat_tests))
+some_owned o h = grind (arith, nat_tests)
 
 any_times : (q : ℕ) (xs : List ℕ) → list_any (λ (y : ℕ). eqb y q) xs ≡ ltb 0 (times q xs)
 any_times q [] = refl
@@ -66,8 +64,7 @@ any_times q (x ∷ xs) = grind (arith, nat_tests, any_times q xs)
 
 -- a leaf that names something is owned
 owned_leaf : (place : Option (Counted (List Slot))) (id : ℕ) → IfSome place (λ p. 0 < p.owners) → 0 < weight place id → 0 < owners_of place
-owned_leaf None id h lt = absurd (omega (arith, lt))
-owned_leaf (Some p) id h lt = h
+owned_leaf o id h lt = grind (arith, nat_tests)
 
 -- a block that a map names is named by a leaf, and a leaf's by a map
 map_backs : (s : Store) (id : ℕ) (ms : List Layout) → 0 < times id (blocks_of s ms) → 0 < backing s.leaves id

@@ -70,8 +70,7 @@ place_back : (p q : Place) → SamePlace p q → is_place q p ≡ true
 place_back p q h = grind (arith, nat_tests, h.file, h.slot, h.writer)
 
 not_true : (b : Bool) → (b ≡ true → ⊥) → b ≡ false
-not_true true h = absurd (h refl)
-not_true false h = refl
+not_true b h = grind (arith, nat_tests)
 
 -- each block of a map that lives is owned
 pub slot_owned : (s : Store) (m : Layout) → LivesIn s m → (k : ℕ) (x : Slot) → slice_get (slots_of s m) k ≡ Some x → 0 < owners_at s x.block

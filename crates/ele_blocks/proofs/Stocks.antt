@@ -17,8 +17,7 @@ module _ {X : Type 0} (f : X → ℕ) where
 
 -- one of the maps lives in the store
 pub whole_of : (b : Bool) (n : ℕ) → n ≡ cond b 0 1 → n ≡ 0 → b ≡ true
-whole_of true n e h = refl
-whole_of false n e h = absurd (omega (arith, e, h))
+whole_of b n e h = grind (arith, nat_tests)
 
 pub owes_lives : (s : Store) (m : Layout) (rest : List Layout) → Owes s (m ∷ rest) → LivesIn s m
 owes_lives s m rest owes = record {

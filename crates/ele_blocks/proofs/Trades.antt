@@ -46,24 +46,20 @@ module _ {X : Type 0} where
   trades_put old new id x vacant h = grind (arith, nat_tests, trades_set, one_apart, times-self)
 
   pub shared_value : (b : Option (Counted X)) → value_of (shared b) ≡ value_of b
-  shared_value None = refl
-  shared_value (Some b) = refl
+  shared_value o = grind (arith, nat_tests)
 
   shared_owners : (b : Option (Counted X)) → 0 < owners_of b → owners_of (shared b) ≡ owners_of b + 1
-  shared_owners None lt = absurd (omega arith)
-  shared_owners (Some b) lt = refl
+  shared_owners o lt = grind (arith, nat_tests)
 
   -- a value gets an owner more
   pub trades_share : (old new : List (Option (Counted X))) (id : ℕ) → 0 < owners old id → Sets old new id (shared (place_at old id)) → Trades old new [] (id ∷ [])
   trades_share old new id lt h = trades_set old new id _ [] (id ∷ []) h (λ q e. (refl, one_apart id q e)) (omega (arith, shared_owners (place_at old id) lt, times-self id)) (λ more. shared_value (place_at old id))
 
   released_owners : (b : Option (Counted X)) → 0 < owners_of b → owners_of (released b) + 1 ≡ owners_of b
-  released_owners None lt = absurd (omega arith)
-  released_owners (Some b) lt = grind (arith, nat_tests)
+  released_owners o lt = grind (arith, nat_tests)
 
   pub released_value : (b : Option (Counted X)) → 1 < owners_of b → value_of (released b) ≡ value_of b
-  released_value None lt = absurd (omega arith)
-  released_value (Some b) lt = let e : ltb 1 b.owners ≡ true = grind (arith, nat_tests) in rw e refl
+  released_value o lt = grind (arith, nat_tests)
 
   -- a value loses an owner
   pub trades_release : (old new : List (Option (Counted X))) (id : ℕ) → 0 < owners old id → Sets old new id (released (place_at old id)) → Trades old new (id ∷ []) []
@@ -129,8 +125,7 @@ module _ {X : Type 0} where
   ] refl e
 
   pub leaving_none : (place : Option (Counted X)) → 0 < owners_of place → None ≡ leaving place → 1 < owners_of place
-  leaving_none None lt e = absurd (omega (arith, lt))
-  leaving_none (Some p) lt e = grind (arith, nat_tests)
+  leaving_none o lt e = grind (arith, nat_tests)
 
 -- a list so far, and one more
 module _ (ids : List ℕ) (k id : ℕ) (lt : k < length ids) (is : id ≡ get_or ids k id) where

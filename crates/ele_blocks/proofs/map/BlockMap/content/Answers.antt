@@ -10,9 +10,7 @@ loop-slot-preserved c =
 
 -- all slots have been joined
 pub returns-clause-bytes : goal.returns-clause-bytes
-returns-clause-bytes c =
-    let content = content_of (shown c.args.store.now c.args.self.now) in
-    c.loop-slot.invariant ∙ take_all (512 * c.loop-slot.slot) content (omega (arith, length-content c.args.store.now c.args.self.now c.requires.whole))
+returns-clause-bytes c = grind (arith, take_all, length-content)
 
 pub returns-clause-length : goal.returns-clause-length
 returns-clause-length c = omega (arith, c.loop-slot.all.ok, ap length (returns-clause-bytes c), length-content c.args.store.now c.args.self.now c.requires.whole)

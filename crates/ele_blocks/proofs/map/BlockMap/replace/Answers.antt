@@ -47,16 +47,10 @@ renew-requires c =
     }
 
 pub lay_leaves-requires-clause-room : goal.lay_leaves-requires-clause-room
-lay_leaves-requires-clause-room c =
-    let at = goal.at.lay_leaves-requires-clause-room c in
-    let size = ap (λ (m : Layout). m.size) c.self.view_is in
-    omega (arith, now_room (run at.After-reserve) (came at.After-deref-3 (its_leaves at.After-deref)), size, ap length c.deref-3.ensures.value, c.in_ok-reserve.ensures.len, c.in_ok-reserve.ensures.ok, c.self.invariant.leaves, c.self.inside.leaves.ok)
+lay_leaves-requires-clause-room c = grind (arith, now_room, came, its_leaves)
 
 new_leaves : (c : After-drop-now) → c.reserve.new.self.items ≡ c.args.self.now.leaves → c.truncate-2.new.self.items ≡ take (c.run_of-run.result.from + length c.in_ok-now.now.items + (length c.args.self.now.leaves - c.run_of-run.result.to)) (laid_over c.run_of-run.result.from c.in_ok-now.now.items c.args.self.now.leaves)
-new_leaves c same =
-    let laid : c.lay_leaves.new.leaves.items ≡ laid_over c.run_of-run.result.from c.in_ok-now.now.items c.args.self.now.leaves = rw (c.deref-3.ensures.value, same) at c.lay_leaves.ensures in
-    let many : c.run_of-run.result.from + c.len-2.result + (c.len-leaves.result - c.run_of-run.result.to) ≡ c.run_of-run.result.from + length c.in_ok-now.now.items + (length c.args.self.now.leaves - c.run_of-run.result.to) = omega (arith, c.in_ok-now.now.ok, ap length same, c.in_ok-reserve.ensures.items, c.self.inside.leaves.ok) in
-    rw (← many, ← laid) c.truncate-2.ensures.items
+new_leaves c same = grind (arith)
 
 pub invariant_of-self-2 : goal.invariant_of-self-2
 invariant_of-self-2 c =

@@ -1,4 +1,4 @@
-use Rattle.std.proofs.Common.{◌≡◌, arith}
+use Rattle.ele_blocks.proofs.Words.{◌≡◌, arith}
 use Rattle.ele_blocks.proofs.Changes.{grown, resized_same}
 use Rattle.ele_blocks.proofs.map.BlockMap.truncate.Goals as goal
 

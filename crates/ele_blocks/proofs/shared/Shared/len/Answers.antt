@@ -1,4 +1,4 @@
-use Rattle.std.proofs.Common.{ap, sym, ◌∙◌}
+use Rattle.ele_blocks.proofs.Words.{ap, sym, ◌∙◌}
 use Rattle.ele_blocks.proofs.Counts.{count-counted}
 use Rattle.ele_blocks.proofs.shared.Shared.len.Goals as goal
 

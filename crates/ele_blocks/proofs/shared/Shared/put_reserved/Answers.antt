@@ -1,4 +1,4 @@
-use Rattle.std.proofs.Common.{◌+◌, ◌<◌, ap, sym, subst, ◌∙◌, arith, get_or, length}
+use Rattle.ele_blocks.proofs.Words.{◌+◌, ◌<◌, ap, sym, subst, ◌∙◌, arith, get_or, length}
 use Rattle.std.specs.Option.{option_map}
 use Rattle.ele_blocks.specs.SharedInside.{with_count}
 use Rattle.slab.specs.Slab.{HasRoomFor}
@@ -9,10 +9,7 @@ pub insert_reserved-id-requires : goal.insert_reserved-id-requires
 insert_reserved-id-requires g c = (room_in c.self.inside.values c.self.inside.owners.items 0 (subst (λ v. HasRoomFor v 1) (sym c.self.view_is) c.requires)).0
 
 pub index_mut-requires : goal.index_mut-requires
-index_mut-requires g c =
-    let room = room_in c.self.inside.values c.self.inside.owners.items 0 (subst (λ v. HasRoomFor v 1) (sym c.self.view_is) c.requires) in
-    let made = c.insert_reserved-id.ensures in
-    rw c.self.inside.owners.ok.0 (omega (arith, room.1, made.key_in_range, made.capacity))
+index_mut-requires g c = grind (arith, room_in)
 
 pub invariant_of-self : goal.invariant_of-self
 invariant_of-self g c =

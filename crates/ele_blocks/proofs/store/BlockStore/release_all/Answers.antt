@@ -1,4 +1,4 @@
-use Rattle.std.proofs.Common.{◌∙◌}
+use Rattle.ele_blocks.proofs.Words.{◌∙◌}
 use Rattle.ele_blocks.proofs.Trades.{release_next, release_more}
 use Rattle.ele_blocks.proofs.store.BlockStore.release_all.Goals as goal
 

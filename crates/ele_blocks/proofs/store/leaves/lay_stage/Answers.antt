@@ -1,4 +1,4 @@
-use Rattle.ele_blocks.proofs.Words.{◌≡◌, ◌+◌, ◌∙◌, length, take, drop, min, Some, ap, sym, arith, length-map, drop_min, value_at}
+use Rattle.ele_blocks.proofs.Words.{◌≡◌, ◌+◌, ◌∙◌, length, take, drop, Some, ap, sym, arith, length-map, drop_min, value_at}
 use Rattle.ele_blocks.proofs.Renewals.{IsStaged, front_there, front_few, back_there, back_few, is_laid}
 use Rattle.ele_blocks.proofs.store.leaves.lay_stage.Goals as goal
 use Rattle.ele_blocks.proofs.store.leaves.lay_stage.Goals.{After-split_at, After-split_at-2}
@@ -19,11 +19,7 @@ front : (c : After-split_at) → c.split_at.result.0.now ≡ take c.args.stage.f
 front c = c.split_at.ensures.front ∙ ap (take c.args.stage.first) (c.deref.ensures.value ∙ c.in_ok-reserve.ensures.items)
 
 back : (c : After-split_at-2) → length c.in_ok-fresh.fresh.items ≡ length c.args.stage.staged.items → c.split_at-2.result.1.now ≡ drop (c.args.stage.first + length c.in_ok-fresh.fresh.items) c.args.stage.window.items
-back c count =
-    let window = c.args.stage.window.items in
-    let past = c.args.stage.first + length c.in_ok-fresh.fresh.items in
-    let place : c.min.result ≡ min past (length window) = omega (arith, count) in
-    c.split_at-2.ensures.back ∙ (ap (drop c.min.result) (c.deref-2.ensures.value ∙ c.in_ok-reserve.ensures.items) ∙ (ap (λ n. drop n window) place ∙ drop_min past window))
+back c count = grind (arith, drop_min)
 
 pub share_all-requires : goal.share_all-requires
 share_all-requires c =
