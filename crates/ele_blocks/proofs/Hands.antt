@@ -7,9 +7,7 @@ use Rattle.ele_blocks.proofs.Trades.{times-self, times-le-length, shared_value, 
 
 pub cells_each : (s t : Store) (slots : List Slot) → ((id : ℕ) → 0 < times id (ids_of slots) → bytes_at t id ≡ bytes_at s id) → map (cell_of t) slots ≡ map (cell_of s) slots
 cells_each s t [] same = refl
-cells_each s t (x ∷ xs) same =
-    let first : bytes_at t x.block ≡ bytes_at s x.block = same x.block (omega (arith, times-self x.block)) in
-    rw (first, cells_each s t xs (λ id lt. same id (omega (arith, lt)))) refl
+cells_each s t (x ∷ xs) same = grind (arith, times-self x.block, same x.block, cells_each s t xs (λ id lt. same id (omega (arith, lt))))
 
 -- blocks that stay show the same
 same_blocks : (s t : Store) (slots : List Slot) → t.blocks ≡ s.blocks → AreThere s slots → ShowsSame s t slots
@@ -46,9 +44,7 @@ module _ (s t : Store) (leaf : ℕ) (there : 0 < owners s.leaves leaf) where
   alone : (was now : List ℕ) (place : Option (Counted (List Slot))) → t.blocks ≡ s.blocks → Sets s.leaves t.leaves leaf place → value_of place ≡ value_of (place_at s.leaves leaf) → Trades s.leaves t.leaves was now → Hands s t (λ q. times q was) (λ q. times q now)
   alone was now place same sets value trades = record {
     leaves = λ q. omega (arith, trades.owed q);
-    blocks = λ id.
-        let count : owners_at t id ≡ owners_at s id = rw same refl in
-        omega (arith, backing_sets s.leaves t.leaves leaf place id sets, ap (λ v. times id (ids_of (unwrap_or v []))) value, count);
+    blocks = λ id. grind (arith, backing_sets s.leaves t.leaves leaf place id sets, ap (λ v. times id (ids_of (unwrap_or v []))) value);
     same = λ q lt. ap (λ v. unwrap_or v []) (trades.kept q lt);
     shows = λ q lt stand. same_blocks s t (leaf_at s q) same stand;
   }
@@ -67,14 +63,7 @@ module _ (s t : Store) (leaf : ℕ) (there : 0 < owners s.leaves leaf) where
 
     -- its blocks count it
     pub leaf_covered : Covers s.blocks (ids_of slots)
-    leaf_covered = record {
-      owned = λ id. ⊎_elim
-          (λ (some : 0 < times id (ids_of slots)).
-          let here = ap (λ xs. times id (ids_of xs)) its_slots in
-          omega (arith, backed id (omega (arith, here, some)), backing_least s.leaves leaf id, here))
-          (λ (none : times id (ids_of slots) ≤ 0). omega (arith, none))
-          (order 0 (times id (ids_of slots)));
-    }
+    leaf_covered = record { owned = λ id. grind (arith, backed id, backing_least s.leaves leaf id, ap (λ xs. times id (ids_of xs)) its_slots) }
 
     -- a leaf goes with its last owner, and its blocks have an owner fewer
     pub leaf_goes : Sets s.leaves t.leaves leaf (released (place_at s.leaves leaf)) → Trades s.blocks t.blocks (ids_of slots) [] → Hands s t (λ q. times q (leaf ∷ [])) (λ q. 0)
@@ -161,10 +150,7 @@ whole_same s t m stay = rw (stay.cells, fills-map 16 (leaf_at t) (leaf_at s) (sl
 
 -- one map gives way to another
 pub moved_one : (s t : Store) (m n : Layout) → Hands s t (λ q. times q m.leaves) (λ q. times q n.leaves) → is_whole t n ≡ true → Moves s t (m ∷ []) (n ∷ [])
-moved_one s t m n h whole = record {
-  hands = hands_with s t _ _ (λ q. named q (m ∷ [])) (λ q. named q (n ∷ [])) (λ q. 0) h (λ q. refl) (λ q. refl);
-  whole = rw whole refl;
-}
+moved_one s t m n h whole = record { hands = hands_with s t _ _ (λ q. named q (m ∷ [])) (λ q. named q (n ∷ [])) (λ q. 0) h (λ q. refl) (λ q. refl); whole = rw whole refl }
 
 -- a map gets a copy
 pub moved_copy : (s t : Store) (m : Layout) → LivesIn s m → Hands s t (λ q. 0) (λ q. times q m.leaves) → Moves s t [] (m ∷ [])

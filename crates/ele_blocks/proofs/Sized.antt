@@ -13,10 +13,7 @@ sized_fills c f n (x ∷ xs) h = grind (arith, nat_tests, sized_fills c f (n - c
 
 pub fills-map : {A X : Type 0} (c : ℕ) (f g : A → List X) (n : ℕ) (xs : List A) → map f xs ≡ map g xs → fills c f n xs ≡ fills c g n xs
 fills-map c f g n [] e = refl
-fills-map c f g n (x ∷ xs) e =
-    let same : f x ≡ g x = cc in
-    let rest : map f xs ≡ map g xs = cc in
-    rw (same, fills-map c f g (n - c) xs rest) refl
+fills-map c f g n (x ∷ xs) e = grind (arith, fills-map c f g (n - c) xs (cc))
 
 module _ {A X : Type 0} (c : ℕ) (f : A → List X) (some : 0 < c) where
   pub sized-is : (n m : ℕ) (xs : List A) → n ≡ m → AreSized c f n xs → AreSized c f m xs
@@ -50,12 +47,12 @@ module _ {A X : Type 0} (c : ℕ) (f : A → List X) (some : 0 < c) where
   -- whole pieces, and what follows them
   pub sized-append : (n m : ℕ) (xs ys : List A) → AreSized c f n xs → AreSized c f m ys → (n ≡ c * length xs) ⊎ (m ≡ 0) → AreSized c f (n + m) (xs ++ ys)
   sized-append n m [] ys h k e = sized-is m (n + m) ys (omega (arith, h)) k
-  sized-append n m (x ∷ xs) ys h k e = ⊎_elim
-      (λ (whole : n ≡ c * suc (length xs)).
-      let rest : n - c ≡ c * length xs = omega (arith, whole, mul-suc c (length xs)) in
-      (omega (arith, h, whole, mul-suc c (length xs)), omega (arith, h), sized-is (n - c + m) (n + m - c) (xs ++ ys) (omega (arith, whole, mul-suc c (length xs))) (sized-append (n - c) m xs ys h.2 k (inl rest))))
-      (λ (none : m ≡ 0). (omega (arith, h, none), omega (arith, h), sized-is (n - c + m) (n + m - c) (xs ++ ys) (omega (arith, none)) (sized-append (n - c) m xs ys h.2 k (inr none))))
-      e
+  sized-append n m (x ∷ xs) ys h k e = (
+    grind (arith, h, e, mul-suc c (length xs)),
+    omega (arith, h),
+    sized-is (n - c + m) (n + m - c) (xs ++ ys) (grind (arith, h, e, mul-suc c (length xs)))
+        (sized-append (n - c) m xs ys h.2 k (⊎_elim (λ (whole : n ≡ c * suc (length xs)). inl (omega (arith, whole, mul-suc c (length xs)))) inr e)),
+  )
 
   -- the items of some pieces
   pub flat-take : (k n : ℕ) (xs : List A) → AreSized c f n xs → flat_map f (take k xs) ≡ take (c * k) (flat_map f xs)
@@ -82,7 +79,7 @@ module _ {A X : Type 0} (c : ℕ) (f : A → List X) (some : 0 < c) where
 
   -- pieces laid over others
   pub flat-laid : (first n : ℕ) (new old : List A) → AreSized c f n old → flat_map f (laid_over first new old) ≡ take (c * first) (flat_map f old) ++ (flat_map f new ++ drop (c * (first + length new)) (flat_map f old))
-  flat-laid first n new old h = flat_map-append f (take first old) (new ++ drop (first + length new) old) ∙ rw (flat-take first n old h, flat_map-append f new (drop (first + length new) old), flat-drop (first + length new) n old h) refl
+  flat-laid first n new old h = rw (flat_map-append f (take first old) (new ++ drop (first + length new) old), flat-take first n old h, flat_map-append f new (drop (first + length new) old), flat-drop (first + length new) n old h) refl
 
   pub sized-laid : (first n m : ℕ) (new old : List A) → AreSized c f n old → AreSized c f m new → first ≤ length old → c * first ≤ n → (m ≡ c * length new) ⊎ (n ≤ c * (first + length new)) → AreSized c f (c * first + (m + (n - c * (first + length new)))) (laid_over first new old)
   sized-laid first n m new old h k within fit reach =
@@ -102,9 +99,7 @@ sized-map c f g n (x ∷ xs) (y ∷ ys) e h = let same : f x ≡ g y = cc in let
 module _ {X : Type 0} (c : ℕ) (some : 0 < c) where
   pub sized-chunks : (k : ℕ) (xs : List X) → length xs ≤ c * k → c * k < length xs + c → AreSized c (λ piece. piece) (length xs) (first_chunks c k xs)
   sized-chunks zero xs enough few = omega (arith, enough)
-  sized-chunks (suc k) xs enough few =
-      let size = length-drop c xs in
-      (omega (arith, length-take c xs), omega (arith, few, mul-suc c k), sized-is c (λ piece. piece) some (length (drop c xs)) (length xs - c) (first_chunks c k (drop c xs)) size (sized-chunks k (drop c xs) (omega (arith, enough, size, mul-suc c k)) (omega (arith, few, size, mul-suc c k))))
+  sized-chunks (suc k) xs enough few = let size = length-drop c xs in (omega (arith, length-take c xs), omega (arith, few, mul-suc c k), rw (← size) (sized-chunks k (drop c xs) (omega (arith, enough, size, mul-suc c k)) (omega (arith, few, size, mul-suc c k))))
 
   pub chunks_joined : (k : ℕ) (xs : List X) → length xs ≤ c * k → flat_map (λ piece. piece) (first_chunks c k xs) ≡ xs
   chunks_joined zero xs le = sym (nil_from_length xs (omega (arith, le)))
@@ -112,9 +107,7 @@ module _ {X : Type 0} (c : ℕ) (some : 0 < c) where
 
 -- the next chunk, as a split makes it
 pub chunk_next : {X : Type 0} (c left more n : ℕ) (rest front back : List X) → left ≡ more + 1 → n ≡ min (length rest) c → front ≡ take n rest → back ≡ drop n rest → first_chunks c left rest ≡ front ∷ first_chunks c more back
-chunk_next c left more n rest front back one size is_front is_back =
-    let turned : n ≡ min c (length rest) = omega (arith, size) in
-    rw (is_front, is_back, turned, take_min c rest, drop_min c rest, one, add-one) refl
+chunk_next c left more n rest front back one size is_front is_back = let turned : n ≡ min c (length rest) = omega (arith, size) in rw (is_front, is_back, turned, take_min c rest, drop_min c rest, one, add-one) refl
 
 pub length-chunks : {X : Type 0} (c k : ℕ) (xs : List X) → length (first_chunks c k xs) ≡ k
 length-chunks c zero xs = refl

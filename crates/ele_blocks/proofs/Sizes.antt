@@ -17,11 +17,7 @@ module _ (s : Store) (m : Layout) where
     pub leaves : AreSized 16 (leaf_at s) (slot_count m.size) m.leaves
 
   pub whole_is : is_whole s m ≡ true → IsWhole
-  whole_is h = record {
-    short = grind (arith, nat_tests, h);
-    bytes = fills_sized 512 bytes_of m.size (shown s m) (grind (arith, nat_tests, h));
-    leaves = fills_sized 16 (leaf_at s) (slot_count m.size) m.leaves (grind (arith, nat_tests, h));
-  }
+  whole_is h = record { short = grind (arith, nat_tests, h); bytes = fills_sized 512 bytes_of _ _ (grind (arith, nat_tests, h)); leaves = fills_sized 16 (leaf_at s) _ _ (grind (arith, nat_tests, h)) }
 
   pub is_whole_by : IsWhole → is_whole s m ≡ true
   is_whole_by h = let e : leb m.size longest_content ≡ true = let short = h.short in grind (arith, nat_tests, short) in rw (e, sized_fills 512 bytes_of m.size (shown s m) h.bytes, sized_fills 16 (leaf_at s) (slot_count m.size) m.leaves h.leaves) refl
@@ -56,6 +52,5 @@ module _ (s : Store) (m : Layout) (lives : LivesIn s m) (slot leaf : ℕ) (lt : 
   leaf_is = ap (leaf_at s) is ∙ flat-at 16 (leaf_at s) (omega arith) (slot / 16) (slot_count m.size) m.leaves leaf (whole_is s m lives.whole).leaves leaf_within
 
 pub slot_found : {X : Type 0} (xs leaf : List X) (slot : ℕ) (x : X) → leaf ≡ take 16 (drop (16 * (slot / 16)) xs) → slot < length xs → x ≡ get_or leaf (slot % 16) x → slice_get xs slot ≡ Some x
-slot_found xs leaf slot x is lt here =
-    let place : 16 * (slot / 16) + slot % 16 ≡ slot = omega arith in
-    slice_get_read xs (length xs) slot x refl lt (here ∙ (ap (λ ys. get_or ys (slot % 16) x) is ∙ (get_or-take 16 (drop (16 * (slot / 16)) xs) (slot % 16) x (omega arith) ∙ (get_or-drop (16 * (slot / 16)) xs (slot % 16) x ∙ ap (λ n. get_or xs n x) place))))
+slot_found xs leaf slot x is lt here = let place : 16 * (slot / 16) + slot % 16 ≡ slot = omega arith in
+    slice_get_read xs (length xs) slot x refl lt (here ∙ rw (is, get_or-take 16 (drop (16 * (slot / 16)) xs) (slot % 16) x (omega arith), get_or-drop (16 * (slot / 16)) xs (slot % 16) x, place) refl)

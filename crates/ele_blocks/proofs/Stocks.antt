@@ -1,12 +1,12 @@
 -- The laws of maps over one store.
-use Rattle.ele_blocks.proofs.Words.{is_whole, slice_get_within, ◌≡◌, ◌⊎◌, ℕ, ◌+◌, ◌<◌, ◌≤◌, Bool, true, false, cond, ◌&&◌, List, [], ◌∷◌, map, Some, refl, ap, sym, ◌∙◌, arith, eqb, ltb, zero, suc, inl, inr, ⊎_elim, slice_get, list_all, sum_by, AllByRecursion, length-map, map-append, sum_by-cons, nat_tests, Slot, Named, IsIn, AreOneToOne, names_from, names_of, blocks_of, Layout, ids_of, slots_of, tally, Moves, Renews, times, Tagged, SameStock, IsStocked, Stays, IsEarlier, StockLaws, layouts_of, names_in, is_below, empty_layout, Store, backing, is_place, ◌*◌, ◌^◌, ◌++◌, length, owners, LivesIn, named, broken, Owes, IsUncrowded}
+use Rattle.ele_blocks.proofs.Words.{is_whole, slice_get_within, ◌≡◌, ℕ, ◌+◌, ◌<◌, ◌≤◌, Bool, true, cond, ◌&&◌, List, [], ◌∷◌, map, Some, refl, ap, sym, ◌∙◌, arith, eqb, ltb, zero, suc, ⊎_elim, slice_get, list_all, sum_by, AllByRecursion, length-map, map-append, sum_by-cons, nat_tests, Slot, Named, IsIn, AreOneToOne, names_from, names_of, blocks_of, Layout, ids_of, slots_of, tally, Moves, Renews, times, Tagged, SameStock, IsStocked, Stays, IsEarlier, StockLaws, layouts_of, names_in, is_below, empty_layout, Store, backing, is_place, ◌*◌, ◌^◌, ◌++◌, length, owners, LivesIn, named, broken, Owes, IsUncrowded}
 use Rattle.ele_blocks.specs.Stock.{ShowsSame}
 use Rattle.ele_blocks.proofs.Backing.{backing_least, slots_backed}
 use Rattle.ele_blocks.proofs.Hands.{StayIn, stay_in, whole_same}
 use Rattle.ele_blocks.proofs.Trades.{times-le-length}
 use Rattle.ele_blocks.proofs.Sizes.{whole_is, leaves-count, length-content, slots-count}
 use Rattle.ele_blocks.proofs.Distincts.{self_eq, as_many}
-use Rattle.ele_blocks.proofs.OneToOnes.{name_of, NoneBy, in_either, in_front, in_back, slot_owned, stays_one_to_one}
+use Rattle.ele_blocks.proofs.OneToOnes.{NoneBy, in_either, in_front, in_back, slot_owned, stays_one_to_one}
 
 -- ---- what a store is owed
 
@@ -20,11 +20,7 @@ pub whole_of : (b : Bool) (n : ℕ) → n ≡ cond b 0 1 → n ≡ 0 → b ≡ t
 whole_of b n e h = grind (arith, nat_tests)
 
 pub owes_lives : (s : Store) (m : Layout) (rest : List Layout) → Owes s (m ∷ rest) → LivesIn s m
-owes_lives s m rest owes = record {
-  owned = record { owned = λ leaf. omega (arith, owes.counted leaf) };
-  backed = λ id some. omega (arith, owes.backed id);
-  whole = whole_of (is_whole s m) (cond (is_whole s m) 0 1) refl (omega (arith, owes.whole));
-}
+owes_lives s m rest owes = record { owned = record { owned = λ leaf. omega (arith, owes.counted leaf) }; backed = λ id some. omega (arith, owes.backed id); whole = whole_of (is_whole s m) _ refl (omega (arith, owes.whole)) }
 
 -- a leaf is named at most 128 times by each map
 named_few : (s : Store) (leaf : ℕ) (ms : List Layout) → broken s ms ≡ 0 → named leaf ms ≤ 128 * length ms
@@ -97,17 +93,11 @@ named_is n m h = grind (arith, nat_tests)
 
 counted : (n : Named) (ns : List Named) → IsIn n ns → 0 < count n ns
 counted n [] i = absurd i
-counted n (m ∷ ns) i = ⊎_elim
-    (λ (e : n ≡ m). let same : is_named n n ≡ true = rw (self_eq n.place.file, self_eq n.place.slot, self_eq n.place.writer, self_eq n.block) refl in rw (← e, same) (omega arith))
-    (λ (j : IsIn n ns). omega (arith, counted n ns j))
-    i
+counted n (m ∷ ns) i = grind (arith, nat_tests, self_eq, counted n ns)
 
 in_counted : (n : Named) (ns : List Named) → 0 < count n ns → IsIn n ns
 in_counted n [] h = absurd (omega (arith, h))
-in_counted n (m ∷ ns) h = elim (is_named n m) as (λ b. is_named n m ≡ b → (n ≡ m) ⊎ IsIn n ns) [
-  | true ↦ λ e. inl (named_is n m e)
-  | false ↦ λ e. inr (in_counted n ns (let h' : 0 < 0 + count n ns = rw e at h in omega (arith, h')))
-] refl
+in_counted n (m ∷ ns) h = grind (arith, nat_tests, named_is n m, in_counted n ns)
 
 names_count : (s : Store) (n : Named) (ts : List Tagged) → count n (names_in s ts) ≡ tally (λ t. count n (names_of s t.file t.layout)) ts
 names_count s n [] = refl
@@ -129,26 +119,14 @@ record IsNameOf (n : Named) (file below : ℕ) (slots : List Slot) : Type 0 wher
 
 named_by : (n : Named) (file below first : ℕ) (slots : List Slot) → list_all (λ (slot : Slot). ltb slot.writer below) slots ≡ true → IsIn n (names_from file first slots) → IsNameOf n file below slots
 named_by n file below first [] all i = absurd i
-named_by n file below first (x ∷ xs) all i = ⊎_elim
-    (λ (is : n ≡ name_of file first x).
-    let w : n.place.writer ≡ x.writer = ap (λ (m : Named). m.place.writer) is in
-    let b : n.block ≡ x.block = ap (λ (m : Named). m.block) is in
-    let one : eqb x.block n.block ≡ true = grind (arith, nat_tests, b) in
-    record { its_file = ap (λ (m : Named). m.place.file) is; writer = grind (arith, nat_tests, all, w); block = rw one (omega arith) })
-    (λ (j : IsIn n (names_from file (first + 1) xs)).
-    let more = named_by n file below (first + 1) xs (grind (arith, nat_tests, all)) j in
-    record { its_file = more.its_file; writer = more.writer; block = omega (arith, more.block) })
-    i
+named_by n file below first (x ∷ xs) all i = grind (arith, nat_tests, named_by n file below (first + 1) xs)
 
 head_below : (s : Store) (t : Tagged) (ts : List Tagged) → late s (t ∷ ts) ≡ 0 → is_below s t ≡ true
 head_below s t ts h = whole_of (is_below s t) (cond (is_below s t) 0 1) refl (omega (arith, h))
 
 owned_names : (s : Store) (n : Named) (ts : List Tagged) → late s ts ≡ 0 → IsIn n (names_in s ts) → 0 < backing s.leaves n.block
 owned_names s n [] h i = absurd i
-owned_names s n (t ∷ ts) h i = ⊎_elim
-    (λ (a : IsIn n (names_of s t.file t.layout)). slots_backed s t.layout.leaves n.block (named_by n t.file t.below 0 (slots_of s t.layout) (head_below s t ts h) a).block)
-    (λ (b : IsIn n (names_in s ts)). owned_names s n ts (omega (arith, h)) b)
-    (in_either n (names_of s t.file t.layout) (names_in s ts) i)
+owned_names s n (t ∷ ts) h i = grind (arith, in_either n (names_of s t.file t.layout) (names_in s ts) i, head_below s t ts h, slots_backed s t.layout.leaves n.block, named_by n t.file t.below 0 (slots_of s t.layout), owned_names s n ts)
 
 none_by : (s : Store) (file writer : ℕ) (ts : List Tagged) → late s ts ≡ 0 → AllByRecursion (IsEarlier file writer) ts → NoneBy file writer (names_in s ts)
 none_by s file writer [] h all n i of by = absurd i
