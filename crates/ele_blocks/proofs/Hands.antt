@@ -28,12 +28,7 @@ hands_then a b c was now was2 now2 h k = record {
 
 -- with more that stay on both sides
 pub hands_with : (s t : Store) (was now was2 now2 z : ℕ → ℕ) → Hands s t was now → ((q : ℕ) → was2 q ≡ was q + z q) → ((q : ℕ) → now2 q ≡ now q + z q) → Hands s t was2 now2
-hands_with s t was now was2 now2 z h e f = record {
-  leaves = λ q. omega (arith, h.leaves q, e q, f q);
-  blocks = h.blocks;
-  same = λ q lt. h.same q (omega (arith, lt, e q));
-  shows = λ q lt there. h.shows q (omega (arith, lt, e q)) there;
-}
+hands_with s t was now was2 now2 z h e f = record { leaves = λ q. omega (arith, h.leaves q, e q, f q); blocks = h.blocks; same = λ q lt. h.same q (omega (arith, lt, e q)); shows = λ q lt. h.shows q (omega (arith, lt, e q)) }
 
 -- nothing changes
 pub hands_none : (s : Store) → Hands s s (λ q. 0) (λ q. 0)
@@ -156,7 +151,5 @@ moved_one s t m n h whole = record { hands = hands_with s t _ _ (λ q. named q (
 pub moved_copy : (s t : Store) (m : Layout) → LivesIn s m → Hands s t (λ q. 0) (λ q. times q m.leaves) → Moves s t [] (m ∷ [])
 moved_copy s t m lives h = record {
   hands = hands_with s t _ _ (λ q. named q []) (λ q. named q (m ∷ [])) (λ q. 0) h (λ q. refl) (λ q. refl);
-  whole =
-      let stay = stay_in s t _ _ m.leaves h (λ q some. omega (arith, some, lives.owned.owned q)) (leaf_there s m.leaves lives.backed) in
-      rw (whole_same s t m stay, lives.whole) refl;
+  whole = rw (whole_same s t m (stay_in s t _ _ m.leaves h (λ q some. omega (arith, some, lives.owned.owned q)) (leaf_there s m.leaves lives.backed)), lives.whole) refl;
 }

@@ -15,7 +15,7 @@ name_of file slot x = record { place = record { file = file; slot = slot; writer
 
 pub in_either : (n : Named) (xs ys : List Named) → IsIn n (xs ++ ys) → IsIn n xs ⊎ IsIn n ys
 in_either n [] ys i = inr i
-in_either n (x ∷ xs) ys i = ⊎_elim (λ (e : n ≡ x). inl (inl e)) (λ (j : IsIn n (xs ++ ys)). ⊎_elim (λ (a : IsIn n xs). inl (inr a)) (λ (b : IsIn n ys). inr b) (in_either n xs ys j)) i
+in_either n (x ∷ xs) ys i = grind (arith, in_either n xs ys)
 
 pub in_front : (n : Named) (xs ys : List Named) → IsIn n xs → IsIn n (xs ++ ys)
 in_front n [] ys i = absurd i
@@ -34,12 +34,8 @@ pub record IsSlot (n : Named) (file first : ℕ) (slots : List Slot) : Type 0 wh
 
 slot_from : (n : Named) (file first : ℕ) (slots : List Slot) → IsIn n (names_from file first slots) → IsSlot n file first slots
 slot_from n file first [] i = absurd i
-slot_from n file first (x ∷ xs) i = ⊎_elim
-    (λ (e : n ≡ name_of file first x). record { place = 0; cell = x; got = refl; is = e ∙ ap (λ k. name_of file k x) (let z : first ≡ first + 0 = omega arith in z) })
-    (λ (j : IsIn n (names_from file (first + 1) xs)).
-    let h = slot_from n file (first + 1) xs j in
-    record { place = suc h.place; cell = h.cell; got = h.got; is = h.is ∙ ap (λ k. name_of file k h.cell) (let z : first + 1 + h.place ≡ first + suc h.place = omega arith in z) })
-    i
+slot_from n file first (x ∷ xs) i = ⊎_elim (λ (e : n ≡ name_of file first x). record { place = 0; cell = x; got = refl; is = grind (arith) })
+    (λ (j : IsIn n (names_from file (first + 1) xs)). let h = slot_from n file (first + 1) xs j in record { place = suc h.place; cell = h.cell; got = h.got; is = grind (arith, h.is) }) i
 
 slot_in : (file first k : ℕ) (slots : List Slot) (x : Slot) → slice_get slots k ≡ Some x → IsIn (name_of file (first + k) x) (names_from file first slots)
 slot_in file first k [] x e = absurd (let none : Option Slot = None in cc)
@@ -97,28 +93,15 @@ module _ (s t : Store) (w file : ℕ) (p : ℕ → Bool) (was now : Layout) (res
     pub held : 0 < owners_at s n.block
 
   of_slot : (n : Named) → IsSlot n file 0 (slots_of t now) → IsFresh n ⊎ IsOld n
-  of_slot n h =
-      let is : n ≡ name_of file h.place h.cell = h.is ∙ ap (λ k. name_of file k h.cell) (let z : 0 + h.place ≡ h.place = omega arith in z) in
-      elim (p h.place) as (λ b. p h.place ≡ b → IsFresh n ⊎ IsOld n) [
-        | true ↦ λ e.
-            let new = rw h.got at (renews.fresh h.place e) in
-            inl (record { place = h.place; cell = h.cell; got = h.got; is = is; renewed = e; writer = new.0; free = new.1 })
-        | false ↦ λ e.
-            let old = sym (renews.stays h.place e (slice_get_within (slots_of t now) h.place h.cell h.got)) ∙ h.got in
-            let here = slot_in file 0 h.place (slots_of s was) h.cell old in
-            let P : Named → Type 0 = λ m. IsIn m (names_of s file was) in
-            inr (record {
-              before = in_front n (names_of s file was) rest (subst P (sym h.is) here);
-              stays = λ f v. ap (λ (m : Named). p m.place.slot) is ∙ e;
-              held = names_owned s file was lives n (subst P (sym h.is) here);
-            })
-      ] refl
+  of_slot n h = elim (p h.place) as (λ b. p h.place ≡ b → IsFresh n ⊎ IsOld n) [
+    | true ↦ λ e. let new = rw h.got at (renews.fresh h.place e) in inl (record { place = h.place; cell = h.cell; got = h.got; is = grind (arith, h.is); renewed = e; writer = new.0; free = new.1 })
+    | false ↦ λ e.
+        let here = rw (← h.is) at (slot_in file 0 h.place (slots_of s was) h.cell (sym (renews.stays h.place e (slice_get_within (slots_of t now) h.place h.cell h.got)) ∙ h.got)) in
+        inr (record { before = in_front n (names_of s file was) rest here; stays = λ f v. grind (arith, h.is, e); held = names_owned s file was lives n here })
+  ] refl
 
   of_name : (n : Named) → IsIn n (names_of t file now ++ rest) → IsFresh n ⊎ IsOld n
-  of_name n i = ⊎_elim
-      (λ (a : IsIn n (names_of t file now)). of_slot n (slot_from n file 0 (slots_of t now) a))
-      (λ (b : IsIn n rest). inr (record { before = in_back n (names_of s file was) rest b; stays = λ f v. absurd (none n b f v); held = owned n b }))
-      (in_either n (names_of t file now) rest i)
+  of_name n i = ⊎_elim (λ a. of_slot n (slot_from n file 0 (slots_of t now) a)) (λ b. inr (record { before = in_back n (names_of s file was) rest b; stays = λ f v. absurd (none n b f v); held = owned n b })) (in_either n (names_of t file now) rest i)
 
   -- a fresh name is apart from an old one
   apart_place : (m n : Named) → IsFresh m → IsOld n → is_place m.place n.place ≡ true → ⊥

@@ -21,10 +21,7 @@ values_are : {X : Type 0} (s : List (Option (Counted (List X)))) (ids : List ℕ
 values_are s [] [] h = refl
 values_are s [] (x ∷ xs) h = absurd cc
 values_are s (id ∷ ids) [] h = absurd cc
-values_are s (id ∷ ids) (x ∷ xs) h =
-    let first : value_at s id ≡ Some x = cc in
-    let rest : map (value_at s) ids ≡ map (λ x. Some x) xs = cc in
-    rw (first, values_are s ids xs rest) refl
+values_are s (id ∷ ids) (x ∷ xs) h = grind (arith, values_are s ids xs (cc))
 
 pub times_laid : (window : List Slot) (first w : ℕ) (fresh : List ℕ) (q : ℕ) → times q (ids_of (laid_over first (map (slot_by w) fresh) window)) ≡ times q (ids_of (take first window)) + (times q fresh + times q (ids_of (drop (first + length fresh) window)))
 times_laid window first w fresh q = rw (← (length-map fresh (slot_by w))) (omega (arith, times-ids q (take first window) (map (slot_by w) fresh ++ drop (first + length (map (slot_by w) fresh)) window), times-ids q (map (slot_by w) fresh) (drop (first + length (map (slot_by w) fresh)) window), ap (times q) (ids_of_fresh w fresh)))
@@ -61,10 +58,10 @@ module _ {s b1 : Blocks} {window : List Slot} {first : ℕ} {fresh : List ℕ} (
       blocks = fresh;
       fresh = h.adds.fresh;
       once = h.adds.once;
-      values = values_stay b2 b3 [] (ids_of back) fresh more (λ id. omega (arith, h.adds.trades.owed id, shared.owed id)) ∙ (values_stay b1 b2 [] (ids_of (take first window)) fresh shared (λ id. omega (arith, h.adds.trades.owed id)) ∙ values);
       are = are;
+      values = values_stay b2 b3 [] (ids_of back) fresh more (λ id. omega (arith, h.adds.trades.owed id, shared.owed id)) ∙ (values_stay b1 b2 [] (ids_of (take first window)) fresh shared (λ id. omega (arith, h.adds.trades.owed id)) ∙ values);
       owed = λ id. omega (arith, h.adds.trades.owed id, shared.owed id, more.owed id, times_laid window first w fresh id, ap (λ xs. times id (ids_of xs)) are);
-      kept = λ id some. more.kept id (omega (arith, some, h.adds.trades.owed id, shared.owed id)) ∙ (shared.kept id (omega (arith, some, h.adds.trades.owed id)) ∙ h.adds.trades.kept id some);
+      kept = λ id some. grind (arith, more.kept id, h.adds.trades.owed id, shared.owed id, shared.kept id, h.adds.trades.kept id);
     }
 
 -- new leaves hold the slots, and the old ones go

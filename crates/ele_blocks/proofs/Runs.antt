@@ -11,17 +11,8 @@ use Rattle.ele_blocks.proofs.Trades.{times-split, times-append, times_at}
 -- what is laid over the middle of a list, or over its end
 laid_apart : {X : Type 0} (first at : ℕ) (new front middle back : List X) → first ≡ length front + at → at ≤ length middle → (at + length new ≤ length middle) ⊎ (back ≡ []) → laid_over first new (front ++ (middle ++ back)) ≡ front ++ (laid_over at new middle ++ back)
 laid_apart first at new front middle back is within fit =
-    let n = length new in
-    let rest : drop (at + n) (middle ++ back) ≡ drop (at + n) middle ++ back = ⊎_elim
-    (λ (le : at + n ≤ length middle). drop-append-le (at + n) middle back le)
-    (λ (none : back ≡ []). rw none (ap (drop (at + n)) (append-nil middle) ∙ sym (append-nil (drop (at + n) middle))))
-    fit in
-    let head = take_past front (middle ++ back) at first is ∙ ap (λ ys. front ++ ys) (take-append-le at middle back within) in
-    let tail = drop_past front (middle ++ back) (at + n) (first + n) (omega (arith, is)) ∙ rest in
-    ap (λ ys. ys ++ (new ++ drop (first + n) (front ++ (middle ++ back)))) head
-    ∙ (ap (λ ys. (front ++ take at middle) ++ (new ++ ys)) tail
-    ∙ (append_assoc front (take at middle) (new ++ (drop (at + n) middle ++ back))
-    ∙ ap (λ ys. front ++ ys) (ap (λ ys. take at middle ++ ys) (sym (append_assoc new (drop (at + n) middle) back)) ∙ sym (append_assoc (take at middle) (new ++ drop (at + n) middle) back))))
+    let rest : drop (at + length new) (middle ++ back) ≡ drop (at + length new) middle ++ back = grind (arith, fit, drop-append-le, append-nil) in
+    rw (take_past front (middle ++ back) at first is, take-append-le at middle back within, drop_past front (middle ++ back) (at + length new) (first + length new) (omega (arith, is)), rest) (simp append_assoc)
 
 -- new slots by a writer over the first slots of a map: those that stand there are renewed
 laid_renews : (s t : Store) (was now : Layout) (w first kept : ℕ) (fresh : List ℕ) → LivesIn s was → first ≤ kept → kept ≤ length (slots_of s was) → ((id : ℕ) → 0 < owners_at s id → times id fresh ≡ 0) → ((id : ℕ) → times id fresh ≤ 1) → slots_of t now ≡ laid_over first (map (slot_by w) fresh) (take kept (slots_of s was)) → Renews s t w (is_between first (first + length fresh)) was now
@@ -36,16 +27,10 @@ laid_renews s t was now w first kept fresh lives le kept_le new one is =
           let from : first ≤ slot = grind (arith, nat_tests) in
           let to : slot < first + length fresh = grind (arith, nat_tests) in
           let none : Slot = record { writer = 0; block = 0 } in
-          let id = get_or fresh (slot - first) 0 in
-          let free : owners_at s id ≡ 0 = ⊎_elim (λ (lt : 0 < owners_at s id). absurd (omega (arith, new id lt, times_at fresh (slot - first) (omega (arith, from, to))))) (λ (none : owners_at s id ≤ 0). let e : owners_at s id ≡ 0 = omega (arith, none) in e) (order 0 (owners_at s id)) in
+          let free : owners_at s (get_or fresh (slot - first) 0) ≡ 0 = grind (arith, new (get_or fresh (slot - first) 0), times_at fresh (slot - first)) in
           rw (at slot, yes, slice_get-get_or (map (slot_by w) fresh) (slot - first) none (omega (arith, from, to, count)), get_or-map (slot_by w) fresh (slot - first) 0 none (omega (arith, from, to))) (refl, free);
-      stays = λ slot no lt.
-          let long = length-laid_over first (map (slot_by w) fresh) old within in
-          let below : slot < kept = ⊎_elim (λ (b : slot < first). omega (arith, b, le)) (λ (from : first ≤ slot). let past : first + length fresh ≤ slot = grind (arith, nat_tests) in omega (arith, past, lt, ap length is, long, count, few)) (order slot first) in
-          rw (at slot, no) (slice_get-take kept slot (slots_of s was) below);
-      once = λ id zero.
-          let none : times id (ids_of (slots_of s was)) ≤ 0 = ⊎_elim (λ (some : 0 < times id (ids_of (slots_of s was))). absurd (omega (arith, backed_there s was.leaves lives.backed id some, zero))) (λ (no : times id (ids_of (slots_of s was)) ≤ 0). no) (order 0 (times id (ids_of (slots_of s was)))) in
-          omega (arith, ap (λ xs. times id (ids_of xs)) is, times_laid old first w fresh id, one id, none, times-split id kept (slots_of s was), times-split id first old, times-split id (first + length fresh) old);
+      stays = λ slot no lt. let below : slot < kept = grind (arith, nat_tests, length-laid_over first (map (slot_by w) fresh) old within, ap length is) in rw (at slot, no) (slice_get-take kept slot (slots_of s was) below);
+      once = λ id zero. grind (arith, backed_there s was.leaves lives.backed id, ap (λ xs. times id (ids_of xs)) is, times_laid old first w fresh id, one id, times-split id kept (slots_of s was), times-split id first old, times-split id (first + length fresh) old);
     }
 
 -- what a change asks, and the run of leaves that it meets: those before met have slots that are kept
@@ -79,7 +64,7 @@ module _ {s : Store} {m : Layout} {staged : List (List ℕ)} {first kept from me
   long = slots-count s m h.lives.whole
 
   order_of : (from ≤ met) × (met ≤ to) × (to ≤ leaf_count (slot_count m.size)) × (met ≤ leaf_count (slot_count m.size))
-  order_of = (omega arith, ⊎_elim (λ (more : 16 * met < kept). omega (arith, h.to_met more)) (λ (end : kept ≤ 16 * met). omega (arith, h.to_end end)) (order (16 * met) kept), ⊎_elim (λ (more : 16 * met < kept). omega (arith, h.to_met more)) (λ (end : kept ≤ 16 * met). omega (arith, h.to_end end)) (order (16 * met) kept), omega arith)
+  order_of = (omega arith, grind (arith, h.to_met, h.to_end), grind (arith, h.to_met, h.to_end), omega arith)
 
   in_three : m.leaves ≡ front ++ (was ++ back)
   in_three = sym (ap (λ ys. front ++ (was ++ ys)) (let e : from + (to - from) ≡ to = omega (arith, order_of) in sym (drop-drop (to - from) from m.leaves ∙ ap (λ j. drop j m.leaves) e)) ∙ (ap (λ ys. front ++ ys) (take-append-drop (to - from) (drop from m.leaves)) ∙ take-append-drop from m.leaves))
@@ -98,9 +83,7 @@ module _ {s : Store} {m : Layout} {staged : List (List ℕ)} {first kept from me
 
   -- what a renewal of the run asks
   pub part_owned : (a d : ℕ) → Covers s.leaves (take d (drop a m.leaves))
-  part_owned a d = record {
-    owned = λ q. omega (arith, h.lives.owned.owned q, ap (times q) (take-append-drop a m.leaves), ap (times q) (take-append-drop d (drop a m.leaves)), times-append q (take a m.leaves) (drop a m.leaves), times-append q (take d (drop a m.leaves)) (drop d (drop a m.leaves)));
-  }
+  part_owned a d = record { owned = λ q. omega (arith, h.lives.owned.owned q, ap (times q) (take-append-drop a m.leaves), ap (times q) (take-append-drop d (drop a m.leaves)), times-append q (take a m.leaves) (drop a m.leaves), times-append q (take d (drop a m.leaves)) (drop d (drop a m.leaves))) }
 
   fewer : (a d id : ℕ) → times id (ids_of (slots_in s (take d (drop a m.leaves)))) ≤ times id (ids_of (slots_of s m))
   fewer a d id = omega (arith, ap (λ xs. times id (ids_of xs)) (part_slots a d), times-split id (16 * d) (drop (16 * a) (slots_of s m)), times-split id (16 * a) (slots_of s m))

@@ -53,12 +53,7 @@ module _ (s t : Store) (was now : List Layout) (moves : Moves s t was now) (rest
   all_stay (m ∷ ts) owned =
       let first = its_leaves m.layout (λ leaf. omega (arith, owned leaf)) in
       let more = all_stay ts (λ leaf. omega (arith, owned leaf)) in
-      record {
-        shows = (record { same = first.cells }, more.shows);
-        names = rw (first.slots, more.names) refl;
-        late = rw (first.slots, more.late) refl;
-        broken = rw (whole_same s t m.layout first, more.broken) refl;
-      }
+      record { shows = (record { same = first.cells }, more.shows); names = rw (first.slots, more.names) refl; late = rw (first.slots, more.late) refl; broken = rw (whole_same s t m.layout first, more.broken) refl }
 
   pub rest_stays : AllStay rest
   rest_stays = all_stay rest beside
@@ -66,7 +61,7 @@ module _ (s t : Store) (was now : List Layout) (moves : Moves s t was now) (rest
   -- and the store is owed by all of them
   pub moves_owes : Owes t (now ++ layouts_of rest)
   moves_owes = record {
-    counted = λ leaf. let n : Layout → ℕ = λ m. times leaf m.leaves in omega (arith, owes.counted leaf, moves.hands.leaves leaf, tally-append n was (layouts_of rest), tally-append n now (layouts_of rest));
+    counted = λ leaf. omega (arith, owes.counted leaf, moves.hands.leaves leaf, tally-append (λ (m : Layout). times leaf m.leaves) was (layouts_of rest), tally-append (λ (m : Layout). times leaf m.leaves) now (layouts_of rest));
     backed = λ id. omega (arith, owes.backed id, moves.hands.blocks id);
     whole = omega (arith, owes.whole, moves.whole, tally-append (λ m. cond (is_whole s m) 0 1) was (layouts_of rest), tally-append (λ m. cond (is_whole t m) 0 1) now (layouts_of rest), rest_stays.broken);
   }
@@ -256,7 +251,7 @@ stock_laws = record {
   slots = λ s m lives. slots-count s m lives.whole;
   few = λ s ts h few. owes_uncrowded s (layouts_of ts) h.owed (omega (arith, few, length-map ts (λ (t : Tagged). t.layout)));
   blocks = λ s ts h. rw (← blocks_named s ts) (sym (as_many (names_in s ts) h.one_to_one));
-  gone = λ s t ts was rest h apart moves. goes s t ts was rest h apart moves;
-  copied = λ s t ts was rest below us h apart le moves same. copies s t ts was rest h apart below us le moves same;
-  rewritten = λ s t ts was rest writer renewed now us h apart is others moves renews same. rewrites s t ts was rest h apart writer renewed now us is others moves renews same;
+  gone = goes;
+  copied = λ s t ts was rest below us h apart. copies s t ts was rest h apart below us;
+  rewritten = λ s t ts was rest writer renewed now us h apart. rewrites s t ts was rest h apart writer renewed now us;
 }

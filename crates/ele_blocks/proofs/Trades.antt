@@ -30,16 +30,7 @@ take_one xs k x lt is = rw add-one (take-suc xs k x lt ∙ ap (λ y. take k xs +
 module _ {X : Type 0} where
   -- one place changes, and the owners there by those that go and come
   trades_set : (old new : List (Option (Counted X))) (id : ℕ) (b : Option (Counted X)) (was now : List ℕ) → Sets old new id b → ((q : ℕ) → eqb id q ≡ false → (times q was ≡ 0) × (times q now ≡ 0)) → owners_of b + times id was ≡ owners old id + times id now → (times id was < owners old id → value_of b ≡ value_at old id) → Trades old new was now
-  trades_set old new id b was now h apart count keeps = record {
-    owed = λ q. elim (eqb id q) as (λ t. eqb id q ≡ t → owners new q + times q was ≡ owners old q + times q now) [
-      | true ↦ λ e. let same : q ≡ id = grind (arith, nat_tests) in rw (same, h.changed) count
-      | false ↦ λ e. let o = ap owners_of (h.others q (grind (arith, nat_tests))) in omega (arith, o, apart q e)
-    ] refl;
-    kept = λ q lt. elim (eqb id q) as (λ t. eqb id q ≡ t → value_at new q ≡ value_at old q) [
-      | true ↦ λ e. let same : q ≡ id = grind (arith, nat_tests) in rw (same, h.changed) (keeps (rw same at lt))
-      | false ↦ λ e. ap value_of (h.others q (grind (arith, nat_tests)))
-    ] refl;
-  }
+  trades_set old new id b was now h apart count keeps = record { owed = λ q. grind (arith, nat_tests, h.changed, h.others q, apart q, count); kept = λ q. grind (arith, nat_tests, h.changed, h.others q, keeps) }
 
   -- a value is kept under a number that stood for nothing
   pub trades_put : (old new : List (Option (Counted X))) (id : ℕ) (x : X) → place_at old id ≡ None → Sets old new id (Some (record { value = x; owners = 1 })) → Trades old new [] (id ∷ [])
@@ -53,7 +44,7 @@ module _ {X : Type 0} where
 
   -- a value gets an owner more
   pub trades_share : (old new : List (Option (Counted X))) (id : ℕ) → 0 < owners old id → Sets old new id (shared (place_at old id)) → Trades old new [] (id ∷ [])
-  trades_share old new id lt h = trades_set old new id _ [] (id ∷ []) h (λ q e. (refl, one_apart id q e)) (omega (arith, shared_owners (place_at old id) lt, times-self id)) (λ more. shared_value (place_at old id))
+  trades_share old new id lt h = grind (arith, trades_set, one_apart, times-self, shared_owners, shared_value)
 
   released_owners : (b : Option (Counted X)) → 0 < owners_of b → owners_of (released b) + 1 ≡ owners_of b
   released_owners o lt = grind (arith, nat_tests)
@@ -63,7 +54,7 @@ module _ {X : Type 0} where
 
   -- a value loses an owner
   pub trades_release : (old new : List (Option (Counted X))) (id : ℕ) → 0 < owners old id → Sets old new id (released (place_at old id)) → Trades old new (id ∷ []) []
-  trades_release old new id lt h = trades_set old new id _ (id ∷ []) [] h (λ q e. (one_apart id q e, refl)) (omega (arith, released_owners (place_at old id) lt, times-self id)) (λ more. released_value (place_at old id) (omega (arith, more, times-self id)))
+  trades_release old new id lt h = grind (arith, trades_set, one_apart, times-self, released_owners, released_value)
 
   -- one after the other
   pub trades_then : (a b c : List (Option (Counted X))) (was now was2 now2 : List ℕ) → Trades a b was now → Trades b c was2 now2 → Trades a c (was ++ was2) (now ++ now2)
@@ -75,27 +66,15 @@ module _ {X : Type 0} where
   -- what is owned beside what goes keeps its value
   pub values_stay : (s t : List (Option (Counted X))) (was now xs : List ℕ) → Trades s t was now → ((id : ℕ) → times id was + times id xs ≤ owners s id) → map (value_at t) xs ≡ map (value_at s) xs
   values_stay s t was now [] h owned = refl
-  values_stay s t was now (x ∷ xs) h owned =
-      let one : eqb x x ≡ true = grind (arith, nat_tests) in
-      let first : value_at t x ≡ value_at s x = h.kept x (let o = rw one at (owned x) in omega arith) in
-      let rest = values_stay s t was now xs h (λ q. omega (arith, owned q)) in
-      rw (first, rest) refl
+  values_stay s t was now (x ∷ xs) h owned = grind (arith, times-self x, h.kept x, owned x, values_stay s t was now xs h (λ q. omega (arith, owned q)))
 
   -- a value more
   pub adds_more : (s0 s t : List (Option (Counted X))) (ids : List ℕ) (id : ℕ) (x : X) → Adds s0 s ids → place_at s id ≡ None → Sets s t id (Some (record { value = x; owners = 1 })) → Adds s0 t (ids ++ id ∷ [])
-  adds_more s0 s t ids id x h vacant sets =
-      let none : owners s id ≡ 0 = rw vacant refl in
-      record {
-        trades = trades_then s0 s t [] ids [] (id ∷ []) h.trades (trades_put s t id x vacant sets);
-        fresh = λ q lt. elim (eqb id q) as (λ b. eqb id q ≡ b → times q (ids ++ id ∷ []) ≡ 0) [
-          | true ↦ λ e. let same : q ≡ id = grind (arith, nat_tests) in let had : 0 < owners s0 id = rw (← same) lt in absurd (omega (arith, h.trades.owed id))
-          | false ↦ λ e. let one : times q (id ∷ []) ≡ 0 = rw e refl in omega (arith, times-append q ids (id ∷ []), h.fresh q lt)
-        ] refl;
-        once = λ q. elim (eqb id q) as (λ b. eqb id q ≡ b → times q (ids ++ id ∷ []) ≤ 1) [
-          | true ↦ λ e. let same : q ≡ id = grind (arith, nat_tests) in let one : times q (id ∷ []) ≡ 1 = rw e refl in let was : times q ids ≡ 0 = rw same (omega (arith, h.trades.owed id)) in omega (arith, times-append q ids (id ∷ []))
-          | false ↦ λ e. let one : times q (id ∷ []) ≡ 0 = rw e refl in omega (arith, times-append q ids (id ∷ []), h.once q)
-        ] refl;
-      }
+  adds_more s0 s t ids id x h vacant sets = record {
+    trades = trades_then s0 s t [] ids [] (id ∷ []) h.trades (trades_put s t id x vacant sets);
+    fresh = λ q lt. grind (arith, nat_tests, h.trades.owed id, h.fresh q lt, times-append q ids (id ∷ []));
+    once = λ q. grind (arith, nat_tests, h.trades.owed id, h.once q, times-append q ids (id ∷ []));
+  }
 
   -- the values kept so far, and those that are still to be kept
   pub record PutsSoFar (s0 s : List (Option (Counted X))) (ids : List ℕ) (rest all : List X) : Type 0 where
@@ -103,13 +82,10 @@ module _ {X : Type 0} where
     pub values : map (value_at s) ids ++ map (λ x. Some x) rest ≡ map (λ x. Some x) all
 
   pub puts_more : (s0 s t : List (Option (Counted X))) (ids : List ℕ) (x : X) (rest all : List X) (id : ℕ) → PutsSoFar s0 s ids (x ∷ rest) all → place_at s id ≡ None → Sets s t id (Some (record { value = x; owners = 1 })) → PutsSoFar s0 t (ids ++ id ∷ []) rest all
-  puts_more s0 s t ids x rest all id h vacant sets =
-      let put = trades_put s t id x vacant sets in
-      let is : value_at t id ≡ Some x = ap value_of sets.changed in
-      record {
-        adds = adds_more s0 s t ids id x h.adds vacant sets;
-        values = rw (map-append (value_at t) ids (id ∷ []), is, values_stay s t [] (id ∷ []) ids put (λ q. omega (arith, h.adds.trades.owed q)), append_assoc) h.values;
-      }
+  puts_more s0 s t ids x rest all id h vacant sets = record {
+    adds = adds_more s0 s t ids id x h.adds vacant sets;
+    values = rw (map-append (value_at t) ids (id ∷ []), ap value_of sets.changed, values_stay s t [] (id ∷ []) ids (trades_put s t id x vacant sets) (λ q. omega (arith, h.adds.trades.owed q)), append_assoc) h.values;
+  }
 
   -- a place that a last owner leaves
   pub record IsLast (place : Option (Counted X)) (x : X) : Type 0 where
@@ -119,10 +95,7 @@ module _ {X : Type 0} where
 
   pub leaving_last : (place : Option (Counted X)) (x : X) → 0 < owners_of place → Some x ≡ leaving place → IsLast place x
   leaving_last None x lt e = absurd (omega (arith, lt))
-  leaving_last (Some p) x lt e = elim (ltb 1 p.owners) as (λ t. ltb 1 p.owners ≡ t → Some x ≡ cond t None (Some p.value) → IsLast (Some p) x) [
-    | true ↦ λ more e. absurd cc
-    | false ↦ λ few e. record { owners = grind (arith, nat_tests); value = sym e; gone = rw few refl }
-  ] refl e
+  leaving_last (Some p) x lt e = record { owners = grind (arith, nat_tests); value = grind (arith, nat_tests); gone = grind (arith, nat_tests) }
 
   pub leaving_none : (place : Option (Counted X)) → 0 < owners_of place → None ≡ leaving place → 1 < owners_of place
   leaving_none o lt e = grind (arith, nat_tests)
