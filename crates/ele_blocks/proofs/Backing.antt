@@ -1,5 +1,5 @@
 -- How many slots of leaves name a block, as leaves come and go.
-use Rattle.ele_blocks.proofs.Words.{take, drop, Some, ◌≡◌, ◌≢◌, ℕ, ◌+◌, ◌<◌, ◌≤◌, List, [], ◌∷◌, Option, None, refl, ap, sym, ◌∙◌, arith, zero, suc, ⊎_elim, unwrap_or, order, nat_tests, Counted, Slot, times, place_at, value_of, Sets, Store, leaf_at, slots_in, ids_of, backing}
+use Rattle.ele_blocks.proofs.Words.{[], ap, arith, backing, Counted, drop, ids_of, leaf_at, List, nat_tests, None, Option, order, place_at, refl, Sets, Slot, slots_in, Some, Store, suc, sym, take, times, unwrap_or, value_of, zero, ℕ, ⊎_elim, ◌+◌, ◌<◌, ◌∙◌, ◌∷◌, ◌≡◌, ◌≢◌, ◌≤◌}
 use Rattle.ele_blocks.proofs.Trades.{times-split, times-ids}
 
 abbrev pub Leaves : Type 0

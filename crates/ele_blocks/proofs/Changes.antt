@@ -1,11 +1,6 @@
 -- What a write and a truncate make of a map and its store.
-use Rattle.ele_blocks.proofs.Words.{◌≡◌, ◌⊎◌, ℕ, ◌+◌, ◌-◌, ◌*◌, ◌/◌, ◌<◌, ◌≤◌, Bool, true, false, cond, ◌&&◌, List, [], ◌∷◌, ◌++◌, length, map, take, drop, get_or, min, max, refl, ap, sym, ◌∙◌, arith, zero, suc, ltb, inl, inr, ⊎_elim, slice_get, flat_map, range_with_len, option_map_or, order, take-add, false≢true, nat_tests, append-nil, length-append, length-map, length-take, length-drop, length-replicate, nil_from_length, take_all, take-take, take-append-drop, drop_all, flat_map-map, fill_by_all, slice_get-get_or, Cell, content_of, content_after_write, content_after_truncate, longest_content, slot_bytes, slot_count, writer_at, meets, refits, Slot, IsRewritten, IsWritten, IsResized, Hands, Layout, shown, slots_of, ids_of, cell_of, cell_by, is_between, LivesIn, AreSized, pieces, pieces_between, IsReplaced, Renews, times, Store, leaf_at}
-use Rattle.ele_content.specs.Content.{cells_after_write, cells_after_truncate}
-use Rattle.ele_blocks.proofs.Hands.{hands_none, hands_with, backed_there}
-use Rattle.ele_blocks.proofs.Hands.{moved_one}
-use Rattle.ele_blocks.proofs.Sized.{length-chunks, sized-is, sized-length, sized-count, sized-take, sized-map, sized-laid, flat-at, flat-take, flat-laid}
-use Rattle.ele_blocks.proofs.Sizes.{bytes_of, no_cell, whole_is, is_whole_by, length-content}
-use Rattle.ele_blocks.proofs.Splices.{length-pieces, pieces_sized, pieces_joined, pieces_taken, length-spliced, spliced_part}
+use Rattle.ele_blocks.proofs.Lemmas.{[], ap, append-nil, AreSized, arith, backed_there, Bool, bytes_of, Cell, cell_by, cell_of, cond, content_after_truncate, content_after_write, content_of, drop, drop_all, false, false≢true, fill_by_all, flat-at, flat-laid, flat-take, flat_map, flat_map-map, get_or, Hands, hands_none, hands_with, ids_of, inl, inr, is_between, is_whole_by, IsReplaced, IsResized, IsRewritten, IsWritten, Layout, leaf_at, length, length-append, length-chunks, length-content, length-drop, length-map, length-pieces, length-replicate, length-spliced, length-take, List, LivesIn, longest_content, ltb, map, max, meets, min, moved_one, nat_tests, nil_from_length, no_cell, option_map_or, order, pieces, pieces_between, pieces_joined, pieces_sized, pieces_taken, range_with_len, refits, refl, Renews, shown, sized-count, sized-is, sized-laid, sized-length, sized-map, sized-take, slice_get, slice_get-get_or, Slot, slot_bytes, slot_count, slots_of, spliced_part, Store, suc, sym, take, take-add, take-append-drop, take-take, take_all, times, true, whole_is, writer_at, zero, ℕ, ⊎_elim, ◌&&◌, ◌*◌, ◌++◌, ◌+◌, ◌-◌, ◌/◌, ◌<◌, ◌∙◌, ◌∷◌, ◌≡◌, ◌≤◌, ◌⊎◌}
+use Rattle.ele_content.specs.Content.{cells_after_truncate, cells_after_write}
 
 pub renews_as : (s t : Store) (w : ℕ) (p q : ℕ → Bool) (was now : Layout) → ((slot : ℕ) → q slot ≡ p slot) → Renews s t w p was now → Renews s t w q was now
 renews_as s t w p q was now same h = record {

@@ -1,14 +1,5 @@
 -- Values beside the counts of their owners.
-use Rattle.std.proofs.Common.{◌≡◌, ◌≢◌, refl, ap, sym, subst, ◌∙◌, arith, ℕ, zero, suc, ◌+◌, ◌-◌, ◌<◌, ◌≤◌, true, cond, List, [], ◌∷◌, ◌++◌, Option, Some, None, is_some, IsSome, take, IfSome, length, ltb}
-use Rattle.std.proofs.lemmas.Bool.Decides.{nat_tests}
-use Rattle.std.proofs.lemmas.List.Sums.{sum_by-cons}
-use Rattle.std.proofs.lemmas.List.{get_or_past, get_or-set_same, get_or-set_other, length-set, take_all}
-use Rattle.std.proofs.Math.ListN.{get_or, replicate, set}
-use Rattle.std.specs.Prelude.{count_by}
-use Rattle.slab.specs.Slab.{Slab, HasRoomFor, slab_len}
-use Rattle.std.specs.Option.{option_map}
-use Rattle.ele_blocks.specs.Shared.{Counted}
-use Rattle.ele_blocks.specs.Shared.{place_at, value_at, value_of, owners, owners_of, shared, released, leaving, Sets, Owned}
+use Rattle.ele_blocks.proofs.Words.{[], ap, arith, cond, count_by, Counted, get_or, get_or-set_other, get_or-set_same, get_or_past, HasRoomFor, IfSome, is_some, IsSome, leaving, length, length-set, List, ltb, nat_tests, None, Option, option_map, Owned, owners, owners_of, place_at, refl, released, replicate, set, Sets, shared, Slab, slab_len, Some, subst, suc, sum_by-cons, sym, take, take_all, true, value_at, value_of, zero, ℕ, ◌++◌, ◌+◌, ◌-◌, ◌<◌, ◌∙◌, ◌∷◌, ◌≡◌, ◌≢◌, ◌≤◌}
 use Rattle.ele_blocks.specs.SharedInside.{counted, counted_with, with_count}
 
 module _ {X : Type 0} where

@@ -1,7 +1,5 @@
 -- The blocks of a store are as many as its maps name.
-use Rattle.ele_blocks.proofs.Words.{◌≡◌, ℕ, ◌+◌, ◌<◌, ◌≤◌, Bool, true, false, cond, List, [], ◌∷◌, map, Option, None, is_some, refl, ap, sym, ◌∙◌, arith, eqb, ltb, zero, suc, inl, inr, IfSome, set, list_any, count_by, sum_by-cons, nat_tests, Counted, times, place_at, owners_of, Owned, Store, owners_at, leaf_at, Slot, Layout, slots_of, ids_of, backing, named, Owes, different, Place, is_place, blocks_of, Named, IsIn, AreOneToOne}
-use Rattle.ele_blocks.proofs.Backing.{weight, backing_some, slots_backed, slots_least}
-use Rattle.ele_blocks.proofs.Trades.{times-append}
+use Rattle.ele_blocks.proofs.Lemmas.{[], ap, AreOneToOne, arith, backing, backing_some, blocks_of, Bool, cond, count_by, Counted, different, eqb, false, ids_of, IfSome, inl, inr, is_place, is_some, IsIn, Layout, leaf_at, List, list_any, ltb, map, Named, named, nat_tests, None, Option, Owes, Owned, owners_at, owners_of, Place, place_at, refl, set, Slot, slots_backed, slots_least, slots_of, Store, suc, sum_by-cons, sym, times, times-append, true, weight, zero, ℕ, ◌+◌, ◌<◌, ◌∙◌, ◌∷◌, ◌≡◌, ◌≤◌}
 
 abbrev pub Blocks : Type 0
 Blocks = List (Option (Counted (List ℕ)))

@@ -1,7 +1,7 @@
 -- How leaves change hands, one change after another.
-use Rattle.ele_blocks.proofs.Words.{nat_tests, Option, Counted, ◌≡◌, ℕ, ◌+◌, ◌<◌, ◌≤◌, ◌^◌, List, [], ◌∷◌, map, length, take, get_or, Some, None, refl, ap, sym, ◌∙◌, arith, ⊎_elim, unwrap_or, order, map-append, length-take-le, Slot, Hands, AreThere, cell_of, ids_of, AreBacked, backing, times, owners, place_at, value_of, shared, released, leaving, Sets, Trades, Covers, Store, owners_at, bytes_at, leaf_at, slots_in, true, Layout, is_whole, LivesIn, Moves, named, slot_count}
-use Rattle.ele_blocks.proofs.Sized.{fills-map}
+use Rattle.ele_blocks.proofs.Words.{[], ap, AreBacked, AreThere, arith, backing, bytes_at, cell_of, Counted, Covers, get_or, Hands, ids_of, is_whole, Layout, leaf_at, leaving, length, length-take-le, List, LivesIn, map, map-append, Moves, named, nat_tests, None, Option, order, owners, owners_at, place_at, refl, released, Sets, shared, Slot, slot_count, slots_in, Some, Store, sym, take, times, Trades, true, unwrap_or, value_of, ℕ, ⊎_elim, ◌+◌, ◌<◌, ◌^◌, ◌∙◌, ◌∷◌, ◌≡◌, ◌≤◌}
 use Rattle.ele_blocks.specs.Hands.{ShowsSame}
+use Rattle.ele_blocks.proofs.Sized.{fills-map}
 use Rattle.ele_blocks.proofs.Backing.{backing_sets, backing_least, slots_backed, slots_least}
 use Rattle.ele_blocks.proofs.Trades.{times-self, times-le-length, shared_value, released_value, trades_share, trades_release, leaving_last, leaving_none, one_more, times_next}
 

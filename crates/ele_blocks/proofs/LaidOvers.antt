@@ -1,5 +1,5 @@
 -- What stands in each place of a list over which items were laid.
-use Rattle.ele_blocks.proofs.Words.{◌≡◌, ℕ, ◌+◌, ◌-◌, ◌<◌, ◌≤◌, cond, List, [], ◌∷◌, ◌++◌, length, take, drop, map, refl, ap, sym, ◌∙◌, arith, zero, suc, append_assoc, slice_get, set, nat_tests, length-append, length-drop, length-take-le, length-map, map-append, take-map, drop-map, set_split, take_at, drop-drop, laid_over, is_between}
+use Rattle.ele_blocks.proofs.Words.{[], ap, append_assoc, arith, cond, drop, drop-drop, drop-map, is_between, laid_over, length, length-append, length-drop, length-map, length-take-le, List, map, map-append, nat_tests, refl, set, set_split, slice_get, suc, sym, take, take-map, take_at, zero, ℕ, ◌++◌, ◌+◌, ◌-◌, ◌<◌, ◌∙◌, ◌∷◌, ◌≡◌, ◌≤◌}
 
 pub drop_past : {X : Type 0} (xs ys : List X) (a n : ℕ) → n ≡ length xs + a → drop n (xs ++ ys) ≡ drop a ys
 drop_past [] ys a n e = let same : n ≡ a = omega (arith, e) in rw same refl

@@ -1,6 +1,5 @@
 -- A change by a new writer leaves slots and blocks one to one.
-use Rattle.ele_blocks.proofs.Words.{slice_get_within, ◌≡◌, ◌⊎◌, ℕ, ◌+◌, ◌<◌, ◌≤◌, Bool, true, false, List, [], ◌∷◌, ◌++◌, Option, Some, None, refl, ap, sym, ◌∙◌, arith, eqb, zero, suc, inl, inr, ⊎_elim, subst, slice_get, false≢true, nat_tests, Slot, times, Store, owners_at, Layout, slots_of, ids_of, LivesIn, Moves, Renews, Place, is_place, Named, IsIn, AreOneToOne, names_from, names_of}
-use Rattle.ele_blocks.proofs.Hands.{backed_there}
+use Rattle.ele_blocks.proofs.Lemmas.{[], ap, AreOneToOne, arith, backed_there, Bool, eqb, false, false≢true, ids_of, inl, inr, is_place, IsIn, Layout, List, LivesIn, Moves, Named, names_from, names_of, nat_tests, None, Option, owners_at, Place, refl, Renews, slice_get, slice_get_within, Slot, slots_of, Some, Store, subst, suc, sym, times, true, zero, ℕ, ⊎_elim, ◌++◌, ◌+◌, ◌<◌, ◌∙◌, ◌∷◌, ◌≡◌, ◌≤◌, ◌⊎◌}
 
 -- no name is of this writer of the file
 abbrev pub NoneBy : ℕ → ℕ → List Named → Type 0

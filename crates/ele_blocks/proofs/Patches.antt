@@ -1,8 +1,5 @@
 -- What a write makes of each piece of a content.
-use Rattle.ele_blocks.proofs.Words.{◌≡◌, ℕ, ◌+◌, ◌-◌, ◌<◌, ◌≤◌, true, false, cond, List, ◌++◌, length, take, drop, get_or, min, max, replicate, refl, sym, ◌∙◌, arith, ltb, leb, ⊎_elim, order, nat_tests, length-append, length-take, length-drop, length-replicate, get_or-take, get_or-drop, content_after_write, is_between}
-use Rattle.std.proofs.lemmas.Grind.{same_number_lists}
-use Rattle.std.proofs.lemmas.List.{get_or_append_left, get_or-append_right, get_or-replicate, get_or_past}
-use Rattle.ele_blocks.proofs.Splices.{length-spliced}
+use Rattle.ele_blocks.proofs.Lemmas.{arith, cond, content_after_write, drop, false, get_or, get_or-append_right, get_or-drop, get_or-replicate, get_or-take, get_or_append_left, get_or_past, is_between, leb, length, length-append, length-drop, length-replicate, length-spliced, length-take, List, ltb, max, min, nat_tests, order, refl, replicate, same_number_lists, sym, take, true, ℕ, ⊎_elim, ◌++◌, ◌+◌, ◌-◌, ◌<◌, ◌∙◌, ◌≡◌, ◌≤◌}
 
 -- the bytes stand in their places, and in all others what stood there, or zero
 spliced_at : (content : List ℕ) (offset : ℕ) (bytes : List ℕ) (k : ℕ) → get_or (content_after_write content offset bytes) k 0 ≡ cond (is_between offset (offset + length bytes) k) (get_or bytes (k - offset) 0) (get_or content k 0)

@@ -1,12 +1,7 @@
 -- New leaves in place of others: blocks are put, those that stay are shared, leaves are put, and the
 -- old leaves released.
-use Rattle.ele_blocks.proofs.Words.{nat_tests, ◌≡◌, ℕ, ◌+◌, ◌<◌, ◌≤◌, ◌^◌, List, [], ◌∷◌, ◌++◌, length, map, take, drop, Some, refl, ap, sym, ◌∙◌, arith, unwrap_or, flat_map, length-map, length-take-le, length-drop, flat_map-map, Slot, Hands, AreThere, laid_over, cell_of, cell_by, slot_by, ids_of, AreBacked, backing, leaf_count, IsLaid, IsRenewed, parts, times, owners, value_at, Trades, Adds, Covers, Store, bytes_at, leaf_at, slots_in, Counted, Option}
-use Rattle.ele_blocks.proofs.Backing.{slots_least}
+use Rattle.ele_blocks.proofs.Lemmas.{[], Adds, ap, AreBacked, AreThere, arith, backing, bytes_at, cell_by, cell_of, cells_each, chunks_joined, Counted, Covers, drop, flat_map, flat_map-map, Hands, hands_then, hands_with, ids_of, IsLaid, IsRenewed, laid_over, laid_over-map, leaf_at, leaf_count, leaf_there, length, length-drop, length-map, length-take-le, List, map, nat_tests, Option, owners, parts, refl, Slot, slot_by, slots_in, slots_least, Some, stay_in, Store, sym, take, times, times-ids, times-le-length, times-split, Trades, unwrap_or, value_at, values_stay, ℕ, ◌++◌, ◌+◌, ◌<◌, ◌^◌, ◌∙◌, ◌∷◌, ◌≡◌, ◌≤◌}
 use Rattle.ele_blocks.proofs.Distincts.{Blocks}
-use Rattle.ele_blocks.proofs.Hands.{cells_each, hands_then, hands_with, stay_in, leaf_there}
-use Rattle.ele_blocks.proofs.LaidOvers.{laid_over-map}
-use Rattle.ele_blocks.proofs.Sized.{chunks_joined}
-use Rattle.ele_blocks.proofs.Trades.{times-ids, times-split, values_stay, times-le-length}
 
 ids_of_fresh : (w : ℕ) (fresh : List ℕ) → ids_of (map (slot_by w) fresh) ≡ fresh
 ids_of_fresh w [] = refl

@@ -1,12 +1,6 @@
 -- New slots over the first slots of a map, and new leaves in place of the run of those that they meet.
-use Rattle.ele_blocks.proofs.Words.{◌≡◌, ◌⊎◌, ℕ, ◌+◌, ◌-◌, ◌*◌, ◌/◌, ◌<◌, ◌≤◌, cond, List, [], ◌++◌, length, map, take, drop, min, max, get_or, refl, ap, sym, ◌∙◌, arith, ⊎_elim, inl, inr, slice_get, order, take-add, flat_map, nat_tests, flat_map-append, append-nil, append_assoc, map-append, map-id, take-append-drop, take_all, drop_all, take-take, take_at, take-append-le, drop-append-le, drop-drop, take-map, length-map, length-take, length-take-le, length-drop, length-append, get_or-map, flat_map-map, slice_get-get_or, slot_count, Slot, AreThere, laid_over, Layout, slots_of, shown, ids_of, cell_of, slot_by, cell_by, is_between, LivesIn, AreBacked, leaf_count, AreSized, IsRenewed, IsReplaced, parts, Renews, times, Covers, Store, owners_at, leaf_at, slots_in}
-use Rattle.ele_blocks.proofs.Hands.{StayIn, stay_in, hands_with, leaf_there, backed_there}
-use Rattle.ele_blocks.proofs.LaidOvers.{length-laid_over, laid_at, drop_past, slice_get-take}
+use Rattle.ele_blocks.proofs.Lemmas.{[], ap, append-nil, append_assoc, AreBacked, AreSized, AreThere, arith, backed_there, cell_by, cell_of, chunks_joined, cond, Covers, drop, drop-append-le, drop-drop, drop_all, drop_past, flat-drop, flat-take, flat_map, flat_map-append, flat_map-map, get_or, get_or-map, hands_with, ids_of, inl, inr, is_between, IsRenewed, IsReplaced, laid_at, laid_over, Layout, leaf_at, leaf_count, leaf_there, leaves-count, length, length-append, length-chunks, length-drop, length-laid_over, length-map, length-take, length-take-le, List, LivesIn, map, map-append, map-id, max, min, nat_tests, order, owners_at, parts, refl, Renews, shown, sized-append, sized-chunks, sized-count, sized-drop, sized-is, sized-length, sized-map, sized-take, slice_get, slice_get-get_or, slice_get-take, Slot, slot_by, slot_count, slots-count, slots_in, slots_of, stay_in, StayIn, Store, sym, take, take-add, take-append-drop, take-append-le, take-map, take-take, take_all, take_at, take_past, times, times-append, times-split, times_at, whole_is, ℕ, ⊎_elim, ◌*◌, ◌++◌, ◌+◌, ◌-◌, ◌/◌, ◌<◌, ◌∙◌, ◌≡◌, ◌≤◌, ◌⊎◌}
 use Rattle.ele_blocks.proofs.Renewals.{times_laid}
-use Rattle.ele_blocks.proofs.Sized.{sized-is, sized-length, sized-count, sized-take, sized-drop, sized-append, sized-map, sized-chunks, chunks_joined, length-chunks, flat-take, flat-drop}
-use Rattle.ele_blocks.proofs.Sizes.{whole_is, slots-count, leaves-count}
-use Rattle.ele_blocks.proofs.Splices.{take_past}
-use Rattle.ele_blocks.proofs.Trades.{times-split, times-append, times_at}
 
 -- what is laid over the middle of a list, or over its end
 laid_apart : {X : Type 0} (first at : ℕ) (new front middle back : List X) → first ≡ length front + at → at ≤ length middle → (at + length new ≤ length middle) ⊎ (back ≡ []) → laid_over first new (front ++ (middle ++ back)) ≡ front ++ (laid_over at new middle ++ back)

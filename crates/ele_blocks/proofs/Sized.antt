@@ -1,6 +1,5 @@
 -- Lists in pieces of c items, of which the last may be shorter.
-use Rattle.ele_blocks.proofs.Words.{add-one, ◌≡◌, ◌⊎◌, ℕ, ◌+◌, ◌-◌, ◌*◌, ◌<◌, ◌≤◌, true, List, [], ◌∷◌, ◌++◌, length, take, drop, map, get_or, min, refl, ap, sym, ◌∙◌, arith, zero, suc, inl, inr, ⊎_elim, flat_map, first_chunks, order, mul-suc, take-nil, take-append-add, nat_tests, flat_map-append, append-nil, append_cancel_left, take-append-drop, take_all, take-take, length-append, length-take, length-take-le, length-drop, drop-drop, drop_more, nil_from_length, take_min, drop_min, laid_over, fills, AreSized}
-use Rattle.std.proofs.lemmas.List.{drop-take}
+use Rattle.ele_blocks.proofs.Words.{[], add-one, ap, append-nil, append_cancel_left, AreSized, arith, drop, drop-drop, drop-take, drop_min, drop_more, fills, first_chunks, flat_map, flat_map-append, get_or, inl, inr, laid_over, length, length-append, length-drop, length-take, length-take-le, List, map, min, mul-suc, nat_tests, nil_from_length, order, refl, suc, sym, take, take-append-add, take-append-drop, take-nil, take-take, take_all, take_min, true, zero, ℕ, ⊎_elim, ◌*◌, ◌++◌, ◌+◌, ◌-◌, ◌<◌, ◌∙◌, ◌∷◌, ◌≡◌, ◌≤◌, ◌⊎◌}
 
 -- the test is what it tests
 pub fills_sized : {A X : Type 0} (c : ℕ) (f : A → List X) (n : ℕ) (xs : List A) → fills c f n xs ≡ true → AreSized c f n xs

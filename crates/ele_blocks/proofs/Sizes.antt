@@ -1,5 +1,5 @@
 -- The sizes of a map that is whole, and the bytes of its slots.
-use Rattle.ele_blocks.proofs.Words.{◌≡◌, ℕ, ◌+◌, ◌*◌, ◌≤◌, true, List, [], length, take, drop, get_or, Some, refl, ap, sym, ◌∙◌, arith, leb, slice_get, nat_tests, length-map, get_or-map, slice_get_within, get_or_from_slice_get, Cell, content_of, longest_content, slot_count, slot_bytes, Slot, Store, leaf_at, bytes_at, Layout, slots_of, shown, cell_of, is_whole, leaf_count, AreSized, ◌/◌, ◌%◌, ◌<◌, get_or-take, get_or-drop, slice_get_read, LivesIn, owners}
+use Rattle.ele_blocks.proofs.Words.{[], ap, AreSized, arith, bytes_at, Cell, cell_of, content_of, drop, get_or, get_or-drop, get_or-map, get_or-take, get_or_from_slice_get, is_whole, Layout, leaf_at, leaf_count, leb, length, length-map, List, LivesIn, longest_content, nat_tests, owners, refl, shown, slice_get, slice_get_read, slice_get_within, Slot, slot_bytes, slot_count, slots_of, Some, Store, sym, take, true, ℕ, ◌%◌, ◌*◌, ◌+◌, ◌/◌, ◌<◌, ◌∙◌, ◌≡◌, ◌≤◌}
 use Rattle.ele_blocks.proofs.Trades.{one_more}
 use Rattle.ele_blocks.proofs.Sized.{fills_sized, sized_fills, sized-length, sized-count, flat-at}
 

@@ -1,5 +1,5 @@
 -- How owners change hands, one change after another.
-use Rattle.ele_blocks.proofs.Words.{Slot, ids_of, map_more, length-map, ◌≡◌, ℕ, ◌+◌, ◌<◌, ◌≤◌, true, false, cond, List, [], ◌∷◌, ◌++◌, ◌^◌, map, length, take, drop, get_or, add-one, append_assoc, Option, Some, None, refl, ap, sym, ◌∙◌, arith, eqb, ltb, zero, suc, nat_tests, take-suc, map-append, take-append-drop, length-take-le, Counted, times, place_at, owners, owners_of, value_of, value_at, shared, released, leaving, Sets, Trades, Adds, Covers}
+use Rattle.ele_blocks.proofs.Words.{[], add-one, Adds, ap, append_assoc, arith, cond, Counted, Covers, drop, eqb, false, get_or, ids_of, leaving, length, length-map, length-take-le, List, ltb, map, map-append, map_more, nat_tests, None, Option, owners, owners_of, place_at, refl, released, Sets, shared, Slot, Some, suc, sym, take, take-append-drop, take-suc, times, Trades, true, value_at, value_of, zero, ℕ, ◌++◌, ◌+◌, ◌<◌, ◌^◌, ◌∙◌, ◌∷◌, ◌≡◌, ◌≤◌}
 
 pub times-append : (id : ℕ) (xs ys : List ℕ) → times id (xs ++ ys) ≡ times id xs + times id ys
 times-append id [] ys = omega arith

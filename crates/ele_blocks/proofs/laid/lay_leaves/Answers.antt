@@ -1,5 +1,4 @@
-use Rattle.ele_blocks.proofs.Words.{◌≡◌, ◌+◌, arith, take, get_or, length, take_more, length-take-le}
-use Rattle.ele_blocks.proofs.LaidOvers.{laid_more}
+use Rattle.ele_blocks.proofs.Lemmas.{arith, get_or, laid_more, length, length-take-le, take, take_more, ◌+◌, ◌≡◌}
 use Rattle.ele_blocks.proofs.laid.lay_leaves.Goals as goal
 
 pub loop-i-preserved : goal.loop-i-preserved

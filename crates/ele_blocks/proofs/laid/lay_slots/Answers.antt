@@ -1,5 +1,4 @@
-use Rattle.ele_blocks.proofs.Words.{◌≡◌, ◌+◌, [], ◌∷◌, arith, map, take, get_or, length, take_more, map-append, length-map, length-take-le, slot_by}
-use Rattle.ele_blocks.proofs.LaidOvers.{laid_more}
+use Rattle.ele_blocks.proofs.Lemmas.{[], arith, get_or, laid_more, length, length-map, length-take-le, map, map-append, slot_by, take, take_more, ◌+◌, ◌∷◌, ◌≡◌}
 use Rattle.ele_blocks.proofs.laid.lay_slots.Goals as goal
 
 pub loop-i-preserved : goal.loop-i-preserved

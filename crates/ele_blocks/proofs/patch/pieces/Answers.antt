@@ -1,5 +1,4 @@
-use Rattle.ele_blocks.proofs.Words.{◌≡◌, ◌++◌, [], ◌∷◌, ◌+◌, ◌-◌, append_assoc, ap, arith, length, length-drop}
-use Rattle.ele_blocks.proofs.Sized.{chunk_next}
+use Rattle.ele_blocks.proofs.Lemmas.{[], ap, append_assoc, arith, chunk_next, length, length-drop, ◌++◌, ◌+◌, ◌-◌, ◌∷◌, ◌≡◌}
 use Rattle.ele_blocks.proofs.patch.pieces.Goals as goal
 
 pub loop-preserved : goal.loop-preserved

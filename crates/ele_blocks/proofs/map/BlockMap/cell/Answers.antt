@@ -1,5 +1,4 @@
-use Rattle.ele_blocks.proofs.Words.{arith, slice_get_past}
-use Rattle.ele_blocks.proofs.Sizes.{slots-count}
+use Rattle.ele_blocks.proofs.Lemmas.{arith, slice_get_past, slots-count}
 use Rattle.ele_blocks.proofs.map.BlockMap.cell.Goals as goal
 
 pub returns-then-slot-slots-clause-cell : goal.returns-then-slot-slots-clause-cell

@@ -1,5 +1,4 @@
-use Rattle.ele_blocks.proofs.Words.{◌≡◌, ◌+◌, ◌*◌, ◌∙◌, ap, sym, arith, length, take-add, take_all, content_of, shown}
-use Rattle.ele_blocks.proofs.Sizes.{length-content}
+use Rattle.ele_blocks.proofs.Lemmas.{ap, arith, content_of, length, length-content, shown, sym, take-add, take_all, ◌*◌, ◌+◌, ◌∙◌, ◌≡◌}
 use Rattle.ele_blocks.proofs.map.BlockMap.content.Goals as goal
 
 pub loop-slot-preserved : goal.loop-slot-preserved

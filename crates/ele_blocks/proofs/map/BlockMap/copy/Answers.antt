@@ -1,5 +1,4 @@
-use Rattle.ele_blocks.specs.Layout.{Layout}
-use Rattle.ele_blocks.proofs.Hands.{moved_copy}
+use Rattle.ele_blocks.proofs.Lemmas.{Layout, moved_copy}
 use Rattle.ele_blocks.proofs.map.BlockMap.copy.Goals as goal
 
 pub returns-clause-moves : goal.returns-clause-moves

@@ -1,5 +1,4 @@
-use Rattle.ele_blocks.proofs.Words.{◌≡◌, ◌+◌, ◌-◌, ◌*◌, ◌/◌, length, refl, sym, arith, take, content_of, shown, slot_bytes, pieces}
-use Rattle.ele_blocks.proofs.Changes.{cut_long, cut_reach, cut_change}
+use Rattle.ele_blocks.proofs.Cited.{arith, content_of, cut_change, cut_long, cut_reach, length, pieces, refl, shown, slot_bytes, sym, take, ◌*◌, ◌+◌, ◌-◌, ◌/◌, ◌≡◌}
 use Rattle.ele_blocks.proofs.map.BlockMap.cut.Goals as goal
 use Rattle.ele_blocks.proofs.map.BlockMap.cut.Goals.{In_ok-staged}
 

@@ -1,5 +1,4 @@
-use Rattle.ele_blocks.proofs.Words.{arith}
-use Rattle.ele_blocks.proofs.Splices.{piece_more}
+use Rattle.ele_blocks.proofs.Lemmas.{arith, piece_more}
 use Rattle.ele_blocks.proofs.map.BlockMap.patches.Goals as goal
 
 pub loop-slot-preserved : goal.loop-slot-preserved

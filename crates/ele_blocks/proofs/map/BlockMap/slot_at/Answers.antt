@@ -1,7 +1,4 @@
-use Rattle.ele_blocks.proofs.Words.{◌∙◌, arith, length-take, length-drop, slots_of}
-use Rattle.ele_blocks.proofs.Sizes.{slot_found}
-use Rattle.ele_blocks.proofs.OneToOnes.{slot_owned}
-use Rattle.ele_blocks.proofs.Sizes.{slots-count, its_bytes}
+use Rattle.ele_blocks.proofs.Cited.{arith, its_bytes, length-drop, length-take, slot_found, slot_owned, slots-count, slots_of, ◌∙◌}
 use Rattle.ele_blocks.proofs.map.BlockMap.slot_at.Goals as goal
 
 pub bounds-leaf-slot : goal.bounds-leaf-slot

@@ -1,5 +1,4 @@
-use Rattle.ele_blocks.proofs.Words.{◌≡◌, arith}
-use Rattle.ele_blocks.proofs.Changes.{grown, resized_same}
+use Rattle.ele_blocks.proofs.Cited.{arith, grown, resized_same, ◌≡◌}
 use Rattle.ele_blocks.proofs.map.BlockMap.truncate.Goals as goal
 
 pub returns-in_ok-write-clause-resized : goal.returns-in_ok-write-clause-resized

@@ -1,5 +1,4 @@
-use Rattle.ele_blocks.proofs.Words.{◌/◌, arith}
-use Rattle.ele_blocks.proofs.Changes.{reach, write_change, written_nothing}
+use Rattle.ele_blocks.proofs.Cited.{arith, reach, write_change, written_nothing, ◌/◌}
 use Rattle.ele_blocks.proofs.map.BlockMap.write.Goals as goal
 
 pub replace-requires-clause-count : goal.replace-requires-clause-count

@@ -1,5 +1,4 @@
-use Rattle.ele_blocks.proofs.Words.{arith}
-use Rattle.ele_blocks.proofs.Counts.{is_held, value-counted}
+use Rattle.ele_blocks.proofs.Cited.{arith, is_held, value-counted}
 use Rattle.ele_blocks.proofs.shared.Shared.get.Goals as goal
 
 pub index-requires : goal.index-requires

@@ -1,6 +1,4 @@
-use Rattle.ele_blocks.proofs.Words.{arith}
-use Rattle.std.proofs.lemmas.Grind.{get_or_default_zero}
-use Rattle.ele_blocks.proofs.Counts.{is_counted, owners-counted}
+use Rattle.ele_blocks.proofs.Cited.{arith, get_or_default_zero, is_counted, owners-counted}
 use Rattle.ele_blocks.proofs.shared.Shared.owners.Goals as goal
 
 pub index-requires : goal.index-requires

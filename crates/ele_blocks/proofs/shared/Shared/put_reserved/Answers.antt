@@ -1,8 +1,4 @@
-use Rattle.ele_blocks.proofs.Words.{◌+◌, ◌<◌, ap, sym, subst, ◌∙◌, arith, get_or, length}
-use Rattle.std.specs.Option.{option_map}
-use Rattle.ele_blocks.specs.SharedInside.{with_count}
-use Rattle.slab.specs.Slab.{HasRoomFor}
-use Rattle.ele_blocks.proofs.Counts.{owned_new, place-counted, room_after, room_in, sets_new}
+use Rattle.ele_blocks.proofs.Cited.{ap, arith, get_or, HasRoomFor, length, option_map, owned_new, place-counted, room_after, room_in, sets_new, subst, sym, with_count, ◌+◌, ◌<◌, ◌∙◌}
 use Rattle.ele_blocks.proofs.shared.Shared.put_reserved.Goals as goal
 
 pub insert_reserved-id-requires : goal.insert_reserved-id-requires

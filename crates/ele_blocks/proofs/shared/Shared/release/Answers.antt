@@ -1,8 +1,4 @@
-use Rattle.ele_blocks.proofs.Words.{◌<◌, ◌≤◌, ap, sym, ◌∙◌, arith, get_or}
-use Rattle.std.proofs.lemmas.Grind.{get_or_default_zero}
-use Rattle.ele_blocks.specs.Shared.{owners}
-use Rattle.ele_blocks.specs.SharedInside.{counted}
-use Rattle.ele_blocks.proofs.Counts.{is_counted, leaves_with_last, none_leaves, owned_gone, owned_less, owners-counted, sets_gone, sets_less}
+use Rattle.ele_blocks.proofs.Cited.{ap, arith, counted, get_or, get_or_default_zero, is_counted, leaves_with_last, none_leaves, owned_gone, owned_less, owners, owners-counted, sets_gone, sets_less, sym, ◌<◌, ◌∙◌, ◌≤◌}
 use Rattle.ele_blocks.proofs.shared.Shared.release.Goals as goal
 
 pub index-requires : goal.index-requires

@@ -1,7 +1,4 @@
-use Rattle.ele_blocks.proofs.Words.{◌≡◌, ap, sym, subst, ◌∙◌, arith}
-use Rattle.ele_blocks.specs.Shared.{Owned}
-use Rattle.ele_blocks.specs.SharedInside.{counted}
-use Rattle.ele_blocks.proofs.Counts.{counted-filled, room_of}
+use Rattle.ele_blocks.proofs.Cited.{ap, arith, counted, counted-filled, Owned, room_of, subst, sym, ◌∙◌, ◌≡◌}
 use Rattle.ele_blocks.proofs.shared.Shared.reserve.Goals as goal
 
 -- a longer list of counts shows the same

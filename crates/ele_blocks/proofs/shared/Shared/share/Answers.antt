@@ -1,8 +1,4 @@
-use Rattle.ele_blocks.proofs.Words.{◌<◌, ap, sym, ◌∙◌, arith}
-use Rattle.std.proofs.lemmas.Grind.{get_or_default_zero}
-use Rattle.ele_blocks.specs.Shared.{owners}
-use Rattle.ele_blocks.specs.SharedInside.{counted}
-use Rattle.ele_blocks.proofs.Counts.{is_counted, owners-counted, owned_more, sets_more}
+use Rattle.ele_blocks.proofs.Cited.{ap, arith, counted, get_or_default_zero, is_counted, owned_more, owners, owners-counted, sets_more, sym, ◌<◌, ◌∙◌}
 use Rattle.ele_blocks.proofs.shared.Shared.share.Goals as goal
 
 pub index_mut-requires : goal.index_mut-requires

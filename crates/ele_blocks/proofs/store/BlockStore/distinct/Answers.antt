@@ -1,5 +1,4 @@
-use Rattle.ele_blocks.proofs.Words.{◌∙◌, Store}
-use Rattle.ele_blocks.proofs.Distincts.{distinct_named}
+use Rattle.ele_blocks.proofs.Cited.{distinct_named, Store, ◌∙◌}
 use Rattle.ele_blocks.proofs.store.BlockStore.distinct.Goals as goal
 
 pub returns-clause-named : goal.returns-clause-named

@@ -1,5 +1,4 @@
-use Rattle.ele_blocks.proofs.Words.{◌∙◌}
-use Rattle.ele_blocks.proofs.Trades.{release_next, release_more}
+use Rattle.ele_blocks.proofs.Lemmas.{release_more, release_next, ◌∙◌}
 use Rattle.ele_blocks.proofs.store.BlockStore.release_all.Goals as goal
 
 pub release-requires : goal.release-requires

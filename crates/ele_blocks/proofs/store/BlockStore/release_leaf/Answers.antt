@@ -1,5 +1,4 @@
-use Rattle.ele_blocks.proofs.Words.{◌≡◌, refl, Store}
-use Rattle.ele_blocks.proofs.Hands.{leaf_stays, leaf_covered, leaf_goes}
+use Rattle.ele_blocks.proofs.Lemmas.{leaf_covered, leaf_goes, leaf_stays, refl, Store, ◌≡◌}
 use Rattle.ele_blocks.proofs.store.BlockStore.release_leaf.Goals as goal
 
 pub release_all-requires : goal.release_all-requires

@@ -1,5 +1,4 @@
-use Rattle.ele_blocks.specs.Store.{Store}
-use Rattle.ele_blocks.proofs.Renewals.{HaveCome, was_backed, renewed}
+use Rattle.ele_blocks.proofs.Cited.{HaveCome, renewed, Store, was_backed}
 use Rattle.ele_blocks.proofs.store.BlockStore.renew.Goals as goal
 use Rattle.ele_blocks.proofs.store.BlockStore.renew.Goals.{After-put_leaves}
 

@@ -1,5 +1,4 @@
-use Rattle.ele_blocks.proofs.Words.{refl, Store}
-use Rattle.ele_blocks.proofs.Hands.{share_leaf}
+use Rattle.ele_blocks.proofs.Lemmas.{refl, share_leaf, Store}
 use Rattle.ele_blocks.proofs.store.BlockStore.share_leaf.Goals as goal
 
 pub returns : goal.returns

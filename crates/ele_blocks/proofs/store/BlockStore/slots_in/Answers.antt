@@ -1,5 +1,4 @@
-use Rattle.ele_blocks.proofs.Words.{arith, get_or, get_or_default}
-use Rattle.ele_blocks.proofs.Trades.{one_more}
+use Rattle.ele_blocks.proofs.Lemmas.{arith, get_or, get_or_default, one_more}
 use Rattle.ele_blocks.proofs.store.BlockStore.slots_in.Goals as goal
 
 pub leaf-requires : goal.leaf-requires

@@ -1,5 +1,4 @@
-use Rattle.ele_blocks.proofs.Words.{◌≡◌, ◌+◌, ◌∙◌, length, take, drop, Some, ap, sym, arith, length-map, drop_min, value_at}
-use Rattle.ele_blocks.proofs.Renewals.{IsStaged, front_there, front_few, back_there, back_few, is_laid}
+use Rattle.ele_blocks.proofs.Cited.{ap, arith, back_few, back_there, drop, drop_min, front_few, front_there, is_laid, IsStaged, length, length-map, Some, sym, take, value_at, ◌+◌, ◌∙◌, ◌≡◌}
 use Rattle.ele_blocks.proofs.store.leaves.lay_stage.Goals as goal
 use Rattle.ele_blocks.proofs.store.leaves.lay_stage.Goals.{After-split_at, After-split_at-2}
 

@@ -1,4 +1,4 @@
-use Rattle.ele_blocks.proofs.Trades.{slot_named, share_next, share_few, share_more}
+use Rattle.ele_blocks.proofs.Lemmas.{share_few, share_more, share_next, slot_named}
 use Rattle.ele_blocks.proofs.store.shares.share_all.Goals as goal
 
 pub share_one-requires : goal.share_one-requires
