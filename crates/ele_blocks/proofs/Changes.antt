@@ -1,18 +1,14 @@
 -- What a write and a truncate make of a map and its store.
-use Rattle.ele_blocks.proofs.Lemmas.{[], ap, append-nil, AreSized, arith, backed_there, Bool, bytes_of, Cell, cell_by, cell_of, cond, content_after_truncate, content_after_write, content_of, drop, drop_all, false, false≢true, fill_by_all, flat-at, flat-laid, flat-take, flat_map, flat_map-map, get_or, Hands, hands_none, hands_with, ids_of, inl, inr, is_between, is_whole_by, IsReplaced, IsResized, IsRewritten, IsWritten, Layout, leaf_at, length, length-append, length-chunks, length-content, length-drop, length-map, length-pieces, length-replicate, length-spliced, length-take, List, LivesIn, longest_content, ltb, map, max, meets, min, moved_one, nat_tests, nil_from_length, no_cell, option_map_or, order, pieces, pieces_between, pieces_joined, pieces_sized, pieces_taken, range_with_len, refits, refl, Renews, shown, sized-count, sized-is, sized-laid, sized-length, sized-map, sized-take, slice_get, slice_get-get_or, Slot, slot_bytes, slot_count, slots_of, spliced_part, Store, suc, sym, take, take-add, take-append-drop, take-take, take_all, times, true, whole_is, writer_at, zero, ℕ, ⊎_elim, ◌&&◌, ◌*◌, ◌++◌, ◌+◌, ◌-◌, ◌/◌, ◌<◌, ◌∙◌, ◌∷◌, ◌≡◌, ◌≤◌, ◌⊎◌}
+use Rattle.ele_blocks.proofs.Lemmas.{[], ap, append-nil, AreSized, arith, backed_there, Bool, bytes_of, Cell, cell_by, cell_of, cond, content_after_truncate, content_after_write, content_of, drop, drop_all, false, fill_by_all, flat-at, flat-laid, flat-take, flat_map, flat_map-map, get_or, Hands, hands_none, hands_with, is_between, is_whole_by, IsReplaced, IsResized, IsRewritten, IsWritten, Layout, leaf_at, length, length-append, length-chunks, length-content, length-drop, length-map, length-pieces, length-replicate, length-spliced, length-take, List, LivesIn, longest_content, ltb, map, max, meets, min, moved_one, nat_tests, nil_from_length, no_cell, option_map_or, pieces, pieces_between, pieces_joined, pieces_sized, pieces_taken, range_with_len, refits, refl, Renews, shown, sized-count, sized-is, sized-laid, sized-length, sized-map, sized-take, slice_get, slice_get-get_or, Slot, slot_bytes, slot_count, slots_of, spliced_part, Store, suc, sym, take, take-add, take-append-drop, take-take, take_all, times, true, whole_is, writer_at, zero, ℕ, ◌&&◌, ◌*◌, ◌++◌, ◌+◌, ◌-◌, ◌/◌, ◌<◌, ◌∙◌, ◌∷◌, ◌≡◌, ◌≤◌, ◌⊎◌}
 use Rattle.ele_content.specs.Content.{cells_after_truncate, cells_after_write}
 
 pub renews_as : (s t : Store) (w : ℕ) (p q : ℕ → Bool) (was now : Layout) → ((slot : ℕ) → q slot ≡ p slot) → Renews s t w p was now → Renews s t w q was now
-renews_as s t w p q was now same h = record {
-  fresh = λ slot is. h.fresh slot (sym (same slot) ∙ is);
-  stays = λ slot is lt. h.stays slot (sym (same slot) ∙ is) lt;
-  once = h.once;
-}
+renews_as s t w p q was now same h = grind (arith, nat_tests)
 
 -- ---- a map of this content, where the slots that pass the test are renewed
 
 cell_same : (x y : Cell) → x.writer ≡ y.writer → x.bytes ≡ y.bytes → x ≡ y
-cell_same x y w b = ap (λ n. let c : Cell = record { writer = n; bytes = x.bytes } in c) w ∙ ap (λ l. let c : Cell = record { writer = y.writer; bytes = l } in c) b
+cell_same x y w b = grind (arith)
 
 writer-shown : (s : Store) (m : Layout) (k : ℕ) → writer_at (shown s m) k ≡ option_map_or (λ (x : Slot). x.writer) (slice_get (slots_of s m) k) 0
 writer-shown s m k = by (slots_of s m) k where
@@ -86,10 +82,7 @@ module _ (s t : Store) (m new : Layout) (w first kept : ℕ) (staged : List (Lis
 
   pub laid_bytes : AreSized 512 bytes_of (512 * first + (length patch + (min m.size (512 * kept) - 512 * (first + length staged)))) (shown t new)
   laid_bytes =
-      let reach : (length patch ≡ 512 * length (map (cell_by w) staged)) ⊎ (min m.size (512 * kept) ≤ 512 * (first + length (map (cell_by w) staged))) = ⊎_elim
-      (λ (lt : 512 * (first + length staged) < min m.size (512 * kept)). inl (omega (arith, fit lt, same_count)))
-      (λ (ge : min m.size (512 * kept) ≤ 512 * (first + length staged)). inr (omega (arith, ge, same_count)))
-      (order (512 * (first + length staged)) (min m.size (512 * kept))) in
+      let reach : (length patch ≡ 512 * length (map (cell_by w) staged)) ⊎ (min m.size (512 * kept) ≤ 512 * (first + length (map (cell_by w) staged))) = grind (arith, fit, same_count) in
       let few = sized-count 512 bytes_of (omega arith) (min m.size (512 * kept)) (take kept (shown s m)) sized_old in
       let new_sized = sized-map 512 (λ piece. piece) bytes_of (length patch) staged (map (cell_by w) staged) its_bytes (rw (← cut) at (pieces_sized patch)) in
       rw (h.cells, ← same_count) (sized-laid 512 bytes_of (omega arith) first (min m.size (512 * kept)) (length patch) (map (cell_by w) staged) (take kept (shown s m)) sized_old new_sized (omega (arith, few, kept_le, le, start)) (omega (arith, le, start)) reach)
@@ -113,10 +106,7 @@ slots_by test w cells after n = map (λ slot. let c : Cell = record { writer = c
 
 written_cells : (s : Store) (m : Layout) (w o n : ℕ) (x : List ℕ) → LivesIn s m → n ≡ max m.size (o + length x) → slots_by (meets (min o m.size) (o + length x)) w (shown s m) (content_after_write (content_of (shown s m)) o x) n ≡ cells_after_write w o x (shown s m)
 unfolding cells_after_write
-written_cells s m w o n x lives is =
-    let size = length-content s m lives.whole in
-    let long : length (content_after_write (content_of (shown s m)) o x) ≡ n = omega (arith, length-spliced (content_of (shown s m)) o x, size, is) in
-    rw (long, size) refl
+written_cells s m w o n x lives is = rw (length-spliced (content_of (shown s m)) o x, length-content s m lives.whole, is) refl
 
 resized_cells : (s : Store) (m : Layout) (w size : ℕ) → LivesIn s m → slots_by (refits m.size size) w (shown s m) (content_after_truncate (content_of (shown s m)) size) size ≡ cells_after_truncate w size (shown s m)
 unfolding cells_after_truncate
@@ -201,34 +191,19 @@ module _ (s : Store) (m : Layout) (w : ℕ) (lives : LivesIn s m) where
   stays test after cells none same are =
       let whole = whole_is s m lives.whole in
       let hands = hands_with s s _ _ (λ q. times q m.leaves) (λ q. times q m.leaves) (λ q. times q m.leaves) (hands_none s) (λ q. omega arith) (λ q. omega arith) in
-      rewritten s s m m w test after (slot_count m.size) hands whole.leaves (record {
-        fresh = λ slot is. absurd (false≢true (sym (none slot) ∙ is));
-        stays = λ slot is lt. refl;
-        once = λ id zero. ⊎_elim
-            (λ (some : 0 < times id (ids_of (slots_of s m))). absurd (omega (arith, backed_there s m.leaves lives.backed id some, zero)))
-            (λ (le : times id (ids_of (slots_of s m)) ≤ 0). omega (arith, le))
-            (order 0 (times id (ids_of (slots_of s m))));
-      }) same whole.bytes whole.short m.size cells refl are
+      let renews : Renews s s w test m m = record { fresh = λ slot. grind (arith, none slot); stays = λ slot is lt. refl; once = λ id. grind (arith, backed_there s m.leaves lives.backed id) } in
+      rewritten s s m m w test after (slot_count m.size) hands whole.leaves renews same whole.bytes whole.short m.size cells refl are
 
   pub resized_same : IsResized s s w m.size m m
-  resized_same =
-      let content = content_of (shown s m) in
-      let size = length-content s m lives.whole in
-      let no : ltb m.size m.size ≡ false = grind (arith, nat_tests) in
-      let none : m.size - length content ≡ 0 = omega (arith, size) in
-      stays (refits m.size m.size) (content_after_truncate content m.size) (cells_after_truncate w m.size (shown s m)) (λ slot. rw no refl) (sym (rw none (append-nil (take m.size content) ∙ take_all m.size content (omega (arith, size))))) (resized_cells s m w m.size lives)
+  resized_same = let size = length-content s m lives.whole in
+      stays (refits m.size m.size) _ (cells_after_truncate w m.size (shown s m)) (λ slot. grind (arith, nat_tests)) (grind (arith, append-nil, take_all, size)) (resized_cells s m w m.size lives)
 
   -- a write of no bytes within the content
   pub written_nothing : (o : ℕ) (x : List ℕ) → o + length x ≤ min o m.size → IsWritten s s w o x m m
   written_nothing o x none =
-      let content = content_of (shown s m) in
-      let empty : x ≡ [] = nil_from_length x (omega (arith, none)) in
-      let gap : o - length content ≡ 0 = omega (arith, length-content s m lives.whole, none) in
-      let to : o + 0 ≡ o = omega arith in
       let size : m.size ≡ max m.size (o + length x) = omega (arith, none) in
-      let no : ltb (min o m.size) (o + length x) ≡ false = grind (arith, nat_tests, none) in
-      let same : content ≡ content_after_write content o x = sym (rw (empty, gap, to) (ap (λ l. l ++ drop o content) (append-nil (take o content ++ []) ∙ append-nil (take o content)) ∙ take-append-drop o content)) in
-      rw (← size) (stays (meets (min o m.size) (o + length x)) (content_after_write content o x) (cells_after_write w o x (shown s m)) (λ slot. rw no refl) same (written_cells s m w o m.size x lives size))
+      let same : content_of (shown s m) ≡ content_after_write (content_of (shown s m)) o x = grind (arith, none, nil_from_length x, length-content s m lives.whole, append-nil, take-append-drop) in
+      rw (← size) (stays (meets (min o m.size) (o + length x)) (content_after_write (content_of (shown s m)) o x) (cells_after_write w o x (shown s m)) (λ slot. grind (arith, nat_tests, none)) same (written_cells s m w o m.size x lives size))
 
 -- ---- a truncate that fills is a write of no bytes behind the end
 
@@ -242,13 +217,10 @@ grown_cells w size cells lt = grind (arith, nat_tests, length-append, length-tak
 pub grown : (s t : Store) (m n : Layout) (w size : ℕ) → LivesIn s m → m.size < size → IsWritten s t w size [] m n → IsResized s t w size m n
 grown s t m n w size lives lt h =
     let long = length-content s m lives.whole in
-    let from : min size m.size ≡ m.size = omega (arith, lt) in
-    let to : size + 0 ≡ size = omega arith in
-    let more : ltb m.size size ≡ true = grind (arith, nat_tests) in
     record {
       size = omega (arith, h.size, lt);
       content = h.content ∙ grown_content (content_of (shown s m)) size (omega (arith, long, lt));
       cells = h.cells ∙ grown_cells w size (shown s m) (omega (arith, long, lt));
       moves = h.moves;
-      renews = renews_as s t w (meets (min size m.size) (size + 0)) (refits m.size size) m n (λ slot. rw (from, to, more) refl) h.renews;
+      renews = renews_as s t w (meets (min size m.size) (size + 0)) (refits m.size size) m n (λ slot. grind (arith, nat_tests, lt)) h.renews;
     }

@@ -1,5 +1,5 @@
 -- Values beside the counts of their owners.
-use Rattle.ele_blocks.proofs.Words.{[], ap, arith, cond, count_by, Counted, get_or, get_or-set_other, get_or-set_same, get_or_past, HasRoomFor, IfSome, is_some, IsSome, leaving, length, length-set, List, ltb, nat_tests, None, Option, option_map, Owned, owners, owners_of, place_at, refl, released, replicate, set, Sets, shared, Slab, slab_len, Some, subst, suc, sum_by-cons, sym, take, take_all, true, value_at, value_of, zero, ℕ, ◌++◌, ◌+◌, ◌-◌, ◌<◌, ◌∙◌, ◌∷◌, ◌≡◌, ◌≢◌, ◌≤◌}
+use Rattle.ele_blocks.proofs.Words.{[], ap, arith, cond, count_by, Counted, get_or, get_or-set_other, get_or-set_same, get_or_past, HasRoomFor, IfSome, is_some, IsSome, leaving, length, length-set, List, ltb, nat_tests, None, Option, option_map, Owned, owners, owners_of, place_at, refl, released, replicate, set, Sets, shared, Slab, slab_len, Some, suc, sum_by-cons, sym, take, take_all, true, value_at, value_of, zero, ℕ, ◌++◌, ◌+◌, ◌-◌, ◌<◌, ◌∙◌, ◌∷◌, ◌≡◌, ◌≢◌, ◌≤◌}
 use Rattle.ele_blocks.specs.SharedInside.{counted, counted_with, with_count}
 
 module _ {X : Type 0} where
@@ -24,7 +24,7 @@ module _ {X : Type 0} where
   counted-more [] counts n = refl
   counted-more (v ∷ vs) [] zero = refl
   counted-more (v ∷ vs) [] (suc n) = ap (λ rest. option_map (with_count 0) v ∷ rest) (counted-more vs [] n)
-  counted-more (v ∷ vs) (c ∷ cs) n = ap (λ rest. option_map (with_count c) v ∷ rest) (counted-more vs cs n)
+  counted-more (v ∷ vs) (c ∷ cs) n = rw (counted-more vs cs n) refl
 
   -- more places of no owner
   pub counted-filled : (values : List (Option X)) (counts : List ℕ) (n k : ℕ) → length counts ≤ n → counted values (take n counts ++ replicate k 0) ≡ counted values counts
@@ -40,13 +40,13 @@ module _ {X : Type 0} where
   held o n lt = grind (arith, nat_tests)
 
   pub value-counted : (values : List (Option X)) (counts : List ℕ) (id : ℕ) → value_at (counted values counts) id ≡ get_or values id None
-  value-counted vs cs id = rw (place-counted vs cs id) (valued (get_or vs id None) (get_or cs id 0))
+  value-counted vs cs id = grind (arith, place-counted)
 
   pub owners-counted : (values : List (Option X)) (counts : List ℕ) (id : ℕ) → 0 < owners (counted values counts) id → owners (counted values counts) id ≡ get_or counts id 0
-  owners-counted vs cs id lt = rw (place-counted vs cs id) (owned_by (get_or vs id None) (get_or cs id 0) (rw (place-counted vs cs id) at lt))
+  owners-counted vs cs id lt = grind (arith, place-counted)
 
   pub is_held : (values : List (Option X)) (counts : List ℕ) (id : ℕ) → 0 < owners (counted values counts) id → IsSome (get_or values id None)
-  is_held vs cs id lt = held (get_or vs id None) (get_or cs id 0) (rw (place-counted vs cs id) at lt)
+  is_held vs cs id lt = grind (arith, place-counted)
 
   -- what has an owner has its count
   pub is_counted : (values : List (Option X)) (counts : List ℕ) (id : ℕ) → 0 < owners (counted values counts) id → id < length counts
@@ -65,10 +65,10 @@ module _ {X : Type 0} where
   less o n lt = grind (arith, nat_tests)
 
   pub sets_more : (values : List (Option X)) (counts : List ℕ) (id : ℕ) → 0 < owners (counted values counts) id → Sets (counted values counts) (counted values (set counts id (get_or counts id 0 + 1))) id (shared (place_at (counted values counts) id))
-  sets_more vs cs id lt = subst (λ place. Sets (counted vs cs) (counted vs (set cs id (get_or cs id 0 + 1))) id place) (more (get_or vs id None) (get_or cs id 0) ∙ ap shared (sym (place-counted vs cs id))) (sets_count vs cs id (get_or cs id 0 + 1) (is_counted vs cs id lt))
+  sets_more vs cs id lt = grind (arith, place-counted, is_counted, get_or-set_same, get_or-set_other)
 
   pub sets_less : (values : List (Option X)) (counts : List ℕ) (id : ℕ) → 0 < owners (counted values counts) id → 1 < get_or counts id 0 → Sets (counted values counts) (counted values (set counts id (get_or counts id 0 - 1))) id (released (place_at (counted values counts) id))
-  sets_less vs cs id lt many = subst (λ place. Sets (counted vs cs) (counted vs (set cs id (get_or cs id 0 - 1))) id place) (less (get_or vs id None) (get_or cs id 0) (grind (arith, nat_tests)) ∙ ap released (sym (place-counted vs cs id))) (sets_count vs cs id (get_or cs id 0 - 1) (is_counted vs cs id lt))
+  sets_less vs cs id lt many = grind (arith, nat_tests, place-counted, is_counted, get_or-set_same, get_or-set_other)
 
   last_released : (place : Option (Counted X)) → owners_of place ≤ 1 → released place ≡ None
   last_released o le = grind (arith, nat_tests)
@@ -80,19 +80,13 @@ module _ {X : Type 0} where
   none_leaves o lt = grind (arith, nat_tests)
 
   pub sets_gone : (values new : List (Option X)) (counts : List ℕ) (id : ℕ) → owners (counted values counts) id ≤ 1 → get_or new id None ≡ None → ((other : ℕ) → other ≢ id → get_or new other None ≡ get_or values other None) → Sets (counted values counts) (counted new counts) id (released (place_at (counted values counts) id))
-  sets_gone vs new cs id le gone others = rw (last_released (place_at (counted vs cs) id) le) (record {
-    changed = place-counted new cs id ∙ ap (option_map (with_count (get_or cs id 0))) gone;
-    others = λ other ne. place-counted new cs other ∙ ap (option_map (with_count (get_or cs other 0))) (others other ne) ∙ sym (place-counted vs cs other);
-  })
+  sets_gone vs new cs id le gone others = grind (arith, nat_tests, place-counted)
 
   pub leaves_with_last : (values : List (Option X)) (counts : List ℕ) (id : ℕ) → owners (counted values counts) id ≤ 1 → leaving (place_at (counted values counts) id) ≡ get_or values id None
   leaves_with_last vs cs id le = last_leaves (place_at (counted vs cs) id) le ∙ value-counted vs cs id
 
   pub sets_new : (values new : List (Option X)) (counts : List ℕ) (id : ℕ) (value : X) → id < length counts → get_or new id None ≡ Some value → ((other : ℕ) → other ≢ id → get_or new other None ≡ get_or values other None) → Sets (counted values counts) (counted new (set counts id 1)) id (Some (record { value = value; owners = 1 }))
-  sets_new vs new cs id v lt is others = record {
-    changed = place-counted new (set cs id 1) id ∙ ap (λ n. option_map (with_count n) (get_or new id None)) (get_or-set_same cs id 1 0 lt) ∙ ap (option_map (with_count 1)) is;
-    others = λ other ne. place-counted new (set cs id 1) other ∙ ap (λ n. option_map (with_count n) (get_or new other None)) (get_or-set_other cs id other 1 0 ne) ∙ ap (option_map (with_count (get_or cs other 0))) (others other ne) ∙ sym (place-counted vs cs other);
-  }
+  sets_new vs new cs id v lt is others = grind (arith, place-counted, get_or-set_same, get_or-set_other)
 
   -- whatever stands has an owner afterwards, if what changed has
   pub owned_after : (old new : List (Option (Counted X))) (id : ℕ) (place : Option (Counted X)) → Owned old → Sets old new id place → IfSome place (λ p. 0 < p.owners) → Owned new
@@ -105,13 +99,13 @@ module _ {X : Type 0} where
   released_owned o = grind (arith, nat_tests)
 
   pub owned_more : (values : List (Option X)) (counts : List ℕ) (id : ℕ) → Owned (counted values counts) → 0 < owners (counted values counts) id → Owned (counted values (set counts id (get_or counts id 0 + 1)))
-  owned_more vs cs id owned lt = owned_after _ _ id _ owned (sets_more vs cs id lt) (shared_owned (place_at (counted vs cs) id) (owned id))
+  owned_more vs cs id owned lt = owned_after _ _ id _ owned (sets_more vs cs id lt) (grind (arith, owned id))
 
   pub owned_less : (values : List (Option X)) (counts : List ℕ) (id : ℕ) → Owned (counted values counts) → 0 < owners (counted values counts) id → 1 < get_or counts id 0 → Owned (counted values (set counts id (get_or counts id 0 - 1)))
-  owned_less vs cs id owned lt many = owned_after _ _ id _ owned (sets_less vs cs id lt many) (released_owned (place_at (counted vs cs) id))
+  owned_less vs cs id owned lt many = owned_after _ _ id _ owned (sets_less vs cs id lt many) (grind (arith, nat_tests))
 
   pub owned_gone : (values new : List (Option X)) (counts : List ℕ) (id : ℕ) → Owned (counted values counts) → owners (counted values counts) id ≤ 1 → get_or new id None ≡ None → ((other : ℕ) → other ≢ id → get_or new other None ≡ get_or values other None) → Owned (counted new counts)
-  owned_gone vs new cs id owned le gone others = owned_after _ _ id _ owned (sets_gone vs new cs id le gone others) (released_owned (place_at (counted vs cs) id))
+  owned_gone vs new cs id owned le gone others = owned_after _ _ id _ owned (sets_gone vs new cs id le gone others) (grind (arith, nat_tests))
 
   pub owned_new : (values new : List (Option X)) (counts : List ℕ) (id : ℕ) (value : X) → Owned (counted values counts) → id < length counts → get_or new id None ≡ Some value → ((other : ℕ) → other ≢ id → get_or new other None ≡ get_or values other None) → Owned (counted new (set counts id 1))
   owned_new vs new cs id v owned lt is others = owned_after _ _ id _ owned (sets_new vs new cs id v lt is others) (omega arith)

@@ -15,16 +15,7 @@ same_blocks s t slots same there = record { cells = cells_each s t slots (λ id 
 
 -- one after the other
 pub hands_then : (a b c : Store) (was now was2 now2 : ℕ → ℕ) → Hands a b was now → Hands b c was2 now2 → Hands a c (λ q. was q + was2 q) (λ q. now q + now2 q)
-hands_then a b c was now was2 now2 h k = record {
-  leaves = λ q. omega (arith, h.leaves q, k.leaves q);
-  blocks = λ id. omega (arith, h.blocks id, k.blocks id);
-  same = λ q lt. k.same q (omega (arith, h.leaves q, lt)) ∙ h.same q (omega (arith, lt));
-  shows = λ q lt there.
-      let same = h.same q (omega (arith, lt)) in
-      let first = h.shows q (omega (arith, lt)) there in
-      let second = rw same at (k.shows q (omega (arith, h.leaves q, lt)) (rw same first.there)) in
-      record { cells = second.cells ∙ first.cells; there = second.there };
-}
+hands_then a b c was now was2 now2 h k = grind (arith, nat_tests)
 
 -- with more that stay on both sides
 pub hands_with : (s t : Store) (was now was2 now2 z : ℕ → ℕ) → Hands s t was now → ((q : ℕ) → was2 q ≡ was q + z q) → ((q : ℕ) → now2 q ≡ now q + z q) → Hands s t was2 now2
@@ -149,7 +140,4 @@ moved_one s t m n h whole = record { hands = hands_with s t _ _ (λ q. named q (
 
 -- a map gets a copy
 pub moved_copy : (s t : Store) (m : Layout) → LivesIn s m → Hands s t (λ q. 0) (λ q. times q m.leaves) → Moves s t [] (m ∷ [])
-moved_copy s t m lives h = record {
-  hands = hands_with s t _ _ (λ q. named q []) (λ q. named q (m ∷ [])) (λ q. 0) h (λ q. refl) (λ q. refl);
-  whole = rw (whole_same s t m (stay_in s t _ _ m.leaves h (λ q some. omega (arith, some, lives.owned.owned q)) (leaf_there s m.leaves lives.backed)), lives.whole) refl;
-}
+moved_copy s t m lives h = grind (arith, nat_tests, hands_with, whole_same, stay_in, leaf_there)

@@ -1,5 +1,5 @@
 -- A change by a new writer leaves slots and blocks one to one.
-use Rattle.ele_blocks.proofs.Lemmas.{[], ap, AreOneToOne, arith, backed_there, Bool, eqb, false, false≢true, ids_of, inl, inr, is_place, IsIn, Layout, List, LivesIn, Moves, Named, names_from, names_of, nat_tests, None, Option, owners_at, Place, refl, Renews, slice_get, slice_get_within, Slot, slots_of, Some, Store, subst, suc, sym, times, true, zero, ℕ, ⊎_elim, ◌++◌, ◌+◌, ◌<◌, ◌∙◌, ◌∷◌, ◌≡◌, ◌≤◌, ◌⊎◌}
+use Rattle.ele_blocks.proofs.Lemmas.{[], AreOneToOne, arith, backed_there, Bool, eqb, false, false≢true, ids_of, inl, inr, is_place, IsIn, Layout, List, LivesIn, Moves, Named, names_from, names_of, nat_tests, None, Option, owners_at, Place, refl, Renews, slice_get, slice_get_within, Slot, slots_of, Some, Store, suc, times, true, zero, ℕ, ⊎_elim, ◌++◌, ◌+◌, ◌<◌, ◌∷◌, ◌≡◌, ◌≤◌, ◌⊎◌}
 
 -- no name is of this writer of the file
 abbrev pub NoneBy : ℕ → ℕ → List Named → Type 0
@@ -92,12 +92,7 @@ module _ (s t : Store) (w file : ℕ) (p : ℕ → Bool) (was now : Layout) (res
     pub held : 0 < owners_at s n.block
 
   of_slot : (n : Named) → IsSlot n file 0 (slots_of t now) → IsFresh n ⊎ IsOld n
-  of_slot n h = elim (p h.place) as (λ b. p h.place ≡ b → IsFresh n ⊎ IsOld n) [
-    | true ↦ λ e. let new = rw h.got at (renews.fresh h.place e) in inl (record { place = h.place; cell = h.cell; got = h.got; is = grind (arith, h.is); renewed = e; writer = new.0; free = new.1 })
-    | false ↦ λ e.
-        let here = rw (← h.is) at (slot_in file 0 h.place (slots_of s was) h.cell (sym (renews.stays h.place e (slice_get_within (slots_of t now) h.place h.cell h.got)) ∙ h.got)) in
-        inr (record { before = in_front n (names_of s file was) rest here; stays = λ f v. grind (arith, h.is, e); held = names_owned s file was lives n here })
-  ] refl
+  of_slot n h = grind (arith, nat_tests, slot_in, slice_get_within, in_front, names_owned)
 
   of_name : (n : Named) → IsIn n (names_of t file now ++ rest) → IsFresh n ⊎ IsOld n
   of_name n i = ⊎_elim (λ a. of_slot n (slot_from n file 0 (slots_of t now) a)) (λ b. inr (record { before = in_back n (names_of s file was) rest b; stays = λ f v. absurd (none n b f v); held = owned n b })) (in_either n (names_of t file now) rest i)

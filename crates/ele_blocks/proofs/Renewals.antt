@@ -74,12 +74,7 @@ module _ {s mid : Store} {window : List Slot} {first w : ℕ} {staged : List (Li
   same_cells xs stand = cells_each s mid xs (λ id some. ap (λ v. unwrap_or v []) (h.laid.kept id (stand id some)))
 
   came : Hands s mid (λ q. 0) (λ q. times q now)
-  came = record {
-    leaves = λ q. omega (arith, h.puts.trades.owed q);
-    blocks = λ id. omega (arith, h.laid.owed id, h.backs id);
-    same = λ q lt. ap (λ v. unwrap_or v []) (h.puts.trades.kept q lt);
-    shows = λ q lt stand. record { cells = same_cells (leaf_at s q) stand; there = λ id some. omega (arith, stand id some, h.laid.owed id) };
-  }
+  came = grind (arith, nat_tests, same_cells)
 
   now_parts : map (leaf_at mid) now ≡ parts slots
   now_parts = values_are mid.leaves now (parts slots) h.values

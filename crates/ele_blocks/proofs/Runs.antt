@@ -101,21 +101,16 @@ module _ {s : Store} {m : Layout} {staged : List (List ℕ)} {first kept from me
   inside = omega (arith, window_long, order_of)
 
   cut : take kept (slots_of s m) ≡ slots_in s front ++ (window ++ slots_in s back)
-  cut = ⊎_elim
+  cut =
+      let rest = drop (16 * from) (slots_of s m) in
+      ⊎_elim
       (λ (more : 16 * met < kept).
       let all : kept ≡ slot_count m.size = h.behind (omega (arith, more)) in
-      let rest = drop (16 * from) (slots_of s m) in
-      let whole : window ≡ take (16 * (met - from)) rest = ap (take (kept - 16 * from)) (part_slots from (met - from)) ∙ take_all (kept - 16 * from) (take (16 * (met - from)) rest) (omega (arith, length-take (16 * (met - from)) rest, more)) in
-      let e : 16 * from + 16 * (met - from) ≡ 16 * to = omega (arith, order_of, h.to_met more) in
-      take_all kept (slots_of s m) (omega (arith, long, all))
-      ∙ sym (rw (front_slots, whole, back_slots) (ap (λ ys. take (16 * from) (slots_of s m) ++ ys) (ap (λ ys. take (16 * (met - from)) rest ++ ys) (sym (drop-drop (16 * (met - from)) (16 * from) (slots_of s m) ∙ ap (λ j. drop j (slots_of s m)) e)) ∙ take-append-drop (16 * (met - from)) rest) ∙ take-append-drop (16 * from) (slots_of s m))))
+      let whole : window ≡ take (16 * (met - from)) rest = rw (part_slots from (met - from)) (take_all (kept - 16 * from) (take (16 * (met - from)) rest) (omega (arith, length-take (16 * (met - from)) rest, more))) in
+      grind (arith, whole, all, long, order_of, h.to_met more, front_slots, back_slots, take_all kept (slots_of s m), drop-drop (16 * (met - from)) (16 * from) (slots_of s m), take-append-drop (16 * (met - from)) rest, take-append-drop (16 * from) (slots_of s m)))
       (λ (end : kept ≤ 16 * met).
-      let rest = drop (16 * from) (slots_of s m) in
-      let part : window ≡ take (kept - 16 * from) rest = ap (take (kept - 16 * from)) (part_slots from (met - from)) ∙ take-take (kept - 16 * from) (16 * (met - from)) rest (omega (arith, end)) in
-      let none : slots_in s back ≡ [] = ap (slots_in s) (none_behind end) in
-      let e : kept ≡ 16 * from + (kept - 16 * from) = omega arith in
-      ap (λ j. take j (slots_of s m)) e ∙ (take-add (16 * from) (kept - 16 * from) (slots_of s m)
-      ∙ sym (rw (front_slots, part, none) (ap (λ ys. take (16 * from) (slots_of s m) ++ ys) (append-nil (take (kept - 16 * from) rest))))))
+      let part : window ≡ take (kept - 16 * from) rest = rw (part_slots from (met - from)) (take-take (kept - 16 * from) (16 * (met - from)) rest (omega (arith, end))) in
+      grind (arith, part, none_behind end, front_slots, append-nil (take (kept - 16 * from) rest), take-add (16 * from) (kept - 16 * from) (slots_of s m)))
       (order (16 * met) kept)
 
   -- the new leaves in their places
@@ -169,14 +164,23 @@ module _ {s : Store} {m : Layout} {staged : List (List ℕ)} {first kept from me
       new_cells : shown t new ≡ laid_over first (map (cell_by w) staged) (take kept (shown s m))
       new_cells =
           let g = cell_of s in
-          let u = cell_of t in
           let by = map (cell_by w) staged in
-          let shown_cut : take kept (shown s m) ≡ map g (slots_in s front) ++ (map g window ++ map g (slots_in s back)) = take-map g kept (slots_of s m) ∙ (ap (map g) cut ∙ (map-append g (slots_in s front) (window ++ slots_in s back) ∙ ap (λ ys. map g (slots_in s front) ++ ys) (map-append g window (slots_in s back)))) in
-          ap (map u) (ap (slots_in t) is ∙ (flat_map-append (leaf_at t) front (now ++ back) ∙ ap (λ ys. slots_in t front ++ ys) (flat_map-append (leaf_at t) now back)))
-          ∙ (map-append u (slots_in t front) (slots_in t now ++ slots_in t back)
-          ∙ (ap (λ ys. map u (slots_in t front) ++ ys) (map-append u (slots_in t now) (slots_in t back))
-          ∙ (rw (front_stays.cells, back_stays.cells, renewed.cells) refl
-          ∙ sym (ap (laid_over first by) shown_cut ∙ laid_apart first (first - 16 * from) by (map g (slots_in s front)) (map g window) (map g (slots_in s back)) (omega (arith, front_long, length-map (slots_in s front) g)) (omega (arith, inside, length-map window g)) (fit_by by (map g window) (map g (slots_in s back)) (length-map staged (cell_by w)) (length-map window g) (ap (map g)))))))
+          let fit = fit_by by (map g window) (map g (slots_in s back)) (length-map staged (cell_by w)) (length-map window g) (ap (map g)) in
+          rw (
+            is,
+            flat_map-append (leaf_at t) front (now ++ back),
+            flat_map-append (leaf_at t) now back,
+            map-append (cell_of t) (slots_in t front) (slots_in t now ++ slots_in t back),
+            map-append (cell_of t) (slots_in t now) (slots_in t back),
+            front_stays.cells,
+            back_stays.cells,
+            renewed.cells,
+            take-map g kept (slots_of s m),
+            cut,
+            map-append g (slots_in s front) (window ++ slots_in s back),
+            map-append g window (slots_in s back),
+          )
+          (sym (laid_apart first (first - 16 * from) by (map g (slots_in s front)) (map g window) (map g (slots_in s back)) (omega (arith, front_long, length-map (slots_in s front) g)) (omega (arith, inside, length-map window g)) fit))
 
       filled : AreSized 16 (leaf_at t) (length (slots_of t new)) new.leaves
       filled =
@@ -185,12 +189,9 @@ module _ {s : Store} {m : Layout} {staged : List (List ℕ)} {first kept from me
           let head = sized-map 16 (leaf_at s) (leaf_at t) (16 * from) front front (sym front_stays.leaves) (sized-is 16 (leaf_at s) (omega arith) (min n (16 * from)) (16 * from) front (omega arith) (sized-take 16 (leaf_at s) (omega arith) from n m.leaves sized)) in
           let mid = sized-map 16 (λ leaf. leaf) (leaf_at t) (length laid) (parts laid) now (map-id (parts laid) ∙ sym renewed.leaves) (sized-chunks 16 (omega arith) (leaf_count (length laid)) laid (omega arith) (omega arith)) in
           let tail = sized-map 16 (leaf_at s) (leaf_at t) (n - 16 * to) back back (sym back_stays.leaves) (sized-drop 16 (leaf_at s) (omega arith) to n m.leaves sized) in
-          let even : (length laid ≡ 16 * length now) ⊎ (n - 16 * to ≡ 0) = ⊎_elim
-          (λ (more : 16 * met < kept). inl (omega (arith, now_long, laid_long, window_long, more, order_of)))
-          (λ (end : kept ≤ 16 * met). inr (omega (arith, h.to_end end)))
-          (order (16 * met) kept) in
+          let even : (length laid ≡ 16 * length now) ⊎ (n - 16 * to ≡ 0) = grind (arith, h.to_end, now_long, laid_long, window_long, order_of) in
           let joined : AreSized 16 (leaf_at t) all new.leaves = rw is (sized-append 16 (leaf_at t) (omega arith) (16 * from) (length laid + (n - 16 * to)) front (now ++ back) head (sized-append 16 (leaf_at t) (omega arith) (length laid) (n - 16 * to) now back mid tail even) (inl (ap (λ j. 16 * j) (sym (length-take-le from m.leaves (omega (arith, leaves-count s m h.lives.whole, order_of))))))) in
-          sized-is 16 (leaf_at t) (omega arith) all (length (slots_of t new)) new.leaves (sym (sized-length 16 (leaf_at t) (omega arith) all new.leaves joined)) joined
+          rw (sized-length 16 (leaf_at t) (omega arith) all new.leaves joined) joined
 
       pub replaced : IsReplaced s t w first kept staged m new
       replaced = record {

@@ -41,12 +41,8 @@ spliced-front content offset bytes n le within = grind (arith, nat_tests, length
 -- what stands behind the bytes stays
 spliced-back : (content : List ℕ) (offset : ℕ) (bytes : List ℕ) (n : ℕ) → offset + length bytes ≤ n → drop n (content_after_write content offset bytes) ≡ drop n content
 spliced-back content offset bytes n le =
-    let t = take offset content in
-    let z : List ℕ = replicate (offset - length content) 0 in
     let past = offset + length bytes in
-    let place : past + (n - past) ≡ n = omega (arith, le) in
-    let head : length (t ++ z ++ bytes) ≡ past = omega (arith, length-append (t ++ z) bytes, length-append t z, length-take offset content, length-replicate {A = ℕ} (offset - length content) 0) in
-    drop_past (t ++ z ++ bytes) (drop past content) (n - past) n (omega (arith, head, le)) ∙ (drop-drop (n - past) past content ∙ ap (λ k. drop k content) place)
+    rw (drop_past (take offset content ++ replicate (offset - length content) 0 ++ bytes) (drop past content) (n - past) n (grind (arith, length-append, length-take, length-replicate)), drop-drop (n - past) past content) (grind (arith))
 
 -- so a splice is the part of q bytes from p on, between what stood before it and behind it
 pub spliced_part : (content : List ℕ) (offset p q r : ℕ) (bytes : List ℕ) → p ≤ offset → p ≤ length content → offset + length bytes ≤ r → r ≡ p + q → content_after_write content offset bytes ≡ take p content ++ (take q (drop p (content_after_write content offset bytes)) ++ drop r content)

@@ -1,5 +1,5 @@
 -- How owners change hands, one change after another.
-use Rattle.ele_blocks.proofs.Words.{[], add-one, Adds, ap, append_assoc, arith, cond, Counted, Covers, drop, eqb, false, get_or, ids_of, leaving, length, length-map, length-take-le, List, ltb, map, map-append, map_more, nat_tests, None, Option, owners, owners_of, place_at, refl, released, Sets, shared, Slot, Some, suc, sym, take, take-append-drop, take-suc, times, Trades, true, value_at, value_of, zero, ℕ, ◌++◌, ◌+◌, ◌<◌, ◌^◌, ◌∙◌, ◌∷◌, ◌≡◌, ◌≤◌}
+use Rattle.ele_blocks.proofs.Words.{[], add-one, Adds, ap, append_assoc, arith, Counted, Covers, drop, eqb, false, get_or, ids_of, leaving, length, length-map, length-take-le, List, map, map-append, map_more, nat_tests, None, Option, owners, owners_of, place_at, refl, released, Sets, shared, Slot, Some, suc, sym, take, take-append-drop, take-suc, times, Trades, true, value_at, value_of, zero, ℕ, ◌++◌, ◌+◌, ◌<◌, ◌^◌, ◌∙◌, ◌∷◌, ◌≡◌, ◌≤◌}
 
 pub times-append : (id : ℕ) (xs ys : List ℕ) → times id (xs ++ ys) ≡ times id xs + times id ys
 times-append id [] ys = omega arith
@@ -58,10 +58,7 @@ module _ {X : Type 0} where
 
   -- one after the other
   pub trades_then : (a b c : List (Option (Counted X))) (was now was2 now2 : List ℕ) → Trades a b was now → Trades b c was2 now2 → Trades a c (was ++ was2) (now ++ now2)
-  trades_then a b c was now was2 now2 h k = record {
-    owed = λ q. omega (arith, h.owed q, k.owed q, times-append q was was2, times-append q now now2);
-    kept = λ q lt. k.kept q (omega (arith, h.owed q, times-append q was was2)) ∙ h.kept q (omega (arith, times-append q was was2));
-  }
+  trades_then a b c was now was2 now2 h k = grind (arith, nat_tests, times-append)
 
   -- what is owned beside what goes keeps its value
   pub values_stay : (s t : List (Option (Counted X))) (was now xs : List ℕ) → Trades s t was now → ((id : ℕ) → times id was + times id xs ≤ owners s id) → map (value_at t) xs ≡ map (value_at s) xs
@@ -70,11 +67,7 @@ module _ {X : Type 0} where
 
   -- a value more
   pub adds_more : (s0 s t : List (Option (Counted X))) (ids : List ℕ) (id : ℕ) (x : X) → Adds s0 s ids → place_at s id ≡ None → Sets s t id (Some (record { value = x; owners = 1 })) → Adds s0 t (ids ++ id ∷ [])
-  adds_more s0 s t ids id x h vacant sets = record {
-    trades = trades_then s0 s t [] ids [] (id ∷ []) h.trades (trades_put s t id x vacant sets);
-    fresh = λ q lt. grind (arith, nat_tests, h.trades.owed id, h.fresh q lt, times-append q ids (id ∷ []));
-    once = λ q. grind (arith, nat_tests, h.trades.owed id, h.once q, times-append q ids (id ∷ []));
-  }
+  adds_more s0 s t ids id x h vacant sets = grind (arith, nat_tests, trades_then, trades_put, times-append)
 
   -- the values kept so far, and those that are still to be kept
   pub record PutsSoFar (s0 s : List (Option (Counted X))) (ids : List ℕ) (rest all : List X) : Type 0 where
