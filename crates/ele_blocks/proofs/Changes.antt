@@ -26,12 +26,8 @@ module _ (s t : Store) (m new : Layout) (w : ℕ) (test : ℕ → Bool) (after :
 
   writers : (k : ℕ) → k < length (shown t new) → writer_at (shown t new) k ≡ cond (test k) w (writer_at (shown s m) k)
   writers k lt = writer-shown t new k ∙ elim (test k) as (λ b. test k ≡ b → option_map_or (λ (x : Slot). x.writer) (slice_get (slots_of t new) k) 0 ≡ cond b w (writer_at (shown s m) k)) [
-    | true ↦ λ e.
-        let none : Slot = record { writer = 0; block = 0 } in
-        let got = slice_get-get_or (slots_of t new) k none (omega (arith, lt, long)) in
-        let fresh = rw got at (renews.fresh k e) in
-        rw got fresh.0
-    | false ↦ λ e. ap (λ o. option_map_or (λ (x : Slot). x.writer) o 0) (renews.stays k e (omega (arith, lt, long))) ∙ sym (writer-shown s m k)
+    | true ↦ λ e. let got = slice_get-get_or (slots_of t new) k (let c : Slot = record { writer = 0; block = 0 } in c) (omega (arith, lt, long)) in rw got (rw got at (renews.fresh k e)).0
+    | false ↦ λ e. rw (renews.stays k e (omega (arith, lt, long))) (sym (writer-shown s m k))
   ] refl
 
   new_cells : shown t new ≡ map (λ slot. record { writer = cond (test slot) w (writer_at (shown s m) slot); bytes = slot_bytes after slot }) (range_with_len 0 (slot_count new.size))
@@ -76,9 +72,8 @@ module _ (s t : Store) (m new : Layout) (w first kept : ℕ) (staged : List (Lis
 
   pub laid_content : content_of (shown t new) ≡ take (512 * first) base ++ (patch ++ drop (512 * (first + length staged)) base)
   laid_content =
-      let old = flat-take 512 bytes_of (omega arith) kept m.size (shown s m) sized_whole in
       let own : flat_map bytes_of (map (cell_by w) staged) ≡ patch = flat_map-map bytes_of (cell_by w) staged ∙ (ap (flat_map (λ piece. piece)) cut ∙ pieces_joined patch) in
-      ap content_of h.cells ∙ (flat-laid 512 bytes_of (omega arith) first (min m.size (512 * kept)) (map (cell_by w) staged) (take kept (shown s m)) sized_old ∙ rw (old, own, same_count) refl)
+      ap content_of h.cells ∙ (flat-laid 512 bytes_of (omega arith) first (min m.size (512 * kept)) (map (cell_by w) staged) (take kept (shown s m)) sized_old ∙ rw (flat-take 512 bytes_of (omega arith) kept m.size (shown s m) sized_whole, own, same_count) refl)
 
   pub laid_bytes : AreSized 512 bytes_of (512 * first + (length patch + (min m.size (512 * kept) - 512 * (first + length staged)))) (shown t new)
   laid_bytes =

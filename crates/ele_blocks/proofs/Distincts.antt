@@ -38,10 +38,7 @@ none_stand (x ∷ xs) h = let first = h 0 in rw first (omega (arith, none_stand 
 -- where exactly the numbers of a list stand, as many stand as the list has different ones
 standing_different : (ids : List ℕ) (s : Blocks) → ((q : ℕ) → is_some (place_at s q) ≡ list_any (λ (y : ℕ). eqb y q) ids) → standing s ≡ different eqb ids
 standing_different [] s h = none_stand s h
-standing_different (x ∷ xs) s h = elim (list_any (λ (y : ℕ). eqb y x) xs) as (λ t. list_any (λ (y : ℕ). eqb y x) xs ≡ t → standing s ≡ cond t 0 1 + different eqb xs) [
-  | true ↦ λ e. standing_different xs s (λ q. grind (arith, nat_tests, h q, h x, e)) ∙ (omega arith)
-  | false ↦ λ e. omega (arith, standing_different xs (set s x None) (λ q. grind (arith, nat_tests, place_at_set s x q, h q, e)), taken_out s x (rw (self_eq x) at (h x)))
-] refl
+standing_different (x ∷ xs) s h = grind (arith, nat_tests, standing_different xs s, standing_different xs (set s x None), taken_out s x, place_at_set s x, h x, self_eq x)
 
 -- a block stands where it is owned
 some_owned : (b : Option (Counted (List ℕ))) → IfSome b (λ place. 0 < place.owners) → is_some b ≡ ltb 0 (owners_of b)

@@ -11,7 +11,7 @@ cells_each s t (x ∷ xs) same = grind (arith, times-self x.block, same x.block,
 
 -- blocks that stay show the same
 same_blocks : (s t : Store) (slots : List Slot) → t.blocks ≡ s.blocks → AreThere s slots → ShowsSame s t slots
-same_blocks s t slots same there = record { cells = cells_each s t slots (λ id lt. rw same refl); there = λ id lt. rw same (there id lt) }
+same_blocks s t slots same there = grind (arith, cells_each s t slots)
 
 -- one after the other
 pub hands_then : (a b c : Store) (was now was2 now2 : ℕ → ℕ) → Hands a b was now → Hands b c was2 now2 → Hands a c (λ q. was q + was2 q) (λ q. now q + now2 q)
@@ -55,27 +55,14 @@ module _ (s t : Store) (leaf : ℕ) (there : 0 < owners s.leaves leaf) where
     pub leaf_goes : Sets s.leaves t.leaves leaf (released (place_at s.leaves leaf)) → Trades s.blocks t.blocks (ids_of slots) [] → Hands s t (λ q. times q (leaf ∷ [])) (λ q. 0)
     leaf_goes sets freed =
         let trades = trades_release s.leaves t.leaves leaf there sets in
-        let is = leaving_last (place_at s.leaves leaf) slots there last in
         let here : (id : ℕ) → times id (ids_of (leaf_at s leaf)) ≡ times id (ids_of slots) = λ id. ap (λ xs. times id (ids_of xs)) its_slots in
-        let left : (id : ℕ) → backing t.leaves id + times id (ids_of slots) ≡ backing s.leaves id = λ id.
-        let none : times id (ids_of (unwrap_or (value_of (released (place_at s.leaves leaf))) [])) ≡ 0 = rw is.gone refl in
-        omega (arith, backing_sets s.leaves t.leaves leaf (released (place_at s.leaves leaf)) id sets, none, here id) in
+        let left : (id : ℕ) → backing t.leaves id + times id (ids_of slots) ≡ backing s.leaves id = λ id. grind (arith, (leaving_last (place_at s.leaves leaf) slots there last).gone, backing_sets s.leaves t.leaves leaf (released (place_at s.leaves leaf)) id sets, here id) in
+        let more : (q id : ℕ) → times q (leaf ∷ []) < owners s.leaves q → AreThere s (leaf_at s q) → 0 < times id (ids_of (leaf_at s q)) → times id (ids_of slots) < owners_at s id = λ q id lt stand some. grind (arith, here id, backed id, left id, backing_least t.leaves q id, ap (λ v. times id (ids_of (unwrap_or v []))) (trades.kept q lt), stand id some, some) in
         record {
           leaves = λ q. omega (arith, trades.owed q);
           blocks = λ id. omega (arith, left id, freed.owed id);
           same = λ q lt. ap (λ v. unwrap_or v []) (trades.kept q lt);
-          shows = λ q lt stand.
-              let same : leaf_at t q ≡ leaf_at s q = ap (λ v. unwrap_or v []) (trades.kept q lt) in
-              let more : (id : ℕ) → 0 < times id (ids_of (leaf_at s q)) → times id (ids_of slots) < owners_at s id = λ id some. ⊎_elim
-              (λ (both : 0 < times id (ids_of slots)).
-              let its = ap (λ xs. times id (ids_of xs)) same in
-              omega (arith, backed id (omega (arith, here id, both)), left id, backing_least t.leaves q id, its, some))
-              (λ (none : times id (ids_of slots) ≤ 0). omega (arith, none, stand id some))
-              (order 0 (times id (ids_of slots))) in
-              record {
-                cells = cells_each s t (leaf_at s q) (λ id some. ap (λ v. unwrap_or v []) (freed.kept id (more id some)));
-                there = λ id some. omega (arith, freed.owed id, more id some);
-              };
+          shows = λ q lt stand. record { cells = cells_each s t (leaf_at s q) (λ id some. ap (λ v. unwrap_or v []) (freed.kept id (more q id lt stand some))); there = λ id some. omega (arith, freed.owed id, more q id lt stand some) };
         }
 
 -- ---- along a list of leaves: those so far, and one more
@@ -88,7 +75,7 @@ module _ (ids : List ℕ) (k id : ℕ) (lt : k < length ids) (is : id ≡ get_or
   share_leaves_few h few = omega (arith, h.leaves id, times-le-length id (take k ids), length-take-le k ids (omega (arith, lt)), lt, few)
 
   pub share_leaves_more : Hands s0 s (λ q. 0) (λ q. times q (take k ids)) → Hands s t (λ q. 0) (λ q. times q (id ∷ [])) → Hands s0 t (λ q. 0) (λ q. times q (take (k + 1) ids))
-  share_leaves_more h one = hands_with s0 t _ _ (λ q. 0) (λ q. times q (take (k + 1) ids)) (λ q. 0) (hands_then s0 s t _ _ _ _ h one) (λ q. refl) (λ q. omega (arith, times_next ids k id lt is q))
+  share_leaves_more h one = grind (arith, hands_with, hands_then, times_next ids k id lt is)
 
   module _ (covers : Covers s0.leaves ids) (h : Hands s0 s (λ q. times q (take k ids)) (λ q. 0)) where
     pub release_leaves_next : 0 < owners s.leaves id

@@ -44,9 +44,7 @@ module _ {s b1 : Blocks} {window : List Slot} {first : ℕ} {fresh : List ℕ} (
     back_there id some = omega (arith, h.there id (omega (arith, some, times-split id (first + length fresh) window)), h.adds.trades.owed id, shared.owed id)
 
     pub back_few : (id : ℕ) → 0 < times id (ids_of (drop (first + length fresh) window)) → owners b2 id + length (drop (first + length fresh) window) ≤ 2 ^ 63
-    back_few id some =
-        let in_it : 0 < times id (ids_of window) = omega (arith, some, times-split id (first + length fresh) window) in
-        omega (arith, h.few id in_it, h.adds.trades.owed id, h.adds.fresh id (h.there id in_it), shared.owed id, times-le-length id (ids_of (take first window)), length-map (take first window) (λ (x : Slot). x.block), length-take-le first window h.within, h, length-drop (first + length fresh) window)
+    back_few id some = grind (arith, h, h.few id, h.adds.trades.owed id, h.adds.fresh id, h.there id, shared.owed id, times-split id (first + length fresh) window, times-le-length id (ids_of (take first window)), length-map (take first window) (λ (x : Slot). x.block), length-take-le first window h.within, length-drop (first + length fresh) window)
 
     pub is_laid : (b3 : Blocks) (w : ℕ) (staged : List (List ℕ)) (slots : List Slot) → Trades b2 b3 [] (ids_of (drop (first + length fresh) window)) → map (value_at b1) fresh ≡ map (λ x. Some x) staged → slots ≡ laid_over first (map (slot_by w) fresh) window → IsLaid s b3 window first w staged slots
     is_laid b3 w staged slots more values are = record {
@@ -83,25 +81,20 @@ module _ {s mid : Store} {window : List Slot} {first w : ℕ} {staged : List (Li
   now_slots = sym (flat_map-map (λ (leaf : List Slot). leaf) (leaf_at mid) now) ∙ (ap (flat_map (λ (leaf : List Slot). leaf)) now_parts ∙ chunks_joined 16 (omega arith) (leaf_count (length slots)) slots (omega arith))
 
   now_cells : map (cell_of mid) (slots_in mid now) ≡ laid_over first (map (cell_by w) staged) (map (cell_of s) window)
-  now_cells =
-      let new : map (bytes_at mid) h.laid.blocks ≡ staged = values_are mid.blocks h.laid.blocks staged h.laid.values in
-      ap (map (cell_of mid)) (now_slots ∙ h.laid.are) ∙ (laid_over-map (cell_of mid) first (map (slot_by w) h.laid.blocks) window ∙ rw (cells_of_fresh mid w h.laid.blocks, new, same_cells window h.there) refl)
+  now_cells = rw (now_slots, h.laid.are, laid_over-map (cell_of mid) first (map (slot_by w) h.laid.blocks) window, cells_of_fresh mid w h.laid.blocks, values_are mid.blocks h.laid.blocks staged h.laid.values, same_cells window h.there) refl
 
   pub was_backed : AreBacked mid (slots_in mid was)
-  was_backed id some =
-      let stay = stay_in s mid _ _ was came (λ q lt. omega (arith, lt, h.owned.owned q)) (leaf_there s was h.backed) in
-      let same = ap (λ xs. times id (ids_of xs)) stay.slots in
-      omega (arith, h.backed id (omega (arith, some, same)), h.laid.owed id, h.backs id)
+  was_backed id some = let stay = stay_in s mid _ _ was came (λ q lt. omega (arith, lt, h.owned.owned q)) (leaf_there s was h.backed) in
+      omega (arith, h.backed id, some, ap (λ xs. times id (ids_of xs)) stay.slots, h.laid.owed id, h.backs id)
 
   pub renewed : (u : Store) → Hands mid u (λ q. times q was) (λ q. 0) → IsRenewed s u was window first w staged now
   renewed u went =
-      let stay = stay_in mid u _ _ now went (λ q lt. omega (arith, lt, h.owned.owned q, h.puts.trades.owed q)) (λ q lt id some.
-      omega (arith, some, slots_least mid now q id lt, ap (λ xs. times id (ids_of xs)) now_slots, h.laid.owed id)) in
+      let stay = stay_in mid u _ _ now went (λ q lt. omega (arith, lt, h.owned.owned q, h.puts.trades.owed q)) (λ q lt id some. omega (arith, some, slots_least mid now q id lt, ap (λ xs. times id (ids_of xs)) now_slots, h.laid.owed id)) in
       record {
         blocks = h.laid.blocks;
         fresh = h.laid.fresh;
         once = h.laid.once;
-        count = sym (length-map h.laid.blocks (value_at mid.blocks)) ∙ (ap length h.laid.values ∙ length-map staged (λ x. Some x));
+        count = grind (arith, length-map, ap length h.laid.values);
         leaves = stay.leaves ∙ (now_parts ∙ ap parts h.laid.are);
         cells = stay.cells ∙ now_cells;
         hands = hands_with s u _ _ (λ q. times q was) (λ q. times q now) (λ q. 0) (hands_then s mid u _ _ _ _ came went) (λ q. omega arith) (λ q. omega arith);

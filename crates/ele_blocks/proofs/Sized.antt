@@ -124,6 +124,5 @@ chunk_more {X = X} c k xs = rw (add-one k) (by k xs) where
 -- the chunks of the items that they hold
 pub chunks_taken : {X : Type 0} (c k : ℕ) (xs : List X) → first_chunks c k (take (c * k) xs) ≡ first_chunks c k xs
 chunks_taken c zero xs = refl
-chunks_taken c (suc k) xs =
-    let size : c * suc k ≡ c + c * k = omega (arith, mul-suc c k) in
+chunks_taken c (suc k) xs = let size : c * suc k ≡ c + c * k = omega (arith, mul-suc c k) in
     rw (size, take-take c (c + c * k) xs (omega arith), drop-take c (c * k) xs, chunks_taken c k (drop c xs)) refl

@@ -35,9 +35,8 @@ module _ (s : Store) (m : Layout) where
     -- the bytes of a slot
     pub its_bytes : (slot : ℕ) (x : Slot) → slice_get (slots_of s m) slot ≡ Some x → bytes_at s x.block ≡ slot_bytes (content_of (shown s m)) slot
     its_bytes slot x got =
-        let lt = slice_get_within (slots_of s m) slot x got in
-        let here : get_or (shown s m) slot no_cell ≡ cell_of s x = get_or-map (cell_of s) (slots_of s m) slot x no_cell lt ∙ ap (cell_of s) (get_or_from_slice_get (slots_of s m) slot x x got) in
-        sym (ap bytes_of here) ∙ flat-at 512 bytes_of (omega arith) slot m.size (shown s m) no_cell (whole_is whole).bytes (omega (arith, lt, length-map (slots_of s m) (cell_of s)))
+        let here : get_or (shown s m) slot no_cell ≡ cell_of s x = grind (arith, get_or-map (cell_of s) (slots_of s m) slot x no_cell, slice_get_within (slots_of s m) slot x got, get_or_from_slice_get (slots_of s m) slot x x got) in
+        sym (ap bytes_of here) ∙ flat-at 512 bytes_of (omega arith) slot m.size (shown s m) no_cell (whole_is whole).bytes (omega (arith, slice_get_within (slots_of s m) slot x got, length-map (slots_of s m) (cell_of s)))
 
 -- ---- a slot in its leaf
 

@@ -48,5 +48,4 @@ spliced-back content offset bytes n le =
 pub spliced_part : (content : List ℕ) (offset p q r : ℕ) (bytes : List ℕ) → p ≤ offset → p ≤ length content → offset + length bytes ≤ r → r ≡ p + q → content_after_write content offset bytes ≡ take p content ++ (take q (drop p (content_after_write content offset bytes)) ++ drop r content)
 spliced_part content offset p q r bytes from le past is =
     let after = content_after_write content offset bytes in
-    let behind : drop q (drop p after) ≡ drop r content = drop-drop q p after ∙ (ap (λ n. drop n after) (sym is) ∙ spliced-back content offset bytes r past) in
-    rw (← behind, take-append-drop q (drop p after), ← spliced-front content offset bytes p from le) (sym (take-append-drop p after))
+    rw (← (spliced-back content offset bytes r past), is, ← (drop-drop q p after), take-append-drop q (drop p after), ← spliced-front content offset bytes p from le) (sym (take-append-drop p after))

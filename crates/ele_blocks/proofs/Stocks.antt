@@ -121,10 +121,7 @@ owned_names s n (t ∷ ts) h i = grind (arith, in_either n (names_of s t.file t.
 none_by : (s : Store) (file writer : ℕ) (ts : List Tagged) → late s ts ≡ 0 → AllByRecursion (IsEarlier file writer) ts → NoneBy file writer (names_in s ts)
 none_by s file writer [] h all n i of by = absurd i
 none_by s file writer (t ∷ ts) h all n i of by = ⊎_elim
-    (λ (a : IsIn n (names_of s t.file t.layout)).
-    let is = named_by n t.file t.below 0 (slots_of s t.layout) (head_below s t ts h) a in
-    let lt = all.0.earlier (sym is.its_file ∙ of) in
-    absurd (omega (arith, is.writer, lt, by)))
+    (λ (a : IsIn n (names_of s t.file t.layout)). grind (arith, named_by n t.file t.below 0 (slots_of s t.layout) (head_below s t ts h) a, all.0.earlier))
     (λ (b : IsIn n (names_in s ts)). none_by s file writer ts (omega (arith, h)) all.1 n b of by)
     (in_either n (names_of s t.file t.layout) (names_in s ts) i)
 
@@ -186,14 +183,8 @@ module _ (s t : Store) (ts : List Tagged) (was : Tagged) (rest : List Tagged) (s
   goes : Moves s t (was.layout ∷ []) [] → Stays s t rest rest
   goes moves =
       let stay = rest_stays s t (was.layout ∷ []) [] moves rest h.owed in
-      record {
-        stocked = record {
-          owed = moves_owes s t (was.layout ∷ []) [] moves rest h.owed;
-          one_to_one = rw stay.names (fewer (names_in s rest) (names_in s (was ∷ rest)) (λ n i. in_back n (names_of s was.file was.layout) (names_in s rest) i) h.one_to_one);
-          written = stay.late ∙ all_written;
-        };
-        shows = stay.shows;
-      }
+      let one = fewer (names_in s rest) (names_in s (was ∷ rest)) (λ n i. in_back n (names_of s was.file was.layout) (names_in s rest) i) h.one_to_one in
+      record { stocked = record { owed = moves_owes s t (was.layout ∷ []) [] moves rest h.owed; one_to_one = rw stay.names one; written = stay.late ∙ all_written }; shows = stay.shows }
 
   -- a name of the map is there
   was_in : (n : Named) → IsIn n (names_of s was.file was.layout) → IsIn n (names_in s ts)

@@ -1,13 +1,11 @@
-use Rattle.ele_blocks.proofs.Cited.{ap, arith, counted, get_or, get_or_default_zero, is_counted, leaves_with_last, none_leaves, owned_gone, owned_less, owners, owners-counted, sets_gone, sets_less, sym, ◌<◌, ◌∙◌, ◌≤◌}
+use Rattle.ele_blocks.proofs.Cited.{ap, arith, counted, get_or_default_zero, is_counted, leaves_with_last, none_leaves, owned_gone, owned_less, owners, owners-counted, sets_gone, sets_less, sym, ◌<◌, ◌∙◌, ◌≤◌}
 use Rattle.ele_blocks.proofs.shared.Shared.release.Goals as goal
 
 pub index-requires : goal.index-requires
-index-requires g c =
-    rw c.self.inside.owners.ok.0 (is_counted c.self.inside.values.slots c.self.inside.owners.items c.args.id (rw (ap (λ v. v.slots) c.self.view_is) c.requires))
+index-requires g c = grind (arith, is_counted)
 
 pub index_mut-requires : goal.index_mut-requires
-index_mut-requires g c =
-    rw c.self.inside.owners.ok.0 (is_counted c.self.inside.values.slots c.self.inside.owners.items c.args.id (rw (ap (λ v. v.slots) c.self.view_is) c.requires))
+index_mut-requires g c = grind (arith, is_counted)
 
 pub overflow_sub-index_mut : goal.overflow_sub-index_mut
 overflow_sub-index_mut g c = grind (arith, is_counted, get_or_default_zero)
@@ -17,14 +15,8 @@ invariant_of-self g c = grind (arith, is_counted, get_or_default_zero, owned_les
 
 pub returns-then-index-gt1-clause-sets : goal.returns-then-index-gt1-clause-sets
 returns-then-index-gt1-clause-sets g c =
-    let values = c.self.inside.values.slots in
-    let counts = c.self.inside.owners.items in
-    let view = ap (λ v. v.slots) c.self.view_is in
-    let there : 0 < owners (counted values counts) c.args.id = rw view c.requires in
-    let within = is_counted values counts c.args.id there in
-    let count = c.index_mut.ensures.value ∙ get_or_default_zero counts c.args.id _ within in
-    let many : 1 < get_or counts c.args.id 0 = omega (arith, c.if-index-gt1.true, c.index.ensures ∙ get_or_default_zero counts c.args.id _ within) in
-    rw (count, sym view) (sets_less values counts c.args.id there many)
+    let there : 0 < owners (counted c.self.inside.values.slots c.self.inside.owners.items) c.args.id = grind (arith) in
+    grind (arith, there, is_counted, get_or_default_zero, sets_less c.self.inside.values.slots c.self.inside.owners.items c.args.id there)
 
 pub returns-then-index-gt1-clause-last : goal.returns-then-index-gt1-clause-last
 returns-then-index-gt1-clause-last g c = grind (arith, get_or_default_zero, is_counted, owners-counted, none_leaves)
