@@ -20,9 +20,6 @@ unfolds xs id = grind (arith, nat_tests)
 ahead : (s : Leaves) (k : ℕ) → place_at (drop 1 s) k ≡ place_at s (suc k)
 ahead xs k = grind (arith, nat_tests)
 
-apart : (k : ℕ) → suc k ≢ 0
-apart k e = omega (arith, e)
-
 -- one place changes
 pub backing_sets : (old new : Leaves) (q : ℕ) (place : Option (Counted (List Slot))) (id : ℕ) → Sets old new q place → backing new id + weight (place_at old q) id ≡ backing old id + weight place id
 backing_sets old new zero place id h = omega (arith, unfolds old id, unfolds new id, alike (drop 1 old) (drop 1 new) id (λ k. ahead new k ∙ (h.others (suc k) (λ e. omega (arith, e)) ∙ sym (ahead old k))), ap (λ (p : Option (Counted (List Slot))). weight p id) h.changed)

@@ -1,5 +1,5 @@
 -- What a write and a truncate make of a map and its store.
-use Rattle.ele_blocks.proofs.Lemmas.{[], ap, append-nil, AreSized, arith, backed_there, Bool, bytes_of, Cell, cell_by, cell_of, cond, content_after_truncate, content_after_write, content_of, drop, drop_all, false, fill_by_all, flat-at, flat-laid, flat-take, flat_map, flat_map-map, get_or, Hands, hands_none, hands_with, is_between, is_whole_by, IsReplaced, IsResized, IsRewritten, IsWritten, Layout, leaf_at, length, length-append, length-chunks, length-content, length-drop, length-map, length-pieces, length-replicate, length-spliced, length-take, List, LivesIn, longest_content, ltb, map, max, meets, min, moved_one, nat_tests, nil_from_length, no_cell, option_map_or, pieces, pieces_between, pieces_joined, pieces_sized, pieces_taken, range_with_len, refits, refl, Renews, shown, sized-count, sized-is, sized-laid, sized-length, sized-map, sized-take, slice_get, slice_get-get_or, Slot, slot_bytes, slot_count, slots_of, spliced_part, Store, suc, sym, take, take-add, take-append-drop, take-take, take_all, times, true, whole_is, writer_at, zero, ℕ, ◌&&◌, ◌*◌, ◌++◌, ◌+◌, ◌-◌, ◌/◌, ◌<◌, ◌∙◌, ◌∷◌, ◌≡◌, ◌≤◌, ◌⊎◌}
+use Rattle.ele_blocks.proofs.Lemmas.{slice_get-map, [], ap, append-nil, AreSized, arith, backed_there, Bool, bytes_of, Cell, cell_by, cell_of, cond, content_after_truncate, content_after_write, content_of, drop, drop_all, false, fill_by_all, flat-at, flat-laid, flat-take, flat_map, flat_map-map, get_or, Hands, hands_none, hands_with, is_between, is_whole_by, IsReplaced, IsResized, IsRewritten, IsWritten, Layout, leaf_at, length, length-append, length-chunks, length-content, length-drop, length-map, length-pieces, length-replicate, length-spliced, length-take, List, LivesIn, longest_content, ltb, map, max, meets, min, moved_one, nat_tests, nil_from_length, no_cell, option_map_or, pieces, pieces_between, pieces_joined, pieces_sized, pieces_taken, range_with_len, refits, refl, Renews, shown, sized-count, sized-is, sized-laid, sized-length, sized-map, sized-take, slice_get, slice_get-get_or, Slot, slot_bytes, slot_count, slots_of, spliced_part, Store, suc, sym, take, take-add, take-append-drop, take-take, take_all, times, true, whole_is, writer_at, zero, ℕ, ◌&&◌, ◌*◌, ◌++◌, ◌+◌, ◌-◌, ◌/◌, ◌<◌, ◌∙◌, ◌∷◌, ◌≡◌, ◌≤◌, ◌⊎◌}
 use Rattle.ele_content.specs.Content.{cells_after_truncate, cells_after_write}
 
 pub renews_as : (s t : Store) (w : ℕ) (p q : ℕ → Bool) (was now : Layout) → ((slot : ℕ) → q slot ≡ p slot) → Renews s t w p was now → Renews s t w q was now
@@ -7,15 +7,8 @@ renews_as s t w p q was now same h = grind (arith, nat_tests)
 
 -- ---- a map of this content, where the slots that pass the test are renewed
 
-cell_same : (x y : Cell) → x.writer ≡ y.writer → x.bytes ≡ y.bytes → x ≡ y
-cell_same x y w b = grind (arith)
-
 writer-shown : (s : Store) (m : Layout) (k : ℕ) → writer_at (shown s m) k ≡ option_map_or (λ (x : Slot). x.writer) (slice_get (slots_of s m) k) 0
-writer-shown s m k = by (slots_of s m) k where
-  by : (xs : List Slot) (k : ℕ) → writer_at (map (cell_of s) xs) k ≡ option_map_or (λ (x : Slot). x.writer) (slice_get xs k) 0
-  by [] k = refl
-  by (x ∷ xs) zero = refl
-  by (x ∷ xs) (suc k) = by xs k
+writer-shown s m k = grind (arith, slice_get-map (cell_of s) (slots_of s m) k)
 
 module _ (s t : Store) (m new : Layout) (w : ℕ) (test : ℕ → Bool) (after : List ℕ) (n : ℕ) (hands : Hands s t (λ q. times q m.leaves) (λ q. times q new.leaves)) (leaves : AreSized 16 (leaf_at t) n new.leaves) (renews : Renews s t w test m new) (content : content_of (shown t new) ≡ after) (bytes : AreSized 512 bytes_of new.size (shown t new)) (short : new.size ≤ longest_content) where
   count : length (shown t new) ≡ slot_count new.size
@@ -34,9 +27,7 @@ module _ (s t : Store) (m new : Layout) (w : ℕ) (test : ℕ → Bool) (after :
   new_cells = fill_by_all (λ slot. let c : Cell = record { writer = cond (test slot) w (writer_at (shown s m) slot); bytes = slot_bytes after slot } in c) (shown t new) (slot_count new.size) no_cell count
       (λ k lt.
       let inside : k < length (shown t new) = omega (arith, lt, count) in
-      cell_same (get_or (shown t new) k no_cell) (record { writer = cond (test k) w (writer_at (shown s m) k); bytes = slot_bytes after k })
-      (sym (ap (λ o. option_map_or (λ (c : Cell). c.writer) o 0) (slice_get-get_or (shown t new) k no_cell inside)) ∙ writers k inside)
-      (flat-at 512 bytes_of (omega arith) k new.size (shown t new) no_cell bytes inside ∙ ap (λ c. slot_bytes c k) content))
+      grind (arith, slice_get-get_or (shown t new) k no_cell inside, writers k inside, flat-at 512 bytes_of (omega arith) k new.size (shown t new) no_cell bytes inside, content))
 
   pub rewritten : (size : ℕ) (cells : List Cell) → new.size ≡ size → map (λ slot. let c : Cell = record { writer = cond (test slot) w (writer_at (shown s m) slot); bytes = slot_bytes after slot } in c) (range_with_len 0 (slot_count new.size)) ≡ cells → IsRewritten s t w test size after cells m new
   rewritten size cells is are =
@@ -81,18 +72,6 @@ module _ (s t : Store) (m new : Layout) (w first kept : ℕ) (staged : List (Lis
       let few = sized-count 512 bytes_of (omega arith) (min m.size (512 * kept)) (take kept (shown s m)) sized_old in
       let new_sized = sized-map 512 (λ piece. piece) bytes_of (length patch) staged (map (cell_by w) staged) its_bytes (rw (← cut) at (pieces_sized patch)) in
       rw (h.cells, ← same_count) (sized-laid 512 bytes_of (omega arith) first (min m.size (512 * kept)) (length patch) (map (cell_by w) staged) (take kept (shown s m)) sized_old new_sized (omega (arith, few, kept_le, le, start)) (omega (arith, le, start)) reach)
-
--- ---- the slots of a range
-
--- the slots that a place cuts, or that meet a range, are those from its first on, up to before the one past its last
-cuts_between : (from to slot : ℕ) → (ltb (512 * slot) to && ltb from (512 * slot + 512)) ≡ is_between (from / 512) ((to + 511) / 512) slot
-cuts_between from to slot = grind (arith, nat_tests)
-
-meets_between : (from to slot : ℕ) → from < to → meets from to slot ≡ is_between (from / 512) ((to + 511) / 512) slot
-meets_between from to slot lt = let some : ltb from to ≡ true = grind (arith, nat_tests) in rw some (cuts_between from to slot)
-
-refits_less : (n size slot : ℕ) → size < n → refits n size slot ≡ is_between (size / 512) ((size + 511) / 512) slot
-refits_less n size slot lt = grind (arith, nat_tests, cuts_between)
 
 -- ---- the cells of a write and of a truncate
 
@@ -146,7 +125,7 @@ module _ (s : Store) (m : Layout) (w o f : ℕ) (x : List ℕ) (staged : List (L
       let part : after ≡ take (512 * f) content ++ (patch ++ drop (512 * (f + length staged)) content) = spliced_part content o (512 * f) (512 * many) (512 * (f + length staged)) x (omega (arith, is_f)) (omega (arith, start, whole_long)) (omega (arith, reach)) (omega (arith, staged_count)) in
       let is : content_of (shown t new) ≡ after = laid_content s t m new w f (slot_count m.size) staged patch lives h cut (omega arith) le start fit ∙ rw all (sym part) in
       let bytes = sized-is 512 bytes_of (omega arith) (512 * f + (length patch + (min m.size (512 * slot_count m.size) - 512 * (f + length staged)))) new.size (shown t new) (omega (arith, size, reach, patch_long, is_f, staged_count, some)) (laid_bytes s t m new w f (slot_count m.size) staged patch lives h cut (omega arith) le start fit) in
-      let same : (slot : ℕ) → test slot ≡ is_between f (f + length staged) slot = λ slot. meets_between (min o m.size) (o + length x) slot some ∙ (ap (λ k. is_between k ((o + length x + 511) / 512) slot) (sym is_f) ∙ ap (λ k. is_between f k slot) (sym reach)) in
+      let same : (slot : ℕ) → test slot ≡ is_between f (f + length staged) slot = λ slot. grind (arith, nat_tests, some, is_f, reach) in
       rewritten s t m new w test after (length (slots_of t new)) h.hands h.filled (renews_as s t w (is_between f (f + length staged)) test m new same h.renews) is bytes (omega (arith, size, short, (whole_is s m lives.whole).short)) (max m.size (o + length x)) (cells_after_write w o x (shown s m)) size (written_cells s m w o new.size x lives size)
 
 -- ---- a truncate to fewer bytes: f slots stay whole, and kept slots stay
@@ -167,16 +146,12 @@ module _ (s : Store) (m : Layout) (w size f kept : ℕ) (staged : List (List ℕ
       let le : f ≤ kept = omega (arith, is_f, is_kept) in
       let start : 512 * f ≤ m.size = omega (arith, is_f, less) in
       let fit : 512 * (f + length staged) < min m.size (512 * kept) → length patch ≡ 512 * length staged = λ lt. absurd (omega (arith, lt, cut_reach)) in
-      let head : take (512 * f) (take (512 * kept) content) ≡ take (512 * f) content = take-take (512 * f) (512 * kept) content (omega (arith, le)) in
       let mid : patch ≡ take (size - 512 * f) (drop (512 * f) content) = take-take (size - 512 * f) 512 (drop (512 * f) content) (omega (arith, is_f)) in
       let tail : drop (512 * (f + length staged)) (take (512 * kept) content) ≡ [] = drop_all (512 * (f + length staged)) (take (512 * kept) content) (omega (arith, length-take (512 * kept) content, cut_reach)) in
-      let none : size - length content ≡ 0 = omega (arith, whole_long, less) in
-      let size_is : 512 * f + (size - 512 * f) ≡ size = omega (arith, is_f) in
-      let after : content_of (shown t new) ≡ content_after_truncate content size =
-      laid_content s t m new w f kept staged patch lives h is_staged kept_le le start fit
-      ∙ rw (head, tail, mid, none) (ap (λ ys. take (512 * f) content ++ ys) (append-nil (take (size - 512 * f) (drop (512 * f) content))) ∙ (sym (ap (λ n. take n content) (sym size_is) ∙ take-add (512 * f) (size - 512 * f) content) ∙ sym (append-nil (take size content)))) in
+      let after : content_of (shown t new) ≡ content_after_truncate content size = laid_content s t m new w f kept staged patch lives h is_staged kept_le le start fit
+      ∙ grind (arith, le, mid, tail, whole_long, less, is_f, take-take (512 * f) (512 * kept) content, append-nil, take-add (512 * f) (size - 512 * f) content) in
       let bytes = sized-is 512 bytes_of (omega arith) (512 * f + (length patch + (min m.size (512 * kept) - 512 * (f + length staged)))) new.size (shown t new) (omega (arith, is, cut_long, cut_reach, is_f)) (laid_bytes s t m new w f kept staged patch lives h is_staged kept_le le start fit) in
-      let same : (slot : ℕ) → refits m.size size slot ≡ is_between f (f + length staged) slot = λ slot. refits_less m.size size slot less ∙ (ap (λ k. is_between k ((size + 511) / 512) slot) (sym is_f) ∙ ap (λ k. is_between f k slot) (sym (cut_reach ∙ is_kept))) in
+      let same : (slot : ℕ) → refits m.size size slot ≡ is_between f (f + length staged) slot = λ slot. grind (arith, nat_tests, less, is_f, cut_reach, is_kept) in
       rewritten s t m new w (refits m.size size) (content_after_truncate content size) (length (slots_of t new)) h.hands h.filled (renews_as s t w (is_between f (f + length staged)) (refits m.size size) m new same h.renews) after bytes (omega (arith, is, less, (whole_is s m lives.whole).short)) size (cells_after_truncate w size (shown s m)) is (rw is (resized_cells s m w size lives))
 
 -- ---- what changes nothing

@@ -6,5 +6,5 @@ pub use Rattle.ele_blocks.proofs.Renewals.{back_few, back_there, front_few, fron
 pub use Rattle.ele_blocks.proofs.Patches.{patched}
 pub use Rattle.ele_blocks.proofs.Changes.{cut_change, cut_long, cut_reach, grown, reach, resized_same, write_change, written_nothing}
 pub use Rattle.ele_blocks.proofs.Runs.{inside, IsRun, leaves_new, now_room, part_backed, part_owned, placed, replaced, window_there}
-pub use Rattle.ele_blocks.proofs.Counts.{count-counted, counted-filled, is_counted, is_held, leaves_with_last, none_leaves, owned_gone, owned_less, owned_more, owned_new, owners-counted, place-counted, room_after, room_in, room_of, sets_gone, sets_less, sets_more, sets_new, value-counted}
+pub use Rattle.ele_blocks.proofs.Counts.{count-counted, counted-more, is_counted, leaves_with_last, none_leaves, owned_gone, owned_less, owned_more, owned_new, owners-counted, place-counted, room_after, room_in, room_of, sets_gone, sets_less, sets_more, sets_new, value-counted}
 pub use Rattle.ele_blocks.specs.SharedInside.{counted, with_count}

@@ -26,52 +26,21 @@ module _ {X : Type 0} where
   counted-more (v ∷ vs) [] (suc n) = ap (λ rest. option_map (with_count 0) v ∷ rest) (counted-more vs [] n)
   counted-more (v ∷ vs) (c ∷ cs) n = rw (counted-more vs cs n) refl
 
-  -- more places of no owner
-  pub counted-filled : (values : List (Option X)) (counts : List ℕ) (n k : ℕ) → length counts ≤ n → counted values (take n counts ++ replicate k 0) ≡ counted values counts
-  counted-filled vs cs n k le = rw (take_all n cs le) (counted-more vs cs k)
-
-  valued : (o : Option X) (n : ℕ) → value_of (option_map (with_count n) o) ≡ o
-  valued o n = grind (arith, nat_tests)
-
-  owned_by : (o : Option X) (n : ℕ) → 0 < owners_of (option_map (with_count n) o) → owners_of (option_map (with_count n) o) ≡ n
-  owned_by o n lt = grind (arith, nat_tests)
-
-  held : (o : Option X) (n : ℕ) → 0 < owners_of (option_map (with_count n) o) → IsSome o
-  held o n lt = grind (arith, nat_tests)
-
   pub value-counted : (values : List (Option X)) (counts : List ℕ) (id : ℕ) → value_at (counted values counts) id ≡ get_or values id None
   value-counted vs cs id = grind (arith, place-counted)
 
   pub owners-counted : (values : List (Option X)) (counts : List ℕ) (id : ℕ) → 0 < owners (counted values counts) id → owners (counted values counts) id ≡ get_or counts id 0
   owners-counted vs cs id lt = grind (arith, place-counted)
 
-  pub is_held : (values : List (Option X)) (counts : List ℕ) (id : ℕ) → 0 < owners (counted values counts) id → IsSome (get_or values id None)
-  is_held vs cs id lt = grind (arith, place-counted)
-
   -- what has an owner has its count
   pub is_counted : (values : List (Option X)) (counts : List ℕ) (id : ℕ) → 0 < owners (counted values counts) id → id < length counts
   is_counted vs cs id lt = grind (arith, nat_tests, get_or_past, owners-counted)
-
-  pub sets_count : (values : List (Option X)) (counts : List ℕ) (id count : ℕ) → id < length counts → Sets (counted values counts) (counted values (set counts id count)) id (option_map (with_count count) (get_or values id None))
-  sets_count vs cs id c lt = record {
-    changed = place-counted vs (set cs id c) id ∙ ap (λ n. option_map (with_count n) (get_or vs id None)) (get_or-set_same cs id c 0 lt);
-    others = λ other ne. place-counted vs (set cs id c) other ∙ ap (λ n. option_map (with_count n) (get_or vs other None)) (get_or-set_other cs id other c 0 ne) ∙ sym (place-counted vs cs other);
-  }
-
-  more : (o : Option X) (n : ℕ) → option_map (with_count (n + 1)) o ≡ shared (option_map (with_count n) o)
-  more o n = grind (arith, nat_tests)
-
-  less : (o : Option X) (n : ℕ) → ltb 1 n ≡ true → option_map (with_count (n - 1)) o ≡ released (option_map (with_count n) o)
-  less o n lt = grind (arith, nat_tests)
 
   pub sets_more : (values : List (Option X)) (counts : List ℕ) (id : ℕ) → 0 < owners (counted values counts) id → Sets (counted values counts) (counted values (set counts id (get_or counts id 0 + 1))) id (shared (place_at (counted values counts) id))
   sets_more vs cs id lt = grind (arith, place-counted, is_counted, get_or-set_same, get_or-set_other)
 
   pub sets_less : (values : List (Option X)) (counts : List ℕ) (id : ℕ) → 0 < owners (counted values counts) id → 1 < get_or counts id 0 → Sets (counted values counts) (counted values (set counts id (get_or counts id 0 - 1))) id (released (place_at (counted values counts) id))
   sets_less vs cs id lt many = grind (arith, nat_tests, place-counted, is_counted, get_or-set_same, get_or-set_other)
-
-  last_released : (place : Option (Counted X)) → owners_of place ≤ 1 → released place ≡ None
-  last_released o le = grind (arith, nat_tests)
 
   last_leaves : (place : Option (Counted X)) → owners_of place ≤ 1 → leaving place ≡ value_of place
   last_leaves o le = grind (arith, nat_tests)
@@ -91,12 +60,6 @@ module _ {X : Type 0} where
   -- whatever stands has an owner afterwards, if what changed has
   pub owned_after : (old new : List (Option (Counted X))) (id : ℕ) (place : Option (Counted X)) → Owned old → Sets old new id place → IfSome place (λ p. 0 < p.owners) → Owned new
   owned_after old new id place owned sets has q = grind (arith, nat_tests)
-
-  shared_owned : (place : Option (Counted X)) → IfSome place (λ p. 0 < p.owners) → IfSome (shared place) (λ p. 0 < p.owners)
-  shared_owned o has = grind (arith, nat_tests)
-
-  released_owned : (place : Option (Counted X)) → IfSome (released place) (λ p. 0 < p.owners)
-  released_owned o = grind (arith, nat_tests)
 
   pub owned_more : (values : List (Option X)) (counts : List ℕ) (id : ℕ) → Owned (counted values counts) → 0 < owners (counted values counts) id → Owned (counted values (set counts id (get_or counts id 0 + 1)))
   owned_more vs cs id owned lt = owned_after _ _ id _ owned (sets_more vs cs id lt) (grind (arith, owned id))
@@ -118,6 +81,4 @@ module _ {X : Type 0} where
   room_in values counts more room = grind (arith, nat_tests, count-counted)
 
   pub room_after : (values new : Slab X) (counts : List ℕ) (id : ℕ) → slab_len new ≡ slab_len values + 1 → new.capacity ≡ values.capacity → (more : ℕ) → HasRoomFor (counted_with values counts) (1 + more) → HasRoomFor (counted_with new (set counts id 1)) more
-  room_after values new counts id longer same more room =
-      let was = room_in values counts more room in
-      room_of new (set counts id 1) more (omega (arith, was.0, longer, same)) (omega (arith, was.1, same, length-set counts id 1))
+  room_after values new counts id longer same more room = grind (arith, room_in values counts more room, room_of new (set counts id 1) more, length-set counts id 1)

@@ -1,5 +1,5 @@
 -- The blocks of a store are as many as its maps name.
-use Rattle.ele_blocks.proofs.Lemmas.{[], ap, AreOneToOne, arith, backing, backing_some, blocks_of, Bool, cond, count_by, Counted, different, eqb, false, ids_of, IfSome, inl, inr, is_place, is_some, IsIn, Layout, leaf_at, List, list_any, ltb, map, Named, named, nat_tests, None, Option, Owes, Owned, owners_at, owners_of, Place, place_at, refl, set, Slot, slots_backed, slots_least, slots_of, Store, suc, sum_by-cons, sym, times, times-append, true, weight, zero, ℕ, ◌+◌, ◌<◌, ◌∙◌, ◌∷◌, ◌≡◌, ◌≤◌}
+use Rattle.ele_blocks.proofs.Lemmas.{owners, [], ap, AreOneToOne, arith, backing, backing_some, blocks_of, Bool, cond, count_by, Counted, different, eqb, false, ids_of, IfSome, inl, inr, is_place, is_some, IsIn, Layout, leaf_at, List, list_any, ltb, map, Named, named, nat_tests, None, Option, Owes, Owned, owners_at, owners_of, Place, place_at, refl, set, Slot, slots_backed, slots_least, slots_of, Store, suc, sum_by-cons, sym, times, times-append, true, weight, zero, ℕ, ◌+◌, ◌<◌, ◌∙◌, ◌∷◌, ◌≡◌, ◌≤◌}
 
 abbrev pub Blocks : Type 0
 Blocks = List (Option (Counted (List ℕ)))
@@ -25,7 +25,7 @@ nothing : (t : Bool) → (let none : Option (Counted (List ℕ)) = None in none)
 nothing b = grind (arith, nat_tests)
 
 place_at_set : (s : Blocks) (id q : ℕ) → place_at (set s id None) q ≡ cond (eqb id q) None (place_at s q)
-place_at_set [] id q = nothing (eqb id q)
+place_at_set [] id q = grind (arith, nat_tests)
 place_at_set (x ∷ xs) zero zero = refl
 place_at_set (x ∷ xs) zero (suc q) = grind (arith, nat_tests)
 place_at_set (x ∷ xs) (suc id) zero = let e : eqb (suc id) 0 ≡ false = grind (arith, nat_tests) in rw e refl
@@ -40,17 +40,9 @@ standing_different : (ids : List ℕ) (s : Blocks) → ((q : ℕ) → is_some (p
 standing_different [] s h = none_stand s h
 standing_different (x ∷ xs) s h = grind (arith, nat_tests, standing_different xs s, standing_different xs (set s x None), taken_out s x, place_at_set s x, h x, self_eq x)
 
--- a block stands where it is owned
-some_owned : (b : Option (Counted (List ℕ))) → IfSome b (λ place. 0 < place.owners) → is_some b ≡ ltb 0 (owners_of b)
-some_owned o h = grind (arith, nat_tests)
-
 any_times : (q : ℕ) (xs : List ℕ) → list_any (λ (y : ℕ). eqb y q) xs ≡ ltb 0 (times q xs)
 any_times q [] = refl
 any_times q (x ∷ xs) = grind (arith, nat_tests, any_times q xs)
-
--- a leaf that names something is owned
-owned_leaf : (place : Option (Counted (List Slot))) (id : ℕ) → IfSome place (λ p. 0 < p.owners) → 0 < weight place id → 0 < owners_of place
-owned_leaf o id h lt = grind (arith, nat_tests)
 
 -- a block that a map names is named by a leaf, and a leaf's by a map
 map_backs : (s : Store) (id : ℕ) (ms : List Layout) → 0 < times id (blocks_of s ms) → 0 < backing s.leaves id
@@ -67,10 +59,10 @@ same_sign m n there back = grind (arith, nat_tests, there, back)
 -- in a store that owes the maps a block is owned where they name it
 named_owned : (s : Store) (maps : List Layout) → Owned s.leaves → Owes s maps → (id : ℕ) → ltb 0 (owners_at s id) ≡ ltb 0 (times id (blocks_of s maps))
 named_owned s maps owned owes id = same_sign (owners_at s id) (times id (blocks_of s maps)) (λ lt. let by = backing_some s.leaves id (omega (arith, lt, owes.backed id)) in
-    omega (arith, by.names, leaf_names s by.leaf id maps (omega (arith, owned_leaf (place_at s.leaves by.leaf) id (owned by.leaf) by.names, owes.counted by.leaf)))) (λ lt. omega (arith, map_backs s id maps lt, owes.backed id))
+    let stands : 0 < owners s.leaves by.leaf = grind (arith, owned by.leaf, by.names) in omega (arith, by.names, leaf_names s by.leaf id maps (omega (arith, stands, owes.counted by.leaf)))) (λ lt. omega (arith, map_backs s id maps lt, owes.backed id))
 
 pub distinct_named : (s : Store) (maps : List Layout) → Owned s.blocks → Owned s.leaves → Owes s maps → count_by is_some s.blocks ≡ different eqb (blocks_of s maps)
-distinct_named s maps blocks leaves owes = count_standing s.blocks ∙ standing_different (blocks_of s maps) s.blocks (λ q. some_owned (place_at s.blocks q) (blocks q) ∙ (named_owned s maps leaves owes q ∙ sym (any_times q (blocks_of s maps))))
+distinct_named s maps blocks leaves owes = count_standing s.blocks ∙ standing_different (blocks_of s maps) s.blocks (λ q. grind (arith, nat_tests, blocks q, named_owned s maps leaves owes q, any_times q (blocks_of s maps)))
 
 -- one to one, there are as many places as blocks
 any_same : (n : Named) (ns : List Named) → ((q : Named) → IsIn q ns → is_place q.place n.place ≡ eqb q.block n.block) → list_any (λ (y : Place). is_place y n.place) (map (λ (m : Named). m.place) ns) ≡ list_any (λ (y : ℕ). eqb y n.block) (map (λ (m : Named). m.block) ns)

@@ -3,15 +3,11 @@ use Rattle.ele_blocks.proofs.Words.{[], ap, AreBacked, AreThere, arith, backing,
 use Rattle.ele_blocks.specs.Hands.{ShowsSame}
 use Rattle.ele_blocks.proofs.Sized.{fills-map}
 use Rattle.ele_blocks.proofs.Backing.{backing_sets, backing_least, slots_backed, slots_least}
-use Rattle.ele_blocks.proofs.Trades.{times-self, times-le-length, shared_value, released_value, trades_share, trades_release, leaving_last, leaving_none, one_more, times_next}
+use Rattle.ele_blocks.proofs.Trades.{times-self, times-le-length, shared_value, released_value, trades_share, trades_release, leaving_last, one_more, times_next}
 
 pub cells_each : (s t : Store) (slots : List Slot) → ((id : ℕ) → 0 < times id (ids_of slots) → bytes_at t id ≡ bytes_at s id) → map (cell_of t) slots ≡ map (cell_of s) slots
 cells_each s t [] same = refl
 cells_each s t (x ∷ xs) same = grind (arith, times-self x.block, same x.block, cells_each s t xs (λ id lt. same id (omega (arith, lt))))
-
--- blocks that stay show the same
-same_blocks : (s t : Store) (slots : List Slot) → t.blocks ≡ s.blocks → AreThere s slots → ShowsSame s t slots
-same_blocks s t slots same there = grind (arith, cells_each s t slots)
 
 -- one after the other
 pub hands_then : (a b c : Store) (was now was2 now2 : ℕ → ℕ) → Hands a b was now → Hands b c was2 now2 → Hands a c (λ q. was q + was2 q) (λ q. now q + now2 q)
@@ -32,7 +28,7 @@ module _ (s t : Store) (leaf : ℕ) (there : 0 < owners s.leaves leaf) where
     leaves = λ q. omega (arith, trades.owed q);
     blocks = λ id. grind (arith, backing_sets s.leaves t.leaves leaf place id sets, ap (λ v. times id (ids_of (unwrap_or v []))) value);
     same = λ q lt. ap (λ v. unwrap_or v []) (trades.kept q lt);
-    shows = λ q lt stand. same_blocks s t (leaf_at s q) same stand;
+    shows = λ q lt stand. grind (arith, cells_each s t (leaf_at s q));
   }
 
   -- a leaf has an owner more
@@ -41,7 +37,7 @@ module _ (s t : Store) (leaf : ℕ) (there : 0 < owners s.leaves leaf) where
 
   -- a leaf with other owners has one fewer
   pub leaf_stays : None ≡ leaving (place_at s.leaves leaf) → t.blocks ≡ s.blocks → Sets s.leaves t.leaves leaf (released (place_at s.leaves leaf)) → Hands s t (λ q. times q (leaf ∷ [])) (λ q. 0)
-  leaf_stays none same sets = alone (leaf ∷ []) [] _ same sets (released_value (place_at s.leaves leaf) (leaving_none (place_at s.leaves leaf) there none)) (trades_release s.leaves t.leaves leaf there sets)
+  leaf_stays none same sets = alone (leaf ∷ []) [] _ same sets (released_value (place_at s.leaves leaf) (grind (arith, nat_tests))) (trades_release s.leaves t.leaves leaf there sets)
 
   module _ (slots : List Slot) (last : Some slots ≡ leaving (place_at s.leaves leaf)) (backed : AreBacked s (leaf_at s leaf)) where
     its_slots : leaf_at s leaf ≡ slots

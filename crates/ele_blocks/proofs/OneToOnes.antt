@@ -112,7 +112,7 @@ module _ (s t : Store) (w file : ℕ) (p : ℕ → Bool) (was now : Layout) (res
   eqb_no a b h = not_true (eqb a b) (λ e. h (grind (arith, nat_tests)))
 
   fresh_both : (m n : Named) → IsFresh m → IsFresh n → is_place m.place n.place ≡ eqb m.block n.block
-  fresh_both m n h k = grind (arith, nat_tests, not_true, eqb_no, times_two)
+  fresh_both m n h k = grind (arith, nat_tests, times_two)
 
   pub stays_one_to_one : AreOneToOne (names_of t file now ++ rest)
-  stays_one_to_one m n i j = grind (arith, nat_tests, fresh_both, not_true, apart_place, eqb_no, apart_block, of_name, place_back)
+  stays_one_to_one m n i j = grind (arith, nat_tests, fresh_both, apart_place, apart_block, of_name, place_back)

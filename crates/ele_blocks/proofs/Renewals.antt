@@ -5,7 +5,7 @@ use Rattle.ele_blocks.proofs.Distincts.{Blocks}
 
 ids_of_fresh : (w : ℕ) (fresh : List ℕ) → ids_of (map (slot_by w) fresh) ≡ fresh
 ids_of_fresh w [] = refl
-ids_of_fresh w (x ∷ xs) = ap (λ ys. x ∷ ys) (ids_of_fresh w xs)
+ids_of_fresh w (x ∷ xs) = rw (ids_of_fresh w xs) refl
 
 cells_of_fresh : (s : Store) (w : ℕ) (fresh : List ℕ) → map (cell_of s) (map (slot_by w) fresh) ≡ map (cell_by w) (map (bytes_at s) fresh)
 cells_of_fresh s w [] = refl

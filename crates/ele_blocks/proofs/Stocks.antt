@@ -45,9 +45,7 @@ module _ (s t : Store) (was now : List Layout) (moves : Moves s t was now) (rest
 
   all_stay : (ts : List Tagged) → ((leaf : ℕ) → named leaf was + named leaf (layouts_of ts) ≤ owners s.leaves leaf) → AllStay ts
   all_stay [] owned = record { shows = tt; names = refl; late = refl; broken = refl }
-  all_stay (m ∷ ts) owned =
-      let first = its_leaves m.layout (λ leaf. omega (arith, owned leaf)) in
-      let more = all_stay ts (λ leaf. omega (arith, owned leaf)) in
+  all_stay (m ∷ ts) owned = let first = its_leaves m.layout (λ leaf. omega (arith, owned leaf)) in let more = all_stay ts (λ leaf. omega (arith, owned leaf)) in
       record { shows = (record { same = first.cells }, more.shows); names = rw (first.slots, more.names) refl; late = rw (first.slots, more.late) refl; broken = rw (whole_same s t m.layout first, more.broken) refl }
 
   pub rest_stays : AllStay rest
@@ -78,16 +76,13 @@ is_named n m = is_place n.place m.place && eqb n.block m.block
 abbrev count : Named → List Named → ℕ
 count n ns = tally (λ m. cond (is_named n m) 1 0) ns
 
-named_is : (n m : Named) → is_named n m ≡ true → n ≡ m
-named_is n m h = grind (arith, nat_tests)
-
 counted : (n : Named) (ns : List Named) → IsIn n ns → 0 < count n ns
 counted n [] i = absurd i
 counted n (m ∷ ns) i = grind (arith, nat_tests, self_eq, counted n ns)
 
 in_counted : (n : Named) (ns : List Named) → 0 < count n ns → IsIn n ns
 in_counted n [] h = absurd (omega (arith, h))
-in_counted n (m ∷ ns) h = grind (arith, nat_tests, named_is n m, in_counted n ns)
+in_counted n (m ∷ ns) h = grind (arith, nat_tests, in_counted n ns)
 
 names_count : (s : Store) (n : Named) (ts : List Tagged) → count n (names_in s ts) ≡ tally (λ t. count n (names_of s t.file t.layout)) ts
 names_count s n [] = refl
@@ -150,22 +145,12 @@ tally-layouts f (t ∷ ts) = omega (arith, tally-layouts f ts)
 
 in_same : (s : Store) (ts us : List Tagged) → SameStock ts us → IsStocked s ts → IsStocked s us
 in_same s ts us same h = record {
-  owed = record {
-    counted = λ leaf. h.owed.counted leaf ∙ by (λ m. times leaf m.leaves);
-    backed = h.owed.backed;
-    whole = sym (by (λ m. cond (is_whole s m) 0 1)) ∙ h.owed.whole;
-  };
+  owed = record { counted = λ leaf. h.owed.counted leaf ∙ by (λ m. times leaf m.leaves); backed = h.owed.backed; whole = sym (by (λ m. cond (is_whole s m) 0 1)) ∙ h.owed.whole };
   one_to_one = fewer (names_in s us) (names_in s ts) (same_in s ts us same) h.one_to_one;
   written = sym (same_tally ts us same (λ t. cond (is_below s t) 0 1)) ∙ h.written;
 } where
   by : (f : Layout → ℕ) → tally f (layouts_of ts) ≡ tally f (layouts_of us)
   by f = tally-layouts f ts ∙ (same_tally ts us same (λ t. f t.layout) ∙ sym (tally-layouts f us))
-
-with_empty : (s : Store) (file below : ℕ) (ts : List Tagged) → IsStocked s ts → IsStocked s (record { file = file; below = below; layout = empty_layout } ∷ ts)
-with_empty s file below ts h = record { owed = record { counted = λ leaf. omega (arith, h.owed.counted leaf); backed = h.owed.backed; whole = omega (arith, h.owed.whole) }; one_to_one = h.one_to_one; written = omega (arith, h.written) }
-
-without_empty : (s : Store) (file below : ℕ) (ts : List Tagged) → IsStocked s (record { file = file; below = below; layout = empty_layout } ∷ ts) → IsStocked s ts
-without_empty s file below ts h = record { owed = record { counted = λ leaf. omega (arith, h.owed.counted leaf); backed = h.owed.backed; whole = omega (arith, h.owed.whole) }; one_to_one = h.one_to_one; written = omega (arith, h.written) }
 
 back : (ts us : List Tagged) → SameStock ts us → SameStock us ts
 back ts us same = record { sums = λ f. sym (same.sums f) }
@@ -227,8 +212,8 @@ pub stock_laws : StockLaws
 stock_laws = record {
   none = record { owed = record { counted = λ leaf. refl; backed = λ id. refl; whole = refl }; one_to_one = λ m n i j. absurd i; written = refl };
   same = in_same;
-  empty = with_empty;
-  no_empty = without_empty;
+  empty = λ s file below ts h. grind (arith, h);
+  no_empty = λ s file below ts h. grind (arith, h);
   empty_lives = λ s. record { owned = record { owned = λ id. omega arith }; backed = λ id some. absurd (omega (arith, some)); whole = refl };
   lives = λ s t ts h. owes_lives s t.layout (layouts_of ts) h.owed;
   long = λ s m lives. length-content s m lives.whole;

@@ -39,22 +39,16 @@ module _ {X : Type 0} where
   pub shared_value : (b : Option (Counted X)) → value_of (shared b) ≡ value_of b
   shared_value o = grind (arith, nat_tests)
 
-  shared_owners : (b : Option (Counted X)) → 0 < owners_of b → owners_of (shared b) ≡ owners_of b + 1
-  shared_owners o lt = grind (arith, nat_tests)
-
   -- a value gets an owner more
   pub trades_share : (old new : List (Option (Counted X))) (id : ℕ) → 0 < owners old id → Sets old new id (shared (place_at old id)) → Trades old new [] (id ∷ [])
-  trades_share old new id lt h = grind (arith, trades_set, one_apart, times-self, shared_owners, shared_value)
-
-  released_owners : (b : Option (Counted X)) → 0 < owners_of b → owners_of (released b) + 1 ≡ owners_of b
-  released_owners o lt = grind (arith, nat_tests)
+  trades_share old new id lt h = grind (arith, trades_set, one_apart, times-self, shared_value)
 
   pub released_value : (b : Option (Counted X)) → 1 < owners_of b → value_of (released b) ≡ value_of b
   released_value o lt = grind (arith, nat_tests)
 
   -- a value loses an owner
   pub trades_release : (old new : List (Option (Counted X))) (id : ℕ) → 0 < owners old id → Sets old new id (released (place_at old id)) → Trades old new (id ∷ []) []
-  trades_release old new id lt h = grind (arith, trades_set, one_apart, times-self, released_owners, released_value)
+  trades_release old new id lt h = grind (arith, trades_set, one_apart, times-self, nat_tests, released_value)
 
   -- one after the other
   pub trades_then : (a b c : List (Option (Counted X))) (was now was2 now2 : List ℕ) → Trades a b was now → Trades b c was2 now2 → Trades a c (was ++ was2) (now ++ now2)
@@ -90,16 +84,13 @@ module _ {X : Type 0} where
   leaving_last None x lt e = absurd (omega (arith, lt))
   leaving_last (Some p) x lt e = record { owners = grind (arith, nat_tests); value = grind (arith, nat_tests); gone = grind (arith, nat_tests) }
 
-  pub leaving_none : (place : Option (Counted X)) → 0 < owners_of place → None ≡ leaving place → 1 < owners_of place
-  leaving_none o lt e = grind (arith, nat_tests)
-
 -- a list so far, and one more
 module _ (ids : List ℕ) (k id : ℕ) (lt : k < length ids) (is : id ≡ get_or ids k id) where
   pub times_next : (q : ℕ) → times q (take (k + 1) ids) ≡ times q (take k ids) + times q (id ∷ [])
   times_next q = ap (times q) (take_one ids k id lt is) ∙ times-append q (take k ids) (id ∷ [])
 
   pub one_more : times id (take k ids) + 1 ≤ times id ids
-  one_more = omega (arith, times_next id, times-self id, times-take-le id ids (k + 1))
+  one_more = omega (arith, times_next id, times-self id, ap (times id) (take-append-drop (k + 1) ids), times-append id (take (k + 1) ids) (drop (k + 1) ids))
 
 pub times-ids : (q : ℕ) (xs ys : List Slot) → times q (ids_of (xs ++ ys)) ≡ times q (ids_of xs) + times q (ids_of ys)
 times-ids q xs ys = ap (times q) (map-append (λ (x : Slot). x.block) xs ys) ∙ times-append q (ids_of xs) (ids_of ys)

@@ -29,7 +29,7 @@ pub use Rattle.std.proofs.lemmas.List.{append-nil, append_cancel_left, drop-appe
 pub use Rattle.std.proofs.lemmas.List.Folds.{flat_map-map}
 pub use Rattle.std.proofs.lemmas.List.FromFn.{fill_by_all}
 pub use Rattle.std.proofs.lemmas.List.Sums.{sum_by-cons}
-pub use Rattle.std.proofs.lemmas.Option.{get_or_from_slice_get, slice_get-get_or, slice_get_past, slice_get_read, slice_get_within}
+pub use Rattle.std.proofs.lemmas.Option.{slice_get-map, get_or_from_slice_get, slice_get-get_or, slice_get_past, slice_get_read, slice_get_within}
 pub use Rattle.std.proofs.str.Laws.{order}
 pub use Rattle.std.specs.List.{AllByRecursion, count_by, flat_map, list_all, list_any, range_with_len, sum_by}
 pub use Rattle.std.specs.Option.{option_map_or, option_map}

@@ -27,9 +27,8 @@ came : (c : After-deref-3) → c.reserve.new.self.items ≡ c.args.self.now.leav
 came c same = rw (c.deref-2.ensures.value, same, its_window (goal.at.lay_leaves-requires-clause-room c).After-truncate same) at c.in_ok-now.ensures.renewed
 
 pub slots_in-requires : goal.slots_in-requires
-slots_in-requires c =
-    let at = (goal.at.slots_in-requires c).After-deref in
-    rw (c.deref.ensures.value, its_leaves at) (part_owned (run (goal.at.slots_in-requires c).After-reserve) c.run_of-run.result.from (c.run_of-run.result.met - c.run_of-run.result.from))
+slots_in-requires c = let at = goal.at.slots_in-requires c in
+    rw (c.deref.ensures.value, its_leaves at.After-deref) (part_owned (run at.After-reserve) c.run_of-run.result.from (c.run_of-run.result.met - c.run_of-run.result.from))
 
 pub renew-requires : goal.renew-requires
 renew-requires c =
@@ -65,7 +64,5 @@ invariant_of-self-2 c =
 pub returns-clause-replaced : goal.returns-clause-replaced
 returns-clause-replaced c =
     let at = goal.at.returns-clause-replaced c in
-    let h = run at.After-reserve in
-    let same = its_leaves at.After-deref in
-    let renewed = came at.After-deref-3 same in
-    replaced h renewed (record { size = c.args.size; leaves = c.truncate-2.new.self.items }) (new_leaves at.After-drop-now same ∙ placed h renewed)
+    let renewed = came at.After-deref-3 (its_leaves at.After-deref) in
+    replaced (run at.After-reserve) renewed (record { size = c.args.size; leaves = c.truncate-2.new.self.items }) (new_leaves at.After-drop-now (its_leaves at.After-deref) ∙ placed (run at.After-reserve) renewed)

@@ -21,9 +21,7 @@ returns-clause-sets g c =
     rw (sym (ap (λ v. v.slots) c.self.view_is)) (sets_new c.self.inside.values.slots c.insert_reserved-id.new.self.slots c.self.inside.owners.items c.insert_reserved-id.result c.args.value (grind (arith, room_in)) made.updates.changed made.updates.others)
 
 pub returns-clause-room : goal.returns-clause-room
-returns-clause-room g c more room =
-    let made = c.insert_reserved-id.ensures in
-    room_after c.self.inside.values c.insert_reserved-id.new.self c.self.inside.owners.items c.insert_reserved-id.result made.len made.capacity more (subst (λ v. HasRoomFor v (1 + more)) (sym c.self.view_is) room)
+returns-clause-room g c more room = room_after c.self.inside.values c.insert_reserved-id.new.self c.self.inside.owners.items c.insert_reserved-id.result c.insert_reserved-id.ensures.len c.insert_reserved-id.ensures.capacity more (subst (λ v. HasRoomFor v (1 + more)) (sym c.self.view_is) room)
 
 pub returns-clause-owned : goal.returns-clause-owned
 returns-clause-owned g c = invariant_of-self g c

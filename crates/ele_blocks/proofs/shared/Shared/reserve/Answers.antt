@@ -1,9 +1,9 @@
-use Rattle.ele_blocks.proofs.Cited.{ap, arith, counted, counted-filled, Owned, room_of, subst, sym, ◌∙◌, ◌≡◌}
+use Rattle.ele_blocks.proofs.Cited.{ap, arith, counted, counted-more, take_all, Owned, room_of, subst, sym, ◌∙◌, ◌≡◌}
 use Rattle.ele_blocks.proofs.shared.Shared.reserve.Goals as goal
 
 -- a longer list of counts shows the same
 same : (g : _) (c : goal.In_ok-resize g) → counted c.reserve.new.self.slots c.resize.new.self.items ≡ counted c.self.inside.values.slots c.self.inside.owners.items
-same g c = grind (arith, counted-filled)
+same g c = grind (arith, take_all, counted-more)
 
 pub invariant_of-self-in-Continue-branch-2 : goal.invariant_of-self-in-Continue-branch-2
 invariant_of-self-in-Continue-branch-2 g c = subst Owned (sym (same g c)) c.self.invariant

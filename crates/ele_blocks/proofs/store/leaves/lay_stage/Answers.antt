@@ -3,16 +3,10 @@ use Rattle.ele_blocks.proofs.store.leaves.lay_stage.Goals as goal
 use Rattle.ele_blocks.proofs.store.leaves.lay_stage.Goals.{After-split_at, After-split_at-2}
 
 its_count : (c : After-split_at) → length c.in_ok-fresh.fresh.items ≡ length c.args.stage.staged.items
-its_count c = sym (length-map c.in_ok-fresh.fresh.items (value_at c.put_all.new.self.slots)) ∙ (ap length c.in_ok-fresh.ensures.values ∙ length-map c.args.stage.staged.items (λ x. Some x))
+its_count c = grind (arith, length-map, ap length c.in_ok-fresh.ensures.values)
 
 staged : (c : After-split_at) → IsStaged c.args.blocks.now.slots c.put_all.new.self.slots c.args.stage.window.items c.args.stage.first c.in_ok-fresh.fresh.items
-staged c = record {
-  within = omega arith;
-  there = c.requires.there;
-  few = c.requires.few;
-  small = omega (arith, its_count c);
-  adds = c.in_ok-fresh.ensures.adds;
-}
+staged c = record { within = omega arith; there = c.requires.there; few = c.requires.few; small = omega (arith, its_count c); adds = c.in_ok-fresh.ensures.adds }
 
 front : (c : After-split_at) → c.split_at.result.0.now ≡ take c.args.stage.first c.args.stage.window.items
 front c = c.split_at.ensures.front ∙ ap (take c.args.stage.first) (c.deref.ensures.value ∙ c.in_ok-reserve.ensures.items)
