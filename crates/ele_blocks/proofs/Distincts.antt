@@ -21,13 +21,9 @@ taken_out [] id h = cc
 taken_out (x ∷ xs) zero h = rw h (omega arith)
 taken_out (x ∷ xs) (suc id) h = omega (arith, taken_out xs id h)
 
-nothing : (t : Bool) → (let none : Option (Counted (List ℕ)) = None in none) ≡ cond t None None
-nothing b = grind (arith, nat_tests)
-
 place_at_set : (s : Blocks) (id q : ℕ) → place_at (set s id None) q ≡ cond (eqb id q) None (place_at s q)
 place_at_set [] id q = grind (arith, nat_tests)
-place_at_set (x ∷ xs) zero zero = refl
-place_at_set (x ∷ xs) zero (suc q) = grind (arith, nat_tests)
+place_at_set (x ∷ xs) zero q = grind (arith, nat_tests)
 place_at_set (x ∷ xs) (suc id) zero = let e : eqb (suc id) 0 ≡ false = grind (arith, nat_tests) in rw e refl
 place_at_set (x ∷ xs) (suc id) (suc q) = let e : eqb (suc id) (suc q) ≡ eqb id q = grind (arith, nat_tests) in rw e (place_at_set xs id q)
 

@@ -64,9 +64,6 @@ place_same p q h = record { file = grind (arith, nat_tests, h); slot = grind (ar
 place_back : (p q : Place) → SamePlace p q → is_place q p ≡ true
 place_back p q h = grind (arith, nat_tests, h.file, h.slot, h.writer)
 
-not_true : (b : Bool) → (b ≡ true → ⊥) → b ≡ false
-not_true b h = grind (arith, nat_tests)
-
 -- each block of a map that lives is owned
 pub slot_owned : (s : Store) (m : Layout) → LivesIn s m → (k : ℕ) (x : Slot) → slice_get (slots_of s m) k ≡ Some x → 0 < owners_at s x.block
 slot_owned s m lives k x e = backed_there s m.leaves lives.backed x.block (times_got k (slots_of s m) x e)
@@ -107,9 +104,6 @@ module _ (s t : Store) (w file : ℕ) (p : ℕ → Bool) (was now : Layout) (res
   -- a fresh block is named once
   once : (m : Named) → (h : IsFresh m) → times h.cell.block (ids_of (slots_of t now)) ≤ 1
   once m h = renews.once h.cell.block h.free
-
-  eqb_no : (a b : ℕ) → (a ≡ b → ⊥) → eqb a b ≡ false
-  eqb_no a b h = not_true (eqb a b) (λ e. h (grind (arith, nat_tests)))
 
   fresh_both : (m n : Named) → IsFresh m → IsFresh n → is_place m.place n.place ≡ eqb m.block n.block
   fresh_both m n h k = grind (arith, nat_tests, times_two)

@@ -103,8 +103,7 @@ module _ {s : Store} {m : Layout} {staged : List (List ℕ)} {first kept from me
   cut : take kept (slots_of s m) ≡ slots_in s front ++ (window ++ slots_in s back)
   cut =
       let rest = drop (16 * from) (slots_of s m) in
-      ⊎_elim
-      (λ (more : 16 * met < kept).
+      ⊎_elim (λ (more : 16 * met < kept).
       let all : kept ≡ slot_count m.size = h.behind (omega (arith, more)) in
       let whole : window ≡ take (16 * (met - from)) rest = rw (part_slots from (met - from)) (take_all (kept - 16 * from) (take (16 * (met - from)) rest) (omega (arith, length-take (16 * (met - from)) rest, more))) in
       grind (arith, whole, all, long, order_of, h.to_met more, front_slots, back_slots, take_all kept (slots_of s m), drop-drop (16 * (met - from)) (16 * from) (slots_of s m), take-append-drop (16 * (met - from)) rest, take-append-drop (16 * from) (slots_of s m)))

@@ -114,12 +114,8 @@ length-chunks c (suc k) xs = omega (arith, length-chunks c k (drop c xs))
 
 -- one chunk more
 pub chunk_more : {X : Type 0} (c k : ℕ) (xs : List X) → first_chunks c (k + 1) xs ≡ first_chunks c k xs ++ take c (drop (c * k) xs) ∷ []
-chunk_more {X = X} c k xs = rw (add-one k) (by k xs) where
-  by : (k : ℕ) (xs : List X) → first_chunks c (suc k) xs ≡ first_chunks c k xs ++ take c (drop (c * k) xs) ∷ []
-  by zero xs = let none : c * 0 ≡ 0 = omega arith in rw none refl
-  by (suc k) xs =
-      let place : c + c * k ≡ c * suc k = omega (arith, mul-suc c k) in
-      ap (λ ys. take c xs ∷ ys) (by k (drop c xs) ∙ ap (λ ys. first_chunks c k (drop c xs) ++ take c ys ∷ []) (drop-drop (c * k) c xs ∙ ap (λ n. drop n xs) place))
+chunk_more c zero xs = let none : c * 0 ≡ 0 = omega arith in rw none refl
+chunk_more c (suc k) xs = let place : c + c * k ≡ c * suc k = omega (arith, mul-suc c k) in let more = rw (add-one k) at (chunk_more c k (drop c xs)) in rw (add-one (suc k), more, drop-drop (c * k) c xs, place) refl
 
 -- the chunks of the items that they hold
 pub chunks_taken : {X : Type 0} (c k : ℕ) (xs : List X) → first_chunks c k (take (c * k) xs) ≡ first_chunks c k xs

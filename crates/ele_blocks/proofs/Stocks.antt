@@ -179,14 +179,10 @@ module _ (s t : Store) (ts : List Tagged) (was : Tagged) (rest : List Tagged) (s
   copies below us le moves same =
       let stay = rest_stays s t [] (was.layout ∷ []) moves ts stocked.owed in
       let mine = (its_leaves s t [] (was.layout ∷ []) moves ts stocked.owed was.layout (λ leaf. omega (arith, h.owed.counted leaf))).slots in
-      record {
-        stocked = in_same t (record was { below = below } ∷ ts) us (back us (record was { below = below } ∷ ts) same) (record {
-          owed = moves_owes s t [] (was.layout ∷ []) moves ts stocked.owed;
-          one_to_one = rw (mine, stay.names) (fewer (names_in s (was ∷ ts)) (names_in s ts) (λ n i. ⊎_elim (λ (a : IsIn n (names_of s was.file was.layout)). was_in n a) (λ (b : IsIn n (names_in s ts)). b) (in_either n (names_of s was.file was.layout) (names_in s ts) i)) stocked.one_to_one);
-          written = rw (mine, stay.late, below_more was.below below (slots_of s was.layout) le was_below) (let e = stocked.written in omega (arith, e));
-        });
-        shows = stay.shows;
-      }
+      let one = fewer (names_in s (was ∷ ts)) (names_in s ts) (λ n i. grind (arith, was_in n, in_either n (names_of s was.file was.layout) (names_in s ts) i)) stocked.one_to_one in
+      let late : late t (record was { below = below } ∷ ts) ≡ 0 = rw (mine, stay.late, below_more was.below below (slots_of s was.layout) le was_below) (omega (arith, stocked.written)) in
+      let all : IsStocked t (record was { below = below } ∷ ts) = record { owed = moves_owes s t [] (was.layout ∷ []) moves ts stocked.owed; one_to_one = rw (mine, stay.names) one; written = late } in
+      record { stocked = in_same t (record was { below = below } ∷ ts) us (back us (record was { below = below } ∷ ts) same) all; shows = stay.shows }
 
   rewrites : (writer : ℕ) (renewed : ℕ → Bool) (now : Layout) (us : List Tagged) → was.below ≡ writer + 1 → AllByRecursion (IsEarlier was.file writer) rest → Moves s t (was.layout ∷ []) (now ∷ []) → Renews s t writer renewed was.layout now → SameStock us (record was { layout = now } ∷ rest) → Stays s t rest us
   rewrites writer renewed now us is others moves renews same =

@@ -21,9 +21,6 @@ pub times-le-length : (q : ℕ) (xs : List ℕ) → times q xs ≤ length xs
 times-le-length q [] = omega arith
 times-le-length q (x ∷ xs) = grind (arith, nat_tests, times-le-length q xs)
 
-times-take-le : (q : ℕ) (xs : List ℕ) (k : ℕ) → times q (take k xs) ≤ times q xs
-times-take-le q xs k = let whole = ap (times q) (take-append-drop k xs) in omega (arith, times-append q (take k xs) (drop k xs))
-
 pub take_one : (xs : List ℕ) (k : ℕ) (x : ℕ) → k < length xs → x ≡ get_or xs k x → take (k + 1) xs ≡ take k xs ++ x ∷ []
 take_one xs k x lt is = rw add-one (take-suc xs k x lt ∙ ap (λ y. take k xs ++ y ∷ []) (sym is))
 

@@ -14,9 +14,7 @@ pub invariant_of-self : goal.invariant_of-self
 invariant_of-self g c = grind (arith, is_counted, get_or_default_zero, owned_less)
 
 pub returns-then-index-gt1-clause-sets : goal.returns-then-index-gt1-clause-sets
-returns-then-index-gt1-clause-sets g c =
-    let there : 0 < owners (counted c.self.inside.values.slots c.self.inside.owners.items) c.args.id = grind (arith) in
-    grind (arith, there, is_counted, get_or_default_zero, sets_less c.self.inside.values.slots c.self.inside.owners.items c.args.id there)
+returns-then-index-gt1-clause-sets g c = grind (arith, is_counted, get_or_default_zero, sets_less c.self.inside.values.slots c.self.inside.owners.items c.args.id)
 
 pub returns-then-index-gt1-clause-last : goal.returns-then-index-gt1-clause-last
 returns-then-index-gt1-clause-last g c = grind (arith, get_or_default_zero, is_counted, owners-counted, none_leaves)

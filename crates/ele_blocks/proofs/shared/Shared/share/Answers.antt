@@ -11,6 +11,4 @@ pub invariant_of-self : goal.invariant_of-self
 invariant_of-self g c = grind (arith, get_or_default_zero, is_counted, owned_more)
 
 pub returns : goal.returns
-returns g c =
-    let there : 0 < owners (counted c.self.inside.values.slots c.self.inside.owners.items) c.args.id = grind (arith) in
-    grind (arith, is_counted c.self.inside.values.slots c.self.inside.owners.items c.args.id there, get_or_default_zero, sets_more c.self.inside.values.slots c.self.inside.owners.items c.args.id there)
+returns g c = grind (arith, is_counted c.self.inside.values.slots c.self.inside.owners.items c.args.id, get_or_default_zero, sets_more c.self.inside.values.slots c.self.inside.owners.items c.args.id)
