@@ -1,5 +1,5 @@
 -- Values beside the counts of their owners.
-use Rattle.ele_blocks.proofs.Words.{[], ap, arith, cond, count_by, Counted, get_or, get_or-set_other, get_or-set_same, get_or_past, HasRoomFor, IfSome, is_some, IsSome, leaving, length, length-set, List, ltb, nat_tests, None, Option, option_map, Owned, owners, owners_of, place_at, refl, released, replicate, set, Sets, shared, Slab, slab_len, Some, suc, sum_by-cons, sym, take, take_all, true, value_at, value_of, zero, ℕ, ◌++◌, ◌+◌, ◌-◌, ◌<◌, ◌∙◌, ◌∷◌, ◌≡◌, ◌≢◌, ◌≤◌}
+use Rattle.ele_blocks.proofs.Words.{[], ap, arith, cond, count_by, Counted, get_or, get_or-set_other, get_or-set_same, get_or_past, HasRoomFor, IfSome, is_some, leaving, length, length-set, List, nat_tests, None, Option, option_map, Owned, owners, owners_of, place_at, refl, released, replicate, set, Sets, shared, Slab, slab_len, Some, suc, sum_by-cons, value_at, value_of, zero, ℕ, ◌++◌, ◌+◌, ◌-◌, ◌<◌, ◌∷◌, ◌≡◌, ◌≢◌, ◌≤◌}
 use Rattle.ele_blocks.specs.SharedInside.{counted, counted_with, with_count}
 
 module _ {X : Type 0} where
@@ -52,7 +52,7 @@ module _ {X : Type 0} where
   sets_gone vs new cs id le gone others = grind (arith, nat_tests, place-counted)
 
   pub leaves_with_last : (values : List (Option X)) (counts : List ℕ) (id : ℕ) → owners (counted values counts) id ≤ 1 → leaving (place_at (counted values counts) id) ≡ get_or values id None
-  leaves_with_last vs cs id le = last_leaves (place_at (counted vs cs) id) le ∙ value-counted vs cs id
+  leaves_with_last vs cs id le = rw (last_leaves (place_at (counted vs cs) id) le) (value-counted vs cs id)
 
   pub sets_new : (values new : List (Option X)) (counts : List ℕ) (id : ℕ) (value : X) → id < length counts → get_or new id None ≡ Some value → ((other : ℕ) → other ≢ id → get_or new other None ≡ get_or values other None) → Sets (counted values counts) (counted new (set counts id 1)) id (Some (record { value = value; owners = 1 }))
   sets_new vs new cs id v lt is others = grind (arith, place-counted, get_or-set_same, get_or-set_other)

@@ -1,6 +1,5 @@
 -- How leaves change hands, one change after another.
-use Rattle.ele_blocks.proofs.Words.{[], ap, AreBacked, AreThere, arith, backing, bytes_at, cell_of, Counted, Covers, get_or, Hands, ids_of, is_whole, Layout, leaf_at, leaving, length, length-take-le, List, LivesIn, map, map-append, Moves, named, nat_tests, None, Option, order, owners, owners_at, place_at, refl, released, Sets, shared, Slot, slot_count, slots_in, Some, Store, sym, take, times, Trades, true, unwrap_or, value_of, ℕ, ⊎_elim, ◌+◌, ◌<◌, ◌^◌, ◌∙◌, ◌∷◌, ◌≡◌, ◌≤◌}
-use Rattle.ele_blocks.specs.Hands.{ShowsSame}
+use Rattle.ele_blocks.proofs.Words.{[], ap, AreBacked, AreThere, arith, backing, bytes_at, cell_of, Counted, Covers, get_or, Hands, ids_of, is_whole, Layout, leaf_at, leaving, length, length-take-le, List, LivesIn, map, map-append, Moves, named, nat_tests, None, Option, owners, owners_at, place_at, refl, released, Sets, shared, Slot, slot_count, slots_in, Some, Store, sym, take, times, Trades, true, unwrap_or, value_of, ℕ, ◌+◌, ◌<◌, ◌^◌, ◌∙◌, ◌∷◌, ◌≡◌, ◌≤◌}
 use Rattle.ele_blocks.proofs.Sized.{fills-map}
 use Rattle.ele_blocks.proofs.Backing.{backing_sets, backing_least, slots_backed, slots_least}
 use Rattle.ele_blocks.proofs.Trades.{times-self, times-le-length, shared_value, released_value, trades_share, trades_release, leaving_last, one_more, times_next}

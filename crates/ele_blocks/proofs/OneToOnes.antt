@@ -1,5 +1,5 @@
 -- A change by a new writer leaves slots and blocks one to one.
-use Rattle.ele_blocks.proofs.Lemmas.{[], AreOneToOne, arith, backed_there, Bool, eqb, false, false≢true, ids_of, inl, inr, is_place, IsIn, Layout, List, LivesIn, Moves, Named, names_from, names_of, nat_tests, None, Option, owners_at, Place, refl, Renews, slice_get, slice_get_within, Slot, slots_of, Some, Store, suc, times, true, zero, ℕ, ⊎_elim, ◌++◌, ◌+◌, ◌<◌, ◌∷◌, ◌≡◌, ◌≤◌, ◌⊎◌}
+use Rattle.ele_blocks.proofs.Lemmas.{[], AreOneToOne, arith, backed_there, Bool, eqb, false, false≢true, ids_of, inl, inr, is_place, IsIn, Layout, List, LivesIn, Moves, Named, names_from, names_of, nat_tests, None, Option, owners_at, refl, Renews, slice_get, slice_get_within, Slot, slots_of, Some, Store, suc, times, true, zero, ℕ, ⊎_elim, ◌++◌, ◌+◌, ◌<◌, ◌∷◌, ◌≡◌, ◌≤◌, ◌⊎◌}
 
 -- no name is of this writer of the file
 abbrev pub NoneBy : ℕ → ℕ → List Named → Type 0
@@ -53,17 +53,6 @@ times_two j zero (z ∷ zs) x y lt e h b = absurd (omega (arith, lt))
 times_two zero (suc k) (z ∷ zs) x y lt e h b = grind (arith, nat_tests, times_got)
 times_two (suc j) (suc k) (z ∷ zs) x y lt e h b = omega (arith, times_two j k zs x y (omega (arith, lt)) e h b)
 
-pub record SamePlace (p q : Place) : Type 0 where
-  pub file : p.file ≡ q.file
-  pub slot : p.slot ≡ q.slot
-  pub writer : p.writer ≡ q.writer
-
-pub place_same : (p q : Place) → is_place p q ≡ true → SamePlace p q
-place_same p q h = record { file = grind (arith, nat_tests, h); slot = grind (arith, nat_tests, h); writer = grind (arith, nat_tests, h) }
-
-place_back : (p q : Place) → SamePlace p q → is_place q p ≡ true
-place_back p q h = grind (arith, nat_tests, h.file, h.slot, h.writer)
-
 -- each block of a map that lives is owned
 pub slot_owned : (s : Store) (m : Layout) → LivesIn s m → (k : ℕ) (x : Slot) → slice_get (slots_of s m) k ≡ Some x → 0 < owners_at s x.block
 slot_owned s m lives k x e = backed_there s m.leaves lives.backed x.block (times_got k (slots_of s m) x e)
@@ -109,4 +98,4 @@ module _ (s t : Store) (w file : ℕ) (p : ℕ → Bool) (was now : Layout) (res
   fresh_both m n h k = grind (arith, nat_tests, times_two)
 
   pub stays_one_to_one : AreOneToOne (names_of t file now ++ rest)
-  stays_one_to_one m n i j = grind (arith, nat_tests, fresh_both, apart_place, apart_block, of_name, place_back)
+  stays_one_to_one m n i j = grind (arith, nat_tests, fresh_both, apart_place, apart_block, of_name)

@@ -1,5 +1,5 @@
 -- What a write makes of each piece of a content.
-use Rattle.ele_blocks.proofs.Lemmas.{arith, cond, content_after_write, drop, false, get_or, get_or-append_right, get_or-drop, get_or-replicate, get_or-take, get_or_append_left, get_or_past, is_between, leb, length, length-append, length-drop, length-replicate, length-spliced, length-take, List, ltb, max, min, nat_tests, order, refl, replicate, same_number_lists, sym, take, true, ℕ, ⊎_elim, ◌++◌, ◌+◌, ◌-◌, ◌<◌, ◌∙◌, ◌≡◌, ◌≤◌}
+use Rattle.ele_blocks.proofs.Lemmas.{arith, cond, content_after_write, drop, get_or, get_or-append_right, get_or-drop, get_or-replicate, get_or-take, get_or_append_left, get_or_past, is_between, length, length-append, length-drop, length-replicate, length-spliced, length-take, List, max, min, nat_tests, replicate, same_number_lists, take, ℕ, ◌++◌, ◌+◌, ◌-◌, ◌<◌, ◌≡◌, ◌≤◌}
 
 -- the bytes stand in their places, and in all others what stood there, or zero
 spliced_at : (content : List ℕ) (offset : ℕ) (bytes : List ℕ) (k : ℕ) → get_or (content_after_write content offset bytes) k 0 ≡ cond (is_between offset (offset + length bytes) k) (get_or bytes (k - offset) 0) (get_or content k 0)

@@ -1,5 +1,5 @@
 -- A splice touches only the part of a content that it meets, which is cut into pieces.
-use Rattle.ele_blocks.proofs.Words.{[], ap, AreSized, arith, content_after_write, drop, drop-drop, first_chunks, flat_map, length, length-append, length-drop, length-replicate, length-take, List, max, nat_tests, pieces_between, refl, replicate, slot_bytes, slot_count, suc, sym, take, take-append-drop, take-append-le, take-take, zero, ℕ, ◌*◌, ◌++◌, ◌+◌, ◌-◌, ◌<◌, ◌∙◌, ◌∷◌, ◌≡◌, ◌≤◌}
+use Rattle.ele_blocks.proofs.Words.{[], ap, AreSized, arith, content_after_write, drop, drop-drop, first_chunks, flat_map, length, length-append, length-drop, length-replicate, length-take, List, max, nat_tests, pieces_between, refl, replicate, slot_bytes, slot_count, suc, sym, take, take-append-drop, take-append-le, take-take, zero, ℕ, ◌*◌, ◌++◌, ◌+◌, ◌-◌, ◌<◌, ◌∷◌, ◌≡◌, ◌≤◌}
 use Rattle.ele_blocks.specs.Pieces.{pieces}
 use Rattle.ele_blocks.proofs.LaidOvers.{drop_past}
 use Rattle.ele_blocks.proofs.Sized.{chunk_more, sized-chunks, chunks_joined, chunks_taken, length-chunks}

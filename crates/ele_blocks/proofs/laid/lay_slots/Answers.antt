@@ -1,4 +1,4 @@
-use Rattle.ele_blocks.proofs.Lemmas.{[], arith, get_or, laid_more, length, length-map, length-take-le, map, map-append, slot_by, take, take_more, ◌+◌, ◌∷◌, ◌≡◌}
+use Rattle.ele_blocks.proofs.Lemmas.{arith, laid_more, length-map, length-take-le, map-append, slot_by, take, take_more}
 use Rattle.ele_blocks.proofs.laid.lay_slots.Goals as goal
 
 pub loop-i-preserved : goal.loop-i-preserved

@@ -1,4 +1,4 @@
-use Rattle.ele_blocks.proofs.Lemmas.{Layout, moved_copy}
+use Rattle.ele_blocks.proofs.Lemmas.{moved_copy}
 use Rattle.ele_blocks.proofs.map.BlockMap.copy.Goals as goal
 
 pub returns-clause-moves : goal.returns-clause-moves

@@ -1,4 +1,4 @@
-use Rattle.ele_blocks.proofs.Cited.{ap, arith, counted, get_or_default_zero, is_counted, leaves_with_last, none_leaves, owned_gone, owned_less, owners, owners-counted, sets_gone, sets_less, sym, ◌<◌, ◌∙◌, ◌≤◌}
+use Rattle.ele_blocks.proofs.Cited.{ap, arith, counted, get_or_default_zero, is_counted, leaves_with_last, none_leaves, owned_gone, owned_less, owners, owners-counted, sets_gone, sets_less, sym, ◌∙◌, ◌≤◌}
 use Rattle.ele_blocks.proofs.shared.Shared.release.Goals as goal
 
 pub index-requires : goal.index-requires

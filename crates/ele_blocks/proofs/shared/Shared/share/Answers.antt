@@ -1,4 +1,4 @@
-use Rattle.ele_blocks.proofs.Cited.{arith, counted, get_or_default_zero, is_counted, owned_more, owners, owners-counted, sets_more, ◌<◌}
+use Rattle.ele_blocks.proofs.Cited.{arith, get_or_default_zero, is_counted, owned_more, owners-counted, sets_more}
 use Rattle.ele_blocks.proofs.shared.Shared.share.Goals as goal
 
 pub index_mut-requires : goal.index_mut-requires

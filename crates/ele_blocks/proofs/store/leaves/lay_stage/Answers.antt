@@ -1,4 +1,4 @@
-use Rattle.ele_blocks.proofs.Cited.{ap, arith, back_few, back_there, drop, drop_min, front_few, front_there, is_laid, IsStaged, length, length-map, Some, sym, take, value_at, ◌+◌, ◌∙◌, ◌≡◌}
+use Rattle.ele_blocks.proofs.Cited.{ap, arith, back_few, back_there, drop, drop_min, front_few, front_there, is_laid, IsStaged, length, length-map, take, ◌+◌, ◌∙◌, ◌≡◌}
 use Rattle.ele_blocks.proofs.store.leaves.lay_stage.Goals as goal
 use Rattle.ele_blocks.proofs.store.leaves.lay_stage.Goals.{After-split_at, After-split_at-2}
 
