@@ -1,5 +1,5 @@
 -- How many slots of leaves name a block, as leaves come and go.
-use Rattle.ele_blocks.proofs.Words.{take, drop, Some, ◌≡◌, ◌≢◌, ℕ, ◌+◌, ◌<◌, ◌≤◌, List, [], ◌∷◌, Option, None, refl, ap, sym, ◌∙◌, arith, zero, suc, ⊎_elim, true, false, eqb, unwrap_or, order, nat_tests, Counted, Slot, times, place_at, value_of, Sets, Store, leaf_at, slots_in, ids_of, backing}
+use Rattle.ele_blocks.proofs.Words.{[], ap, arith, backing, Counted, drop, ids_of, leaf_at, List, nat_tests, None, Option, order, place_at, refl, Sets, Slot, slots_in, Some, Store, suc, sym, take, times, unwrap_or, value_of, zero, ℕ, ⊎_elim, ◌+◌, ◌<◌, ◌∙◌, ◌∷◌, ◌≡◌, ◌≤◌}
 use Rattle.ele_blocks.proofs.Trades.{times-split, times-ids}
 
 abbrev pub Leaves : Type 0
@@ -15,22 +15,14 @@ alike (x ∷ xs) [] id h = let first : x ≡ None = sym (h 0) in rw first (omega
 alike (x ∷ xs) (y ∷ ys) id h = let first : y ≡ x = h 0 in rw first (omega (arith, alike xs ys id (λ k. h (suc k))))
 
 unfolds : (s : Leaves) (id : ℕ) → backing s id ≡ weight (place_at s 0) id + backing (drop 1 s) id
-unfolds [] id = refl
-unfolds (x ∷ xs) id = refl
+unfolds xs id = grind (arith, nat_tests)
 
 ahead : (s : Leaves) (k : ℕ) → place_at (drop 1 s) k ≡ place_at s (suc k)
-ahead [] k = refl
-ahead (x ∷ xs) k = refl
-
-apart : (k : ℕ) → suc k ≢ 0
-apart k e = omega (arith, e)
+ahead xs k = grind (arith, nat_tests)
 
 -- one place changes
 pub backing_sets : (old new : Leaves) (q : ℕ) (place : Option (Counted (List Slot))) (id : ℕ) → Sets old new q place → backing new id + weight (place_at old q) id ≡ backing old id + weight place id
-backing_sets old new zero place id h =
-    let rest = alike (drop 1 old) (drop 1 new) id (λ k. ahead new k ∙ (h.others (suc k) (apart k) ∙ sym (ahead old k))) in
-    let here : weight (place_at new 0) id ≡ weight place id = ap (λ p. weight p id) h.changed in
-    omega (arith, unfolds old id, unfolds new id, rest, here)
+backing_sets old new zero place id h = omega (arith, unfolds old id, unfolds new id, alike (drop 1 old) (drop 1 new) id (λ k. ahead new k ∙ (h.others (suc k) (λ e. omega (arith, e)) ∙ sym (ahead old k))), ap (λ (p : Option (Counted (List Slot))). weight p id) h.changed)
 backing_sets old new (suc q) place id h =
     let rest = backing_sets (drop 1 old) (drop 1 new) q place id (record {
       changed = ahead new q ∙ h.changed;
@@ -53,29 +45,19 @@ pub record IsNamedBy (s : Leaves) (id : ℕ) : Type 0 where
 
 pub backing_some : (s : Leaves) (id : ℕ) → 0 < backing s id → IsNamedBy s id
 backing_some [] id lt = absurd (omega (arith, lt))
-backing_some (x ∷ xs) id lt = ⊎_elim
-    (λ (some : 0 < weight x id). record { leaf = 0; names = some })
-    (λ (none : weight x id ≤ 0). let more = backing_some xs id (omega (arith, lt, none)) in record { leaf = suc more.leaf; names = more.names })
-    (order 0 (weight x id))
+backing_some (x ∷ xs) id lt = ⊎_elim (λ (some : 0 < weight x id). record { leaf = 0; names = some })
+    (λ (none : weight x id ≤ 0). let more = backing_some xs id (omega (arith, lt, none)) in record { leaf = suc more.leaf; names = more.names }) (order 0 (weight x id))
 
 -- a block of slots in leaves is named by one of them
 pub slots_backed : (s : Store) (leaves : List ℕ) (id : ℕ) → 0 < times id (ids_of (slots_in s leaves)) → 0 < backing s.leaves id
 slots_backed s [] id lt = absurd (omega (arith, lt))
-slots_backed s (l ∷ ls) id lt = ⊎_elim
-    (λ (here : 0 < times id (ids_of (leaf_at s l))). omega (arith, backing_least s.leaves l id, here))
-    (λ (none : times id (ids_of (leaf_at s l)) ≤ 0). slots_backed s ls id (omega (arith, lt, none, times-ids id (leaf_at s l) (slots_in s ls))))
-    (order 0 (times id (ids_of (leaf_at s l))))
+slots_backed s (l ∷ ls) id lt = grind (arith, backing_least s.leaves l id, times-ids id (leaf_at s l) (slots_in s ls), slots_backed s ls id)
 
 -- and each of them names its own there
 pub slots_least : (s : Store) (leaves : List ℕ) (leaf id : ℕ) → 0 < times leaf leaves → times id (ids_of (leaf_at s leaf)) ≤ times id (ids_of (slots_in s leaves))
 slots_least s [] leaf id lt = absurd (omega (arith, lt))
-slots_least s (l ∷ ls) leaf id lt = elim (eqb l leaf) as (λ b. eqb l leaf ≡ b → times id (ids_of (leaf_at s leaf)) ≤ times id (ids_of (slots_in s (l ∷ ls)))) [
-  | true ↦ λ e. let same : l ≡ leaf = grind (arith, nat_tests) in rw (← same) (omega (arith, times-ids id (leaf_at s l) (slots_in s ls)))
-  | false ↦ λ e. let more : 0 < times leaf ls = let h : 0 < 0 + times leaf ls = rw e at lt in omega (arith, h) in omega (arith, slots_least s ls leaf id more, times-ids id (leaf_at s l) (slots_in s ls))
-] refl
+slots_least s (l ∷ ls) leaf id lt = grind (arith, nat_tests, times-ids id (leaf_at s l) (slots_in s ls), slots_least s ls leaf id)
 
 -- slots go into a new leaf
 pub backing_put : (now next : Leaves) (rest front back : List Slot) (n id : ℕ) → front ≡ take n rest → back ≡ drop n rest → place_at now id ≡ None → Sets now next id (Some (record { value = front; owners = 1 })) → (q : ℕ) → backing next q + times q (ids_of back) ≡ backing now q + times q (ids_of rest)
-backing_put now next rest front back n id is_front is_back vacant sets q =
-    let none : weight (place_at now id) q ≡ 0 = rw vacant refl in
-    omega (arith, backing_sets now next id (Some (record { value = front; owners = 1 })) q sets, none, times-split q n rest, ap (λ xs. times q (ids_of xs)) is_front, ap (λ xs. times q (ids_of xs)) is_back)
+backing_put now next rest front back n id is_front is_back vacant sets q = grind (arith, backing_sets now next id (Some (record { value = front; owners = 1 })) q sets, times-split q n rest)

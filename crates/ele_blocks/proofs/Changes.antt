@@ -1,30 +1,14 @@
 -- What a write and a truncate make of a map and its store.
-use Rattle.ele_blocks.proofs.Words.{◌≡◌, ◌⊎◌, ℕ, ◌+◌, ◌-◌, ◌*◌, ◌/◌, ◌<◌, ◌≤◌, Bool, true, false, cond, ◌&&◌, List, [], ◌∷◌, ◌++◌, length, map, take, drop, get_or, min, max, replicate, refl, ap, sym, ◌∙◌, arith, zero, suc, ltb, inl, inr, ⊎_elim, slice_get, flat_map, range_with_len, option_map_or, order, take-add, false≢true, nat_tests, append-nil, length-append, length-map, length-take, length-drop, length-replicate, nil_from_length, take_all, take-take, take-append-drop, drop_all, flat_map-map, fill_by_all, slice_get-get_or, Cell, content_of, content_after_write, content_after_truncate, longest_content, slot_bytes, slot_count, writer_at, meets, refits, Slot, IsRewritten, IsWritten, IsResized, Hands, Layout, shown, slots_of, ids_of, cell_of, cell_by, is_between, LivesIn, AreSized, pieces, pieces_between, IsReplaced, Renews, times, Store, leaf_at}
-use Rattle.ele_content.specs.Content.{cells_after_write, cells_after_truncate}
-use Rattle.ele_blocks.proofs.Hands.{hands_none, hands_with, backed_there}
-use Rattle.ele_blocks.proofs.Hands.{moved_one}
-use Rattle.ele_blocks.proofs.Sized.{length-chunks, sized-is, sized-length, sized-count, sized-take, sized-map, sized-laid, flat-at, flat-take, flat-laid}
-use Rattle.ele_blocks.proofs.Sizes.{bytes_of, no_cell, whole_is, is_whole_by, length-content}
-use Rattle.ele_blocks.proofs.Splices.{length-pieces, pieces_sized, pieces_joined, pieces_taken, length-spliced, spliced_part}
+use Rattle.ele_blocks.proofs.Lemmas.{slice_get-map, [], ap, append-nil, AreSized, arith, backed_there, Bool, bytes_of, Cell, cell_by, cell_of, cond, content_after_truncate, content_after_write, content_of, drop, drop_all, false, fill_by_all, flat-at, flat-laid, flat-take, flat_map, flat_map-map, Hands, hands_none, hands_with, is_between, is_whole_by, IsReplaced, IsResized, IsRewritten, IsWritten, Layout, leaf_at, length, length-append, length-chunks, length-content, length-drop, length-map, length-pieces, length-replicate, length-spliced, length-take, List, LivesIn, longest_content, map, max, meets, min, moved_one, nat_tests, nil_from_length, no_cell, option_map_or, pieces, pieces_between, pieces_joined, pieces_sized, pieces_taken, range_with_len, refits, refl, Renews, shown, sized-count, sized-is, sized-laid, sized-length, sized-map, sized-take, slice_get, slice_get-get_or, Slot, slot_bytes, slot_count, slots_of, spliced_part, Store, sym, take, take-add, take-append-drop, take-take, take_all, times, true, whole_is, writer_at, ℕ, ◌*◌, ◌++◌, ◌+◌, ◌-◌, ◌/◌, ◌<◌, ◌∙◌, ◌∷◌, ◌≡◌, ◌≤◌, ◌⊎◌}
+use Rattle.ele_content.specs.Content.{cells_after_truncate, cells_after_write}
 
 pub renews_as : (s t : Store) (w : ℕ) (p q : ℕ → Bool) (was now : Layout) → ((slot : ℕ) → q slot ≡ p slot) → Renews s t w p was now → Renews s t w q was now
-renews_as s t w p q was now same h = record {
-  fresh = λ slot is. h.fresh slot (sym (same slot) ∙ is);
-  stays = λ slot is lt. h.stays slot (sym (same slot) ∙ is) lt;
-  once = h.once;
-}
+renews_as s t w p q was now same h = grind (arith, nat_tests)
 
 -- ---- a map of this content, where the slots that pass the test are renewed
 
-cell_same : (x y : Cell) → x.writer ≡ y.writer → x.bytes ≡ y.bytes → x ≡ y
-cell_same x y w b = ap (λ n. let c : Cell = record { writer = n; bytes = x.bytes } in c) w ∙ ap (λ l. let c : Cell = record { writer = y.writer; bytes = l } in c) b
-
 writer-shown : (s : Store) (m : Layout) (k : ℕ) → writer_at (shown s m) k ≡ option_map_or (λ (x : Slot). x.writer) (slice_get (slots_of s m) k) 0
-writer-shown s m k = by (slots_of s m) k where
-  by : (xs : List Slot) (k : ℕ) → writer_at (map (cell_of s) xs) k ≡ option_map_or (λ (x : Slot). x.writer) (slice_get xs k) 0
-  by [] k = refl
-  by (x ∷ xs) zero = refl
-  by (x ∷ xs) (suc k) = by xs k
+writer-shown s m k = grind (arith, slice_get-map (cell_of s) (slots_of s m) k)
 
 module _ (s t : Store) (m new : Layout) (w : ℕ) (test : ℕ → Bool) (after : List ℕ) (n : ℕ) (hands : Hands s t (λ q. times q m.leaves) (λ q. times q new.leaves)) (leaves : AreSized 16 (leaf_at t) n new.leaves) (renews : Renews s t w test m new) (content : content_of (shown t new) ≡ after) (bytes : AreSized 512 bytes_of new.size (shown t new)) (short : new.size ≤ longest_content) where
   count : length (shown t new) ≡ slot_count new.size
@@ -35,21 +19,15 @@ module _ (s t : Store) (m new : Layout) (w : ℕ) (test : ℕ → Bool) (after :
 
   writers : (k : ℕ) → k < length (shown t new) → writer_at (shown t new) k ≡ cond (test k) w (writer_at (shown s m) k)
   writers k lt = writer-shown t new k ∙ elim (test k) as (λ b. test k ≡ b → option_map_or (λ (x : Slot). x.writer) (slice_get (slots_of t new) k) 0 ≡ cond b w (writer_at (shown s m) k)) [
-    | true ↦ λ e.
-        let none : Slot = record { writer = 0; block = 0 } in
-        let got = slice_get-get_or (slots_of t new) k none (omega (arith, lt, long)) in
-        let fresh = rw got at (renews.fresh k e) in
-        rw got fresh.0
-    | false ↦ λ e. ap (λ o. option_map_or (λ (x : Slot). x.writer) o 0) (renews.stays k e (omega (arith, lt, long))) ∙ sym (writer-shown s m k)
+    | true ↦ λ e. let got = slice_get-get_or (slots_of t new) k (let c : Slot = record { writer = 0; block = 0 } in c) (omega (arith, lt, long)) in rw got (rw got at (renews.fresh k e)).0
+    | false ↦ λ e. rw (renews.stays k e (omega (arith, lt, long))) (sym (writer-shown s m k))
   ] refl
 
   new_cells : shown t new ≡ map (λ slot. record { writer = cond (test slot) w (writer_at (shown s m) slot); bytes = slot_bytes after slot }) (range_with_len 0 (slot_count new.size))
   new_cells = fill_by_all (λ slot. let c : Cell = record { writer = cond (test slot) w (writer_at (shown s m) slot); bytes = slot_bytes after slot } in c) (shown t new) (slot_count new.size) no_cell count
       (λ k lt.
       let inside : k < length (shown t new) = omega (arith, lt, count) in
-      cell_same (get_or (shown t new) k no_cell) (record { writer = cond (test k) w (writer_at (shown s m) k); bytes = slot_bytes after k })
-      (sym (ap (λ o. option_map_or (λ (c : Cell). c.writer) o 0) (slice_get-get_or (shown t new) k no_cell inside)) ∙ writers k inside)
-      (flat-at 512 bytes_of (omega arith) k new.size (shown t new) no_cell bytes inside ∙ ap (λ c. slot_bytes c k) content))
+      grind (arith, slice_get-get_or (shown t new) k no_cell inside, writers k inside, flat-at 512 bytes_of (omega arith) k new.size (shown t new) no_cell bytes inside, content))
 
   pub rewritten : (size : ℕ) (cells : List Cell) → new.size ≡ size → map (λ slot. let c : Cell = record { writer = cond (test slot) w (writer_at (shown s m) slot); bytes = slot_bytes after slot } in c) (range_with_len 0 (slot_count new.size)) ≡ cells → IsRewritten s t w test size after cells m new
   rewritten size cells is are =
@@ -85,34 +63,15 @@ module _ (s t : Store) (m new : Layout) (w first kept : ℕ) (staged : List (Lis
 
   pub laid_content : content_of (shown t new) ≡ take (512 * first) base ++ (patch ++ drop (512 * (first + length staged)) base)
   laid_content =
-      let old = flat-take 512 bytes_of (omega arith) kept m.size (shown s m) sized_whole in
       let own : flat_map bytes_of (map (cell_by w) staged) ≡ patch = flat_map-map bytes_of (cell_by w) staged ∙ (ap (flat_map (λ piece. piece)) cut ∙ pieces_joined patch) in
-      ap content_of h.cells ∙ (flat-laid 512 bytes_of (omega arith) first (min m.size (512 * kept)) (map (cell_by w) staged) (take kept (shown s m)) sized_old ∙ rw (old, own, same_count) refl)
+      ap content_of h.cells ∙ (flat-laid 512 bytes_of (omega arith) first (min m.size (512 * kept)) (map (cell_by w) staged) (take kept (shown s m)) sized_old ∙ rw (flat-take 512 bytes_of (omega arith) kept m.size (shown s m) sized_whole, own, same_count) refl)
 
   pub laid_bytes : AreSized 512 bytes_of (512 * first + (length patch + (min m.size (512 * kept) - 512 * (first + length staged)))) (shown t new)
   laid_bytes =
-      let reach : (length patch ≡ 512 * length (map (cell_by w) staged)) ⊎ (min m.size (512 * kept) ≤ 512 * (first + length (map (cell_by w) staged))) = ⊎_elim
-      (λ (lt : 512 * (first + length staged) < min m.size (512 * kept)). inl (omega (arith, fit lt, same_count)))
-      (λ (ge : min m.size (512 * kept) ≤ 512 * (first + length staged)). inr (omega (arith, ge, same_count)))
-      (order (512 * (first + length staged)) (min m.size (512 * kept))) in
+      let reach : (length patch ≡ 512 * length (map (cell_by w) staged)) ⊎ (min m.size (512 * kept) ≤ 512 * (first + length (map (cell_by w) staged))) = grind (arith, fit, same_count) in
       let few = sized-count 512 bytes_of (omega arith) (min m.size (512 * kept)) (take kept (shown s m)) sized_old in
       let new_sized = sized-map 512 (λ piece. piece) bytes_of (length patch) staged (map (cell_by w) staged) its_bytes (rw (← cut) at (pieces_sized patch)) in
       rw (h.cells, ← same_count) (sized-laid 512 bytes_of (omega arith) first (min m.size (512 * kept)) (length patch) (map (cell_by w) staged) (take kept (shown s m)) sized_old new_sized (omega (arith, few, kept_le, le, start)) (omega (arith, le, start)) reach)
-
--- ---- the slots of a range
-
--- the slots that a place cuts, or that meet a range, are those from its first on, up to before the one past its last
-cuts_between : (from to slot : ℕ) → (ltb (512 * slot) to && ltb from (512 * slot + 512)) ≡ is_between (from / 512) ((to + 511) / 512) slot
-cuts_between from to slot = grind (arith, nat_tests)
-
-meets_between : (from to slot : ℕ) → from < to → meets from to slot ≡ is_between (from / 512) ((to + 511) / 512) slot
-meets_between from to slot lt = let some : ltb from to ≡ true = grind (arith, nat_tests) in rw some (cuts_between from to slot)
-
-refits_less : (n size slot : ℕ) → size < n → refits n size slot ≡ is_between (size / 512) ((size + 511) / 512) slot
-refits_less n size slot lt =
-    let no : ltb n size ≡ false = grind (arith, nat_tests) in
-    let yes : ltb size n ≡ true = grind (arith, nat_tests) in
-    rw (no, yes) (cuts_between size size slot)
 
 -- ---- the cells of a write and of a truncate
 
@@ -121,10 +80,7 @@ slots_by test w cells after n = map (λ slot. let c : Cell = record { writer = c
 
 written_cells : (s : Store) (m : Layout) (w o n : ℕ) (x : List ℕ) → LivesIn s m → n ≡ max m.size (o + length x) → slots_by (meets (min o m.size) (o + length x)) w (shown s m) (content_after_write (content_of (shown s m)) o x) n ≡ cells_after_write w o x (shown s m)
 unfolding cells_after_write
-written_cells s m w o n x lives is =
-    let size = length-content s m lives.whole in
-    let long : length (content_after_write (content_of (shown s m)) o x) ≡ n = omega (arith, length-spliced (content_of (shown s m)) o x, size, is) in
-    rw (long, size) refl
+written_cells s m w o n x lives is = rw (length-spliced (content_of (shown s m)) o x, length-content s m lives.whole, is) refl
 
 resized_cells : (s : Store) (m : Layout) (w size : ℕ) → LivesIn s m → slots_by (refits m.size size) w (shown s m) (content_after_truncate (content_of (shown s m)) size) size ≡ cells_after_truncate w size (shown s m)
 unfolding cells_after_truncate
@@ -169,7 +125,7 @@ module _ (s : Store) (m : Layout) (w o f : ℕ) (x : List ℕ) (staged : List (L
       let part : after ≡ take (512 * f) content ++ (patch ++ drop (512 * (f + length staged)) content) = spliced_part content o (512 * f) (512 * many) (512 * (f + length staged)) x (omega (arith, is_f)) (omega (arith, start, whole_long)) (omega (arith, reach)) (omega (arith, staged_count)) in
       let is : content_of (shown t new) ≡ after = laid_content s t m new w f (slot_count m.size) staged patch lives h cut (omega arith) le start fit ∙ rw all (sym part) in
       let bytes = sized-is 512 bytes_of (omega arith) (512 * f + (length patch + (min m.size (512 * slot_count m.size) - 512 * (f + length staged)))) new.size (shown t new) (omega (arith, size, reach, patch_long, is_f, staged_count, some)) (laid_bytes s t m new w f (slot_count m.size) staged patch lives h cut (omega arith) le start fit) in
-      let same : (slot : ℕ) → test slot ≡ is_between f (f + length staged) slot = λ slot. meets_between (min o m.size) (o + length x) slot some ∙ (ap (λ k. is_between k ((o + length x + 511) / 512) slot) (sym is_f) ∙ ap (λ k. is_between f k slot) (sym reach)) in
+      let same : (slot : ℕ) → test slot ≡ is_between f (f + length staged) slot = λ slot. grind (arith, nat_tests, some, is_f, reach) in
       rewritten s t m new w test after (length (slots_of t new)) h.hands h.filled (renews_as s t w (is_between f (f + length staged)) test m new same h.renews) is bytes (omega (arith, size, short, (whole_is s m lives.whole).short)) (max m.size (o + length x)) (cells_after_write w o x (shown s m)) size (written_cells s m w o new.size x lives size)
 
 -- ---- a truncate to fewer bytes: f slots stay whole, and kept slots stay
@@ -190,16 +146,12 @@ module _ (s : Store) (m : Layout) (w size f kept : ℕ) (staged : List (List ℕ
       let le : f ≤ kept = omega (arith, is_f, is_kept) in
       let start : 512 * f ≤ m.size = omega (arith, is_f, less) in
       let fit : 512 * (f + length staged) < min m.size (512 * kept) → length patch ≡ 512 * length staged = λ lt. absurd (omega (arith, lt, cut_reach)) in
-      let head : take (512 * f) (take (512 * kept) content) ≡ take (512 * f) content = take-take (512 * f) (512 * kept) content (omega (arith, le)) in
       let mid : patch ≡ take (size - 512 * f) (drop (512 * f) content) = take-take (size - 512 * f) 512 (drop (512 * f) content) (omega (arith, is_f)) in
       let tail : drop (512 * (f + length staged)) (take (512 * kept) content) ≡ [] = drop_all (512 * (f + length staged)) (take (512 * kept) content) (omega (arith, length-take (512 * kept) content, cut_reach)) in
-      let none : size - length content ≡ 0 = omega (arith, whole_long, less) in
-      let size_is : 512 * f + (size - 512 * f) ≡ size = omega (arith, is_f) in
-      let after : content_of (shown t new) ≡ content_after_truncate content size =
-      laid_content s t m new w f kept staged patch lives h is_staged kept_le le start fit
-      ∙ rw (head, tail, mid, none) (ap (λ ys. take (512 * f) content ++ ys) (append-nil (take (size - 512 * f) (drop (512 * f) content))) ∙ (sym (ap (λ n. take n content) (sym size_is) ∙ take-add (512 * f) (size - 512 * f) content) ∙ sym (append-nil (take size content)))) in
+      let after : content_of (shown t new) ≡ content_after_truncate content size = laid_content s t m new w f kept staged patch lives h is_staged kept_le le start fit
+      ∙ grind (arith, le, mid, tail, whole_long, less, is_f, take-take (512 * f) (512 * kept) content, append-nil, take-add (512 * f) (size - 512 * f) content) in
       let bytes = sized-is 512 bytes_of (omega arith) (512 * f + (length patch + (min m.size (512 * kept) - 512 * (f + length staged)))) new.size (shown t new) (omega (arith, is, cut_long, cut_reach, is_f)) (laid_bytes s t m new w f kept staged patch lives h is_staged kept_le le start fit) in
-      let same : (slot : ℕ) → refits m.size size slot ≡ is_between f (f + length staged) slot = λ slot. refits_less m.size size slot less ∙ (ap (λ k. is_between k ((size + 511) / 512) slot) (sym is_f) ∙ ap (λ k. is_between f k slot) (sym (cut_reach ∙ is_kept))) in
+      let same : (slot : ℕ) → refits m.size size slot ≡ is_between f (f + length staged) slot = λ slot. grind (arith, nat_tests, less, is_f, cut_reach, is_kept) in
       rewritten s t m new w (refits m.size size) (content_after_truncate content size) (length (slots_of t new)) h.hands h.filled (renews_as s t w (is_between f (f + length staged)) (refits m.size size) m new same h.renews) after bytes (omega (arith, is, less, (whole_is s m lives.whole).short)) size (cells_after_truncate w size (shown s m)) is (rw is (resized_cells s m w size lives))
 
 -- ---- what changes nothing
@@ -209,63 +161,36 @@ module _ (s : Store) (m : Layout) (w : ℕ) (lives : LivesIn s m) where
   stays test after cells none same are =
       let whole = whole_is s m lives.whole in
       let hands = hands_with s s _ _ (λ q. times q m.leaves) (λ q. times q m.leaves) (λ q. times q m.leaves) (hands_none s) (λ q. omega arith) (λ q. omega arith) in
-      rewritten s s m m w test after (slot_count m.size) hands whole.leaves (record {
-        fresh = λ slot is. absurd (false≢true (sym (none slot) ∙ is));
-        stays = λ slot is lt. refl;
-        once = λ id zero. ⊎_elim
-            (λ (some : 0 < times id (ids_of (slots_of s m))). absurd (omega (arith, backed_there s m.leaves lives.backed id some, zero)))
-            (λ (le : times id (ids_of (slots_of s m)) ≤ 0). omega (arith, le))
-            (order 0 (times id (ids_of (slots_of s m))));
-      }) same whole.bytes whole.short m.size cells refl are
+      let renews : Renews s s w test m m = record { fresh = λ slot. grind (arith, none slot); stays = λ slot is lt. refl; once = λ id. grind (arith, backed_there s m.leaves lives.backed id) } in
+      rewritten s s m m w test after (slot_count m.size) hands whole.leaves renews same whole.bytes whole.short m.size cells refl are
 
   pub resized_same : IsResized s s w m.size m m
-  resized_same =
-      let content = content_of (shown s m) in
-      let size = length-content s m lives.whole in
-      let no : ltb m.size m.size ≡ false = grind (arith, nat_tests) in
-      let none : m.size - length content ≡ 0 = omega (arith, size) in
-      stays (refits m.size m.size) (content_after_truncate content m.size) (cells_after_truncate w m.size (shown s m)) (λ slot. rw no refl) (sym (rw none (append-nil (take m.size content) ∙ take_all m.size content (omega (arith, size))))) (resized_cells s m w m.size lives)
+  resized_same = let size = length-content s m lives.whole in
+      stays (refits m.size m.size) _ (cells_after_truncate w m.size (shown s m)) (λ slot. grind (arith, nat_tests)) (grind (arith, append-nil, take_all, size)) (resized_cells s m w m.size lives)
 
   -- a write of no bytes within the content
   pub written_nothing : (o : ℕ) (x : List ℕ) → o + length x ≤ min o m.size → IsWritten s s w o x m m
   written_nothing o x none =
-      let content = content_of (shown s m) in
-      let empty : x ≡ [] = nil_from_length x (omega (arith, none)) in
-      let gap : o - length content ≡ 0 = omega (arith, length-content s m lives.whole, none) in
-      let to : o + 0 ≡ o = omega arith in
       let size : m.size ≡ max m.size (o + length x) = omega (arith, none) in
-      let no : ltb (min o m.size) (o + length x) ≡ false = grind (arith, nat_tests, none) in
-      let same : content ≡ content_after_write content o x = sym (rw (empty, gap, to) (ap (λ l. l ++ drop o content) (append-nil (take o content ++ []) ∙ append-nil (take o content)) ∙ take-append-drop o content)) in
-      rw (← size) (stays (meets (min o m.size) (o + length x)) (content_after_write content o x) (cells_after_write w o x (shown s m)) (λ slot. rw no refl) same (written_cells s m w o m.size x lives size))
+      let same : content_of (shown s m) ≡ content_after_write (content_of (shown s m)) o x = grind (arith, none, nil_from_length x, length-content s m lives.whole, append-nil, take-append-drop) in
+      rw (← size) (stays (meets (min o m.size) (o + length x)) (content_after_write (content_of (shown s m)) o x) (cells_after_write w o x (shown s m)) (λ slot. grind (arith, nat_tests, none)) same (written_cells s m w o m.size x lives size))
 
 -- ---- a truncate that fills is a write of no bytes behind the end
 
 grown_content : (content : List ℕ) (size : ℕ) → length content ≤ size → content_after_write content size [] ≡ content_after_truncate content size
-grown_content content size le =
-    let none : drop (size + 0) content ≡ [] = drop_all (size + 0) content (omega arith) in
-    let zeros : List ℕ = replicate (size - length content) 0 in
-    ap (λ l. take size content ++ zeros ++ [] ++ l) none ∙ (append-nil (take size content ++ zeros ++ []) ∙ append-nil (take size content ++ zeros))
+grown_content content size le = grind (arith, nat_tests, drop_all, append-nil)
 
 grown_cells : (w size : ℕ) (cells : List Cell) → length (content_of cells) < size → cells_after_write w size [] cells ≡ cells_after_truncate w size cells
 unfolding cells_after_write cells_after_truncate
-grown_cells w size cells lt =
-    let content = content_of cells in
-    let from : min size (length content) ≡ length content = omega arith in
-    let to : size + 0 ≡ size = omega arith in
-    let long : ltb (length content) size ≡ true = grind (arith, nat_tests) in
-    let count : length (content_after_truncate content size) ≡ size = omega (arith, length-append (take size content) (replicate (size - length content) 0), length-take size content, length-replicate {A = ℕ} (size - length content) 0) in
-    rw (grown_content content size (omega arith), from, to, long, count) refl
+grown_cells w size cells lt = grind (arith, nat_tests, length-append, length-take, length-replicate, grown_content)
 
 pub grown : (s t : Store) (m n : Layout) (w size : ℕ) → LivesIn s m → m.size < size → IsWritten s t w size [] m n → IsResized s t w size m n
 grown s t m n w size lives lt h =
     let long = length-content s m lives.whole in
-    let from : min size m.size ≡ m.size = omega (arith, lt) in
-    let to : size + 0 ≡ size = omega arith in
-    let more : ltb m.size size ≡ true = grind (arith, nat_tests) in
     record {
       size = omega (arith, h.size, lt);
       content = h.content ∙ grown_content (content_of (shown s m)) size (omega (arith, long, lt));
       cells = h.cells ∙ grown_cells w size (shown s m) (omega (arith, long, lt));
       moves = h.moves;
-      renews = renews_as s t w (meets (min size m.size) (size + 0)) (refits m.size size) m n (λ slot. rw (from, to, more) refl) h.renews;
+      renews = renews_as s t w (meets (min size m.size) (size + 0)) (refits m.size size) m n (λ slot. grind (arith, nat_tests, lt)) h.renews;
     }

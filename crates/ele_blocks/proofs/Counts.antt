@@ -1,14 +1,5 @@
 -- Values beside the counts of their owners.
-use Rattle.std.proofs.Common.{◌≡◌, ◌≢◌, refl, ap, sym, subst, ◌∙◌, arith, ℕ, zero, suc, ◌+◌, ◌-◌, ◌<◌, ◌≤◌, true, false, cond, List, [], ◌∷◌, ◌++◌, Option, Some, None, is_some, IsSome, take, IfSome, length, eqb, ltb}
-use Rattle.std.proofs.lemmas.Bool.Decides.{nat_tests}
-use Rattle.std.proofs.lemmas.List.Sums.{sum_by-cons}
-use Rattle.std.proofs.lemmas.List.{get_or_past, get_or-set_same, get_or-set_other, length-set, take_all}
-use Rattle.std.proofs.Math.ListN.{get_or, replicate, set}
-use Rattle.std.specs.Prelude.{count_by, nat_le}
-use Rattle.slab.specs.Slab.{Slab, HasRoomFor, slab_len}
-use Rattle.std.specs.Option.{option_map}
-use Rattle.ele_blocks.specs.Shared.{Counted}
-use Rattle.ele_blocks.specs.Shared.{place_at, value_at, value_of, owners, owners_of, shared, released, leaving, Sets, Owned}
+use Rattle.ele_blocks.proofs.Words.{[], ap, arith, cond, count_by, Counted, get_or, get_or-set_other, get_or-set_same, get_or_past, HasRoomFor, IfSome, is_some, leaving, length, length-set, List, nat_tests, None, Option, option_map, Owned, owners, owners_of, place_at, refl, released, replicate, set, Sets, shared, Slab, slab_len, Some, suc, sum_by-cons, value_at, value_of, zero, ℕ, ◌++◌, ◌+◌, ◌-◌, ◌<◌, ◌∷◌, ◌≡◌, ◌≢◌, ◌≤◌}
 use Rattle.ele_blocks.specs.SharedInside.{counted, counted_with, with_count}
 
 module _ {X : Type 0} where
@@ -33,131 +24,61 @@ module _ {X : Type 0} where
   counted-more [] counts n = refl
   counted-more (v ∷ vs) [] zero = refl
   counted-more (v ∷ vs) [] (suc n) = ap (λ rest. option_map (with_count 0) v ∷ rest) (counted-more vs [] n)
-  counted-more (v ∷ vs) (c ∷ cs) n = ap (λ rest. option_map (with_count c) v ∷ rest) (counted-more vs cs n)
-
-  -- more places of no owner
-  pub counted-filled : (values : List (Option X)) (counts : List ℕ) (n k : ℕ) → length counts ≤ n → counted values (take n counts ++ replicate k 0) ≡ counted values counts
-  counted-filled vs cs n k le = rw (take_all n cs le) (counted-more vs cs k)
-
-  valued : (o : Option X) (n : ℕ) → value_of (option_map (with_count n) o) ≡ o
-  valued None n = refl
-  valued (Some v) n = refl
-
-  owned_by : (o : Option X) (n : ℕ) → 0 < owners_of (option_map (with_count n) o) → owners_of (option_map (with_count n) o) ≡ n
-  owned_by None n lt = absurd (omega arith)
-  owned_by (Some v) n lt = refl
-
-  held : (o : Option X) (n : ℕ) → 0 < owners_of (option_map (with_count n) o) → IsSome o
-  held None n lt = absurd (omega arith)
-  held (Some v) n lt = refl
+  counted-more (v ∷ vs) (c ∷ cs) n = rw (counted-more vs cs n) refl
 
   pub value-counted : (values : List (Option X)) (counts : List ℕ) (id : ℕ) → value_at (counted values counts) id ≡ get_or values id None
-  value-counted vs cs id = rw (place-counted vs cs id) (valued (get_or vs id None) (get_or cs id 0))
+  value-counted vs cs id = grind (arith, place-counted)
 
   pub owners-counted : (values : List (Option X)) (counts : List ℕ) (id : ℕ) → 0 < owners (counted values counts) id → owners (counted values counts) id ≡ get_or counts id 0
-  owners-counted vs cs id lt = rw (place-counted vs cs id) (owned_by (get_or vs id None) (get_or cs id 0) (rw (place-counted vs cs id) at lt))
-
-  pub is_held : (values : List (Option X)) (counts : List ℕ) (id : ℕ) → 0 < owners (counted values counts) id → IsSome (get_or values id None)
-  is_held vs cs id lt = held (get_or vs id None) (get_or cs id 0) (rw (place-counted vs cs id) at lt)
+  owners-counted vs cs id lt = grind (arith, place-counted)
 
   -- what has an owner has its count
   pub is_counted : (values : List (Option X)) (counts : List ℕ) (id : ℕ) → 0 < owners (counted values counts) id → id < length counts
-  is_counted vs cs id lt = elim (ltb id (length cs)) as (λ t. ltb id (length cs) ≡ t → id < length cs) [
-    | true ↦ λ e. grind (arith, nat_tests)
-    | false ↦ λ e. let none : get_or cs id 0 ≡ 0 = get_or_past cs id 0 (grind (arith, nat_tests)) in absurd (omega (arith, lt, owners-counted vs cs id lt, none))
-  ] refl
-
-  pub sets_count : (values : List (Option X)) (counts : List ℕ) (id count : ℕ) → id < length counts → Sets (counted values counts) (counted values (set counts id count)) id (option_map (with_count count) (get_or values id None))
-  sets_count vs cs id c lt = record {
-    changed = place-counted vs (set cs id c) id ∙ ap (λ n. option_map (with_count n) (get_or vs id None)) (get_or-set_same cs id c 0 lt);
-    others = λ other ne. place-counted vs (set cs id c) other ∙ ap (λ n. option_map (with_count n) (get_or vs other None)) (get_or-set_other cs id other c 0 ne) ∙ sym (place-counted vs cs other);
-  }
-
-  more : (o : Option X) (n : ℕ) → option_map (with_count (n + 1)) o ≡ shared (option_map (with_count n) o)
-  more None n = refl
-  more (Some v) n = refl
-
-  less : (o : Option X) (n : ℕ) → ltb 1 n ≡ true → option_map (with_count (n - 1)) o ≡ released (option_map (with_count n) o)
-  less None n lt = refl
-  less (Some v) n lt = rw lt refl
+  is_counted vs cs id lt = grind (arith, nat_tests, get_or_past, owners-counted)
 
   pub sets_more : (values : List (Option X)) (counts : List ℕ) (id : ℕ) → 0 < owners (counted values counts) id → Sets (counted values counts) (counted values (set counts id (get_or counts id 0 + 1))) id (shared (place_at (counted values counts) id))
-  sets_more vs cs id lt = subst (λ place. Sets (counted vs cs) (counted vs (set cs id (get_or cs id 0 + 1))) id place) (more (get_or vs id None) (get_or cs id 0) ∙ ap shared (sym (place-counted vs cs id))) (sets_count vs cs id (get_or cs id 0 + 1) (is_counted vs cs id lt))
+  sets_more vs cs id lt = grind (arith, place-counted, is_counted, get_or-set_same, get_or-set_other)
 
   pub sets_less : (values : List (Option X)) (counts : List ℕ) (id : ℕ) → 0 < owners (counted values counts) id → 1 < get_or counts id 0 → Sets (counted values counts) (counted values (set counts id (get_or counts id 0 - 1))) id (released (place_at (counted values counts) id))
-  sets_less vs cs id lt many = subst (λ place. Sets (counted vs cs) (counted vs (set cs id (get_or cs id 0 - 1))) id place) (less (get_or vs id None) (get_or cs id 0) (grind (arith, nat_tests)) ∙ ap released (sym (place-counted vs cs id))) (sets_count vs cs id (get_or cs id 0 - 1) (is_counted vs cs id lt))
-
-  last_released : (place : Option (Counted X)) → owners_of place ≤ 1 → released place ≡ None
-  last_released None le = refl
-  last_released (Some p) le = let last : ltb 1 p.owners ≡ false = grind (arith, nat_tests) in rw last refl
+  sets_less vs cs id lt many = grind (arith, nat_tests, place-counted, is_counted, get_or-set_same, get_or-set_other)
 
   last_leaves : (place : Option (Counted X)) → owners_of place ≤ 1 → leaving place ≡ value_of place
-  last_leaves None le = refl
-  last_leaves (Some p) le = let last : ltb 1 p.owners ≡ false = grind (arith, nat_tests) in rw last refl
+  last_leaves o le = grind (arith, nat_tests)
 
   pub none_leaves : (place : Option (Counted X)) → 1 < owners_of place → leaving place ≡ None
-  none_leaves None lt = absurd (omega arith)
-  none_leaves (Some p) lt = let many : ltb 1 p.owners ≡ true = grind (arith, nat_tests) in rw many refl
+  none_leaves o lt = grind (arith, nat_tests)
 
   pub sets_gone : (values new : List (Option X)) (counts : List ℕ) (id : ℕ) → owners (counted values counts) id ≤ 1 → get_or new id None ≡ None → ((other : ℕ) → other ≢ id → get_or new other None ≡ get_or values other None) → Sets (counted values counts) (counted new counts) id (released (place_at (counted values counts) id))
-  sets_gone vs new cs id le gone others = rw (last_released (place_at (counted vs cs) id) le) (record {
-    changed = place-counted new cs id ∙ ap (option_map (with_count (get_or cs id 0))) gone;
-    others = λ other ne. place-counted new cs other ∙ ap (option_map (with_count (get_or cs other 0))) (others other ne) ∙ sym (place-counted vs cs other);
-  })
+  sets_gone vs new cs id le gone others = grind (arith, nat_tests, place-counted)
 
   pub leaves_with_last : (values : List (Option X)) (counts : List ℕ) (id : ℕ) → owners (counted values counts) id ≤ 1 → leaving (place_at (counted values counts) id) ≡ get_or values id None
-  leaves_with_last vs cs id le = last_leaves (place_at (counted vs cs) id) le ∙ value-counted vs cs id
+  leaves_with_last vs cs id le = rw (last_leaves (place_at (counted vs cs) id) le) (value-counted vs cs id)
 
   pub sets_new : (values new : List (Option X)) (counts : List ℕ) (id : ℕ) (value : X) → id < length counts → get_or new id None ≡ Some value → ((other : ℕ) → other ≢ id → get_or new other None ≡ get_or values other None) → Sets (counted values counts) (counted new (set counts id 1)) id (Some (record { value = value; owners = 1 }))
-  sets_new vs new cs id v lt is others = record {
-    changed = place-counted new (set cs id 1) id ∙ ap (λ n. option_map (with_count n) (get_or new id None)) (get_or-set_same cs id 1 0 lt) ∙ ap (option_map (with_count 1)) is;
-    others = λ other ne. place-counted new (set cs id 1) other ∙ ap (λ n. option_map (with_count n) (get_or new other None)) (get_or-set_other cs id other 1 0 ne) ∙ ap (option_map (with_count (get_or cs other 0))) (others other ne) ∙ sym (place-counted vs cs other);
-  }
+  sets_new vs new cs id v lt is others = grind (arith, place-counted, get_or-set_same, get_or-set_other)
 
   -- whatever stands has an owner afterwards, if what changed has
   pub owned_after : (old new : List (Option (Counted X))) (id : ℕ) (place : Option (Counted X)) → Owned old → Sets old new id place → IfSome place (λ p. 0 < p.owners) → Owned new
-  owned_after old new id place owned sets has q = elim (eqb q id) as (λ t. eqb q id ≡ t → IfSome (place_at new q) (λ p. 0 < p.owners)) [
-    | true ↦ λ e. let same : q ≡ id = grind (arith, nat_tests) in rw (same, sets.changed) has
-    | false ↦ λ e. rw (sets.others q (grind (arith, nat_tests))) (owned q)
-  ] refl
-
-  shared_owned : (place : Option (Counted X)) → IfSome place (λ p. 0 < p.owners) → IfSome (shared place) (λ p. 0 < p.owners)
-  shared_owned None has = has
-  shared_owned (Some p) has = omega (arith, has)
-
-  released_owned : (place : Option (Counted X)) → IfSome (released place) (λ p. 0 < p.owners)
-  released_owned None = tt
-  released_owned (Some p) = elim (ltb 1 p.owners) as (λ t. ltb 1 p.owners ≡ t → IfSome (cond t (Some (record p { owners = p.owners - 1 })) None) (λ p. 0 < p.owners)) [
-    | true ↦ λ e. let many : 1 < p.owners = grind (arith, nat_tests) in omega (arith, many)
-    | false ↦ λ e. tt
-  ] refl
+  owned_after old new id place owned sets has q = grind (arith, nat_tests)
 
   pub owned_more : (values : List (Option X)) (counts : List ℕ) (id : ℕ) → Owned (counted values counts) → 0 < owners (counted values counts) id → Owned (counted values (set counts id (get_or counts id 0 + 1)))
-  owned_more vs cs id owned lt = owned_after _ _ id _ owned (sets_more vs cs id lt) (shared_owned (place_at (counted vs cs) id) (owned id))
+  owned_more vs cs id owned lt = owned_after _ _ id _ owned (sets_more vs cs id lt) (grind (arith, owned id))
 
   pub owned_less : (values : List (Option X)) (counts : List ℕ) (id : ℕ) → Owned (counted values counts) → 0 < owners (counted values counts) id → 1 < get_or counts id 0 → Owned (counted values (set counts id (get_or counts id 0 - 1)))
-  owned_less vs cs id owned lt many = owned_after _ _ id _ owned (sets_less vs cs id lt many) (released_owned (place_at (counted vs cs) id))
+  owned_less vs cs id owned lt many = owned_after _ _ id _ owned (sets_less vs cs id lt many) (grind (arith, nat_tests))
 
   pub owned_gone : (values new : List (Option X)) (counts : List ℕ) (id : ℕ) → Owned (counted values counts) → owners (counted values counts) id ≤ 1 → get_or new id None ≡ None → ((other : ℕ) → other ≢ id → get_or new other None ≡ get_or values other None) → Owned (counted new counts)
-  owned_gone vs new cs id owned le gone others = owned_after _ _ id _ owned (sets_gone vs new cs id le gone others) (released_owned (place_at (counted vs cs) id))
+  owned_gone vs new cs id owned le gone others = owned_after _ _ id _ owned (sets_gone vs new cs id le gone others) (grind (arith, nat_tests))
 
   pub owned_new : (values new : List (Option X)) (counts : List ℕ) (id : ℕ) (value : X) → Owned (counted values counts) → id < length counts → get_or new id None ≡ Some value → ((other : ℕ) → other ≢ id → get_or new other None ≡ get_or values other None) → Owned (counted new (set counts id 1))
   owned_new vs new cs id v owned lt is others = owned_after _ _ id _ owned (sets_new vs new cs id v lt is others) (omega arith)
 
   -- room in both
   pub room_of : (values : Slab X) (counts : List ℕ) (more : ℕ) → HasRoomFor values more → values.capacity ≤ length counts → HasRoomFor (counted_with values counts) more
-  room_of values counts more room le =
-      let both : nat_le values.capacity (length counts) ≡ true = grind (arith, nat_tests) in
-      let same = count-counted values.slots counts in
-      rw both (omega (arith, room, same))
+  room_of values counts more room le = grind (arith, nat_tests, count-counted)
 
   pub room_in : (values : Slab X) (counts : List ℕ) (more : ℕ) → HasRoomFor (counted_with values counts) (1 + more) → HasRoomFor values (1 + more) × (values.capacity ≤ length counts)
-  room_in values counts more room = elim (nat_le values.capacity (length counts)) as (λ t. nat_le values.capacity (length counts) ≡ t → count_by is_some (counted values.slots counts) + (1 + more) ≤ cond t values.capacity 0 → HasRoomFor values (1 + more) × (values.capacity ≤ length counts)) [
-    | true ↦ λ e le. (omega (arith, le, count-counted values.slots counts), grind (arith, nat_tests))
-    | false ↦ λ e le. absurd (omega (arith, le))
-  ] refl room
+  room_in values counts more room = grind (arith, nat_tests, count-counted)
 
   pub room_after : (values new : Slab X) (counts : List ℕ) (id : ℕ) → slab_len new ≡ slab_len values + 1 → new.capacity ≡ values.capacity → (more : ℕ) → HasRoomFor (counted_with values counts) (1 + more) → HasRoomFor (counted_with new (set counts id 1)) more
-  room_after values new counts id longer same more room =
-      let was = room_in values counts more room in
-      room_of new (set counts id 1) more (omega (arith, was.0, longer, same)) (omega (arith, was.1, same, length-set counts id 1))
+  room_after values new counts id longer same more room = grind (arith, room_in values counts more room, room_of new (set counts id 1) more, length-set counts id 1)

@@ -1,7 +1,5 @@
 -- The blocks of a store are as many as its maps name.
-use Rattle.ele_blocks.proofs.Words.{◌≡◌, ℕ, ◌+◌, ◌<◌, ◌≤◌, Bool, true, false, ◌||◌, cond, List, [], ◌∷◌, map, Option, Some, None, is_some, refl, ap, sym, ◌∙◌, arith, eqb, ltb, zero, suc, inl, inr, ⊎_elim, order, IfSome, set, list_any, count_by, sum_by-cons, nat_tests, Counted, times, place_at, owners_of, Owned, Store, owners_at, leaf_at, Slot, Layout, slots_of, ids_of, backing, named, Owes, different, Place, is_place, blocks_of, Named, IsIn, AreOneToOne}
-use Rattle.ele_blocks.proofs.Backing.{weight, backing_some, slots_backed, slots_least}
-use Rattle.ele_blocks.proofs.Trades.{times-append}
+use Rattle.ele_blocks.proofs.Lemmas.{owners, [], ap, AreOneToOne, arith, backing, backing_some, blocks_of, cond, count_by, Counted, different, eqb, false, ids_of, inl, inr, is_place, is_some, IsIn, Layout, leaf_at, List, list_any, ltb, map, Named, named, nat_tests, None, Option, Owes, Owned, owners_at, Place, place_at, refl, set, slots_backed, slots_least, slots_of, Store, suc, sum_by-cons, times, times-append, true, zero, ℕ, ◌+◌, ◌<◌, ◌∙◌, ◌∷◌, ◌≡◌, ◌≤◌}
 
 abbrev pub Blocks : Type 0
 Blocks = List (Option (Counted (List ℕ)))
@@ -23,14 +21,9 @@ taken_out [] id h = cc
 taken_out (x ∷ xs) zero h = rw h (omega arith)
 taken_out (x ∷ xs) (suc id) h = omega (arith, taken_out xs id h)
 
-nothing : (t : Bool) → (let none : Option (Counted (List ℕ)) = None in none) ≡ cond t None None
-nothing true = refl
-nothing false = refl
-
 place_at_set : (s : Blocks) (id q : ℕ) → place_at (set s id None) q ≡ cond (eqb id q) None (place_at s q)
-place_at_set [] id q = nothing (eqb id q)
-place_at_set (x ∷ xs) zero zero = refl
-place_at_set (x ∷ xs) zero (suc q) = let e : eqb 0 (suc q) ≡ false = grind (arith, nat_tests) in rw e refl
+place_at_set [] id q = grind (arith, nat_tests)
+place_at_set (x ∷ xs) zero q = grind (arith, nat_tests)
 place_at_set (x ∷ xs) (suc id) zero = let e : eqb (suc id) 0 ≡ false = grind (arith, nat_tests) in rw e refl
 place_at_set (x ∷ xs) (suc id) (suc q) = let e : eqb (suc id) (suc q) ≡ eqb id q = grind (arith, nat_tests) in rw e (place_at_set xs id q)
 
@@ -41,68 +34,31 @@ none_stand (x ∷ xs) h = let first = h 0 in rw first (omega (arith, none_stand 
 -- where exactly the numbers of a list stand, as many stand as the list has different ones
 standing_different : (ids : List ℕ) (s : Blocks) → ((q : ℕ) → is_some (place_at s q) ≡ list_any (λ (y : ℕ). eqb y q) ids) → standing s ≡ different eqb ids
 standing_different [] s h = none_stand s h
-standing_different (x ∷ xs) s h = elim (list_any (λ (y : ℕ). eqb y x) xs) as (λ t. list_any (λ (y : ℕ). eqb y x) xs ≡ t → standing s ≡ cond t 0 1 + different eqb xs) [
-  | true ↦ λ e. standing_different xs s (λ q. elim (eqb x q) as (λ t. eqb x q ≡ t → is_some (place_at s q) ≡ list_any (λ (y : ℕ). eqb y q) xs) [
-    | true ↦ λ same. let is : q ≡ x = grind (arith, nat_tests) in rw is (let here = rw (is, self_eq x) at (h q) in here ∙ sym e)
-    | false ↦ λ other. rw other at (h q)
-  ] refl) ∙ (omega arith)
-  | false ↦ λ e.
-      let there : is_some (place_at s x) ≡ true = rw (self_eq x) at (h x) in
-      let rest = standing_different xs (set s x None) (λ q. rw (place_at_set s x q) (elim (eqb x q) as (λ t. eqb x q ≡ t → is_some (cond t None (place_at s q)) ≡ list_any (λ (y : ℕ). eqb y q) xs) [
-        | true ↦ λ same. let is : q ≡ x = grind (arith, nat_tests) in rw is (sym e)
-        | false ↦ λ other. rw other at (h q)
-      ] refl)) in
-      omega (arith, rest, taken_out s x there)
-] refl
-
--- a block stands where it is owned
-some_owned : (b : Option (Counted (List ℕ))) → IfSome b (λ place. 0 < place.owners) → is_some b ≡ ltb 0 (owners_of b)
-some_owned None h = refl
-some_owned (Some b) h = sym (grind (arith, nat_tests))
+standing_different (x ∷ xs) s h = grind (arith, nat_tests, standing_different xs s, standing_different xs (set s x None), taken_out s x, place_at_set s x, h x, self_eq x)
 
 any_times : (q : ℕ) (xs : List ℕ) → list_any (λ (y : ℕ). eqb y q) xs ≡ ltb 0 (times q xs)
 any_times q [] = refl
-any_times q (x ∷ xs) = elim (eqb x q) as (λ t. (t || list_any (λ (y : ℕ). eqb y q) xs) ≡ ltb 0 (cond t 1 0 + times q xs)) [
-  | true ↦ sym (grind (arith, nat_tests))
-  | false ↦ any_times q xs ∙ ap (ltb 0) (let e : times q xs ≡ 0 + times q xs = omega arith in e)
-]
-
--- a leaf that names something is owned
-owned_leaf : (place : Option (Counted (List Slot))) (id : ℕ) → IfSome place (λ p. 0 < p.owners) → 0 < weight place id → 0 < owners_of place
-owned_leaf None id h lt = absurd (omega (arith, lt))
-owned_leaf (Some p) id h lt = h
+any_times q (x ∷ xs) = grind (arith, nat_tests, any_times q xs)
 
 -- a block that a map names is named by a leaf, and a leaf's by a map
 map_backs : (s : Store) (id : ℕ) (ms : List Layout) → 0 < times id (blocks_of s ms) → 0 < backing s.leaves id
 map_backs s id [] lt = absurd (omega (arith, lt))
-map_backs s id (m ∷ ms) lt = ⊎_elim
-    (λ (here : 0 < times id (ids_of (slots_of s m))). slots_backed s m.leaves id here)
-    (λ (none : times id (ids_of (slots_of s m)) ≤ 0). map_backs s id ms (omega (arith, lt, none, times-append id (ids_of (slots_of s m)) (blocks_of s ms))))
-    (order 0 (times id (ids_of (slots_of s m))))
+map_backs s id (m ∷ ms) lt = grind (arith, slots_backed s m.leaves id, map_backs s id ms, times-append id (ids_of (slots_of s m)) (blocks_of s ms))
 
 leaf_names : (s : Store) (leaf id : ℕ) (ms : List Layout) → 0 < named leaf ms → times id (ids_of (leaf_at s leaf)) ≤ times id (blocks_of s ms)
 leaf_names s leaf id [] lt = absurd (omega (arith, lt))
-leaf_names s leaf id (m ∷ ms) lt = ⊎_elim
-    (λ (here : 0 < times leaf m.leaves). omega (arith, slots_least s m.leaves leaf id here, times-append id (ids_of (slots_of s m)) (blocks_of s ms)))
-    (λ (none : times leaf m.leaves ≤ 0). omega (arith, leaf_names s leaf id ms (omega (arith, lt, none)), times-append id (ids_of (slots_of s m)) (blocks_of s ms)))
-    (order 0 (times leaf m.leaves))
+leaf_names s leaf id (m ∷ ms) lt = grind (arith, slots_least s m.leaves leaf id, leaf_names s leaf id ms, times-append id (ids_of (slots_of s m)) (blocks_of s ms))
 
 same_sign : (m n : ℕ) → (0 < m → 0 < n) → (0 < n → 0 < m) → ltb 0 m ≡ ltb 0 n
 same_sign m n there back = grind (arith, nat_tests, there, back)
 
 -- in a store that owes the maps a block is owned where they name it
 named_owned : (s : Store) (maps : List Layout) → Owned s.leaves → Owes s maps → (id : ℕ) → ltb 0 (owners_at s id) ≡ ltb 0 (times id (blocks_of s maps))
-named_owned s maps owned owes id = same_sign (owners_at s id) (times id (blocks_of s maps))
-    (λ lt.
-    let by = backing_some s.leaves id (omega (arith, lt, owes.backed id)) in
-    let stands = owned_leaf (place_at s.leaves by.leaf) id (owned by.leaf) by.names in
-    omega (arith, by.names, leaf_names s by.leaf id maps (omega (arith, stands, owes.counted by.leaf))))
-    (λ lt. omega (arith, map_backs s id maps lt, owes.backed id))
+named_owned s maps owned owes id = same_sign (owners_at s id) (times id (blocks_of s maps)) (λ lt. let by = backing_some s.leaves id (omega (arith, lt, owes.backed id)) in
+    let stands : 0 < owners s.leaves by.leaf = grind (arith, owned by.leaf, by.names) in omega (arith, by.names, leaf_names s by.leaf id maps (omega (arith, stands, owes.counted by.leaf)))) (λ lt. omega (arith, map_backs s id maps lt, owes.backed id))
 
 pub distinct_named : (s : Store) (maps : List Layout) → Owned s.blocks → Owned s.leaves → Owes s maps → count_by is_some s.blocks ≡ different eqb (blocks_of s maps)
-distinct_named s maps blocks leaves owes =
-    count_standing s.blocks ∙ standing_different (blocks_of s maps) s.blocks (λ q.
-    some_owned (place_at s.blocks q) (blocks q) ∙ (named_owned s maps leaves owes q ∙ sym (any_times q (blocks_of s maps))))
+distinct_named s maps blocks leaves owes = count_standing s.blocks ∙ standing_different (blocks_of s maps) s.blocks (λ q. grind (arith, nat_tests, blocks q, named_owned s maps leaves owes q, any_times q (blocks_of s maps)))
 
 -- one to one, there are as many places as blocks
 any_same : (n : Named) (ns : List Named) → ((q : Named) → IsIn q ns → is_place q.place n.place ≡ eqb q.block n.block) → list_any (λ (y : Place). is_place y n.place) (map (λ (m : Named). m.place) ns) ≡ list_any (λ (y : ℕ). eqb y n.block) (map (λ (m : Named). m.block) ns)

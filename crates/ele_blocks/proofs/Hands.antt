@@ -1,41 +1,20 @@
 -- How leaves change hands, one change after another.
-use Rattle.ele_blocks.proofs.Words.{Option, Counted, ◌≡◌, ℕ, ◌+◌, ◌<◌, ◌≤◌, ◌^◌, List, [], ◌∷◌, map, length, take, get_or, Some, None, refl, ap, sym, ◌∙◌, arith, ⊎_elim, unwrap_or, order, map-append, length-take-le, Slot, Hands, AreThere, cell_of, ids_of, AreBacked, backing, times, owners, place_at, value_of, shared, released, leaving, Sets, Trades, Covers, Store, owners_at, bytes_at, leaf_at, slots_in, true, Layout, is_whole, LivesIn, Moves, named, slot_count}
+use Rattle.ele_blocks.proofs.Words.{[], ap, AreBacked, AreThere, arith, backing, bytes_at, cell_of, Counted, Covers, get_or, Hands, ids_of, is_whole, Layout, leaf_at, leaving, length, length-take-le, List, LivesIn, map, map-append, Moves, named, nat_tests, None, Option, owners, owners_at, place_at, refl, released, Sets, shared, Slot, slot_count, slots_in, Some, Store, sym, take, times, Trades, true, unwrap_or, value_of, ℕ, ◌+◌, ◌<◌, ◌^◌, ◌∙◌, ◌∷◌, ◌≡◌, ◌≤◌}
 use Rattle.ele_blocks.proofs.Sized.{fills-map}
-use Rattle.ele_blocks.specs.Hands.{ShowsSame}
 use Rattle.ele_blocks.proofs.Backing.{backing_sets, backing_least, slots_backed, slots_least}
-use Rattle.ele_blocks.proofs.Trades.{times-self, times-le-length, shared_value, released_value, trades_share, trades_release, leaving_last, leaving_none, one_more, times_next}
+use Rattle.ele_blocks.proofs.Trades.{times-self, times-le-length, shared_value, released_value, trades_share, trades_release, leaving_last, one_more, times_next}
 
 pub cells_each : (s t : Store) (slots : List Slot) → ((id : ℕ) → 0 < times id (ids_of slots) → bytes_at t id ≡ bytes_at s id) → map (cell_of t) slots ≡ map (cell_of s) slots
 cells_each s t [] same = refl
-cells_each s t (x ∷ xs) same =
-    let first : bytes_at t x.block ≡ bytes_at s x.block = same x.block (omega (arith, times-self x.block)) in
-    rw (first, cells_each s t xs (λ id lt. same id (omega (arith, lt)))) refl
-
--- blocks that stay show the same
-same_blocks : (s t : Store) (slots : List Slot) → t.blocks ≡ s.blocks → AreThere s slots → ShowsSame s t slots
-same_blocks s t slots same there = record { cells = cells_each s t slots (λ id lt. rw same refl); there = λ id lt. rw same (there id lt) }
+cells_each s t (x ∷ xs) same = grind (arith, times-self x.block, same x.block, cells_each s t xs (λ id lt. same id (omega (arith, lt))))
 
 -- one after the other
 pub hands_then : (a b c : Store) (was now was2 now2 : ℕ → ℕ) → Hands a b was now → Hands b c was2 now2 → Hands a c (λ q. was q + was2 q) (λ q. now q + now2 q)
-hands_then a b c was now was2 now2 h k = record {
-  leaves = λ q. omega (arith, h.leaves q, k.leaves q);
-  blocks = λ id. omega (arith, h.blocks id, k.blocks id);
-  same = λ q lt. k.same q (omega (arith, h.leaves q, lt)) ∙ h.same q (omega (arith, lt));
-  shows = λ q lt there.
-      let same = h.same q (omega (arith, lt)) in
-      let first = h.shows q (omega (arith, lt)) there in
-      let second = rw same at (k.shows q (omega (arith, h.leaves q, lt)) (rw same first.there)) in
-      record { cells = second.cells ∙ first.cells; there = second.there };
-}
+hands_then a b c was now was2 now2 h k = grind (arith, nat_tests)
 
 -- with more that stay on both sides
 pub hands_with : (s t : Store) (was now was2 now2 z : ℕ → ℕ) → Hands s t was now → ((q : ℕ) → was2 q ≡ was q + z q) → ((q : ℕ) → now2 q ≡ now q + z q) → Hands s t was2 now2
-hands_with s t was now was2 now2 z h e f = record {
-  leaves = λ q. omega (arith, h.leaves q, e q, f q);
-  blocks = h.blocks;
-  same = λ q lt. h.same q (omega (arith, lt, e q));
-  shows = λ q lt there. h.shows q (omega (arith, lt, e q)) there;
-}
+hands_with s t was now was2 now2 z h e f = record { leaves = λ q. omega (arith, h.leaves q, e q, f q); blocks = h.blocks; same = λ q lt. h.same q (omega (arith, lt, e q)); shows = λ q lt. h.shows q (omega (arith, lt, e q)) }
 
 -- nothing changes
 pub hands_none : (s : Store) → Hands s s (λ q. 0) (λ q. 0)
@@ -46,11 +25,9 @@ module _ (s t : Store) (leaf : ℕ) (there : 0 < owners s.leaves leaf) where
   alone : (was now : List ℕ) (place : Option (Counted (List Slot))) → t.blocks ≡ s.blocks → Sets s.leaves t.leaves leaf place → value_of place ≡ value_of (place_at s.leaves leaf) → Trades s.leaves t.leaves was now → Hands s t (λ q. times q was) (λ q. times q now)
   alone was now place same sets value trades = record {
     leaves = λ q. omega (arith, trades.owed q);
-    blocks = λ id.
-        let count : owners_at t id ≡ owners_at s id = rw same refl in
-        omega (arith, backing_sets s.leaves t.leaves leaf place id sets, ap (λ v. times id (ids_of (unwrap_or v []))) value, count);
+    blocks = λ id. grind (arith, backing_sets s.leaves t.leaves leaf place id sets, ap (λ v. times id (ids_of (unwrap_or v []))) value);
     same = λ q lt. ap (λ v. unwrap_or v []) (trades.kept q lt);
-    shows = λ q lt stand. same_blocks s t (leaf_at s q) same stand;
+    shows = λ q lt stand. grind (arith, cells_each s t (leaf_at s q));
   }
 
   -- a leaf has an owner more
@@ -59,7 +36,7 @@ module _ (s t : Store) (leaf : ℕ) (there : 0 < owners s.leaves leaf) where
 
   -- a leaf with other owners has one fewer
   pub leaf_stays : None ≡ leaving (place_at s.leaves leaf) → t.blocks ≡ s.blocks → Sets s.leaves t.leaves leaf (released (place_at s.leaves leaf)) → Hands s t (λ q. times q (leaf ∷ [])) (λ q. 0)
-  leaf_stays none same sets = alone (leaf ∷ []) [] _ same sets (released_value (place_at s.leaves leaf) (leaving_none (place_at s.leaves leaf) there none)) (trades_release s.leaves t.leaves leaf there sets)
+  leaf_stays none same sets = alone (leaf ∷ []) [] _ same sets (released_value (place_at s.leaves leaf) (grind (arith, nat_tests))) (trades_release s.leaves t.leaves leaf there sets)
 
   module _ (slots : List Slot) (last : Some slots ≡ leaving (place_at s.leaves leaf)) (backed : AreBacked s (leaf_at s leaf)) where
     its_slots : leaf_at s leaf ≡ slots
@@ -67,40 +44,20 @@ module _ (s t : Store) (leaf : ℕ) (there : 0 < owners s.leaves leaf) where
 
     -- its blocks count it
     pub leaf_covered : Covers s.blocks (ids_of slots)
-    leaf_covered = record {
-      owned = λ id. ⊎_elim
-          (λ (some : 0 < times id (ids_of slots)).
-          let here = ap (λ xs. times id (ids_of xs)) its_slots in
-          omega (arith, backed id (omega (arith, here, some)), backing_least s.leaves leaf id, here))
-          (λ (none : times id (ids_of slots) ≤ 0). omega (arith, none))
-          (order 0 (times id (ids_of slots)));
-    }
+    leaf_covered = record { owned = λ id. grind (arith, backed id, backing_least s.leaves leaf id, ap (λ xs. times id (ids_of xs)) its_slots) }
 
     -- a leaf goes with its last owner, and its blocks have an owner fewer
     pub leaf_goes : Sets s.leaves t.leaves leaf (released (place_at s.leaves leaf)) → Trades s.blocks t.blocks (ids_of slots) [] → Hands s t (λ q. times q (leaf ∷ [])) (λ q. 0)
     leaf_goes sets freed =
         let trades = trades_release s.leaves t.leaves leaf there sets in
-        let is = leaving_last (place_at s.leaves leaf) slots there last in
         let here : (id : ℕ) → times id (ids_of (leaf_at s leaf)) ≡ times id (ids_of slots) = λ id. ap (λ xs. times id (ids_of xs)) its_slots in
-        let left : (id : ℕ) → backing t.leaves id + times id (ids_of slots) ≡ backing s.leaves id = λ id.
-        let none : times id (ids_of (unwrap_or (value_of (released (place_at s.leaves leaf))) [])) ≡ 0 = rw is.gone refl in
-        omega (arith, backing_sets s.leaves t.leaves leaf (released (place_at s.leaves leaf)) id sets, none, here id) in
+        let left : (id : ℕ) → backing t.leaves id + times id (ids_of slots) ≡ backing s.leaves id = λ id. grind (arith, (leaving_last (place_at s.leaves leaf) slots there last).gone, backing_sets s.leaves t.leaves leaf (released (place_at s.leaves leaf)) id sets, here id) in
+        let more : (q id : ℕ) → times q (leaf ∷ []) < owners s.leaves q → AreThere s (leaf_at s q) → 0 < times id (ids_of (leaf_at s q)) → times id (ids_of slots) < owners_at s id = λ q id lt stand some. grind (arith, here id, backed id, left id, backing_least t.leaves q id, ap (λ v. times id (ids_of (unwrap_or v []))) (trades.kept q lt), stand id some, some) in
         record {
           leaves = λ q. omega (arith, trades.owed q);
           blocks = λ id. omega (arith, left id, freed.owed id);
           same = λ q lt. ap (λ v. unwrap_or v []) (trades.kept q lt);
-          shows = λ q lt stand.
-              let same : leaf_at t q ≡ leaf_at s q = ap (λ v. unwrap_or v []) (trades.kept q lt) in
-              let more : (id : ℕ) → 0 < times id (ids_of (leaf_at s q)) → times id (ids_of slots) < owners_at s id = λ id some. ⊎_elim
-              (λ (both : 0 < times id (ids_of slots)).
-              let its = ap (λ xs. times id (ids_of xs)) same in
-              omega (arith, backed id (omega (arith, here id, both)), left id, backing_least t.leaves q id, its, some))
-              (λ (none : times id (ids_of slots) ≤ 0). omega (arith, none, stand id some))
-              (order 0 (times id (ids_of slots))) in
-              record {
-                cells = cells_each s t (leaf_at s q) (λ id some. ap (λ v. unwrap_or v []) (freed.kept id (more id some)));
-                there = λ id some. omega (arith, freed.owed id, more id some);
-              };
+          shows = λ q lt stand. record { cells = cells_each s t (leaf_at s q) (λ id some. ap (λ v. unwrap_or v []) (freed.kept id (more q id lt stand some))); there = λ id some. omega (arith, freed.owed id, more q id lt stand some) };
         }
 
 -- ---- along a list of leaves: those so far, and one more
@@ -113,18 +70,14 @@ module _ (ids : List ℕ) (k id : ℕ) (lt : k < length ids) (is : id ≡ get_or
   share_leaves_few h few = omega (arith, h.leaves id, times-le-length id (take k ids), length-take-le k ids (omega (arith, lt)), lt, few)
 
   pub share_leaves_more : Hands s0 s (λ q. 0) (λ q. times q (take k ids)) → Hands s t (λ q. 0) (λ q. times q (id ∷ [])) → Hands s0 t (λ q. 0) (λ q. times q (take (k + 1) ids))
-  share_leaves_more h one = hands_with s0 t _ _ (λ q. 0) (λ q. times q (take (k + 1) ids)) (λ q. 0) (hands_then s0 s t _ _ _ _ h one) (λ q. refl) (λ q. omega (arith, times_next ids k id lt is q))
+  share_leaves_more h one = grind (arith, hands_with, hands_then, times_next ids k id lt is)
 
   module _ (covers : Covers s0.leaves ids) (h : Hands s0 s (λ q. times q (take k ids)) (λ q. 0)) where
     pub release_leaves_next : 0 < owners s.leaves id
     release_leaves_next = omega (arith, one_more ids k id lt is, covers.owned id, h.leaves id)
 
     pub release_leaves_backed : AreBacked s0 (slots_in s0 ids) → AreBacked s (leaf_at s id)
-    release_leaves_backed backed b some =
-        let more = one_more ids k id lt is in
-        let same = ap (λ xs. times b (ids_of xs)) (h.same id (omega (arith, more, covers.owned id))) in
-        let least = slots_least s0 ids id b (omega (arith, more)) in
-        omega (arith, backed b (omega (arith, some, same, least)), h.blocks b)
+    release_leaves_backed backed b some = grind (arith, nat_tests, one_more, slots_least)
 
     pub release_leaves_more : Hands s t (λ q. times q (id ∷ [])) (λ q. 0) → Hands s0 t (λ q. times q (take (k + 1) ids)) (λ q. 0)
     release_leaves_more one = hands_with s0 t _ _ (λ q. times q (take (k + 1) ids)) (λ q. 0) (λ q. 0) (hands_then s0 s t _ _ _ _ h one) (λ q. omega (arith, times_next ids k id lt is q)) (λ q. refl)
@@ -165,16 +118,8 @@ whole_same s t m stay = rw (stay.cells, fills-map 16 (leaf_at t) (leaf_at s) (sl
 
 -- one map gives way to another
 pub moved_one : (s t : Store) (m n : Layout) → Hands s t (λ q. times q m.leaves) (λ q. times q n.leaves) → is_whole t n ≡ true → Moves s t (m ∷ []) (n ∷ [])
-moved_one s t m n h whole = record {
-  hands = hands_with s t _ _ (λ q. named q (m ∷ [])) (λ q. named q (n ∷ [])) (λ q. 0) h (λ q. refl) (λ q. refl);
-  whole = rw whole refl;
-}
+moved_one s t m n h whole = record { hands = hands_with s t _ _ (λ q. named q (m ∷ [])) (λ q. named q (n ∷ [])) (λ q. 0) h (λ q. refl) (λ q. refl); whole = rw whole refl }
 
 -- a map gets a copy
 pub moved_copy : (s t : Store) (m : Layout) → LivesIn s m → Hands s t (λ q. 0) (λ q. times q m.leaves) → Moves s t [] (m ∷ [])
-moved_copy s t m lives h = record {
-  hands = hands_with s t _ _ (λ q. named q []) (λ q. named q (m ∷ [])) (λ q. 0) h (λ q. refl) (λ q. refl);
-  whole =
-      let stay = stay_in s t _ _ m.leaves h (λ q some. omega (arith, some, lives.owned.owned q)) (leaf_there s m.leaves lives.backed) in
-      rw (whole_same s t m stay, lives.whole) refl;
-}
+moved_copy s t m lives h = grind (arith, nat_tests, hands_with, whole_same, stay_in, leaf_there)

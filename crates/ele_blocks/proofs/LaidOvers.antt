@@ -1,5 +1,5 @@
 -- What stands in each place of a list over which items were laid.
-use Rattle.ele_blocks.proofs.Words.{◌≡◌, ℕ, ◌+◌, ◌-◌, ◌<◌, ◌≤◌, true, false, cond, List, [], ◌∷◌, ◌++◌, length, take, drop, map, refl, ap, sym, ◌∙◌, arith, zero, suc, ltb, leb, append_assoc, ⊎_elim, slice_get, order, set, nat_tests, length-append, length-drop, length-take-le, length-map, map-append, take-map, drop-map, set_split, take_at, drop-drop, laid_over, is_between}
+use Rattle.ele_blocks.proofs.Words.{[], ap, append_assoc, arith, cond, drop, drop-drop, drop-map, is_between, laid_over, length, length-append, length-drop, length-map, length-take-le, List, map, map-append, nat_tests, refl, set, set_split, slice_get, suc, sym, take, take-map, take_at, zero, ℕ, ◌++◌, ◌+◌, ◌-◌, ◌<◌, ◌∙◌, ◌∷◌, ◌≡◌, ◌≤◌}
 
 pub drop_past : {X : Type 0} (xs ys : List X) (a n : ℕ) → n ≡ length xs + a → drop n (xs ++ ys) ≡ drop a ys
 drop_past [] ys a n e = let same : n ≡ a = omega (arith, e) in rw same refl
@@ -40,33 +40,14 @@ module _ {X : Type 0} where
 
     -- the new items stand in their places, and the old ones in all others
     pub laid_at : (k : ℕ) → slice_get (laid_over first new old) k ≡ cond (is_between first (first + length new) k) (slice_get new (k - first)) (slice_get old k)
-    laid_at k = ⊎_elim
-        (λ (before : k < first).
-        let no : leb first k ≡ false = grind (arith, nat_tests, before) in
-        rw no (slice_get-left (take first old) (new ++ back) k (omega (arith, before, front)) ∙ slice_get-take first k old before))
-        (λ (from : first ≤ k).
-        let yes : leb first k ≡ true = grind (arith, nat_tests, from) in
-        slice_get-right (take first old) (new ++ back) (k - first) k (omega (arith, from, front))
-        ∙ ⊎_elim
-        (λ (here : k < first + length new). let too : ltb k (first + length new) ≡ true = grind (arith, nat_tests, here) in rw (yes, too) (slice_get-left new back (k - first) (omega (arith, from, here))))
-        (λ (past : first + length new ≤ k).
-        let no : ltb k (first + length new) ≡ false = grind (arith, nat_tests, past) in
-        let place : first + length new + (k - first - length new) ≡ k = omega (arith, past) in
-        rw (yes, no) (slice_get-right new back (k - first - length new) (k - first) (omega (arith, past)) ∙ (slice_get-drop (first + length new) (k - first - length new) old ∙ ap (slice_get old) place)))
-        (order k (first + length new)))
-        (order k first)
+    laid_at k = grind (arith, nat_tests, front, slice_get-left (take first old) (new ++ back) k, slice_get-take first k old, slice_get-right (take first old) (new ++ back) (k - first) k, slice_get-left new back (k - first), slice_get-right new back (k - first - length new) (k - first), slice_get-drop (first + length new) (k - first - length new) old)
 
     -- one item behind those that were laid
     pub laid_more : (n : ℕ) (y : X) → n ≡ first + length new → laid_over n (y ∷ []) (laid_over first new old) ≡ laid_over first (new ++ y ∷ []) old
     laid_more n y e =
-        let p = take first old ++ new in
-        let size : length p ≡ n = omega (arith, e, length-append (take first old) new, front) in
-        let apart : laid_over first new old ≡ p ++ back = sym (append_assoc (take first old) new back) in
-        let behind : first + length new + 1 ≡ first + length (new ++ y ∷ []) = omega (arith, length-append new (y ∷ [])) in
-        ap (λ l. laid_over n (y ∷ []) l) apart
-        ∙ (rw (take_at p back n size, drop_past p back 1 (n + 1) (omega (arith, size)), drop-drop 1 (first + length new) old, behind)
-        (append_assoc (take first old) new (y ∷ drop (first + length (new ++ y ∷ [])) old)
-        ∙ ap (λ l. take first old ++ l) (sym (append_assoc new (y ∷ []) (drop (first + length (new ++ y ∷ [])) old)))))
+        let size : length (take first old ++ new) ≡ n = omega (arith, e, length-append (take first old) new, front) in
+        let apart : laid_over first new old ≡ (take first old ++ new) ++ back = sym (append_assoc (take first old) new back) in
+        rw (apart, take_at (take first old ++ new) back n size, drop_past (take first old ++ new) back 1 (n + 1) (omega (arith, size)), drop-drop 1 (first + length new) old) (grind (arith, append_assoc, length-append))
 
 pub laid_over-map : {X Y : Type 0} (g : X → Y) (first : ℕ) (new old : List X) → map g (laid_over first new old) ≡ laid_over first (map g new) (map g old)
 laid_over-map g first new old =

@@ -4,13 +4,15 @@ pub mod Trades
 pub mod Backing
 pub mod Hands
 pub mod Sizes
+pub mod LaidOvers
+pub mod Splices
+pub mod Lemmas
 pub mod Distincts
 pub mod OneToOnes
 pub mod Renewals
 pub mod Stocks
-pub mod LaidOvers
-pub mod Splices
 pub mod Patches
 pub mod Changes
 pub mod Runs
 mod Counts
+mod Cited

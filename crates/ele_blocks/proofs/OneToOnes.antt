@@ -1,6 +1,5 @@
 -- A change by a new writer leaves slots and blocks one to one.
-use Rattle.ele_blocks.proofs.Words.{slice_get_within, ◌≡◌, ◌⊎◌, ℕ, ◌+◌, ◌<◌, ◌≤◌, Bool, true, false, List, [], ◌∷◌, ◌++◌, Option, Some, None, refl, ap, sym, ◌∙◌, arith, eqb, zero, suc, inl, inr, ⊎_elim, subst, slice_get, order, false≢true, nat_tests, Slot, times, Store, owners_at, Layout, slots_of, ids_of, LivesIn, Moves, Renews, Place, is_place, Named, IsIn, AreOneToOne, names_from, names_of}
-use Rattle.ele_blocks.proofs.Hands.{backed_there}
+use Rattle.ele_blocks.proofs.Lemmas.{[], AreOneToOne, arith, backed_there, Bool, eqb, false, false≢true, ids_of, inl, inr, is_place, IsIn, Layout, List, LivesIn, Moves, Named, names_from, names_of, nat_tests, None, Option, owners_at, refl, Renews, slice_get, slice_get_within, Slot, slots_of, Some, Store, suc, times, true, zero, ℕ, ⊎_elim, ◌++◌, ◌+◌, ◌<◌, ◌∷◌, ◌≡◌, ◌≤◌, ◌⊎◌}
 
 -- no name is of this writer of the file
 abbrev pub NoneBy : ℕ → ℕ → List Named → Type 0
@@ -15,7 +14,7 @@ name_of file slot x = record { place = record { file = file; slot = slot; writer
 
 pub in_either : (n : Named) (xs ys : List Named) → IsIn n (xs ++ ys) → IsIn n xs ⊎ IsIn n ys
 in_either n [] ys i = inr i
-in_either n (x ∷ xs) ys i = ⊎_elim (λ (e : n ≡ x). inl (inl e)) (λ (j : IsIn n (xs ++ ys)). ⊎_elim (λ (a : IsIn n xs). inl (inr a)) (λ (b : IsIn n ys). inr b) (in_either n xs ys j)) i
+in_either n (x ∷ xs) ys i = grind (arith, in_either n xs ys)
 
 pub in_front : (n : Named) (xs ys : List Named) → IsIn n xs → IsIn n (xs ++ ys)
 in_front n [] ys i = absurd i
@@ -34,57 +33,25 @@ pub record IsSlot (n : Named) (file first : ℕ) (slots : List Slot) : Type 0 wh
 
 slot_from : (n : Named) (file first : ℕ) (slots : List Slot) → IsIn n (names_from file first slots) → IsSlot n file first slots
 slot_from n file first [] i = absurd i
-slot_from n file first (x ∷ xs) i = ⊎_elim
-    (λ (e : n ≡ name_of file first x). record { place = 0; cell = x; got = refl; is = e ∙ ap (λ k. name_of file k x) (let z : first ≡ first + 0 = omega arith in z) })
-    (λ (j : IsIn n (names_from file (first + 1) xs)).
-    let h = slot_from n file (first + 1) xs j in
-    record { place = suc h.place; cell = h.cell; got = h.got; is = h.is ∙ ap (λ k. name_of file k h.cell) (let z : first + 1 + h.place ≡ first + suc h.place = omega arith in z) })
-    i
+slot_from n file first (x ∷ xs) i = ⊎_elim (λ (e : n ≡ name_of file first x). record { place = 0; cell = x; got = refl; is = grind (arith) })
+    (λ (j : IsIn n (names_from file (first + 1) xs)). let h = slot_from n file (first + 1) xs j in record { place = suc h.place; cell = h.cell; got = h.got; is = grind (arith, h.is) }) i
 
 slot_in : (file first k : ℕ) (slots : List Slot) (x : Slot) → slice_get slots k ≡ Some x → IsIn (name_of file (first + k) x) (names_from file first slots)
 slot_in file first k [] x e = absurd (let none : Option Slot = None in cc)
-slot_in file first zero (y ∷ ys) x e =
-    let same : y ≡ x = cc in
-    let z : first + 0 ≡ first = omega arith in
-    inl (ap (λ k. name_of file k x) z ∙ ap (name_of file first) (sym same))
-slot_in file first (suc k) (y ∷ ys) x e =
-    let z : first + suc k ≡ first + 1 + k = omega arith in
-    let P : ℕ → Type 0 = λ n. IsIn (name_of file n x) (names_from file (first + 1) ys) in
-    inr (subst P (sym z) (slot_in file (first + 1) k ys x e))
+slot_in file first zero (y ∷ ys) x e = grind (arith, nat_tests)
+slot_in file first (suc k) (y ∷ ys) x e = grind (arith, nat_tests, slot_in file (first + 1) k ys x e)
 
 times_got : (k : ℕ) (slots : List Slot) (x : Slot) → slice_get slots k ≡ Some x → 0 < times x.block (ids_of slots)
 times_got k [] x e = absurd cc
-times_got zero (y ∷ ys) x e =
-    let same : y ≡ x = cc in
-    let one : eqb x.block x.block ≡ true = grind (arith, nat_tests) in
-    rw (same, one) (omega arith)
+times_got zero (y ∷ ys) x e = grind (arith, nat_tests)
 times_got (suc k) (y ∷ ys) x e = omega (arith, times_got k ys x e)
 
 -- the same block in two places is named twice
 times_two : (j k : ℕ) (slots : List Slot) (x y : Slot) → j < k → slice_get slots j ≡ Some x → slice_get slots k ≡ Some y → x.block ≡ y.block → 1 < times x.block (ids_of slots)
 times_two j k [] x y lt e h b = absurd cc
 times_two j zero (z ∷ zs) x y lt e h b = absurd (omega (arith, lt))
-times_two zero (suc k) (z ∷ zs) x y lt e h b =
-    let same : z ≡ x = cc in
-    let one : eqb x.block x.block ≡ true = grind (arith, nat_tests) in
-    let rest : 0 < times x.block (ids_of zs) = rw b (times_got k zs y h) in
-    rw (same, one) (omega arith)
+times_two zero (suc k) (z ∷ zs) x y lt e h b = grind (arith, nat_tests, times_got)
 times_two (suc j) (suc k) (z ∷ zs) x y lt e h b = omega (arith, times_two j k zs x y (omega (arith, lt)) e h b)
-
-pub record SamePlace (p q : Place) : Type 0 where
-  pub file : p.file ≡ q.file
-  pub slot : p.slot ≡ q.slot
-  pub writer : p.writer ≡ q.writer
-
-pub place_same : (p q : Place) → is_place p q ≡ true → SamePlace p q
-place_same p q h = record { file = grind (arith, nat_tests, h); slot = grind (arith, nat_tests, h); writer = grind (arith, nat_tests, h) }
-
-place_back : (p q : Place) → SamePlace p q → is_place q p ≡ true
-place_back p q h = grind (arith, nat_tests, h.file, h.slot, h.writer)
-
-not_true : (b : Bool) → (b ≡ true → ⊥) → b ≡ false
-not_true true h = absurd (h refl)
-not_true false h = refl
 
 -- each block of a map that lives is owned
 pub slot_owned : (s : Store) (m : Layout) → LivesIn s m → (k : ℕ) (x : Slot) → slice_get (slots_of s m) k ≡ Some x → 0 < owners_at s x.block
@@ -92,10 +59,7 @@ slot_owned s m lives k x e = backed_there s m.leaves lives.backed x.block (times
 
 -- and so is what its names name
 pub names_owned : (s : Store) (file : ℕ) (m : Layout) → LivesIn s m → AreOwnedNames s (names_of s file m)
-names_owned s file m lives n i =
-    let h = slot_from n file 0 (slots_of s m) i in
-    let b = ap (λ (m : Named). owners_at s m.block) h.is in
-    omega (arith, slot_owned s m lives h.place h.cell h.got, b)
+names_owned s file m lives n i = grind (arith, nat_tests, slot_from, slot_owned)
 
 module _ (s t : Store) (w file : ℕ) (p : ℕ → Bool) (was now : Layout) (rest : List Named) (lives : LivesIn s was) (moves : Moves s t (was ∷ []) (now ∷ [])) (renews : Renews s t w p was now) (none : NoneBy file w rest) (owned : AreOwnedNames s rest) (one : AreOneToOne (names_of s file was ++ rest)) where
   -- a name after the change is fresh, or it was there before and is in no renewed slot by the writer
@@ -114,88 +78,24 @@ module _ (s t : Store) (w file : ℕ) (p : ℕ → Bool) (was now : Layout) (res
     pub held : 0 < owners_at s n.block
 
   of_slot : (n : Named) → IsSlot n file 0 (slots_of t now) → IsFresh n ⊎ IsOld n
-  of_slot n h =
-      let is : n ≡ name_of file h.place h.cell = h.is ∙ ap (λ k. name_of file k h.cell) (let z : 0 + h.place ≡ h.place = omega arith in z) in
-      elim (p h.place) as (λ b. p h.place ≡ b → IsFresh n ⊎ IsOld n) [
-        | true ↦ λ e.
-            let new = rw h.got at (renews.fresh h.place e) in
-            inl (record { place = h.place; cell = h.cell; got = h.got; is = is; renewed = e; writer = new.0; free = new.1 })
-        | false ↦ λ e.
-            let old = sym (renews.stays h.place e (slice_get_within (slots_of t now) h.place h.cell h.got)) ∙ h.got in
-            let here = slot_in file 0 h.place (slots_of s was) h.cell old in
-            let P : Named → Type 0 = λ m. IsIn m (names_of s file was) in
-            inr (record {
-              before = in_front n (names_of s file was) rest (subst P (sym h.is) here);
-              stays = λ f v. ap (λ (m : Named). p m.place.slot) is ∙ e;
-              held = names_owned s file was lives n (subst P (sym h.is) here);
-            })
-      ] refl
+  of_slot n h = grind (arith, nat_tests, slot_in, slice_get_within, in_front, names_owned)
 
   of_name : (n : Named) → IsIn n (names_of t file now ++ rest) → IsFresh n ⊎ IsOld n
-  of_name n i = ⊎_elim
-      (λ (a : IsIn n (names_of t file now)). of_slot n (slot_from n file 0 (slots_of t now) a))
-      (λ (b : IsIn n rest). inr (record { before = in_back n (names_of s file was) rest b; stays = λ f v. absurd (none n b f v); held = owned n b }))
-      (in_either n (names_of t file now) rest i)
+  of_name n i = ⊎_elim (λ a. of_slot n (slot_from n file 0 (slots_of t now) a)) (λ b. inr (record { before = in_back n (names_of s file was) rest b; stays = λ f v. absurd (none n b f v); held = owned n b })) (in_either n (names_of t file now) rest i)
 
   -- a fresh name is apart from an old one
   apart_place : (m n : Named) → IsFresh m → IsOld n → is_place m.place n.place ≡ true → ⊥
-  apart_place m n h k e =
-      let same = place_same m.place n.place e in
-      let f : n.place.file ≡ file = sym same.file ∙ ap (λ (q : Named). q.place.file) h.is in
-      let v : n.place.writer ≡ w = sym same.writer ∙ (ap (λ (q : Named). q.place.writer) h.is ∙ h.writer) in
-      let slot : n.place.slot ≡ h.place = sym same.slot ∙ ap (λ (q : Named). q.place.slot) h.is in
-      false≢true (sym (k.stays f v) ∙ (ap p slot ∙ h.renewed))
+  apart_place m n h k e = grind (arith, nat_tests, false≢true)
 
   apart_block : (m n : Named) → IsFresh m → IsOld n → m.block ≡ n.block → ⊥
-  apart_block m n h k e =
-      let b : h.cell.block ≡ n.block = sym (ap (λ (q : Named). q.block) h.is) ∙ e in
-      let o = ap (owners_at s) b in
-      absurd (omega (arith, h.free, k.held, o))
+  apart_block m n h k e = grind (arith, nat_tests)
 
   -- a fresh block is named once
   once : (m : Named) → (h : IsFresh m) → times h.cell.block (ids_of (slots_of t now)) ≤ 1
   once m h = renews.once h.cell.block h.free
 
-  eqb_no : (a b : ℕ) → (a ≡ b → ⊥) → eqb a b ≡ false
-  eqb_no a b h = not_true (eqb a b) (λ e. h (grind (arith, nat_tests)))
-
   fresh_both : (m n : Named) → IsFresh m → IsFresh n → is_place m.place n.place ≡ eqb m.block n.block
-  fresh_both m n h k =
-      let apart : (h.place < k.place) ⊎ (k.place < h.place) → is_place m.place n.place ≡ eqb m.block n.block = λ d.
-      let places : is_place m.place n.place ≡ false = not_true (is_place m.place n.place) (λ e.
-      let same = place_same m.place n.place e in
-      let z : h.place ≡ k.place = sym (ap (λ (q : Named). q.place.slot) h.is) ∙ (same.slot ∙ ap (λ (q : Named). q.place.slot) k.is) in
-      ⊎_elim (λ (lt : h.place < k.place). absurd (omega (arith, lt, z))) (λ (lt : k.place < h.place). absurd (omega (arith, lt, z))) d) in
-      let blocks : eqb m.block n.block ≡ false = eqb_no m.block n.block (λ e.
-      let b : h.cell.block ≡ k.cell.block = sym (ap (λ (q : Named). q.block) h.is) ∙ (e ∙ ap (λ (q : Named). q.block) k.is) in
-      ⊎_elim
-      (λ (lt : h.place < k.place). absurd (omega (arith, times_two h.place k.place (slots_of t now) h.cell k.cell lt h.got k.got b, once m h)))
-      (λ (lt : k.place < h.place). absurd (omega (arith, times_two k.place h.place (slots_of t now) k.cell h.cell lt k.got h.got (sym b), once n k)))
-      d) in
-      places ∙ sym blocks in
-      ⊎_elim
-      (λ (lt : h.place < k.place). apart (inl lt))
-      (λ (le : k.place ≤ h.place). ⊎_elim
-      (λ (lt : k.place < h.place). apart (inr lt))
-      (λ (ge : h.place ≤ k.place).
-      let z : h.place ≡ k.place = omega (arith, le, ge) in
-      let cells : h.cell ≡ k.cell = let e = sym h.got ∙ (ap (slice_get (slots_of t now)) z ∙ k.got) in cc in
-      let same : m ≡ n = h.is ∙ (ap (λ q. name_of file q h.cell) z ∙ (ap (name_of file k.place) cells ∙ sym k.is)) in
-      let self : (x : ℕ) → eqb x x ≡ true = λ x. grind (arith, nat_tests) in
-      rw (same, self n.place.file, self n.place.slot, self n.place.writer, self n.block) refl)
-      (order k.place h.place))
-      (order h.place k.place)
+  fresh_both m n h k = grind (arith, nat_tests, times_two)
 
   pub stays_one_to_one : AreOneToOne (names_of t file now ++ rest)
-  stays_one_to_one m n i j = ⊎_elim
-      (λ (h : IsFresh m). ⊎_elim
-      (λ (k : IsFresh n). fresh_both m n h k)
-      (λ (k : IsOld n). not_true (is_place m.place n.place) (apart_place m n h k) ∙ sym (eqb_no m.block n.block (apart_block m n h k)))
-      (of_name n j))
-      (λ (h : IsOld m). ⊎_elim
-      (λ (k : IsFresh n).
-      not_true (is_place m.place n.place) (λ e. apart_place n m k h (place_back m.place n.place (place_same m.place n.place e)))
-      ∙ sym (eqb_no m.block n.block (λ e. apart_block n m k h (sym e))))
-      (λ (k : IsOld n). one m n h.before k.before)
-      (of_name n j))
-      (of_name m i)
+  stays_one_to_one m n i j = grind (arith, nat_tests, fresh_both, apart_place, apart_block, of_name)

@@ -1,16 +1,11 @@
 -- New leaves in place of others: blocks are put, those that stay are shared, leaves are put, and the
 -- old leaves released.
-use Rattle.ele_blocks.proofs.Words.{◌≡◌, ℕ, ◌+◌, ◌<◌, ◌≤◌, ◌^◌, List, [], ◌∷◌, ◌++◌, length, map, take, drop, Some, refl, ap, sym, ◌∙◌, arith, unwrap_or, flat_map, length-map, length-take-le, length-drop, flat_map-map, Slot, Hands, AreThere, laid_over, cell_of, cell_by, slot_by, ids_of, AreBacked, backing, leaf_count, IsLaid, IsRenewed, parts, times, owners, value_at, Trades, Adds, Covers, Store, bytes_at, leaf_at, slots_in, Counted, Option}
-use Rattle.ele_blocks.proofs.Backing.{slots_least}
+use Rattle.ele_blocks.proofs.Lemmas.{[], Adds, ap, AreBacked, AreThere, arith, backing, bytes_at, cell_by, cell_of, cells_each, chunks_joined, Counted, Covers, drop, flat_map, flat_map-map, Hands, hands_then, hands_with, ids_of, IsLaid, IsRenewed, laid_over, laid_over-map, leaf_at, leaf_count, leaf_there, length, length-drop, length-map, length-take-le, List, map, nat_tests, Option, owners, parts, refl, Slot, slot_by, slots_in, slots_least, Some, stay_in, Store, sym, take, times, times-ids, times-le-length, times-split, Trades, unwrap_or, value_at, values_stay, ℕ, ◌++◌, ◌+◌, ◌<◌, ◌^◌, ◌∙◌, ◌∷◌, ◌≡◌, ◌≤◌}
 use Rattle.ele_blocks.proofs.Distincts.{Blocks}
-use Rattle.ele_blocks.proofs.Hands.{cells_each, hands_then, hands_with, stay_in, leaf_there}
-use Rattle.ele_blocks.proofs.LaidOvers.{laid_over-map}
-use Rattle.ele_blocks.proofs.Sized.{chunks_joined}
-use Rattle.ele_blocks.proofs.Trades.{times-ids, times-split, values_stay, times-le-length}
 
 ids_of_fresh : (w : ℕ) (fresh : List ℕ) → ids_of (map (slot_by w) fresh) ≡ fresh
 ids_of_fresh w [] = refl
-ids_of_fresh w (x ∷ xs) = ap (λ ys. x ∷ ys) (ids_of_fresh w xs)
+ids_of_fresh w (x ∷ xs) = rw (ids_of_fresh w xs) refl
 
 cells_of_fresh : (s : Store) (w : ℕ) (fresh : List ℕ) → map (cell_of s) (map (slot_by w) fresh) ≡ map (cell_by w) (map (bytes_at s) fresh)
 cells_of_fresh s w [] = refl
@@ -21,10 +16,7 @@ values_are : {X : Type 0} (s : List (Option (Counted (List X)))) (ids : List ℕ
 values_are s [] [] h = refl
 values_are s [] (x ∷ xs) h = absurd cc
 values_are s (id ∷ ids) [] h = absurd cc
-values_are s (id ∷ ids) (x ∷ xs) h =
-    let first : value_at s id ≡ Some x = cc in
-    let rest : map (value_at s) ids ≡ map (λ x. Some x) xs = cc in
-    rw (first, values_are s ids xs rest) refl
+values_are s (id ∷ ids) (x ∷ xs) h = grind (arith, values_are s ids xs (cc))
 
 pub times_laid : (window : List Slot) (first w : ℕ) (fresh : List ℕ) (q : ℕ) → times q (ids_of (laid_over first (map (slot_by w) fresh) window)) ≡ times q (ids_of (take first window)) + (times q fresh + times q (ids_of (drop (first + length fresh) window)))
 times_laid window first w fresh q = rw (← (length-map fresh (slot_by w))) (omega (arith, times-ids q (take first window) (map (slot_by w) fresh ++ drop (first + length (map (slot_by w) fresh)) window), times-ids q (map (slot_by w) fresh) (drop (first + length (map (slot_by w) fresh)) window), ap (times q) (ids_of_fresh w fresh)))
@@ -42,9 +34,7 @@ module _ {s b1 : Blocks} {window : List Slot} {first : ℕ} {fresh : List ℕ} (
   front_there id some = omega (arith, h.there id (omega (arith, some, times-split id first window)), h.adds.trades.owed id)
 
   pub front_few : (id : ℕ) → 0 < times id (ids_of (take first window)) → owners b1 id + length (take first window) ≤ 2 ^ 63
-  front_few id some =
-      let in_it : 0 < times id (ids_of window) = omega (arith, some, times-split id first window) in
-      omega (arith, h.few id in_it, h.adds.trades.owed id, h.adds.fresh id (h.there id in_it), length-take-le first window h.within, h)
+  front_few id some = grind (arith, nat_tests, times-split, length-take-le)
 
   module _ (b2 : Blocks) (shared : Trades b1 b2 [] (ids_of (take first window))) where
     abbrev back : List Slot
@@ -54,19 +44,17 @@ module _ {s b1 : Blocks} {window : List Slot} {first : ℕ} {fresh : List ℕ} (
     back_there id some = omega (arith, h.there id (omega (arith, some, times-split id (first + length fresh) window)), h.adds.trades.owed id, shared.owed id)
 
     pub back_few : (id : ℕ) → 0 < times id (ids_of (drop (first + length fresh) window)) → owners b2 id + length (drop (first + length fresh) window) ≤ 2 ^ 63
-    back_few id some =
-        let in_it : 0 < times id (ids_of window) = omega (arith, some, times-split id (first + length fresh) window) in
-        omega (arith, h.few id in_it, h.adds.trades.owed id, h.adds.fresh id (h.there id in_it), shared.owed id, times-le-length id (ids_of (take first window)), length-map (take first window) (λ (x : Slot). x.block), length-take-le first window h.within, h, length-drop (first + length fresh) window)
+    back_few id some = grind (arith, h, h.few id, h.adds.trades.owed id, h.adds.fresh id, h.there id, shared.owed id, times-split id (first + length fresh) window, times-le-length id (ids_of (take first window)), length-map (take first window) (λ (x : Slot). x.block), length-take-le first window h.within, length-drop (first + length fresh) window)
 
     pub is_laid : (b3 : Blocks) (w : ℕ) (staged : List (List ℕ)) (slots : List Slot) → Trades b2 b3 [] (ids_of (drop (first + length fresh) window)) → map (value_at b1) fresh ≡ map (λ x. Some x) staged → slots ≡ laid_over first (map (slot_by w) fresh) window → IsLaid s b3 window first w staged slots
     is_laid b3 w staged slots more values are = record {
       blocks = fresh;
       fresh = h.adds.fresh;
       once = h.adds.once;
-      values = values_stay b2 b3 [] (ids_of back) fresh more (λ id. omega (arith, h.adds.trades.owed id, shared.owed id)) ∙ (values_stay b1 b2 [] (ids_of (take first window)) fresh shared (λ id. omega (arith, h.adds.trades.owed id)) ∙ values);
       are = are;
+      values = values_stay b2 b3 [] (ids_of back) fresh more (λ id. omega (arith, h.adds.trades.owed id, shared.owed id)) ∙ (values_stay b1 b2 [] (ids_of (take first window)) fresh shared (λ id. omega (arith, h.adds.trades.owed id)) ∙ values);
       owed = λ id. omega (arith, h.adds.trades.owed id, shared.owed id, more.owed id, times_laid window first w fresh id, ap (λ xs. times id (ids_of xs)) are);
-      kept = λ id some. more.kept id (omega (arith, some, h.adds.trades.owed id, shared.owed id)) ∙ (shared.kept id (omega (arith, some, h.adds.trades.owed id)) ∙ h.adds.trades.kept id some);
+      kept = λ id some. grind (arith, more.kept id, h.adds.trades.owed id, shared.owed id, shared.kept id, h.adds.trades.kept id);
     }
 
 -- new leaves hold the slots, and the old ones go
@@ -84,12 +72,7 @@ module _ {s mid : Store} {window : List Slot} {first w : ℕ} {staged : List (Li
   same_cells xs stand = cells_each s mid xs (λ id some. ap (λ v. unwrap_or v []) (h.laid.kept id (stand id some)))
 
   came : Hands s mid (λ q. 0) (λ q. times q now)
-  came = record {
-    leaves = λ q. omega (arith, h.puts.trades.owed q);
-    blocks = λ id. omega (arith, h.laid.owed id, h.backs id);
-    same = λ q lt. ap (λ v. unwrap_or v []) (h.puts.trades.kept q lt);
-    shows = λ q lt stand. record { cells = same_cells (leaf_at s q) stand; there = λ id some. omega (arith, stand id some, h.laid.owed id) };
-  }
+  came = grind (arith, nat_tests, same_cells)
 
   now_parts : map (leaf_at mid) now ≡ parts slots
   now_parts = values_are mid.leaves now (parts slots) h.values
@@ -98,25 +81,20 @@ module _ {s mid : Store} {window : List Slot} {first w : ℕ} {staged : List (Li
   now_slots = sym (flat_map-map (λ (leaf : List Slot). leaf) (leaf_at mid) now) ∙ (ap (flat_map (λ (leaf : List Slot). leaf)) now_parts ∙ chunks_joined 16 (omega arith) (leaf_count (length slots)) slots (omega arith))
 
   now_cells : map (cell_of mid) (slots_in mid now) ≡ laid_over first (map (cell_by w) staged) (map (cell_of s) window)
-  now_cells =
-      let new : map (bytes_at mid) h.laid.blocks ≡ staged = values_are mid.blocks h.laid.blocks staged h.laid.values in
-      ap (map (cell_of mid)) (now_slots ∙ h.laid.are) ∙ (laid_over-map (cell_of mid) first (map (slot_by w) h.laid.blocks) window ∙ rw (cells_of_fresh mid w h.laid.blocks, new, same_cells window h.there) refl)
+  now_cells = rw (now_slots, h.laid.are, laid_over-map (cell_of mid) first (map (slot_by w) h.laid.blocks) window, cells_of_fresh mid w h.laid.blocks, values_are mid.blocks h.laid.blocks staged h.laid.values, same_cells window h.there) refl
 
   pub was_backed : AreBacked mid (slots_in mid was)
-  was_backed id some =
-      let stay = stay_in s mid _ _ was came (λ q lt. omega (arith, lt, h.owned.owned q)) (leaf_there s was h.backed) in
-      let same = ap (λ xs. times id (ids_of xs)) stay.slots in
-      omega (arith, h.backed id (omega (arith, some, same)), h.laid.owed id, h.backs id)
+  was_backed id some = let stay = stay_in s mid _ _ was came (λ q lt. omega (arith, lt, h.owned.owned q)) (leaf_there s was h.backed) in
+      omega (arith, h.backed id, some, ap (λ xs. times id (ids_of xs)) stay.slots, h.laid.owed id, h.backs id)
 
   pub renewed : (u : Store) → Hands mid u (λ q. times q was) (λ q. 0) → IsRenewed s u was window first w staged now
   renewed u went =
-      let stay = stay_in mid u _ _ now went (λ q lt. omega (arith, lt, h.owned.owned q, h.puts.trades.owed q)) (λ q lt id some.
-      omega (arith, some, slots_least mid now q id lt, ap (λ xs. times id (ids_of xs)) now_slots, h.laid.owed id)) in
+      let stay = stay_in mid u _ _ now went (λ q lt. omega (arith, lt, h.owned.owned q, h.puts.trades.owed q)) (λ q lt id some. omega (arith, some, slots_least mid now q id lt, ap (λ xs. times id (ids_of xs)) now_slots, h.laid.owed id)) in
       record {
         blocks = h.laid.blocks;
         fresh = h.laid.fresh;
         once = h.laid.once;
-        count = sym (length-map h.laid.blocks (value_at mid.blocks)) ∙ (ap length h.laid.values ∙ length-map staged (λ x. Some x));
+        count = grind (arith, length-map, ap length h.laid.values);
         leaves = stay.leaves ∙ (now_parts ∙ ap parts h.laid.are);
         cells = stay.cells ∙ now_cells;
         hands = hands_with s u _ _ (λ q. times q was) (λ q. times q now) (λ q. 0) (hands_then s mid u _ _ _ _ came went) (λ q. omega arith) (λ q. omega arith);

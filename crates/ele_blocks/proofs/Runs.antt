@@ -1,27 +1,12 @@
 -- New slots over the first slots of a map, and new leaves in place of the run of those that they meet.
-use Rattle.ele_blocks.proofs.Words.{◌≡◌, ◌⊎◌, ℕ, ◌+◌, ◌-◌, ◌*◌, ◌/◌, ◌<◌, ◌≤◌, cond, List, [], ◌++◌, length, map, take, drop, min, max, get_or, refl, ap, sym, ◌∙◌, arith, ⊎_elim, inl, inr, slice_get, order, take-add, flat_map, nat_tests, flat_map-append, append-nil, append_assoc, map-append, map-id, take-append-drop, take_all, drop_all, take-take, take_at, take-append-le, drop-append-le, drop-drop, take-map, length-map, length-take, length-take-le, length-drop, length-append, get_or-map, flat_map-map, slice_get-get_or, slot_count, Slot, AreThere, laid_over, Layout, slots_of, shown, ids_of, cell_of, slot_by, cell_by, is_between, LivesIn, AreBacked, leaf_count, AreSized, IsRenewed, IsReplaced, parts, Renews, times, Covers, Store, owners_at, leaf_at, slots_in}
-use Rattle.ele_blocks.proofs.Hands.{StayIn, stay_in, hands_with, leaf_there, backed_there}
-use Rattle.ele_blocks.proofs.LaidOvers.{length-laid_over, laid_at, drop_past, slice_get-take}
+use Rattle.ele_blocks.proofs.Lemmas.{[], ap, append-nil, append_assoc, AreBacked, AreSized, AreThere, arith, backed_there, cell_by, cell_of, chunks_joined, cond, Covers, drop, drop-append-le, drop-drop, drop_all, drop_past, flat-drop, flat-take, flat_map, flat_map-append, flat_map-map, get_or, get_or-map, hands_with, ids_of, inl, inr, is_between, IsRenewed, IsReplaced, laid_at, laid_over, Layout, leaf_at, leaf_count, leaf_there, leaves-count, length, length-append, length-chunks, length-drop, length-laid_over, length-map, length-take, length-take-le, List, LivesIn, map, map-append, map-id, max, min, nat_tests, order, owners_at, parts, refl, Renews, shown, sized-append, sized-chunks, sized-count, sized-drop, sized-is, sized-length, sized-map, sized-take, slice_get, slice_get-get_or, slice_get-take, Slot, slot_by, slot_count, slots-count, slots_in, slots_of, stay_in, StayIn, Store, sym, take, take-add, take-append-drop, take-append-le, take-map, take-take, take_all, take_at, take_past, times, times-append, times-split, times_at, whole_is, ℕ, ⊎_elim, ◌*◌, ◌++◌, ◌+◌, ◌-◌, ◌/◌, ◌<◌, ◌∙◌, ◌≡◌, ◌≤◌, ◌⊎◌}
 use Rattle.ele_blocks.proofs.Renewals.{times_laid}
-use Rattle.ele_blocks.proofs.Sized.{sized-is, sized-length, sized-count, sized-take, sized-drop, sized-append, sized-map, sized-chunks, chunks_joined, length-chunks, flat-take, flat-drop}
-use Rattle.ele_blocks.proofs.Sizes.{whole_is, slots-count, leaves-count}
-use Rattle.ele_blocks.proofs.Splices.{take_past}
-use Rattle.ele_blocks.proofs.Trades.{times-split, times-append, times_at}
 
 -- what is laid over the middle of a list, or over its end
 laid_apart : {X : Type 0} (first at : ℕ) (new front middle back : List X) → first ≡ length front + at → at ≤ length middle → (at + length new ≤ length middle) ⊎ (back ≡ []) → laid_over first new (front ++ (middle ++ back)) ≡ front ++ (laid_over at new middle ++ back)
 laid_apart first at new front middle back is within fit =
-    let n = length new in
-    let rest : drop (at + n) (middle ++ back) ≡ drop (at + n) middle ++ back = ⊎_elim
-    (λ (le : at + n ≤ length middle). drop-append-le (at + n) middle back le)
-    (λ (none : back ≡ []). rw none (ap (drop (at + n)) (append-nil middle) ∙ sym (append-nil (drop (at + n) middle))))
-    fit in
-    let head = take_past front (middle ++ back) at first is ∙ ap (λ ys. front ++ ys) (take-append-le at middle back within) in
-    let tail = drop_past front (middle ++ back) (at + n) (first + n) (omega (arith, is)) ∙ rest in
-    ap (λ ys. ys ++ (new ++ drop (first + n) (front ++ (middle ++ back)))) head
-    ∙ (ap (λ ys. (front ++ take at middle) ++ (new ++ ys)) tail
-    ∙ (append_assoc front (take at middle) (new ++ (drop (at + n) middle ++ back))
-    ∙ ap (λ ys. front ++ ys) (ap (λ ys. take at middle ++ ys) (sym (append_assoc new (drop (at + n) middle) back)) ∙ sym (append_assoc (take at middle) (new ++ drop (at + n) middle) back))))
+    let rest : drop (at + length new) (middle ++ back) ≡ drop (at + length new) middle ++ back = grind (arith, fit, drop-append-le, append-nil) in
+    rw (take_past front (middle ++ back) at first is, take-append-le at middle back within, drop_past front (middle ++ back) (at + length new) (first + length new) (omega (arith, is)), rest) (simp append_assoc)
 
 -- new slots by a writer over the first slots of a map: those that stand there are renewed
 laid_renews : (s t : Store) (was now : Layout) (w first kept : ℕ) (fresh : List ℕ) → LivesIn s was → first ≤ kept → kept ≤ length (slots_of s was) → ((id : ℕ) → 0 < owners_at s id → times id fresh ≡ 0) → ((id : ℕ) → times id fresh ≤ 1) → slots_of t now ≡ laid_over first (map (slot_by w) fresh) (take kept (slots_of s was)) → Renews s t w (is_between first (first + length fresh)) was now
@@ -36,16 +21,10 @@ laid_renews s t was now w first kept fresh lives le kept_le new one is =
           let from : first ≤ slot = grind (arith, nat_tests) in
           let to : slot < first + length fresh = grind (arith, nat_tests) in
           let none : Slot = record { writer = 0; block = 0 } in
-          let id = get_or fresh (slot - first) 0 in
-          let free : owners_at s id ≡ 0 = ⊎_elim (λ (lt : 0 < owners_at s id). absurd (omega (arith, new id lt, times_at fresh (slot - first) (omega (arith, from, to))))) (λ (none : owners_at s id ≤ 0). let e : owners_at s id ≡ 0 = omega (arith, none) in e) (order 0 (owners_at s id)) in
+          let free : owners_at s (get_or fresh (slot - first) 0) ≡ 0 = grind (arith, new (get_or fresh (slot - first) 0), times_at fresh (slot - first)) in
           rw (at slot, yes, slice_get-get_or (map (slot_by w) fresh) (slot - first) none (omega (arith, from, to, count)), get_or-map (slot_by w) fresh (slot - first) 0 none (omega (arith, from, to))) (refl, free);
-      stays = λ slot no lt.
-          let long = length-laid_over first (map (slot_by w) fresh) old within in
-          let below : slot < kept = ⊎_elim (λ (b : slot < first). omega (arith, b, le)) (λ (from : first ≤ slot). let past : first + length fresh ≤ slot = grind (arith, nat_tests) in omega (arith, past, lt, ap length is, long, count, few)) (order slot first) in
-          rw (at slot, no) (slice_get-take kept slot (slots_of s was) below);
-      once = λ id zero.
-          let none : times id (ids_of (slots_of s was)) ≤ 0 = ⊎_elim (λ (some : 0 < times id (ids_of (slots_of s was))). absurd (omega (arith, backed_there s was.leaves lives.backed id some, zero))) (λ (no : times id (ids_of (slots_of s was)) ≤ 0). no) (order 0 (times id (ids_of (slots_of s was)))) in
-          omega (arith, ap (λ xs. times id (ids_of xs)) is, times_laid old first w fresh id, one id, none, times-split id kept (slots_of s was), times-split id first old, times-split id (first + length fresh) old);
+      stays = λ slot no lt. let below : slot < kept = grind (arith, nat_tests, length-laid_over first (map (slot_by w) fresh) old within, ap length is) in rw (at slot, no) (slice_get-take kept slot (slots_of s was) below);
+      once = λ id zero. grind (arith, backed_there s was.leaves lives.backed id, ap (λ xs. times id (ids_of xs)) is, times_laid old first w fresh id, one id, times-split id kept (slots_of s was), times-split id first old, times-split id (first + length fresh) old);
     }
 
 -- what a change asks, and the run of leaves that it meets: those before met have slots that are kept
@@ -79,7 +58,7 @@ module _ {s : Store} {m : Layout} {staged : List (List ℕ)} {first kept from me
   long = slots-count s m h.lives.whole
 
   order_of : (from ≤ met) × (met ≤ to) × (to ≤ leaf_count (slot_count m.size)) × (met ≤ leaf_count (slot_count m.size))
-  order_of = (omega arith, ⊎_elim (λ (more : 16 * met < kept). omega (arith, h.to_met more)) (λ (end : kept ≤ 16 * met). omega (arith, h.to_end end)) (order (16 * met) kept), ⊎_elim (λ (more : 16 * met < kept). omega (arith, h.to_met more)) (λ (end : kept ≤ 16 * met). omega (arith, h.to_end end)) (order (16 * met) kept), omega arith)
+  order_of = (omega arith, grind (arith, h.to_met, h.to_end), grind (arith, h.to_met, h.to_end), omega arith)
 
   in_three : m.leaves ≡ front ++ (was ++ back)
   in_three = sym (ap (λ ys. front ++ (was ++ ys)) (let e : from + (to - from) ≡ to = omega (arith, order_of) in sym (drop-drop (to - from) from m.leaves ∙ ap (λ j. drop j m.leaves) e)) ∙ (ap (λ ys. front ++ ys) (take-append-drop (to - from) (drop from m.leaves)) ∙ take-append-drop from m.leaves))
@@ -98,9 +77,7 @@ module _ {s : Store} {m : Layout} {staged : List (List ℕ)} {first kept from me
 
   -- what a renewal of the run asks
   pub part_owned : (a d : ℕ) → Covers s.leaves (take d (drop a m.leaves))
-  part_owned a d = record {
-    owned = λ q. omega (arith, h.lives.owned.owned q, ap (times q) (take-append-drop a m.leaves), ap (times q) (take-append-drop d (drop a m.leaves)), times-append q (take a m.leaves) (drop a m.leaves), times-append q (take d (drop a m.leaves)) (drop d (drop a m.leaves)));
-  }
+  part_owned a d = record { owned = λ q. omega (arith, h.lives.owned.owned q, ap (times q) (take-append-drop a m.leaves), ap (times q) (take-append-drop d (drop a m.leaves)), times-append q (take a m.leaves) (drop a m.leaves), times-append q (take d (drop a m.leaves)) (drop d (drop a m.leaves))) }
 
   fewer : (a d id : ℕ) → times id (ids_of (slots_in s (take d (drop a m.leaves)))) ≤ times id (ids_of (slots_of s m))
   fewer a d id = omega (arith, ap (λ xs. times id (ids_of xs)) (part_slots a d), times-split id (16 * d) (drop (16 * a) (slots_of s m)), times-split id (16 * a) (slots_of s m))
@@ -118,30 +95,21 @@ module _ {s : Store} {m : Layout} {staged : List (List ℕ)} {first kept from me
   none_behind end = drop_all to m.leaves (omega (arith, h.to_end end, leaves-count s m h.lives.whole))
 
   fit : (first - 16 * from + length staged ≤ length window) ⊎ (slots_in s back ≡ [])
-  fit = ⊎_elim
-      (λ (more : 16 * met < kept). inl (omega (arith, window_long, more, order_of)))
-      (λ (end : kept ≤ 16 * met). inr (ap (slots_in s) (none_behind end)))
-      (order (16 * met) kept)
+  fit = grind (arith, nat_tests, window_long, order_of, none_behind)
 
   pub inside : first - 16 * from ≤ length window
   inside = omega (arith, window_long, order_of)
 
   cut : take kept (slots_of s m) ≡ slots_in s front ++ (window ++ slots_in s back)
-  cut = ⊎_elim
-      (λ (more : 16 * met < kept).
+  cut =
+      let rest = drop (16 * from) (slots_of s m) in
+      ⊎_elim (λ (more : 16 * met < kept).
       let all : kept ≡ slot_count m.size = h.behind (omega (arith, more)) in
-      let rest = drop (16 * from) (slots_of s m) in
-      let whole : window ≡ take (16 * (met - from)) rest = ap (take (kept - 16 * from)) (part_slots from (met - from)) ∙ take_all (kept - 16 * from) (take (16 * (met - from)) rest) (omega (arith, length-take (16 * (met - from)) rest, more)) in
-      let e : 16 * from + 16 * (met - from) ≡ 16 * to = omega (arith, order_of, h.to_met more) in
-      take_all kept (slots_of s m) (omega (arith, long, all))
-      ∙ sym (rw (front_slots, whole, back_slots) (ap (λ ys. take (16 * from) (slots_of s m) ++ ys) (ap (λ ys. take (16 * (met - from)) rest ++ ys) (sym (drop-drop (16 * (met - from)) (16 * from) (slots_of s m) ∙ ap (λ j. drop j (slots_of s m)) e)) ∙ take-append-drop (16 * (met - from)) rest) ∙ take-append-drop (16 * from) (slots_of s m))))
+      let whole : window ≡ take (16 * (met - from)) rest = rw (part_slots from (met - from)) (take_all (kept - 16 * from) (take (16 * (met - from)) rest) (omega (arith, length-take (16 * (met - from)) rest, more))) in
+      grind (arith, whole, all, long, order_of, h.to_met more, front_slots, back_slots, take_all kept (slots_of s m), drop-drop (16 * (met - from)) (16 * from) (slots_of s m), take-append-drop (16 * (met - from)) rest, take-append-drop (16 * from) (slots_of s m)))
       (λ (end : kept ≤ 16 * met).
-      let rest = drop (16 * from) (slots_of s m) in
-      let part : window ≡ take (kept - 16 * from) rest = ap (take (kept - 16 * from)) (part_slots from (met - from)) ∙ take-take (kept - 16 * from) (16 * (met - from)) rest (omega (arith, end)) in
-      let none : slots_in s back ≡ [] = ap (slots_in s) (none_behind end) in
-      let e : kept ≡ 16 * from + (kept - 16 * from) = omega arith in
-      ap (λ j. take j (slots_of s m)) e ∙ (take-add (16 * from) (kept - 16 * from) (slots_of s m)
-      ∙ sym (rw (front_slots, part, none) (ap (λ ys. take (16 * from) (slots_of s m) ++ ys) (append-nil (take (kept - 16 * from) rest))))))
+      let part : window ≡ take (kept - 16 * from) rest = rw (part_slots from (met - from)) (take-take (kept - 16 * from) (16 * (met - from)) rest (omega (arith, end))) in
+      grind (arith, part, none_behind end, front_slots, append-nil (take (kept - 16 * from) rest), take-add (16 * from) (kept - 16 * from) (slots_of s m)))
       (order (16 * met) kept)
 
   -- the new leaves in their places
@@ -166,23 +134,7 @@ module _ {s : Store} {m : Layout} {staged : List (List ℕ)} {first kept from me
     now_room = omega (arith, now_long, laid_long, window_long, order_of)
 
     pub placed : take (from + length now + (length m.leaves - to)) (laid_over from now m.leaves) ≡ front ++ (now ++ back)
-    placed =
-        let c_is = leaves-count s m h.lives.whole in
-        let n = from + length now + (length m.leaves - to) in
-        let head : length (front ++ now) ≡ from + length now = omega (arith, length-append front now, length-take-le from m.leaves (omega (arith, c_is, order_of))) in
-        ⊎_elim
-        (λ (more : 16 * met < kept).
-        let e = met_long more in
-        ap (λ j. take n (front ++ (now ++ drop j m.leaves))) e
-        ∙ take_all n (front ++ (now ++ back)) (omega (arith, length-append front (now ++ back), length-append now back, length-drop to m.leaves, length-take from m.leaves, c_is, e, order_of)))
-        (λ (end : kept ≤ 16 * met).
-        let none = none_behind end in
-        let zero : n ≡ from + length now = omega (arith, c_is, h.to_end end) in
-        ap (λ j. take j (front ++ (now ++ drop (from + length now) m.leaves))) zero
-        ∙ (ap (take (from + length now)) (sym (append_assoc front now (drop (from + length now) m.leaves)))
-        ∙ (take_at (front ++ now) (drop (from + length now) m.leaves) (from + length now) head
-        ∙ sym (rw none (ap (λ ys. front ++ ys) (append-nil now))))))
-        (order (16 * met) kept)
+    placed = grind (arith, nat_tests, leaves-count, length-append, length-take-le, order_of, met_long, take_all, length-drop, length-take, none_behind, append_assoc, take_at, append-nil)
 
     times_old : (q : ℕ) → times q m.leaves ≡ times q was + (times q front + times q back)
     times_old q = omega (arith, ap (times q) in_three, times-append q front (was ++ back), times-append q was back)
@@ -211,14 +163,23 @@ module _ {s : Store} {m : Layout} {staged : List (List ℕ)} {first kept from me
       new_cells : shown t new ≡ laid_over first (map (cell_by w) staged) (take kept (shown s m))
       new_cells =
           let g = cell_of s in
-          let u = cell_of t in
           let by = map (cell_by w) staged in
-          let shown_cut : take kept (shown s m) ≡ map g (slots_in s front) ++ (map g window ++ map g (slots_in s back)) = take-map g kept (slots_of s m) ∙ (ap (map g) cut ∙ (map-append g (slots_in s front) (window ++ slots_in s back) ∙ ap (λ ys. map g (slots_in s front) ++ ys) (map-append g window (slots_in s back)))) in
-          ap (map u) (ap (slots_in t) is ∙ (flat_map-append (leaf_at t) front (now ++ back) ∙ ap (λ ys. slots_in t front ++ ys) (flat_map-append (leaf_at t) now back)))
-          ∙ (map-append u (slots_in t front) (slots_in t now ++ slots_in t back)
-          ∙ (ap (λ ys. map u (slots_in t front) ++ ys) (map-append u (slots_in t now) (slots_in t back))
-          ∙ (rw (front_stays.cells, back_stays.cells, renewed.cells) refl
-          ∙ sym (ap (laid_over first by) shown_cut ∙ laid_apart first (first - 16 * from) by (map g (slots_in s front)) (map g window) (map g (slots_in s back)) (omega (arith, front_long, length-map (slots_in s front) g)) (omega (arith, inside, length-map window g)) (fit_by by (map g window) (map g (slots_in s back)) (length-map staged (cell_by w)) (length-map window g) (ap (map g)))))))
+          let fit = fit_by by (map g window) (map g (slots_in s back)) (length-map staged (cell_by w)) (length-map window g) (ap (map g)) in
+          rw (
+            is,
+            flat_map-append (leaf_at t) front (now ++ back),
+            flat_map-append (leaf_at t) now back,
+            map-append (cell_of t) (slots_in t front) (slots_in t now ++ slots_in t back),
+            map-append (cell_of t) (slots_in t now) (slots_in t back),
+            front_stays.cells,
+            back_stays.cells,
+            renewed.cells,
+            take-map g kept (slots_of s m),
+            cut,
+            map-append g (slots_in s front) (window ++ slots_in s back),
+            map-append g window (slots_in s back),
+          )
+          (sym (laid_apart first (first - 16 * from) by (map g (slots_in s front)) (map g window) (map g (slots_in s back)) (omega (arith, front_long, length-map (slots_in s front) g)) (omega (arith, inside, length-map window g)) fit))
 
       filled : AreSized 16 (leaf_at t) (length (slots_of t new)) new.leaves
       filled =
@@ -227,12 +188,9 @@ module _ {s : Store} {m : Layout} {staged : List (List ℕ)} {first kept from me
           let head = sized-map 16 (leaf_at s) (leaf_at t) (16 * from) front front (sym front_stays.leaves) (sized-is 16 (leaf_at s) (omega arith) (min n (16 * from)) (16 * from) front (omega arith) (sized-take 16 (leaf_at s) (omega arith) from n m.leaves sized)) in
           let mid = sized-map 16 (λ leaf. leaf) (leaf_at t) (length laid) (parts laid) now (map-id (parts laid) ∙ sym renewed.leaves) (sized-chunks 16 (omega arith) (leaf_count (length laid)) laid (omega arith) (omega arith)) in
           let tail = sized-map 16 (leaf_at s) (leaf_at t) (n - 16 * to) back back (sym back_stays.leaves) (sized-drop 16 (leaf_at s) (omega arith) to n m.leaves sized) in
-          let even : (length laid ≡ 16 * length now) ⊎ (n - 16 * to ≡ 0) = ⊎_elim
-          (λ (more : 16 * met < kept). inl (omega (arith, now_long, laid_long, window_long, more, order_of)))
-          (λ (end : kept ≤ 16 * met). inr (omega (arith, h.to_end end)))
-          (order (16 * met) kept) in
+          let even : (length laid ≡ 16 * length now) ⊎ (n - 16 * to ≡ 0) = grind (arith, h.to_end, now_long, laid_long, window_long, order_of) in
           let joined : AreSized 16 (leaf_at t) all new.leaves = rw is (sized-append 16 (leaf_at t) (omega arith) (16 * from) (length laid + (n - 16 * to)) front (now ++ back) head (sized-append 16 (leaf_at t) (omega arith) (length laid) (n - 16 * to) now back mid tail even) (inl (ap (λ j. 16 * j) (sym (length-take-le from m.leaves (omega (arith, leaves-count s m h.lives.whole, order_of))))))) in
-          sized-is 16 (leaf_at t) (omega arith) all (length (slots_of t new)) new.leaves (sym (sized-length 16 (leaf_at t) (omega arith) all new.leaves joined)) joined
+          rw (sized-length 16 (leaf_at t) (omega arith) all new.leaves joined) joined
 
       pub replaced : IsReplaced s t w first kept staged m new
       replaced = record {

@@ -1,6 +1,5 @@
 -- Lists in pieces of c items, of which the last may be shorter.
-use Rattle.ele_blocks.proofs.Words.{add-one, ◌≡◌, ◌⊎◌, ℕ, ◌+◌, ◌-◌, ◌*◌, ◌<◌, ◌≤◌, true, List, [], ◌∷◌, ◌++◌, length, take, drop, map, get_or, min, refl, ap, sym, ◌∙◌, arith, zero, suc, eqb, ltb, inl, inr, ⊎_elim, flat_map, first_chunks, order, mul-suc, take-nil, take-append-add, nat_tests, flat_map-append, append-nil, append_cancel_left, take-append-drop, take_all, take-take, length-append, length-take, length-take-le, length-drop, drop-drop, drop_more, nil_from_length, take_min, drop_min, laid_over, fills, AreSized}
-use Rattle.std.proofs.lemmas.List.{drop-take}
+use Rattle.ele_blocks.proofs.Words.{[], add-one, ap, append-nil, append_cancel_left, AreSized, arith, drop, drop-drop, drop-take, drop_min, drop_more, fills, first_chunks, flat_map, flat_map-append, get_or, inl, inr, laid_over, length, length-append, length-drop, length-take, length-take-le, List, map, min, mul-suc, nat_tests, nil_from_length, order, refl, suc, sym, take, take-append-add, take-append-drop, take-nil, take-take, take_all, take_min, true, zero, ℕ, ⊎_elim, ◌*◌, ◌++◌, ◌+◌, ◌-◌, ◌<◌, ◌∙◌, ◌∷◌, ◌≡◌, ◌≤◌, ◌⊎◌}
 
 -- the test is what it tests
 pub fills_sized : {A X : Type 0} (c : ℕ) (f : A → List X) (n : ℕ) (xs : List A) → fills c f n xs ≡ true → AreSized c f n xs
@@ -9,17 +8,11 @@ fills_sized c f n (x ∷ xs) h = (grind (arith, nat_tests, h), grind (arith, nat
 
 pub sized_fills : {A X : Type 0} (c : ℕ) (f : A → List X) (n : ℕ) (xs : List A) → AreSized c f n xs → fills c f n xs ≡ true
 sized_fills c f n [] h = grind (arith, nat_tests, h)
-sized_fills c f n (x ∷ xs) h =
-    let a : eqb (length (f x)) (min n c) ≡ true = let e = h.0 in grind (arith, nat_tests, e) in
-    let b : ltb 0 n ≡ true = let e = h.1 in grind (arith, nat_tests, e) in
-    rw (a, b) (sized_fills c f (n - c) xs h.2)
+sized_fills c f n (x ∷ xs) h = grind (arith, nat_tests, sized_fills c f (n - c) xs h.2)
 
 pub fills-map : {A X : Type 0} (c : ℕ) (f g : A → List X) (n : ℕ) (xs : List A) → map f xs ≡ map g xs → fills c f n xs ≡ fills c g n xs
 fills-map c f g n [] e = refl
-fills-map c f g n (x ∷ xs) e =
-    let same : f x ≡ g x = cc in
-    let rest : map f xs ≡ map g xs = cc in
-    rw (same, fills-map c f g (n - c) xs rest) refl
+fills-map c f g n (x ∷ xs) e = grind (arith, fills-map c f g (n - c) xs (cc))
 
 module _ {A X : Type 0} (c : ℕ) (f : A → List X) (some : 0 < c) where
   pub sized-is : (n m : ℕ) (xs : List A) → n ≡ m → AreSized c f n xs → AreSized c f m xs
@@ -53,12 +46,12 @@ module _ {A X : Type 0} (c : ℕ) (f : A → List X) (some : 0 < c) where
   -- whole pieces, and what follows them
   pub sized-append : (n m : ℕ) (xs ys : List A) → AreSized c f n xs → AreSized c f m ys → (n ≡ c * length xs) ⊎ (m ≡ 0) → AreSized c f (n + m) (xs ++ ys)
   sized-append n m [] ys h k e = sized-is m (n + m) ys (omega (arith, h)) k
-  sized-append n m (x ∷ xs) ys h k e = ⊎_elim
-      (λ (whole : n ≡ c * suc (length xs)).
-      let rest : n - c ≡ c * length xs = omega (arith, whole, mul-suc c (length xs)) in
-      (omega (arith, h, whole, mul-suc c (length xs)), omega (arith, h), sized-is (n - c + m) (n + m - c) (xs ++ ys) (omega (arith, whole, mul-suc c (length xs))) (sized-append (n - c) m xs ys h.2 k (inl rest))))
-      (λ (none : m ≡ 0). (omega (arith, h, none), omega (arith, h), sized-is (n - c + m) (n + m - c) (xs ++ ys) (omega (arith, none)) (sized-append (n - c) m xs ys h.2 k (inr none))))
-      e
+  sized-append n m (x ∷ xs) ys h k e = (
+    grind (arith, h, e, mul-suc c (length xs)),
+    omega (arith, h),
+    sized-is (n - c + m) (n + m - c) (xs ++ ys) (grind (arith, h, e, mul-suc c (length xs)))
+        (sized-append (n - c) m xs ys h.2 k (⊎_elim (λ (whole : n ≡ c * suc (length xs)). inl (omega (arith, whole, mul-suc c (length xs)))) inr e)),
+  )
 
   -- the items of some pieces
   pub flat-take : (k n : ℕ) (xs : List A) → AreSized c f n xs → flat_map f (take k xs) ≡ take (c * k) (flat_map f xs)
@@ -85,7 +78,7 @@ module _ {A X : Type 0} (c : ℕ) (f : A → List X) (some : 0 < c) where
 
   -- pieces laid over others
   pub flat-laid : (first n : ℕ) (new old : List A) → AreSized c f n old → flat_map f (laid_over first new old) ≡ take (c * first) (flat_map f old) ++ (flat_map f new ++ drop (c * (first + length new)) (flat_map f old))
-  flat-laid first n new old h = flat_map-append f (take first old) (new ++ drop (first + length new) old) ∙ rw (flat-take first n old h, flat_map-append f new (drop (first + length new) old), flat-drop (first + length new) n old h) refl
+  flat-laid first n new old h = rw (flat_map-append f (take first old) (new ++ drop (first + length new) old), flat-take first n old h, flat_map-append f new (drop (first + length new) old), flat-drop (first + length new) n old h) refl
 
   pub sized-laid : (first n m : ℕ) (new old : List A) → AreSized c f n old → AreSized c f m new → first ≤ length old → c * first ≤ n → (m ≡ c * length new) ⊎ (n ≤ c * (first + length new)) → AreSized c f (c * first + (m + (n - c * (first + length new)))) (laid_over first new old)
   sized-laid first n m new old h k within fit reach =
@@ -105,9 +98,7 @@ sized-map c f g n (x ∷ xs) (y ∷ ys) e h = let same : f x ≡ g y = cc in let
 module _ {X : Type 0} (c : ℕ) (some : 0 < c) where
   pub sized-chunks : (k : ℕ) (xs : List X) → length xs ≤ c * k → c * k < length xs + c → AreSized c (λ piece. piece) (length xs) (first_chunks c k xs)
   sized-chunks zero xs enough few = omega (arith, enough)
-  sized-chunks (suc k) xs enough few =
-      let size = length-drop c xs in
-      (omega (arith, length-take c xs), omega (arith, few, mul-suc c k), sized-is c (λ piece. piece) some (length (drop c xs)) (length xs - c) (first_chunks c k (drop c xs)) size (sized-chunks k (drop c xs) (omega (arith, enough, size, mul-suc c k)) (omega (arith, few, size, mul-suc c k))))
+  sized-chunks (suc k) xs enough few = let size = length-drop c xs in (omega (arith, length-take c xs), omega (arith, few, mul-suc c k), rw (← size) (sized-chunks k (drop c xs) (omega (arith, enough, size, mul-suc c k)) (omega (arith, few, size, mul-suc c k))))
 
   pub chunks_joined : (k : ℕ) (xs : List X) → length xs ≤ c * k → flat_map (λ piece. piece) (first_chunks c k xs) ≡ xs
   chunks_joined zero xs le = sym (nil_from_length xs (omega (arith, le)))
@@ -115,9 +106,7 @@ module _ {X : Type 0} (c : ℕ) (some : 0 < c) where
 
 -- the next chunk, as a split makes it
 pub chunk_next : {X : Type 0} (c left more n : ℕ) (rest front back : List X) → left ≡ more + 1 → n ≡ min (length rest) c → front ≡ take n rest → back ≡ drop n rest → first_chunks c left rest ≡ front ∷ first_chunks c more back
-chunk_next c left more n rest front back one size is_front is_back =
-    let turned : n ≡ min c (length rest) = omega (arith, size) in
-    rw (is_front, is_back, turned, take_min c rest, drop_min c rest, one, add-one) refl
+chunk_next c left more n rest front back one size is_front is_back = let turned : n ≡ min c (length rest) = omega (arith, size) in rw (is_front, is_back, turned, take_min c rest, drop_min c rest, one, add-one) refl
 
 pub length-chunks : {X : Type 0} (c k : ℕ) (xs : List X) → length (first_chunks c k xs) ≡ k
 length-chunks c zero xs = refl
@@ -125,16 +114,11 @@ length-chunks c (suc k) xs = omega (arith, length-chunks c k (drop c xs))
 
 -- one chunk more
 pub chunk_more : {X : Type 0} (c k : ℕ) (xs : List X) → first_chunks c (k + 1) xs ≡ first_chunks c k xs ++ take c (drop (c * k) xs) ∷ []
-chunk_more {X = X} c k xs = rw (add-one k) (by k xs) where
-  by : (k : ℕ) (xs : List X) → first_chunks c (suc k) xs ≡ first_chunks c k xs ++ take c (drop (c * k) xs) ∷ []
-  by zero xs = let none : c * 0 ≡ 0 = omega arith in rw none refl
-  by (suc k) xs =
-      let place : c + c * k ≡ c * suc k = omega (arith, mul-suc c k) in
-      ap (λ ys. take c xs ∷ ys) (by k (drop c xs) ∙ ap (λ ys. first_chunks c k (drop c xs) ++ take c ys ∷ []) (drop-drop (c * k) c xs ∙ ap (λ n. drop n xs) place))
+chunk_more c zero xs = let none : c * 0 ≡ 0 = omega arith in rw none refl
+chunk_more c (suc k) xs = let place : c + c * k ≡ c * suc k = omega (arith, mul-suc c k) in let more = rw (add-one k) at (chunk_more c k (drop c xs)) in rw (add-one (suc k), more, drop-drop (c * k) c xs, place) refl
 
 -- the chunks of the items that they hold
 pub chunks_taken : {X : Type 0} (c k : ℕ) (xs : List X) → first_chunks c k (take (c * k) xs) ≡ first_chunks c k xs
 chunks_taken c zero xs = refl
-chunks_taken c (suc k) xs =
-    let size : c * suc k ≡ c + c * k = omega (arith, mul-suc c k) in
+chunks_taken c (suc k) xs = let size : c * suc k ≡ c + c * k = omega (arith, mul-suc c k) in
     rw (size, take-take c (c + c * k) xs (omega arith), drop-take c (c * k) xs, chunks_taken c k (drop c xs)) refl

@@ -1,5 +1,5 @@
 -- The sizes of a map that is whole, and the bytes of its slots.
-use Rattle.ele_blocks.proofs.Words.{◌≡◌, ℕ, ◌+◌, ◌*◌, ◌≤◌, true, List, [], length, take, drop, get_or, Some, refl, ap, sym, ◌∙◌, arith, leb, slice_get, nat_tests, length-map, get_or-map, slice_get_within, get_or_from_slice_get, Cell, content_of, longest_content, slot_count, slot_bytes, Slot, Store, leaf_at, bytes_at, Layout, slots_of, shown, cell_of, is_whole, leaf_count, AreSized, ◌/◌, ◌%◌, ◌<◌, get_or-take, get_or-drop, slice_get_read, LivesIn, owners}
+use Rattle.ele_blocks.proofs.Words.{[], ap, AreSized, arith, bytes_at, Cell, cell_of, content_of, drop, get_or, get_or-drop, get_or-map, get_or-take, get_or_from_slice_get, is_whole, Layout, leaf_at, leaf_count, leb, length, length-map, List, LivesIn, longest_content, nat_tests, owners, refl, shown, slice_get, slice_get_read, slice_get_within, Slot, slot_bytes, slot_count, slots_of, Some, Store, sym, take, true, ℕ, ◌%◌, ◌*◌, ◌+◌, ◌/◌, ◌<◌, ◌∙◌, ◌≡◌, ◌≤◌}
 use Rattle.ele_blocks.proofs.Trades.{one_more}
 use Rattle.ele_blocks.proofs.Sized.{fills_sized, sized_fills, sized-length, sized-count, flat-at}
 
@@ -17,11 +17,7 @@ module _ (s : Store) (m : Layout) where
     pub leaves : AreSized 16 (leaf_at s) (slot_count m.size) m.leaves
 
   pub whole_is : is_whole s m ≡ true → IsWhole
-  whole_is h = record {
-    short = grind (arith, nat_tests, h);
-    bytes = fills_sized 512 bytes_of m.size (shown s m) (grind (arith, nat_tests, h));
-    leaves = fills_sized 16 (leaf_at s) (slot_count m.size) m.leaves (grind (arith, nat_tests, h));
-  }
+  whole_is h = record { short = grind (arith, nat_tests, h); bytes = fills_sized 512 bytes_of _ _ (grind (arith, nat_tests, h)); leaves = fills_sized 16 (leaf_at s) _ _ (grind (arith, nat_tests, h)) }
 
   pub is_whole_by : IsWhole → is_whole s m ≡ true
   is_whole_by h = let e : leb m.size longest_content ≡ true = let short = h.short in grind (arith, nat_tests, short) in rw (e, sized_fills 512 bytes_of m.size (shown s m) h.bytes, sized_fills 16 (leaf_at s) (slot_count m.size) m.leaves h.leaves) refl
@@ -39,9 +35,8 @@ module _ (s : Store) (m : Layout) where
     -- the bytes of a slot
     pub its_bytes : (slot : ℕ) (x : Slot) → slice_get (slots_of s m) slot ≡ Some x → bytes_at s x.block ≡ slot_bytes (content_of (shown s m)) slot
     its_bytes slot x got =
-        let lt = slice_get_within (slots_of s m) slot x got in
-        let here : get_or (shown s m) slot no_cell ≡ cell_of s x = get_or-map (cell_of s) (slots_of s m) slot x no_cell lt ∙ ap (cell_of s) (get_or_from_slice_get (slots_of s m) slot x x got) in
-        sym (ap bytes_of here) ∙ flat-at 512 bytes_of (omega arith) slot m.size (shown s m) no_cell (whole_is whole).bytes (omega (arith, lt, length-map (slots_of s m) (cell_of s)))
+        let here : get_or (shown s m) slot no_cell ≡ cell_of s x = grind (arith, get_or-map (cell_of s) (slots_of s m) slot x no_cell, slice_get_within (slots_of s m) slot x got, get_or_from_slice_get (slots_of s m) slot x x got) in
+        sym (ap bytes_of here) ∙ flat-at 512 bytes_of (omega arith) slot m.size (shown s m) no_cell (whole_is whole).bytes (omega (arith, slice_get_within (slots_of s m) slot x got, length-map (slots_of s m) (cell_of s)))
 
 -- ---- a slot in its leaf
 
@@ -56,6 +51,5 @@ module _ (s : Store) (m : Layout) (lives : LivesIn s m) (slot leaf : ℕ) (lt : 
   leaf_is = ap (leaf_at s) is ∙ flat-at 16 (leaf_at s) (omega arith) (slot / 16) (slot_count m.size) m.leaves leaf (whole_is s m lives.whole).leaves leaf_within
 
 pub slot_found : {X : Type 0} (xs leaf : List X) (slot : ℕ) (x : X) → leaf ≡ take 16 (drop (16 * (slot / 16)) xs) → slot < length xs → x ≡ get_or leaf (slot % 16) x → slice_get xs slot ≡ Some x
-slot_found xs leaf slot x is lt here =
-    let place : 16 * (slot / 16) + slot % 16 ≡ slot = omega arith in
-    slice_get_read xs (length xs) slot x refl lt (here ∙ (ap (λ ys. get_or ys (slot % 16) x) is ∙ (get_or-take 16 (drop (16 * (slot / 16)) xs) (slot % 16) x (omega arith) ∙ (get_or-drop (16 * (slot / 16)) xs (slot % 16) x ∙ ap (λ n. get_or xs n x) place))))
+slot_found xs leaf slot x is lt here = let place : 16 * (slot / 16) + slot % 16 ≡ slot = omega arith in
+    slice_get_read xs (length xs) slot x refl lt (here ∙ rw (is, get_or-take 16 (drop (16 * (slot / 16)) xs) (slot % 16) x (omega arith), get_or-drop (16 * (slot / 16)) xs (slot % 16) x, place) refl)

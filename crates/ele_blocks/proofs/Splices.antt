@@ -1,5 +1,5 @@
 -- A splice touches only the part of a content that it meets, which is cut into pieces.
-use Rattle.ele_blocks.proofs.Words.{◌≡◌, ℕ, ◌+◌, ◌-◌, ◌*◌, ◌≤◌, List, [], ◌∷◌, ◌++◌, length, take, drop, max, replicate, refl, ap, sym, ◌∙◌, arith, length-append, length-take, length-drop, zero, suc, flat_map, length-replicate, take-append-drop, take-append-le, drop-drop, take-take, first_chunks, ◌<◌, content_after_write, slot_bytes, slot_count, AreSized, pieces_between}
+use Rattle.ele_blocks.proofs.Words.{[], ap, AreSized, arith, content_after_write, drop, drop-drop, first_chunks, flat_map, length, length-append, length-drop, length-replicate, length-take, List, max, nat_tests, pieces_between, refl, replicate, slot_bytes, slot_count, suc, sym, take, take-append-drop, take-append-le, take-take, zero, ℕ, ◌*◌, ◌++◌, ◌+◌, ◌-◌, ◌<◌, ◌∷◌, ◌≡◌, ◌≤◌}
 use Rattle.ele_blocks.specs.Pieces.{pieces}
 use Rattle.ele_blocks.proofs.LaidOvers.{drop_past}
 use Rattle.ele_blocks.proofs.Sized.{chunk_more, sized-chunks, chunks_joined, chunks_taken, length-chunks}
@@ -19,19 +19,12 @@ pieces_joined xs = chunks_joined 512 (omega arith) (slot_count (length xs)) xs (
 
 -- one piece more
 pub piece_more : (first slot : ℕ) (xs : List ℕ) → first ≤ slot → pieces_between first (slot + 1) xs ≡ pieces_between first slot xs ++ slot_bytes xs slot ∷ []
-piece_more first slot xs le =
-    let count = slot - first in
-    let next : slot + 1 - first ≡ count + 1 = omega (arith, le) in
-    let place : 512 * first + 512 * count ≡ 512 * slot = omega (arith, le) in
-    let piece = drop-drop (512 * count) (512 * first) xs ∙ ap (λ n. drop n xs) place in
-    rw (next, ← piece) (chunk_more 512 count (drop (512 * first) xs))
+piece_more first slot xs le = grind (arith, nat_tests, drop-drop, chunk_more)
 
 -- the first pieces
 pub pieces_taken : (n : ℕ) (xs : List ℕ) → 512 * n < length xs + 512 → pieces (take (512 * n) xs) ≡ first_chunks 512 n xs
 unfolding pieces
-pieces_taken n xs lt =
-    let count : slot_count (length (take (512 * n) xs)) ≡ n = omega (arith, length-take (512 * n) xs, lt) in
-    rw count (chunks_taken 512 n xs)
+pieces_taken n xs lt = grind (arith, nat_tests, length-take, chunks_taken)
 
 pub take_past : {X : Type 0} (xs ys : List X) (a n : ℕ) → n ≡ length xs + a → take n (xs ++ ys) ≡ xs ++ take a ys
 take_past [] ys a n e = let same : n ≡ a = omega (arith, e) in rw same refl
@@ -39,35 +32,20 @@ take_past (x ∷ xs) ys a zero e = absurd (omega (arith, e))
 take_past (x ∷ xs) ys a (suc n) e = ap (λ zs. x ∷ zs) (take_past xs ys a n (omega (arith, e)))
 
 pub length-spliced : (content : List ℕ) (offset : ℕ) (bytes : List ℕ) → length (content_after_write content offset bytes) ≡ max (length content) (offset + length bytes)
-length-spliced content offset bytes =
-    let t = take offset content in
-    let z : List ℕ = replicate (offset - length content) 0 in
-    let d = drop (offset + length bytes) content in
-    omega (arith, length-append (t ++ z ++ bytes) d, length-append (t ++ z) bytes, length-append t z, length-take offset content, length-replicate {A = ℕ} (offset - length content) 0, length-drop (offset + length bytes) content)
+length-spliced content offset bytes = grind (arith, nat_tests, length-append, length-take, length-replicate, length-drop)
 
 -- what stands before the offset stays
 spliced-front : (content : List ℕ) (offset : ℕ) (bytes : List ℕ) (n : ℕ) → n ≤ offset → n ≤ length content → take n (content_after_write content offset bytes) ≡ take n content
-spliced-front content offset bytes n le within =
-    let t = take offset content in
-    let z : List ℕ = replicate (offset - length content) 0 in
-    let size = length-take offset content in
-    take-append-le n (t ++ z ++ bytes) (drop (offset + length bytes) content) (omega (arith, length-append (t ++ z) bytes, length-append t z, size, le, within))
-    ∙ (take-append-le n (t ++ z) bytes (omega (arith, length-append t z, size, le, within))
-    ∙ (take-append-le n t z (omega (arith, size, le, within)) ∙ take-take n offset content le))
+spliced-front content offset bytes n le within = grind (arith, nat_tests, length-take, take-append-le, length-append, take-take)
 
 -- what stands behind the bytes stays
 spliced-back : (content : List ℕ) (offset : ℕ) (bytes : List ℕ) (n : ℕ) → offset + length bytes ≤ n → drop n (content_after_write content offset bytes) ≡ drop n content
 spliced-back content offset bytes n le =
-    let t = take offset content in
-    let z : List ℕ = replicate (offset - length content) 0 in
     let past = offset + length bytes in
-    let place : past + (n - past) ≡ n = omega (arith, le) in
-    let head : length (t ++ z ++ bytes) ≡ past = omega (arith, length-append (t ++ z) bytes, length-append t z, length-take offset content, length-replicate {A = ℕ} (offset - length content) 0) in
-    drop_past (t ++ z ++ bytes) (drop past content) (n - past) n (omega (arith, head, le)) ∙ (drop-drop (n - past) past content ∙ ap (λ k. drop k content) place)
+    rw (drop_past (take offset content ++ replicate (offset - length content) 0 ++ bytes) (drop past content) (n - past) n (grind (arith, length-append, length-take, length-replicate)), drop-drop (n - past) past content) (grind (arith))
 
 -- so a splice is the part of q bytes from p on, between what stood before it and behind it
 pub spliced_part : (content : List ℕ) (offset p q r : ℕ) (bytes : List ℕ) → p ≤ offset → p ≤ length content → offset + length bytes ≤ r → r ≡ p + q → content_after_write content offset bytes ≡ take p content ++ (take q (drop p (content_after_write content offset bytes)) ++ drop r content)
 spliced_part content offset p q r bytes from le past is =
     let after = content_after_write content offset bytes in
-    let behind : drop q (drop p after) ≡ drop r content = drop-drop q p after ∙ (ap (λ n. drop n after) (sym is) ∙ spliced-back content offset bytes r past) in
-    rw (← behind, take-append-drop q (drop p after), ← spliced-front content offset bytes p from le) (sym (take-append-drop p after))
+    rw (← (spliced-back content offset bytes r past), is, ← (drop-drop q p after), take-append-drop q (drop p after), ← spliced-front content offset bytes p from le) (sym (take-append-drop p after))

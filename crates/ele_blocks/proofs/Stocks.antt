@@ -1,12 +1,7 @@
 -- The laws of maps over one store.
-use Rattle.ele_blocks.proofs.Words.{is_whole, slice_get_within, ◌≡◌, ◌⊎◌, ℕ, ◌+◌, ◌<◌, ◌≤◌, Bool, true, false, cond, ◌&&◌, List, [], ◌∷◌, map, Some, refl, ap, sym, ◌∙◌, arith, eqb, ltb, zero, suc, inl, inr, ⊎_elim, slice_get, list_all, sum_by, AllByRecursion, length-map, map-append, sum_by-cons, nat_tests, Slot, Named, IsIn, AreOneToOne, names_from, names_of, blocks_of, Layout, ids_of, slots_of, tally, Moves, Renews, times, Tagged, SameStock, IsStocked, Stays, IsEarlier, StockLaws, layouts_of, names_in, is_below, empty_layout, Store, backing, is_place, ◌*◌, ◌^◌, ◌++◌, length, owners, LivesIn, named, broken, Owes, IsUncrowded}
-use Rattle.ele_blocks.specs.Stock.{ShowsSame}
-use Rattle.ele_blocks.proofs.Backing.{backing_least, slots_backed}
-use Rattle.ele_blocks.proofs.Hands.{StayIn, stay_in, whole_same}
-use Rattle.ele_blocks.proofs.Trades.{times-le-length}
-use Rattle.ele_blocks.proofs.Sizes.{whole_is, leaves-count, length-content, slots-count}
+use Rattle.ele_blocks.proofs.Lemmas.{[], AllByRecursion, ap, AreOneToOne, arith, backing, backing_least, blocks_of, Bool, broken, cond, eqb, ids_of, is_below, is_place, is_whole, IsEarlier, IsIn, IsStocked, IsUncrowded, Layout, layouts_of, leaves-count, length, length-content, length-map, List, list_all, LivesIn, ltb, map, map-append, Moves, Named, named, names_from, names_in, names_of, nat_tests, Owes, owners, refl, Renews, SameStock, ShowsSame, slice_get, slice_get_within, Slot, slots-count, slots_backed, slots_of, Some, stay_in, StayIn, Stays, StockLaws, Store, suc, sum_by, sum_by-cons, sym, Tagged, tally, times, times-le-length, true, whole_is, whole_same, zero, ℕ, ⊎_elim, ◌&&◌, ◌*◌, ◌++◌, ◌+◌, ◌<◌, ◌^◌, ◌∙◌, ◌∷◌, ◌≡◌, ◌≤◌}
 use Rattle.ele_blocks.proofs.Distincts.{self_eq, as_many}
-use Rattle.ele_blocks.proofs.OneToOnes.{name_of, NoneBy, in_either, in_front, in_back, place_same, slot_owned, stays_one_to_one}
+use Rattle.ele_blocks.proofs.OneToOnes.{NoneBy, in_either, in_front, in_back, slot_owned, stays_one_to_one}
 
 -- ---- what a store is owed
 
@@ -17,22 +12,15 @@ module _ {X : Type 0} (f : X → ℕ) where
 
 -- one of the maps lives in the store
 pub whole_of : (b : Bool) (n : ℕ) → n ≡ cond b 0 1 → n ≡ 0 → b ≡ true
-whole_of true n e h = refl
-whole_of false n e h = absurd (omega (arith, e, h))
+whole_of b n e h = grind (arith, nat_tests)
 
 pub owes_lives : (s : Store) (m : Layout) (rest : List Layout) → Owes s (m ∷ rest) → LivesIn s m
-owes_lives s m rest owes = record {
-  owned = record { owned = λ leaf. omega (arith, owes.counted leaf) };
-  backed = λ id some. omega (arith, owes.backed id);
-  whole = whole_of (is_whole s m) (cond (is_whole s m) 0 1) refl (omega (arith, owes.whole));
-}
+owes_lives s m rest owes = record { owned = record { owned = λ leaf. omega (arith, owes.counted leaf) }; backed = λ id some. omega (arith, owes.backed id); whole = whole_of (is_whole s m) _ refl (omega (arith, owes.whole)) }
 
 -- a leaf is named at most 128 times by each map
 named_few : (s : Store) (leaf : ℕ) (ms : List Layout) → broken s ms ≡ 0 → named leaf ms ≤ 128 * length ms
 named_few s leaf [] h = omega arith
-named_few s leaf (m ∷ ms) h =
-    let whole : is_whole s m ≡ true = whole_of (is_whole s m) (cond (is_whole s m) 0 1) refl (omega (arith, h)) in
-    omega (arith, named_few s leaf ms (omega (arith, h)), times-le-length leaf m.leaves, leaves-count s m whole, (whole_is s m whole).short)
+named_few s leaf (m ∷ ms) h = grind (arith, nat_tests, whole_of, times-le-length, leaves-count, whole_is, named_few s leaf ms (omega (arith, h)))
 
 pub owes_uncrowded : (s : Store) (all : List Layout) → Owes s all → length all ≤ 2 ^ 50 → IsUncrowded s
 owes_uncrowded s all owes few = record { few = λ leaf. omega (arith, owes.counted leaf, named_few s leaf all owes.whole, few) }
@@ -57,15 +45,8 @@ module _ (s t : Store) (was now : List Layout) (moves : Moves s t was now) (rest
 
   all_stay : (ts : List Tagged) → ((leaf : ℕ) → named leaf was + named leaf (layouts_of ts) ≤ owners s.leaves leaf) → AllStay ts
   all_stay [] owned = record { shows = tt; names = refl; late = refl; broken = refl }
-  all_stay (m ∷ ts) owned =
-      let first = its_leaves m.layout (λ leaf. omega (arith, owned leaf)) in
-      let more = all_stay ts (λ leaf. omega (arith, owned leaf)) in
-      record {
-        shows = (record { same = first.cells }, more.shows);
-        names = rw (first.slots, more.names) refl;
-        late = rw (first.slots, more.late) refl;
-        broken = rw (whole_same s t m.layout first, more.broken) refl;
-      }
+  all_stay (m ∷ ts) owned = let first = its_leaves m.layout (λ leaf. omega (arith, owned leaf)) in let more = all_stay ts (λ leaf. omega (arith, owned leaf)) in
+      record { shows = (record { same = first.cells }, more.shows); names = rw (first.slots, more.names) refl; late = rw (first.slots, more.late) refl; broken = rw (whole_same s t m.layout first, more.broken) refl }
 
   pub rest_stays : AllStay rest
   rest_stays = all_stay rest beside
@@ -73,7 +54,7 @@ module _ (s t : Store) (was now : List Layout) (moves : Moves s t was now) (rest
   -- and the store is owed by all of them
   pub moves_owes : Owes t (now ++ layouts_of rest)
   moves_owes = record {
-    counted = λ leaf. let n : Layout → ℕ = λ m. times leaf m.leaves in omega (arith, owes.counted leaf, moves.hands.leaves leaf, tally-append n was (layouts_of rest), tally-append n now (layouts_of rest));
+    counted = λ leaf. omega (arith, owes.counted leaf, moves.hands.leaves leaf, tally-append (λ (m : Layout). times leaf m.leaves) was (layouts_of rest), tally-append (λ (m : Layout). times leaf m.leaves) now (layouts_of rest));
     backed = λ id. omega (arith, owes.backed id, moves.hands.blocks id);
     whole = omega (arith, owes.whole, moves.whole, tally-append (λ m. cond (is_whole s m) 0 1) was (layouts_of rest), tally-append (λ m. cond (is_whole t m) 0 1) now (layouts_of rest), rest_stays.broken);
   }
@@ -95,26 +76,13 @@ is_named n m = is_place n.place m.place && eqb n.block m.block
 abbrev count : Named → List Named → ℕ
 count n ns = tally (λ m. cond (is_named n m) 1 0) ns
 
-named_is : (n m : Named) → is_named n m ≡ true → n ≡ m
-named_is n m h =
-    let p = place_same n.place m.place (grind (arith, nat_tests, h)) in
-    let block : n.block ≡ m.block = grind (arith, nat_tests, h) in
-    let place : n.place ≡ m.place = rw (p.file, p.slot, p.writer) refl in
-    rw (place, block) refl
-
 counted : (n : Named) (ns : List Named) → IsIn n ns → 0 < count n ns
 counted n [] i = absurd i
-counted n (m ∷ ns) i = ⊎_elim
-    (λ (e : n ≡ m). let same : is_named n n ≡ true = rw (self_eq n.place.file, self_eq n.place.slot, self_eq n.place.writer, self_eq n.block) refl in rw (← e, same) (omega arith))
-    (λ (j : IsIn n ns). omega (arith, counted n ns j))
-    i
+counted n (m ∷ ns) i = grind (arith, nat_tests, self_eq, counted n ns)
 
 in_counted : (n : Named) (ns : List Named) → 0 < count n ns → IsIn n ns
 in_counted n [] h = absurd (omega (arith, h))
-in_counted n (m ∷ ns) h = elim (is_named n m) as (λ b. is_named n m ≡ b → (n ≡ m) ⊎ IsIn n ns) [
-  | true ↦ λ e. inl (named_is n m e)
-  | false ↦ λ e. inr (in_counted n ns (let h' : 0 < 0 + count n ns = rw e at h in omega (arith, h')))
-] refl
+in_counted n (m ∷ ns) h = grind (arith, nat_tests, in_counted n ns)
 
 names_count : (s : Store) (n : Named) (ts : List Tagged) → count n (names_in s ts) ≡ tally (λ t. count n (names_of s t.file t.layout)) ts
 names_count s n [] = refl
@@ -136,34 +104,19 @@ record IsNameOf (n : Named) (file below : ℕ) (slots : List Slot) : Type 0 wher
 
 named_by : (n : Named) (file below first : ℕ) (slots : List Slot) → list_all (λ (slot : Slot). ltb slot.writer below) slots ≡ true → IsIn n (names_from file first slots) → IsNameOf n file below slots
 named_by n file below first [] all i = absurd i
-named_by n file below first (x ∷ xs) all i = ⊎_elim
-    (λ (is : n ≡ name_of file first x).
-    let w : n.place.writer ≡ x.writer = ap (λ (m : Named). m.place.writer) is in
-    let b : n.block ≡ x.block = ap (λ (m : Named). m.block) is in
-    let one : eqb x.block n.block ≡ true = grind (arith, nat_tests, b) in
-    record { its_file = ap (λ (m : Named). m.place.file) is; writer = grind (arith, nat_tests, all, w); block = rw one (omega arith) })
-    (λ (j : IsIn n (names_from file (first + 1) xs)).
-    let more = named_by n file below (first + 1) xs (grind (arith, nat_tests, all)) j in
-    record { its_file = more.its_file; writer = more.writer; block = omega (arith, more.block) })
-    i
+named_by n file below first (x ∷ xs) all i = grind (arith, nat_tests, named_by n file below (first + 1) xs)
 
 head_below : (s : Store) (t : Tagged) (ts : List Tagged) → late s (t ∷ ts) ≡ 0 → is_below s t ≡ true
 head_below s t ts h = whole_of (is_below s t) (cond (is_below s t) 0 1) refl (omega (arith, h))
 
 owned_names : (s : Store) (n : Named) (ts : List Tagged) → late s ts ≡ 0 → IsIn n (names_in s ts) → 0 < backing s.leaves n.block
 owned_names s n [] h i = absurd i
-owned_names s n (t ∷ ts) h i = ⊎_elim
-    (λ (a : IsIn n (names_of s t.file t.layout)). slots_backed s t.layout.leaves n.block (named_by n t.file t.below 0 (slots_of s t.layout) (head_below s t ts h) a).block)
-    (λ (b : IsIn n (names_in s ts)). owned_names s n ts (omega (arith, h)) b)
-    (in_either n (names_of s t.file t.layout) (names_in s ts) i)
+owned_names s n (t ∷ ts) h i = grind (arith, in_either n (names_of s t.file t.layout) (names_in s ts) i, head_below s t ts h, slots_backed s t.layout.leaves n.block, named_by n t.file t.below 0 (slots_of s t.layout), owned_names s n ts)
 
 none_by : (s : Store) (file writer : ℕ) (ts : List Tagged) → late s ts ≡ 0 → AllByRecursion (IsEarlier file writer) ts → NoneBy file writer (names_in s ts)
 none_by s file writer [] h all n i of by = absurd i
 none_by s file writer (t ∷ ts) h all n i of by = ⊎_elim
-    (λ (a : IsIn n (names_of s t.file t.layout)).
-    let is = named_by n t.file t.below 0 (slots_of s t.layout) (head_below s t ts h) a in
-    let lt = all.0.earlier (sym is.its_file ∙ of) in
-    absurd (omega (arith, is.writer, lt, by)))
+    (λ (a : IsIn n (names_of s t.file t.layout)). grind (arith, named_by n t.file t.below 0 (slots_of s t.layout) (head_below s t ts h) a, all.0.earlier))
     (λ (b : IsIn n (names_in s ts)). none_by s file writer ts (omega (arith, h)) all.1 n b of by)
     (in_either n (names_of s t.file t.layout) (names_in s ts) i)
 
@@ -179,10 +132,7 @@ at_place p (y ∷ ys) zero x all e = let same : y ≡ x = cc in rw (← same) (g
 at_place p (y ∷ ys) (suc k) x all e = at_place p ys k x (grind (arith, nat_tests, all)) e
 
 below_renewed : (s t : Store) (writer below : ℕ) (p : ℕ → Bool) (was now : Layout) → below ≡ writer + 1 → Renews s t writer p was now → list_all (λ (slot : Slot). ltb slot.writer below) (slots_of s was) ≡ true → list_all (λ (slot : Slot). ltb slot.writer below) (slots_of t now) ≡ true
-below_renewed s t writer below p was now is renews all = all_places (λ (slot : Slot). ltb slot.writer below) (slots_of t now) (λ k x e. elim (p k) as (λ b. p k ≡ b → ltb x.writer below ≡ true) [
-  | true ↦ λ new. let fresh = rw e at (renews.fresh k new) in let w = fresh.0 in grind (arith, nat_tests)
-  | false ↦ λ old. at_place (λ (slot : Slot). ltb slot.writer below) (slots_of s was) k x all (sym (renews.stays k old (slice_get_within (slots_of t now) k x e)) ∙ e)
-] refl)
+below_renewed s t writer below p was now is renews all = grind (arith, nat_tests, all_places, at_place, slice_get_within)
 
 below_more : (below more : ℕ) (slots : List Slot) → below ≤ more → list_all (λ (slot : Slot). ltb slot.writer below) slots ≡ true → list_all (λ (slot : Slot). ltb slot.writer more) slots ≡ true
 below_more below more slots le all = all_places (λ (slot : Slot). ltb slot.writer more) slots (λ k x e. let lt = at_place (λ (slot : Slot). ltb slot.writer below) slots k x all e in grind (arith, nat_tests))
@@ -195,22 +145,12 @@ tally-layouts f (t ∷ ts) = omega (arith, tally-layouts f ts)
 
 in_same : (s : Store) (ts us : List Tagged) → SameStock ts us → IsStocked s ts → IsStocked s us
 in_same s ts us same h = record {
-  owed = record {
-    counted = λ leaf. h.owed.counted leaf ∙ by (λ m. times leaf m.leaves);
-    backed = h.owed.backed;
-    whole = sym (by (λ m. cond (is_whole s m) 0 1)) ∙ h.owed.whole;
-  };
+  owed = record { counted = λ leaf. h.owed.counted leaf ∙ by (λ m. times leaf m.leaves); backed = h.owed.backed; whole = sym (by (λ m. cond (is_whole s m) 0 1)) ∙ h.owed.whole };
   one_to_one = fewer (names_in s us) (names_in s ts) (same_in s ts us same) h.one_to_one;
   written = sym (same_tally ts us same (λ t. cond (is_below s t) 0 1)) ∙ h.written;
 } where
   by : (f : Layout → ℕ) → tally f (layouts_of ts) ≡ tally f (layouts_of us)
   by f = tally-layouts f ts ∙ (same_tally ts us same (λ t. f t.layout) ∙ sym (tally-layouts f us))
-
-with_empty : (s : Store) (file below : ℕ) (ts : List Tagged) → IsStocked s ts → IsStocked s (record { file = file; below = below; layout = empty_layout } ∷ ts)
-with_empty s file below ts h = record { owed = record { counted = λ leaf. omega (arith, h.owed.counted leaf); backed = h.owed.backed; whole = omega (arith, h.owed.whole) }; one_to_one = h.one_to_one; written = omega (arith, h.written) }
-
-without_empty : (s : Store) (file below : ℕ) (ts : List Tagged) → IsStocked s (record { file = file; below = below; layout = empty_layout } ∷ ts) → IsStocked s ts
-without_empty s file below ts h = record { owed = record { counted = λ leaf. omega (arith, h.owed.counted leaf); backed = h.owed.backed; whole = omega (arith, h.owed.whole) }; one_to_one = h.one_to_one; written = omega (arith, h.written) }
 
 back : (ts us : List Tagged) → SameStock ts us → SameStock us ts
 back ts us same = record { sums = λ f. sym (same.sums f) }
@@ -228,14 +168,8 @@ module _ (s t : Store) (ts : List Tagged) (was : Tagged) (rest : List Tagged) (s
   goes : Moves s t (was.layout ∷ []) [] → Stays s t rest rest
   goes moves =
       let stay = rest_stays s t (was.layout ∷ []) [] moves rest h.owed in
-      record {
-        stocked = record {
-          owed = moves_owes s t (was.layout ∷ []) [] moves rest h.owed;
-          one_to_one = rw stay.names (fewer (names_in s rest) (names_in s (was ∷ rest)) (λ n i. in_back n (names_of s was.file was.layout) (names_in s rest) i) h.one_to_one);
-          written = stay.late ∙ all_written;
-        };
-        shows = stay.shows;
-      }
+      let one = fewer (names_in s rest) (names_in s (was ∷ rest)) (λ n i. in_back n (names_of s was.file was.layout) (names_in s rest) i) h.one_to_one in
+      record { stocked = record { owed = moves_owes s t (was.layout ∷ []) [] moves rest h.owed; one_to_one = rw stay.names one; written = stay.late ∙ all_written }; shows = stay.shows }
 
   -- a name of the map is there
   was_in : (n : Named) → IsIn n (names_of s was.file was.layout) → IsIn n (names_in s ts)
@@ -245,14 +179,10 @@ module _ (s t : Store) (ts : List Tagged) (was : Tagged) (rest : List Tagged) (s
   copies below us le moves same =
       let stay = rest_stays s t [] (was.layout ∷ []) moves ts stocked.owed in
       let mine = (its_leaves s t [] (was.layout ∷ []) moves ts stocked.owed was.layout (λ leaf. omega (arith, h.owed.counted leaf))).slots in
-      record {
-        stocked = in_same t (record was { below = below } ∷ ts) us (back us (record was { below = below } ∷ ts) same) (record {
-          owed = moves_owes s t [] (was.layout ∷ []) moves ts stocked.owed;
-          one_to_one = rw (mine, stay.names) (fewer (names_in s (was ∷ ts)) (names_in s ts) (λ n i. ⊎_elim (λ (a : IsIn n (names_of s was.file was.layout)). was_in n a) (λ (b : IsIn n (names_in s ts)). b) (in_either n (names_of s was.file was.layout) (names_in s ts) i)) stocked.one_to_one);
-          written = rw (mine, stay.late, below_more was.below below (slots_of s was.layout) le was_below) (let e = stocked.written in omega (arith, e));
-        });
-        shows = stay.shows;
-      }
+      let one = fewer (names_in s (was ∷ ts)) (names_in s ts) (λ n i. grind (arith, was_in n, in_either n (names_of s was.file was.layout) (names_in s ts) i)) stocked.one_to_one in
+      let late : late t (record was { below = below } ∷ ts) ≡ 0 = rw (mine, stay.late, below_more was.below below (slots_of s was.layout) le was_below) (omega (arith, stocked.written)) in
+      let all : IsStocked t (record was { below = below } ∷ ts) = record { owed = moves_owes s t [] (was.layout ∷ []) moves ts stocked.owed; one_to_one = rw (mine, stay.names) one; written = late } in
+      record { stocked = in_same t (record was { below = below } ∷ ts) us (back us (record was { below = below } ∷ ts) same) all; shows = stay.shows }
 
   rewrites : (writer : ℕ) (renewed : ℕ → Bool) (now : Layout) (us : List Tagged) → was.below ≡ writer + 1 → AllByRecursion (IsEarlier was.file writer) rest → Moves s t (was.layout ∷ []) (now ∷ []) → Renews s t writer renewed was.layout now → SameStock us (record was { layout = now } ∷ rest) → Stays s t rest us
   rewrites writer renewed now us is others moves renews same =
@@ -278,8 +208,8 @@ pub stock_laws : StockLaws
 stock_laws = record {
   none = record { owed = record { counted = λ leaf. refl; backed = λ id. refl; whole = refl }; one_to_one = λ m n i j. absurd i; written = refl };
   same = in_same;
-  empty = with_empty;
-  no_empty = without_empty;
+  empty = λ s file below ts h. grind (arith, h);
+  no_empty = λ s file below ts h. grind (arith, h);
   empty_lives = λ s. record { owned = record { owned = λ id. omega arith }; backed = λ id some. absurd (omega (arith, some)); whole = refl };
   lives = λ s t ts h. owes_lives s t.layout (layouts_of ts) h.owed;
   long = λ s m lives. length-content s m lives.whole;
@@ -288,7 +218,7 @@ stock_laws = record {
   slots = λ s m lives. slots-count s m lives.whole;
   few = λ s ts h few. owes_uncrowded s (layouts_of ts) h.owed (omega (arith, few, length-map ts (λ (t : Tagged). t.layout)));
   blocks = λ s ts h. rw (← blocks_named s ts) (sym (as_many (names_in s ts) h.one_to_one));
-  gone = λ s t ts was rest h apart moves. goes s t ts was rest h apart moves;
-  copied = λ s t ts was rest below us h apart le moves same. copies s t ts was rest h apart below us le moves same;
-  rewritten = λ s t ts was rest writer renewed now us h apart is others moves renews same. rewrites s t ts was rest h apart writer renewed now us is others moves renews same;
+  gone = goes;
+  copied = λ s t ts was rest below us h apart. copies s t ts was rest h apart below us;
+  rewritten = λ s t ts was rest writer renewed now us h apart. rewrites s t ts was rest h apart writer renewed now us;
 }

@@ -1,5 +1,5 @@
 -- How owners change hands, one change after another.
-use Rattle.ele_blocks.proofs.Words.{Slot, ids_of, map_more, length-map, ◌≡◌, ℕ, ◌+◌, ◌-◌, ◌<◌, ◌≤◌, true, false, cond, List, [], ◌∷◌, ◌++◌, ◌^◌, map, length, take, drop, get_or, add-one, append_assoc, Option, Some, None, refl, ap, sym, ◌∙◌, arith, eqb, ltb, zero, suc, nat_tests, take-suc, map-append, take-append-drop, length-take-le, Counted, times, place_at, owners, owners_of, value_of, value_at, shared, released, leaving, Sets, Trades, Adds, Covers}
+use Rattle.ele_blocks.proofs.Words.{[], add-one, Adds, ap, append_assoc, arith, Counted, Covers, drop, eqb, false, get_or, ids_of, leaving, length, length-map, length-take-le, List, map, map-append, map_more, nat_tests, None, Option, owners, owners_of, place_at, refl, released, Sets, shared, Slot, Some, suc, sym, take, take-append-drop, take-suc, times, Trades, true, value_at, value_of, zero, ℕ, ◌++◌, ◌+◌, ◌<◌, ◌^◌, ◌∙◌, ◌∷◌, ◌≡◌, ◌≤◌}
 
 pub times-append : (id : ℕ) (xs ys : List ℕ) → times id (xs ++ ys) ≡ times id xs + times id ys
 times-append id [] ys = omega arith
@@ -19,13 +19,7 @@ times_at (x ∷ xs) (suc k) lt = omega (arith, times_at xs k (omega (arith, lt))
 
 pub times-le-length : (q : ℕ) (xs : List ℕ) → times q xs ≤ length xs
 times-le-length q [] = omega arith
-times-le-length q (x ∷ xs) = elim (eqb x q) as (λ t. cond t 1 0 + times q xs ≤ length (x ∷ xs)) [
-  | true ↦ omega (arith, times-le-length q xs)
-  | false ↦ omega (arith, times-le-length q xs)
-]
-
-times-take-le : (q : ℕ) (xs : List ℕ) (k : ℕ) → times q (take k xs) ≤ times q xs
-times-take-le q xs k = let whole = ap (times q) (take-append-drop k xs) in omega (arith, times-append q (take k xs) (drop k xs))
+times-le-length q (x ∷ xs) = grind (arith, nat_tests, times-le-length q xs)
 
 pub take_one : (xs : List ℕ) (k : ℕ) (x : ℕ) → k < length xs → x ≡ get_or xs k x → take (k + 1) xs ≡ take k xs ++ x ∷ []
 take_one xs k x lt is = rw add-one (take-suc xs k x lt ∙ ap (λ y. take k xs ++ y ∷ []) (sym is))
@@ -33,81 +27,38 @@ take_one xs k x lt is = rw add-one (take-suc xs k x lt ∙ ap (λ y. take k xs +
 module _ {X : Type 0} where
   -- one place changes, and the owners there by those that go and come
   trades_set : (old new : List (Option (Counted X))) (id : ℕ) (b : Option (Counted X)) (was now : List ℕ) → Sets old new id b → ((q : ℕ) → eqb id q ≡ false → (times q was ≡ 0) × (times q now ≡ 0)) → owners_of b + times id was ≡ owners old id + times id now → (times id was < owners old id → value_of b ≡ value_at old id) → Trades old new was now
-  trades_set old new id b was now h apart count keeps = record {
-    owed = λ q. elim (eqb id q) as (λ t. eqb id q ≡ t → owners new q + times q was ≡ owners old q + times q now) [
-      | true ↦ λ e. let same : q ≡ id = grind (arith, nat_tests) in rw (same, h.changed) count
-      | false ↦ λ e. let o = ap owners_of (h.others q (grind (arith, nat_tests))) in omega (arith, o, apart q e)
-    ] refl;
-    kept = λ q lt. elim (eqb id q) as (λ t. eqb id q ≡ t → value_at new q ≡ value_at old q) [
-      | true ↦ λ e. let same : q ≡ id = grind (arith, nat_tests) in rw (same, h.changed) (keeps (rw same at lt))
-      | false ↦ λ e. ap value_of (h.others q (grind (arith, nat_tests)))
-    ] refl;
-  }
+  trades_set old new id b was now h apart count keeps = record { owed = λ q. grind (arith, nat_tests, h.changed, h.others q, apart q, count); kept = λ q. grind (arith, nat_tests, h.changed, h.others q, keeps) }
 
   -- a value is kept under a number that stood for nothing
   pub trades_put : (old new : List (Option (Counted X))) (id : ℕ) (x : X) → place_at old id ≡ None → Sets old new id (Some (record { value = x; owners = 1 })) → Trades old new [] (id ∷ [])
-  trades_put old new id x vacant h =
-      let none : owners old id ≡ 0 = rw vacant refl in
-      trades_set old new id _ [] (id ∷ []) h (λ q e. (refl, one_apart id q e)) (omega (arith, none, times-self id)) (λ lt. absurd (omega (arith, lt, none)))
+  trades_put old new id x vacant h = grind (arith, nat_tests, trades_set, one_apart, times-self)
 
   pub shared_value : (b : Option (Counted X)) → value_of (shared b) ≡ value_of b
-  shared_value None = refl
-  shared_value (Some b) = refl
-
-  shared_owners : (b : Option (Counted X)) → 0 < owners_of b → owners_of (shared b) ≡ owners_of b + 1
-  shared_owners None lt = absurd (omega arith)
-  shared_owners (Some b) lt = refl
+  shared_value o = grind (arith, nat_tests)
 
   -- a value gets an owner more
   pub trades_share : (old new : List (Option (Counted X))) (id : ℕ) → 0 < owners old id → Sets old new id (shared (place_at old id)) → Trades old new [] (id ∷ [])
-  trades_share old new id lt h = trades_set old new id _ [] (id ∷ []) h (λ q e. (refl, one_apart id q e)) (omega (arith, shared_owners (place_at old id) lt, times-self id)) (λ more. shared_value (place_at old id))
-
-  released_owners : (b : Option (Counted X)) → 0 < owners_of b → owners_of (released b) + 1 ≡ owners_of b
-  released_owners None lt = absurd (omega arith)
-  released_owners (Some b) lt = elim (ltb 1 b.owners) as (λ t. ltb 1 b.owners ≡ t → owners_of (cond t (Some (record b { owners = b.owners - 1 })) None) + 1 ≡ b.owners) [
-    | true ↦ λ e. grind (arith, nat_tests)
-    | false ↦ λ e. grind (arith, nat_tests)
-  ] refl
+  trades_share old new id lt h = grind (arith, trades_set, one_apart, times-self, shared_value)
 
   pub released_value : (b : Option (Counted X)) → 1 < owners_of b → value_of (released b) ≡ value_of b
-  released_value None lt = absurd (omega arith)
-  released_value (Some b) lt = let e : ltb 1 b.owners ≡ true = grind (arith, nat_tests) in rw e refl
+  released_value o lt = grind (arith, nat_tests)
 
   -- a value loses an owner
   pub trades_release : (old new : List (Option (Counted X))) (id : ℕ) → 0 < owners old id → Sets old new id (released (place_at old id)) → Trades old new (id ∷ []) []
-  trades_release old new id lt h = trades_set old new id _ (id ∷ []) [] h (λ q e. (one_apart id q e, refl)) (omega (arith, released_owners (place_at old id) lt, times-self id)) (λ more. released_value (place_at old id) (omega (arith, more, times-self id)))
+  trades_release old new id lt h = grind (arith, trades_set, one_apart, times-self, nat_tests, released_value)
 
   -- one after the other
   pub trades_then : (a b c : List (Option (Counted X))) (was now was2 now2 : List ℕ) → Trades a b was now → Trades b c was2 now2 → Trades a c (was ++ was2) (now ++ now2)
-  trades_then a b c was now was2 now2 h k = record {
-    owed = λ q. omega (arith, h.owed q, k.owed q, times-append q was was2, times-append q now now2);
-    kept = λ q lt. k.kept q (omega (arith, h.owed q, times-append q was was2)) ∙ h.kept q (omega (arith, times-append q was was2));
-  }
+  trades_then a b c was now was2 now2 h k = grind (arith, nat_tests, times-append)
 
   -- what is owned beside what goes keeps its value
   pub values_stay : (s t : List (Option (Counted X))) (was now xs : List ℕ) → Trades s t was now → ((id : ℕ) → times id was + times id xs ≤ owners s id) → map (value_at t) xs ≡ map (value_at s) xs
   values_stay s t was now [] h owned = refl
-  values_stay s t was now (x ∷ xs) h owned =
-      let one : eqb x x ≡ true = grind (arith, nat_tests) in
-      let first : value_at t x ≡ value_at s x = h.kept x (let o = rw one at (owned x) in omega arith) in
-      let rest = values_stay s t was now xs h (λ q. omega (arith, owned q)) in
-      rw (first, rest) refl
+  values_stay s t was now (x ∷ xs) h owned = grind (arith, times-self x, h.kept x, owned x, values_stay s t was now xs h (λ q. omega (arith, owned q)))
 
   -- a value more
   pub adds_more : (s0 s t : List (Option (Counted X))) (ids : List ℕ) (id : ℕ) (x : X) → Adds s0 s ids → place_at s id ≡ None → Sets s t id (Some (record { value = x; owners = 1 })) → Adds s0 t (ids ++ id ∷ [])
-  adds_more s0 s t ids id x h vacant sets =
-      let none : owners s id ≡ 0 = rw vacant refl in
-      record {
-        trades = trades_then s0 s t [] ids [] (id ∷ []) h.trades (trades_put s t id x vacant sets);
-        fresh = λ q lt. elim (eqb id q) as (λ b. eqb id q ≡ b → times q (ids ++ id ∷ []) ≡ 0) [
-          | true ↦ λ e. let same : q ≡ id = grind (arith, nat_tests) in let had : 0 < owners s0 id = rw (← same) lt in absurd (omega (arith, h.trades.owed id))
-          | false ↦ λ e. let one : times q (id ∷ []) ≡ 0 = rw e refl in omega (arith, times-append q ids (id ∷ []), h.fresh q lt)
-        ] refl;
-        once = λ q. elim (eqb id q) as (λ b. eqb id q ≡ b → times q (ids ++ id ∷ []) ≤ 1) [
-          | true ↦ λ e. let same : q ≡ id = grind (arith, nat_tests) in let one : times q (id ∷ []) ≡ 1 = rw e refl in let was : times q ids ≡ 0 = rw same (omega (arith, h.trades.owed id)) in omega (arith, times-append q ids (id ∷ []))
-          | false ↦ λ e. let one : times q (id ∷ []) ≡ 0 = rw e refl in omega (arith, times-append q ids (id ∷ []), h.once q)
-        ] refl;
-      }
+  adds_more s0 s t ids id x h vacant sets = grind (arith, nat_tests, trades_then, trades_put, times-append)
 
   -- the values kept so far, and those that are still to be kept
   pub record PutsSoFar (s0 s : List (Option (Counted X))) (ids : List ℕ) (rest all : List X) : Type 0 where
@@ -115,13 +66,10 @@ module _ {X : Type 0} where
     pub values : map (value_at s) ids ++ map (λ x. Some x) rest ≡ map (λ x. Some x) all
 
   pub puts_more : (s0 s t : List (Option (Counted X))) (ids : List ℕ) (x : X) (rest all : List X) (id : ℕ) → PutsSoFar s0 s ids (x ∷ rest) all → place_at s id ≡ None → Sets s t id (Some (record { value = x; owners = 1 })) → PutsSoFar s0 t (ids ++ id ∷ []) rest all
-  puts_more s0 s t ids x rest all id h vacant sets =
-      let put = trades_put s t id x vacant sets in
-      let is : value_at t id ≡ Some x = ap value_of sets.changed in
-      record {
-        adds = adds_more s0 s t ids id x h.adds vacant sets;
-        values = rw (map-append (value_at t) ids (id ∷ []), is, values_stay s t [] (id ∷ []) ids put (λ q. omega (arith, h.adds.trades.owed q)), append_assoc) h.values;
-      }
+  puts_more s0 s t ids x rest all id h vacant sets = record {
+    adds = adds_more s0 s t ids id x h.adds vacant sets;
+    values = rw (map-append (value_at t) ids (id ∷ []), ap value_of sets.changed, values_stay s t [] (id ∷ []) ids (trades_put s t id x vacant sets) (λ q. omega (arith, h.adds.trades.owed q)), append_assoc) h.values;
+  }
 
   -- a place that a last owner leaves
   pub record IsLast (place : Option (Counted X)) (x : X) : Type 0 where
@@ -131,17 +79,7 @@ module _ {X : Type 0} where
 
   pub leaving_last : (place : Option (Counted X)) (x : X) → 0 < owners_of place → Some x ≡ leaving place → IsLast place x
   leaving_last None x lt e = absurd (omega (arith, lt))
-  leaving_last (Some p) x lt e = elim (ltb 1 p.owners) as (λ t. ltb 1 p.owners ≡ t → Some x ≡ cond t None (Some p.value) → IsLast (Some p) x) [
-    | true ↦ λ more e. absurd cc
-    | false ↦ λ few e. record { owners = grind (arith, nat_tests); value = sym e; gone = rw few refl }
-  ] refl e
-
-  pub leaving_none : (place : Option (Counted X)) → 0 < owners_of place → None ≡ leaving place → 1 < owners_of place
-  leaving_none None lt e = absurd (omega (arith, lt))
-  leaving_none (Some p) lt e = elim (ltb 1 p.owners) as (λ t. ltb 1 p.owners ≡ t → None ≡ cond t None (Some p.value) → 1 < p.owners) [
-    | true ↦ λ more e. grind (arith, nat_tests)
-    | false ↦ λ few e. absurd cc
-  ] refl e
+  leaving_last (Some p) x lt e = record { owners = grind (arith, nat_tests); value = grind (arith, nat_tests); gone = grind (arith, nat_tests) }
 
 -- a list so far, and one more
 module _ (ids : List ℕ) (k id : ℕ) (lt : k < length ids) (is : id ≡ get_or ids k id) where
@@ -149,7 +87,7 @@ module _ (ids : List ℕ) (k id : ℕ) (lt : k < length ids) (is : id ≡ get_or
   times_next q = ap (times q) (take_one ids k id lt is) ∙ times-append q (take k ids) (id ∷ [])
 
   pub one_more : times id (take k ids) + 1 ≤ times id ids
-  one_more = omega (arith, times_next id, times-self id, times-take-le id ids (k + 1))
+  one_more = omega (arith, times_next id, times-self id, ap (times id) (take-append-drop (k + 1) ids), times-append id (take (k + 1) ids) (drop (k + 1) ids))
 
 pub times-ids : (q : ℕ) (xs ys : List Slot) → times q (ids_of (xs ++ ys)) ≡ times q (ids_of xs) + times q (ids_of ys)
 times-ids q xs ys = ap (times q) (map-append (λ (x : Slot). x.block) xs ys) ∙ times-append q (ids_of xs) (ids_of ys)
@@ -173,10 +111,7 @@ module _ (slots : List Slot) (k : ℕ) (slot : Slot) (lt : k < length slots) (is
 
   -- what holds of the blocks so far and of the next one
   pub each_more : (P : ℕ → Type 0) → ((id : ℕ) → 0 < times id (ids_of (take k slots)) → P id) → P slot.block → (id : ℕ) → 0 < times id (ids_of (take (k + 1) slots)) → P id
-  each_more P each here id some = elim (eqb slot.block id) as (λ b. eqb slot.block id ≡ b → P id) [
-    | true ↦ λ e. let same : id ≡ slot.block = grind (arith, nat_tests) in rw same here
-    | false ↦ λ e. each id (omega (arith, some, slot_next id, one_apart slot.block id e))
-  ] refl
+  each_more P each here id some = grind (arith, nat_tests, slot_next, one_apart)
 
   module _ {X : Type 0} {s0 s : List (Option (Counted X))} where
     pub release_next : Covers s0 (ids_of slots) → Trades s0 s (ids_of (take k slots)) [] → 0 < owners s slot.block

@@ -1,4 +1,4 @@
-use Rattle.ele_blocks.proofs.Words.{◌≡◌, ◌≤◌, take, vec_capacity, laid_over}
+use Rattle.ele_blocks.proofs.Words.{laid_over, take, vec_capacity, ◌≡◌, ◌≤◌}
 use Rattle.ele_blocks.proofs.laid.lay_leaves.Given as goal
 
 abbrev pub invariant-loop-i : goal.invariant-loop-i

@@ -1,4 +1,4 @@
-use Rattle.ele_blocks.proofs.Words.{◌≡◌, ◌≤◌, map, take, vec_capacity, slot_by, laid_over}
+use Rattle.ele_blocks.proofs.Words.{laid_over, map, slot_by, take, vec_capacity, ◌≡◌, ◌≤◌}
 use Rattle.ele_blocks.proofs.laid.lay_slots.Given as goal
 
 abbrev pub invariant-loop-i : goal.invariant-loop-i

@@ -1,5 +1,4 @@
-use Rattle.ele_blocks.proofs.Words.{◌*◌, ◌∙◌, arith}
-use Rattle.ele_blocks.proofs.Patches.{patched}
+use Rattle.ele_blocks.proofs.Cited.{arith, patched, ◌*◌, ◌∙◌}
 use Rattle.ele_blocks.proofs.patch.patched.Goals as goal
 
 pub returns : goal.returns

@@ -1,4 +1,4 @@
-use Rattle.ele_blocks.proofs.Words.{◌≡◌, ◌++◌, ◌-◌, length, first_chunks, slot_count}
+use Rattle.ele_blocks.proofs.Words.{first_chunks, length, slot_count, ◌++◌, ◌-◌, ◌≡◌}
 use Rattle.ele_blocks.proofs.patch.pieces.Given as goal
 
 abbrev pub invariant-loop : goal.invariant-loop

@@ -1,5 +1,4 @@
-use Rattle.std.proofs.Common.{ap, length, arith}
-use Rattle.ele_blocks.proofs.Trades.{puts_more}
+use Rattle.ele_blocks.proofs.Lemmas.{ap, arith, length, puts_more}
 use Rattle.ele_blocks.proofs.shared.put_each.Goals as goal
 
 pub loop-value-preserved : goal.loop-value-preserved

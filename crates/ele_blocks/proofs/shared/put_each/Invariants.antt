@@ -1,5 +1,4 @@
-use Rattle.ele_blocks.proofs.Words.{◌≡◌, ◌≤◌, ◌+◌, length, vec_len, vec_capacity, into_iter_items, into_iter_len, HasRoomFor}
-use Rattle.ele_blocks.proofs.Trades.{PutsSoFar}
+use Rattle.ele_blocks.proofs.Lemmas.{HasRoomFor, into_iter_items, into_iter_len, length, PutsSoFar, vec_capacity, vec_len, ◌+◌, ◌≡◌, ◌≤◌}
 use Rattle.ele_blocks.proofs.shared.put_each.Given as goal
 
 abbrev pub invariant-loop-value : goal.invariant-loop-value

@@ -1,5 +1,4 @@
-use Rattle.ele_blocks.proofs.Words.{◌≡◌, ◌+◌, ◌*◌, ◌∙◌, ap, sym, arith, length, take-add, take_all, content_of, shown}
-use Rattle.ele_blocks.proofs.Sizes.{length-content}
+use Rattle.ele_blocks.proofs.Lemmas.{ap, arith, content_of, length, length-content, shown, sym, take-add, take_all, ◌*◌, ◌+◌, ◌∙◌, ◌≡◌}
 use Rattle.ele_blocks.proofs.map.BlockMap.content.Goals as goal
 
 pub loop-slot-preserved : goal.loop-slot-preserved
@@ -10,9 +9,7 @@ loop-slot-preserved c =
 
 -- all slots have been joined
 pub returns-clause-bytes : goal.returns-clause-bytes
-returns-clause-bytes c =
-    let content = content_of (shown c.args.store.now c.args.self.now) in
-    c.loop-slot.invariant ∙ take_all (512 * c.loop-slot.slot) content (omega (arith, length-content c.args.store.now c.args.self.now c.requires.whole))
+returns-clause-bytes c = grind (arith, take_all, length-content)
 
 pub returns-clause-length : goal.returns-clause-length
 returns-clause-length c = omega (arith, c.loop-slot.all.ok, ap length (returns-clause-bytes c), length-content c.args.store.now c.args.self.now c.requires.whole)

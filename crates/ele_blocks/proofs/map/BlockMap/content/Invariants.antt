@@ -1,4 +1,4 @@
-use Rattle.ele_blocks.proofs.Words.{◌≡◌, ◌*◌, take, content_of, shown}
+use Rattle.ele_blocks.proofs.Words.{content_of, shown, take, ◌*◌, ◌≡◌}
 use Rattle.ele_blocks.proofs.map.BlockMap.content.Given as goal
 
 abbrev pub invariant-loop-slot : goal.invariant-loop-slot

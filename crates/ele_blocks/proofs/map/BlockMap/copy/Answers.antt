@@ -1,8 +1,5 @@
-use Rattle.ele_blocks.specs.Layout.{Layout}
-use Rattle.ele_blocks.proofs.Hands.{moved_copy}
+use Rattle.ele_blocks.proofs.Lemmas.{moved_copy}
 use Rattle.ele_blocks.proofs.map.BlockMap.copy.Goals as goal
 
 pub returns-clause-moves : goal.returns-clause-moves
-returns-clause-moves c =
-    let m : Layout = record { size = c.self.inside.length; leaves = c.self.inside.leaves.items } in
-    rw (← c.self.view_is) (moved_copy c.args.store.now c.share_leaves.new.self m (rw (← c.self.view_is) at c.requires.lives) (rw c.deref-2.ensures.value at c.share_leaves.ensures))
+returns-clause-moves c = rw (← c.self.view_is) (moved_copy c.args.store.now c.share_leaves.new.self _ (rw (← c.self.view_is) at c.requires.lives) (rw c.deref-2.ensures.value at c.share_leaves.ensures))

@@ -1,13 +1,9 @@
-use Rattle.ele_blocks.proofs.Words.{◌≡◌, ◌+◌, ◌-◌, ◌*◌, ◌/◌, length, refl, sym, arith, take, content_of, shown, slot_bytes, pieces}
-use Rattle.ele_blocks.proofs.Changes.{cut_long, cut_reach, cut_change}
+use Rattle.ele_blocks.proofs.Cited.{arith, content_of, cut_change, cut_long, cut_reach, length, pieces, refl, shown, slot_bytes, sym, take, ◌*◌, ◌+◌, ◌-◌, ◌/◌, ◌≡◌}
 use Rattle.ele_blocks.proofs.map.BlockMap.cut.Goals as goal
 use Rattle.ele_blocks.proofs.map.BlockMap.cut.Goals.{In_ok-staged}
 
 pub slice_bounds-pieces-length : goal.slice_bounds-pieces-length
-slice_bounds-pieces-length c =
-    let f = c.args.size / 512 in
-    let part = pieces (take (c.args.size - 512 * f) (slot_bytes (content_of (shown c.args.store.now c.args.self.now)) f)) in
-    rw c.bytes_at-last.ensures (sym (cut_long c.args.store.now c.args.self.now c.args.writer c.args.size f c.div_ceil-kept.result part c.requires.lives c.requires.shorter refl (omega arith) refl))
+slice_bounds-pieces-length c = rw c.bytes_at-last.ensures (sym (cut_long c.args.store.now c.args.self.now c.args.writer c.args.size (c.args.size / 512) c.div_ceil-kept.result (pieces (take (c.args.size - 512 * (c.args.size / 512)) (slot_bytes (content_of (shown c.args.store.now c.args.self.now)) (c.args.size / 512)))) c.requires.lives c.requires.shorter refl (omega arith) refl))
 
 its_pieces : (c : In_ok-staged) → c.in_ok-staged.staged.items ≡ pieces (take (c.args.size - 512 * (c.args.size / 512)) (slot_bytes (content_of (shown c.args.store.now c.args.self.now)) (c.args.size / 512)))
 its_pieces c = rw c.bytes_at-last.ensures at c.in_ok-staged.ensures

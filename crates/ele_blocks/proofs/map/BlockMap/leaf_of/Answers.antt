@@ -1,5 +1,4 @@
-use Rattle.ele_blocks.proofs.Words.{ap, Layout}
-use Rattle.ele_blocks.proofs.Sizes.{leaf_owned, leaf_is}
+use Rattle.ele_blocks.proofs.Lemmas.{ap, Layout, leaf_is, leaf_owned}
 use Rattle.ele_blocks.proofs.map.BlockMap.leaf_of.Goals as goal
 
 pub returns-clause-owned : goal.returns-clause-owned

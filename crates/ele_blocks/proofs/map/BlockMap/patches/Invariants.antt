@@ -1,4 +1,4 @@
-use Rattle.ele_blocks.proofs.Words.{◌≡◌, content_after_write, content_of, shown, pieces_between}
+use Rattle.ele_blocks.proofs.Words.{content_after_write, content_of, pieces_between, shown, ◌≡◌}
 use Rattle.ele_blocks.proofs.map.BlockMap.patches.Given as goal
 
 abbrev pub invariant-loop-slot : goal.invariant-loop-slot

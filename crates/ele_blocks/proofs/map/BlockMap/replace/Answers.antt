@@ -1,5 +1,4 @@
-use Rattle.ele_blocks.proofs.Words.{rules, ◌≡◌, ◌+◌, ◌-◌, ◌*◌, ◌∙◌, arith, ap, length, take, drop, Layout, laid_over, IsRenewed, slots_in}
-use Rattle.ele_blocks.proofs.Runs.{IsRun, part_owned, part_backed, window_there, inside, now_room, placed, replaced, leaves_new}
+use Rattle.ele_blocks.proofs.Cited.{ap, arith, drop, inside, IsRenewed, IsRun, laid_over, Layout, leaves_new, length, now_room, part_backed, part_owned, placed, replaced, rules, slots_in, take, window_there, ◌*◌, ◌+◌, ◌-◌, ◌∙◌, ◌≡◌}
 use Rattle.ele_blocks.proofs.map.BlockMap.replace.Goals as goal
 use Rattle.ele_blocks.proofs.map.BlockMap.replace.Goals.{After-reserve, After-deref, After-deref-3, After-truncate, After-drop-now}
 
@@ -28,9 +27,8 @@ came : (c : After-deref-3) → c.reserve.new.self.items ≡ c.args.self.now.leav
 came c same = rw (c.deref-2.ensures.value, same, its_window (goal.at.lay_leaves-requires-clause-room c).After-truncate same) at c.in_ok-now.ensures.renewed
 
 pub slots_in-requires : goal.slots_in-requires
-slots_in-requires c =
-    let at = (goal.at.slots_in-requires c).After-deref in
-    rw (c.deref.ensures.value, its_leaves at) (part_owned (run (goal.at.slots_in-requires c).After-reserve) c.run_of-run.result.from (c.run_of-run.result.met - c.run_of-run.result.from))
+slots_in-requires c = let at = goal.at.slots_in-requires c in
+    rw (c.deref.ensures.value, its_leaves at.After-deref) (part_owned (run at.After-reserve) c.run_of-run.result.from (c.run_of-run.result.met - c.run_of-run.result.from))
 
 pub renew-requires : goal.renew-requires
 renew-requires c =
@@ -47,16 +45,10 @@ renew-requires c =
     }
 
 pub lay_leaves-requires-clause-room : goal.lay_leaves-requires-clause-room
-lay_leaves-requires-clause-room c =
-    let at = goal.at.lay_leaves-requires-clause-room c in
-    let size = ap (λ (m : Layout). m.size) c.self.view_is in
-    omega (arith, now_room (run at.After-reserve) (came at.After-deref-3 (its_leaves at.After-deref)), size, ap length c.deref-3.ensures.value, c.in_ok-reserve.ensures.len, c.in_ok-reserve.ensures.ok, c.self.invariant.leaves, c.self.inside.leaves.ok)
+lay_leaves-requires-clause-room c = grind (arith, now_room, came, its_leaves)
 
 new_leaves : (c : After-drop-now) → c.reserve.new.self.items ≡ c.args.self.now.leaves → c.truncate-2.new.self.items ≡ take (c.run_of-run.result.from + length c.in_ok-now.now.items + (length c.args.self.now.leaves - c.run_of-run.result.to)) (laid_over c.run_of-run.result.from c.in_ok-now.now.items c.args.self.now.leaves)
-new_leaves c same =
-    let laid : c.lay_leaves.new.leaves.items ≡ laid_over c.run_of-run.result.from c.in_ok-now.now.items c.args.self.now.leaves = rw (c.deref-3.ensures.value, same) at c.lay_leaves.ensures in
-    let many : c.run_of-run.result.from + c.len-2.result + (c.len-leaves.result - c.run_of-run.result.to) ≡ c.run_of-run.result.from + length c.in_ok-now.now.items + (length c.args.self.now.leaves - c.run_of-run.result.to) = omega (arith, c.in_ok-now.now.ok, ap length same, c.in_ok-reserve.ensures.items, c.self.inside.leaves.ok) in
-    rw (← many, ← laid) c.truncate-2.ensures.items
+new_leaves c same = grind (arith)
 
 pub invariant_of-self-2 : goal.invariant_of-self-2
 invariant_of-self-2 c =
@@ -72,7 +64,5 @@ invariant_of-self-2 c =
 pub returns-clause-replaced : goal.returns-clause-replaced
 returns-clause-replaced c =
     let at = goal.at.returns-clause-replaced c in
-    let h = run at.After-reserve in
-    let same = its_leaves at.After-deref in
-    let renewed = came at.After-deref-3 same in
-    replaced h renewed (record { size = c.args.size; leaves = c.truncate-2.new.self.items }) (new_leaves at.After-drop-now same ∙ placed h renewed)
+    let renewed = came at.After-deref-3 (its_leaves at.After-deref) in
+    replaced (run at.After-reserve) renewed (record { size = c.args.size; leaves = c.truncate-2.new.self.items }) (new_leaves at.After-drop-now (its_leaves at.After-deref) ∙ placed (run at.After-reserve) renewed)

@@ -1,13 +1,8 @@
-use Rattle.ele_blocks.proofs.Words.{◌∙◌, ◌*◌, ◌/◌, drop, ap, length, arith, length-take, length-drop, slots_of}
-use Rattle.ele_blocks.proofs.Sizes.{slot_found}
-use Rattle.ele_blocks.proofs.OneToOnes.{slot_owned}
-use Rattle.ele_blocks.proofs.Sizes.{slots-count, its_bytes}
+use Rattle.ele_blocks.proofs.Cited.{arith, its_bytes, length-drop, length-take, slot_found, slot_owned, slots-count, slots_of, ◌∙◌}
 use Rattle.ele_blocks.proofs.map.BlockMap.slot_at.Goals as goal
 
 pub bounds-leaf-slot : goal.bounds-leaf-slot
-bounds-leaf-slot c =
-    let slots = slots_of c.args.store.now c.args.self.now in
-    omega (arith, ap length (c.leaf.ensures ∙ c.leaf_of-leaf.ensures.is), length-take 16 (drop (16 * (c.args.slot / 16)) slots), length-drop (16 * (c.args.slot / 16)) slots, slots-count c.args.store.now c.args.self.now c.requires.lives.whole, c.requires.within)
+bounds-leaf-slot c = grind (arith, length-take, length-drop, slots-count)
 
 pub returns : goal.returns
 returns c =

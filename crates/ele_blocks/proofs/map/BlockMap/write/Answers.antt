@@ -1,11 +1,8 @@
-use Rattle.ele_blocks.proofs.Words.{◌/◌, arith}
-use Rattle.ele_blocks.proofs.Changes.{reach, write_change, written_nothing}
+use Rattle.ele_blocks.proofs.Cited.{arith, reach, write_change, written_nothing, ◌/◌}
 use Rattle.ele_blocks.proofs.map.BlockMap.write.Goals as goal
 
 pub replace-requires-clause-count : goal.replace-requires-clause-count
-replace-requires-clause-count c =
-    let all = reach c.args.store.now c.args.self.now c.args.writer c.args.offset (c.min-from.result / 512) c.args.bytes.now c.in_ok-staged.staged.items c.requires.lives (omega arith) c.in_ok-staged.ensures in
-    omega (arith, all, c.in_ok-staged.staged.ok)
+replace-requires-clause-count c = grind (arith, reach)
 
 pub returns-clause-written : goal.returns-clause-written
 returns-clause-written c =

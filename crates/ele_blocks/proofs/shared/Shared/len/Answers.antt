@@ -1,5 +1,4 @@
-use Rattle.std.proofs.Common.{ap, sym, ◌∙◌}
-use Rattle.ele_blocks.proofs.Counts.{count-counted}
+use Rattle.ele_blocks.proofs.Cited.{ap, count-counted, sym, ◌∙◌}
 use Rattle.ele_blocks.proofs.shared.Shared.len.Goals as goal
 
 pub returns-clause-count : goal.returns-clause-count

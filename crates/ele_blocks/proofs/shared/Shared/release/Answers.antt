@@ -1,64 +1,27 @@
-use Rattle.std.proofs.Common.{◌<◌, ◌≤◌, ap, sym, ◌∙◌, arith, get_or}
-use Rattle.std.proofs.lemmas.Grind.{get_or_default_zero}
-use Rattle.ele_blocks.specs.Shared.{owners, place_at}
-use Rattle.ele_blocks.specs.SharedInside.{counted}
-use Rattle.ele_blocks.proofs.Counts.{is_counted, leaves_with_last, none_leaves, owned_gone, owned_less, owners-counted, sets_gone, sets_less}
+use Rattle.ele_blocks.proofs.Cited.{ap, arith, counted, get_or_default_zero, is_counted, leaves_with_last, none_leaves, owned_gone, owned_less, owners, owners-counted, sets_gone, sets_less, sym, ◌∙◌, ◌≤◌}
 use Rattle.ele_blocks.proofs.shared.Shared.release.Goals as goal
 
 pub index-requires : goal.index-requires
-index-requires g c =
-    rw c.self.inside.owners.ok.0 (is_counted c.self.inside.values.slots c.self.inside.owners.items c.args.id (rw (ap (λ v. v.slots) c.self.view_is) c.requires))
+index-requires g c = grind (arith, is_counted)
 
 pub index_mut-requires : goal.index_mut-requires
-index_mut-requires g c =
-    rw c.self.inside.owners.ok.0 (is_counted c.self.inside.values.slots c.self.inside.owners.items c.args.id (rw (ap (λ v. v.slots) c.self.view_is) c.requires))
+index_mut-requires g c = grind (arith, is_counted)
 
 pub overflow_sub-index_mut : goal.overflow_sub-index_mut
-overflow_sub-index_mut g c =
-    let values = c.self.inside.values.slots in
-    let counts = c.self.inside.owners.items in
-    let within = is_counted values counts c.args.id (rw (ap (λ v. v.slots) c.self.view_is) c.requires) in
-    omega (arith, c.if-index-gt1.true, c.index.ensures ∙ get_or_default_zero counts c.args.id _ within, c.index_mut.ensures.value ∙ get_or_default_zero counts c.args.id _ within)
+overflow_sub-index_mut g c = grind (arith, is_counted, get_or_default_zero)
 
 pub invariant_of-self : goal.invariant_of-self
-invariant_of-self g c =
-    let values = c.self.inside.values.slots in
-    let counts = c.self.inside.owners.items in
-    let there : 0 < owners (counted values counts) c.args.id = rw (ap (λ v. v.slots) c.self.view_is) c.requires in
-    let within = is_counted values counts c.args.id there in
-    let count = c.index_mut.ensures.value ∙ get_or_default_zero counts c.args.id _ within in
-    let many : 1 < get_or counts c.args.id 0 = omega (arith, c.if-index-gt1.true, c.index.ensures ∙ get_or_default_zero counts c.args.id _ within) in
-    rw count (owned_less values counts c.args.id c.self.invariant there many)
+invariant_of-self g c = grind (arith, is_counted, get_or_default_zero, owned_less)
 
 pub returns-then-index-gt1-clause-sets : goal.returns-then-index-gt1-clause-sets
-returns-then-index-gt1-clause-sets g c =
-    let values = c.self.inside.values.slots in
-    let counts = c.self.inside.owners.items in
-    let view = ap (λ v. v.slots) c.self.view_is in
-    let there : 0 < owners (counted values counts) c.args.id = rw view c.requires in
-    let within = is_counted values counts c.args.id there in
-    let count = c.index_mut.ensures.value ∙ get_or_default_zero counts c.args.id _ within in
-    let many : 1 < get_or counts c.args.id 0 = omega (arith, c.if-index-gt1.true, c.index.ensures ∙ get_or_default_zero counts c.args.id _ within) in
-    rw (count, sym view) (sets_less values counts c.args.id there many)
+returns-then-index-gt1-clause-sets g c = grind (arith, is_counted, get_or_default_zero, sets_less c.self.inside.values.slots c.self.inside.owners.items c.args.id)
 
 pub returns-then-index-gt1-clause-last : goal.returns-then-index-gt1-clause-last
-returns-then-index-gt1-clause-last g c =
-    let values = c.self.inside.values.slots in
-    let counts = c.self.inside.owners.items in
-    let view = ap (λ v. v.slots) c.self.view_is in
-    let there : 0 < owners (counted values counts) c.args.id = rw view c.requires in
-    let count = c.index.ensures ∙ get_or_default_zero counts c.args.id _ (is_counted values counts c.args.id there) in
-    let many : 1 < owners (counted values counts) c.args.id = omega (arith, c.if-index-gt1.true, count, owners-counted values counts c.args.id there) in
-    rw (sym view) (sym (none_leaves (place_at (counted values counts) c.args.id) many))
+returns-then-index-gt1-clause-last g c = grind (arith, get_or_default_zero, is_counted, owners-counted, none_leaves)
 
 -- the value has no owner but this one
 last : (g : _) (c : goal.After-try_remove g) → owners (counted c.self.inside.values.slots c.self.inside.owners.items) c.args.id ≤ 1
-last g c =
-    let values = c.self.inside.values.slots in
-    let counts = c.self.inside.owners.items in
-    let there : 0 < owners (counted values counts) c.args.id = rw (ap (λ v. v.slots) c.self.view_is) c.requires in
-    let count = c.index.ensures ∙ get_or_default_zero counts c.args.id _ (is_counted values counts c.args.id there) in
-    omega (arith, c.if-index-gt1.false, count, owners-counted values counts c.args.id there)
+last g c = grind (arith, get_or_default_zero, is_counted, owners-counted)
 
 pub invariant_of-self-2 : goal.invariant_of-self-2
 invariant_of-self-2 g c = owned_gone c.self.inside.values.slots c.try_remove.new.self.slots c.self.inside.owners.items c.args.id c.self.invariant (last g c) c.try_remove.ensures.updates.changed c.try_remove.ensures.updates.others

@@ -1,15 +1,9 @@
-use Rattle.std.proofs.Common.{◌≡◌, ◌≤◌, ap, sym, subst, ◌∙◌, arith, length}
-use Rattle.ele_blocks.specs.Shared.{Owned}
-use Rattle.ele_blocks.specs.SharedInside.{counted}
-use Rattle.ele_blocks.proofs.Counts.{counted-filled, room_of}
+use Rattle.ele_blocks.proofs.Cited.{ap, arith, counted, counted-more, take_all, Owned, room_of, subst, sym, ◌∙◌, ◌≡◌}
 use Rattle.ele_blocks.proofs.shared.Shared.reserve.Goals as goal
 
 -- a longer list of counts shows the same
 same : (g : _) (c : goal.In_ok-resize g) → counted c.reserve.new.self.slots c.resize.new.self.items ≡ counted c.self.inside.values.slots c.self.inside.owners.items
-same g c =
-    let counts = c.self.inside.owners.items in
-    let short : length counts ≤ c.capacity-capacity.result = omega (arith, c.self.inside.owners.ok.0, c.if-len-capacity.true, c.len.ensures) in
-    rw (ap (λ s. s.slots) c.in_ok-reserve.ensures.rest_kept, c.in_ok-resize.ensures.items) (counted-filled c.self.inside.values.slots counts c.capacity-capacity.result _ short)
+same g c = grind (arith, take_all, counted-more)
 
 pub invariant_of-self-in-Continue-branch-2 : goal.invariant_of-self-in-Continue-branch-2
 invariant_of-self-in-Continue-branch-2 g c = subst Owned (sym (same g c)) c.self.invariant

@@ -1,5 +1,4 @@
-use Rattle.ele_blocks.proofs.Words.{◌<◌, ◌^◌, arith, owners_at}
-use Rattle.ele_blocks.proofs.Trades.{slot_named, each_more}
+use Rattle.ele_blocks.proofs.Lemmas.{arith, each_more, owners_at, slot_named, ◌<◌, ◌^◌}
 use Rattle.ele_blocks.proofs.store.BlockStore.can_share.Goals as goal
 
 pub owners-requires : goal.owners-requires

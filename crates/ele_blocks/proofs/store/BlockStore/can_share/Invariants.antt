@@ -1,4 +1,4 @@
-use Rattle.ele_blocks.proofs.Words.{ℕ, ◌<◌, ◌^◌, take, ids_of, times, owners_at}
+use Rattle.ele_blocks.proofs.Words.{ids_of, owners_at, take, times, ℕ, ◌<◌, ◌^◌}
 use Rattle.ele_blocks.proofs.store.BlockStore.can_share.Given as goal
 
 abbrev pub invariant-loop-slot : goal.invariant-loop-slot

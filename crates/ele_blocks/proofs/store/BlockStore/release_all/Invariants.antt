@@ -1,4 +1,4 @@
-use Rattle.ele_blocks.proofs.Words.{◌≡◌, take, [], ids_of, Trades}
+use Rattle.ele_blocks.proofs.Words.{[], ids_of, take, Trades, ◌≡◌}
 use Rattle.ele_blocks.proofs.store.BlockStore.release_all.Given as goal
 
 abbrev pub invariant-loop-slot : goal.invariant-loop-slot

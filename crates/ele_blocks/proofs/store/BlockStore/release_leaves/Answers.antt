@@ -1,5 +1,4 @@
-use Rattle.ele_blocks.proofs.Words.{get_or, get_or_default}
-use Rattle.ele_blocks.proofs.Hands.{release_leaves_next, release_leaves_backed, release_leaves_more}
+use Rattle.ele_blocks.proofs.Lemmas.{get_or, get_or_default, release_leaves_backed, release_leaves_more, release_leaves_next}
 use Rattle.ele_blocks.proofs.store.BlockStore.release_leaves.Goals as goal
 
 pub release_leaf-requires : goal.release_leaf-requires

@@ -1,4 +1,4 @@
-use Rattle.ele_blocks.proofs.Words.{take, Hands, times}
+use Rattle.ele_blocks.proofs.Words.{Hands, take, times}
 use Rattle.ele_blocks.proofs.store.BlockStore.release_leaves.Given as goal
 
 abbrev pub invariant-loop-leaf : goal.invariant-loop-leaf

@@ -1,22 +1,9 @@
-use Rattle.ele_blocks.specs.Store.{Store}
-use Rattle.ele_blocks.proofs.Renewals.{HaveCome, was_backed, renewed}
+use Rattle.ele_blocks.proofs.Cited.{arith, HaveCome, renewed, was_backed}
 use Rattle.ele_blocks.proofs.store.BlockStore.renew.Goals as goal
 use Rattle.ele_blocks.proofs.store.BlockStore.renew.Goals.{After-put_leaves}
 
 come : (c : After-put_leaves) → HaveCome c.args.self.now (record { blocks = c.lay_stage.new.blocks.slots; leaves = c.put_leaves.new.leaves.slots }) c.args.stage.window.items c.args.stage.first c.args.stage.writer c.args.stage.staged.items c.in_ok-slots.slots.items c.put_leaves.new.ids.items c.args.was.now
-come c =
-    let s : Store = record { blocks = c.self.inside.blocks.slots; leaves = c.self.inside.leaves.slots } in
-    let mid : Store = record { blocks = c.lay_stage.new.blocks.slots; leaves = c.put_leaves.new.leaves.slots } in
-    let h : HaveCome s mid c.args.stage.window.items c.args.stage.first c.args.stage.writer c.args.stage.staged.items c.in_ok-slots.slots.items c.put_leaves.new.ids.items c.args.was.now = record {
-      there = rw (← c.self.view_is) at c.requires.there;
-      laid = c.in_ok-slots.ensures.laid;
-      puts = rw c.in_ok-reserve_leaves.ensures.same at c.put_leaves.ensures.adds;
-      values = rw c.deref-2.ensures.value at c.put_leaves.ensures.values;
-      backs = rw (c.in_ok-reserve_leaves.ensures.same, c.deref-2.ensures.value) at c.put_leaves.ensures.backing;
-      owned = rw (← c.self.view_is) at c.requires.owned;
-      backed = rw (← c.self.view_is) at c.requires.backed;
-    } in
-    rw (← c.self.view_is) h
+come c = grind (arith)
 
 pub release_leaves-requires-clause-backed : goal.release_leaves-requires-clause-backed
 release_leaves-requires-clause-backed c = was_backed (come (goal.at.release_leaves-requires-clause-backed c).After-put_leaves)

@@ -1,9 +1,7 @@
-use Rattle.ele_blocks.proofs.Words.{refl, Store}
-use Rattle.ele_blocks.proofs.Hands.{share_leaf}
+use Rattle.ele_blocks.proofs.Lemmas.{refl, share_leaf, Store}
 use Rattle.ele_blocks.proofs.store.BlockStore.share_leaf.Goals as goal
 
 pub returns : goal.returns
 returns c =
     let s : Store = record { blocks = c.self.inside.blocks.slots; leaves = c.self.inside.leaves.slots } in
-    let t : Store = record { blocks = c.self.inside.blocks.slots; leaves = c.share.new.self.slots } in
-    rw (← c.self.view_is) (share_leaf s t c.args.leaf (rw (← c.self.view_is) at c.requires.there) refl c.share.ensures)
+    rw (← c.self.view_is) (share_leaf s (record { blocks = c.self.inside.blocks.slots; leaves = c.share.new.self.slots }) c.args.leaf (rw (← c.self.view_is) at c.requires.there) refl c.share.ensures)

@@ -1,5 +1,4 @@
-use Rattle.ele_blocks.proofs.Words.{get_or, get_or_default}
-use Rattle.ele_blocks.proofs.Hands.{share_leaves_next, share_leaves_few, share_leaves_more}
+use Rattle.ele_blocks.proofs.Lemmas.{get_or, get_or_default, share_leaves_few, share_leaves_more, share_leaves_next}
 use Rattle.ele_blocks.proofs.store.BlockStore.share_leaves.Goals as goal
 
 pub share_leaf-requires : goal.share_leaf-requires

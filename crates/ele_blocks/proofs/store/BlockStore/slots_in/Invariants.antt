@@ -1,4 +1,4 @@
-use Rattle.ele_blocks.proofs.Words.{◌≡◌, take, slots_in}
+use Rattle.ele_blocks.proofs.Words.{slots_in, take, ◌≡◌}
 use Rattle.ele_blocks.proofs.store.BlockStore.slots_in.Given as goal
 
 abbrev pub invariant-loop-leaf : goal.invariant-loop-leaf

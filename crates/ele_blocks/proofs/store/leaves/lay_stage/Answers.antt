@@ -1,34 +1,21 @@
-use Rattle.ele_blocks.proofs.Words.{◌≡◌, ◌+◌, ◌∙◌, length, take, drop, min, Some, ap, sym, arith, length-map, drop_min, value_at}
-use Rattle.ele_blocks.proofs.Renewals.{IsStaged, front_there, front_few, back_there, back_few, is_laid}
+use Rattle.ele_blocks.proofs.Cited.{ap, arith, back_few, back_there, drop, drop_min, front_few, front_there, is_laid, IsStaged, length, length-map, take, ◌+◌, ◌∙◌, ◌≡◌}
 use Rattle.ele_blocks.proofs.store.leaves.lay_stage.Goals as goal
 use Rattle.ele_blocks.proofs.store.leaves.lay_stage.Goals.{After-split_at, After-split_at-2}
 
 its_count : (c : After-split_at) → length c.in_ok-fresh.fresh.items ≡ length c.args.stage.staged.items
-its_count c = sym (length-map c.in_ok-fresh.fresh.items (value_at c.put_all.new.self.slots)) ∙ (ap length c.in_ok-fresh.ensures.values ∙ length-map c.args.stage.staged.items (λ x. Some x))
+its_count c = grind (arith, length-map, ap length c.in_ok-fresh.ensures.values)
 
 staged : (c : After-split_at) → IsStaged c.args.blocks.now.slots c.put_all.new.self.slots c.args.stage.window.items c.args.stage.first c.in_ok-fresh.fresh.items
-staged c = record {
-  within = omega arith;
-  there = c.requires.there;
-  few = c.requires.few;
-  small = omega (arith, its_count c);
-  adds = c.in_ok-fresh.ensures.adds;
-}
+staged c = record { within = omega arith; there = c.requires.there; few = c.requires.few; small = omega (arith, its_count c); adds = c.in_ok-fresh.ensures.adds }
 
 front : (c : After-split_at) → c.split_at.result.0.now ≡ take c.args.stage.first c.args.stage.window.items
 front c = c.split_at.ensures.front ∙ ap (take c.args.stage.first) (c.deref.ensures.value ∙ c.in_ok-reserve.ensures.items)
 
 back : (c : After-split_at-2) → length c.in_ok-fresh.fresh.items ≡ length c.args.stage.staged.items → c.split_at-2.result.1.now ≡ drop (c.args.stage.first + length c.in_ok-fresh.fresh.items) c.args.stage.window.items
-back c count =
-    let window = c.args.stage.window.items in
-    let past = c.args.stage.first + length c.in_ok-fresh.fresh.items in
-    let place : c.min.result ≡ min past (length window) = omega (arith, count) in
-    c.split_at-2.ensures.back ∙ (ap (drop c.min.result) (c.deref-2.ensures.value ∙ c.in_ok-reserve.ensures.items) ∙ (ap (λ n. drop n window) place ∙ drop_min past window))
+back c count = grind (arith, drop_min)
 
 pub share_all-requires : goal.share_all-requires
-share_all-requires c =
-    let at = (goal.at.share_all-requires c).After-split_at in
-    record { there = rw (front at) (front_there (staged at)); few = rw (front at) (front_few (staged at)) }
+share_all-requires c = grind (arith, front_there, front_few)
 
 pub share_all-requires-2 : goal.share_all-requires-2
 share_all-requires-2 c =

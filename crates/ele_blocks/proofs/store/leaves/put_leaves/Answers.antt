@@ -1,7 +1,4 @@
-use Rattle.ele_blocks.proofs.Words.{◌+◌, ◌-◌, ◌∙◌, ap, arith, length, [], ◌∷◌, length-drop, length-append}
-use Rattle.ele_blocks.proofs.Backing.{backing_put}
-use Rattle.ele_blocks.proofs.Sized.{chunk_next}
-use Rattle.ele_blocks.proofs.Trades.{puts_more}
+use Rattle.ele_blocks.proofs.Lemmas.{[], ap, arith, backing_put, chunk_next, length, length-append, length-drop, puts_more, ◌+◌, ◌-◌, ◌∙◌, ◌∷◌}
 use Rattle.ele_blocks.proofs.store.leaves.put_leaves.Goals as goal
 
 pub overflow_cast-put_reserved : goal.overflow_cast-put_reserved

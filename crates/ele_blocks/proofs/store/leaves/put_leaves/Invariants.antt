@@ -1,5 +1,4 @@
-use Rattle.ele_blocks.proofs.Words.{◌≡◌, ℕ, ◌+◌, ◌-◌, ◌≤◌, ◌^◌, length, vec_capacity, first_chunks, HasRoomFor, ids_of, backing, leaf_count, parts, times}
-use Rattle.ele_blocks.proofs.Trades.{PutsSoFar}
+use Rattle.ele_blocks.proofs.Lemmas.{backing, first_chunks, HasRoomFor, ids_of, leaf_count, length, parts, PutsSoFar, times, vec_capacity, ℕ, ◌+◌, ◌-◌, ◌^◌, ◌≡◌, ◌≤◌}
 use Rattle.ele_blocks.proofs.store.leaves.put_leaves.Given as goal
 
 abbrev pub invariant-loop : goal.invariant-loop
