@@ -1,13 +1,16 @@
 -- A row at the end of the others.
 use Rattle.ele_names.proofs.Basics.{◌≡◌, ℕ, Bool, true, false, subst, ◌+◌, ◌≤◌, ◌<◌, ◌^◌, cond, List, [], ◌∷◌, ◌++◌, length, Some, None, Option, refl, ap, ◌∙◌, arith, AllByRecursion, IsStrictlySortedBy, option_map, option_map_or, nat_cmp, is_at, insert_entry, keys_of, values_of, nat_tests, map-append, value_at, is_placed, nat_cmp_total, lookup-insert_entry, sorted-insert_entry, all-push, all-weaker, later-push, pushed, not_yet, split_at, all-mid}
-use Rattle.ele_names.proofs.Words.{last_moment, NameRow, Lives, Places, Table, AreCounted, AreNumbered, IsKept, IsTable, rows_of, ArePlaced, AreListed, KeepsPlaces, names_of, number_in, Follows}
+use Rattle.ele_names.proofs.Words.{target_eq, last_moment, NameRow, Lives, Places, Table, AreCounted, AreNumbered, IsKept, IsTable, rows_of, ArePlaced, AreListed, KeepsPlaces, names_of, number_in, Follows}
 use Rattle.ele_names.proofs.Chained.{chained_same}
 use Rattle.ele_names.proofs.Live.{numbered_same}
 use Rattle.ele_names.proofs.Numbers.{keeps_same}
 
 -- the places are of whatever has the same rows
 pub placed_same : (names : List (ℕ × List ℕ)) (at to : ℕ → Option NameRow) (places : Places) → ((s : ℕ) → to s ≡ at s) → ArePlaced names at places → ArePlaced names to places
-placed_same names at to places same placed = grind (arith, nat_tests, same, chained_same, option_map)
+placed_same names at to places same placed = record {
+  named = record { each = λ q r s. placed.named.each q r s ∙ rw (same s) refl };
+  targeted = chained_same target_eq (λ row. row.target) at to places.of_target (λ s. ap (option_map (λ row. row.target)) (same s)) placed.targeted;
+}
 
 -- a row that comes and goes again leaves the places as they were
 pub placed_back : (names : List (ℕ × List ℕ)) (es : List (ℕ × NameRow)) (n : ℕ) (row : NameRow) → value_at es n ≡ None → (places : Places)

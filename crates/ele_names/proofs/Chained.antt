@@ -1,6 +1,8 @@
--- The rows of each target, where a newer one comes or the newest goes.
-use Rattle.ele_names.proofs.Basics.{◌≡◌, ℕ, zero, suc, ◌≤◌, ◌<◌, ◌^◌, Bool, true, false, cond, List, [], ◌∷◌, ◌++◌, length, take, slice_get, slice_set, Option, Some, None, refl, sym, ap, ◌∙◌, arith, inl, inr, is_at, get, option_and_then, option_map, option_map_or, nat_cmp, false≢true, cases_lt, nat_tests}
-use Rattle.ele_names.proofs.Words.{NameRow, Target, File, Directory, Chains, AreChained, HasOlder, IsLastBelow, stands_for, target_eq}
+-- The members of each group, where a newer one comes or the newest goes.
+use Rattle.ele_names.proofs.Basics.{◌≡◌, ℕ, zero, suc, ◌≤◌, ◌<◌, ◌^◌, Bool, true, false, cond, List, [], ◌∷◌, ◌++◌, length, take, slice_get, slice_set, Option, Some, None, refl, sym, ap, ◌∙◌, arith, inl, inr, is_at, get, option_map, option_map_or, nat_cmp, false≢true, cases_lt, nat_tests}
+use Rattle.ele_names.proofs.Words.{Target, File, Directory, target_eq}
+use Rattle.ele_names.specs.declared.chains.Chains.{Chains}
+use Rattle.ele_names.specs.Chained.{AreChained, HasOlder, IsLastBelow, Gains, Keeps, Loses, is_member}
 use Rattle.ele_names.proofs.Live.{same_serial}
 
 pub same_target : (t u : Target) → target_eq t u ≡ true → t ≡ u
@@ -68,155 +70,153 @@ module _ (p : ℕ → Bool) (low high : ℕ) (le : low ≤ high) (none : (s : �
   last_higher (Some r) last = record {
     there = last.there;
     below = omega (arith, le, last.below);
-    last = λ s after lt. elim (cases_lt s low) as (λ _. p s ≡ false) [ inl is ↦ last.last s after is | inr over ↦ none s over lt ];
+    last = λ s over lt. elim (cases_lt s low) as (λ _. p s ≡ false) [ inl is ↦ last.last s over is | inr past ↦ none s past lt ];
   }
 
--- rows of the same targets are chained alike
-pub chained_same : (at to : ℕ → Option NameRow) (chains : Chains) → ((s : ℕ) → option_map (λ row. row.target) (to s) ≡ option_map (λ row. row.target) (at s)) → AreChained at chains → AreChained to chains
-chained_same at to chains same was = record {
-  newest = λ t. last_same (stands_for at t) (stands_for to t) (2 ^ 64) (get target_eq chains.newest t) (λ s lt. alike t (to s) (at s) (same s)) (was.newest t);
-  older = λ s row is. older s row is (at s) refl;
-} where
-  alike : (t : Target) (o p : Option NameRow) → option_map (λ row. row.target) o ≡ option_map (λ row. row.target) p → option_map_or (λ row. target_eq row.target t) o false ≡ option_map_or (λ row. target_eq row.target t) p false
-  alike t None None h = refl
-  alike t None (Some row) h = absurd cc
-  alike t (Some row) None h = absurd cc
-  alike t (Some row) (Some other) h = let targets : row.target ≡ other.target = cc in ap (λ u. target_eq u t) targets
+module _ {G X : Type 0} (eq : G → G → Bool) (group : X → G) where
+  -- nothing is a member where nothing stands
+  pub none_stands : (at : ℕ → Option X) (g : G) (s : ℕ) → at s ≡ None → is_member eq group at g s ≡ false
+  none_stands at g s none = rw none refl
 
-  older : (s : ℕ) (row : NameRow) → to s ≡ Some row → (o : Option NameRow) → at s ≡ o → HasOlder (stands_for to row.target) chains.older.items s
-  older s row is None none = let not : Some row.target ≡ None = sym (ap (option_map (λ row. row.target)) is) ∙ same s ∙ ap (option_map (λ row. row.target)) none in absurd cc
-  older s row is (Some other) there =
-      let both : Some row.target ≡ Some other.target = sym (ap (option_map (λ row. row.target)) is) ∙ same s ∙ ap (option_map (λ row. row.target)) there in
-      let target : row.target ≡ other.target = cc in
-      let old = was.older s other there in
-      record {
-        number = old.number;
-        there = old.there;
-        last = last_same (stands_for at other.target) (stands_for to row.target) s old.number (λ k lt. ap (λ t. stands_for to t k) target ∙ alike other.target (to k) (at k) (same k)) old.last;
+  -- members of the same groups are chained alike
+  pub chained_same : (at to : ℕ → Option X) (chains : Chains G) → ((s : ℕ) → option_map group (to s) ≡ option_map group (at s)) → AreChained eq group at chains → AreChained eq group to chains
+  chained_same at to chains same was = record {
+    newest = λ g. last_same (is_member eq group at g) (is_member eq group to g) (2 ^ 64) (get eq chains.newest g) (λ s lt. alike g (to s) (at s) (same s)) (was.newest g);
+    older = λ s x is. older s x is (at s) refl;
+  } where
+    alike : (g : G) (o p : Option X) → option_map group o ≡ option_map group p → option_map_or (λ x. eq (group x) g) o false ≡ option_map_or (λ x. eq (group x) g) p false
+    alike g None None h = refl
+    alike g None (Some x) h = absurd cc
+    alike g (Some x) None h = absurd cc
+    alike g (Some x) (Some y) h = let groups : group x ≡ group y = cc in ap (λ u. eq u g) groups
+
+    older : (s : ℕ) (x : X) → to s ≡ Some x → (o : Option X) → at s ≡ o → HasOlder (is_member eq group to (group x)) chains.older.items s
+    older s x is None none = let not : Some (group x) ≡ None = sym (ap (option_map group) is) ∙ same s ∙ ap (option_map group) none in absurd cc
+    older s x is (Some y) there =
+        let both : Some (group x) ≡ Some (group y) = sym (ap (option_map group) is) ∙ same s ∙ ap (option_map group) there in
+        let groups : group x ≡ group y = cc in
+        let old = was.older s y there in
+        record {
+          number = old.number;
+          there = old.there;
+          last = last_same (is_member eq group at (group y)) (is_member eq group to (group x)) s old.number (λ k lt. ap (λ g. is_member eq group to g k) groups ∙ alike (group y) (to k) (at k) (same k)) old.last;
+        }
+
+  pub chained_none : (at : ℕ → Option X) (chains : Chains G) → ((s : ℕ) → at s ≡ None) → ((g : G) → get eq chains.newest g ≡ None) → AreChained eq group at chains
+  chained_none at chains none empty = record {
+    newest = λ g. rw (empty g) (λ s lt. none_stands at g s (none s));
+    older = λ s x is. let no : None ≡ Some x = sym (none s) ∙ is in absurd cc;
+  }
+
+  module _ (at : ℕ → Option X) (x : X) (number : ℕ) where
+    module _ (fresh : (s : ℕ) → number ≤ s → at s ≡ None) where
+      abbrev entered : ℕ → Option X
+      entered s = cond (is_at (nat_cmp number) s) (Some x) (at s)
+
+      before : (g : G) (s : ℕ) → s < number → is_member eq group entered g s ≡ is_member eq group at g s
+      before g s lt = rw (apart number s lt) refl
+
+      others : (g : G) → eq (group x) g ≡ false → (s : ℕ) → is_member eq group entered g s ≡ is_member eq group at g s
+      others g not s = elim (is_at (nat_cmp number) s) as (λ b. is_at (nat_cmp number) s ≡ b → option_map_or (λ x. eq (group x) g) (cond b (Some x) (at s)) false ≡ is_member eq group at g s) [
+        | true ↦ λ e. let same = same_serial number s e in not ∙ sym (none_stands at g s (fresh s (omega (arith, same))))
+        | false ↦ λ e. refl
+      ] refl
+
+      -- no newer member of its group
+      pub newest_entered : (s : ℕ) → number < s → is_member eq group entered (group x) s ≡ false
+      newest_entered s over = rw (beyond number s over) (none_stands at (group x) s (fresh s (omega (arith, over))))
+
+      first : (s : ℕ) (y : X) → at s ≡ Some y → s < number
+      first s y is = elim (cases_lt s number) as (λ _. s < number) [ inl before ↦ before | inr over ↦ let no : None ≡ Some y = sym (fresh s over) ∙ is in absurd cc ]
+
+      pub chained_kept : (old new : Chains G) → Keeps eq number old new → AreChained eq group at old → AreChained eq group at new
+      chained_kept old new keeps was = record {
+        newest = λ g. rw (keeps.newest g) (was.newest g);
+        older = λ s y is. let prior = was.older s y is in record { number = prior.number; there = keeps.older s prior.number (first s y is) prior.there; last = prior.last };
       }
 
--- nothing stands where there is no row
-pub none_stands : (at : ℕ → Option NameRow) (t : Target) (s : ℕ) → at s ≡ None → stands_for at t s ≡ false
-none_stands at t s none = rw none refl
+      pub chained_entered : (old new : Chains G) → number < 2 ^ 64 → Gains eq (group x) number old new → AreChained eq group at old → AreChained eq group entered new
+      chained_entered old new short gains was = record { newest = newest; older = older } where
+        newest : (g : G) → IsLastBelow (is_member eq group entered g) (2 ^ 64) (get eq new.newest g)
+        newest g = rw (gains.newest g) (elim (eq (group x) g) as (λ b. eq (group x) g ≡ b → IsLastBelow (is_member eq group entered g) (2 ^ 64) (cond b (Some number) (get eq old.newest g))) [
+          | true ↦ λ e. record {
+            there = rw (itself number) e;
+            below = short;
+            last = λ s over lt. rw (beyond number s over) (none_stands at g s (fresh s (omega (arith, over))));
+          }
+          | false ↦ λ e. last_same (is_member eq group at g) (is_member eq group entered g) (2 ^ 64) (get eq old.newest g) (λ s lt. others g e s) (was.newest g)
+        ] refl) where
+          itself : (n : ℕ) → is_at (nat_cmp n) n ≡ true
+          itself n = grind (arith, nat_tests)
 
-module _ (at : ℕ → Option NameRow) (row : NameRow) (serial : ℕ) where
-  stands_own : at serial ≡ Some row → (t : Target) (s : ℕ) → is_at (nat_cmp serial) s ≡ true → stands_for at t s ≡ target_eq row.target t
-  stands_own there t s is = rw (← same_serial serial s is, there) refl
+        older : (s : ℕ) (y : X) → entered s ≡ Some y → HasOlder (is_member eq group entered (group y)) new.older.items s
+        older s y is = elim (is_at (nat_cmp number) s) as (λ b. is_at (nat_cmp number) s ≡ b → cond b (Some x) (at s) ≡ Some y → HasOlder (is_member eq group entered (group y)) new.older.items s) [
+          | true ↦ λ e h. let same = same_serial number s e in let its : x ≡ y = cc in rw (← same, ← its) (record {
+            number = get eq old.newest (group x);
+            there = gains.own;
+            last = last_same (is_member eq group at (group x)) (is_member eq group entered (group x)) number (get eq old.newest (group x)) (before (group x))
+                (last_lower (is_member eq group at (group x)) number (2 ^ 64) (omega (arith, short)) (λ k le lt. none_stands at (group x) k (fresh k le)) (get eq old.newest (group x)) (was.newest (group x)));
+          })
+          | false ↦ λ e h.
+              let prior = was.older s y h in
+              let lt = first s y h in
+              record {
+                number = prior.number;
+                there = gains.older s prior.number lt prior.there;
+                last = last_same (is_member eq group at (group y)) (is_member eq group entered (group y)) s prior.number (λ k less. before (group y) k (omega (arith, less, lt))) prior.last;
+              }
+        ] refl is
 
-  module _ (fresh : (s : ℕ) → serial ≤ s → at s ≡ None) where
-    abbrev entered : ℕ → Option NameRow
-    entered s = cond (is_at (nat_cmp serial) s) (Some row) (at s)
+    module _ (there : at number ≡ Some x) (newest_of : (s : ℕ) → number < s → is_member eq group at (group x) s ≡ false) (exact : (a b : G) → eq a b ≡ true → a ≡ b) (itself : (g : G) → eq g g ≡ true) where
+      abbrev left : ℕ → Option X
+      left s = cond (is_at (nat_cmp number) s) None (at s)
 
-    before : (t : Target) (s : ℕ) → s < serial → stands_for entered t s ≡ stands_for at t s
-    before t s lt = rw (apart serial s lt) refl
+      below : (g : G) (s : ℕ) → s < number → is_member eq group left g s ≡ is_member eq group at g s
+      below g s lt = rw (apart number s lt) refl
 
-    others : (t : Target) → target_eq row.target t ≡ false → (s : ℕ) → stands_for entered t s ≡ stands_for at t s
-    others t not s = grind (arith, nat_tests, is_at, nat_cmp, option_map_or, target_eq, stands_for, same_serial, none_stands)
+      unlike : (g : G) → eq (group x) g ≡ false → (s : ℕ) → is_member eq group left g s ≡ is_member eq group at g s
+      unlike g not s = elim (is_at (nat_cmp number) s) as (λ b. is_at (nat_cmp number) s ≡ b → option_map_or (λ x. eq (group x) g) (cond b None (at s)) false ≡ is_member eq group at g s) [
+        | true ↦ λ e. sym (rw (← same_serial number s e, there) refl ∙ not)
+        | false ↦ λ e. refl
+      ] refl
 
-    -- no newer row of its target
-    pub newest_entered : (s : ℕ) → serial < s → stands_for entered row.target s ≡ false
-    newest_entered s over = rw (beyond serial s over) (none_stands at row.target s (fresh s (omega (arith, over))))
+      -- no member of its group stands there, or behind
+      gone : (s : ℕ) → number ≤ s → is_member eq group left (group x) s ≡ false
+      gone s le = elim (is_at (nat_cmp number) s) as (λ b. is_at (nat_cmp number) s ≡ b → option_map_or (λ y. eq (group y) (group x)) (cond b None (at s)) false ≡ false) [
+        | true ↦ λ e. refl
+        | false ↦ λ e. newest_of s (after number s e le)
+      ] refl
 
-    -- no row is newer
-    first : (s : ℕ) (r : NameRow) → at s ≡ Some r → s < serial
-    first s r is = elim (cases_lt s serial) as (λ _. s < serial) [ inl before ↦ before | inr over ↦ let no : None ≡ Some r = sym (fresh s over) ∙ is in absurd cc ]
+      -- its group has a newest member
+      pub newest_known : (old : Chains G) → number < 2 ^ 64 → AreChained eq group at old → get eq old.newest (group x) ≡ None → ⊥
+      newest_known old short was none = false≢true (sym ((rw none at (was.newest (group x))) number short) ∙ rw there (itself (group x)))
 
-    pub chained_kept : (old new : Chains) → ((t : Target) → get target_eq new.newest t ≡ get target_eq old.newest t)
-        → ((s : ℕ) (o : Option ℕ) → s < serial → slice_get old.older.items s ≡ Some o → slice_get new.older.items s ≡ Some o)
-        → AreChained at old → AreChained at new
-    chained_kept old new same kept was = record {
-      newest = λ t. rw (same t) (was.newest t);
-      older = λ s r is. let prior = was.older s r is in record { number = prior.number; there = kept s prior.number (first s r is) prior.there; last = prior.last };
-    }
+      pub chained_left : (old new : Chains G) → number < 2 ^ 64 → Loses eq (group x) number old new → AreChained eq group at old → AreChained eq group left new
+      chained_left old new short loses was = record { newest = newest; older = older } where
+        prior : HasOlder (is_member eq group at (group x)) old.older.items number
+        prior = was.older number x there
 
-    pub chained_entered : (old new : Chains) → serial < 2 ^ 64
-        → ((t : Target) → get target_eq new.newest t ≡ cond (target_eq row.target t) (Some serial) (get target_eq old.newest t))
-        → slice_get new.older.items serial ≡ Some (get target_eq old.newest row.target)
-        → ((s : ℕ) (o : Option ℕ) → s < serial → slice_get old.older.items s ≡ Some o → slice_get new.older.items s ≡ Some o)
-        → AreChained at old → AreChained entered new
-    chained_entered old new short updated own kept was = record { newest = newest; older = older } where
-      newest : (t : Target) → IsLastBelow (stands_for entered t) (2 ^ 64) (get target_eq new.newest t)
-      newest t = rw (updated t) (elim (target_eq row.target t) as (λ b. target_eq row.target t ≡ b → IsLastBelow (stands_for entered t) (2 ^ 64) (cond b (Some serial) (get target_eq old.newest t))) [
-        | true ↦ λ e. record {
-          there = rw (itself serial) e;
-          below = short;
-          last = λ s over lt. rw (beyond serial s over) (none_stands at t s (fresh s (omega (arith, over))));
-        }
-        | false ↦ λ e. last_same (stands_for at t) (stands_for entered t) (2 ^ 64) (get target_eq old.newest t) (λ s lt. others t e s) (was.newest t)
-      ] refl) where
-        itself : (n : ℕ) → is_at (nat_cmp n) n ≡ true
-        itself n = grind (arith, nat_tests)
+        newest : (g : G) → IsLastBelow (is_member eq group left g) (2 ^ 64) (get eq new.newest g)
+        newest g = rw (loses.newest g, prior.there) (elim (eq (group x) g) as (λ b. eq (group x) g ≡ b → IsLastBelow (is_member eq group left g) (2 ^ 64) (cond b prior.number (get eq old.newest g))) [
+          | true ↦ λ e. rw (← exact (group x) g e) (last_higher (is_member eq group left (group x)) number (2 ^ 64) (omega (arith, short)) (λ s le lt. gone s le) prior.number
+              (last_same (is_member eq group at (group x)) (is_member eq group left (group x)) number prior.number (below (group x)) prior.last))
+          | false ↦ λ e. last_same (is_member eq group at g) (is_member eq group left g) (2 ^ 64) (get eq old.newest g) (λ s lt. unlike g e s) (was.newest g)
+        ] refl)
 
-      older : (s : ℕ) (r : NameRow) → entered s ≡ Some r → HasOlder (stands_for entered r.target) new.older.items s
-      older s r is = elim (is_at (nat_cmp serial) s) as (λ b. is_at (nat_cmp serial) s ≡ b → cond b (Some row) (at s) ≡ Some r → HasOlder (stands_for entered r.target) new.older.items s) [
-        | true ↦ λ e h. let same = same_serial serial s e in let its : row ≡ r = cc in rw (← same, ← its) (record {
-          number = get target_eq old.newest row.target;
-          there = own;
-          last = last_same (stands_for at row.target) (stands_for entered row.target) serial (get target_eq old.newest row.target) (before row.target)
-              (last_lower (stands_for at row.target) serial (2 ^ 64) (omega (arith, short)) (λ k le lt. none_stands at row.target k (fresh k le)) (get target_eq old.newest row.target) (was.newest row.target));
-        })
-        | false ↦ λ e h.
-            let prior = was.older s r h in
-            let lt = first s r h in
-            record {
-              number = prior.number;
-              there = kept s prior.number lt prior.there;
-              last = last_same (stands_for at r.target) (stands_for entered r.target) s prior.number (λ k less. before r.target k (omega (arith, less, lt))) prior.last;
-            }
-      ] refl is
-
-  module _ (there : at serial ≡ Some row) (newest_of : (s : ℕ) → serial < s → stands_for at row.target s ≡ false) where
-    abbrev left : ℕ → Option NameRow
-    left s = cond (is_at (nat_cmp serial) s) None (at s)
-
-    elsewhere : (t : Target) (s : ℕ) → is_at (nat_cmp serial) s ≡ false → stands_for left t s ≡ stands_for at t s
-    elsewhere t s e = rw e refl
-
-    unlike : (t : Target) → target_eq row.target t ≡ false → (s : ℕ) → stands_for left t s ≡ stands_for at t s
-    unlike t not s = grind (arith, nat_tests, is_at, nat_cmp, option_map_or, target_eq, stands_for, stands_own)
-
-    -- nothing of its target stands there, or behind
-    gone : (s : ℕ) → serial ≤ s → stands_for left row.target s ≡ false
-    gone s le = grind (arith, nat_tests, is_at, nat_cmp, option_map_or, target_eq, after)
-
-    -- its target has a newest row, and what stands at its number is the one before it
-    pub newest_known : (old : Chains) → serial < 2 ^ 64 → AreChained at old → get target_eq old.newest row.target ≡ None → ⊥
-    newest_known old short was none = false≢true (sym ((rw none at (was.newest row.target)) serial short) ∙ rw there (own_target row.target))
-
-    pub older_known : (old : Chains) (was : AreChained at old) → (was.older serial row there).number ≡ option_and_then (λ o. o) (slice_get old.older.items serial)
-    older_known old was = sym (ap (option_and_then (λ o. o)) (was.older serial row there).there)
-
-    pub chained_left : (old new : Chains) → serial < 2 ^ 64 → (was : AreChained at old)
-        → ((t : Target) → get target_eq new.newest t ≡ cond (target_eq row.target t) (was.older serial row there).number (get target_eq old.newest t))
-        → new.older.items ≡ old.older.items → AreChained left new
-    chained_left old new short was updated kept = record { newest = newest; older = older } where
-      prior : HasOlder (stands_for at row.target) old.older.items serial
-      prior = was.older serial row there
-
-      below : (t : Target) (s : ℕ) → s < serial → stands_for left t s ≡ stands_for at t s
-      below t s lt = elsewhere t s (apart serial s lt)
-
-      newest : (t : Target) → IsLastBelow (stands_for left t) (2 ^ 64) (get target_eq new.newest t)
-      newest t = rw (updated t) (elim (target_eq row.target t) as (λ b. target_eq row.target t ≡ b → IsLastBelow (stands_for left t) (2 ^ 64) (cond b prior.number (get target_eq old.newest t))) [
-        | true ↦ λ e. rw (← same_target row.target t e) (last_higher (stands_for left row.target) serial (2 ^ 64) (omega (arith, short)) (λ s le lt. gone s le) prior.number
-            (last_same (stands_for at row.target) (stands_for left row.target) serial prior.number (below row.target) prior.last))
-        | false ↦ λ e. last_same (stands_for at t) (stands_for left t) (2 ^ 64) (get target_eq old.newest t) (λ s lt. unlike t e s) (was.newest t)
-      ] refl)
-
-      older : (s : ℕ) (r : NameRow) → left s ≡ Some r → HasOlder (stands_for left r.target) new.older.items s
-      older s r is = elim (is_at (nat_cmp serial) s) as (λ b. is_at (nat_cmp serial) s ≡ b → cond b None (at s) ≡ Some r → HasOlder (stands_for left r.target) new.older.items s) [
-        | true ↦ λ e h. absurd cc
-        | false ↦ λ e h. let its = was.older s r h in record {
-          number = its.number;
-          there = rw kept its.there;
-          last = last_same (stands_for at r.target) (stands_for left r.target) s its.number (alike s r e h) its.last;
-        }
-      ] refl is where
-        alike : (s : ℕ) (r : NameRow) → is_at (nat_cmp serial) s ≡ false → at s ≡ Some r → (k : ℕ) → k < s → stands_for left r.target k ≡ stands_for at r.target k
-        alike s r e h k less = elim (target_eq row.target r.target) as (λ b. target_eq row.target r.target ≡ b → stands_for left r.target k ≡ stands_for at r.target k) [
-          | true ↦ λ f. elim (cases_lt s serial) as (λ _. stands_for left r.target k ≡ stands_for at r.target k) [
-            | inl first ↦ below r.target k (omega (arith, less, first))
-            | inr over ↦ absurd (false≢true (sym (newest_of s (after serial s e over)) ∙ rw (h, same_target row.target r.target f) (own_target r.target)))
-          ]
-          | false ↦ λ f. unlike r.target f k
-        ] refl
+        older : (s : ℕ) (y : X) → left s ≡ Some y → HasOlder (is_member eq group left (group y)) new.older.items s
+        older s y is = elim (is_at (nat_cmp number) s) as (λ b. is_at (nat_cmp number) s ≡ b → cond b None (at s) ≡ Some y → HasOlder (is_member eq group left (group y)) new.older.items s) [
+          | true ↦ λ e h. absurd cc
+          | false ↦ λ e h. let its = was.older s y h in record {
+            number = its.number;
+            there = rw loses.older its.there;
+            last = last_same (is_member eq group at (group y)) (is_member eq group left (group y)) s its.number (alike s y e h) its.last;
+          }
+        ] refl is where
+          alike : (s : ℕ) (y : X) → is_at (nat_cmp number) s ≡ false → at s ≡ Some y → (k : ℕ) → k < s → is_member eq group left (group y) k ≡ is_member eq group at (group y) k
+          alike s y e h k less = elim (eq (group x) (group y)) as (λ b. eq (group x) (group y) ≡ b → is_member eq group left (group y) k ≡ is_member eq group at (group y) k) [
+            | true ↦ λ f. elim (cases_lt s number) as (λ _. is_member eq group left (group y) k ≡ is_member eq group at (group y) k) [
+              | inl first ↦ below (group y) k (omega (arith, less, first))
+              | inr over ↦ absurd (false≢true (sym (newest_of s (after number s e over)) ∙ rw (h, exact (group x) (group y) f) (itself (group y))))
+            ]
+            | false ↦ λ f. unlike (group y) f k
+          ] refl

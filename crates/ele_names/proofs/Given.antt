@@ -1,7 +1,10 @@
 -- A name more, which is live nowhere.
-use Rattle.ele_names.proofs.Basics.{◌≡◌, ℕ, ◌+◌, ◌<◌, ◌≤◌, ◌^◌, true, false, cond, List, [], ◌∷◌, ◌++◌, length, slice_get, Option, Some, None, refl, sym, ap, subst, ◌∙◌, arith, length-append, inl, inr, option_and_then, option_map_or, nat_cmp, is_at, get, keys_of, length-map, map-append, get_or_append_left, get_or_push, slice_get_past, slice_get-get_or, cases_lt, nat_tests, insert_entry-new, has, is_entry, is_placed, index_insert, index_same}
+use Rattle.ele_names.proofs.Basics.{◌≡◌, ℕ, ◌+◌, ◌<◌, ◌≤◌, ◌^◌, true, false, cond, List, [], ◌∷◌, ◌++◌, length, slice_get, Option, Some, None, refl, sym, ap, subst, ◌∙◌, arith, length-append, inl, inr, option_and_then, option_map, nat_cmp, is_at, get, keys_of, length-map, map-append, get_or_append_left, get_or_push, slice_get_past, slice_get-get_or, cases_lt, nat_tests, insert_entry-new}
 use Rattle.ele_names.proofs.Words.{Live, Lives, live_at, AreListed, name_eq, names_of, place_in}
+use Rattle.std.specs.Bool.{nat_eq}
+use Rattle.ele_names.specs.Chained.{Gains, Keeps}
 use Rattle.indexmap.specs.IndexMap.{insert_entry}
+use Rattle.ele_names.proofs.Chained.{chained_entered, chained_kept, chained_none, chained_same}
 use Rattle.ele_names.proofs.Numbers.{exact, missing}
 
 -- the element behind a list
@@ -32,25 +35,29 @@ module _ (old new : Lives) (d : ℕ) (n : List ℕ) (unknown : place_in (names_o
     | false ↦ λ f. refl
   ] refl
 
-  -- and the name stands under its directory
-  pub listed_pushed : length (names_of old) < 2 ^ 63 → names_of new ≡ names_of old ++ (d, n) ∷ []
-      → ((q r s : ℕ) → has nat_cmp new.of_directory q r s ≡ cond (is_entry nat_cmp d 0 (length (names_of old)) q r s) true (has nat_cmp old.of_directory q r s))
-      → AreListed old → AreListed new
-  listed_pushed few are changed was = record {
+  -- and the name is the newest of its directory
+  pub listed_pushed : length (names_of old) < 2 ^ 63 → names_of new ≡ names_of old ++ (d, n) ∷ [] → Gains nat_eq d (length (names_of old)) old.of_directory new.of_directory → AreListed old → AreListed new
+  listed_pushed few are gains was = record {
     few = rw (are, length-append (names_of old) ((d, n) ∷ [])) (omega (arith, few));
-    each = index_same (λ s. cond (is_at (nat_cmp (length (names_of old))) s) (Some (d, n)) (slice_get (names_of old) s)) (slice_get (names_of new)) new.of_directory new.of_directory
-        (index_insert (length (names_of old)) old.of_directory new.of_directory (d, n) was.each (slice_get_past (names_of old) (length (names_of old)) (omega arith)) changed) (λ q r s. refl)
-        (λ q r s. ap (λ o. option_map_or (λ (name : ℕ × List ℕ). is_placed nat_cmp name.0 0 q r) o false) (sym (ap (λ names. slice_get names s) are ∙ got_pushed (names_of old) (d, n) s)));
+    each = chained_same nat_eq (λ name. name.0) (λ s. cond (is_at (nat_cmp (length (names_of old))) s) (Some (d, n)) (slice_get (names_of old) s)) (slice_get (names_of new)) new.of_directory
+        (λ s. ap (option_map (λ (name : ℕ × List ℕ). name.0)) (ap (λ names. slice_get names s) are ∙ got_pushed (names_of old) (d, n) s))
+        (chained_entered nat_eq (λ name. name.0) (slice_get (names_of old)) (d, n) (length (names_of old)) (λ s le. slice_get_past (names_of old) s le) old.of_directory new.of_directory (omega (arith, few)) gains was.each);
   }
 
 -- how many names there are
 pub names_counted : (lives : Lives) → length lives.by_name.entries ≡ length (names_of lives)
 names_counted lives = sym (length-map lives.by_name.entries (λ (e : (ℕ × List ℕ) × Option Live). e.0))
 
--- what has the same names and the same index is listed as it was
-pub listed_same : (old new : Lives) → names_of new ≡ names_of old → ((q r s : ℕ) → has nat_cmp new.of_directory q r s ≡ has nat_cmp old.of_directory q r s) → AreListed old → AreListed new
-listed_same old new are same was = record { few = rw are was.few; each = record { each = λ q r s. same q r s ∙ was.each.each q r s ∙ rw (← are) refl } }
+-- what has the same names, and chains that keep theirs, is listed as it was
+pub listed_kept : (old new : Lives) → names_of new ≡ names_of old → Keeps nat_eq (length (names_of old)) old.of_directory new.of_directory → AreListed old → AreListed new
+listed_kept old new are keeps was = record {
+  few = rw are was.few;
+  each = rw are (chained_kept nat_eq (λ name. name.0) (slice_get (names_of old)) (0, []) (length (names_of old)) (λ s le. slice_get_past (names_of old) s le) old.of_directory new.of_directory keeps was.each);
+}
+
+pub listed_same : (old new : Lives) → names_of new ≡ names_of old → new.of_directory ≡ old.of_directory → AreListed old → AreListed new
+listed_same old new are same was = record { few = rw are was.few; each = rw (are, same) was.each }
 
 -- no names
-pub listed_none : (new : Lives) → new.by_name.entries ≡ [] → ((q r s : ℕ) → has nat_cmp new.of_directory q r s ≡ false) → AreListed new
-listed_none new none has_none = record { few = rw none (omega arith); each = record { each = λ q r s. has_none q r s ∙ rw none refl } }
+pub listed_none : (new : Lives) → new.by_name.entries ≡ [] → ((d : ℕ) → get nat_eq new.of_directory.newest d ≡ None) → AreListed new
+listed_none new none empty = record { few = rw none (omega arith); each = chained_none nat_eq (λ name. name.0) (slice_get (names_of new)) new.of_directory (λ s. rw none refl) empty }

@@ -60,7 +60,7 @@ module _ (a : Inside) (kept : IsKept a.table a.lives) where
           known = rw rows_are (let known = rw c.values at kept.is_table.known in all-exchange (λ row. number_in names row < length names) c.before row (dies moment row) c.behind (all-mid (λ row. number_in names row < length names) c.before row c.behind known) known);
           placed = rw places (record {
             named = index_change (value_at t.rows.entries) s row (dies moment row) a.table.places.by_name kept.is_table.placed.named at (λ q r. refl) now;
-            targeted = chained_same (value_at es) (value_at t.rows.entries) a.table.places.of_target (λ k. targets k) kept.is_table.placed.targeted;
+            targeted = chained_same target_eq (λ row. row.target) (value_at es) (value_at t.rows.entries) a.table.places.of_target (λ k. targets k) kept.is_table.placed.targeted;
           });
         });
         listed = listed;

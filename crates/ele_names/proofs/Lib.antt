@@ -2,12 +2,12 @@ pub mod Basics
 pub mod Words
 pub mod Apart
 pub mod Numbers
-pub mod Given
 pub mod Newest
 pub mod Counts
 pub mod Live
-pub mod Numbering
 pub mod Chained
+pub mod Given
+pub mod Numbering
 pub mod Added
 pub mod Gone
 pub mod Told

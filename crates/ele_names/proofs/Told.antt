@@ -1,7 +1,14 @@
 -- Names that are told one after the other, with what they stand for.
-use Rattle.ele_names.proofs.Basics.{◌≡◌, ◌⊎◌, ℕ, ◌<◌, ◌^◌, Bool, true, false, cond, ◌==◌, List, [], ◌∷◌, length, map, slice_get, Some, None, Option, is_some, refl, sym, ap, subst, ◌∙◌, inl, inr, arith, option_map, option_map_or, Ordering, Less, Equal, Greater, nat_cmp, is_eq, IsTotalOrder, slice_cmp, is_at, insert_entry, list_any, lookup, false≢true, true≢false, tied_itself, nat_list_cmp_total, on_total, then_total, CmpEqualImpliesEq, exact_bytes, exact_pairs, exact_unsigned, slice_get_within, has, passing, lookup-insert_entry}
+use Rattle.ele_names.proofs.Basics.{◌≡◌, ◌⊎◌, ℕ, ◌≤◌, ◌<◌, ◌^◌, Bool, true, false, cond, ◌==◌, List, [], ◌∷◌, length, map, slice_get, Some, None, Option, is_some, refl, sym, ap, subst, ◌∙◌, inl, inr, arith, option_map, option_map_or, Ordering, Less, Equal, Greater, nat_cmp, is_eq, IsTotalOrder, slice_cmp, is_at, insert_entry, list_any, lookup, false≢true, true≢false, tied_itself, nat_list_cmp_total, on_total, then_total, CmpEqualImpliesEq, exact_bytes, exact_pairs, exact_unsigned, slice_get_within, passing, lookup-insert_entry}
 use Rattle.ele_names.proofs.Words.{Target, target_at, last_dead, Inside, by_name, name_cmp, IsKept, rows_of, name_eq, names_of, place_in}
 use Rattle.std.specs.Cmp.{nat_cmp_total}
+use Rattle.std.specs.Prelude.{nat_le, IfSome}
+use Rattle.std.specs.Bool.{nat_eq}
+use Rattle.std.specs.HashMap.{get}
+use Rattle.std.specs.Option.{option_and_then}
+use Rattle.std.proofs.lemmas.Bool.{cases_lt}
+use Rattle.std.proofs.lemmas.Bool.Decides.{nat_tests}
+use Rattle.ele_names.specs.Chained.{IsLastBelow, is_member}
 use Rattle.ele_names.proofs.Apart.{covering_is_newest, born_by_end, equal}
 use Rattle.ele_names.proofs.Newest.{none_known}
 use Rattle.ele_names.proofs.Numbers.{exact, known, any_known, at_place}
@@ -47,9 +54,17 @@ module _ {K : Type 0} (cmp : K → K → Ordering) (about : K → Option Target)
       tied Equal h = refl
       tied Greater h = absurd cc
 
--- the number of the name is among those
-abbrev pub is_left : List (ℕ × List ℕ) → ℕ → List (ℕ × ℕ × ℕ) → List ℕ → Bool
-is_left names d entries n = list_any (λ e. e.2 == place_in names d n) entries
+-- the number of the name is not above that of the next to come
+abbrev pub is_left : List (ℕ × List ℕ) → ℕ → Option ℕ → List ℕ → Bool
+is_left names d next n = option_map_or (λ r. nat_le (place_in names d n) r) next false
+
+-- what passes below a bound isn't above the last that does
+not_above : (passes : ℕ → Bool) (bound p : ℕ) (next : Option ℕ) → IsLastBelow passes bound next → passes p ≡ true → p < bound → option_map_or (λ r. nat_le p r) next false ≡ true
+not_above passes bound p None last there lt = absurd (false≢true (sym (last p lt) ∙ there))
+not_above passes bound p (Some r) last there lt = elim (cases_lt r p) as (λ _. nat_le p r ≡ true) [
+  | inl over ↦ absurd (false≢true (sym (last.last p over lt) ∙ there))
+  | inr upto ↦ grind (arith, nat_tests)
+]
 
 module _ (a : Inside) (kept : IsKept a.table a.lives) where
   abbrev names : List (ℕ × List ℕ)
@@ -64,33 +79,65 @@ module _ (a : Inside) (kept : IsKept a.table a.lives) where
       (sym (none_known names a.table kept.is_table d n 18446744073709551615 unknown ∙ born_by_end d n (rows_of a.table) kept.is_table.born))
 
   module _ (moment d : ℕ) where
-    -- the directory's numbers are those of its names
-    listed : (n : List ℕ) → place_in names d n < length names → has nat_cmp a.lives.of_directory d 0 (place_in names d n) ≡ true
-    listed n inside = kept.listed.each.each d 0 (place_in names d n) ∙ rw (at_place names d n inside, tied_itself nat_cmp_total d) refl
+    abbrev in_directory : ℕ → Bool
+    in_directory = is_member nat_eq (λ name. name.0) (slice_get names) d
 
-    pub list_begun : (entries : List (ℕ × ℕ × ℕ)) → ((r s : ℕ) → r < 2 ^ 64 → s < 2 ^ 64 → has nat_cmp a.lives.of_directory d r s ≡ true → list_any (λ e. e.2 == s) entries ≡ true)
-        → AreTold (slice_cmp nat_cmp) (target_at (rows_of a.table) moment d) (is_left names d entries) []
-    list_begun entries all n = elim (known names d n) as (λ _. (◌≡◌ {A = Option Target} None (target_at (rows_of a.table) moment d n)) ⊎ ((◌≡◌ {A = Option Target} None None) × (is_left names d entries n ≡ true))) [
-      | inl inside ↦ inr (refl, all 0 (place_in names d n) (omega arith) (omega (arith, inside, kept.listed.few)) (listed n inside))
+    -- a name that was given is one of its directory
+    listed : (n : List ℕ) → place_in names d n < length names → in_directory (place_in names d n) ≡ true
+    listed n inside = rw (at_place names d n inside) (own d) where
+      own : (n : ℕ) → (n == n) ≡ true
+      own n = grind (arith, nat_tests)
+
+    pub list_begun : (next : Option ℕ) → next ≡ get nat_eq a.lives.of_directory.newest d → AreTold (slice_cmp nat_cmp) (target_at (rows_of a.table) moment d) (is_left names d next) []
+    list_begun next is n = elim (known names d n) as (λ _. (◌≡◌ {A = Option Target} None (target_at (rows_of a.table) moment d n)) ⊎ ((◌≡◌ {A = Option Target} None None) × (is_left names d next n ≡ true))) [
+      | inl inside ↦ inr (refl, not_above in_directory (2 ^ 64) (place_in names d n) next (rw is (kept.listed.each.newest d)) (listed n inside) (omega (arith, inside, kept.listed.few)))
       | inr unknown ↦ inl (sym (never_at moment d n unknown))
     ]
 
-    -- the name of a number under the directory is one of it
-    pub list_next : (e : ℕ × ℕ × ℕ) (entries : List (ℕ × ℕ × ℕ)) (name : ℕ × List ℕ) → Some name ≡ slice_get names e.2
-        → (k : List ℕ) → is_left names d (e ∷ entries) k ≡ true → (k ≡ name.1) ⊎ (is_left names d entries k ≡ true)
-    list_next e entries name is k left = elim (e.2 == place_in names d k) as (λ b. (e.2 == place_in names d k) ≡ b → (k ≡ name.1) ⊎ (is_left names d entries k ≡ true)) [
-      | true ↦ λ f. inl (same (equal e.2 (place_in names d k) f))
-      | false ↦ λ f. inr (rw f at left)
-    ] refl where
-      same : e.2 ≡ place_in names d k → k ≡ name.1
-      same at =
-          let inside : place_in names d k < length names = omega (arith, at, slice_get_within names e.2 name (sym is)) in
-          let both : Some (d, k) ≡ Some name = sym (at_place names d k inside) ∙ sym (ap (slice_get names) at) ∙ sym is in
-          let pair : (d, k) ≡ name = cc in
-          ap (λ (q : ℕ × List ℕ). q.1) pair
+    some : (bound : ℕ) (o : Option ℕ) → IsLastBelow in_directory bound o → IfSome o (λ r. in_directory r ≡ true)
+    some bound None last = tt
+    some bound (Some r) last = last.there
 
-    pub list_stands : (r s : ℕ) → has nat_cmp a.lives.of_directory d r s ≡ true → None ≡ slice_get names s → ⊥
-    list_stands r s there none = false≢true (sym (kept.listed.each.each d r s ∙ rw (← none) refl) ∙ there)
+    -- the next to come is of the directory
+    pub list_first : (next : Option ℕ) → next ≡ get nat_eq a.lives.of_directory.newest d → IfSome next (λ r. in_directory r ≡ true)
+    list_first next is = some (2 ^ 64) next (rw is (kept.listed.each.newest d))
+
+    pub list_stands : (r : ℕ) → in_directory r ≡ true → None ≡ slice_get names r → ⊥
+    list_stands r there none = false≢true (rw (← none) at there)
+
+    module _ (r : ℕ) (name : ℕ × List ℕ) (is : Some name ≡ slice_get names r) (there : in_directory r ≡ true) (next : Option ℕ) (before : next ≡ option_and_then (λ o. o) (slice_get a.lives.of_directory.older.items r)) where
+      its : name.0 ≡ d
+      its = equal name.0 d (rw (← is) at there)
+
+      last : IsLastBelow in_directory r next
+      last = let old = kept.listed.each.older r name (sym is) in rw (before, old.there, ← its) old.last
+
+      pub list_second : IfSome next (λ s. in_directory s ≡ true)
+      list_second = some r next last
+
+      pub list_smaller : IfSome next (λ s. s < r)
+      list_smaller = below next last where
+        below : (o : Option ℕ) → IsLastBelow in_directory r o → IfSome o (λ s. s < r)
+        below None last = tt
+        below (Some s) last = last.below
+
+      -- the name of a number is told, or one before it
+      pub list_next : (k : List ℕ) → is_left names d (Some r) k ≡ true → (k ≡ name.1) ⊎ (is_left names d next k ≡ true)
+      list_next k left = elim (cases_lt (place_in names d k) r) as (λ _. (k ≡ name.1) ⊎ (is_left names d next k ≡ true)) [
+        | inl earlier ↦ inr (not_above in_directory r (place_in names d k) next last (listed k (omega (arith, earlier, within))) earlier)
+        | inr upto ↦ inl (same (up_to (place_in names d k) r left upto))
+      ] where
+        within : r < length names
+        within = slice_get_within names r name (sym is)
+
+        up_to : (p r : ℕ) → nat_le p r ≡ true → r ≤ p → r ≡ p
+        up_to p r le ge = grind (arith, nat_tests)
+
+        same : r ≡ place_in names d k → k ≡ name.1
+        same at =
+            let both : Some (d, k) ≡ Some name = sym (at_place names d k (omega (arith, at, within))) ∙ sym (ap (slice_get names) at) ∙ sym is in
+            let pair : (d, k) ≡ name = cc in
+            ap (λ (q : ℕ × List ℕ). q.1) pair
 
   pub dead_begun : AreTold name_cmp (λ k. last_dead (rows_of a.table) k.0 k.1) (λ k. list_any (name_eq k) names) []
   dead_begun k = elim (known names k.0 k.1) as (λ _. (◌≡◌ {A = Option Target} None (last_dead (rows_of a.table) k.0 k.1)) ⊎ ((◌≡◌ {A = Option Target} None None) × (list_any (name_eq k) names ≡ true))) [

@@ -1,15 +1,14 @@
 -- The words of the crates that proofs here use, in one place.
 pub use Rattle.ele_moment.specs.Last.{last_moment}
-pub use Rattle.ele_names.specs.Chained.{AreChained, HasOlder, IsLast, IsLastBelow, stands_for}
+pub use Rattle.ele_names.specs.Chained.{IsLast, IsLastBelow}
 pub use Rattle.ele_names.specs.Counted.{AreCounted, AreNumbered, Leaves, is_live_of, live_at}
 pub use Rattle.ele_names.specs.Kept.{IsKept, IsTable, is_born_by, rows_of}
 pub use Rattle.ele_names.specs.Listed.{by_name, name_cmp}
 pub use Rattle.ele_names.specs.Numbered.{entries_from}
-pub use Rattle.ele_names.specs.Placed.{AreListed, ArePlaced, KeepsPlaces, name_eq, names_of, number_in, place_in}
+pub use Rattle.ele_names.specs.Placed.{AreListed, ArePlaced, KeepsPlaces, name_eq, names_of, number_in, place_in, stands_for}
 pub use Rattle.ele_names.specs.Rows.{Follows, born_row, dies}
 pub use Rattle.ele_names.specs.Stops.{StopsAtPlace}
 pub use Rattle.ele_names.specs.Targets.{is_other, target_eq}
-pub use Rattle.ele_names.specs.declared.chains.Chains.{Chains}
 pub use Rattle.ele_names.specs.declared.lives.Live.{Live}
 pub use Rattle.ele_names.specs.declared.lives.Lives.{Lives}
 pub use Rattle.ele_names.specs.declared.names.Names.TheInside.{Inside}

@@ -7,9 +7,11 @@ use Rattle.std.specs.Ordering.{nat_cmp}
 use Rattle.std.specs.Str.{bytes_eq}
 use Rattle.ele_lists.specs.Serial.{IsIndexOf}
 use Rattle.ele_world.specs.declared.rows.NameRow.{NameRow}
+use Rattle.ele_world.specs.declared.rows.Target.{Target}
 use Rattle.ele_names.specs.declared.lives.Lives.{Lives}
 use Rattle.ele_names.specs.declared.places.Places.{Places}
-use Rattle.ele_names.specs.Chained.{AreChained}
+use Rattle.ele_names.specs.Chained.{AreChained, is_member}
+use Rattle.ele_names.specs.Targets.{target_eq}
 
 -- the two directories and names are one
 abbrev pub name_eq : ℕ × List ℕ → ℕ × List ℕ → Bool
@@ -30,12 +32,16 @@ number_in names row = place_in names row.directory row.name
 pub record KeepsPlaces (old new : List (ℕ × List ℕ)) : Type 0 where
   pub each : (d : ℕ) (n : List ℕ) → place_in old d n < length old → (place_in new d n ≡ place_in old d n) × (place_in new d n < length new)
 
--- the number of each name stands under its directory, and nothing else does
+-- the names of each directory are a chain
 pub record AreListed (lives : Lives) : Type 0 where
   pub few : length (names_of lives) < 2 ^ 64
-  pub each : IsIndexOf nat_cmp (λ name. name.0) (λ _. 0) (slice_get (names_of lives)) lives.of_directory
+  pub each : AreChained nat_eq (λ name. name.0) (slice_get (names_of lives)) lives.of_directory
 
--- each row stands at its places, and nothing else does
+-- a row of the target has the serial number
+abbrev pub stands_for : (ℕ → Option NameRow) → Target → ℕ → Bool
+stands_for = is_member target_eq (λ row. row.target)
+
+-- the rows of each name are found by their births, and those of each target are a chain
 pub record ArePlaced (names : List (ℕ × List ℕ)) (at : ℕ → Option NameRow) (places : Places) : Type 0 where
   pub named : IsIndexOf nat_cmp (number_in names) (λ row. row.birth) at places.by_name
-  pub targeted : AreChained at places.of_target
+  pub targeted : AreChained target_eq (λ row. row.target) at places.of_target

@@ -8,7 +8,8 @@ ghost use Rattle.ele_world.specs.NameRows.{is_named};
 ghost use Rattle.ele_names.specs.Counted.{AreCounted, AreNumbered, HasRoom, CanCount, Leaves, live_at};
 ghost use Rattle.ele_names.specs.Placed.{AreListed, KeepsPlaces, names_of, number_in, place_in};
 
-use ele_lists::{Index, Tally};
+use crate::chains::Chains;
+use ele_lists::Tally;
 use ele_moment::{DirId, Name, NoMemory};
 use ele_world::{NameRow, Target};
 use indexmap::IndexMap;
@@ -26,7 +27,7 @@ pub struct Live {
 #[derive(Drop)]
 pub struct Lives {
     pub by_name: IndexMap<(DirId, Name), Option<Live>>,
-    pub of_directory: Index<DirId>,
+    pub of_directory: Chains<DirId>,
     pub in_directory: Tally<DirId>,
     pub of_target: Tally<Target>,
 }
@@ -41,7 +42,7 @@ impl Lives {
     {
         Lives {
             by_name: IndexMap::new(alloc),
-            of_directory: Index::new(alloc),
+            of_directory: Chains::new(alloc),
             in_directory: Tally::new(alloc),
             of_target: Tally::new(alloc),
         }
@@ -81,7 +82,7 @@ impl Lives {
         }
         self.by_name.reserve(1)?;
         let number = self.by_name.len() as u64;
-        self.of_directory.insert(directory, 0, number)?;
+        self.of_directory.enter(directory, number)?;
         if let Err(_refused) = self.by_name.insert((directory, name), None) {
             unreachable!()
         }

@@ -218,12 +218,14 @@ impl Names {
             ≡ target_at self.now moment directory name) }
     {
         let mut found = BTreeMap::new(self.alloc);
-        for (_, _, number) in self.lives.of_directory.of(directory) {
-            let Some(name) = self.lives.name(*number) else {
+        let mut next = self.lives.of_directory.newest(directory);
+        while let Some(number) = next {
+            let Some(name) = self.lives.name(number) else {
                 unreachable!()
             };
             let target = self.at(directory, &name.1, moment);
             put_some(&mut found, name.1, target)?;
+            next = self.lives.of_directory.older(number);
         }
         Ok(found.into_iter().collect(self.alloc)?)
     }

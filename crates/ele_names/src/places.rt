@@ -5,20 +5,19 @@ ghost use Rattle.std.specs.Ordering.{nat_cmp};
 ghost use Rattle.std.specs.BTreeMap.{is_at};
 ghost use Rattle.ele_moment.specs.Last.{last_moment};
 ghost use Rattle.ele_world.specs.declared.rows.NameRow.{NameRow};
-ghost use Rattle.ele_names.specs.Chained.{stands_for};
-ghost use Rattle.ele_names.specs.Placed.{ArePlaced, number_in};
+ghost use Rattle.ele_names.specs.Placed.{ArePlaced, number_in, stands_for};
 
 use crate::chains::Chains;
 use ele_lists::Index;
 use ele_moment::NoMemory;
-use ele_world::NameRow;
+use ele_world::{NameRow, Target};
 use std::alloc::Global;
 
 /// The rows of one name by birth, and those of one target from the newest back.
 #[derive(Drop)]
 pub struct Places {
     pub by_name: Index<u64>,
-    pub of_target: Chains,
+    pub of_target: Chains<Target>,
 }
 
 impl Places {
@@ -47,7 +46,7 @@ impl Places {
     {
         let birth = birth_of(row);
         self.by_name.insert(number, birth, serial)?;
-        if let Err(refused) = self.of_target.enter(row, serial) {
+        if let Err(refused) = self.of_target.enter(row.target, serial) {
             self.by_name.remove(number, birth, serial);
             return Err(refused);
         }
@@ -63,7 +62,7 @@ impl Places {
             → ArePlaced names (λ s. cond (is_at (nat_cmp serial) s) None (at s)) self.new }
     {
         self.by_name.remove(number, birth_of(row), serial);
-        self.of_target.leave(row, serial);
+        self.of_target.leave(row.target, serial);
     }
 }
 

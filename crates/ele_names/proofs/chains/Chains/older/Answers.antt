@@ -2,15 +2,15 @@ use Rattle.ele_names.proofs.Basics.{◌≡◌, ◌≤◌, Some, length, refl, sy
 use Rattle.ele_names.proofs.chains.Chains.older.Goals as goal
 
 pub returns-in_err-get : goal.returns-in_err-get
-returns-in_err-get c =
+returns-in_err-get g c =
     let now = c.deref.result.now in
     let lookup = c.in_err-get.ensures.lookup in
-    let past : length now ≤ c.args.serial = let out = lookup.0 in grind (arith, nat_tests) in
-    rw c.from_residual.ensures (sym (ap (option_and_then (λ o. o)) (slice_get_past _ c.args.serial (rw c.deref.ensures.value at past))))
+    let past : length now ≤ c.args.number = let out = lookup.0 in grind (arith, nat_tests) in
+    rw c.from_residual.ensures (sym (ap (option_and_then (λ o. o)) (slice_get_past _ c.args.number (rw c.deref.ensures.value at past))))
 
 pub returns : goal.returns
-returns c =
+returns g c =
     let now = c.deref.result.now in
     let lookup = c.in_ok-get.ensures.lookup in
-    let read : slice_get now c.args.serial ≡ Some c.in_ok-get.field-0.now = slice_get_read now (length now) c.args.serial c.in_ok-get.field-0.now refl lookup.3.0 lookup.1 in
+    let read : slice_get now c.args.number ≡ Some c.in_ok-get.field-0.now = slice_get_read now (length now) c.args.number c.in_ok-get.field-0.now refl lookup.3.0 lookup.1 in
     sym (ap (option_and_then (λ o. o)) (rw c.deref.ensures.value at read))

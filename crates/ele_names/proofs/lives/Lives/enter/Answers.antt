@@ -2,6 +2,7 @@ use Rattle.std.proofs.Common.{◌==◌, is_none, refl, arith}
 use Rattle.ele_names.specs.Targets.{target_eq}
 use Rattle.ele_names.proofs.Counts.{live_one}
 use Rattle.ele_names.proofs.Live.{entered, numbered_with}
+use Rattle.ele_names.proofs.Given.{listed_same}
 use Rattle.ele_names.proofs.lives.Lives.enter.Goals as goal
 
 pub returns-clause-counted : goal.returns-clause-counted
@@ -13,3 +14,6 @@ returns-clause-counted c = let row = c.args.row.now in λ was now leaves counts.
 
 pub returns-clause-numbered : goal.returns-clause-numbered
 returns-clause-numbered c = λ at fresh numbered. numbered_with c.args.row.now c.args.serial at _ _ numbered fresh c.requires.live _ refl c.set.ensures.live
+
+pub returns-clause-listed : goal.returns-clause-listed
+returns-clause-listed c = listed_same _ _ c.set.ensures.names c.set.ensures.listed

@@ -3,6 +3,7 @@ use Rattle.ele_names.specs.Targets.{target_eq}
 use Rattle.ele_names.proofs.Apart.{named_dead}
 use Rattle.ele_names.proofs.Counts.{live_one, dead_one}
 use Rattle.ele_names.proofs.Live.{left, dead_left, others_live, numbered_without}
+use Rattle.ele_names.proofs.Given.{listed_same}
 use Rattle.ele_names.proofs.lives.Lives.leave.Goals as goal
 
 pub returns-then-is_none-clause-counted : goal.returns-then-is_none-clause-counted
@@ -26,3 +27,6 @@ returns-else-is_none-clause-counted c = let row = c.args.row.now in λ was now l
 pub returns-else-is_none-clause-numbered : goal.returns-else-is_none-clause-numbered
 returns-else-is_none-clause-numbered c = λ at to serial there elsewhere numbered.
     numbered_without c.args.row.now serial at _ _ numbered to there elsewhere (λ d n live is. (is, named_dead d n c.args.row.now (λ _. ap not c.if-is_none.ensures)))
+
+pub returns-then-is_none-clause-listed : goal.returns-then-is_none-clause-listed
+returns-then-is_none-clause-listed c = listed_same _ _ c.set.ensures.names c.set.ensures.listed

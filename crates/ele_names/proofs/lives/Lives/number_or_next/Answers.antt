@@ -1,6 +1,6 @@
 use Rattle.ele_names.proofs.Basics.{◌≡◌, ℕ, List, length, length-append, ◌∷◌, [], refl, sym, ap, ◌∙◌, ◌++◌, arith, keys_of}
 use Rattle.ele_names.proofs.Words.{Lives, live_at, names_of}
-use Rattle.ele_names.proofs.Given.{names_pushed, names_counted, same_live, listed_pushed, listed_same}
+use Rattle.ele_names.proofs.Given.{names_pushed, names_counted, same_live, listed_pushed, listed_kept, listed_same}
 use Rattle.ele_names.proofs.Live.{counted_same, numbered_same}
 use Rattle.ele_names.proofs.Numbers.{keeps_pushed, pushed_place}
 use Rattle.ele_names.proofs.lives.Lives.number_or_next.Goals as goal
@@ -9,7 +9,7 @@ abbrev old : goal.In_default-insert → Lives
 old c = c.args.self.now
 
 abbrev new : goal.In_default-insert → Lives
-new c = record { by_name = c.insert-2.new.self; of_directory = c.insert.new.self; in_directory = (old c).in_directory; of_target = (old c).of_target }
+new c = record { by_name = c.insert.new.self; of_directory = c.enter.new.self; in_directory = (old c).in_directory; of_target = (old c).of_target }
 
 pushed : (c : goal.In_default-insert) → names_of (new c) ≡ names_of (old c) ++ (c.args.directory, c.args.name) ∷ []
 pushed c = names_pushed (old c) (new c) c.args.directory c.args.name c.in_default.ensures.none (rw c.reserve.ensures.entries at c.in_default-insert.ensures.entries)
@@ -20,8 +20,13 @@ lives_same c = same_live (old c) (new c) c.args.directory c.args.name c.in_defau
 next : (c : goal.In_default-insert) → c.len-number.result ≡ length (names_of (old c))
 next c = c.len-number.ensures.len ∙ ap length c.reserve.ensures.entries ∙ names_counted (old c)
 
-pub returns-in_err-insert-clause-listed : goal.returns-in_err-insert-clause-listed
-returns-in_err-insert-clause-listed c = listed_same c.args.self.now _ (ap keys_of c.reserve.ensures.entries) c.in_err-insert.ensures.err
+pub returns-in_err-reserve-clause-listed : goal.returns-in_err-reserve-clause-listed
+returns-in_err-reserve-clause-listed c = listed_same c.args.self.now _ (ap keys_of c.reserve.ensures.entries) refl
+
+pub returns-in_err-enter-clause-listed : goal.returns-in_err-enter-clause-listed
+returns-in_err-enter-clause-listed c =
+    let next = c.len-number.ensures.len ∙ ap length c.reserve.ensures.entries ∙ names_counted c.args.self.now in
+    listed_kept c.args.self.now _ (ap keys_of c.reserve.ensures.entries) (rw next at c.in_err-enter.ensures.err)
 
 pub returns-clause-number : goal.returns-clause-number
 returns-clause-number c =
@@ -34,7 +39,7 @@ pub returns-clause-places : goal.returns-clause-places
 returns-clause-places c = rw (pushed c) (keeps_pushed (names_of (old c)) (c.args.directory, c.args.name))
 
 pub returns-clause-listed : goal.returns-clause-listed
-returns-clause-listed c = listed_pushed (old c) (new c) c.args.directory c.args.name c.in_default.ensures.none (rw (next c) at c.len-number.ensures.small) (pushed c) (rw (next c) at c.in_ok-insert.ensures.ok)
+returns-clause-listed c = listed_pushed (old c) (new c) c.args.directory c.args.name c.in_default.ensures.none (rw (next c) at c.len-number.ensures.small) (pushed c) (rw (next c) at c.in_ok-enter.ensures.ok)
 
 pub returns-clause-counted : goal.returns-clause-counted
 returns-clause-counted c = λ rows. counted_same rows (old c) (new c) (lives_same c) (λ d. refl) (λ t. refl)

@@ -1,5 +1,5 @@
 use Rattle.ele_names.proofs.Basics.{◌≡◌, ◌++◌, ◌∷◌, [], Some, cond, refl, sym, ap, ◌∙◌, append-nil, arith, nat_cmp, is_at, values_of, value_at, later-push, at_itself}
-use Rattle.ele_names.proofs.Words.{Leaves, IsKept, rows_of, names_of, number_in, Follows, born_row}
+use Rattle.ele_names.proofs.Words.{target_eq, Leaves, IsKept, rows_of, names_of, number_in, Follows, born_row}
 use Rattle.ele_names.proofs.Added.{fresh, kept_known, kept_over, kept_placed, kept_pushed, placed_back, rows_pushed}
 use Rattle.ele_names.proofs.Chained.{newest_entered}
 use Rattle.ele_names.proofs.Counts.{leaves_without}
@@ -44,7 +44,7 @@ invariant_of-self-in-Err c =
     let new = fresh names table kept.is_table now c.next_serial-serial.ensures.below in
     kept_placed table lives kept now c.next_serial-serial.ensures.below _ c.in-Err.ensures.err
     (placed_back names es now row (new now (omega arith)) _ (c.leave.ensures names (λ s. cond (is_at (nat_cmp now) s) (Some row) (value_at es s)) its (rw (at_itself now) refl)
-    (newest_entered (value_at es) row now new) (c.in_ok-enter.ensures.ok names (value_at es) its new kept.is_table.placed)))
+    (newest_entered target_eq (λ row. row.target) (value_at es) row now new) (c.in_ok-enter.ensures.ok names (value_at es) its new kept.is_table.placed)))
 
 pub invariant_of-self-2 : goal.invariant_of-self-2
 invariant_of-self-2 c =

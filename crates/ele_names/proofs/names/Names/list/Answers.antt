@@ -1,33 +1,43 @@
-use Rattle.ele_names.proofs.Basics.{Ok, ◌∷◌, slice_cmp, nat_cmp, AllocError, nat_list_cmp_total, items_from_collect, YieldsList-from_rest, exact_bytes}
+use Rattle.std.proofs.Common.{ℕ, suc, ◌<◌, Option, Some, None, arith}
+use Rattle.std.specs.Prelude.{IfSome}
+use Rattle.std.specs.Option.{option_map_or}
+use Rattle.ele_names.proofs.Basics.{Ok, slice_cmp, nat_cmp, AllocError, nat_list_cmp_total, items_from_collect, YieldsList-from_rest, exact_bytes}
 use Rattle.ele_names.proofs.Words.{target_at, rows_of, names_of}
-use Rattle.ele_names.proofs.Told.{is_left, list_begun, list_next, list_stands, told_all, told_one}
+use Rattle.ele_names.proofs.Told.{is_left, list_begun, list_first, list_next, list_second, list_smaller, list_stands, told_all, told_one}
 use Rattle.ele_names.proofs.names.Names.list.Goals as goal
 
-pub loop-number-init : goal.loop-number-init
-loop-number-init c = rw (c.into_iter-number-iterator.ensures.into_iter_gives, c.new-found.ensures.empty)
-    (c.of-number-items.ensures.each, list_begun c.self.inside c.self.invariant c.args.moment c.args.directory c.of-number-items.result c.of-number-items.ensures.all)
+less : (o : Option ℕ) (r : ℕ) → IfSome o (λ s. s < r) → option_map_or suc o 0 < suc r
+less None r h = omega arith
+less (Some s) r h = omega (arith, h)
+
+pub loop-next-init : goal.loop-next-init
+loop-next-init c = (
+  list_first c.self.inside c.self.invariant c.args.moment c.args.directory c.newest-next.result c.newest-next.ensures,
+  rw c.new-found.ensures.empty (list_begun c.self.inside c.self.invariant c.args.moment c.args.directory c.newest-next.result c.newest-next.ensures),
+)
 
 pub unreachable-requires : goal.unreachable-requires
-unreachable-requires c =
-    let each = rw c.in-Some.ensures.steps at c.loop-number.invariant.0 in
-    list_stands c.self.inside c.self.invariant c.args.moment c.args.directory c.in-Some.field-0.now.1 c.in-Some.field-0.now.2 each.0 c.in_default.ensures
+unreachable-requires c = list_stands c.self.inside c.self.invariant c.args.moment c.args.directory c.in-Some.number (rw c.in-Some.is at c.loop-next.invariant.0) c.in_default-name.ensures
 
-pub loop-number-preserved : goal.loop-number-preserved
-loop-number-preserved c =
+pub loop-next-smaller : goal.loop-next-smaller
+loop-next-smaller c = rw c.in-Some.is (less c.older-next.result c.in-Some.number
+    (list_smaller c.self.inside c.self.invariant c.args.moment c.args.directory c.in-Some.number c.in-Some-name.name c.in-Some-name.ensures (rw c.in-Some.is at c.loop-next.invariant.0) c.older-next.result c.older-next.ensures))
+
+pub loop-next-preserved : goal.loop-next-preserved
+loop-next-preserved c =
     let d = c.args.directory in
     let names = names_of c.self.inside.lives in
-    let e = c.in-Some.field-0.now in
     let name = c.in-Some-name.name in
-    let each = rw c.in-Some.ensures.steps at c.loop-number.invariant.0 in
-    let told = rw c.in-Some.ensures.steps at c.loop-number.invariant.1 in (
-      each.1,
+    let first = rw c.in-Some.is at c.loop-next.invariant.0 in
+    let told = rw c.in-Some.is at c.loop-next.invariant.1 in (
+      list_second c.self.inside c.self.invariant c.args.moment d c.in-Some.number name c.in-Some-name.ensures first c.older-next.result c.older-next.ensures,
       rw c.in_ok-put_some.ensures (told_one (slice_cmp nat_cmp) (target_at (rows_of c.self.inside.table) c.args.moment d) nat_list_cmp_total exact_bytes
-          (is_left names d (e ∷ c.next.new.self)) (is_left names d c.next.new.self) c.loop-number.found.entries name.1 c.at-target.result
-          (list_next c.self.inside c.self.invariant c.args.moment d e c.next.new.self name c.in-Some-name.ensures) (rw (← c.self.view_is) at c.at-target.ensures) told),
+          (is_left names d (Some c.in-Some.number)) (is_left names d c.older-next.result) c.loop-next.found.entries name.1 c.at-target.result
+          (list_next c.self.inside c.self.invariant c.args.moment d c.in-Some.number name c.in-Some-name.ensures first c.older-next.result c.older-next.ensures) (rw (← c.self.view_is) at c.at-target.ensures) told),
     )
 
 pub returns-clause-found : goal.returns-clause-found
 returns-clause-found c =
-    let told = rw c.in-None.ensures.steps.0 at c.loop-number.invariant.1 in
-    rw (← c.self.view_is, items_from_collect {E = AllocError} (Ok c.in_ok-collect.field-0) c.in_ok-collect.ensures.ran (YieldsList-from_rest c.loop-number.found.entries (cc)))
-    (told_all (slice_cmp nat_cmp) (target_at (rows_of c.self.inside.table) c.args.moment c.args.directory) c.loop-number.found.entries told)
+    let told = rw c.in_default.is at c.loop-next.invariant.1 in
+    rw (← c.self.view_is, items_from_collect {E = AllocError} (Ok c.in_ok-collect.field-0) c.in_ok-collect.ensures.ran (YieldsList-from_rest c.loop-next.found.entries (cc)))
+    (told_all (slice_cmp nat_cmp) (target_at (rows_of c.self.inside.table) c.args.moment c.args.directory) c.loop-next.found.entries told)

@@ -1,9 +1,17 @@
-use Rattle.ele_names.proofs.Basics.{◌≡◌, true, slice_cmp, AllByRecursion, nat_cmp, has}
+use Rattle.std.proofs.Common.{◌≡◌, suc, true, slice_get}
+use Rattle.std.specs.Prelude.{IfSome}
+use Rattle.std.specs.Bool.{nat_eq}
+use Rattle.std.specs.Option.{option_map_or}
+use Rattle.ele_names.proofs.Basics.{slice_cmp, nat_cmp}
 use Rattle.ele_names.proofs.Words.{target_at, rows_of, names_of}
+use Rattle.ele_names.specs.Chained.{is_member}
 use Rattle.ele_names.proofs.Told.{AreTold, is_left}
 use Rattle.ele_names.proofs.names.Names.list.Given as goal
 
-abbrev pub invariant-loop-number : goal.invariant-loop-number
-invariant-loop-number l =
-    AllByRecursion (λ e. has nat_cmp l.self-inside.lives.of_directory l.directory e.1 e.2 ≡ true) l.number-iterator
-    × AreTold (slice_cmp nat_cmp) (target_at (rows_of l.self-inside.table) l.moment l.directory) (is_left (names_of l.self-inside.lives) l.directory l.number-iterator) l.found.entries
+abbrev pub invariant-loop-next : goal.invariant-loop-next
+invariant-loop-next l =
+    IfSome l.next (λ r. is_member nat_eq (λ name. name.0) (slice_get (names_of l.self-inside.lives)) l.directory r ≡ true)
+    × AreTold (slice_cmp nat_cmp) (target_at (rows_of l.self-inside.table) l.moment l.directory) (is_left (names_of l.self-inside.lives) l.directory l.next) l.found.entries
+
+abbrev pub decreases-loop-next : goal.decreases-loop-next
+decreases-loop-next l = option_map_or suc l.next 0
