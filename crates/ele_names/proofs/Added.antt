@@ -7,10 +7,7 @@ use Rattle.ele_names.proofs.Numbers.{keeps_same}
 
 -- the places are of whatever has the same rows
 pub placed_same : (names : List (ℕ × List ℕ)) (at to : ℕ → Option NameRow) (places : Places) → ((s : ℕ) → to s ≡ at s) → ArePlaced names at places → ArePlaced names to places
-placed_same names at to places same placed = record {
-  named = record { each = λ q r s. placed.named.each q r s ∙ rw (same s) refl };
-  targeted = chained_same target_eq (λ row. row.target) at to places.of_target (λ s. ap (option_map (λ row. row.target)) (same s)) placed.targeted;
-}
+placed_same names at to places same placed = grind (arith, nat_tests, same, chained_same, target_eq, option_map)
 
 -- a row that comes and goes again leaves the places as they were
 pub placed_back : (names : List (ℕ × List ℕ)) (es : List (ℕ × NameRow)) (n : ℕ) (row : NameRow) → value_at es n ≡ None → (places : Places)

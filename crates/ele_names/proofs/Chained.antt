@@ -117,10 +117,7 @@ module _ {G X : Type 0} (eq : G → G → Bool) (group : X → G) where
       before g s lt = rw (apart number s lt) refl
 
       others : (g : G) → eq (group x) g ≡ false → (s : ℕ) → is_member eq group entered g s ≡ is_member eq group at g s
-      others g not s = elim (is_at (nat_cmp number) s) as (λ b. is_at (nat_cmp number) s ≡ b → option_map_or (λ x. eq (group x) g) (cond b (Some x) (at s)) false ≡ is_member eq group at g s) [
-        | true ↦ λ e. let same = same_serial number s e in not ∙ sym (none_stands at g s (fresh s (omega (arith, same))))
-        | false ↦ λ e. refl
-      ] refl
+      others g not s = grind (arith, nat_tests, is_at, nat_cmp, option_map_or, is_member, same_serial, none_stands)
 
       -- no newer member of its group
       pub newest_entered : (s : ℕ) → number < s → is_member eq group entered (group x) s ≡ false
@@ -175,17 +172,11 @@ module _ {G X : Type 0} (eq : G → G → Bool) (group : X → G) where
       below g s lt = rw (apart number s lt) refl
 
       unlike : (g : G) → eq (group x) g ≡ false → (s : ℕ) → is_member eq group left g s ≡ is_member eq group at g s
-      unlike g not s = elim (is_at (nat_cmp number) s) as (λ b. is_at (nat_cmp number) s ≡ b → option_map_or (λ x. eq (group x) g) (cond b None (at s)) false ≡ is_member eq group at g s) [
-        | true ↦ λ e. sym (rw (← same_serial number s e, there) refl ∙ not)
-        | false ↦ λ e. refl
-      ] refl
+      unlike g not s = grind (arith, nat_tests, is_at, nat_cmp, option_map_or, is_member, same_serial)
 
       -- no member of its group stands there, or behind
       gone : (s : ℕ) → number ≤ s → is_member eq group left (group x) s ≡ false
-      gone s le = elim (is_at (nat_cmp number) s) as (λ b. is_at (nat_cmp number) s ≡ b → option_map_or (λ y. eq (group y) (group x)) (cond b None (at s)) false ≡ false) [
-        | true ↦ λ e. refl
-        | false ↦ λ e. newest_of s (after number s e le)
-      ] refl
+      gone s le = grind (arith, nat_tests, is_at, nat_cmp, option_map_or, after)
 
       -- its group has a newest member
       pub newest_known : (old : Chains G) → number < 2 ^ 64 → AreChained eq group at old → get eq old.newest (group x) ≡ None → ⊥

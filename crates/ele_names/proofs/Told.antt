@@ -1,5 +1,5 @@
 -- Names that are told one after the other, with what they stand for.
-use Rattle.ele_names.proofs.Basics.{◌≡◌, ◌⊎◌, ℕ, ◌≤◌, ◌<◌, ◌^◌, Bool, true, false, cond, ◌==◌, List, [], ◌∷◌, length, map, slice_get, Some, None, Option, is_some, refl, sym, ap, subst, ◌∙◌, inl, inr, arith, option_map, option_map_or, Ordering, Less, Equal, Greater, nat_cmp, is_eq, IsTotalOrder, slice_cmp, is_at, insert_entry, list_any, lookup, false≢true, true≢false, tied_itself, nat_list_cmp_total, on_total, then_total, CmpEqualImpliesEq, exact_bytes, exact_pairs, exact_unsigned, slice_get_within, passing, lookup-insert_entry}
+use Rattle.ele_names.proofs.Basics.{◌≡◌, ◌⊎◌, ℕ, ◌≤◌, ◌<◌, ◌^◌, Bool, true, false, cond, List, [], ◌∷◌, length, map, slice_get, Some, None, Option, is_some, refl, sym, ap, subst, ◌∙◌, inl, inr, arith, option_map, option_map_or, Ordering, Less, Equal, Greater, nat_cmp, is_eq, IsTotalOrder, slice_cmp, is_at, insert_entry, list_any, lookup, false≢true, true≢false, tied_itself, nat_list_cmp_total, on_total, then_total, CmpEqualImpliesEq, exact_bytes, exact_pairs, exact_unsigned, slice_get_within, passing, lookup-insert_entry}
 use Rattle.ele_names.proofs.Words.{Target, target_at, last_dead, Inside, by_name, name_cmp, IsKept, rows_of, name_eq, names_of, place_in}
 use Rattle.std.specs.Cmp.{nat_cmp_total}
 use Rattle.std.specs.Prelude.{nat_le, IfSome}
@@ -61,10 +61,7 @@ is_left names d next n = option_map_or (λ r. nat_le (place_in names d n) r) nex
 -- what passes below a bound isn't above the last that does
 not_above : (passes : ℕ → Bool) (bound p : ℕ) (next : Option ℕ) → IsLastBelow passes bound next → passes p ≡ true → p < bound → option_map_or (λ r. nat_le p r) next false ≡ true
 not_above passes bound p None last there lt = absurd (false≢true (sym (last p lt) ∙ there))
-not_above passes bound p (Some r) last there lt = elim (cases_lt r p) as (λ _. nat_le p r ≡ true) [
-  | inl over ↦ absurd (false≢true (sym (last.last p over lt) ∙ there))
-  | inr upto ↦ grind (arith, nat_tests)
-]
+not_above passes bound p (Some r) last there lt = grind (arith, nat_tests, last, cases_lt, nat_le, false≢true)
 
 module _ (a : Inside) (kept : IsKept a.table a.lives) where
   abbrev names : List (ℕ × List ℕ)
@@ -84,9 +81,7 @@ module _ (a : Inside) (kept : IsKept a.table a.lives) where
 
     -- a name that was given is one of its directory
     listed : (n : List ℕ) → place_in names d n < length names → in_directory (place_in names d n) ≡ true
-    listed n inside = rw (at_place names d n inside) (own d) where
-      own : (n : ℕ) → (n == n) ≡ true
-      own n = grind (arith, nat_tests)
+    listed n inside = grind (arith, nat_tests, at_place)
 
     pub list_begun : (next : Option ℕ) → next ≡ get nat_eq a.lives.of_directory.newest d → AreTold (slice_cmp nat_cmp) (target_at (rows_of a.table) moment d) (is_left names d next) []
     list_begun next is n = elim (known names d n) as (λ _. (◌≡◌ {A = Option Target} None (target_at (rows_of a.table) moment d n)) ⊎ ((◌≡◌ {A = Option Target} None None) × (is_left names d next n ≡ true))) [
@@ -116,10 +111,7 @@ module _ (a : Inside) (kept : IsKept a.table a.lives) where
       list_second = some r next last
 
       pub list_smaller : IfSome next (λ s. s < r)
-      list_smaller = below next last where
-        below : (o : Option ℕ) → IsLastBelow in_directory r o → IfSome o (λ s. s < r)
-        below None last = tt
-        below (Some s) last = last.below
+      list_smaller = grind (arith, nat_tests, last)
 
       -- the name of a number is told, or one before it
       pub list_next : (k : List ℕ) → is_left names d (Some r) k ≡ true → (k ≡ name.1) ⊎ (is_left names d next k ≡ true)
@@ -147,10 +139,7 @@ module _ (a : Inside) (kept : IsKept a.table a.lives) where
 
 -- of the names to come, a name is the next or behind it
 pub dead_next : (key : ℕ × List ℕ) (names : List (ℕ × List ℕ)) (k : ℕ × List ℕ) → list_any (name_eq k) (key ∷ names) ≡ true → (k ≡ key) ⊎ (list_any (name_eq k) names ≡ true)
-dead_next key names k left = elim (name_eq k key) as (λ b. name_eq k key ≡ b → (k ≡ key) ⊎ (list_any (name_eq k) names ≡ true)) [
-  | true ↦ λ e. inl (exact k key e)
-  | false ↦ λ e. inr (rw e at left)
-] refl
+dead_next key names k left = grind (arith, nat_tests, name_eq, list_any, exact)
 
 pub name_total : IsTotalOrder name_cmp
 name_total = then_total (on_total (λ (k : ℕ × List ℕ). k.0) nat_cmp_total) (on_total (λ (k : ℕ × List ℕ). k.1) nat_list_cmp_total)
