@@ -1,13 +1,15 @@
 -- A row at the end of the others.
-use Rattle.ele_names.proofs.Basics.{◌≡◌, ℕ, Bool, true, false, subst, ◌+◌, ◌≤◌, ◌<◌, ◌^◌, cond, List, [], ◌∷◌, ◌++◌, length, Some, None, Option, refl, ap, ◌∙◌, arith, AllByRecursion, IsStrictlySortedBy, option_map, option_map_or, nat_cmp, is_at, insert_entry, keys_of, values_of, nat_tests, map-append, value_at, is_placed, nat_cmp_total, lookup-insert_entry, sorted-insert_entry, all-push, all-weaker, later-push, pushed, not_yet, split_at, all-mid}
-use Rattle.ele_names.proofs.Words.{target_eq, last_moment, NameRow, Lives, Places, Table, AreCounted, AreNumbered, IsKept, IsTable, rows_of, ArePlaced, AreListed, KeepsPlaces, names_of, number_in, Follows}
+use Rattle.ele_names.proofs.Basics.{◌≡◌, ℕ, Bool, true, false, subst, ◌+◌, ◌≤◌, ◌<◌, ◌^◌, cond, List, [], ◌∷◌, ◌++◌, length, Some, None, Option, refl, sym, ap, ◌∙◌, arith, AllByRecursion, IsStrictlySortedBy, option_map_or, nat_cmp, is_at, insert_entry, keys_of, values_of, nat_tests, map-append, value_at, is_placed, index_same, count_by, nat_cmp_total, lookup-insert_entry, sorted-insert_entry, all-push, all-weaker, later-push, pushed, not_yet, split_at, all-mid}
+use Rattle.ele_names.proofs.Words.{last_moment, Target, NameRow, Lives, Places, Table, AreCounted, AreNumbered, IsKept, IsTable, rows_of, ArePlaced, AreListed, KeepsPlaces, names_of, number_in, is_of, live_of, is_live_of, Follows}
 use Rattle.ele_names.proofs.Chained.{chained_same}
 use Rattle.ele_names.proofs.Live.{numbered_same}
-use Rattle.ele_names.proofs.Numbers.{keeps_same}
 
 -- the places are of whatever has the same rows
 pub placed_same : (names : List (ℕ × List ℕ)) (at to : ℕ → Option NameRow) (places : Places) → ((s : ℕ) → to s ≡ at s) → ArePlaced names at places → ArePlaced names to places
-placed_same names at to places same placed = grind (arith, nat_tests, same, chained_same, target_eq, option_map)
+placed_same names at to places same placed = record {
+  named = index_same at to places.by_name places.by_name placed.named (λ q r s. refl) (λ q r s. ap (λ o. option_map_or (λ row. is_placed nat_cmp (number_in names row) row.birth q r) o false) (sym (same s)));
+  chained = chained_same is_of at to places.of_file (λ g s. ap (λ o. option_map_or (is_of g) o false) (same s)) placed.chained;
+}
 
 -- a row that comes and goes again leaves the places as they were
 pub placed_back : (names : List (ℕ × List ℕ)) (es : List (ℕ × NameRow)) (n : ℕ) (row : NameRow) → value_at es n ≡ None → (places : Places)
@@ -39,7 +41,7 @@ module _ (old new : List (ℕ × List ℕ)) (keeps : KeepsPlaces old new) (table
     known = all-weaker (λ row. number_in old row < length old) (λ row. number_in new row < length new) (rows_of table) (λ row inside. (stays row inside).1) is.known;
     placed = record {
       named = record { each = λ q r s. is.placed.named.each q r s ∙ same q r s (value_at table.rows.entries s) refl };
-      targeted = is.placed.targeted;
+      chained = is.placed.chained;
     };
   } where
     same : (q r s : ℕ) (o : Option NameRow) → value_at table.rows.entries s ≡ o
@@ -96,29 +98,31 @@ module _ (table : Table) (lives : Lives) (kept : IsKept table lives) where
     listed = listed kept.listed;
     counts = counts (rows_of table) kept.counts;
     numbered = numbered (value_at table.rows.entries) kept.numbered;
+    targets = kept.targets;
   }
 
   module _ (made : ℕ) (below : AllByRecursion (λ k. k < made) (keys_of table.rows.entries)) where
     -- with places that say the same
-    pub kept_placed : (t : Table) → t.rows.entries ≡ table.rows.entries → ArePlaced (names_of lives) (value_at table.rows.entries) t.places → IsKept t lives
-    kept_placed t is placed = grind (arith, nat_tests, table_same, names_of)
+    pub kept_placed : (t : Table) → t.rows.entries ≡ table.rows.entries → ArePlaced (names_of lives) (value_at table.rows.entries) t.places → ((target : Target) → live_of t.places target ≡ live_of table.places target) → IsKept t lives
+    kept_placed t is placed live = record {
+      is_table = table_same (names_of lives) table kept.is_table made below t is placed;
+      listed = kept.listed;
+      counts = rw is kept.counts;
+      numbered = rw is kept.numbered;
+      targets = rw is (λ target. live target ∙ kept.targets target);
+    }
 
-    pub kept_pushed : (row : NameRow) (t : Table) (new : Lives) → names_of new ≡ names_of lives → (AreListed lives → AreListed new) → t.rows.entries ≡ insert_entry nat_cmp table.rows.entries made row
+    pub kept_pushed : (row : NameRow) (t : Table) (new : Lives) → names_of new ≡ names_of lives → AreListed new → t.rows.entries ≡ insert_entry nat_cmp table.rows.entries made row
         → made + 1 < 2 ^ 64 → row.birth ≤ last_moment → number_in (names_of lives) row < length (names_of lives) → AllByRecursion (λ earlier. Follows earlier row) (rows_of table)
         → ArePlaced (names_of lives) (λ s. cond (is_at (nat_cmp made) s) (Some row) (value_at table.rows.entries s)) t.places
         → AreCounted (rows_of table ++ row ∷ []) new → AreNumbered (λ s. cond (is_at (nat_cmp made) s) (Some row) (value_at table.rows.entries s)) new
+        → ((target : Target) → live_of t.places target ≡ count_by (is_live_of target) (rows_of table ++ row ∷ []))
         → IsKept t new
-    kept_pushed row t new same listed is fits born known follows placed counts numbered = record {
+    kept_pushed row t new same listed is fits born known follows placed counts numbered targets = let rows_are = ap values_of is ∙ rows_pushed (names_of lives) table kept.is_table made below row in record {
       is_table = rw same (table_pushed (names_of lives) table kept.is_table made below row t is fits born known follows placed);
-      listed = listed kept.listed;
-      counts = rw (ap values_of is ∙ rows_pushed (names_of lives) table kept.is_table made below row) counts;
+      listed = listed;
+      counts = rw rows_are counts;
       numbered = numbered_same (λ s. cond (is_at (nat_cmp made) s) (Some row) (value_at table.rows.entries s)) (value_at t.rows.entries) new new
           (λ s. ap (λ entries. value_at entries s) is ∙ lookup-insert_entry nat_cmp_total s table.rows.entries made row) (λ d n. refl) numbered;
+      targets = rw rows_are targets;
     }
-
--- over lives of more names, with room
-pub kept_known : (table : Table) (lives new reserved : Lives) → IsKept table lives → KeepsPlaces (names_of lives) (names_of new) → (AreListed lives → AreListed new)
-    → ((rows : List NameRow) → AreCounted rows lives → AreCounted rows new) → ((at : ℕ → Option NameRow) → AreNumbered at lives → AreNumbered at new)
-    → names_of reserved ≡ names_of new → (AreListed new → AreListed reserved) → ((rows : List NameRow) → AreCounted rows new → AreCounted rows reserved)
-    → ((at : ℕ → Option NameRow) → AreNumbered at new → AreNumbered at reserved) → IsKept table reserved
-kept_known table lives new reserved kept keeps listed counts numbered same listed' counts' numbered' = grind (arith, nat_tests, same, kept_over, keeps_same, names_of)

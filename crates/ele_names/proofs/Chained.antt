@@ -1,19 +1,8 @@
 -- The members of each group, where a newer one comes or the newest goes.
-use Rattle.ele_names.proofs.Basics.{◌≡◌, ℕ, zero, suc, ◌≤◌, ◌<◌, ◌^◌, Bool, true, false, cond, List, [], ◌∷◌, ◌++◌, length, take, slice_get, slice_set, Option, Some, None, refl, sym, ap, ◌∙◌, arith, inl, inr, is_at, get, option_map, option_map_or, nat_cmp, false≢true, cases_lt, nat_tests}
-use Rattle.ele_names.proofs.Words.{Target, File, Directory, target_eq}
+use Rattle.ele_names.proofs.Basics.{◌≡◌, ℕ, zero, suc, ◌≤◌, ◌<◌, ◌^◌, Bool, true, false, cond, List, [], ◌∷◌, ◌++◌, length, take, slice_get, slice_set, IsSome, Option, Some, None, refl, sym, ◌∙◌, arith, inl, inr, is_at, nat_eq, option_map_or, nat_cmp, false≢true, cases_lt, nat_tests}
 use Rattle.ele_names.specs.declared.chains.Chains.{Chains}
-use Rattle.ele_names.specs.Chained.{AreChained, HasOlder, IsLastBelow, Gains, Keeps, Loses, is_member}
+use Rattle.ele_names.specs.Chained.{AreChained, HasOlder, IsLastBelow, Gains, Keeps, Loses, is_member, newest_in}
 use Rattle.ele_names.proofs.Live.{same_serial}
-
-pub same_target : (t u : Target) → target_eq t u ≡ true → t ≡ u
-same_target (File a) (File b) h = ap File (grind (arith, nat_tests))
-same_target (File a) (Directory b) h = absurd (false≢true h)
-same_target (Directory a) (File b) h = absurd (false≢true h)
-same_target (Directory a) (Directory b) h = ap Directory (grind (arith, nat_tests))
-
-pub own_target : (t : Target) → target_eq t t ≡ true
-own_target (File a) = grind (arith, nat_tests)
-own_target (Directory a) = grind (arith, nat_tests)
 
 apart : (n s : ℕ) → s < n → is_at (nat_cmp n) s ≡ false
 apart n s h = grind (arith, nat_tests)
@@ -32,16 +21,32 @@ module _ {X : Type 0} where
   cut_kept (y ∷ xs) ys (suc n) zero x lt is = is
   cut_kept (y ∷ xs) ys (suc n) (suc s) x lt is = cut_kept xs ys n s x (omega (arith, lt)) is
 
-  pub set_kept : (xs : List X) (n s : ℕ) (v : X) → s < n → slice_get (slice_set xs n v) s ≡ slice_get xs s
-  set_kept [] n s v lt = refl
-  set_kept (x ∷ xs) zero s v lt = absurd (omega (arith, lt))
-  set_kept (x ∷ xs) (suc n) zero v lt = refl
-  set_kept (x ∷ xs) (suc n) (suc s) v lt = set_kept xs n s v (omega (arith, lt))
+  pub own_pushed : (xs : List X) (x : X) (n : ℕ) → length xs ≡ n → slice_get (xs ++ x ∷ []) n ≡ Some x
+  own_pushed [] x n is = rw (← is) refl
+  own_pushed (y ∷ xs) x zero is = absurd (omega (arith, is))
+  own_pushed (y ∷ xs) x (suc n) is = own_pushed xs x n (omega (arith, is))
 
-  pub set_own : (xs : List X) (n : ℕ) (v : X) → n < length xs → slice_get (slice_set xs n v) n ≡ Some v
-  set_own [] n v lt = absurd (omega (arith, lt))
-  set_own (x ∷ xs) zero v lt = refl
-  set_own (x ∷ xs) (suc n) v lt = set_own xs n v (omega (arith, lt))
+-- what is seen of an element, where one is set
+module _ {X Y : Type 0} (f : Option X → Y) where
+  pub set_seen : (xs : List X) (n : ℕ) (v : X) → n < length xs → (s : ℕ) → f (slice_get (slice_set xs n v) s) ≡ cond (nat_eq n s) (f (Some v)) (f (slice_get xs s))
+  set_seen [] n v lt s = absurd (omega (arith, lt))
+  set_seen (x ∷ xs) zero v lt zero = refl
+  set_seen (x ∷ xs) zero v lt (suc s) = rw (first s) refl where
+    first : (s : ℕ) → nat_eq zero (suc s) ≡ false
+    first s = grind (arith, nat_tests)
+  set_seen (x ∷ xs) (suc n) v lt zero = rw (later n) refl where
+    later : (n : ℕ) → nat_eq (suc n) zero ≡ false
+    later n = grind (arith, nat_tests)
+  set_seen (x ∷ xs) (suc n) v lt (suc s) = rw (both n s) (set_seen xs n v (omega (arith, lt)) s) where
+    both : (n s : ℕ) → nat_eq (suc n) (suc s) ≡ nat_eq n s
+    both n s = grind (arith, nat_tests)
+
+  pub same_seen : (xs : List X) (n : ℕ) (v : X) → f (Some v) ≡ f (slice_get xs n) → (s : ℕ) → f (slice_get (slice_set xs n v) s) ≡ f (slice_get xs s)
+  same_seen [] n v same s = refl
+  same_seen (x ∷ xs) zero v same zero = same
+  same_seen (x ∷ xs) zero v same (suc s) = refl
+  same_seen (x ∷ xs) (suc n) v same zero = refl
+  same_seen (x ∷ xs) (suc n) v same (suc s) = same_seen xs n v same s
 
 -- what passes alike has the same last
 last_same : (p q : ℕ → Bool) (bound : ℕ) (o : Option ℕ) → ((s : ℕ) → s < bound → q s ≡ p s) → IsLastBelow p bound o → IsLastBelow q bound o
@@ -73,141 +78,151 @@ module _ (p : ℕ → Bool) (low high : ℕ) (le : low ≤ high) (none : (s : �
     last = λ s over lt. elim (cases_lt s low) as (λ _. p s ≡ false) [ inl is ↦ last.last s over is | inr past ↦ none s past lt ];
   }
 
-module _ {G X : Type 0} (eq : G → G → Bool) (group : X → G) where
-  -- nothing is a member where nothing stands
-  pub none_stands : (at : ℕ → Option X) (g : G) (s : ℕ) → at s ≡ None → is_member eq group at g s ≡ false
-  none_stands at g s none = rw none refl
-
+module _ {X : Type 0} (belongs : ℕ → X → Bool) where
   -- members of the same groups are chained alike
-  pub chained_same : (at to : ℕ → Option X) (chains : Chains G) → ((s : ℕ) → option_map group (to s) ≡ option_map group (at s)) → AreChained eq group at chains → AreChained eq group to chains
+  pub chained_same : (at to : ℕ → Option X) (chains : Chains) → ((g s : ℕ) → is_member belongs to g s ≡ is_member belongs at g s) → AreChained belongs at chains → AreChained belongs to chains
   chained_same at to chains same was = record {
-    newest = λ g. last_same (is_member eq group at g) (is_member eq group to g) (2 ^ 64) (get eq chains.newest g) (λ s lt. alike g (to s) (at s) (same s)) (was.newest g);
-    older = λ s x is. older s x is (at s) refl;
-  } where
-    alike : (g : G) (o p : Option X) → option_map group o ≡ option_map group p → option_map_or (λ x. eq (group x) g) o false ≡ option_map_or (λ x. eq (group x) g) p false
-    alike g None None h = refl
-    alike g None (Some x) h = absurd cc
-    alike g (Some x) None h = absurd cc
-    alike g (Some x) (Some y) h = let groups : group x ≡ group y = cc in ap (λ u. eq u g) groups
-
-    older : (s : ℕ) (x : X) → to s ≡ Some x → (o : Option X) → at s ≡ o → HasOlder (is_member eq group to (group x)) chains.older.items s
-    older s x is None none = let not : Some (group x) ≡ None = sym (ap (option_map group) is) ∙ same s ∙ ap (option_map group) none in absurd cc
-    older s x is (Some y) there =
-        let both : Some (group x) ≡ Some (group y) = sym (ap (option_map group) is) ∙ same s ∙ ap (option_map group) there in
-        let groups : group x ≡ group y = cc in
-        let old = was.older s y there in
-        record {
-          number = old.number;
-          there = old.there;
-          last = last_same (is_member eq group at (group y)) (is_member eq group to (group x)) s old.number (λ k lt. ap (λ g. is_member eq group to g k) groups ∙ alike (group y) (to k) (at k) (same k)) old.last;
-        }
-
-  pub chained_none : (at : ℕ → Option X) (chains : Chains G) → ((s : ℕ) → at s ≡ None) → ((g : G) → get eq chains.newest g ≡ None) → AreChained eq group at chains
-  chained_none at chains none empty = record {
-    newest = λ g. rw (empty g) (λ s lt. none_stands at g s (none s));
-    older = λ s x is. let no : None ≡ Some x = sym (none s) ∙ is in absurd cc;
+    newest = λ g. last_same (is_member belongs at g) (is_member belongs to g) (2 ^ 64) (newest_in chains g) (λ s lt. same g s) (was.newest g);
+    older = λ g s is. let prior = was.older g s (sym (same g s) ∙ is) in record {
+      number = prior.number;
+      there = prior.there;
+      last = last_same (is_member belongs at g) (is_member belongs to g) s prior.number (λ k lt. same g k) prior.last;
+    };
   }
 
-  module _ (at : ℕ → Option X) (x : X) (number : ℕ) where
-    module _ (fresh : (s : ℕ) → number ≤ s → at s ≡ None) where
+  -- and so are chains that tell the same
+  pub chained_told : (at : ℕ → Option X) (old new : Chains) → ((g : ℕ) → newest_in new g ≡ newest_in old g) → new.older ≡ old.older → AreChained belongs at old → AreChained belongs at new
+  chained_told at old new newest older was = record {
+    newest = λ g. rw (newest g) (was.newest g);
+    older = λ g s is. let prior = was.older g s is in record { number = prior.number; there = rw older prior.there; last = prior.last };
+  }
+
+  pub chained_none : (chains : Chains) → ((g : ℕ) → newest_in chains g ≡ None) → AreChained belongs (λ _. None) chains
+  chained_none chains empty = record { newest = λ g. rw (empty g) (λ s lt. refl); older = λ g s is. absurd (false≢true is) }
+
+  module _ (at : ℕ → Option X) (number : ℕ) (fresh : (s : ℕ) → number ≤ s → at s ≡ None) where
+    none_stands : (g s : ℕ) → number ≤ s → is_member belongs at g s ≡ false
+    none_stands g s le = rw (fresh s le) refl
+
+    first : (g s : ℕ) → is_member belongs at g s ≡ true → s < number
+    first g s is = elim (cases_lt s number) as (λ _. s < number) [ inl before ↦ before | inr over ↦ absurd (false≢true (sym (none_stands g s over) ∙ is)) ]
+
+    pub chained_kept : (old new : Chains) → Keeps number old new → AreChained belongs at old → AreChained belongs at new
+    chained_kept old new keeps was = record {
+      newest = λ g. rw (keeps.newest g) (was.newest g);
+      older = λ g s is. let prior = was.older g s is in record { number = prior.number; there = keeps.older s prior.number (first g s is) prior.there; last = prior.last };
+    }
+
+    module _ (x : X) where
       abbrev entered : ℕ → Option X
       entered s = cond (is_at (nat_cmp number) s) (Some x) (at s)
 
-      before : (g : G) (s : ℕ) → s < number → is_member eq group entered g s ≡ is_member eq group at g s
+      before : (g s : ℕ) → s < number → is_member belongs entered g s ≡ is_member belongs at g s
       before g s lt = rw (apart number s lt) refl
 
-      others : (g : G) → eq (group x) g ≡ false → (s : ℕ) → is_member eq group entered g s ≡ is_member eq group at g s
+      -- nothing else comes behind the others
+      pub none_behind : (g s : ℕ) → number < s → is_member belongs entered g s ≡ false
+      none_behind g s over = rw (beyond number s over) (none_stands g s (omega (arith, over)))
+
+      others : (g : ℕ) → belongs g x ≡ false → (s : ℕ) → is_member belongs entered g s ≡ is_member belongs at g s
       others g not s = grind (arith, nat_tests, is_at, nat_cmp, option_map_or, is_member, same_serial, none_stands)
 
-      -- no newer member of its group
-      pub newest_entered : (s : ℕ) → number < s → is_member eq group entered (group x) s ≡ false
-      newest_entered s over = rw (beyond number s over) (none_stands at (group x) s (fresh s (omega (arith, over))))
+      -- what belongs to no group comes
+      pub chained_beside : (chains : Chains) → ((g : ℕ) → belongs g x ≡ false) → AreChained belongs at chains → AreChained belongs entered chains
+      chained_beside chains none = chained_same at entered chains (λ g s. others g (none g) s)
 
-      first : (s : ℕ) (y : X) → at s ≡ Some y → s < number
-      first s y is = elim (cases_lt s number) as (λ _. s < number) [ inl before ↦ before | inr over ↦ let no : None ≡ Some y = sym (fresh s over) ∙ is in absurd cc ]
-
-      pub chained_kept : (old new : Chains G) → Keeps eq number old new → AreChained eq group at old → AreChained eq group at new
-      chained_kept old new keeps was = record {
-        newest = λ g. rw (keeps.newest g) (was.newest g);
-        older = λ s y is. let prior = was.older s y is in record { number = prior.number; there = keeps.older s prior.number (first s y is) prior.there; last = prior.last };
-      }
-
-      pub chained_entered : (old new : Chains G) → number < 2 ^ 64 → Gains eq (group x) number old new → AreChained eq group at old → AreChained eq group entered new
-      chained_entered old new short gains was = record { newest = newest; older = older } where
-        newest : (g : G) → IsLastBelow (is_member eq group entered g) (2 ^ 64) (get eq new.newest g)
-        newest g = rw (gains.newest g) (elim (eq (group x) g) as (λ b. eq (group x) g ≡ b → IsLastBelow (is_member eq group entered g) (2 ^ 64) (cond b (Some number) (get eq old.newest g))) [
+      pub chained_entered : (group : ℕ) → ((g : ℕ) → belongs g x ≡ nat_eq group g) → (old new : Chains) → number < 2 ^ 64 → Gains group number old new → AreChained belongs at old → AreChained belongs entered new
+      chained_entered group its old new short gains was = record { newest = newest; older = older } where
+        newest : (g : ℕ) → IsLastBelow (is_member belongs entered g) (2 ^ 64) (newest_in new g)
+        newest g = rw (gains.newest g) (elim (nat_eq group g) as (λ b. nat_eq group g ≡ b → IsLastBelow (is_member belongs entered g) (2 ^ 64) (cond b (Some number) (newest_in old g))) [
           | true ↦ λ e. record {
-            there = rw (itself number) e;
+            there = rw (itself number) (its g ∙ e);
             below = short;
-            last = λ s over lt. rw (beyond number s over) (none_stands at g s (fresh s (omega (arith, over))));
+            last = λ s over lt. none_behind g s over;
           }
-          | false ↦ λ e. last_same (is_member eq group at g) (is_member eq group entered g) (2 ^ 64) (get eq old.newest g) (λ s lt. others g e s) (was.newest g)
+          | false ↦ λ e. last_same (is_member belongs at g) (is_member belongs entered g) (2 ^ 64) (newest_in old g) (λ s lt. others g (its g ∙ e) s) (was.newest g)
         ] refl) where
           itself : (n : ℕ) → is_at (nat_cmp n) n ≡ true
           itself n = grind (arith, nat_tests)
 
-        older : (s : ℕ) (y : X) → entered s ≡ Some y → HasOlder (is_member eq group entered (group y)) new.older.items s
-        older s y is = elim (is_at (nat_cmp number) s) as (λ b. is_at (nat_cmp number) s ≡ b → cond b (Some x) (at s) ≡ Some y → HasOlder (is_member eq group entered (group y)) new.older.items s) [
-          | true ↦ λ e h. let same = same_serial number s e in let its : x ≡ y = cc in rw (← same, ← its) (record {
-            number = get eq old.newest (group x);
+        older : (g s : ℕ) → is_member belongs entered g s ≡ true → HasOlder (is_member belongs entered g) new.older.items s
+        older g s is = elim (is_at (nat_cmp number) s) as (λ b. is_at (nat_cmp number) s ≡ b → option_map_or (belongs g) (cond b (Some x) (at s)) false ≡ true → HasOlder (is_member belongs entered g) new.older.items s) [
+          | true ↦ λ e h. let same = same_serial number s e in let group_is : group ≡ g = equal group g (sym (its g) ∙ h) in rw (← same, ← group_is) (record {
+            number = newest_in old group;
             there = gains.own;
-            last = last_same (is_member eq group at (group x)) (is_member eq group entered (group x)) number (get eq old.newest (group x)) (before (group x))
-                (last_lower (is_member eq group at (group x)) number (2 ^ 64) (omega (arith, short)) (λ k le lt. none_stands at (group x) k (fresh k le)) (get eq old.newest (group x)) (was.newest (group x)));
+            last = last_same (is_member belongs at group) (is_member belongs entered group) number (newest_in old group) (before group)
+                (last_lower (is_member belongs at group) number (2 ^ 64) (omega (arith, short)) (λ k le lt. none_stands group k le) (newest_in old group) (was.newest group));
           })
           | false ↦ λ e h.
-              let prior = was.older s y h in
-              let lt = first s y h in
+              let prior = was.older g s h in
+              let lt = first g s h in
               record {
                 number = prior.number;
                 there = gains.older s prior.number lt prior.there;
-                last = last_same (is_member eq group at (group y)) (is_member eq group entered (group y)) s prior.number (λ k less. before (group y) k (omega (arith, less, lt))) prior.last;
+                last = last_same (is_member belongs at g) (is_member belongs entered g) s prior.number (λ k less. before g k (omega (arith, less, lt))) prior.last;
               }
-        ] refl is
+        ] refl is where
+          equal : (a b : ℕ) → nat_eq a b ≡ true → a ≡ b
+          equal a b h = grind (arith, nat_tests)
 
-    module _ (there : at number ≡ Some x) (newest_of : (s : ℕ) → number < s → is_member eq group at (group x) s ≡ false) (exact : (a b : G) → eq a b ≡ true → a ≡ b) (itself : (g : G) → eq g g ≡ true) where
-      abbrev left : ℕ → Option X
-      left s = cond (is_at (nat_cmp number) s) None (at s)
+  -- a member of a group that nothing of it follows
+  module _ (at : ℕ → Option X) (x : X) (number : ℕ) (there : at number ≡ Some x) where
+    abbrev left : ℕ → Option X
+    left s = cond (is_at (nat_cmp number) s) None (at s)
 
-      below : (g : G) (s : ℕ) → s < number → is_member eq group left g s ≡ is_member eq group at g s
-      below g s lt = rw (apart number s lt) refl
+    below : (g s : ℕ) → s < number → is_member belongs left g s ≡ is_member belongs at g s
+    below g s lt = rw (apart number s lt) refl
 
-      unlike : (g : G) → eq (group x) g ≡ false → (s : ℕ) → is_member eq group left g s ≡ is_member eq group at g s
-      unlike g not s = grind (arith, nat_tests, is_at, nat_cmp, option_map_or, is_member, same_serial)
+    unlike : (g : ℕ) → belongs g x ≡ false → (s : ℕ) → is_member belongs left g s ≡ is_member belongs at g s
+    unlike g not s = grind (arith, nat_tests, is_at, nat_cmp, option_map_or, is_member, same_serial)
+
+    -- what belongs to no group goes
+    pub chained_without : (chains : Chains) → ((g : ℕ) → belongs g x ≡ false) → AreChained belongs at chains → AreChained belongs left chains
+    chained_without chains none = chained_same at left chains (λ g s. unlike g (none g) s)
+
+    -- the group of a member has a newest one
+    pub newest_known : (g : ℕ) → belongs g x ≡ true → (old : Chains) → number < 2 ^ 64 → AreChained belongs at old → IsSome (newest_in old g)
+    newest_known g its old short was = by (newest_in old g) (was.newest g) where
+      by : (o : Option ℕ) → IsLastBelow (is_member belongs at g) (2 ^ 64) o → IsSome o
+      by None none = absurd (false≢true (sym (none number short) ∙ rw there its))
+      by (Some r) last = refl
+
+    module _ (group : ℕ) (its : (g : ℕ) → belongs g x ≡ nat_eq group g) (newest_of : (s : ℕ) → number < s → is_member belongs at group s ≡ false) where
+      equal : (g : ℕ) → nat_eq group g ≡ true → group ≡ g
+      equal g h = grind (arith, nat_tests)
 
       -- no member of its group stands there, or behind
-      gone : (s : ℕ) → number ≤ s → is_member eq group left (group x) s ≡ false
+      gone : (s : ℕ) → number ≤ s → is_member belongs left group s ≡ false
       gone s le = grind (arith, nat_tests, is_at, nat_cmp, option_map_or, after)
 
-      -- its group has a newest member
-      pub newest_known : (old : Chains G) → number < 2 ^ 64 → AreChained eq group at old → get eq old.newest (group x) ≡ None → ⊥
-      newest_known old short was none = false≢true (sym ((rw none at (was.newest (group x))) number short) ∙ rw there (itself (group x)))
-
-      pub chained_left : (old new : Chains G) → number < 2 ^ 64 → Loses eq (group x) number old new → AreChained eq group at old → AreChained eq group left new
+      pub chained_left : (old new : Chains) → number < 2 ^ 64 → Loses group number old new → AreChained belongs at old → AreChained belongs left new
       chained_left old new short loses was = record { newest = newest; older = older } where
-        prior : HasOlder (is_member eq group at (group x)) old.older.items number
-        prior = was.older number x there
+        prior : HasOlder (is_member belongs at group) old.older.items number
+        prior = was.older group number (rw there (its group ∙ itself group)) where
+          itself : (n : ℕ) → nat_eq n n ≡ true
+          itself n = grind (arith, nat_tests)
 
-        newest : (g : G) → IsLastBelow (is_member eq group left g) (2 ^ 64) (get eq new.newest g)
-        newest g = rw (loses.newest g, prior.there) (elim (eq (group x) g) as (λ b. eq (group x) g ≡ b → IsLastBelow (is_member eq group left g) (2 ^ 64) (cond b prior.number (get eq old.newest g))) [
-          | true ↦ λ e. rw (← exact (group x) g e) (last_higher (is_member eq group left (group x)) number (2 ^ 64) (omega (arith, short)) (λ s le lt. gone s le) prior.number
-              (last_same (is_member eq group at (group x)) (is_member eq group left (group x)) number prior.number (below (group x)) prior.last))
-          | false ↦ λ e. last_same (is_member eq group at g) (is_member eq group left g) (2 ^ 64) (get eq old.newest g) (λ s lt. unlike g e s) (was.newest g)
+        newest : (g : ℕ) → IsLastBelow (is_member belongs left g) (2 ^ 64) (newest_in new g)
+        newest g = rw (loses.newest g, prior.there) (elim (nat_eq group g) as (λ b. nat_eq group g ≡ b → IsLastBelow (is_member belongs left g) (2 ^ 64) (cond b prior.number (newest_in old g))) [
+          | true ↦ λ e. rw (← equal g e) (last_higher (is_member belongs left group) number (2 ^ 64) (omega (arith, short)) (λ s le lt. gone s le) prior.number
+              (last_same (is_member belongs at group) (is_member belongs left group) number prior.number (below group) prior.last))
+          | false ↦ λ e. last_same (is_member belongs at g) (is_member belongs left g) (2 ^ 64) (newest_in old g) (λ s lt. unlike g (its g ∙ e) s) (was.newest g)
         ] refl)
 
-        older : (s : ℕ) (y : X) → left s ≡ Some y → HasOlder (is_member eq group left (group y)) new.older.items s
-        older s y is = elim (is_at (nat_cmp number) s) as (λ b. is_at (nat_cmp number) s ≡ b → cond b None (at s) ≡ Some y → HasOlder (is_member eq group left (group y)) new.older.items s) [
-          | true ↦ λ e h. absurd cc
-          | false ↦ λ e h. let its = was.older s y h in record {
-            number = its.number;
-            there = rw loses.older its.there;
-            last = last_same (is_member eq group at (group y)) (is_member eq group left (group y)) s its.number (alike s y e h) its.last;
+        older : (g s : ℕ) → is_member belongs left g s ≡ true → HasOlder (is_member belongs left g) new.older.items s
+        older g s is = elim (is_at (nat_cmp number) s) as (λ b. is_at (nat_cmp number) s ≡ b → option_map_or (belongs g) (cond b None (at s)) false ≡ true → HasOlder (is_member belongs left g) new.older.items s) [
+          | true ↦ λ e h. absurd (false≢true h)
+          | false ↦ λ e h. let prior = was.older g s h in record {
+            number = prior.number;
+            there = rw loses.older prior.there;
+            last = last_same (is_member belongs at g) (is_member belongs left g) s prior.number (alike g s e h) prior.last;
           }
         ] refl is where
-          alike : (s : ℕ) (y : X) → is_at (nat_cmp number) s ≡ false → at s ≡ Some y → (k : ℕ) → k < s → is_member eq group left (group y) k ≡ is_member eq group at (group y) k
-          alike s y e h k less = elim (eq (group x) (group y)) as (λ b. eq (group x) (group y) ≡ b → is_member eq group left (group y) k ≡ is_member eq group at (group y) k) [
-            | true ↦ λ f. elim (cases_lt s number) as (λ _. is_member eq group left (group y) k ≡ is_member eq group at (group y) k) [
-              | inl first ↦ below (group y) k (omega (arith, less, first))
-              | inr over ↦ absurd (false≢true (sym (newest_of s (after number s e over)) ∙ rw (h, exact (group x) (group y) f) (itself (group y))))
+          alike : (g s : ℕ) → is_at (nat_cmp number) s ≡ false → is_member belongs at g s ≡ true → (k : ℕ) → k < s → is_member belongs left g k ≡ is_member belongs at g k
+          alike g s e h k less = elim (nat_eq group g) as (λ b. nat_eq group g ≡ b → is_member belongs left g k ≡ is_member belongs at g k) [
+            | true ↦ λ f. elim (cases_lt s number) as (λ _. is_member belongs left g k ≡ is_member belongs at g k) [
+              | inl first ↦ below g k (omega (arith, less, first))
+              | inr over ↦ absurd (false≢true (sym (newest_of s (after number s e over)) ∙ rw (equal g f) h))
             ]
-            | false ↦ λ f. unlike (group y) f k
+            | false ↦ λ f. unlike g (its g ∙ f) k
           ] refl

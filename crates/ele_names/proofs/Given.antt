@@ -1,11 +1,15 @@
 -- A name more, which is live nowhere.
-use Rattle.ele_names.proofs.Basics.{◌≡◌, ℕ, ◌+◌, ◌<◌, ◌≤◌, ◌^◌, true, false, cond, List, [], ◌∷◌, ◌++◌, length, slice_get, Option, Some, None, refl, sym, ap, subst, ◌∙◌, arith, length-append, inl, inr, option_and_then, option_map, nat_cmp, is_at, get, keys_of, length-map, map-append, get_or_append_left, get_or_push, slice_get_past, slice_get-get_or, cases_lt, nat_tests, insert_entry-new}
-use Rattle.ele_names.proofs.Words.{Live, Lives, live_at, AreListed, name_eq, names_of, place_in}
+use Rattle.ele_names.proofs.Basics.{◌≡◌, ℕ, ◌+◌, ◌<◌, ◌≤◌, ◌^◌, Bool, IsSome, true, false, cond, List, [], ◌∷◌, ◌++◌, length, slice_get, Option, Some, None, refl, sym, ap, subst, ◌∙◌, arith, length-append, inl, inr, option_and_then, option_map_or, nat_cmp, is_at, get, keys_of, length-map, map-append, get_or_append_left, get_or_push, slice_get_past, slice_get-get_or, cases_lt, nat_tests, insert_entry-new}
+use Rattle.ele_names.proofs.Words.{Target, Live, Lives, live_at, AreListed, name_eq, names_of, place_in}
 use Rattle.std.specs.Bool.{nat_eq}
-use Rattle.ele_names.specs.Chained.{Gains, Keeps}
+use Rattle.ele_names.specs.Chained.{Gains, Keeps, newest_in}
 use Rattle.indexmap.specs.IndexMap.{insert_entry}
-use Rattle.ele_names.proofs.Chained.{chained_entered, chained_kept, chained_none, chained_same}
-use Rattle.ele_names.proofs.Numbers.{exact, missing}
+use Rattle.ele_names.proofs.Chained.{chained_entered, chained_kept, chained_none, chained_same, chained_told, newest_known}
+use Rattle.ele_names.proofs.Numbers.{at_place, exact, missing}
+
+-- a name of the directory
+abbrev stands_in : ℕ → ℕ × List ℕ → Bool
+stands_in d name = nat_eq name.0 d
 
 -- the element behind a list
 got_pushed : {X : Type 0} (xs : List X) (x : X) (s : ℕ) → slice_get (xs ++ x ∷ []) s ≡ cond (is_at (nat_cmp (length xs)) s) (Some x) (slice_get xs s)
@@ -26,7 +30,7 @@ module _ (old new : Lives) (d : ℕ) (n : List ℕ) (unknown : place_in (names_o
   pub names_pushed : new.by_name.entries ≡ insert_entry name_eq old.by_name.entries (d, n) None → names_of new ≡ names_of old ++ (d, n) ∷ []
   names_pushed inserted =
       ap keys_of (inserted ∙ insert_entry-new name_eq old.by_name (d, n) None (missing old.by_name d n unknown))
-      ∙ map-append (λ (e : (ℕ × List ℕ) × Option Live). e.0) old.by_name.entries (((d, n), None) ∷ [])
+      ∙ map-append (λ (e : (ℕ × List ℕ) × Option (Live Target)). e.0) old.by_name.entries (((d, n), None) ∷ [])
 
   -- the others are live as they were
   pub same_live : ((k : ℕ × List ℕ) → get name_eq new.by_name k ≡ cond (name_eq (d, n) k) (Some None) (get name_eq old.by_name k)) → (e : ℕ) (m : List ℕ) → live_at new e m ≡ live_at old e m
@@ -36,28 +40,37 @@ module _ (old new : Lives) (d : ℕ) (n : List ℕ) (unknown : place_in (names_o
   ] refl
 
   -- and the name is the newest of its directory
-  pub listed_pushed : length (names_of old) < 2 ^ 63 → names_of new ≡ names_of old ++ (d, n) ∷ [] → Gains nat_eq d (length (names_of old)) old.of_directory new.of_directory → AreListed old → AreListed new
+  pub listed_pushed : length (names_of old) < 2 ^ 63 → names_of new ≡ names_of old ++ (d, n) ∷ [] → Gains d (length (names_of old)) old.in_directory new.in_directory → AreListed old → AreListed new
   listed_pushed few are gains was = record {
     few = rw (are, length-append (names_of old) ((d, n) ∷ [])) (omega (arith, few));
-    each = chained_same nat_eq (λ name. name.0) (λ s. cond (is_at (nat_cmp (length (names_of old))) s) (Some (d, n)) (slice_get (names_of old) s)) (slice_get (names_of new)) new.of_directory
-        (λ s. ap (option_map (λ (name : ℕ × List ℕ). name.0)) (ap (λ names. slice_get names s) are ∙ got_pushed (names_of old) (d, n) s))
-        (chained_entered nat_eq (λ name. name.0) (slice_get (names_of old)) (d, n) (length (names_of old)) (λ s le. slice_get_past (names_of old) s le) old.of_directory new.of_directory (omega (arith, few)) gains was.each);
+    each = chained_same stands_in (λ s. cond (is_at (nat_cmp (length (names_of old))) s) (Some (d, n)) (slice_get (names_of old) s)) (slice_get (names_of new)) new.in_directory
+        (λ g s. ap (λ o. option_map_or (stands_in g) o false) (ap (λ names. slice_get names s) are ∙ got_pushed (names_of old) (d, n) s))
+        (chained_entered stands_in (slice_get (names_of old)) (length (names_of old)) (λ s le. slice_get_past (names_of old) s le) (d, n) d (λ g. refl) old.in_directory new.in_directory (omega (arith, few)) gains was.each);
   }
 
 -- how many names there are
 pub names_counted : (lives : Lives) → length lives.by_name.entries ≡ length (names_of lives)
-names_counted lives = sym (length-map lives.by_name.entries (λ (e : (ℕ × List ℕ) × Option Live). e.0))
+names_counted lives = sym (length-map lives.by_name.entries (λ (e : (ℕ × List ℕ) × Option (Live Target)). e.0))
 
 -- what has the same names, and chains that keep theirs, is listed as it was
-pub listed_kept : (old new : Lives) → names_of new ≡ names_of old → Keeps nat_eq (length (names_of old)) old.of_directory new.of_directory → AreListed old → AreListed new
+pub listed_kept : (old new : Lives) → names_of new ≡ names_of old → Keeps (length (names_of old)) old.in_directory new.in_directory → AreListed old → AreListed new
 listed_kept old new are keeps was = record {
   few = rw are was.few;
-  each = rw are (chained_kept nat_eq (λ name. name.0) (slice_get (names_of old)) (0, []) (length (names_of old)) (λ s le. slice_get_past (names_of old) s le) old.of_directory new.of_directory keeps was.each);
+  each = rw are (chained_kept stands_in (slice_get (names_of old)) (length (names_of old)) (λ s le. slice_get_past (names_of old) s le) old.in_directory new.in_directory keeps was.each);
 }
 
-pub listed_same : (old new : Lives) → names_of new ≡ names_of old → new.of_directory ≡ old.of_directory → AreListed old → AreListed new
-listed_same old new are same was = record { few = rw are was.few; each = rw (are, same) was.each }
+pub listed_told : (old new : Lives) → names_of new ≡ names_of old → ((g : ℕ) → newest_in new.in_directory g ≡ newest_in old.in_directory g) → new.in_directory.older ≡ old.in_directory.older → AreListed old → AreListed new
+listed_told old new are newest older was = record {
+  few = rw are was.few;
+  each = rw are (chained_told stands_in (slice_get (names_of old)) old.in_directory new.in_directory newest older was.each);
+}
 
 -- no names
-pub listed_none : (new : Lives) → new.by_name.entries ≡ [] → ((d : ℕ) → get nat_eq new.of_directory.newest d ≡ None) → AreListed new
-listed_none new none empty = record { few = rw none (omega arith); each = chained_none nat_eq (λ name. name.0) (slice_get (names_of new)) new.of_directory (λ s. rw none refl) empty }
+pub listed_none : (new : Lives) → new.by_name.entries ≡ [] → ((d : ℕ) → newest_in new.in_directory d ≡ None) → AreListed new
+listed_none new none empty = record { few = rw none (omega arith); each = rw none (chained_none stands_in new.in_directory empty) }
+
+-- the directory of a name that was given has one
+pub has_names : (lives : Lives) (d : ℕ) (n : List ℕ) → place_in (names_of lives) d n < length (names_of lives) → AreListed lives → IsSome (newest_in lives.in_directory d)
+has_names lives d n known listed = newest_known stands_in (slice_get (names_of lives)) (d, n) (place_in (names_of lives) d n) (at_place (names_of lives) d n known) d (itself d) lives.in_directory (omega (arith, known, listed.few)) listed.each where
+  itself : (d : ℕ) → nat_eq d d ≡ true
+  itself d = grind (arith, nat_tests)

@@ -1,11 +1,13 @@
 -- A row between others that dies, or leaves.
-use Rattle.ele_names.proofs.Basics.{◌≡◌, ℕ, ◌≤◌, ◌<◌, ◌^◌, Bool, true, false, cond, not, List, [], ◌∷◌, ◌++◌, length, filter, Some, None, Option, is_none, refl, sym, ap, ◌∙◌, arith, length-append, nat_cmp, is_at, insert_entry, get, keys_of, values_of, remove_entry, option_map, option_map_or, true≢false, false≢true, nat_cmp_total, map-append, update_first, value_at, all-append, all-around, all-mid, all-exchange, later-around, later-without, later-exchange, update_first-at, all-weaker, lookup-insert_entry, filter-all, index_change, IsSplitAt, split_at, all_keys_without, all_from_each, found_key}
-use Rattle.ele_names.proofs.Words.{last_moment, NameRow, Target, is_named, is_live_name, Lives, Inside, Table, AreCounted, AreNumbered, Leaves, IsKept, rows_of, ArePlaced, AreListed, names_of, number_in, Follows, dies, IsLast, IsLastBelow, stands_for, is_other, target_eq}
+use Rattle.ele_names.proofs.Basics.{◌≡◌, ℕ, ◌-◌, ◌≤◌, ◌<◌, ◌^◌, Bool, true, false, cond, not, List, [], ◌∷◌, ◌++◌, length, filter, Some, None, Option, is_none, refl, sym, subst, ap, ◌∙◌, arith, length-append, nat_cmp, is_at, insert_entry, keys_of, values_of, remove_entry, option_map, option_map_or, nat_tests, true≢false, false≢true, nat_cmp_total, map-append, update_first, value_at, all-append, all-around, all-mid, all-exchange, later-around, later-without, later-exchange, update_first-at, all-weaker, lookup-insert_entry, filter-all, index_change, IsSplitAt, split_at, all_keys_without, all_from_each, found_key}
+use Rattle.ele_names.proofs.Words.{last_moment, NameRow, Target, File, Directory, is_named, is_live_name, is_target_file, live_target, live_at, Live, Lives, place_in, Inside, Table, AreCounted, AreNumbered, Leaves, IsKept, rows_of, ArePlaced, AreListed, names_of, number_in, Follows, dies, IsLast, IsLastBelow, is_member, is_of, is_live_of, live_of, newest_in, target_eq}
 use Rattle.ele_names.proofs.Added.{placed_same}
-use Rattle.ele_names.proofs.Apart.{named_dead, named_live, same_name}
-use Rattle.ele_names.proofs.Chained.{chained_same, same_target}
-use Rattle.ele_names.proofs.Counts.{leaves_without, leaves_dead}
-use Rattle.ele_names.proofs.Live.{same_serial}
+use Rattle.ele_names.proofs.Apart.{named_and_live, named_dead, named_live, same_name}
+use Rattle.ele_names.specs.Chained.{AreChained}
+use Rattle.ele_names.proofs.Chained.{chained_same}
+use Rattle.ele_names.proofs.Counts.{leaves_without, leaves_dead, live_one, target_without}
+use Rattle.ele_names.proofs.Live.{LiveRow, same_serial, stands_live}
+use Rattle.ele_names.proofs.Numbers.{named_place}
 use Rattle.ele_names.proofs.Numbering.{rises_without, gone_at}
 
 filter_between : {X : Type 0} (p : X → Bool) (before : List X) (x : X) (behind : List X) → p x ≡ false → filter p (before ++ x ∷ behind) ≡ filter p (before ++ behind)
@@ -40,6 +42,10 @@ module _ (a : Inside) (kept : IsKept a.table a.lives) where
     c : IsSplitAt es s row
     c = split_at es s row kept.is_table.rising at
 
+    -- what is live of its name is what it stands for
+    pub live_target_is : (d : ℕ) (n : List ℕ) → is_live_name d n row ≡ true → live_target (rows_of a.table) d n ≡ Some row.target
+    live_target_is d n live = rw c.values ((leaves_without row c.before c.behind (rw c.values at kept.is_table.apart)).its d n live)
+
     module _ (live : is_none row.death ≡ true) (moment : ℕ) where
       -- nothing of its name follows a live row
       over : (b : NameRow) → Follows row b → Follows (dies moment row) b
@@ -47,25 +53,29 @@ module _ (a : Inside) (kept : IsKept a.table a.lives) where
         no : {A : Type 0} → row.directory ≡ b.directory → row.name ≡ b.name → A
         no d n = let dead : is_none row.death ≡ false = rw (follows.apart d n).1 refl in absurd (true≢false (sym live ∙ dead))
 
-      pub kept_dead : (t : Table) (lives : Lives) → names_of lives ≡ names → AreListed lives → t.places ≡ a.table.places → t.rows.entries ≡ insert_entry nat_cmp es s (dies moment row)
+      pub kept_dead : (t : Table) (lives : Lives) → names_of lives ≡ names → AreListed lives → t.places.by_name ≡ a.table.places.by_name → (AreChained is_of (value_at es) a.table.places.of_file → AreChained is_of (value_at es) t.places.of_file)
+          → t.rows.entries ≡ insert_entry nat_cmp es s (dies moment row)
           → ((was now : List NameRow) → Leaves row was now → AreCounted was a.lives → AreCounted now lives)
           → ((at to : ℕ → Option NameRow) (serial : ℕ) → at serial ≡ Some row → ((s : ℕ) → is_at (nat_cmp serial) s ≡ false → to s ≡ at s) → AreNumbered at a.lives → AreNumbered to lives)
+          → ((target : Target) → live_of t.places target ≡ live_of a.table.places target - cond (target_eq row.target target) 1 0)
           → IsKept t lives
-      kept_dead t lives same listed places is counts numbered = record {
+      kept_dead t lives same listed by_name chained is counts numbered live_now = record {
         is_table = rw same (record {
           rising = rw keys_are kept.is_table.rising;
           short = rw keys_are kept.is_table.short;
           born = rw rows_are (let born = rw c.values at kept.is_table.born in all-exchange (λ row. row.birth ≤ last_moment) c.before row (dies moment row) c.behind (all-mid (λ row. row.birth ≤ last_moment) c.before row c.behind born) born);
           apart = rw rows_are (later-exchange Follows c.before row (dies moment row) c.behind (λ b h. record { apart = h.apart; born = h.born }) (λ rows. all-weaker (Follows row) (Follows (dies moment row)) rows over) (rw c.values at kept.is_table.apart));
           known = rw rows_are (let known = rw c.values at kept.is_table.known in all-exchange (λ row. number_in names row < length names) c.before row (dies moment row) c.behind (all-mid (λ row. number_in names row < length names) c.before row c.behind known) known);
-          placed = rw places (record {
-            named = index_change (value_at t.rows.entries) s row (dies moment row) a.table.places.by_name kept.is_table.placed.named at (λ q r. refl) now;
-            targeted = chained_same target_eq (λ row. row.target) (value_at es) (value_at t.rows.entries) a.table.places.of_target (λ k. targets k) kept.is_table.placed.targeted;
-          });
+          placed = record {
+            named = rw by_name (index_change (value_at t.rows.entries) s row (dies moment row) a.table.places.by_name kept.is_table.placed.named at (λ q r. refl) now);
+            chained = chained_same is_of (value_at es) (value_at t.rows.entries) t.places.of_file (λ g k. targets g k) (chained kept.is_table.placed.chained);
+          };
         });
         listed = listed;
-        counts = rw rows_are (counts (rows_of a.table) (c.before ++ dies moment row ∷ c.behind) (rw c.values (leaves_dead row c.before c.behind (rw c.values at kept.is_table.apart) (dies moment row) refl)) kept.counts);
+        counts = rw rows_are (counts (rows_of a.table) (c.before ++ dies moment row ∷ c.behind) leaves kept.counts);
         numbered = numbered (value_at es) (value_at t.rows.entries) s at (λ k e. now k ∙ rw e refl) kept.numbered;
+        targets = rw rows_are (λ target. target_without target row (rows_of a.table) (c.before ++ dies moment row ∷ c.behind) leaves (live_of a.table.places target) (live_of t.places target) (kept.targets target)
+            (live_now target ∙ ap (λ (m : ℕ). live_of a.table.places target - m) (sym (live_one (target_eq row.target target) (is_none row.death) live))));
       } where
         rows_are : rows_of t ≡ c.before ++ dies moment row ∷ c.behind
         rows_are = ap values_of is ∙ c.set (dies moment row)
@@ -73,8 +83,11 @@ module _ (a : Inside) (kept : IsKept a.table a.lives) where
         now : (k : ℕ) → value_at t.rows.entries k ≡ cond (is_at (nat_cmp s) k) (Some (dies moment row)) (value_at es k)
         now k = ap (λ entries. value_at entries k) is ∙ lookup-insert_entry nat_cmp_total k es s (dies moment row)
 
-        targets : (k : ℕ) → option_map (λ row. row.target) (value_at t.rows.entries k) ≡ option_map (λ row. row.target) (value_at es k)
-        targets k = ap (option_map (λ row. row.target)) (now k) ∙ elim (is_at (nat_cmp s) k) as (λ b. is_at (nat_cmp s) k ≡ b → option_map (λ row. row.target) (cond b (Some (dies moment row)) (value_at es k)) ≡ option_map (λ row. row.target) (value_at es k)) [
+        leaves : Leaves row (rows_of a.table) (c.before ++ dies moment row ∷ c.behind)
+        leaves = rw c.values (leaves_dead row c.before c.behind (rw c.values at kept.is_table.apart) (dies moment row) refl)
+
+        targets : (g k : ℕ) → is_member is_of (value_at t.rows.entries) g k ≡ is_member is_of (value_at es) g k
+        targets g k = ap (λ o. option_map_or (is_of g) o false) (now k) ∙ elim (is_at (nat_cmp s) k) as (λ b. is_at (nat_cmp s) k ≡ b → option_map_or (is_of g) (cond b (Some (dies moment row)) (value_at es k)) false ≡ is_member is_of (value_at es) g k) [
           | true ↦ λ e. rw (← same_serial s k e, at) refl
           | false ↦ λ e. refl
         ] refl
@@ -95,8 +108,9 @@ module _ (a : Inside) (kept : IsKept a.table a.lives) where
         → (ArePlaced names (value_at es) a.table.places → ArePlaced names (λ k. cond (is_at (nat_cmp s) k) None (value_at es k)) t.places)
         → ((was now : List NameRow) → Leaves row was now → AreCounted was a.lives → AreCounted now lives)
         → ((at to : ℕ → Option NameRow) (serial : ℕ) → at serial ≡ Some row → ((s : ℕ) → is_at (nat_cmp serial) s ≡ false → to s ≡ at s) → AreNumbered at a.lives → AreNumbered to lives)
+        → ((target : Target) → live_of t.places target ≡ live_of a.table.places target - cond (is_live_of target row) 1 0)
         → IsKept t lives
-    kept_without t lives same listed is placed counts numbered = record {
+    kept_without t lives same listed is placed counts numbered live_now = record {
       is_table = rw same (record {
         rising = rw is (rises_without (is_at (nat_cmp s)) es kept.is_table.rising);
         short = rw is (all_keys_without (λ k. k < 2 ^ 64) (is_at (nat_cmp s)) es kept.is_table.short);
@@ -106,9 +120,13 @@ module _ (a : Inside) (kept : IsKept a.table a.lives) where
         placed = placed_same names (λ k. cond (is_at (nat_cmp s) k) None (value_at es k)) (value_at t.rows.entries) t.places now (placed kept.is_table.placed);
       });
       listed = listed;
-      counts = rw rows_are (counts (rows_of a.table) (c.before ++ c.behind) (rw c.values (leaves_without row c.before c.behind (rw c.values at kept.is_table.apart))) kept.counts);
+      counts = rw rows_are (counts (rows_of a.table) (c.before ++ c.behind) leaves kept.counts);
       numbered = numbered (value_at es) (value_at t.rows.entries) s at (λ k e. now k ∙ rw e refl) kept.numbered;
+      targets = rw rows_are (λ target. target_without target row (rows_of a.table) (c.before ++ c.behind) leaves (live_of a.table.places target) (live_of t.places target) (kept.targets target) (live_now target));
     } where
+      leaves : Leaves row (rows_of a.table) (c.before ++ c.behind)
+      leaves = rw c.values (leaves_without row c.before c.behind (rw c.values at kept.is_table.apart))
+
       now : (k : ℕ) → value_at t.rows.entries k ≡ cond (is_at (nat_cmp s) k) None (value_at es k)
       now k = ap (λ entries. value_at entries k) is ∙ gone_at s k es kept.is_table.rising
 
@@ -118,37 +136,53 @@ module _ (a : Inside) (kept : IsKept a.table a.lives) where
     pub fewer : length (values_of (remove_entry (is_at (nat_cmp s)) es)) < length (rows_of a.table)
     fewer = rw (c.without, c.values) (omega (arith, length-append c.before c.behind, length-append c.before (row ∷ c.behind)))
 
-    pub others_stay : (target : Target) → is_other target row ≡ false → filter (is_other target) (values_of (remove_entry (is_at (nat_cmp s)) es)) ≡ filter (is_other target) (rows_of a.table)
-    others_stay target its = rw (c.without, c.values) (sym (filter_between (is_other target) c.before row c.behind its))
+    pub others_stay : (file : ℕ) → is_of file row ≡ true → filter (λ row. not (is_of file row)) (values_of (remove_entry (is_at (nat_cmp s)) es)) ≡ filter (λ row. not (is_of file row)) (rows_of a.table)
+    others_stay file its = rw (c.without, c.values) (sym (filter_between (λ row. not (is_of file row)) c.before row c.behind (ap not its)))
 
-  module _ (target : Target) (found : Option ℕ) (is : found ≡ get target_eq a.table.places.of_target.newest target) where
-    last : IsLastBelow (stands_for (value_at es) target) (2 ^ 64) found
-    last = rw is (kept.is_table.placed.targeted.newest target)
+  -- the live row of a name
+  module _ (d : ℕ) (n : List ℕ) (live : Live Target) (is : live_at a.lives d n ≡ Some live) where
+    pub found : LiveRow (value_at es) d n live.serial
+    found = stands_live (value_at es) a.lives kept.numbered d n live is
+
+    pub its_name : (is_named d n found.row ≡ true) × (is_none found.row.death ≡ true)
+    its_name = named_and_live d n found.row found.live
+
+    pub found_known : place_in names d n < length names
+    found_known = subst (λ p. p < length names) (named_place names d n found.row its_name.0) (row_known live.serial found.row found.there)
+
+    pub found_target : live.target ≡ found.row.target
+    found_target =
+        let both : Some live.target ≡ Some found.row.target = ap (option_map (λ live. live.target)) (sym is) ∙ kept.counts.named d n ∙ live_target_is live.serial found.row found.there d n found.live in
+        cc
+
+  module _ (file : ℕ) (found : Option ℕ) (is : found ≡ newest_in a.table.places.of_file file) where
+    last : IsLastBelow (is_member is_of (value_at es) file) (2 ^ 64) found
+    last = rw is (kept.is_table.placed.chained.newest file)
 
     -- a row has a number that fits
     fits : (s : ℕ) (row : NameRow) → value_at es s ≡ Some row → s < 2 ^ 64
     fits s row at = found_key (λ k. k < 2 ^ 64) es s row kept.is_table.short at
 
-    pub none_of_target : found ≡ None → filter (is_other target) (rows_of a.table) ≡ rows_of a.table
-    none_of_target none = filter-all (is_other target) (rows_of a.table) (all_from_each (λ row. is_other target row ≡ true) es kept.is_table.rising (λ s row at.
-        ap not (sym (ap (λ o. option_map_or (λ row. target_eq row.target target) o false) at) ∙ (rw none at last) s (fits s row at))))
+    pub none_of_file : found ≡ None → filter (λ row. not (is_of file row)) (rows_of a.table) ≡ rows_of a.table
+    none_of_file none = filter-all (λ row. not (is_of file row)) (rows_of a.table) (all_from_each (λ row. not (is_of file row) ≡ true) es kept.is_table.rising (λ s row at.
+        ap not (sym (ap (λ o. option_map_or (is_of file) o false) at) ∙ (rw none at last) s (fits s row at))))
 
     module _ (s : ℕ) (there : found ≡ Some s) where
-      newest : IsLast (stands_for (value_at es) target) (2 ^ 64) s
+      newest : IsLast (is_member is_of (value_at es) file) (2 ^ 64) s
       newest = rw there at last
 
       pub row_there : value_at es s ≡ None → ⊥
-      row_there at = false≢true (sym (ap (λ o. option_map_or (λ row. target_eq row.target target) o false) at) ∙ newest.there)
+      row_there at = false≢true (sym (ap (λ o. option_map_or (is_of file) o false) at) ∙ newest.there)
 
       module _ (row : NameRow) (at : value_at es s ≡ Some row) where
-        its : target_eq row.target target ≡ true
-        its = sym (ap (λ o. option_map_or (λ row. target_eq row.target target) o false) at) ∙ newest.there
+        pub its_file : is_of file row ≡ true
+        its_file = sym (ap (λ o. option_map_or (is_of file) o false) at) ∙ newest.there
 
-        pub its_target : is_other target row ≡ false
-        its_target = ap not its
-
-        pub is_newest : (k : ℕ) → s < k → stands_for (value_at es) row.target k ≡ false
-        is_newest k over = rw (same_target row.target target its) (elim (value_at es k) as (λ o. value_at es k ≡ o → option_map_or (λ row. target_eq row.target target) o false ≡ false) [
+        pub is_newest : (f k : ℕ) → is_of f row ≡ true → s < k → is_member is_of (value_at es) f k ≡ false
+        is_newest f k its over = rw (one_file row.target f file its its_file) (elim (value_at es k) as (λ o. value_at es k ≡ o → option_map_or (is_of file) o false ≡ false) [
           | None ↦ λ e. refl
-          | Some other ↦ λ e. sym (ap (λ o. option_map_or (λ row. target_eq row.target target) o false) e) ∙ newest.last k over (fits k other e)
-        ] refl)
+          | Some other ↦ λ e. sym (ap (λ o. option_map_or (is_of file) o false) e) ∙ newest.last k over (fits k other e)
+        ] refl) where
+          one_file : (target : Target) (f g : ℕ) → is_target_file f target ≡ true → is_target_file g target ≡ true → f ≡ g
+          one_file (File file) f g a b = grind (arith, nat_tests)
+          one_file (Directory directory) f g a b = absurd (false≢true a)

@@ -1,33 +1,45 @@
 -- The live rows by directory and name, where one comes or goes.
-use Rattle.ele_names.proofs.Basics.{◌≡◌, ℕ, true, false, cond, List, Some, None, Option, is_none, refl, sym, ap, ◌∙◌, arith, nat_eq, option_and_then, option_map, option_map_or, nat_cmp, is_at, true≢false, false≢true, nat_tests, counted, at_itself}
-use Rattle.ele_names.proofs.Words.{NameRow, Target, is_named, is_live_name, live_target, Live, Lives, AreCounted, AreNumbered, Leaves, live_at, target_eq}
-use Rattle.ele_names.proofs.Apart.{named_and_live, named_dead, named_live}
+use Rattle.ele_names.proofs.Basics.{◌≡◌, ℕ, Bool, true, false, cond, List, Some, None, Option, is_none, refl, sym, ap, ◌∙◌, arith, option_and_then, option_map, option_map_or, nat_cmp, is_at, true≢false, false≢true, nat_tests, at_itself}
+use Rattle.ele_names.proofs.Words.{NameRow, Target, is_named, is_live_name, live_target, Live, Lives, AreCounted, AreNumbered, Leaves, live_at, name_eq}
+use Rattle.ele_names.specs.Chained.{live_in}
+use Rattle.ele_names.proofs.Apart.{named_dead, named_live}
+use Rattle.ele_names.proofs.Numbers.{exact, itself}
 
 pub same_serial : (a b : ℕ) → is_at (nat_cmp a) b ≡ true → a ≡ b
 same_serial a b h = grind (arith, nat_tests)
 
-abbrev pub target_of : Option Live → Option Target
+abbrev pub target_of : Option (Live Target) → Option Target
 target_of found = option_map (λ live. live.target) found
 
--- what says the same of each name is of the same rows
+-- what says the same of each name and directory is of the same rows
 pub counted_same : (rows : List NameRow) (old new : Lives) → ((d : ℕ) (n : List ℕ) → live_at new d n ≡ live_at old d n)
-    → ((d : ℕ) → counted nat_eq new.in_directory d ≡ counted nat_eq old.in_directory d) → ((t : Target) → counted target_eq new.of_target t ≡ counted target_eq old.of_target t)
-    → AreCounted rows old → AreCounted rows new
-counted_same rows old new named directories targets was = grind (arith, nat_tests)
+    → ((d : ℕ) → live_in new.in_directory d ≡ live_in old.in_directory d) → AreCounted rows old → AreCounted rows new
+counted_same rows old new named directories was = grind (arith, nat_tests)
 
 pub numbered_same : (at to : ℕ → Option NameRow) (old new : Lives) → ((s : ℕ) → to s ≡ at s) → ((d : ℕ) (n : List ℕ) → live_at new d n ≡ live_at old d n) → AreNumbered at old → AreNumbered to new
 numbered_same at to old new same named was = record { each = λ d n live is. rw (same live.serial) (was.each d n live (sym (named d n) ∙ is)) }
+
+-- what is set of a name
+pub live_set : (b : Bool) (live : Option (Live Target)) (o p : Option (Option (Live Target))) → p ≡ cond b (Some live) o → option_and_then (λ live. live) p ≡ cond b live (option_and_then (λ live. live) o)
+live_set true live o p changed = ap (option_and_then (λ live. live)) changed
+live_set false live o p changed = ap (option_and_then (λ live. live)) changed
+
+pub own_name : (row : NameRow) → is_named row.directory row.name row ≡ true
+own_name row = itself (row.directory, row.name)
+
+-- a row has a name where it has that of the row
+named_alike : (row : NameRow) (d : ℕ) (n : List ℕ) → is_named d n row ≡ true → (e : ℕ) (m : List ℕ) → is_named e m row ≡ name_eq (d, n) (e, m)
+named_alike row d n named e m = ap (λ (k : ℕ × List ℕ). name_eq k (e, m)) (exact (row.directory, row.name) (d, n) named)
+
+pub set_of_name : (row : NameRow) (d : ℕ) (n : List ℕ) → is_named d n row ≡ true → (e : ℕ) (m : List ℕ) (live o p : Option (Live Target)) → p ≡ cond (name_eq (d, n) (e, m)) live o → p ≡ cond (is_named e m row) live o
+set_of_name row d n named e m live o p changed = rw (named_alike row d n named e m) changed
 
 module _ (row : NameRow) (d : ℕ) (n : List ℕ) where
   unnamed : is_named d n row ≡ false → is_live_name d n row ≡ false
   unnamed e = named_dead d n row (λ is. absurd (true≢false (sym is ∙ e)))
 
-  -- what is set of the row's name
-  pub live_set : (live : Option Live) (o p : Option (Option Live)) → p ≡ cond (is_named d n row) (Some live) o → option_and_then (λ live. live) p ≡ cond (is_named d n row) live (option_and_then (λ live. live) o)
-  live_set live o p changed = ap (option_and_then (λ live. live)) changed ∙ elim (is_named d n row) as (λ b. option_and_then (λ live. live) (cond b (Some live) o) ≡ cond b live (option_and_then (λ live. live) o)) [ true ↦ refl | false ↦ refl ]
-
   -- the row's name is live now
-  pub entered : (was now : List NameRow) → Leaves row now was → is_none row.death ≡ true → (live : Live) (o p : Option Live) → p ≡ cond (is_named d n row) (Some live) o → live.target ≡ row.target
+  pub entered : (was now : List NameRow) → Leaves row now was → is_none row.death ≡ true → (live : Live Target) (o p : Option (Live Target)) → p ≡ cond (is_named d n row) (Some live) o → live.target ≡ row.target
       → target_of o ≡ live_target was d n → target_of p ≡ live_target now d n
   entered was now leaves lives live o p changed target before = elim (is_named d n row) as (λ b. is_named d n row ≡ b → target_of p ≡ live_target now d n) [
     | true ↦ λ e. let here : p ≡ Some live = changed ∙ rw e refl in ap target_of here ∙ ap Some target ∙ sym (leaves.its d n (named_live d n row e lives))
@@ -35,7 +47,7 @@ module _ (row : NameRow) (d : ℕ) (n : List ℕ) where
   ] refl
 
   -- or is live no more
-  pub left : (was now : List NameRow) → Leaves row was now → is_none row.death ≡ true → (o p : Option Live) → p ≡ cond (is_named d n row) None o
+  pub left : (was now : List NameRow) → Leaves row was now → is_none row.death ≡ true → (o p : Option (Live Target)) → p ≡ cond (is_named d n row) None o
       → target_of o ≡ live_target was d n → target_of p ≡ live_target now d n
   left was now leaves lives o p changed before = grind (arith, nat_tests, is_named, live_target, named_live, unnamed)
 
@@ -43,12 +55,12 @@ module _ (row : NameRow) (d : ℕ) (n : List ℕ) where
   dead_left was now leaves dead = sym (leaves.named d n ∙ rw (named_dead d n row (λ _. dead)) refl)
 
   -- what is there without the row was there, and isn't the row
-  pub others_live : (o p : Option Live) (live : Live) → p ≡ cond (is_named d n row) None o → p ≡ Some live → (o ≡ Some live) × (is_live_name d n row ≡ false)
+  pub others_live : (o p : Option (Live Target)) (live : Live Target) → p ≡ cond (is_named d n row) None o → p ≡ Some live → (o ≡ Some live) × (is_live_name d n row ≡ false)
   others_live o p live changed is = grind (arith, nat_tests, is_named, is_live_name, unnamed)
 
 module _ (row : NameRow) (serial : ℕ) (at : ℕ → Option NameRow) (old new : Lives) (was : AreNumbered at old) where
   -- a live row of a new serial number
-  pub numbered_with : at serial ≡ None → is_none row.death ≡ true → (entry : Live) → entry.serial ≡ serial
+  pub numbered_with : at serial ≡ None → is_none row.death ≡ true → (entry : Live Target) → entry.serial ≡ serial
       → ((d : ℕ) (n : List ℕ) → live_at new d n ≡ cond (is_named d n row) (Some entry) (live_at old d n))
       → AreNumbered (λ s. cond (is_at (nat_cmp serial) s) (Some row) (at s)) new
   numbered_with fresh lives entry own changed = record { each = each } where
@@ -61,21 +73,21 @@ module _ (row : NameRow) (serial : ℕ) (at : ℕ → Option NameRow) (old new :
       | false ↦ λ f. known
     ] refl
 
-    each : (d : ℕ) (n : List ℕ) (live : Live) → live_at new d n ≡ Some live → option_map_or (is_live_name d n) (cond (is_at (nat_cmp serial) live.serial) (Some row) (at live.serial)) false ≡ true
+    each : (d : ℕ) (n : List ℕ) (live : Live Target) → live_at new d n ≡ Some live → option_map_or (is_live_name d n) (cond (is_at (nat_cmp serial) live.serial) (Some row) (at live.serial)) false ≡ true
     each d n live is = elim (is_named d n row) as (λ b. is_named d n row ≡ b → option_map_or (is_live_name d n) (cond (is_at (nat_cmp serial) live.serial) (Some row) (at live.serial)) false ≡ true) [
       | true ↦ λ e.
           let both : Some entry ≡ Some live = sym (changed d n ∙ rw e refl) ∙ is in
           let same : entry ≡ live = cc in
-          here d n live.serial (sym (ap (λ (l : Live). l.serial) same) ∙ own) e
+          here d n live.serial (sym (ap (λ (l : Live Target). l.serial) same) ∙ own) e
       | false ↦ λ e. elsewhere d n live.serial (was.each d n live (sym (changed d n ∙ rw e refl) ∙ is))
     ] refl
 
   -- the row dies or leaves
   pub numbered_without : (to : ℕ → Option NameRow) → at serial ≡ Some row → ((s : ℕ) → is_at (nat_cmp serial) s ≡ false → to s ≡ at s)
-      → ((d : ℕ) (n : List ℕ) (live : Live) → live_at new d n ≡ Some live → (live_at old d n ≡ Some live) × (is_live_name d n row ≡ false))
+      → ((d : ℕ) (n : List ℕ) (live : Live Target) → live_at new d n ≡ Some live → (live_at old d n ≡ Some live) × (is_live_name d n row ≡ false))
       → AreNumbered to new
   numbered_without to there elsewhere others = record { each = each } where
-    each : (d : ℕ) (n : List ℕ) (live : Live) → live_at new d n ≡ Some live → option_map_or (is_live_name d n) (to live.serial) false ≡ true
+    each : (d : ℕ) (n : List ℕ) (live : Live Target) → live_at new d n ≡ Some live → option_map_or (is_live_name d n) (to live.serial) false ≡ true
     each d n live is =
         let other = others d n live is in
         let known = was.each d n live other.0 in
@@ -84,10 +96,14 @@ module _ (row : NameRow) (serial : ℕ) (at : ℕ → Option NameRow) (old new :
           | false ↦ λ f. rw (elsewhere live.serial f) known
         ] refl
 
-module _ (at : ℕ → Option NameRow) (lives : Lives) (numbered : AreNumbered at lives) (d : ℕ) (n : List ℕ) (live : Live) (found : Some live ≡ live_at lives d n) where
-  -- a live row stands at its serial number
-  pub stands_live : None ≡ at live.serial → ⊥
-  stands_live none = false≢true (rw (← none) at (numbered.each d n live (sym found)))
+-- a live row of the name stands at the serial number
+pub record LiveRow (at : ℕ → Option NameRow) (d : ℕ) (n : List ℕ) (s : ℕ) : Type 0 where
+  pub row : NameRow
+  pub there : at s ≡ Some row
+  pub live : is_live_name d n row ≡ true
 
-  pub row_of_live : (row : NameRow) → Some row ≡ at live.serial → (is_named d n row ≡ true) × (is_none row.death ≡ true)
-  row_of_live row is = named_and_live d n row (rw (← is) at (numbered.each d n live (sym found)))
+pub stands_live : (at : ℕ → Option NameRow) (lives : Lives) → AreNumbered at lives → (d : ℕ) (n : List ℕ) (live : Live Target) → live_at lives d n ≡ Some live → LiveRow at d n live.serial
+stands_live at lives numbered d n live found = by (at live.serial) refl (numbered.each d n live found) where
+  by : (o : Option NameRow) → at live.serial ≡ o → option_map_or (is_live_name d n) o false ≡ true → LiveRow at d n live.serial
+  by None there known = absurd (false≢true known)
+  by (Some row) there known = record { row = row; there = there; live = known }

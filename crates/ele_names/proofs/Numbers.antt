@@ -1,13 +1,13 @@
 -- The numbers of names.
 use Rattle.ele_names.proofs.Basics.{◌≡◌, ℕ, suc, ◌+◌, ◌<◌, Bool, true, false, cond, not, ◌==◌, eqb, nat_lt, List, [], ◌∷◌, ◌++◌, length, slice_get, position, is_some, Option, Some, None, length-append, refl, sym, ap, ◌∙◌, ◌⊎◌, arith, list_any, HashMap, get, keys, false≢true, true≢false, cases_lt, nat_tests, position_or_len_push, prefix_len-le-length, bytes_eq-Decides, some_index}
-use Rattle.ele_names.proofs.Words.{NameRow, is_named, Live, name_eq, place_in, number_in, KeepsPlaces}
+use Rattle.ele_names.proofs.Words.{NameRow, Target, is_named, Live, name_eq, place_in, number_in, KeepsPlaces}
 use Rattle.std.proofs.Common.{bytes_eq}
 use Rattle.ele_names.proofs.Apart.{split, equal}
 
 pub exact : (k q : ℕ × List ℕ) → name_eq k q ≡ true → k ≡ q
 exact k q h = let parts = split (k.0 == q.0) (bytes_eq k.1 q.1) h in let d = equal k.0 q.0 parts.0 in let n = (bytes_eq-Decides k.1 q.1).0 parts.1 in rw (d, n) refl
 
-itself : (k : ℕ × List ℕ) → name_eq k k ≡ true
+pub itself : (k : ℕ × List ℕ) → name_eq k k ≡ true
 itself k = grind (arith, nat_tests, bytes_eq-Decides)
 
 other : (k q x : ℕ × List ℕ) → k ≡ x → name_eq q x ≡ false → name_eq k q ≡ false
@@ -86,7 +86,7 @@ module _ (names : List (ℕ × List ℕ)) where
   pub unnumbered : (d : ℕ) (n : List ℕ) → None ≡ position (name_eq (d, n)) names → place_in names d n ≡ length names
   unnumbered d n none = grind (arith, nat_tests, none, place_in, prefix_len-le-length, not, name_eq, nat_lt)
 
-module _ {S : Type 0} (by_name : HashMap (ℕ × List ℕ) (Option Live) S) (d : ℕ) (n : List ℕ) where
+module _ {S : Type 0} (by_name : HashMap (ℕ × List ℕ) (Option (Live Target)) S) (d : ℕ) (n : List ℕ) where
   among : is_some (position (name_eq (d, n)) (keys by_name)) ≡ is_some (get name_eq by_name (d, n))
   among = some_index (name_eq (d, n)) by_name.entries
 

@@ -4,11 +4,10 @@ use Rattle.ele_names.proofs.Words.{Target, target_at, last_dead, Inside, by_name
 use Rattle.std.specs.Cmp.{nat_cmp_total}
 use Rattle.std.specs.Prelude.{nat_le, IfSome}
 use Rattle.std.specs.Bool.{nat_eq}
-use Rattle.std.specs.HashMap.{get}
 use Rattle.std.specs.Option.{option_and_then}
 use Rattle.std.proofs.lemmas.Bool.{cases_lt}
 use Rattle.std.proofs.lemmas.Bool.Decides.{nat_tests}
-use Rattle.ele_names.specs.Chained.{IsLastBelow, is_member}
+use Rattle.ele_names.specs.Chained.{IsLastBelow, is_member, newest_in}
 use Rattle.ele_names.proofs.Apart.{covering_is_newest, born_by_end, equal}
 use Rattle.ele_names.proofs.Newest.{none_known}
 use Rattle.ele_names.proofs.Numbers.{exact, known, any_known, at_place}
@@ -77,13 +76,13 @@ module _ (a : Inside) (kept : IsKept a.table a.lives) where
 
   module _ (moment d : ℕ) where
     abbrev in_directory : ℕ → Bool
-    in_directory = is_member nat_eq (λ name. name.0) (slice_get names) d
+    in_directory = is_member (λ d name. nat_eq name.0 d) (slice_get names) d
 
     -- a name that was given is one of its directory
     listed : (n : List ℕ) → place_in names d n < length names → in_directory (place_in names d n) ≡ true
     listed n inside = grind (arith, nat_tests, at_place)
 
-    pub list_begun : (next : Option ℕ) → next ≡ get nat_eq a.lives.of_directory.newest d → AreTold (slice_cmp nat_cmp) (target_at (rows_of a.table) moment d) (is_left names d next) []
+    pub list_begun : (next : Option ℕ) → next ≡ newest_in a.lives.in_directory d → AreTold (slice_cmp nat_cmp) (target_at (rows_of a.table) moment d) (is_left names d next) []
     list_begun next is n = elim (known names d n) as (λ _. (◌≡◌ {A = Option Target} None (target_at (rows_of a.table) moment d n)) ⊎ ((◌≡◌ {A = Option Target} None None) × (is_left names d next n ≡ true))) [
       | inl inside ↦ inr (refl, not_above in_directory (2 ^ 64) (place_in names d n) next (rw is (kept.listed.each.newest d)) (listed n inside) (omega (arith, inside, kept.listed.few)))
       | inr unknown ↦ inl (sym (never_at moment d n unknown))
@@ -94,18 +93,18 @@ module _ (a : Inside) (kept : IsKept a.table a.lives) where
     some bound (Some r) last = last.there
 
     -- the next to come is of the directory
-    pub list_first : (next : Option ℕ) → next ≡ get nat_eq a.lives.of_directory.newest d → IfSome next (λ r. in_directory r ≡ true)
+    pub list_first : (next : Option ℕ) → next ≡ newest_in a.lives.in_directory d → IfSome next (λ r. in_directory r ≡ true)
     list_first next is = some (2 ^ 64) next (rw is (kept.listed.each.newest d))
 
     pub list_stands : (r : ℕ) → in_directory r ≡ true → None ≡ slice_get names r → ⊥
     list_stands r there none = false≢true (rw (← none) at there)
 
-    module _ (r : ℕ) (name : ℕ × List ℕ) (is : Some name ≡ slice_get names r) (there : in_directory r ≡ true) (next : Option ℕ) (before : next ≡ option_and_then (λ o. o) (slice_get a.lives.of_directory.older.items r)) where
+    module _ (r : ℕ) (name : ℕ × List ℕ) (is : Some name ≡ slice_get names r) (there : in_directory r ≡ true) (next : Option ℕ) (before : next ≡ option_and_then (λ o. o) (slice_get a.lives.in_directory.older.items r)) where
       its : name.0 ≡ d
       its = equal name.0 d (rw (← is) at there)
 
       last : IsLastBelow in_directory r next
-      last = let old = kept.listed.each.older r name (sym is) in rw (before, old.there, ← its) old.last
+      last = let old = kept.listed.each.older d r there in rw (before, old.there) old.last
 
       pub list_second : IfSome next (λ s. in_directory s ≡ true)
       list_second = some r next last

@@ -1,6 +1,6 @@
 -- The members of each group, from the newest back. No public clause cites this module.
 use Rattle.std.specs.Prelude.{◌≡◌, ℕ, ◌<◌, ◌^◌, Bool, true, false, cond, List, Option, Some, None, slice_get}
-use Rattle.std.specs.HashMap.{get}
+use Rattle.std.specs.Bool.{nat_eq}
 use Rattle.std.specs.Option.{option_and_then, option_map_or}
 use Rattle.ele_names.specs.declared.chains.Chains.{Chains}
 
@@ -21,29 +21,44 @@ pub record HasOlder (passes : ℕ → Bool) (older : List (Option ℕ)) (s : ℕ
   pub there : slice_get older s ≡ Some number
   pub last : IsLastBelow passes s number
 
-module _ {G : Type 0} (eq : G → G → Bool) where
-  module _ {X : Type 0} (group : X → G) (at : ℕ → Option X) where
-    -- a member of the group has the number
-    abbrev pub is_member : G → ℕ → Bool
-    is_member g s = option_map_or (λ x. eq (group x) g) (at s) false
+-- the newest member of the group
+abbrev pub newest_in : Chains → ℕ → Option ℕ
+newest_in chains g = option_and_then (λ members. members.newest) (slice_get chains.groups.items g)
 
-    -- the newest member of each group is known, and the one before each member
-    pub record AreChained (chains : Chains G) : Type 0 where
-      pub newest : (g : G) → IsLastBelow (is_member g) (2 ^ 64) (get eq chains.newest g)
-      pub older : (s : ℕ) (x : X) → at s ≡ Some x → HasOlder (is_member (group x)) chains.older.items s
+-- its count
+abbrev pub live_in : Chains → ℕ → ℕ
+live_in chains g = option_map_or (λ members. members.live) (slice_get chains.groups.items g) 0
 
-  -- what stands at the places before the number, and the newest of each group, stay
-  pub record Keeps (number : ℕ) (old new : Chains G) : Type 0 where
-    pub newest : (g : G) → get eq new.newest g ≡ get eq old.newest g
-    pub older : (s : ℕ) (o : Option ℕ) → s < number → slice_get old.older.items s ≡ Some o → slice_get new.older.items s ≡ Some o
+module _ {X : Type 0} (belongs : ℕ → X → Bool) (at : ℕ → Option X) where
+  -- a member of the group has the number
+  abbrev pub is_member : ℕ → ℕ → Bool
+  is_member g s = option_map_or (belongs g) (at s) false
 
-  -- the number is the group's newest, with the one that was before it
-  pub record Gains (group : G) (number : ℕ) (old new : Chains G) : Type 0 where
-    pub newest : (g : G) → get eq new.newest g ≡ cond (eq group g) (Some number) (get eq old.newest g)
-    pub own : slice_get new.older.items number ≡ Some (get eq old.newest group)
-    pub older : (s : ℕ) (o : Option ℕ) → s < number → slice_get old.older.items s ≡ Some o → slice_get new.older.items s ≡ Some o
+  -- the newest member of each group is known, and the one before each member
+  pub record AreChained (chains : Chains) : Type 0 where
+    pub newest : (g : ℕ) → IsLastBelow (is_member g) (2 ^ 64) (newest_in chains g)
+    pub older : (g s : ℕ) → is_member g s ≡ true → HasOlder (is_member g) chains.older.items s
 
-  -- the one before the number is the group's newest
-  pub record Loses (group : G) (number : ℕ) (old new : Chains G) : Type 0 where
-    pub newest : (g : G) → get eq new.newest g ≡ cond (eq group g) (option_and_then (λ o. o) (slice_get old.older.items number)) (get eq old.newest g)
-    pub older : new.older.items ≡ old.older.items
+-- both tell the same
+pub record Tells (old new : Chains) : Type 0 where
+  pub newest : (g : ℕ) → newest_in new g ≡ newest_in old g
+  pub live : (g : ℕ) → live_in new g ≡ live_in old g
+  pub older : new.older ≡ old.older
+
+-- what stands at the places before the number stays, with the newest and the count of each group
+pub record Keeps (number : ℕ) (old new : Chains) : Type 0 where
+  pub newest : (g : ℕ) → newest_in new g ≡ newest_in old g
+  pub live : (g : ℕ) → live_in new g ≡ live_in old g
+  pub older : (s : ℕ) (o : Option ℕ) → s < number → slice_get old.older.items s ≡ Some o → slice_get new.older.items s ≡ Some o
+
+-- the number is the group's newest, with the one that was before it
+pub record Gains (group number : ℕ) (old new : Chains) : Type 0 where
+  pub newest : (g : ℕ) → newest_in new g ≡ cond (nat_eq group g) (Some number) (newest_in old g)
+  pub live : (g : ℕ) → live_in new g ≡ live_in old g
+  pub own : slice_get new.older.items number ≡ Some (newest_in old group)
+  pub older : (s : ℕ) (o : Option ℕ) → s < number → slice_get old.older.items s ≡ Some o → slice_get new.older.items s ≡ Some o
+
+-- the one before the number is the group's newest
+pub record Loses (group number : ℕ) (old new : Chains) : Type 0 where
+  pub newest : (g : ℕ) → newest_in new g ≡ cond (nat_eq group g) (option_and_then (λ o. o) (slice_get old.older.items number)) (newest_in old g)
+  pub older : new.older.items ≡ old.older.items

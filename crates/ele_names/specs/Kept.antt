@@ -1,6 +1,6 @@
 -- What the fields of `Names` are to each other. No public clause cites this module.
-use Rattle.std.specs.Prelude.{ℕ, ◌≤◌, ◌<◌, ◌^◌, ◌&&◌, nat_le, Bool, List, length}
-use Rattle.std.specs.List.{AllByRecursion}
+use Rattle.std.specs.Prelude.{◌≡◌, ℕ, ◌≤◌, ◌<◌, ◌^◌, ◌&&◌, nat_le, Bool, List, length}
+use Rattle.std.specs.List.{count_by, AllByRecursion}
 use Rattle.std.specs.List.Sorted.{IsStrictlySortedBy}
 use Rattle.std.specs.Ordering.{nat_cmp}
 use Rattle.std.specs.Map.{keys_of, values_of}
@@ -8,11 +8,13 @@ use Rattle.ele_lists.specs.Lists.{AllLater}
 use Rattle.ele_lists.specs.Serial.{value_at}
 use Rattle.ele_moment.specs.Last.{last_moment}
 use Rattle.ele_world.specs.declared.rows.NameRow.{NameRow}
+use Rattle.ele_world.specs.declared.rows.Target.{Target}
 use Rattle.ele_world.specs.NameRows.{is_named}
 use Rattle.ele_names.specs.declared.lives.Lives.{Lives}
 use Rattle.ele_names.specs.declared.table.Table.{Table}
 use Rattle.ele_names.specs.Rows.{Follows}
-use Rattle.ele_names.specs.Placed.{AreListed, ArePlaced, names_of, number_in}
+use Rattle.ele_names.specs.Placed.{AreListed, ArePlaced, live_of, names_of, number_in}
+use Rattle.ele_names.specs.Targets.{is_live_of}
 use Rattle.ele_names.specs.Counted.{AreCounted, AreNumbered}
 
 -- the rows, in order of making
@@ -38,3 +40,4 @@ pub record IsKept (table : Table) (lives : Lives) : Type 0 where
   pub listed : AreListed lives
   pub counts : AreCounted (rows_of table) lives
   pub numbered : AreNumbered (value_at table.rows.entries) lives
+  pub targets : (t : Target) → live_of table.places t ≡ count_by (is_live_of t) (rows_of table)

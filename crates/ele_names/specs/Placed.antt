@@ -6,12 +6,14 @@ use Rattle.std.specs.List.{position_or_len}
 use Rattle.std.specs.Ordering.{nat_cmp}
 use Rattle.std.specs.Str.{bytes_eq}
 use Rattle.ele_lists.specs.Serial.{IsIndexOf}
+use Rattle.ele_lists.specs.Tally.{counted}
 use Rattle.ele_world.specs.declared.rows.NameRow.{NameRow}
 use Rattle.ele_world.specs.declared.rows.Target.{Target}
+use Rattle.ele_world.specs.declared.rows.Target.TheVariants.{Directory, File}
+use Rattle.ele_world.specs.World.{is_target_file}
 use Rattle.ele_names.specs.declared.lives.Lives.{Lives}
 use Rattle.ele_names.specs.declared.places.Places.{Places}
-use Rattle.ele_names.specs.Chained.{AreChained, is_member}
-use Rattle.ele_names.specs.Targets.{target_eq}
+use Rattle.ele_names.specs.Chained.{AreChained, live_in}
 
 -- the two directories and names are one
 abbrev pub name_eq : ℕ × List ℕ → ℕ × List ℕ → Bool
@@ -35,13 +37,18 @@ pub record KeepsPlaces (old new : List (ℕ × List ℕ)) : Type 0 where
 -- the names of each directory are a chain
 pub record AreListed (lives : Lives) : Type 0 where
   pub few : length (names_of lives) < 2 ^ 64
-  pub each : AreChained nat_eq (λ name. name.0) (slice_get (names_of lives)) lives.of_directory
+  pub each : AreChained (λ d name. nat_eq name.0 d) (slice_get (names_of lives)) lives.in_directory
 
--- a row of the target has the serial number
-abbrev pub stands_for : (ℕ → Option NameRow) → Target → ℕ → Bool
-stands_for = is_member target_eq (λ row. row.target)
+-- a row of the file
+abbrev pub is_of : ℕ → NameRow → Bool
+is_of file row = is_target_file file row.target
 
--- the rows of each name are found by their births, and those of each target are a chain
+-- how many live rows of the target are counted
+abbrev pub live_of : Places → Target → ℕ
+live_of places (File file) = live_in places.of_file file
+live_of places (Directory directory) = counted nat_eq places.of_directory directory
+
+-- the rows of each name are found by their births, and those of each file are a chain
 pub record ArePlaced (names : List (ℕ × List ℕ)) (at : ℕ → Option NameRow) (places : Places) : Type 0 where
   pub named : IsIndexOf nat_cmp (number_in names) (λ row. row.birth) at places.by_name
-  pub targeted : AreChained target_eq (λ row. row.target) at places.of_target
+  pub chained : AreChained is_of at places.of_file

@@ -1,15 +1,15 @@
-//! The names ever given, their live rows, and how many of these there are by directory and by target.
+//! The names ever given, their live rows, and how many of these each directory has.
 //! A contract sees the names by number, and what the rest is of: a list of rows, and the row of each serial number.
-ghost use Rattle.std.specs.Prelude.{◌≡◌, ℕ, ◌<◌, true, false, [], List, Option, Some, None, cond, length, slice_get, IfSome, IfNone, IfOk, OnOk, IsTrue, is_none};
+ghost use Rattle.std.specs.Prelude.{◌≡◌, ℕ, ◌<◌, ◌+◌, ◌^◌, true, false, [], List, Option, Some, None, cond, length, slice_get, IfSome, IfNone, IfOk, is_none};
 ghost use Rattle.std.specs.Ordering.{nat_cmp};
 ghost use Rattle.std.specs.BTreeMap.{is_at};
 ghost use Rattle.ele_world.specs.declared.rows.NameRow.{NameRow};
-ghost use Rattle.ele_world.specs.NameRows.{is_named};
-ghost use Rattle.ele_names.specs.Counted.{AreCounted, AreNumbered, HasRoom, CanCount, Leaves, live_at};
-ghost use Rattle.ele_names.specs.Placed.{AreListed, KeepsPlaces, names_of, number_in, place_in};
+ghost use Rattle.ele_world.specs.Walk.{is_live_name};
+ghost use Rattle.ele_names.specs.Chained.{live_in};
+ghost use Rattle.ele_names.specs.Counted.{AreCounted, AreNumbered, Leaves, live_at};
+ghost use Rattle.ele_names.specs.Placed.{AreListed, KeepsPlaces, name_eq, names_of, number_in, place_in};
 
 use crate::chains::Chains;
-use ele_lists::Tally;
 use ele_moment::{DirId, Name, NoMemory};
 use ele_world::{NameRow, Target};
 use indexmap::IndexMap;
@@ -17,19 +17,17 @@ use std::alloc::Global;
 
 /// A live row: its serial number, and what its name stands for.
 #[derive(Clone, Copy, Debug)]
-pub struct Live {
+pub struct Live<T> {
     pub serial: u64,
-    pub target: Target,
+    pub target: T,
 }
 
 /// The names, hashed: a walk along a path looks for each of its names here. A name keeps its number,
 /// which is its place among them, for good.
 #[derive(Drop)]
 pub struct Lives {
-    pub by_name: IndexMap<(DirId, Name), Option<Live>>,
-    pub of_directory: Chains<DirId>,
-    pub in_directory: Tally<DirId>,
-    pub of_target: Tally<Target>,
+    pub by_name: IndexMap<(DirId, Name), Option<Live<Target>>>,
+    pub in_directory: Chains,
 }
 
 impl Lives {
@@ -42,9 +40,7 @@ impl Lives {
     {
         Lives {
             by_name: IndexMap::new(alloc),
-            of_directory: Chains::new(alloc),
-            in_directory: Tally::new(alloc),
-            of_target: Tally::new(alloc),
+            in_directory: Chains::new(alloc),
         }
     }
 
@@ -82,57 +78,41 @@ impl Lives {
         }
         self.by_name.reserve(1)?;
         let number = self.by_name.len() as u64;
-        self.of_directory.enter(directory, number)?;
+        self.in_directory.enter(directory.0, number)?;
         if let Err(_refused) = self.by_name.insert((directory, name), None) {
             unreachable!()
         }
         Ok(number)
     }
 
-    /// Finds room to count one more live row.
-    pub fn reserve(&mut self) -> Result<(), NoMemory>
-        ensures names { names_of self.new ≡ names_of self.old }
-        ensures listed { AreListed self.old → AreListed self.new }
-        ensures same { (rows : List NameRow) → AreCounted rows self.old → AreCounted rows self.new }
-        ensures numbered { (at : ℕ → Option NameRow)
-            → AreNumbered at self.old → AreNumbered at self.new }
-        ensures ok { OnOk result (HasRoom self.new) }
-    {
-        self.in_directory.reserve()?;
-        self.of_target.reserve()?;
-        Ok(())
-    }
-
     /// The live row of the name.
-    pub fn live(&self, directory: DirId, name: &Name) -> Option<Live>
+    pub fn live(&self, directory: DirId, name: &Name) -> Option<Live<Target>>
         ensures { result ≡ live_at self.now directory name.now }
     {
         *self.by_name.get(&(directory, *name))?
     }
 
     // Sets the live row of a name that was given.
-    fn set(&mut self, row: &NameRow, live: Option<Live>)
-        requires { number_in (names_of self.old) row.now < length (names_of self.old) }
+    fn set(&mut self, directory: DirId, name: &Name, live: Option<Live<Target>>)
+        requires { place_in (names_of self.old) directory name.now < length (names_of self.old) }
         ensures names { names_of self.new ≡ names_of self.old }
         ensures live { (d : ℕ) (n : List ℕ) → live_at self.new d n
-            ≡ cond (is_named d n row.now) live (live_at self.old d n) }
-        ensures listed { self.new.of_directory ≡ self.old.of_directory }
-        ensures directories { self.new.in_directory ≡ self.old.in_directory }
-        ensures targets { self.new.of_target ≡ self.old.of_target }
+            ≡ cond (name_eq (directory, name.now) (d, n)) live (live_at self.old d n) }
+        ensures listed { self.new.in_directory ≡ self.old.in_directory }
     {
-        if let Err(_refused) = self.by_name.insert((row.directory, row.name), live) {
+        if let Err(_refused) = self.by_name.insert((directory, *name), live) {
             unreachable!()
         }
     }
 
-    /// Takes in a live row of that serial number, in reserved room.
+    /// Takes in a live row of that serial number.
     pub fn enter(&mut self, row: &NameRow, serial: u64)
         requires known { number_in (names_of self.old) row.now < length (names_of self.old) }
+        requires listed { AreListed self.old }
         requires live { is_none row.now.death ≡ true }
-        requires room { HasRoom self.old }
-        requires fits { CanCount row.now self.old }
+        requires fits { live_in self.old.in_directory row.now.directory + 1 < 2 ^ 64 }
         ensures names { names_of self.new ≡ names_of self.old }
-        ensures listed { AreListed self.old → AreListed self.new }
+        ensures listed { AreListed self.new }
         ensures counted { (was now : List NameRow) → Leaves row.now now was
             → AreCounted was self.old → AreCounted now self.new }
         ensures numbered { (at : ℕ → Option NameRow) → at serial ≡ None → AreNumbered at self.old
@@ -142,9 +122,8 @@ impl Lives {
             serial,
             target: row.target,
         };
-        self.set(row, Some(live));
-        self.in_directory.add(row.directory);
-        self.of_target.add(row.target);
+        self.set(row.directory, &row.name, Some(live));
+        self.in_directory.add(number_of(row.directory));
     }
 
     /// Takes out a row, if it was live. It takes no memory.
@@ -159,9 +138,31 @@ impl Lives {
             → AreNumbered at self.old → AreNumbered to self.new }
     {
         if row.death.is_none() {
-            self.set(row, None);
-            self.in_directory.take(row.directory);
-            self.of_target.take(row.target);
+            self.end(row.directory, &row.name);
         }
     }
+
+    /// Takes out the live row of the name. It takes no memory.
+    pub fn end(&mut self, directory: DirId, name: &Name)
+        requires { place_in (names_of self.old) directory name.now < length (names_of self.old) }
+        ensures names { names_of self.new ≡ names_of self.old }
+        ensures listed { AreListed self.old → AreListed self.new }
+        ensures counted { (row : NameRow) (was now : List NameRow)
+            → is_live_name directory name.now row ≡ true → Leaves row was now
+            → AreCounted was self.old → AreCounted now self.new }
+        ensures numbered { (row : NameRow) (at to : ℕ → Option NameRow) (serial : ℕ)
+            → is_live_name directory name.now row ≡ true → at serial ≡ Some row
+            → ((s : ℕ) → is_at (nat_cmp serial) s ≡ false → to s ≡ at s)
+            → AreNumbered at self.old → AreNumbered to self.new }
+    {
+        self.set(directory, name, None);
+        self.in_directory.take(directory.0);
+    }
+}
+
+// The number of a directory, which its chain has.
+fn number_of(directory: DirId) -> u64
+    ensures { result ≡ directory }
+{
+    directory.0
 }

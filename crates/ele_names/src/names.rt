@@ -10,17 +10,14 @@ ghost use Rattle.std.specs.Option.{option_map, option_map_or};
 ghost use Rattle.std.specs.Ordering.{nat_cmp};
 ghost use Rattle.ele_lists.specs.Last.{last_passing};
 ghost use Rattle.ele_lists.specs.Lists.{AllLater, update_first};
-ghost use Rattle.ele_lists.specs.Serial.{value_at};
 ghost use Rattle.ele_moment.specs.Last.{last_moment};
 ghost use Rattle.ele_world.specs.NameRows.{is_named, target_at, last_dead, is_live_in, is_live_directory};
 ghost use Rattle.ele_world.specs.Walk.{is_live_name, live_target};
 ghost use Rattle.ele_world.specs.World.{is_live_name_of, is_target_file};
-ghost use Rattle.ele_names.specs.Counted.{AreCounted, AreNumbered};
 ghost use Rattle.ele_names.specs.Kept.{IsKept, is_born_by, rows_of};
 ghost use Rattle.ele_names.specs.Listed.{by_name, name_cmp};
-ghost use Rattle.ele_names.specs.Placed.{names_of, number_in};
+ghost use Rattle.ele_names.specs.Placed.{is_of};
 ghost use Rattle.ele_names.specs.Rows.{born_row, dies, Follows};
-ghost use Rattle.ele_names.specs.Targets.{is_other};
 
 use crate::lives::{Live, Lives};
 use crate::table::{Table, lives_past};
@@ -85,7 +82,6 @@ impl Names {
             death: None,
         };
         let number = self.lives.number_or_next(directory, name)?;
-        self.lives.reserve()?;
         let serial = self.table.rows.next_serial();
         self.table.places.enter(number, &row, serial)?;
         if let Err(refused) = self.table.rows.push(row) {
@@ -119,15 +115,12 @@ impl Names {
         ensures { self.new
             ≡ update_first (is_live_name directory name.now) (dies moment) self.old }
     {
-        let Some((serial, live)) = live_row(&self.table, &self.lives, directory, name) else {
+        let Some(live) = self.lives.live(directory, name) else {
             unreachable!()
         };
-        let dead = NameRow {
-            death: Some(moment),
-            ..live
-        };
-        self.table.rows.replace(serial, dead);
-        self.lives.leave(&live);
+        self.table.rows.end(live.serial, moment);
+        self.table.places.end(live.target);
+        self.lives.end(directory, name);
     }
 
     /// Takes out all rows of the file, live ones too. It takes no memory.
@@ -135,17 +128,17 @@ impl Names {
         ensures { self.new
             ≡ filter (λ row. not (is_target_file file row.target)) self.old }
     {
-        while self.drop_one(Target::File(file)) {}
+        while self.drop_one(file) {}
     }
 
-    // Takes out one row of the target, if there is one, and answers whether there was.
-    fn drop_one(&mut self, target: Target) -> bool
-        ensures others { filter (is_other target) self.new
-            ≡ filter (is_other target) self.old }
+    // Takes out one row of the file, if there is one, and answers whether there was.
+    fn drop_one(&mut self, file: FileId) -> bool
+        ensures others { filter (λ row. not (is_of file row)) self.new
+            ≡ filter (λ row. not (is_of file row)) self.old }
         ensures fewer { IsTrue result → length self.new < length self.old }
-        ensures none { result ≡ false → filter (is_other target) self.new ≡ self.new }
+        ensures none { result ≡ false → filter (λ row. not (is_of file row)) self.new ≡ self.new }
     {
-        let Some(serial) = self.table.places.of_target.newest(target) else {
+        let Some(serial) = self.table.places.of_file.newest(file.0) else {
             return false;
         };
         let Some(row) = self.table.rows.take(serial) else {
@@ -218,14 +211,14 @@ impl Names {
             ≡ target_at self.now moment directory name) }
     {
         let mut found = BTreeMap::new(self.alloc);
-        let mut next = self.lives.of_directory.newest(directory);
+        let mut next = self.lives.in_directory.newest(directory.0);
         while let Some(number) = next {
             let Some(name) = self.lives.name(number) else {
                 unreachable!()
             };
             let target = self.at(directory, &name.1, moment);
             put_some(&mut found, name.1, target)?;
-            next = self.lives.of_directory.older(number);
+            next = self.lives.in_directory.older(number);
         }
         Ok(found.into_iter().collect(self.alloc)?)
     }
@@ -253,14 +246,14 @@ impl Names {
     pub fn is_empty(&self, directory: DirId) -> bool
         ensures { result ≡ not (list_any (is_live_in directory) self.now) }
     {
-        self.lives.in_directory.count(directory) == 0
+        self.lives.in_directory.live(directory.0) == 0
     }
 
     /// Whether the directory has a live name.
     pub fn dir_live(&self, directory: DirId) -> bool
         ensures { result ≡ list_any (is_live_directory directory) self.now }
     {
-        self.lives.of_target.count(Target::Directory(directory)) > 0
+        self.table.places.live(Target::Directory(directory)) > 0
     }
 
     /// Whether the file has a live name.
@@ -274,7 +267,7 @@ impl Names {
     pub fn names_of(&self, file: FileId) -> u64
         ensures { result ≡ count_by (is_live_name_of file) self.now }
     {
-        self.lives.of_target.count(Target::File(file))
+        self.table.places.live(Target::File(file))
     }
 
     /// The row at that place in order of making. It passes over the rows before it.
@@ -292,22 +285,8 @@ impl Names {
     }
 }
 
-// The live row of the name, with its serial number.
-fn live_row(table: &Table, lives: &Lives, directory: DirId, name: &Name) -> Option<(u64, NameRow)>
-    requires counted { AreCounted (rows_of table.now) lives.now }
-    requires numbered { AreNumbered (value_at table.now.rows.entries) lives.now }
-    ensures none { IfNone result (live_target (rows_of table.now) directory name.now ≡ None) }
-    ensures serial { IfSome result (λ e. value_at table.now.rows.entries e.0 ≡ Some e.1) }
-    ensures live { IfSome result
-        (λ e. (is_named directory name.now e.1 ≡ true) × (is_none e.1.death ≡ true)) }
-{
-    let live = lives.live(directory, name)?;
-    let row = table.rows.get(live.serial)?;
-    Some((live.serial, *row))
-}
-
 // What the live row's name stands for.
-fn target_of(found: Option<Live>) -> Option<Target>
+fn target_of(found: Option<Live<Target>>) -> Option<Target>
     ensures { result ≡ option_map (λ live. live.target) found }
 {
     match found {

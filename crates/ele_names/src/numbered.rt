@@ -1,14 +1,16 @@
 //! Rows by serial number.
 //! A contract sees the entries, each a serial number with its row, and how many numbers are given.
-ghost use Rattle.std.specs.Prelude.{◌≡◌, ◌+◌, ◌≤◌, ◌<◌, ◌^◌, ◌++◌, ◌∷◌, [], IsSome, IfSome, IfOk, OnOk, OnErr, IfNone, length, slice_get};
+ghost use Rattle.std.specs.Prelude.{◌≡◌, ◌+◌, ◌≤◌, ◌<◌, ◌^◌, ◌++◌, ◌∷◌, [], Some, IsSome, IfSome, IfOk, OnOk, OnErr, IfNone, length, slice_get};
 ghost use Rattle.std.specs.BTreeMap.{is_at, insert_entry};
 ghost use Rattle.std.specs.List.{AllByRecursion};
 ghost use Rattle.std.specs.Map.{keys_of, remove_entry, values_of};
 ghost use Rattle.std.specs.Option.{option_copied};
 ghost use Rattle.std.specs.Ordering.{nat_cmp};
 ghost use Rattle.ele_lists.specs.Serial.{value_at};
+ghost use Rattle.ele_world.specs.declared.rows.NameRow.{NameRow};
+ghost use Rattle.ele_names.specs.Rows.{dies};
 
-use ele_moment::NoMemory;
+use ele_moment::{Moment, NoMemory};
 use ele_world::NameRow;
 use std::alloc::Global;
 use std::marker::Model;
@@ -42,6 +44,7 @@ impl Numbered {
     /// The serial number that the next row gets.
     pub fn next_serial(&self) -> u64
         ensures next { result ≡ self.now.made }
+        ensures small { result < 2 ^ 63 }
         ensures below { AllByRecursion (λ serial. serial < result) (keys_of self.now.entries) }
         ensures few { length self.now.entries ≤ result }
     {
@@ -65,12 +68,15 @@ impl Numbered {
         Ok(self.places.push(Some(row))?)
     }
 
-    /// Puts a row in place of that of the serial number.
-    pub fn replace(&mut self, serial: u64, row: NameRow)
+    /// Ends the row of the serial number at the moment.
+    pub fn end(&mut self, serial: u64, moment: Moment)
         requires { IsSome (value_at self.old.entries serial) }
-        ensures { self.new.entries ≡ insert_entry nat_cmp self.old.entries serial row }
+        ensures { (row : NameRow) → value_at self.old.entries serial ≡ Some row
+            → self.new.entries ≡ insert_entry nat_cmp self.old.entries serial (dies moment row) }
     {
-        self.places[serial as usize] = Some(row);
+        if let Some(row) = &mut self.places[serial as usize] {
+            row.death = Some(moment);
+        }
     }
 
     /// Takes out the row of the serial number.

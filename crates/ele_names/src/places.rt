@@ -1,39 +1,57 @@
-//! Where each row stands: by the number of its name, and among those of its target.
-//! A contract sees what the places are of: a row for each serial number that has one.
-ghost use Rattle.std.specs.Prelude.{◌≡◌, ◌≤◌, ◌<◌, ℕ, List, Option, cond, Some, None, OnOk, OnErr, false};
+//! Where each row stands, by the number of its name and among those of its file, and how many live rows each file and directory has.
+//! A contract sees what the places are of, a row for each serial number that has one, and the counts.
+ghost use Rattle.std.specs.Prelude.{◌≡◌, ◌≤◌, ◌<◌, ◌+◌, ◌-◌, ◌^◌, ℕ, List, Option, cond, Some, None, OnOk, OnErr, false, true, is_none};
 ghost use Rattle.std.specs.Ordering.{nat_cmp};
 ghost use Rattle.std.specs.BTreeMap.{is_at};
 ghost use Rattle.ele_moment.specs.Last.{last_moment};
 ghost use Rattle.ele_world.specs.declared.rows.NameRow.{NameRow};
-ghost use Rattle.ele_names.specs.Placed.{ArePlaced, number_in, stands_for};
+ghost use Rattle.ele_world.specs.declared.rows.Target.{Target};
+ghost use Rattle.ele_names.specs.Chained.{AreChained, is_member};
+ghost use Rattle.ele_names.specs.Placed.{ArePlaced, is_of, live_of, number_in};
+ghost use Rattle.ele_names.specs.Targets.{is_live_of, target_eq};
 
 use crate::chains::Chains;
-use ele_lists::Index;
-use ele_moment::NoMemory;
+use ele_lists::{Index, Tally};
+use ele_moment::{DirId, NoMemory};
 use ele_world::{NameRow, Target};
 use std::alloc::Global;
 
-/// The rows of one name by birth, and those of one target from the newest back.
+/// The rows of one name by birth, those of one file from the newest back with a count of the live
+/// ones, and the count of those of one directory.
 #[derive(Drop)]
 pub struct Places {
     pub by_name: Index<u64>,
-    pub of_target: Chains<Target>,
+    pub of_file: Chains,
+    pub of_directory: Tally<DirId>,
 }
 
 impl Places {
     /// No row anywhere.
     pub fn new(alloc: Global) -> Places
-        ensures { (names : List (ℕ × List ℕ)) → ArePlaced names (λ _. None) result }
+        ensures placed { (names : List (ℕ × List ℕ)) → ArePlaced names (λ _. None) result }
+        ensures live { (t : Target) → live_of result t ≡ 0 }
     {
         Places {
             by_name: Index::new(alloc),
-            of_target: Chains::new(alloc),
+            of_file: Chains::new(alloc),
+            of_directory: Tally::new(alloc),
         }
     }
 
-    /// Puts a row, newer than all others, at its places, by the number of its name. `NoMemory` where
-    /// there is no room; it then stands at none.
+    /// How many live rows the target has.
+    pub fn live(&self, target: Target) -> u64
+        ensures { result ≡ live_of self.now target }
+    {
+        match target {
+            Target::File(file) => self.of_file.live(file.0),
+            Target::Directory(directory) => self.of_directory.count(directory),
+        }
+    }
+
+    /// Puts a live row, newer than all others, at its places, by the number of its name, and counts
+    /// it. `NoMemory` where there is no room; it then stands at none.
     pub fn enter(&mut self, number: u64, row: &NameRow, serial: u64) -> Result<(), NoMemory>
+        requires { live_of self.old row.now.target + 1 < 2 ^ 64 }
         ensures ok { OnOk result ((names : List (ℕ × List ℕ)) (at : ℕ → Option NameRow)
             → number_in names row.now ≡ number → ((s : ℕ) → serial ≤ s → at s ≡ None)
             → ArePlaced names at self.old
@@ -43,26 +61,91 @@ impl Places {
             → ArePlaced names at self.old
             → ArePlaced names at self.new) }
         ensures born { row.now.birth ≤ last_moment }
+        ensures counted { OnOk result ((t : Target) → live_of self.new t
+            ≡ live_of self.old t + cond (target_eq row.now.target t) 1 0) }
+        ensures same { OnErr result ((t : Target) → live_of self.new t ≡ live_of self.old t) }
     {
         let birth = birth_of(row);
         self.by_name.insert(number, birth, serial)?;
-        if let Err(refused) = self.of_target.enter(row.target, serial) {
+        if let Err(refused) = self.enter_target(row.target, serial) {
             self.by_name.remove(number, birth, serial);
             return Err(refused);
         }
         Ok(())
     }
 
-    /// Takes the newest row of its target from its places.
+    // Puts a live row of the target in front of those of its file, and counts it.
+    fn enter_target(&mut self, target: Target, serial: u64) -> Result<(), NoMemory>
+        requires { live_of self.old target + 1 < 2 ^ 64 }
+        ensures named { self.new.by_name ≡ self.old.by_name }
+        ensures ok { OnOk result ((at : ℕ → Option NameRow) (row : NameRow)
+            → row.target ≡ target → ((s : ℕ) → serial ≤ s → at s ≡ None)
+            → AreChained is_of at self.old.of_file
+            → AreChained is_of (λ s. cond (is_at (nat_cmp serial) s) (Some row) (at s)) self.new.of_file) }
+        ensures err { OnErr result ((at : ℕ → Option NameRow)
+            → ((s : ℕ) → serial ≤ s → at s ≡ None)
+            → AreChained is_of at self.old.of_file → AreChained is_of at self.new.of_file) }
+        ensures counted { OnOk result ((t : Target) → live_of self.new t
+            ≡ live_of self.old t + cond (target_eq target t) 1 0) }
+        ensures same { OnErr result ((t : Target) → live_of self.new t ≡ live_of self.old t) }
+    {
+        match target {
+            Target::File(file) => {
+                self.of_file.enter(file.0, serial)?;
+                self.of_file.add(file.0);
+            }
+            Target::Directory(directory) => {
+                self.of_directory.reserve()?;
+                self.of_directory.add(directory);
+            }
+        }
+        Ok(())
+    }
+
+    /// Takes the newest row of its target from its places, and counts it no more.
     pub fn leave(&mut self, number: u64, row: &NameRow, serial: u64)
-        ensures { (names : List (ℕ × List ℕ)) (at : ℕ → Option NameRow)
+        ensures placed { (names : List (ℕ × List ℕ)) (at : ℕ → Option NameRow)
             → number_in names row.now ≡ number → at serial ≡ Some row.now
-            → ((s : ℕ) → serial < s → stands_for at row.now.target s ≡ false)
+            → ((f s : ℕ) → is_of f row.now ≡ true → serial < s → is_member is_of at f s ≡ false)
             → ArePlaced names at self.old
             → ArePlaced names (λ s. cond (is_at (nat_cmp serial) s) None (at s)) self.new }
+        ensures live { (t : Target) → live_of self.new t
+            ≡ live_of self.old t - cond (is_live_of t row.now) 1 0 }
     {
         self.by_name.remove(number, birth_of(row), serial);
-        self.of_target.leave(row.target, serial);
+        self.leave_file(row.target, serial);
+        if row.death.is_none() {
+            self.end(row.target);
+        }
+    }
+
+    // Takes the newest row of the target from those of its file, if it stands for one.
+    fn leave_file(&mut self, target: Target, serial: u64)
+        ensures named { self.new.by_name ≡ self.old.by_name }
+        ensures chained { (at : ℕ → Option NameRow) (row : NameRow)
+            → row.target ≡ target → at serial ≡ Some row
+            → ((f s : ℕ) → is_of f row ≡ true → serial < s → is_member is_of at f s ≡ false)
+            → AreChained is_of at self.old.of_file
+            → AreChained is_of (λ s. cond (is_at (nat_cmp serial) s) None (at s)) self.new.of_file }
+        ensures live { (t : Target) → live_of self.new t ≡ live_of self.old t }
+    {
+        if let Target::File(file) = target {
+            self.of_file.leave(file.0, serial);
+        }
+    }
+
+    /// Counts one live row of the target less.
+    pub fn end(&mut self, target: Target)
+        ensures named { self.new.by_name ≡ self.old.by_name }
+        ensures chained { (at : ℕ → Option NameRow)
+            → AreChained is_of at self.old.of_file → AreChained is_of at self.new.of_file }
+        ensures live { (t : Target) → live_of self.new t
+            ≡ live_of self.old t - cond (target_eq target t) 1 0 }
+    {
+        match target {
+            Target::File(file) => self.of_file.take(file.0),
+            Target::Directory(directory) => self.of_directory.take(directory),
+        }
     }
 }
 

@@ -2,7 +2,9 @@
 //! A contract sees the rows as their list in order of serial numbers.
 ghost use Rattle.std.specs.Prelude.{◌≡◌, ℕ, List, []};
 ghost use Rattle.ele_world.specs.NameRows.{lives_past};
+ghost use Rattle.ele_world.specs.declared.rows.Target.{Target};
 ghost use Rattle.ele_names.specs.Kept.{IsTable};
+ghost use Rattle.ele_names.specs.Placed.{live_of};
 
 use crate::numbered::Numbered;
 use crate::places::Places;
@@ -22,6 +24,7 @@ impl Table {
     pub fn new(alloc: Global) -> Table
         ensures is { (names : List (ℕ × List ℕ)) → IsTable names result }
         ensures rows { result.rows.entries ≡ [] }
+        ensures live { (t : Target) → live_of result.places t ≡ 0 }
     {
         Table {
             rows: Numbered::new(alloc),

@@ -1,25 +1,18 @@
-use Rattle.ele_names.proofs.Basics.{Some, ◌<◌, length, append_assoc, refl, ap, ◌∙◌, arith, err_from_is_err_and}
-use Rattle.ele_names.proofs.Chained.{cut_kept, set_kept, set_own}
+use Rattle.ele_names.proofs.Basics.{◌≡◌, cond, Some, append_assoc, nat_eq, option_and_then, option_map_or, slice_get, slice_get-get_or, ap, sym, ◌∙◌}
+use Rattle.ele_names.proofs.Chained.{cut_kept, own_pushed, same_seen, set_seen}
 use Rattle.ele_names.proofs.chains.Chains.enter.Goals as goal
 
-pub returns-in_err-push-clause-err : goal.returns-in_err-push-clause-err
-returns-in_err-push-clause-err g c = let p = err_from_is_err_and c.from_residual-in_err-push.result c.from_residual-in_err-push.ensures.1 in rw p.1 (record {
-  newest = λ g. refl;
-  older = λ s o lt is. rw (c.in_err-push.ensures.items, c.in_ok-resize.ensures.items) (cut_kept c.args.self.now.older.items _ c.args.number s o lt is);
-})
-
-pub returns-in_err-older-clause-err : goal.returns-in_err-older-clause-err
-returns-in_err-older-clause-err g c = let p = err_from_is_err_and c.from_residual-in_err-older.result c.from_residual-in_err-older.ensures.1 in rw p.1 (record {
-  newest = λ g. rw c.in_err-older.ensures.err refl;
-  older = λ s o lt is. rw (c.in_ok-push.ensures.items, c.in_ok-resize.ensures.items, append_assoc) (cut_kept c.args.self.now.older.items _ c.args.number s o lt is);
-})
-
 pub returns-clause-ok : goal.returns-clause-ok
-returns-clause-ok g c =
-    let items = c.push.new.self.items in
-    let long : c.args.number < length items = omega (arith, c.push.new.self.ok.0, c.in_ok-push.ensures.len, c.in_ok-resize.ensures.len) in
+returns-clause-ok c =
+    let known = c.know.ensures.same in
+    let group = c.args.group in
+    let groups = c.know.new.self.groups.items in
+    let members = c.index_mut.result.now in
+    let resized = c.resize.new.self in
+    let there : slice_get groups group ≡ Some members = slice_get-get_or groups group members c.in_ok-know.ensures.known ∙ ap (λ m. Some m) (sym c.index_mut.ensures.value) in
     record {
-      newest = c.in_ok-older.ensures.updates.0;
-      own = set_own items c.args.number c.in_ok-older.older long ∙ ap Some c.in_ok-older.ensures.old;
-      older = λ s o lt is. set_kept items c.args.number s c.in_ok-older.older lt ∙ rw (c.in_ok-push.ensures.items, c.in_ok-resize.ensures.items, append_assoc) (cut_kept c.args.self.now.older.items _ c.args.number s o lt is);
+      newest = λ g. set_seen (option_and_then (λ m. m.newest)) groups group _ c.in_ok-know.ensures.known g ∙ ap (λ o. cond (nat_eq group g) (Some c.args.number) o) (known.newest g);
+      live = λ g. same_seen (λ o. option_map_or (λ m. m.live) o 0) groups group _ (ap (λ o. option_map_or (λ m. m.live) o 0) (sym there)) g ∙ known.live g;
+      own = rw c.in_ok-push.ensures.items (own_pushed resized.items c.newest-newest.result c.args.number (sym resized.ok.0 ∙ c.in_ok-resize.ensures.len)) ∙ ap (λ o. Some o) (c.newest-newest.ensures ∙ known.newest group);
+      older = λ s o lt is. rw (c.in_ok-push.ensures.items, c.in_ok-resize.ensures.items, append_assoc) (cut_kept c.know.new.self.older.items _ c.args.number s o lt (rw known.older is));
     }

@@ -1,15 +1,16 @@
-use Rattle.ele_names.proofs.Basics.{◌≡◌, ℕ, List, length, length-append, ◌∷◌, [], refl, sym, ap, ◌∙◌, ◌++◌, arith, keys_of}
+use Rattle.ele_names.proofs.Basics.{◌≡◌, ℕ, List, length, length-append, ◌∷◌, [], refl, sym, ap, subst, ◌∙◌, ◌++◌, arith, keys_of}
 use Rattle.ele_names.proofs.Words.{Lives, live_at, names_of}
-use Rattle.ele_names.proofs.Given.{names_pushed, names_counted, same_live, listed_pushed, listed_kept, listed_same}
+use Rattle.ele_names.proofs.Given.{names_pushed, names_counted, same_live, listed_pushed, listed_kept, listed_told}
 use Rattle.ele_names.proofs.Live.{counted_same, numbered_same}
 use Rattle.ele_names.proofs.Numbers.{keeps_pushed, pushed_place}
+use Rattle.ele_names.specs.Chained.{Gains}
 use Rattle.ele_names.proofs.lives.Lives.number_or_next.Goals as goal
 
 abbrev old : goal.In_default-insert → Lives
 old c = c.args.self.now
 
 abbrev new : goal.In_default-insert → Lives
-new c = record { by_name = c.insert.new.self; of_directory = c.enter.new.self; in_directory = (old c).in_directory; of_target = (old c).of_target }
+new c = record { by_name = c.insert.new.self; in_directory = c.enter.new.self }
 
 pushed : (c : goal.In_default-insert) → names_of (new c) ≡ names_of (old c) ++ (c.args.directory, c.args.name) ∷ []
 pushed c = names_pushed (old c) (new c) c.args.directory c.args.name c.in_default.ensures.none (rw c.reserve.ensures.entries at c.in_default-insert.ensures.entries)
@@ -21,7 +22,7 @@ next : (c : goal.In_default-insert) → c.len-number.result ≡ length (names_of
 next c = c.len-number.ensures.len ∙ ap length c.reserve.ensures.entries ∙ names_counted (old c)
 
 pub returns-in_err-reserve-clause-listed : goal.returns-in_err-reserve-clause-listed
-returns-in_err-reserve-clause-listed c = listed_same c.args.self.now _ (ap keys_of c.reserve.ensures.entries) refl
+returns-in_err-reserve-clause-listed c = listed_told c.args.self.now _ (ap keys_of c.reserve.ensures.entries) (λ g. refl) refl
 
 pub returns-in_err-enter-clause-listed : goal.returns-in_err-enter-clause-listed
 returns-in_err-enter-clause-listed c =
@@ -39,10 +40,12 @@ pub returns-clause-places : goal.returns-clause-places
 returns-clause-places c = rw (pushed c) (keeps_pushed (names_of (old c)) (c.args.directory, c.args.name))
 
 pub returns-clause-listed : goal.returns-clause-listed
-returns-clause-listed c = listed_pushed (old c) (new c) c.args.directory c.args.name c.in_default.ensures.none (rw (next c) at c.len-number.ensures.small) (pushed c) (rw (next c) at c.in_ok-enter.ensures.ok)
+returns-clause-listed c =
+    let gains : Gains c.args.directory c.len-number.result (old c).in_directory (new c).in_directory = subst (λ (d : ℕ). Gains d c.len-number.result (old c).in_directory (new c).in_directory) c.directory.view_is c.in_ok-enter.ensures.ok in
+    listed_pushed (old c) (new c) c.args.directory c.args.name c.in_default.ensures.none (rw (next c) at c.len-number.ensures.small) (pushed c) (subst (λ n. Gains c.args.directory n (old c).in_directory (new c).in_directory) (next c) gains)
 
 pub returns-clause-counted : goal.returns-clause-counted
-returns-clause-counted c = λ rows. counted_same rows (old c) (new c) (lives_same c) (λ d. refl) (λ t. refl)
+returns-clause-counted c = λ rows. counted_same rows (old c) (new c) (lives_same c) (rw (next c) at c.in_ok-enter.ensures.ok).live
 
 pub returns-clause-numbered : goal.returns-clause-numbered
 returns-clause-numbered c = λ at. numbered_same at at (old c) (new c) (λ s. refl) (lives_same c)

@@ -5,13 +5,12 @@ use Rattle.ele_names.proofs.Numbers.{not_missing, present}
 use Rattle.ele_names.proofs.lives.Lives.set.Goals as goal
 
 pub unreachable-requires : goal.unreachable-requires
-unreachable-requires c = not_missing c.args.self.now.by_name c.args.row.now.directory c.args.row.now.name c.requires c.in-Err.ensures.absent
+unreachable-requires c = not_missing c.args.self.now.by_name c.args.directory c.args.name.now c.requires c.in-Err.ensures.absent
 
 pub returns-clause-names : goal.returns-clause-names
 returns-clause-names c =
-    let row = c.args.row.now in
     ap keys_of c.in_default.ensures.entries
-    ∙ keys-insert_entry-present name_eq c.args.self.now.by_name (row.directory, row.name) c.args.live (present c.args.self.now.by_name row.directory row.name c.requires)
+    ∙ keys-insert_entry-present name_eq c.args.self.now.by_name (c.args.directory, c.args.name.now) c.args.live (present c.args.self.now.by_name c.args.directory c.args.name.now c.requires)
 
 pub returns-clause-live : goal.returns-clause-live
-returns-clause-live c = λ d n. live_set c.args.row.now d n c.args.live _ _ (c.in_default.ensures.updates.0 (d, n))
+returns-clause-live c = λ d n. live_set (name_eq (c.args.directory, c.args.name.now) (d, n)) c.args.live _ _ (c.in_default.ensures.updates.0 (d, n))

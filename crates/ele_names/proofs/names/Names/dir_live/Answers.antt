@@ -4,4 +4,4 @@ use Rattle.ele_names.proofs.Counts.{directory_names}
 use Rattle.ele_names.proofs.names.Names.dir_live.Goals as goal
 
 pub returns : goal.returns
-returns c = rw (← c.self.view_is, any-count (is_live_directory c.args.directory) (rows_of c.self.inside.table), c.count.ensures, c.self.invariant.counts.of_target (Directory c.args.directory), directory_names c.args.directory (rows_of c.self.inside.table)) refl
+returns c = rw (← c.self.view_is, any-count (is_live_directory c.args.directory) (rows_of c.self.inside.table), c.live.ensures, c.self.invariant.targets (Directory c.args.directory), directory_names c.args.directory (rows_of c.self.inside.table)) refl

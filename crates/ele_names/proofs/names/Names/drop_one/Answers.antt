@@ -1,10 +1,10 @@
 use Rattle.ele_names.proofs.Basics.{sym, ◌∙◌, arith, value_at}
 use Rattle.ele_names.proofs.Words.{names_of}
-use Rattle.ele_names.proofs.Gone.{kept_without, fewer, others_stay, is_newest, none_of_target, its_target, row_known}
+use Rattle.ele_names.proofs.Gone.{kept_without, fewer, others_stay, is_newest, none_of_file, its_file, row_known}
 use Rattle.ele_names.proofs.names.Names.drop_one.Goals as goal
 
 pub returns-in_default-clause-none : goal.returns-in_default-clause-none
-returns-in_default-clause-none c = rw (← c.self.view_is) (λ _. none_of_target c.self.inside c.self.invariant c.args.target _ c.newest.ensures c.in_default.is)
+returns-in_default-clause-none c = rw (← c.self.view_is) (λ _. none_of_file c.self.inside c.self.invariant c.args.file _ (rw c.file.view_is at c.newest.ensures) c.in_default.is)
 
 pub unreachable-requires-in_default-number : goal.unreachable-requires-in_default-number
 unreachable-requires-in_default-number c =
@@ -14,14 +14,14 @@ pub invariant_of-self : goal.invariant_of-self
 invariant_of-self c =
     let at = sym c.take.ensures.row ∙ c.in-Some-take.is in
     kept_without c.self.inside c.self.invariant c.in-Some.serial c.in-Some-take.row at _ _ c.leave-2.ensures.names (c.leave-2.ensures.listed c.self.invariant.listed)
-    c.take.ensures.entries (c.leave.ensures (names_of c.self.inside.lives) (value_at c.self.inside.table.rows.entries) (sym c.in-Some-number.ensures.some.0) at
-    (is_newest c.self.inside c.self.invariant c.args.target _ c.newest.ensures c.in-Some.serial c.in-Some.is c.in-Some-take.row at))
-    c.leave-2.ensures.counted c.leave-2.ensures.numbered
+    c.take.ensures.entries (c.leave.ensures.placed (names_of c.self.inside.lives) (value_at c.self.inside.table.rows.entries) (sym c.in-Some-number.ensures.some.0) at
+    (is_newest c.self.inside c.self.invariant c.args.file _ (rw c.file.view_is at c.newest.ensures) c.in-Some.serial c.in-Some.is c.in-Some-take.row at))
+    c.leave-2.ensures.counted c.leave-2.ensures.numbered c.leave.ensures.live
 
 pub returns-clause-fewer : goal.returns-clause-fewer
 returns-clause-fewer c = rw (← c.self.view_is, c.take.ensures.entries) (λ _. fewer c.self.inside c.self.invariant c.in-Some.serial c.in-Some-take.row (sym c.take.ensures.row ∙ c.in-Some-take.is))
 
 pub returns-clause-others : goal.returns-clause-others
 returns-clause-others c = rw (← c.self.view_is, c.take.ensures.entries)
-    (others_stay c.self.inside c.self.invariant c.in-Some.serial c.in-Some-take.row (sym c.take.ensures.row ∙ c.in-Some-take.is) c.args.target
-    (its_target c.self.inside c.self.invariant c.args.target _ c.newest.ensures c.in-Some.serial c.in-Some.is c.in-Some-take.row (sym c.take.ensures.row ∙ c.in-Some-take.is)))
+    (others_stay c.self.inside c.self.invariant c.in-Some.serial c.in-Some-take.row (sym c.take.ensures.row ∙ c.in-Some-take.is) c.args.file
+    (its_file c.self.inside c.self.invariant c.args.file _ (rw c.file.view_is at c.newest.ensures) c.in-Some.serial c.in-Some.is c.in-Some-take.row (sym c.take.ensures.row ∙ c.in-Some-take.is)))

@@ -1,15 +1,35 @@
-use Rattle.std.proofs.Common.{refl}
-use Rattle.ele_names.proofs.Gone.{kept_dead, killed, row_known}
+use Rattle.ele_names.proofs.Basics.{refl, sym, ◌∙◌}
+use Rattle.ele_names.proofs.Gone.{found, found_known, found_target, its_name, kept_dead, killed}
 use Rattle.ele_names.proofs.names.Names.kill.Goals as goal
 
-pub leave-requires : goal.leave-requires
-leave-requires c = row_known c.self.inside c.self.invariant c.in-Some.serial c.in-Some.live c.in-Some.ensures.serial
+pub end-requires : goal.end-requires
+end-requires c = rw (found c.self.inside c.self.invariant c.args.directory c.args.name.now c.in-Some.live (sym c.live.ensures ∙ c.in-Some.is)).there refl
+
+pub end-requires-3 : goal.end-requires-3
+end-requires-3 c = found_known c.self.inside c.self.invariant c.args.directory c.args.name.now c.in-Some.live (sym c.live.ensures ∙ c.in-Some.is)
 
 pub invariant_of-self : goal.invariant_of-self
 invariant_of-self c =
-    kept_dead c.self.inside c.self.invariant c.in-Some.serial c.in-Some.live c.in-Some.ensures.serial c.in-Some.ensures.live.1
-    c.args.moment _ _ c.leave.ensures.names (c.leave.ensures.listed c.self.invariant.listed) refl c.replace.ensures c.leave.ensures.counted c.leave.ensures.numbered
+    let a = c.self.inside in
+    let kept = c.self.invariant in
+    let d = c.args.directory in
+    let n = c.args.name.now in
+    let live = c.in-Some.live in
+    let is = sym c.live.ensures ∙ c.in-Some.is in
+    let its = found a kept d n live is in
+    kept_dead a kept live.serial its.row its.there (its_name a kept d n live is).1 c.args.moment _ _ c.end-3.ensures.names (c.end-3.ensures.listed kept.listed)
+    c.end-2.ensures.named (c.end-2.ensures.chained _) (c.end.ensures its.row its.there)
+    (λ was now. c.end-3.ensures.counted its.row was now its.live) (λ at to serial. c.end-3.ensures.numbered its.row at to serial its.live)
+    (rw (found_target a kept d n live is) at c.end-2.ensures.live)
 
 pub returns : goal.returns
-returns c = rw (← c.self.view_is, c.replace.ensures)
-    (killed c.self.inside c.self.invariant c.in-Some.serial c.in-Some.live c.in-Some.ensures.serial c.in-Some.ensures.live.1 c.args.moment c.args.directory c.args.name.now c.in-Some.ensures.live.0)
+returns c =
+    let a = c.self.inside in
+    let kept = c.self.invariant in
+    let d = c.args.directory in
+    let n = c.args.name.now in
+    let live = c.in-Some.live in
+    let is = sym c.live.ensures ∙ c.in-Some.is in
+    let its = found a kept d n live is in
+    let name = its_name a kept d n live is in
+    rw (← c.self.view_is, c.end.ensures its.row its.there) (killed a kept live.serial its.row its.there name.1 c.args.moment d n name.0)

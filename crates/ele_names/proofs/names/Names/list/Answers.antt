@@ -12,8 +12,8 @@ less (Some s) r h = omega (arith, h)
 
 pub loop-next-init : goal.loop-next-init
 loop-next-init c = (
-  list_first c.self.inside c.self.invariant c.args.moment c.args.directory c.newest-next.result c.newest-next.ensures,
-  rw c.new-found.ensures.empty (list_begun c.self.inside c.self.invariant c.args.moment c.args.directory c.newest-next.result c.newest-next.ensures),
+  list_first c.self.inside c.self.invariant c.args.moment c.args.directory c.newest-next.result (rw c.directory.view_is at c.newest-next.ensures),
+  rw c.new-found.ensures.empty (list_begun c.self.inside c.self.invariant c.args.moment c.args.directory c.newest-next.result (rw c.directory.view_is at c.newest-next.ensures)),
 )
 
 pub unreachable-requires : goal.unreachable-requires

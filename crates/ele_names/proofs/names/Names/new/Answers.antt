@@ -8,4 +8,5 @@ invariant_of-result c = record {
   listed = c.new-2.ensures.listed;
   counts = rw c.new.ensures.rows c.new-2.ensures.counted;
   numbered = c.new-2.ensures.numbered (value_at c.new.result.rows.entries);
+  targets = rw c.new.ensures.rows c.new.ensures.live;
 }

@@ -1,7 +1,6 @@
-use Rattle.ele_names.proofs.Basics.{sym, ◌∙◌, arith, value_at}
-use Rattle.ele_names.proofs.Words.{target_eq, names_of}
+use Rattle.ele_names.proofs.Basics.{false, sym, ap, ◌∙◌, arith, option_map_or, value_at}
+use Rattle.ele_names.proofs.Words.{is_of, names_of}
 use Rattle.ele_names.proofs.Gone.{kept_without, last_gone, row_known}
-use Rattle.ele_names.proofs.Chained.{none_stands}
 use Rattle.ele_names.proofs.Numbering.{at_last, none_past, without_last}
 use Rattle.ele_names.proofs.names.Names.take_back.Goals as goal
 
@@ -15,8 +14,9 @@ invariant_of-self c =
     let at = at_last c.in-Some.serial c.in-Some.row _ _ c.in-Some.ensures.some c.in-Some.ensures.below in
     kept_without c.self.inside c.self.invariant c.in-Some.serial c.in-Some.row at _ _ c.leave-2.ensures.names (c.leave-2.ensures.listed c.self.invariant.listed)
     (sym (without_last c.in-Some.serial c.in-Some.row _ _ c.in-Some.ensures.some c.in-Some.ensures.below))
-    (c.leave.ensures (names_of c.self.inside.lives) (value_at c.self.inside.table.rows.entries) (sym c.in-Some-number.ensures.some.0) at
-    (λ k over. none_stands target_eq (λ row. row.target) (value_at c.self.inside.table.rows.entries) c.in-Some.row.target k (none_past c.in-Some.serial c.in-Some.row _ _ c.in-Some.ensures.some c.in-Some.ensures.below k over))) c.leave-2.ensures.counted c.leave-2.ensures.numbered
+    (c.leave.ensures.placed (names_of c.self.inside.lives) (value_at c.self.inside.table.rows.entries) (sym c.in-Some-number.ensures.some.0) at
+    (λ f k _ over. ap (λ o. option_map_or (is_of f) o false) (none_past c.in-Some.serial c.in-Some.row _ _ c.in-Some.ensures.some c.in-Some.ensures.below k over))) c.leave-2.ensures.counted c.leave-2.ensures.numbered
+    c.leave.ensures.live
 
 pub returns : goal.returns
 returns c = λ rows newest are. last_gone rows newest _ _ c.in-Some.serial c.in-Some.row c.in-Some.ensures.some (c.self.view_is ∙ are)
