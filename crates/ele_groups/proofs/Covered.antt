@@ -28,12 +28,10 @@ module _ (except : Option Except) (file closed : ℕ) (ended : Option ℕ) (es :
   AreLeft xs = (s : ℕ) → s < 2 ^ 64 → option_map_or passes (value_at es s) false ≡ true → list_any (λ e. e.2 == s) xs ≡ true
 
   first_of : (o : Option GroupRow) → option_map_or passes o false ≡ true → has_file file o ≡ true
-  first_of None h = h
-  first_of (Some row) h = grind (arith, nat_tests, is_member)
+  first_of x0 h = grind (arith, nat_tests)
 
   second_of : (o : Option GroupRow) → option_map_or passes o false ≡ true → option_map_or covering o false ≡ true
-  second_of None h = h
-  second_of (Some row) h = second_holds (is_member file row) (covering row) h
+  second_of x0 h = grind (arith, nat_tests, second_holds)
 
   -- one of them was looked at and doesn't cover
   pub left_next : (e : ℕ × ℕ × ℕ) (xs : List (ℕ × ℕ × ℕ)) → AreLeft (e ∷ xs) → option_map_or covering (value_at es e.2) false ≡ false → AreLeft xs

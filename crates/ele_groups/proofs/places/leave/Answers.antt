@@ -1,4 +1,4 @@
-use Rattle.ele_groups.proofs.Basics.{take, take_more}
+use Rattle.ele_groups.proofs.Basics.{nat_tests, arith, take, take_more}
 use Rattle.ele_groups.proofs.Placed.{left_more}
 use Rattle.ele_groups.proofs.places.leave.Goals as goal
 

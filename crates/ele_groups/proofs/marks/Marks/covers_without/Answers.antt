@@ -1,3 +1,4 @@
+use Rattle.ele_groups.proofs.Basics.{nat_tests, arith}
 use Rattle.ele_groups.proofs.Times.{until_without, from_without, first_answer, second_answer}
 use Rattle.ele_groups.proofs.marks.Marks.covers_without.Goals as goal
 
@@ -14,5 +15,4 @@ returns-then-lies_between-2 c = rw (← c.seconds-left.ensures.value, ← c.seco
     (first_answer _ _ _ _ c.lies_between-in-None.ensures c.if-lies_between-2.true (from_without c.seconds-left.result c.seconds-closed.result c.args.self.now))
 
 pub returns-else-lies_between-2 : goal.returns-else-lies_between-2
-returns-else-lies_between-2 c = rw (← c.seconds-left.ensures.value, ← c.seconds-closed.ensures.value, c.in-None.is)
-    (second_answer _ _ _ _ _ c.lies_between-in-None.ensures c.if-lies_between-2.false (rw c.max-else-lies_between-2.ensures at c.lies_from.ensures) (from_without c.seconds-left.result c.seconds-closed.result c.args.self.now))
+returns-else-lies_between-2 c = grind (arith, nat_tests, second_answer, from_without)
