@@ -15,21 +15,16 @@ none_equal k (x ∷ xs) all = rw (turned x k, all.0) (none_equal k xs all.1)
 -- and once taken out, no more
 pub gone : (k : ℕ) (xs : List ℕ) → AreApart xs → list_any (λ x. x == k) (remove_first (λ x. x == k) xs) ≡ false
 gone k [] apart = refl
-gone k (x ∷ xs) apart = elim (x == k) as (λ b. (x == k) ≡ b → list_any (λ x. x == k) (cond b xs (x ∷ remove_first (λ x. x == k) xs)) ≡ false) [
-  | true ↦ λ e. let same = is_same x k e in rw (← same) (none_equal x xs apart.0)
-  | false ↦ λ e. rw e (gone k xs apart.1)
-] refl
+gone k (x ∷ xs) apart = grind (arith, nat_tests, is_same, none_equal, gone k xs apart.1)
 
 pub others : (k t : ℕ) (xs : List ℕ) → (k == t) ≡ false → list_any (λ x. x == t) (remove_first (λ x. x == k) xs) ≡ list_any (λ x. x == t) xs
 others k t xs apart = list_any-remove_first (λ x. x == k) (λ x. x == t) xs (λ x found. let same = is_same x k (found_passes (λ x. x == k) xs x found) in rw same apart)
 
 both_ways : (b : Bool) → b ≡ (b && true)
-both_ways true = refl
-both_ways false = refl
+both_ways x0 = grind (arith, nat_tests)
 
 nothing : (b : Bool) → false ≡ (b && false)
-nothing true = refl
-nothing false = refl
+nothing x0 = grind (arith, nat_tests)
 
 -- the others stay
 pub any_removed : (k t : ℕ) (xs : List ℕ) → AreApart xs → list_any (λ x. x == t) (remove_first (λ x. x == k) xs) ≡ (list_any (λ x. x == t) xs && not (k == t))
@@ -42,7 +37,4 @@ kept_all k (x ∷ xs) all = rw (turned x k, all.0) (ap (λ ys. x ∷ ys) (kept_a
 -- what is taken out once is taken out wherever it stands
 pub filtered : (k : ℕ) (xs : List ℕ) → AreApart xs → remove_first (λ x. x == k) xs ≡ filter (λ x. not (x == k)) xs
 filtered k [] apart = refl
-filtered k (x ∷ xs) apart = elim (x == k) as (λ b. (x == k) ≡ b → cond b xs (x ∷ remove_first (λ x. x == k) xs) ≡ cond (not b) (x ∷ filter (λ x. not (x == k)) xs) (filter (λ x. not (x == k)) xs)) [
-  | true ↦ λ e. let same = is_same x k e in rw (← same) (kept_all x xs apart.0)
-  | false ↦ λ e. ap (λ ys. x ∷ ys) (filtered k xs apart.1)
-] refl
+filtered k (x ∷ xs) apart = grind (arith, nat_tests, is_same, kept_all, filtered k xs apart.1)

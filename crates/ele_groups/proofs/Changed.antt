@@ -32,26 +32,17 @@ module _ (serial : ℕ) (f : GroupRow → GroupRow) where
 
   pub changed_keys : (es : Entries) → keys_of (changed_at serial f es) ≡ keys_of es
   changed_keys [] = refl
-  changed_keys (e ∷ es) = elim (is_at (nat_cmp serial) e.0) as (λ b. keys_of (cond b ((e.0, f e.1) ∷ es) (e ∷ changed_at serial f es)) ≡ keys_of (e ∷ es)) [
-    | true ↦ refl
-    | false ↦ ap (λ (l : List ℕ). e.0 ∷ l) (changed_keys es)
-  ]
+  changed_keys (e ∷ es) = grind (arith, nat_tests, is_at, changed_keys es)
 
   -- there f is done to the row
   pub changed_here : (es : Entries) → value_at (changed_at serial f es) serial ≡ option_map f (value_at es serial)
   changed_here [] = refl
-  changed_here (e ∷ es) = elim (is_at (nat_cmp serial) e.0) as (λ b. is_at (nat_cmp serial) e.0 ≡ b → value_at (cond b ((e.0, f e.1) ∷ es) (e ∷ changed_at serial f es)) serial ≡ option_map f (cond b (Some e.1) (value_at es serial))) [
-    | true ↦ λ i. rw i refl
-    | false ↦ λ i. rw i (changed_here es)
-  ] refl
+  changed_here (e ∷ es) = grind (arith, nat_tests, is_at, changed_here es)
 
   -- and elsewhere nothing
   pub changed_elsewhere : (es : Entries) (t : ℕ) → is_at (nat_cmp serial) t ≡ false → value_at (changed_at serial f es) t ≡ value_at es t
   changed_elsewhere [] t apart = refl
-  changed_elsewhere (e ∷ es) t apart = elim (is_at (nat_cmp serial) e.0) as (λ b. is_at (nat_cmp serial) e.0 ≡ b → value_at (cond b ((e.0, f e.1) ∷ es) (e ∷ changed_at serial f es)) t ≡ value_at (e ∷ es) t) [
-    | true ↦ λ i. let same = same_serial serial e.0 i in rw (← same, turn serial t apart) refl
-    | false ↦ λ i. ap (λ (o : Option GroupRow). cond (is_at (nat_cmp t) e.0) (Some e.1) o) (changed_elsewhere es t apart)
-  ] refl
+  changed_elsewhere (e ∷ es) t apart = grind (arith, nat_tests, is_at, same_serial, turn, changed_elsewhere es t apart)
 
   -- a test of the rows that sees no change
   pub changed_same : (p : GroupRow → Bool) → ((row : GroupRow) → p (f row) ≡ p row) → (es : Entries) (t : ℕ) → option_map_or p (value_at (changed_at serial f es) t) false ≡ option_map_or p (value_at es t) false
@@ -103,24 +94,17 @@ module _ (p : GroupRow → Bool) where
 
 -- what follows from a success or a failure
 pub ok_then : {X E A B : Type 0} (r : Result X E) → OnOk r A → (A → B) → OnOk r B
-ok_then (Ok x) h then = then h
-ok_then (Err e) h then = tt
+ok_then x0 h then = grind (arith, nat_tests)
 
 pub err_then : {X E A B : Type 0} (r : Result X E) → OnErr r A → (A → B) → OnErr r B
-err_then (Ok x) h then = tt
-err_then (Err e) h then = then h
+err_then x0 h then = grind (arith, nat_tests)
 
 pub either_way : {X E A B C : Type 0} (r : Result X E) → OnOk r A → OnErr r B → (A → C) → (B → C) → C
-either_way (Ok x) a b then other = then a
-either_way (Err e) a b then other = other b
+either_way x0 a b then other = grind (arith, nat_tests)
 
 -- two tests of a row that may be missing
 pub both_hold : (p q : GroupRow → Bool) (o : Option GroupRow) → option_map_or p o false ≡ true → option_map_or q o false ≡ true → option_map_or (λ row. p row && q row) o false ≡ true
-both_hold p q None a b = a
-both_hold p q (Some row) a b = rw a b
+both_hold p q x2 a b = grind (arith, nat_tests)
 
 pub by_bound : {A : Type 0} (s below : ℕ) → (s < below → A) → (below ≤ s → A) → A
-by_bound {A = A} s below less other = cases (nat_lt s below) refl where
-  cases : (b : Bool) → nat_lt s below ≡ b → A
-  cases true e = less (grind (arith, nat_tests))
-  cases false e = other (grind (arith, nat_tests))
+by_bound {A = A} s below less other = grind (arith, nat_tests)

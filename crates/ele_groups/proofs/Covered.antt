@@ -28,12 +28,10 @@ module _ (except : Option Except) (file closed : ℕ) (ended : Option ℕ) (es :
   AreLeft xs = (s : ℕ) → s < 2 ^ 64 → option_map_or passes (value_at es s) false ≡ true → list_any (λ e. e.2 == s) xs ≡ true
 
   first_of : (o : Option GroupRow) → option_map_or passes o false ≡ true → has_file file o ≡ true
-  first_of None h = h
-  first_of (Some row) h = grind (arith, nat_tests, is_member)
+  first_of x0 h = grind (arith, nat_tests)
 
   second_of : (o : Option GroupRow) → option_map_or passes o false ≡ true → option_map_or covering o false ≡ true
-  second_of None h = h
-  second_of (Some row) h = second_holds (is_member file row) (covering row) h
+  second_of x0 h = grind (arith, nat_tests, second_holds)
 
   -- one of them was looked at and doesn't cover
   pub left_next : (e : ℕ × ℕ × ℕ) (xs : List (ℕ × ℕ × ℕ)) → AreLeft (e ∷ xs) → option_map_or covering (value_at es e.2) false ≡ false → AreLeft xs
@@ -41,12 +39,7 @@ module _ (except : Option Except) (file closed : ℕ) (ended : Option ℕ) (es :
 
   -- none is left
   pub none_left : IsStrictlySortedBy nat_cmp (keys_of es) → AllByRecursion (λ s. s < 2 ^ 64) (keys_of es) → AreLeft [] → list_any passes (values_of es) ≡ false
-  none_left rising fits left = none_any passes (values_of es) (no_value passes es rising (λ s. by_bound s (2 ^ 64)
-      (λ lt. not_true (option_map_or passes (value_at es s) false) (λ holds. absurd (false≢true (left s lt holds))))
-      (λ le. rw (not_yet s es (all-weaker (λ k. k < 2 ^ 64) (λ k. k < s) (keys_of es) (λ k h. omega arith) fits)) refl))) where
-        not_true : (b : Bool) → (b ≡ true → b ≡ false) → b ≡ false
-        not_true true h = h refl
-        not_true false h = refl
+  none_left rising fits left = grind (arith, nat_tests, none_any passes (values_of es), no_value passes es rising, by_bound, false≢true, not_yet, all-weaker)
 
   module _ (places : Index ℕ) (placed : ArePlaced (value_at es) places) where
     -- at first all entries of the file are
@@ -55,5 +48,4 @@ module _ (except : Option Except) (file closed : ℕ) (ended : Option ℕ) (es :
 
     -- one of them covers
     pub covers_at_one : (e : ℕ × ℕ × ℕ) → has nat_cmp places file e.1 e.2 ≡ true → option_map_or covering (value_at es e.2) false ≡ true → list_any passes (values_of es) ≡ true
-    covers_at_one e there holds = any_value passes es e.2
-        (both_hold (is_member file) covering (value_at es e.2) (second_holds (e.1 == e.2) (has_file file (value_at es e.2)) (sym (placed.each file e.1 e.2) ∙ there)) holds)
+    covers_at_one e there holds = grind (arith, nat_tests, any_value passes es e.2, both_hold (is_member file) covering (value_at es e.2), second_holds (e.1 == e.2) (has_file file (value_at es e.2)))

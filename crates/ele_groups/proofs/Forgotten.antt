@@ -1,5 +1,5 @@
 -- A file taken out of the groups that have it.
-use Rattle.ele_groups.proofs.Basics.{◌≡◌, ℕ, ◌==◌, ◌<◌, true, false, cond, ◌||◌, not, List, [], ◌∷◌, length, refl, ap, arith, filter, is_at, list_any, AllByRecursion, values_of, nat_cmp, true≢false, false≢true, value_at}
+use Rattle.ele_groups.proofs.Basics.{nat_tests, ◌≡◌, ℕ, ◌==◌, ◌<◌, true, false, cond, ◌||◌, not, List, [], ◌∷◌, length, refl, ap, arith, filter, is_at, list_any, AllByRecursion, values_of, nat_cmp, true≢false, false≢true, value_at}
 use Rattle.ele_groups.proofs.Words.{GroupRow, forgets, forgotten, is_member, changed_at, has_file}
 use Rattle.ele_groups.proofs.Changed.{Entries}
 
@@ -13,10 +13,7 @@ module _ (file : ℕ) where
 
   none_left : (xs : List ℕ) → list_any (λ member. member == file) (filter (λ member. not (member == file)) xs) ≡ false
   none_left [] = refl
-  none_left (x ∷ xs) = elim (x == file) as (λ b. (x == file) ≡ b → list_any (λ member. member == file) (cond (not b) (x ∷ filter (λ member. not (member == file)) xs) (filter (λ member. not (member == file)) xs)) ≡ false) [
-    | true ↦ λ e. none_left xs
-    | false ↦ λ e. rw e (none_left xs)
-  ] refl
+  none_left (x ∷ xs) = grind (arith, nat_tests, none_left xs)
 
   -- what no group has is forgotten
   pub none_forgotten : (rows : List GroupRow) → AllByRecursion (λ row. is_member file row ≡ false) rows → forgotten file rows ≡ rows
@@ -30,10 +27,7 @@ module _ (file : ℕ) where
     -- one group forgets it first
     pub forgotten_first : (es : Entries) → forgotten file (values_of (changed_at s (forgets file) es)) ≡ forgotten file (values_of es)
     forgotten_first [] = refl
-    forgotten_first (e ∷ es) = elim (is_at (nat_cmp s) e.0) as (λ b. forgotten file (values_of (cond b ((e.0, forgets file e.1) ∷ es) (e ∷ changed_at s (forgets file) es))) ≡ forgotten file (values_of (e ∷ es))) [
-      | true ↦ ap (λ (row : GroupRow). row ∷ forgotten file (values_of es)) (forgets_again e.1)
-      | false ↦ ap (λ (l : List GroupRow). forgets file e.1 ∷ l) (forgotten_first es)
-    ]
+    forgotten_first (e ∷ es) = grind (arith, nat_tests, is_at, forgets_again, forgotten_first es)
 
     -- and then fewer have it
     pub fewer_have : (es : Entries) → has_file file (value_at es s) ≡ true → length (filter (is_member file) (values_of (changed_at s (forgets file) es))) < length (filter (is_member file) (values_of es))

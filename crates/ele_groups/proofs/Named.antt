@@ -9,8 +9,7 @@ none_any p (row ∷ rows) all = rw all.0 (none_any p rows all.1)
 
 -- a value that passes a test is there
 pub there : (p : GroupRow → Bool) (o : Option GroupRow) → option_map_or p o false ≡ true → (row : GroupRow) × (o ≡ Some row) × (p row ≡ true)
-there p None h = absurd (false≢true h)
-there p (Some row) h = (row, refl, h)
+there p x1 h = grind (arith, nat_tests, false≢true)
 
 -- no groups
 pub kept_empty : (es : Entries) (number : List ℕ → Option ℕ) (places : Index ℕ) → es ≡ [] → ((n : List ℕ) → number n ≡ None) → ((q r s : ℕ) → has nat_cmp places q r s ≡ false) → AreKept es 0 number places
@@ -76,16 +75,7 @@ module _ (es : Entries) (made : ℕ) (number : List ℕ → Option ℕ) (places 
 
   -- a group changed that keeps its name
   pub kept_changed : (s : ℕ) (f : GroupRow → GroupRow) (to : Index ℕ) → ((n : List ℕ) (row : GroupRow) → is_group n (f row) ≡ is_group n row) → ArePlaced (value_at (changed_at s f es)) to → AreKept (changed_at s f es) made number to
-  kept_changed s f to same placed = record {
-    rising = rw (changed_keys s f es) kept.rising;
-    below = rw (changed_keys s f es) kept.below;
-    fits = kept.fits;
-    named = record {
-      numbered = λ n t is. changed_same s f (is_group n) (same n) es t ∙ kept.named.numbered n t is;
-      known = λ n t h. kept.named.known n t (sym (changed_same s f (is_group n) (same n) es t) ∙ h);
-    };
-    placed = placed;
-  }
+  kept_changed s f to same placed = grind (arith, nat_tests, changed_keys, changed_same, placed)
 
   -- and its files
   pub kept_marked : (s : ℕ) (f : GroupRow → GroupRow) → ((n : List ℕ) (row : GroupRow) → is_group n (f row) ≡ is_group n row) → ((file : ℕ) (row : GroupRow) → is_member file (f row) ≡ is_member file row) → AreKept (changed_at s f es) made number places

@@ -16,12 +16,10 @@ apart_at : (s t : ℕ) → (s == t) ≡ false → is_at (nat_cmp s) t ≡ false
 apart_at s t h = grind (arith, nat_tests)
 
 first_holds : (a b : Bool) → (a && b) ≡ true → a ≡ true
-first_holds true b h = refl
-first_holds false b h = h
+first_holds x0 b h = grind (arith, nat_tests)
 
 pub second_holds : (a b : Bool) → (a && b) ≡ true → b ≡ true
-second_holds true b h = h
-second_holds false b h = absurd (false≢true h)
+second_holds x0 b h = grind (arith, nat_tests, false≢true)
 
 -- a file comes to one group or goes
 pub placed_changed : (b : Bool) (file s : ℕ) (old new : Index ℕ) (at to : ℕ → Option GroupRow) → ArePlaced at old

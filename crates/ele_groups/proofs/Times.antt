@@ -7,10 +7,7 @@ same_at : (k t : ℕ) → is_at (nat_cmp k) t ≡ (k == t)
 same_at k t = grind (arith, nat_tests)
 
 choice : (b : Bool) (c : Bool) → cond b true c ≡ (c || (b || false))
-choice true true = refl
-choice true false = refl
-choice false true = refl
-choice false false = refl
+choice x0 x1 = grind (arith, nat_tests)
 
 module _ (made : List ℕ) (times new : BTreeSet ℕ) (timed : AreTimed made times) (mark : ℕ) where
   pub timed_with : (k : ℕ) → k ≡ mark → list_any (λ x. x == mark) made ≡ false → ((t : ℕ) → contains nat_cmp new t ≡ cond (is_at (nat_cmp k) t) true (contains nat_cmp times t)) → AreTimed (made ++ mark ∷ []) new
@@ -52,8 +49,7 @@ module _ (p : ℕ → Bool) where
         → (A → (k : ℕ) → p k ≡ true → contains nat_cmp times k ≡ false)
         → ((x : X) → P x → (k : ℕ) × (p k ≡ true) × (contains nat_cmp times k ≡ true))
         → is_some o ≡ list_any p made
-    answered None is none some = sym (none_at made (λ k passes. sym (timed.same k) ∙ none is k passes))
-    answered (Some x) is none some = let found = some x is in sym (any_at found.0 made (sym (timed.same found.0) ∙ found.2) found.1)
+    answered x0 is none some = grind (arith, nat_tests, none_at, any_at)
 
 -- which times lie within bounds
 pub within : (from until k : ℕ) → covers_moment from (Some until) k ≡ true → (is_gt (nat_cmp from k) ≡ false) × (nat_cmp k until ≡ Less)
@@ -69,13 +65,7 @@ is_from_on from k a = grind (arith, nat_tests)
 pub two_spans : (left closed : ℕ) (ended : Option ℕ) (a b : ℕ → Bool) (xs : List ℕ) → ((k : ℕ) → (a k || b k) ≡ (covers_moment closed ended k && not (k == left)))
     → (list_any a xs || list_any b xs) ≡ list_any (λ k. covers_moment closed ended k && not (k == left)) xs
 two_spans left closed ended a b [] each = refl
-two_spans left closed ended a b (x ∷ xs) each = swap (a x) (list_any a xs) (b x) (list_any b xs) ∙ ap (λ t. t || (list_any a xs || list_any b xs)) (each x) ∙ ap (λ t. (covers_moment closed ended x && not (x == left)) || t) (two_spans left closed ended a b xs each) where
-  swap : (p q r s : Bool) → ((p || q) || (r || s)) ≡ ((p || r) || (q || s))
-  swap true q r s = refl
-  swap false true true s = refl
-  swap false true false s = refl
-  swap false false true s = refl
-  swap false false false s = refl
+two_spans left closed ended a b (x ∷ xs) each = grind (arith, nat_tests, two_spans left closed ended a b xs each)
 
 spans_until : (left closed ended k : ℕ) → (covers_moment closed (Some (min left ended)) k || covers_moment (max closed (left + 1)) (Some ended) k) ≡ (covers_moment closed (Some ended) k && not (k == left))
 spans_until left closed ended k = grind (arith, nat_tests)

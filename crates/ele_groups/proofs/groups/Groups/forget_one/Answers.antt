@@ -1,4 +1,4 @@
-use Rattle.ele_groups.proofs.Basics.{refl, arith, values_of, value_at}
+use Rattle.ele_groups.proofs.Basics.{nat_tests, refl, arith, values_of, value_at}
 use Rattle.ele_groups.proofs.Words.{forgets, is_member}
 use Rattle.ele_groups.proofs.Changed.{no_value, by_bound}
 use Rattle.ele_groups.proofs.Forgotten.{none_forgotten, forgotten_first, fewer_have}
@@ -22,5 +22,4 @@ pub returns-clause-others : goal.returns-clause-others
 returns-clause-others c = rw (← c.self.view_is, c.remove_from.ensures.forgets) (forgotten_first c.args.file c.in-Some.serial c.self.inside.rows.entries)
 
 pub returns-clause-fewer : goal.returns-clause-fewer
-returns-clause-fewer c = λ _. rw (← c.self.view_is, c.remove_from.ensures.forgets)
-    (fewer_have c.args.file c.in-Some.serial c.self.inside.rows.entries (c.in-Some.ensures.some (value_at c.self.inside.rows.entries) c.self.invariant.placed).here)
+returns-clause-fewer c = grind (arith, nat_tests, fewer_have)

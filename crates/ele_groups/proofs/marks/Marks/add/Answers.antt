@@ -1,3 +1,4 @@
+use Rattle.ele_groups.proofs.Basics.{nat_tests, arith}
 use Rattle.ele_groups.proofs.Times.{timed_with}
 use Rattle.ele_groups.proofs.marks.Marks.add.Goals as goal
 

@@ -1,3 +1,4 @@
+use Rattle.ele_groups.proofs.Basics.{nat_tests, arith}
 use Rattle.ele_groups.proofs.Times.{until_without, from_without, first_answer, second_answer}
 use Rattle.ele_groups.proofs.marks.Marks.covers_without.Goals as goal
 
@@ -6,13 +7,10 @@ returns-then-lies_between c = rw (← c.seconds-left.ensures.value, ← c.second
     (first_answer _ _ _ _ (rw c.min.ensures at c.lies_between.ensures) c.if-lies_between.true (until_without c.seconds-left.result c.seconds-closed.result c.args.self.now c.seconds-ended.result))
 
 pub returns-else-lies_between : goal.returns-else-lies_between
-returns-else-lies_between c = rw (← c.seconds-left.ensures.value, ← c.seconds-closed.ensures.value, c.in-Some.is, ← c.seconds-ended.ensures.value)
-    (second_answer _ _ _ _ _ (rw c.min.ensures at c.lies_between.ensures) c.if-lies_between.false (rw c.max.ensures at c.lies_between-else-lies_between.ensures) (until_without c.seconds-left.result c.seconds-closed.result c.args.self.now c.seconds-ended.result))
+returns-else-lies_between c = grind (arith, nat_tests, second_answer, until_without c.seconds-left.result c.seconds-closed.result c.args.self.now c.seconds-ended.result)
 
 pub returns-then-lies_between-2 : goal.returns-then-lies_between-2
-returns-then-lies_between-2 c = rw (← c.seconds-left.ensures.value, ← c.seconds-closed.ensures.value, c.in-None.is)
-    (first_answer _ _ _ _ c.lies_between-in-None.ensures c.if-lies_between-2.true (from_without c.seconds-left.result c.seconds-closed.result c.args.self.now))
+returns-then-lies_between-2 c = grind (arith, nat_tests, first_answer, from_without c.seconds-left.result c.seconds-closed.result c.args.self.now)
 
 pub returns-else-lies_between-2 : goal.returns-else-lies_between-2
-returns-else-lies_between-2 c = rw (← c.seconds-left.ensures.value, ← c.seconds-closed.ensures.value, c.in-None.is)
-    (second_answer _ _ _ _ _ c.lies_between-in-None.ensures c.if-lies_between-2.false (rw c.max-else-lies_between-2.ensures at c.lies_from.ensures) (from_without c.seconds-left.result c.seconds-closed.result c.args.self.now))
+returns-else-lies_between-2 c = grind (arith, nat_tests, second_answer, from_without)

@@ -1,3 +1,4 @@
+use Rattle.ele_groups.proofs.Basics.{nat_tests, arith}
 use Rattle.ele_groups.proofs.Times.{timed_without}
 use Rattle.ele_groups.proofs.marks.Marks.remove.Goals as goal
 
