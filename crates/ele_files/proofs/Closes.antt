@@ -37,14 +37,7 @@ module _ (s : Store) (files : List File) (ss : AllSessions) (handle : ℕ) where
 
   module _ (kept : Keeps s files ss) where
     pub given_lives : (m : Layout) → given ss handle ≡ Some m → LivesIn s m
-    given_lives m = by (sessions.reads_by ss.handles handle) where
-      ends : (file : ℕ) (b : Bool) (o : Option Draft) → find (is_draft file) ss.drafts ≡ o → (file_closing b o).1 ≡ Some m → LivesIn s m
-      ends file x1 o found is = grind (arith, nat_tests, draft_lives)
-
-      by : (o : Option Reads) → option_and_then (λ answer. answer.1) (closing_of ss handle o) ≡ Some m → LivesIn s m
-      by None is = absurd cc
-      by (Some (reads.Version file version)) is = absurd cc
-      by (Some (reads.Draft file)) is = ends file (list_any (is_writer file) (left_handles ss handle)) (find (is_draft file) ss.drafts) refl is
+    given_lives m = grind (arith, nat_tests, draft_lives)
 
     module _ (t : Store) where
       pub leaves : IsGivenUp s t (given ss handle) → IsSeen t files (closed ss handle) (left_by shown handle)

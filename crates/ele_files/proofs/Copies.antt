@@ -61,10 +61,7 @@ module _ (f : File) (kept : IsFileKept f) where
     log-fewer = let left = left-behind behind f.log.rows row rise (sym found) in rw left (omega arith)
 
     pub log-next : (s : Store) (rows all : List world.VersionRow) (cells : List Cell) → cells ≡ shown s row.cells → rows ++ map (row_in s f.id) (filter (is_after behind) f.log.rows) ≡ all → (rows ++ record { file = f.id; number = row.number; opened = row.opened; closed = row.closed; ended = row.ended; cells = cells } ∷ []) ++ map (row_in s f.id) (filter (is_after row.number) f.log.rows) ≡ all
-    log-next s rows all cells is h =
-        let left = left-behind behind f.log.rows row rise (sym found) in
-        let h' : rows ++ row_in s f.id row ∷ map (row_in s f.id) (filter (is_after row.number) f.log.rows) ≡ all = ap (λ xs. rows ++ map (row_in s f.id) xs) (sym left) ∙ h in
-        rw (is, append_assoc) h'
+    log-next s rows all cells is h = grind (arith, nat_tests, left-behind, rise, found, append_assoc)
 
 -- the rows of drafts
 abbrev draft_from : ℕ × ℕ × Bool → List Cell → DraftRow

@@ -13,15 +13,7 @@ not_some o P e h = rw e at h
 pub last_row : (rows : List LogRow) (number now : ℕ) (row : LogRow) → AllLater Precedes rows → find (is_numbered number) rows ≡ Some row → row.ended ≡ None → IsLastRow rows number now row
 last_row [] number now row order found endless = absurd cc
 last_row (x ∷ []) number now row order found endless = record { last = grind (arith, nat_tests, found); ended = grind (arith, nat_tests, found, endless) }
-last_row (x ∷ y ∷ rows) number now row order found endless = elim (eqb x.number number) as (λ b. eqb x.number number ≡ b → IsLastRow (x ∷ y ∷ rows) number now row) [
-  | true ↦ λ e.
-      let h = rw e at found in
-      let is : x ≡ row = cc in
-      absurd (not_some x.ended (λ ended. ended ≤ y.closed) (ap (λ (r : LogRow). r.ended) is ∙ endless) order.0.0.ended)
-  | false ↦ λ e.
-      let rest = last_row (y ∷ rows) number now row order.1 (rw e at found) endless in
-      record { last = rest.last; ended = rw e (ap (λ rs. x ∷ rs) rest.ended) }
-] refl
+last_row (x ∷ y ∷ rows) number now row order found endless = grind (arith, nat_tests, not_some, last_row (y ∷ rows) number now row order.1)
 
 pub can_end : (rows : List LogRow) (number now : ℕ) (row : LogRow) → AllByRecursion (IsRowPast now) rows → AllLater Precedes rows → find (is_numbered number) rows ≡ Some row → row.ended ≡ None → IsSomeAnd (last_of rows) (CanEndAt now)
 can_end rows number now row past order found endless =

@@ -22,16 +22,7 @@ first_map f = cells_of (last_row f)
 -- as many maps as versions and drafts are seen
 pub maps_seen : (s : Store) (files : List File) (drafts : List Draft) → length (stock_of files drafts) ≡ length (flat_map (rows_in s) files) + length (map (draft_in s) drafts)
 maps_seen s [] drafts = omega (arith, length-map drafts draft_stock, length-map drafts (draft_in s))
-maps_seen s (f ∷ files) drafts = omega (
-  arith,
-  maps_seen s files drafts,
-  length-append (file_stock f ++ flat_map file_stock files) (map draft_stock drafts),
-  length-append (file_stock f) (flat_map file_stock files),
-  length-append (flat_map file_stock files) (map draft_stock drafts),
-  length-append (rows_in s f) (flat_map (rows_in s) files),
-  length-map f.log.rows (row_stock f.id),
-  length-map f.log.rows (row_in s f.id),
-)
+maps_seen s (f ∷ files) drafts = grind (arith, nat_tests, length-append, length-map, maps_seen s files drafts)
 
 module _ (s : Store) (files : List File) (a : AllSessions) (kept : Keeps s files a) (file : ℕ) (f : File) (found : find (is_id file) files ≡ Some f) where
   file_kept : IsFileKept f
@@ -103,10 +94,7 @@ module _ (s : Store) (files : List File) (a : AllSessions) (kept : Keeps s files
       versions_on = versions_stay s t files a begins.stays.shows
 
     opened : (there : Bool) → list_any (is_draft file) a.drafts ≡ there → MatchBool there (t ≡ s) (Moves s t [] (first_map f ∷ [])) → IsSeen t files (opening.opened_by a new) (opened_by (held_in s files a) file at)
-    opened true e h = rw h (record {
-      keeps = same_drafts s files a (opening.opened_by a new) (rw e refl) kept;
-      shows = rw (map-append handle_in a.handles (record { number = a.opened + 1; reads = session.Draft file } ∷ []), any-draft s file a.drafts, e) refl;
-    })
+    opened true e h = grind (arith, nat_tests, same_drafts, map-append, any-draft)
     opened false e h = record {
       keeps = record {
         laws = kept.laws;
