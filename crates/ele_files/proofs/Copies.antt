@@ -43,7 +43,7 @@ module _ (laws : StockLaws) (s : Store) (m : Layout) (lives : LivesIn s m) (k : 
 
 -- the rows of a log
 module _ (f : File) (kept : IsFileKept f) where
-  rise : AllLater (λ (x y : LogRow). x.number < y.number) f.log.rows
+  pub rise : AllLater (λ (x y : LogRow). x.number < y.number) f.log.rows
   rise = later-weaker Precedes (λ (x y : LogRow). x.number < y.number) f.log.rows (λ x y p. p.number) kept.order.order
 
   pub log-all : filter (is_after 0) f.log.rows ≡ f.log.rows
@@ -68,10 +68,10 @@ abbrev draft_from : ℕ × ℕ × Bool → List Cell → DraftRow
 draft_from t cells = record { file = t.0; opened = t.1; cells = cells; changed = t.2 }
 
 module _ (s : Store) (drafts : List Draft) (rise : AllLater (λ (x y : Draft). x.file < y.file) drafts) (k : ℕ) (t : ℕ × ℕ × Bool) (got : Some t ≡ option_map (λ (d : Draft). (d.file, d.opened, d.changed)) (slice_get drafts k)) where
-  draft : (d : Draft) × (slice_get drafts k ≡ Some d) × ((d.file, d.opened, d.changed) ≡ t)
+  pub draft : (d : Draft) × (slice_get drafts k ≡ Some d) × ((d.file, d.opened, d.changed) ≡ t)
   draft = shown-some (λ (d : Draft). (d.file, d.opened, d.changed)) (slice_get drafts k) t got
 
-  found : find (sessions.is_draft t.0) drafts ≡ Some draft.0
+  pub found : find (sessions.is_draft t.0) drafts ≡ Some draft.0
   found = subst (λ (u : ℕ × ℕ × Bool). find (sessions.is_draft u.0) drafts ≡ Some draft.0) draft.2 (found-got (λ (d : Draft). d.file) drafts k draft.0 rise draft.1)
 
   pub draft-there : None ≡ option_map (λ (d : Draft). d.layout) (find (sessions.is_draft t.0) drafts) → ⊥

@@ -52,12 +52,8 @@ module _ (s : Store) (files : List File) (a : AllSessions) (kept : Keeps s files
   alone : list_any (world.is_draft id) (held_in s files a).drafts ≡ false
   alone = (neither (list_any (is_version_of id) (held_in s files a).versions) (list_any (world.is_draft id) (held_in s files a).drafts) bare).1
 
-  rows_left : map file_row fewer ≡ remove_first (is_file id) (map file_row files)
+  pub rows_left : map file_row fewer ≡ remove_first (is_file id) (map file_row files)
   rows_left = sym (remove_first-map file_row (is_file id) (is_id id) (λ x. refl) files)
-
-  -- no file has the number
-  pub none_drops : None ≡ position (is_id id) files → held_in s files a ≡ without_file (held_in s files a) id
-  none_drops none = rw (← rows_left, remove_first-none (is_id id) files (sym none)) refl
 
   module _ (f : File) (found : find (is_id id) files ≡ Some f) where
     no_log : f.log.rows ≡ []

@@ -23,10 +23,6 @@ can_end rows number now row past order found endless =
 pub no_end : (o : Option ℕ) → is_some o ≡ false → o ≡ None
 no_end o h = grind arith
 
--- a row that has an end keeps it
-pub keeps_end : (now : ℕ) (row : LogRow) → is_some row.ended ≡ true → ended_by now row ≡ row
-keeps_end now row has = grind (arith, has)
-
 module _ (next now : ℕ) (new : LogRow) (number : new.number ≡ next) (closed : new.closed ≡ now) where
   -- no row stands behind that before the next one
   none_behind : (x : LogRow) (rows : List LogRow) → x.number + 1 ≡ next → AllByRecursion (Precedes x) rows → AllByRecursion (IsRowOf next) rows → AllByRecursion (λ row. Precedes row new) rows
@@ -48,7 +44,7 @@ module _ (f : File) (now : ℕ) (kept : IsFileKept f) (past : AllByRecursion (Is
   pub of_rows : AllByRecursion (IsRowOf f.next) (ended_rows f now)
   of_rows = all-update_first (is_numbered (f.next - 1)) (IsRowOf f.next) (IsRowOf f.next) (ended_by now) f.log.rows (λ row h. record { first = h.first; number = h.number; open_end = λ endless. absurd cc }) (λ row h. h) kept.rows
 
-  ended_order : AreInOrder (ended_rows f now)
+  pub ended_order : AreInOrder (ended_rows f now)
   ended_order = record {
     ends = all-update_first (is_numbered (f.next - 1)) (λ row. EndsInTime row × IsRowPast now row) EndsInTime (ended_by now) f.log.rows ended_in_time (λ row h. h.0) (all-both EndsInTime (IsRowPast now) f.log.rows kept.order.ends past);
     order = later-update_first (is_numbered (f.next - 1)) Precedes (ended_by now) f.log.rows ended_before (λ x y h. record { number = h.number; ended = h.ended }) kept.order.order;

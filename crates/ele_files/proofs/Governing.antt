@@ -23,10 +23,6 @@ module _ (s : Store) (files : List File) (a : AllSessions) (kept : Keeps s files
   next_stays [] file = refl
   next_stays (x ∷ xs) file = grind (arith, nat_tests, is_file, next_stays xs file)
 
-  -- no file has the number
-  pub none_governed : None ≡ position (is_id id) files → held_in s files a ≡ changed_at (held_in s files a) 0 (PutUnder id policy ∷ [])
-  none_governed none = rw (update_first-unfound (is_file id) (world.put_under policy) (map file_row files) (all-not_found (is_file id) (map file_row files) (file_row-found files id ∙ ap (option_map file_row) (no-file files id none)))) refl
-
   module _ (i : ℕ) (f : File) (place : Some i ≡ position (is_id id) files) (is : f ≡ get_or files i f) where
     pub governs : IsSeen s (set files i (governed policy f)) a (changed_at (held_in s files a) 0 (PutUnder id policy ∷ []))
     governs = rw (set-first (is_id id) (governed policy) files i f (governed policy f) (sym place) is refl) (record {

@@ -9,7 +9,7 @@ use Rattle.ele_files.proofs.Rows.{undrafted, next-found, no-file, version-none, 
 use Rattle.ele_files.proofs.Stock.{row_lives}
 use Rattle.ele_world.specs.World as world
 
-some_found : {X : Type 0} (o : Option X) → IsSome o → o ≡ None → ⊥
+pub some_found : {X : Type 0} (o : Option X) → IsSome o → o ≡ None → ⊥
 some_found o some none = cc
 
 -- what the files and the store are then

@@ -5,7 +5,7 @@ use Rattle.ele_files.proofs.Words.{AllByRecursion, AllSessions, Bool, Draft, Fil
 abbrev pub over : File → File → File
 over g f = record f { next = g.next; log = g.log }
 
-total : (k : Tagged → ℕ) (files : List File) (drafts : List Draft) → sum_by k (stock_of files drafts) ≡ sum_by (λ f. sum_by k (file_stock f)) files + sum_by (λ d. k (draft_stock d)) drafts
+pub total : (k : Tagged → ℕ) (files : List File) (drafts : List Draft) → sum_by k (stock_of files drafts) ≡ sum_by (λ f. sum_by k (file_stock f)) files + sum_by (λ d. k (draft_stock d)) drafts
 total k files drafts = omega (arith, sum_by-append k (flat_map file_stock files) (map draft_stock drafts), sum_by-flat_map k file_stock files, sum_by-map k draft_stock drafts)
 
 module _ (files : List File) (drafts : List Draft) where

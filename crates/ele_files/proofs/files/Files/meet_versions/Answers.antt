@@ -1,4 +1,4 @@
-use Rattle.ele_files.proofs.Lemmas.{arith, nat_tests, List, Meets, VersionRow, [], meets_none, none_shown, on_ok_weaker, own_kept, own_lives, own_places, places, subst, sym}
+use Rattle.ele_files.proofs.Lemmas.{append-nil, shows, places_shown, its_id, arith, nat_tests, List, Meets, VersionRow, [], meets_none, none_shown, on_ok_weaker, own_kept, own_lives, own_places, places, subst, sym}
 use Rattle.ele_files.proofs.files.Files.meet_versions.Goals as goal
 
 pub meet_log-requires-clause-kept : goal.meet_log-requires-clause-kept

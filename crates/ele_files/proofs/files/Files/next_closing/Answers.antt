@@ -1,4 +1,4 @@
-use Rattle.ele_files.proofs.Lemmas.{arith, nat_tests, LogRow, ap, closing_none, closing_shown, option_map, sym, ◌∙◌}
+use Rattle.ele_files.proofs.Lemmas.{none_shown, find-filter, arith, nat_tests, LogRow, ap, closing_none, closing_shown, option_map, sym, ◌∙◌}
 use Rattle.ele_files.proofs.files.Files.next_closing.Goals as goal
 
 pub returns-in_err-held-clause-value : goal.returns-in_err-held-clause-value

@@ -1,8 +1,8 @@
-use Rattle.ele_files.proofs.Lemmas.{arith, nat_tests, ap, content_of, is_numbered, sym, ◌∙◌, cells-is, cells-no_row, cells-none, row_lives}
+use Rattle.ele_files.proofs.Lemmas.{version-of, version-none, arith, nat_tests, ap, content_of, is_numbered, sym, ◌∙◌, cells-is, cells-no_row, row_lives}
 use Rattle.ele_files.proofs.files.Files.version_content.Goals as goal
 
 pub returns-in_default-clause-bytes : goal.returns-in_default-clause-bytes
-returns-in_default-clause-bytes c = grind (arith, nat_tests, cells-none)
+returns-in_default-clause-bytes c = grind (arith, nat_tests, version-none)
 
 pub content-requires : goal.content-requires
 content-requires c = grind (arith, nat_tests, row_lives)

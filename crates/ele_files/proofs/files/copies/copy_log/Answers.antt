@@ -1,4 +1,4 @@
-use Rattle.ele_files.proofs.Lemmas.{LivesIn, LogRow, all-found, all-not_found, ap, append-nil, arith, filter, filter-none, is_after, log-all, log-fewer, log-next, map, nat_tests, row_in, rows_in, sym, ◌++◌, ◌∙◌}
+use Rattle.ele_files.proofs.Lemmas.{append_assoc, found, rise, left-behind, LivesIn, LogRow, all-found, all-not_found, ap, append-nil, arith, filter, filter-none, is_after, log-all, log-fewer, log-next, map, nat_tests, row_in, rows_in, sym, ◌++◌, ◌∙◌}
 use Rattle.ele_files.proofs.files.copies.copy_log.Goals as goal
 
 pub loop-row-init : goal.loop-row-init

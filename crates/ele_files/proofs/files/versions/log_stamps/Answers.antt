@@ -1,4 +1,4 @@
-use Rattle.ele_files.proofs.Lemmas.{all-not_found, ap, append-nil, arith, filter-none, is_after, log-all, log-fewer, map, nat_tests, stamps_in, sym, told-next, ◌++◌, ◌∙◌}
+use Rattle.ele_files.proofs.Lemmas.{found, rise, left-behind, append_assoc, all-not_found, ap, append-nil, arith, filter-none, is_after, log-all, log-fewer, map, nat_tests, stamps_in, sym, told-next, ◌++◌, ◌∙◌}
 use Rattle.ele_files.proofs.files.versions.log_stamps.Goals as goal
 
 pub loop-row-init : goal.loop-row-init
