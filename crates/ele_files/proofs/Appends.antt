@@ -1,9 +1,9 @@
 -- A file's next version is appended, and the first one of a new file.
-use Rattle.ele_files.proofs.Words.{AllByRecursion, AllLater, AllSessions, Append, Bool, Cell, Draft, File, FileRow, GotFile, HasAppended, Held, IsDraftKept, IsFileKept, IsLocal, IsRowOf, IsRowPast, IsStocked, Keeps, Layout, List, LogRow, None, Some, StockLaws, Store, VersionRow, World, [], after_change, all-both, all-found, all-map, all-push, all-weaker, ap, append-nil, arith, bucket_changes, cond, empty_layout, ended_at, ended_rows, eqb, false, file_row, find, find-at, flat_map, flat_map-append, held_in, insert_before, is_file, is_id, is_live, is_version, is_version_after, later-push, local-after, local-insert_before, local-update_first, ltb, map, map-all, map-append, named_live, nat_tests, next_of, next_of-numbered_other, next_of-push, next_row, not_found, numbered_on, refl, row_in, row_stock, rows_in, rows_of, shown, stock_of, subst, sym, true, update_first, update_first-at, with_file, with_name, with_rows, ℕ, ◌&&◌, ◌++◌, ◌+◌, ◌-◌, ◌<◌, ◌||◌, ◌∙◌, ◌∷◌, ◌≡◌, ◌≢◌}
+use Rattle.ele_files.proofs.Words.{sum_by-cons, sum_by-update_same, sum_by_push, AllByRecursion, AllLater, AllSessions, Append, Bool, Cell, Draft, File, FileRow, GotFile, HasAppended, Held, IsDraftKept, IsFileKept, IsLocal, IsRowOf, IsRowPast, IsStocked, Keeps, Layout, List, LogRow, None, Some, StockLaws, Store, VersionRow, World, [], after_change, all-both, all-found, all-map, all-push, all-weaker, ap, append-nil, arith, bucket_changes, cond, empty_layout, ended_at, ended_rows, eqb, false, file_row, find, find-at, flat_map, flat_map-append, held_in, insert_before, is_file, is_id, is_live, is_version, is_version_after, later-push, local-after, local-insert_before, local-update_first, ltb, map, map-all, map-append, named_live, nat_tests, next_of, next_of-numbered_other, next_of-push, next_row, not_found, numbered_on, refl, row_in, row_stock, rows_in, rows_of, shown, stock_of, subst, sym, true, update_first, update_first-at, with_file, with_name, with_rows, ℕ, ◌&&◌, ◌++◌, ◌+◌, ◌-◌, ◌<◌, ◌||◌, ◌∙◌, ◌∷◌, ◌≡◌, ◌≢◌}
 use Rattle.ele_files.proofs.Endings.{closed_kept, of_rows}
 use Rattle.ele_files.proofs.Exchanges.{after, rise_over, files_over, rows_over}
 use Rattle.ele_files.proofs.Rows.{its_id, next-found, file_of, tagged, own_version, ended_shown}
-use Rattle.ele_files.proofs.Stock.{over, row_added, file_added}
+use Rattle.ele_files.proofs.Stock.{exchanged, total, over, row_added, file_added}
 use Rattle.ele_world.specs.declared.rows.Target.TheVariants as target
 
 -- what comes in behind all

@@ -1,7 +1,7 @@
 -- What goes with a handle, and what the last writer of a changed draft leaves.
 use Rattle.ele_files.proofs.Words.{AllByRecursion, AllSessions, Became, Bool, Draft, EndDraft, File, HasAppended, Held, HeldRows, IsDraftKept, IsGivenUp, IsPast, Keeps, Layout, List, LivesIn, None, Ok, OnErr, Option, Reads, Result, Rises, ShutHandle, Some, Store, [], after_changes, all-found, all-not_found, all-remove_first, ap, arith, cells_of_draft, changed_at, changed_opening, closed, closed_of, closing, closing_of, cond, draft_in, draft_stock, false, file_by, file_closing, file_row, find, finishing, get_or, handle_in, held_in, is_draft, is_id, is_some, is_writer, last_draft, leaving, left_by, left_drafts, left_handles, left_of, list_any, map, nat_tests, next_of, next_row, opening_by, opening_of, option_and_then, option_map, position, refl, remove_first, remove_first-map, remove_first-unfound, result_ok, row_stock, rows_of, set, stock_of, sym, true, with_rows, ℕ, ◌∙◌, ◌∷◌, ◌≡◌}
 use Rattle.ele_files.proofs.Drafts.{same_drafts, dropped, drafts_apart, its_file}
-use Rattle.ele_files.proofs.Looks.{IsSeen}
+use Rattle.ele_files.proofs.Looks.{held_stays, IsSeen}
 use Rattle.ele_files.proofs.Rows.{draft-found, handle_file-shown, reads_by-shown, reads_of, left-shown, no-file, next-found, its_id, file_past}
 use Rattle.ele_files.proofs.Stock.{draft_lives, draft_apart}
 use Rattle.ele_files.proofs.Appends.{appended_keeps, appended_shows}
@@ -76,11 +76,8 @@ module _ (s : Store) (files : List File) (ss : AllSessions) (handle file opened 
   pub is_last : IsLast ss handle file opened
   is_last = by (list_any (is_writer file) (left_handles ss handle)) (find (is_draft file) ss.drafts) refl refl
       (sym (ap changed_opening (last_shown s files ss handle file)) ∙ (sym (ap (option_and_then (λ f. changed_opening (last_draft rows handle f))) (ap result_ok writes)) ∙ ends)) where
-        of_draft : sessions.reads_by ss.handles handle ≡ Some (reads.Draft file)
-        of_draft = grind (arith, nat_tests, handle_file-shown)
-
         by : (b : Bool) (o : Option Draft) → list_any (is_writer file) (left_handles ss handle) ≡ b → find (is_draft file) ss.drafts ≡ o → changed_opening (cond b None (option_map (draft_in s) o)) ≡ Some opened → IsLast ss handle file opened
-        by x0 o alone found is = grind (arith, nat_tests, of_draft)
+        by x0 o alone found is = grind (arith, nat_tests, handle_file-shown)
 
   abbrev d : Draft
   d = is_last.draft

@@ -131,7 +131,7 @@ pub none_count : (file : ℕ) (keys : List (ℕ × ℕ)) → keys ≡ [] → Cou
 none_count file keys none = rw none (record { count = refl; has = λ slot writer. refl })
 
 module _ (versions : List VersionRow) (drafts : List DraftRow) (file : ℕ) (none then now : List (ℕ × ℕ)) (start : Counts file none []) (first : Meets file none then (places (filter (is_version_of file) versions) [])) (second : Meets file then now (places [] (filter (is_draft file) drafts))) where
-  met_all : length now ≡ different is_place (places (filter (is_version_of file) versions) (filter (is_draft file) drafts))
+  pub met_all : length now ≡ different is_place (places (filter (is_version_of file) versions) (filter (is_draft file) drafts))
   met_all =
       (second (places (filter (is_version_of file) versions) []) (first [] start)).count
       ∙ ap (λ ps. different is_place (ps ++ flat_map draft_row_places (filter (is_draft file) drafts))) (append-nil (flat_map row_places (filter (is_version_of file) versions)))

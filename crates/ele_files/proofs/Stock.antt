@@ -29,7 +29,7 @@ module _ (files : List File) (drafts : List Draft) where
 
   -- one file has other rows
   module _ (id : ℕ) (f g : File) (found : find (is_id id) files ≡ Some f) where
-    exchanged : (k : Tagged → ℕ) → sum_by k (stock_of (update_first (is_id id) (over g) files) drafts) + sum_by (λ row. k (row_stock f.id row)) f.log.rows ≡ sum_by k (stock_of files drafts) + sum_by (λ row. k (row_stock f.id row)) g.log.rows
+    pub exchanged : (k : Tagged → ℕ) → sum_by k (stock_of (update_first (is_id id) (over g) files) drafts) + sum_by (λ row. k (row_stock f.id row)) f.log.rows ≡ sum_by k (stock_of files drafts) + sum_by (λ row. k (row_stock f.id row)) g.log.rows
     exchanged k = grind (arith, nat_tests, total, sum_by-update_first, sum_by-map)
 
     pub row_apart : (q : LogRow → Bool) (row : LogRow) → find q f.log.rows ≡ Some row → g.log.rows ≡ remove_first q f.log.rows → SameStock (stock_of files drafts) (row_stock f.id row ∷ stock_of (update_first (is_id id) (over g) files) drafts)

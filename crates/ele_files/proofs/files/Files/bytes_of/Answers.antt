@@ -1,4 +1,4 @@
-use Rattle.ele_files.proofs.Lemmas.{length-split, own_count, own_lives, bytes_few, arith, nat_tests, ap, bytes_in, sym, ◌∙◌, none_shown, own_bytes, own_few, own_kept}
+use Rattle.ele_files.proofs.Lemmas.{sum-map, sum_by-map, all-weaker, sum_by-same, shows, length-split, own_count, own_lives, bytes_few, arith, nat_tests, ap, bytes_in, sym, ◌∙◌, none_shown, own_bytes, own_few, own_kept}
 use Rattle.ele_files.proofs.files.Files.bytes_of.Goals as goal
 
 pub log_bytes-requires-clause-kept : goal.log_bytes-requires-clause-kept
