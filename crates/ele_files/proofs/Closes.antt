@@ -1,9 +1,9 @@
 -- What goes with a handle, and what the last writer of a changed draft leaves.
-use Rattle.ele_files.proofs.Words.{AllByRecursion, AllSessions, Became, Bool, Draft, EndDraft, File, HasAppended, Held, HeldRows, IsDraftKept, IsGivenUp, IsPast, Keeps, Layout, List, LivesIn, None, Ok, OnErr, Option, Reads, Result, Rises, ShutHandle, Some, Store, [], after_changes, all-found, all-not_found, all-remove_first, ap, arith, cells_of_draft, changed_at, changed_opening, closed, closed_of, closing, closing_of, cond, draft_in, draft_stock, false, file_by, file_closing, file_row, find, finishing, get_or, handle_in, held_in, is_draft, is_id, is_some, is_writer, last_draft, leaving, left_by, left_drafts, left_handles, left_of, list_any, map, nat_tests, next_of, next_row, opening_by, opening_of, option_and_then, option_map, position, refl, remove_first, remove_first-map, remove_first-unfound, result_ok, row_stock, rows_of, set, stock_of, sym, true, with_rows, ℕ, ◌∙◌, ◌∷◌, ◌≡◌}
-use Rattle.ele_files.proofs.Drafts.{same_drafts, dropped, drafts_apart, its_file}
+use Rattle.ele_files.proofs.Words.{sum_by-remove_first, sum_by-cons, found_passes, AllByRecursion, AllSessions, Became, Bool, Draft, EndDraft, File, HasAppended, Held, HeldRows, IsDraftKept, IsGivenUp, IsPast, Keeps, Layout, List, LivesIn, None, Ok, OnErr, Option, Reads, Result, Rises, ShutHandle, Some, Store, [], after_changes, all-found, all-not_found, all-remove_first, ap, arith, cells_of_draft, changed_at, changed_opening, closed, closed_of, closing, closing_of, cond, draft_in, draft_stock, false, file_by, file_closing, file_row, find, finishing, get_or, handle_in, held_in, is_draft, is_id, is_some, is_writer, last_draft, leaving, left_by, left_drafts, left_handles, left_of, list_any, map, nat_tests, next_of, next_row, opening_by, opening_of, option_and_then, option_map, position, refl, remove_first, remove_first-map, remove_first-unfound, result_ok, row_stock, rows_of, set, stock_of, sym, true, with_rows, ℕ, ◌∙◌, ◌∷◌, ◌≡◌}
+use Rattle.ele_files.proofs.Drafts.{dropped, drafts_apart, its_file}
 use Rattle.ele_files.proofs.Looks.{held_stays, IsSeen}
 use Rattle.ele_files.proofs.Rows.{draft-found, handle_file-shown, reads_by-shown, reads_of, left-shown, no-file, next-found, its_id, file_past}
-use Rattle.ele_files.proofs.Stock.{draft_lives, draft_apart}
+use Rattle.ele_files.proofs.Stock.{total, draft_lives, draft_apart}
 use Rattle.ele_files.proofs.Appends.{appended_keeps, appended_shows}
 use Rattle.ele_files.proofs.Exchanges.{IsReached, reached}
 use Rattle.ele_sessions.specs.Sessions as sessions
@@ -40,7 +40,7 @@ module _ (s : Store) (files : List File) (ss : AllSessions) (handle : ℕ) where
       pub leaves : IsGivenUp s t (given ss handle) → IsSeen t files (closed ss handle) (left_by shown handle)
       leaves = rw (reads_by-shown ss.handles handle) (by (sessions.reads_by ss.handles handle)) where
         stays : (file : ℕ) (b : Bool) → left_drafts b file ss.drafts ≡ ss.drafts → t ≡ s → IsSeen t files (without_handle ss handle file b) (changed_at shown 0 (leaving handle file false))
-        stays file b drafts gone = grind (arith, nat_tests, same_drafts, handles_left)
+        stays file b drafts gone = grind (arith, nat_tests, handles_left)
 
         ends : (file : ℕ) (b : Bool) (o : Option Draft) → find (is_draft file) ss.drafts ≡ o → IsGivenUp s t (file_closing b o).1 → IsSeen t files (without_handle ss handle file b) (changed_at shown 0 (leaving handle file (is_some (cond b None (option_map (draft_in s) o)))))
         ends file true o found gone = stays file true refl gone
@@ -51,7 +51,7 @@ module _ (s : Store) (files : List File) (ss : AllSessions) (handle : ℕ) where
 
         by : (o : Option Reads) → IsGivenUp s t (option_and_then (λ answer. answer.1) (closing_of ss handle o)) → IsSeen t files (closed_of ss handle o) (left_of shown handle (reads_of o))
         by None gone = record { keeps = rw gone kept; shows = rw gone refl }
-        by (Some (reads.Version file version)) gone = grind (arith, nat_tests, same_drafts, handles_left)
+        by (Some (reads.Version file version)) gone = grind (arith, nat_tests, handles_left)
         by (Some (reads.Draft file)) gone = rw (last_shown file) (ends file (list_any (is_writer file) (left_handles ss handle)) (find (is_draft file) ss.drafts) refl gone)
 
 -- ---- a version is made of the draft

@@ -92,12 +92,6 @@ module _ (s : Store) (files : List File) (a : AllSessions) (kept : Keeps s files
   own = filter (is_version_of file) (flat_map (rows_in s) files)
 
   module _ (f : File) (found : find (is_id file) files ≡ Some f) where
-    pub own_kept : IsFileKept f
-    own_kept = all-found (is_id file) IsFileKept files f found kept.files_kept
-
-    pub own_lives : LogLives s f.log.rows
-    own_lives = all-found (is_id file) (λ (f : File). LogLives s f.log.rows) files f found (logs_live s files a kept)
-
     pub shows : own ≡ rows_in s f
     shows = own_rows s files a kept file f found
 
@@ -105,10 +99,10 @@ module _ (s : Store) (files : List File) (a : AllSessions) (kept : Keeps s files
     own_count = ap length shows ∙ length-map f.log.rows (row_in s f.id)
 
     pub own_bytes : log_bytes f.log.rows ≡ bytes_in own
-    own_bytes = grind (arith, nat_tests, own_lives, shows, sum_by-same, all-weaker, sum_by-map, sum-map)
+    own_bytes = grind (arith, nat_tests, shows, sum_by-same, all-weaker, sum_by-map, sum-map, all-found, logs_live)
 
     pub own_few : length (flat_map (rows_in s) files) ≤ 2 ^ 40 → log_bytes f.log.rows < 2 ^ 64
-    own_few few = omega (arith, few, bytes_few kept.laws s f.log.rows own_lives, own_count, length-split (is_version_of file) (flat_map (rows_in s) files))
+    own_few few = grind (arith, nat_tests, bytes_few, own_count, length-split, all-found, logs_live)
 
     pub own_places : log_places s f.log.rows file ≡ places own []
     own_places = ap (log_places s f.log.rows) (sym (its_id files file f found)) ∙ places_shown s f.id f.log.rows ∙ ap (flat_map row_places) (sym shows) ∙ sym (append-nil (flat_map row_places own))

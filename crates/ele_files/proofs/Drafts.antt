@@ -7,10 +7,6 @@ use Rattle.ele_world.specs.World as world
 use Rattle.ele_files.specs.Held as held
 use Rattle.ele_sessions.specs.Changes as session
 
--- handles are not in the invariant
-pub same_drafts : (s : Store) (files : List File) (a b : AllSessions) → b.drafts ≡ a.drafts → Keeps s files a → Keeps s files b
-same_drafts s files a b same kept = record { laws = kept.laws; rise = kept.rise; stocked = rw same kept.stocked; files_kept = kept.files_kept; drafts_kept = rw same kept.drafts_kept }
-
 -- the other drafts are of other files
 apart_behind : (file : ℕ) (d : Draft) (drafts : List Draft) → d.file ≡ file → AllByRecursion (λ (x : Draft). d.file < x.file) drafts → AllByRecursion (λ (x : Draft). x.file ≢ file) drafts
 apart_behind file d drafts is later = all-weaker (λ (x : Draft). d.file < x.file) (λ (x : Draft). x.file ≢ file) drafts (λ x lt same. omega (arith, lt, is, same)) later
@@ -94,10 +90,6 @@ module _ (s t : Store) (files : List File) (a b : AllSessions) (kept : Keeps s f
 -- ---- a write or a truncate through a handle
 
 module _ (s : Store) (files : List File) (a : AllSessions) (kept : Keeps s files a) where
-  -- the draft that is written through the handle lives in the store
-  pub draft_by_lives : (handle : ℕ) (d : Draft) → draft_by a handle ≡ Some d → LivesIn s d.layout
-  draft_by_lives handle d = grind (arith, nat_tests, draft_lives)
-
   abbrev rows : Held
   rows = held_in s files a
 

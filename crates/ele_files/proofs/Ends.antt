@@ -1,5 +1,5 @@
 -- The version before a file's next one ends.
-use Rattle.ele_files.proofs.Words.{sum_by-update_same, AllByRecursion, AllSessions, File, HasRows, IsPast, Keeps, List, None, Some, Store, all-not_found, ap, arith, bucket_changes, current_ended, ended_at, ended_rows, flat_map, get_or, held_in, is_id, is_version, local-update_first, map, nat_tests, position, refl, row_in, rows_in, set, stock_of, update_first, update_first-unfound, ℕ, ◌-◌, ◌∙◌, ◌≡◌}
+use Rattle.ele_files.proofs.Words.{all-weaker, sum_by-update_same, AllByRecursion, AllSessions, File, HasRows, IsPast, Keeps, List, None, Some, Store, all-not_found, ap, arith, bucket_changes, current_ended, ended_at, ended_rows, flat_map, get_or, held_in, is_id, is_version, local-update_first, map, nat_tests, position, refl, row_in, rows_in, set, stock_of, update_first, update_first-unfound, ℕ, ◌-◌, ◌∙◌, ◌≡◌}
 use Rattle.ele_files.proofs.Endings.{ended_order, of_rows, ended_kept}
 use Rattle.ele_files.proofs.Exchanges.{IsReached, reached, after, rise_over, files_over, drafts_over, rows_same}
 use Rattle.ele_files.proofs.Looks.{IsSeen}

@@ -8,7 +8,7 @@ abbrev governed : Policy → File → File
 governed policy f = record f { policy = policy }
 
 -- what each element shows stays where it shows the same once it has changed
-flat_map-same : {X Y : Type 0} (h : X → List Y) (p : X → Bool) (g : X → X) (xs : List X) → ((x : X) → h (g x) ≡ h x) → flat_map h (update_first p g xs) ≡ flat_map h xs
+pub flat_map-same : {X Y : Type 0} (h : X → List Y) (p : X → Bool) (g : X → X) (xs : List X) → ((x : X) → h (g x) ≡ h x) → flat_map h (update_first p g xs) ≡ flat_map h xs
 flat_map-same h p g [] same = refl
 flat_map-same h p g (x ∷ xs) same = grind (arith, nat_tests, flat_map-same h p g xs same)
 
@@ -16,10 +16,10 @@ module _ (s : Store) (files : List File) (a : AllSessions) (kept : Keeps s files
   abbrev after : List File → List File
   after files = update_first (is_id id) (governed policy) files
 
-  rows_after : map file_row (after files) ≡ update_first (is_file id) (world.put_under policy) (map file_row files)
+  pub rows_after : map file_row (after files) ≡ update_first (is_file id) (world.put_under policy) (map file_row files)
   rows_after = sym (update_first-map file_row (is_file id) (is_id id) (λ x. refl) (world.put_under policy) (governed policy) (λ x. refl) files)
 
-  next_stays : (files : List File) (file : ℕ) → next_of (map file_row (after files)) file ≡ next_of (map file_row files) file
+  pub next_stays : (files : List File) (file : ℕ) → next_of (map file_row (after files)) file ≡ next_of (map file_row files) file
   next_stays [] file = refl
   next_stays (x ∷ xs) file = grind (arith, nat_tests, is_file, next_stays xs file)
 

@@ -6,7 +6,7 @@ use Rattle.ele_files.proofs.Tagged.{find_shown, last-map, list_shown, none_shown
 abbrev last : {X : Type 0} → List X → Option X
 last xs = last_passing (λ _. true) xs
 
-last-kept : {X : Type 0} (p : X → Bool) (xs : List X) → last (filter p xs) ≡ last_passing p xs
+pub last-kept : {X : Type 0} (p : X → Bool) (xs : List X) → last (filter p xs) ≡ last_passing p xs
 last-kept p [] = refl
 last-kept {X} p (x ∷ xs) = grind (arith, nat_tests, last-kept p xs)
 

@@ -6,7 +6,7 @@ use Rattle.ele_files.proofs.Exchanges.{IsReached, reached}
 use Rattle.ele_files.proofs.Looks.{held_stays}
 use Rattle.ele_files.proofs.Places.{its_kept, its_past}
 use Rattle.ele_files.proofs.Rows.{undrafted, next-found, no-file, version-none, version-of}
-use Rattle.ele_files.proofs.Stock.{row_lives}
+use Rattle.ele_files.proofs.Stock.{row_apart, over, row_lives}
 use Rattle.ele_world.specs.World as world
 
 pub some_found : {X : Type 0} (o : Option X) → IsSome o → o ≡ None → ⊥

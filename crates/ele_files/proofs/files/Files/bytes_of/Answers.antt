@@ -1,8 +1,8 @@
-use Rattle.ele_files.proofs.Lemmas.{sum-map, sum_by-map, all-weaker, sum_by-same, shows, length-split, own_count, own_lives, bytes_few, arith, nat_tests, ap, bytes_in, sym, ◌∙◌, none_shown, own_bytes, own_few, own_kept}
+use Rattle.ele_files.proofs.Lemmas.{all-found, sum-map, sum_by-map, all-weaker, sum_by-same, shows, length-split, own_count, bytes_few, arith, nat_tests, ap, bytes_in, sym, ◌∙◌, none_shown, own_bytes, own_few}
 use Rattle.ele_files.proofs.files.Files.bytes_of.Goals as goal
 
 pub log_bytes-requires-clause-kept : goal.log_bytes-requires-clause-kept
-log_bytes-requires-clause-kept c = own_kept _ _ _ c.self.invariant c.args.file c.in-Some.held.now (sym (rw c.deref.ensures.value at c.in-Some.ensures))
+log_bytes-requires-clause-kept c = grind (arith, nat_tests, all-found)
 
 pub log_bytes-requires-clause-few : goal.log_bytes-requires-clause-few
 log_bytes-requires-clause-few c = grind (arith, nat_tests, own_few)

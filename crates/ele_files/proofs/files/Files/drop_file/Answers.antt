@@ -1,4 +1,4 @@
-use Rattle.ele_files.proofs.Lemmas.{remove_first-none, rows_left, arith, nat_tests, drops_at}
+use Rattle.ele_files.proofs.Lemmas.{find-position, drops, remove_first-position, remove_first-map, remove_first-none, rows_left, arith, nat_tests, drops_at}
 use Rattle.ele_files.proofs.files.Files.drop_file.Goals as goal
 
 pub invariant_of-self : goal.invariant_of-self

@@ -1,4 +1,4 @@
-use Rattle.ele_files.proofs.Lemmas.{none_shown, newest_told, arith, nat_tests, Some, ap, newest_shown, option_map, stamps_in, sym, ◌∙◌}
+use Rattle.ele_files.proofs.Lemmas.{last-map, last-kept, none_shown, newest_told, arith, nat_tests, Some, ap, newest_shown, option_map, stamps_in, sym, ◌∙◌}
 use Rattle.ele_files.proofs.files.Files.newest.Goals as goal
 
 pub returns-in_err-held-clause-value : goal.returns-in_err-held-clause-value

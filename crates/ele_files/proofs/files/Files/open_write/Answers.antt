@@ -1,4 +1,4 @@
-use Rattle.ele_files.proofs.Lemmas.{arith, first_lives, maps_seen, nat_tests, next-found, opens, sym}
+use Rattle.ele_files.proofs.Lemmas.{opened, arith, first_lives, maps_seen, nat_tests, next-found, opens, sym}
 use Rattle.ele_files.proofs.files.Files.open_write.Goals as goal
 
 pub unreachable-requires : goal.unreachable-requires

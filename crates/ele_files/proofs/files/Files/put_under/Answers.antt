@@ -1,4 +1,4 @@
-use Rattle.ele_files.proofs.Lemmas.{no-file, file_row-found, all-not_found, update_first-unfound, arith, nat_tests, governs}
+use Rattle.ele_files.proofs.Lemmas.{rows_after, next_stays, all-weaker, all-update_first, flat_map-same, later-update_first, set-first, no-file, file_row-found, all-not_found, update_first-unfound, arith, nat_tests, governs}
 use Rattle.ele_files.proofs.files.Files.put_under.Goals as goal
 
 pub invariant_of-self : goal.invariant_of-self

@@ -1,4 +1,4 @@
-use Rattle.ele_files.proofs.Lemmas.{append_assoc, arith, nat_tests, List, LivesIn, LogRow, Meets, all-found, all-not_found, filter, filter-none, is_after, log-all, log-fewer, log-left, log_places, meets_none, meets_then, places_from, shown, subst, sym}
+use Rattle.ele_files.proofs.Lemmas.{append-nil, found, rise, left-behind, append_assoc, arith, nat_tests, List, LivesIn, LogRow, Meets, all-found, all-not_found, filter, filter-none, is_after, log-all, log-fewer, log-left, log_places, meets_none, meets_then, places_from, shown, subst, sym}
 use Rattle.ele_files.proofs.files.usage.meet_log.Goals as goal
 
 pub loop-row-init : goal.loop-row-init
