@@ -1,9 +1,9 @@
 -- A file's next version is appended, and the first one of a new file.
-use Rattle.ele_files.proofs.Words.{AllByRecursion, AllLater, AllSessions, Append, Bool, Cell, Draft, File, FileRow, GotFile, HasAppended, Held, IsDraftKept, IsFileKept, IsLocal, IsRowOf, IsRowPast, IsStocked, Keeps, Layout, List, LogRow, None, Some, StockLaws, Store, VersionRow, World, [], after_change, all-both, all-found, all-map, all-push, all-weaker, ap, append-nil, arith, bucket_changes, cond, empty_layout, ended_at, ended_rows, eqb, false, file_row, find, find-at, flat_map, flat_map-append, held_in, insert_before, is_file, is_id, is_live, is_version, is_version_after, later-push, local-after, local-insert_before, local-update_first, ltb, map, map-all, map-append, named_live, nat_tests, next_of, next_of-numbered_other, next_of-push, next_row, not_found, numbered_on, refl, row_in, row_stock, rows_in, rows_of, shown, stock_of, subst, sym, true, update_first, update_first-at, with_file, with_name, with_rows, ℕ, ◌&&◌, ◌++◌, ◌+◌, ◌-◌, ◌<◌, ◌||◌, ◌∙◌, ◌∷◌, ◌≡◌, ◌≢◌}
+use Rattle.ele_files.proofs.Words.{sum_by-cons, sum_by-update_same, sum_by_push, AllByRecursion, AllLater, AllSessions, Append, Bool, Cell, Draft, File, FileRow, GotFile, HasAppended, Held, IsDraftKept, IsFileKept, IsLocal, IsRowOf, IsRowPast, IsStocked, Keeps, Layout, List, LogRow, None, Some, StockLaws, Store, VersionRow, World, [], after_change, all-both, all-found, all-map, all-push, all-weaker, ap, append-nil, arith, bucket_changes, cond, empty_layout, ended_at, ended_rows, eqb, false, file_row, find, find-at, flat_map, flat_map-append, held_in, insert_before, is_file, is_id, is_live, is_version, is_version_after, later-push, local-after, local-insert_before, local-update_first, ltb, map, map-all, map-append, named_live, nat_tests, next_of, next_of-numbered_other, next_of-push, next_row, not_found, numbered_on, refl, row_in, row_stock, rows_in, rows_of, shown, stock_of, subst, sym, true, update_first, update_first-at, with_file, with_name, with_rows, ℕ, ◌&&◌, ◌++◌, ◌+◌, ◌-◌, ◌<◌, ◌||◌, ◌∙◌, ◌∷◌, ◌≡◌, ◌≢◌}
 use Rattle.ele_files.proofs.Endings.{closed_kept, of_rows}
 use Rattle.ele_files.proofs.Exchanges.{after, rise_over, files_over, rows_over}
 use Rattle.ele_files.proofs.Rows.{its_id, next-found, file_of, tagged, own_version, ended_shown}
-use Rattle.ele_files.proofs.Stock.{over, row_added, file_added}
+use Rattle.ele_files.proofs.Stock.{exchanged, total, over, row_added, file_added}
 use Rattle.ele_world.specs.declared.rows.Target.TheVariants as target
 
 -- what comes in behind all
@@ -49,11 +49,8 @@ module _ (s : Store) (files : List File) (id : ℕ) (f g : File) (found : find (
     drafts_kept = others_keep a.drafts others kept;
   }
 
-  row_later : (n : ℕ) → n < f.next → (ltb id f.id || (eqb f.id id && ltb f.next n)) ≡ false
-  row_later n lt = grind (arith, nat_tests, is)
-
   none_later : AllByRecursion (λ row. is_version_after id f.next row ≡ false) (map (row_in s f.id) (ended_rows f now))
-  none_later = all-map (row_in s f.id) (λ row. is_version_after id f.next row ≡ false) (ended_rows f now) (all-weaker (IsRowOf f.next) (λ row. is_version_after id f.next (row_in s f.id row) ≡ false) (ended_rows f now) (λ row h. row_later row.number h.number) (of_rows f now its_kept past))
+  none_later = grind (arith, nat_tests, all-map, all-weaker, of_rows, its_kept, is)
 
   local : IsLocal file_of id (appended id f.next now (row_in s f.id new))
   local = local-after file_of id (insert_before (is_version_after id f.next) (row_in s f.id new)) (update_first (is_version id (f.next - 1)) (ended_at now)) (local-insert_before file_of id (is_version_after id f.next) (row_in s f.id new) (λ row lt.
@@ -94,7 +91,7 @@ module _ (s : Store) (files : List File) (a : AllSessions) (kept : Keeps s files
   others : AllByRecursion (λ g. is_id f.id g ≡ false) files
   others = all-weaker (λ (g : File). g.id < f.id) (λ g. is_id f.id g ≡ false) files (λ g lt. grind (arith, nat_tests)) before
 
-  found : find (is_id f.id) (files ++ f ∷ []) ≡ Some f
+  pub found : find (is_id f.id) (files ++ f ∷ []) ≡ Some f
   found = find-at (is_id f.id) files f [] others (grind (arith, nat_tests))
 
   more_rows : map file_row (files ++ f ∷ []) ≡ map file_row files ++ file_row f ∷ []
@@ -110,13 +107,13 @@ module _ (s : Store) (files : List File) (a : AllSessions) (kept : Keeps s files
   }
 
   -- no draft is of the file
-  undrafted : AllByRecursion (λ d. d.file ≢ f.id) a.drafts
+  pub undrafted : AllByRecursion (λ d. d.file ≢ f.id) a.drafts
   undrafted = grind (arith, nat_tests, all-weaker, next-found, not_found, others)
 
-  placed : after (files ++ f ∷ []) f.id f x found ≡ files ++ x ∷ []
+  pub placed : after (files ++ f ∷ []) f.id f x found ≡ files ++ x ∷ []
   placed = update_first-at (is_id f.id) (over x) files f [] others (grind (arith, nat_tests)) ∙ ap (λ g. files ++ g ∷ []) (sym (rw (appended.id, appended.policy) refl))
 
-  same_next : HasAppended f x now (next_row f.next now now true empty_layout)
+  pub same_next : HasAppended f x now (next_row f.next now now true empty_layout)
   same_next = subst (λ (n : ℕ). HasAppended f x now (next_row n now now true empty_layout)) (sym next) appended
 
   pub added_keeps : Keeps s (files ++ x ∷ []) a

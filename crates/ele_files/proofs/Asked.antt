@@ -12,9 +12,6 @@ any-found p (x ∷ xs) = grind (arith, any-found p xs)
 
 -- the stamps of a version
 module _ (s : Store) (file number : ℕ) (files : List File) (a : AllSessions) (kept : Keeps s files a) where
-  pub stamps-none : find (is_id file) files ≡ None → option_map stamps_of (find (is_version file number) (flat_map (rows_in s) files)) ≡ None
-  stamps-none none = ap (option_map stamps_of) (version-none s file number files kept.rise none)
-
   module _ (f : File) (found : find (is_id file) files ≡ Some f) where
     pub stamps-no_row : find (is_numbered number) f.log.rows ≡ None → option_map stamps_of (find (is_version file number) (flat_map (rows_in s) files)) ≡ None
     stamps-no_row none = rw (version-of s file number files kept.rise f found, none) refl
@@ -24,19 +21,12 @@ module _ (s : Store) (file number : ℕ) (files : List File) (a : AllSessions) (
 
 -- the cells of a version
 module _ (s : Store) (file number : ℕ) (files : List File) (a : AllSessions) (kept : Keeps s files a) where
-  pub cells-none : find (is_id file) files ≡ None → cells_of_version (held_in s files a) file number ≡ []
-  cells-none none = rw (version-none s file number files kept.rise none) refl
-
   module _ (f : File) (found : find (is_id file) files ≡ Some f) where
     pub cells-no_row : find (is_numbered number) f.log.rows ≡ None → cells_of_version (held_in s files a) file number ≡ []
     cells-no_row none = rw (version-of s file number files kept.rise f found, none) refl
 
     pub cells-is : (row : LogRow) → find (is_numbered number) f.log.rows ≡ Some row → cells_of_version (held_in s files a) file number ≡ shown s row.cells
     cells-is row is = rw (version-of s file number files kept.rise f found, is) refl
-
--- a file that has a next number is there
-pub no_file : (files : List File) (file : ℕ) → find (is_id file) files ≡ None → 0 < next_of (map file_row files) file → ⊥
-no_file files file none there = let zero = next-found files file None none in omega (arith, zero, there)
 
 -- the draft of a file
 copied : (o : Option (Bor Layout)) → is_some (option_copied o) ≡ is_some o

@@ -1,9 +1,9 @@
 -- What goes with a handle, and what the last writer of a changed draft leaves.
-use Rattle.ele_files.proofs.Words.{AllByRecursion, AllSessions, Became, Bool, Draft, EndDraft, File, HasAppended, Held, HeldRows, IsDraftKept, IsGivenUp, IsPast, Keeps, Layout, List, LivesIn, None, Ok, OnErr, Option, Reads, Result, Rises, ShutHandle, Some, Store, [], after_changes, all-found, all-not_found, all-remove_first, ap, arith, cells_of_draft, changed_at, changed_opening, closed, closed_of, closing, closing_of, cond, draft_in, draft_stock, false, file_by, file_closing, file_row, find, finishing, get_or, handle_in, held_in, is_draft, is_id, is_some, is_writer, last_draft, leaving, left_by, left_drafts, left_handles, left_of, list_any, map, nat_tests, next_of, next_row, opening_by, opening_of, option_and_then, option_map, position, refl, remove_first, remove_first-map, remove_first-unfound, result_ok, row_stock, rows_of, set, stock_of, sym, true, with_rows, ℕ, ◌∙◌, ◌∷◌, ◌≡◌}
-use Rattle.ele_files.proofs.Drafts.{same_drafts, dropped, drafts_apart, its_file}
-use Rattle.ele_files.proofs.Looks.{IsSeen}
+use Rattle.ele_files.proofs.Words.{sum_by-remove_first, sum_by-cons, found_passes, AllByRecursion, AllSessions, Became, Bool, Draft, EndDraft, File, HasAppended, Held, HeldRows, IsDraftKept, IsGivenUp, IsPast, Keeps, Layout, List, LivesIn, None, Ok, OnErr, Option, Reads, Result, Rises, ShutHandle, Some, Store, [], after_changes, all-found, all-not_found, all-remove_first, ap, arith, cells_of_draft, changed_at, changed_opening, closed, closed_of, closing, closing_of, cond, draft_in, draft_stock, false, file_by, file_closing, file_row, find, finishing, get_or, handle_in, held_in, is_draft, is_id, is_some, is_writer, last_draft, leaving, left_by, left_drafts, left_handles, left_of, list_any, map, nat_tests, next_of, next_row, opening_by, opening_of, option_and_then, option_map, position, refl, remove_first, remove_first-map, remove_first-unfound, result_ok, row_stock, rows_of, set, stock_of, sym, true, with_rows, ℕ, ◌∙◌, ◌∷◌, ◌≡◌}
+use Rattle.ele_files.proofs.Drafts.{dropped, drafts_apart, its_file}
+use Rattle.ele_files.proofs.Looks.{held_stays, IsSeen}
 use Rattle.ele_files.proofs.Rows.{draft-found, handle_file-shown, reads_by-shown, reads_of, left-shown, no-file, next-found, its_id, file_past}
-use Rattle.ele_files.proofs.Stock.{draft_lives, draft_apart}
+use Rattle.ele_files.proofs.Stock.{total, draft_lives, draft_apart}
 use Rattle.ele_files.proofs.Appends.{appended_keeps, appended_shows}
 use Rattle.ele_files.proofs.Exchanges.{IsReached, reached}
 use Rattle.ele_sessions.specs.Sessions as sessions
@@ -36,21 +36,11 @@ module _ (s : Store) (files : List File) (ss : AllSessions) (handle : ℕ) where
   -- ---- the handle is left
 
   module _ (kept : Keeps s files ss) where
-    pub given_lives : (m : Layout) → given ss handle ≡ Some m → LivesIn s m
-    given_lives m = by (sessions.reads_by ss.handles handle) where
-      ends : (file : ℕ) (b : Bool) (o : Option Draft) → find (is_draft file) ss.drafts ≡ o → (file_closing b o).1 ≡ Some m → LivesIn s m
-      ends file x1 o found is = grind (arith, nat_tests, draft_lives)
-
-      by : (o : Option Reads) → option_and_then (λ answer. answer.1) (closing_of ss handle o) ≡ Some m → LivesIn s m
-      by None is = absurd cc
-      by (Some (reads.Version file version)) is = absurd cc
-      by (Some (reads.Draft file)) is = ends file (list_any (is_writer file) (left_handles ss handle)) (find (is_draft file) ss.drafts) refl is
-
     module _ (t : Store) where
       pub leaves : IsGivenUp s t (given ss handle) → IsSeen t files (closed ss handle) (left_by shown handle)
       leaves = rw (reads_by-shown ss.handles handle) (by (sessions.reads_by ss.handles handle)) where
         stays : (file : ℕ) (b : Bool) → left_drafts b file ss.drafts ≡ ss.drafts → t ≡ s → IsSeen t files (without_handle ss handle file b) (changed_at shown 0 (leaving handle file false))
-        stays file b drafts gone = grind (arith, nat_tests, same_drafts, handles_left)
+        stays file b drafts gone = grind (arith, nat_tests, handles_left)
 
         ends : (file : ℕ) (b : Bool) (o : Option Draft) → find (is_draft file) ss.drafts ≡ o → IsGivenUp s t (file_closing b o).1 → IsSeen t files (without_handle ss handle file b) (changed_at shown 0 (leaving handle file (is_some (cond b None (option_map (draft_in s) o)))))
         ends file true o found gone = stays file true refl gone
@@ -61,7 +51,7 @@ module _ (s : Store) (files : List File) (ss : AllSessions) (handle : ℕ) where
 
         by : (o : Option Reads) → IsGivenUp s t (option_and_then (λ answer. answer.1) (closing_of ss handle o)) → IsSeen t files (closed_of ss handle o) (left_of shown handle (reads_of o))
         by None gone = record { keeps = rw gone kept; shows = rw gone refl }
-        by (Some (reads.Version file version)) gone = grind (arith, nat_tests, same_drafts, handles_left)
+        by (Some (reads.Version file version)) gone = grind (arith, nat_tests, handles_left)
         by (Some (reads.Draft file)) gone = rw (last_shown file) (ends file (list_any (is_writer file) (left_handles ss handle)) (find (is_draft file) ss.drafts) refl gone)
 
 -- ---- a version is made of the draft
@@ -86,17 +76,8 @@ module _ (s : Store) (files : List File) (ss : AllSessions) (handle file opened 
   pub is_last : IsLast ss handle file opened
   is_last = by (list_any (is_writer file) (left_handles ss handle)) (find (is_draft file) ss.drafts) refl refl
       (sym (ap changed_opening (last_shown s files ss handle file)) ∙ (sym (ap (option_and_then (λ f. changed_opening (last_draft rows handle f))) (ap result_ok writes)) ∙ ends)) where
-        of_file : sessions.handle_file ss.handles handle ≡ Some file
-        of_file = sym (handle_file-shown ss.handles handle) ∙ ap result_ok writes
-
-        of_draft : sessions.reads_by ss.handles handle ≡ Some (reads.Draft file)
-        of_draft = grind (arith, nat_tests, of_file)
-
-        then : (d : Draft) (c : Bool) → cond c (Some d.opened) None ≡ Some opened → d.opened ≡ opened
-        then d c is = grind (arith, is)
-
         by : (b : Bool) (o : Option Draft) → list_any (is_writer file) (left_handles ss handle) ≡ b → find (is_draft file) ss.drafts ≡ o → changed_opening (cond b None (option_map (draft_in s) o)) ≡ Some opened → IsLast ss handle file opened
-        by x0 o alone found is = grind (arith, nat_tests, then, of_draft)
+        by x0 o alone found is = grind (arith, nat_tests, handle_file-shown)
 
   abbrev d : Draft
   d = is_last.draft
@@ -125,25 +106,22 @@ module _ (s : Store) (files : List File) (ss : AllSessions) (handle file opened 
     abbrev k : File
     k = record f { log = log }
 
-    next_is : next_of (map file_row files) file ≡ f.next
+    pub next_is : next_of (map file_row files) file ≡ f.next
     next_is = next-found files file (Some f) at.found
 
     module _ (now : ℕ) (live : Bool) (m : Layout) (out : given ss handle ≡ Some m) (l : File) (appended : HasAppended k l now (next_row f.next opened now live m)) (past : AllByRecursion (IsPast now) rows.versions) where
-      m_is : m ≡ d.layout
-      m_is = cc (out, its_map)
-
       f_appended : HasAppended f l now (next_row f.next opened now live d.layout)
-      f_appended = record { id = appended.id; policy = appended.policy; next = appended.next; rows = rw (← m_is) (appended.rows ∙ rw rows_stay refl) }
+      f_appended = grind (arith, nat_tests, its_map)
 
       tag_is : draft_stock d ≡ row_stock f.id (next_row f.next opened now live d.layout)
       tag_is = rw (its_next, next_is, is_file, its_id files file f at.found) refl
 
-      keeps_it : Rises (λ (x : Draft). x.file) ss.drafts → Keeps s (set files i l) (closed ss handle)
+      pub keeps_it : Rises (λ (x : Draft). x.file) ss.drafts → Keeps s (set files i l) (closed ss handle)
       keeps_it rise =
           let stocked = kept.laws.same s (stock_of files ss.drafts) (draft_stock d ∷ stock_of files (remove_first (is_draft file) ss.drafts)) (draft_apart files ss.drafts (is_draft file) d is_last.found) kept.stocked in
           rw (at.changed l appended.id appended.policy, is_last.left) (appended_keeps s files file f l at.found kept.rise kept.files_kept opened now live d.layout f_appended (file_past s files file f now at.found past) kept.laws (without_handle ss handle file false) (all-remove_first (is_draft file) (IsDraftKept files) ss.drafts kept.drafts_kept) (drafts_apart file ss.drafts rise) (rw tag_is at stocked))
 
-      shows_it : Became rows now file live (finishing rows handle file opened) (held_in s (set files i l) (closed ss handle))
+      pub shows_it : Became rows now file live (finishing rows handle file opened) (held_in s (set files i l) (closed ss handle))
       shows_it w time lives =
           rw (at.changed l appended.id appended.policy, is_last.left, cells)
           (appended_shows s files file f l at.found kept.rise kept.files_kept opened now live d.layout f_appended (file_past s files file f now at.found past) (without_handle ss handle file false) (after_changes (with_rows w rows) (ShutHandle handle ∷ EndDraft file ∷ [])) left time lives)

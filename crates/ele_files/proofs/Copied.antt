@@ -1,5 +1,5 @@
 -- A copy of a held version's map comes into the store.
-use Rattle.ele_files.proofs.Words.{AllByRecursion, AllSessions, Bool, File, Keeps, List, LogRow, Moves, SameStock, ShowsSame, Some, Stays, Store, Tagged, [], all-found, all-left, draft_stock, file_stock, find, flat_map, flat_map-all, is_id, map, map-all, refl, remove_first, row_stock, shown, stock_of, update_first, ℕ, ◌+◌, ◌∷◌, ◌≡◌, ◌≤◌}
+use Rattle.ele_files.proofs.Words.{arith, nat_tests, AllByRecursion, AllSessions, Bool, File, Keeps, List, LogRow, Moves, SameStock, ShowsSame, Some, Stays, Store, Tagged, [], all-found, all-left, draft_stock, file_stock, find, flat_map, flat_map-all, is_id, map, map-all, refl, remove_first, row_stock, shown, stock_of, update_first, ℕ, ◌+◌, ◌∷◌, ◌≡◌, ◌≤◌}
 use Rattle.ele_files.proofs.Stock.{over, row_apart}
 
 module _ (s t : Store) (files : List File) (a : AllSessions) (kept : Keeps s files a) (id : ℕ) (f : File) (found : find (is_id id) files ≡ Some f) (q : LogRow → Bool) (row : LogRow) (held : find q f.log.rows ≡ Some row) where

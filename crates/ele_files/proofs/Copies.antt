@@ -15,11 +15,6 @@ module _ {X : Type 0} where
   found-got key (y ∷ ys) zero x rise h = grind (arith, nat_tests, h)
   found-got key (y ∷ ys) (suc i) x rise h = grind (arith, nat_tests, all-got, found-got key ys i x rise.1 h)
 
--- what an option's element shows
-module _ {X Y : Type 0} (g : X → Y) (o : Option X) where
-  pub shown-some : (y : Y) → Some y ≡ option_map g o → (x : X) × (o ≡ Some x) × (g x ≡ y)
-  shown-some y h = grind (arith, nat_tests)
-
 -- the rows that are left behind one that was found
 all-after : (behind : ℕ) (x : LogRow) (xs : List LogRow) → behind ≤ x.number → AllByRecursion (λ (y : LogRow). x.number < y.number) xs → filter (is_after behind) xs ≡ xs
 all-after behind x xs le all = filter-all (is_after behind) xs (all-weaker (λ (y : LogRow). x.number < y.number) (λ y. is_after behind y ≡ true) xs (λ y lt. grind (arith, nat_tests, le)) all)
@@ -34,7 +29,7 @@ cell_from s c = record { writer = c.0; bytes = bytes_at s c.1 }
 
 module _ (laws : StockLaws) (s : Store) (m : Layout) (lives : LivesIn s m) (k : ℕ) (cell : ℕ × ℕ) (got : Some cell ≡ option_map (λ (x : Slot). (x.writer, x.block)) (slice_get (slots_of s m) k)) where
   slot : (x : Slot) × (slice_get (slots_of s m) k ≡ Some x) × ((x.writer, x.block) ≡ cell)
-  slot = shown-some (λ (x : Slot). (x.writer, x.block)) (slice_get (slots_of s m) k) cell got
+  slot = grind (arith, nat_tests)
 
   pub cell-next : (bytes : List ℕ) → bytes ≡ bytes_at s cell.1 → map (cell_of s) (take (k + 1) (slots_of s m)) ≡ map (cell_of s) (take k (slots_of s m)) ++ record { writer = cell.0; bytes = bytes } ∷ []
   cell-next bytes is =
@@ -43,7 +38,7 @@ module _ (laws : StockLaws) (s : Store) (m : Layout) (lives : LivesIn s m) (k : 
 
 -- the rows of a log
 module _ (f : File) (kept : IsFileKept f) where
-  rise : AllLater (λ (x y : LogRow). x.number < y.number) f.log.rows
+  pub rise : AllLater (λ (x y : LogRow). x.number < y.number) f.log.rows
   rise = later-weaker Precedes (λ (x y : LogRow). x.number < y.number) f.log.rows (λ x y p. p.number) kept.order.order
 
   pub log-all : filter (is_after 0) f.log.rows ≡ f.log.rows
@@ -61,20 +56,17 @@ module _ (f : File) (kept : IsFileKept f) where
     log-fewer = let left = left-behind behind f.log.rows row rise (sym found) in rw left (omega arith)
 
     pub log-next : (s : Store) (rows all : List world.VersionRow) (cells : List Cell) → cells ≡ shown s row.cells → rows ++ map (row_in s f.id) (filter (is_after behind) f.log.rows) ≡ all → (rows ++ record { file = f.id; number = row.number; opened = row.opened; closed = row.closed; ended = row.ended; cells = cells } ∷ []) ++ map (row_in s f.id) (filter (is_after row.number) f.log.rows) ≡ all
-    log-next s rows all cells is h =
-        let left = left-behind behind f.log.rows row rise (sym found) in
-        let h' : rows ++ row_in s f.id row ∷ map (row_in s f.id) (filter (is_after row.number) f.log.rows) ≡ all = ap (λ xs. rows ++ map (row_in s f.id) xs) (sym left) ∙ h in
-        rw (is, append_assoc) h'
+    log-next s rows all cells is h = grind (arith, nat_tests, left-behind, rise, found, append_assoc)
 
 -- the rows of drafts
 abbrev draft_from : ℕ × ℕ × Bool → List Cell → DraftRow
 draft_from t cells = record { file = t.0; opened = t.1; cells = cells; changed = t.2 }
 
 module _ (s : Store) (drafts : List Draft) (rise : AllLater (λ (x y : Draft). x.file < y.file) drafts) (k : ℕ) (t : ℕ × ℕ × Bool) (got : Some t ≡ option_map (λ (d : Draft). (d.file, d.opened, d.changed)) (slice_get drafts k)) where
-  draft : (d : Draft) × (slice_get drafts k ≡ Some d) × ((d.file, d.opened, d.changed) ≡ t)
-  draft = shown-some (λ (d : Draft). (d.file, d.opened, d.changed)) (slice_get drafts k) t got
+  pub draft : (d : Draft) × (slice_get drafts k ≡ Some d) × ((d.file, d.opened, d.changed) ≡ t)
+  draft = grind (arith, nat_tests)
 
-  found : find (sessions.is_draft t.0) drafts ≡ Some draft.0
+  pub found : find (sessions.is_draft t.0) drafts ≡ Some draft.0
   found = subst (λ (u : ℕ × ℕ × Bool). find (sessions.is_draft u.0) drafts ≡ Some draft.0) draft.2 (found-got (λ (d : Draft). d.file) drafts k draft.0 rise draft.1)
 
   pub draft-there : None ≡ option_map (λ (d : Draft). d.layout) (find (sessions.is_draft t.0) drafts) → ⊥

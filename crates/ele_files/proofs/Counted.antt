@@ -9,11 +9,8 @@ use Rattle.ele_world.specs.World.{is_draft}
 
 -- ---- different places
 
-same_place : (x y : Place) → is_place x y ≡ true → (x.file ≡ y.file) × (x.slot ≡ y.slot) × (x.writer ≡ y.writer)
-same_place x y h = (grind (arith, nat_tests), grind (arith, nat_tests), grind (arith, nat_tests))
-
 is_same : (x y : Place) → is_place x y ≡ true → x ≡ y
-is_same x y h = grind (arith, nat_tests, same_place)
+is_same x y h = grind (arith, nat_tests)
 
 turned : (x y : Place) → is_place x y ≡ is_place y x
 turned x y = grind (arith, nat_tests)
@@ -39,11 +36,8 @@ module _ (file slot writer : ℕ) where
     one : (b : Bool) → length was + cond (not b) 1 0 ≡ different is_place (before ++ places) + cond b 0 1
     one b = grind (arith, counts.count)
 
-    itself : eqb file file ≡ true
-    itself = grind (arith, nat_tests)
-
     either : (b c : Bool) → cond b true c ≡ (c || ((eqb file file && b) || false))
-    either b c = grind (arith, itself)
+    either b c = grind (arith, nat_tests)
 
 -- ---- the slots of a map
 
@@ -55,7 +49,7 @@ meets_none file keys before counts = subst (Counts file keys) (sym (append-nil b
 pub meets_then : (file : ℕ) (was then now : List (ℕ × ℕ)) (places more : List Place) → Meets file was then places → Meets file then now more → Meets file was now (places ++ more)
 meets_then file was then now places more first second before counts = subst (Counts file now) (append_assoc before places more) (second (before ++ places) (first before counts))
 
-places_from-push : (file first : ℕ) (cells : List Cell) (cell : Cell) → places_from file first (cells ++ cell ∷ []) ≡ places_from file first cells ++ record { file = file; slot = first + length cells; writer = cell.writer } ∷ []
+pub places_from-push : (file first : ℕ) (cells : List Cell) (cell : Cell) → places_from file first (cells ++ cell ∷ []) ≡ places_from file first cells ++ record { file = file; slot = first + length cells; writer = cell.writer } ∷ []
 places_from-push file first [] cell = grind (arith, nat_tests)
 places_from-push file first (c ∷ cells) cell = grind (arith, nat_tests, places_from-push file (first + 1) cells cell)
 
@@ -78,9 +72,6 @@ pub bytes_few : StockLaws → (s : Store) (rows : List LogRow) → LogLives s ro
 bytes_few laws s [] lives = omega arith
 bytes_few laws s (row ∷ rows) lives = omega (arith, sum_by-cons (λ (r : LogRow). r.cells.size) row rows, laws.short s row.cells lives.0, bytes_few laws s rows lives.1)
 
-pub bytes_shown : StockLaws → (s : Store) (file : ℕ) (rows : List LogRow) → LogLives s rows → log_bytes rows ≡ bytes_in (map (row_in s file) rows)
-bytes_shown laws s file rows lives = grind (arith, nat_tests, sum_by-same, all-weaker, sum_by-map, sum-map)
-
 pub places_shown : (s : Store) (file : ℕ) (rows : List LogRow) → log_places s rows file ≡ flat_map (λ (row : VersionRow). places_from row.file 0 row.cells) (map (row_in s file) rows)
 places_shown s file [] = refl
 places_shown s file (row ∷ rows) = ap (λ ps. places_from file 0 (shown s row.cells) ++ ps) (places_shown s file rows)
@@ -101,23 +92,17 @@ module _ (s : Store) (files : List File) (a : AllSessions) (kept : Keeps s files
   own = filter (is_version_of file) (flat_map (rows_in s) files)
 
   module _ (f : File) (found : find (is_id file) files ≡ Some f) where
-    pub own_kept : IsFileKept f
-    own_kept = all-found (is_id file) IsFileKept files f found kept.files_kept
-
-    pub own_lives : LogLives s f.log.rows
-    own_lives = all-found (is_id file) (λ (f : File). LogLives s f.log.rows) files f found (logs_live s files a kept)
-
-    shows : own ≡ rows_in s f
+    pub shows : own ≡ rows_in s f
     shows = own_rows s files a kept file f found
 
     pub own_count : length own ≡ length f.log.rows
     own_count = ap length shows ∙ length-map f.log.rows (row_in s f.id)
 
     pub own_bytes : log_bytes f.log.rows ≡ bytes_in own
-    own_bytes = bytes_shown kept.laws s f.id f.log.rows own_lives ∙ ap bytes_in (sym shows)
+    own_bytes = grind (arith, nat_tests, shows, sum_by-same, all-weaker, sum_by-map, sum-map, all-found, logs_live)
 
     pub own_few : length (flat_map (rows_in s) files) ≤ 2 ^ 40 → log_bytes f.log.rows < 2 ^ 64
-    own_few few = omega (arith, few, bytes_few kept.laws s f.log.rows own_lives, own_count, length-split (is_version_of file) (flat_map (rows_in s) files))
+    own_few few = grind (arith, nat_tests, bytes_few, own_count, length-split, all-found, logs_live)
 
     pub own_places : log_places s f.log.rows file ≡ places own []
     own_places = ap (log_places s f.log.rows) (sym (its_id files file f found)) ∙ places_shown s f.id f.log.rows ∙ ap (flat_map row_places) (sym shows) ∙ sym (append-nil (flat_map row_places own))
@@ -140,7 +125,7 @@ pub none_count : (file : ℕ) (keys : List (ℕ × ℕ)) → keys ≡ [] → Cou
 none_count file keys none = rw none (record { count = refl; has = λ slot writer. refl })
 
 module _ (versions : List VersionRow) (drafts : List DraftRow) (file : ℕ) (none then now : List (ℕ × ℕ)) (start : Counts file none []) (first : Meets file none then (places (filter (is_version_of file) versions) [])) (second : Meets file then now (places [] (filter (is_draft file) drafts))) where
-  met_all : length now ≡ different is_place (places (filter (is_version_of file) versions) (filter (is_draft file) drafts))
+  pub met_all : length now ≡ different is_place (places (filter (is_version_of file) versions) (filter (is_draft file) drafts))
   met_all =
       (second (places (filter (is_version_of file) versions) []) (first [] start)).count
       ∙ ap (λ ps. different is_place (ps ++ flat_map draft_row_places (filter (is_draft file) drafts))) (append-nil (flat_map row_places (filter (is_version_of file) versions)))

@@ -1,15 +1,11 @@
 -- A draft goes, or gets another map by a write or a truncate.
-use Rattle.ele_files.proofs.Words.{AllByRecursion, AllLater, AllSessions, AreOrderly, Bool, Draft, DraftRow, File, Held, IsDraftKept, IsEarlier, IsFileKept, IsResized, IsRowOf, IsSomeAnd, Keeps, Layout, List, LivesIn, MatchBool, Moves, None, OnErr, OnOk, Option, Renews, Result, Rewrites, RewritesDraft, Rises, ShowsSame, Some, Stays, Store, Truncates, Writes, [], all-append, all-both, all-flat_map, all-found, all-left, all-map, all-remove_first, all-right, all-update_first, all-weaker, ap, arith, changed_by, cond, content_of, draft_by, draft_for, draft_in, draft_stock, eqb, false, false≢true, file_row, file_stock, find, fitted, fitted_by, fitted_of, flat_map, found_passes, handle_file, has_length, held_in, is_draft, is_file, length, longest_content, map, nat_tests, next_of, option_map, option_map_or, refl, remove_first, remove_first-map, rewritten_by, row_stock, shown, stock_of, sym, true, update_first, update_first-same, written_by, written_of, ℕ, ◌<◌, ◌∙◌, ◌∷◌, ◌≡◌, ◌≢◌, ◌≤◌}
+use Rattle.ele_files.proofs.Words.{sum_by-update_first, sum_by-remove_first, sum_by-cons, AllByRecursion, AllLater, AllSessions, AreOrderly, Bool, Draft, DraftRow, File, Held, IsDraftKept, IsEarlier, IsFileKept, IsResized, IsRowOf, IsSomeAnd, Keeps, Layout, List, LivesIn, MatchBool, Moves, None, OnErr, OnOk, Option, Renews, Result, Rewrites, RewritesDraft, Rises, ShowsSame, Some, Stays, Store, Truncates, Writes, [], all-append, all-both, all-flat_map, all-found, all-left, all-map, all-remove_first, all-right, all-update_first, all-weaker, ap, arith, changed_by, cond, content_of, draft_by, draft_for, draft_in, draft_stock, eqb, false, false≢true, file_row, file_stock, find, fitted, fitted_by, fitted_of, flat_map, found_passes, handle_file, has_length, held_in, is_draft, is_file, length, longest_content, map, nat_tests, next_of, option_map, option_map_or, refl, remove_first, remove_first-map, rewritten_by, row_stock, shown, stock_of, sym, true, update_first, update_first-same, written_by, written_of, ℕ, ◌<◌, ◌∙◌, ◌∷◌, ◌≡◌, ◌≢◌, ◌≤◌}
 use Rattle.ele_files.proofs.Looks.{IsSeen, held_stays, versions_same}
-use Rattle.ele_files.proofs.Stock.{draft_apart, draft_changed, draft_lives}
+use Rattle.ele_files.proofs.Stock.{total, draft_apart, draft_changed, draft_lives}
 use Rattle.ele_files.proofs.Rows.{handle_file-shown, draft-found}
 use Rattle.ele_world.specs.World as world
 use Rattle.ele_files.specs.Held as held
 use Rattle.ele_sessions.specs.Changes as session
-
--- handles are not in the invariant
-pub same_drafts : (s : Store) (files : List File) (a b : AllSessions) → b.drafts ≡ a.drafts → Keeps s files a → Keeps s files b
-same_drafts s files a b same kept = record { laws = kept.laws; rise = kept.rise; stocked = rw same kept.stocked; files_kept = kept.files_kept; drafts_kept = rw same kept.drafts_kept }
 
 -- the other drafts are of other files
 apart_behind : (file : ℕ) (d : Draft) (drafts : List Draft) → d.file ≡ file → AllByRecursion (λ (x : Draft). d.file < x.file) drafts → AllByRecursion (λ (x : Draft). x.file ≢ file) drafts
@@ -94,19 +90,12 @@ module _ (s t : Store) (files : List File) (a b : AllSessions) (kept : Keeps s f
 -- ---- a write or a truncate through a handle
 
 module _ (s : Store) (files : List File) (a : AllSessions) (kept : Keeps s files a) where
-  -- the draft that is written through the handle lives in the store
-  pub draft_by_lives : (handle : ℕ) (d : Draft) → draft_by a handle ≡ Some d → LivesIn s d.layout
-  draft_by_lives handle d = grind (arith, nat_tests, draft_lives)
-
   abbrev rows : Held
   rows = held_in s files a
 
   -- a draft shows as many bytes as its map has
-  length_is : (file size : ℕ) (d : Draft) → find (is_draft file) a.drafts ≡ Some d → eqb (length (content_of (shown s d.layout))) size ≡ eqb d.layout.size size
+  pub length_is : (file size : ℕ) (d : Draft) → find (is_draft file) a.drafts ≡ Some d → eqb (length (content_of (shown s d.layout))) size ≡ eqb d.layout.size size
   length_is file size d found = ap (λ n. eqb n size) (kept.laws.long s d.layout (draft_lives s files a kept file d found))
-
-  pub length_seen : (handle size : ℕ) → held.has_length rows handle size ≡ true → (has_length size (draft_by a handle) ≡ true) × (size ≤ longest_content)
-  length_seen handle size has = grind (arith, nat_tests, handle_file-shown, false≢true, length_is, draft_lives, draft-found)
 
   module _ (t : Store) (b : AllSessions) (orderly : AreOrderly a) where
     stays : session.Stays s t a b → IsSeen t files b rows

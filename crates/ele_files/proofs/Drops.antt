@@ -28,9 +28,6 @@ module _ (s : Store) (id : ℕ) (files : List File) (rise : AllLater (λ (x y : 
 
 -- ---- the file's row goes
 
-neither : (a b : Bool) → (not a && not b) ≡ true → (a ≡ false) × (b ≡ false)
-neither a b h = (grind (arith, h), grind (arith, h))
-
 some_item : {X : Type 0} (p : X → Bool) (xs : List X) (i : ℕ) → Some i ≡ position p xs → X
 some_item p [] i at = absurd cc
 some_item p (x ∷ xs) i at = x
@@ -47,17 +44,13 @@ module _ (s : Store) (files : List File) (a : AllSessions) (kept : Keeps s files
   fewer = remove_first (is_id id) files
 
   versionless : list_any (is_version_of id) (held_in s files a).versions ≡ false
-  versionless = (neither (list_any (is_version_of id) (held_in s files a).versions) (list_any (world.is_draft id) (held_in s files a).drafts) bare).0
+  versionless = grind (arith, nat_tests)
 
   alone : list_any (world.is_draft id) (held_in s files a).drafts ≡ false
-  alone = (neither (list_any (is_version_of id) (held_in s files a).versions) (list_any (world.is_draft id) (held_in s files a).drafts) bare).1
+  alone = grind (arith, nat_tests)
 
-  rows_left : map file_row fewer ≡ remove_first (is_file id) (map file_row files)
+  pub rows_left : map file_row fewer ≡ remove_first (is_file id) (map file_row files)
   rows_left = sym (remove_first-map file_row (is_file id) (is_id id) (λ x. refl) files)
-
-  -- no file has the number
-  pub none_drops : None ≡ position (is_id id) files → held_in s files a ≡ without_file (held_in s files a) id
-  none_drops none = rw (← rows_left, remove_first-none (is_id id) files (sym none)) refl
 
   module _ (f : File) (found : find (is_id id) files ≡ Some f) where
     no_log : f.log.rows ≡ []

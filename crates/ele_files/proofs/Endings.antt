@@ -13,15 +13,7 @@ not_some o P e h = rw e at h
 pub last_row : (rows : List LogRow) (number now : ℕ) (row : LogRow) → AllLater Precedes rows → find (is_numbered number) rows ≡ Some row → row.ended ≡ None → IsLastRow rows number now row
 last_row [] number now row order found endless = absurd cc
 last_row (x ∷ []) number now row order found endless = record { last = grind (arith, nat_tests, found); ended = grind (arith, nat_tests, found, endless) }
-last_row (x ∷ y ∷ rows) number now row order found endless = elim (eqb x.number number) as (λ b. eqb x.number number ≡ b → IsLastRow (x ∷ y ∷ rows) number now row) [
-  | true ↦ λ e.
-      let h = rw e at found in
-      let is : x ≡ row = cc in
-      absurd (not_some x.ended (λ ended. ended ≤ y.closed) (ap (λ (r : LogRow). r.ended) is ∙ endless) order.0.0.ended)
-  | false ↦ λ e.
-      let rest = last_row (y ∷ rows) number now row order.1 (rw e at found) endless in
-      record { last = rest.last; ended = rw e (ap (λ rs. x ∷ rs) rest.ended) }
-] refl
+last_row (x ∷ y ∷ rows) number now row order found endless = grind (arith, nat_tests, not_some, last_row (y ∷ rows) number now row order.1)
 
 pub can_end : (rows : List LogRow) (number now : ℕ) (row : LogRow) → AllByRecursion (IsRowPast now) rows → AllLater Precedes rows → find (is_numbered number) rows ≡ Some row → row.ended ≡ None → IsSomeAnd (last_of rows) (CanEndAt now)
 can_end rows number now row past order found endless =
@@ -30,10 +22,6 @@ can_end rows number now row past order found endless =
 
 pub no_end : (o : Option ℕ) → is_some o ≡ false → o ≡ None
 no_end o h = grind arith
-
--- a row that has an end keeps it
-pub keeps_end : (now : ℕ) (row : LogRow) → is_some row.ended ≡ true → ended_by now row ≡ row
-keeps_end now row has = grind (arith, has)
 
 module _ (next now : ℕ) (new : LogRow) (number : new.number ≡ next) (closed : new.closed ≡ now) where
   -- no row stands behind that before the next one
@@ -56,7 +44,7 @@ module _ (f : File) (now : ℕ) (kept : IsFileKept f) (past : AllByRecursion (Is
   pub of_rows : AllByRecursion (IsRowOf f.next) (ended_rows f now)
   of_rows = all-update_first (is_numbered (f.next - 1)) (IsRowOf f.next) (IsRowOf f.next) (ended_by now) f.log.rows (λ row h. record { first = h.first; number = h.number; open_end = λ endless. absurd cc }) (λ row h. h) kept.rows
 
-  ended_order : AreInOrder (ended_rows f now)
+  pub ended_order : AreInOrder (ended_rows f now)
   ended_order = record {
     ends = all-update_first (is_numbered (f.next - 1)) (λ row. EndsInTime row × IsRowPast now row) EndsInTime (ended_by now) f.log.rows ended_in_time (λ row h. h.0) (all-both EndsInTime (IsRowPast now) f.log.rows kept.order.ends past);
     order = later-update_first (is_numbered (f.next - 1)) Precedes (ended_by now) f.log.rows ended_before (λ x y h. record { number = h.number; ended = h.ended }) kept.order.order;

@@ -1,17 +1,13 @@
 -- The version before a file's next one ends.
-use Rattle.ele_files.proofs.Words.{AllByRecursion, AllSessions, File, HasRows, IsPast, Keeps, List, None, Some, Store, all-not_found, ap, arith, bucket_changes, current_ended, ended_at, ended_rows, flat_map, get_or, held_in, is_id, is_version, local-update_first, map, nat_tests, position, refl, row_in, rows_in, set, stock_of, update_first, update_first-unfound, ℕ, ◌-◌, ◌∙◌, ◌≡◌}
-use Rattle.ele_files.proofs.Endings.{ended_kept}
+use Rattle.ele_files.proofs.Words.{all-weaker, sum_by-update_same, AllByRecursion, AllSessions, File, HasRows, IsPast, Keeps, List, None, Some, Store, all-not_found, ap, arith, bucket_changes, current_ended, ended_at, ended_rows, flat_map, get_or, held_in, is_id, is_version, local-update_first, map, nat_tests, position, refl, row_in, rows_in, set, stock_of, update_first, update_first-unfound, ℕ, ◌-◌, ◌∙◌, ◌≡◌}
+use Rattle.ele_files.proofs.Endings.{ended_order, of_rows, ended_kept}
 use Rattle.ele_files.proofs.Exchanges.{IsReached, reached, after, rise_over, files_over, drafts_over, rows_same}
 use Rattle.ele_files.proofs.Looks.{IsSeen}
 use Rattle.ele_files.proofs.Places.{its_kept, its_past}
 use Rattle.ele_files.proofs.Rows.{file_of, tagged, own_version, ended_shown, its_id, next-found, no-file, version-none}
-use Rattle.ele_files.proofs.Stock.{over, rows_ended}
+use Rattle.ele_files.proofs.Stock.{exchanged, over, rows_ended}
 
 module _ (s : Store) (files : List File) (a : AllSessions) (kept : Keeps s files a) (id now : ℕ) where
-  -- no file has the number
-  pub none_ends : None ≡ position (is_id id) files → held_in s files a ≡ current_ended (held_in s files a) id now
-  none_ends none = grind (arith, nat_tests, update_first-unfound, all-not_found, version-none, no-file)
-
   module _ (i : ℕ) (f g : File) (place : Some i ≡ position (is_id id) files) (is : f ≡ get_or files i f) (past : AllByRecursion (IsPast now) (held_in s files a).versions) (ended : HasRows f g (ended_rows f now)) where
     abbrev at : IsReached files id i f
     at = reached files id i f place is

@@ -1,7 +1,7 @@
 -- One file has other rows: as many, or one fewer.
-use Rattle.ele_files.proofs.Words.{AllByRecursion, AllLater, AllSessions, Bool, Draft, EndsInTime, File, FileRow, HeldRows, IsDraftKept, IsFileKept, IsRowOf, Keeps, List, LivesIn, LogRow, Moves, None, Precedes, Some, Stays, Store, VersionRow, [], all-found, all-not_found, all-remove_first, all-update_first, all-weaker, ap, arith, bucket_changes, content_of, file_row, filter, find, find-cut, flat_map, get_or, held_in, is_file, is_id, is_numbered, is_other, is_version, later-remove_first, later-update_first, length, local-remove_first, map, nat_tests, option_map, position, refl, remove_first, remove_first-map, remove_first-unfound, row_in, row_stock, rows_in, set, set-first, stock_of, sym, update_first, update_first-at, update_first-map, update_first-same, without, ℕ, ◌++◌, ◌<◌, ◌∙◌, ◌∷◌, ◌≡◌}
-use Rattle.ele_files.proofs.Rows.{file_row-found, file_of, tagged, file-at, no-file, its_id, own_version, same_number, version-of, version-none}
-use Rattle.ele_files.proofs.Stock.{over, rows_stay, row_apart, row_lives}
+use Rattle.ele_files.proofs.Words.{find-position, AllByRecursion, AllLater, AllSessions, Bool, Draft, EndsInTime, File, FileRow, HeldRows, IsDraftKept, IsFileKept, IsRowOf, Keeps, List, LivesIn, LogRow, Moves, None, Precedes, Some, Stays, Store, VersionRow, [], all-found, all-not_found, all-remove_first, all-update_first, all-weaker, ap, arith, bucket_changes, content_of, file_row, filter, find, find-cut, flat_map, get_or, held_in, is_file, is_id, is_numbered, is_other, is_version, later-remove_first, later-update_first, length, local-remove_first, map, nat_tests, option_map, position, refl, remove_first, remove_first-map, remove_first-unfound, row_in, row_stock, rows_in, set, set-first, stock_of, sym, update_first, update_first-at, update_first-map, update_first-same, without, ℕ, ◌++◌, ◌<◌, ◌∙◌, ◌∷◌, ◌≡◌}
+use Rattle.ele_files.proofs.Rows.{file_row-found, file_of, tagged, no-file, its_id, own_version, same_number, version-of, version-none}
+use Rattle.ele_files.proofs.Stock.{exchanged, over, rows_stay, row_apart, row_lives}
 use Rattle.ele_files.proofs.Looks.{IsSeen, held_stays}
 
 -- two changes of what is found that are the same there
@@ -70,11 +70,7 @@ pub record IsReached (files : List File) (id i : ℕ) (f : File) : Type 0 where
   pub changed : (g : File) → g.id ≡ f.id → g.policy ≡ f.policy → set files i g ≡ after files id f g found
 
 pub reached : (files : List File) (id i : ℕ) (f : File) → Some i ≡ position (is_id id) files → f ≡ get_or files i f → IsReached files id i f
-reached files id i f place is = grind (arith, nat_tests, file-at, set-first)
-
--- no file has the number
-pub missing : (s : Store) (files : List File) (a : AllSessions) (kept : Keeps s files a) (id number : ℕ) → None ≡ position (is_id id) files → (find (is_version id number) (flat_map (rows_in s) files) ≡ None) × (held_in s files a ≡ without (held_in s files a) id number)
-missing s files a kept id number none = grind (arith, nat_tests, version-none, no-file, remove_first-unfound, all-not_found)
+reached files id i f place is = grind (arith, nat_tests, set-first, find-position)
 
 -- the file at its place, where no row has the number any more
 module _ (s : Store) (files : List File) (a : AllSessions) (kept : Keeps s files a) (id number i : ℕ) (f : File) (place : Some i ≡ position (is_id id) files) (is : f ≡ get_or files i f) (these : HeldRows) (rows : these.rows ≡ filter (is_other number) f.log.rows) where

@@ -8,7 +8,7 @@ abbrev governed : Policy → File → File
 governed policy f = record f { policy = policy }
 
 -- what each element shows stays where it shows the same once it has changed
-flat_map-same : {X Y : Type 0} (h : X → List Y) (p : X → Bool) (g : X → X) (xs : List X) → ((x : X) → h (g x) ≡ h x) → flat_map h (update_first p g xs) ≡ flat_map h xs
+pub flat_map-same : {X Y : Type 0} (h : X → List Y) (p : X → Bool) (g : X → X) (xs : List X) → ((x : X) → h (g x) ≡ h x) → flat_map h (update_first p g xs) ≡ flat_map h xs
 flat_map-same h p g [] same = refl
 flat_map-same h p g (x ∷ xs) same = grind (arith, nat_tests, flat_map-same h p g xs same)
 
@@ -16,16 +16,12 @@ module _ (s : Store) (files : List File) (a : AllSessions) (kept : Keeps s files
   abbrev after : List File → List File
   after files = update_first (is_id id) (governed policy) files
 
-  rows_after : map file_row (after files) ≡ update_first (is_file id) (world.put_under policy) (map file_row files)
+  pub rows_after : map file_row (after files) ≡ update_first (is_file id) (world.put_under policy) (map file_row files)
   rows_after = sym (update_first-map file_row (is_file id) (is_id id) (λ x. refl) (world.put_under policy) (governed policy) (λ x. refl) files)
 
-  next_stays : (files : List File) (file : ℕ) → next_of (map file_row (after files)) file ≡ next_of (map file_row files) file
+  pub next_stays : (files : List File) (file : ℕ) → next_of (map file_row (after files)) file ≡ next_of (map file_row files) file
   next_stays [] file = refl
   next_stays (x ∷ xs) file = grind (arith, nat_tests, is_file, next_stays xs file)
-
-  -- no file has the number
-  pub none_governed : None ≡ position (is_id id) files → held_in s files a ≡ changed_at (held_in s files a) 0 (PutUnder id policy ∷ [])
-  none_governed none = rw (update_first-unfound (is_file id) (world.put_under policy) (map file_row files) (all-not_found (is_file id) (map file_row files) (file_row-found files id ∙ ap (option_map file_row) (no-file files id none)))) refl
 
   module _ (i : ℕ) (f : File) (place : Some i ≡ position (is_id id) files) (is : f ≡ get_or files i f) where
     pub governs : IsSeen s (set files i (governed policy f)) a (changed_at (held_in s files a) 0 (PutUnder id policy ∷ []))

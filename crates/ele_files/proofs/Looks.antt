@@ -1,5 +1,5 @@
 -- What files and drafts show through another store, where their maps show the same.
-use Rattle.ele_files.proofs.Words.{AllByRecursion, AllSessions, Draft, File, Held, Keeps, List, LogRow, ShowsSame, Store, [], all-left, all-right, draft_in, draft_stock, file_stock, flat_map, held_in, map, refl, row_in, row_stock, rows_in, stock_of, ℕ, ◌∷◌, ◌≡◌}
+use Rattle.ele_files.proofs.Words.{arith, nat_tests, AllByRecursion, AllSessions, Draft, File, Held, Keeps, List, LogRow, ShowsSame, Store, [], all-left, all-right, draft_in, draft_stock, file_stock, flat_map, held_in, map, refl, row_in, row_stock, rows_in, stock_of, ℕ, ◌∷◌, ◌≡◌}
 
 -- the fields keep their laws, and show these rows
 pub record IsSeen (s : Store) (files : List File) (ss : AllSessions) (h : Held) : Type 0 where

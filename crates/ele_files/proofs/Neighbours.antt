@@ -6,7 +6,7 @@ use Rattle.ele_files.proofs.Tagged.{find_shown, last-map, list_shown, none_shown
 abbrev last : {X : Type 0} → List X → Option X
 last xs = last_passing (λ _. true) xs
 
-last-kept : {X : Type 0} (p : X → Bool) (xs : List X) → last (filter p xs) ≡ last_passing p xs
+pub last-kept : {X : Type 0} (p : X → Bool) (xs : List X) → last (filter p xs) ≡ last_passing p xs
 last-kept p [] = refl
 last-kept {X} p (x ∷ xs) = grind (arith, nat_tests, last-kept p xs)
 
@@ -15,11 +15,8 @@ module _ (s : Store) (files : List File) (a : AllSessions) (kept : Keeps s files
   versions = flat_map (rows_in s) files
 
   -- the last of what is told of the file's versions
-  newest_told : option_map stamps_of (newest_of versions file) ≡ last (map stamps_of (filter (is_version_of file) versions))
+  pub newest_told : option_map stamps_of (newest_of versions file) ≡ last (map stamps_of (filter (is_version_of file) versions))
   newest_told = ap (option_map stamps_of) (sym (last-kept (is_version_of file) versions)) ∙ sym (last-map (λ _. true) stamps_of (λ _. true) (filter (is_version_of file) versions) (λ row. refl))
-
-  pub newest_none : find (is_id file) files ≡ None → option_map stamps_of (newest_of versions file) ≡ None
-  newest_none none = newest_told ∙ ap (λ rows. last (map stamps_of rows)) (none_shown s files a kept file none)
 
   pub closing_none : (number : ℕ) → find (is_id file) files ≡ None → next_closing versions file number ≡ None
   closing_none number none = ap (option_map (λ (row : VersionRow). row.closed)) (sym (find-filter (is_newer_of file number) (is_version_of file) versions (λ row e. grind (arith, nat_tests))) ∙ ap (find (is_newer_of file number)) (none_shown s files a kept file none))

@@ -1,10 +1,9 @@
 -- A handle that writes a file comes, and with the file's first handle a draft.
-use Rattle.ele_files.proofs.Words.{AllSessions, Bool, Draft, File, IsDraftKept, IsFileKept, IsRowOf, Keeps, Layout, List, LivesIn, LogRow, MatchBool, Moves, None, OnErr, OnOk, Opens, Option, Result, Some, Stays, Store, Tagged, [], all-found, all-insert_before, ap, arith, draft_in, draft_stock, empty_layout, false, file_row, file_stock, find, first_draft, flat_map, handle_in, held_in, insert_before, insert_before-map, is_draft, is_draft_after, is_id, is_numbered, is_version, length, length-append, length-map, list_any, map, map-append, nat_tests, new_draft, next_of, opened_by, option_map, option_map_or, refl, row_in, row_stock, rows_in, shown, stock_of, sum_by, sym, true, ℕ, ◌++◌, ◌+◌, ◌-◌, ◌∙◌, ◌∷◌, ◌≡◌}
+use Rattle.ele_files.proofs.Words.{all-right, AllSessions, Bool, Draft, File, IsDraftKept, IsFileKept, IsRowOf, Keeps, Layout, List, LivesIn, LogRow, MatchBool, Moves, None, OnErr, OnOk, Opens, Option, Result, Some, Stays, Store, Tagged, [], all-found, all-insert_before, ap, arith, draft_in, draft_stock, empty_layout, false, file_row, file_stock, find, first_draft, flat_map, handle_in, held_in, insert_before, insert_before-map, is_draft, is_draft_after, is_id, is_numbered, is_version, length, length-append, length-map, list_any, map, map-append, nat_tests, new_draft, next_of, opened_by, option_map, option_map_or, refl, row_in, row_stock, rows_in, shown, stock_of, sum_by, sym, true, ℕ, ◌++◌, ◌+◌, ◌-◌, ◌∙◌, ◌∷◌, ◌≡◌}
 use Rattle.ele_files.proofs.Copied.{row_copied, row_same}
-use Rattle.ele_files.proofs.Drafts.{same_drafts}
-use Rattle.ele_files.proofs.Looks.{IsSeen, versions_stay, drafts_stay}
+use Rattle.ele_files.proofs.Looks.{drafts_same, IsSeen, versions_stay, drafts_stay}
 use Rattle.ele_files.proofs.Rows.{its_id, next-found, version-of, any-draft}
-use Rattle.ele_files.proofs.Stock.{draft_begun, row_lives}
+use Rattle.ele_files.proofs.Stock.{row_apart, over, draft_begun, row_lives}
 use Rattle.ele_sessions.specs.Opening as opening
 use Rattle.ele_sessions.specs.declared.reads.Reads.TheVariants as session
 use Rattle.ele_world.specs.World as world
@@ -22,16 +21,7 @@ first_map f = cells_of (last_row f)
 -- as many maps as versions and drafts are seen
 pub maps_seen : (s : Store) (files : List File) (drafts : List Draft) → length (stock_of files drafts) ≡ length (flat_map (rows_in s) files) + length (map (draft_in s) drafts)
 maps_seen s [] drafts = omega (arith, length-map drafts draft_stock, length-map drafts (draft_in s))
-maps_seen s (f ∷ files) drafts = omega (
-  arith,
-  maps_seen s files drafts,
-  length-append (file_stock f ++ flat_map file_stock files) (map draft_stock drafts),
-  length-append (file_stock f) (flat_map file_stock files),
-  length-append (flat_map file_stock files) (map draft_stock drafts),
-  length-append (rows_in s f) (flat_map (rows_in s) files),
-  length-map f.log.rows (row_stock f.id),
-  length-map f.log.rows (row_in s f.id),
-)
+maps_seen s (f ∷ files) drafts = grind (arith, nat_tests, length-append, length-map, maps_seen s files drafts)
 
 module _ (s : Store) (files : List File) (a : AllSessions) (kept : Keeps s files a) (file : ℕ) (f : File) (found : find (is_id file) files ≡ Some f) where
   file_kept : IsFileKept f
@@ -102,11 +92,8 @@ module _ (s : Store) (files : List File) (a : AllSessions) (kept : Keeps s files
       versions_on : flat_map (rows_in t) files ≡ flat_map (rows_in s) files
       versions_on = versions_stay s t files a begins.stays.shows
 
-    opened : (there : Bool) → list_any (is_draft file) a.drafts ≡ there → MatchBool there (t ≡ s) (Moves s t [] (first_map f ∷ [])) → IsSeen t files (opening.opened_by a new) (opened_by (held_in s files a) file at)
-    opened true e h = rw h (record {
-      keeps = same_drafts s files a (opening.opened_by a new) (rw e refl) kept;
-      shows = rw (map-append handle_in a.handles (record { number = a.opened + 1; reads = session.Draft file } ∷ []), any-draft s file a.drafts, e) refl;
-    })
+    pub opened : (there : Bool) → list_any (is_draft file) a.drafts ≡ there → MatchBool there (t ≡ s) (Moves s t [] (first_map f ∷ [])) → IsSeen t files (opening.opened_by a new) (opened_by (held_in s files a) file at)
+    opened true e h = grind (arith, nat_tests, map-append, any-draft)
     opened false e h = record {
       keeps = record {
         laws = kept.laws;

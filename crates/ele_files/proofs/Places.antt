@@ -1,8 +1,9 @@
 -- The file at its place, where its log has room for a version more.
-use Rattle.ele_files.proofs.Words.{AllByRecursion, AllSessions, File, HeldRows, IsFileKept, IsPast, IsRowPast, Keeps, List, Some, Store, all-found, file_row, get_or, held_in, is_id, map-all, position, refl, set, ℕ, ◌<◌, ◌≡◌}
-use Rattle.ele_files.proofs.Exchanges.{same_keeps, same_shows, IsReached, reached}
+use Rattle.ele_files.proofs.Words.{bucket_changes, arith, nat_tests, AllByRecursion, AllSessions, File, HeldRows, IsFileKept, IsPast, IsRowPast, Keeps, List, Some, Store, all-found, file_row, get_or, held_in, is_id, map-all, position, refl, set, ℕ, ◌<◌, ◌≡◌}
+use Rattle.ele_files.proofs.Exchanges.{rows_same, same_keeps, same_shows, IsReached, reached}
 use Rattle.ele_files.proofs.Looks.{IsSeen}
-use Rattle.ele_files.proofs.Rows.{file_past}
+use Rattle.ele_files.proofs.Stock.{over}
+use Rattle.ele_files.proofs.Rows.{tagged, file_of, file_past}
 
 module _ (s : Store) (files : List File) (a : AllSessions) (kept : Keeps s files a) (file i : ℕ) (f : File) (place : Some i ≡ position (is_id file) files) (is : f ≡ get_or files i f) where
   abbrev at : IsReached files file i f

@@ -1,15 +1,15 @@
 -- A held version comes again as its file's next one.
-use Rattle.ele_files.proofs.Words.{AllByRecursion, AllSessions, Append, Became, Bool, File, HasAppended, Held, HeldRows, IsPast, IsRowOf, IsSome, Keeps, Layout, List, LivesIn, LogRow, Moves, None, Option, Some, Stays, Store, [], all-found, arith, cells_of_version, false, find, get_or, held_in, is_id, is_numbered, is_version, list_any, next_of, next_row, position, refl, row_stock, set, shown, stock_of, sym, with_rows, ℕ, ◌+◌, ◌∙◌, ◌∷◌, ◌≡◌}
+use Rattle.ele_files.proofs.Words.{nat_tests, AllByRecursion, AllSessions, Append, Became, Bool, File, HasAppended, Held, HeldRows, IsPast, IsRowOf, IsSome, Keeps, Layout, List, LivesIn, LogRow, Moves, None, Option, Some, Stays, Store, [], all-found, arith, cells_of_version, false, find, get_or, held_in, is_id, is_numbered, is_version, list_any, next_of, next_row, position, refl, row_stock, set, shown, stock_of, sym, with_rows, ℕ, ◌+◌, ◌∙◌, ◌∷◌, ◌≡◌}
 use Rattle.ele_files.proofs.Appends.{appended_keeps, appended_shows}
 use Rattle.ele_files.proofs.Copied.{row_copied, row_same}
 use Rattle.ele_files.proofs.Exchanges.{IsReached, reached}
 use Rattle.ele_files.proofs.Looks.{held_stays}
 use Rattle.ele_files.proofs.Places.{its_kept, its_past}
 use Rattle.ele_files.proofs.Rows.{undrafted, next-found, no-file, version-none, version-of}
-use Rattle.ele_files.proofs.Stock.{row_lives}
+use Rattle.ele_files.proofs.Stock.{row_apart, over, row_lives}
 use Rattle.ele_world.specs.World as world
 
-some_found : {X : Type 0} (o : Option X) → IsSome o → o ≡ None → ⊥
+pub some_found : {X : Type 0} (o : Option X) → IsSome o → o ≡ None → ⊥
 some_found o some none = cc
 
 -- what the files and the store are then

@@ -10,17 +10,11 @@ use Rattle.ele_world.specs.World.{is_draft, is_writer}
 -- ---- files
 
 module _ (files : List File) (id : ℕ) where
-  pub file-at : (i : ℕ) (x : File) → Some i ≡ position (is_id id) files → x ≡ get_or files i x → find (is_id id) files ≡ Some x
-  file-at i x at is = find-position (is_id id) files i x (sym at) ∙ ap (λ f. Some f) (sym is)
-
   pub no-file : None ≡ position (is_id id) files → find (is_id id) files ≡ None
   no-file at = find-none (is_id id) files (sym at)
 
   pub file_row-found : find (is_file id) (map file_row files) ≡ option_map file_row (find (is_id id) files)
   file_row-found = find-map file_row (is_file id) files
-
-  pub policy-found : (o : Option File) → find (is_id id) files ≡ o → policy_of (map file_row files) id ≡ option_map (λ f. f.policy) o
-  policy-found o is = rw (file_row-found, is) (grind arith)
 
   pub next-found : (o : Option File) → find (is_id id) files ≡ o → next_of (map file_row files) id ≡ option_map_or (λ f. f.next) o 0
   next-found o is = rw (file_row-found, is) (grind arith)

@@ -5,7 +5,7 @@ use Rattle.ele_files.proofs.Words.{AllByRecursion, AllSessions, Bool, Draft, Fil
 abbrev pub over : File → File → File
 over g f = record f { next = g.next; log = g.log }
 
-total : (k : Tagged → ℕ) (files : List File) (drafts : List Draft) → sum_by k (stock_of files drafts) ≡ sum_by (λ f. sum_by k (file_stock f)) files + sum_by (λ d. k (draft_stock d)) drafts
+pub total : (k : Tagged → ℕ) (files : List File) (drafts : List Draft) → sum_by k (stock_of files drafts) ≡ sum_by (λ f. sum_by k (file_stock f)) files + sum_by (λ d. k (draft_stock d)) drafts
 total k files drafts = omega (arith, sum_by-append k (flat_map file_stock files) (map draft_stock drafts), sum_by-flat_map k file_stock files, sum_by-map k draft_stock drafts)
 
 module _ (files : List File) (drafts : List Draft) where
@@ -21,56 +21,28 @@ module _ (files : List File) (drafts : List Draft) where
 
   -- a file comes without rows
   pub file_added : (f : File) → f.log.rows ≡ [] → SameStock (stock_of files drafts) (stock_of (files ++ f ∷ []) drafts)
-  file_added f none = record {
-    sums = λ k.
-        let no : sum_by k (file_stock f) ≡ 0 = rw none refl in
-        omega (arith, no, total k (files ++ f ∷ []) drafts, total k files drafts, sum_by_push (λ f. sum_by k (file_stock f)) files f);
-  }
+  file_added f none = grind (arith, nat_tests, total, sum_by_push)
 
   -- and so it goes
   pub file_dropped : (p : File → Bool) (f : File) → find p files ≡ Some f → f.log.rows ≡ [] → SameStock (stock_of files drafts) (stock_of (remove_first p files) drafts)
-  file_dropped p f found none = record {
-    sums = λ k.
-        let no : sum_by k (file_stock f) ≡ 0 = rw none refl in
-        omega (arith, no, total k files drafts, total k (remove_first p files) drafts, sum_by-remove_first (λ x. sum_by k (file_stock x)) p files f found);
-  }
+  file_dropped p f found none = grind (arith, nat_tests, total, sum_by-remove_first)
 
   -- one file has other rows
   module _ (id : ℕ) (f g : File) (found : find (is_id id) files ≡ Some f) where
-    exchanged : (k : Tagged → ℕ) → sum_by k (stock_of (update_first (is_id id) (over g) files) drafts) + sum_by (λ row. k (row_stock f.id row)) f.log.rows ≡ sum_by k (stock_of files drafts) + sum_by (λ row. k (row_stock f.id row)) g.log.rows
+    pub exchanged : (k : Tagged → ℕ) → sum_by k (stock_of (update_first (is_id id) (over g) files) drafts) + sum_by (λ row. k (row_stock f.id row)) f.log.rows ≡ sum_by k (stock_of files drafts) + sum_by (λ row. k (row_stock f.id row)) g.log.rows
     exchanged k = grind (arith, nat_tests, total, sum_by-update_first, sum_by-map)
 
     pub row_apart : (q : LogRow → Bool) (row : LogRow) → find q f.log.rows ≡ Some row → g.log.rows ≡ remove_first q f.log.rows → SameStock (stock_of files drafts) (row_stock f.id row ∷ stock_of (update_first (is_id id) (over g) files) drafts)
-    row_apart q row held rows = record {
-      sums = λ k.
-          let h : LogRow → ℕ = λ r. k (row_stock f.id r) in
-          let left : sum_by h g.log.rows ≡ sum_by h (remove_first q f.log.rows) = rw rows refl in
-          omega (arith, exchanged k, left, sum_by-remove_first h q f.log.rows row held, sum_by-cons k (row_stock f.id row) (stock_of (update_first (is_id id) (over g) files) drafts));
-    }
+    row_apart q row held rows = grind (arith, nat_tests, exchanged, sum_by-remove_first, sum_by-cons)
 
     pub rows_stay : g.log.rows ≡ f.log.rows → SameStock (stock_of files drafts) (stock_of (update_first (is_id id) (over g) files) drafts)
-    rows_stay rows = record {
-      sums = λ k.
-          let h : LogRow → ℕ = λ r. k (row_stock f.id r) in
-          let same : sum_by h g.log.rows ≡ sum_by h f.log.rows = rw rows refl in
-          omega (arith, exchanged k, same);
-    }
+    rows_stay rows = grind (arith, nat_tests, exchanged)
 
     pub rows_ended : (now : ℕ) → g.log.rows ≡ ended_rows f now → SameStock (stock_of files drafts) (stock_of (update_first (is_id id) (over g) files) drafts)
-    rows_ended now rows = record {
-      sums = λ k.
-          let h : LogRow → ℕ = λ r. k (row_stock f.id r) in
-          let same : sum_by h g.log.rows ≡ sum_by h (ended_rows f now) = rw rows refl in
-          omega (arith, exchanged k, same, sum_by-update_same h (is_numbered (f.next - 1)) (ended_by now) f.log.rows (λ r. refl));
-    }
+    rows_ended now rows = grind (arith, nat_tests, exchanged, sum_by-update_same)
 
     pub row_added : (now : ℕ) (new : LogRow) → g.log.rows ≡ ended_rows f now ++ new ∷ [] → SameStock (stock_of (update_first (is_id id) (over g) files) drafts) (row_stock f.id new ∷ stock_of files drafts)
-    row_added now new rows = record {
-      sums = λ k.
-          let h : LogRow → ℕ = λ r. k (row_stock f.id r) in
-          let more : sum_by h g.log.rows ≡ sum_by h (ended_rows f now ++ new ∷ []) = rw rows refl in
-          omega (arith, exchanged k, more, sum_by_push h (ended_rows f now) new, sum_by-update_same h (is_numbered (f.next - 1)) (ended_by now) f.log.rows (λ r. refl), sum_by-cons k (row_stock f.id new) (stock_of files drafts));
-    }
+    row_added now new rows = grind (arith, nat_tests, exchanged, sum_by_push, sum_by-update_same, sum_by-cons)
 
 -- each map lives in the store
 abbrev pub LogLives : Store → File → Type 0

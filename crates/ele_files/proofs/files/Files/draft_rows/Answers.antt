@@ -1,4 +1,4 @@
-use Rattle.ele_files.proofs.Lemmas.{arith, draft-next, draft-there, draft_shown, nat_tests, refl}
+use Rattle.ele_files.proofs.Lemmas.{taken-next, found, arith, draft-next, draft-there, draft_shown, nat_tests, refl}
 use Rattle.ele_files.proofs.files.Files.draft_rows.Goals as goal
 
 pub unreachable-requires-in_default-draft : goal.unreachable-requires-in_default-draft

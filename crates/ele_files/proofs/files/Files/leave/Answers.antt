@@ -1,9 +1,9 @@
-use Rattle.ele_files.proofs.Lemmas.{ap, closed, held_of, left_by, option_and_then, sym, ◌∙◌, IsSeen, given_lives, leaves}
+use Rattle.ele_files.proofs.Lemmas.{draft_lives, arith, nat_tests, ap, closed, held_of, left_by, option_and_then, sym, ◌∙◌, IsSeen, leaves}
 use Rattle.ele_files.proofs.files.Files.leave.Goals as goal
 use Rattle.ele_files.proofs.files.Files.leave.Goals.{After-give_up}
 
 pub give_up-requires : goal.give_up-requires
-give_up-requires c m is = given_lives _ _ _ c.args.handle c.self.invariant m (sym (c.map_of-map.ensures ∙ ap (option_and_then (λ a. a.1)) c.close.ensures.answer) ∙ is)
+give_up-requires c m is = grind (arith, nat_tests, draft_lives)
 
 left : (c : After-give_up) → IsSeen c.give_up.new.store c.self.inside.files.items (closed c.self.inside.sessions c.args.handle) (left_by (held_of c.self.inside) c.args.handle)
 left c = leaves _ _ _ c.args.handle c.self.invariant c.give_up.new.store (rw (← c.close.ensures.answer, ← c.map_of-map.ensures) c.give_up.ensures)

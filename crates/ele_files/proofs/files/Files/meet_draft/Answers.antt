@@ -1,4 +1,4 @@
-use Rattle.ele_files.proofs.Lemmas.{Meets, [], ap, draft_places, draft_shown, meets_none, on_ok_weaker, option_map_or, places_from, refl, shown, subst, sym, ◌∙◌}
+use Rattle.ele_files.proofs.Lemmas.{append-nil, arith, nat_tests, Meets, [], ap, draft_places, draft_shown, meets_none, on_ok_weaker, option_map_or, places_from, refl, shown, subst, sym, ◌∙◌}
 use Rattle.ele_files.proofs.files.Files.meet_draft.Goals as goal
 
 pub meet-requires-clause-lives : goal.meet-requires-clause-lives

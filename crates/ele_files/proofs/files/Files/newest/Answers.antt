@@ -1,9 +1,8 @@
-use Rattle.ele_files.proofs.Lemmas.{Some, ap, newest_none, newest_shown, option_map, stamps_in, sym, ◌∙◌}
+use Rattle.ele_files.proofs.Lemmas.{last-map, last-kept, none_shown, newest_told, arith, nat_tests, Some, ap, newest_shown, option_map, stamps_in, sym, ◌∙◌}
 use Rattle.ele_files.proofs.files.Files.newest.Goals as goal
 
 pub returns-in_err-held-clause-value : goal.returns-in_err-held-clause-value
-returns-in_err-held-clause-value c =
-    c.from_residual.ensures ∙ rw (← c.self.view_is) (sym (newest_none _ _ _ c.self.invariant c.args.file (sym (rw c.deref.ensures.value at c.in_err-held.ensures))))
+returns-in_err-held-clause-value c = grind (arith, nat_tests, newest_told, none_shown)
 
 pub returns-in_err-row-clause-value : goal.returns-in_err-row-clause-value
 returns-in_err-row-clause-value c =

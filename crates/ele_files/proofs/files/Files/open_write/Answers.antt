@@ -1,4 +1,4 @@
-use Rattle.ele_files.proofs.Lemmas.{arith, first_lives, maps_seen, nat_tests, next-found, opens, sym}
+use Rattle.ele_files.proofs.Lemmas.{opened, arith, first_lives, maps_seen, nat_tests, next-found, opens, sym}
 use Rattle.ele_files.proofs.files.Files.open_write.Goals as goal
 
 pub unreachable-requires : goal.unreachable-requires
@@ -8,8 +8,7 @@ pub open_write-requires-clause-few : goal.open_write-requires-clause-few
 open_write-requires-clause-few c = grind (arith, nat_tests, maps_seen)
 
 pub open_write-requires-clause-lives : goal.open_write-requires-clause-lives
-open_write-requires-clause-lives c =
-    rw (c.first_map-map.ensures.map, c.new-empty.ensures) (first_lives _ _ _ c.self.invariant c.args.file c.in-Some.held.now (sym (rw c.deref.ensures.value at c.in-Some.ensures)))
+open_write-requires-clause-lives c = grind (arith, nat_tests, first_lives)
 
 pub invariant_of-self : goal.invariant_of-self
 invariant_of-self c =

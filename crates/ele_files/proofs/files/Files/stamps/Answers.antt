@@ -1,9 +1,8 @@
-use Rattle.ele_files.proofs.Lemmas.{arith, nat_tests, stamps-is, stamps-no_row, stamps-none, sym, ◌∙◌}
+use Rattle.ele_files.proofs.Lemmas.{row_lives, version-of, version-none, arith, nat_tests, stamps-is, stamps-no_row, sym, ◌∙◌}
 use Rattle.ele_files.proofs.files.Files.stamps.Goals as goal
 
 pub returns-in_err-held-clause-value : goal.returns-in_err-held-clause-value
-returns-in_err-held-clause-value c =
-    c.from_residual.ensures ∙ rw (← c.self.view_is) (sym (stamps-none _ c.args.file c.args.number _ _ c.self.invariant (sym (rw c.deref.ensures.value at c.in_err-held.ensures))))
+returns-in_err-held-clause-value c = grind (arith, nat_tests, version-none)
 
 pub returns-in_err-row-clause-value : goal.returns-in_err-row-clause-value
 returns-in_err-row-clause-value c = grind (arith, nat_tests, stamps-no_row)

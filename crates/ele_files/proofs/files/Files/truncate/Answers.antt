@@ -1,8 +1,8 @@
-use Rattle.ele_files.proofs.Lemmas.{arith, cut, draft_by_lives, fault-shown, length_seen, nat_tests}
+use Rattle.ele_files.proofs.Lemmas.{draft-found, draft_lives, length_is, false≢true, handle_file-shown, arith, cut, fault-shown, nat_tests}
 use Rattle.ele_files.proofs.files.Files.truncate.Goals as goal
 
 pub truncate-requires : goal.truncate-requires
-truncate-requires c = draft_by_lives _ _ _ c.self.invariant c.args.handle
+truncate-requires c = grind (arith, nat_tests, draft_lives)
 
 pub invariant_of-self : goal.invariant_of-self
 invariant_of-self c = (cut _ _ _ c.self.invariant _ _ c.truncate.ensures.orderly _ _ _ c.truncate.ensures.truncates c.truncate.ensures.err).0
@@ -17,4 +17,4 @@ pub returns-clause-ok : goal.returns-clause-ok
 returns-clause-ok c = rw (← c.self.view_is) (cut _ _ _ c.self.invariant _ _ c.truncate.ensures.orderly _ _ _ c.truncate.ensures.truncates c.truncate.ensures.err).1
 
 pub returns-clause-idle : goal.returns-clause-idle
-returns-clause-idle c = grind (arith, nat_tests, length_seen)
+returns-clause-idle c = grind (arith, nat_tests, handle_file-shown, false≢true, length_is, draft_lives, draft-found)

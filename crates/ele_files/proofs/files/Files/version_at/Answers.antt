@@ -1,4 +1,4 @@
-use Rattle.ele_files.proofs.Lemmas.{arith, at_shown, forgotten_none, nat_tests, none_lived, told_found}
+use Rattle.ele_files.proofs.Lemmas.{none_shown, find-filter, arith, at_shown, forgotten_none, nat_tests, none_lived, told_found}
 use Rattle.ele_files.proofs.files.Files.version_at.Goals as goal
 
 pub returns-in_err-held-clause-value : goal.returns-in_err-held-clause-value

@@ -1,8 +1,8 @@
-use Rattle.ele_files.proofs.Lemmas.{draft_by_lives, fault-shown, handle_file-shown, wrote}
+use Rattle.ele_files.proofs.Lemmas.{draft_lives, arith, nat_tests, fault-shown, handle_file-shown, wrote}
 use Rattle.ele_files.proofs.files.Files.write.Goals as goal
 
 pub write-requires : goal.write-requires
-write-requires c = draft_by_lives _ _ _ c.self.invariant c.args.handle
+write-requires c = grind (arith, nat_tests, draft_lives)
 
 pub invariant_of-self : goal.invariant_of-self
 invariant_of-self c = (wrote _ _ _ c.self.invariant _ _ c.write.ensures.orderly _ _ _ _ c.write.ensures.writes c.write.ensures.err).0

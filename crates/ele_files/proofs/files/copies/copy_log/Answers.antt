@@ -1,4 +1,4 @@
-use Rattle.ele_files.proofs.Lemmas.{LivesIn, LogRow, all-found, all-not_found, ap, append-nil, arith, filter, filter-none, is_after, log-all, log-fewer, log-next, map, nat_tests, row_in, rows_in, sym, ◌++◌, ◌∙◌}
+use Rattle.ele_files.proofs.Lemmas.{append_assoc, found, rise, left-behind, LivesIn, LogRow, all-found, all-not_found, ap, append-nil, arith, filter, filter-none, is_after, log-all, log-fewer, log-next, map, nat_tests, row_in, rows_in, sym, ◌++◌, ◌∙◌}
 use Rattle.ele_files.proofs.files.copies.copy_log.Goals as goal
 
 pub loop-row-init : goal.loop-row-init
@@ -16,7 +16,4 @@ loop-row-preserved c =
     ap (λ rows. rows ++ map (row_in c.args.store.now f.id) (filter (is_after c.in-Some.row.now.number) f.log.rows)) c.in_ok-push.ensures.items ∙ log-next f c.requires.kept c.loop-row.behind c.in-Some.row.now c.in-Some.ensures c.args.store.now c.loop-row.rows.items (c.args.rows.now.items ++ rows_in c.args.store.now f) c.in_ok-cells.cells c.in_ok-cells.ensures c.loop-row.invariant
 
 pub returns : goal.returns
-returns c =
-    let f = c.args.file.now in
-    let none = filter-none (is_after c.loop-row.behind) f.log.rows (all-not_found (is_after c.loop-row.behind) f.log.rows (sym c.in_default.ensures)) in
-    sym (append-nil c.loop-row.rows.items) ∙ (ap (λ rows. c.loop-row.rows.items ++ map (row_in c.args.store.now f.id) rows) (sym none) ∙ c.loop-row.invariant)
+returns c = grind (arith, nat_tests, filter-none, all-not_found, append-nil)

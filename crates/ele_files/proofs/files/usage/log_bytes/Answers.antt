@@ -1,4 +1,4 @@
-use Rattle.ele_files.proofs.Lemmas.{LogRow, all-not_found, ap, arith, filter, filter-none, is_after, log-all, log-fewer, log-left, log_bytes, nat_tests, sum_by-cons}
+use Rattle.ele_files.proofs.Lemmas.{found, rise, left-behind, LogRow, all-not_found, ap, arith, filter, filter-none, is_after, log-all, log-fewer, log-left, log_bytes, nat_tests, sum_by-cons}
 use Rattle.ele_files.proofs.files.usage.log_bytes.Goals as goal
 
 pub loop-row-init : goal.loop-row-init

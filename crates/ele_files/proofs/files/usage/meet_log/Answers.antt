@@ -1,9 +1,8 @@
-use Rattle.ele_files.proofs.Lemmas.{List, LivesIn, LogRow, Meets, all-found, all-not_found, filter, filter-none, is_after, log-all, log-fewer, log-left, log_places, meets_none, meets_then, places_from, shown, subst, sym}
+use Rattle.ele_files.proofs.Lemmas.{append-nil, found, rise, left-behind, append_assoc, arith, nat_tests, List, LivesIn, LogRow, Meets, all-found, all-not_found, filter, filter-none, is_after, log-all, log-fewer, log-left, log_places, meets_none, meets_then, places_from, shown, subst, sym}
 use Rattle.ele_files.proofs.files.usage.meet_log.Goals as goal
 
 pub loop-row-init : goal.loop-row-init
-loop-row-init c = λ id keys meets.
-    subst (λ (rows : List LogRow). Meets id c.args.met.now.keys keys (log_places c.args.store.now rows id)) (log-all c.args.file.now c.requires.kept) meets
+loop-row-init c = grind (arith, nat_tests, log-all)
 
 pub meet-requires-clause-lives : goal.meet-requires-clause-lives
 meet-requires-clause-lives c = all-found (is_after c.loop-row.behind) (λ (row : LogRow). LivesIn c.args.store.now row.cells) c.args.file.now.log.rows c.in-Some.row.now (sym c.in-Some.ensures) c.requires.lives

@@ -1,4 +1,4 @@
-use Rattle.ele_files.proofs.Lemmas.{all-not_found, ap, append-nil, arith, filter-none, is_after, log-all, log-fewer, map, nat_tests, stamps_in, sym, told-next, ◌++◌, ◌∙◌}
+use Rattle.ele_files.proofs.Lemmas.{found, rise, left-behind, append_assoc, all-not_found, ap, append-nil, arith, filter-none, is_after, log-all, log-fewer, map, nat_tests, stamps_in, sym, told-next, ◌++◌, ◌∙◌}
 use Rattle.ele_files.proofs.files.versions.log_stamps.Goals as goal
 
 pub loop-row-init : goal.loop-row-init
@@ -11,7 +11,4 @@ pub loop-row-preserved : goal.loop-row-preserved
 loop-row-preserved c = grind (arith, nat_tests, told-next)
 
 pub returns : goal.returns
-returns c =
-    let f = c.args.file.now in
-    let none = filter-none (is_after c.loop-row.behind) f.log.rows (all-not_found (is_after c.loop-row.behind) f.log.rows (sym c.in_default.ensures)) in
-    sym (append-nil c.loop-row.list.items) ∙ (ap (λ rows. c.loop-row.list.items ++ map stamps_in rows) (sym none) ∙ c.loop-row.invariant)
+returns c = grind (arith, nat_tests, filter-none, all-not_found, append-nil)
