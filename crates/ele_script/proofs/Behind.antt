@@ -1,6 +1,5 @@
 -- Single words and their faults.
-use Rattle.std.proofs.lemmas.Bool.Decides.{nat_tests}
-use Rattle.std.proofs.Common.{arith, ◌≡◌, ℕ, List, [], ◌∷◌, true, false, refl, ap, ◌⊎◌, inl, inr, Option, Some, None}
+use Rattle.std.proofs.Common.{◌≡◌, ℕ, List, [], ◌∷◌, true, false, refl, ap, ◌⊎◌, inl, inr, Option, Some, None}
 use Rattle.std.specs.Prelude.{IfSome, OnOk}
 use Rattle.std.specs.Option.{ok_or}
 use Rattle.ele_moment.specs.Number.{SpellsNumber}

@@ -1,6 +1,6 @@
 -- Words of pairs: each one pair, cut at its slash.
 use Rattle.std.proofs.lemmas.Bool.Decides.{nat_tests}
-use Rattle.std.proofs.Common.{◌≡◌, ℕ, zero, suc, ◌+◌, ◌<◌, ◌≤◌, ◌==◌, Bool, true, false, List, [], ◌∷◌, ◌++◌, length, take, drop, refl, sym, ap, ◌∙◌, arith, length-append, Option, Some, None, IfNone, get_or}
+use Rattle.std.proofs.Common.{◌≡◌, ℕ, zero, suc, ◌+◌, ◌<◌, ◌≤◌, ◌==◌, Bool, false, List, [], ◌∷◌, ◌++◌, length, take, drop, refl, sym, ap, ◌∙◌, arith, length-append, Option, Some, None, IfNone, get_or}
 use Rattle.std.specs.Prelude.{All}
 use Rattle.std.specs.List.{AllZip, position, position_or_len, slice_split}
 use Rattle.std.specs.Char.{digit_value}
@@ -15,7 +15,7 @@ use Rattle.std.proofs.lemmas.List.Elements.{All-nil, All-cons, All-head, All-tai
 use Rattle.std.proofs.lemmas.Str.Parse.{IsNumeralModel}
 use Rattle.ele_moment.specs.Number.{SpellsNumber}
 use Rattle.ele_policy.specs.Ladder.{Rung}
-use Rattle.ele_script.specs.KeptPairs.{Keeps, KeepsPairs}
+use Rattle.ele_script.specs.KeptPairs.{Keeps}
 use Rattle.ele_script.specs.PolicyWord.{SpellsPair, parts_of}
 use Rattle.ele_script.proofs.Moments.{one_number}
 

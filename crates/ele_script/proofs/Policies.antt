@@ -5,7 +5,6 @@ use Rattle.std.specs.Prelude.{codes}
 use Rattle.std.specs.Str.{bytes_eq}
 use Rattle.std.specs.Cmp.Lexicographic.{bytes_decides}
 use Rattle.std.proofs.lemmas.List.{take_all}
-use Rattle.ele_moment.specs.Number.{SpellsNumber}
 use Rattle.ele_policy.specs.declared.policy.Kind.{Kind}
 use Rattle.ele_policy.specs.declared.policy.Kind.TheVariants as kind
 use Rattle.ele_policy.specs.declared.policy.Policy.{Policy}
@@ -16,7 +15,7 @@ use Rattle.ele_policy.specs.Policy.{kind_of}
 use Rattle.ele_script.specs.declared.fault.LineFault.{LineFault}
 use Rattle.ele_script.specs.declared.fault.LineFault.TheVariants.{BadLadder, Syntax}
 use Rattle.ele_script.specs.KeptPairs.{KeepsLadder}
-use Rattle.ele_script.specs.PolicyWord.{IsSafeWord, SpellsPairs, IsLadderWord, SpellsPolicy, IsPolicyForm, one, all, safe, standard, ladder, IsPolicyFault, formless, no_interval, no_ladder, parts_of}
+use Rattle.ele_script.specs.PolicyWord.{IsSafeWord, IsLadderWord, SpellsPolicy, IsPolicyForm, one, all, safe, standard, ladder, IsPolicyFault, formless, no_interval, no_ladder}
 use Rattle.ele_script.proofs.Moments.{one_number}
 use Rattle.ele_script.proofs.PairWords.{one_pairs}
 
