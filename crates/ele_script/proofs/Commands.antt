@@ -1,4 +1,5 @@
 -- The command in front of words.
+use Rattle.std.proofs.lemmas.Bool.Decides.{nat_tests}
 use Rattle.std.proofs.Common.{arith, ◌≡◌, ℕ, List, [], ◌∷◌, ◌++◌, length, map, refl, sym, ap, ◌∙◌, Option, Some, None, IfSome, Result, Ok, Err, ◌⊎◌, inl, inr, subst}
 use Rattle.std.specs.Prelude.{IfOk, IfErr}
 use Rattle.std.specs.Cmp.Lexicographic.{bytes_decides}
@@ -86,8 +87,4 @@ faults_of_words words command arguments (Err fault) found h =
 
 -- words are one command's, with one rest behind it
 pub one_fit : (words : List (List ℕ)) (c d : Command) (xs ys : List (List ℕ)) → words ≡ command_words c ++ xs → words ≡ command_words d ++ ys → (c ≡ d) × (xs ≡ ys)
-one_fit words c d xs ys a b =
-    let p : Command × List (List ℕ) = (c, xs) in
-    let q : Command × List (List ℕ) = (d, ys) in
-    let same : p ≡ q = some_is (sym (command_of-words c xs) ∙ ap command_of (sym a ∙ b) ∙ command_of-words d ys) in
-    (ap (λ (r : Command × List (List ℕ)). r.0) same, ap (λ (r : Command × List (List ℕ)). r.1) same)
+one_fit words c d xs ys a b = grind (arith, nat_tests, some_is, command_of-words)

@@ -1,5 +1,6 @@
 -- What is true of lines: each asks for one thing, or has a first fault, and not both.
-use Rattle.std.proofs.Common.{◌≡◌, ◌≢◌, ℕ, ◌≤◌, true, true≢false, List, [], ◌∷◌, length, refl, sym, ap, subst, ◌∙◌, arith, ◌⊎◌, inl, inr, Option, Some, None, Result, Ok, Err}
+use Rattle.std.proofs.lemmas.Bool.Decides.{nat_tests}
+use Rattle.std.proofs.Common.{◌≡◌, ◌≢◌, ℕ, ◌≤◌, true, true≢false, List, [], ◌∷◌, length, refl, sym, ap, ◌∙◌, arith, ◌⊎◌, inl, inr, Option, Some, None, Result, Ok, Err}
 use Rattle.std.specs.Prelude.{IfOk, IfErr}
 use Rattle.ele_world.specs.declared.event.Event.{Event}
 use Rattle.ele_world.specs.declared.event.Event.TheVariants as event
@@ -84,10 +85,7 @@ one_list [] (v ∷ vs) us k a b = absurd a
 one_list [] [] (u ∷ us) k a b = absurd b
 one_list (word ∷ words) [] us k a b = absurd a
 one_list (word ∷ words) (v ∷ vs) [] k a b = absurd b
-one_list (word ∷ words) (v ∷ vs) (u ∷ us) k a b =
-    let first = one_value word v u (heads k) a.0 b.0 in
-    let rest = one_list words vs us (tails k) a.1 b.1 in
-    ap (λ x. x ∷ vs) first ∙ ap (λ xs. u ∷ xs) rest
+one_list (word ∷ words) (v ∷ vs) (u ∷ us) k a b = grind (arith, nat_tests, one_value, heads, tails, one_list words vs us (tails k) a.1 b.1)
 
 parts_is : (c d : Command) (vs us : List Value) → c ≡ d → vs ≡ us → let p : Command × List Value = (c, vs) in let q : Command × List Value = (d, us) in p ≡ q
 parts_is c d vs us p q =
@@ -96,14 +94,7 @@ parts_is c d vs us p q =
 
 -- a line asks for one thing
 pub one_line : (line : List ℕ) (a b : Line) → SpellsLine line a → SpellsLine line b → a ≡ b
-one_line line a b h k =
-    let c = (line_parts a).0 in
-    let d = (line_parts b).0 in
-    let fit = one_fit (words_of line) c d h.words.arguments k.words.arguments h.words.are k.words.are in
-    let kinds : kinds_of (line_parts a).1 ≡ kinds_of (line_parts b).1 = kinds_fit a ∙ ap kinds_behind fit.0 ∙ sym (kinds_fit b) in
-    let values : (line_parts a).1 ≡ (line_parts b).1 = one_list k.words.arguments (line_parts a).1 (line_parts b).1 kinds (subst (λ xs. SpellsValues xs (line_parts a).1) fit.1 h.words.values) k.words.values in
-    let parts : line_parts a ≡ line_parts b = parts_is c d (line_parts a).1 (line_parts b).1 fit.0 values in
-    some_is (sym (parts_back a) ∙ ap line_of parts ∙ parts_back b)
+one_line line a b h k = grind (arith, nat_tests, one_fit, kinds_fit, one_list, parts_is, some_is, parts_back)
 
 event_is : {a b : Event} → asks.Event a ≡ asks.Event b → a ≡ b
 event_is h = cc
@@ -127,17 +118,10 @@ no_first (word ∷ words) (v ∷ vs) fault h (inl bad) = faultless_word (word_ki
 no_first (word ∷ words) (v ∷ vs) fault h (inr bad) = no_first words vs fault h.1 bad.1
 
 moved : (fault : LineFault) {c d : Command} {xs ys : List (List ℕ)} → c ≡ d → xs ≡ ys → IsFirstWordFault (kinds_behind c) xs fault → IsFirstWordFault (kinds_behind d) ys fault
-moved fault {c} {d} {xs} {ys} p q h =
-    subst (λ (zs : List (List ℕ)). IsFirstWordFault (kinds_behind d) zs fault) q (subst (λ (e : Command). IsFirstWordFault (kinds_behind e) xs fault) p h)
+moved fault {c} {d} {xs} {ys} p q h = grind (arith, nat_tests)
 
 no_words : (words : List (List ℕ)) (asked : Line) (fault : LineFault) → SpellsWords words asked → IsFaultOfWords words fault → ⊥
-no_words words asked fault h (no_command unfit is) =
-    unfit (line_parts asked).0 h.arguments (record { are = h.are; count = as_many h.arguments (line_parts asked).1 h.values ∙ ap length (kinds_fit asked) })
-no_words words asked fault h (of_word command arguments fits bad) =
-    let c = (line_parts asked).0 in
-    let fit = one_fit words command c arguments h.arguments fits.are h.are in
-    let there : IsFirstWordFault (kinds_behind c) h.arguments fault = moved fault fit.0 fit.1 bad in
-    no_first h.arguments (line_parts asked).1 fault h.values (subst (λ kinds. IsFirstWordFault kinds h.arguments fault) (sym (kinds_fit asked)) there)
+no_words words asked fault h x4 = grind (arith, nat_tests, as_many, kinds_fit, one_fit, moved, no_first)
 
 -- a line that asks for something has no fault
 pub spelled_faultless : (line : List ℕ) (asked : Line) (fault : LineFault) → SpellsLine line asked → IsFirstFault line fault → ⊥
@@ -158,8 +142,7 @@ one_of_words words a b (no_command unfit x) (no_command also y) = x ∙ sym y
 one_of_words words a b (no_command unfit x) (of_word c xs fits bad) = absurd (unfit c xs fits)
 one_of_words words a b (of_word c xs fits bad) (no_command unfit y) = absurd (unfit c xs fits)
 one_of_words words a b (of_word c xs fits x) (of_word d ys other y) =
-    let fit = one_fit words c d xs ys fits.are other.are in
-    one_first (kinds_behind d) ys a b (moved a fit.0 fit.1 x) y
+    let fit = one_fit words c d xs ys fits.are other.are in one_first (kinds_behind d) ys a b (moved a fit.0 fit.1 x) y
 
 -- a line has one first fault
 pub one_fault : (line : List ℕ) (a b : LineFault) → IsFirstFault line a → IsFirstFault line b → a ≡ b
@@ -173,33 +156,18 @@ one_fault line a b (of_words short whole x) (too_long long y) = absurd (omega (a
 one_fault line a b (of_words short whole x) (not_worded also broken y) = absurd (true≢false (sym whole ∙ broken))
 one_fault line a b (of_words short whole x) (of_words also other y) = one_of_words (words_of line) a b x y
 
--- what was read of a line is all that it asks for
-pub only_line : (line : List ℕ) (r : Result Line LineFault) → IfOk r (SpellsLine line) → IfErr r (λ fault. (fault ≡ NoMemory) ⊎ IsFirstFault line fault) → (asked : Line) → SpellsLine line asked → (r ≡ Ok asked) ⊎ (r ≡ Err NoMemory)
-only_line line (Ok other) found fault asked h = inl (ap Ok (one_line line other asked found h))
-only_line line (Err other) found (inl memory) asked h = inr (ap Err memory)
-only_line line (Err other) found (inr bad) asked h = absurd (spelled_faultless line asked other h bad)
-
--- and what it was refused with is its first fault
-pub only_fault : (line : List ℕ) (r : Result Line LineFault) → IfOk r (SpellsLine line) → IfErr r (λ fault. (fault ≡ NoMemory) ⊎ IsFirstFault line fault) → (fault : LineFault) → IsFirstFault line fault → (r ≡ Err fault) ⊎ (r ≡ Err NoMemory)
-only_fault line (Ok asked) found is fault bad = absurd (spelled_faultless line asked fault found bad)
-only_fault line (Err other) found (inl memory) fault bad = inr (ap Err memory)
-only_fault line (Err other) found (inr is) fault bad = inl (ap Err (one_fault line other fault is bad))
-
 -- the faults of the words of a line are the line's
 pub fault_of_line : (line : List ℕ) (words : List (List ℕ)) (r : Result Line LineFault) → length line ≤ 8192 → is_worded line ≡ true → words ≡ words_of line → IfErr r (λ fault. (fault ≡ NoMemory) ⊎ IsFaultOfWords words fault) → IfErr r (λ fault. (fault ≡ NoMemory) ⊎ IsFirstFault line fault)
 fault_of_line line words (Ok asked) short worded are h = tt
 fault_of_line line words (Err fault) short worded are (inl memory) = inl memory
-fault_of_line line words (Err fault) short worded are (inr bad) =
-    inr (of_words short worded (subst (λ ws. IsFaultOfWords ws fault) are bad))
+fault_of_line line words (Err fault) short worded are (inr bad) = inr (of_words short worded (rw are at bad))
 
 no_pass : (budget : ℕ) (event : Event) → asks.Pass budget ≢ asks.Event event
 no_pass budget event h = cc
 
 -- the event in what was read is the line's
 pub event_found : (line : List ℕ) (r : Result Line LineFault) → IfOk r (SpellsLine line) → IfOk (event_of r) (Spells line)
-event_found line (Ok (asks.Event event)) found = found
-event_found line (Ok (asks.Pass budget)) found = tt
-event_found line (Err fault) found = tt
+event_found line x1 found = grind (arith, nat_tests)
 
 -- and why there is none is its fault
 pub event_refused : (line : List ℕ) (r : Result Line LineFault) → IfOk r (SpellsLine line) → IfErr r (λ fault. (fault ≡ NoMemory) ⊎ IsFirstFault line fault) → IfErr (event_of r) (λ fault. (fault ≡ NoMemory) ⊎ IsEventFault line fault)
@@ -213,25 +181,27 @@ pub event_memory : (r : Result Line LineFault) → event_of r ≡ Err NoMemory �
 event_memory r is = grind arith
 
 -- a line that spells an event has no such fault
-event_faultless : (line : List ℕ) (event : Event) (fault : LineFault) → Spells line event → IsEventFault line fault → ⊥
+pub event_faultless : (line : List ℕ) (event : Event) (fault : LineFault) → Spells line event → IsEventFault line fault → ⊥
 event_faultless line event fault h (of_line bad) = spelled_faultless line (asks.Event event) fault h bad
 event_faultless line event fault h (no_event asked is other syntax) = other event (one_line line asked (asks.Event event) is h)
 
 -- a line has one such fault
-one_event_fault : (line : List ℕ) (a b : LineFault) → IsEventFault line a → IsEventFault line b → a ≡ b
+pub one_event_fault : (line : List ℕ) (a b : LineFault) → IsEventFault line a → IsEventFault line b → a ≡ b
 one_event_fault line a b (of_line x) (of_line y) = one_fault line a b x y
 one_event_fault line a b (of_line x) (no_event asked is other y) = absurd (spelled_faultless line asked a is x)
 one_event_fault line a b (no_event asked is other x) (of_line y) = absurd (spelled_faultless line asked b is y)
 one_event_fault line a b (no_event asked is other x) (no_event also has none y) = x ∙ sym y
 
--- the event that was read of a line is all that it spells
-pub only_event : (line : List ℕ) (r : Result Event LineFault) → IfOk r (Spells line) → IfErr r (λ fault. (fault ≡ NoMemory) ⊎ IsEventFault line fault) → (event : Event) → Spells line event → (r ≡ Ok event) ⊎ (r ≡ Err NoMemory)
-only_event line (Ok other) found fault event h = inl (ap Ok (one_event line other event found h))
-only_event line (Err other) found (inl memory) event h = inr (ap Err memory)
-only_event line (Err other) found (inr bad) event h = absurd (event_faultless line event other h bad)
+-- what was read of a line is all that it spells, where it spells one thing and what spells something has no fault
+pub only_read : {V : Type 0} (SpellsIt : V → Type 0) (IsFault : LineFault → Type 0) (r : Result V LineFault) → ((a b : V) → SpellsIt a → SpellsIt b → a ≡ b) → ((v : V) (fault : LineFault) → SpellsIt v → IsFault fault → ⊥)
+    → IfOk r SpellsIt → IfErr r (λ fault. (fault ≡ NoMemory) ⊎ IsFault fault) → (v : V) → SpellsIt v → (r ≡ Ok v) ⊎ (r ≡ Err NoMemory)
+only_read SpellsIt IsFault (Ok other) one faultless found fault v h = inl (ap Ok (one other v found h))
+only_read SpellsIt IsFault (Err other) one faultless found (inl memory) v h = inr (ap Err memory)
+only_read SpellsIt IsFault (Err other) one faultless found (inr bad) v h = absurd (faultless v other h bad)
 
--- and what it was refused with is its fault
-pub only_event_fault : (line : List ℕ) (r : Result Event LineFault) → IfOk r (Spells line) → IfErr r (λ fault. (fault ≡ NoMemory) ⊎ IsEventFault line fault) → (fault : LineFault) → IsEventFault line fault → (r ≡ Err fault) ⊎ (r ≡ Err NoMemory)
-only_event_fault line (Ok event) found is fault bad = absurd (event_faultless line event fault found bad)
-only_event_fault line (Err other) found (inl memory) fault bad = inr (ap Err memory)
-only_event_fault line (Err other) found (inr is) fault bad = inl (ap Err (one_event_fault line other fault is bad))
+-- and what it was refused with is its fault, where it has one
+pub only_refused : {V : Type 0} (SpellsIt : V → Type 0) (IsFault : LineFault → Type 0) (r : Result V LineFault) → ((a b : LineFault) → IsFault a → IsFault b → a ≡ b) → ((v : V) (fault : LineFault) → SpellsIt v → IsFault fault → ⊥)
+    → IfOk r SpellsIt → IfErr r (λ fault. (fault ≡ NoMemory) ⊎ IsFault fault) → (fault : LineFault) → IsFault fault → (r ≡ Err fault) ⊎ (r ≡ Err NoMemory)
+only_refused SpellsIt IsFault (Ok v) one faultless found is fault bad = absurd (faultless v fault found bad)
+only_refused SpellsIt IsFault (Err other) one faultless found (inl memory) fault bad = inr (ap Err memory)
+only_refused SpellsIt IsFault (Err other) one faultless found (inr is) fault bad = inl (ap Err (one other fault is bad))

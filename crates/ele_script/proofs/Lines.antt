@@ -1,4 +1,5 @@
 -- The bytes of a line, word after word.
+use Rattle.std.proofs.lemmas.Bool.Decides.{nat_tests}
 use Rattle.std.proofs.Common.{arith, ◌==◌, true, ◌≡◌, ℕ, ◌+◌, ◌<◌, List, [], ◌∷◌, ◌++◌, length, map, take, drop, get_or, ◌/◌, ◌%◌, refl, sym, ap, ◌∙◌, append_assoc}
 use Rattle.std.specs.Prelude.{codes}
 use Rattle.std.specs.Fmt.{decimal}
@@ -19,8 +20,7 @@ behind_word (word ∷ words) = (32 ∷ word) ++ behind_word words
 
 pub line_is : (first : List ℕ) (words : List (List ℕ)) → line_text (first ∷ words) ≡ first ++ behind_word words
 line_is first [] = refl
-line_is first (word ∷ words) =
-    append_assoc first (32 ∷ join_with_byte 32 (word ∷ words)) (10 ∷ []) ∙ ap (λ (rest : List ℕ). first ++ 32 ∷ rest) (line_is word words)
+line_is first (word ∷ words) = grind (arith, nat_tests, append_assoc, line_is word words)
 
 -- joined words are the first, and the byte between them and a word for each other
 pub joined_are : {A : Type 0} (byte : ℕ) (v : A → List ℕ) (first : List ℕ) (xs : List A) → join_with_byte byte (first ∷ map v xs) ≡ first ++ flat_map (λ x. byte ∷ v x) xs
@@ -38,16 +38,12 @@ numbers_are numbers first rest is = rw is.0 (ap (λ (word : List ℕ). 32 ∷ wo
 -- the line of a group in its parts
 pub group_parts : (row : GroupRow) → group_line row
     ≡ join_with_byte 32 (codes "-" ∷ row.name ∷ codes "members" ∷ []) ++ ((32 ∷ numbers_word row.members) ++ (codes " marks" ++ ((32 ∷ numbers_word row.marks) ++ 10 ∷ [])))
-group_parts row =
-    let rest : List ℕ = (32 ∷ numbers_word row.members) ++ (codes " marks" ++ ((32 ∷ numbers_word row.marks) ++ 10 ∷ [])) in
-    line_is (codes "-") (row.name ∷ codes "members" ∷ numbers_word row.members ∷ codes "marks" ∷ numbers_word row.marks ∷ [])
-    ∙ ap (λ (text : List ℕ). 45 ∷ 32 ∷ text) (sym (append_assoc row.name (32 ∷ codes "members") rest))
+group_parts row = grind (arith, nat_tests, line_is, append_assoc)
 
 -- a line is its words but the last, and then the last
 pub last_word : (first last : List ℕ) (words : List (List ℕ)) → line_text (first ∷ words ++ last ∷ []) ≡ join_with_byte 32 (first ∷ words) ++ ((32 ∷ last) ++ 10 ∷ [])
 last_word first last [] = append_assoc first (32 ∷ last) (10 ∷ [])
-last_word first last (word ∷ words) =
-    append_assoc first (32 ∷ join_with_byte 32 (word ∷ words ++ last ∷ [])) (10 ∷ []) ∙ ap (λ (rest : List ℕ). first ++ 32 ∷ rest) (last_word word last words) ∙ sym (append_assoc first (32 ∷ join_with_byte 32 (word ∷ words)) ((32 ∷ last) ++ 10 ∷ []))
+last_word first last (word ∷ words) = grind (arith, nat_tests, append_assoc, last_word word last words)
 
 -- at a place, what stands there is next
 pub here : {A : Type 0} (line : A → List ℕ) (xs : List A) (i : ℕ) (d : A) → i < length xs → flat_map line (drop i xs) ≡ line (get_or xs i d) ++ flat_map line (drop (i + 1) xs)
@@ -55,8 +51,7 @@ here {A} line xs i d lt = ap (λ (ys : List A). flat_map line ys) (drop_more xs 
 
 -- at an item, its line is next
 pub lines_here : {A : Type 0} (line : A → List ℕ) (xs : List A) (i : ℕ) (x : A) → i < length xs → x ≡ get_or xs i x → flat_map line (drop i xs) ≡ line x ++ flat_map line (drop (i + 1) xs)
-lines_here {A} line xs i x lt is =
-    ap (λ (ys : List A). flat_map line ys) (drop_more xs i x lt ∙ ap (λ y. y ∷ drop (i + 1) xs) (sym is))
+lines_here {A} line xs i x lt is = grind (arith, nat_tests, drop_more)
 
 digits_append : (xs ys : List ℕ) → encode_lower (xs ++ ys) ≡ encode_lower xs ++ encode_lower ys
 unfolding encode_with

@@ -1,5 +1,5 @@
 -- Words of numbers and moments: each one number or one moment.
-use Rattle.std.proofs.Common.{◌≡◌, ℕ, ◌<◌, ◌≤◌, List, length, sym, ap, subst, ◌∙◌, arith, inl, inr, Option, Some, pos}
+use Rattle.std.proofs.Common.{◌≡◌, ℕ, ◌≤◌, List, length, sym, ap, ◌∙◌, arith, inl, inr, Option, Some}
 use Rattle.std.proofs.lemmas.Fmt.{decimal_injective}
 use Rattle.std.proofs.lemmas.Int.{ints}
 use Rattle.std.proofs.lemmas.Bool.Decides.{nat_tests}
@@ -16,30 +16,21 @@ one_number word m n a b = decimal_injective m n a.fits b.fits (sym a.digits ∙ 
 
 -- a date and time is worth one moment
 one_worth : (f : Fields) (m n : ℕ) → IsWorth f m → IsWorth f n → m ≡ n
-one_worth f m n a b =
-    let day : pos a.0 ≡ pos b.0 = sym a.1 ∙ b.1 in
-    let same : a.0 ≡ b.0 = omega (arith, ints) in
-    omega (arith, same, a.2, b.2)
+one_worth f m n a b = grind (arith, nat_tests, ints)
 
 some_is : {A : Type 0} {x y : A} → ◌≡◌ {A = Option A} (Some x) (Some y) → x ≡ y
 some_is h = cc
 
 fields_of-text : (f : Fields) → IsTimestamp f → fields_of (timestamp_text f) ≡ Some f
-fields_of-text f is =
-    let most = is.date.day_in.1 in
-    let day : f.day < 100 = grind (arith, nat_tests) in
-    fields_again f (omega (arith, is.date.year_in.1)) (omega (arith, is.date.month_in.1)) day (omega (arith, is.hour)) (omega (arith, is.minute)) (omega (arith, is.second))
+fields_of-text f is = grind (arith, nat_tests, fields_again)
 
 one_timestamp : (word : List ℕ) (m n : ℕ) → SpellsTimestamp word m → SpellsTimestamp word n → m ≡ n
-one_timestamp word m n a b =
-    let same : a.fields ≡ b.fields = some_is (sym (fields_of-text a.fields a.is) ∙ ap fields_of (sym a.text ∙ b.text) ∙ fields_of-text b.fields b.is) in
-    one_worth a.fields m n a.worth (subst (λ f. IsWorth f n) (sym same) b.worth)
+one_timestamp word m n a b = grind (arith, nat_tests, some_is, fields_of-text, one_worth)
 
 no_both : {P : Type 0} (word : List ℕ) (m n : ℕ) → m ≤ last_moment → SpellsNumber word m → SpellsTimestamp word n → P
 no_both word m n le a b =
-    let short = short_number word m le a in
     let long : length word ≡ 20 = ap length b.text in
-    absurd (omega (arith, short, long))
+    absurd (omega (arith, short_number word m le a, long))
 
 pub one_moment : (word : List ℕ) (m n : ℕ) → SpellsMoment word m → SpellsMoment word n → m ≡ n
 one_moment word m n a b =

@@ -1,5 +1,6 @@
 -- Words of pairs: each one pair, cut at its slash.
-use Rattle.std.proofs.Common.{◌≡◌, ℕ, zero, suc, ◌+◌, ◌<◌, ◌≤◌, ◌==◌, Bool, true, false, List, [], ◌∷◌, ◌++◌, length, take, drop, refl, sym, ap, ◌∙◌, arith, length-append, Option, Some, None, IfNone, get_or}
+use Rattle.std.proofs.lemmas.Bool.Decides.{nat_tests}
+use Rattle.std.proofs.Common.{◌≡◌, ℕ, zero, suc, ◌+◌, ◌<◌, ◌≤◌, ◌==◌, Bool, false, List, [], ◌∷◌, ◌++◌, length, take, drop, refl, sym, ap, ◌∙◌, arith, length-append, Option, Some, None, IfNone, get_or}
 use Rattle.std.specs.Prelude.{All}
 use Rattle.std.specs.List.{AllZip, position, position_or_len, slice_split}
 use Rattle.std.specs.Char.{digit_value}
@@ -14,7 +15,7 @@ use Rattle.std.proofs.lemmas.List.Elements.{All-nil, All-cons, All-head, All-tai
 use Rattle.std.proofs.lemmas.Str.Parse.{IsNumeralModel}
 use Rattle.ele_moment.specs.Number.{SpellsNumber}
 use Rattle.ele_policy.specs.Ladder.{Rung}
-use Rattle.ele_script.specs.KeptPairs.{Keeps, KeepsPairs}
+use Rattle.ele_script.specs.KeptPairs.{Keeps}
 use Rattle.ele_script.specs.PolicyWord.{SpellsPair, parts_of}
 use Rattle.ele_script.proofs.Moments.{one_number}
 
@@ -26,15 +27,11 @@ own = record { to = λ ds h. h; from = λ ds h. h; same = λ ds h. refl }
 
 -- a byte that is no digit stands in no number
 is_other : (mark c : ℕ) → 10 ≤ digit_value mark → digit_value c < 10 → (c == mark) ≡ false
-is_other mark c high low = by (c == mark) refl where
-  by : (b : Bool) → (c == mark) ≡ b → b ≡ false
-  by false is = refl
-  by true is = absurd (omega (arith, high, low, ap digit_value (eqb-true c mark is)))
+is_other mark c high low = grind (arith, nat_tests, eqb-true)
 
 unmarked : (mark : ℕ) → 10 ≤ digit_value mark → (ds : List ℕ) → AllDigits 10 ds → All (λ c. (c == mark) ≡ false) ds
 unmarked mark high [] digits = All-nil (λ c. (c == mark) ≡ false)
-unmarked mark high (c ∷ cs) digits =
-    All-cons (λ c. (c == mark) ≡ false) c cs (is_other mark c high digits.0) (unmarked mark high cs digits.1)
+unmarked mark high (c ∷ cs) digits = grind (arith, nat_tests, All-cons, is_other, unmarked mark high cs digits.1)
 
 pub number_unmarked : (mark : ℕ) → 10 ≤ digit_value mark → (word : List ℕ) (n : ℕ) → SpellsNumber word n → All (λ c. (c == mark) ≡ false) word
 number_unmarked mark high word n is = rw is.digits (unmarked mark high (decimal n) (digits_decimal own n is.fits))
@@ -48,10 +45,7 @@ slash_behind (c ∷ front) rest none =
 
 -- the slash of a pair stands behind its age
 slash_at : (word : List ℕ) (pair : Rung) → (is : SpellsPair word pair) → position is_slash word ≡ Some (length is.age)
-slash_at word pair is =
-    let at = slash_behind is.age is.width (number_unmarked 47 (omega arith) is.age pair.0 is.age_is) in
-    let lt = lt-ltb (length is.age) (length (is.age ++ 47 ∷ is.width)) (omega (arith, length-append is.age (47 ∷ is.width))) in
-    rw (is.are, at, lt) refl
+slash_at word pair is = grind (arith, nat_tests, slash_behind, number_unmarked, lt-ltb, length-append)
 
 some_is : {A : Type 0} {x y : A} → ◌≡◌ {A = Option A} (Some x) (Some y) → x ≡ y
 some_is h = cc
@@ -74,8 +68,7 @@ unslashed word r none is = rw is (λ pair spelled. none_is (none ∙ slash_at wo
 -- nor is what has no number in front of the slash
 pub bad_age : (word front : List ℕ) (at : ℕ) (r : Option Rung) → Some at ≡ position is_slash word → front ≡ take at word → ((n : ℕ) → SpellsNumber front n → ◌≡◌ {A = Option ℕ} None (Some n)) → r ≡ None
     → IfNone r ((pair : Rung) → ¬ SpellsPair word pair)
-bad_age word front at r found before none is =
-    rw is (λ pair spelled. none_is (none pair.0 (rw before (parts_at word pair at spelled (sym found)).0)))
+bad_age word front at r found before none is = grind (arith, nat_tests, none_is, parts_at)
 
 -- or behind it
 pub bad_width : (word behind rest : List ℕ) (at : ℕ) (r : Option Rung) → Some at ≡ position is_slash word → behind ≡ drop at word → rest ≡ drop 1 behind → ((n : ℕ) → SpellsNumber rest n → ◌≡◌ {A = Option ℕ} None (Some n)) → r ≡ None
@@ -113,8 +106,7 @@ one_pairs [] (p ∷ ps) qs a b = absurd a
 one_pairs [] [] (q ∷ qs) a b = absurd b
 one_pairs (word ∷ words) [] qs a b = absurd a
 one_pairs (word ∷ words) (p ∷ ps) [] a b = absurd b
-one_pairs (word ∷ words) (p ∷ ps) (q ∷ qs) a b =
-    ap (λ r. r ∷ ps) (one_pair word p q a.0 b.0) ∙ ap (λ (rs : List Rung). q ∷ rs) (one_pairs words ps qs a.1 b.1)
+one_pairs (word ∷ words) (p ∷ ps) (q ∷ qs) a b = cc (one_pair word p q a.0 b.0, one_pairs words ps qs a.1 b.1)
 
 -- if words are pairs, so is each
 pub all_pairs : (words : List (List ℕ)) (ps : List Rung) (i : ℕ) (word : List ℕ) → AllZip SpellsPair words ps → i < length words → word ≡ get_or words i word → ((p : Rung) → ¬ SpellsPair word p) → ⊥
@@ -127,10 +119,6 @@ all_pairs (w ∷ words) (p ∷ ps) (suc i) word all lt here bad = all_pairs word
 pub parts_are : (text : List ℕ) → (length text == 0) ≡ false → parts_of text ≡ slice_split (λ b. b == 44) text
 parts_are [] some = absurd cc
 parts_are (c ∷ cs) some = refl
-
-pub no_parts : (text : List ℕ) (kept : List Rung) → (length text == 0) ≡ true → kept ≡ [] → KeepsPairs text kept
-no_parts [] kept none is = record { pairs = []; spelled = tt; first = is }
-no_parts (c ∷ cs) kept none is = let zero = eqb-true (length (c ∷ cs)) 0 none in absurd (omega (arith, zero))
 
 pairs_push : (words : List (List ℕ)) (ps : List Rung) (word : List ℕ) (p : Rung) → AllZip SpellsPair words ps → SpellsPair word p → AllZip SpellsPair (words ++ word ∷ []) (ps ++ p ∷ [])
 pairs_push [] [] word p all is = (is, tt)

@@ -1,5 +1,6 @@
 -- Words of paths with tags or at a moment, and of sources: each one value, or one fault.
-use Rattle.std.proofs.Common.{◌≡◌, ◌==◌, ℕ, Bool, true, false, true≢false, List, [], ◌∷◌, ◌++◌, refl, sym, ap, subst, ◌∙◌, arith, Option, Some, None}
+use Rattle.std.proofs.lemmas.Bool.Decides.{nat_tests}
+use Rattle.std.proofs.Common.{◌≡◌, ◌==◌, ℕ, Bool, true, false, true≢false, List, [], ◌∷◌, ◌++◌, refl, sym, ap, subst, ◌∙◌, arith, Option}
 use Rattle.std.specs.Str.Parse.{AllDigits}
 use Rattle.std.proofs.lemmas.Bool.{eqb-true}
 use Rattle.std.proofs.lemmas.Fmt.{decimal_is_IsNumeral}
@@ -11,7 +12,7 @@ use Rattle.ele_time_path.specs.declared.tagged.TaggedPath.{TaggedPath}
 use Rattle.ele_time_path.specs.Tagged.{SpellsTag, SpellsTaggedPath}
 use Rattle.ele_time_path.specs.TaggedFault.{path_part, tag_part}
 use Rattle.ele_time_path.specs.PathAt.{tag_at, SpellsPathAt}
-use Rattle.ele_time_path.proofs.Spelled.{IsCut, alone, cut, cut_of, one_path}
+use Rattle.ele_time_path.proofs.Spelled.{IsCut, cut_of, one_path}
 use Rattle.ele_time_path.proofs.Tags.{spelled_parts}
 use Rattle.ele_time_path.proofs.TaggedFaults.{tagged_faultless, one_tagged_fault}
 use Rattle.ele_time_path.proofs.PathsAt.{tagged_at}
@@ -19,7 +20,7 @@ use Rattle.ele_world.specs.declared.event.Source.{Source}
 use Rattle.ele_world.specs.declared.event.Source.TheVariants.{Tagged, Of}
 use Rattle.ele_script.specs.declared.fault.LineFault.{LineFault}
 use Rattle.ele_script.specs.LineFault.{fault_of_path}
-use Rattle.ele_script.specs.PathWord.{IsTaggedWordFault, begins_path, IsSourceFault, of_tagged, of_handle}
+use Rattle.ele_script.specs.PathWord.{IsTaggedWordFault, begins_path, IsSourceFault}
 use Rattle.ele_script.specs.Value.{SpellsSource}
 use Rattle.ele_script.proofs.Moments.{one_number, one_moment}
 
@@ -47,10 +48,7 @@ one_tagged word a b x y =
     λ i. record { path = path i; tag = tag i }
 
 moment_is : (a b : Option ℕ) → tag_at a ≡ tag_at b → a ≡ b
-moment_is None None h = refl
-moment_is None (Some n) h = absurd cc
-moment_is (Some m) None h = absurd cc
-moment_is (Some m) (Some n) h = let same : m ≡ n = cc in ap Some same
+moment_is x0 x1 h = grind (arith, nat_tests)
 
 -- and for one path at one moment
 pub one_timed : (word : List ℕ) (a b : PathAt) → SpellsPathAt word a → SpellsPathAt word b → a ≡ b
@@ -62,18 +60,14 @@ one_timed word a b x y =
 
 -- a path begins with a slash
 begins_cut : (text tag : List ℕ) (names : List (List ℕ)) → IsCut text names → begins_path (text ++ tag) ≡ true
-begins_cut text tag names (alone is none) = ap (λ (text : List ℕ). begins_path (text ++ tag)) is
-begins_cut text tag names (cut byte rest is are) = ap (λ (text : List ℕ). begins_path (text ++ tag)) is
+begins_cut text tag names x3 = grind (arith, nat_tests)
 
 begins_tagged : (word : List ℕ) (value : TaggedPath) → SpellsTaggedPath word value → begins_path word ≡ true
 begins_tagged word value h = ap begins_path h.are ∙ begins_cut h.path_text h.tag_text value.path (cut_of h.path_text value.path h.path)
 
 -- and a number does not
 no_slash : (byte : ℕ) (digits : List ℕ) → AllDigits 10 (byte ∷ digits) → (b : Bool) → (byte == 47) ≡ b → b ≡ false
-no_slash byte digits all false is = refl
-no_slash byte digits all true is =
-    let slash : AllDigits 10 (47 ∷ digits) = subst (λ (byte : ℕ). AllDigits 10 (byte ∷ digits)) (eqb-true byte 47 is) all in
-    absurd (omega (arith, slash.0))
+no_slash byte digits all x3 is = grind (arith, nat_tests, eqb-true)
 
 digits_plain : (word : List ℕ) → AllDigits 10 word → begins_path word ≡ false
 digits_plain [] all = refl
@@ -87,10 +81,7 @@ either is other = absurd (true≢false (sym is ∙ other))
 
 -- a word stands for one source
 pub one_source : (word : List ℕ) (a b : Source) → SpellsSource word a → SpellsSource word b → a ≡ b
-one_source word (Tagged a) (Tagged b) x y = ap Tagged (one_tagged word a b x y)
-one_source word (Tagged a) (Of n) x y = either (begins_tagged word a x) (begins_number word n y)
-one_source word (Of m) (Tagged b) x y = either (begins_tagged word b y) (begins_number word m x)
-one_source word (Of m) (Of n) x y = ap Of (one_number word m n x y)
+one_source word x1 x2 x y = grind (arith, nat_tests, one_tagged, either, begins_tagged, begins_number, one_number)
 
 pub faultless_tagged : (word : List ℕ) (value : TaggedPath) (fault : LineFault) → SpellsTaggedPath word value → IsTaggedWordFault word fault → ⊥
 faultless_tagged word value fault is bad = tagged_faultless word value bad.0 is bad.1
@@ -100,14 +91,9 @@ one_tagged_word word a b x y = x.2 ∙ ap fault_of_path (one_tagged_fault word x
 
 -- a word that stands for a source has no fault
 pub faultless_source : (word : List ℕ) (value : Source) (fault : LineFault) → SpellsSource word value → IsSourceFault word fault → ⊥
-faultless_source word (Tagged value) fault is (of_tagged path bad) = faultless_tagged word value fault is bad
-faultless_source word (Tagged value) fault is (of_handle plain none syntax) = either (begins_tagged word value is) plain
-faultless_source word (Of handle) fault is (of_tagged path bad) = either path (begins_number word handle is)
-faultless_source word (Of handle) fault is (of_handle plain none syntax) = none handle is
+faultless_source word (Tagged value) fault is bad = let slash = begins_tagged word value is in let none = faultless_tagged word value fault is in grind arith
+faultless_source word (Of handle) fault is bad = let plain = begins_number word handle is in grind arith
 
 -- and a word has one
 pub one_source_fault : (word : List ℕ) (a b : LineFault) → IsSourceFault word a → IsSourceFault word b → a ≡ b
-one_source_fault word a b (of_tagged path x) (of_tagged also y) = one_tagged_word word a b x y
-one_source_fault word a b (of_tagged path x) (of_handle plain none y) = either path plain
-one_source_fault word a b (of_handle plain none x) (of_tagged path y) = either path plain
-one_source_fault word a b (of_handle plain none x) (of_handle also nor y) = x ∙ sym y
+one_source_fault word a b x y = grind (arith, one_tagged_word word a b)

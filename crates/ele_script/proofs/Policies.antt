@@ -1,10 +1,10 @@
 -- Words of policies: each one policy, or at one fault.
-use Rattle.std.proofs.Common.{◌≡◌, ℕ, ◌==◌, cond, false, true≢false, List, [], ◌∷◌, ◌++◌, refl, sym, ap, subst, ◌∙◌, arith, Option, Some, None, inl, inr}
+use Rattle.std.proofs.lemmas.Bool.Decides.{nat_tests}
+use Rattle.std.proofs.Common.{◌≡◌, ◌⊎◌, ℕ, ◌==◌, cond, false, true≢false, List, [], ◌∷◌, ◌++◌, refl, sym, ap, subst, ◌∙◌, arith, Option, Some, None, inl, inr}
 use Rattle.std.specs.Prelude.{codes}
 use Rattle.std.specs.Str.{bytes_eq}
 use Rattle.std.specs.Cmp.Lexicographic.{bytes_decides}
 use Rattle.std.proofs.lemmas.List.{take_all}
-use Rattle.ele_moment.specs.Number.{SpellsNumber}
 use Rattle.ele_policy.specs.declared.policy.Kind.{Kind}
 use Rattle.ele_policy.specs.declared.policy.Kind.TheVariants as kind
 use Rattle.ele_policy.specs.declared.policy.Policy.{Policy}
@@ -15,7 +15,7 @@ use Rattle.ele_policy.specs.Policy.{kind_of}
 use Rattle.ele_script.specs.declared.fault.LineFault.{LineFault}
 use Rattle.ele_script.specs.declared.fault.LineFault.TheVariants.{BadLadder, Syntax}
 use Rattle.ele_script.specs.KeptPairs.{KeepsLadder}
-use Rattle.ele_script.specs.PolicyWord.{IsSafeWord, SpellsPairs, IsLadderWord, SpellsPolicy, IsPolicyForm, one, all, safe, standard, ladder, IsPolicyFault, formless, no_interval, no_ladder, parts_of}
+use Rattle.ele_script.specs.PolicyWord.{IsSafeWord, IsLadderWord, SpellsPolicy, IsPolicyForm, one, all, safe, standard, ladder, IsPolicyFault, formless, no_interval, no_ladder}
 use Rattle.ele_script.proofs.Moments.{one_number}
 use Rattle.ele_script.proofs.PairWords.{one_pairs}
 
@@ -27,18 +27,14 @@ behind_safe a b h = cc
 
 -- `safe:` and a number are one number
 one_safe : (word : List ℕ) (m n : ℕ) → IsSafeWord word m → IsSafeWord word n → m ≡ n
-one_safe word m n a b =
-    let same : a.digits ≡ b.digits = behind_safe a.digits b.digits (sym a.are ∙ b.are) in
-    one_number b.digits m n (subst (λ digits. SpellsNumber digits m) same a.number) b.number
+one_safe word m n a b = grind (arith, nat_tests, behind_safe, one_number)
 
 behind_landmarks : (a b : List ℕ) → codes "landmarks:" ++ a ≡ codes "landmarks:" ++ b → a ≡ b
 behind_landmarks a b h = cc
 
 -- `landmarks:` and pairs are these pairs
 one_ladder : (word : List ℕ) (ps qs : List Rung) → IsLadderWord word ps → IsLadderWord word qs → ps ≡ qs
-one_ladder word ps qs a b =
-    let same : a.text ≡ b.text = behind_landmarks a.text b.text (sym a.are ∙ b.are) in
-    one_pairs (parts_of b.text) ps qs (subst (λ text. SpellsPairs text ps) same a.spelled) b.spelled
+one_ladder word ps qs a b = grind (arith, nat_tests, behind_landmarks, one_pairs)
 
 unpaired : (text : List ℕ) → codes "landmarks" ≡ codes "landmarks:" ++ text → ⊥
 unpaired text h = cc
@@ -56,11 +52,7 @@ ladder_kind : (word : List ℕ) (pairs : List Rung) → IsLadderWord word pairs 
 ladder_kind word pairs is = ap kind_in is.are
 
 policy_kind : (word : List ℕ) (policy : Policy) → SpellsPolicy word policy → kind_in word ≡ Some (kind_of policy)
-policy_kind word One is = ap kind_in is
-policy_kind word All is = ap kind_in is
-policy_kind word (Safe n) is = safe_kind word n is.0
-policy_kind word (Landmarks rungs) (inl is) = ap kind_in is.0
-policy_kind word (Landmarks rungs) (inr is) = ladder_kind word rungs is.0
+policy_kind word x1 is = grind (arith, nat_tests, safe_kind, ladder_kind)
 
 one_landmarks : (word : List ℕ) (ps qs : List Rung) → SpellsPolicy word (Landmarks ps) → SpellsPolicy word (Landmarks qs) → ps ≡ qs
 one_landmarks word ps qs (inl a) (inl b) = a.1 ∙ sym b.1
@@ -104,17 +96,18 @@ faultless_policy word policy fault is (no_interval n form none bad) =
 faultless_policy word policy fault is (no_ladder pairs form none bad) =
     not_ladder word policy pairs (some_is (sym (policy_kind word policy is) ∙ ladder_kind word pairs form)) is form none
 
+formed : (word : List ℕ) (fault : LineFault) → IsPolicyFault word fault → ((fault ≡ Syntax) × ¬ IsPolicyForm word) ⊎ ((fault ≡ BadLadder) × IsPolicyForm word)
+formed word fault (formless none is) = inl (is, none)
+formed word fault (no_interval n form none is) = inr (is, safe n form)
+formed word fault (no_ladder pairs form none is) = inr (is, ladder pairs form)
+
 -- and any other has one
 pub one_policy_fault : (word : List ℕ) (a b : LineFault) → IsPolicyFault word a → IsPolicyFault word b → a ≡ b
-one_policy_fault word a b (formless none x) (formless also y) = x ∙ sym y
-one_policy_fault word a b (formless none x) (no_interval n form bad y) = absurd (none (safe n form))
-one_policy_fault word a b (formless none x) (no_ladder pairs form bad y) = absurd (none (ladder pairs form))
-one_policy_fault word a b (no_interval n form bad x) (formless none y) = absurd (none (safe n form))
-one_policy_fault word a b (no_interval n form bad x) (no_interval m other worse y) = x ∙ sym y
-one_policy_fault word a b (no_interval n form bad x) (no_ladder pairs other worse y) = x ∙ sym y
-one_policy_fault word a b (no_ladder pairs form bad x) (formless none y) = absurd (none (ladder pairs form))
-one_policy_fault word a b (no_ladder pairs form bad x) (no_interval m other worse y) = x ∙ sym y
-one_policy_fault word a b (no_ladder pairs form bad x) (no_ladder others other worse y) = x ∙ sym y
+one_policy_fault word a b x y =
+    elim (formed word a x) [
+      | inl p ↦ elim (formed word b y) [ inl q ↦ p.0 ∙ sym q.0 | inr q ↦ absurd (p.1 q.1) ]
+      | inr p ↦ elim (formed word b y) [ inl q ↦ absurd (q.1 p.1) | inr q ↦ p.0 ∙ sym q.0 ]
+    ]
 
 differs : (word text : List ℕ) → bytes_eq word text ≡ false → word ≡ text → ⊥
 differs word text other is = true≢false (sym ((bytes_decides word text).1 is) ∙ other)
@@ -122,15 +115,13 @@ differs word text other is = true≢false (sym ((bytes_decides word text).1 is) 
 -- what is none of the plain words, nor `safe:` or `landmarks:` and numbers, has no form
 pub formless_word : (word : List ℕ) → bytes_eq word (codes "one") ≡ false → bytes_eq word (codes "all") ≡ false → bytes_eq word (codes "landmarks") ≡ false → ((seconds : ℕ) → ¬ IsSafeWord word seconds) → ((pairs : List Rung) → ¬ IsLadderWord word pairs)
     → IsPolicyFault word Syntax
-formless_word word not_one not_all not_standard no_safe no_pairs =
-    let no_form : IsPolicyForm word → ⊥ = λ form. elim form [
-      | one is ↦ differs word (codes "one") not_one is
-      | all is ↦ differs word (codes "all") not_all is
-      | safe seconds is ↦ no_safe seconds is
-      | standard is ↦ differs word (codes "landmarks") not_standard is
-      | ladder pairs is ↦ no_pairs pairs is
-    ] in
-    formless no_form refl
+formless_word word not_one not_all not_standard no_safe no_pairs = formless no_form refl where
+  no_form : IsPolicyForm word → ⊥
+  no_form (one is) = differs word (codes "one") not_one is
+  no_form (all is) = differs word (codes "all") not_all is
+  no_form (safe seconds is) = no_safe seconds is
+  no_form (standard is) = differs word (codes "landmarks") not_standard is
+  no_form (ladder pairs is) = no_pairs pairs is
 
 -- if these pairs are a ladder, the first nine are all
 pub whole_ladder : (word : List ℕ) (kept : List Rung) → (keeps : KeepsLadder word kept) → IsLadder keeps.pairs → keeps.pairs ≡ kept

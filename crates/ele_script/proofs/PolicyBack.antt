@@ -20,8 +20,7 @@ spelled : (n : ℕ) → n ≤ last_moment → SpellsNumber (decimal n) n
 spelled n le = record { fits = omega (arith, le); digits = refl }
 
 both : (a b : Bool) → (a && b) ≡ true → (a ≡ true) × (b ≡ true)
-both true b h = (refl, h)
-both false b h = absurd cc
+both x0 b h = grind (arith, nat_tests)
 
 -- the numbers of a rung are no greater than the last moment
 record IsShort (rung : Rung) : Type 0 where

@@ -1,5 +1,6 @@
 -- Words and what they stand for: each one value of a kind.
-use Rattle.std.proofs.Common.{◌≡◌, ℕ, List, refl, sym, ap, subst, ◌∙◌, inl, inr, Option, Some, None, Ok, Err, Result}
+use Rattle.std.proofs.lemmas.Bool.Decides.{nat_tests}
+use Rattle.std.proofs.Common.{arith, ◌≡◌, ℕ, List, refl, sym, ap, subst, ◌∙◌, Option, Some, None, Ok, Err, Result}
 use Rattle.std.specs.Prelude.{codes, IfErr}
 use Rattle.std.specs.Option.{ok_or}
 use Rattle.std.specs.Result.{result_ok}
@@ -31,10 +32,7 @@ no_dash : (word bytes : List ℕ) → word ≡ codes "-" → decode_of word ≡ 
 no_dash word bytes dash digits = absurd_ok (sym (ap decode_of dash) ∙ digits)
 
 one_bytes : (word : List ℕ) (a b : List ℕ) → SpellsBytes word a → SpellsBytes word b → a ≡ b
-one_bytes word a b (inl x) (inl y) = x.1 ∙ sym y.1
-one_bytes word a b (inl x) (inr y) = absurd (no_dash word b x.0 y.1)
-one_bytes word a b (inr x) (inl y) = absurd (no_dash word a y.0 x.1)
-one_bytes word a b (inr x) (inr y) = ok_is (sym x.1 ∙ y.1)
+one_bytes word a b x3 x4 = grind (arith, nat_tests, no_dash, ok_is)
 
 -- a word stands for one value of a kind
 pub one_value : (word : List ℕ) (a b : Value) → word_kind a ≡ word_kind b → SpellsValue word a → SpellsValue word b → a ≡ b

@@ -1,6 +1,6 @@
 -- The words of a line, cut off one after another.
-use Rattle.std.proofs.Common.{◌≡◌, ◌≢◌, ℕ, zero, suc, ◌+◌, ◌<◌, ◌≤◌, ◌==◌, not, cond, ◌&&◌, Bool, true, false, List, [], ◌∷◌, ◌++◌, length, take, drop, get_or, Some, None, refl, sym, ap, ◌∙◌, arith, append_assoc, length-append, map, ◌⊎◌, inl, inr, nat_lt, subst}
-use Rattle.std.specs.List.{list_all, position, position_or_len}
+use Rattle.std.proofs.Common.{◌≡◌, ◌≢◌, ℕ, zero, suc, ◌+◌, ◌<◌, ◌≤◌, ◌==◌, not, cond, ◌&&◌, Bool, true, false, List, [], ◌∷◌, ◌++◌, length, take, drop, get_or, Some, None, refl, sym, ap, ◌∙◌, arith, append_assoc, length-append, map, ◌⊎◌, nat_lt, subst}
+use Rattle.std.specs.List.{list_all, position}
 use Rattle.std.proofs.Math.Bool.{and-false}
 use Rattle.std.proofs.lemmas.Bool.{ltb-false, lt-ltb, eqb-true}
 use Rattle.std.proofs.lemmas.Bool.Decides.{nat_tests}
@@ -12,7 +12,7 @@ use Rattle.std.proofs.lemmas.List.Sums.{prefix_len_passes}
 use Rattle.ele_script.specs.declared.command.Command.{Command}
 use Rattle.ele_script.specs.declared.fault.LineFault.TheVariants.{Syntax}
 use Rattle.ele_script.specs.Command.{command_words, kinds_behind}
-use Rattle.ele_script.specs.FirstFault.{IsFaultOfWords, no_command, IsFirstFault, not_worded, of_words}
+use Rattle.ele_script.specs.FirstFault.{IsFaultOfWords, IsFirstFault}
 use Rattle.ele_script.specs.Words.{words_of, is_plain, is_worded, ends_word}
 
 abbrev is_space : ℕ → Bool
@@ -62,17 +62,14 @@ not_true : (b : Bool) → not b ≡ true → b ≡ false
 not_true b h = grind arith
 
 no_end : (text : List ℕ) → position ends_word text ≡ None → AreOfWords text (length text)
-no_end text none k lt =
-    let all = ltb-false (position_or_len ends_word text) (length text) (none_at _ _ none) in
-    not_true _ (prefix_len_passes (λ x. not (ends_word x)) text k 0 (omega (arith, lt, all)))
+no_end text none k lt = grind (arith, nat_tests, ltb-false, none_at, not_true, prefix_len_passes)
 
 -- a word has a byte
 abbrev pub has_byte : List ℕ → Bool
 has_byte word = nat_lt 0 (length word)
 
 positive : (n : ℕ) → (n == 0) ≡ false → 0 < n
-positive zero some = absurd cc
-positive (suc n) some = omega arith
+positive x0 some = grind (arith, nat_tests)
 
 -- these words were cut off in front of the rest, none is empty, and all that was cut off is plain
 pub record AreCut (line : List ℕ) (front : List (List ℕ)) (rest : List ℕ) : Type 0 where
@@ -94,23 +91,18 @@ pub cut_more : {A : Type 0} (v : A → List ℕ) (line : List ℕ) (front now : 
     → get_or rest at 0 ≡ 32 → 0 < at → v word ≡ take at rest → behind ≡ drop 1 (drop at rest) → now ≡ front ++ word ∷ [] → AreCut line (map v now) behind
 cut_more {A} v line front now word rest behind at are found space some here there pushed =
     let f = position-Some ends_word rest at 0 found in
-    let next = drop_more rest at 0 f.0 ∙ ap (λ (x : ℕ). x ∷ drop (at + 1) rest) space in
-    let behind_is : behind ≡ drop (at + 1) rest = there ∙ ap (λ (xs : List ℕ). drop 1 xs) next in
-    let parts : rest ≡ take at rest ++ 32 ∷ behind = sym (take-append-drop at rest) ∙ ap (λ (xs : List ℕ). take at rest ++ xs) next ∙ rw behind_is refl in
+    let next : drop at rest ≡ 32 ∷ drop (at + 1) rest = cc (drop_more rest at 0 f.0, space) in
+    let parts : rest ≡ take at rest ++ 32 ∷ behind = cc (take-append-drop at rest, rw next at there) in
     let le : at ≤ length rest = omega (arith, f.0) in
-    let words : words_of rest ≡ v word ∷ words_of behind = ap words_of parts ∙ word_before at rest behind le f.2 ∙ ap (λ (w : List ℕ). w ∷ words_of behind) (sym here) in
+    let words : words_of rest ≡ v word ∷ words_of behind = cc (ap words_of parts, word_before at rest behind le f.2) in
     record {
-      words = are.words ∙ ap (λ (ws : List (List ℕ)). map v front ++ ws) words ∙ sym (append_assoc (map v front) (v word ∷ []) (words_of behind))
-          ∙ ap (λ (ws : List (List ℕ)). ws ++ words_of behind) (sym (map_push v front now word pushed));
-      plain = are.plain ∙ ap (list_all is_plain) parts ∙ list_all-append is_plain (take at rest) (32 ∷ behind)
-          ∙ ap (λ (b : Bool). b && list_all is_plain behind) (plain_before at rest le f.2);
+      words = cc (are.words, words, append_assoc (map v front) (v word ∷ []) (words_of behind), map_push v front now word pushed);
+      plain = are.plain ∙ ap (list_all is_plain) parts ∙ list_all-append is_plain (take at rest) (32 ∷ behind) ∙ rw (plain_before at rest le f.2) refl;
       spaced = push_spaced v front now word pushed are.spaced (omega (arith, some, ap length here, length-take-le at rest le));
     }
 
 words_unspaced : (line : List ℕ) (front behind : List (List ℕ)) → words_of line ≡ front ++ [] ∷ behind → is_worded line ≡ false
-words_unspaced line front behind are =
-    let none : list_all has_byte (words_of line) ≡ false = ap (list_all has_byte) are ∙ list_all-append has_byte front ([] ∷ behind) ∙ and-false (list_all has_byte front) in
-    ap (λ b. list_all is_plain line && b) none ∙ and-false (list_all is_plain line)
+words_unspaced line front behind are = grind (arith, nat_tests, list_all-append, and-false)
 
 -- a space in front of the rest leaves an empty word
 pub cut_empty : (line : List ℕ) (front : List (List ℕ)) (rest : List ℕ) (at : ℕ) → AreCut line front rest → position ends_word rest ≡ Some at → get_or rest at 0 ≡ 32 → at ≡ 0 → is_worded line ≡ false
@@ -127,16 +119,12 @@ cut_none line front (x ∷ xs) are none = let zero = eqb-true (length (x ∷ xs)
 
 -- a byte that isn't plain ends a word
 pub cut_unplain : (line : List ℕ) (front : List (List ℕ)) (rest : List ℕ) (at : ℕ) → AreCut line front rest → position ends_word rest ≡ Some at → get_or rest at 0 ≢ 32 → list_all is_plain line ≡ false
-cut_unplain line front rest at are found other =
-    let f = position-Some ends_word rest at 0 found in
-    are.plain ∙ list_all_at is_plain rest at 0 f.0 (unplain_byte (get_or rest at 0) f.1 other)
+cut_unplain line front rest at are found other = grind (arith, nat_tests, position-Some, list_all_at, unplain_byte)
 
 -- what is left is the last word
 pub cut_last : {A : Type 0} (v : A → List ℕ) (line : List ℕ) (front now : List A) (last : A) → AreCut line (map v front) (v last) → position ends_word (v last) ≡ None → now ≡ front ++ last ∷ []
     → map v now ≡ words_of line
-cut_last {A} v line front now last are none pushed =
-    let one = whole_word (v last) (no_end (v last) none) in
-    map_push v front now last pushed ∙ sym (are.words ∙ ap (λ (ws : List (List ℕ)). map v front ++ ws) one.0)
+cut_last {A} v line front now last are none pushed = grind (arith, nat_tests, whole_word, no_end, map_push)
 
 -- and with it the line is worded
 pub cut_worded : {A : Type 0} (v : A → List ℕ) (line : List ℕ) (front now : List A) (last : A) → AreCut line (map v front) (v last) → position ends_word (v last) ≡ None → now ≡ front ++ last ∷ []
@@ -161,13 +149,8 @@ most_words command = grind arith
 
 -- more than four words fit no command
 many_words : (words : List (List ℕ)) → 4 < length words → IsFaultOfWords words Syntax
-many_words words many =
-    no_command (λ command arguments fits. omega (arith, many, most_words command, ap length fits.are, length-append (command_words command) arguments, fits.count)) refl
+many_words words many = grind (arith, nat_tests, most_words, length-append)
 
 -- a line that isn't worded, or has more than four words, is at fault
 pub unfit_line : (line : List ℕ) → length line ≤ 8192 → (is_worded line ≡ false) ⊎ (4 < length (words_of line)) → IsFirstFault line Syntax
-unfit_line line short (inl broken) = not_worded short broken refl
-unfit_line line short (inr many) = by (is_worded line) refl where
-  by : (b : Bool) → is_worded line ≡ b → IsFirstFault line Syntax
-  by true worded = of_words short worded (many_words (words_of line) many)
-  by false broken = not_worded short broken refl
+unfit_line line short x2 = grind (arith, nat_tests, many_words)

@@ -1,15 +1,15 @@
 use Rattle.std.proofs.Common.{sym, ◌∙◌}
-use Rattle.ele_script.proofs.Known.{sent_more, sent_front, sent_done, puts_err_at}
+use Rattle.std.proofs.lemmas.List.{append-nil}
+use Rattle.ele_script.proofs.Known.{sent_more, sent_err}
 use Rattle.ele_script.proofs.Lines.{digits_split, digits_none}
 use Rattle.ele_script.proofs.putting.put_hexadecimal.Goals as goal
 
 pub returns-in_err-put_piece : goal.returns-in_err-put_piece
 returns-in_err-put_piece g c =
-    puts_err_at _ _ _ c.from_residual.result c.from_residual.ensures.0 (sent_front _ _ _ _ _ _ _ c.pieces.invariant (digits_split _ _ _ _ c.split_at.ensures.front c.split_at.ensures.back) c.in_err-put_piece.ensures)
+    sent_err _ c.from_residual.result c.pieces.invariant (digits_split _ _ _ _ c.split_at.ensures.front c.split_at.ensures.back) c.from_residual.ensures.0 c.in_err-put_piece.ensures
 
 pub pieces-preserved : goal.pieces-preserved
-pieces-preserved g c =
-    sent_more _ _ _ _ _ _ _ c.pieces.invariant (digits_split _ _ _ _ c.split_at.ensures.front c.split_at.ensures.back) c.in_ok-put_piece.ensures
+pieces-preserved g c = sent_more _ c.pieces.invariant (digits_split _ _ _ _ c.split_at.ensures.front c.split_at.ensures.back) c.in_ok-put_piece.ensures
 
 pub returns : goal.returns
-returns g c = sent_done _ _ _ _ c.pieces.invariant (digits_none _ (sym c.is_empty.ensures ∙ c.pieces-test.false))
+returns g c = rw (c.pieces.invariant.parts, digits_none _ (sym c.is_empty.ensures ∙ c.pieces-test.false), append-nil _) c.pieces.invariant.written

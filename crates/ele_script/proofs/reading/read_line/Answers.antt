@@ -1,7 +1,8 @@
 use Rattle.std.proofs.Common.{◌∙◌, ap, inr, map, refl, rules, subst, Err}
 use Rattle.ele_script.specs.declared.fault.LineFault.TheVariants.{Syntax}
+use Rattle.ele_script.specs.Spells.{SpellsLine}
 use Rattle.ele_script.specs.Memory.{TakesMemory}
-use Rattle.ele_script.proofs.Laws.{only_line, only_fault, fault_of_line}
+use Rattle.ele_script.proofs.Laws.{only_read, only_refused, one_line, one_fault, spelled_faultless, fault_of_line}
 use Rattle.ele_script.proofs.Words.{unfit_line}
 use Rattle.ele_script.proofs.reading.read_line.Goals as goal
 
@@ -9,20 +10,20 @@ pub returns-in_default-clause-fault : goal.returns-in_default-clause-fault
 returns-in_default-clause-fault c = inr (unfit_line c.args.line.now c.if-line-gt-MOST_BYTES.false (c.in_default.ensures.none refl))
 
 pub returns-in_default-clause-only : goal.returns-in_default-clause-only
-returns-in_default-clause-only c = only_line c.args.line.now (Err Syntax) tt (returns-in_default-clause-fault c)
+returns-in_default-clause-only c = only_read (SpellsLine c.args.line.now) _ (Err Syntax) (one_line _) (spelled_faultless _) tt (returns-in_default-clause-fault c)
 
 pub returns-in_default-clause-refused : goal.returns-in_default-clause-refused
-returns-in_default-clause-refused c = only_fault c.args.line.now (Err Syntax) tt (returns-in_default-clause-fault c)
+returns-in_default-clause-refused c = only_refused (SpellsLine c.args.line.now) _ (Err Syntax) (one_fault _) (spelled_faultless _) tt (returns-in_default-clause-fault c)
 
 pub returns-clause-fault : goal.returns-clause-fault
 returns-clause-fault c =
     fault_of_line c.args.line.now (map (λ word. word.now) c.as_slice.result.now) c.line_of.result c.if-line-gt-MOST_BYTES.false (c.in-Some.ensures.worded refl) (ap (λ words. map (λ word. word.now) words) c.as_slice.ensures.value ∙ c.in-Some.ensures.found) c.line_of.ensures.fault
 
 pub returns-clause-only : goal.returns-clause-only
-returns-clause-only c = only_line c.args.line.now c.line_of.result (search rules) (returns-clause-fault c)
+returns-clause-only c = only_read (SpellsLine c.args.line.now) _ c.line_of.result (one_line _) (spelled_faultless _) (search rules) (returns-clause-fault c)
 
 pub returns-clause-refused : goal.returns-clause-refused
-returns-clause-refused c = only_fault c.args.line.now c.line_of.result (search rules) (returns-clause-fault c)
+returns-clause-refused c = only_refused (SpellsLine c.args.line.now) _ c.line_of.result (one_fault _) (spelled_faultless _) (search rules) (returns-clause-fault c)
 
 pub returns-clause-memory : goal.returns-clause-memory
 returns-clause-memory c = λ is.
