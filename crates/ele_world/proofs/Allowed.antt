@@ -1,9 +1,8 @@
 -- The changes of each event may be made, each in its turn.
 use Rattle.ele_world.proofs.Basics.{rules, ◌≡◌, ℕ, ◌<◌, true, List, [], ◌∷◌, Some, refl, subst, arith, find, is_some, nat_le, Ok, false, list_any, AllByRecursion, nat_tests, all-found, found_passes, length-remove_first, list_any-insert_before, insert_before}
-use Rattle.ele_world.proofs.Words.{Key, new_draft, EndDraft, ShutHandle, after_changes, is_live_in, first_due, plan, version_meant, live_target, directory_now, parent_now, walk_now, IsPolicy, IsVersion, Counted, Directories, Names, Versions, Drafts, IsWellFormed, World, default_of, next_of, is_draft, is_draft_after, Event, Clock}
-use Rattle.ele_world.proofs.Words.{Tick, MakeDir, RemoveDir, Create, Link, Unlink, Rename, Undelete, OpenWrite, OpenRead, Write, Truncate, Close, Revert, SetPolicy, SetDefault, GroupMake, GroupDrop, GroupAdd, GroupRemove, Mark, Unmark, CleanOne, Read, Stat, Restorable, Due, UsageAll, GroupsAll, Tagged, Of, DirectoryRow, DraftRow, VersionRow, File}
+use Rattle.ele_world.proofs.Words.{Key, new_draft, EndDraft, ShutHandle, after_changes, is_live_in, first_due, plan, version_meant, live_target, directory_now, parent_now, IsPolicy, IsVersion, Counted, Directories, Names, Versions, Drafts, IsWellFormed, World, default_of, next_of, is_draft, is_draft_after, Event}
+use Rattle.ele_world.proofs.Words.{RemoveDir, Undelete, OpenWrite, OpenRead, Close, Revert, CleanOne, Read, Tagged, Of, DirectoryRow, DraftRow, VersionRow}
 use Rattle.ele_time_path.specs.declared.tagged.Tag.TheVariants as tag
-use Rattle.ele_world.specs.declared.event.Event.TheVariants.{Versions as VersionsOf, List as ListNames}
 use Rattle.ele_world.proofs.DueRows.{first_is_due, due_has_ended, due_is_unread}
 use Rattle.ele_world.proofs.Homes.{parent_home}
 use Rattle.ele_world.proofs.Lost.{may_add, may_revive}
@@ -47,19 +46,10 @@ may_end w path at directory found leads empty = record { id = directory; stands 
 -- ---- each event
 
 pub allowed : (w : World) (event : Event) → IsWellFormed w → MayPlan event w (plan w event)
-allowed w (Clock to) k = λ later. ((grind (arith, nat_tests), λ is. is), tt)
-allowed w (Tick seconds) k = λ fits. ((omega arith, λ is. grind (arith, nat_tests)), tt)
-allowed w (MakeDir path) k = grind (arith, nat_tests, k.holds Directories, may_name, default_is)
 allowed w (RemoveDir path) k = λ at found directory leads empty. (may_end w path at directory found leads empty, tt)
-allowed w (Create path) k = grind (arith, nat_tests, k.holds Directories, may_name, default_is)
-allowed w (Link from to) k = grind (arith, nat_tests, k.holds Names, may_name, file_there, file_live)
-allowed w (Unlink path) k = λ at found file leads. (last_names w.names path at (File file) found (file_of (walk_now w.names path) file leads), tt)
-allowed w (Rename from to) k = grind (arith, nat_tests, last_names, may_name)
 allowed w (Undelete path) k = search (rules, may_add, may_name, may_revive)
 allowed w (OpenWrite path) k = search (rules, k.holds Names, file_there, begun)
 allowed w (OpenRead tagged) k = λ row found handles. (record { next = refl; room = grind (arith, nat_tests); drafted = tt; held = meant_held w row.file row (is_at w tagged row found) }, tt)
-allowed w (Write handle offset bytes) k = λ file found. (λ none. tt, λ some fits. (grind (arith, nat_tests), tt))
-allowed w (Truncate handle size) k = λ file found fits. (grind (arith, nat_tests), tt)
 allowed w (Close handle) k = λ read found. (
   λ reader. (tt, tt),
   λ file writes. (
@@ -71,21 +61,7 @@ allowed w (Close handle) k = λ read found. (
   ),
 )
 allowed w (Revert path number) k = λ file found row meant drafts versions. (reverts w file number row k (file_there w.files w.now w.names path file (k.holds Names).each found) meant (grind (arith, nat_tests)), tt)
-allowed w (SetPolicy path policy) k = λ file found. (λ is. is, tt)
-allowed w (SetDefault path policy) k = λ directory found. (λ is. is, tt)
-allowed w (GroupMake name) k = λ free groups. (record { room = grind (arith, nat_tests); free = free }, tt)
-allowed w (GroupDrop name) k = λ found. (tt, tt)
-allowed w (GroupAdd name path) k = grind (arith, nat_tests, k.holds Names, file_there)
-allowed w (GroupRemove name path) k = λ found file leads member. (tt, tt)
-allowed w (Mark name mark) k = λ found past free marks. (record { past = grind (arith, nat_tests); room = grind (arith, nat_tests); free = free }, tt)
-allowed w (Unmark name mark) k = λ found marked. (tt, tt)
 allowed w CleanOne k = (λ none. tt, λ key first. (takes w key k first, (tt, tt)))
 allowed w (Read (Of handle)) k = λ read found. tt
 allowed w (Read (Tagged tagged)) k = λ row found. tt
-allowed w (Stat tagged) k = λ target found told is. tt
-allowed w (VersionsOf at) k = λ file found. tt
-allowed w (ListNames at) k = λ directory found. tt
-allowed w Restorable k = tt
-allowed w Due k = tt
-allowed w UsageAll k = tt
-allowed w GroupsAll k = tt
+allowed w event k = grind (arith, nat_tests, k.holds Directories, k.holds Names, may_name, default_is, file_there, file_live, last_names, file_of)

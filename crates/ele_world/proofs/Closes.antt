@@ -24,11 +24,11 @@ writes_file w handle file (Version other number) is of = absurd cc
 pub close_keeps : (w : World) (handle number : ℕ) → IsWellFormed w → (step w (Close handle)).0 ≡ reply.Closed (Some number) → KeepsDraft w handle number ((step w (Close handle)).1)
 close_keeps w handle number k = in_all w (λ answer. answer.0 ≡ reply.Closed (Some number) → KeepsDraft w handle number (answer.1)) (plan w (Close handle)) (λ refusal e. absurd cc) (
     λ read reads. (
-      λ e. absurd cc,
+      λ none e. absurd cc,
       λ file its. (
         λ other e. absurd cc,
         λ last. (
-          λ e. absurd cc,
+          λ none e. absurd cc,
           λ draft found. (
             λ changed e.
                 let same : next_of w.files file ≡ number = cc in

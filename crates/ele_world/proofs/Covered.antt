@@ -1,5 +1,5 @@
 -- At each moment that a name covers a version of its file lived, and a change keeps that.
-use Rattle.ele_world.proofs.Basics.{◌≡◌, ℕ, ◌<◌, ◌≤◌, true, ◌&&◌, ◌++◌, IfSome, List, [], ◌∷◌, Some, refl, arith, inl, inr, ◌⊎◌, is_none, nat_le, AllByRecursion, list_any, false≢true, cases_lt, nat_tests, update_first, all-filter, all-both, all-push, all-weaker}
+use Rattle.ele_world.proofs.Basics.{◌≡◌, ℕ, ◌<◌, ◌≤◌, true, ◌&&◌, ◌++◌, IfSome, List, [], ◌∷◌, Some, refl, arith, inl, inr, ◌⊎◌, nat_le, AllByRecursion, list_any, false≢true, cases_lt, nat_tests, update_first, all-filter, all-both, all-push, all-weaker}
 use Rattle.ele_world.proofs.Words.{Change, Time, MakeDirectory, EndName, AddName, MoveName, EndFileName, Revive, MakeFile, DropIdle, after_change, born_row, covers, dies, is_live_name, IsNameRow, Names, Versions, IsWellFormed, World, is_live, is_live_name_of, Event, NameRow, Target, File, Directory, VersionRow}
 use Rattle.ele_world.proofs.Currents.{has_current}
 use Rattle.ele_world.proofs.Dropped.{dropped, stays_named}
@@ -17,13 +17,9 @@ module _ (now : ℕ) (life : ℕ → ℕ → Type 0) where
   abbrev CoveredFrom : NameRow → Type 0
   CoveredFrom name = (file moment : ℕ) → name.target ≡ File file → covers moment name ≡ true → now ≤ moment → life file moment
 
-  -- a name that dies now covered them before
-  covered_still : (row : NameRow) (moment : ℕ) → is_none row.death ≡ true → covers moment (dies now row) ≡ true → covers moment row ≡ true
-  covered_still row moment live covered = grind (arith, nat_tests, false≢true)
-
   died : (directory : ℕ) (name : List ℕ) (rows : List NameRow) → AllByRecursion CoveredBefore rows → AllByRecursion CoveredBefore (update_first (is_live_name directory name) (dies now) rows)
   died directory name [] all = tt
-  died directory name (row ∷ rows) all = grind (arith, nat_tests, covered_still, still_none, died directory name rows all.1)
+  died directory name (row ∷ rows) all = grind (arith, nat_tests, false≢true, still_none, died directory name rows all.1)
 
   born : (directory : ℕ) (name : List ℕ) (target : Target) (rows : List NameRow) → AllByRecursion CoveredBefore rows → AllByRecursion CoveredBefore (rows ++ born_row directory name target now ∷ [])
   born directory name target rows all = all-push CoveredBefore rows (born_row directory name target now) all (λ file moment own covered less. absurd (let late : (nat_le now moment && true) ≡ true = covered in grind (arith, nat_tests)))

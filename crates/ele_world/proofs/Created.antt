@@ -1,6 +1,6 @@
 -- What the making of a file comes to: a row behind the files, the names and the versions.
 use Rattle.ele_world.proofs.Basics.{◌≡◌, ℕ, ◌+◌, ◌<◌, Bool, true, false, List, [], ◌∷◌, ◌++◌, None, refl, ap, arith, AllByRecursion, nat_tests, list_any-append, update_first, insert_before, all-weaker}
-use Rattle.ele_world.proofs.Words.{Policy, numbered_on, next_version, with_end, with_file, with_name, after_change, MakeFile, Files, Versions, IsWellFormed, World, next_of, is_file, is_live, is_version_after, FileRow, NameRow, File, VersionRow}
+use Rattle.ele_world.proofs.Words.{Policy, next_version, with_file, with_name, after_change, MakeFile, Files, Versions, IsWellFormed, World, next_of, is_live, FileRow, NameRow, File, VersionRow}
 use Rattle.ele_world.proofs.Files.{next_of-given, next_of-new}
 
 -- ---- a change at the end of a list
@@ -55,17 +55,11 @@ module _ (w : World) (directory : ℕ) (name : List ℕ) (policy : Policy) (k : 
   next_is : next_of begun.files id ≡ 1
   next_is = next_of-new w.made.files w.made.versions w.files (record { id = id; policy = policy; next = 1 }) (k.holds Files).each (omega arith)
 
-  files_are : update_first (is_file id) numbered_on begun.files ≡ w.files ++ new_file id policy ∷ []
-  files_are = grind (arith, nat_tests, k.holds Files, update_first-last, all-weaker)
-
   before : AllByRecursion (λ row. row.file < id) w.versions
   before = versions_before w k
 
   version_is : next_version begun id w.now [] ≡ first_version w id
   version_is = rw (next_is, named_live (with_file w id policy) directory name id) refl
 
-  versions_are : insert_before (is_version_after id (next_of begun.files id)) (next_version begun id w.now []) (with_end begun id) ≡ w.versions ++ first_version w id ∷ []
-  versions_are = grind (arith, nat_tests, update_first-none, all-weaker, before, insert_before-last, version_is)
-
   pub made_is : after_change w (MakeFile directory name (w.made.files + 1) policy) ≡ created w directory name (w.made.files + 1) policy
-  made_is = grind (arith, nat_tests, files_are, versions_are)
+  made_is = grind (arith, nat_tests, k.holds Files, update_first-last, all-weaker, update_first-none, before, insert_before-last, version_is)

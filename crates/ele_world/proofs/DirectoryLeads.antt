@@ -1,5 +1,5 @@
 -- After a mkdir its path leads to the new directory.
-use Rattle.ele_world.proofs.Basics.{◌≡◌, ℕ, ◌+◌, ◌≤◌, Bool, true, false, ◌==◌, ◌&&◌, List, [], ◌∷◌, ◌++◌, Ok, refl, ap, subst, ◌∙◌, arith, is_some, AllByRecursion, list_any, nat_tests, find-append, list_any-append, all-weaker, not_found}
+use Rattle.ele_world.proofs.Basics.{◌≡◌, ℕ, ◌+◌, ◌≤◌, Bool, true, false, ◌==◌, ◌&&◌, List, [], ◌∷◌, ◌++◌, Ok, refl, ap, ◌∙◌, arith, is_some, AllByRecursion, list_any, nat_tests, find-append, list_any-append, all-weaker, not_found}
 use Rattle.ele_world.proofs.Words.{Policy, after_change, MakeDirectory, LeadsToDirectory, born_row, is_live_in, plan, step, live_target, directory_in, parent_now, Directories, Homes, IsWellFormed, World, is_directory, default_of, MakeDir, DirectoryRow, Directory}
 use Rattle.ele_world.specs.declared.reply.Reply.TheVariants as reply
 use Rattle.ele_world.proofs.Homes.{or_last, parent_home, directory_given}
@@ -51,8 +51,4 @@ module _ (w : World) (path : List (List ℕ)) (at : ℕ × List ℕ) (k : IsWell
   }
 
 pub make_dir_leads : (w : World) (path : List (List ℕ)) (id : ℕ) → IsWellFormed w → (step w (MakeDir path)).0 ≡ reply.Directory id → LeadsToDirectory w path id ((step w (MakeDir path)).1)
-make_dir_leads w path id k = in_all w (λ answer. answer.0 ≡ reply.Directory id → LeadsToDirectory w path id (answer.1)) (plan w (MakeDir path)) (λ refusal e. absurd cc) (
-    λ at found free directories names e.
-    let same : w.made.directories + 1 ≡ id = cc in
-    subst (λ n. LeadsToDirectory w path n (after_change w (MakeDirectory at.0 at.1 (w.made.directories + 1) (default_of w.directories at.0)))) same (leads_to w path at k found free)
-    )
+make_dir_leads w path id k = grind (arith, nat_tests, in_all, id, plan, after_change, default_of, leads_to)

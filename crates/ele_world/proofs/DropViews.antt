@@ -1,5 +1,5 @@
 -- Due versions and ripe moments after a change that no file's view sees, as the dropping of an idle file.
-use Rattle.ele_world.proofs.Basics.{◌≡◌, ◌==◌, ℕ, false, not, List, Option, refl, ap, sym, ◌∙◌, arith, find, option_and_then, AllByRecursion, nat_tests, all-any, all-weaker, all-found, filter-same_all, list_any-filter}
+use Rattle.ele_world.proofs.Basics.{◌≡◌, ◌==◌, ℕ, false, not, refl, ap, ◌∙◌, arith, option_and_then, AllByRecursion, nat_tests, all-any, all-weaker, all-found, filter-same_all, list_any-filter}
 use Rattle.ele_world.proofs.Words.{DropIdle, without_file, after_change, ripe_at, kept_rows, FileView, view_of, due_in, ripe_in, World, is_version, is_live, is_live_name_of, is_target_file, Target, File, Directory, VersionRow}
 use Rattle.ele_world.specs.Due.{is_due_at, ripe_of}
 use Rattle.ele_world.proofs.Dropped.{dropped, stays_named, idle_versions, policy_of-removed}
@@ -25,13 +25,7 @@ module _ (w v : World) (same : SeesSame w v) where
   ripe_of_same = all-weaker (λ (row : VersionRow). view_of v row.file ≡ view_of w row.file) (λ row. ripe_of v row ≡ ripe_of w row) w.versions (λ row e. ap (λ (view : FileView). ripe_in view row) e) same.views
 
   pub ripe_at_same : (file number : ℕ) → ripe_at v file number ≡ ripe_at w file number
-  ripe_at_same file number =
-      ripe_at_is v file number
-      ∙ ap (λ (rows : List VersionRow). option_and_then (ripe_of v) (find (is_version file number) rows)) same.versions
-      ∙ by (find (is_version file number) w.versions) refl
-      ∙ sym (ripe_at_is w file number) where
-        by : (o : Option VersionRow) → find (is_version file number) w.versions ≡ o → option_and_then (ripe_of v) o ≡ option_and_then (ripe_of w) o
-        by o e = grind (arith, nat_tests, all-found, ripe_of_same)
+  ripe_at_same file number = grind (arith, nat_tests, ripe_at_is, option_and_then, is_version, all-found, ripe_of_same)
 
   pub kept_same : kept_rows v ≡ kept_rows w
   kept_same = grind (arith, nat_tests, filter-same_all, all-weaker, due_now_same)

@@ -13,13 +13,10 @@ record AreAlike (xs ys : List VersionRow) : Type 0 where
   bytes : bytes_in xs ≡ bytes_in ys
   places : slots xs ≡ slots ys
 
-alike-cons : (x : VersionRow) (xs ys : List VersionRow) → AreAlike xs ys → AreAlike (x ∷ xs) (x ∷ ys)
-alike-cons x xs ys h = grind (arith, nat_tests, bytes_in-cons, flat_map-cons)
-
 -- of the files that pass
 alike_ended : (t : ℕ → Bool) (p : VersionRow → Bool) (now : ℕ) (rows : List VersionRow) → AreAlike (filter (λ row. t row.file) (update_first p (ended_at now) rows)) (filter (λ row. t row.file) rows)
 alike_ended t p now [] = record { count = refl; bytes = refl; places = refl }
-alike_ended t p now (x ∷ xs) = grind (arith, nat_tests, alike-cons, alike_ended t p now xs)
+alike_ended t p now (x ∷ xs) = grind (arith, nat_tests, bytes_in-cons, flat_map-cons, alike_ended t p now xs)
 
 pub usage_ended : (w : World) (p : VersionRow → Bool) (now : ℕ) (k : Kind) → usage_of (record w { versions = update_first p (ended_at now) w.versions }) k ≡ usage_of w k
 unfolding usage_of

@@ -1,5 +1,5 @@
 -- The next number and the policy of a file, after changes of the file rows.
-use Rattle.ele_world.proofs.Basics.{◌≡◌, ◌≢◌, ◌==◌, ℕ, ◌+◌, ◌<◌, ◌≤◌, true, false, List, [], ◌∷◌, ◌++◌, Some, refl, ap, arith, AllByRecursion, option_map, option_map_or, nat_tests, update_first, find-update_other}
+use Rattle.ele_world.proofs.Basics.{◌≡◌, ◌≢◌, ◌==◌, ℕ, ◌+◌, ◌<◌, ◌≤◌, true, false, List, [], ◌∷◌, ◌++◌, Some, refl, arith, AllByRecursion, option_map, option_map_or, nat_tests, update_first, find-update_other}
 use Rattle.ele_world.proofs.Words.{FileRow, Target, File, Directory, Policy, numbered_on, put_under, IsFile, IsThere, is_file, next_of, policy_of}
 use Rattle.ele_world.proofs.Elements.{find-update_still}
 
@@ -52,8 +52,7 @@ policy_of-put_under (x ∷ xs) file policy there = grind (arith, nat_tests, poli
 
 -- and each other file keeps its own
 pub policy_of-put_other : (files : List FileRow) (file other : ℕ) (policy : Policy) → (other == file) ≡ false → policy_of (update_first (is_file file) (put_under policy) files) other ≡ policy_of files other
-policy_of-put_other files file other policy apart =
-    ap (option_map (λ (row : FileRow). row.policy)) (find-update_other (is_file file) (is_file other) (put_under policy) files (λ row own. let no : is_file other row ≡ false = grind (arith, nat_tests) in (no, no)))
+policy_of-put_other files file other policy apart = grind (arith, nat_tests, option_map, find-update_other, is_file, put_under)
 
 -- a target stays there
 pub there-push : (files : List FileRow) (row : FileRow) (target : Target) → IsThere files target → IsThere (files ++ row ∷ []) target

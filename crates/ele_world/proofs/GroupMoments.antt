@@ -93,7 +93,4 @@ member_goes w name member k has =
       its member file b h = grind (arith, nat_tests)
 
 pub group_goes : (w : World) (name : List ℕ) → IsWellFormed w → MarksGo w (after_change w (DropGroup name)) name None (members_of w.groups name) (marks_of w.groups name)
-group_goes w name k =
-    goes w k (without_group name w.groups) w.made (members_of w.groups name) (marks_of w.groups name) name None
-    (λ file closed ended. grouped_fewer w.groups name file closed ended)
-    (λ file closed ended touched. grouped_still w.groups name file closed ended (named w k))
+group_goes w name k = grind (arith, nat_tests, goes, without_group, members_of, marks_of, grouped_fewer, grouped_still, named)

@@ -2,7 +2,7 @@
 use Rattle.ele_world.proofs.Basics.{rules, ◌≡◌, ℕ, ◌+◌, ◌<◌, ◌≤◌, Bool, true, false, ◌||◌, List, [], ◌∷◌, length, refl, arith, AllByRecursion, list_any, nat_tests, update_first, remove_first, insert_before, all-push, all-weaker, all-both, later-push}
 use Rattle.ele_world.proofs.Basics.{all-remove_first, all-insert_before, later-update_first, later-remove_first, later-insert_before, length-update_first, length-insert_before, length-remove_first-le, all-found, all-none, found_passes, list_any-update_first, list_any-insert_before, list_any-remove_first}
 use Rattle.ele_world.proofs.Words.{longest_content, written_short, written_fills, truncated_short, truncated_fills, current_cells, new_draft, fitted_by, after_change, StartDraft, WriteDraft, TruncateDraft, EndDraft, OpenHandle, ShutHandle, IsContent}
-use Rattle.ele_world.proofs.Words.{AreWrittenBy, IsDraft, IsReadable, IsHeldRead, IsHandle, Part, Counted, Versions, Drafts, Handles, Readers, Holds, IsWellFormed, World, next_of, is_draft, is_draft_after, is_handle, writes, is_writer, DraftRow, HandleRow, Reads}
+use Rattle.ele_world.proofs.Words.{AreWrittenBy, IsDraft, IsReadable, IsHeldRead, IsHandle, Part, Versions, Drafts, Readers, Holds, IsWellFormed, World, next_of, is_draft, is_draft_after, writes, is_writer, DraftRow, HandleRow, Reads}
 use Rattle.ele_world.proofs.May.{MayStart, MayOpen}
 use Rattle.ele_world.proofs.Writers.{changed_written, fitted_written, written_more}
 
@@ -16,25 +16,9 @@ or_true true = refl
 or_true false = refl
 
 pub start_keeps : (w : World) (file : ℕ) → MayStart w file → IsWellFormed w → IsWellFormed (after_change w (StartDraft file))
-start_keeps w file may k = record { holds = by } where
-  current : IsContent (current_cells w file) × AreWrittenBy (next_of w.files file) (current_cells w file)
-  current = current_is w file k
-
+start_keeps w file may k = record { holds = λ part. grind (arith, nat_tests, k.holds part, current_is w file k, length-insert_before (is_draft_after file) (new_draft w file) w.drafts, all-insert_before (is_draft_after file) (IsDraft w.files w.now) (new_draft w file) w.drafts, later-insert_before (is_draft_after file) (λ earlier later. earlier.file < later.file) (λ row. is_draft file row ≡ false) (new_draft w file) w.drafts, all-none (is_draft file) w.drafts may.none, all-weaker, readable) } where
   readable : (reads : Reads) → IsReadable w.drafts reads → IsReadable (insert_before (is_draft_after file) (new_draft w file) w.drafts) reads
   readable reads there = grind (arith, nat_tests, list_any-insert_before, or_true)
-
-  by : (part : Part) → Holds (after_change w (StartDraft file)) part
-  by Counted = grind (arith, k.holds Counted, length-insert_before (is_draft_after file) (new_draft w file) w.drafts)
-  by Drafts = record {
-    each = all-insert_before (is_draft_after file) (IsDraft w.files w.now) (new_draft w file) w.drafts (record { there = may.there; opened = omega arith; content = current.0; written = current.1 }) (k.holds Drafts).each;
-    placed = later-insert_before (is_draft_after file) (λ earlier later. earlier.file < later.file) (λ row. is_draft file row ≡ false) (new_draft w file) w.drafts
-        (λ row other not_after. grind (arith, nat_tests))
-        (λ row other after. grind (arith, nat_tests))
-        (λ row later after lt. grind (arith, nat_tests))
-        (all-none (is_draft file) w.drafts may.none) (k.holds Drafts).placed;
-  }
-  by Handles = grind (arith, nat_tests, k.holds Handles, all-weaker, readable)
-  by part = k.holds part
 
 -- ---- a draft is changed
 
@@ -50,10 +34,8 @@ edit_keeps w file f same edits k = record { holds = by } where
   readable reads there = grind (arith, nat_tests, list_any-update_first)
 
   by : (part : Part) → Holds (record w { drafts = update_first (is_draft file) f w.drafts }) part
-  by Counted = grind (arith, k.holds Counted, length-update_first (is_draft file) f w.drafts)
   by Drafts = search (rules, k.holds Drafts, all-changed, later-update_first)
-  by Handles = grind (arith, nat_tests, k.holds Handles, all-weaker, readable)
-  by part = k.holds part
+  by part = grind (arith, nat_tests, k.holds part, all-weaker, readable, length-update_first (is_draft file) f w.drafts)
 
 pub write_keeps : (w : World) (file offset : ℕ) (bytes : List ℕ) → offset + length bytes ≤ longest_content → IsWellFormed w → IsWellFormed (after_change w (WriteDraft file offset bytes))
 write_keeps w file offset bytes fits k = grind (arith, nat_tests, edit_keeps, written_short, written_fills, changed_written)
@@ -67,37 +49,17 @@ truncate_keeps w file size fits k = grind (arith, nat_tests, edit_keeps, same_fi
 -- ---- a draft goes that nobody writes
 
 pub end_keeps : (w : World) (file : ℕ) → list_any (is_writer file) w.handles ≡ false → IsWellFormed w → IsWellFormed (after_change w (EndDraft file))
-end_keeps w file unwritten k = record { holds = by } where
+end_keeps w file unwritten k = record { holds = λ part. grind (arith, nat_tests, k.holds part, length-remove_first-le (is_draft file) w.drafts, all-remove_first, later-remove_first, all-weaker (λ row. (is_writer file row ≡ false) × IsHandle w.made.handles w.drafts row), readable, all-both (λ row. is_writer file row ≡ false) (IsHandle w.made.handles w.drafts) w.handles, all-none (is_writer file) w.handles unwritten) } where
   readable : (reads : Reads) → writes file reads ≡ false → IsReadable w.drafts reads → IsReadable (remove_first (is_draft file) w.drafts) reads
   readable reads other there = grind (arith, nat_tests, list_any-remove_first, found_passes)
-
-  by : (part : Part) → Holds (after_change w (EndDraft file)) part
-  by Counted = grind (arith, k.holds Counted, length-remove_first-le (is_draft file) w.drafts)
-  by Drafts = grind (arith, nat_tests, k.holds Drafts, all-remove_first, later-remove_first)
-  by Handles = record {
-    each = all-weaker (λ row. (is_writer file row ≡ false) × IsHandle w.made.handles w.drafts row) (IsHandle w.made.handles (remove_first (is_draft file) w.drafts)) w.handles
-        (λ row h. record { numbered = h.1.numbered; given = h.1.given; readable = readable row.reads h.0 h.1.readable })
-        (all-both (λ row. is_writer file row ≡ false) (IsHandle w.made.handles w.drafts) w.handles (all-none (is_writer file) w.handles unwritten) (k.holds Handles).each);
-    placed = (k.holds Handles).placed;
-  }
-  by part = k.holds part
 
 -- ---- handles
 
 pub open_keeps : (w : World) (number : ℕ) (reads : Reads) → MayOpen w number reads → IsWellFormed w → IsWellFormed (after_change w (OpenHandle number reads))
 open_keeps w number reads may k = record { holds = by } where
-  handle : HandleRow
-  handle = record { number = number; reads = reads }
-
   by : (part : Part) → Holds (after_change w (OpenHandle number reads)) part
-  by Counted = grind (arith, k.holds Counted)
-  by Handles = grind (arith, nat_tests, k.holds Handles, all-push, number, handle, all-weaker, later-push)
-  by Readers = all-push (λ row. IsHeldRead w.versions row.reads) w.handles handle (k.holds Readers) may.held
-  by part = k.holds part
+  by Readers = all-push (λ (row : HandleRow). IsHeldRead w.versions row.reads) w.handles (record { number = number; reads = reads }) (k.holds Readers) may.held
+  by part = grind (arith, nat_tests, k.holds part, all-push, number, all-weaker, later-push (λ (earlier : HandleRow) later. earlier.number < later.number) w.handles (record { number = number; reads = reads }))
 
 pub shut_keeps : (w : World) (number : ℕ) → IsWellFormed w → IsWellFormed (after_change w (ShutHandle number))
-shut_keeps w number k = record { holds = by } where
-  by : (part : Part) → Holds (after_change w (ShutHandle number)) part
-  by Handles = grind (arith, nat_tests, k.holds Handles, all-remove_first, number, later-remove_first)
-  by Readers = all-remove_first (is_handle number) (λ row. IsHeldRead w.versions row.reads) w.handles (k.holds Readers)
-  by part = k.holds part
+shut_keeps w number k = record { holds = λ part. grind (arith, nat_tests, k.holds part, all-remove_first, later-remove_first) }

@@ -1,7 +1,7 @@
 -- Changes of groups keep a world well formed, and groups stay what they are beside other changes.
-use Rattle.ele_world.proofs.Basics.{nat_tests, ◌≡◌, ℕ, ◌<◌, ◌≤◌, ◌==◌, Bool, true, false, not, List, [], ◌∷◌, length-append, Option, Some, None, refl, arith, filter, find, AllByRecursion, option_map_or, bytes_eq, not-true}
+use Rattle.ele_world.proofs.Basics.{nat_tests, ◌≡◌, ℕ, ◌<◌, ◌≤◌, ◌==◌, Bool, true, false, not, List, [], ◌∷◌, length-append, Option, Some, None, arith, filter, find, AllByRecursion, option_map_or, bytes_eq, not-true}
 use Rattle.ele_world.proofs.Basics.{length-map, update_first, all-filter, all-map, filter-passes, later-filter, later-map, all-both, all-none, all-push, all-remove_first, all-weaker, later-push, later-remove_first, later-update_first, length-remove_first-le, length-update_first}
-use Rattle.ele_world.proofs.Words.{AddMark, AddMember, DropGroup, MakeGroup, RemoveMark, RemoveMember, after_change, adds, forgets, forgotten, has_mark, is_group, is_member, marks, new_group, removes, unmarks, AreGroups, Counted, Groups, Holds, IsGroup, IsWellFormed, Part, World, next_of, FileRow, GroupRow}
+use Rattle.ele_world.proofs.Words.{AddMark, AddMember, DropGroup, MakeGroup, RemoveMark, RemoveMember, after_change, adds, forgets, forgotten, has_mark, is_group, is_member, marks, new_group, removes, unmarks, AreGroups, Groups, IsGroup, IsWellFormed, World, next_of, FileRow, GroupRow}
 use Rattle.ele_world.proofs.May.{MayGroup, MayJoin, MayMark}
 
 abbrev AreTwo : ℕ → ℕ → Type 0
@@ -50,66 +50,23 @@ groups_edited : (w : World) (name : List ℕ) (f : GroupRow → GroupRow) → ((
 groups_edited w name f same edits k = grind (arith, nat_tests, k.holds Groups, all-update_found, later-update_first, length-update_first)
 
 pub make_group_keeps : (w : World) (name : List ℕ) → MayGroup w name → IsWellFormed w → IsWellFormed (after_change w (MakeGroup name))
-make_group_keeps w name may k = record { holds = by } where
-  by : (part : Part) → Holds (after_change w (MakeGroup name)) part
-  by Counted = grind (arith, k.holds Counted)
-  by Groups = grind (arith, nat_tests, k.holds Groups, all-push (IsGroup w.files w.now) w.groups (new_group name), later-push AreNamedApart w.groups (new_group name), all-none (is_group name) w.groups may.free, length-append)
-  by part = k.holds part
+make_group_keeps w name may k = record { holds = λ part. grind (arith, nat_tests, k.holds part, all-push (IsGroup w.files w.now) w.groups (new_group name), later-push AreNamedApart w.groups (new_group name), all-none (is_group name) w.groups may.free, length-append) }
 
 pub drop_group_keeps : (w : World) (name : List ℕ) → IsWellFormed w → IsWellFormed (after_change w (DropGroup name))
-drop_group_keeps w name k = record { holds = by } where
-  by : (part : Part) → Holds (after_change w (DropGroup name)) part
-  by Groups = grind (arith, nat_tests, k.holds Groups, all-remove_first, later-remove_first, length-remove_first-le)
-  by part = k.holds part
+drop_group_keeps w name k = record { holds = λ part. grind (arith, nat_tests, k.holds part, all-remove_first, later-remove_first, length-remove_first-le) }
 
 -- ---- its files
 
 pub add_member_keeps : (w : World) (name : List ℕ) (file : ℕ) → MayJoin w name file → IsWellFormed w → IsWellFormed (after_change w (AddMember name file))
-add_member_keeps w name file may k = record { holds = by } where
-  joined : (row : GroupRow) → find (is_group name) w.groups ≡ Some row → IsGroup w.files w.now row → IsGroup w.files w.now (adds file row)
-  joined row found is = record {
-    there = all-push (λ member. 0 < next_of w.files member) row.members file is.there may.there;
-    apart = later-push AreTwo row.members file is.apart (all-none (λ member. member == file) row.members (found_lacks (is_member file) (find (is_group name) w.groups) row found may.free));
-    past = is.past;
-    once = is.once;
-  }
-
-  by : (part : Part) → Holds (after_change w (AddMember name file)) part
-  by Counted = grind (arith, k.holds Counted)
-  by Groups = groups_edited w name (adds file) (λ row. refl) joined k
-  by part = k.holds part
+add_member_keeps w name file may k = record { holds = λ part. grind (arith, nat_tests, k.holds part, groups_edited w name (adds file), all-push, later-push AreTwo, all-none (λ member. member == file), found_lacks (is_member file) (find (is_group name) w.groups)) }
 
 pub remove_member_keeps : (w : World) (name : List ℕ) (file : ℕ) → IsWellFormed w → IsWellFormed (after_change w (RemoveMember name file))
-remove_member_keeps w name file k = record { holds = by } where
-  left : (row : GroupRow) → find (is_group name) w.groups ≡ Some row → IsGroup w.files w.now row → IsGroup w.files w.now (removes file row)
-  left row found is = grind (arith, nat_tests, all-remove_first, later-remove_first)
-
-  by : (part : Part) → Holds (after_change w (RemoveMember name file)) part
-  by Groups = groups_edited w name (removes file) (λ row. refl) left k
-  by part = k.holds part
+remove_member_keeps w name file k = record { holds = λ part. grind (arith, nat_tests, k.holds part, groups_edited w name (removes file), all-remove_first, later-remove_first) }
 
 -- ---- its marks
 
 pub add_mark_keeps : (w : World) (name : List ℕ) (mark : ℕ) → MayMark w name mark → IsWellFormed w → IsWellFormed (after_change w (AddMark name mark))
-add_mark_keeps w name mark may k = record { holds = by } where
-  marked : (row : GroupRow) → find (is_group name) w.groups ≡ Some row → IsGroup w.files w.now row → IsGroup w.files w.now (marks mark row)
-  marked row found is = record {
-    there = is.there;
-    apart = is.apart;
-    past = all-push (λ made. made < w.now) row.marks mark is.past may.past;
-    once = later-push AreTwo row.marks mark is.once (all-none (λ made. made == mark) row.marks (found_lacks (has_mark mark) (find (is_group name) w.groups) row found may.free));
-  }
-
-  by : (part : Part) → Holds (after_change w (AddMark name mark)) part
-  by Counted = grind (arith, k.holds Counted)
-  by Groups = groups_edited w name (marks mark) (λ row. refl) marked k
-  by part = k.holds part
+add_mark_keeps w name mark may k = record { holds = λ part. grind (arith, nat_tests, k.holds part, groups_edited w name (marks mark), all-push, later-push AreTwo, all-none (λ made. made == mark), found_lacks (has_mark mark) (find (is_group name) w.groups)) }
 
 pub remove_mark_keeps : (w : World) (name : List ℕ) (mark : ℕ) → IsWellFormed w → IsWellFormed (after_change w (RemoveMark name mark))
-remove_mark_keeps w name mark k = record { holds = by } where
-  unmarked : (row : GroupRow) → find (is_group name) w.groups ≡ Some row → IsGroup w.files w.now row → IsGroup w.files w.now (unmarks mark row)
-  unmarked row found is = grind (arith, nat_tests, all-remove_first, later-remove_first)
-
-  by : (part : Part) → Holds (after_change w (RemoveMark name mark)) part
-  by Groups = groups_edited w name (unmarks mark) (λ row. refl) unmarked k
-  by part = k.holds part
+remove_mark_keeps w name mark k = record { holds = λ part. grind (arith, nat_tests, k.holds part, groups_edited w name (unmarks mark), all-remove_first, later-remove_first) }

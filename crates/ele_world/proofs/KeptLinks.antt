@@ -1,7 +1,7 @@
 -- A name more of what is there, and the end of a file's name, keep a world well formed.
 use Rattle.ele_world.proofs.Basics.{◌≡◌, ℕ, ◌-◌, Bool, true, false, cond, ◌==◌, List, [], ◌∷◌, ◌++◌, length, length-append, Some, refl, sym, subst, ◌∙◌, arith, list_any, AllByRecursion, false≢true, nat_tests, all-none, length-update_first, list_any-update_first, all-weaker, all-both, all-update_first}
-use Rattle.ele_world.proofs.Words.{after_change, ended_at, with_end, without_name, AddName, EndFileName, NameRow, Target, File, Directory, born_row, is_live_directory, is_live_in, live_target, Part}
-use Rattle.ele_world.proofs.Words.{Counted, Names, Homes, Tree, Versions, Readers, Current, Holds, IsWellFormed, is_current, HaveEnded, IsOfLive, Ended, World, next_of, is_live, is_live_name_of, is_version, VersionRow}
+use Rattle.ele_world.proofs.Words.{after_change, ended_at, with_end, without_name, AddName, EndFileName, Target, File, Directory, born_row, is_live_directory, is_live_in, live_target, Part}
+use Rattle.ele_world.proofs.Words.{Counted, Names, Homes, Versions, Readers, Current, Holds, IsWellFormed, is_current, HaveEnded, IsOfLive, Ended, World, next_of, is_live, is_live_name_of, is_version, VersionRow}
 use Rattle.ele_world.proofs.Readers.{read_on}
 use Rattle.ele_world.proofs.Homes.{any_less, homes_more, ended_more}
 use Rattle.ele_world.proofs.KeptDirectories.{HoldsWith, with_ends, end_name_holds}
@@ -14,9 +14,6 @@ use Rattle.ele_world.proofs.Versions.{IsEndedBy, file_ended}
 
 pub add_name_keeps : (w : World) (directory : ℕ) (name : List ℕ) (target : Target) → MayAdd w directory name target → IsWellFormed w → IsWellFormed (after_change w (AddName directory name target))
 add_name_keeps w directory name target may k = record { holds = by } where
-  named : NameRow
-  named = born_row directory name target w.now
-
   unnamed : (t : Target) → MayHaveMore w t → IsUnnamed w.names t
   unnamed (File file) more = tt
   unnamed (Directory id) more = all-none (is_live_directory id) w.names more
@@ -26,13 +23,9 @@ add_name_keeps w directory name target may k = record { holds = by } where
   was_live t file more own = grind (arith, nat_tests, false≢true)
 
   by : (part : Part) → Holds (after_change w (AddName directory name target)) part
-  by Counted = counted_more w (length (w.names ++ named ∷ [])) k may.named.room (simp length-append (omega arith))
   by Names = names_more w.files w.now w.names directory name target may.named.free may.there (k.holds Names)
-  by Homes = homes_more w.directories w.names named may.named.home may.named.reached may.housed (k.holds Homes)
-  by Tree = tree_more w.now w.names directory name target (unnamed target may.more) (k.holds Tree)
-  by Current = λ file live. k.holds Current file (any_less (is_live_name_of file) w.names named (was_live target file may.more) live)
-  by Ended = ended_more w.names named w.versions (k.holds Ended)
-  by part = k.holds part
+  by Homes = homes_more w.directories w.names (born_row directory name target w.now) may.named.home may.named.reached may.housed (k.holds Homes)
+  by part = grind (arith, nat_tests, k.holds part, counted_more w (length (w.names ++ born_row directory name target w.now ∷ [])) k may.named.room, length-append, tree_more, unnamed target may.more, any_less, was_live target, ended_more)
 
 -- ---- the end of a file's name
 

@@ -1,7 +1,7 @@
 -- The clock, policies and the making of a file keep a world well formed.
 use Rattle.ele_world.proofs.Basics.{◌≡◌, ℕ, ◌+◌, ◌≤◌, Bool, true, false, ◌&&◌, ◌||◌, List, [], ◌∷◌, ◌++◌, length-append, None, refl, ap, sym, subst, ◌∙◌, arith, eqb, is_some}
-use Rattle.ele_world.proofs.Basics.{is_none, AllByRecursion, list_any, nat_tests, list_any-append, update_first, all-push, all-weaker, all-update_first, later-push, later-update_first, length-update_first, list_any-update_first}
-use Rattle.ele_world.proofs.Words.{last_moment, Policy, governed_by, put_under, after_change, Time, Govern, MakeFile, PutUnder, live_target, IsPolicy, IsHoused, IsFile, IsNameRow, AreApart, IsVersion, IsDraft, is_current, HaveCurrent, Part, Now, Counted, Directories}
+use Rattle.ele_world.proofs.Basics.{is_none, AllByRecursion, list_any, nat_tests, list_any-append, all-push, all-weaker, all-update_first, later-push, later-update_first, length-update_first, list_any-update_first}
+use Rattle.ele_world.proofs.Words.{last_moment, Policy, governed_by, put_under, after_change, Time, Govern, MakeFile, PutUnder, live_target, IsPolicy, IsHoused, IsFile, IsNameRow, AreApart, IsVersion, IsDraft, is_current, HaveCurrent, Part, Counted}
 use Rattle.ele_world.proofs.Words.{Files, Names, Homes, Versions, Drafts, Readers, Current, Holds, IsWellFormed, Tree, Ended, Groups, World, root, is_directory, is_file, next_of, is_live, is_live_name_of, is_target_file, is_version, DraftRow, FileRow, NameRow, File, VersionRow}
 use Rattle.ele_world.proofs.Readers.{read_on}
 use Rattle.ele_world.proofs.Created.{new_file, new_name, first_version, created, made_is}
@@ -24,41 +24,19 @@ draft_later : (files : List FileRow) (now to : ℕ) (row : DraftRow) → now ≤
 draft_later files now to row le h = record { there = h.there; opened = omega (arith, h.opened); content = h.content; written = h.written }
 
 pub time_keeps : (w : World) (to : ℕ) → to ≤ last_moment → w.now ≤ to → IsWellFormed w → IsWellFormed (after_change w (Time to))
-time_keeps w to fits le k = record { holds = by } where
-  by : (part : Part) → Holds (after_change w (Time to)) part
-  by Now = fits
-  by Names = record { each = all-weaker (IsNameRow w.files w.now) (IsNameRow w.files to) w.names (λ row h. name_later w.files w.now to row le h) (k.holds Names).each; lives = (k.holds Names).lives }
-  by Versions = record { each = all-weaker (IsVersion w.files w.now) (IsVersion w.files to) w.versions (λ row h. version_later w.files w.now to row le h) (k.holds Versions).each; placed = (k.holds Versions).placed }
-  by Drafts = record { each = all-weaker (IsDraft w.files w.now) (IsDraft w.files to) w.drafts (λ row h. draft_later w.files w.now to row le h) (k.holds Drafts).each; placed = (k.holds Drafts).placed }
-  by Groups = groups_on w.made.groups w.files w.files w.now to w.groups le (λ file h. h) (k.holds Groups)
-  by part = k.holds part
+time_keeps w to fits le k = record { holds = λ part. grind (arith, nat_tests, k.holds part, all-weaker, name_later, version_later, draft_later, groups_on) }
 
 -- ---- a directory or a file has another policy
 
 pub govern_keeps : (w : World) (directory : ℕ) (policy : Policy) → IsPolicy policy → IsWellFormed w → IsWellFormed (after_change w (Govern directory policy))
-govern_keeps w directory policy is k = record { holds = by } where
-  by : (part : Part) → Holds (after_change w (Govern directory policy)) part
-  by Directories = grind (arith, nat_tests, k.holds Directories, list_any-update_first (is_directory directory) (is_directory root) (governed_by policy) w.directories, all-update_first (is_directory directory), later-update_first (is_directory directory), length-update_first (is_directory directory) (governed_by policy) w.directories)
-  by Homes = grind (arith, nat_tests, k.holds Homes, all-weaker (IsHoused w.directories w.names), all-update_first (is_directory directory), list_any-update_first (is_directory directory))
-  by part = k.holds part
+govern_keeps w directory policy is k = record { holds = λ part. grind (arith, nat_tests, k.holds part, list_any-update_first (is_directory directory) (is_directory root) (governed_by policy) w.directories, all-update_first (is_directory directory), later-update_first (is_directory directory), length-update_first (is_directory directory) (governed_by policy) w.directories, all-weaker (IsHoused w.directories w.names), list_any-update_first (is_directory directory)) }
 
 pub put_under_keeps : (w : World) (file : ℕ) (policy : Policy) → IsPolicy policy → IsWellFormed w → IsWellFormed (after_change w (PutUnder file policy))
 put_under_keeps w file policy is k = record { holds = by } where
-  files : List FileRow
-  files = update_first (is_file file) (put_under policy) w.files
-
-  next : (id : ℕ) → next_of files id ≡ next_of w.files id
-  next id = next_of-put_under w.files file id policy
-
   by : (part : Part) → Holds (after_change w (PutUnder file policy)) part
-  by Counted = grind (arith, k.holds Counted, length-update_first (is_file file) (put_under policy) w.files)
-  by Files = grind (arith, nat_tests, k.holds Files, all-update_first (is_file file) (IsFile w.made.files w.made.versions) (IsFile w.made.files w.made.versions) (put_under policy) w.files, next, later-update_first (is_file file))
-  by Names = grind (arith, nat_tests, k.holds Names, all-weaker, files, there-put_under)
-  by Versions = grind (arith, nat_tests, k.holds Versions, all-weaker, files, next)
-  by Drafts = grind (arith, nat_tests, k.holds Drafts, all-weaker, files, next)
-  by Current = λ id live. rw (next id) (k.holds Current id live)
-  by Groups = groups_on w.made.groups w.files files w.now w.now w.groups (omega arith) (λ id h. rw (next id) h) (k.holds Groups)
-  by part = k.holds part
+  by Files = grind (arith, nat_tests, k.holds Files, all-update_first (is_file file) (IsFile w.made.files w.made.versions) (IsFile w.made.files w.made.versions) (put_under policy) w.files, later-update_first (is_file file))
+  by Current = λ id live. rw (next_of-put_under w.files file id policy) (k.holds Current id live)
+  by part = grind (arith, nat_tests, k.holds part, all-weaker, next_of-put_under, there-put_under, groups_on, length-update_first (is_file file) (put_under policy) w.files)
 
 -- ---- a file is made
 
@@ -66,9 +44,6 @@ put_under_keeps w file policy is k = record { holds = by } where
 pub apart_from_new : (w : World) (directory : ℕ) (name : List ℕ) (named : NameRow) → IsWellFormed w → is_some (live_target w.names directory name) ≡ false
     → named.directory ≡ directory → named.name ≡ name → named.birth ≡ w.now → AllByRecursion (λ row. AreApart row named) w.names
 apart_from_new w directory name named k = all_apart w.files w.now w.names directory name named (k.holds Names).each
-
-version_push : (files : List FileRow) (new : FileRow) (now : ℕ) (row : VersionRow) → IsVersion files now row → IsVersion (files ++ new ∷ []) now row
-version_push files new now row h = grind (arith, nat_tests, next_of-push)
 
 -- the new file has its first version, and each other what it had
 created_current : (w : World) (new : FileRow) (named : NameRow) (version : VersionRow) → next_of (w.files ++ new ∷ []) new.id ≡ version.number + 1 → AllByRecursion (IsFile w.made.files w.made.versions) w.files → HaveCurrent w → named.target ≡ File new.id → version.file ≡ new.id → version.ended ≡ None → (file : ℕ) → list_any (is_live_name_of file) (w.names ++ named ∷ []) ≡ true → list_any (is_current file (next_of (w.files ++ new ∷ []) file)) (w.versions ++ version ∷ []) ≡ true
@@ -120,7 +95,7 @@ module _ (w : World) (directory : ℕ) (name : List ℕ) (policy : Policy) where
     })
     by Homes = homes_more w.directories w.names named may.named.home may.named.reached tt (k.holds Homes)
     by Tree = tree_more w.now w.names directory name (File id) tt (k.holds Tree)
-    by Versions = grind (arith, nat_tests, k.holds Versions, k.holds Files, all-push, files, first_version, all-weaker, version_push, new_next, later-push, next_of-given)
+    by Versions = grind (arith, nat_tests, k.holds Versions, k.holds Files, all-push, files, first_version, all-weaker, next_of-push, new_next, later-push, next_of-given)
     by Drafts = grind (arith, nat_tests, k.holds Drafts, all-weaker, files, next_of-push, written_more)
     by Readers = read_on w.versions (w.versions ++ first_version w id ∷ []) w.handles (λ f n held. any_more (is_version f n) w.versions (first_version w id) held) (k.holds Readers)
     by Current = created_current w new named (first_version w id) (new_next ∙ omega arith) (k.holds Files).each (k.holds Current) refl refl refl

@@ -1,6 +1,6 @@
 -- A file that has a name again, and a version like its last one, keeps a world well formed.
 use Rattle.ele_world.proofs.Basics.{◌≡◌, ℕ, ◌-◌, ◌<◌, List, length-append, Some, subst, arith, length, AllByRecursion, nat_tests, all-found, found_passes}
-use Rattle.ele_world.proofs.Words.{after_change, Revive, current_cells, with_name, born_row, IsVersion, Part, Counted, Names, Homes, Tree, Versions, Current, IsWellFormed, Ended, World, next_of, is_live_name_of, current_of, NameRow, File, VersionRow}
+use Rattle.ele_world.proofs.Words.{after_change, Revive, current_cells, with_name, born_row, IsVersion, Part, Names, Homes, Versions, IsWellFormed, World, next_of, current_of, NameRow, File, VersionRow}
 use Rattle.ele_world.proofs.Homes.{any_less, homes_more, ended_more}
 use Rattle.ele_world.proofs.KeptVersions.{HoldsBeside, append_completes}
 use Rattle.ele_world.proofs.May.{MayName, MayRevive, MayAppend}
@@ -27,13 +27,9 @@ module _ (w : World) (directory : ℕ) (name : List ℕ) (file : ℕ) where
   pub named_holds : MayName w directory name → 0 < next_of w.files file → IsWellFormed w → (part : Part) → HoldsBeside file named part
   named_holds may there k = by where
     by : (part : Part) → HoldsBeside file named part
-    by Counted = counted_more w (length named.names) k may.room (simp length-append (omega arith))
     by Names = names_more w.files w.now w.names directory name (File file) may.free there (k.holds Names)
     by Homes = homes_more w.directories w.names row may.home may.reached tt (k.holds Homes)
-    by Tree = tree_more w.now w.names directory name (File file) tt (k.holds Tree)
-    by Current = λ other apart live. k.holds Current other (any_less (is_live_name_of other) w.names row (λ own. absurd (apart (grind (arith, nat_tests)))) live)
-    by Ended = ended_more w.names row w.versions (k.holds Ended)
-    by part = k.holds part
+    by part = grind (arith, nat_tests, k.holds part, counted_more w (length named.names) k may.room, length-append, tree_more, any_less, ended_more)
 
   -- a version like the last one may be made
   pub again : MayRevive w directory name file → AllByRecursion (IsVersion w.files w.now) w.versions → MayAppend named file w.now (current_cells w file)

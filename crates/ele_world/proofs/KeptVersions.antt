@@ -143,20 +143,10 @@ module _ (w : World) (file opened : ℕ) (cells : List Cell) (may : MayAppend w 
 -- ---- a version that has ended goes
 
 pub take_keeps : (w : World) (file number : ℕ) → ((row : VersionRow) → find (is_version file number) w.versions ≡ Some row → is_none row.ended ≡ false) → is_open w.handles file number ≡ false → IsWellFormed w → IsWellFormed (after_change w (Take file number))
-take_keeps w file number ended unread k = record { holds = by } where
+take_keeps w file number ended unread k = record { holds = λ part. grind (arith, nat_tests, k.holds part, length-remove_first-le (is_version file number) w.versions, all-remove_first, later-remove_first, all-weaker (λ row. (reads_version file number row.reads ≡ false) × IsHeldRead w.versions row.reads) (λ row. IsHeldRead (remove_first (is_version file number) w.versions) row.reads) w.handles, still, all-both (λ row. reads_version file number row.reads ≡ false) (λ row. IsHeldRead w.versions row.reads) w.handles, all-none (λ row. reads_version file number row.reads) w.handles unread, list_any-remove_first, not_current) } where
   -- a handle reads another version, and that is still held
   still : (reads : Reads) → reads_version file number reads ≡ false → IsHeldRead w.versions reads → IsHeldRead (remove_first (is_version file number) w.versions) reads
   still reads other h = grind (arith, nat_tests, list_any-remove_first, found_passes)
 
   not_current : (other : ℕ) (row : VersionRow) → is_none row.ended ≡ false → is_current other (next_of w.files other) row ≡ false
-  not_current other row e = rw e (grind (arith, nat_tests))
-
-  by : (part : Part) → Holds (after_change w (Take file number)) part
-  by Counted = grind (arith, k.holds Counted, length-remove_first-le (is_version file number) w.versions)
-  by Versions = grind (arith, nat_tests, k.holds Versions, all-remove_first, later-remove_first)
-  by Readers = all-weaker (λ row. (reads_version file number row.reads ≡ false) × IsHeldRead w.versions row.reads) (λ row. IsHeldRead (remove_first (is_version file number) w.versions) row.reads) w.handles
-      (λ row h. still row.reads h.0 h.1)
-      (all-both (λ row. reads_version file number row.reads ≡ false) (λ row. IsHeldRead w.versions row.reads) w.handles (all-none (λ row. reads_version file number row.reads) w.handles unread) (k.holds Readers))
-  by Current = grind (arith, nat_tests, k.holds Current, list_any-remove_first, not_current)
-  by Ended = all-remove_first (is_version file number) (IsOfLive w.names) w.versions (k.holds Ended)
-  by part = k.holds part
+  not_current other row e = grind (arith, nat_tests)

@@ -76,12 +76,6 @@ pub record IsOn (now : ℕ) (old row : VersionRow) : Type 0 where
   pub ended : (at : ℕ) → IsEndedBy at old → IsEndedBy at row
   pub lives : (moment : ℕ) → moment < now → lives_at moment old ≡ true → lives_at moment row ≡ true
 
-same_on : (now : ℕ) (row : VersionRow) → IsOn now row row
-same_on now row = record { closed = refl; number = refl; ended = λ at h. h; lives = λ moment less h. h }
-
-ended_on : (now : ℕ) (row : VersionRow) → IsOn now row (ended_at now row)
-ended_on now row = grind (arith, nat_tests)
-
 pub record Becomes (now : ℕ) (old : VersionRow) (found : Option VersionRow) : Type 0 where
   pub row : VersionRow
   pub is : found ≡ Some row
@@ -156,7 +150,7 @@ module _ (event : Event) (first w : World) (change : Change) (before : Known) (t
         Goes take.row found none (t.first_held file number take.row take.found) (ended_row w take.row (held_row w file number take.row t.formed found).is take.ended)
 
   pub becomes : (file number : ℕ) (old : VersionRow) → known_in w before file number ≡ Some old → Becomes w.now old (known_in after before file number)
-  becomes file number old is = grind (arith, nat_tests, turned file number (known_past w (known_in w before) file number old t.formed t.known is), known_past w (known_in w before) file number old t.formed t.known is, same_on w.now old, ended_on w.now old)
+  becomes file number old is = grind (arith, nat_tests, turned file number (known_past w (known_in w before) file number old t.formed t.known is), known_past w (known_in w before) file number old t.formed t.known is)
 
   -- a new version's number wasn't given
   not_given : (file number : ℕ) (row : VersionRow) → row_of w file number ≡ None → row_of after file number ≡ Some row → IsPast w file number → ⊥

@@ -89,10 +89,7 @@ module _ (q : ℕ → Bool) (k : ℕ) where
   any_but (x ∷ xs) apart = grind (arith, nat_tests, and_false, any_same, all-weaker, and_true, any_but xs apart.1)
 
 gone : (k : ℕ) (xs : List ℕ) → AreApart xs → list_any (λ x. x == k) (remove_first (λ x. x == k) xs) ≡ false
-gone k xs apart = any_but (λ x. x == k) k xs apart ∙ none_any (λ x. (x == k) && not (x == k)) xs (all-any (λ x. ((x == k) && not (x == k)) ≡ false) xs (λ x. never (x == k))) where
-  never : (b : Bool) → (b && not b) ≡ false
-  never true = refl
-  never false = refl
+gone k xs apart = grind (arith, nat_tests, any_but, none_any, all-any)
 
 -- ---- rows of groups
 
@@ -163,13 +160,10 @@ module _ (rows : List GroupRow) (name : List ℕ) (file closed : ℕ) (ended : O
   one_counts mark row own apart = ap (λ b. is_member file row && b) (any_but (covers_moment closed ended) mark row.marks apart ∙ sym (ap (λ (g : Bool). list_any (λ m. covers_moment closed ended m && not (g && (m == mark))) row.marks) own))
 
   module _ (named : AllLater (λ (earlier : GroupRow) later. bytes_eq earlier.name later.name ≡ false) rows) where
-    other_name : (row other : GroupRow) → is_group name row ≡ true → bytes_eq row.name other.name ≡ false → is_group name other ≡ false
-    other_name row other own apart = grind (arith, nat_tests, true≢false, bytes_eq-Decides)
-
     -- the group stands between others
     still_is : (left : Option ℕ) (row : GroupRow) (found : find (is_group name) rows ≡ Some row)
         → let cut = find-cut (is_group name) rows row found in is_marked_without rows name left file closed ended ≡ (list_any marks_row cut.before || (marks_still left row || list_any marks_row cut.behind))
-    still_is left row found = grind (arith, nat_tests, find-cut, later-around, list_any-append, any_same, all-weaker, others_count, other_name)
+    still_is left row found = grind (arith, nat_tests, find-cut, later-around, list_any-append, any_same, all-weaker, others_count, true≢false, bytes_eq-Decides)
 
     still_changed : (left : Option ℕ) (f : GroupRow → GroupRow) (row : GroupRow) → find (is_group name) rows ≡ Some row → marks_row (f row) ≡ marks_still left row
         → is_marked (update_first (is_group name) f rows) file closed ended ≡ is_marked_without rows name left file closed ended

@@ -1,8 +1,9 @@
 -- What each change needs, so that it leaves a well-formed world, and takes only what was due.
-use Rattle.ele_world.proofs.Basics.{◌≡◌, ℕ, ◌+◌, ◌<◌, ◌≤◌, true, false, List, [], ◌∷◌, length, Some, None, Ok, is_some, is_none, find, list_any}
+use Rattle.ele_world.proofs.Basics.{◌≡◌, ℕ, ◌+◌, ◌<◌, ◌≤◌, true, false, List, [], ◌∷◌, length, Some, is_some, is_none, find, list_any}
 use Rattle.ele_world.proofs.Words.{Cell, longest_content, last_moment, Policy, Change, Time, Govern, MakeDirectory, EndName, AddName, MoveName, EndFileName, Revive, MakeFile, PutUnder, Append, Take, StartDraft, WriteDraft, TruncateDraft, EndDraft, OpenHandle}
-use Rattle.ele_world.proofs.Words.{ShutHandle, DropIdle, MakeGroup, DropGroup, AddMember, RemoveMember, AddMark, RemoveMark, after_change, is_due_at, has_group, has_member, is_marked_at, is_live_in, is_live_directory, Plan, Tell, Make, Unless, When, Need, IfFound}
+use Rattle.ele_world.proofs.Words.{ShutHandle, DropIdle, MakeGroup, DropGroup, AddMember, RemoveMember, AddMark, RemoveMark, after_change, is_due_at, has_group, has_member, is_marked_at, is_live_in, is_live_directory, Plan}
 use Rattle.ele_world.proofs.Words.{IsEvent, live_target, IsPolicy, IsThere, IsDirectoryThere, has_directory, is_reached, IsContent, AreWrittenBy, IsReadable, IsHeldRead, World, next_of, is_version, is_live, current_of, is_open, has_draft, is_writer, Event, CleanOne, Reads, Target, File, Directory, VersionRow}
+use Rattle.ele_world.proofs.Outcomes.{InAll}
 
 abbrev pub HasRoom : World → Type 0
 HasRoom w = w.made.versions + length w.drafts < w.limits.versions
@@ -137,9 +138,4 @@ MayAll event first w (change ∷ changes) = May event first w change × MayAll e
 
 -- where the checks pass, the changes may be made
 abbrev pub MayPlan : Event → World → Plan → Type 0
-MayPlan event w (Tell reply) = Unit {0}
-MayPlan event w (Make reply changes) = MayAll event w w changes
-MayPlan event w (Unless test refusal next) = test ≡ false → MayPlan event w next
-MayPlan event w (When test passing otherwise) = (test ≡ true → MayPlan event w passing) × (test ≡ false → MayPlan event w otherwise)
-MayPlan event w (Need found next) = (x : _) → found ≡ Ok x → MayPlan event w (next x)
-MayPlan event w (IfFound found otherwise next) = (found ≡ None → MayPlan event w otherwise) × ((x : _) → found ≡ Some x → MayPlan event w (next x))
+MayPlan event w plan = InAll (λ reply changes. MayAll event w w changes) plan

@@ -3,7 +3,7 @@
 use Rattle.ele_world.proofs.Basics.{◌≡◌, ℕ, ◌+◌, ◌≤◌, ◌==◌, ◌&&◌, ◌||◌, Bool, true, false, not, cond, List, [], ◌∷◌, ◌++◌, Option, Some, None, refl, ap, subst, ◌∙◌, arith}
 use Rattle.ele_world.proofs.Basics.{filter, slice_get, find, option_and_then, IfSome, AllByRecursion, list_any, option_map_or, nat_tests, slice_get-map, find-cut, find-filter_both, AllLater, update_first, all-weaker, not_found}
 use Rattle.ele_world.proofs.Words.{never_due, ripe_nearest, Policy, IsPolicy, IsNearest, is_due_by, alone, candidates, earliest_of, FileRow, VersionRow, ended_at, ripe_at, FileView, view_of, beside, ripe_in}
-use Rattle.ele_world.proofs.Words.{covers_moment, is_marked, is_newer_of, near_moment, next_closing, moment_under, free_moment, ArePlaced, AreVersions, IsVersion, Versions, IsWellFormed, World, is_open, is_version, next_of, policy_of}
+use Rattle.ele_world.proofs.Words.{covers_moment, is_marked, near_moment, next_closing, moment_under, free_moment, ArePlaced, AreVersions, IsVersion, Versions, IsWellFormed, World, is_open, is_version, next_of, policy_of}
 use Rattle.ele_policy.specs.Ripe.{ripe_by}
 use Rattle.ele_world.specs.Due.{ripe_of}
 use Rattle.ele_world.proofs.GroupMarks.{marks_tell}
@@ -118,9 +118,5 @@ pub next_closing-ended : (p : VersionRow → Bool) (now : ℕ) (rows : List Vers
 next_closing-ended p now [] file number = refl
 next_closing-ended p now (x ∷ xs) file number = grind (arith, nat_tests, next_closing-ended p now xs file number)
 
--- none is behind the file's last version
-isnt_past : (files : List FileRow) (now file number : ℕ) → next_of files file ≤ number + 1 → (row : VersionRow) → IsVersion files now row → is_newer_of file number row ≡ false
-isnt_past files now file number past row is = grind (arith, nat_tests)
-
 pub none_past : (files : List FileRow) (now : ℕ) (rows : List VersionRow) (file number : ℕ) → AllByRecursion (IsVersion files now) rows → next_of files file ≤ number + 1 → next_closing rows file number ≡ None
-none_past files now rows file number each past = grind (arith, nat_tests, not_found, all-weaker, isnt_past)
+none_past files now rows file number each past = grind (arith, nat_tests, not_found, all-weaker)

@@ -1,17 +1,16 @@
 -- No event leaves a file of which nothing is left. In a well-formed world a live file has a version, so what counts is whether
 -- each file has a version or a draft.
-use Rattle.ele_world.proofs.Basics.{◌≡◌, ◌==◌, ℕ, ◌+◌, Bool, true, false, not, ◌||◌, List, [], ◌∷◌, refl, sym, subst, ◌∙◌, arith, AllByRecursion, list_any, false≢true, nat_tests, update_first}
+use Rattle.ele_world.proofs.Basics.{rules, ◌≡◌, ◌==◌, ℕ, Bool, true, false, not, ◌||◌, List, [], ◌∷◌, refl, sym, subst, ◌∙◌, arith, AllByRecursion, list_any, false≢true, nat_tests, update_first}
 use Rattle.ele_world.proofs.Basics.{remove_first, filter-passes, all-push, all-weaker, all-both, all-update_first, all-remove_first, found_passes, list_any-update_first, list_any-insert_before, list_any-remove_first, any-found, remove_first-key}
-use Rattle.ele_world.proofs.Words.{Cell, Policy, Take, MakeFile, PutUnder, EndFileName, EndDraft, DropIdle, ShutHandle, StartDraft, after_change, is_idle, numbered_on, put_under, current_cells, changed_by, fitted_by, with_file, with_name, with_version}
-use Rattle.ele_world.proofs.Words.{without_file, is_version_of, HasNoIdle, NoIdleStays, run_of, IsEvent, plan, step, Files, Current, IsWellFormed, World, default_of, is_file, is_draft, is_live, has_draft, next_of, Event, Clock, Tick, MakeDir, RemoveDir}
-use Rattle.ele_world.proofs.Words.{Create, Link, Unlink, Rename, Undelete, OpenWrite, OpenRead, Write, Truncate, Close, Revert, SetPolicy, SetDefault, GroupMake, GroupDrop, GroupAdd, GroupRemove, Mark, Unmark, CleanOne, Read, Stat, Restorable, Due, UsageAll, GroupsAll, Tagged, Of, DraftRow, FileRow, File}
+use Rattle.ele_world.proofs.Words.{Cell, Policy, Take, MakeFile, PutUnder, EndFileName, EndDraft, DropIdle, ShutHandle, StartDraft, after_change, is_idle, numbered_on, put_under, current_cells, with_file, with_name, with_version}
+use Rattle.ele_world.proofs.Words.{without_file, is_version_of, HasNoIdle, NoIdleStays, run_of, IsEvent, plan, step, Files, Current, IsWellFormed, World, is_file, is_draft, is_live, has_draft, Event}
+use Rattle.ele_world.proofs.Words.{Undelete, Close, Revert, CleanOne, Read, Tagged, Of, DraftRow, FileRow, File}
 use Rattle.ele_lists.proofs.Cuts.{any-found as first_passing}
-use Rattle.ele_world.specs.declared.event.Event.TheVariants.{Versions, List as ListNames}
 use Rattle.ele_world.proofs.Allowed.{takes}
 use Rattle.ele_world.proofs.Dropped.{dropped}
 use Rattle.ele_world.proofs.Keeps.{change_keeps}
 use Rattle.ele_world.proofs.KeptDrafts.{same_file, end_keeps, shut_keeps}
-use Rattle.ele_world.proofs.Outcomes.{InAll, in_all}
+use Rattle.ele_world.proofs.Outcomes.{AfterAll, in_all}
 use Rattle.ele_world.proofs.StepKeeps.{step_keeps}
 
 -- the file has a held version or a draft
@@ -104,30 +103,18 @@ idle_gone w file k but = dropped AreBusy w file (λ idle. gone) (λ busy. all-we
 
 -- ---- each event
 
-tidy : (w : World) (event : Event) → IsWellFormed w → AreBusy w → InAll w (λ answer. AreBusy (answer.1)) (plan w event)
-tidy w (Clock to) k all = λ later. all
-tidy w (Tick seconds) k all = λ fits. all
-tidy w (MakeDir path) k all = λ at found free directories names. all
-tidy w (RemoveDir path) k all = λ at found directory leads empty. all
-tidy w (Create path) k all = λ at found free files names versions. made w at.0 at.1 (w.made.files + 1) (default_of w.directories at.0) all
-tidy w (Link from to) k all = λ file found at parent free names. all
-tidy w (Unlink path) k all = λ at parent file found. nameless w at.0 at.1 file all
-tidy w (Rename from to) k all = λ old parent moved found at home outside free names. all
+tidy : (w : World) (event : Event) → IsWellFormed w → AreBusy w → AfterAll w (λ answer. AreBusy (answer.1)) (plan w event)
 tidy w (Undelete path) k all = λ at parent free lost last may. (
-  λ names. all,
+  λ none names. all,
   λ file none undrafted names versions.
       let named = with_name w at.0 at.1 (File file) in versioned named file w.now (current_cells w file) (all_but named file all),
 )
-tidy w (OpenWrite path) k all = λ file found handles. (λ has. all, λ none versions. begun w file all)
-tidy w (OpenRead tagged) k all = λ row found handles. all
-tidy w (Write handle offset bytes) k all = λ file found. (λ none. all, λ some fits. edited w file (changed_by (next_of w.files file) offset bytes) (λ row. refl) all)
-tidy w (Truncate handle size) k all = λ file found fits. edited w file (fitted_by (next_of w.files file) size) (same_file (next_of w.files file) size) all
 tidy w (Close handle) k all = λ read found. (
-  all,
+  λ none. all,
   λ file writes. (
     λ other. all,
     λ last. (
-      all,
+      λ none. all,
       λ draft drafted.
           let shut = after_change w (ShutHandle handle) in
           let u = after_change shut (EndDraft file) in (
@@ -138,31 +125,13 @@ tidy w (Close handle) k all = λ read found. (
   ),
 )
 tidy w (Revert path number) k all = λ file found row meant drafts versions. versioned w file w.now row.cells (all_but w file all)
-tidy w (SetPolicy path policy) k all = λ file found. put w file policy all
-tidy w (SetDefault path policy) k all = λ directory found. all
-tidy w (GroupMake name) k all = λ free groups. all
-tidy w (GroupDrop name) k all = λ found. all
-tidy w (GroupAdd name path) k all = λ has file found free members. all
-tidy w (GroupRemove name path) k all = λ has file found member. all
-tidy w (Mark name mark) k all = λ has past free marks. all
-tidy w (Unmark name mark) k all = λ has marked. all
-tidy w CleanOne k all = (all, λ key first. idle_gone (after_change w (Take key.file key.number)) key.file (change_keeps CleanOne w w (Take key.file key.number) tt (takes w key k first) k) (taken w key.file key.number all))
+tidy w CleanOne k all = (λ none. all, λ key first. idle_gone (after_change w (Take key.file key.number)) key.file (change_keeps CleanOne w w (Take key.file key.number) tt (takes w key k first) k) (taken w key.file key.number all))
 tidy w (Read (Of handle)) k all = λ read found. all
 tidy w (Read (Tagged tagged)) k all = λ row found. all
-tidy w (Stat tagged) k all = λ target found told is. all
-tidy w (Versions at) k all = λ file found. all
-tidy w (ListNames at) k all = λ directory found. all
-tidy w Restorable k all = all
-tidy w Due k all = all
-tidy w UsageAll k all = all
-tidy w GroupsAll k all = all
+tidy w event k all = search (rules, made, nameless, begun, edited, same_file, put)
 
 pub no_idle_stays : NoIdleStays
-no_idle_stays w event k none =
-    let all = all-weaker (λ row. is_idle w row.id ≡ false) (λ row. has_rows w row.id ≡ true) w.files (λ row busy. busy_is w row.id k busy) none in
-    let v = (step w event).1 in
-    all-weaker (λ row. has_rows v row.id ≡ true) (λ row. is_idle v row.id ≡ false) v.files (λ row busy. grind (arith, nat_tests, busy))
-    (in_all w (λ answer. AreBusy (answer.1)) (plan w event) (λ refusal. all) (tidy w event k all))
+no_idle_stays w event k none = grind (arith, nat_tests, all-weaker, is_idle, has_rows, busy_is, step, in_all, AreBusy, plan, tidy)
 
 pub runs_have_none : (w : World) (events : List Event) → AllByRecursion IsEvent events → IsWellFormed w → HasNoIdle w → HasNoIdle (run_of w events)
 runs_have_none w [] are k none = none

@@ -1,6 +1,6 @@
 -- In a run one version of a file lived at each moment that a name of the file covers.
 use Rattle.ele_world.proofs.Basics.{◌≡◌, ℕ, true, false, List, [], ◌∷◌, Option, Some, None, refl, ap, sym, ◌∙◌, arith, find, Ok, Err, AllByRecursion, option_or, false≢true, cases_lt, nat_tests, all-found, all-not_found, all-weaker, found_passes, any-found, AllLater}
-use Rattle.ele_world.proofs.Words.{Bounds, AreBounds, Change, after_change, after_changes, last_stood, HasOneLife, NamesOneLife, OneLife, run_of, IsEvent, plan, step, had_closed, had_life, held_or_forgotten, last_number, lives_at, version_living, ArePlaced, Versions, IsWellFormed, World, fresh_world, is_held, is_version, Event, Forgotten, VersionRow}
+use Rattle.ele_world.proofs.Words.{Bounds, AreBounds, Change, after_change, after_changes, last_stood, HasOneLife, OneLife, run_of, IsEvent, plan, step, had_closed, had_life, held_or_forgotten, last_number, lives_at, version_living, ArePlaced, Versions, IsWellFormed, World, fresh_world, is_held, is_version, Event, Forgotten, VersionRow}
 use Rattle.ele_lists.proofs.Cuts.{any-found as first_passing}
 use Rattle.ele_world.proofs.Allowed.{allowed}
 use Rattle.ele_world.proofs.Covered.{change_known}
@@ -108,9 +108,4 @@ module _ (first : World) (events : List Event) (k : IsWellFormed (run_of first e
   has_one_life = record { row = life.row; stood = life.stood; lived = life.lived; only = only; held = held_reads; gone = gone_forgotten }
 
 pub one_life : OneLife
-one_life limits events bounds are =
-    let first = fresh_world limits in
-    let k = run_keeps first events are (fresh_is limits bounds) in
-    let s = ever_known limits events bounds are in
-    all-weaker (IsCovered (last_stood first events)) (NamesOneLife first events) (run_of first events).names
-    (λ name h file moment own covered. has_one_life first events k s file moment (h file moment own covered)) s.covered
+one_life limits events bounds are = grind (arith, nat_tests, fresh_world, run_keeps, fresh_is, ever_known, all-weaker, last_stood, run_of, has_one_life)

@@ -1,5 +1,5 @@
 -- Which ripe moments change where handles come and go: that of a version that a handle reads, and no other.
-use Rattle.ele_world.proofs.Basics.{nat_tests, arith, ◌≡◌, ℕ, ◌||◌, Bool, true, false, cond, [], ◌∷◌, Some, None, refl, ap, sym, ◌∙◌, find, Ok, Err, option_map_or, list_any-append, remove_first, list_any-remove_first}
+use Rattle.ele_world.proofs.Basics.{nat_tests, arith, ◌≡◌, ℕ, ◌||◌, Bool, true, false, cond, Some, None, refl, ap, sym, ◌∙◌, find, Ok, Err, option_map_or, list_any-append, remove_first, list_any-remove_first}
 use Rattle.ele_world.proofs.Words.{after_change, OpenHandle, ShutHandle, ripe_at, NoHandle, HandleRow, Reads, free_moment, World, is_handle, is_open, reads_by, reads_version}
 use Rattle.ele_world.proofs.Neighbours.{AreInOrder, found_moment, ripe_at_near}
 
@@ -14,9 +14,7 @@ or_false false = refl
 module _ (w : World) (number : ℕ) (reads : Reads) where
   -- a handle more that reads this opens just what it reads
   pub open_more : (f n : ℕ) → is_open (after_change w (OpenHandle number reads)).handles f n ≡ (is_open w.handles f n || reads_version f n reads)
-  open_more f n =
-      list_any-append (λ row. reads_version f n row.reads) w.handles (record { number = number; reads = reads } ∷ [])
-      ∙ ap (λ b. is_open w.handles f n || b) (or_false (reads_version f n reads))
+  open_more f n = grind (arith, nat_tests, list_any-append, reads_version, is_open, or_false)
 
   -- no other moment changes
   pub opened_others : AreInOrder w.files w.versions → (f n : ℕ) → reads_version f n reads ≡ false → ripe_at (after_change w (OpenHandle number reads)) f n ≡ ripe_at w f n

@@ -1,6 +1,6 @@
 -- The rows of other files stay where one file's rows change.
 use Rattle.ele_world.proofs.Basics.{◌≡◌, ℕ, true, false, not, List, [], ◌∷◌, length, Option, refl, ap, arith, eqb, filter, option_map_or, nat_tests, update_first, remove_first, insert_before, found_passes, filter-update_first, filter-remove_first, filter-insert_before}
-use Rattle.ele_world.proofs.Words.{Kind, Policy, kind_of, is_kind, DraftRow, FileRow, VersionRow, numbered_on, ended_at, new_draft, is_of, is_file_of, World, is_draft, is_draft_after, is_file, is_version, is_version_after}
+use Rattle.ele_world.proofs.Words.{Kind, Policy, kind_of, is_kind, DraftRow, FileRow, VersionRow, numbered_on, ended_at, is_of, is_file_of, World, is_draft, is_file, is_version, is_version_after}
 use Rattle.ele_world.proofs.Opened.{with_draft}
 use Rattle.ele_world.proofs.Files.{policies-numbered}
 
@@ -15,11 +15,8 @@ drafts-updated file f rows keeps = grind (arith, nat_tests, filter-update_first)
 pub drafts-removed : (file : ℕ) (rows : List DraftRow) → other_drafts file (remove_first (is_draft file) rows) ≡ other_drafts file rows
 drafts-removed file rows = grind (arith, nat_tests, filter-remove_first, found_passes)
 
-pub drafts-begun : (row : DraftRow) (rows : List DraftRow) → other_drafts row.file (insert_before (is_draft_after row.file) row rows) ≡ other_drafts row.file rows
-drafts-begun row rows = grind (arith, nat_tests, filter-insert_before)
-
 pub drafts-opened : (w : World) (file : ℕ) → other_drafts file (with_draft w file) ≡ other_drafts file w.drafts
-drafts-opened w file = grind (arith, nat_tests, drafts-begun (new_draft w file) w.drafts)
+drafts-opened w file = grind (arith, nat_tests, filter-insert_before)
 
 -- ---- versions
 

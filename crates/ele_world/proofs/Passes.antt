@@ -1,6 +1,6 @@
 -- A pass that nothing disturbs removes the due versions, and no others.
-use Rattle.ele_world.proofs.Basics.{nat_tests, arith, ◌≡◌, ℕ, suc, zero, ◌≤◌, true, false, not, List, [], ◌∷◌, Option, Some, None, refl, ap, ◌∙◌, slice_get, fold, is_some, insert_key, AllByRecursion, filter_map, false≢true, remove_first, all-both, all-weaker, find-cut, remove_first-at, filter-all}
-use Rattle.ele_world.proofs.Words.{last_moment, CleanOne, Key, VersionRow, is_due_at, ripe_of, kept_rows, IsDueFromRipe, after_cleans, IsPass, key_cmp, first_due, Take, after_change, clean_step, IsWellFormed, World, is_version}
+use Rattle.ele_world.proofs.Basics.{nat_tests, arith, ◌≡◌, ℕ, suc, zero, ◌≤◌, true, false, not, List, [], ◌∷◌, Option, Some, None, refl, ap, ◌∙◌, slice_get, fold, insert_key, AllByRecursion, filter_map, false≢true, remove_first, all-both, all-weaker, find-cut, remove_first-at, filter-all}
+use Rattle.ele_world.proofs.Words.{last_moment, CleanOne, Key, VersionRow, is_due_at, kept_rows, IsDueFromRipe, after_cleans, IsPass, key_cmp, first_due, Take, after_change, clean_step, IsWellFormed, World, is_version}
 use Rattle.ele_world.specs.Scan.{due_key, scan}
 use Rattle.ele_world.proofs.Cleans.{clean_of}
 use Rattle.ele_world.proofs.DropViews.{dropped_sees, kept_same}
@@ -30,13 +30,9 @@ cleaned_keeps_kept (suc n) w k = grind (arith, nat_tests, cleaned_keeps_kept n (
 
 -- ---- where the scan is empty nothing is due
 
--- what is due now has a moment at which it is ripe
-pub due_is_ripe : (w : World) (row : VersionRow) → w.now ≤ last_moment → IsDueFromRipe w row → is_due_at w row w.now ≡ true → is_some (ripe_of w row) ≡ true
-due_is_ripe w row fits from due = grind (arith, nat_tests, false≢true)
-
 no_key : (w : World) (row : VersionRow) → w.now ≤ last_moment → IsDueFromRipe w row → due_key w row ≡ None → is_due_at w row w.now ≡ false
 unfolding due_key
-no_key w row fits from h = grind (arith, nat_tests, false≢true, due_is_ripe)
+no_key w row fits from h = grind (arith, nat_tests, false≢true)
 
 insert_key-some : (keys : List Key) (key : Key) → insert_key key_cmp keys key ≡ [] → ⊥
 insert_key-some [] key h = cc

@@ -1,5 +1,5 @@
 -- Whichever due row is taken out of a file, every other row is due as before, at each moment at which the row was due.
-use Rattle.ele_world.proofs.Basics.{◌≡◌, ℕ, ◌-◌, ◌≤◌, Bool, true, false, not, ◌&&◌, List, [], ◌∷◌, ◌++◌, Some, refl, ap, sym, subst, ◌∙◌, filter, arith, ◌⊎◌, inl, inr, IfSome, option_map_or, false≢true, nat_tests, AllLater}
+use Rattle.ele_world.proofs.Basics.{◌≡◌, ℕ, ◌-◌, ◌≤◌, Bool, true, false, not, ◌&&◌, List, [], ◌∷◌, ◌++◌, Some, refl, ap, subst, ◌∙◌, filter, arith, ◌⊎◌, inl, inr, IfSome, option_map_or, false≢true, nat_tests, AllLater}
 use Rattle.ele_world.proofs.Words.{Policy, IsPolicy, Beside, is_due_by, lets_go, lets_go_without, lets_go_fewer, VersionRow, FileView, is_newer, closings, is_protected, due_in}
 use Rattle.ele_world.proofs.Views.{IsLife, Precedes, newer_is, newer_before, newer_without, newer_behind}
 
@@ -41,17 +41,11 @@ beside_more v row at xs more ys = grind (arith, nat_tests, both, lets_go_fewer)
 
 module _ (v : FileView) (xs : List VersionRow) (row : VersionRow) (ys : List VersionRow) (placed : AllLater Precedes (xs ++ row ∷ ys)) (life : IsLife row) (governed : IfSome v.policy IsPolicy) where
   before_stays : (x : VersionRow) (at : ℕ) → Precedes x row → due_in (with_rows v (xs ++ row ∷ ys)) row at ≡ true → due_in (with_rows v (xs ++ row ∷ ys)) x at ≡ due_in (with_rows v (xs ++ ys)) x at
-  before_stays x at before due =
-      ap (due_beside v x at) (ap closings (newer_before x xs row ys placed before) ∙ closings-append (filter (is_newer x) xs) (row ∷ ys))
-      ∙ without (due_is v row at (closings ys) (subst (λ t. due_beside v row at (closings t) ≡ true) (newer_is xs row ys placed) due))
-      ∙ sym (ap (due_beside v x at) (ap closings (newer_without x xs row ys placed before) ∙ closings-append (filter (is_newer x) xs) ys)) where
-        without : IsDue v row at (closings ys) → due_beside v x at (closings (filter (is_newer x) xs) ++ row.closed ∷ closings ys) ≡ due_beside v x at (closings (filter (is_newer x) xs) ++ closings ys)
-        without own = grind (arith, nat_tests, governed, lets_go_without)
+  before_stays x at before due = grind (arith, nat_tests, due_beside, closings, newer_before, closings-append, is_newer, due_is, newer_is, newer_without, lets_go_without)
 
   -- on whichever side of the row it stands
   pub others_stay : (x : VersionRow) (at : ℕ) → Precedes x row ⊎ Precedes row x → due_in (with_rows v (xs ++ row ∷ ys)) row at ≡ true → due_in (with_rows v (xs ++ row ∷ ys)) x at ≡ due_in (with_rows v (xs ++ ys)) x at
-  others_stay x at (inl before) due = before_stays x at before due
-  others_stay x at (inr after) due = ap (λ t. due_beside v x at (closings t)) (newer_behind x xs row ys after)
+  others_stay x at h h2 = grind (arith, nat_tests, inl, before_stays, inr, due_beside, closings, newer_behind)
 
   -- and none is due without the row that wasn't with it
   pub no_more_due : (x : VersionRow) (at : ℕ) → Precedes x row ⊎ Precedes row x → due_in (with_rows v (xs ++ ys)) x at ≡ true → due_in (with_rows v (xs ++ row ∷ ys)) x at ≡ true

@@ -14,9 +14,6 @@ module _ (rows : List NameRow) where
   Avoids (File file) from names = Unit {0}
   Avoids (Directory id) from names = comes_through rows id from names ≡ false
 
-  avoids_next : (moved : Target) (e : ℕ) (m : List ℕ) (names : List (List ℕ)) (next : Target) → live_target rows e m ≡ Some next → Avoids moved (Directory e) (m ∷ names) → Avoids moved next names
-  avoids_next moved e m names next edge avoids = grind (arith, nat_tests, false≢true)
-
   -- what is moved doesn't avoid itself, where it leads to a directory
   avoids_itself : (moved : Target) (names : List (List ℕ)) (d : ℕ) → walk rows moved names ≡ Ok (Directory d) → Avoids moved moved names → ⊥
   avoids_itself (File file) [] d h avoids = cc
@@ -34,7 +31,7 @@ module _ (rows : List NameRow) where
     leads_still d (Directory e) (m ∷ names) avoids h = onward (λ next. leads_still d next names) (live_target rows e m) refl h where
       onward : ((next : Target) → Avoids moved next names → walk rows next names ≡ Ok (Directory d) → walk left next names ≡ Ok (Directory d)) → (o : Option Target) → live_target rows e m ≡ o → option_map_or (λ target. walk rows target names) o (Err NoEntry) ≡ Ok (Directory d) → walk left (Directory e) (m ∷ names) ≡ Ok (Directory d)
       onward more None edge h = absurd cc
-      onward more (Some next) edge h = grind (arith, nat_tests, avoids_next moved e m names next edge avoids, other_stays rows at.0 at.1 now e m, bytes_eq-Decides, avoids_itself)
+      onward more (Some next) edge h = grind (arith, nat_tests, false≢true, other_stays rows at.0 at.1 now e m, bytes_eq-Decides, avoids_itself)
 
 -- ---- the law
 

@@ -44,7 +44,7 @@ Leads w path answer = (answer.0 ≡ reply.Done → HasNameAgain w path answer.1)
 pub undelete_leads : (w : World) (path : List (List ℕ)) → IsWellFormed w → Leads w path (step w (Undelete path))
 undelete_leads w path k = in_all w (Leads w path) (plan w (Undelete path)) (λ refusal. (λ e. absurd cc, λ number e. absurd cc)) (
     λ at found free lost last returns. (
-      λ names. (λ e. record { target = lost; named = named_again w path at k found free lost (with_name w at.0 at.1 lost) refl last; versions = refl }, λ number e. absurd cc),
+      λ none names. (λ e. record { target = lost; named = named_again w path at k found free lost (with_name w at.0 at.1 lost) refl last; versions = refl }, λ number e. absurd cc),
       λ file none drafts names versions. (
         λ e. absurd cc,
         λ number e.

@@ -25,9 +25,7 @@ and_false false = refl
 -- a slot before the first one
 none_before : (f s : ℕ) (cells : List Cell) (place : Place) → place.slot < s → is_among (places_from f s cells) place ≡ false
 none_before f s [] place lt = refl
-none_before f s (cell ∷ cells) place lt =
-    let e : eqb s place.slot ≡ false = grind (arith, nat_tests) in
-    rw (e, and_false (eqb f place.file)) (none_before f (s + 1) cells place (omega arith))
+none_before f s (cell ∷ cells) place lt = grind (arith, nat_tests, eqb, and_false, none_before f (s + 1) cells place (omega arith))
 
 -- another file's place
 none_other : (f s : ℕ) (cells : List Cell) (place : Place) → eqb f place.file ≡ false → is_among (places_from f s cells) place ≡ false
@@ -37,9 +35,7 @@ none_other f s (cell ∷ cells) place e = rw e (none_other f (s + 1) cells place
 among_from : (f s n : ℕ) (cells : List Cell) (place : Place) → place.slot ≡ s + n → is_among (places_from f s cells) place ≡ (eqb f place.file && has_slot cells n place.writer)
 among_from f s n [] place at = sym (and_false (eqb f place.file))
 among_from f s zero (cell ∷ cells) place at = grind (arith, nat_tests, none_before, or_false)
-among_from f s (suc n) (cell ∷ cells) place at =
-    let e : eqb s place.slot ≡ false = grind (arith, nat_tests) in
-    rw (e, and_false (eqb f place.file)) (among_from f (s + 1) n cells place (omega arith))
+among_from f s (suc n) (cell ∷ cells) place at = grind (arith, nat_tests, eqb, and_false, among_from f (s + 1) n cells place (omega arith))
 
 -- a place of all rows is one of some row
 pub among_rows : (versions : List VersionRow) (drafts : List DraftRow) (file slot writer : ℕ) → is_among (places versions drafts) (record { file = file; slot = slot; writer = writer }) ≡ (list_any (λ (row : VersionRow). eqb row.file file && has_slot row.cells slot writer) versions || list_any (λ (row : DraftRow). eqb row.file file && has_slot row.cells slot writer) drafts)
@@ -71,13 +67,10 @@ different_row f s (cell ∷ cells) others =
 
 -- the rows of the files that pass
 module _ (t : ℕ → Bool) where
-  among_passing : (versions : List VersionRow) (drafts : List DraftRow) (place : Place) → t place.file ≡ true → is_among (places (filter (λ row. t row.file) versions) (filter (λ row. t row.file) drafts)) place ≡ is_among (places versions drafts) place
-  among_passing versions drafts place passes = grind (arith, nat_tests, list_any-append, list_any-flat_map, list_any-filter, none_other)
-
   -- of a file that passes, as many are new
   passing_new : (versions : List VersionRow) (drafts : List DraftRow) (f s : ℕ) (cells : List Cell) → t f ≡ true → new_places (places (filter (λ row. t row.file) versions) (filter (λ row. t row.file) drafts)) (places_from f s cells) ≡ new_places (places versions drafts) (places_from f s cells)
   passing_new versions drafts f s [] passes = refl
-  passing_new versions drafts f s (cell ∷ cells) passes = grind (arith, nat_tests, new_places-cons (places versions drafts), among_passing versions drafts, passing_new versions drafts f (s + 1) cells passes)
+  passing_new versions drafts f s (cell ∷ cells) passes = grind (arith, nat_tests, new_places-cons (places versions drafts), list_any-append, list_any-flat_map, list_any-filter, none_other, passing_new versions drafts f (s + 1) cells passes)
 
   -- one more version in front
   pub different_version : (row : VersionRow) (versions : List VersionRow) (drafts : List DraftRow) → different_of t (row ∷ versions) drafts ≡ cond (t row.file) (new_places (places versions drafts) (places_from row.file 0 row.cells)) 0 + different_of t versions drafts

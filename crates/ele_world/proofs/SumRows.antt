@@ -19,8 +19,7 @@ row_bytes t versions i row lt is = rw (drop_more versions i row lt, ← is) (ver
 
 -- the slots of what is left of the cells
 pub cell_places : (others : List Place) (file : ℕ) (cells : List Cell) (i : ℕ) (cell : Cell) → i < length cells → cell ≡ get_or cells i cell → new_places others (places_from file i (drop i cells)) ≡ cond (is_among others (record { file = file; slot = i; writer = cell.writer })) 0 1 + new_places others (places_from file (i + 1) (drop (i + 1) cells))
-cell_places others file cells i cell lt is =
-    rw (drop_more cells i cell lt, ← is) (new_places-cons others (record { file = file; slot = i; writer = cell.writer }) (places_from file (i + 1) (drop (i + 1) cells)))
+cell_places others file cells i cell lt is = grind (arith, nat_tests, drop_more, new_places-cons, places_from)
 
 -- the places of what is left of the versions
 version_places : (t : ℕ → Bool) (versions : List VersionRow) (drafts : List DraftRow) (i : ℕ) (row : VersionRow) → i < length versions → row ≡ get_or versions i row → different_of t (drop i versions) drafts ≡ cond (t row.file) (new_places (places (drop (i + 1) versions) drafts) (places_from row.file 0 row.cells)) 0 + different_of t (drop (i + 1) versions) drafts

@@ -122,14 +122,11 @@ bytes_more : (rows : List VersionRow) (row : VersionRow) → row.cells ≡ [] �
 bytes_more [] row empty = omega (arith, bytes_in-cons row [], ap (λ cells. length (content_of cells)) empty)
 bytes_more (x ∷ xs) row empty = omega (arith, bytes_in-cons x (xs ++ row ∷ []), bytes_in-cons x xs, bytes_more xs row empty)
 
-places_more : (rows : List VersionRow) (row : VersionRow) (drafts : List DraftRow) → row.cells ≡ [] → places (rows ++ row ∷ []) drafts ≡ places rows drafts
-places_more rows row drafts empty = grind (arith, nat_tests, flat_map-append, flat_map-cons, append-nil)
-
 -- the sums with one more file of a kind that passes, or of another
 pushed : (b : Bool) (files : List FileRow) (file : FileRow) (versions : List VersionRow) (version : VersionRow) (drafts : List DraftRow) → version.cells ≡ []
     → (let usage : Usage = record { files = length (files ++ cond b (file ∷ []) []); versions = length (versions ++ cond b (version ∷ []) []); bytes = bytes_in (versions ++ cond b (version ∷ []) []); blocks = different is_place (places (versions ++ cond b (version ∷ []) []) drafts) } in usage)
     ≡ plus (record { files = length files; versions = length versions; bytes = bytes_in versions; blocks = different is_place (places versions drafts) }) (cond b (record { files = 1; versions = 1; bytes = 0; blocks = 0 }) nothing)
-pushed true files file versions version drafts empty = grind (arith, nat_tests, same_usage, length-append, bytes_more, places_more)
+pushed true files file versions version drafts empty = grind (arith, nat_tests, same_usage, length-append, bytes_more, flat_map-append, flat_map-cons, append-nil)
 pushed false files file versions version drafts empty = grind (arith, nat_tests, append-nil, same_usage)
 
 filter_push : {X : Type 0} (p : X → Bool) (xs : List X) (x : X) → filter p (xs ++ x ∷ []) ≡ filter p xs ++ cond (p x) (x ∷ []) []
@@ -218,13 +215,9 @@ length-places_from : (file slot : ℕ) (cells : List Cell) → length (places_fr
 length-places_from file slot [] = refl
 length-places_from file slot (cell ∷ cells) = omega (arith, length-places_from file (slot + 1) cells)
 
--- a content has at most as many slots as bytes
-content_few : (cells : List Cell) → IsContent cells → length cells ≤ longest_content
-content_few cells is = omega (arith, slots_few (length (content_of cells)) cells is.slots, is.short)
-
 rows_few : {R : Type 0} (file_of : R → ℕ) (cells_of : R → List Cell) (rows : List R) → AllByRecursion (λ row. IsContent (cells_of row)) rows → length (flat_map (λ row. places_from (file_of row) 0 (cells_of row)) rows) ≤ longest_content * length rows
 rows_few file_of cells_of [] all = omega arith
-rows_few file_of cells_of (x ∷ xs) all = grind (arith, nat_tests, flat_map-cons, length-append, length-places_from, content_few, rows_few file_of cells_of xs all.1)
+rows_few file_of cells_of (x ∷ xs) all = grind (arith, nat_tests, flat_map-cons, length-append, length-places_from, slots_few, rows_few file_of cells_of xs all.1)
 
 pub whole_blocks : (w : World) → IsWellFormed w → AreBounds w.limits → (whole w).blocks < 2 ^ 64
 whole_blocks w keeps bounds =

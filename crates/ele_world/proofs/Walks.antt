@@ -111,14 +111,11 @@ last_leads rows path at directory found leads = last_names rows path at (Directo
 -- ---- a new name
 
 module _ (rows : List NameRow) (directory : ℕ) (name : List ℕ) (target : Target) (now : ℕ) where
-  own_name : is_live_name directory name (born_row directory name target now) ≡ true
-  own_name = grind (arith, nat_tests, bytes_eq-Decides)
-
   none_before : is_some (live_target rows directory name) ≡ false → find (is_live_name directory name) rows ≡ None
   none_before free = grind (arith, nat_tests, false≢true)
 
   target_is : is_some (live_target rows directory name) ≡ false → live_target (rows ++ born_row directory name target now ∷ []) directory name ≡ Some target
-  target_is free = grind (arith, nat_tests, find-append, none_before, own_name)
+  target_is free = grind (arith, nat_tests, find-append, none_before, bytes_eq-Decides)
 
 -- the path leads to the target of its new name
 pub named_leads : (rows : List NameRow) (path : List (List ℕ)) (at : ℕ × List ℕ) (target : Target) (now : ℕ) → IsParent rows path at → is_some (live_target rows at.0 at.1) ≡ false → walk_now (rows ++ born_row at.0 at.1 target now ∷ []) path ≡ Ok target

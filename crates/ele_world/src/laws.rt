@@ -25,41 +25,49 @@ ghost use Rattle.ele_world.specs.RipeMoments.{DueFromRipe, RipeIsAnswered};
 ghost use Rattle.ele_world.specs.UsageFits.{UsageFits};
 
 /// The fresh world is well formed.
+#[tactic(auto, using(crate::proofs::StepKeeps::fresh_is))]
 pub fn fresh_is_well_formed()
     ensures { FreshIsWellFormed }
 {}
 
 /// An event leaves a well-formed world well formed.
+#[tactic(auto, using(crate::proofs::StepKeeps::step_keeps))]
 pub fn step_keeps_well_formed()
     ensures { StepKeepsWellFormed }
 {}
 
 /// After any list of events the world is well formed.
+#[tactic(auto, using(crate::proofs::StepKeeps::run_keeps, crate::proofs::Words::fresh_world, crate::proofs::StepKeeps::fresh_is))]
 pub fn always_well_formed()
     ensures { AlwaysWellFormed }
 {}
 
 /// An event that is refused changes nothing.
+#[tactic(auto, using(crate::proofs::Refused::refused_stays))]
 pub fn refused_stays()
     ensures { RefusedStays }
 {}
 
 /// An event that only asks changes nothing.
+#[tactic(auto, using(crate::proofs::Refused::asking_stays))]
 pub fn asking_stays()
     ensures { AskingStays }
 {}
 
 /// After a mkdir its path leads to the new directory, which has no names, and the policy of the directory that it stands in.
+#[tactic(auto, using(crate::proofs::DirectoryLeads::make_dir_leads))]
 pub fn make_dir_leads()
     ensures { MakeDirLeads }
 {}
 
 /// After a rmdir its path leads nowhere.
+#[tactic(auto, using(crate::proofs::NameEnds::remove_dir_ends))]
 pub fn remove_dir_ends()
     ensures { RemoveDirEnds }
 {}
 
 /// After a create its path leads to the new file, whose current version is empty.
+#[tactic(auto, using(crate::proofs::Leads::create_leads))]
 pub fn create_leads()
     ensures { CreateLeads }
 {}
@@ -75,26 +83,31 @@ pub fn rename_leads()
 {}
 
 /// After an unlink its path leads nowhere, and a file without another live name has no current version.
+#[tactic(auto, using(crate::proofs::Links::unlink_ends))]
 pub fn unlink_ends()
     ensures { UnlinkEnds }
 {}
 
 /// After an undelete its path leads to what the name last stood for, and a version that it made has the cells of the last.
+#[tactic(auto, using(crate::proofs::Returned::undelete_leads))]
 pub fn undelete_leads()
     ensures { UndeleteLeads }
 {}
 
 /// An event leaves no file of which nothing is left: no live name, no held version and no draft.
+#[tactic(auto, using(crate::proofs::NoIdle::no_idle_stays))]
 pub fn no_idle_stays()
     ensures { NoIdleStays }
 {}
 
 /// After any list of events there is none.
+#[tactic(auto, using(crate::proofs::NoIdle::runs_have_none, crate::proofs::Words::fresh_world, crate::proofs::StepKeeps::fresh_is))]
 pub fn no_idle_stays_in_runs()
     ensures { NoIdleStaysInRuns }
 {}
 
 /// A close that tells of a version has made it of all that was written.
+#[tactic(auto, using(crate::proofs::Closes::close_keeps))]
 pub fn close_keeps()
     ensures { CloseKeeps }
 {}
@@ -120,6 +133,7 @@ pub fn held_stays_in_runs()
 {}
 
 /// A version that a handle reads never leaves.
+#[tactic(auto, using(crate::proofs::OpenStays::open_stays))]
 pub fn open_stays()
     ensures { OpenStays }
 {}
@@ -136,21 +150,25 @@ pub fn revert_keeps()
 
 /// In every run, of all versions of a file that ever closed exactly one lived at each moment that a name of the file covers. A
 /// read at the moment finds it while it is held, and is refused as `Forgotten` once it was removed.
+#[tactic(auto, using(crate::proofs::OneLife::one_life))]
 pub fn one_life()
     ensures { OneLife }
 {}
 
 /// A read of a held version gives the bytes that it had when it closed, whatever has happened since.
+#[tactic(auto, using(crate::proofs::ReadsBack::reads_as_closed, crate::proofs::Words::run_of, crate::proofs::Words::fresh_world, crate::proofs::StepKeeps::run_keeps, crate::proofs::StepKeeps::fresh_is))]
 pub fn reads_as_closed()
     ensures { ReadsAsClosed }
 {}
 
 /// An undisturbed finished pass leaves exactly the versions that the scan at its start kept.
+#[tactic(auto, using(crate::proofs::Passes::pass_leaves_kept))]
 pub fn pass_leaves_kept()
     ensures { PassLeavesKept }
 {}
 
 /// The same of every run.
+#[tactic(auto, using(crate::proofs::Passes::pass_leaves_kept, crate::proofs::Words::run_of, crate::proofs::Words::fresh_world, crate::proofs::StepKeeps::run_keeps, crate::proofs::StepKeeps::fresh_is))]
 pub fn pass_leaves_kept_in_runs()
     ensures { PassLeavesKeptInRuns }
 {}
@@ -161,12 +179,14 @@ pub fn usage_fits()
 {}
 
 /// A held version is due from its ripe moment on, and never where it has none.
+#[tactic(auto, using(crate::proofs::RipeMoments::due_from_ripe))]
 pub fn due_from_ripe()
     ensures { DueFromRipe }
 {}
 
 /// The ripe moment of a held version that has ended and isn't protected is what `ripe` of `ele_policy` answers of it and of the
 /// closing of the next held version.
+#[tactic(auto, using(crate::proofs::RipeMoments::ripe_is_answered))]
 pub fn ripe_is_answered()
     ensures { RipeIsAnswered }
 {}

@@ -1,5 +1,0 @@
-use Rattle.ele_world.proofs.Closes.{close_keeps}
-use Rattle.ele_world.proofs.laws.close_keeps.Goals as goal
-
-pub returns : goal.returns
-returns c = λ w handle number k. close_keeps w handle number k

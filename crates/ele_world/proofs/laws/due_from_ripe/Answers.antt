@@ -1,5 +1,0 @@
-use Rattle.ele_world.proofs.RipeMoments.{due_from_ripe}
-use Rattle.ele_world.proofs.laws.due_from_ripe.Goals as goal
-
-pub returns : goal.returns
-returns c = λ w k. due_from_ripe w k

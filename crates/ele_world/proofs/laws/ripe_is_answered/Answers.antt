@@ -1,5 +1,0 @@
-use Rattle.ele_world.proofs.RipeMoments.{ripe_is_answered}
-use Rattle.ele_world.proofs.laws.ripe_is_answered.Goals as goal
-
-pub returns : goal.returns
-returns c = λ w k. ripe_is_answered w k
