@@ -24,13 +24,7 @@ ahead xs k = grind (arith, nat_tests)
 pub backing_sets : (old new : Leaves) (q : ℕ) (place : Option (Counted (List Slot))) (id : ℕ) → Sets old new q place → backing new id + weight (place_at old q) id ≡ backing old id + weight place id
 backing_sets old new zero place id h = omega (arith, unfolds old id, unfolds new id, alike (drop 1 old) (drop 1 new) id (λ k. ahead new k ∙ (h.others (suc k) (λ e. omega (arith, e)) ∙ sym (ahead old k))), ap (λ (p : Option (Counted (List Slot))). weight p id) h.changed)
 backing_sets old new (suc q) place id h =
-    let rest = backing_sets (drop 1 old) (drop 1 new) q place id (record {
-      changed = ahead new q ∙ h.changed;
-      others = λ k other. ahead new k ∙ (h.others (suc k) (λ e. other (omega (arith, e))) ∙ sym (ahead old k));
-    }) in
-    let first : weight (place_at new 0) id ≡ weight (place_at old 0) id = ap (λ p. weight p id) (h.others 0 (λ e. omega (arith, e))) in
-    let here : weight (place_at (drop 1 old) q) id ≡ weight (place_at old (suc q)) id = ap (λ p. weight p id) (ahead old q) in
-    omega (arith, unfolds old id, unfolds new id, rest, first, here)
+    grind (arith, unfolds, h.others 0, ahead, backing_sets (drop 1 old) (drop 1 new) q place id)
 
 -- a leaf's slots are among those
 pub backing_least : (s : Leaves) (leaf id : ℕ) → weight (place_at s leaf) id ≤ backing s id

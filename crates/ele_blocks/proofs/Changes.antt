@@ -1,33 +1,26 @@
 -- What a write and a truncate make of a map and its store.
-use Rattle.ele_blocks.proofs.Lemmas.{slice_get-map, [], ap, append-nil, AreSized, arith, backed_there, Bool, bytes_of, Cell, cell_by, cell_of, cond, content_after_truncate, content_after_write, content_of, drop, drop_all, false, fill_by_all, flat-at, flat-laid, flat-take, flat_map, flat_map-map, Hands, hands_none, hands_with, is_between, is_whole_by, IsReplaced, IsResized, IsRewritten, IsWritten, Layout, leaf_at, length, length-append, length-chunks, length-content, length-drop, length-map, length-pieces, length-replicate, length-spliced, length-take, List, LivesIn, longest_content, map, max, meets, min, moved_one, nat_tests, nil_from_length, no_cell, option_map_or, pieces, pieces_between, pieces_joined, pieces_sized, pieces_taken, range_with_len, refits, refl, Renews, shown, sized-count, sized-is, sized-laid, sized-length, sized-map, sized-take, slice_get, slice_get-get_or, Slot, slot_bytes, slot_count, slots_of, spliced_part, Store, sym, take, take-add, take-append-drop, take-take, take_all, times, true, whole_is, writer_at, ℕ, ◌*◌, ◌++◌, ◌+◌, ◌-◌, ◌/◌, ◌<◌, ◌∙◌, ◌∷◌, ◌≡◌, ◌≤◌, ◌⊎◌}
+use Rattle.ele_blocks.proofs.Lemmas.{slice_get-map, [], ap, append-nil, AreSized, arith, backed_there, Bool, bytes_of, Cell, cell_by, cell_of, cond, content_after_truncate, content_after_write, content_of, drop, drop_all, false, fill_by_all, flat-at, flat-laid, flat-take, flat_map, flat_map-map, Hands, hands_none, hands_with, is_between, is_whole_by, IsReplaced, IsResized, IsRewritten, IsWritten, Layout, leaf_at, length, length-append, length-chunks, length-content, length-drop, length-map, length-pieces, length-replicate, length-spliced, length-take, List, LivesIn, longest_content, map, max, meets, min, moved_one, nat_tests, nil_from_length, no_cell, pieces, pieces_between, pieces_joined, pieces_sized, pieces_taken, range_with_len, refits, refl, Renews, shown, sized-count, sized-is, sized-laid, sized-length, sized-map, sized-take, slice_get-get_or, Slot, slot_bytes, slot_count, slots_of, spliced_part, Store, sym, take, take-add, take-append-drop, take-take, take_all, times, whole_is, writer_at, ℕ, ◌*◌, ◌++◌, ◌+◌, ◌-◌, ◌/◌, ◌<◌, ◌∙◌, ◌≡◌, ◌≤◌, ◌⊎◌}
 use Rattle.ele_content.specs.Content.{cells_after_truncate, cells_after_write}
+use Rattle.std.proofs.lemmas.Simd.{map-map}
 
 pub renews_as : (s t : Store) (w : ℕ) (p q : ℕ → Bool) (was now : Layout) → ((slot : ℕ) → q slot ≡ p slot) → Renews s t w p was now → Renews s t w q was now
 renews_as s t w p q was now same h = grind (arith, nat_tests)
 
 -- ---- a map of this content, where the slots that pass the test are renewed
 
-writer-shown : (s : Store) (m : Layout) (k : ℕ) → writer_at (shown s m) k ≡ option_map_or (λ (x : Slot). x.writer) (slice_get (slots_of s m) k) 0
-writer-shown s m k = grind (arith, slice_get-map (cell_of s) (slots_of s m) k)
-
 module _ (s t : Store) (m new : Layout) (w : ℕ) (test : ℕ → Bool) (after : List ℕ) (n : ℕ) (hands : Hands s t (λ q. times q m.leaves) (λ q. times q new.leaves)) (leaves : AreSized 16 (leaf_at t) n new.leaves) (renews : Renews s t w test m new) (content : content_of (shown t new) ≡ after) (bytes : AreSized 512 bytes_of new.size (shown t new)) (short : new.size ≤ longest_content) where
   count : length (shown t new) ≡ slot_count new.size
-  count = omega (arith, sized-count 512 bytes_of (omega arith) new.size (shown t new) bytes)
+  count = grind (arith, sized-count)
 
   long : length (slots_of t new) ≡ length (shown t new)
   long = sym (length-map (slots_of t new) (cell_of t))
 
   writers : (k : ℕ) → k < length (shown t new) → writer_at (shown t new) k ≡ cond (test k) w (writer_at (shown s m) k)
-  writers k lt = writer-shown t new k ∙ elim (test k) as (λ b. test k ≡ b → option_map_or (λ (x : Slot). x.writer) (slice_get (slots_of t new) k) 0 ≡ cond b w (writer_at (shown s m) k)) [
-    | true ↦ λ e. let got = slice_get-get_or (slots_of t new) k (let c : Slot = record { writer = 0; block = 0 } in c) (omega (arith, lt, long)) in rw got (rw got at (renews.fresh k e)).0
-    | false ↦ λ e. rw (renews.stays k e (omega (arith, lt, long))) (sym (writer-shown s m k))
-  ] refl
+  writers k lt = grind (arith, nat_tests, slice_get-map, long, slice_get-get_or (slots_of t new) k (let c : Slot = record { writer = 0; block = 0 } in c))
 
   new_cells : shown t new ≡ map (λ slot. record { writer = cond (test slot) w (writer_at (shown s m) slot); bytes = slot_bytes after slot }) (range_with_len 0 (slot_count new.size))
   new_cells = fill_by_all (λ slot. let c : Cell = record { writer = cond (test slot) w (writer_at (shown s m) slot); bytes = slot_bytes after slot } in c) (shown t new) (slot_count new.size) no_cell count
-      (λ k lt.
-      let inside : k < length (shown t new) = omega (arith, lt, count) in
-      grind (arith, slice_get-get_or (shown t new) k no_cell inside, writers k inside, flat-at 512 bytes_of (omega arith) k new.size (shown t new) no_cell bytes inside, content))
+      (λ k lt. grind (arith, count, slice_get-get_or (shown t new) k no_cell, writers k, flat-at 512 bytes_of (omega arith) k new.size (shown t new) no_cell bytes, content))
 
   pub rewritten : (size : ℕ) (cells : List Cell) → new.size ≡ size → map (λ slot. let c : Cell = record { writer = cond (test slot) w (writer_at (shown s m) slot); bytes = slot_bytes after slot } in c) (range_with_len 0 (slot_count new.size)) ≡ cells → IsRewritten s t w test size after cells m new
   rewritten size cells is are =
@@ -53,10 +46,7 @@ module _ (s t : Store) (m new : Layout) (w first kept : ℕ) (staged : List (Lis
   sized_old = sized-take 512 bytes_of (omega arith) kept m.size (shown s m) sized_whole
 
   its_bytes : map (λ piece. piece) staged ≡ map bytes_of (map (cell_by w) staged)
-  its_bytes = by staged where
-    by : (xs : List (List ℕ)) → map (λ piece. piece) xs ≡ map bytes_of (map (cell_by w) xs)
-    by [] = refl
-    by (x ∷ xs) = ap (λ ys. x ∷ ys) (by xs)
+  its_bytes = sym (map-map bytes_of (cell_by w) staged)
 
   same_count : length (map (cell_by w) staged) ≡ length staged
   same_count = length-map staged (cell_by w)
@@ -111,7 +101,7 @@ module _ (s : Store) (m : Layout) (w o f : ℕ) (x : List ℕ) (staged : List (L
   reach = omega (arith, staged_count, is_f)
 
   cut : staged ≡ pieces patch
-  cut = is_staged ∙ sym (pieces_taken many (drop (512 * f) (content_after_write (content_of (shown s m)) o x)) (omega (arith, rest_long, is_f)))
+  cut = grind (arith, pieces_taken, rest_long)
 
   pub write_change : (t : Store) (new : Layout) → new.size ≡ max m.size (o + length x) → o + length x ≤ longest_content → min o m.size < o + length x → IsReplaced s t w f (slot_count m.size) staged m new → IsWritten s t w o x m new
   write_change t new size short some h =
@@ -161,7 +151,7 @@ module _ (s : Store) (m : Layout) (w : ℕ) (lives : LivesIn s m) where
   stays test after cells none same are =
       let whole = whole_is s m lives.whole in
       let hands = hands_with s s _ _ (λ q. times q m.leaves) (λ q. times q m.leaves) (λ q. times q m.leaves) (hands_none s) (λ q. omega arith) (λ q. omega arith) in
-      let renews : Renews s s w test m m = record { fresh = λ slot. grind (arith, none slot); stays = λ slot is lt. refl; once = λ id. grind (arith, backed_there s m.leaves lives.backed id) } in
+      let renews : Renews s s w test m m = grind (arith, none, backed_there s m.leaves lives.backed) in
       rewritten s s m m w test after (slot_count m.size) hands whole.leaves renews same whole.bytes whole.short m.size cells refl are
 
   pub resized_same : IsResized s s w m.size m m
@@ -187,10 +177,4 @@ grown_cells w size cells lt = grind (arith, nat_tests, length-append, length-tak
 pub grown : (s t : Store) (m n : Layout) (w size : ℕ) → LivesIn s m → m.size < size → IsWritten s t w size [] m n → IsResized s t w size m n
 grown s t m n w size lives lt h =
     let long = length-content s m lives.whole in
-    record {
-      size = omega (arith, h.size, lt);
-      content = h.content ∙ grown_content (content_of (shown s m)) size (omega (arith, long, lt));
-      cells = h.cells ∙ grown_cells w size (shown s m) (omega (arith, long, lt));
-      moves = h.moves;
-      renews = renews_as s t w (meets (min size m.size) (size + 0)) (refits m.size size) m n (λ slot. grind (arith, nat_tests, lt)) h.renews;
-    }
+    grind (arith, nat_tests, long, grown_content, grown_cells, renews_as)

@@ -1,5 +1,5 @@
 -- The blocks of a store are as many as its maps name.
-use Rattle.ele_blocks.proofs.Lemmas.{owners, [], ap, AreOneToOne, arith, backing, backing_some, blocks_of, cond, count_by, Counted, different, eqb, false, ids_of, inl, inr, is_place, is_some, IsIn, Layout, leaf_at, List, list_any, ltb, map, Named, named, nat_tests, None, Option, Owes, Owned, owners_at, Place, place_at, refl, set, slots_backed, slots_least, slots_of, Store, suc, sum_by-cons, times, times-append, true, zero, ℕ, ◌+◌, ◌<◌, ◌∙◌, ◌∷◌, ◌≡◌, ◌≤◌}
+use Rattle.ele_blocks.proofs.Lemmas.{get_or-set_same, get_or-set_other, get_or_past, length-set, [], ap, AreOneToOne, arith, backing, backing_some, blocks_of, cond, count_by, Counted, different, eqb, false, ids_of, inl, inr, is_place, is_some, IsIn, Layout, leaf_at, List, list_any, ltb, map, Named, named, nat_tests, None, Option, Owes, Owned, owners_at, Place, place_at, refl, set, slots_backed, slots_least, slots_of, Store, suc, sum_by-cons, times, times-append, true, zero, ℕ, ◌+◌, ◌<◌, ◌∙◌, ◌∷◌, ◌≡◌, ◌≤◌}
 
 abbrev pub Blocks : Type 0
 Blocks = List (Option (Counted (List ℕ)))
@@ -21,12 +21,6 @@ taken_out [] id h = cc
 taken_out (x ∷ xs) zero h = rw h (omega arith)
 taken_out (x ∷ xs) (suc id) h = omega (arith, taken_out xs id h)
 
-place_at_set : (s : Blocks) (id q : ℕ) → place_at (set s id None) q ≡ cond (eqb id q) None (place_at s q)
-place_at_set [] id q = grind (arith, nat_tests)
-place_at_set (x ∷ xs) zero q = grind (arith, nat_tests)
-place_at_set (x ∷ xs) (suc id) zero = let e : eqb (suc id) 0 ≡ false = grind (arith, nat_tests) in rw e refl
-place_at_set (x ∷ xs) (suc id) (suc q) = let e : eqb (suc id) (suc q) ≡ eqb id q = grind (arith, nat_tests) in rw e (place_at_set xs id q)
-
 none_stand : (s : Blocks) → ((q : ℕ) → is_some (place_at s q) ≡ false) → standing s ≡ 0
 none_stand [] h = refl
 none_stand (x ∷ xs) h = let first = h 0 in rw first (omega (arith, none_stand xs (λ q. h (suc q))))
@@ -34,7 +28,7 @@ none_stand (x ∷ xs) h = let first = h 0 in rw first (omega (arith, none_stand 
 -- where exactly the numbers of a list stand, as many stand as the list has different ones
 standing_different : (ids : List ℕ) (s : Blocks) → ((q : ℕ) → is_some (place_at s q) ≡ list_any (λ (y : ℕ). eqb y q) ids) → standing s ≡ different eqb ids
 standing_different [] s h = none_stand s h
-standing_different (x ∷ xs) s h = grind (arith, nat_tests, standing_different xs s, standing_different xs (set s x None), taken_out s x, place_at_set s x, h x, self_eq x)
+standing_different (x ∷ xs) s h = grind (arith, nat_tests, standing_different xs s, standing_different xs (set s x None), taken_out s x, get_or-set_same, get_or-set_other, get_or_past, length-set, h x, self_eq x)
 
 any_times : (q : ℕ) (xs : List ℕ) → list_any (λ (y : ℕ). eqb y q) xs ≡ ltb 0 (times q xs)
 any_times q [] = refl
@@ -54,8 +48,7 @@ same_sign m n there back = grind (arith, nat_tests, there, back)
 
 -- in a store that owes the maps a block is owned where they name it
 named_owned : (s : Store) (maps : List Layout) → Owned s.leaves → Owes s maps → (id : ℕ) → ltb 0 (owners_at s id) ≡ ltb 0 (times id (blocks_of s maps))
-named_owned s maps owned owes id = same_sign (owners_at s id) (times id (blocks_of s maps)) (λ lt. let by = backing_some s.leaves id (omega (arith, lt, owes.backed id)) in
-    let stands : 0 < owners s.leaves by.leaf = grind (arith, owned by.leaf, by.names) in omega (arith, by.names, leaf_names s by.leaf id maps (omega (arith, stands, owes.counted by.leaf)))) (λ lt. omega (arith, map_backs s id maps lt, owes.backed id))
+named_owned s maps owned owes id = same_sign (owners_at s id) (times id (blocks_of s maps)) (λ lt. let by = backing_some s.leaves id (omega (arith, lt, owes.backed id)) in grind (arith, owned by.leaf, by, leaf_names s by.leaf id maps, owes.counted by.leaf)) (λ lt. omega (arith, map_backs s id maps lt, owes.backed id))
 
 pub distinct_named : (s : Store) (maps : List Layout) → Owned s.blocks → Owned s.leaves → Owes s maps → count_by is_some s.blocks ≡ different eqb (blocks_of s maps)
 distinct_named s maps blocks leaves owes = count_standing s.blocks ∙ standing_different (blocks_of s maps) s.blocks (λ q. grind (arith, nat_tests, blocks q, named_owned s maps leaves owes q, any_times q (blocks_of s maps)))

@@ -1,12 +1,12 @@
 -- How leaves change hands, one change after another.
-use Rattle.ele_blocks.proofs.Words.{[], ap, AreBacked, AreThere, arith, backing, bytes_at, cell_of, Counted, Covers, get_or, Hands, ids_of, is_whole, Layout, leaf_at, leaving, length, length-take-le, List, LivesIn, map, map-append, Moves, named, nat_tests, None, Option, owners, owners_at, place_at, refl, released, Sets, shared, Slot, slot_count, slots_in, Some, Store, sym, take, times, Trades, true, unwrap_or, value_of, ℕ, ◌+◌, ◌<◌, ◌^◌, ◌∙◌, ◌∷◌, ◌≡◌, ◌≤◌}
+use Rattle.ele_blocks.proofs.Words.{[], ap, AreBacked, AreThere, arith, backing, bytes_at, cell_of, Counted, Covers, get_or, Hands, ids_of, is_whole, Layout, leaf_at, leaving, length, length-take-le, List, LivesIn, map, map-append, Moves, nat_tests, None, Option, owners, place_at, refl, released, Sets, shared, Slot, slot_count, slots_in, Some, Store, take, times, Trades, true, unwrap_or, value_of, ℕ, ◌+◌, ◌<◌, ◌^◌, ◌∷◌, ◌≡◌, ◌≤◌}
 use Rattle.ele_blocks.proofs.Sized.{fills-map}
 use Rattle.ele_blocks.proofs.Backing.{backing_sets, backing_least, slots_backed, slots_least}
-use Rattle.ele_blocks.proofs.Trades.{times-self, times-le-length, shared_value, released_value, trades_share, trades_release, leaving_last, one_more, times_next}
+use Rattle.ele_blocks.proofs.Trades.{times-le-length, shared_value, released_value, trades_share, trades_release, leaving_last, one_more, times_next}
 
 pub cells_each : (s t : Store) (slots : List Slot) → ((id : ℕ) → 0 < times id (ids_of slots) → bytes_at t id ≡ bytes_at s id) → map (cell_of t) slots ≡ map (cell_of s) slots
 cells_each s t [] same = refl
-cells_each s t (x ∷ xs) same = grind (arith, times-self x.block, same x.block, cells_each s t xs (λ id lt. same id (omega (arith, lt))))
+cells_each s t (x ∷ xs) same = grind (arith, nat_tests, same x.block, cells_each s t xs (λ id lt. same id (omega (arith, lt))))
 
 -- one after the other
 pub hands_then : (a b c : Store) (was now was2 now2 : ℕ → ℕ) → Hands a b was now → Hands b c was2 now2 → Hands a c (λ q. was q + was2 q) (λ q. now q + now2 q)
@@ -14,7 +14,7 @@ hands_then a b c was now was2 now2 h k = grind (arith, nat_tests)
 
 -- with more that stay on both sides
 pub hands_with : (s t : Store) (was now was2 now2 z : ℕ → ℕ) → Hands s t was now → ((q : ℕ) → was2 q ≡ was q + z q) → ((q : ℕ) → now2 q ≡ now q + z q) → Hands s t was2 now2
-hands_with s t was now was2 now2 z h e f = record { leaves = λ q. omega (arith, h.leaves q, e q, f q); blocks = h.blocks; same = λ q lt. h.same q (omega (arith, lt, e q)); shows = λ q lt. h.shows q (omega (arith, lt, e q)) }
+hands_with s t was now was2 now2 z h e f = grind (arith, e, f)
 
 -- nothing changes
 pub hands_none : (s : Store) → Hands s s (λ q. 0) (λ q. 0)
@@ -50,15 +50,8 @@ module _ (s t : Store) (leaf : ℕ) (there : 0 < owners s.leaves leaf) where
     pub leaf_goes : Sets s.leaves t.leaves leaf (released (place_at s.leaves leaf)) → Trades s.blocks t.blocks (ids_of slots) [] → Hands s t (λ q. times q (leaf ∷ [])) (λ q. 0)
     leaf_goes sets freed =
         let trades = trades_release s.leaves t.leaves leaf there sets in
-        let here : (id : ℕ) → times id (ids_of (leaf_at s leaf)) ≡ times id (ids_of slots) = λ id. ap (λ xs. times id (ids_of xs)) its_slots in
-        let left : (id : ℕ) → backing t.leaves id + times id (ids_of slots) ≡ backing s.leaves id = λ id. grind (arith, (leaving_last (place_at s.leaves leaf) slots there last).gone, backing_sets s.leaves t.leaves leaf (released (place_at s.leaves leaf)) id sets, here id) in
-        let more : (q id : ℕ) → times q (leaf ∷ []) < owners s.leaves q → AreThere s (leaf_at s q) → 0 < times id (ids_of (leaf_at s q)) → times id (ids_of slots) < owners_at s id = λ q id lt stand some. grind (arith, here id, backed id, left id, backing_least t.leaves q id, ap (λ v. times id (ids_of (unwrap_or v []))) (trades.kept q lt), stand id some, some) in
-        record {
-          leaves = λ q. omega (arith, trades.owed q);
-          blocks = λ id. omega (arith, left id, freed.owed id);
-          same = λ q lt. ap (λ v. unwrap_or v []) (trades.kept q lt);
-          shows = λ q lt stand. record { cells = cells_each s t (leaf_at s q) (λ id some. ap (λ v. unwrap_or v []) (freed.kept id (more q id lt stand some))); there = λ id some. omega (arith, freed.owed id, more q id lt stand some) };
-        }
+        let left : (id : ℕ) → backing t.leaves id + times id (ids_of slots) ≡ backing s.leaves id = λ id. grind (arith, leaving_last, backing_sets s.leaves t.leaves leaf (released (place_at s.leaves leaf)) id sets, its_slots) in
+        grind (arith, trades, left, freed, backed, backing_least, cells_each, its_slots)
 
 -- ---- along a list of leaves: those so far, and one more
 
@@ -93,15 +86,7 @@ pub record StayIn (s t : Store) (ids : List ℕ) : Type 0 where
 pub stay_in : (s t : Store) (was now : ℕ → ℕ) (ids : List ℕ) → Hands s t was now → ((q : ℕ) → 0 < times q ids → was q < owners s.leaves q) → ((q : ℕ) → 0 < times q ids → AreThere s (leaf_at s q)) → StayIn s t ids
 stay_in s t was now [] h owned there = record { leaves = refl; slots = refl; cells = refl }
 stay_in s t was now (x ∷ xs) h owned there =
-    let one : 0 < times x (x ∷ xs) = omega (arith, times-self x) in
-    let same = h.same x (owned x one) in
-    let first = h.shows x (owned x one) (there x one) in
-    let rest = stay_in s t was now xs h (λ q lt. owned q (omega (arith, lt))) (λ q lt. there q (omega (arith, lt))) in
-    record {
-      leaves = rw (same, rest.leaves) refl;
-      slots = rw (same, rest.slots) refl;
-      cells = map-append (cell_of t) (leaf_at t x) (slots_in t xs) ∙ (rw (same, first.cells, rest.cells) refl ∙ sym (map-append (cell_of s) (leaf_at s x) (slots_in s xs)));
-    }
+    grind (arith, nat_tests, h.same x, h.shows x, owned x, there x, stay_in s t was now xs h (λ q lt. owned q (omega (arith, lt))) (λ q lt. there q (omega (arith, lt))), map-append)
 
 -- what backs stands
 pub backed_there : (s : Store) (ids : List ℕ) → AreBacked s (slots_in s ids) → AreThere s (slots_in s ids)
@@ -118,7 +103,7 @@ whole_same s t m stay = rw (stay.cells, fills-map 16 (leaf_at t) (leaf_at s) (sl
 
 -- one map gives way to another
 pub moved_one : (s t : Store) (m n : Layout) → Hands s t (λ q. times q m.leaves) (λ q. times q n.leaves) → is_whole t n ≡ true → Moves s t (m ∷ []) (n ∷ [])
-moved_one s t m n h whole = record { hands = hands_with s t _ _ (λ q. named q (m ∷ [])) (λ q. named q (n ∷ [])) (λ q. 0) h (λ q. refl) (λ q. refl); whole = rw whole refl }
+moved_one s t m n h whole = grind (arith, nat_tests, hands_with)
 
 -- a map gets a copy
 pub moved_copy : (s t : Store) (m : Layout) → LivesIn s m → Hands s t (λ q. 0) (λ q. times q m.leaves) → Moves s t [] (m ∷ [])

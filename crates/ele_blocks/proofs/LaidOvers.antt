@@ -1,10 +1,8 @@
 -- What stands in each place of a list over which items were laid.
-use Rattle.ele_blocks.proofs.Words.{[], ap, append_assoc, arith, cond, drop, drop-drop, drop-map, is_between, laid_over, length, length-append, length-drop, length-map, length-take-le, List, map, map-append, nat_tests, refl, set, set_split, slice_get, suc, sym, take, take-map, take_at, zero, ℕ, ◌++◌, ◌+◌, ◌-◌, ◌<◌, ◌∙◌, ◌∷◌, ◌≡◌, ◌≤◌}
+use Rattle.ele_blocks.proofs.Words.{drop-append-add, [], ap, append_assoc, arith, cond, drop, drop-drop, drop-map, is_between, laid_over, length, length-append, length-drop, length-map, length-take-le, List, map, map-append, nat_tests, refl, set, set_split, slice_get, suc, sym, take, take-map, take_at, zero, ℕ, ◌++◌, ◌+◌, ◌-◌, ◌<◌, ◌∙◌, ◌∷◌, ◌≡◌, ◌≤◌}
 
 pub drop_past : {X : Type 0} (xs ys : List X) (a n : ℕ) → n ≡ length xs + a → drop n (xs ++ ys) ≡ drop a ys
-drop_past [] ys a n e = let same : n ≡ a = omega (arith, e) in rw same refl
-drop_past (x ∷ xs) ys a zero e = absurd (omega (arith, e))
-drop_past (x ∷ xs) ys a (suc n) e = drop_past xs ys a n (omega (arith, e))
+drop_past xs ys a n e = rw e (drop-append-add xs ys a)
 
 module _ {X : Type 0} where
   pub slice_get-take : (n k : ℕ) (xs : List X) → k < n → slice_get (take n xs) k ≡ slice_get xs k

@@ -16,3 +16,4 @@ pub mod Changes
 pub mod Runs
 mod Counts
 mod Cited
+pub mod Steps

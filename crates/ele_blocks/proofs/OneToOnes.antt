@@ -1,5 +1,5 @@
 -- A change by a new writer leaves slots and blocks one to one.
-use Rattle.ele_blocks.proofs.Lemmas.{[], AreOneToOne, arith, backed_there, Bool, eqb, false, false≢true, ids_of, inl, inr, is_place, IsIn, Layout, List, LivesIn, Moves, Named, names_from, names_of, nat_tests, None, Option, owners_at, refl, Renews, slice_get, slice_get_within, Slot, slots_of, Some, Store, suc, times, true, zero, ℕ, ⊎_elim, ◌++◌, ◌+◌, ◌<◌, ◌∷◌, ◌≡◌, ◌≤◌, ◌⊎◌}
+use Rattle.ele_blocks.proofs.Lemmas.{◌-◌, [], AreOneToOne, arith, backed_there, Bool, false, false≢true, ids_of, inr, IsIn, Layout, List, LivesIn, Moves, Named, names_from, names_of, nat_tests, None, Option, owners_at, refl, Renews, slice_get, slice_get_within, Slot, slots_of, Some, Store, suc, times, true, ℕ, ⊎_elim, ◌++◌, ◌+◌, ◌<◌, ◌∷◌, ◌≡◌, ◌≤◌, ◌⊎◌}
 
 -- no name is of this writer of the file
 abbrev pub NoneBy : ℕ → ℕ → List Named → Type 0
@@ -18,7 +18,7 @@ in_either n (x ∷ xs) ys i = grind (arith, in_either n xs ys)
 
 pub in_front : (n : Named) (xs ys : List Named) → IsIn n xs → IsIn n (xs ++ ys)
 in_front n [] ys i = absurd i
-in_front n (x ∷ xs) ys i = ⊎_elim (λ (e : n ≡ x). inl e) (λ (j : IsIn n xs). inr (in_front n xs ys j)) i
+in_front n (x ∷ xs) ys i = grind (arith, in_front n xs ys)
 
 pub in_back : (n : Named) (xs ys : List Named) → IsIn n ys → IsIn n (xs ++ ys)
 in_back n [] ys i = i
@@ -38,28 +38,20 @@ slot_from n file first (x ∷ xs) i = ⊎_elim (λ (e : n ≡ name_of file first
 
 slot_in : (file first k : ℕ) (slots : List Slot) (x : Slot) → slice_get slots k ≡ Some x → IsIn (name_of file (first + k) x) (names_from file first slots)
 slot_in file first k [] x e = absurd (let none : Option Slot = None in cc)
-slot_in file first zero (y ∷ ys) x e = grind (arith, nat_tests)
-slot_in file first (suc k) (y ∷ ys) x e = grind (arith, nat_tests, slot_in file (first + 1) k ys x e)
+slot_in file first k (y ∷ ys) x e = grind (arith, nat_tests, slot_in file (first + 1) (k - 1) ys x)
 
 times_got : (k : ℕ) (slots : List Slot) (x : Slot) → slice_get slots k ≡ Some x → 0 < times x.block (ids_of slots)
 times_got k [] x e = absurd cc
-times_got zero (y ∷ ys) x e = grind (arith, nat_tests)
-times_got (suc k) (y ∷ ys) x e = omega (arith, times_got k ys x e)
+times_got k (y ∷ ys) x e = grind (arith, nat_tests, times_got (k - 1) ys x)
 
 -- the same block in two places is named twice
 times_two : (j k : ℕ) (slots : List Slot) (x y : Slot) → j < k → slice_get slots j ≡ Some x → slice_get slots k ≡ Some y → x.block ≡ y.block → 1 < times x.block (ids_of slots)
 times_two j k [] x y lt e h b = absurd cc
-times_two j zero (z ∷ zs) x y lt e h b = absurd (omega (arith, lt))
-times_two zero (suc k) (z ∷ zs) x y lt e h b = grind (arith, nat_tests, times_got)
-times_two (suc j) (suc k) (z ∷ zs) x y lt e h b = omega (arith, times_two j k zs x y (omega (arith, lt)) e h b)
+times_two j k (z ∷ zs) x y lt e h b = grind (arith, nat_tests, times_got, times_two (j - 1) (k - 1) zs x y)
 
 -- each block of a map that lives is owned
 pub slot_owned : (s : Store) (m : Layout) → LivesIn s m → (k : ℕ) (x : Slot) → slice_get (slots_of s m) k ≡ Some x → 0 < owners_at s x.block
 slot_owned s m lives k x e = backed_there s m.leaves lives.backed x.block (times_got k (slots_of s m) x e)
-
--- and so is what its names name
-pub names_owned : (s : Store) (file : ℕ) (m : Layout) → LivesIn s m → AreOwnedNames s (names_of s file m)
-names_owned s file m lives n i = grind (arith, nat_tests, slot_from, slot_owned)
 
 module _ (s t : Store) (w file : ℕ) (p : ℕ → Bool) (was now : Layout) (rest : List Named) (lives : LivesIn s was) (moves : Moves s t (was ∷ []) (now ∷ [])) (renews : Renews s t w p was now) (none : NoneBy file w rest) (owned : AreOwnedNames s rest) (one : AreOneToOne (names_of s file was ++ rest)) where
   -- a name after the change is fresh, or it was there before and is in no renewed slot by the writer
@@ -78,24 +70,14 @@ module _ (s t : Store) (w file : ℕ) (p : ℕ → Bool) (was now : Layout) (res
     pub held : 0 < owners_at s n.block
 
   of_slot : (n : Named) → IsSlot n file 0 (slots_of t now) → IsFresh n ⊎ IsOld n
-  of_slot n h = grind (arith, nat_tests, slot_in, slice_get_within, in_front, names_owned)
+  of_slot n h = grind (arith, nat_tests, slot_in, slice_get_within, in_front, slot_from, slot_owned)
 
   of_name : (n : Named) → IsIn n (names_of t file now ++ rest) → IsFresh n ⊎ IsOld n
-  of_name n i = ⊎_elim (λ a. of_slot n (slot_from n file 0 (slots_of t now) a)) (λ b. inr (record { before = in_back n (names_of s file was) rest b; stays = λ f v. absurd (none n b f v); held = owned n b })) (in_either n (names_of t file now) rest i)
-
-  -- a fresh name is apart from an old one
-  apart_place : (m n : Named) → IsFresh m → IsOld n → is_place m.place n.place ≡ true → ⊥
-  apart_place m n h k e = grind (arith, nat_tests, false≢true)
-
-  apart_block : (m n : Named) → IsFresh m → IsOld n → m.block ≡ n.block → ⊥
-  apart_block m n h k e = grind (arith, nat_tests)
+  of_name n i = grind (arith, of_slot n, slot_from, in_back, none n, owned n, in_either n (names_of t file now) rest i)
 
   -- a fresh block is named once
   once : (m : Named) → (h : IsFresh m) → times h.cell.block (ids_of (slots_of t now)) ≤ 1
   once m h = renews.once h.cell.block h.free
 
-  fresh_both : (m n : Named) → IsFresh m → IsFresh n → is_place m.place n.place ≡ eqb m.block n.block
-  fresh_both m n h k = grind (arith, nat_tests, times_two)
-
   pub stays_one_to_one : AreOneToOne (names_of t file now ++ rest)
-  stays_one_to_one m n i j = grind (arith, nat_tests, fresh_both, apart_place, apart_block, of_name)
+  stays_one_to_one m n i j = grind (arith, nat_tests, times_two, false≢true, of_name)

@@ -1,38 +1,13 @@
 -- What a write makes of each piece of a content.
-use Rattle.ele_blocks.proofs.Lemmas.{arith, cond, content_after_write, drop, get_or, get_or-append_right, get_or-drop, get_or-replicate, get_or-take, get_or_append_left, get_or_past, is_between, length, length-append, length-drop, length-replicate, length-spliced, length-take, List, max, min, nat_tests, replicate, same_number_lists, take, ℕ, ◌++◌, ◌+◌, ◌-◌, ◌<◌, ◌≡◌, ◌≤◌}
+use Rattle.ele_blocks.proofs.Lemmas.{arith, cond, content_after_write, drop, get_or, get_or-append_right, get_or-drop, get_or-replicate, get_or-take, get_or_append_left, get_or_past, is_between, length, length-append, length-drop, length-replicate, length-spliced, length-take, List, min, nat_tests, same_number_lists, take, ℕ, ◌+◌, ◌-◌, ◌<◌, ◌≡◌, ◌≤◌}
 
 -- the bytes stand in their places, and in all others what stood there, or zero
 spliced_at : (content : List ℕ) (offset : ℕ) (bytes : List ℕ) (k : ℕ) → get_or (content_after_write content offset bytes) k 0 ≡ cond (is_between offset (offset + length bytes) k) (get_or bytes (k - offset) 0) (get_or content k 0)
-spliced_at content offset bytes k =
-    let t = take offset content in
-    let z : List ℕ = replicate (offset - length content) 0 in
-    let d = drop (offset + length bytes) content in
-    let front : length (t ++ z) ≡ offset = omega (arith, length-append t z, length-take offset content, length-replicate {A = ℕ} (offset - length content) 0) in
-    let head : length (t ++ z ++ bytes) ≡ offset + length bytes = omega (arith, length-append (t ++ z) bytes, front) in
-    grind (
-      arith,
-      nat_tests,
-      front,
-      head,
-      length-take offset content,
-      get_or_append_left (t ++ z ++ bytes) d 0 k,
-      get_or_append_left (t ++ z) bytes 0 k,
-      get_or_append_left t z 0 k,
-      get_or-append_right (t ++ z ++ bytes) d (offset + length bytes) k 0 head,
-      get_or-append_right (t ++ z) bytes offset k 0 front,
-      get_or-append_right t z (length content) k 0,
-      get_or-take offset content k 0,
-      get_or-replicate {A = ℕ} (offset - length content) (k - length content) 0 0,
-      get_or-drop (offset + length bytes) content (k - (offset + length bytes)) 0,
-      get_or_past content k 0,
-    )
+spliced_at content offset bytes k = grind (arith, nat_tests, length-append, length-take, length-replicate, get_or_append_left, get_or-append_right, get_or-take, get_or-replicate, get_or-drop, get_or_past)
 
 -- where the bytes that fall into a piece end
 part_end : (at offset n start from past : ℕ) → start ≡ min (offset - at) 512 → from ≡ min (at - offset) n → past ≡ min (at + 512 - offset) n → start + (past - from) ≡ min 512 (offset + n - at)
 part_end at offset n start from past is_start is_from is_past = grind (arith, nat_tests, is_from)
-
-longer : (a b n k : ℕ) → max (min n (a - k)) (min n (b - k)) ≡ min n (max a b - k)
-longer a b n k = omega arith
 
 -- a piece after a write: what of the bytes falls into it lies over the piece
 pub patched : (content : List ℕ) (at offset start from past : ℕ) (bytes : List ℕ) → start ≡ min (offset - at) 512 → from ≡ min (at - offset) (length bytes) → past ≡ min (at + 512 - offset) (length bytes) → content_after_write (take 512 (drop at content)) start (take (past - from) (drop from bytes)) ≡ take 512 (drop at (content_after_write content offset bytes))

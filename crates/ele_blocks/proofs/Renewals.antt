@@ -1,22 +1,19 @@
 -- New leaves in place of others: blocks are put, those that stay are shared, leaves are put, and the
 -- old leaves released.
-use Rattle.ele_blocks.proofs.Lemmas.{[], Adds, ap, AreBacked, AreThere, arith, backing, bytes_at, cell_by, cell_of, cells_each, chunks_joined, Counted, Covers, drop, flat_map, flat_map-map, Hands, hands_then, hands_with, ids_of, IsLaid, IsRenewed, laid_over, laid_over-map, leaf_at, leaf_count, leaf_there, length, length-drop, length-map, length-take-le, List, map, nat_tests, Option, owners, parts, refl, Slot, slot_by, slots_in, slots_least, Some, stay_in, Store, sym, take, times, times-ids, times-le-length, times-split, Trades, unwrap_or, value_at, values_stay, ℕ, ◌++◌, ◌+◌, ◌<◌, ◌^◌, ◌∙◌, ◌∷◌, ◌≡◌, ◌≤◌}
+use Rattle.ele_blocks.proofs.Lemmas.{[], Adds, ap, AreBacked, AreThere, arith, backing, bytes_at, cell_by, cell_of, cells_each, chunks_joined, Counted, Covers, drop, flat_map, flat_map-map, Hands, hands_then, hands_with, ids_of, IsLaid, IsRenewed, laid_over, laid_over-map, leaf_at, leaf_count, leaf_there, length, length-drop, length-map, length-take-le, List, map, nat_tests, Option, owners, parts, refl, Slot, slot_by, slots_in, slots_least, Some, stay_in, Store, sym, take, times, times-ids, times-le-length, times-split, Trades, unwrap_or, value_at, values_stay, ℕ, ◌++◌, ◌+◌, ◌<◌, ◌^◌, ◌∙◌, ◌≡◌, ◌≤◌}
 use Rattle.ele_blocks.proofs.Distincts.{Blocks}
+use Rattle.std.proofs.lemmas.Simd.{map-map}
+use Rattle.std.proofs.lemmas.List.{map-id}
 
 ids_of_fresh : (w : ℕ) (fresh : List ℕ) → ids_of (map (slot_by w) fresh) ≡ fresh
-ids_of_fresh w [] = refl
-ids_of_fresh w (x ∷ xs) = rw (ids_of_fresh w xs) refl
+ids_of_fresh w fresh = map-map (λ (slot : Slot). slot.block) (slot_by w) fresh ∙ map-id fresh
 
 cells_of_fresh : (s : Store) (w : ℕ) (fresh : List ℕ) → map (cell_of s) (map (slot_by w) fresh) ≡ map (cell_by w) (map (bytes_at s) fresh)
-cells_of_fresh s w [] = refl
-cells_of_fresh s w (x ∷ xs) = ap (λ ys. cell_by w (bytes_at s x) ∷ ys) (cells_of_fresh s w xs)
+cells_of_fresh s w fresh = map-map (cell_of s) (slot_by w) fresh ∙ sym (map-map (cell_by w) (bytes_at s) fresh)
 
 -- values that are there are the lists
 values_are : {X : Type 0} (s : List (Option (Counted (List X)))) (ids : List ℕ) (xs : List (List X)) → map (value_at s) ids ≡ map (λ x. Some x) xs → map (λ id. unwrap_or (value_at s id) []) ids ≡ xs
-values_are s [] [] h = refl
-values_are s [] (x ∷ xs) h = absurd cc
-values_are s (id ∷ ids) [] h = absurd cc
-values_are s (id ∷ ids) (x ∷ xs) h = grind (arith, values_are s ids xs (cc))
+values_are {X = X} s ids xs h = sym (map-map (λ (v : Option (List X)). unwrap_or v []) (value_at s) ids) ∙ (ap (map (λ (v : Option (List X)). unwrap_or v [])) h ∙ (map-map (λ (v : Option (List X)). unwrap_or v []) (λ (x : List X). Some x) xs ∙ map-id xs))
 
 pub times_laid : (window : List Slot) (first w : ℕ) (fresh : List ℕ) (q : ℕ) → times q (ids_of (laid_over first (map (slot_by w) fresh) window)) ≡ times q (ids_of (take first window)) + (times q fresh + times q (ids_of (drop (first + length fresh) window)))
 times_laid window first w fresh q = rw (← (length-map fresh (slot_by w))) (omega (arith, times-ids q (take first window) (map (slot_by w) fresh ++ drop (first + length (map (slot_by w) fresh)) window), times-ids q (map (slot_by w) fresh) (drop (first + length (map (slot_by w) fresh)) window), ap (times q) (ids_of_fresh w fresh)))
@@ -47,15 +44,8 @@ module _ {s b1 : Blocks} {window : List Slot} {first : ℕ} {fresh : List ℕ} (
     back_few id some = grind (arith, h, h.few id, h.adds.trades.owed id, h.adds.fresh id, h.there id, shared.owed id, times-split id (first + length fresh) window, times-le-length id (ids_of (take first window)), length-map (take first window) (λ (x : Slot). x.block), length-take-le first window h.within, length-drop (first + length fresh) window)
 
     pub is_laid : (b3 : Blocks) (w : ℕ) (staged : List (List ℕ)) (slots : List Slot) → Trades b2 b3 [] (ids_of (drop (first + length fresh) window)) → map (value_at b1) fresh ≡ map (λ x. Some x) staged → slots ≡ laid_over first (map (slot_by w) fresh) window → IsLaid s b3 window first w staged slots
-    is_laid b3 w staged slots more values are = record {
-      blocks = fresh;
-      fresh = h.adds.fresh;
-      once = h.adds.once;
-      are = are;
-      values = values_stay b2 b3 [] (ids_of back) fresh more (λ id. omega (arith, h.adds.trades.owed id, shared.owed id)) ∙ (values_stay b1 b2 [] (ids_of (take first window)) fresh shared (λ id. omega (arith, h.adds.trades.owed id)) ∙ values);
-      owed = λ id. omega (arith, h.adds.trades.owed id, shared.owed id, more.owed id, times_laid window first w fresh id, ap (λ xs. times id (ids_of xs)) are);
-      kept = λ id some. grind (arith, more.kept id, h.adds.trades.owed id, shared.owed id, shared.kept id, h.adds.trades.kept id);
-    }
+    is_laid b3 w staged slots more values are =
+        grind (arith, h.adds, values_stay b2 b3 [] (ids_of back) fresh more (λ id. omega (arith, h.adds.trades.owed id, shared.owed id)), values_stay b1 b2 [] (ids_of (take first window)) fresh shared (λ id. omega (arith, h.adds.trades.owed id)), times_laid)
 
 -- new leaves hold the slots, and the old ones go
 pub record HaveCome (s mid : Store) (window : List Slot) (first w : ℕ) (staged : List (List ℕ)) (slots : List Slot) (now was : List ℕ) : Type 0 where
@@ -90,12 +80,4 @@ module _ {s mid : Store} {window : List Slot} {first w : ℕ} {staged : List (Li
   pub renewed : (u : Store) → Hands mid u (λ q. times q was) (λ q. 0) → IsRenewed s u was window first w staged now
   renewed u went =
       let stay = stay_in mid u _ _ now went (λ q lt. omega (arith, lt, h.owned.owned q, h.puts.trades.owed q)) (λ q lt id some. omega (arith, some, slots_least mid now q id lt, ap (λ xs. times id (ids_of xs)) now_slots, h.laid.owed id)) in
-      record {
-        blocks = h.laid.blocks;
-        fresh = h.laid.fresh;
-        once = h.laid.once;
-        count = grind (arith, length-map, ap length h.laid.values);
-        leaves = stay.leaves ∙ (now_parts ∙ ap parts h.laid.are);
-        cells = stay.cells ∙ now_cells;
-        hands = hands_with s u _ _ (λ q. times q was) (λ q. times q now) (λ q. 0) (hands_then s mid u _ _ _ _ came went) (λ q. omega arith) (λ q. omega arith);
-      }
+      grind (arith, stay, h.laid, now_parts, now_cells, length-map, ap length h.laid.values, hands_with s u _ _ (λ q. times q was) (λ q. times q now) (λ q. 0) (hands_then s mid u _ _ _ _ came went))

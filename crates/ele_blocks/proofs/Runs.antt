@@ -126,15 +126,11 @@ module _ {s : Store} {m : Layout} {staged : List (List ℕ)} {first kept from me
     now_long : length now ≡ leaf_count (length laid)
     now_long = sym (length-map now (leaf_at t)) ∙ (ap length renewed.leaves ∙ length-chunks 16 (leaf_count (length laid)) laid)
 
-    -- as many as before, where some stand behind
-    met_long : 16 * met < kept → from + length now ≡ to
-    met_long more = omega (arith, now_long, laid_long, window_long, h.to_met more, more, order_of)
-
     pub now_room : from + length now ≤ leaf_count (slot_count m.size) + ((first + length staged + 15) / 16 - leaf_count (slot_count m.size))
     now_room = omega (arith, now_long, laid_long, window_long, order_of)
 
     pub placed : take (from + length now + (length m.leaves - to)) (laid_over from now m.leaves) ≡ front ++ (now ++ back)
-    placed = grind (arith, nat_tests, leaves-count, length-append, length-take-le, order_of, met_long, take_all, length-drop, length-take, none_behind, append_assoc, take_at, append-nil)
+    placed = grind (arith, nat_tests, leaves-count, length-append, length-take-le, order_of, now_long, laid_long, window_long, h.to_met, take_all, length-drop, length-take, none_behind, append_assoc, take_at, append-nil)
 
     times_old : (q : ℕ) → times q m.leaves ≡ times q was + (times q front + times q back)
     times_old q = omega (arith, ap (times q) in_three, times-append q front (was ++ back), times-append q was back)

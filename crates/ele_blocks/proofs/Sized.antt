@@ -1,5 +1,5 @@
 -- Lists in pieces of c items, of which the last may be shorter.
-use Rattle.ele_blocks.proofs.Words.{[], add-one, ap, append-nil, append_cancel_left, AreSized, arith, drop, drop-drop, drop-take, drop_min, drop_more, fills, first_chunks, flat_map, flat_map-append, get_or, inl, inr, laid_over, length, length-append, length-drop, length-take, length-take-le, List, map, min, mul-suc, nat_tests, nil_from_length, order, refl, suc, sym, take, take-append-add, take-append-drop, take-nil, take-take, take_all, take_min, true, zero, ℕ, ⊎_elim, ◌*◌, ◌++◌, ◌+◌, ◌-◌, ◌<◌, ◌∙◌, ◌∷◌, ◌≡◌, ◌≤◌, ◌⊎◌}
+use Rattle.ele_blocks.proofs.Words.{[], add-one, ap, append-nil, append_cancel_left, AreSized, arith, drop, drop-drop, drop-take, drop_min, drop_more, fills, first_chunks, flat_map, flat_map-append, get_or, laid_over, length, length-append, length-drop, length-take, length-take-le, List, map, min, mul-suc, nat_tests, nil_from_length, order, refl, suc, sym, take, take-append-add, take-append-drop, take-nil, take-take, take_all, take_min, true, zero, ℕ, ⊎_elim, ◌*◌, ◌++◌, ◌+◌, ◌-◌, ◌<◌, ◌∙◌, ◌∷◌, ◌≡◌, ◌≤◌, ◌⊎◌}
 
 -- the test is what it tests
 pub fills_sized : {A X : Type 0} (c : ℕ) (f : A → List X) (n : ℕ) (xs : List A) → fills c f n xs ≡ true → AreSized c f n xs
@@ -46,12 +46,7 @@ module _ {A X : Type 0} (c : ℕ) (f : A → List X) (some : 0 < c) where
   -- whole pieces, and what follows them
   pub sized-append : (n m : ℕ) (xs ys : List A) → AreSized c f n xs → AreSized c f m ys → (n ≡ c * length xs) ⊎ (m ≡ 0) → AreSized c f (n + m) (xs ++ ys)
   sized-append n m [] ys h k e = sized-is m (n + m) ys (omega (arith, h)) k
-  sized-append n m (x ∷ xs) ys h k e = (
-    grind (arith, h, e, mul-suc c (length xs)),
-    omega (arith, h),
-    sized-is (n - c + m) (n + m - c) (xs ++ ys) (grind (arith, h, e, mul-suc c (length xs)))
-        (sized-append (n - c) m xs ys h.2 k (⊎_elim (λ (whole : n ≡ c * suc (length xs)). inl (omega (arith, whole, mul-suc c (length xs)))) inr e)),
-  )
+  sized-append n m (x ∷ xs) ys h k e = grind (arith, mul-suc c (length xs), sized-append (n - c) m xs ys h.2 k, sized-is (n - c + m) (n + m - c) (xs ++ ys))
 
   -- the items of some pieces
   pub flat-take : (k n : ℕ) (xs : List A) → AreSized c f n xs → flat_map f (take k xs) ≡ take (c * k) (flat_map f xs)
@@ -72,9 +67,8 @@ module _ {A X : Type 0} (c : ℕ) (f : A → List X) (some : 0 < c) where
 
   pub flat-at : (k n : ℕ) (xs : List A) (d : A) → AreSized c f n xs → k < length xs → f (get_or xs k d) ≡ take c (drop (c * k) (flat_map f xs))
   flat-at k n xs d h lt =
-      let one : c * 1 ≡ c = omega arith in
       let first : take 1 (drop k xs) ≡ get_or xs k d ∷ [] = ap (take 1) (drop_more xs k d lt) in
-      sym (append-nil (f (get_or xs k d))) ∙ (sym (ap (flat_map f) first) ∙ (flat-take 1 (n - c * k) (drop k xs) (sized-drop k n xs h) ∙ (ap (λ j. take j (flat_map f (drop k xs))) one ∙ ap (take c) (flat-drop k n xs h))))
+      grind (arith, append-nil (f (get_or xs k d)), first, flat-take 1 (n - c * k) (drop k xs) (sized-drop k n xs h), flat-drop k n xs h)
 
   -- pieces laid over others
   pub flat-laid : (first n : ℕ) (new old : List A) → AreSized c f n old → flat_map f (laid_over first new old) ≡ take (c * first) (flat_map f old) ++ (flat_map f new ++ drop (c * (first + length new)) (flat_map f old))
@@ -83,9 +77,7 @@ module _ {A X : Type 0} (c : ℕ) (f : A → List X) (some : 0 < c) where
   pub sized-laid : (first n m : ℕ) (new old : List A) → AreSized c f n old → AreSized c f m new → first ≤ length old → c * first ≤ n → (m ≡ c * length new) ⊎ (n ≤ c * (first + length new)) → AreSized c f (c * first + (m + (n - c * (first + length new)))) (laid_over first new old)
   sized-laid first n m new old h k within fit reach =
       let rest = n - c * (first + length new) in
-      sized-append (c * first) (m + rest) (take first old) (new ++ drop (first + length new) old) (sized-is (min n (c * first)) (c * first) (take first old) (omega (arith, fit)) (sized-take first n old h))
-      (sized-append m rest new (drop (first + length new) old) k (sized-drop (first + length new) n old h) (⊎_elim (λ (whole : m ≡ c * length new). inl whole) (λ (end : n ≤ c * (first + length new)). inr (omega (arith, end))) reach))
-      (inl (ap (λ j. c * j) (sym (length-take-le first old within))))
+      grind (arith, sized-append (c * first) (m + rest) (take first old) (new ++ drop (first + length new) old), sized-is (min n (c * first)) (c * first) (take first old), sized-take first n old h, sized-append m rest new (drop (first + length new) old) k (sized-drop (first + length new) n old h), length-take-le first old within)
 
 -- pieces that show the same
 pub sized-map : {A B X : Type 0} (c : ℕ) (f : A → List X) (g : B → List X) (n : ℕ) (xs : List A) (ys : List B) → map f xs ≡ map g ys → AreSized c f n xs → AreSized c g n ys
@@ -120,5 +112,4 @@ chunk_more c (suc k) xs = let place : c + c * k ≡ c * suc k = omega (arith, mu
 -- the chunks of the items that they hold
 pub chunks_taken : {X : Type 0} (c k : ℕ) (xs : List X) → first_chunks c k (take (c * k) xs) ≡ first_chunks c k xs
 chunks_taken c zero xs = refl
-chunks_taken c (suc k) xs = let size : c * suc k ≡ c + c * k = omega (arith, mul-suc c k) in
-    rw (size, take-take c (c + c * k) xs (omega arith), drop-take c (c * k) xs, chunks_taken c k (drop c xs)) refl
+chunks_taken c (suc k) xs = grind (arith, mul-suc c k, take-take c (c + c * k) xs, drop-take c (c * k) xs, chunks_taken c k (drop c xs))

@@ -1,5 +1,5 @@
 -- A splice touches only the part of a content that it meets, which is cut into pieces.
-use Rattle.ele_blocks.proofs.Words.{[], ap, AreSized, arith, content_after_write, drop, drop-drop, first_chunks, flat_map, length, length-append, length-drop, length-replicate, length-take, List, max, nat_tests, pieces_between, refl, replicate, slot_bytes, slot_count, suc, sym, take, take-append-drop, take-append-le, take-take, zero, ℕ, ◌*◌, ◌++◌, ◌+◌, ◌-◌, ◌<◌, ◌∷◌, ◌≡◌, ◌≤◌}
+use Rattle.ele_blocks.proofs.Words.{take-append-add, [], AreSized, arith, content_after_write, drop, drop-drop, first_chunks, flat_map, length, length-append, length-drop, length-replicate, length-take, List, max, nat_tests, pieces_between, replicate, slot_bytes, slot_count, take, take-append-drop, take-append-le, take-take, ℕ, ◌*◌, ◌++◌, ◌+◌, ◌-◌, ◌<◌, ◌∷◌, ◌≡◌, ◌≤◌}
 use Rattle.ele_blocks.specs.Pieces.{pieces}
 use Rattle.ele_blocks.proofs.LaidOvers.{drop_past}
 use Rattle.ele_blocks.proofs.Sized.{chunk_more, sized-chunks, chunks_joined, chunks_taken, length-chunks}
@@ -27,25 +27,17 @@ unfolding pieces
 pieces_taken n xs lt = grind (arith, nat_tests, length-take, chunks_taken)
 
 pub take_past : {X : Type 0} (xs ys : List X) (a n : ℕ) → n ≡ length xs + a → take n (xs ++ ys) ≡ xs ++ take a ys
-take_past [] ys a n e = let same : n ≡ a = omega (arith, e) in rw same refl
-take_past (x ∷ xs) ys a zero e = absurd (omega (arith, e))
-take_past (x ∷ xs) ys a (suc n) e = ap (λ zs. x ∷ zs) (take_past xs ys a n (omega (arith, e)))
+take_past xs ys a n e = rw e (take-append-add xs ys a)
 
 pub length-spliced : (content : List ℕ) (offset : ℕ) (bytes : List ℕ) → length (content_after_write content offset bytes) ≡ max (length content) (offset + length bytes)
 length-spliced content offset bytes = grind (arith, nat_tests, length-append, length-take, length-replicate, length-drop)
 
--- what stands before the offset stays
-spliced-front : (content : List ℕ) (offset : ℕ) (bytes : List ℕ) (n : ℕ) → n ≤ offset → n ≤ length content → take n (content_after_write content offset bytes) ≡ take n content
-spliced-front content offset bytes n le within = grind (arith, nat_tests, length-take, take-append-le, length-append, take-take)
-
 -- what stands behind the bytes stays
 spliced-back : (content : List ℕ) (offset : ℕ) (bytes : List ℕ) (n : ℕ) → offset + length bytes ≤ n → drop n (content_after_write content offset bytes) ≡ drop n content
 spliced-back content offset bytes n le =
-    let past = offset + length bytes in
-    rw (drop_past (take offset content ++ replicate (offset - length content) 0 ++ bytes) (drop past content) (n - past) n (grind (arith, length-append, length-take, length-replicate)), drop-drop (n - past) past content) (grind (arith))
+    grind (arith, drop_past (take offset content ++ replicate (offset - length content) 0 ++ bytes) (drop (offset + length bytes) content) (n - (offset + length bytes)) n, length-append, length-take, length-replicate, drop-drop)
 
 -- so a splice is the part of q bytes from p on, between what stood before it and behind it
 pub spliced_part : (content : List ℕ) (offset p q r : ℕ) (bytes : List ℕ) → p ≤ offset → p ≤ length content → offset + length bytes ≤ r → r ≡ p + q → content_after_write content offset bytes ≡ take p content ++ (take q (drop p (content_after_write content offset bytes)) ++ drop r content)
 spliced_part content offset p q r bytes from le past is =
-    let after = content_after_write content offset bytes in
-    rw (← (spliced-back content offset bytes r past), is, ← (drop-drop q p after), take-append-drop q (drop p after), ← spliced-front content offset bytes p from le) (sym (take-append-drop p after))
+    let after = content_after_write content offset bytes in grind (arith, nat_tests, spliced-back content offset bytes r past, length-take, take-append-le, length-append, take-take, take-append-drop p after, take-append-drop q (drop p after), drop-drop q p after)

@@ -1,5 +1,5 @@
 -- The laws of maps over one store.
-use Rattle.ele_blocks.proofs.Lemmas.{[], AllByRecursion, ap, AreOneToOne, arith, backing, backing_least, blocks_of, Bool, broken, cond, eqb, ids_of, is_below, is_place, is_whole, IsEarlier, IsIn, IsStocked, IsUncrowded, Layout, layouts_of, leaves-count, length, length-content, length-map, List, list_all, LivesIn, ltb, map, map-append, Moves, Named, named, names_from, names_in, names_of, nat_tests, Owes, owners, refl, Renews, SameStock, ShowsSame, slice_get, slice_get_within, Slot, slots-count, slots_backed, slots_of, Some, stay_in, StayIn, Stays, StockLaws, Store, suc, sum_by, sum_by-cons, sym, Tagged, tally, times, times-le-length, true, whole_is, whole_same, zero, ℕ, ⊎_elim, ◌&&◌, ◌*◌, ◌++◌, ◌+◌, ◌<◌, ◌^◌, ◌∙◌, ◌∷◌, ◌≡◌, ◌≤◌}
+use Rattle.ele_blocks.proofs.Lemmas.{[], AllByRecursion, ap, AreOneToOne, arith, backing, backing_least, blocks_of, Bool, broken, cond, eqb, ids_of, is_below, is_place, is_whole, IsEarlier, IsIn, IsStocked, IsUncrowded, Layout, layouts_of, leaves-count, length, length-content, length-map, List, list_all, LivesIn, ltb, map, map-append, Moves, Named, named, names_from, names_in, names_of, nat_tests, Owes, owners, refl, Renews, SameStock, ShowsSame, slice_get, slice_get_within, Slot, slots-count, slots_backed, slots_of, Some, stay_in, StayIn, Stays, StockLaws, Store, suc, sum_by, sum_by-cons, sym, Tagged, tally, times, times-le-length, true, whole_is, whole_same, ℕ, ◌&&◌, ◌*◌, ◌++◌, ◌+◌, ◌<◌, ◌^◌, ◌∙◌, ◌∷◌, ◌≡◌, ◌≤◌}
 use Rattle.ele_blocks.proofs.Distincts.{self_eq, as_many}
 use Rattle.ele_blocks.proofs.OneToOnes.{NoneBy, in_either, in_front, in_back, slot_owned, stays_one_to_one}
 
@@ -11,16 +11,13 @@ module _ {X : Type 0} (f : X → ℕ) where
   tally-append (x ∷ xs) ys = omega (arith, tally-append xs ys)
 
 -- one of the maps lives in the store
-pub whole_of : (b : Bool) (n : ℕ) → n ≡ cond b 0 1 → n ≡ 0 → b ≡ true
-whole_of b n e h = grind (arith, nat_tests)
-
 pub owes_lives : (s : Store) (m : Layout) (rest : List Layout) → Owes s (m ∷ rest) → LivesIn s m
-owes_lives s m rest owes = record { owned = record { owned = λ leaf. omega (arith, owes.counted leaf) }; backed = λ id some. omega (arith, owes.backed id); whole = whole_of (is_whole s m) _ refl (omega (arith, owes.whole)) }
+owes_lives s m rest owes = record { owned = record { owned = λ leaf. omega (arith, owes.counted leaf) }; backed = λ id some. omega (arith, owes.backed id); whole = grind (arith, nat_tests, owes.whole) }
 
 -- a leaf is named at most 128 times by each map
 named_few : (s : Store) (leaf : ℕ) (ms : List Layout) → broken s ms ≡ 0 → named leaf ms ≤ 128 * length ms
 named_few s leaf [] h = omega arith
-named_few s leaf (m ∷ ms) h = grind (arith, nat_tests, whole_of, times-le-length, leaves-count, whole_is, named_few s leaf ms (omega (arith, h)))
+named_few s leaf (m ∷ ms) h = grind (arith, nat_tests, times-le-length, leaves-count, whole_is, named_few s leaf ms (omega (arith, h)))
 
 pub owes_uncrowded : (s : Store) (all : List Layout) → Owes s all → length all ≤ 2 ^ 50 → IsUncrowded s
 owes_uncrowded s all owes few = record { few = λ leaf. omega (arith, owes.counted leaf, named_few s leaf all owes.whole, few) }
@@ -30,9 +27,6 @@ late s ts = tally (λ t. cond (is_below s t) 0 1) ts
 
 -- the first maps have given way, and these stood beside them
 module _ (s t : Store) (was now : List Layout) (moves : Moves s t was now) (rest : List Tagged) (owes : Owes s (was ++ layouts_of rest)) where
-  beside : (leaf : ℕ) → named leaf was + named leaf (layouts_of rest) ≤ owners s.leaves leaf
-  beside leaf = omega (arith, owes.counted leaf, tally-append (λ m. times leaf m.leaves) was (layouts_of rest))
-
   pub its_leaves : (m : Layout) → ((leaf : ℕ) → named leaf was + times leaf m.leaves ≤ owners s.leaves leaf) → StayIn s t m.leaves
   its_leaves m owned = stay_in s t _ _ m.leaves moves.hands (λ leaf some. omega (arith, owned leaf, some)) (λ leaf some id names. omega (arith, owes.backed id, backing_least s.leaves leaf id, names))
 
@@ -45,19 +39,14 @@ module _ (s t : Store) (was now : List Layout) (moves : Moves s t was now) (rest
 
   all_stay : (ts : List Tagged) → ((leaf : ℕ) → named leaf was + named leaf (layouts_of ts) ≤ owners s.leaves leaf) → AllStay ts
   all_stay [] owned = record { shows = tt; names = refl; late = refl; broken = refl }
-  all_stay (m ∷ ts) owned = let first = its_leaves m.layout (λ leaf. omega (arith, owned leaf)) in let more = all_stay ts (λ leaf. omega (arith, owned leaf)) in
-      record { shows = (record { same = first.cells }, more.shows); names = rw (first.slots, more.names) refl; late = rw (first.slots, more.late) refl; broken = rw (whole_same s t m.layout first, more.broken) refl }
+  all_stay (m ∷ ts) owned = grind (arith, its_leaves m.layout (λ leaf. omega (arith, owned leaf)), all_stay ts (λ leaf. omega (arith, owned leaf)), whole_same)
 
   pub rest_stays : AllStay rest
-  rest_stays = all_stay rest beside
+  rest_stays = all_stay rest (λ leaf. omega (arith, owes.counted leaf, tally-append (λ m. times leaf m.leaves) was (layouts_of rest)))
 
   -- and the store is owed by all of them
   pub moves_owes : Owes t (now ++ layouts_of rest)
-  moves_owes = record {
-    counted = λ leaf. omega (arith, owes.counted leaf, moves.hands.leaves leaf, tally-append (λ (m : Layout). times leaf m.leaves) was (layouts_of rest), tally-append (λ (m : Layout). times leaf m.leaves) now (layouts_of rest));
-    backed = λ id. omega (arith, owes.backed id, moves.hands.blocks id);
-    whole = omega (arith, owes.whole, moves.whole, tally-append (λ m. cond (is_whole s m) 0 1) was (layouts_of rest), tally-append (λ m. cond (is_whole t m) 0 1) now (layouts_of rest), rest_stays.broken);
-  }
+  moves_owes = grind (arith, nat_tests, tally-append, rest_stays)
 
 -- ---- maps in another order
 
@@ -107,35 +96,32 @@ named_by n file below first [] all i = absurd i
 named_by n file below first (x ∷ xs) all i = grind (arith, nat_tests, named_by n file below (first + 1) xs)
 
 head_below : (s : Store) (t : Tagged) (ts : List Tagged) → late s (t ∷ ts) ≡ 0 → is_below s t ≡ true
-head_below s t ts h = whole_of (is_below s t) (cond (is_below s t) 0 1) refl (omega (arith, h))
+head_below s t ts h = grind (arith, nat_tests)
 
 owned_names : (s : Store) (n : Named) (ts : List Tagged) → late s ts ≡ 0 → IsIn n (names_in s ts) → 0 < backing s.leaves n.block
 owned_names s n [] h i = absurd i
-owned_names s n (t ∷ ts) h i = grind (arith, in_either n (names_of s t.file t.layout) (names_in s ts) i, head_below s t ts h, slots_backed s t.layout.leaves n.block, named_by n t.file t.below 0 (slots_of s t.layout), owned_names s n ts)
+owned_names s n (t ∷ ts) h i = grind (arith, nat_tests, in_either n (names_of s t.file t.layout) (names_in s ts) i, slots_backed s t.layout.leaves n.block, named_by n t.file t.below 0 (slots_of s t.layout), owned_names s n ts)
 
 none_by : (s : Store) (file writer : ℕ) (ts : List Tagged) → late s ts ≡ 0 → AllByRecursion (IsEarlier file writer) ts → NoneBy file writer (names_in s ts)
 none_by s file writer [] h all n i of by = absurd i
-none_by s file writer (t ∷ ts) h all n i of by = ⊎_elim
-    (λ (a : IsIn n (names_of s t.file t.layout)). grind (arith, named_by n t.file t.below 0 (slots_of s t.layout) (head_below s t ts h) a, all.0.earlier))
-    (λ (b : IsIn n (names_in s ts)). none_by s file writer ts (omega (arith, h)) all.1 n b of by)
-    (in_either n (names_of s t.file t.layout) (names_in s ts) i)
+none_by s file writer (t ∷ ts) h all n i of by = grind (arith, in_either n (names_of s t.file t.layout) (names_in s ts) i, named_by n t.file t.below 0 (slots_of s t.layout) (head_below s t ts h), all.0.earlier, none_by s file writer ts (omega (arith, h)) all.1 n)
 
 -- ---- writers by place
 
 all_places : (p : Slot → Bool) (slots : List Slot) → ((k : ℕ) (x : Slot) → slice_get slots k ≡ Some x → p x ≡ true) → list_all p slots ≡ true
 all_places p [] each = refl
-all_places p (x ∷ xs) each = rw (each 0 x refl) (all_places p xs (λ k y e. each (suc k) y e))
+all_places p (x ∷ xs) each = grind (arith, nat_tests, each 0 x refl, all_places p xs (λ k y e. each (suc k) y e))
 
 at_place : (p : Slot → Bool) (slots : List Slot) (k : ℕ) (x : Slot) → list_all p slots ≡ true → slice_get slots k ≡ Some x → p x ≡ true
 at_place p [] k x all e = absurd cc
-at_place p (y ∷ ys) zero x all e = let same : y ≡ x = cc in rw (← same) (grind (arith, nat_tests, all))
-at_place p (y ∷ ys) (suc k) x all e = at_place p ys k x (grind (arith, nat_tests, all)) e
+at_place p (y ∷ ys) k x all e = grind (arith, nat_tests, at_place p ys)
 
 below_renewed : (s t : Store) (writer below : ℕ) (p : ℕ → Bool) (was now : Layout) → below ≡ writer + 1 → Renews s t writer p was now → list_all (λ (slot : Slot). ltb slot.writer below) (slots_of s was) ≡ true → list_all (λ (slot : Slot). ltb slot.writer below) (slots_of t now) ≡ true
 below_renewed s t writer below p was now is renews all = grind (arith, nat_tests, all_places, at_place, slice_get_within)
 
 below_more : (below more : ℕ) (slots : List Slot) → below ≤ more → list_all (λ (slot : Slot). ltb slot.writer below) slots ≡ true → list_all (λ (slot : Slot). ltb slot.writer more) slots ≡ true
-below_more below more slots le all = all_places (λ (slot : Slot). ltb slot.writer more) slots (λ k x e. let lt = at_place (λ (slot : Slot). ltb slot.writer below) slots k x all e in grind (arith, nat_tests))
+below_more below more [] le all = refl
+below_more below more (x ∷ xs) le all = grind (arith, nat_tests, below_more below more xs)
 
 -- ---- the laws
 
@@ -167,9 +153,8 @@ module _ (s t : Store) (ts : List Tagged) (was : Tagged) (rest : List Tagged) (s
 
   goes : Moves s t (was.layout ∷ []) [] → Stays s t rest rest
   goes moves =
-      let stay = rest_stays s t (was.layout ∷ []) [] moves rest h.owed in
       let one = fewer (names_in s rest) (names_in s (was ∷ rest)) (λ n i. in_back n (names_of s was.file was.layout) (names_in s rest) i) h.one_to_one in
-      record { stocked = record { owed = moves_owes s t (was.layout ∷ []) [] moves rest h.owed; one_to_one = rw stay.names one; written = stay.late ∙ all_written }; shows = stay.shows }
+      grind (arith, rest_stays s t (was.layout ∷ []) [] moves rest h.owed, one, moves_owes s t (was.layout ∷ []) [] moves rest h.owed, all_written)
 
   -- a name of the map is there
   was_in : (n : Named) → IsIn n (names_of s was.file was.layout) → IsIn n (names_in s ts)
@@ -180,8 +165,7 @@ module _ (s t : Store) (ts : List Tagged) (was : Tagged) (rest : List Tagged) (s
       let stay = rest_stays s t [] (was.layout ∷ []) moves ts stocked.owed in
       let mine = (its_leaves s t [] (was.layout ∷ []) moves ts stocked.owed was.layout (λ leaf. omega (arith, h.owed.counted leaf))).slots in
       let one = fewer (names_in s (was ∷ ts)) (names_in s ts) (λ n i. grind (arith, was_in n, in_either n (names_of s was.file was.layout) (names_in s ts) i)) stocked.one_to_one in
-      let late : late t (record was { below = below } ∷ ts) ≡ 0 = rw (mine, stay.late, below_more was.below below (slots_of s was.layout) le was_below) (omega (arith, stocked.written)) in
-      let all : IsStocked t (record was { below = below } ∷ ts) = record { owed = moves_owes s t [] (was.layout ∷ []) moves ts stocked.owed; one_to_one = rw (mine, stay.names) one; written = late } in
+      let all : IsStocked t (record was { below = below } ∷ ts) = grind (arith, moves_owes s t [] (was.layout ∷ []) moves ts stocked.owed, mine, stay, one, below_more was.below below (slots_of s was.layout) le was_below, stocked.written) in
       record { stocked = in_same t (record was { below = below } ∷ ts) us (back us (record was { below = below } ∷ ts) same) all; shows = stay.shows }
 
   rewrites : (writer : ℕ) (renewed : ℕ → Bool) (now : Layout) (us : List Tagged) → was.below ≡ writer + 1 → AllByRecursion (IsEarlier was.file writer) rest → Moves s t (was.layout ∷ []) (now ∷ []) → Renews s t writer renewed was.layout now → SameStock us (record was { layout = now } ∷ rest) → Stays s t rest us

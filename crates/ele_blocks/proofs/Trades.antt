@@ -8,13 +8,10 @@ times-append id (x ∷ xs) ys = omega (arith, times-append id xs ys)
 pub times-self : (x : ℕ) → times x (x ∷ []) ≡ 1
 times-self x = let one : eqb x x ≡ true = grind (arith, nat_tests) in rw one refl
 
-one_apart : (id q : ℕ) → eqb id q ≡ false → times q (id ∷ []) ≡ 0
-one_apart id q e = rw e refl
-
 -- a number of the list stands in it
 pub times_at : (xs : List ℕ) (k : ℕ) → k < length xs → 0 < times (get_or xs k 0) xs
 times_at [] k lt = absurd (omega (arith, lt))
-times_at (x ∷ xs) zero lt = omega (arith, times-self x)
+times_at (x ∷ xs) zero lt = grind (arith, nat_tests)
 times_at (x ∷ xs) (suc k) lt = omega (arith, times_at xs k (omega (arith, lt)))
 
 pub times-le-length : (q : ℕ) (xs : List ℕ) → times q xs ≤ length xs
@@ -31,21 +28,21 @@ module _ {X : Type 0} where
 
   -- a value is kept under a number that stood for nothing
   pub trades_put : (old new : List (Option (Counted X))) (id : ℕ) (x : X) → place_at old id ≡ None → Sets old new id (Some (record { value = x; owners = 1 })) → Trades old new [] (id ∷ [])
-  trades_put old new id x vacant h = grind (arith, nat_tests, trades_set, one_apart, times-self)
+  trades_put old new id x vacant h = grind (arith, nat_tests, trades_set)
 
   pub shared_value : (b : Option (Counted X)) → value_of (shared b) ≡ value_of b
   shared_value o = grind (arith, nat_tests)
 
   -- a value gets an owner more
   pub trades_share : (old new : List (Option (Counted X))) (id : ℕ) → 0 < owners old id → Sets old new id (shared (place_at old id)) → Trades old new [] (id ∷ [])
-  trades_share old new id lt h = grind (arith, trades_set, one_apart, times-self, shared_value)
+  trades_share old new id lt h = grind (arith, nat_tests, trades_set)
 
   pub released_value : (b : Option (Counted X)) → 1 < owners_of b → value_of (released b) ≡ value_of b
   released_value o lt = grind (arith, nat_tests)
 
   -- a value loses an owner
   pub trades_release : (old new : List (Option (Counted X))) (id : ℕ) → 0 < owners old id → Sets old new id (released (place_at old id)) → Trades old new (id ∷ []) []
-  trades_release old new id lt h = grind (arith, trades_set, one_apart, times-self, nat_tests, released_value)
+  trades_release old new id lt h = grind (arith, nat_tests, trades_set)
 
   -- one after the other
   pub trades_then : (a b c : List (Option (Counted X))) (was now was2 now2 : List ℕ) → Trades a b was now → Trades b c was2 now2 → Trades a c (was ++ was2) (now ++ now2)
@@ -54,11 +51,7 @@ module _ {X : Type 0} where
   -- what is owned beside what goes keeps its value
   pub values_stay : (s t : List (Option (Counted X))) (was now xs : List ℕ) → Trades s t was now → ((id : ℕ) → times id was + times id xs ≤ owners s id) → map (value_at t) xs ≡ map (value_at s) xs
   values_stay s t was now [] h owned = refl
-  values_stay s t was now (x ∷ xs) h owned = grind (arith, times-self x, h.kept x, owned x, values_stay s t was now xs h (λ q. omega (arith, owned q)))
-
-  -- a value more
-  pub adds_more : (s0 s t : List (Option (Counted X))) (ids : List ℕ) (id : ℕ) (x : X) → Adds s0 s ids → place_at s id ≡ None → Sets s t id (Some (record { value = x; owners = 1 })) → Adds s0 t (ids ++ id ∷ [])
-  adds_more s0 s t ids id x h vacant sets = grind (arith, nat_tests, trades_then, trades_put, times-append)
+  values_stay s t was now (x ∷ xs) h owned = grind (arith, nat_tests, h.kept x, owned x, values_stay s t was now xs h (λ q. omega (arith, owned q)))
 
   -- the values kept so far, and those that are still to be kept
   pub record PutsSoFar (s0 s : List (Option (Counted X))) (ids : List ℕ) (rest all : List X) : Type 0 where
@@ -66,10 +59,7 @@ module _ {X : Type 0} where
     pub values : map (value_at s) ids ++ map (λ x. Some x) rest ≡ map (λ x. Some x) all
 
   pub puts_more : (s0 s t : List (Option (Counted X))) (ids : List ℕ) (x : X) (rest all : List X) (id : ℕ) → PutsSoFar s0 s ids (x ∷ rest) all → place_at s id ≡ None → Sets s t id (Some (record { value = x; owners = 1 })) → PutsSoFar s0 t (ids ++ id ∷ []) rest all
-  puts_more s0 s t ids x rest all id h vacant sets = record {
-    adds = adds_more s0 s t ids id x h.adds vacant sets;
-    values = rw (map-append (value_at t) ids (id ∷ []), ap value_of sets.changed, values_stay s t [] (id ∷ []) ids (trades_put s t id x vacant sets) (λ q. omega (arith, h.adds.trades.owed q)), append_assoc) h.values;
-  }
+  puts_more s0 s t ids x rest all id h vacant sets = grind (arith, nat_tests, trades_then, trades_put, times-append, map-append, values_stay s t [] (id ∷ []) ids (trades_put s t id x vacant sets) (λ q. omega (arith, h.adds.trades.owed q)), append_assoc, ap value_of sets.changed)
 
   -- a place that a last owner leaves
   pub record IsLast (place : Option (Counted X)) (x : X) : Type 0 where
@@ -78,8 +68,7 @@ module _ {X : Type 0} where
     pub gone : released place ≡ None
 
   pub leaving_last : (place : Option (Counted X)) (x : X) → 0 < owners_of place → Some x ≡ leaving place → IsLast place x
-  leaving_last None x lt e = absurd (omega (arith, lt))
-  leaving_last (Some p) x lt e = record { owners = grind (arith, nat_tests); value = grind (arith, nat_tests); gone = grind (arith, nat_tests) }
+  leaving_last place x lt e = grind (arith, nat_tests)
 
 -- a list so far, and one more
 module _ (ids : List ℕ) (k id : ℕ) (lt : k < length ids) (is : id ≡ get_or ids k id) where
@@ -90,7 +79,7 @@ module _ (ids : List ℕ) (k id : ℕ) (lt : k < length ids) (is : id ≡ get_or
   one_more = omega (arith, times_next id, times-self id, ap (times id) (take-append-drop (k + 1) ids), times-append id (take (k + 1) ids) (drop (k + 1) ids))
 
 pub times-ids : (q : ℕ) (xs ys : List Slot) → times q (ids_of (xs ++ ys)) ≡ times q (ids_of xs) + times q (ids_of ys)
-times-ids q xs ys = ap (times q) (map-append (λ (x : Slot). x.block) xs ys) ∙ times-append q (ids_of xs) (ids_of ys)
+times-ids q xs ys = grind (arith, map-append, times-append)
 
 pub times-split : (q n : ℕ) (xs : List Slot) → times q (ids_of xs) ≡ times q (ids_of (take n xs)) + times q (ids_of (drop n xs))
 times-split q n xs = ap (λ ys. times q (ids_of ys)) (sym (take-append-drop n xs)) ∙ times-ids q (take n xs) (drop n xs)
@@ -101,7 +90,7 @@ module _ (slots : List Slot) (k : ℕ) (slot : Slot) (lt : k < length slots) (is
   ids_more = map_more (λ (x : Slot). x.block) slots k slot lt ∙ ap (λ (x : Slot). ids_of (take k slots) ++ x.block ∷ []) (sym is)
 
   slot_next : (q : ℕ) → times q (ids_of (take (k + 1) slots)) ≡ times q (ids_of (take k slots)) + times q (slot.block ∷ [])
-  slot_next q = ap (times q) ids_more ∙ times-append q (ids_of (take k slots)) (slot.block ∷ [])
+  slot_next q = grind (arith, ids_more, times-append)
 
   slot_more : times slot.block (ids_of (take k slots)) + 1 ≤ times slot.block (ids_of slots)
   slot_more = omega (arith, slot_next slot.block, times-self slot.block, times-split slot.block (k + 1) slots)
@@ -111,7 +100,7 @@ module _ (slots : List Slot) (k : ℕ) (slot : Slot) (lt : k < length slots) (is
 
   -- what holds of the blocks so far and of the next one
   pub each_more : (P : ℕ → Type 0) → ((id : ℕ) → 0 < times id (ids_of (take k slots)) → P id) → P slot.block → (id : ℕ) → 0 < times id (ids_of (take (k + 1) slots)) → P id
-  each_more P each here id some = grind (arith, nat_tests, slot_next, one_apart)
+  each_more P each here id some = grind (arith, nat_tests, slot_next)
 
   module _ {X : Type 0} {s0 s : List (Option (Counted X))} where
     pub release_next : Covers s0 (ids_of slots) → Trades s0 s (ids_of (take k slots)) [] → 0 < owners s slot.block
@@ -124,7 +113,7 @@ module _ (slots : List Slot) (k : ℕ) (slot : Slot) (lt : k < length slots) (is
     share_next there h = omega (arith, there, h.owed slot.block)
 
     pub share_few : Trades s0 s [] (ids_of (take k slots)) → owners s0 slot.block + length slots ≤ 2 ^ 63 → owners s slot.block < 2 ^ 63
-    share_few h few = omega (arith, h.owed slot.block, times-le-length slot.block (ids_of (take k slots)), length-map (take k slots) (λ (x : Slot). x.block), length-take-le k slots (omega (arith, lt)), lt, few)
+    share_few h few = grind (arith, times-le-length, length-map, length-take-le)
 
     pub share_more : (t : List (Option (Counted X))) → 0 < owners s0 slot.block → Trades s0 s [] (ids_of (take k slots)) → Sets s t slot.block (shared (place_at s slot.block)) → Trades s0 t [] (ids_of (take (k + 1) slots))
     share_more t there h sets = rw ids_more (trades_then s0 s t [] (ids_of (take k slots)) [] (slot.block ∷ []) h (trades_share s t slot.block (share_next there h) sets))

@@ -21,7 +21,7 @@ pub use Rattle.slab.specs.Slab.{HasRoomFor, Slab, slab_len}
 pub use Rattle.std.proofs.Common.{rules, Bool, List, None, Option, Some, [], add-one, ap, append_assoc, arith, cond, drop, eqb, false, get_or, inl, inr, is_some, leb, length, length-append, length-drop, length-take, ltb, map, max, min, refl, replicate, subst, suc, sym, take, true, vec_capacity, vec_len, zero, ℕ, ⊎_elim, ◌%◌, ◌&&◌, ◌*◌, ◌++◌, ◌+◌, ◌-◌, ◌/◌, ◌<◌, ◌^◌, ◌||◌, ◌∙◌, ◌∷◌, ◌≡◌, ◌≢◌, ◌≤◌, ◌⊎◌, IsSome}
 pub use Rattle.std.proofs.Math.ListN.{set}
 pub use Rattle.std.proofs.Math.Nat.{mul-suc}
-pub use Rattle.std.proofs.Math.Seq.{take-add, take-append-add, take-nil, take-suc}
+pub use Rattle.std.proofs.Math.Seq.{drop-append-add, take-add, take-append-add, take-nil, take-suc}
 pub use Rattle.std.proofs.lemmas.Bool.{false≢true}
 pub use Rattle.std.proofs.lemmas.Bool.Decides.{nat_tests}
 pub use Rattle.std.proofs.lemmas.Grind.{flat_map-append, get_or_default_zero, same_number_lists}

@@ -69,6 +69,7 @@ impl BlockMap {
     }
 
     /// The version that last wrote the slot, and the slot's block; none past the last slot.
+    #[tactic(auto, using(crate::proofs::Steps::cell_steps))]
     pub fn cell(&self, store: &BlockStore, slot: usize) -> Option<(VersionNo, BlockId)>
         requires { LivesIn store.now self.now }
         ensures cell { result ≡ option_map (λ cell. (cell.writer, cell.block))
@@ -83,6 +84,7 @@ impl BlockMap {
     }
 
     /// A slot of the map.
+    #[tactic(auto, using(crate::proofs::Steps::slot_at_steps))]
     fn slot_at(&self, store: &BlockStore, slot: usize) -> Slot
         requires lives { LivesIn store.now self.now }
         requires within { slot < slot_count self.now.size }
@@ -96,6 +98,7 @@ impl BlockMap {
     }
 
     /// The leaf that holds the slot.
+    #[tactic(auto, using(crate::proofs::Lemmas::leaf_owned, crate::proofs::Lemmas::Layout, crate::proofs::Lemmas::leaf_is))]
     fn leaf_of(&self, store: &BlockStore, slot: usize) -> usize
         requires lives { LivesIn store.now self.now }
         requires within { slot < slot_count self.now.size }
@@ -125,6 +128,7 @@ impl BlockMap {
     }
 
     /// The bytes of the content.
+    #[tactic(auto, using(crate::proofs::Steps::content_steps))]
     pub fn content(&self, store: &BlockStore) -> Result<Vec<u8>, NoMemory>
         requires { LivesIn store.now self.now }
         ensures bytes { IfOk result (λ bytes. bytes.items ≡ content_of (shown store.now self.now)) }
@@ -147,6 +151,7 @@ impl BlockMap {
     }
 
     /// The bytes of a slot; none past the last.
+    #[tactic(auto, using(crate::proofs::Steps::bytes_at_steps))]
     fn bytes_at<'a>(&self, store: &'a BlockStore, slot: usize) -> &'a [u8]
         requires { LivesIn store.now self.now }
         ensures { result.now ≡ slot_bytes (content_of (shown store.now self.now)) slot }

@@ -25,6 +25,7 @@ fn spliced(alloc: Global, old: &[u8], offset: usize, bytes: &[u8]) -> Result<Vec
 
 /// A slot's bytes once the bytes lie over the content from the offset on: what of them falls into
 /// the slot lies over its old bytes.
+#[tactic(auto, using(crate::proofs::Cited::patched))]
 pub fn patched(
     alloc: Global,
     old: &[u8],
@@ -46,7 +47,7 @@ pub fn patched(
 }
 
 /// The bytes cut into pieces of 512, of which the last may be shorter.
-#[tactic(auto, unfolding(crate::specs::Pieces::pieces))]
+#[tactic(auto, using(crate::proofs::Steps::pieces_steps), unfolding(crate::specs::Pieces::pieces))]
 pub fn pieces(alloc: Global, all: &[u8]) -> Result<Vec<ByteList>, NoMemory>
     ensures { IfOk result (λ cut. cut.items ≡ pieces all.now) }
 {

@@ -74,6 +74,7 @@ impl<T: Drop> Shared<T> {
     }
 
     /// Keeps a value with one owner where there is room.
+    #[tactic(auto, using(crate::proofs::Steps::put_reserved_steps))]
     pub fn put_reserved(&mut self, value: T) -> usize
         requires { HasRoomFor self.old 1 }
         ensures vacant { place_at self.old.slots result ≡ None }
@@ -105,6 +106,7 @@ impl<T: Drop> Shared<T> {
     }
 
     /// The value under the number.
+    #[tactic(auto, using(crate::proofs::Steps::get_steps))]
     pub fn get(&self, id: usize) -> &T
         requires { 0 < owners self.now.slots id }
         ensures { value_at self.now.slots id ≡ Some result.now }
@@ -113,6 +115,7 @@ impl<T: Drop> Shared<T> {
     }
 
     /// How many own the value under the number.
+    #[tactic(auto, using(crate::proofs::Steps::owners_steps))]
     pub fn owners(&self, id: usize) -> u64
         requires { 0 < owners self.now.slots id }
         ensures { result ≡ owners self.now.slots id }
@@ -121,6 +124,7 @@ impl<T: Drop> Shared<T> {
     }
 
     /// How many values stand.
+    #[tactic(auto, using(crate::proofs::Steps::len_steps))]
     pub fn len(&self) -> usize
         ensures count { result ≡ count_by is_some self.now.slots }
         ensures owned { Owned self.now.slots }
@@ -129,6 +133,7 @@ impl<T: Drop> Shared<T> {
     }
 
     /// Gives the value one owner more.
+    #[tactic(auto, using(crate::proofs::Steps::share_steps))]
     pub fn share(&mut self, id: usize)
         requires there { 0 < owners self.old.slots id }
         requires few { owners self.old.slots id < 2 ^ 63 }

@@ -116,6 +116,7 @@ impl BlockStore {
 
     /// How many blocks stand, however many own each: as many different ones as the maps name that
     /// live here.
+    #[tactic(auto, using(crate::proofs::Cited::distinct_named))]
     pub fn distinct(&self) -> u64
         ensures count { result ≡ count_by is_some self.now.blocks }
         ensures named { (maps : List Layout) → Owes self.now maps

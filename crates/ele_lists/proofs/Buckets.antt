@@ -27,10 +27,7 @@ module _ {X : Type 0} (tag : X → ℕ) (k : ℕ) where
 
   -- a row comes in before the first that passes: none of a lesser tag does, and each of a greater one
   pub local-insert_before : (r : X → Bool) (y : X) → ((x : X) → tag x < k → r x ≡ false) → ((x : X) → k < tag x → r x ≡ true) → IsLocal tag k (insert_before r y)
-  local-insert_before r y before behind = record {
-    past = λ xs ys all. insert_before-skip r y xs ys (all-weaker (λ x. tag x < k) (λ x. r x ≡ false) xs before all);
-    short = λ xs ys all. insert_before-front r y xs ys (all-weaker (λ x. k < tag x) (λ x. r x ≡ true) ys behind all);
-  }
+  local-insert_before r y before behind = grind (arith, nat_tests, insert_before-skip, all-weaker, insert_before-front)
 
   -- one after another
   pub local-after : (E F : List X → List X) → IsLocal tag k E → IsLocal tag k F → IsLocal tag k (λ xs. E (F xs))
@@ -60,15 +57,9 @@ module _ {B X : Type 0} (id : B → ℕ) (rows : B → List X) (tag : X → ℕ)
   -- what only rows of the tag pass is found in the bucket
   pub find-buckets : (p : X → Bool) → ((x : X) → p x ≡ true → tag x ≡ k) → (bs : List B) → AllLater (λ x y. id x < id y) bs → find p (flat_map rows bs) ≡ option_and_then (λ b. find p (rows b)) (find is_bucket bs)
   find-buckets p own [] rise = refl
-  find-buckets p own (a ∷ bs) rise =
-      grind (arith, nat_tests, find-append p (rows a) (flat_map rows bs), find-skip p (rows a) (flat_map rows bs), not_found p (flat_map rows bs), greater_fail tag k p own (flat_map rows bs), greater bs, behind a bs, all-weaker (λ x. tag x ≡ id a) (λ x. p x ≡ false) (rows a), tagged a, find-buckets p own bs)
+  find-buckets p own (a ∷ bs) rise = grind (arith, nat_tests, find-append, flat_map, find-skip, not_found, greater_fail, greater, behind, all-weaker, find-buckets p own bs)
 
   -- the rows of the tag are the bucket's
   pub filter-buckets : (bs : List B) → AllLater (λ x y. id x < id y) bs → filter (λ x. eqb (tag x) k) (flat_map rows bs) ≡ option_map_or rows (find is_bucket bs) []
   filter-buckets [] rise = refl
-  filter-buckets (a ∷ bs) rise =
-      let own = λ (x : X). eqb (tag x) k in
-      let mine = all-weaker (λ x. tag x ≡ id a) (λ x. own x ≡ true) (rows a) in
-      let apart = all-weaker (λ x. tag x ≡ id a) (λ x. own x ≡ false) (rows a) in
-      let greater_apart = all-weaker (λ x. k < tag x) (λ x. own x ≡ false) (flat_map rows bs) in
-      grind (arith, nat_tests, filter-append own (rows a) (flat_map rows bs), filter-all own (rows a), filter-none own (rows a), filter-none own (flat_map rows bs), greater bs, behind a bs, append-nil (rows a), tagged a, mine, apart, greater_apart, filter-buckets bs)
+  filter-buckets (a ∷ bs) rise = grind (arith, nat_tests, eqb, all-weaker, flat_map, filter-append, filter-all, filter-none, greater, behind, append-nil, filter-buckets bs)

@@ -8,8 +8,7 @@ module _ {G : Type 0} {cmp : G → G → Ordering} (o : IsTotalOrder cmp) where
 
   -- what has the group in its place
   has_same : (index : Index G) (g h : G) (r s : ℕ) → cmp g h ≡ Equal → has cmp index g r s ≡ has cmp index h r s
-  has_same index g h r s e =
-      list_any_congr (eq_by_cmp_equiv entry_total) (g, r, s) (h, r, s) index.entries.keys (grind (arith, tied_itself nat_cmp_total r, tied_itself nat_cmp_total s))
+  has_same index g h r s e = grind (arith, nat_tests, list_any_congr, eq_by_cmp_equiv, entry_total, tied_itself, nat_cmp_total)
 
   module _ (index : Index G) (g : G) (rank : ℕ) where
     -- the least and the greatest entry of the group up to the rank

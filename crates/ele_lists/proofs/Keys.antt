@@ -67,5 +67,4 @@ module _ {X : Type 0} (key : X → ℕ) (this : ℕ) (xs : List X) (rises : Rise
 -- the others, where the row of a key is taken out
 pub remove_first-key : {X : Type 0} (key : X → ℕ) (this : ℕ) (xs : List X) → Rises key xs → remove_first (has_key key this) xs ≡ filter (λ x. not (has_key key this x)) xs
 remove_first-key key this [] rises = refl
-remove_first-key key this (x ∷ xs) rises =
-    grind (arith, nat_tests, filter-all (λ y. not (has_key key this y)) xs, all-weaker (λ y. key x < key y) (λ y. not (has_key key this y) ≡ true) xs, remove_first-key key this xs)
+remove_first-key key this (x ∷ xs) rises = grind (arith, nat_tests, filter-all, has_key, all-weaker, remove_first-key key this xs)

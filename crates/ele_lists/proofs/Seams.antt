@@ -78,8 +78,7 @@ module _ {X : Type 0} where
 
   -- the row at a place stands first behind it
   pub first_behind : (cs : List (Vec X Global)) (i j : ℕ) → (i < length cs → j < length (rows_at cs i)) → slice_get (behind_place cs i j) 0 ≡ slice_get (rows_at cs i) j
-  first_behind cs i j within =
-      grind (arith, slice_get_past cs i, drop_all (suc i) cs, drop_all j (rows_at cs i), slice_get_past (rows_at cs i) j, first_on (rows_at cs i) (flat (drop (suc i) cs)) j)
+  first_behind cs i j within = grind (arith, nat_tests, slice_get_past, drop_all, suc, rows_at, first_on, flat)
 
   last-behind : (xs ys zs : List X) → 0 < length ys → last_of (xs ++ (ys ++ zs)) ≡ last_of (ys ++ zs)
   last-behind xs [] zs h = absurd (omega arith)
@@ -99,9 +98,7 @@ module _ {X : Type 0} where
 
   -- one row less in one chunk
   pub flat-taken : (cs : List (Vec X Global)) (i j : ℕ) (here now : Vec X Global) → slice_get cs i ≡ Some here → now.items ≡ remove here.items j → flat (set cs i now) ≡ before_place cs i j ++ behind_place cs i (suc j)
-  flat-taken cs i j here now is taken =
-      let xs = rows_at cs i in
-      grind (arith, flat-set cs i here now is, rows-here cs i here is, append_assoc (take j xs) (drop (suc j) xs) (flat (drop (suc i) cs)), append_assoc (flat (take i cs)) (take j xs) (behind_place cs i (suc j)))
+  flat-taken cs i j here now is taken = grind (arith, nat_tests, rows_at, flat-set, rows-here, append_assoc, suc, flat, behind_place)
 
   -- a chunk without rows leaves
   pub flat-remove_empty : (cs : List (Vec X Global)) (i : ℕ) (here : Vec X Global) → slice_get cs i ≡ Some here → here.items ≡ [] → flat (remove cs i) ≡ flat cs
@@ -135,8 +132,7 @@ module _ {X : Type 0} where
 
     -- a row more in it
     pub flat-set_last : (now : Vec X Global) (x : X) → now.items ≡ here.items ++ x ∷ [] → flat (set cs n now) ≡ flat cs ++ x ∷ []
-    flat-set_last now x more =
-        last_set now ∙ ap (λ xs. flat (take n cs) ++ xs) more ∙ sym (append_assoc (flat (take n cs)) here.items (x ∷ [])) ∙ ap (λ xs. xs ++ x ∷ []) (sym last_whole)
+    flat-set_last now x more = grind (arith, nat_tests, last_set, flat, append_assoc, last_whole)
 
     -- its last row changed
     pub flat-change_last : (f : X → X) (now : Vec X Global) → 0 < length here.items → now.items ≡ update_last f here.items → flat (set cs n now) ≡ update_last f (flat cs)
@@ -166,9 +162,7 @@ module _ {X : Type 0} (p : X → Bool) where
 
   all_before : (cs : List (Vec X Global)) → AreFilled cs → AllLater (Sinks p) (flat cs) → AllByRecursion (λ c. chunk_ends c ≡ true) cs → AllByRecursion (λ x. p x ≡ true) (flat cs)
   all_before [] filled sinks before = tt
-  all_before (c ∷ cs) filled sinks before =
-      let end = ends c.items filled.0 in
-      grind (arith, all-append (λ x. p x ≡ true) c.items (flat cs), all-sink p c.items end.0, later-left (Sinks p) c.items (flat cs), later-right (Sinks p) c.items (flat cs), all_before cs)
+  all_before (c ∷ cs) filled sinks before = grind (arith, nat_tests, ends, all-append, flat, all-sink, later-left, later-right, all_before cs)
 
   -- the place of the first row behind a cut, from the first chunk that doesn't end before it
   module _ (cs : List (Vec X Global)) (i : ℕ) (filled : AreFilled cs) (sinks : AllLater (Sinks p) (flat cs)) (bound : i ≤ length cs) (ended : AllByRecursion (λ c. chunk_ends c ≡ true) (take i cs)) where

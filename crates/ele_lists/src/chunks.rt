@@ -116,6 +116,7 @@ impl<T: Drop> Chunks<T> {
     }
 
     /// Changes the last row, if there is one.
+    #[tactic(auto, using(crate::proofs::Steps::change_last_steps))]
     pub fn change_last<C: Change<T>>(&mut self, change: &C)
         ensures rows { self.new.rows ≡ update_last (C.changed change.now) self.old.rows }
         ensures spare { self.new.spare ≡ self.old.spare }

@@ -59,6 +59,7 @@ impl<G: Ord + Copy> Index<G> {
     }
 
     /// The entries of the group, by rank and then by serial number.
+    #[tactic(auto, using(crate::proofs::Steps::of_steps))]
     pub fn of(&self, group: G) -> Range<'_, (G, u64, u64)>
         ensures each { AllByRecursion (λ e. has G.cmp self.now group e.1 e.2 ≡ true) result }
         ensures all { (r s : ℕ) → r < 2 ^ 64 → s < 2 ^ 64 → has G.cmp self.now group r s ≡ true

@@ -14,6 +14,7 @@ use crate::keyed::{BeforeKey, Keyed, place_if_dense};
 use crate::room::put;
 
 /// Whether the last chunk has room for one row more.
+#[tactic(auto, using(crate::proofs::Steps::last_has_room_steps))]
 pub fn last_has_room<T>(chunks: &[Vec<T>]) -> bool
     ensures { IsTrue result ↔ (1 ≤ last_room chunks.now) }
 {
@@ -24,6 +25,7 @@ pub fn last_has_room<T>(chunks: &[Vec<T>]) -> bool
 }
 
 /// Adds a row at the end of the last chunk.
+#[tactic(auto, using(crate::proofs::Steps::push_last_steps))]
 pub fn push_last<T>(chunks: &mut [Vec<T>], row: T)
     requires room { 1 ≤ last_room chunks.old }
     requires filled { AreFilled chunks.old }
@@ -35,6 +37,7 @@ pub fn push_last<T>(chunks: &mut [Vec<T>], row: T)
 }
 
 /// The last row.
+#[tactic(auto, using(crate::proofs::Steps::last_row_steps))]
 pub fn last_row<T>(chunks: &[Vec<T>]) -> Option<&T>
     requires { AreFilled chunks.now }
     ensures { option_copied result ≡ last_of (flat chunks.now) }
@@ -43,6 +46,7 @@ pub fn last_row<T>(chunks: &[Vec<T>]) -> Option<&T>
 }
 
 /// Changes the last of the chunk's rows.
+#[tactic(auto, using(crate::proofs::Steps::change_end_steps))]
 fn change_end<T, C: Change<T>>(rows: &mut Vec<T>, change: &C)
     requires { 0 < vec_len rows.old }
     ensures rows { rows.new.items ≡ update_last (C.changed change.now) rows.old.items }
@@ -54,6 +58,7 @@ fn change_end<T, C: Change<T>>(rows: &mut Vec<T>, change: &C)
 }
 
 /// Changes the last row, if there is one.
+#[tactic(auto, using(crate::proofs::Steps::seam_change_last_steps))]
 pub fn change_last<T, C: Change<T>>(chunks: &mut [Vec<T>], change: &C)
     requires { AreFilled chunks.old }
     ensures rows { flat chunks.new ≡ update_last (C.changed change.now) (flat chunks.old) }
@@ -75,6 +80,7 @@ pub fn row_at<T>(chunks: &[Vec<T>], chunk: usize, place: usize) -> Option<&T>
 }
 
 /// The row before the place.
+#[tactic(auto, using(crate::proofs::Steps::row_before_steps))]
 pub fn row_before<T>(chunks: &[Vec<T>], chunk: usize, place: usize) -> Option<&T>
     requires filled { AreFilled chunks.now }
     requires chunk { chunk ≤ length chunks.now }
@@ -89,6 +95,7 @@ pub fn row_before<T>(chunks: &[Vec<T>], chunk: usize, place: usize) -> Option<&T
 }
 
 /// Whether all rows of the chunk come before the cut.
+#[tactic(auto, using(crate::proofs::Steps::ends_before_steps))]
 fn ends_before<T, C: Cut<T>>(chunk: &[T], cut: &C) -> bool
     ensures { result ≡ ends_before (C.before cut.now) chunk.now }
 {
@@ -155,6 +162,7 @@ fn likely_chunk<T: Keyed>(chunks: &[Vec<T>], key: u64) -> Option<usize> {
 }
 
 /// Takes out the row at the place, and hands back its chunk if that was the last row there.
+#[tactic(auto, using(crate::proofs::Steps::take_out_steps))]
 pub fn take_out<T>(chunks: &mut Vec<Vec<T>>, chunk: usize, place: usize) -> (T, Option<Vec<T>>)
     requires place { place < length (rows_at chunks.old.items chunk) }
     requires filled { AreFilled chunks.old.items }

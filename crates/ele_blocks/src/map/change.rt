@@ -65,6 +65,7 @@ impl BlockMap {
     /// slot stays, and so does every other map, also one that shared the blocks which are replaced.
     /// No bytes within the content change nothing. Where memory is refused, map and store are as
     /// they were; the store refuses room for more than 2^32 leaves.
+    #[tactic(auto, using(crate::proofs::Cited::reach, crate::proofs::Cited::write_change, crate::proofs::Cited::written_nothing))]
     pub fn write(
         &mut self,
         store: &mut BlockStore,
@@ -101,6 +102,7 @@ impl BlockMap {
     }
 
     /// The bytes of the slots from the first up to where a write of the bytes ends, after this write.
+    #[tactic(auto, using(crate::proofs::Lemmas::piece_more))]
     fn patches(
         &self,
         store: &BlockStore,

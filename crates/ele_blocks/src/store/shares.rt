@@ -24,6 +24,7 @@ fn share_one(blocks: &mut Shared<ByteList>, id: BlockId)
 }
 
 /// Gives the block of each slot one owner more.
+#[tactic(auto, using(crate::proofs::Lemmas::slot_named, crate::proofs::Lemmas::share_next, crate::proofs::Lemmas::share_few, crate::proofs::Lemmas::share_more))]
 pub fn share_all(blocks: &mut Shared<ByteList>, slots: &[Slot])
     requires there { (id : _) → 0 < times id (ids_of slots.now) → 0 < owners blocks.old.slots id }
     requires few { (id : _) → 0 < times id (ids_of slots.now)
@@ -37,6 +38,7 @@ pub fn share_all(blocks: &mut Shared<ByteList>, slots: &[Slot])
 
 impl BlockStore {
     /// Whether no block of the slots has so many owners that more could not be counted.
+    #[tactic(auto, using(crate::proofs::Lemmas::slot_named, crate::proofs::Lemmas::each_more, crate::proofs::Lemmas::owners_at))]
     pub(crate) fn can_share(&self, slots: &[Slot]) -> bool
         requires { AreThere self.now slots.now }
         ensures { IsTrue result
@@ -51,6 +53,7 @@ impl BlockStore {
     }
 
     /// Takes one owner from the block of each slot.
+    #[tactic(auto, using(crate::proofs::Lemmas::release_next, crate::proofs::Lemmas::release_more))]
     pub(crate) fn release_all(&mut self, slots: &[Slot])
         requires { Covers self.old.blocks (ids_of slots.now) }
         ensures trades { Trades self.old.blocks self.new.blocks (ids_of slots.now) [] }

@@ -1,4 +1,4 @@
-use Rattle.ele_lists.proofs.Words.{ap, arith, chunk_read, flat, flat-remove_empty, flat-taken, get_or-set_same, has_chunk, last_room-set, length, length-set, nat_tests, nil_from_length, refl, rows-here, set, slice_get_read, sym, ◌∙◌, ◌≡◌}
+use Rattle.ele_lists.proofs.Words.{ap, arith, chunk_read, flat, flat-remove_empty, flat-taken, get_or-set_same, has_chunk, last_room-set, length, length-set, nat_tests, nil_from_length, refl, set, slice_get_read, sym, ◌∙◌, ◌≡◌}
 use Rattle.ele_lists.proofs.seam.take_out.Goals as goal
 
 pub returns-then-is_empty-clause-rows : goal.returns-then-is_empty-clause-rows
@@ -11,17 +11,6 @@ returns-then-is_empty-clause-rows g c =
     let shown : c.index.result.now ≡ now = c.index.ensures ∙ get_or-set_same cs c.args.chunk now c.index.result.now within in
     let empty = nil_from_length now.items (let none_there = rw shown at c.if-is_empty.ensures in let long = now.ok.0 in grind (arith, nat_tests)) in
     ap flat c.remove.ensures.items ∙ flat-remove_empty _ c.args.chunk now there empty ∙ flat-taken cs c.args.chunk c.args.place _ now here c.remove-row.ensures.items
-
-pub returns-else-is_empty-clause-row : goal.returns-else-is_empty-clause-row
-returns-else-is_empty-clause-row g c =
-    let cs = c.args.chunks.now.items in
-    let rows = rows-here cs c.args.chunk _ (chunk_read cs c.args.chunk c.args.place c.index_mut.result.now c.requires.place c.index_mut.ensures.value) in
-    rw rows (slice_get_read _ _ c.args.place c.remove-row.result refl (rw rows at c.requires.place) c.remove-row.ensures.value)
-
-pub returns-else-is_empty-clause-rows : goal.returns-else-is_empty-clause-rows
-returns-else-is_empty-clause-rows g c =
-    let here = chunk_read c.args.chunks.now.items c.args.chunk c.args.place c.index_mut.result.now c.requires.place c.index_mut.ensures.value in
-    flat-taken c.args.chunks.now.items c.args.chunk c.args.place _ c.remove-row.new.self here c.remove-row.ensures.items
 
 pub returns-else-is_empty-clause-kept : goal.returns-else-is_empty-clause-kept
 returns-else-is_empty-clause-kept g c =

@@ -1,8 +1,5 @@
-use Rattle.ele_blocks.proofs.Cited.{arith, its_bytes, length-drop, length-take, slot_found, slot_owned, slots-count, slots_of, ◌∙◌}
+use Rattle.ele_blocks.proofs.Cited.{arith, its_bytes, slot_found, slot_owned, slots-count, slots_of, ◌∙◌}
 use Rattle.ele_blocks.proofs.map.BlockMap.slot_at.Goals as goal
-
-pub bounds-leaf-slot : goal.bounds-leaf-slot
-bounds-leaf-slot c = grind (arith, length-take, length-drop, slots-count)
 
 pub returns : goal.returns
 returns c =

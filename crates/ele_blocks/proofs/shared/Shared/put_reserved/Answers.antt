@@ -1,19 +1,13 @@
-use Rattle.ele_blocks.proofs.Cited.{ap, arith, HasRoomFor, owned_new, place-counted, room_after, room_in, sets_new, subst, sym, ◌+◌}
+use Rattle.ele_blocks.proofs.Cited.{ap, arith, HasRoomFor, owned_new, room_after, room_in, sets_new, subst, sym, ◌+◌}
 use Rattle.ele_blocks.proofs.shared.Shared.put_reserved.Goals as goal
 
 pub insert_reserved-id-requires : goal.insert_reserved-id-requires
 insert_reserved-id-requires g c = (room_in c.self.inside.values c.self.inside.owners.items 0 (subst (λ v. HasRoomFor v 1) (sym c.self.view_is) c.requires)).0
 
-pub index_mut-requires : goal.index_mut-requires
-index_mut-requires g c = grind (arith, room_in)
-
 pub invariant_of-self : goal.invariant_of-self
 invariant_of-self g c =
     let made = c.insert_reserved-id.ensures in
     owned_new c.self.inside.values.slots c.insert_reserved-id.new.self.slots c.self.inside.owners.items c.insert_reserved-id.result c.args.value c.self.invariant (grind (arith, room_in)) made.updates.changed made.updates.others
-
-pub returns-clause-vacant : goal.returns-clause-vacant
-returns-clause-vacant g c = grind (arith, place-counted c.self.inside.values.slots c.self.inside.owners.items c.insert_reserved-id.result)
 
 pub returns-clause-sets : goal.returns-clause-sets
 returns-clause-sets g c =

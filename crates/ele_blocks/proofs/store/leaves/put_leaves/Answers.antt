@@ -1,9 +1,6 @@
 use Rattle.ele_blocks.proofs.Lemmas.{[], ap, arith, backing_put, chunk_next, length, length-append, length-drop, puts_more, ◌+◌, ◌-◌, ◌∙◌, ◌∷◌}
 use Rattle.ele_blocks.proofs.store.leaves.put_leaves.Goals as goal
 
-pub overflow_cast-put_reserved : goal.overflow_cast-put_reserved
-overflow_cast-put_reserved c = omega (arith, c.put_reserved.ensures.within, c.loop.invariant.numbers)
-
 pub loop-preserved : goal.loop-preserved
 loop-preserved c =
     let h = c.loop.invariant in
