@@ -1,16 +1,13 @@
 -- Numbers of which none stands twice in a list, where one is taken out.
-use Rattle.ele_groups.proofs.Basics.{◌≡◌, ℕ, ◌==◌, Bool, true, false, cond, not, ◌&&◌, List, [], ◌∷◌, refl, ap, arith, filter, list_any, AllByRecursion, nat_tests, remove_first, list_any-remove_first, found_passes}
+use Rattle.ele_groups.proofs.Basics.{◌≡◌, ℕ, ◌==◌, Bool, true, false, not, ◌&&◌, List, [], ◌∷◌, refl, arith, filter, list_any, AllByRecursion, nat_tests, remove_first, list_any-remove_first, found_passes}
 use Rattle.ele_groups.proofs.Words.{AreApart}
 
 pub is_same : (x y : ℕ) → (x == y) ≡ true → x ≡ y
 is_same x y h = grind (arith, nat_tests)
 
-turned : (x y : ℕ) → (x == y) ≡ (y == x)
-turned x y = grind (arith, nat_tests)
-
 pub none_equal : (k : ℕ) (xs : List ℕ) → AllByRecursion (λ y. (k == y) ≡ false) xs → list_any (λ x. x == k) xs ≡ false
 none_equal k [] all = refl
-none_equal k (x ∷ xs) all = rw (turned x k, all.0) (none_equal k xs all.1)
+none_equal k (x ∷ xs) all = grind (arith, nat_tests, none_equal k xs)
 
 -- and once taken out, no more
 pub gone : (k : ℕ) (xs : List ℕ) → AreApart xs → list_any (λ x. x == k) (remove_first (λ x. x == k) xs) ≡ false
@@ -18,7 +15,7 @@ gone k [] apart = refl
 gone k (x ∷ xs) apart = grind (arith, nat_tests, is_same, none_equal, gone k xs apart.1)
 
 pub others : (k t : ℕ) (xs : List ℕ) → (k == t) ≡ false → list_any (λ x. x == t) (remove_first (λ x. x == k) xs) ≡ list_any (λ x. x == t) xs
-others k t xs apart = list_any-remove_first (λ x. x == k) (λ x. x == t) xs (λ x found. let same = is_same x k (found_passes (λ x. x == k) xs x found) in rw same apart)
+others k t xs apart = grind (arith, nat_tests, list_any-remove_first, is_same, found_passes)
 
 both_ways : (b : Bool) → b ≡ (b && true)
 both_ways x0 = grind (arith, nat_tests)
@@ -32,7 +29,7 @@ any_removed k t xs apart = grind (arith, nat_tests, list_any, remove_first, not,
 
 kept_all : (k : ℕ) (xs : List ℕ) → AllByRecursion (λ y. (k == y) ≡ false) xs → xs ≡ filter (λ x. not (x == k)) xs
 kept_all k [] all = refl
-kept_all k (x ∷ xs) all = rw (turned x k, all.0) (ap (λ ys. x ∷ ys) (kept_all k xs all.1))
+kept_all k (x ∷ xs) all = grind (arith, nat_tests, kept_all k xs)
 
 -- what is taken out once is taken out wherever it stands
 pub filtered : (k : ℕ) (xs : List ℕ) → AreApart xs → remove_first (λ x. x == k) xs ≡ filter (λ x. not (x == k)) xs

@@ -1,5 +1,5 @@
 -- A row changed at its serial number, or taken out.
-use Rattle.ele_groups.proofs.Basics.{◌≡◌, ℕ, ◌<◌, ◌≤◌, Bool, true, false, cond, ◌||◌, ◌&&◌, List, [], ◌∷◌, Option, Some, None, refl, ap, arith, inl, inr, find, nat_lt, Result, Ok, Err, OnOk, OnErr, is_at, list_any, AllByRecursion, keys_of, values_of, set_value, remove_entry, option_map, option_map_or, nat_cmp, false≢true, nat_tests, update_first, remove_first, value_at, IsRising, after_head, head_or_later, rest_rises, not_true, at_itself}
+use Rattle.ele_groups.proofs.Basics.{◌≡◌, ℕ, ◌<◌, ◌≤◌, Bool, true, false, ◌&&◌, List, [], ◌∷◌, Option, Some, None, refl, arith, find, Result, OnOk, OnErr, is_at, list_any, AllByRecursion, keys_of, values_of, set_value, remove_entry, option_map, option_map_or, nat_cmp, false≢true, nat_tests, update_first, remove_first, value_at, IsRising, after_head, head_or_later, rest_rises, at_itself}
 use Rattle.ele_groups.proofs.Words.{GroupRow, changed_at}
 
 pub same_serial : (a b : ℕ) → is_at (nat_cmp a) b ≡ true → a ≡ b
@@ -18,17 +18,11 @@ module _ (serial : ℕ) (f : GroupRow → GroupRow) where
   -- a write of the row with f done to it
   pub written : (es : Entries) (v : GroupRow) → value_at es serial ≡ Some v → set_value (is_at (nat_cmp serial)) es (f v) ≡ changed_at serial f es
   written [] v there = refl
-  written (e ∷ es) v there = elim (is_at (nat_cmp serial) e.0) as (λ b. is_at (nat_cmp serial) e.0 ≡ b → cond b ((e.0, f v) ∷ es) (e ∷ set_value (is_at (nat_cmp serial)) es (f v)) ≡ cond b ((e.0, f e.1) ∷ es) (e ∷ changed_at serial f es)) [
-    | true ↦ λ i. let h : Some e.1 ≡ Some v = rw i at there in let same : e.1 ≡ v = cc in rw same refl
-    | false ↦ λ i. ap (λ (l : Entries). e ∷ l) (written es v (rw i at there))
-  ] refl
+  written (e ∷ es) v there = grind (arith, nat_tests, is_at, written es v)
 
   pub unwritten : (es : Entries) → value_at es serial ≡ None → es ≡ changed_at serial f es
   unwritten [] there = refl
-  unwritten (e ∷ es) there = elim (is_at (nat_cmp serial) e.0) as (λ b. is_at (nat_cmp serial) e.0 ≡ b → e ∷ es ≡ cond b ((e.0, f e.1) ∷ es) (e ∷ changed_at serial f es)) [
-    | true ↦ λ i. let h : Some e.1 ≡ None = rw i at there in absurd cc
-    | false ↦ λ i. ap (λ (l : Entries). e ∷ l) (unwritten es (rw i at there))
-  ] refl
+  unwritten (e ∷ es) there = grind (arith, nat_tests, is_at, unwritten es)
 
   pub changed_keys : (es : Entries) → keys_of (changed_at serial f es) ≡ keys_of es
   changed_keys [] = refl
@@ -57,40 +51,17 @@ pub record IsOne (p : GroupRow → Bool) (es : Entries) (serial : ℕ) (v : Grou
 module _ (p : GroupRow → Bool) where
   pub one : (es : Entries) (s : ℕ) (v : GroupRow) → IsRising es → value_at es s ≡ Some v → p v ≡ true → ((t : ℕ) (w : GroupRow) → value_at es t ≡ Some w → p w ≡ true → t ≡ s) → IsOne p es s v
   one [] s v up there passes only = absurd cc
-  one (e ∷ es) s v up there passes only = elim (head_or_later e es s v up there) as (λ _. IsOne p (e ∷ es) s v) [
-    | inl is ↦
-        let own : is_at (nat_cmp s) e.0 ≡ true = rw is.0 (at_itself e.0) in
-        let holds : p e.1 ≡ true = rw is.1 passes in
-        record { found = rw (holds, is.1) refl; changed = λ f. rw (own, holds) refl; removed = rw (own, holds) refl }
-    | inr later ↦
-        let apart : is_at (nat_cmp s) e.0 ≡ false = apart_above e.0 s later.0 in
-        let fails : p e.1 ≡ false = not_true (p e.1) (λ holds. let same = only e.0 e.1 (rw (at_itself e.0) refl) holds in let lt = later.0 in omega (arith, same, lt)) in
-        let rest = one es s v (rest_rises e es up) later.1 passes (λ t w h. only t w (after_head e es t w up h).1) in
-        record {
-          found = rw fails rest.found;
-          changed = λ f. rw (apart, fails) (ap (λ (l : List GroupRow). e.1 ∷ l) (rest.changed f));
-          removed = rw (apart, fails) (ap (λ (l : List GroupRow). e.1 ∷ l) rest.removed);
-        }
-  ]
+  one (e ∷ es) s v up there passes only = grind (arith, nat_tests, at_itself e.0, apart_above e.0 s, only e.0 e.1, head_or_later e es s v up there, after_head e es, one es s v (rest_rises e es up))
 
   -- some row passes
   pub any_value : (es : Entries) (s : ℕ) → option_map_or p (value_at es s) false ≡ true → list_any p (values_of es) ≡ true
   any_value [] s h = absurd (false≢true h)
-  any_value (e ∷ es) s h = elim (is_at (nat_cmp s) e.0) as (λ b. is_at (nat_cmp s) e.0 ≡ b → list_any p (values_of (e ∷ es)) ≡ true) [
-    | true ↦ λ i. let holds : p e.1 ≡ true = rw i at h in rw holds refl
-    | false ↦ λ i. rw (any_value es s (rw i at h)) (or_true (p e.1))
-  ] refl where
-    or_true : (b : Bool) → (b || true) ≡ true
-    or_true true = refl
-    or_true false = refl
+  any_value (e ∷ es) s h = grind (arith, nat_tests, is_at, any_value es s)
 
   -- or none does
   pub no_value : (es : Entries) → IsRising es → ((s : ℕ) → option_map_or p (value_at es s) false ≡ false) → AllByRecursion (λ row. p row ≡ false) (values_of es)
   no_value [] up none = tt
-  no_value (e ∷ es) up none = (rw (at_itself e.0) at (none e.0), no_value es (rest_rises e es up) (λ s. behind s (value_at es s) refl)) where
-    behind : (s : ℕ) (o : Option GroupRow) → value_at es s ≡ o → option_map_or p o false ≡ false
-    behind s None is = refl
-    behind s (Some w) is = rw (after_head e es s w up is).1 at (none s)
+  no_value (e ∷ es) up none = (rw (at_itself e.0) at (none e.0), no_value es (rest_rises e es up) (λ s. grind (arith, nat_tests, none s, after_head e es s)))
 
 -- what follows from a success or a failure
 pub ok_then : {X E A B : Type 0} (r : Result X E) → OnOk r A → (A → B) → OnOk r B

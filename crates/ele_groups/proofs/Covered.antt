@@ -1,5 +1,5 @@
 -- Whether a mark covers, those of the group left out.
-use Rattle.ele_groups.proofs.Basics.{◌≡◌, ℕ, ◌<◌, ◌^◌, ◌==◌, Bool, true, false, ◌&&◌, not, List, [], ◌∷◌, Option, Some, None, refl, sym, ◌∙◌, arith, list_any, AllByRecursion, IsStrictlySortedBy, keys_of, values_of, option_map_or, nat_cmp, false≢true, nat_tests, Index, has, value_at, all-weaker, not_yet}
+use Rattle.ele_groups.proofs.Basics.{◌≡◌, ℕ, ◌<◌, ◌^◌, ◌==◌, Bool, true, false, ◌&&◌, not, List, [], ◌∷◌, Option, None, refl, ◌∙◌, arith, list_any, AllByRecursion, IsStrictlySortedBy, keys_of, values_of, option_map_or, nat_cmp, false≢true, nat_tests, Index, has, value_at, all-weaker, not_yet}
 use Rattle.ele_groups.proofs.Words.{GroupRow, covers_moment, is_group, is_member, is_left_out, has_covering_without, Except, has_covering_but, is_marked_row, ArePlaced, has_file}
 use Rattle.ele_groups.proofs.Changed.{any_value, no_value, both_hold, by_bound}
 use Rattle.ele_groups.proofs.Named.{none_any}
@@ -8,13 +8,9 @@ use Rattle.ele_groups.proofs.Placed.{stands, second_holds}
 -- the whole group is left out
 pub left_out : (name : List ℕ) (closed : ℕ) (ended : Option ℕ) (row : GroupRow) → is_group name row ≡ true → false ≡ has_covering_without name None closed ended row
 left_out name closed ended row is = none row.marks where
-  none_here : (b g : Bool) → g ≡ true → (b && not (g && true)) ≡ false
-  none_here true g e = rw e refl
-  none_here false g e = refl
-
   none : (xs : List ℕ) → false ≡ list_any (λ mark. covers_moment closed ended mark && not (is_group name row && is_left_out None mark)) xs
   none [] = refl
-  none (x ∷ xs) = rw (none_here (covers_moment closed ended x) (is_group name row) is) (none xs)
+  none (x ∷ xs) = grind (arith, nat_tests, is, none xs)
 
 module _ (except : Option Except) (file closed : ℕ) (ended : Option ℕ) (es : List (ℕ × GroupRow)) where
   abbrev covering : GroupRow → Bool

@@ -1,15 +1,12 @@
 -- A file taken out of the groups that have it.
-use Rattle.ele_groups.proofs.Basics.{nat_tests, ◌≡◌, ℕ, ◌==◌, ◌<◌, true, false, cond, ◌||◌, not, List, [], ◌∷◌, length, refl, ap, arith, filter, is_at, list_any, AllByRecursion, values_of, nat_cmp, true≢false, false≢true, value_at}
+use Rattle.ele_groups.proofs.Basics.{nat_tests, ◌≡◌, ℕ, ◌==◌, ◌<◌, true, false, not, List, [], ◌∷◌, length, refl, ap, arith, filter, is_at, list_any, AllByRecursion, values_of, false≢true, value_at}
 use Rattle.ele_groups.proofs.Words.{GroupRow, forgets, forgotten, is_member, changed_at, has_file}
 use Rattle.ele_groups.proofs.Changed.{Entries}
 
 module _ (file : ℕ) where
   all_others : (xs : List ℕ) → list_any (λ member. member == file) xs ≡ false → filter (λ member. not (member == file)) xs ≡ xs
   all_others [] none = refl
-  all_others (x ∷ xs) none = elim (x == file) as (λ b. (b || list_any (λ member. member == file) xs) ≡ false → cond (not b) (x ∷ filter (λ member. not (member == file)) xs) (filter (λ member. not (member == file)) xs) ≡ x ∷ xs) [
-    | true ↦ λ h. absurd (true≢false h)
-    | false ↦ λ h. ap (λ ys. x ∷ ys) (all_others xs h)
-  ] none
+  all_others (x ∷ xs) none = grind (arith, nat_tests, not, all_others xs)
 
   none_left : (xs : List ℕ) → list_any (λ member. member == file) (filter (λ member. not (member == file)) xs) ≡ false
   none_left [] = refl
@@ -18,7 +15,7 @@ module _ (file : ℕ) where
   -- what no group has is forgotten
   pub none_forgotten : (rows : List GroupRow) → AllByRecursion (λ row. is_member file row ≡ false) rows → forgotten file rows ≡ rows
   none_forgotten [] none = refl
-  none_forgotten (row ∷ rows) none = rw (none_forgotten rows none.1) (ap (λ (l : List ℕ). record row { members = l } ∷ rows) (all_others row.members none.0))
+  none_forgotten (row ∷ rows) none = grind (arith, nat_tests, all_others, none_forgotten rows)
 
   forgets_again : (row : GroupRow) → forgets file (forgets file row) ≡ forgets file row
   forgets_again row = ap (λ (l : List ℕ). record row { members = l }) (all_others (filter (λ member. not (member == file)) row.members) (none_left row.members))
@@ -32,12 +29,4 @@ module _ (file : ℕ) where
     -- and then fewer have it
     pub fewer_have : (es : Entries) → has_file file (value_at es s) ≡ true → length (filter (is_member file) (values_of (changed_at s (forgets file) es))) < length (filter (is_member file) (values_of es))
     fewer_have [] here = absurd (false≢true here)
-    fewer_have (e ∷ es) here = elim (is_at (nat_cmp s) e.0) as (λ b. is_at (nat_cmp s) e.0 ≡ b → length (filter (is_member file) (values_of (cond b ((e.0, forgets file e.1) ∷ es) (e ∷ changed_at s (forgets file) es)))) < length (filter (is_member file) (values_of (e ∷ es)))) [
-      | true ↦ λ i. let has : is_member file e.1 ≡ true = rw i at here in rw (has, none_left e.1.members) (omega arith)
-      | false ↦ λ i.
-          let rest = fewer_have es (rw i at here) in
-          elim (is_member file e.1) as (λ b. length (cond b (e.1 ∷ filter (is_member file) (values_of (changed_at s (forgets file) es))) (filter (is_member file) (values_of (changed_at s (forgets file) es)))) < length (cond b (e.1 ∷ filter (is_member file) (values_of es)) (filter (is_member file) (values_of es)))) [
-            | true ↦ omega (arith, rest)
-            | false ↦ rest
-          ]
-    ] refl
+    fewer_have (e ∷ es) here = grind (arith, nat_tests, is_at, none_left, fewer_have es)

@@ -1,19 +1,16 @@
 -- Marks and their times, after a change, and within bounds.
-use Rattle.ele_groups.proofs.Basics.{◌≡◌, ℕ, ◌==◌, Bool, true, false, cond, not, ◌||◌, ◌&&◌, List, [], ◌∷◌, ◌++◌, Option, Some, None, is_some, refl, sym, ap, ◌∙◌, arith, ◌+◌, min, max, nat_lt, is_at, BTreeSet, contains, list_any, MatchOption, nat_cmp, is_gt, Less, true≢false, false≢true, nat_tests, list_any-append, remove_first, later-push, later-remove_first, all-none}
+use Rattle.ele_groups.proofs.Basics.{◌≡◌, ℕ, ◌==◌, Bool, true, false, cond, not, ◌||◌, ◌&&◌, List, [], ◌∷◌, ◌++◌, Option, Some, None, is_some, refl, sym, ◌∙◌, arith, ◌+◌, min, max, nat_lt, is_at, BTreeSet, contains, list_any, MatchOption, nat_cmp, is_gt, Less, false≢true, nat_tests, list_any-append, remove_first, later-push, later-remove_first, all-none}
 use Rattle.ele_groups.proofs.Words.{covers_moment, AreTimed}
 use Rattle.ele_groups.proofs.Apart.{is_same, gone, others}
 
 same_at : (k t : ℕ) → is_at (nat_cmp k) t ≡ (k == t)
 same_at k t = grind (arith, nat_tests)
 
-choice : (b : Bool) (c : Bool) → cond b true c ≡ (c || (b || false))
-choice x0 x1 = grind (arith, nat_tests)
-
 module _ (made : List ℕ) (times new : BTreeSet ℕ) (timed : AreTimed made times) (mark : ℕ) where
   pub timed_with : (k : ℕ) → k ≡ mark → list_any (λ x. x == mark) made ≡ false → ((t : ℕ) → contains nat_cmp new t ≡ cond (is_at (nat_cmp k) t) true (contains nat_cmp times t)) → AreTimed (made ++ mark ∷ []) new
   timed_with k is fresh changed = record {
     apart = later-push (λ x y. (x == y) ≡ false) made mark timed.apart (all-none (λ x. x == mark) made fresh);
-    same = λ t. changed t ∙ rw (is, same_at mark t, timed.same t, list_any-append (λ x. x == t) made (mark ∷ [])) (choice (mark == t) (list_any (λ x. x == t) made));
+    same = λ t. grind (arith, nat_tests, changed t, timed.same t, list_any-append (λ x. x == t) made (mark ∷ []), same_at);
   }
 
   pub timed_without : (k : ℕ) → k ≡ mark → ((t : ℕ) → contains nat_cmp new t ≡ cond (is_at (nat_cmp k) t) false (contains nat_cmp times t)) → AreTimed (remove_first (λ x. x == mark) made) new
@@ -22,26 +19,11 @@ module _ (made : List ℕ) (times new : BTreeSet ℕ) (timed : AreTimed made tim
 module _ (p : ℕ → Bool) where
   any_at : (k : ℕ) (xs : List ℕ) → list_any (λ x. x == k) xs ≡ true → p k ≡ true → list_any p xs ≡ true
   any_at k [] h passes = absurd (false≢true h)
-  any_at k (x ∷ xs) h passes = elim (x == k) as (λ b. (x == k) ≡ b → (p x || list_any p xs) ≡ true) [
-    | true ↦ λ e. let same = is_same x k e in rw (same, passes) refl
-    | false ↦ λ e. rw (any_at k xs (rw e at h) passes) (or_true (p x))
-  ] refl where
-    or_true : (b : Bool) → (b || true) ≡ true
-    or_true true = refl
-    or_true false = refl
+  any_at k (x ∷ xs) h passes = grind (arith, nat_tests, is_same, any_at k xs)
 
   none_at : (xs : List ℕ) → ((k : ℕ) → p k ≡ true → list_any (λ x. x == k) xs ≡ false) → list_any p xs ≡ false
   none_at [] none = refl
-  none_at (x ∷ xs) none = elim (p x) as (λ b. p x ≡ b → (b || list_any p xs) ≡ false) [
-    | true ↦ λ e. absurd (true≢false (rw (itself x) at (none x e)))
-    | false ↦ λ e. none_at xs (λ k passes. rest (x == k) (list_any (λ x. x == k) xs) (none k passes))
-  ] refl where
-    itself : (x : ℕ) → (x == x) ≡ true
-    itself x = grind (arith, nat_tests)
-
-    rest : (b c : Bool) → (b || c) ≡ false → c ≡ false
-    rest true c h = absurd (true≢false h)
-    rest false c h = h
+  none_at (x ∷ xs) none = grind (arith, nat_tests, none_at xs)
 
   module _ (made : List ℕ) (times : BTreeSet ℕ) (timed : AreTimed made times) where
     -- whether a time was found that passes
@@ -100,7 +82,7 @@ module _ (made : List ℕ) (times : BTreeSet ℕ) (timed : AreTimed made times) 
     not_true false h = refl
 
   pub none_from : ((k : ℕ) → is_gt (nat_cmp from k) ≡ false → contains nat_cmp times k ≡ false) → false ≡ list_any (covers_moment from (Some until)) made
-  none_from none = sym (none_at (covers_moment from (Some until)) made (λ k passes. sym (timed.same k) ∙ none k (within from until k passes).0))
+  none_from none = grind (arith, nat_tests, none_at, within)
 
 -- the first of two answers, or the second
 pub first_answer : (r a b whole : Bool) → r ≡ a → r ≡ true → (a || b) ≡ whole → r ≡ whole

@@ -1,5 +1,5 @@
 -- A row at the end of the others.
-use Rattle.ele_names.proofs.Basics.{◌≡◌, ℕ, Bool, true, false, subst, ◌+◌, ◌≤◌, ◌<◌, ◌^◌, cond, List, [], ◌∷◌, ◌++◌, length, Some, None, Option, refl, sym, ap, ◌∙◌, arith, AllByRecursion, IsStrictlySortedBy, option_map_or, nat_cmp, is_at, insert_entry, keys_of, values_of, nat_tests, map-append, value_at, is_placed, index_same, count_by, nat_cmp_total, lookup-insert_entry, sorted-insert_entry, all-push, all-weaker, later-push, pushed, not_yet, split_at, all-mid}
+use Rattle.ele_names.proofs.Basics.{◌≡◌, ℕ, false, ◌+◌, ◌≤◌, ◌<◌, ◌^◌, cond, List, [], ◌∷◌, ◌++◌, length, Some, None, Option, refl, sym, ap, ◌∙◌, arith, AllByRecursion, IsStrictlySortedBy, option_map_or, nat_cmp, is_at, insert_entry, keys_of, values_of, nat_tests, map-append, value_at, is_placed, index_same, count_by, nat_cmp_total, lookup-insert_entry, sorted-insert_entry, all-push, all-weaker, later-push, pushed, not_yet, split_at, all-mid}
 use Rattle.ele_names.proofs.Words.{last_moment, Target, NameRow, Lives, Places, Table, AreCounted, AreNumbered, IsKept, IsTable, rows_of, ArePlaced, AreListed, KeepsPlaces, names_of, number_in, is_of, live_of, is_live_of, Follows}
 use Rattle.ele_names.proofs.Chained.{chained_same}
 use Rattle.ele_names.proofs.Live.{numbered_same}
@@ -14,13 +14,7 @@ placed_same names at to places same placed = record {
 -- a row that comes and goes again leaves the places as they were
 pub placed_back : (names : List (ℕ × List ℕ)) (es : List (ℕ × NameRow)) (n : ℕ) (row : NameRow) → value_at es n ≡ None → (places : Places)
     → ArePlaced names (λ s. cond (is_at (nat_cmp n) s) None (cond (is_at (nat_cmp n) s) (Some row) (value_at es s))) places → ArePlaced names (value_at es) places
-placed_back names es n row fresh places placed = placed_same names _ (value_at es) places (λ s. same s (is_at (nat_cmp n) s) refl) placed where
-  number : (n s : ℕ) → is_at (nat_cmp n) s ≡ true → n ≡ s
-  number n s at = grind (arith, nat_tests)
-
-  same : (s : ℕ) (b : Bool) → is_at (nat_cmp n) s ≡ b → value_at es s ≡ cond b None (cond b (Some row) (value_at es s))
-  same s true at = subst (λ k. value_at es k ≡ None) (number n s at) fresh
-  same s false at = refl
+placed_back names es n row fresh places placed = placed_same names _ (value_at es) places (λ s. grind (arith, nat_tests, fresh)) placed
 
 -- no row
 pub table_new : (names : List (ℕ × List ℕ)) (t : Table) → t.rows.entries ≡ [] → ArePlaced names (λ _. None) t.places → IsTable names t
@@ -104,13 +98,7 @@ module _ (table : Table) (lives : Lives) (kept : IsKept table lives) where
   module _ (made : ℕ) (below : AllByRecursion (λ k. k < made) (keys_of table.rows.entries)) where
     -- with places that say the same
     pub kept_placed : (t : Table) → t.rows.entries ≡ table.rows.entries → ArePlaced (names_of lives) (value_at table.rows.entries) t.places → ((target : Target) → live_of t.places target ≡ live_of table.places target) → IsKept t lives
-    kept_placed t is placed live = record {
-      is_table = table_same (names_of lives) table kept.is_table made below t is placed;
-      listed = kept.listed;
-      counts = rw is kept.counts;
-      numbered = rw is kept.numbered;
-      targets = rw is (λ target. live target ∙ kept.targets target);
-    }
+    kept_placed t is placed live = grind (arith, nat_tests, table_same, names_of)
 
     pub kept_pushed : (row : NameRow) (t : Table) (new : Lives) → names_of new ≡ names_of lives → AreListed new → t.rows.entries ≡ insert_entry nat_cmp table.rows.entries made row
         → made + 1 < 2 ^ 64 → row.birth ≤ last_moment → number_in (names_of lives) row < length (names_of lives) → AllByRecursion (λ earlier. Follows earlier row) (rows_of table)

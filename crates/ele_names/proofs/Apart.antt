@@ -1,10 +1,9 @@
 -- Rows of one name are over when a later one is born, so the newest decides.
-use Rattle.ele_names.proofs.Basics.{◌≡◌, ℕ, ◌≤◌, Bool, true, false, ◌&&◌, ◌==◌, nat_le, nat_lt, List, [], ◌∷◌, Some, Option, is_none, refl, ap, sym, ◌∙◌, arith, find, cond, AllByRecursion, option_map_or, bytes_eq, false≢true, nat_tests, bytes_eq-Decides, AllLater, last_passing, passing, later-weaker, find_last}
+use Rattle.ele_names.proofs.Basics.{◌≡◌, ℕ, ◌≤◌, Bool, true, false, ◌&&◌, ◌==◌, nat_le, nat_lt, List, [], ◌∷◌, Some, Option, is_none, refl, ap, sym, ◌∙◌, arith, find, AllByRecursion, option_map_or, bytes_eq, false≢true, nat_tests, bytes_eq-Decides, AllLater, last_passing, passing, later-weaker, find_last}
 use Rattle.ele_names.proofs.Words.{last_moment, NameRow, is_named, covers, lives_past, is_live_name, is_born_by, Follows}
 
 pub split : (a b : Bool) → (a && b) ≡ true → (a ≡ true) × (b ≡ true)
-split true b h = (refl, h)
-split false b h = absurd (false≢true h)
+split a b h = grind (arith, nat_tests)
 
 pub equal : (a b : ℕ) → (a == b) ≡ true → a ≡ b
 equal a b h = grind (arith, nat_tests)
@@ -27,14 +26,13 @@ named_and_live d n row = grind (arith, nat_tests, bytes_eq, is_none, false≢tru
 
 find_same : {X : Type 0} (p q : X → Bool) (xs : List X) → ((x : X) → p x ≡ q x) → find p xs ≡ find q xs
 find_same p q [] same = refl
-find_same p q (x ∷ xs) same = rw (same x) (ap (λ o. cond (q x) (Some x) o) (find_same p q xs same))
+find_same p q (x ∷ xs) same = grind (arith, nat_tests, same x, find_same p q xs same)
 
 regroup : (a b c : Bool) → (a && (b && c)) ≡ ((a && b) && c)
-regroup true b c = refl
-regroup false b c = refl
+regroup a b c = grind (arith, nat_tests)
 
 over : (o : Option ℕ) (death b t : ℕ) → o ≡ Some death → death ≤ b → b ≤ t → option_map_or (λ death. nat_lt t death) o true ≡ false
-over o death b t is le up = rw is (grind (arith, nat_tests))
+over o death b t is le up = grind (arith, nat_tests)
 
 module _ (d : ℕ) (n : List ℕ) (rows : List NameRow) (apart : AllLater Follows rows) where
   -- the row that covers a moment is the newest by then, if it lives on
@@ -54,7 +52,4 @@ module _ (d : ℕ) (n : List ℕ) (rows : List NameRow) (apart : AllLater Follow
 -- all rows are born by the greatest number of seconds
 pub born_by_end : (d : ℕ) (n : List ℕ) (rows : List NameRow) → AllByRecursion (λ row. row.birth ≤ last_moment) rows → last_passing (is_born_by d n 18446744073709551615) rows ≡ last_passing (is_named d n) rows
 born_by_end d n [] all = refl
-born_by_end d n (row ∷ rows) all = rw (born_by_end d n rows all.1, same (is_named d n row) row.birth all.0) refl where
-  same : (a : Bool) (b : ℕ) → b ≤ last_moment → (a && nat_le b 18446744073709551615) ≡ a
-  same true b h = grind (arith, nat_tests)
-  same false b h = refl
+born_by_end d n (row ∷ rows) all = grind (arith, nat_tests, born_by_end d n rows all.1)

@@ -7,9 +7,6 @@ use Rattle.ele_names.proofs.Live.{same_serial}
 apart : (n s : ℕ) → s < n → is_at (nat_cmp n) s ≡ false
 apart n s h = grind (arith, nat_tests)
 
-beyond : (n s : ℕ) → n < s → is_at (nat_cmp n) s ≡ false
-beyond n s h = grind (arith, nat_tests)
-
 after : (n s : ℕ) → is_at (nat_cmp n) s ≡ false → n ≤ s → n < s
 after n s h le = grind (arith, nat_tests)
 
@@ -31,15 +28,9 @@ module _ {X Y : Type 0} (f : Option X → Y) where
   pub set_seen : (xs : List X) (n : ℕ) (v : X) → n < length xs → (s : ℕ) → f (slice_get (slice_set xs n v) s) ≡ cond (nat_eq n s) (f (Some v)) (f (slice_get xs s))
   set_seen [] n v lt s = absurd (omega (arith, lt))
   set_seen (x ∷ xs) zero v lt zero = refl
-  set_seen (x ∷ xs) zero v lt (suc s) = rw (first s) refl where
-    first : (s : ℕ) → nat_eq zero (suc s) ≡ false
-    first s = grind (arith, nat_tests)
-  set_seen (x ∷ xs) (suc n) v lt zero = rw (later n) refl where
-    later : (n : ℕ) → nat_eq (suc n) zero ≡ false
-    later n = grind (arith, nat_tests)
-  set_seen (x ∷ xs) (suc n) v lt (suc s) = rw (both n s) (set_seen xs n v (omega (arith, lt)) s) where
-    both : (n s : ℕ) → nat_eq (suc n) (suc s) ≡ nat_eq n s
-    both n s = grind (arith, nat_tests)
+  set_seen (x ∷ xs) zero v lt (suc s) = grind (arith, nat_tests)
+  set_seen (x ∷ xs) (suc n) v lt zero = grind (arith, nat_tests)
+  set_seen (x ∷ xs) (suc n) v lt (suc s) = grind (arith, nat_tests, set_seen xs n v (omega (arith, lt)) s)
 
   pub same_seen : (xs : List X) (n : ℕ) (v : X) → f (Some v) ≡ f (slice_get xs n) → (s : ℕ) → f (slice_get (slice_set xs n v) s) ≡ f (slice_get xs s)
   same_seen [] n v same s = refl
@@ -51,32 +42,17 @@ module _ {X Y : Type 0} (f : Option X → Y) where
 -- what passes alike has the same last
 last_same : (p q : ℕ → Bool) (bound : ℕ) (o : Option ℕ) → ((s : ℕ) → s < bound → q s ≡ p s) → IsLastBelow p bound o → IsLastBelow q bound o
 last_same p q bound None same none = λ s lt. same s lt ∙ none s lt
-last_same p q bound (Some r) same last = record {
-  there = same r last.below ∙ last.there;
-  below = last.below;
-  last = λ s over lt. same s lt ∙ last.last s over lt;
-}
+last_same p q bound (Some r) same last = grind (arith, nat_tests, same, last.last)
 
 -- where nothing passes between two bounds, the last below the one is that below the other
 module _ (p : ℕ → Bool) (low high : ℕ) (le : low ≤ high) (none : (s : ℕ) → low ≤ s → s < high → p s ≡ false) where
   last_lower : (o : Option ℕ) → IsLastBelow p high o → IsLastBelow p low o
   last_lower None last = λ s lt. last s (omega (arith, le, lt))
-  last_lower (Some r) last = record {
-    there = last.there;
-    below = elim (cases_lt r low) as (λ _. r < low) [
-      | inl is ↦ is
-      | inr over ↦ absurd (false≢true (sym (none r over last.below) ∙ last.there))
-    ];
-    last = λ s over lt. last.last s over (omega (arith, le, lt));
-  }
+  last_lower (Some r) last = grind (arith, nat_tests, none r, last.last)
 
   last_higher : (o : Option ℕ) → IsLastBelow p low o → IsLastBelow p high o
-  last_higher None last = λ s lt. elim (cases_lt s low) as (λ _. p s ≡ false) [ inl is ↦ last s is | inr over ↦ none s over lt ]
-  last_higher (Some r) last = record {
-    there = last.there;
-    below = omega (arith, le, last.below);
-    last = λ s over lt. elim (cases_lt s low) as (λ _. p s ≡ false) [ inl is ↦ last.last s over is | inr past ↦ none s past lt ];
-  }
+  last_higher None last = λ s lt. grind (arith, nat_tests, last s, none s)
+  last_higher (Some r) last = grind (arith, nat_tests, none, last.last)
 
 module _ {X : Type 0} (belongs : ℕ → X → Bool) where
   -- members of the same groups are chained alike
@@ -105,13 +81,10 @@ module _ {X : Type 0} (belongs : ℕ → X → Bool) where
     none_stands g s le = rw (fresh s le) refl
 
     first : (g s : ℕ) → is_member belongs at g s ≡ true → s < number
-    first g s is = elim (cases_lt s number) as (λ _. s < number) [ inl before ↦ before | inr over ↦ absurd (false≢true (sym (none_stands g s over) ∙ is)) ]
+    first g s is = grind (arith, nat_tests, none_stands g s)
 
     pub chained_kept : (old new : Chains) → Keeps number old new → AreChained belongs at old → AreChained belongs at new
-    chained_kept old new keeps was = record {
-      newest = λ g. rw (keeps.newest g) (was.newest g);
-      older = λ g s is. let prior = was.older g s is in record { number = prior.number; there = keeps.older s prior.number (first g s is) prior.there; last = prior.last };
-    }
+    chained_kept old new keeps was = grind (arith, nat_tests, first)
 
     module _ (x : X) where
       abbrev entered : ℕ → Option X
@@ -122,14 +95,10 @@ module _ {X : Type 0} (belongs : ℕ → X → Bool) where
 
       -- nothing else comes behind the others
       pub none_behind : (g s : ℕ) → number < s → is_member belongs entered g s ≡ false
-      none_behind g s over = rw (beyond number s over) (none_stands g s (omega (arith, over)))
+      none_behind g s over = grind (arith, nat_tests, none_stands g s)
 
       others : (g : ℕ) → belongs g x ≡ false → (s : ℕ) → is_member belongs entered g s ≡ is_member belongs at g s
       others g not s = grind (arith, nat_tests, is_at, nat_cmp, option_map_or, is_member, same_serial, none_stands)
-
-      -- what belongs to no group comes
-      pub chained_beside : (chains : Chains) → ((g : ℕ) → belongs g x ≡ false) → AreChained belongs at chains → AreChained belongs entered chains
-      chained_beside chains none = chained_same at entered chains (λ g s. others g (none g) s)
 
       pub chained_entered : (group : ℕ) → ((g : ℕ) → belongs g x ≡ nat_eq group g) → (old new : Chains) → number < 2 ^ 64 → Gains group number old new → AreChained belongs at old → AreChained belongs entered new
       chained_entered group its old new short gains was = record { newest = newest; older = older } where
@@ -176,16 +145,9 @@ module _ {X : Type 0} (belongs : ℕ → X → Bool) where
     unlike : (g : ℕ) → belongs g x ≡ false → (s : ℕ) → is_member belongs left g s ≡ is_member belongs at g s
     unlike g not s = grind (arith, nat_tests, is_at, nat_cmp, option_map_or, is_member, same_serial)
 
-    -- what belongs to no group goes
-    pub chained_without : (chains : Chains) → ((g : ℕ) → belongs g x ≡ false) → AreChained belongs at chains → AreChained belongs left chains
-    chained_without chains none = chained_same at left chains (λ g s. unlike g (none g) s)
-
     -- the group of a member has a newest one
     pub newest_known : (g : ℕ) → belongs g x ≡ true → (old : Chains) → number < 2 ^ 64 → AreChained belongs at old → IsSome (newest_in old g)
-    newest_known g its old short was = by (newest_in old g) (was.newest g) where
-      by : (o : Option ℕ) → IsLastBelow (is_member belongs at g) (2 ^ 64) o → IsSome o
-      by None none = absurd (false≢true (sym (none number short) ∙ rw there its))
-      by (Some r) last = refl
+    newest_known g its old short was = grind (arith, nat_tests, was.newest g)
 
     module _ (group : ℕ) (its : (g : ℕ) → belongs g x ≡ nat_eq group g) (newest_of : (s : ℕ) → number < s → is_member belongs at group s ≡ false) where
       equal : (g : ℕ) → nat_eq group g ≡ true → group ≡ g

@@ -1,24 +1,19 @@
 -- Live rows and counts of them, where one comes or goes.
-use Rattle.ele_names.proofs.Basics.{◌≡◌, ℕ, ◌+◌, ◌-◌, ◌==◌, ◌&&◌, Bool, true, false, cond, not, nat_lt, is_none, List, [], ◌∷◌, ◌++◌, Some, None, refl, sym, ◌∙◌, arith, count_by, list_any, AllByRecursion, true≢false, AllLater, all-append, later-around, all-any, all-weaker, sum_by-around, sum_by-same, any-count, nat_tests}
+use Rattle.ele_names.proofs.Basics.{◌≡◌, ℕ, ◌+◌, ◌-◌, ◌==◌, ◌&&◌, Bool, true, false, cond, not, nat_lt, is_none, List, [], ◌∷◌, ◌++◌, Some, None, refl, arith, count_by, list_any, AllByRecursion, AllLater, all-append, later-around, all-any, all-weaker, sum_by-around, sum_by-same, any-count, nat_tests}
 use Rattle.ele_names.proofs.Words.{NameRow, Target, Directory, File, is_live_name_of, is_target_file, is_live_in, is_target_directory, is_live_directory, is_named, is_live_name, live_target, is_live_of, Leaves, Follows, target_eq}
 use Rattle.ele_names.proofs.Apart.{named_and_live, named_dead, same_name}
 
 -- what a test counts of one row that is live, or dead
 pub live_one : (a b : Bool) → b ≡ true → ◌≡◌ {A = ℕ} (cond (a && b) 1 0) (cond a 1 0)
-live_one true b h = rw h refl
-live_one false b h = refl
+live_one a b h = grind (arith, nat_tests)
 
 pub dead_one : (a b : Bool) → b ≡ false → ◌≡◌ {A = ℕ} (cond (a && b) 1 0) 0
-dead_one true b h = rw h refl
-dead_one false b h = refl
+dead_one a b h = grind (arith, nat_tests)
 
 -- what is live of a name, without a row that isn't
 target_around : (d : ℕ) (n : List ℕ) (before : List NameRow) (row : NameRow) (behind : List NameRow) → is_live_name d n row ≡ false → live_target (before ++ row ∷ behind) d n ≡ live_target (before ++ behind) d n
-target_around d n [] row behind h = rw h refl
-target_around d n (b ∷ before) row behind h = elim (is_live_name d n b) as (λ t. is_live_name d n b ≡ t → live_target (b ∷ before ++ row ∷ behind) d n ≡ live_target (b ∷ before ++ behind) d n) [
-  | true ↦ λ e. rw e refl
-  | false ↦ λ e. rw e (target_around d n before row behind h)
-] refl
+target_around d n [] row behind h = grind (arith, nat_tests)
+target_around d n (b ∷ before) row behind h = grind (arith, nat_tests, target_around d n before row behind h)
 
 none_named : (d : ℕ) (n : List ℕ) (rows : List NameRow) → AllByRecursion (λ row. is_live_name d n row ≡ false) rows → live_target rows d n ≡ None
 none_named d n [] none = refl
@@ -30,17 +25,10 @@ module _ (row : NameRow) (before behind : List NameRow) (apart : AllLater Follow
     its_name = named_and_live d n row
 
     earlier : is_live_name d n row ≡ true → AllByRecursion (λ b. is_live_name d n b ≡ false) before
-    earlier is = all-weaker (λ b. Follows b row) (λ b. is_live_name d n b ≡ false) before
-        (λ b follows. named_dead d n b (λ named. let same = same_name d n b row named (its_name is).0 in rw (follows.apart same.0 same.1).1 refl))
-        (later-around Follows before row behind apart).0
+    earlier is = all-weaker (λ b. Follows b row) (λ b. is_live_name d n b ≡ false) before (λ b follows. grind (arith, nat_tests, is, its_name, named_dead d n b, same_name d n b row, follows.apart)) (later-around Follows before row behind apart).0
 
     later : is_live_name d n row ≡ true → AllByRecursion (λ b. is_live_name d n b ≡ false) behind
-    later is = all-weaker (Follows row) (λ b. is_live_name d n b ≡ false) behind
-        (λ b follows. named_dead d n b (λ named.
-        let same = same_name d n row b (its_name is).0 named in
-        let dead : is_none row.death ≡ false = rw (follows.apart same.0 same.1).1 refl in
-        absurd (true≢false (sym (its_name is).1 ∙ dead))))
-        (later-around Follows before row behind apart).1
+    later is = all-weaker (Follows row) (λ b. is_live_name d n b ≡ false) behind (λ b follows. grind (arith, nat_tests, is, its_name, named_dead d n b, same_name d n row b, follows.apart)) (later-around Follows before row behind apart).1
 
     stands : (xs : List NameRow) → AllByRecursion (λ b. is_live_name d n b ≡ false) xs → is_live_name d n row ≡ true → live_target (xs ++ row ∷ behind) d n ≡ Some row.target
     stands [] none is = rw is refl

@@ -1,5 +1,5 @@
 -- A name more, which is live nowhere.
-use Rattle.ele_names.proofs.Basics.{◌≡◌, ℕ, ◌+◌, ◌<◌, ◌≤◌, ◌^◌, Bool, IsSome, true, false, cond, List, [], ◌∷◌, ◌++◌, length, slice_get, Option, Some, None, refl, sym, ap, subst, ◌∙◌, arith, length-append, inl, inr, option_and_then, option_map_or, nat_cmp, is_at, get, keys_of, length-map, map-append, get_or_append_left, get_or_push, slice_get_past, slice_get-get_or, cases_lt, nat_tests, insert_entry-new}
+use Rattle.ele_names.proofs.Basics.{◌≡◌, ℕ, ◌<◌, ◌^◌, Bool, IsSome, true, false, cond, List, [], ◌∷◌, ◌++◌, length, slice_get, Option, Some, None, refl, sym, ap, ◌∙◌, arith, length-append, option_map_or, nat_cmp, is_at, get, keys_of, length-map, map-append, get_or_append_left, get_or_push, slice_get_past, slice_get-get_or, nat_tests, insert_entry-new}
 use Rattle.ele_names.proofs.Words.{Target, Live, Lives, live_at, AreListed, name_eq, names_of, place_in}
 use Rattle.std.specs.Bool.{nat_eq}
 use Rattle.ele_names.specs.Chained.{Gains, Keeps, newest_in}
@@ -13,18 +13,7 @@ stands_in d name = nat_eq name.0 d
 
 -- the element behind a list
 got_pushed : {X : Type 0} (xs : List X) (x : X) (s : ℕ) → slice_get (xs ++ x ∷ []) s ≡ cond (is_at (nat_cmp (length xs)) s) (Some x) (slice_get xs s)
-got_pushed xs x s = elim (is_at (nat_cmp (length xs)) s) as (λ b. is_at (nat_cmp (length xs)) s ≡ b → slice_get (xs ++ x ∷ []) s ≡ cond b (Some x) (slice_get xs s)) [
-  | true ↦ λ e. let same : length xs ≡ s = here (length xs) s e in slice_get-get_or (xs ++ x ∷ []) s x (rw (length-append xs (x ∷ [])) (omega (arith, same))) ∙ ap Some (get_or_push xs x x s same)
-  | false ↦ λ e. elim (cases_lt s (length xs)) as (λ _. slice_get (xs ++ x ∷ []) s ≡ slice_get xs s) [
-    | inl before ↦ slice_get-get_or (xs ++ x ∷ []) s x (rw (length-append xs (x ∷ [])) (omega (arith, before))) ∙ ap Some (get_or_append_left xs (x ∷ []) x s before) ∙ sym (slice_get-get_or xs s x before)
-    | inr behind ↦ slice_get_past (xs ++ x ∷ []) s (rw (length-append xs (x ∷ [])) (past (length xs) s e behind)) ∙ sym (slice_get_past xs s behind)
-  ]
-] refl where
-  here : (l s : ℕ) → is_at (nat_cmp l) s ≡ true → l ≡ s
-  here l s e = grind (arith, nat_tests)
-
-  past : (l s : ℕ) → is_at (nat_cmp l) s ≡ false → l ≤ s → l + 1 ≤ s
-  past l s e h = grind (arith, nat_tests)
+got_pushed xs x s = grind (arith, nat_tests, slice_get-get_or (xs ++ x ∷ []) s x, length-append xs (x ∷ []), get_or_push xs x x s, get_or_append_left xs (x ∷ []) x s, slice_get-get_or xs s x, slice_get_past (xs ++ x ∷ []) s, slice_get_past xs s)
 
 module _ (old new : Lives) (d : ℕ) (n : List ℕ) (unknown : place_in (names_of old) d n ≡ length (names_of old)) where
   pub names_pushed : new.by_name.entries ≡ insert_entry name_eq old.by_name.entries (d, n) None → names_of new ≡ names_of old ++ (d, n) ∷ []
@@ -34,10 +23,7 @@ module _ (old new : Lives) (d : ℕ) (n : List ℕ) (unknown : place_in (names_o
 
   -- the others are live as they were
   pub same_live : ((k : ℕ × List ℕ) → get name_eq new.by_name k ≡ cond (name_eq (d, n) k) (Some None) (get name_eq old.by_name k)) → (e : ℕ) (m : List ℕ) → live_at new e m ≡ live_at old e m
-  same_live updated e m = ap (option_and_then (λ live. live)) (updated (e, m)) ∙ elim (name_eq (d, n) (e, m)) as (λ b. name_eq (d, n) (e, m) ≡ b → option_and_then (λ live. live) (cond b (Some None) (get name_eq old.by_name (e, m))) ≡ live_at old e m) [
-    | true ↦ λ f. sym (ap (option_and_then (λ live. live)) (subst (λ (k : ℕ × List ℕ). get name_eq old.by_name k ≡ None) (exact (d, n) (e, m) f) (missing old.by_name d n unknown)))
-    | false ↦ λ f. refl
-  ] refl
+  same_live updated e m = grind (arith, nat_tests, updated (e, m), exact (d, n) (e, m), missing old.by_name d n unknown)
 
   -- and the name is the newest of its directory
   pub listed_pushed : length (names_of old) < 2 ^ 63 → names_of new ≡ names_of old ++ (d, n) ∷ [] → Gains d (length (names_of old)) old.in_directory new.in_directory → AreListed old → AreListed new
@@ -54,16 +40,10 @@ names_counted lives = sym (length-map lives.by_name.entries (λ (e : (ℕ × Lis
 
 -- what has the same names, and chains that keep theirs, is listed as it was
 pub listed_kept : (old new : Lives) → names_of new ≡ names_of old → Keeps (length (names_of old)) old.in_directory new.in_directory → AreListed old → AreListed new
-listed_kept old new are keeps was = record {
-  few = rw are was.few;
-  each = rw are (chained_kept stands_in (slice_get (names_of old)) (length (names_of old)) (λ s le. slice_get_past (names_of old) s le) old.in_directory new.in_directory keeps was.each);
-}
+listed_kept old new are keeps was = grind (arith, nat_tests, chained_kept, stands_in, slice_get, names_of, slice_get_past)
 
 pub listed_told : (old new : Lives) → names_of new ≡ names_of old → ((g : ℕ) → newest_in new.in_directory g ≡ newest_in old.in_directory g) → new.in_directory.older ≡ old.in_directory.older → AreListed old → AreListed new
-listed_told old new are newest older was = record {
-  few = rw are was.few;
-  each = rw are (chained_told stands_in (slice_get (names_of old)) old.in_directory new.in_directory newest older was.each);
-}
+listed_told old new are newest older was = grind (arith, nat_tests, chained_told, stands_in, slice_get, names_of)
 
 -- no names
 pub listed_none : (new : Lives) → new.by_name.entries ≡ [] → ((d : ℕ) → newest_in new.in_directory d ≡ None) → AreListed new

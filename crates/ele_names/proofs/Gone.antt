@@ -1,6 +1,6 @@
 -- A row between others that dies, or leaves.
-use Rattle.ele_names.proofs.Basics.{◌≡◌, ℕ, ◌-◌, ◌≤◌, ◌<◌, ◌^◌, Bool, true, false, cond, not, List, [], ◌∷◌, ◌++◌, length, filter, Some, None, Option, is_none, refl, sym, subst, ap, ◌∙◌, arith, length-append, nat_cmp, is_at, insert_entry, keys_of, values_of, remove_entry, option_map, option_map_or, nat_tests, true≢false, false≢true, nat_cmp_total, map-append, update_first, value_at, all-append, all-around, all-mid, all-exchange, later-around, later-without, later-exchange, update_first-at, all-weaker, lookup-insert_entry, filter-all, index_change, IsSplitAt, split_at, all_keys_without, all_from_each, found_key}
-use Rattle.ele_names.proofs.Words.{last_moment, NameRow, Target, File, Directory, is_named, is_live_name, is_target_file, live_target, live_at, Live, Lives, place_in, Inside, Table, AreCounted, AreNumbered, Leaves, IsKept, rows_of, ArePlaced, AreListed, names_of, number_in, Follows, dies, IsLast, IsLastBelow, is_member, is_of, is_live_of, live_of, newest_in, target_eq}
+use Rattle.ele_names.proofs.Basics.{◌≡◌, ℕ, ◌-◌, ◌≤◌, ◌<◌, ◌^◌, Bool, true, false, cond, not, List, [], ◌∷◌, ◌++◌, length, filter, Some, None, Option, is_none, refl, sym, subst, ap, ◌∙◌, arith, length-append, nat_cmp, is_at, insert_entry, keys_of, values_of, remove_entry, option_map_or, nat_tests, true≢false, nat_cmp_total, map-append, update_first, value_at, all-append, all-around, all-mid, all-exchange, later-around, later-without, later-exchange, update_first-at, all-weaker, lookup-insert_entry, filter-all, index_change, IsSplitAt, split_at, all_keys_without, all_from_each, found_key}
+use Rattle.ele_names.proofs.Words.{last_moment, NameRow, Target, is_named, is_live_name, is_target_file, live_target, live_at, Live, Lives, place_in, Inside, Table, AreCounted, AreNumbered, Leaves, IsKept, rows_of, ArePlaced, AreListed, names_of, number_in, Follows, dies, IsLast, IsLastBelow, is_member, is_of, is_live_of, live_of, newest_in, target_eq}
 use Rattle.ele_names.proofs.Added.{placed_same}
 use Rattle.ele_names.proofs.Apart.{named_and_live, named_dead, named_live, same_name}
 use Rattle.ele_names.specs.Chained.{AreChained}
@@ -9,23 +9,15 @@ use Rattle.ele_names.proofs.Counts.{leaves_without, leaves_dead, live_one, targe
 use Rattle.ele_names.proofs.Live.{LiveRow, same_serial, stands_live}
 use Rattle.ele_names.proofs.Numbers.{named_place}
 use Rattle.ele_names.proofs.Numbering.{rises_without, gone_at}
+use Rattle.std.proofs.lemmas.List.{same_from_push}
 
 filter_between : {X : Type 0} (p : X → Bool) (before : List X) (x : X) (behind : List X) → p x ≡ false → filter p (before ++ x ∷ behind) ≡ filter p (before ++ behind)
-filter_between p [] x behind h = rw h refl
-filter_between p (b ∷ before) x behind h = ap (λ ys. cond (p b) (b ∷ ys) ys) (filter_between p before x behind h)
-
-same_front : {X : Type 0} (xs ys : List X) (x y : X) → xs ++ x ∷ [] ≡ ys ++ y ∷ [] → xs ≡ ys
-same_front [] [] x y h = refl
-same_front [] (b ∷ ys) x y h = absurd (omega (arith, ap length h, length-append ys (y ∷ [])))
-same_front (a ∷ xs) [] x y h = absurd (omega (arith, ap length h, length-append xs (x ∷ [])))
-same_front (a ∷ xs) (b ∷ ys) x y h =
-    let behind : xs ++ x ∷ [] ≡ ys ++ y ∷ [] = cc in
-    let front : xs ≡ ys = same_front xs ys x y behind in
-    cc
+filter_between p [] x behind h = grind (arith, nat_tests)
+filter_between p (b ∷ before) x behind h = grind (arith, nat_tests, filter_between p before x behind h)
 
 -- the last entry leaves the values before it
 pub last_gone : {X : Type 0} (rows : List X) (row : X) (es fs : List (ℕ × X)) (n : ℕ) (x : X) → es ≡ fs ++ (n, x) ∷ [] → values_of es ≡ rows ++ row ∷ [] → values_of fs ≡ rows
-last_gone rows row es fs n x is are = same_front (values_of fs) rows x row (sym (map-append (λ (e : ℕ × _). e.1) fs ((n, x) ∷ [])) ∙ sym (ap values_of is) ∙ are)
+last_gone rows row es fs n x is are = (same_from_push (values_of fs) rows x row (sym (map-append (λ (e : ℕ × _). e.1) fs ((n, x) ∷ [])) ∙ sym (ap values_of is) ∙ are)).0
 
 module _ (a : Inside) (kept : IsKept a.table a.lives) where
   abbrev es : List (ℕ × NameRow)
@@ -49,9 +41,7 @@ module _ (a : Inside) (kept : IsKept a.table a.lives) where
     module _ (live : is_none row.death ≡ true) (moment : ℕ) where
       -- nothing of its name follows a live row
       over : (b : NameRow) → Follows row b → Follows (dies moment row) b
-      over b follows = record { apart = λ d n. no d n; born = follows.born } where
-        no : {A : Type 0} → row.directory ≡ b.directory → row.name ≡ b.name → A
-        no d n = let dead : is_none row.death ≡ false = rw (follows.apart d n).1 refl in absurd (true≢false (sym live ∙ dead))
+      over b follows = grind (arith, nat_tests, is_none, true≢false)
 
       pub kept_dead : (t : Table) (lives : Lives) → names_of lives ≡ names → AreListed lives → t.places.by_name ≡ a.table.places.by_name → (AreChained is_of (value_at es) a.table.places.of_file → AreChained is_of (value_at es) t.places.of_file)
           → t.rows.entries ≡ insert_entry nat_cmp es s (dies moment row)
@@ -151,9 +141,7 @@ module _ (a : Inside) (kept : IsKept a.table a.lives) where
     found_known = subst (λ p. p < length names) (named_place names d n found.row its_name.0) (row_known live.serial found.row found.there)
 
     pub found_target : live.target ≡ found.row.target
-    found_target =
-        let both : Some live.target ≡ Some found.row.target = ap (option_map (λ live. live.target)) (sym is) ∙ kept.counts.named d n ∙ live_target_is live.serial found.row found.there d n found.live in
-        cc
+    found_target = grind (arith, nat_tests, is, kept.counts.named d n, live_target_is live.serial found.row found.there d n found.live)
 
   module _ (file : ℕ) (found : Option ℕ) (is : found ≡ newest_in a.table.places.of_file file) where
     last : IsLastBelow (is_member is_of (value_at es) file) (2 ^ 64) found
@@ -171,18 +159,9 @@ module _ (a : Inside) (kept : IsKept a.table a.lives) where
       newest : IsLast (is_member is_of (value_at es) file) (2 ^ 64) s
       newest = rw there at last
 
-      pub row_there : value_at es s ≡ None → ⊥
-      row_there at = false≢true (sym (ap (λ o. option_map_or (is_of file) o false) at) ∙ newest.there)
-
       module _ (row : NameRow) (at : value_at es s ≡ Some row) where
         pub its_file : is_of file row ≡ true
         its_file = sym (ap (λ o. option_map_or (is_of file) o false) at) ∙ newest.there
 
         pub is_newest : (f k : ℕ) → is_of f row ≡ true → s < k → is_member is_of (value_at es) f k ≡ false
-        is_newest f k its over = rw (one_file row.target f file its its_file) (elim (value_at es k) as (λ o. value_at es k ≡ o → option_map_or (is_of file) o false ≡ false) [
-          | None ↦ λ e. refl
-          | Some other ↦ λ e. sym (ap (λ o. option_map_or (is_of file) o false) e) ∙ newest.last k over (fits k other e)
-        ] refl) where
-          one_file : (target : Target) (f g : ℕ) → is_target_file f target ≡ true → is_target_file g target ≡ true → f ≡ g
-          one_file (File file) f g a b = grind (arith, nat_tests)
-          one_file (Directory directory) f g a b = absurd (false≢true a)
+        is_newest f k its over = grind (arith, nat_tests, its_file, over, fits, is_target_file)

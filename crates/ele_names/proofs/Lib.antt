@@ -12,3 +12,4 @@ pub mod Added
 pub mod Gone
 pub mod Told
 pub mod Leads
+pub mod Steps

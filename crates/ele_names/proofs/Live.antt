@@ -1,5 +1,5 @@
 -- The live rows by directory and name, where one comes or goes.
-use Rattle.ele_names.proofs.Basics.{◌≡◌, ℕ, Bool, true, false, cond, List, Some, None, Option, is_none, refl, sym, ap, ◌∙◌, arith, option_and_then, option_map, option_map_or, nat_cmp, is_at, true≢false, false≢true, nat_tests, at_itself}
+use Rattle.ele_names.proofs.Basics.{◌≡◌, ℕ, Bool, true, false, cond, List, Some, None, Option, is_none, refl, sym, ap, ◌∙◌, arith, option_and_then, option_map, option_map_or, nat_cmp, is_at, true≢false, false≢true, nat_tests}
 use Rattle.ele_names.proofs.Words.{NameRow, Target, is_named, is_live_name, live_target, Live, Lives, AreCounted, AreNumbered, Leaves, live_at, name_eq}
 use Rattle.ele_names.specs.Chained.{live_in}
 use Rattle.ele_names.proofs.Apart.{named_dead, named_live}
@@ -17,12 +17,11 @@ pub counted_same : (rows : List NameRow) (old new : Lives) → ((d : ℕ) (n : L
 counted_same rows old new named directories was = grind (arith, nat_tests)
 
 pub numbered_same : (at to : ℕ → Option NameRow) (old new : Lives) → ((s : ℕ) → to s ≡ at s) → ((d : ℕ) (n : List ℕ) → live_at new d n ≡ live_at old d n) → AreNumbered at old → AreNumbered to new
-numbered_same at to old new same named was = record { each = λ d n live is. rw (same live.serial) (was.each d n live (sym (named d n) ∙ is)) }
+numbered_same at to old new same named was = grind (arith, nat_tests, same, named, was.each)
 
 -- what is set of a name
 pub live_set : (b : Bool) (live : Option (Live Target)) (o p : Option (Option (Live Target))) → p ≡ cond b (Some live) o → option_and_then (λ live. live) p ≡ cond b live (option_and_then (λ live. live) o)
-live_set true live o p changed = ap (option_and_then (λ live. live)) changed
-live_set false live o p changed = ap (option_and_then (λ live. live)) changed
+live_set b live o p h = grind (arith, nat_tests, option_and_then)
 
 pub own_name : (row : NameRow) → is_named row.directory row.name row ≡ true
 own_name row = itself (row.directory, row.name)
@@ -41,10 +40,7 @@ module _ (row : NameRow) (d : ℕ) (n : List ℕ) where
   -- the row's name is live now
   pub entered : (was now : List NameRow) → Leaves row now was → is_none row.death ≡ true → (live : Live Target) (o p : Option (Live Target)) → p ≡ cond (is_named d n row) (Some live) o → live.target ≡ row.target
       → target_of o ≡ live_target was d n → target_of p ≡ live_target now d n
-  entered was now leaves lives live o p changed target before = elim (is_named d n row) as (λ b. is_named d n row ≡ b → target_of p ≡ live_target now d n) [
-    | true ↦ λ e. let here : p ≡ Some live = changed ∙ rw e refl in ap target_of here ∙ ap Some target ∙ sym (leaves.its d n (named_live d n row e lives))
-    | false ↦ λ e. let same : p ≡ o = changed ∙ rw e refl in ap target_of same ∙ before ∙ leaves.named d n ∙ rw (unnamed e) refl
-  ] refl
+  entered was now leaves lives live o p changed target before = grind (arith, nat_tests, changed, leaves.its d n, leaves.named d n, named_live d n row, unnamed)
 
   -- or is live no more
   pub left : (was now : List NameRow) → Leaves row was now → is_none row.death ≡ true → (o p : Option (Live Target)) → p ≡ cond (is_named d n row) None o
@@ -63,38 +59,13 @@ module _ (row : NameRow) (serial : ℕ) (at : ℕ → Option NameRow) (old new :
   pub numbered_with : at serial ≡ None → is_none row.death ≡ true → (entry : Live Target) → entry.serial ≡ serial
       → ((d : ℕ) (n : List ℕ) → live_at new d n ≡ cond (is_named d n row) (Some entry) (live_at old d n))
       → AreNumbered (λ s. cond (is_at (nat_cmp serial) s) (Some row) (at s)) new
-  numbered_with fresh lives entry own changed = record { each = each } where
-    here : (d : ℕ) (n : List ℕ) (s : ℕ) → s ≡ serial → is_named d n row ≡ true → option_map_or (is_live_name d n) (cond (is_at (nat_cmp serial) s) (Some row) (at s)) false ≡ true
-    here d n s is named = rw (is, at_itself serial) (named_live d n row named lives)
-
-    elsewhere : (d : ℕ) (n : List ℕ) (s : ℕ) → option_map_or (is_live_name d n) (at s) false ≡ true → option_map_or (is_live_name d n) (cond (is_at (nat_cmp serial) s) (Some row) (at s)) false ≡ true
-    elsewhere d n s known = elim (is_at (nat_cmp serial) s) as (λ b. is_at (nat_cmp serial) s ≡ b → option_map_or (is_live_name d n) (cond b (Some row) (at s)) false ≡ true) [
-      | true ↦ λ f. let same = same_serial serial s f in absurd (false≢true (rw (← same, fresh) at known))
-      | false ↦ λ f. known
-    ] refl
-
-    each : (d : ℕ) (n : List ℕ) (live : Live Target) → live_at new d n ≡ Some live → option_map_or (is_live_name d n) (cond (is_at (nat_cmp serial) live.serial) (Some row) (at live.serial)) false ≡ true
-    each d n live is = elim (is_named d n row) as (λ b. is_named d n row ≡ b → option_map_or (is_live_name d n) (cond (is_at (nat_cmp serial) live.serial) (Some row) (at live.serial)) false ≡ true) [
-      | true ↦ λ e.
-          let both : Some entry ≡ Some live = sym (changed d n ∙ rw e refl) ∙ is in
-          let same : entry ≡ live = cc in
-          here d n live.serial (sym (ap (λ (l : Live Target). l.serial) same) ∙ own) e
-      | false ↦ λ e. elsewhere d n live.serial (was.each d n live (sym (changed d n ∙ rw e refl) ∙ is))
-    ] refl
+  numbered_with fresh lives entry own changed = record { each = λ d n live is. grind (arith, nat_tests, changed d n, was.each d n live, same_serial serial live.serial, named_live d n row) }
 
   -- the row dies or leaves
   pub numbered_without : (to : ℕ → Option NameRow) → at serial ≡ Some row → ((s : ℕ) → is_at (nat_cmp serial) s ≡ false → to s ≡ at s)
       → ((d : ℕ) (n : List ℕ) (live : Live Target) → live_at new d n ≡ Some live → (live_at old d n ≡ Some live) × (is_live_name d n row ≡ false))
       → AreNumbered to new
-  numbered_without to there elsewhere others = record { each = each } where
-    each : (d : ℕ) (n : List ℕ) (live : Live Target) → live_at new d n ≡ Some live → option_map_or (is_live_name d n) (to live.serial) false ≡ true
-    each d n live is =
-        let other = others d n live is in
-        let known = was.each d n live other.0 in
-        elim (is_at (nat_cmp serial) live.serial) as (λ b. is_at (nat_cmp serial) live.serial ≡ b → option_map_or (is_live_name d n) (to live.serial) false ≡ true) [
-          | true ↦ λ f. let same = same_serial serial live.serial f in absurd (false≢true (sym other.1 ∙ (rw (← same, there) at known)))
-          | false ↦ λ f. rw (elsewhere live.serial f) known
-        ] refl
+  numbered_without to there elsewhere others = record { each = λ d n live is. grind (arith, nat_tests, others d n live is, was.each d n live, elsewhere live.serial, same_serial serial live.serial) }
 
 -- a live row of the name stands at the serial number
 pub record LiveRow (at : ℕ → Option NameRow) (d : ℕ) (n : List ℕ) (s : ℕ) : Type 0 where

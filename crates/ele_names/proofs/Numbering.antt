@@ -1,5 +1,5 @@
 -- Rows at the places of their numbers.
-use Rattle.ele_names.proofs.Basics.{◌≡◌, ℕ, zero, suc, ◌+◌, ◌≤◌, ◌<◌, sym, Bool, true, false, List, [], ◌∷◌, ◌++◌, length, slice_get, slice_set, Option, Some, None, IsSome, cond, filter_map, inl, inr, refl, ap, subst, ◌∙◌, arith, AllByRecursion, IsStrictlySortedBy, Less, Equal, Greater, nat_cmp, is_at, insert_entry, keys_of, values_of, remove_entry, option_and_then, false≢true, cases_lt, nat_tests, nat_cmp_total, slice_get_past, lookup-insert_entry, at_itself, value_at, all-weaker, IsRising, after_head, all_keys_without, not_yet, pushed, rest_rises}
+use Rattle.ele_names.proofs.Basics.{◌≡◌, ℕ, zero, suc, ◌+◌, ◌≤◌, ◌<◌, sym, Bool, true, false, List, [], ◌∷◌, ◌++◌, length, slice_get, slice_set, Option, Some, None, IsSome, cond, filter_map, refl, ap, subst, ◌∙◌, arith, AllByRecursion, IsStrictlySortedBy, Less, Equal, Greater, nat_cmp, is_at, insert_entry, keys_of, values_of, remove_entry, option_and_then, false≢true, nat_tests, nat_cmp_total, slice_get_past, lookup-insert_entry, at_itself, value_at, all-weaker, IsRising, after_head, all_keys_without, not_yet, pushed, rest_rises}
 use Rattle.ele_names.proofs.Words.{entries_from}
 
 here : (n : ℕ) → nat_cmp (n + 0) n ≡ Equal
@@ -24,12 +24,6 @@ module _ {X : Type 0} where
   from_after m n [] lt = tt
   from_after m n (None ∷ xs) lt = from_after m (suc n) xs (omega (arith, lt))
   from_after m n (Some x ∷ xs) lt = (before m n lt, from_after m (suc n) xs (omega (arith, lt)))
-
-  pub from_rises : (n : ℕ) (xs : List (Option X)) → IsRising (entries_from n xs)
-  unfolding IsStrictlySortedBy
-  from_rises n [] = tt
-  from_rises n (None ∷ xs) = from_rises (suc n) xs
-  from_rises n (Some x ∷ xs) = (from_after n (suc n) xs (omega arith), from_rises (suc n) xs)
 
   pub from_few : (n : ℕ) (xs : List (Option X)) → length (entries_from n xs) ≤ length xs
   from_few n [] = omega arith
@@ -89,10 +83,7 @@ module _ {X : Type 0} where
   pub rises_without : (test : ℕ → Bool) (es : List (ℕ × X)) → IsRising es → IsRising (remove_entry test es)
   unfolding IsStrictlySortedBy
   rises_without test [] up = tt
-  rises_without test (e ∷ es) up = elim (test e.0) as (λ b. IsRising (cond b es (e ∷ remove_entry test es))) [
-    | true ↦ up.1
-    | false ↦ (all_keys_without (λ k. nat_cmp e.0 k ≡ Less) test es up.0, rises_without test es up.1)
-  ]
+  rises_without test (e ∷ es) up = grind (arith, nat_tests, all_keys_without (λ k. nat_cmp e.0 k ≡ Less) test es up.0, rises_without test es up.1)
 
   nothing : (b : Bool) (it : Option X) → cond b it it ≡ it
   nothing true it = refl
@@ -100,41 +91,13 @@ module _ {X : Type 0} where
 
   pub gone_at : (n k : ℕ) (es : List (ℕ × X)) → IsRising es → value_at (remove_entry (is_at (nat_cmp n)) es) k ≡ cond (is_at (nat_cmp n) k) None (value_at es k)
   gone_at n k [] up = sym (nothing (is_at (nat_cmp n) k) None)
-  gone_at n k (e ∷ es) up = elim (is_at (nat_cmp n) e.0) as (λ b. is_at (nat_cmp n) e.0 ≡ b → value_at (cond b es (e ∷ remove_entry (is_at (nat_cmp n)) es)) k ≡ cond (is_at (nat_cmp n) k) None (value_at (e ∷ es) k)) [
-    | true ↦ λ first. elim (is_at (nat_cmp n) k) as (λ b. is_at (nat_cmp n) k ≡ b → value_at es k ≡ cond b None (value_at (e ∷ es) k)) [
-      | true ↦ λ it. by_head n k e es up first it
-      | false ↦ λ other. ap (λ b. cond b (Some e.1) (value_at es k)) (sym (apart n k e.0 first other))
-    ] refl
-    | false ↦ λ later. elim (is_at (nat_cmp k) e.0) as (λ b. is_at (nat_cmp k) e.0 ≡ b → cond b (Some e.1) (value_at (remove_entry (is_at (nat_cmp n)) es) k) ≡ cond (is_at (nat_cmp n) k) None (cond b (Some e.1) (value_at es k))) [
-      | true ↦ λ it. ap (λ b. cond b None (Some e.1)) (sym (not_it n k e.0 later it))
-      | false ↦ λ there. gone_at n k es (rest_rises e es up)
-    ] refl
-  ] refl where
-    apart : (n k m : ℕ) → is_at (nat_cmp n) m ≡ true → is_at (nat_cmp n) k ≡ false → is_at (nat_cmp k) m ≡ false
-    apart n k m at other = grind (arith, nat_tests)
-
-    not_it : (n k m : ℕ) → is_at (nat_cmp n) m ≡ false → is_at (nat_cmp k) m ≡ true → is_at (nat_cmp n) k ≡ false
-    not_it n k m later it = grind (arith, nat_tests)
-
-    over : (n k m : ℕ) → is_at (nat_cmp n) m ≡ true → is_at (nat_cmp n) k ≡ true → m < k → ⊥
-    over n k m at it lt = grind (arith, nat_tests)
-
-    by_head : (n k : ℕ) (e : ℕ × X) (es : List (ℕ × X)) → IsRising (e ∷ es) → is_at (nat_cmp n) e.0 ≡ true → is_at (nat_cmp n) k ≡ true → value_at es k ≡ None
-    by_head n k e es up first it = by (value_at es k) refl where
-      by : (o : Option X) → value_at es k ≡ o → value_at es k ≡ None
-      by None h = h
-      by (Some v) h = absurd (let lt = (after_head e es k v up h).0 in over n k e.0 first it lt)
+  gone_at n k (e ∷ es) up = grind (arith, nat_tests, gone_at n k es (rest_rises e es up), after_head e es k)
 
   pub at_last : (n : ℕ) (x : X) (es fs : List (ℕ × X)) → es ≡ fs ++ (n, x) ∷ [] → AllByRecursion (λ k. k < n) (keys_of fs) → value_at es n ≡ Some x
-  at_last n x es fs is below =
-      ap (λ entries. value_at entries n) (is ∙ sym (pushed n x fs below)) ∙ lookup-insert_entry nat_cmp_total n fs n x ∙ ap (λ b. cond b (Some x) (value_at fs n)) (at_itself n)
+  at_last n x es fs is below = grind (arith, nat_tests, is, pushed n x fs below, lookup-insert_entry nat_cmp_total n fs n x, at_itself n)
 
   pub none_past : (n : ℕ) (x : X) (es fs : List (ℕ × X)) → es ≡ fs ++ (n, x) ∷ [] → AllByRecursion (λ k. k < n) (keys_of fs) → (s : ℕ) → n < s → value_at es s ≡ None
-  none_past n x es fs is below s over =
-      ap (λ entries. value_at entries s) (is ∙ sym (pushed n x fs below)) ∙ lookup-insert_entry nat_cmp_total s fs n x ∙ ap (λ b. cond b (Some x) (value_at fs s)) (beyond n s over)
-      ∙ not_yet s fs (all-weaker (λ k. k < n) (λ k. k < s) (keys_of fs) (λ k h. omega (arith, over, h)) below) where
-        beyond : (a b : ℕ) → a < b → is_at (nat_cmp a) b ≡ false
-        beyond a b h = grind (arith, nat_tests)
+  none_past n x es fs is below s over = grind (arith, nat_tests, is, pushed n x fs below, lookup-insert_entry nat_cmp_total s fs n x, not_yet s fs (all-weaker (λ k. k < n) (λ k. k < s) (keys_of fs) (λ k h. omega (arith, over, h)) below))
 
   pub without_last : (n : ℕ) (x : X) (es fs : List (ℕ × X)) → es ≡ fs ++ (n, x) ∷ [] → AllByRecursion (λ k. k < n) (keys_of fs) → remove_entry (is_at (nat_cmp n)) es ≡ fs
   without_last n x es fs is below = rw is (by fs below) where
@@ -165,10 +128,7 @@ module _ {X : Type 0} where
       taken o e = subst IsSome (at_place i ∙ ap (option_and_then (λ x. x)) e) some
 
       pub placed_within : i < length xs
-      placed_within = elim (cases_lt i (length xs)) as (λ _. i < length xs) [
-        | inl lt ↦ lt
-        | inr past ↦ absurd (false≢true (taken None (slice_get_past xs i past)))
-      ]
+      placed_within = grind (arith, nat_tests, some, at_place i, slice_get_past xs i)
 
       pub place_set : (v : X) → entries_from 0 (slice_set xs i (Some v)) ≡ insert_entry nat_cmp (entries_from 0 xs) i v
       place_set v = by (slice_get xs i) refl where

@@ -1,20 +1,15 @@
 -- The numbers of names.
 use Rattle.ele_names.proofs.Basics.{◌≡◌, ℕ, suc, ◌+◌, ◌<◌, Bool, true, false, cond, not, ◌==◌, eqb, nat_lt, List, [], ◌∷◌, ◌++◌, length, slice_get, position, is_some, Option, Some, None, length-append, refl, sym, ap, ◌∙◌, ◌⊎◌, arith, list_any, HashMap, get, keys, false≢true, true≢false, cases_lt, nat_tests, position_or_len_push, prefix_len-le-length, bytes_eq-Decides, some_index}
 use Rattle.ele_names.proofs.Words.{NameRow, Target, is_named, Live, name_eq, place_in, number_in, KeepsPlaces}
-use Rattle.std.proofs.Common.{bytes_eq}
-use Rattle.ele_names.proofs.Apart.{split, equal}
 
 pub exact : (k q : ℕ × List ℕ) → name_eq k q ≡ true → k ≡ q
-exact k q h = let parts = split (k.0 == q.0) (bytes_eq k.1 q.1) h in let d = equal k.0 q.0 parts.0 in let n = (bytes_eq-Decides k.1 q.1).0 parts.1 in rw (d, n) refl
+exact k q h = grind (arith, nat_tests, bytes_eq-Decides k.1 q.1)
 
 pub itself : (k : ℕ × List ℕ) → name_eq k k ≡ true
 itself k = grind (arith, nat_tests, bytes_eq-Decides)
 
 other : (k q x : ℕ × List ℕ) → k ≡ x → name_eq q x ≡ false → name_eq k q ≡ false
-other k q x same f = elim (name_eq k q) as (λ b. name_eq k q ≡ b → b ≡ false) [
-  | true ↦ λ g. absurd (false≢true (sym f ∙ rw (sym (exact k q g) ∙ same) (itself x)))
-  | false ↦ λ g. refl
-] refl
+other k q x same f = grind (arith, nat_tests, exact k q, itself)
 
 zero : (b : Bool) (p : ℕ) → ((cond (not b) (1 + p) 0) == 0) ≡ b
 zero true p = refl
@@ -29,13 +24,7 @@ more p q = grind (arith, nat_tests)
 -- two names have one number if they are one
 pub one_place : (names : List (ℕ × List ℕ)) (k q : ℕ × List ℕ) → place_in names q.0 q.1 < length names → (place_in names k.0 k.1 == place_in names q.0 q.1) ≡ name_eq k q
 one_place [] k q inside = absurd (omega (arith, inside))
-one_place (x ∷ xs) k q inside = elim (name_eq q x) as (λ b. name_eq q x ≡ b → (place_in (x ∷ xs) k.0 k.1 == cond (not b) (1 + place_in xs q.0 q.1) 0) ≡ name_eq k q) [
-  | true ↦ λ f. zero (name_eq k x) (place_in xs k.0 k.1) ∙ rw (exact q x f) refl
-  | false ↦ λ f. elim (name_eq k x) as (λ b. name_eq k x ≡ b → (cond (not b) (1 + place_in xs k.0 k.1) 0 == (1 + place_in xs q.0 q.1)) ≡ name_eq k q) [
-    | true ↦ λ e. never (place_in xs q.0 q.1) ∙ sym (other k q x (exact k x e) f)
-    | false ↦ λ e. more (place_in xs k.0 k.1) (place_in xs q.0 q.1) ∙ one_place xs k q (omega (arith, (rw f at inside)))
-  ] refl
-] refl
+one_place (x ∷ xs) k q inside = grind (arith, nat_tests, exact q x, exact k x, exact k q, itself, other k q x, zero, never, more, one_place xs k q)
 
 -- rows of one name have its number
 pub named_place : (names : List (ℕ × List ℕ)) (d : ℕ) (n : List ℕ) (row : NameRow) → is_named d n row ≡ true → number_in names row ≡ place_in names d n
@@ -47,18 +36,12 @@ behind x xs p = let next : 1 + p ≡ suc p = omega arith in rw next refl
 -- a name with a number stands there
 pub at_place : (names : List (ℕ × List ℕ)) (d : ℕ) (n : List ℕ) → place_in names d n < length names → slice_get names (place_in names d n) ≡ Some (d, n)
 at_place [] d n inside = absurd (omega (arith, inside))
-at_place (x ∷ xs) d n inside = elim (name_eq (d, n) x) as (λ b. name_eq (d, n) x ≡ b → slice_get (x ∷ xs) (cond (not b) (1 + place_in xs d n) 0) ≡ Some (d, n)) [
-  | true ↦ λ f. ap Some (sym (exact (d, n) x f))
-  | false ↦ λ f. behind x xs (place_in xs d n) ∙ at_place xs d n (omega (arith, (rw f at inside)))
-] refl
+at_place (x ∷ xs) d n inside = grind (arith, nat_tests, exact (d, n) x, behind x xs, at_place xs d n)
 
 -- and is one of them
 pub any_known : (names : List (ℕ × List ℕ)) (d : ℕ) (n : List ℕ) → place_in names d n < length names → list_any (name_eq (d, n)) names ≡ true
 any_known [] d n inside = absurd (omega (arith, inside))
-any_known (x ∷ xs) d n inside = elim (name_eq (d, n) x) as (λ b. name_eq (d, n) x ≡ b → list_any (name_eq (d, n)) (x ∷ xs) ≡ true) [
-  | true ↦ λ f. rw f refl
-  | false ↦ λ f. rw f (any_known xs d n (omega (arith, (rw f at inside))))
-] refl
+any_known (x ∷ xs) d n inside = grind (arith, nat_tests, any_known xs d n)
 
 -- a name has a number, or none
 pub known : (names : List (ℕ × List ℕ)) (d : ℕ) (n : List ℕ) → (place_in names d n < length names) ⊎ (place_in names d n ≡ length names)
@@ -74,9 +57,6 @@ module _ (names : List (ℕ × List ℕ)) where
   -- a name more behind the others leaves them their numbers
   pub keeps_pushed : (k : ℕ × List ℕ) → KeepsPlaces names (names ++ k ∷ [])
   keeps_pushed k = grind (arith, nat_tests, place_in, position_or_len_push, name_eq, before, length-append)
-
-  pub keeps_same : KeepsPlaces names names
-  keeps_same = record { each = λ d n inside. (refl, inside) }
 
   -- the new name's number is the next
   pub pushed_place : (k : ℕ × List ℕ) → place_in names k.0 k.1 ≡ length names → place_in (names ++ k ∷ []) k.0 k.1 ≡ length names

@@ -1,5 +1,5 @@
 -- Names that are told one after the other, with what they stand for.
-use Rattle.ele_names.proofs.Basics.{◌≡◌, ◌⊎◌, ℕ, ◌≤◌, ◌<◌, ◌^◌, Bool, true, false, cond, List, [], ◌∷◌, length, map, slice_get, Some, None, Option, is_some, refl, sym, ap, subst, ◌∙◌, inl, inr, arith, option_map, option_map_or, Ordering, Less, Equal, Greater, nat_cmp, is_eq, IsTotalOrder, slice_cmp, is_at, insert_entry, list_any, lookup, false≢true, true≢false, tied_itself, nat_list_cmp_total, on_total, then_total, CmpEqualImpliesEq, exact_bytes, exact_pairs, exact_unsigned, slice_get_within, passing, lookup-insert_entry}
+use Rattle.ele_names.proofs.Basics.{◌≡◌, ◌⊎◌, ℕ, ◌<◌, ◌^◌, Bool, true, false, List, [], ◌∷◌, length, map, slice_get, Some, None, Option, is_some, refl, sym, ap, ◌∙◌, inl, inr, arith, option_map, option_map_or, Ordering, nat_cmp, is_eq, IsTotalOrder, slice_cmp, is_at, insert_entry, list_any, lookup, false≢true, tied_itself, nat_list_cmp_total, on_total, then_total, CmpEqualImpliesEq, exact_bytes, exact_pairs, exact_unsigned, slice_get_within, passing, lookup-insert_entry}
 use Rattle.ele_names.proofs.Words.{Target, target_at, last_dead, Inside, by_name, name_cmp, IsKept, rows_of, name_eq, names_of, place_in}
 use Rattle.std.specs.Cmp.{nat_cmp_total}
 use Rattle.std.specs.Prelude.{nat_le, IfSome}
@@ -23,35 +23,7 @@ module _ {K : Type 0} (cmp : K → K → Ordering) (about : K → Option Target)
   pub told_one : IsTotalOrder cmp → CmpEqualImpliesEq cmp → (rest left : K → Bool) (entries : List (K × Target)) (key : K) (target : Option Target)
       → ((k : K) → rest k ≡ true → (k ≡ key) ⊎ (left k ≡ true)) → target ≡ about key
       → AreTold rest entries → AreTold left (option_map_or (insert_entry cmp entries key) target entries)
-  told_one total exact rest left entries key target parts its told k = one target its where
-    here : (entries : List (K × Target)) → k ≡ key → lookup (is_at (cmp key)) entries ≡ about key → lookup (is_at (cmp k)) entries ≡ about k
-    here entries same is = rw same is
-
-    one : (o : Option Target) → o ≡ about key → (lookup (is_at (cmp k)) (option_map_or (insert_entry cmp entries key) o entries) ≡ about k) ⊎ ((lookup (is_at (cmp k)) (option_map_or (insert_entry cmp entries key) o entries) ≡ None) × (left k ≡ true))
-    one None none = elim (told k) [
-      | inl is ↦ inl is
-      | inr later ↦ elim (parts k later.1) as (λ _. (lookup (is_at (cmp k)) entries ≡ about k) ⊎ ((lookup (is_at (cmp k)) entries ≡ None) × (left k ≡ true))) [
-        | inl same ↦ inl (later.0 ∙ none ∙ ap about (sym same))
-        | inr next ↦ inr (later.0, next)
-      ]
-    ]
-    one (Some target) some = elim (is_eq (cmp key k)) as (λ b. is_eq (cmp key k) ≡ b → (lookup (is_at (cmp k)) (insert_entry cmp entries key target) ≡ about k) ⊎ ((lookup (is_at (cmp k)) (insert_entry cmp entries key target) ≡ None) × (left k ≡ true))) [
-      | true ↦ λ e. inl (now ∙ rw e (some ∙ ap about (exact key k (tied (cmp key k) e))))
-      | false ↦ λ e. elim (told k) [
-        | inl is ↦ inl (now ∙ rw e is)
-        | inr later ↦ elim (parts k later.1) as (λ _. (lookup (is_at (cmp k)) (insert_entry cmp entries key target) ≡ about k) ⊎ ((lookup (is_at (cmp k)) (insert_entry cmp entries key target) ≡ None) × (left k ≡ true))) [
-          | inl same ↦ absurd (true≢false (sym (ap is_eq (tied_itself total key)) ∙ subst (λ j. is_eq (cmp key j) ≡ false) same e))
-          | inr next ↦ inr (now ∙ rw e later.0, next)
-        ]
-      ]
-    ] refl where
-      now : lookup (is_at (cmp k)) (insert_entry cmp entries key target) ≡ cond (is_eq (cmp key k)) (Some target) (lookup (is_at (cmp k)) entries)
-      now = lookup-insert_entry total k entries key target
-
-      tied : (o : Ordering) → is_eq o ≡ true → o ≡ Equal
-      tied Less h = absurd cc
-      tied Equal h = refl
-      tied Greater h = absurd cc
+  told_one total exact rest left entries key target parts its told k = grind (arith, nat_tests, is_eq, tied_itself, lookup, is_at, option_map_or, insert_entry, lookup-insert_entry, exact)
 
 -- the number of the name is not above that of the next to come
 abbrev pub is_left : List (ℕ × List ℕ) → ℕ → Option ℕ → List ℕ → Bool
@@ -83,10 +55,7 @@ module _ (a : Inside) (kept : IsKept a.table a.lives) where
     listed n inside = grind (arith, nat_tests, at_place)
 
     pub list_begun : (next : Option ℕ) → next ≡ newest_in a.lives.in_directory d → AreTold (slice_cmp nat_cmp) (target_at (rows_of a.table) moment d) (is_left names d next) []
-    list_begun next is n = elim (known names d n) as (λ _. (◌≡◌ {A = Option Target} None (target_at (rows_of a.table) moment d n)) ⊎ ((◌≡◌ {A = Option Target} None None) × (is_left names d next n ≡ true))) [
-      | inl inside ↦ inr (refl, not_above in_directory (2 ^ 64) (place_in names d n) next (rw is (kept.listed.each.newest d)) (listed n inside) (omega (arith, inside, kept.listed.few)))
-      | inr unknown ↦ inl (sym (never_at moment d n unknown))
-    ]
+    list_begun next is n = grind (arith, nat_tests, known names d n, not_above in_directory (2 ^ 64) (place_in names d n) next, is, kept.listed.each.newest d, listed n, kept.listed.few, never_at moment d n)
 
     some : (bound : ℕ) (o : Option ℕ) → IsLastBelow in_directory bound o → IfSome o (λ r. in_directory r ≡ true)
     some bound None last = tt
@@ -94,7 +63,7 @@ module _ (a : Inside) (kept : IsKept a.table a.lives) where
 
     -- the next to come is of the directory
     pub list_first : (next : Option ℕ) → next ≡ newest_in a.lives.in_directory d → IfSome next (λ r. in_directory r ≡ true)
-    list_first next is = some (2 ^ 64) next (rw is (kept.listed.each.newest d))
+    list_first next is = grind (arith, nat_tests, is, some (2 ^ 64) next, kept.listed.each.newest d)
 
     pub list_stands : (r : ℕ) → in_directory r ≡ true → None ≡ slice_get names r → ⊥
     list_stands r there none = false≢true (rw (← none) at there)
@@ -114,27 +83,10 @@ module _ (a : Inside) (kept : IsKept a.table a.lives) where
 
       -- the name of a number is told, or one before it
       pub list_next : (k : List ℕ) → is_left names d (Some r) k ≡ true → (k ≡ name.1) ⊎ (is_left names d next k ≡ true)
-      list_next k left = elim (cases_lt (place_in names d k) r) as (λ _. (k ≡ name.1) ⊎ (is_left names d next k ≡ true)) [
-        | inl earlier ↦ inr (not_above in_directory r (place_in names d k) next last (listed k (omega (arith, earlier, within))) earlier)
-        | inr upto ↦ inl (same (up_to (place_in names d k) r left upto))
-      ] where
-        within : r < length names
-        within = slice_get_within names r name (sym is)
-
-        up_to : (p r : ℕ) → nat_le p r ≡ true → r ≤ p → r ≡ p
-        up_to p r le ge = grind (arith, nat_tests)
-
-        same : r ≡ place_in names d k → k ≡ name.1
-        same at =
-            let both : Some (d, k) ≡ Some name = sym (at_place names d k (omega (arith, at, within))) ∙ sym (ap (slice_get names) at) ∙ sym is in
-            let pair : (d, k) ≡ name = cc in
-            ap (λ (q : ℕ × List ℕ). q.1) pair
+      list_next k left = grind (arith, nat_tests, its, is, not_above in_directory r (place_in names d k) next last, listed k, slice_get_within names r name, at_place names d k)
 
   pub dead_begun : AreTold name_cmp (λ k. last_dead (rows_of a.table) k.0 k.1) (λ k. list_any (name_eq k) names) []
-  dead_begun k = elim (known names k.0 k.1) as (λ _. (◌≡◌ {A = Option Target} None (last_dead (rows_of a.table) k.0 k.1)) ⊎ ((◌≡◌ {A = Option Target} None None) × (list_any (name_eq k) names ≡ true))) [
-    | inl inside ↦ inr (refl, any_known names k.0 k.1 inside)
-    | inr unknown ↦ inl (sym (never_dead k.0 k.1 unknown))
-  ]
+  dead_begun k = grind (arith, nat_tests, known names k.0 k.1, any_known names k.0 k.1, never_dead k.0 k.1)
 
 -- of the names to come, a name is the next or behind it
 pub dead_next : (key : ℕ × List ℕ) (names : List (ℕ × List ℕ)) (k : ℕ × List ℕ) → list_any (name_eq k) (key ∷ names) ≡ true → (k ≡ key) ⊎ (list_any (name_eq k) names ≡ true)

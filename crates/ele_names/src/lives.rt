@@ -32,6 +32,7 @@ pub struct Lives {
 
 impl Lives {
     /// No name.
+    #[tactic(auto, using(crate::proofs::Given::listed_none))]
     pub fn new(alloc: Global) -> Lives
         ensures names { names_of result ≡ [] }
         ensures listed { AreListed result }
@@ -45,6 +46,7 @@ impl Lives {
     }
 
     /// The number of the name, if it was ever given.
+    #[tactic(auto, using(crate::proofs::Numbers::unnumbered))]
     pub fn number(&self, directory: DirId, name: &Name) -> Option<u64>
         ensures some { IfSome result (λ number. (number ≡ place_in (names_of self.now) directory name.now)
             × (number < length (names_of self.now))) }

@@ -172,6 +172,7 @@ impl Names {
     }
 
     // The newest row of the name.
+    #[tactic(auto, using(crate::proofs::Apart::born_by_end))]
     fn newest(&self, directory: DirId, name: &Name) -> Option<NameRow>
         ensures { result ≡ last_passing (is_named directory name.now) self.now }
     {
@@ -191,6 +192,7 @@ impl Names {
     }
 
     /// What the name stood for at the moment.
+    #[tactic(auto, using(crate::proofs::Apart::covering_is_newest))]
     pub fn at(&self, directory: DirId, name: &Name, moment: Moment) -> Option<Target>
         ensures { result ≡ target_at self.now moment directory name.now }
     {
@@ -243,6 +245,7 @@ impl Names {
     }
 
     /// Whether no name in the directory is live.
+    #[tactic(auto, using(crate::proofs::Counts::none_counted, crate::proofs::Words::is_live_in, crate::proofs::Words::rows_of))]
     pub fn is_empty(&self, directory: DirId) -> bool
         ensures { result ≡ not (list_any (is_live_in directory) self.now) }
     {
@@ -257,6 +260,7 @@ impl Names {
     }
 
     /// Whether the file has a live name.
+    #[tactic(auto, using(crate::proofs::Steps::is_live_steps))]
     pub fn is_live(&self, file: FileId) -> bool
         ensures { result ≡ list_any (is_live_name_of file) self.now }
     {

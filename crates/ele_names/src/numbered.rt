@@ -52,6 +52,7 @@ impl Numbered {
     }
 
     /// The row of the serial number.
+    #[tactic(auto, using(crate::proofs::Basics::nat_tests, crate::proofs::Numbering::at_place, crate::proofs::Basics::option_and_then, crate::proofs::Basics::slice_get_past, crate::proofs::Basics::slice_get, crate::proofs::Basics::slice_get_read))]
     pub fn get(&self, serial: u64) -> Option<&NameRow>
         ensures { option_copied result ≡ value_at self.now.entries serial }
     {

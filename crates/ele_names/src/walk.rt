@@ -54,6 +54,7 @@ pub fn parent_now(names: &Names, path: &Path) -> Result<(DirId, Name), Refusal>
 
 /// The directory that the path's last name stands in, that name, and what it stands for, by one walk
 /// where `parent_now` and then `resolve_now` take two. It refuses as the first of them that refuses.
+#[tactic(auto, using(crate::proofs::Leads::leads_to, std::proofs::Common::inr, crate::proofs::Leads::stops_at))]
 pub fn placed_now(names: &Names, path: &Path) -> Result<(DirId, Name, Target), Refusal>
     ensures place { IfOk result (λ found. parent_now names.now path.now ≡ Ok (found.0, found.1)) }
     ensures leads { IfOk result (λ found. walk_now names.now path.now ≡ Ok found.2) }

@@ -1,5 +1,4 @@
 use Rattle.ele_groups.proofs.Basics.{nat_tests, arith}
-use Rattle.std.proofs.Common.{sym, ◌∙◌}
 use Rattle.ele_groups.proofs.Covered.{all_left, left_next, none_left, covers_at_one}
 use Rattle.ele_groups.proofs.covering.covers.Goals as goal
 

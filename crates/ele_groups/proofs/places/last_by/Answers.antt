@@ -1,4 +1,3 @@
-use Rattle.ele_groups.proofs.Basics.{nat_tests}
 use Rattle.std.proofs.Common.{sym, ◌∙◌, arith}
 use Rattle.ele_groups.proofs.Placed.{stands, last_is}
 use Rattle.ele_groups.proofs.places.last_by.Goals as goal

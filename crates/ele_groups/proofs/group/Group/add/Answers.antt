@@ -1,4 +1,4 @@
-use Rattle.ele_groups.proofs.Basics.{nat_tests, arith, later-push, all-none, ◌==◌, ◌≡◌, false}
+use Rattle.ele_groups.proofs.Basics.{later-push, all-none, ◌==◌, ◌≡◌, false}
 use Rattle.ele_groups.proofs.group.Group.add.Goals as goal
 
 pub invariant_of-self-2 : goal.invariant_of-self-2

@@ -1,4 +1,3 @@
-use Rattle.ele_groups.proofs.Basics.{nat_tests}
 use Rattle.std.proofs.Common.{◌≡◌, ◌+◌, ◌∙◌, arith, refl}
 use Rattle.ele_groups.proofs.Named.{kept_pushed, pushed_rows, unfound}
 use Rattle.ele_groups.proofs.groups.Groups.insert_group.Goals as goal

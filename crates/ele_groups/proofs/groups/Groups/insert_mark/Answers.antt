@@ -1,4 +1,4 @@
-use Rattle.ele_groups.proofs.Basics.{nat_tests, arith, sym, refl, ap, ◌∙◌, values_of}
+use Rattle.ele_groups.proofs.Basics.{sym, refl, ap, ◌∙◌, values_of}
 use Rattle.ele_groups.proofs.Words.{marks}
 use Rattle.ele_groups.proofs.Changed.{ok_then, either_way}
 use Rattle.ele_groups.proofs.Named.{kept_marked, changed_rows, unchanged_rows, found_at}

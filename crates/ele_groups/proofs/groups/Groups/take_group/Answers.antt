@@ -1,4 +1,3 @@
-use Rattle.ele_groups.proofs.Basics.{nat_tests, arith}
 use Rattle.std.proofs.Common.{◌≡◌, sym, ◌∙◌, None, Some}
 use Rattle.ele_groups.proofs.Named.{kept_without, unremoved_rows, removed_rows, named_row}
 use Rattle.ele_groups.proofs.Placed.{placed_without}

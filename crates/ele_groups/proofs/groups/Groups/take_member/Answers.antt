@@ -1,4 +1,3 @@
-use Rattle.ele_groups.proofs.Basics.{nat_tests, arith}
 use Rattle.std.proofs.Common.{sym, refl}
 use Rattle.ele_world.specs.GroupRows.{removes}
 use Rattle.ele_groups.proofs.Named.{kept_changed, changed_rows, unchanged_rows}

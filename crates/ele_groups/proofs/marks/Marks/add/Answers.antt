@@ -1,4 +1,3 @@
-use Rattle.ele_groups.proofs.Basics.{nat_tests, arith}
 use Rattle.ele_groups.proofs.Times.{timed_with}
 use Rattle.ele_groups.proofs.marks.Marks.add.Goals as goal
 

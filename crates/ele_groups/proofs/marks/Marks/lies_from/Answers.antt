@@ -1,4 +1,3 @@
-use Rattle.ele_groups.proofs.Basics.{nat_tests, arith}
 use Rattle.std.proofs.Common.{None}
 use Rattle.ele_world.specs.GroupRows.{covers_moment}
 use Rattle.ele_groups.proofs.Times.{answered, from_on, is_from_on}
