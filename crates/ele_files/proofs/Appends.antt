@@ -1,8 +1,8 @@
 -- A file's next version is appended, and the first one of a new file.
-use Rattle.ele_files.proofs.Words.{sum_by-cons, sum_by-update_same, sum_by_push, AllByRecursion, AllLater, AllSessions, Append, Bool, Cell, Draft, File, FileRow, GotFile, HasAppended, Held, IsDraftKept, IsFileKept, IsLocal, IsRowOf, IsRowPast, IsStocked, Keeps, Layout, List, LogRow, None, Some, StockLaws, Store, VersionRow, World, [], after_change, all-both, all-found, all-map, all-push, all-weaker, ap, append-nil, arith, bucket_changes, cond, empty_layout, ended_at, ended_rows, eqb, false, file_row, find, find-at, flat_map, flat_map-append, held_in, insert_before, is_file, is_id, is_live, is_version, is_version_after, later-push, local-after, local-insert_before, local-update_first, ltb, map, map-all, map-append, named_live, nat_tests, next_of, next_of-numbered_other, next_of-push, next_row, not_found, numbered_on, refl, row_in, row_stock, rows_in, rows_of, shown, stock_of, subst, sym, true, update_first, update_first-at, with_file, with_name, with_rows, ℕ, ◌&&◌, ◌++◌, ◌+◌, ◌-◌, ◌<◌, ◌||◌, ◌∙◌, ◌∷◌, ◌≡◌, ◌≢◌}
+use Rattle.ele_files.proofs.Words.{sum_by_cons, sum_by-update_same, sum_by_push, AllByRecursion, AllLater, AllSessions, Append, Bool, Cell, Draft, File, FileRow, GotFile, HasAppended, Held, IsDraftKept, IsFileKept, IsLocal, IsRowOf, IsRowPast, IsStocked, Keeps, Layout, List, LogRow, None, Some, StockLaws, Store, VersionRow, World, [], after_change, all-both, all_found, all-map, all-push, all-weaker, ap, append_nil, arith, bucket_changes, cond, empty_layout, ended_at, ended_rows, eqb, false, file_row, find, find-at, flat_map, flat_map-append, held_in, insert_before, is_file, is_id, is_live, is_version, is_version_after, later-push, local-after, local-insert_before, local-update_first, ltb, map, map-all, map-append, named_live, nat_tests, next_of, next_of-numbered_other, next_of-push, next_row, not_found, numbered_on, refl, row_in, row_stock, rows_in, rows_of, shown, stock_of, subst, sym, true, update_first, update_first-at, with_file, with_name, with_rows, ℕ, ◌&&◌, ◌++◌, ◌+◌, ◌-◌, ◌<◌, ◌||◌, ◌∙◌, ◌∷◌, ◌≡◌, ◌≢◌}
 use Rattle.ele_files.proofs.Endings.{closed_kept, of_rows}
 use Rattle.ele_files.proofs.Exchanges.{after, rise_over, files_over, rows_over}
-use Rattle.ele_files.proofs.Rows.{its_id, next-found, file_of, tagged, own_version, ended_shown}
+use Rattle.ele_files.proofs.Rows.{its_id, next_found, file_of, tagged, own_version, ended_shown}
 use Rattle.ele_files.proofs.Stock.{exchanged, total, over, row_added, file_added}
 use Rattle.ele_world.specs.declared.rows.Target.TheVariants as target
 
@@ -28,7 +28,7 @@ module _ (s : Store) (files : List File) (id : ℕ) (f g : File) (found : find (
   new = next_row f.next opened now live cells
 
   its_kept : IsFileKept f
-  its_kept = all-found (is_id id) IsFileKept files f found files_kept
+  its_kept = all_found (is_id id) IsFileKept files f found files_kept
 
   is : f.id ≡ id
   is = its_id files id f found
@@ -41,31 +41,22 @@ module _ (s : Store) (files : List File) (id : ℕ) (f g : File) (found : find (
   others_keep drafts others kept = all-weaker (λ d. (d.file ≢ id) × IsDraftKept files d) (IsDraftKept (after files id f g found)) drafts (λ d h. record { there = h.1.there; number = rw (rows_number_on, next_of-numbered_other (map file_row files) id d.file h.0) h.1.number }) (all-both (λ d. d.file ≢ id) (IsDraftKept files) drafts others kept)
 
   pub appended_keeps : StockLaws → (a : AllSessions) → AllByRecursion (IsDraftKept files) a.drafts → AllByRecursion (λ d. d.file ≢ id) a.drafts → IsStocked s (row_stock f.id new ∷ stock_of files a.drafts) → Keeps s (after files id f g found) a
-  appended_keeps laws a kept others stocked = record {
-    laws = laws;
-    rise = rise_over files id f g found rise;
-    stocked = laws.same s (row_stock f.id new ∷ stock_of files a.drafts) (stock_of (after files id f g found) a.drafts) (record { sums = λ k. sym ((row_added files a.drafts id f g found now new closed.rows).sums k) }) stocked;
-    files_kept = files_over files id f g found (closed_kept f now its_kept past opened live cells g closed) files_kept;
-    drafts_kept = others_keep a.drafts others kept;
-  }
+  appended_keeps laws a kept others stocked =
+      let with_row = laws.same s (row_stock f.id new ∷ stock_of files a.drafts) (stock_of (after files id f g found) a.drafts) (record { sums = λ k. sym ((row_added files a.drafts id f g found now new closed.rows).sums k) }) stocked in
+      assumption (with_row, rise_over files id f g found rise, files_over files id f g found (closed_kept f now its_kept past opened live cells g closed) files_kept, others_keep a.drafts others kept)
 
   none_later : AllByRecursion (λ row. is_version_after id f.next row ≡ false) (map (row_in s f.id) (ended_rows f now))
   none_later = grind (arith, nat_tests, all-map, all-weaker, of_rows, its_kept, is)
 
   local : IsLocal file_of id (appended id f.next now (row_in s f.id new))
-  local = local-after file_of id (insert_before (is_version_after id f.next) (row_in s f.id new)) (update_first (is_version id (f.next - 1)) (ended_at now)) (local-insert_before file_of id (is_version_after id f.next) (row_in s f.id new) (λ row lt.
-      let a : ltb id row.file ≡ false = grind (arith, nat_tests) in
-      let b : eqb row.file id ≡ false = grind (arith, nat_tests) in
-      rw (a, b) refl) (λ row lt.
-      let a : ltb id row.file ≡ true = grind (arith, nat_tests) in
-      rw a refl)) (local-update_first file_of id (is_version id (f.next - 1)) (own_version id (f.next - 1)) (ended_at now))
+  local =
+      let inserted = local-insert_before file_of id (is_version_after id f.next) (row_in s f.id new) (λ row lt. grind (arith, nat_tests)) (λ row lt. grind (arith, nat_tests)) in
+      local-after file_of id (insert_before (is_version_after id f.next) (row_in s f.id new)) (update_first (is_version id (f.next - 1)) (ended_at now)) inserted (local-update_first file_of id (is_version id (f.next - 1)) (own_version id (f.next - 1)) (ended_at now))
 
   its_rows : rows_in s (over g f) ≡ appended id f.next now (row_in s f.id new) (rows_in s f)
   its_rows =
-      ap (map (row_in s f.id)) closed.rows
-      ∙ (map-append (row_in s f.id) (ended_rows f now) (new ∷ [])
-      ∙ (sym (insert_end (is_version_after id f.next) (row_in s f.id new) (map (row_in s f.id) (ended_rows f now)) none_later)
-      ∙ ap (insert_before (is_version_after id f.next) (row_in s f.id new)) (ended_shown s f now id is)))
+      let last = insert_end (is_version_after id f.next) (row_in s f.id new) (map (row_in s f.id) (ended_rows f now)) none_later in
+      rw (closed.rows, map-append, ← last, ended_shown s f now id is) refl
 
   versions_append : appended id f.next now (row_in s f.id new) (flat_map (rows_in s) files) ≡ flat_map (rows_in s) (after files id f g found)
   versions_append = bucket_changes (λ (x : File). x.id) (rows_in s) file_of (tagged s) id (appended id f.next now (row_in s f.id new)) local (over g) files f rise found its_rows
@@ -77,7 +68,7 @@ module _ (s : Store) (files : List File) (id : ℕ) (f g : File) (found : find (
   pub appended_shows : (a : AllSessions) (w : World) → rows_of w ≡ held_in s files a → w.now ≡ now → is_live w id ≡ live → held_in s (after files id f g found) a ≡ rows_of (after_change w (Append id opened (shown s cells)))
   appended_shows a w rows time lives =
       let told : with_next (rows_of w) id opened w.now (is_live w id) (shown s cells) ≡ with_next (held_in s files a) id opened w.now (is_live w id) (shown s cells) = ap (λ (h : Held). with_next h id opened w.now (is_live w id) (shown s cells)) rows in
-      shows_next a ∙ (rw (next-found files id (Some f) found, is, ← time, ← lives) refl ∙ sym told)
+      shows_next a ∙ (rw (next_found files id (Some f) found, is, ← time, ← lives) refl ∙ sym told)
 
 -- ---- a file comes without a version, and gets its first
 
@@ -98,17 +89,14 @@ module _ (s : Store) (files : List File) (a : AllSessions) (kept : Keeps s files
   more_rows = map-append file_row files (f ∷ [])
 
   begun : Keeps s (files ++ f ∷ []) a
-  begun = record {
-    laws = kept.laws;
-    rise = later-push (λ (g h : File). g.id < h.id) files f kept.rise before;
-    stocked = kept.laws.same s (stock_of files a.drafts) (stock_of (files ++ f ∷ []) a.drafts) (file_added files a.drafts f none) kept.stocked;
-    files_kept = all-push IsFileKept files f kept.files_kept (fresh_kept f next none);
-    drafts_kept = all-weaker (IsDraftKept files) (IsDraftKept (files ++ f ∷ [])) a.drafts (λ d k. record { there = k.there; number = k.number ∙ sym (ap (λ rs. next_of rs d.file) more_rows ∙ next_of-push (map file_row files) (file_row f) d.file (omega (arith, k.there, k.number))) }) kept.drafts_kept;
-  }
+  begun =
+      let stocked = kept.laws.same s (stock_of files a.drafts) (stock_of (files ++ f ∷ []) a.drafts) (file_added files a.drafts f none) kept.stocked in
+      let drafts_kept = all-weaker (IsDraftKept files) (IsDraftKept (files ++ f ∷ [])) a.drafts (λ d k. record { there = k.there; number = k.number ∙ sym (ap (λ rs. next_of rs d.file) more_rows ∙ next_of-push (map file_row files) (file_row f) d.file (omega (arith, k.there, k.number))) }) kept.drafts_kept in
+      assumption (stocked, drafts_kept, later-push (λ (g h : File). g.id < h.id) files f kept.rise before, all-push IsFileKept files f kept.files_kept (fresh_kept f next none))
 
   -- no draft is of the file
   pub undrafted : AllByRecursion (λ d. d.file ≢ f.id) a.drafts
-  undrafted = grind (arith, nat_tests, all-weaker, next-found, not_found, others)
+  undrafted = grind (arith, nat_tests, all-weaker, next_found, not_found, others)
 
   pub placed : after (files ++ f ∷ []) f.id f x found ≡ files ++ x ∷ []
   placed = update_first-at (is_id f.id) (over x) files f [] others (grind (arith, nat_tests)) ∙ ap (λ g. files ++ g ∷ []) (sym (rw (appended.id, appended.policy) refl))
@@ -128,4 +116,4 @@ module _ (s : Store) (files : List File) (a : AllSessions) (kept : Keeps s files
         none_shown = rw none refl
 
         rows : rows_of (with_name (with_file (with_rows w (held_in s files a)) f.id f.policy) directory name (target.File f.id)) ≡ held_in s (files ++ f ∷ []) a
-        rows = rw (more_rows, flat_map-append (rows_in s) files (f ∷ []), none_shown, append-nil (flat_map (rows_in s) files), next) refl
+        rows = rw (more_rows, flat_map-append (rows_in s) files (f ∷ []), none_shown, append_nil (flat_map (rows_in s) files), next) refl

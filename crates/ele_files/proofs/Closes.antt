@@ -1,8 +1,8 @@
 -- What goes with a handle, and what the last writer of a changed draft leaves.
-use Rattle.ele_files.proofs.Words.{sum_by-remove_first, sum_by-cons, found_passes, AllByRecursion, AllSessions, Became, Bool, Draft, EndDraft, File, HasAppended, Held, HeldRows, IsDraftKept, IsGivenUp, IsPast, Keeps, Layout, List, LivesIn, None, Ok, OnErr, Option, Reads, Result, Rises, ShutHandle, Some, Store, [], after_changes, all-found, all-not_found, all-remove_first, ap, arith, cells_of_draft, changed_at, changed_opening, closed, closed_of, closing, closing_of, cond, draft_in, draft_stock, false, file_by, file_closing, file_row, find, finishing, get_or, handle_in, held_in, is_draft, is_id, is_some, is_writer, last_draft, leaving, left_by, left_drafts, left_handles, left_of, list_any, map, nat_tests, next_of, next_row, opening_by, opening_of, option_and_then, option_map, position, refl, remove_first, remove_first-map, remove_first-unfound, result_ok, row_stock, rows_of, set, stock_of, sym, true, with_rows, ℕ, ◌∙◌, ◌∷◌, ◌≡◌}
+use Rattle.ele_files.proofs.Words.{sum_by-remove_first, sum_by_cons, found_passes, AllByRecursion, AllSessions, Became, Bool, Draft, EndDraft, File, HasAppended, Held, HeldRows, IsDraftKept, IsGivenUp, IsPast, Keeps, Layout, List, LivesIn, None, Ok, OnErr, Option, Reads, Result, Rises, ShutHandle, Some, Store, [], after_changes, all_found, all_not_found, all-remove_first, ap, arith, cells_of_draft, changed_at, changed_opening, closed, closed_of, closing, closing_of, cond, draft_in, draft_stock, false, file_by, file_closing, file_row, find, finishing, get_or, handle_in, held_in, is_draft, is_id, is_some, is_writer, last_draft, leaving, left_by, left_drafts, left_handles, left_of, list_any, map, nat_tests, next_of, next_row, opening_by, opening_of, option_and_then, option_map, position, refl, remove_first, remove_first-map, remove_first_unfound, result_ok, row_stock, rows_of, set, stock_of, sym, true, with_rows, ℕ, ◌∙◌, ◌∷◌, ◌≡◌}
 use Rattle.ele_files.proofs.Drafts.{dropped, drafts_apart, its_file}
 use Rattle.ele_files.proofs.Looks.{held_stays, IsSeen}
-use Rattle.ele_files.proofs.Rows.{draft-found, handle_file-shown, reads_by-shown, reads_of, left-shown, no-file, next-found, its_id, file_past}
+use Rattle.ele_files.proofs.Rows.{draft_found, handle_file_shown, reads_by_shown, reads_of, left-shown, no_file, next_found, its_id, file_past}
 use Rattle.ele_files.proofs.Stock.{total, draft_lives, draft_apart}
 use Rattle.ele_files.proofs.Appends.{appended_keeps, appended_shows}
 use Rattle.ele_files.proofs.Exchanges.{IsReached, reached}
@@ -23,7 +23,7 @@ module _ (s : Store) (files : List File) (ss : AllSessions) (handle : ℕ) where
   shown = held_in s files ss
 
   pub last_shown : (file : ℕ) → last_draft shown handle file ≡ cond (list_any (is_writer file) (left_handles ss handle)) None (option_map (draft_in s) (find (is_draft file) ss.drafts))
-  last_shown file = rw (left-shown ss.handles handle file, draft-found s file ss.drafts) refl
+  last_shown file = rw (left-shown ss.handles handle file, draft_found s file ss.drafts) refl
 
   pub handles_left : map handle_in (left_handles ss handle) ≡ remove_first (world.is_handle handle) shown.handles
   handles_left = sym (remove_first-map handle_in (world.is_handle handle) (sessions.is_handle handle) (λ x. refl) ss.handles)
@@ -31,20 +31,20 @@ module _ (s : Store) (files : List File) (ss : AllSessions) (handle : ℕ) where
   -- ---- what is asked before
 
   pub opening_shown : opening_of (option_map (λ answer. answer.0) (closing ss handle)) ≡ opening_by shown handle
-  opening_shown = grind (arith, nat_tests, handle_file-shown, last_shown)
+  opening_shown = grind (arith, nat_tests, handle_file_shown, last_shown)
 
   -- ---- the handle is left
 
   module _ (kept : Keeps s files ss) where
     module _ (t : Store) where
       pub leaves : IsGivenUp s t (given ss handle) → IsSeen t files (closed ss handle) (left_by shown handle)
-      leaves = rw (reads_by-shown ss.handles handle) (by (sessions.reads_by ss.handles handle)) where
+      leaves = rw (reads_by_shown ss.handles handle) (by (sessions.reads_by ss.handles handle)) where
         stays : (file : ℕ) (b : Bool) → left_drafts b file ss.drafts ≡ ss.drafts → t ≡ s → IsSeen t files (without_handle ss handle file b) (changed_at shown 0 (leaving handle file false))
         stays file b drafts gone = grind (arith, nat_tests, handles_left)
 
         ends : (file : ℕ) (b : Bool) (o : Option Draft) → find (is_draft file) ss.drafts ≡ o → IsGivenUp s t (file_closing b o).1 → IsSeen t files (without_handle ss handle file b) (changed_at shown 0 (leaving handle file (is_some (cond b None (option_map (draft_in s) o)))))
         ends file true o found gone = stays file true refl gone
-        ends file false None found gone = stays file false (remove_first-unfound (is_draft file) ss.drafts (all-not_found (is_draft file) ss.drafts found)) gone
+        ends file false None found gone = stays file false (remove_first_unfound (is_draft file) ss.drafts (all_not_found (is_draft file) ss.drafts found)) gone
         ends file false (Some d) found gone =
             let seen = dropped s t files ss (without_handle ss handle file false) kept file d found gone refl in
             record { keeps = seen.keeps; shows = seen.shows ∙ rw handles_left refl }
@@ -77,7 +77,7 @@ module _ (s : Store) (files : List File) (ss : AllSessions) (handle file opened 
   is_last = by (list_any (is_writer file) (left_handles ss handle)) (find (is_draft file) ss.drafts) refl refl
       (sym (ap changed_opening (last_shown s files ss handle file)) ∙ (sym (ap (option_and_then (λ f. changed_opening (last_draft rows handle f))) (ap result_ok writes)) ∙ ends)) where
         by : (b : Bool) (o : Option Draft) → list_any (is_writer file) (left_handles ss handle) ≡ b → find (is_draft file) ss.drafts ≡ o → changed_opening (cond b None (option_map (draft_in s) o)) ≡ Some opened → IsLast ss handle file opened
-        by x0 o alone found is = grind (arith, nat_tests, handle_file-shown)
+        by x0 o alone found is = grind (arith, nat_tests, handle_file_shown)
 
   abbrev d : Draft
   d = is_last.draft
@@ -86,7 +86,7 @@ module _ (s : Store) (files : List File) (ss : AllSessions) (handle file opened 
   its_map = is_last.out
 
   d_kept : IsDraftKept files d
-  d_kept = all-found (is_draft file) (IsDraftKept files) ss.drafts d is_last.found kept.drafts_kept
+  d_kept = all_found (is_draft file) (IsDraftKept files) ss.drafts d is_last.found kept.drafts_kept
 
   is_file : d.file ≡ file
   is_file = its_file file ss.drafts d is_last.found
@@ -96,7 +96,7 @@ module _ (s : Store) (files : List File) (ss : AllSessions) (handle file opened 
 
   -- the draft's file is there
   pub not_missing : position (is_id file) files ≡ None → ⊥
-  not_missing missing = omega (arith, d_kept.there, its_next, next-found files file None (no-file files file (sym missing)))
+  not_missing missing = omega (arith, d_kept.there, its_next, next_found files file None (no_file files file (sym missing)))
 
   -- the file at its place, with room for the version
   module _ (i : ℕ) (f : File) (place : Some i ≡ position (is_id file) files) (is : f ≡ get_or files i f) (log : HeldRows) (rows_stay : log.rows ≡ f.log.rows) where
@@ -107,7 +107,7 @@ module _ (s : Store) (files : List File) (ss : AllSessions) (handle file opened 
     k = record f { log = log }
 
     pub next_is : next_of (map file_row files) file ≡ f.next
-    next_is = next-found files file (Some f) at.found
+    next_is = next_found files file (Some f) at.found
 
     module _ (now : ℕ) (live : Bool) (m : Layout) (out : given ss handle ≡ Some m) (l : File) (appended : HasAppended k l now (next_row f.next opened now live m)) (past : AllByRecursion (IsPast now) rows.versions) where
       f_appended : HasAppended f l now (next_row f.next opened now live d.layout)
@@ -127,7 +127,7 @@ module _ (s : Store) (files : List File) (ss : AllSessions) (handle file opened 
           (appended_shows s files file f l at.found kept.rise kept.files_kept opened now live d.layout f_appended (file_past s files file f now at.found past) (without_handle ss handle file false) (after_changes (with_rows w rows) (ShutHandle handle ∷ EndDraft file ∷ [])) left time lives)
         where
           cells : cells_of_draft rows file ≡ (draft_in s d).cells
-          cells = rw (draft-found s file ss.drafts, is_last.found) refl
+          cells = rw (draft_found s file ss.drafts, is_last.found) refl
 
           left : rows_of (after_changes (with_rows w rows) (ShutHandle handle ∷ EndDraft file ∷ [])) ≡ held_in s files (without_handle ss handle file false)
           left = rw (handles_left s files ss handle, remove_first-map (draft_in s) (world.is_draft file) (is_draft file) (λ x. refl) ss.drafts) refl

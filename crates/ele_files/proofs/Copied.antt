@@ -1,5 +1,5 @@
 -- A copy of a held version's map comes into the store.
-use Rattle.ele_files.proofs.Words.{arith, nat_tests, AllByRecursion, AllSessions, Bool, File, Keeps, List, LogRow, Moves, SameStock, ShowsSame, Some, Stays, Store, Tagged, [], all-found, all-left, draft_stock, file_stock, find, flat_map, flat_map-all, is_id, map, map-all, refl, remove_first, row_stock, shown, stock_of, update_first, ℕ, ◌+◌, ◌∷◌, ◌≡◌, ◌≤◌}
+use Rattle.ele_files.proofs.Words.{arith, nat_tests, AllByRecursion, AllSessions, Bool, File, Keeps, List, LogRow, Moves, SameStock, ShowsSame, Some, Stays, Store, Tagged, [], all_found, all-left, draft_stock, file_stock, find, flat_map, flat_map-all, is_id, map, map-all, refl, remove_first, row_stock, shown, stock_of, update_first, ℕ, ◌+◌, ◌∷◌, ◌≡◌, ◌≤◌}
 use Rattle.ele_files.proofs.Stock.{over, row_apart}
 
 module _ (s t : Store) (files : List File) (a : AllSessions) (kept : Keeps s files a) (id : ℕ) (f : File) (found : find (is_id id) files ≡ Some f) (q : LogRow → Bool) (row : LogRow) (held : find q f.log.rows ≡ Some row) where
@@ -13,5 +13,5 @@ module _ (s t : Store) (files : List File) (a : AllSessions) (kept : Keeps s fil
   pub row_same : AllByRecursion (ShowsSame s t) (stock_of files a.drafts) → shown t row.cells ≡ shown s row.cells
   row_same all =
       let mine = flat_map-all file_stock (ShowsSame s t) files (all-left (ShowsSame s t) (flat_map file_stock files) (map draft_stock a.drafts) all) in
-      let rows = map-all (row_stock f.id) (ShowsSame s t) f.log.rows (all-found (is_id id) (λ x. AllByRecursion (ShowsSame s t) (file_stock x)) files f found mine) in
-      (all-found q (λ r. ShowsSame s t (row_stock f.id r)) f.log.rows row held rows).same
+      let rows = map-all (row_stock f.id) (ShowsSame s t) f.log.rows (all_found (is_id id) (λ x. AllByRecursion (ShowsSame s t) (file_stock x)) files f found mine) in
+      (all_found q (λ r. ShowsSame s t (row_stock f.id r)) f.log.rows row held rows).same

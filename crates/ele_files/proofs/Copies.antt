@@ -19,9 +19,9 @@ module _ {X : Type 0} where
 all-after : (behind : ℕ) (x : LogRow) (xs : List LogRow) → behind ≤ x.number → AllByRecursion (λ (y : LogRow). x.number < y.number) xs → filter (is_after behind) xs ≡ xs
 all-after behind x xs le all = filter-all (is_after behind) xs (all-weaker (λ (y : LogRow). x.number < y.number) (λ y. is_after behind y ≡ true) xs (λ y lt. grind (arith, nat_tests, le)) all)
 
-pub left-behind : (behind : ℕ) (xs : List LogRow) (row : LogRow) → AllLater (λ (x y : LogRow). x.number < y.number) xs → find (is_after behind) xs ≡ Some row → filter (is_after behind) xs ≡ row ∷ filter (is_after row.number) xs
-left-behind behind [] row rise h = absurd cc
-left-behind behind (x ∷ xs) row rise h = grind (arith, nat_tests, h, all-after x.number x xs, all-after behind x xs, rise.0, left-behind behind xs row rise.1, found_passes (is_after behind) xs row)
+pub left_behind : (behind : ℕ) (xs : List LogRow) (row : LogRow) → AllLater (λ (x y : LogRow). x.number < y.number) xs → find (is_after behind) xs ≡ Some row → filter (is_after behind) xs ≡ row ∷ filter (is_after row.number) xs
+left_behind behind [] row rise h = absurd cc
+left_behind behind (x ∷ xs) row rise h = grind (arith, nat_tests, h, all-after x.number x xs, all-after behind x xs, rise.0, left_behind behind xs row rise.1, found_passes (is_after behind) xs row)
 
 -- the cells of a map
 abbrev cell_from : Store → ℕ × ℕ → Cell
@@ -31,8 +31,8 @@ module _ (laws : StockLaws) (s : Store) (m : Layout) (lives : LivesIn s m) (k : 
   slot : (x : Slot) × (slice_get (slots_of s m) k ≡ Some x) × ((x.writer, x.block) ≡ cell)
   slot = grind (arith, nat_tests)
 
-  pub cell-next : (bytes : List ℕ) → bytes ≡ bytes_at s cell.1 → map (cell_of s) (take (k + 1) (slots_of s m)) ≡ map (cell_of s) (take k (slots_of s m)) ++ record { writer = cell.0; bytes = bytes } ∷ []
-  cell-next bytes is =
+  pub cell_next : (bytes : List ℕ) → bytes ≡ bytes_at s cell.1 → map (cell_of s) (take (k + 1) (slots_of s m)) ≡ map (cell_of s) (take k (slots_of s m)) ++ record { writer = cell.0; bytes = bytes } ∷ []
+  cell_next bytes is =
       let made : cell_of s slot.0 ≡ record { writer = cell.0; bytes = bytes } = ap (cell_from s) slot.2 ∙ ap (cell_by cell.0) (sym is) in
       (taken-next (cell_of s) (slots_of s m) k slot.0 slot.1) ∙ ap (λ (c : Cell). map (cell_of s) (take k (slots_of s m)) ++ c ∷ []) made
 
@@ -41,22 +41,22 @@ module _ (f : File) (kept : IsFileKept f) where
   pub rise : AllLater (λ (x y : LogRow). x.number < y.number) f.log.rows
   rise = later-weaker Precedes (λ (x y : LogRow). x.number < y.number) f.log.rows (λ x y p. p.number) kept.order.order
 
-  pub log-all : filter (is_after 0) f.log.rows ≡ f.log.rows
-  log-all = filter-all (is_after 0) f.log.rows (all-weaker (IsRowOf f.next) (λ row. is_after 0 row ≡ true) f.log.rows (λ row is. let h = is.first in grind (arith, nat_tests)) kept.rows)
+  pub log_all : filter (is_after 0) f.log.rows ≡ f.log.rows
+  log_all = filter-all (is_after 0) f.log.rows (all-weaker (IsRowOf f.next) (λ row. is_after 0 row ≡ true) f.log.rows (λ row is. let h = is.first in grind (arith, nat_tests)) kept.rows)
 
   module _ (behind : ℕ) (row : LogRow) (found : Some row ≡ find (is_after behind) f.log.rows) where
-    pub log-left : filter (is_after behind) f.log.rows ≡ row ∷ filter (is_after row.number) f.log.rows
-    log-left = left-behind behind f.log.rows row rise (sym found)
+    pub log_left : filter (is_after behind) f.log.rows ≡ row ∷ filter (is_after row.number) f.log.rows
+    log_left = left_behind behind f.log.rows row rise (sym found)
 
     -- what is told of the rows behind begins with the row
-    pub told-next : (told : List Stamps) → told ++ map stamps_in (filter (is_after behind) f.log.rows) ≡ map stamps_in f.log.rows → (told ++ stamps_in row ∷ []) ++ map stamps_in (filter (is_after row.number) f.log.rows) ≡ map stamps_in f.log.rows
-    told-next told h = rw append_assoc (ap (λ xs. told ++ map stamps_in xs) (sym (left-behind behind f.log.rows row rise (sym found))) ∙ h)
+    pub told_next : (told : List Stamps) → told ++ map stamps_in (filter (is_after behind) f.log.rows) ≡ map stamps_in f.log.rows → (told ++ stamps_in row ∷ []) ++ map stamps_in (filter (is_after row.number) f.log.rows) ≡ map stamps_in f.log.rows
+    told_next told h = rw append_assoc (ap (λ xs. told ++ map stamps_in xs) (sym (left_behind behind f.log.rows row rise (sym found))) ∙ h)
 
-    pub log-fewer : length (filter (is_after row.number) f.log.rows) < length (filter (is_after behind) f.log.rows)
-    log-fewer = let left = left-behind behind f.log.rows row rise (sym found) in rw left (omega arith)
+    pub log_fewer : length (filter (is_after row.number) f.log.rows) < length (filter (is_after behind) f.log.rows)
+    log_fewer = let left = left_behind behind f.log.rows row rise (sym found) in rw left (omega arith)
 
-    pub log-next : (s : Store) (rows all : List world.VersionRow) (cells : List Cell) → cells ≡ shown s row.cells → rows ++ map (row_in s f.id) (filter (is_after behind) f.log.rows) ≡ all → (rows ++ record { file = f.id; number = row.number; opened = row.opened; closed = row.closed; ended = row.ended; cells = cells } ∷ []) ++ map (row_in s f.id) (filter (is_after row.number) f.log.rows) ≡ all
-    log-next s rows all cells is h = grind (arith, nat_tests, left-behind, rise, found, append_assoc)
+    pub log_next : (s : Store) (rows all : List world.VersionRow) (cells : List Cell) → cells ≡ shown s row.cells → rows ++ map (row_in s f.id) (filter (is_after behind) f.log.rows) ≡ all → (rows ++ record { file = f.id; number = row.number; opened = row.opened; closed = row.closed; ended = row.ended; cells = cells } ∷ []) ++ map (row_in s f.id) (filter (is_after row.number) f.log.rows) ≡ all
+    log_next s rows all cells is h = grind (arith, nat_tests, left_behind, rise, found, append_assoc)
 
 -- the rows of drafts
 abbrev draft_from : ℕ × ℕ × Bool → List Cell → DraftRow
@@ -69,11 +69,11 @@ module _ (s : Store) (drafts : List Draft) (rise : AllLater (λ (x y : Draft). x
   pub found : find (sessions.is_draft t.0) drafts ≡ Some draft.0
   found = subst (λ (u : ℕ × ℕ × Bool). find (sessions.is_draft u.0) drafts ≡ Some draft.0) draft.2 (found-got (λ (d : Draft). d.file) drafts k draft.0 rise draft.1)
 
-  pub draft-there : None ≡ option_map (λ (d : Draft). d.layout) (find (sessions.is_draft t.0) drafts) → ⊥
-  draft-there none = let h = none ∙ ap (option_map (λ (d : Draft). d.layout)) found in cc
+  pub draft_there : None ≡ option_map (λ (d : Draft). d.layout) (find (sessions.is_draft t.0) drafts) → ⊥
+  draft_there none = let h = none ∙ ap (option_map (λ (d : Draft). d.layout)) found in cc
 
-  pub draft-next : (m : Layout) (cells : List Cell) → Some m ≡ option_map (λ (d : Draft). d.layout) (find (sessions.is_draft t.0) drafts) → cells ≡ shown s m → map (draft_in s) (take (k + 1) drafts) ≡ map (draft_in s) (take k drafts) ++ record { file = t.0; opened = t.1; cells = cells; changed = t.2 } ∷ []
-  draft-next m cells layout is =
+  pub draft_next : (m : Layout) (cells : List Cell) → Some m ≡ option_map (λ (d : Draft). d.layout) (find (sessions.is_draft t.0) drafts) → cells ≡ shown s m → map (draft_in s) (take (k + 1) drafts) ≡ map (draft_in s) (take k drafts) ++ record { file = t.0; opened = t.1; cells = cells; changed = t.2 } ∷ []
+  draft_next m cells layout is =
       let next = taken-next (draft_in s) drafts k draft.0 draft.1 in
       let h : Some m ≡ Some draft.0.layout = layout ∙ ap (option_map (λ (d : Draft). d.layout)) found in
       let same : m ≡ draft.0.layout = cc in

@@ -1,6 +1,6 @@
 -- The places of a file's maps, counted by the slots that were met.
-use Rattle.ele_files.proofs.Words.{AllByRecursion, AllLater, AllSessions, Bool, Cell, Counts, Draft, DraftRow, File, IsFileKept, Keeps, Layout, List, LivesIn, LogRow, Meets, None, Option, Place, Slot, Some, StockLaws, Store, Usage, VersionRow, [], all-found, all-weaker, ap, append-nil, append_assoc, arith, bytes_at, bytes_in, cell_of, cond, different, draft_in, draft_of, eqb, false, file_usage, filter, filter-buckets, find, flat_map, flat_map_single, found_passes, is_among, is_id, is_key, is_place, is_version_of, length, length-map, length-split, length-take-le, list_any, list_any-append, log_bytes, log_places, map, nat_tests, not, option_map, option_map_or, places, places_from, refl, row_in, rows_in, shown, slice_get, slots_of, subst, sum-map, sum_by-cons, sum_by-map, sum_by-same, sym, take, true, ℕ, ◌&&◌, ◌*◌, ◌++◌, ◌+◌, ◌<◌, ◌^◌, ◌||◌, ◌∙◌, ◌∷◌, ◌≡◌, ◌≤◌}
-use Rattle.ele_files.proofs.Copies.{cell-next}
+use Rattle.ele_files.proofs.Words.{AllByRecursion, AllLater, AllSessions, Bool, Cell, Counts, Draft, DraftRow, File, IsFileKept, Keeps, Layout, List, LivesIn, LogRow, Meets, None, Option, Place, Slot, Some, StockLaws, Store, Usage, VersionRow, [], all_found, all-weaker, ap, append_nil, append_assoc, arith, bytes_at, bytes_in, cell_of, cond, different, draft_in, draft_of, eqb, false, file_usage, filter, filter-buckets, find, flat_map, flat_map-map, flat_map_single, found_passes, is_among, is_id, is_key, is_place, is_version_of, length, length-map, length-split, length-take-le, list_any, list_any-append, log_bytes, log_places, map, nat_tests, not, option_map, option_map_or, places, places_from, refl, row_in, rows_in, shown, slice_get, slots_of, subst, sum-map, sum_by_cons, sum_by-map, sum_by-same, sym, take, true, ℕ, ◌&&◌, ◌*◌, ◌++◌, ◌+◌, ◌<◌, ◌^◌, ◌||◌, ◌∙◌, ◌∷◌, ◌≡◌, ◌≤◌}
+use Rattle.ele_files.proofs.Copies.{cell_next}
 use Rattle.ele_files.proofs.Rows.{its_id}
 use Rattle.ele_files.proofs.Stock.{logs_live}
 use Rattle.ele_files.proofs.Tagged.{own_rows}
@@ -9,16 +9,10 @@ use Rattle.ele_world.specs.World.{is_draft}
 
 -- ---- different places
 
-is_same : (x y : Place) → is_place x y ≡ true → x ≡ y
-is_same x y h = grind (arith, nat_tests)
-
-turned : (x y : Place) → is_place x y ≡ is_place y x
-turned x y = grind (arith, nat_tests)
-
 -- a place behind others counts unless it is one of them
 different-push : (places : List Place) (place : Place) → different is_place (places ++ place ∷ []) ≡ different is_place places + cond (is_among places place) 0 1
 different-push [] place = refl
-different-push (x ∷ xs) place = grind (arith, nat_tests, list_any-append, turned, is_same, different-push xs place)
+different-push (x ∷ xs) place = grind (arith, nat_tests, list_any-append, different-push xs place)
 
 -- ---- one slot more
 
@@ -43,7 +37,7 @@ module _ (file slot writer : ℕ) where
 
 -- nothing was met
 pub meets_none : (file : ℕ) (keys : List (ℕ × ℕ)) → Meets file keys keys []
-meets_none file keys before counts = subst (Counts file keys) (sym (append-nil before)) counts
+meets_none file keys before counts = subst (Counts file keys) (sym (append_nil before)) counts
 
 -- one after the other
 pub meets_then : (file : ℕ) (was then now : List (ℕ × ℕ)) (places more : List Place) → Meets file was then places → Meets file then now more → Meets file was now (places ++ more)
@@ -61,20 +55,16 @@ module _ (laws : StockLaws) (s : Store) (m : Layout) (lives : LivesIn s m) (k : 
   places-next =
       let at : 0 + length so_far ≡ k = omega (arith, length-map (take k (slots_of s m)) (cell_of s), length-take-le k (slots_of s m) within) in
       let next = places_from-push file 0 so_far (record { writer = cell.0; bytes = bytes_at s cell.1 }) in
-      ap (places_from file 0) (cell-next laws s m lives k cell got (bytes_at s cell.1) refl) ∙ next ∙ ap (λ n. places_from file 0 so_far ++ record { file = file; slot = n; writer = cell.0 } ∷ []) at
+      ap (places_from file 0) (cell_next laws s m lives k cell got (bytes_at s cell.1) refl) ∙ next ∙ ap (λ n. places_from file 0 so_far ++ record { file = file; slot = n; writer = cell.0 } ∷ []) at
 
 -- ---- the bytes of a log
 
-abbrev LogLives : Store → List LogRow → Type 0
-LogLives s rows = AllByRecursion (λ (row : LogRow). LivesIn s row.cells) rows
-
-pub bytes_few : StockLaws → (s : Store) (rows : List LogRow) → LogLives s rows → log_bytes rows ≤ length rows * 1048576
+pub bytes_few : StockLaws → (s : Store) (rows : List LogRow) → AllByRecursion (λ (row : LogRow). LivesIn s row.cells) rows → log_bytes rows ≤ length rows * 1048576
 bytes_few laws s [] lives = omega arith
-bytes_few laws s (row ∷ rows) lives = omega (arith, sum_by-cons (λ (r : LogRow). r.cells.size) row rows, laws.short s row.cells lives.0, bytes_few laws s rows lives.1)
+bytes_few laws s (row ∷ rows) lives = omega (arith, sum_by_cons (λ (r : LogRow). r.cells.size) row rows, laws.short s row.cells lives.0, bytes_few laws s rows lives.1)
 
 pub places_shown : (s : Store) (file : ℕ) (rows : List LogRow) → log_places s rows file ≡ flat_map (λ (row : VersionRow). places_from row.file 0 row.cells) (map (row_in s file) rows)
-places_shown s file [] = refl
-places_shown s file (row ∷ rows) = ap (λ ps. places_from file 0 (shown s row.cells) ++ ps) (places_shown s file rows)
+places_shown s file rows = sym (flat_map-map (λ (row : VersionRow). places_from row.file 0 row.cells) (row_in s file) rows)
 
 -- ---- the rows of one file
 
@@ -99,13 +89,13 @@ module _ (s : Store) (files : List File) (a : AllSessions) (kept : Keeps s files
     own_count = ap length shows ∙ length-map f.log.rows (row_in s f.id)
 
     pub own_bytes : log_bytes f.log.rows ≡ bytes_in own
-    own_bytes = grind (arith, nat_tests, shows, sum_by-same, all-weaker, sum_by-map, sum-map, all-found, logs_live)
+    own_bytes = grind (arith, nat_tests, shows, sum_by-same, all-weaker, sum_by-map, sum-map, all_found, logs_live)
 
     pub own_few : length (flat_map (rows_in s) files) ≤ 2 ^ 40 → log_bytes f.log.rows < 2 ^ 64
-    own_few few = grind (arith, nat_tests, bytes_few, own_count, length-split, all-found, logs_live)
+    own_few few = omega (arith, bytes_few kept.laws s f.log.rows (all_found (is_id file) (λ (g : File). AllByRecursion (λ (row : LogRow). LivesIn s row.cells) g.log.rows) files f found (logs_live s files a kept)), own_count, length-split (is_version_of file) (flat_map (rows_in s) files))
 
     pub own_places : log_places s f.log.rows file ≡ places own []
-    own_places = ap (log_places s f.log.rows) (sym (its_id files file f found)) ∙ places_shown s f.id f.log.rows ∙ ap (flat_map row_places) (sym shows) ∙ sym (append-nil (flat_map row_places own))
+    own_places = ap (log_places s f.log.rows) (sym (its_id files file f found)) ∙ places_shown s f.id f.log.rows ∙ ap (flat_map row_places) (sym shows) ∙ sym (append_nil (flat_map row_places own))
 
 -- a file has one draft at most
 pub draft_places : (s : Store) (a : AllSessions) (file : ℕ) → AllLater (λ (x y : Draft). x.file < y.file) a.drafts → flat_map draft_row_places (filter (is_draft file) (map (draft_in s) a.drafts)) ≡ option_map_or (λ m. places_from file 0 (shown s m)) (option_map (λ (d : Draft). d.layout) (draft_of a file)) []
@@ -113,11 +103,7 @@ draft_places s a file rise =
     ap (flat_map draft_row_places) (ap (filter (is_draft file)) (sym (flat_map_single (draft_in s) a.drafts)) ∙ filter-buckets (λ (d : Draft). d.file) (λ d. draft_in s d ∷ []) (λ (row : DraftRow). row.file) (λ d. (refl, tt)) file a.drafts rise)
     ∙ by (draft_of a file) refl where
       by : (o : Option Draft) → draft_of a file ≡ o → flat_map draft_row_places (option_map_or (λ d. draft_in s d ∷ []) o []) ≡ option_map_or (λ m. places_from file 0 (shown s m)) (option_map (λ (d : Draft). d.layout) o) []
-      by None is = refl
-      by (Some d) is =
-          let e = found_passes (sessions.is_draft file) a.drafts d is in
-          let same : d.file ≡ file = grind (arith, nat_tests) in
-          append-nil (places_from d.file 0 (shown s d.layout)) ∙ ap (λ n. places_from n 0 (shown s d.layout)) same
+      by o is = grind (arith, nat_tests, found_passes, append_nil)
 
 -- ---- what the file uses
 
@@ -128,7 +114,7 @@ module _ (versions : List VersionRow) (drafts : List DraftRow) (file : ℕ) (non
   pub met_all : length now ≡ different is_place (places (filter (is_version_of file) versions) (filter (is_draft file) drafts))
   met_all =
       (second (places (filter (is_version_of file) versions) []) (first [] start)).count
-      ∙ ap (λ ps. different is_place (ps ++ flat_map draft_row_places (filter (is_draft file) drafts))) (append-nil (flat_map row_places (filter (is_version_of file) versions)))
+      ∙ ap (λ ps. different is_place (ps ++ flat_map draft_row_places (filter (is_draft file) drafts))) (append_nil (flat_map row_places (filter (is_version_of file) versions)))
 
   pub usage_counts : (count bytes blocks : ℕ) → count ≡ length (filter (is_version_of file) versions) → bytes ≡ bytes_in (filter (is_version_of file) versions) → blocks ≡ length now → usage_by count bytes blocks ≡ file_usage versions drafts file
   usage_counts count bytes blocks counts sums meets = rw (counts, sums, meets, met_all) refl

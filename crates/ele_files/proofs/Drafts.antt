@@ -1,8 +1,8 @@
 -- A draft goes, or gets another map by a write or a truncate.
-use Rattle.ele_files.proofs.Words.{sum_by-update_first, sum_by-remove_first, sum_by-cons, AllByRecursion, AllLater, AllSessions, AreOrderly, Bool, Draft, DraftRow, File, Held, IsDraftKept, IsEarlier, IsFileKept, IsResized, IsRowOf, IsSomeAnd, Keeps, Layout, List, LivesIn, MatchBool, Moves, None, OnErr, OnOk, Option, Renews, Result, Rewrites, RewritesDraft, Rises, ShowsSame, Some, Stays, Store, Truncates, Writes, [], all-append, all-both, all-flat_map, all-found, all-left, all-map, all-remove_first, all-right, all-update_first, all-weaker, ap, arith, changed_by, cond, content_of, draft_by, draft_for, draft_in, draft_stock, eqb, false, false≢true, file_row, file_stock, find, fitted, fitted_by, fitted_of, flat_map, found_passes, handle_file, has_length, held_in, is_draft, is_file, length, longest_content, map, nat_tests, next_of, option_map, option_map_or, refl, remove_first, remove_first-map, rewritten_by, row_stock, shown, stock_of, sym, true, update_first, update_first-same, written_by, written_of, ℕ, ◌<◌, ◌∙◌, ◌∷◌, ◌≡◌, ◌≢◌, ◌≤◌}
-use Rattle.ele_files.proofs.Looks.{IsSeen, held_stays, versions_same}
+use Rattle.ele_files.proofs.Words.{sum_by-update_first, sum_by-remove_first, sum_by_cons, AllByRecursion, AllLater, AllSessions, AreOrderly, Bool, Draft, DraftRow, File, Held, IsDraftKept, IsEarlier, IsFileKept, IsStocked, IsResized, IsRowOf, IsSomeAnd, Keeps, Layout, List, LivesIn, MatchBool, Moves, None, OnErr, OnOk, Option, Renews, Result, Rewrites, RewritesDraft, Rises, ShowsSame, Some, Stays, Store, Truncates, Writes, [], all-append, all-both, all-flat_map, all_found, all-left, all-map, all-remove_first, all-right, all-update_first, all-weaker, ap, arith, changed_by, cond, content_of, draft_by, draft_for, draft_in, draft_stock, eqb, false, false≢true, file_row, file_stock, find, fitted, fitted_by, fitted_of, flat_map, found_passes, handle_file, has_length, held_in, is_draft, is_file, length, longest_content, map, nat_tests, next_of, option_map, option_map_or, refl, remove_first, remove_first-map, rewritten_by, row_stock, shown, stock_of, sym, true, update_first, update_first_same, written_by, written_of, ℕ, ◌<◌, ◌∙◌, ◌∷◌, ◌≡◌, ◌≢◌, ◌≤◌}
+use Rattle.ele_files.proofs.Looks.{IsSeen, drafts_same, held_stays, versions_same}
 use Rattle.ele_files.proofs.Stock.{total, draft_apart, draft_changed, draft_lives}
-use Rattle.ele_files.proofs.Rows.{handle_file-shown, draft-found}
+use Rattle.ele_files.proofs.Rows.{handle_file_shown, draft_found}
 use Rattle.ele_world.specs.World as world
 use Rattle.ele_files.specs.Held as held
 use Rattle.ele_sessions.specs.Changes as session
@@ -40,20 +40,17 @@ module _ (s t : Store) (files : List File) (a b : AllSessions) (kept : Keeps s f
 
     pub dropped : IsSeen t files b (record (held_in s files b) { drafts = remove_first (world.is_draft file) (map (draft_in s) a.drafts) })
     dropped = record {
-      keeps = record {
-        laws = kept.laws;
-        rise = kept.rise;
-        stocked = rw made goes.stocked;
-        files_kept = kept.files_kept;
-        drafts_kept = rw made (all-remove_first (is_draft file) (IsDraftKept files) a.drafts kept.drafts_kept);
-      };
+      keeps =
+          let stocked : IsStocked t (stock_of files b.drafts) = rw made goes.stocked in
+          let drafts_kept : AllByRecursion (IsDraftKept files) b.drafts = rw made (all-remove_first (is_draft file) (IsDraftKept files) a.drafts kept.drafts_kept) in
+          assumption (stocked, drafts_kept);
       shows = held_stays s t files b (rw made goes.shows) ∙ rw (made, remove_first-map (draft_in s) (world.is_draft file) (is_draft file) (λ x. refl) a.drafts) refl;
     }
 
   -- it gets another map
   module _ (now : Layout) (renewed : ℕ → Bool) (moves : Moves s t (d.layout ∷ []) (now ∷ [])) (renews : Renews s t d.number renewed d.layout now) (rise : Rises (λ (x : Draft). x.file) a.drafts) where
     d_kept : IsDraftKept files d
-    d_kept = all-found (is_draft file) (IsDraftKept files) a.drafts d found kept.drafts_kept
+    d_kept = all_found (is_draft file) (IsDraftKept files) a.drafts d found kept.drafts_kept
 
     pub its_number : d.number ≡ next_of (map file_row files) file
     its_number = d_kept.number ∙ ap (next_of (map file_row files)) (its_file file a.drafts d found)
@@ -70,22 +67,12 @@ module _ (s t : Store) (files : List File) (a b : AllSessions) (kept : Keeps s f
 
     pub rewritten : (change : DraftRow → DraftRow) → draft_in t (rewritten_by now d) ≡ change (draft_in s d) → b ≡ record a { drafts = update_first (is_draft file) (rewritten_by now) a.drafts } → IsSeen t files b (record (held_in s files a) { drafts = update_first (world.is_draft file) change (map (draft_in s) a.drafts) })
     rewritten change changed made = rw made (record {
-      keeps = record {
-        laws = kept.laws;
-        rise = kept.rise;
-        stocked = changes.stocked;
-        files_kept = kept.files_kept;
-        drafts_kept = all-update_first (is_draft file) (IsDraftKept files) (IsDraftKept files) (rewritten_by now) a.drafts (λ x h. record { there = h.there; number = h.number }) (λ x h. h) kept.drafts_kept;
-      };
+      keeps = assumption (changes.stocked, all-update_first (is_draft file) (IsDraftKept files) (IsDraftKept files) (rewritten_by now) a.drafts (λ x h. record { there = h.there; number = h.number }) (λ x h. h) kept.drafts_kept);
       shows = rw (versions_same s t files (all-left (ShowsSame s t) (flat_map file_stock files) (map draft_stock fewer) changes.shows), seen a.drafts found (all-right (ShowsSame s t) (flat_map file_stock files) (map draft_stock fewer) changes.shows)) refl;
     }) where
-      beside : (ds : List Draft) → AllByRecursion (ShowsSame s t) (map draft_stock ds) → map (draft_in t) ds ≡ map (draft_in s) ds
-      beside [] all = refl
-      beside (x ∷ ds) all = rw (all.0.same, beside ds all.1) refl
-
       seen : (ds : List Draft) → find (is_draft file) ds ≡ Some d → AllByRecursion (ShowsSame s t) (map draft_stock (remove_first (is_draft file) ds)) → map (draft_in t) (update_first (is_draft file) (rewritten_by now) ds) ≡ update_first (world.is_draft file) change (map (draft_in s) ds)
       seen [] h all = absurd cc
-      seen (x ∷ ds) h all = grind (arith, nat_tests, changed, beside, seen ds)
+      seen (x ∷ ds) h all = grind (arith, nat_tests, changed, drafts_same s t, seen ds)
 
 -- ---- a write or a truncate through a handle
 
@@ -113,7 +100,7 @@ module _ (s : Store) (files : List File) (a : AllSessions) (kept : Keeps s files
         → ((file : ℕ) → after (Some file) ≡ record rows { drafts = update_first (world.is_draft file) (change (next_of (map file_row files) file)) rows.drafts })
         → ((file : ℕ) → handle_file a.handles handle ≡ Some file → (r : RewritesDraft a.drafts b.drafts file Made) → IsNewMap (change r.was.number) r.was r.layout)
         → Rewrites a b handle Made → IsSeen t files b (after (held.handle_file rows.handles handle))
-    rewrites handle Made change after is new h = rw (handle_file-shown a.handles handle) (by (handle_file a.handles handle) refl h.1) where
+    rewrites handle Made change after is new h = rw (handle_file_shown a.handles handle) (by (handle_file a.handles handle) refl h.1) where
       by : (o : Option ℕ) → handle_file a.handles handle ≡ o → IsSomeAnd o (λ file. RewritesDraft a.drafts b.drafts file Made) → IsSeen t files b (after o)
       by None e r = absurd r
       by (Some file) e r =
@@ -136,10 +123,10 @@ module _ (s : Store) (files : List File) (a : AllSessions) (kept : Keeps s files
       by None found e = absurd (false≢true e)
       by (Some d) found e =
           let same = length_is file size d found ∙ e in
-          sym (ap (λ drafts. record rows { drafts = drafts }) (update_first-same (world.is_draft file) (fitted_by (next_of (map file_row files) file) size) rows.drafts (draft_in s d) (draft-found s file a.drafts ∙ ap (option_map (draft_in s)) found) (rw same refl)))
+          sym (ap (λ drafts. record rows { drafts = drafts }) (update_first_same (world.is_draft file) (fitted_by (next_of (map file_row files) file) size) rows.drafts (draft_in s d) (draft_found s file a.drafts ∙ ap (option_map (draft_in s)) found) (rw same refl)))
 
     truncated : (handle size : ℕ) (same : Bool) → has_length size (draft_by a handle) ≡ same → MatchBool same (session.Stays s t a b) (Rewrites a b handle (λ was. IsResized s t was.number size was.layout)) → IsSeen t files b (fitted rows handle size)
-    truncated handle size true e h = rw (handle_file-shown a.handles handle, ← fits_already (handle_file a.handles handle) size e) (stays h)
+    truncated handle size true e h = rw (handle_file_shown a.handles handle, ← fits_already (handle_file a.handles handle) size e) (stays h)
     truncated handle size false e h = rewrites handle _ (λ number. fitted_by number size) (λ o. fitted_of rows o size) (λ file. refl)
         (λ file there r.
         let long : eqb r.was.layout.size size ≡ false = rw (there, r.found) at e in

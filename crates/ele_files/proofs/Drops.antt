@@ -1,6 +1,6 @@
 -- A file of which nothing is held.
-use Rattle.ele_files.proofs.Words.{AllLater, AllSessions, Bool, Draft, File, IsDraftKept, IsFileKept, IsTrue, Keeps, List, LogRow, None, Some, Store, [], all-both, all-remove_first, all-weaker, ap, arith, eqb, false, false≢true, file_row, find, find-buckets, find-cut, find-position, find-remove_first, flat_map, flat_map-append, flat_map-cut, found_passes, get_or, held_in, is_bare, is_file, is_id, is_some, is_version_of, later-remove_first, list_any, map, nat_tests, not, option_and_then, position, refl, remove, remove_first, remove_first-at, remove_first-map, remove_first-none, remove_first-position, row_in, rows_in, stock_of, sym, true, without_file, ℕ, ◌&&◌, ◌++◌, ◌<◌, ◌↔◌, ◌∙◌, ◌∷◌, ◌≡◌, ◌≢◌}
-use Rattle.ele_files.proofs.Asked.{any-found}
+use Rattle.ele_files.proofs.Words.{AllLater, AllSessions, Bool, Draft, File, IsDraftKept, IsFileKept, IsTrue, Keeps, List, LogRow, None, Some, Store, [], all-both, all-remove_first, all-weaker, ap, arith, eqb, false, false≢true, file_row, find, find-buckets, find-cut, find_position, find-remove_first, flat_map, flat_map-append, flat_map-cut, found_passes, get_or, held_in, is_bare, is_file, is_id, is_some, is_version_of, later-remove_first, list_any, map, nat_tests, not, option_and_then, position, refl, remove, remove_first, remove_first-at, remove_first-map, remove_first_none, remove_first-position, row_in, rows_in, stock_of, sym, true, without_file, ℕ, ◌&&◌, ◌++◌, ◌<◌, ◌↔◌, ◌∙◌, ◌∷◌, ◌≡◌, ◌≢◌}
+use Rattle.ele_files.proofs.Asked.{any_found}
 use Rattle.ele_files.proofs.Looks.{IsSeen}
 use Rattle.ele_files.proofs.Rows.{file_of, tagged, undrafted}
 use Rattle.ele_files.proofs.Stock.{file_dropped}
@@ -12,11 +12,11 @@ module _ (s : Store) (id : ℕ) (files : List File) (rise : AllLater (λ (x y : 
 
   -- no file has the number
   pub unheld : find (is_id id) files ≡ None → list_any (is_version_of id) (flat_map (rows_in s) files) ≡ false
-  unheld none = sym (any-found (is_version_of id) (flat_map (rows_in s) files)) ∙ ap is_some (found_in ∙ ap (option_and_then (λ f. find (is_version_of id) (rows_in s f))) none)
+  unheld none = sym (any_found (is_version_of id) (flat_map (rows_in s) files)) ∙ ap is_some (found_in ∙ ap (option_and_then (λ f. find (is_version_of id) (rows_in s f))) none)
 
   -- the file's rows are its versions
   pub held_by : (f : File) → find (is_id id) files ≡ Some f → list_any (is_version_of id) (flat_map (rows_in s) files) ≡ list_any (is_version_of id) (rows_in s f)
-  held_by f found = sym (any-found (is_version_of id) (flat_map (rows_in s) files)) ∙ (ap is_some (found_in ∙ ap (option_and_then (λ f. find (is_version_of id) (rows_in s f))) found) ∙ any-found (is_version_of id) (rows_in s f))
+  held_by f found = sym (any_found (is_version_of id) (flat_map (rows_in s) files)) ∙ (ap is_some (found_in ∙ ap (option_and_then (λ f. find (is_version_of id) (rows_in s f))) found) ∙ any_found (is_version_of id) (rows_in s f))
 
   -- whether it has any
   pub any_held : (f : File) → find (is_id id) files ≡ Some f → (none : Bool) → IsTrue none ↔ (f.log.rows ≡ []) → not none ≡ list_any (is_version_of id) (flat_map (rows_in s) files)
@@ -56,34 +56,24 @@ module _ (s : Store) (files : List File) (a : AllSessions) (kept : Keeps s files
     no_log : f.log.rows ≡ []
     no_log = no_rows s id f (found_passes (is_id id) files f found) (sym (held_by s id files kept.rise f found) ∙ versionless)
 
-    versions_stay : flat_map (rows_in s) files ≡ flat_map (rows_in s) fewer
-    versions_stay =
-        let cut = find-cut (is_id id) files f found in
-        let left : fewer ≡ cut.before ++ cut.behind = ap (remove_first (is_id id)) cut.whole ∙ remove_first-at (is_id id) cut.before f cut.behind cut.none cut.passes in
-        let none : rows_in s f ≡ [] = ap (map (row_in s f.id)) no_log in
-        ap (flat_map (rows_in s)) cut.whole
-        ∙ (flat_map-cut (rows_in s) cut.before f cut.behind
-        ∙ (ap (λ rows. flat_map (rows_in s) cut.before ++ (rows ++ flat_map (rows_in s) cut.behind)) none
-        ∙ (sym (flat_map-append (rows_in s) cut.before cut.behind)
-        ∙ ap (flat_map (rows_in s)) (sym left))))
+    versions_stay : (fs : List File) → find (is_id id) fs ≡ Some f → flat_map (rows_in s) fs ≡ flat_map (rows_in s) (remove_first (is_id id) fs)
+    versions_stay [] h = absurd cc
+    versions_stay (x ∷ xs) h = grind (arith, nat_tests, h, no_log, versions_stay xs)
 
     draft_stays : (d : Draft) → IsDraftKept files d × (d.file ≢ id) → IsDraftKept fewer d
     draft_stays d h = grind (arith, nat_tests, rows_left, find-remove_first, is_file)
 
     pub drops : IsSeen s fewer a (without_file (held_in s files a) id)
     drops = record {
-      keeps = record {
-        laws = kept.laws;
-        rise = later-remove_first (is_id id) (λ (x y : File). x.id < y.id) files kept.rise;
-        stocked = kept.laws.same s (stock_of files a.drafts) (stock_of fewer a.drafts) (file_dropped files a.drafts (is_id id) f found no_log) kept.stocked;
-        files_kept = all-remove_first (is_id id) IsFileKept files kept.files_kept;
-        drafts_kept = all-weaker (λ d. IsDraftKept files d × (d.file ≢ id)) (IsDraftKept fewer) a.drafts draft_stays (all-both (IsDraftKept files) (λ d. d.file ≢ id) a.drafts kept.drafts_kept (undrafted s id a.drafts alone));
-      };
-      shows = rw (← versions_stay, rows_left) refl;
+      keeps =
+          let stocked = kept.laws.same s (stock_of files a.drafts) (stock_of fewer a.drafts) (file_dropped files a.drafts (is_id id) f found no_log) kept.stocked in
+          let drafts_kept = all-weaker (λ d. IsDraftKept files d × (d.file ≢ id)) (IsDraftKept fewer) a.drafts draft_stays (all-both (IsDraftKept files) (λ d. d.file ≢ id) a.drafts kept.drafts_kept (undrafted s id a.drafts alone)) in
+          assumption (stocked, drafts_kept, later-remove_first (is_id id) (λ (x y : File). x.id < y.id) files kept.rise, all-remove_first (is_id id) IsFileKept files kept.files_kept);
+      shows = rw (← versions_stay files found, rows_left) refl;
     }
 
   -- the file at its place
   pub drops_at : (i : ℕ) → Some i ≡ position (is_id id) files → IsSeen s (remove files i) a (without_file (held_in s files a) id)
   drops_at i place =
       let x = some_item (is_id id) files i place in
-      rw (← remove_first-position (is_id id) files i x (sym place)) (drops (get_or files i x) (find-position (is_id id) files i x (sym place)))
+      rw (← remove_first-position (is_id id) files i x (sym place)) (drops (get_or files i x) (find_position (is_id id) files i x (sym place)))

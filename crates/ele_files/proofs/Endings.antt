@@ -1,5 +1,5 @@
 -- The rows of a file when its next version closes.
-use Rattle.ele_files.proofs.Words.{AllByRecursion, AllLater, AreInOrder, Bool, CanEndAt, EndsInTime, File, HasAppended, HasRows, IsFileKept, IsRowOf, IsRowPast, IsSomeAnd, Layout, List, LogRow, None, Option, Precedes, Some, [], all-append, all-both, all-found, all-update_first, all-weaker, ap, arith, ended_by, ended_rows, eqb, false, find, is_numbered, is_some, last_of, later-push, later-update_first, nat_tests, next_row, refl, true, update_first, update_last, ℕ, ◌+◌, ◌-◌, ◌∙◌, ◌∷◌, ◌≡◌, ◌≤◌}
+use Rattle.ele_files.proofs.Words.{AllByRecursion, AllLater, AreInOrder, Bool, CanEndAt, EndsInTime, File, HasAppended, HasRows, IsFileKept, IsRowOf, IsRowPast, IsSomeAnd, Layout, List, LogRow, None, Option, Precedes, Some, [], all-append, all-both, all_found, all-update_first, all-weaker, ap, arith, ended_by, ended_rows, eqb, false, find, is_numbered, is_some, last_of, later-push, later-update_first, nat_tests, next_row, refl, true, update_first, update_last, ℕ, ◌+◌, ◌-◌, ◌∙◌, ◌∷◌, ◌≡◌, ◌≤◌}
 use Rattle.ele_inode_log.specs.Rows.{ended_at}
 
 -- a row without an end is the last
@@ -18,7 +18,7 @@ last_row (x ∷ y ∷ rows) number now row order found endless = grind (arith, n
 pub can_end : (rows : List LogRow) (number now : ℕ) (row : LogRow) → AllByRecursion (IsRowPast now) rows → AllLater Precedes rows → find (is_numbered number) rows ≡ Some row → row.ended ≡ None → IsSomeAnd (last_of rows) (CanEndAt now)
 can_end rows number now row past order found endless =
     let is = last_row rows number now row order found endless in
-    rw is.last (record { no_end = endless; closed = (all-found (is_numbered number) (IsRowPast now) rows row found past).closed })
+    rw is.last (record { no_end = endless; closed = (all_found (is_numbered number) (IsRowPast now) rows row found past).closed })
 
 pub no_end : (o : Option ℕ) → is_some o ≡ false → o ≡ None
 no_end o h = grind arith

@@ -1,10 +1,10 @@
 -- The version before a file's next one ends.
-use Rattle.ele_files.proofs.Words.{all-weaker, sum_by-update_same, AllByRecursion, AllSessions, File, HasRows, IsPast, Keeps, List, None, Some, Store, all-not_found, ap, arith, bucket_changes, current_ended, ended_at, ended_rows, flat_map, get_or, held_in, is_id, is_version, local-update_first, map, nat_tests, position, refl, row_in, rows_in, set, stock_of, update_first, update_first-unfound, ℕ, ◌-◌, ◌∙◌, ◌≡◌}
+use Rattle.ele_files.proofs.Words.{all-weaker, sum_by-update_same, AllByRecursion, AllSessions, File, HasRows, IsPast, Keeps, List, None, Some, Store, all_not_found, ap, arith, bucket_changes, current_ended, ended_at, ended_rows, flat_map, get_or, held_in, is_id, is_version, local-update_first, map, nat_tests, position, refl, row_in, rows_in, set, stock_of, update_first, update_first_unfound, ℕ, ◌-◌, ◌∙◌, ◌≡◌}
 use Rattle.ele_files.proofs.Endings.{ended_order, of_rows, ended_kept}
-use Rattle.ele_files.proofs.Exchanges.{IsReached, reached, after, rise_over, files_over, drafts_over, rows_same}
+use Rattle.ele_files.proofs.Exchanges.{IsReached, reached, after, keeps_over, drafts_over, rows_same}
 use Rattle.ele_files.proofs.Looks.{IsSeen}
 use Rattle.ele_files.proofs.Places.{its_kept, its_past}
-use Rattle.ele_files.proofs.Rows.{file_of, tagged, own_version, ended_shown, its_id, next-found, no-file, version-none}
+use Rattle.ele_files.proofs.Rows.{file_of, tagged, own_version, ended_shown, its_id, next_found, no_file, version_none}
 use Rattle.ele_files.proofs.Stock.{exchanged, over, rows_ended}
 
 module _ (s : Store) (files : List File) (a : AllSessions) (kept : Keeps s files a) (id now : ℕ) where
@@ -17,12 +17,9 @@ module _ (s : Store) (files : List File) (a : AllSessions) (kept : Keeps s files
 
     pub ends : IsSeen s (set files i g) a (current_ended (held_in s files a) id now)
     ends = rw (at.changed g ended.id ended.policy) (record {
-      keeps = record {
-        laws = kept.laws;
-        rise = rise_over files id f g at.found kept.rise;
-        stocked = kept.laws.same s (stock_of files a.drafts) (stock_of (after files id f g at.found) a.drafts) (rows_ended files a.drafts id f g at.found now ended.rows) kept.stocked;
-        files_kept = files_over files id f g at.found (ended_kept f now (its_kept s files a kept id i f place is) (its_past s files a kept id i f place is now past) g ended) kept.files_kept;
-        drafts_kept = drafts_over files id f g at.found ended.next a.drafts kept.drafts_kept;
-      };
-      shows = rw (next-found files id (Some f) at.found, versions_end, rows_same files id f g at.found ended.next) refl;
+      keeps =
+          let stocked = kept.laws.same s (stock_of files a.drafts) (stock_of (after files id f g at.found) a.drafts) (rows_ended files a.drafts id f g at.found now ended.rows) kept.stocked in
+          let g_kept = ended_kept f now (its_kept s files a kept id i f place is) (its_past s files a kept id i f place is now past) g ended in
+          keeps_over files id f g at.found s s a a kept g_kept stocked (drafts_over files id f g at.found ended.next a.drafts kept.drafts_kept);
+      shows = rw (next_found files id (Some f) at.found, versions_end, rows_same files id f g at.found ended.next) refl;
     })

@@ -1,6 +1,6 @@
 -- One file has other rows: as many, or one fewer.
-use Rattle.ele_files.proofs.Words.{find-position, AllByRecursion, AllLater, AllSessions, Bool, Draft, EndsInTime, File, FileRow, HeldRows, IsDraftKept, IsFileKept, IsRowOf, Keeps, List, LivesIn, LogRow, Moves, None, Precedes, Some, Stays, Store, VersionRow, [], all-found, all-not_found, all-remove_first, all-update_first, all-weaker, ap, arith, bucket_changes, content_of, file_row, filter, find, find-cut, flat_map, get_or, held_in, is_file, is_id, is_numbered, is_other, is_version, later-remove_first, later-update_first, length, local-remove_first, map, nat_tests, option_map, position, refl, remove_first, remove_first-map, remove_first-unfound, row_in, row_stock, rows_in, set, set-first, stock_of, sym, update_first, update_first-at, update_first-map, update_first-same, without, ℕ, ◌++◌, ◌<◌, ◌∙◌, ◌∷◌, ◌≡◌}
-use Rattle.ele_files.proofs.Rows.{file_row-found, file_of, tagged, no-file, its_id, own_version, same_number, version-of, version-none}
+use Rattle.ele_files.proofs.Words.{find_position, AllByRecursion, AllLater, AllSessions, Bool, Draft, EndsInTime, File, FileRow, HeldRows, IsDraftKept, IsFileKept, IsRowOf, IsStocked, Keeps, List, LivesIn, LogRow, Moves, None, Precedes, Some, Stays, Store, VersionRow, [], all_found, all_not_found, all-remove_first, all-update_first, all-weaker, ap, arith, bucket_changes, content_of, file_row, filter, find, find-cut, flat_map, get_or, held_in, is_file, is_id, is_numbered, is_other, is_version, later-remove_first, later-update_first, length, local-remove_first, map, nat_tests, option_map, position, refl, remove_first, remove_first-map, remove_first_unfound, row_in, row_stock, rows_in, set, set-first, stock_of, sym, update_first, update_first-at, update_first-map, update_first_same, without, ℕ, ◌++◌, ◌<◌, ◌∙◌, ◌∷◌, ◌≡◌}
+use Rattle.ele_files.proofs.Rows.{file_row_found, file_of, tagged, no_file, its_id, own_version, same_number, version_of, version_none}
 use Rattle.ele_files.proofs.Stock.{exchanged, over, rows_stay, row_apart, row_lives}
 use Rattle.ele_files.proofs.Looks.{IsSeen, held_stays}
 
@@ -24,17 +24,21 @@ module _ (files : List File) (id : ℕ) (f g : File) (found : find (is_id id) fi
   files_over is kept = all-update_first (is_id id) IsFileKept IsFileKept (over g) files (λ x h. record { next = is.next; rows = is.rows; order = is.order }) (λ x h. h) kept
 
   row_found : find (is_file id) (map file_row files) ≡ Some (file_row f)
-  row_found = file_row-found files id ∙ ap (option_map file_row) found
+  row_found = file_row_found files id ∙ ap (option_map file_row) found
 
   -- the rows of the files change as this file's row does
   pub rows_over : (change : FileRow → FileRow) → change (file_row f) ≡ next_over g (file_row f) → map file_row after ≡ update_first (is_file id) change (map file_row files)
   rows_over change made = sym (update_first-map file_row (is_file id) (is_id id) (λ x. refl) (next_over g) (over g) (λ x. refl) files) ∙ update_first-alike (is_file id) (next_over g) change (map file_row files) (file_row f) row_found (sym made)
 
   pub rows_same : g.next ≡ f.next → map file_row after ≡ map file_row files
-  rows_same same = rows_over (λ row. row) (rw same refl) ∙ update_first-same (is_file id) (λ row. row) (map file_row files) (file_row f) row_found refl
+  rows_same same = rows_over (λ row. row) (rw same refl) ∙ update_first_same (is_file id) (λ row. row) (map file_row files) (file_row f) row_found refl
 
   pub drafts_over : g.next ≡ f.next → (drafts : List Draft) → AllByRecursion (IsDraftKept files) drafts → AllByRecursion (IsDraftKept after) drafts
   drafts_over same drafts kept = all-weaker (IsDraftKept files) (IsDraftKept after) drafts (λ d h. record { there = h.there; number = rw (rows_same same) h.number }) kept
+
+  -- what the fields keep then
+  pub keeps_over : (s t : Store) (a b : AllSessions) → Keeps s files a → IsFileKept g → IsStocked t (stock_of after b.drafts) → AllByRecursion (IsDraftKept after) b.drafts → Keeps t after b
+  keeps_over s t a b kept is stocked drafts_kept = assumption (rise_over kept.rise, files_over is kept.files_kept)
 
   -- the rows are the same
   module _ (s : Store) (a : AllSessions) (kept : Keeps s files a) (next : g.next ≡ f.next) (rows : g.log.rows ≡ f.log.rows) where
@@ -42,13 +46,7 @@ module _ (files : List File) (id : ℕ) (f g : File) (found : find (is_id id) fi
     same_file is = record { next = rw next is.next; rows = rw (next, rows) is.rows; order = rw rows is.order }
 
     pub same_keeps : IsFileKept f → Keeps s after a
-    same_keeps is = record {
-      laws = kept.laws;
-      rise = rise_over kept.rise;
-      stocked = kept.laws.same s (stock_of files a.drafts) (stock_of after a.drafts) (rows_stay files a.drafts id f g found rows) kept.stocked;
-      files_kept = files_over (same_file is) kept.files_kept;
-      drafts_kept = drafts_over next a.drafts kept.drafts_kept;
-    }
+    same_keeps is = keeps_over s s a a kept (same_file is) (kept.laws.same s (stock_of files a.drafts) (stock_of after a.drafts) (rows_stay files a.drafts id f g found rows) kept.stocked) (drafts_over next a.drafts kept.drafts_kept)
 
     pub same_shows : held_in s after a ≡ held_in s files a
     same_shows = rw (sym (bucket_changes (λ (x : File). x.id) (rows_in s) file_of (tagged s) id (λ xs. xs) (record { past = λ xs ys all. refl; short = λ xs ys all. refl }) (over g) files f kept.rise found (ap (map (row_in s f.id)) rows)), rows_same next) refl
@@ -70,7 +68,7 @@ pub record IsReached (files : List File) (id i : ℕ) (f : File) : Type 0 where
   pub changed : (g : File) → g.id ≡ f.id → g.policy ≡ f.policy → set files i g ≡ after files id f g found
 
 pub reached : (files : List File) (id i : ℕ) (f : File) → Some i ≡ position (is_id id) files → f ≡ get_or files i f → IsReached files id i f
-reached files id i f place is = grind (arith, nat_tests, set-first, find-position)
+reached files id i f place is = grind (arith, nat_tests, set-first, find_position)
 
 -- the file at its place, where no row has the number any more
 module _ (s : Store) (files : List File) (a : AllSessions) (kept : Keeps s files a) (id number i : ℕ) (f : File) (place : Some i ≡ position (is_id id) files) (is : f ≡ get_or files i f) (these : HeldRows) (rows : these.rows ≡ filter (is_other number) f.log.rows) where
@@ -81,7 +79,7 @@ module _ (s : Store) (files : List File) (a : AllSessions) (kept : Keeps s files
   g = record f { log = these }
 
   its_kept : IsFileKept f
-  its_kept = all-found (is_id id) IsFileKept files f at.found kept.files_kept
+  its_kept = all_found (is_id id) IsFileKept files f at.found kept.files_kept
 
   left : these.rows ≡ remove_first (is_numbered number) f.log.rows
   left = rows ∙ filter_removes number f.log.rows its_kept.order.order
@@ -100,13 +98,13 @@ module _ (s : Store) (files : List File) (a : AllSessions) (kept : Keeps s files
   leaves = rw (versions_leave, rows_same files id f g at.found refl) refl
 
   found_row : find (is_version id number) (flat_map (rows_in s) files) ≡ option_map (row_in s f.id) (find (is_numbered number) f.log.rows)
-  found_row = version-of s id number files kept.rise f at.found
+  found_row = version_of s id number files kept.rise f at.found
 
   -- the number isn't held
   pub unheld : find (is_numbered number) f.log.rows ≡ None → IsSeen s (set files i g) a (without (held_in s files a) id number) × (find (is_version id number) (flat_map (rows_in s) files) ≡ None)
   unheld none = (
     rw (at.changed g refl refl) (record {
-      keeps = same_keeps files id f g at.found s a kept refl (left ∙ remove_first-unfound (is_numbered number) f.log.rows (all-not_found (is_numbered number) f.log.rows none)) its_kept;
+      keeps = same_keeps files id f g at.found s a kept refl (left ∙ remove_first_unfound (is_numbered number) f.log.rows (all_not_found (is_numbered number) f.log.rows none)) its_kept;
       shows = leaves;
     }),
     found_row ∙ ap (option_map (row_in s f.id)) none,
@@ -124,13 +122,7 @@ module _ (s : Store) (files : List File) (a : AllSessions) (kept : Keeps s files
       pub gone : IsSeen t (set files i g) a (without (held_in s files a) id number) × (option_map (λ (r : VersionRow). length (content_of r.cells)) (find (is_version id number) (flat_map (rows_in s) files)) ≡ Some row.cells.size)
       gone = (
         rw (at.changed g refl refl) (record {
-          keeps = record {
-            laws = kept.laws;
-            rise = rise_over files id f g at.found kept.rise;
-            stocked = stays.stocked;
-            files_kept = files_over files id f g at.found left_kept kept.files_kept;
-            drafts_kept = drafts_over files id f g at.found refl a.drafts kept.drafts_kept;
-          };
+          keeps = keeps_over files id f g at.found s t a a kept left_kept stays.stocked (drafts_over files id f g at.found refl a.drafts kept.drafts_kept);
           shows = held_stays s t (after files id f g at.found) a stays.shows ∙ leaves;
         }),
         rw (found_row, held) (ap (λ n. Some n) (kept.laws.long s row.cells lives)),

@@ -19,12 +19,5 @@ module _ (s t : Store) where
   drafts_same [] all = refl
   drafts_same (d ∷ drafts) all = rw (all.0.same, drafts_same drafts all.1) refl
 
-  module _ (files : List File) (a : AllSessions) (all : AllByRecursion (ShowsSame s t) (stock_of files a.drafts)) where
-    pub versions_stay : flat_map (rows_in t) files ≡ flat_map (rows_in s) files
-    versions_stay = versions_same files (all-left (ShowsSame s t) (flat_map file_stock files) (map draft_stock a.drafts) all)
-
-    pub drafts_stay : map (draft_in t) a.drafts ≡ map (draft_in s) a.drafts
-    drafts_stay = drafts_same a.drafts (all-right (ShowsSame s t) (flat_map file_stock files) (map draft_stock a.drafts) all)
-
-    pub held_stays : held_in t files a ≡ held_in s files a
-    held_stays = rw (versions_stay, drafts_stay) refl
+  pub held_stays : (files : List File) (a : AllSessions) → AllByRecursion (ShowsSame s t) (stock_of files a.drafts) → held_in t files a ≡ held_in s files a
+  held_stays files a all = rw (versions_same files (all-left (ShowsSame s t) (flat_map file_stock files) (map draft_stock a.drafts) all), drafts_same a.drafts (all-right (ShowsSame s t) (flat_map file_stock files) (map draft_stock a.drafts) all)) refl

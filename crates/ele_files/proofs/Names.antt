@@ -1,5 +1,5 @@
 -- The places of all maps, as the rows show them.
-use Rattle.ele_files.proofs.Words.{Draft, DraftRow, File, List, LogRow, Named, Place, Slot, Store, Tagged, VersionRow, [], ap, cell_of, draft_in, draft_stock, file_stock, flat_map, flat_map-append, map, map-append, names_from, names_in, names_of, places, places_from, refl, row_in, row_stock, rows_in, shown, slots_of, stock_of, ℕ, ◌++◌, ◌+◌, ◌∙◌, ◌∷◌, ◌≡◌}
+use Rattle.ele_files.proofs.Words.{Draft, DraftRow, File, List, LogRow, Named, Place, Slot, Store, Tagged, VersionRow, [], ap, cell_of, draft_in, draft_stock, file_stock, flat_map, flat_map-append, flat_map-map, arith, map, map-append, names_from, names_in, names_of, places, places_from, refl, row_in, row_stock, rows_in, shown, slots_of, stock_of, ℕ, ◌++◌, ◌+◌, ◌∙◌, ◌∷◌, ◌≡◌}
 
 abbrev place : Named → Place
 place n = n.place
@@ -22,17 +22,9 @@ module _ (s : Store) where
   stock-places [] = refl
   stock-places (t ∷ ts) = rw (map-append place (names_of s t.file t.layout) (names_in s ts), slot-places t.file 0 (slots_of s t.layout), stock-places ts) refl
 
-  log-places : (file : ℕ) (rows : List LogRow) → flat_map tag_places (map (row_stock file) rows) ≡ flat_map row_places (map (row_in s file) rows)
-  log-places file [] = refl
-  log-places file (x ∷ xs) = ap (λ ps. row_places (row_in s file x) ++ ps) (log-places file xs)
-
   file-places : (files : List File) → flat_map tag_places (flat_map file_stock files) ≡ flat_map row_places (flat_map (rows_in s) files)
   file-places [] = refl
-  file-places (f ∷ fs) = rw (flat_map-append tag_places (file_stock f) (flat_map file_stock fs), flat_map-append row_places (rows_in s f) (flat_map (rows_in s) fs), log-places f.id f.log.rows, file-places fs) refl
-
-  draft-places : (drafts : List Draft) → flat_map tag_places (map draft_stock drafts) ≡ flat_map draft_places (map (draft_in s) drafts)
-  draft-places [] = refl
-  draft-places (d ∷ ds) = ap (λ ps. draft_places (draft_in s d) ++ ps) (draft-places ds)
+  file-places (f ∷ fs) = grind (arith, flat_map-append, flat_map-map, file-places fs)
 
   pub places_shown : (files : List File) (drafts : List Draft) → map place (names_in s (stock_of files drafts)) ≡ places (flat_map (rows_in s) files) (map (draft_in s) drafts)
-  places_shown files drafts = stock-places (stock_of files drafts) ∙ (flat_map-append tag_places (flat_map file_stock files) (map draft_stock drafts) ∙ rw (file-places files, draft-places drafts) refl)
+  places_shown files drafts = grind (arith, stock-places (stock_of files drafts), flat_map-append, flat_map-map, file-places)

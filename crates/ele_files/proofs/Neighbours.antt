@@ -1,5 +1,5 @@
 -- A file's newest version and its next closing, as its log shows them.
-use Rattle.ele_files.proofs.Words.{AllSessions, Bool, File, IsFileKept, IsRowOf, Keeps, List, LogRow, None, Option, Some, Store, VersionRow, [], all-found, all-weaker, ap, arith, filter, filter-all, find, find-filter, flat_map, is_after, is_before, is_id, is_newer_of, is_version_of, last_passing, map, nat_tests, newest_of, next_closing, option_map, refl, row_in, rows_in, stamps_in, stamps_of, sym, true, ℕ, ◌∙◌, ◌∷◌, ◌≡◌}
+use Rattle.ele_files.proofs.Words.{AllSessions, Bool, File, IsFileKept, IsRowOf, Keeps, List, LogRow, None, Option, Some, Store, VersionRow, [], all_found, all-weaker, ap, arith, filter, filter-all, find, find-filter, flat_map, is_after, is_before, is_id, is_newer_of, is_version_of, last_passing, map, nat_tests, newest_of, next_closing, option_map, refl, row_in, rows_in, stamps_in, stamps_of, sym, true, ℕ, ◌∙◌, ◌∷◌, ◌≡◌}
 use Rattle.ele_files.proofs.Tagged.{find_shown, last-map, list_shown, none_shown, own}
 
 -- the last of all that pass
@@ -24,7 +24,7 @@ module _ (s : Store) (files : List File) (a : AllSessions) (kept : Keeps s files
   module _ (f : File) (found : find (is_id file) files ≡ Some f) where
     -- all rows are before the next number
     before_next : filter (is_before f.next) f.log.rows ≡ f.log.rows
-    before_next = filter-all (is_before f.next) f.log.rows (all-weaker (IsRowOf f.next) (λ row. is_before f.next row ≡ true) f.log.rows (λ row is. let h = is.number in grind (arith, nat_tests)) (all-found (is_id file) IsFileKept files f found kept.files_kept).rows)
+    before_next = filter-all (is_before f.next) f.log.rows (all-weaker (IsRowOf f.next) (λ row. is_before f.next row ≡ true) f.log.rows (λ row is. let h = is.number in grind (arith, nat_tests)) (all_found (is_id file) IsFileKept files f found kept.files_kept).rows)
 
     pub newest_shown : option_map stamps_of (newest_of versions file) ≡ option_map stamps_in (last_passing (is_before f.next) f.log.rows)
     newest_shown =
@@ -33,8 +33,4 @@ module _ (s : Store) (files : List File) (a : AllSessions) (kept : Keeps s files
         ∙ ap (option_map stamps_in) (ap last (sym before_next) ∙ last-kept (is_before f.next) f.log.rows)
 
     pub closing_shown : (number : ℕ) → next_closing versions file number ≡ option_map (λ (row : LogRow). row.closed) (find (is_after number) f.log.rows)
-    closing_shown number =
-        ap (option_map (λ (row : VersionRow). row.closed)) (find_shown s files a kept file f found (is_newer_of file number) (is_after number) (λ row e. grind (arith, nat_tests)) (λ row. rw (own s files a kept file f found) refl))
-        ∙ by (find (is_after number) f.log.rows) where
-          by : (o : Option LogRow) → option_map (λ (row : VersionRow). row.closed) (option_map (row_in s f.id) o) ≡ option_map (λ (row : LogRow). row.closed) o
-          by o = grind arith
+    closing_shown number = rw (find_shown s files a kept file f found (is_newer_of file number) (is_after number) (λ row e. grind (arith, nat_tests)) (λ row. rw (own s files a kept file f found) refl)) (grind arith)

@@ -1,8 +1,8 @@
 -- A handle that writes a file comes, and with the file's first handle a draft.
-use Rattle.ele_files.proofs.Words.{all-right, AllSessions, Bool, Draft, File, IsDraftKept, IsFileKept, IsRowOf, Keeps, Layout, List, LivesIn, LogRow, MatchBool, Moves, None, OnErr, OnOk, Opens, Option, Result, Some, Stays, Store, Tagged, [], all-found, all-insert_before, ap, arith, draft_in, draft_stock, empty_layout, false, file_row, file_stock, find, first_draft, flat_map, handle_in, held_in, insert_before, insert_before-map, is_draft, is_draft_after, is_id, is_numbered, is_version, length, length-append, length-map, list_any, map, map-append, nat_tests, new_draft, next_of, opened_by, option_map, option_map_or, refl, row_in, row_stock, rows_in, shown, stock_of, sum_by, sym, true, ℕ, ◌++◌, ◌+◌, ◌-◌, ◌∙◌, ◌∷◌, ◌≡◌}
+use Rattle.ele_files.proofs.Words.{Held, all-right, AllSessions, Bool, Draft, File, IsDraftKept, IsFileKept, IsRowOf, Keeps, Layout, List, LivesIn, LogRow, MatchBool, Moves, None, OnErr, OnOk, Opens, Option, Result, Some, Stays, Store, Tagged, [], all_found, all-insert_before, ap, arith, draft_in, draft_stock, empty_layout, false, file_row, file_stock, find, first_draft, flat_map, handle_in, held_in, insert_before, insert_before-map, is_draft, is_draft_after, is_id, is_numbered, is_version, length, length-append, length-map, list_any, map, map-append, nat_tests, new_draft, next_of, opened_by, option_map, option_map_or, refl, row_in, row_stock, rows_in, shown, stock_of, sum_by, sym, true, ℕ, ◌++◌, ◌+◌, ◌-◌, ◌∙◌, ◌∷◌, ◌≡◌}
 use Rattle.ele_files.proofs.Copied.{row_copied, row_same}
-use Rattle.ele_files.proofs.Looks.{drafts_same, IsSeen, versions_stay, drafts_stay}
-use Rattle.ele_files.proofs.Rows.{its_id, next-found, version-of, any-draft}
+use Rattle.ele_files.proofs.Looks.{drafts_same, IsSeen, held_stays}
+use Rattle.ele_files.proofs.Rows.{its_id, next_found, version_of, any_draft}
 use Rattle.ele_files.proofs.Stock.{row_apart, over, draft_begun, row_lives}
 use Rattle.ele_sessions.specs.Opening as opening
 use Rattle.ele_sessions.specs.declared.reads.Reads.TheVariants as session
@@ -25,10 +25,10 @@ maps_seen s (f ∷ files) drafts = grind (arith, nat_tests, length-append, lengt
 
 module _ (s : Store) (files : List File) (a : AllSessions) (kept : Keeps s files a) (file : ℕ) (f : File) (found : find (is_id file) files ≡ Some f) where
   file_kept : IsFileKept f
-  file_kept = all-found (is_id file) IsFileKept files f found kept.files_kept
+  file_kept = all_found (is_id file) IsFileKept files f found kept.files_kept
 
   its_next : next_of (map file_row files) file ≡ f.next
-  its_next = next-found files file (Some f) found
+  its_next = next_found files file (Some f) found
 
   pub first_lives : LivesIn s (first_map f)
   first_lives = of_row (last_row f) refl where
@@ -37,7 +37,7 @@ module _ (s : Store) (files : List File) (a : AllSessions) (kept : Keeps s files
 
   -- what a new draft begins with is what the map shows
   first_seen : option_map_or (λ row. row.cells) (find (is_version file (next_of (map file_row files) file - 1)) (flat_map (rows_in s) files)) [] ≡ shown s (first_map f)
-  first_seen = rw (its_next, version-of s file (f.next - 1) files kept.rise f found) (of_row (last_row f)) where
+  first_seen = rw (its_next, version_of s file (f.next - 1) files kept.rise f found) (of_row (last_row f)) where
     of_row : (o : Option LogRow) → option_map_or (λ row. row.cells) (option_map (row_in s f.id) o) [] ≡ shown s (cells_of o)
     of_row o = grind arith
 
@@ -77,7 +77,7 @@ module _ (s : Store) (files : List File) (a : AllSessions) (kept : Keeps s files
         of_row (Some row) e =
             let its : first_map f ≡ row.cells = ap cells_of e in
             let is : LogRow → Bool = is_numbered (f.next - 1) in
-            let below = (all-found is (IsRowOf f.next) f.log.rows row e file_kept.rows).number in
+            let below = (all_found is (IsRowOf f.next) f.log.rows row e file_kept.rows).number in
             let id : f.id ≡ file = its_id files file f found in
             let same_tag : record (row_stock f.id row) { below = f.next + 1 } ≡ draft_stock new = rw (id, its) refl in
             let came = row_copied s t files a kept file f found is row e (rw its at moves) (f.next + 1) (omega (arith, below)) us (rw same_tag (draft_begun files a.drafts (is_draft_after file) new)) in
@@ -87,13 +87,13 @@ module _ (s : Store) (files : List File) (a : AllSessions) (kept : Keeps s files
       new_seen = rw (begins.same, first_seen) refl
 
       drafts_on : map (draft_in t) (insert_before (is_draft_after file) new a.drafts) ≡ insert_before (world.is_draft_after file) (first_draft (held_in s files a) file at) (map (draft_in s) a.drafts)
-      drafts_on = sym (insert_before-map (draft_in t) (world.is_draft_after file) (is_draft_after file) (λ x. refl) new a.drafts) ∙ rw (new_seen, drafts_stay s t files a begins.stays.shows) refl
+      drafts_on = sym (insert_before-map (draft_in t) (world.is_draft_after file) (is_draft_after file) (λ x. refl) new a.drafts) ∙ rw (new_seen, ap (λ (h : Held). h.drafts) (held_stays s t files a begins.stays.shows)) refl
 
       versions_on : flat_map (rows_in t) files ≡ flat_map (rows_in s) files
-      versions_on = versions_stay s t files a begins.stays.shows
+      versions_on = ap (λ (h : Held). h.versions) (held_stays s t files a begins.stays.shows)
 
     pub opened : (there : Bool) → list_any (is_draft file) a.drafts ≡ there → MatchBool there (t ≡ s) (Moves s t [] (first_map f ∷ [])) → IsSeen t files (opening.opened_by a new) (opened_by (held_in s files a) file at)
-    opened true e h = grind (arith, nat_tests, map-append, any-draft)
+    opened true e h = grind (arith, nat_tests, map-append, any_draft)
     opened false e h = record {
       keeps = record {
         laws = kept.laws;
@@ -102,7 +102,7 @@ module _ (s : Store) (files : List File) (a : AllSessions) (kept : Keeps s files
         files_kept = kept.files_kept;
         drafts_kept = rw e (all-insert_before (is_draft_after file) (IsDraftKept files) new a.drafts new_kept kept.drafts_kept);
       };
-      shows = rw (map-append handle_in a.handles (record { number = a.opened + 1; reads = session.Draft file } ∷ []), any-draft s file a.drafts, e, versions_on h, drafts_on h) refl;
+      shows = rw (map-append handle_in a.handles (record { number = a.opened + 1; reads = session.Draft file } ∷ []), any_draft s file a.drafts, e, versions_on h, drafts_on h) refl;
     }
 
     -- whatever the call answers

@@ -1,5 +1,5 @@
 -- What the rows show of the files, drafts and handles behind them.
-use Rattle.ele_files.proofs.Words.{AllByRecursion, AllLater, Bool, Draft, File, HandleRow, IsPast, IsRowPast, List, LogRow, NoHandle, None, Option, Refusal, Result, Some, Store, VersionRow, [], all-any, all-found, all-map, all-none, all-weaker, any-map, ap, arith, draft_in, ended_at, ended_by, ended_rows, eqb, false, file_or_fault, file_row, find, find-buckets, find-map, find-none, find-position, flat_map, flat_map-all, found_passes, get_or, handle_in, is_file, is_handle, is_id, is_numbered, is_open, is_version, list_any, map, map-all, nat_tests, next_of, ok_or, option_and_then, option_map, option_map_or, policy_of, position, reads_by, reads_in, reads_version, refl, remove_first, remove_first-map, row_in, rows_in, sym, true, update_first, update_first-map, writes, ℕ, ◌-◌, ◌<◌, ◌∙◌, ◌∷◌, ◌≡◌, ◌≢◌}
+use Rattle.ele_files.proofs.Words.{AllByRecursion, AllLater, Bool, Draft, File, HandleRow, IsPast, IsRowPast, List, LogRow, NoHandle, None, Option, Refusal, Result, Some, Store, VersionRow, [], all-any, all_found, all-map, all-none, all-weaker, any-map, ap, arith, draft_in, ended_at, ended_by, ended_rows, eqb, false, file_or_fault, file_row, find, find-buckets, find-map, find-none, find_position, flat_map, flat_map-all, found_passes, get_or, handle_in, is_file, is_handle, is_id, is_numbered, is_open, is_version, list_any, map, map-all, nat_tests, next_of, ok_or, option_and_then, option_map, option_map_or, policy_of, position, reads_by, reads_in, reads_version, refl, remove_first, remove_first-map, row_in, rows_in, sym, true, update_first, update_first-map, writes, ℕ, ◌-◌, ◌<◌, ◌∙◌, ◌∷◌, ◌≡◌, ◌≢◌}
 use Rattle.ele_files.specs.Held.{handle_file}
 use Rattle.ele_sessions.specs.Sessions as sessions
 use Rattle.ele_sessions.specs.declared.entries.OpenHandle.{OpenHandle}
@@ -10,14 +10,14 @@ use Rattle.ele_world.specs.World.{is_draft, is_writer}
 -- ---- files
 
 module _ (files : List File) (id : ℕ) where
-  pub no-file : None ≡ position (is_id id) files → find (is_id id) files ≡ None
-  no-file at = find-none (is_id id) files (sym at)
+  pub no_file : None ≡ position (is_id id) files → find (is_id id) files ≡ None
+  no_file at = find-none (is_id id) files (sym at)
 
-  pub file_row-found : find (is_file id) (map file_row files) ≡ option_map file_row (find (is_id id) files)
-  file_row-found = find-map file_row (is_file id) files
+  pub file_row_found : find (is_file id) (map file_row files) ≡ option_map file_row (find (is_id id) files)
+  file_row_found = find-map file_row (is_file id) files
 
-  pub next-found : (o : Option File) → find (is_id id) files ≡ o → next_of (map file_row files) id ≡ option_map_or (λ f. f.next) o 0
-  next-found o is = rw (file_row-found, is) (grind arith)
+  pub next_found : (o : Option File) → find (is_id id) files ≡ o → next_of (map file_row files) id ≡ option_map_or (λ f. f.next) o 0
+  next_found o is = rw (file_row_found, is) (grind arith)
 
 pub its_id : (files : List File) (id : ℕ) (f : File) → find (is_id id) files ≡ Some f → f.id ≡ id
 its_id files id f found = let e = found_passes (is_id id) files f found in grind (arith, nat_tests)
@@ -43,7 +43,7 @@ ended_shown s f now file is = sym (update_first-map (row_in s f.id) (is_version 
 
 -- each row of a file is past where its versions are
 pub file_past : (s : Store) (files : List File) (id : ℕ) (f : File) (now : ℕ) → find (is_id id) files ≡ Some f → AllByRecursion (IsPast now) (flat_map (rows_in s) files) → AllByRecursion (IsRowPast now) f.log.rows
-file_past s files id f now found past = all-weaker (λ row. IsPast now (row_in s f.id row)) (IsRowPast now) f.log.rows (λ row p. record { closed = p.closed; ended = p.ended }) (map-all (row_in s f.id) (IsPast now) f.log.rows (all-found (is_id id) (λ x. AllByRecursion (IsPast now) (rows_in s x)) files f found (flat_map-all (rows_in s) (IsPast now) files past)))
+file_past s files id f now found past = all-weaker (λ row. IsPast now (row_in s f.id row)) (IsRowPast now) f.log.rows (λ row p. record { closed = p.closed; ended = p.ended }) (map-all (row_in s f.id) (IsPast now) f.log.rows (all_found (is_id id) (λ x. AllByRecursion (IsPast now) (rows_in s x)) files f found (flat_map-all (rows_in s) (IsPast now) files past)))
 
 module _ (s : Store) (file number : ℕ) (files : List File) (rise : AllLater (λ (x y : File). x.id < y.id) files) where
   abbrev version : Option VersionRow
@@ -52,49 +52,45 @@ module _ (s : Store) (file number : ℕ) (files : List File) (rise : AllLater (�
   found_in : version ≡ option_and_then (λ f. find (is_version file number) (rows_in s f)) (find (is_id file) files)
   found_in = find-buckets (λ (f : File). f.id) (rows_in s) file_of (tagged s) file (is_version file number) (own_version file number) files rise
 
-  pub version-none : find (is_id file) files ≡ None → version ≡ None
-  version-none none = found_in ∙ ap (option_and_then (λ f. find (is_version file number) (rows_in s f))) none
+  pub version_none : find (is_id file) files ≡ None → version ≡ None
+  version_none none = found_in ∙ ap (option_and_then (λ f. find (is_version file number) (rows_in s f))) none
 
-  pub version-of : (f : File) → find (is_id file) files ≡ Some f → version ≡ option_map (row_in s f.id) (find (is_numbered number) f.log.rows)
-  version-of f found = grind (arith, nat_tests, found_in, find-map, found_passes)
+  pub version_of : (f : File) → find (is_id file) files ≡ Some f → version ≡ option_map (row_in s f.id) (find (is_numbered number) f.log.rows)
+  version_of f found = grind (arith, nat_tests, found_in, find-map, found_passes)
 
 -- ---- drafts and handles
 
-pub draft-found : (s : Store) (file : ℕ) (ds : List Draft) → find (is_draft file) (map (draft_in s) ds) ≡ option_map (draft_in s) (find (sessions.is_draft file) ds)
-draft-found s file ds = find-map (draft_in s) (is_draft file) ds
+pub draft_found : (s : Store) (file : ℕ) (ds : List Draft) → find (is_draft file) (map (draft_in s) ds) ≡ option_map (draft_in s) (find (sessions.is_draft file) ds)
+draft_found s file ds = find-map (draft_in s) (is_draft file) ds
 
-pub any-draft : (s : Store) (file : ℕ) (ds : List Draft) → list_any (is_draft file) (map (draft_in s) ds) ≡ list_any (sessions.is_draft file) ds
-any-draft s file ds = any-map (draft_in s) (is_draft file) ds
+pub any_draft : (s : Store) (file : ℕ) (ds : List Draft) → list_any (is_draft file) (map (draft_in s) ds) ≡ list_any (sessions.is_draft file) ds
+any_draft s file ds = any-map (draft_in s) (is_draft file) ds
 
 -- no draft is of a file that has none
 pub undrafted : (s : Store) (file : ℕ) (ds : List Draft) → list_any (is_draft file) (map (draft_in s) ds) ≡ false → AllByRecursion (λ (d : Draft). d.file ≢ file) ds
-undrafted s file ds none = all-weaker (λ (d : Draft). sessions.is_draft file d ≡ false) (λ (d : Draft). d.file ≢ file) ds (λ d no same. absurd (let yes : eqb d.file file ≡ true = grind (arith, nat_tests) in cc)) (all-none (sessions.is_draft file) ds (sym (any-draft s file ds) ∙ none))
+undrafted s file ds none = all-weaker (λ (d : Draft). sessions.is_draft file d ≡ false) (λ (d : Draft). d.file ≢ file) ds (λ d no same. absurd (let yes : eqb d.file file ≡ true = grind (arith, nat_tests) in cc)) (all-none (sessions.is_draft file) ds (sym (any_draft s file ds) ∙ none))
 
 -- what the sessions answer of a handle, as the rows say it
 abbrev pub reads_of : Option session.Reads → Result Reads Refusal
 reads_of o = ok_or (option_map reads_in o) NoHandle
 
-pub reads_by-shown : (hs : List OpenHandle) (number : ℕ) → reads_by (map handle_in hs) number ≡ reads_of (sessions.reads_by hs number)
-reads_by-shown hs number = grind (arith, nat_tests, find-map)
+pub reads_by_shown : (hs : List OpenHandle) (number : ℕ) → reads_by (map handle_in hs) number ≡ reads_of (sessions.reads_by hs number)
+reads_by_shown hs number = grind (arith, nat_tests, find-map)
 
-pub handle_file-shown : (hs : List OpenHandle) (number : ℕ) → handle_file (map handle_in hs) number ≡ sessions.handle_file hs number
-handle_file-shown hs number = grind (arith, nat_tests, reads_by-shown)
+pub handle_file_shown : (hs : List OpenHandle) (number : ℕ) → handle_file (map handle_in hs) number ≡ sessions.handle_file hs number
+handle_file_shown hs number = grind (arith, nat_tests, reads_by_shown)
 
-pub fault-shown : (hs : List OpenHandle) (number : ℕ) → file_or_fault (map handle_in hs) number ≡ sessions.file_by hs number
-fault-shown hs number = grind (arith, nat_tests, reads_by-shown)
+pub fault_shown : (hs : List OpenHandle) (number : ℕ) → file_or_fault (map handle_in hs) number ≡ sessions.file_by hs number
+fault_shown hs number = grind (arith, nat_tests, reads_by_shown)
 
 -- a test of what handles read
-module _ (p : Reads → Bool) (q : session.Reads → Bool) (same : (what : session.Reads) → p (reads_in what) ≡ q what) where
-  any-read : (hs : List OpenHandle) → list_any (λ (row : HandleRow). p row.reads) (map handle_in hs) ≡ list_any (λ (h : OpenHandle). q h.reads) hs
-  any-read [] = refl
-  any-read (h ∷ hs) = rw (same h.reads, any-read hs) refl
+any-written : (hs : List OpenHandle) (file : ℕ) → list_any (is_writer file) (map handle_in hs) ≡ list_any (sessions.is_writer file) hs
+any-written [] file = refl
+any-written (h ∷ hs) file = grind (arith, nat_tests, any-written hs file)
 
 pub left-shown : (hs : List OpenHandle) (number file : ℕ) → list_any (is_writer file) (remove_first (is_handle number) (map handle_in hs)) ≡ list_any (sessions.is_writer file) (remove_first (sessions.is_handle number) hs)
-left-shown hs number file = ap (list_any (is_writer file)) (remove_first-map handle_in (is_handle number) (sessions.is_handle number) (λ x. refl) hs) ∙ any-read (writes file) (sessions.writes file) same (remove_first (sessions.is_handle number) hs) where
-  same : (what : session.Reads) → writes file (reads_in what) ≡ sessions.writes file what
-  same what = grind arith
+left-shown hs number file = ap (list_any (is_writer file)) (remove_first-map handle_in (is_handle number) (sessions.is_handle number) (λ x. refl) hs) ∙ any-written (remove_first (sessions.is_handle number) hs) file
 
-pub open-shown : (hs : List OpenHandle) (file number : ℕ) → is_open (map handle_in hs) file number ≡ list_any (sessions.is_reader file number) hs
-open-shown hs file number = any-read (reads_version file number) (sessions.reads_version file number) same hs where
-  same : (what : session.Reads) → reads_version file number (reads_in what) ≡ sessions.reads_version file number what
-  same x0 = grind (arith, nat_tests)
+pub open_shown : (hs : List OpenHandle) (file number : ℕ) → is_open (map handle_in hs) file number ≡ list_any (sessions.is_reader file number) hs
+open_shown [] file number = refl
+open_shown (h ∷ hs) file number = grind (arith, nat_tests, open_shown hs file number)

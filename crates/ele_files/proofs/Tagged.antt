@@ -1,6 +1,6 @@
 -- The version that a tag means, as the log of its file shows it.
-use Rattle.ele_files.proofs.Words.{AllByRecursion, AllSessions, Bool, Err, File, Keeps, List, LivesIn, LogRow, NoVersion, None, Ok, Option, Refusal, Some, Stamps, Store, Tag, VersionRow, [], all-found, ap, arith, cond, eqb, false≢true, file_row, filter, filter-buckets, find, find-filter, find-map, flat_map, found_passes, had_closed, had_life, has_closed_by, held_or_forgotten, is_before, is_id, is_numbered, is_version, is_version_of, last_number, last_passing, lives_at, map, nat_lt, nat_tests, option_map, option_map_or, refl, result_map_both, row_in, row_living, row_meant, row_numbered, rows_in, stamps_in, stamps_of, sym, told_or_forgotten, true, version_living, version_meant, version_numbered, ℕ, ◌&&◌, ◌-◌, ◌∙◌, ◌∷◌, ◌≡◌}
-use Rattle.ele_files.proofs.Rows.{file_of, next-found, tagged}
+use Rattle.ele_files.proofs.Words.{AllByRecursion, AllSessions, Bool, Err, File, Keeps, List, LivesIn, LogRow, NoVersion, None, Ok, Option, Refusal, Some, Stamps, Store, Tag, VersionRow, [], all_found, ap, arith, cond, eqb, false≢true, file_row, filter, filter-buckets, find, find-filter, find-map, flat_map, found_passes, had_closed, had_life, has_closed_by, held_or_forgotten, is_before, is_id, is_numbered, is_version, is_version_of, last_number, last_passing, lives_at, map, nat_lt, nat_tests, option_map, option_map_or, refl, result_map_both, row_in, row_living, row_meant, row_numbered, rows_in, stamps_in, stamps_of, sym, told_or_forgotten, true, version_living, version_meant, version_numbered, ℕ, ◌&&◌, ◌-◌, ◌∙◌, ◌∷◌, ◌≡◌}
+use Rattle.ele_files.proofs.Rows.{file_of, next_found, tagged}
 use Rattle.ele_files.proofs.Stock.{logs_live, row_lives}
 use Rattle.ele_time_path.specs.declared.tagged.Tag.TheVariants as tag
 use Rattle.ele_world.specs.Tagged as world
@@ -34,11 +34,7 @@ module _ (s : Store) (files : List File) (a : AllSessions) (kept : Keeps s files
 
   last_shown : (p : VersionRow → Bool) (q : LogRow → Bool) → ((row : VersionRow) → p row ≡ true → is_version_of file row ≡ true) → ((row : LogRow) → p (row_in s f.id row) ≡ q row)
       → last_number p versions ≡ option_map (λ (row : LogRow). row.number) (last_passing q f.log.rows)
-  last_shown p q its same =
-      ap (option_map (λ (row : VersionRow). row.number)) (sym (last-filter p (is_version_of file) versions its) ∙ ap (last_passing p) own_rows ∙ last-map p (row_in s f.id) q f.log.rows same)
-      ∙ by (last_passing q f.log.rows) where
-        by : (o : Option LogRow) → option_map (λ (row : VersionRow). row.number) (option_map (row_in s f.id) o) ≡ option_map (λ (row : LogRow). row.number) o
-        by o = grind arith
+  last_shown p q its same = rw (← last-filter p (is_version_of file) versions its, own_rows, last-map p (row_in s f.id) q f.log.rows same) (grind arith)
 
   told : (q r : LogRow → Bool) (o : Option LogRow) → find q f.log.rows ≡ o
       → result_map_both stamps_of (λ (refusal : Refusal). refusal) (held_or_forgotten (option_map (row_in s f.id) o) (option_map (λ (row : LogRow). row.number) (last_passing r f.log.rows))) ≡ told_or_forgotten o (last_passing r f.log.rows)
@@ -56,21 +52,17 @@ module _ (s : Store) (files : List File) (a : AllSessions) (kept : Keeps s files
 
   -- and that which lived at the moment
   pub at_shown : (moment : ℕ) → option_map stamps_of (find (had_life file moment) versions) ≡ option_map stamps_in (find (lives_at moment) f.log.rows)
-  at_shown moment = rw (find_shown (had_life file moment) (lives_at moment) (λ row e. grind (arith, nat_tests)) (λ row. rw own refl)) (by (find (lives_at moment) f.log.rows) refl) where
-    by : (o : Option LogRow) → find (lives_at moment) f.log.rows ≡ o → option_map stamps_of (option_map (row_in s f.id) o) ≡ option_map stamps_in o
-    by x0 is = grind (arith, nat_tests, row_lives)
+  at_shown moment = rw (find_shown (had_life file moment) (lives_at moment) (λ row e. grind (arith, nat_tests)) (λ row. rw own refl)) (grind (arith, nat_tests, row_lives))
 
   -- what the tag means of the file
   pub meant_shown : (t : Tag) → result_map_both stamps_of (λ (refusal : Refusal). refusal) (version_meant (map file_row files) versions file t) ≡ row_meant f t
-  meant_shown tag.Now = rw (next-found files file (Some f) found) (numbered_shown (f.next - 1))
+  meant_shown tag.Now = rw (next_found files file (Some f) found) (numbered_shown (f.next - 1))
   meant_shown (tag.At moment) = living_shown moment
-  meant_shown (tag.Number number) = rw (next-found files file (Some f) found) (by (nat_lt 0 number && nat_lt number f.next)) where
-    by : (b : Bool) → result_map_both stamps_of (λ (refusal : Refusal). refusal) (cond b (version_numbered versions file number) (Err NoVersion)) ≡ cond b (row_numbered f number) (Err NoVersion)
-    by b = grind (arith, numbered_shown number)
+  meant_shown (tag.Number number) = rw (next_found files file (Some f) found) (grind (arith, numbered_shown number))
 
   -- what is told of each
   pub list_shown : map stamps_of (filter (is_version_of file) versions) ≡ map stamps_in f.log.rows
-  list_shown = ap (map stamps_of) own_rows ∙ each f.log.rows (all-found (is_id file) (λ f. AllByRecursion (λ (row : LogRow). LivesIn s row.cells) f.log.rows) files f found (logs_live s files a kept)) where
+  list_shown = ap (map stamps_of) own_rows ∙ each f.log.rows (all_found (is_id file) (λ f. AllByRecursion (λ (row : LogRow). LivesIn s row.cells) f.log.rows) files f found (logs_live s files a kept)) where
     each : (rows : List LogRow) → AllByRecursion (λ (row : LogRow). LivesIn s row.cells) rows → map stamps_of (map (row_in s f.id) rows) ≡ map stamps_in rows
     each [] all = refl
     each (row ∷ rows) all = rw (kept.laws.long s row.cells all.0, each rows all.1) refl

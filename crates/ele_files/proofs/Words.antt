@@ -22,12 +22,12 @@ pub use Rattle.ele_inode_log.specs.Rows.{AreInOrder, CanEndAt, EndsInTime, HeldR
 pub use Rattle.ele_inode_log.specs.declared.row.VersionRow.{VersionRow as LogRow}
 pub use Rattle.ele_lists.proofs.Alls.{all-append, all-flat_map, all-got, all-left, all-map, all-place, all-right, all-split, flat_map-all, later-weaker, map-all}
 pub use Rattle.ele_lists.proofs.Buckets.{IsLocal, bucket_changes, filter-buckets, find-buckets, local-after, local-insert_before, local-remove_first, local-update_first}
-pub use Rattle.ele_lists.proofs.Cuts.{find-at, find-cut, flat_map-cut, remove_first-at, remove_first-unfound, update_first-at, update_first-same, update_first-unfound}
-pub use Rattle.ele_lists.proofs.Edits.{all-any, all-both, all-found, all-insert_before, all-none, all-not_found, all-push, all-remove_first, all-update_first, all-weaker, find-remove_first, found_passes, later-push, later-remove_first, later-update_first, not_found}
+pub use Rattle.ele_lists.proofs.Cuts.{find-at, find-cut, flat_map-cut, remove_first-at, remove_first-unfound as remove_first_unfound, update_first-at, update_first-same as update_first_same, update_first-unfound as update_first_unfound}
+pub use Rattle.ele_lists.proofs.Edits.{all-any, all-both, all-found as all_found, all-insert_before, all-none, all-not_found as all_not_found, all-push, all-remove_first, all-update_first, all-weaker, find-remove_first, found_passes, later-push, later-remove_first, later-update_first, not_found}
 pub use Rattle.ele_lists.proofs.Ends.{all-last}
-pub use Rattle.ele_lists.proofs.Filters.{filter-all, filter-none, find-filter}
-pub use Rattle.ele_lists.proofs.Places.{find-none, find-position, remove_first-none, remove_first-position, set-first}
-pub use Rattle.ele_lists.proofs.Shown.{any-map, find-map, insert_before-map, remove_first-map, update_first-map}
+pub use Rattle.ele_lists.proofs.Filters.{filter-all, filter-none as filter_none, find-filter}
+pub use Rattle.ele_lists.proofs.Places.{find-none, find-position as find_position, remove_first-none as remove_first_none, remove_first-position, set-first}
+pub use Rattle.ele_lists.proofs.Shown.{any-map, find-map, is_some-copied, insert_before-map, remove_first-map, update_first-map}
 pub use Rattle.ele_lists.proofs.Sums.{length-split, sum_by-around, sum_by-flat_map, sum_by-insert_before, sum_by-map, sum_by-remove_first, sum_by-same, sum_by-update_first, sum_by-update_same}
 pub use Rattle.ele_lists.specs.Last.{last_passing}
 pub use Rattle.ele_lists.specs.Lists.{AllLater, insert_before, remove_first, update_first}
@@ -59,15 +59,15 @@ pub use Rattle.ele_world.specs.declared.rows.FileRow.{FileRow}
 pub use Rattle.ele_world.specs.declared.rows.HandleRow.{HandleRow}
 pub use Rattle.ele_world.specs.declared.rows.Stamps.{Stamps}
 pub use Rattle.ele_world.specs.declared.rows.VersionRow.{VersionRow}
-pub use Rattle.std.proofs.Common.{Bool, Err, List, None, Ok, Option, Result, Some, [], ap, append-nil, append_assoc, arith, cond, eqb, false, filter, find, flat_map, get_or, is_some, length, length-append, ltb, map, nat_lt, not, refl, subst, suc, sym, take, true, zero, ℕ, ◌&&◌, ◌*◌, ◌++◌, ◌+◌, ◌-◌, ◌<◌, ◌^◌, ◌||◌, ◌∙◌, ◌∷◌, ◌≡◌, ◌≢◌, ◌≤◌}
+pub use Rattle.std.proofs.Common.{Bool, Err, List, None, Ok, Option, Result, Some, [], ap, append-nil as append_nil, append_assoc, arith, cond, eqb, false, filter, find, flat_map, get_or, is_some, length, length-append, ltb, map, nat_lt, not, refl, subst, suc, sym, take, true, zero, ℕ, ◌&&◌, ◌*◌, ◌++◌, ◌+◌, ◌-◌, ◌<◌, ◌^◌, ◌||◌, ◌∙◌, ◌∷◌, ◌≡◌, ◌≢◌, ◌≤◌}
 pub use Rattle.std.proofs.Math.ListN.{set}
 pub use Rattle.std.proofs.lemmas.Bool.{false≢true}
 pub use Rattle.std.proofs.lemmas.Bool.Decides.{nat_tests}
 pub use Rattle.std.proofs.lemmas.Grind.{flat_map-append}
 pub use Rattle.std.proofs.lemmas.List.{length-map, length-take-le, map-append, take_all, take_more}
 pub use Rattle.std.proofs.lemmas.List.Concat.{flat_map_single}
-pub use Rattle.std.proofs.lemmas.List.Folds.{list_any-append}
-pub use Rattle.std.proofs.lemmas.List.Sums.{sum-map, sum_by-append, sum_by-cons, sum_by_push}
+pub use Rattle.std.proofs.lemmas.List.Folds.{flat_map-map, list_any-append}
+pub use Rattle.std.proofs.lemmas.List.Sums.{sum-map, sum_by-append, sum_by-cons as sum_by_cons, sum_by_push}
 pub use Rattle.std.proofs.lemmas.Option.{get_or_from_slice_get, slice_get_past, slice_get_within}
 pub use Rattle.std.proofs.lemmas.Result.{on_ok_weaker}
 pub use Rattle.std.specs.Borrow.{Bor}

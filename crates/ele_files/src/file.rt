@@ -14,13 +14,15 @@ use ele_policy::Policy;
 #[derive(Drop)]
 pub struct File {
     pub id: FileId,
-    pub policy: Policy,
     pub next: VersionNo,
     pub log: InodeLog,
+    // Last, since it is long: what stands before it lies together.
+    pub policy: Policy,
 }
 
 impl File {
     /// The version before the next one ends, unless it has ended.
+    #[tactic(auto, using(std::proofs::lemmas::Bool::Decides::nat_tests, crate::proofs::Endings::can_end, crate::proofs::Endings::no_end, crate::proofs::Endings::last_row, crate::proofs::Words::update_first_same, crate::proofs::Words::update_first_unfound, crate::proofs::Words::all_not_found))]
     pub fn end_before(&mut self, now: Moment, meter: &mut Meter)
         requires kept { IsFileKept self.old }
         requires past { AllByRecursion (IsRowPast now) self.old.log.rows }

@@ -71,6 +71,7 @@ fn place_of(files: &[BoxedFile], id: FileId) -> Option<usize>
 }
 
 /// The file of that number.
+#[tactic(auto, using(std::proofs::lemmas::Bool::Decides::nat_tests, crate::proofs::Rows::no_file, crate::proofs::Words::find_position))]
 fn file_of(files: &[BoxedFile], id: FileId) -> Option<&File>
     requires { AllLater (λ x y. x.id < y.id) files.now }
     ensures { option_copied result ≡ find (is_id id) files.now }
@@ -133,6 +134,7 @@ impl Files {
 
     /// A handle that writes the file. It joins the file's draft, or where there is none it starts one
     /// with the content of the version before the next. Where memory is refused, all is as it was.
+    #[tactic(auto, using(std::proofs::lemmas::Bool::Decides::nat_tests, crate::proofs::Rows::next_found, crate::proofs::Openings::maps_seen, crate::proofs::Openings::first_lives))]
     pub fn open_write(
         &mut self,
         file: FileId,
@@ -170,6 +172,7 @@ impl Files {
     }
 
     /// Takes out the version, and answers how many bytes it had; none where it isn't held.
+    #[tactic(auto, using(std::proofs::lemmas::Bool::Decides::nat_tests, crate::proofs::Rows::version_none, crate::proofs::Rows::no_file, crate::proofs::Words::remove_first_unfound, crate::proofs::Words::all_not_found))]
     pub fn remove(&mut self, file: FileId, number: VersionNo, meter: &mut Meter) -> Option<u64>
         requires { meter.old < 2 ^ 62 }
         ensures value { result ≡ option_map (λ row. length (content_of row.cells))
@@ -186,6 +189,7 @@ impl Files {
 
     /// How many different blocks the versions and drafts have: a slot that several have from one
     /// writer is one block.
+    #[tactic(auto, using(std::proofs::lemmas::Bool::Decides::nat_tests, crate::proofs::Names::places_shown))]
     pub fn blocks(&self) -> u64
         ensures { result ≡ different is_place (places self.now.versions self.now.drafts) }
     {

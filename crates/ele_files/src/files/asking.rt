@@ -36,6 +36,7 @@ fn file_written(reads: Reads) -> Result<FileId, Refusal>
 
 impl Files {
     /// The file's policy; none where there is no such file.
+    #[tactic(auto, using(std::proofs::lemmas::Bool::Decides::nat_tests, crate::proofs::Rows::file_row_found))]
     pub fn policy_of(&self, file: FileId) -> Option<Policy>
         ensures { result ≡ policy_of self.now.files file }
     {
@@ -44,6 +45,7 @@ impl Files {
     }
 
     /// The number that the file's next version gets; none where there is no such file.
+    #[tactic(auto, using(std::proofs::lemmas::Bool::Decides::nat_tests, crate::proofs::Rows::file_row_found))]
     pub fn next_of(&self, file: FileId) -> Option<VersionNo>
         ensures { result ≡ option_map (λ row. row.next) (find (is_file file) self.now.files) }
     {
@@ -52,6 +54,7 @@ impl Files {
     }
 
     /// What is read through the handle. Refused: `NoHandle`, where no open handle has that number.
+    #[tactic(auto, using(std::proofs::lemmas::Bool::Decides::nat_tests, crate::proofs::Rows::reads_by_shown))]
     pub fn reads_by(&self, handle: Handle) -> Result<Reads, Refusal>
         ensures { result ≡ reads_by self.now.handles handle }
     {
@@ -72,6 +75,7 @@ impl Files {
     }
 
     /// Whether the version is open: some handle reads it. This looks at no handle.
+    #[tactic(auto, using(std::proofs::lemmas::Bool::Decides::nat_tests, crate::proofs::Rows::open_shown))]
     pub fn is_open(&self, file: FileId, number: VersionNo) -> bool
         ensures { result ≡ is_open self.now.handles file number }
     {
@@ -100,6 +104,7 @@ impl Files {
     }
 
     /// How many bytes the file's draft has; none where it has no draft.
+    #[tactic(auto, using(std::proofs::lemmas::Bool::Decides::nat_tests, crate::proofs::Rows::draft_found, crate::proofs::Stock::draft_lives))]
     pub fn draft_length(&self, file: FileId) -> Option<u64>
         ensures { result ≡ option_map (λ row. length (content_of row.cells))
             (find (is_draft file) self.now.drafts) }
@@ -109,6 +114,7 @@ impl Files {
     }
 
     /// The bytes of the file's draft; none where it has no draft.
+    #[tactic(auto, using(std::proofs::lemmas::Bool::Decides::nat_tests, crate::proofs::Rows::draft_found, crate::proofs::Stock::draft_lives))]
     pub fn draft_content(&self, file: FileId) -> Result<ByteList, NoMemory>
         ensures { IfOk result (λ bytes. bytes ≡ content_of (cells_of_draft self.now file)) }
     {

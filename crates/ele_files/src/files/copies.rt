@@ -48,6 +48,7 @@ impl Files {
     }
 
     /// A copy of the drafts' rows, by file.
+    #[tactic(auto, using(std::proofs::lemmas::Bool::Decides::nat_tests, crate::proofs::Stock::draft_lives, crate::proofs::Rows::draft_found, crate::proofs::Copies::draft_next))]
     pub fn draft_rows(&self) -> Result<ListOf<DraftRow>, NoMemory>
         ensures { IfOk result (λ rows. rows ≡ self.now.drafts) }
     {
@@ -87,6 +88,7 @@ impl Files {
 }
 
 /// The cells that the map shows, with bytes of their own.
+#[tactic(auto, using(std::proofs::lemmas::Bool::Decides::nat_tests, crate::proofs::Copies::cell_next))]
 fn copy_cells(alloc: Global, store: &BlockStore, map: &BlockMap) -> Result<ListOf<Cell>, NoMemory>
     requires laws { StockLaws }
     requires lives { LivesIn store.now map.now }
@@ -113,6 +115,7 @@ pub fn next_row(file: &File, behind: VersionNo) -> Option<&LogRow>
 }
 
 /// Adds copies of the file's rows.
+#[tactic(auto, using(std::proofs::lemmas::Bool::Decides::nat_tests, crate::proofs::Copies::log_all, crate::proofs::Words::all_found, crate::proofs::Copies::log_fewer, crate::proofs::Words::filter_none, crate::proofs::Words::all_not_found, crate::proofs::Words::append_nil))]
 fn copy_log(
     alloc: Global,
     store: &BlockStore,

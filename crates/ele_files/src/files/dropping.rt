@@ -19,6 +19,7 @@ fn take_out(files: &mut Vec<BoxedFile>, at: usize)
 
 impl Files {
     /// Whether a version of the file is held.
+    #[tactic(auto, using(std::proofs::lemmas::Bool::Decides::nat_tests, crate::proofs::Drops::any_held, crate::proofs::Drops::unheld))]
     fn has_version(&self, file: FileId) -> bool
         ensures { result ≡ list_any (is_version_of file) self.now.versions }
     {
@@ -36,6 +37,7 @@ impl Files {
     }
 
     /// Takes out the row of a file of which nothing is held. A number that no file has does nothing.
+    #[tactic(auto, using(std::proofs::lemmas::Bool::Decides::nat_tests, crate::proofs::Drops::rows_left, crate::proofs::Words::remove_first_none))]
     pub fn drop_file(&mut self, file: FileId)
         requires { is_bare self.old file ≡ true }
         ensures { self.new ≡ without_file self.old file }

@@ -10,6 +10,7 @@ use ele_policy::Policy;
 
 impl Files {
     /// The file has that policy from now on. A number that no file has does nothing.
+    #[tactic(auto, using(std::proofs::lemmas::Bool::Decides::nat_tests, crate::proofs::Words::update_first_unfound, crate::proofs::Words::all_not_found, crate::proofs::Rows::file_row_found, crate::proofs::Rows::no_file))]
     pub fn put_under(&mut self, file: FileId, policy: Policy)
         ensures { self.new ≡ changed_at self.old 0 (PutUnder file policy ∷ []) }
     {

@@ -14,6 +14,7 @@ use ele_moment::{FileId, Moment, NoMemory, VersionNo};
 impl Files {
     /// The version before the file's next one ends now, unless it has ended or isn't held. This takes
     /// no memory.
+    #[tactic(auto, using(std::proofs::lemmas::Bool::Decides::nat_tests, crate::proofs::Words::update_first_unfound, crate::proofs::Words::all_not_found, crate::proofs::Rows::version_none, crate::proofs::Rows::no_file))]
     pub fn end_current(&mut self, file: FileId, now: Moment, meter: &mut Meter)
         requires past { AllByRecursion (IsPast now) self.old.versions }
         requires meter { meter.old < 2 ^ 62 }
@@ -30,6 +31,7 @@ impl Files {
     /// now, and the version before that ends. No draft of the file is there. The caller tells whether
     /// the file is live; where it isn't, the new version ends at once. The answer is its number. Where
     /// memory is refused, all is as it was.
+    #[tactic(auto, using(std::proofs::lemmas::Bool::Decides::nat_tests, crate::proofs::Openings::maps_seen))]
     pub fn restore(
         &mut self,
         file: FileId,

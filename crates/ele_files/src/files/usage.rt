@@ -39,6 +39,7 @@ fn meet(met: &mut HashSet<(usize, u64)>, store: &BlockStore, map: &BlockMap) -> 
 }
 
 /// Meets the slots of all versions in the file's log.
+#[tactic(auto, using(std::proofs::lemmas::Bool::Decides::nat_tests, crate::proofs::Copies::log_all, crate::proofs::Words::all_found, crate::proofs::Copies::log_fewer))]
 fn meet_log(
     met: &mut HashSet<(usize, u64)>,
     store: &BlockStore,
@@ -59,6 +60,7 @@ fn meet_log(
 }
 
 /// How many bytes the versions in the file's log have.
+#[tactic(auto, using(std::proofs::lemmas::Bool::Decides::nat_tests, crate::proofs::Copies::log_all, crate::proofs::Copies::log_fewer, crate::proofs::Words::filter_none, crate::proofs::Words::all_not_found))]
 fn log_bytes(file: &File) -> u64
     requires kept { IsFileKept file.now }
     requires few { log_bytes file.now.log.rows < 2 ^ 64 }
@@ -75,6 +77,7 @@ fn log_bytes(file: &File) -> u64
 
 impl Files {
     /// How many versions of the file are held.
+    #[tactic(auto, using(std::proofs::lemmas::Bool::Decides::nat_tests, crate::proofs::Counted::own_count, crate::proofs::Tagged::none_shown))]
     fn versions_of(&self, file: FileId) -> u64
         ensures { result ≡ length (filter (is_version_of file) self.now.versions) }
     {
@@ -85,6 +88,7 @@ impl Files {
     }
 
     /// How many bytes the file's versions have.
+    #[tactic(auto, using(std::proofs::lemmas::Bool::Decides::nat_tests, crate::proofs::Words::all_found, crate::proofs::Counted::own_few, crate::proofs::Counted::own_bytes, crate::proofs::Tagged::none_shown))]
     fn bytes_of(&self, file: FileId) -> u64
         requires few { length self.now.versions ≤ 2 ^ 40 }
         ensures { result ≡ bytes_in (filter (is_version_of file) self.now.versions) }
@@ -96,6 +100,7 @@ impl Files {
     }
 
     /// Meets the slots of the file's versions.
+    #[tactic(auto, using(std::proofs::lemmas::Bool::Decides::nat_tests, crate::proofs::Words::all_found, crate::proofs::Stock::logs_live))]
     fn meet_versions(&self, met: &mut HashSet<(usize, u64)>, file: FileId) -> Result<(), NoMemory>
         ensures { OnOk result (Meets file met.old.keys met.new.keys
             (places (filter (is_version_of file) self.now.versions) [])) }
@@ -107,6 +112,7 @@ impl Files {
     }
 
     /// Meets the slots of the file's draft, if it has one.
+    #[tactic(auto, using(std::proofs::lemmas::Bool::Decides::nat_tests, crate::proofs::Stock::draft_lives))]
     fn meet_draft(&self, met: &mut HashSet<(usize, u64)>, file: FileId) -> Result<(), NoMemory>
         ensures { OnOk result (Meets file met.old.keys met.new.keys
             (places [] (filter (is_draft file) self.now.drafts))) }

@@ -37,6 +37,7 @@ impl Files {
 
     /// The file's version that the tag means; without one it is that before the next. Refused: `NoVersion` for a number that no
     /// version got, and `Forgotten` where it isn't held any more, with the last number that is held from before it.
+    #[tactic(auto, using(std::proofs::lemmas::Bool::Decides::nat_tests, crate::proofs::Rows::next_found, crate::proofs::Tagged::meant_shown))]
     pub fn version_meant(
         &self,
         file: FileId,
@@ -56,6 +57,7 @@ impl Files {
     }
 
     /// The file's version that lived at the moment; none where it isn't held.
+    #[tactic(auto, using(std::proofs::lemmas::Bool::Decides::nat_tests, crate::proofs::Tagged::none_lived, crate::proofs::Tagged::at_shown, crate::proofs::Tagged::told_found, crate::proofs::Tagged::forgotten_none))]
     pub fn version_at(&self, file: FileId, moment: Moment, meter: &mut Meter) -> Option<Stamps>
         requires { meter.old < 2 ^ 62 }
         ensures value { result
@@ -94,6 +96,7 @@ impl Files {
     }
 
     /// What is told of all held versions of the file, by number.
+    #[tactic(auto, using(std::proofs::lemmas::Bool::Decides::nat_tests, crate::proofs::Words::all_found, crate::proofs::Tagged::list_shown, crate::proofs::Tagged::none_shown))]
     pub fn stamps_of_file(&self, file: FileId) -> Result<StampsList, NoMemory>
         ensures { IfOk result
             (λ list. list ≡ map stamps_of (filter (is_version_of file) self.now.versions)) }
@@ -109,6 +112,7 @@ impl Files {
 }
 
 /// What is told of all rows of the file's log.
+#[tactic(auto, using(std::proofs::lemmas::Bool::Decides::nat_tests, crate::proofs::Copies::log_all, crate::proofs::Copies::log_fewer, crate::proofs::Copies::told_next, crate::proofs::Words::filter_none, crate::proofs::Words::all_not_found, crate::proofs::Words::append_nil))]
 fn log_stamps(alloc: Global, file: &File) -> Result<Vec<Stamps>, NoMemory>
     requires { IsFileKept file.now }
     ensures { IfOk result (λ list. list.items ≡ map stamps_in file.now.log.rows) }

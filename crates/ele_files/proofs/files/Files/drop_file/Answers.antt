@@ -1,4 +1,4 @@
-use Rattle.ele_files.proofs.Lemmas.{find-position, drops, remove_first-position, remove_first-map, remove_first-none, rows_left, arith, nat_tests, drops_at}
+use Rattle.ele_files.proofs.Lemmas.{find_position, drops, remove_first-position, remove_first-map, remove_first_none, rows_left, arith, nat_tests, drops_at}
 use Rattle.ele_files.proofs.files.Files.drop_file.Goals as goal
 
 pub invariant_of-self : goal.invariant_of-self
@@ -6,6 +6,3 @@ invariant_of-self c = rw (c.take_out.ensures) (drops_at _ _ _ c.self.invariant c
 
 pub returns-in-Some : goal.returns-in-Some
 returns-in-Some c = rw (← c.self.view_is, c.take_out.ensures) (drops_at _ _ _ c.self.invariant c.args.file (rw (← c.self.view_is) at c.requires) c.in-Some.at (rw c.deref.ensures.value at c.in-Some.ensures)).shows
-
-pub returns-in_default : goal.returns-in_default
-returns-in_default c = grind (arith, nat_tests, rows_left, remove_first-none)

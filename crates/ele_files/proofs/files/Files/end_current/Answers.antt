@@ -1,4 +1,4 @@
-use Rattle.ele_files.proofs.Lemmas.{no-file, version-none, all-not_found, update_first-unfound, arith, nat_tests, ends, its_past}
+use Rattle.ele_files.proofs.Lemmas.{no_file, version_none, all_not_found, update_first_unfound, arith, nat_tests, ends, its_past}
 use Rattle.ele_files.proofs.files.Files.end_current.Goals as goal
 
 pub end_before-requires-clause-past : goal.end_before-requires-clause-past
@@ -9,6 +9,3 @@ invariant_of-self c = (ends _ _ _ c.self.invariant c.args.file c.args.now _ _ c.
 
 pub returns-in-Some-clause-rows : goal.returns-in-Some-clause-rows
 returns-in-Some-clause-rows c = rw (← c.self.view_is) (ends _ _ _ c.self.invariant c.args.file c.args.now _ _ c.end_before.new.self (rw c.deref.ensures.value at c.in-Some.ensures) (rw (← c.get_mut-held.ensures.value) at c.index_mut.ensures.value) (rw (← c.self.view_is) at c.requires.past) c.end_before.ensures.ended).shows
-
-pub returns-in_default-clause-rows : goal.returns-in_default-clause-rows
-returns-in_default-clause-rows c = grind (arith, nat_tests, update_first-unfound, all-not_found, version-none, no-file)

@@ -1,8 +1,5 @@
-use Rattle.ele_files.proofs.Lemmas.{append-nil, arith, nat_tests, Meets, [], ap, draft_places, draft_shown, meets_none, on_ok_weaker, option_map_or, places_from, refl, shown, subst, sym, ◌∙◌}
+use Rattle.ele_files.proofs.Lemmas.{append_nil, arith, nat_tests, Meets, [], ap, draft_places, meets_none, on_ok_weaker, option_map_or, places_from, refl, shown, subst, sym, ◌∙◌}
 use Rattle.ele_files.proofs.files.Files.meet_draft.Goals as goal
-
-pub meet-requires-clause-lives : goal.meet-requires-clause-lives
-meet-requires-clause-lives c = (draft_shown _ _ _ c.self.invariant c.args.file _ c.in-Some.ensures).lives _ refl
 
 pub returns-in-Some : goal.returns-in-Some
 returns-in-Some c =

@@ -1,11 +1,5 @@
-use Rattle.ele_files.proofs.Lemmas.{logs_live, all-found, append-nil, shows, places_shown, its_id, arith, nat_tests, List, Meets, VersionRow, [], meets_none, none_shown, on_ok_weaker, own_places, places, subst, sym}
+use Rattle.ele_files.proofs.Lemmas.{logs_live, all_found, append_nil, shows, places_shown, its_id, arith, nat_tests, List, Meets, VersionRow, [], meets_none, none_shown, on_ok_weaker, own_places, places, subst, sym}
 use Rattle.ele_files.proofs.files.Files.meet_versions.Goals as goal
-
-pub meet_log-requires-clause-kept : goal.meet_log-requires-clause-kept
-meet_log-requires-clause-kept c = grind (arith, nat_tests, all-found)
-
-pub meet_log-requires-clause-lives : goal.meet_log-requires-clause-lives
-meet_log-requires-clause-lives c = grind (arith, nat_tests, all-found, logs_live)
 
 pub returns-in-Some : goal.returns-in-Some
 returns-in-Some c =

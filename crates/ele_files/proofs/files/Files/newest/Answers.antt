@@ -1,9 +1,6 @@
 use Rattle.ele_files.proofs.Lemmas.{last-map, last-kept, none_shown, newest_told, arith, nat_tests, Some, ap, newest_shown, option_map, stamps_in, sym, ◌∙◌}
 use Rattle.ele_files.proofs.files.Files.newest.Goals as goal
 
-pub returns-in_err-held-clause-value : goal.returns-in_err-held-clause-value
-returns-in_err-held-clause-value c = grind (arith, nat_tests, newest_told, none_shown)
-
 pub returns-in_err-row-clause-value : goal.returns-in_err-row-clause-value
 returns-in_err-row-clause-value c =
     let found = sym (rw c.deref.ensures.value at c.in_ok-held.ensures) in

@@ -1,9 +1,6 @@
 use Rattle.ele_files.proofs.Lemmas.{none_shown, find-filter, arith, nat_tests, LogRow, ap, closing_none, closing_shown, option_map, sym, ◌∙◌}
 use Rattle.ele_files.proofs.files.Files.next_closing.Goals as goal
 
-pub returns-in_err-held-clause-value : goal.returns-in_err-held-clause-value
-returns-in_err-held-clause-value c = grind (arith, nat_tests, closing_none)
-
 pub returns-in_err-row-clause-value : goal.returns-in_err-row-clause-value
 returns-in_err-row-clause-value c =
     let found = sym (rw c.deref.ensures.value at c.in_ok-held.ensures) in

@@ -1,14 +1,5 @@
-use Rattle.ele_files.proofs.Lemmas.{opened, arith, first_lives, maps_seen, nat_tests, next-found, opens, sym}
+use Rattle.ele_files.proofs.Lemmas.{opened, arith, first_lives, maps_seen, nat_tests, next_found, opens, sym}
 use Rattle.ele_files.proofs.files.Files.open_write.Goals as goal
-
-pub unreachable-requires : goal.unreachable-requires
-unreachable-requires c = grind (arith, nat_tests, next-found)
-
-pub open_write-requires-clause-few : goal.open_write-requires-clause-few
-open_write-requires-clause-few c = grind (arith, nat_tests, maps_seen)
-
-pub open_write-requires-clause-lives : goal.open_write-requires-clause-lives
-open_write-requires-clause-lives c = grind (arith, nat_tests, first_lives)
 
 pub invariant_of-self : goal.invariant_of-self
 invariant_of-self c =

@@ -1,4 +1,4 @@
-use Rattle.ele_files.proofs.Lemmas.{rows_after, next_stays, all-weaker, all-update_first, flat_map-same, later-update_first, set-first, no-file, file_row-found, all-not_found, update_first-unfound, arith, nat_tests, governs}
+use Rattle.ele_files.proofs.Lemmas.{rows_after, next_stays, all-weaker, all-update_first, flat_map-same, later-update_first, set-first, no_file, file_row_found, all_not_found, update_first_unfound, arith, nat_tests, governs}
 use Rattle.ele_files.proofs.files.Files.put_under.Goals as goal
 
 pub invariant_of-self : goal.invariant_of-self
@@ -6,6 +6,3 @@ invariant_of-self c = (governs _ _ _ c.self.invariant c.args.file c.args.policy 
 
 pub returns-in-Some : goal.returns-in-Some
 returns-in-Some c = rw (← c.self.view_is) (governs _ _ _ c.self.invariant c.args.file c.args.policy _ _ (rw c.deref.ensures.value at c.in-Some.ensures) (rw (← c.get_mut.ensures.value) at c.index_mut.ensures.value)).shows
-
-pub returns-in_default : goal.returns-in_default
-returns-in_default c = grind (arith, nat_tests, update_first-unfound, all-not_found, file_row-found, no-file)

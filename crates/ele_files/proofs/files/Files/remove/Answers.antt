@@ -1,12 +1,6 @@
-use Rattle.ele_files.proofs.Lemmas.{all-not_found, remove_first-unfound, no-file, version-none, arith, nat_tests, sym, gone, lives}
+use Rattle.ele_files.proofs.Lemmas.{all_not_found, remove_first_unfound, no_file, version_none, arith, nat_tests, sym, gone, lives}
 use Rattle.ele_files.proofs.Exchanges.{unheld}
 use Rattle.ele_files.proofs.files.Files.remove.Goals as goal
-
-pub returns-in_err-at-clause-value : goal.returns-in_err-at-clause-value
-returns-in_err-at-clause-value c = grind (arith, nat_tests, version-none, no-file, remove_first-unfound, all-not_found)
-
-pub returns-in_err-at-clause-rows : goal.returns-in_err-at-clause-rows
-returns-in_err-at-clause-rows c = grind (arith, nat_tests, version-none, no-file, remove_first-unfound, all-not_found)
 
 pub invariant_of-self : goal.invariant_of-self
 invariant_of-self c = (unheld _ _ _ c.self.invariant c.args.file c.args.number _ _ (rw c.deref.ensures.value at c.in_ok-at.ensures) (rw (← c.get_mut.ensures.value) at c.index_mut.ensures.value) c.remove.new.self c.remove.ensures.rows (sym c.in_err-row.ensures.row)).0.keeps

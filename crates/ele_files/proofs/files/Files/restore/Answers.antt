@@ -1,4 +1,4 @@
-use Rattle.ele_files.proofs.Lemmas.{its_past, map-all, all-found, version-of, some_found, IsRestored, arith, held_of, its_few, maps_seen, nat_tests, not_lost, on_err, ready_past, restored, set, waits, ◌∙◌}
+use Rattle.ele_files.proofs.Lemmas.{its_past, map-all, all_found, version_of, some_found, IsRestored, arith, held_of, its_few, maps_seen, nat_tests, not_lost, on_err, ready_past, restored, set, waits, ◌∙◌}
 use Rattle.ele_files.proofs.Restores.{lives, not_missing}
 use Rattle.ele_files.proofs.files.Files.restore.Goals as goal
 use Rattle.ele_files.proofs.files.Files.restore.Goals.{After-self-2-1}
@@ -17,9 +17,6 @@ unreachable-requires-in_default-get c = not_lost _ _ _ c.self.invariant c.args.f
 
 pub copy-requires-clause-lives : goal.copy-requires-clause-lives
 copy-requires-clause-lives c = lives _ _ _ c.self.invariant c.args.file c.args.number (rw (← c.self.view_is) at c.requires.held) _ _ (rw c.deref.ensures.value at c.in-Some.ensures) (rw (← c.get_mut-held.ensures.value) at c.index_mut.ensures.value) c.reserve.new.self c.reserve.ensures.rows _ c.in-Some-get.ensures.row
-
-pub copy-requires-clause-few : goal.copy-requires-clause-few
-copy-requires-clause-few c = grind (arith, nat_tests, maps_seen)
 
 pub invariant_of-self-in_err-map : goal.invariant_of-self-in_err-map
 invariant_of-self-in_err-map c = rw c.in_err-map.ensures.err (waits _ _ _ c.self.invariant c.args.file _ _ (rw c.deref.ensures.value at c.in-Some.ensures) (rw (← c.get_mut-held.ensures.value) at c.index_mut.ensures.value) c.reserve.new.self c.reserve.ensures.rows).keeps
