@@ -56,13 +56,9 @@ module _ (w : World) (file opened : ℕ) (cells : List Cell) (k : MayGrow w file
   touched_with newest f n = (f == file) && ((n == next) || option_map_or (λ (row : VersionRow). n == row.number) newest false)
 
   module _ (queue after : List Key) (queued : IsQueued w queue) where
-    -- the new version's key
-    its_own : (j : Key) (a c : Bool) → (j.file == file) ≡ a → (j.number == next) ≡ c → (((a && c) && is_moment j.ripe own) || has_key j queue) ≡ cond (a && c) (is_moment j.ripe (ripe_at appended j.file j.number)) (has_key j queue)
-    its_own j x1 c f n = grind (arith, nat_tests, next_before w file opened cells k, next_after w file opened cells k, or_false (is_moment j.ripe own))
-
     -- and the newest one's
     has_now : (j : Key) (newest : Option VersionRow) → newest_of w.versions file ≡ newest → (comes_with newest j || has_key j queue) ≡ cond (touched_with newest j.file j.number) (is_moment j.ripe (ripe_at appended j.file j.number)) (has_key j queue)
-    has_now j x1 e = grind (arith, nat_tests, and_false, or_false, its_own, newest_before, false≢true, newest_gains)
+    has_now j x1 e = grind (arith, nat_tests, and_false, or_false, next_before w file opened cells k, next_after w file opened cells k, or_false (is_moment j.ripe own), newest_before, false≢true, newest_gains)
 
     -- with the keys that come it has those of all versions
     pub appended_queue : ((j : Key) → has_key j after ≡ (comes j || has_key j queue)) → IsQueued appended after

@@ -31,13 +31,9 @@ module _ (groups : List GroupRow) (h : Held) (file : ℕ) (policy other : Policy
         → has_key k (cons_option o rest) ≡ (((row.number == k.number) || list_any (is_version file k.number) rows) && is_under groups h file policy other k)
     more x0 is then = grind (arith, nat_tests, and_or)
 
-  -- a version that has a moment is held
-  held_under : (k : Key) → is_under groups h file policy other k ≡ true → list_any (is_version file k.number) h.versions ≡ true
-  held_under k is = grind (arith, nat_tests, any-found, found_passes)
-
   -- so those told of the file's versions are just those
   pub keys_told : (k : Key) → has_key k (filter_map (λ (s : Stamps). its s.number) (map stamps_of (filter (is_version_of file) h.versions))) ≡ is_under groups h file policy other k
-  keys_told k = grind (arith, nat_tests, told_key h.versions k, held_under)
+  keys_told k = grind (arith, nat_tests, told_key h.versions k, any-found, found_passes)
 
 pub then_ok : {A E : Type 0} {P Q : A → Type 0} (r : Result A E) → IfOk r P → ((a : A) → P a → Q a) → IfOk r Q
 then_ok x0 is then = grind (arith, nat_tests)

@@ -2,19 +2,12 @@
 use Rattle.ele_core.proofs.Words.{◌≡◌, ℕ, ◌==◌, ◌+◌, Bool, false, cond, List, [], ◌∷◌, Option, Some, None, refl, ap, sym, ◌∙◌, arith, append-nil, subst, find, option_and_then, option_or, filter-append, find-append, list_any-append, nat_tests, IsQueued, Key, all-found, Policy, VersionRow, MakeFile, after_change, ripe_at, is_moment, view_of, IsWellFormed, World, is_version, created, made_is, new_file, new_name, first_version, versions_before, ripe_at_is, unended}
 use Rattle.ele_world.specs.Due.{ripe_of}
 
-option_or-none : {X : Type 0} (o : Option X) → option_or o None ≡ o
-option_or-none x0 = grind (arith, nat_tests)
-
 module _ (w : World) (directory : ℕ) (name : List ℕ) (policy : Policy) (k : IsWellFormed w) where
   abbrev id : ℕ
   id = w.made.files + 1
 
   abbrev made : World
   made = created w directory name id policy
-
-  -- no other file is touched
-  same_view : (file : ℕ) → (id == file) ≡ false → view_of made file ≡ view_of w file
-  same_view file other = grind (arith, nat_tests, find-append, new_file, option_or-none, filter-append, first_version, append-nil, list_any-append, new_name)
 
   -- and its first version has no end
   moment_stays : (file number : ℕ) → ripe_at made file number ≡ ripe_at w file number
@@ -28,7 +21,7 @@ module _ (w : World) (directory : ℕ) (name : List ℕ) (policy : Policy) (k : 
         new x0 = grind (arith, nat_tests, unended (view_of made id) (first_version w id) refl, first_version w id)
 
         by : (o : Option VersionRow) → find (is_version file number) w.versions ≡ o → option_and_then (ripe_of made) (option_or o (find (is_version file number) (first_version w id ∷ []))) ≡ option_and_then (ripe_of w) o
-        by x0 e = grind (arith, nat_tests, new, first_version w id, all-found, versions_before w k, same_view)
+        by x0 e = grind (arith, nat_tests, new, first_version w id, all-found, versions_before w k, find-append, new_file, filter-append, first_version, append-nil, list_any-append, new_name)
 
   pub made_queue : (queue : List Key) → IsQueued w queue → IsQueued (after_change w (MakeFile directory name (w.made.files + 1) policy)) queue
   made_queue queue queued = subst (λ (v : World). IsQueued v queue) (sym (made_is w directory name policy k)) (λ j. queued j ∙ ap (is_moment j.ripe) (sym (moment_stays j.file j.number)))

@@ -25,17 +25,13 @@ module _ (w : World) (file number : ℕ) (queue : List Key) (queued : IsQueued w
   abbrev its : Key → Bool
   its k = (k.file == file) && (k.number == number)
 
-  -- while it is open it has no key
-  unkeyed : is_open w.handles file number ≡ true → (k : Key) → its k ≡ true → has_key k queue ≡ false
-  unkeyed is_read k own = grind (arith, nat_tests)
-
   -- so to take its free moment's key is to take the key that it has
   pub taken_key : (after : List Key) → IsRekeyed file number free None queue after → IsRekeyed file number (ripe_at w file number) None queue after
-  taken_key after edited k = grind (arith, nat_tests, unkeyed)
+  taken_key after edited k = grind (arith, nat_tests)
 
   -- and to put it and take it again is nothing
   pub put_back : is_open w.handles file number ≡ true → (between after : List Key) → IsRekeyed file number None free queue between → IsRekeyed file number free None between after → (k : Key) → has_key k after ≡ has_key k queue
-  put_back is_read between after came went k = grind (arith, nat_tests, unkeyed)
+  put_back is_read between after came went k = grind (arith, nat_tests)
 
 -- a handle that reads takes the key
 pub read_queue : (rows : Rows) (handle file number : ℕ) (after : List Key) → IsSound rows → IsRekeyed file number (free_moment rows.groups rows.files.files rows.files.versions file number) None rows.queue after

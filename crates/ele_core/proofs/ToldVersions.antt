@@ -15,16 +15,13 @@ use Rattle.ele_world.proofs.Versions.{IsFound, all_found}
 -- ---- where a path leads is there
 
 module _ (w : World) (each : AllByRecursion (IsNameRow w.files w.now) w.names) where
-  covered_there : (moment directory : ℕ) (name : List ℕ) (target : Target) → target_at w.names moment directory name ≡ Some target → IsThere w.files target
-  covered_there moment directory name target h = grind (arith, nat_tests, all-found)
-
   walked_there : (moment : ℕ) (at target : Target) (names : List (List ℕ)) → IsThere w.files at → walk_covering w.names moment at names ≡ Ok target → IsThere w.files target
   walked_there moment at target [] so h = let same : at ≡ target = cc in subst (IsThere w.files) same so
   walked_there moment (File file) target (name ∷ names) so h = absurd cc
   walked_there moment (Directory directory) target (name ∷ names) so h =
       go (λ next so. walked_there moment next target names so) (target_at w.names moment directory name) refl h where
         go : ((next : Target) → IsThere w.files next → walk_covering w.names moment next names ≡ Ok target → IsThere w.files target) → (o : Option Target) → target_at w.names moment directory name ≡ o → option_map_or (λ target. walk_covering w.names moment target names) o (Err NoEntry) ≡ Ok target → IsThere w.files target
-        go onward x1 e h = grind (arith, nat_tests, covered_there)
+        go onward x1 e h = grind (arith, nat_tests, all-found)
 
   now_there : (path : List (List ℕ)) (target : Target) → walk_now w.names path ≡ Ok target → IsThere w.files target
   now_there path (File file) h = file_there w.files w.now w.names path file each (ap file_at h)

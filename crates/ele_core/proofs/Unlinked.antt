@@ -22,14 +22,11 @@ module _ (w : World) (directory : ℕ) (name : List ℕ) (file : ℕ) (stands : 
 
   -- ---- how many names are left
 
-  one_less : count_by (is_live_name_of file) (without_name w directory name).names + 1 ≡ count_by (is_live_name_of file) w.names
-  one_less = grind (arith, nat_tests, named, found_passes, count-update_first)
-
   pub last_ends : count_by (is_live_name_of file) w.names ≡ 1 → is_live (without_name w directory name) file ≡ false
-  last_ends last = grind (arith, nat_tests, one_less, any-count (is_live_name_of file) (without_name w directory name).names)
+  last_ends last = grind (arith, nat_tests, named, found_passes, count-update_first, any-count (is_live_name_of file) (without_name w directory name).names)
 
   pub others_live : (count_by (is_live_name_of file) w.names ≡ 1 → ⊥) → is_live (without_name w directory name) file ≡ true
-  others_live more = grind (arith, nat_tests, any-count (is_live_name_of file) (without_name w directory name).names, one_less)
+  others_live more = grind (arith, nat_tests, any-count (is_live_name_of file) (without_name w directory name).names, named, found_passes, count-update_first)
 
   -- ---- while others are left
 

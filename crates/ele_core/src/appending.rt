@@ -21,6 +21,7 @@ use ele_usage::UsageBook;
 use ele_world::{FileId, Moment, Stamps, VersionNo};
 
 /// The number of the file's next version; the file is there.
+#[tactic(auto, using(crate::proofs::ClosedSteps::untold, crate::proofs::ClosedSteps::number_told))]
 pub fn next_number(files: &Files, file: FileId) -> VersionNo
     requires { 0 < next_of files.now.files file }
     ensures { result ≡ next_of files.now.files file }
@@ -70,6 +71,7 @@ fn gained_moment(
 
 /// The ripe moment that the file's newest held version gets, of which these are the stamps, as the next one closes now; none
 /// where a handle reads it.
+#[tactic(auto, using(crate::proofs::Asked::former_told, crate::proofs::Words::nat_tests, crate::proofs::Asked::ungoverned))]
 fn former_moment(
     files: &Files,
     groups: &Groups,

@@ -55,6 +55,7 @@ pub fn blocks_fit(files: &Files)
 
 /// The book follows a change of one file's versions or drafts, which had so many blocks with those of all other files
 /// before: one event changes the blocks of one file, so what came or went is this file's.
+#[tactic(auto, using(crate::proofs::Words::nat_tests, crate::proofs::Booked::shift_fits))]
 pub fn follow_blocks(book: &mut UsageBook, files: &Files, file: FileId, before: u64)
     requires owed { IsOwed files.now book.old file before }
     requires fits { (k : Kind) → Fits (record (sums_of book.old k) { blocks = 0 }) }

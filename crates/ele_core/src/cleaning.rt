@@ -127,6 +127,7 @@ pub fn pass(rows: &mut Rows, budget: u64) -> PassEnd
 }
 
 /// Whether one clean event removes a version.
+#[tactic(auto, using(crate::proofs::Words::nat_tests, crate::proofs::Passing::clean_keeps))]
 fn removes(rows: &mut Rows) -> bool
     requires { IsSound rows.old }
     ensures value { result ≡ is_some (first_due (world_of rows.old)) }

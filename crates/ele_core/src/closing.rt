@@ -18,6 +18,7 @@ use ele_files::Files;
 use ele_world::{FileId, Handle, Moment, NoMemory, Reads, Reply, VersionNo};
 
 /// How many bytes the file's draft has; it has one.
+#[tactic(auto, using(crate::proofs::ClosedSteps::undrafted, crate::proofs::ClosedSteps::bytes_told))]
 fn draft_bytes(files: &Files, file: FileId) -> u64
     requires { is_some (find (is_draft file) files.now.drafts) ≡ true }
     ensures { result ≡ length (content_of (cells_of_draft files.now file)) }

@@ -57,6 +57,7 @@ fn moment_but(
 }
 
 /// The key of the file's version that was current at the mark, while marks are left out.
+#[tactic(auto, using(crate::proofs::Words::nat_tests, crate::proofs::Marked::key_told))]
 fn key_at(
     files: &Files,
     groups: &Groups,

@@ -14,6 +14,7 @@ use crate::walk::{file_now, version_at};
 use ele_world::{FileId, Handle, NoMemory, Path, Refusal, Reply, TaggedPath, VersionNo, Which};
 
 /// A handle is opened by which the file is written, once nothing refuses it; a draft is begun where there is none.
+#[tactic(auto, using(crate::proofs::Booked::opened_owed, crate::proofs::Booked::fits, crate::proofs::Bounded::rows_few, crate::proofs::Words::nat_tests, crate::proofs::OpenedKeys::opened_queue))]
 fn add_handle(rows: &mut Rows, file: FileId) -> Result<Handle, NoMemory>
     requires sound { IsSound rows.old }
     requires meter { rows.old.meter ≡ 0 }
@@ -59,6 +60,7 @@ pub fn open_write(rows: &mut Rows, path: &Path) -> Result<Reply, NoMemory>
 
 /// A handle is opened that reads the version, once nothing refuses it. Its key goes, for while the handle is open the version
 /// isn't due.
+#[tactic(auto, using(crate::proofs::Words::nat_tests, crate::proofs::OpenedKeys::read_queue))]
 fn add_reader(rows: &mut Rows, file: FileId, number: VersionNo) -> Result<Handle, NoMemory>
     requires sound { IsSound rows.old }
     requires meter { rows.old.meter < 2 ^ 59 }

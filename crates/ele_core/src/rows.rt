@@ -51,6 +51,7 @@ pub fn are_names_full(rows: &Rows) -> bool
 }
 
 /// Whether as many versions were made, and drafts are open, as may be.
+#[tactic(auto, using(crate::proofs::Bounded::versions_few))]
 pub fn is_full(rows: &Rows) -> bool
     requires { IsSound rows.now }
     ensures { result ≡ nat_le rows.now.limits.versions (versions_made (world_of rows.now)) }

@@ -23,6 +23,7 @@ fn faulted(fault: SessionFault) -> Result<Reply, NoMemory>
 }
 
 /// The bytes are written through the handle, from that offset on.
+#[tactic(auto, using(crate::proofs::Booked::written_owed, crate::proofs::Booked::fits))]
 pub fn write(rows: &mut Rows, handle: Handle, offset: u64, bytes: &[u8]) -> Result<Reply, NoMemory>
     requires { IsSound rows.old }
     ensures step { IfOk result
@@ -44,6 +45,7 @@ pub fn write(rows: &mut Rows, handle: Handle, offset: u64, bytes: &[u8]) -> Resu
 }
 
 /// The draft under the handle gets so many bytes.
+#[tactic(auto, using(crate::proofs::Booked::fitted_owed, crate::proofs::Booked::fits))]
 pub fn truncate(rows: &mut Rows, handle: Handle, size: u64) -> Result<Reply, NoMemory>
     requires { IsSound rows.old }
     ensures step { IfOk result
