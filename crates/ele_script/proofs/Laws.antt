@@ -24,10 +24,6 @@ abbrev kinds_of : List Value → List WordKind
 kinds_of [] = []
 kinds_of (value ∷ values) = word_kind value ∷ kinds_of values
 
--- the values of what is asked for are of the kinds that its command wants
-kinds_fit : (asked : Line) → kinds_of (line_parts asked).1 ≡ kinds_behind (line_parts asked).0
-kinds_fit asked = grind arith
-
 -- what a command and values ask for, if they are of its kinds
 abbrev line_of : Command × List Value → Option Line
 line_of (Clock, Moment moment ∷ []) = Some (asks.Event (event.Clock moment))
@@ -65,15 +61,8 @@ line_of (Groups, []) = Some (asks.Event event.GroupsAll)
 line_of (Pass, Number budget ∷ []) = Some (asks.Pass budget)
 line_of _ = None
 
--- so the parts of what is asked for give it back
-parts_back : (asked : Line) → line_of (line_parts asked) ≡ Some asked
-parts_back asked = grind arith
-
 some_is : {A : Type 0} {x y : A} → ◌≡◌ {A = Option A} (Some x) (Some y) → x ≡ y
 some_is h = cc
-
-heads : {A : Type 0} {x y : A} {xs ys : List A} → x ∷ xs ≡ y ∷ ys → x ≡ y
-heads h = cc
 
 tails : {A : Type 0} {x y : A} {xs ys : List A} → x ∷ xs ≡ y ∷ ys → xs ≡ ys
 tails h = cc
@@ -85,7 +74,7 @@ one_list [] (v ∷ vs) us k a b = absurd a
 one_list [] [] (u ∷ us) k a b = absurd b
 one_list (word ∷ words) [] us k a b = absurd a
 one_list (word ∷ words) (v ∷ vs) [] k a b = absurd b
-one_list (word ∷ words) (v ∷ vs) (u ∷ us) k a b = grind (arith, nat_tests, one_value, heads, tails, one_list words vs us (tails k) a.1 b.1)
+one_list (word ∷ words) (v ∷ vs) (u ∷ us) k a b = grind (arith, nat_tests, one_value, tails, one_list words vs us (tails k) a.1 b.1)
 
 parts_is : (c d : Command) (vs us : List Value) → c ≡ d → vs ≡ us → let p : Command × List Value = (c, vs) in let q : Command × List Value = (d, us) in p ≡ q
 parts_is c d vs us p q =
@@ -94,7 +83,7 @@ parts_is c d vs us p q =
 
 -- a line asks for one thing
 pub one_line : (line : List ℕ) (a b : Line) → SpellsLine line a → SpellsLine line b → a ≡ b
-one_line line a b h k = grind (arith, nat_tests, one_fit, kinds_fit, one_list, parts_is, some_is, parts_back)
+one_line line a b h k = grind (arith, nat_tests, one_fit, one_list, parts_is, some_is)
 
 event_is : {a b : Event} → asks.Event a ≡ asks.Event b → a ≡ b
 event_is h = cc
@@ -121,7 +110,7 @@ moved : (fault : LineFault) {c d : Command} {xs ys : List (List ℕ)} → c ≡ 
 moved fault {c} {d} {xs} {ys} p q h = grind (arith, nat_tests)
 
 no_words : (words : List (List ℕ)) (asked : Line) (fault : LineFault) → SpellsWords words asked → IsFaultOfWords words fault → ⊥
-no_words words asked fault h x4 = grind (arith, nat_tests, as_many, kinds_fit, one_fit, moved, no_first)
+no_words words asked fault h x4 = grind (arith, nat_tests, as_many, one_fit, moved, no_first)
 
 -- a line that asks for something has no fault
 pub spelled_faultless : (line : List ℕ) (asked : Line) (fault : LineFault) → SpellsLine line asked → IsFirstFault line fault → ⊥

@@ -14,18 +14,11 @@ use Rattle.ele_moment.proofs.Moments.{short_number}
 pub one_number : (word : List ℕ) (m n : ℕ) → SpellsNumber word m → SpellsNumber word n → m ≡ n
 one_number word m n a b = decimal_injective m n a.fits b.fits (sym a.digits ∙ b.digits)
 
--- a date and time is worth one moment
-one_worth : (f : Fields) (m n : ℕ) → IsWorth f m → IsWorth f n → m ≡ n
-one_worth f m n a b = grind (arith, nat_tests, ints)
-
 some_is : {A : Type 0} {x y : A} → ◌≡◌ {A = Option A} (Some x) (Some y) → x ≡ y
 some_is h = cc
 
-fields_of-text : (f : Fields) → IsTimestamp f → fields_of (timestamp_text f) ≡ Some f
-fields_of-text f is = grind (arith, nat_tests, fields_again)
-
 one_timestamp : (word : List ℕ) (m n : ℕ) → SpellsTimestamp word m → SpellsTimestamp word n → m ≡ n
-one_timestamp word m n a b = grind (arith, nat_tests, some_is, fields_of-text, one_worth)
+one_timestamp word m n a b = grind (arith, nat_tests, some_is, fields_again, ints)
 
 no_both : {P : Type 0} (word : List ℕ) (m n : ℕ) → m ≤ last_moment → SpellsNumber word m → SpellsTimestamp word n → P
 no_both word m n le a b =

@@ -25,13 +25,9 @@ is_slash byte = byte == 47
 own : IsNumeralModel (AllDigits 10) (digits_value 10)
 own = record { to = λ ds h. h; from = λ ds h. h; same = λ ds h. refl }
 
--- a byte that is no digit stands in no number
-is_other : (mark c : ℕ) → 10 ≤ digit_value mark → digit_value c < 10 → (c == mark) ≡ false
-is_other mark c high low = grind (arith, nat_tests, eqb-true)
-
 unmarked : (mark : ℕ) → 10 ≤ digit_value mark → (ds : List ℕ) → AllDigits 10 ds → All (λ c. (c == mark) ≡ false) ds
 unmarked mark high [] digits = All-nil (λ c. (c == mark) ≡ false)
-unmarked mark high (c ∷ cs) digits = grind (arith, nat_tests, All-cons, is_other, unmarked mark high cs digits.1)
+unmarked mark high (c ∷ cs) digits = grind (arith, nat_tests, All-cons, eqb-true, unmarked mark high cs digits.1)
 
 pub number_unmarked : (mark : ℕ) → 10 ≤ digit_value mark → (word : List ℕ) (n : ℕ) → SpellsNumber word n → All (λ c. (c == mark) ≡ false) word
 number_unmarked mark high word n is = rw is.digits (unmarked mark high (decimal n) (digits_decimal own n is.fits))

@@ -22,19 +22,13 @@ use Rattle.ele_script.proofs.PairWords.{one_pairs}
 some_is : {A : Type 0} {x y : A} → ◌≡◌ {A = Option A} (Some x) (Some y) → x ≡ y
 some_is h = cc
 
-behind_safe : (a b : List ℕ) → codes "safe:" ++ a ≡ codes "safe:" ++ b → a ≡ b
-behind_safe a b h = cc
-
 -- `safe:` and a number are one number
 one_safe : (word : List ℕ) (m n : ℕ) → IsSafeWord word m → IsSafeWord word n → m ≡ n
-one_safe word m n a b = grind (arith, nat_tests, behind_safe, one_number)
-
-behind_landmarks : (a b : List ℕ) → codes "landmarks:" ++ a ≡ codes "landmarks:" ++ b → a ≡ b
-behind_landmarks a b h = cc
+one_safe word m n a b = grind (arith, nat_tests, one_number)
 
 -- `landmarks:` and pairs are these pairs
 one_ladder : (word : List ℕ) (ps qs : List Rung) → IsLadderWord word ps → IsLadderWord word qs → ps ≡ qs
-one_ladder word ps qs a b = grind (arith, nat_tests, behind_landmarks, one_pairs)
+one_ladder word ps qs a b = grind (arith, nat_tests, one_pairs)
 
 unpaired : (text : List ℕ) → codes "landmarks" ≡ codes "landmarks:" ++ text → ⊥
 unpaired text h = cc

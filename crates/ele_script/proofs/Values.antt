@@ -21,9 +21,6 @@ use Rattle.ele_script.specs.FirstFault.{IsOfKind, IsWordFault}
 some_is : {A : Type 0} {x y : A} → ◌≡◌ {A = Option A} (Some x) (Some y) → x ≡ y
 some_is h = cc
 
-ok_is : {A E : Type 0} {x y : A} → ◌≡◌ {A = Result A E} (Ok x) (Ok y) → x ≡ y
-ok_is h = cc
-
 absurd_ok : {A E : Type 0} {x : A} {e : E} → ◌≡◌ {A = Result A E} (Err e) (Ok x) → ⊥
 absurd_ok h = cc
 
@@ -32,7 +29,7 @@ no_dash : (word bytes : List ℕ) → word ≡ codes "-" → decode_of word ≡ 
 no_dash word bytes dash digits = absurd_ok (sym (ap decode_of dash) ∙ digits)
 
 one_bytes : (word : List ℕ) (a b : List ℕ) → SpellsBytes word a → SpellsBytes word b → a ≡ b
-one_bytes word a b x3 x4 = grind (arith, nat_tests, no_dash, ok_is)
+one_bytes word a b x3 x4 = grind (arith, nat_tests, no_dash)
 
 -- a word stands for one value of a kind
 pub one_value : (word : List ℕ) (a b : Value) → word_kind a ≡ word_kind b → SpellsValue word a → SpellsValue word b → a ≡ b

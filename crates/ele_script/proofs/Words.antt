@@ -25,10 +25,6 @@ plain_byte x word = grind (arith, nat_tests)
 no_space : (x : ℕ) → ends_word x ≡ false → is_space x ≡ false
 no_space x word = grind (arith, nat_tests)
 
--- and one that ends a word is plain only as a space
-unplain_byte : (x : ℕ) → ends_word x ≡ true → x ≢ 32 → is_plain x ≡ false
-unplain_byte x end other = grind (arith, nat_tests)
-
 -- the first n bytes are of words
 abbrev AreOfWords : List ℕ → ℕ → Type 0
 AreOfWords text n = (k : ℕ) → k < n → ends_word (get_or text k 0) ≡ false
@@ -55,14 +51,8 @@ whole_word (x ∷ xs) h =
     let rest = whole_word xs (λ k lt. h (suc k) (omega (arith, lt))) in
     (rw (no_space x (h 0 (omega arith)), rest.0) refl, rw (plain_byte x (h 0 (omega arith))) rest.1)
 
-none_at : (b : Bool) (n : ℕ) → cond b (Some n) None ≡ None → b ≡ false
-none_at b n h = grind arith
-
-not_true : (b : Bool) → not b ≡ true → b ≡ false
-not_true b h = grind arith
-
 no_end : (text : List ℕ) → position ends_word text ≡ None → AreOfWords text (length text)
-no_end text none k lt = grind (arith, nat_tests, ltb-false, none_at, not_true, prefix_len_passes)
+no_end text none k lt = grind (arith, nat_tests, ltb-false, prefix_len_passes)
 
 -- a word has a byte
 abbrev pub has_byte : List ℕ → Bool
@@ -119,7 +109,7 @@ cut_none line front (x ∷ xs) are none = let zero = eqb-true (length (x ∷ xs)
 
 -- a byte that isn't plain ends a word
 pub cut_unplain : (line : List ℕ) (front : List (List ℕ)) (rest : List ℕ) (at : ℕ) → AreCut line front rest → position ends_word rest ≡ Some at → get_or rest at 0 ≢ 32 → list_all is_plain line ≡ false
-cut_unplain line front rest at are found other = grind (arith, nat_tests, position-Some, list_all_at, unplain_byte)
+cut_unplain line front rest at are found other = grind (arith, nat_tests, position-Some, list_all_at)
 
 -- what is left is the last word
 pub cut_last : {A : Type 0} (v : A → List ℕ) (line : List ℕ) (front now : List A) (last : A) → AreCut line (map v front) (v last) → position ends_word (v last) ≡ None → now ≡ front ++ last ∷ []
@@ -134,23 +124,13 @@ cut_worded {A} v line front now last are none pushed some =
     let spaced = push_spaced v front now last pushed are.spaced (positive (length (v last)) some) in
     rw (are.plain ∙ one.1) (ap (list_all has_byte) (sym (cut_last v line front now last are none pushed)) ∙ spaced)
 
-some_word : (text : List ℕ) → 1 ≤ length (words_of text)
-some_word text = omega (arith, length-slice_split is_space text)
-
 -- there are more words than were cut off
 pub cut_some : {A : Type 0} (v : A → List ℕ) (line : List ℕ) (front : List A) (rest : List ℕ) → AreCut line (map v front) rest → length front < length (words_of line)
-cut_some {A} v line front rest are = omega (arith, ap length are.words, length-append (map v front) (words_of rest), length-map front v, some_word rest)
+cut_some {A} v line front rest are = omega (arith, ap length are.words, length-append (map v front) (words_of rest), length-map front v, length-slice_split)
 
 pub unworded : (line : List ℕ) → list_all is_plain line ≡ false → is_worded line ≡ false
 unworded line broken = ap (λ b. b && list_all (λ word. nat_lt 0 (length word)) (words_of line)) broken
 
-most_words : (command : Command) → length (command_words command) + length (kinds_behind command) ≤ 4
-most_words command = grind arith
-
--- more than four words fit no command
-many_words : (words : List (List ℕ)) → 4 < length words → IsFaultOfWords words Syntax
-many_words words many = grind (arith, nat_tests, most_words, length-append)
-
 -- a line that isn't worded, or has more than four words, is at fault
 pub unfit_line : (line : List ℕ) → length line ≤ 8192 → (is_worded line ≡ false) ⊎ (4 < length (words_of line)) → IsFirstFault line Syntax
-unfit_line line short x2 = grind (arith, nat_tests, many_words)
+unfit_line line short x2 = grind (arith, nat_tests, length-append)

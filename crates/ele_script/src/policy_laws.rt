@@ -3,11 +3,13 @@ ghost use Rattle.ele_script.specs.OnePolicy.{OnePolicy};
 ghost use Rattle.ele_script.specs.PolicyBack.{PolicyBack};
 
 /// No word spells two policies.
+#[tactic(auto, using(crate::proofs::Policies::one_policy))]
 pub fn one_policy()
     ensures { OnePolicy }
 {}
 
 /// The word by which a policy is printed spells it.
+#[tactic(auto, using(crate::proofs::PolicyBack::policy_back))]
 pub fn policy_back()
     ensures { PolicyBack }
 {}

@@ -19,6 +19,7 @@ use ele_world::{ByteList, Handle, Source};
 use std::alloc::Global;
 
 /// A number.
+#[tactic(auto, using(crate::proofs::Behind::number_kind))]
 pub(crate) fn number(word: &[u8]) -> Result<u64, LineFault>
     ensures found { IfOk result (SpellsNumber word.now) }
     ensures kind { OnOk result (IsOfKind NumberWord word.now) }
@@ -28,6 +29,7 @@ pub(crate) fn number(word: &[u8]) -> Result<u64, LineFault>
 }
 
 /// A moment.
+#[tactic(auto, using(crate::proofs::Values::moment_fault))]
 pub(crate) fn moment(word: &[u8]) -> Result<Moment, LineFault>
     ensures found { IfOk result (SpellsMoment word.now) }
     ensures fault { IfErr result (IsWordFault MomentWord word.now) }
@@ -73,6 +75,7 @@ pub(crate) fn path_at(alloc: Global, word: &[u8]) -> Result<PathAt, LineFault>
 }
 
 /// A path with a tag, which begins with a slash, or else a handle.
+#[tactic(auto, using(std::proofs::lemmas::Result::err_from_is_err_and, std::proofs::Common::inr, crate::proofs::Behind::bad_handle))]
 pub(crate) fn source(alloc: Global, word: &[u8]) -> Result<Source, LineFault>
     ensures found { IfOk result (SpellsSource word.now) }
     ensures fault { IfErr result

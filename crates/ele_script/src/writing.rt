@@ -13,6 +13,7 @@ use std::io::Write;
 
 /// Writes the lines of a reply, or of the stop that came in its place. At a fault the writer took a
 /// front of them.
+#[tactic(auto, using(crate::proofs::Known::err_over))]
 pub fn write_reply<W: Write>(reply: &Result<Reply, Stop>, writer: &mut W) -> Result<(), WriteFault>
     ensures ok { OnOk result
         (WritesAnswer reply.now (W.contents writer.old) (W.contents writer.new)) }
@@ -26,6 +27,7 @@ pub fn write_reply<W: Write>(reply: &Result<Reply, Stop>, writer: &mut W) -> Res
 
 /// Writes the line that tells a bad line's fault. At a fault of the writer it took a front of that
 /// line.
+#[tactic(auto, using(crate::proofs::Known::err_over))]
 pub fn write_fault<W: Write>(fault: LineFault, writer: &mut W) -> Result<(), WriteFault>
     ensures ok { OnOk result
         (Appends (W.contents writer.old) (W.contents writer.new) (bad_text fault)) }
@@ -39,6 +41,7 @@ pub fn write_fault<W: Write>(fault: LineFault, writer: &mut W) -> Result<(), Wri
 
 /// Writes the line that tells how a pass ended, and how many versions it removed. At a fault of the
 /// writer it took a front of that line.
+#[tactic(auto, using(crate::proofs::Known::err_over))]
 pub fn write_pass<W: Write>(end: &PassEnd, writer: &mut W) -> Result<(), WriteFault>
     ensures ok { OnOk result
         (Appends (W.contents writer.old) (W.contents writer.new) (pass_text end.now)) }
