@@ -15,23 +15,18 @@ slot_cell writer content slot = record { writer = writer slot; bytes = slot_byte
 
 -- slots side by side are one piece of the content
 slots_join : (writer : ℕ → ℕ) (content : List ℕ) (from count : ℕ) → content_of (map (slot_cell writer content) (range_with_len from count)) ≡ take (512 * count) (drop (512 * from) content)
-slots_join writer content from zero = sym (ap (λ n. take n (drop (512 * from) content)) (let e : 512 * 0 ≡ 0 = omega arith in e))
+slots_join writer content from zero = grind arith
 slots_join writer content from (suc count) =
-    let rest = slots_join writer content (from + 1) count in
-    let place : 512 * (from + 1) ≡ 512 * from + 512 = omega arith in
-    let size : 512 * suc count ≡ 512 + 512 * count = omega arith in
-    flat_map-cons (λ (cell : Cell). cell.bytes) (slot_cell writer content from) (map (slot_cell writer content) (range_with_len (from + 1) count))
-    ∙ ap (λ (t : List ℕ). take 512 (drop (512 * from) content) ++ t) (rest ∙ ap (λ n. take (512 * count) (drop n content)) place ∙ ap (take (512 * count)) (sym (drop-drop 512 (512 * from) content)))
-    ∙ sym (ap (λ n. take n (drop (512 * from) content)) size ∙ take-add 512 (512 * count) (drop (512 * from) content))
+    grind (arith, flat_map-cons (λ (cell : Cell). cell.bytes), slots_join writer content (from + 1) count, drop-drop 512 (512 * from) content, take-add 512 (512 * count) (drop (512 * from) content))
+
+-- all of them are the content
+slots_whole : (writer : ℕ → ℕ) (content : List ℕ) (n : ℕ) → n ≡ length content → content_of (map (slot_cell writer content) (range_with_len 0 (slot_count n))) ≡ content
+slots_whole writer content n is = slots_join writer content 0 (slot_count n) ∙ take_all (512 * slot_count n) content (omega (arith, is))
 
 -- what is written and then read is the bytes laid over what was there
 pub content_of-written : (writer offset : ℕ) (bytes : List ℕ) (cells : List Cell) → content_of (cells_after_write writer offset bytes cells) ≡ content_after_write (content_of cells) offset bytes
 unfolding cells_after_write
-content_of-written writer offset bytes cells =
-    let old = content_of cells in
-    let new : List ℕ = content_after_write old offset bytes in
-    slots_join (λ slot. cond (meets (min offset (length old)) (offset + length bytes) slot) writer (writer_at cells slot)) new 0 (slot_count (length new))
-    ∙ take_all (512 * slot_count (length new)) new (omega arith)
+content_of-written writer offset bytes cells = slots_whole _ (content_after_write (content_of cells) offset bytes) _ refl
 
 -- it ends where the longer of both ends
 pub length-spliced : (content : List ℕ) (offset most : ℕ) (bytes : List ℕ) → length content ≤ most → offset + length bytes ≤ most → length (content_after_write content offset bytes) ≤ most
@@ -47,11 +42,7 @@ length-resized content size = simp (length-append, length-take, length-replicate
 
 pub content_of-truncated : (writer size : ℕ) (cells : List Cell) → content_of (cells_after_truncate writer size cells) ≡ content_after_truncate (content_of cells) size
 unfolding cells_after_truncate
-content_of-truncated writer size cells =
-    let old = content_of cells in
-    let new : List ℕ = content_after_truncate old size in
-    slots_join (λ slot. cond (refits (length old) size slot) writer (writer_at cells slot)) new 0 (slot_count size)
-    ∙ take_all (512 * slot_count size) new (omega (arith, length-resized old size))
+content_of-truncated writer size cells = slots_whole _ (content_after_truncate (content_of cells) size) size (sym (length-resized (content_of cells) size))
 
 pub truncated_short : (writer size : ℕ) (cells : List Cell) → size ≤ longest_content → length (content_of (cells_after_truncate writer size cells)) ≤ longest_content
 truncated_short writer size cells fits = rw (content_of-truncated, length-resized) fits
@@ -62,36 +53,19 @@ slots_fill writer content from zero n is few = let none : n ≡ 0 = omega arith 
 slots_fill writer content from (suc count) n is few =
     let rest = slots_fill writer content (from + 1) count (n - 512) (omega arith) (omega arith) in
     let here : length (slot_bytes content from) ≡ min n 512 = simp (length-take, length-drop) (omega (arith, is)) in
-    let some : ltb 0 n ≡ true = grind (arith, nat_tests) in
-    rw (here, some, rest) (filled (min n 512)) where
-      filled : (m : ℕ) → ((m == m) && (true && true)) ≡ true
-      filled m = grind (arith, nat_tests)
+    grind (arith, nat_tests)
 
 pub written_fills : (writer offset : ℕ) (bytes : List ℕ) (cells : List Cell) → fill_slots (length (content_of (cells_after_write writer offset bytes cells))) (cells_after_write writer offset bytes cells) ≡ true
 unfolding cells_after_write
 written_fills writer offset bytes cells =
-    let old = content_of cells in
-    let new : List ℕ = content_after_write old offset bytes in
-    rw content_of-written
-    (slots_fill (λ slot. cond (meets (min offset (length old)) (offset + length bytes) slot) writer (writer_at cells slot)) new 0 (slot_count (length new)) (length new) (omega arith) refl)
+    let new : List ℕ = content_after_write (content_of cells) offset bytes in
+    rw content_of-written (slots_fill (λ slot. cond (meets (min offset (length (content_of cells))) (offset + length bytes) slot) writer (writer_at cells slot)) new 0 (slot_count (length new)) (length new) (omega arith) refl)
 
 pub truncated_fills : (writer size : ℕ) (cells : List Cell) → fill_slots (length (content_of (cells_after_truncate writer size cells))) (cells_after_truncate writer size cells) ≡ true
 unfolding cells_after_truncate
-truncated_fills writer size cells =
-    let old = content_of cells in
-    let new : List ℕ = content_after_truncate old size in
-    let sized = length-resized old size in
-    rw (content_of-truncated, length-resized)
-    (slots_fill (λ slot. cond (refits (length old) size slot) writer (writer_at cells slot)) new 0 (slot_count size) size (omega (arith, sized)) refl)
+truncated_fills writer size cells = rw (content_of-truncated, length-resized) (slots_fill _ (content_after_truncate (content_of cells) size) 0 _ size (omega (arith, length-resized (content_of cells) size)) refl)
 
 -- each slot has a byte at least
 pub slots_few : (n : ℕ) (cells : List Cell) → fill_slots n cells ≡ true → length cells ≤ n
 slots_few n [] fills = omega arith
-slots_few n (cell ∷ cells) fills =
-    let parts = both (length cell.bytes == min n 512) (ltb 0 n && fill_slots (n - 512) cells) fills in
-    let more = both (ltb 0 n) (fill_slots (n - 512) cells) parts.1 in
-    let some : 0 < n = let e = more.0 in grind (arith, nat_tests) in
-    omega (arith, slots_few (n - 512) cells more.1) where
-      both : (a b : Bool) → (a && b) ≡ true → (a ≡ true) × (b ≡ true)
-      both true b h = (refl, h)
-      both false b h = absurd (false≢true h)
+slots_few n (cell ∷ cells) fills = grind (arith, nat_tests, slots_few (n - 512) cells)

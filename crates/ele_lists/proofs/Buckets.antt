@@ -51,8 +51,7 @@ module _ {B X : Type 0} (id : B → ℕ) (rows : B → List X) (tag : X → ℕ)
   -- a local change of the flat list is that change of the bucket's rows
   pub bucket_changes : (E : List X → List X) → IsLocal tag k E → (c : B → B) (bs : List B) (b : B) → AllLater (λ x y. id x < id y) bs → find is_bucket bs ≡ Some b → rows (c b) ≡ E (rows b) → E (flat_map rows bs) ≡ flat_map rows (update_first is_bucket c bs)
   bucket_changes E local c [] b rise found changed = absurd cc
-  bucket_changes E local c (a ∷ bs) b rise found changed =
-      grind (arith, nat_tests, local.short (rows a) (flat_map rows bs), local.past (rows a) (flat_map rows bs), greater bs, behind a bs, lesser a, all-found is_bucket (λ d. id a < id d) bs b, found_passes is_bucket bs b, bucket_changes E local c bs b)
+  bucket_changes E local c (a ∷ bs) b rise found changed = grind (arith, nat_tests, greater, behind, lesser, all-found, found_passes, bucket_changes E local c bs b)
 
   -- what only rows of the tag pass is found in the bucket
   pub find-buckets : (p : X → Bool) → ((x : X) → p x ≡ true → tag x ≡ k) → (bs : List B) → AllLater (λ x y. id x < id y) bs → find p (flat_map rows bs) ≡ option_and_then (λ b. find p (rows b)) (find is_bucket bs)

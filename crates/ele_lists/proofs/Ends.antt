@@ -66,9 +66,7 @@ module _ {X : Type 0} (p : X → Bool) where
 
   -- of a list cut in two, all passing before the cut and none behind it
   pub find_last-parted : (before behind : List X) → AllByRecursion (λ x. p x ≡ true) before → AllByRecursion (λ x. p x ≡ false) behind → find p (reverse (before ++ behind)) ≡ last_of before
-  find_last-parted before behind passes fails =
-      rw (reverse-append before behind, find-append p (reverse behind) (reverse before), not_found p (reverse behind) (all-reverse (λ x. p x ≡ false) behind fails))
-      (last_passing before passes)
+  find_last-parted before behind passes fails = grind (arith, reverse-append, before, behind, find-append, not_found, all-reverse, last_passing, passes)
 
   pub find-parted : (before behind : List X) → AllByRecursion (λ x. p x ≡ false) before → AllByRecursion (λ x. p x ≡ true) behind → find p (before ++ behind) ≡ slice_get behind 0
   find-parted [] [] fails passes = refl
