@@ -4,6 +4,7 @@ use Rattle.ele_world.proofs.Basics.{◌≡◌, ℕ, ◌<◌, ◌==◌, Bool, tru
 use Rattle.ele_world.proofs.Words.{Cell, IsPolicy, VersionRow, with_version, ripe_of, ripe_at, is_marked, is_newer_of, near_moment, newest_of, AreHeldRead, AreVersions, IsVersion, Readers, Versions, IsWellFormed, World, is_live, is_open, is_version, next_of, policy_of}
 use Rattle.ele_world.proofs.Closes.{new_found, none_next}
 use Rattle.ele_world.proofs.Files.{policies-numbered}
+use Rattle.ele_world.proofs.Homes.{any_none}
 use Rattle.ele_world.proofs.Neighbours.{AreInOrder, found_moment, ripe_at_near, versions_in_order}
 use Rattle.ele_world.proofs.NewestHeld.{IsNewest, found_still, newest_ended, newest_held, next_behind, next_in_order, next_other, next_still, none_behind, none_held, none_still}
 use Rattle.ele_world.proofs.Readers.{unread_unheld}
@@ -26,10 +27,6 @@ touches versions file next f n = (f == file) && ((n == next) || option_map_or (�
 
 unheld_moment : (w : World) (file number : ℕ) → AllByRecursion (λ row. is_version file number row ≡ false) w.versions → ripe_at w file number ≡ None
 unheld_moment w file number none = ripe_at_is w file number ∙ ap (option_and_then (ripe_of w)) (not_found (is_version file number) w.versions none)
-
-any_none : {X : Type 0} (p : X → Bool) (xs : List X) → AllByRecursion (λ x. p x ≡ false) xs → list_any p xs ≡ false
-any_none p [] all = refl
-any_none p (x ∷ xs) all = rw all.0 (any_none p xs all.1)
 
 module _ (w : World) (file opened : ℕ) (cells : List Cell) (k : MayGrow w file) where
   abbrev next : ℕ

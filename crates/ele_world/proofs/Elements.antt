@@ -1,11 +1,6 @@
 -- Elements that pass a test, and a change of one of them.
 use Rattle.ele_world.proofs.Basics.{nat_tests, arith, ◌≡◌, Bool, true, false, List, [], ◌∷◌, Option, Some, refl, find, AllByRecursion, list_any, option_map, false≢true, update_first, AllLater, all-found, all-weaker}
 
--- one of those that pass, and what all have
-pub one_of : {X : Type 0} (t : X → Bool) (P : X → Type 0) (xs : List X) → AllByRecursion P xs → list_any t xs ≡ true → (x : X) × (t x ≡ true) × P x
-one_of t P [] all h = absurd (false≢true h)
-one_of {X} t P (x ∷ xs) all h = grind (arith, nat_tests, one_of t P xs all.1)
-
 -- the element that is found is found changed
 pub find-updated : {X : Type 0} (p : X → Bool) (f : X → X) (xs : List X) → ((x : X) → p (f x) ≡ p x) → find p (update_first p f xs) ≡ option_map f (find p xs)
 find-updated p f [] keeps = refl

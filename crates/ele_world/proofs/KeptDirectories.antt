@@ -1,11 +1,11 @@
 -- The making of a directory, and the end of a name, keep a world well formed.
-use Rattle.ele_world.proofs.Basics.{rules, ◌≡◌, ℕ, ◌+◌, Bool, true, false, ◌==◌, ◌||◌, List, [], ◌∷◌, ◌++◌, length-append, Option, Some, None, refl, ap, sym, subst, ◌∙◌, arith, find, is_none}
+use Rattle.ele_world.proofs.Basics.{rules, and-false, ◌≡◌, ℕ, ◌+◌, Bool, true, false, ◌==◌, ◌||◌, List, [], ◌∷◌, ◌++◌, length-append, Option, Some, None, refl, ap, sym, subst, ◌∙◌, arith, find, is_none}
 use Rattle.ele_world.proofs.Basics.{AllByRecursion, list_any, nat_tests, list_any-append, update_first, all-any, all-push, all-weaker, all-both, all-none, all-update_first, later-push, length-update_first, list_any-update_found, list_any-update_fails}
 use Rattle.ele_world.proofs.Words.{Policy, after_change, MakeDirectory, EndName, without_name, born_row, dies, is_live_in, is_name_of_directory, is_target_directory, is_live_directory, is_live_name, live_target, has_directory}
 use Rattle.ele_world.proofs.Words.{is_reached, IsHoused, Part, Counted, Directories, Names, Homes, Current, Holds, IsWellFormed, Tree, Ended, HaveEnded, IsOfLive, World, root, is_directory, is_live_name_of, DirectoryRow, NameRow, Target, File, Directory}
-use Rattle.ele_world.proofs.Homes.{or_last, any_more, named_housed, HasName, named_more, named_end, directory_given, ended_more}
+use Rattle.ele_world.proofs.Homes.{any_last, any_more, named_housed, HasName, named_more, named_end, directory_given, ended_more}
 use Rattle.ele_world.proofs.May.{MayMakeDirectory, MayEnd}
-use Rattle.ele_world.proofs.NameParts.{and_false, names_more, names_end, tree_more, tree_end, live_still}
+use Rattle.ele_world.proofs.NameParts.{names_more, names_end, tree_more, tree_end, live_still}
 
 -- ---- a directory is made
 
@@ -13,45 +13,19 @@ use Rattle.ele_world.proofs.NameParts.{and_false, names_more, names_end, tree_mo
 pub no_file_named : (names : List NameRow) (directory : ℕ) (name : List ℕ) (id now file : ℕ) → list_any (is_live_name_of file) (names ++ born_row directory name (Directory id) now ∷ []) ≡ list_any (is_live_name_of file) names
 no_file_named names directory name id now file = grind (arith, nat_tests, list_any-append)
 
-module _ (w : World) (directory : ℕ) (name : List ℕ) (policy : Policy) where
-  abbrev id : ℕ
-  id = w.made.directories + 1
-
-  abbrev new : DirectoryRow
-  new = record { id = id; default = policy }
-
-  abbrev named : NameRow
-  named = born_row directory name (Directory id) w.now
-
-  abbrev made : World
-  made = after_change w (MakeDirectory directory name id policy)
-
-  new_keeps : MayMakeDirectory w directory name id policy → IsWellFormed w → IsWellFormed made
-  new_keeps may k = record { holds = by } where
-    own : (id == id) ≡ true
-    own = grind (arith, nat_tests)
-
-    there : has_directory made.directories id ≡ true
-    there = list_any-append (is_directory id) w.directories (new ∷ []) ∙ rw own (or_last (list_any (is_directory id) w.directories) true refl)
-
-    by : (part : Part) → Holds made part
-    by Counted = simp length-append (grind (arith, k.holds Counted))
-    by Directories = grind (arith, nat_tests, k.holds Directories, any_more, all-push, later-push, all-weaker, length-append)
-    by Names = names_more w.files w.now w.names directory name (Directory id) may.named.free tt (k.holds Names)
-    by Homes = record {
-      each = named_housed w.directories made.directories w.names named (λ d h. any_more (is_directory d) w.directories new h) may.named.home may.named.reached there (k.holds Homes).each;
-      named = all-push (HasName made.names) w.directories new (named_more w.directories w.names named (k.holds Homes).named)
-          (or_last (id == root) (list_any (is_name_of_directory id) made.names) (list_any-append (is_name_of_directory id) w.names (named ∷ []) ∙ rw own (or_last (list_any (is_name_of_directory id) w.names) true refl)));
-    }
-    by Tree = grind (arith, nat_tests, k.holds Homes, k.holds Tree, k.holds Directories, tree_more, all-weaker, there, directory_given)
-    by Current = λ file live. k.holds Current file (sym (no_file_named w.names directory name id w.now file) ∙ live)
-    by Ended = ended_more w.names named w.versions (k.holds Ended)
-    by part = k.holds part
-
 pub make_directory_keeps : (w : World) (directory : ℕ) (name : List ℕ) (id : ℕ) (policy : Policy) → MayMakeDirectory w directory name id policy → IsWellFormed w → IsWellFormed (after_change w (MakeDirectory directory name id policy))
-make_directory_keeps w directory name id policy may k =
-    subst (λ n. MayMakeDirectory w directory name n policy → IsWellFormed (after_change w (MakeDirectory directory name n policy))) (sym may.next)
-    (λ m. new_keeps w directory name policy m k) may
+make_directory_keeps w directory name id policy may k = record { holds = by } where
+  there : has_directory (w.directories ++ record { id = id; default = policy } ∷ []) id ≡ true
+  there = any_last (is_directory id) w.directories (record { id = id; default = policy }) (grind (arith, nat_tests))
+
+  by : (part : Part) → Holds (after_change w (MakeDirectory directory name id policy)) part
+  by Names = names_more w.files w.now w.names directory name (Directory id) may.named.free tt (k.holds Names)
+  by Homes = record {
+    each = named_housed w.directories _ w.names _ (λ d h. any_more (is_directory d) w.directories _ h) may.named.home may.named.reached there (k.holds Homes).each;
+    named = grind (arith, nat_tests, all-push (HasName (w.names ++ born_row directory name (Directory id) w.now ∷ [])) w.directories, named_more, k.holds Homes, any_last);
+  }
+  by Tree = grind (arith, nat_tests, k.holds Homes, k.holds Tree, k.holds Directories, tree_more, all-weaker, there, directory_given)
+  by part = grind (arith, nat_tests, k.holds part, length-append, any_more, all-push, later-push, all-weaker, no_file_named, ended_more)
 
 -- ---- a name dies
 
@@ -92,7 +66,7 @@ module _ (w : World) (directory : ℕ) (name : List ℕ) (empty : (id : ℕ) →
 
   -- so it is reached as before
   reached_still : (id : ℕ) → IsSpared id → is_reached w.names id ≡ true → is_reached after id ≡ true
-  reached_still id spared h = ap (λ b. (id == root) || b) (list_any-update_found p (is_live_directory id) (dies w.now) w.names (λ row found. rw (spared row found) refl)) ∙ h
+  reached_still id spared h = grind (arith, nat_tests, list_any-update_found)
 
   -- all but that the name's file may have a version without an end
   pub end_name_holds : (Q : Type 0) → Q → IsWellFormed w → (part : Part) → HoldsWith Q (without_name w directory name) part
@@ -109,7 +83,7 @@ module _ (w : World) (directory : ℕ) (name : List ℕ) (empty : (id : ℕ) →
           (all-both _ _ w.names all_spared (k.holds Homes).each));
       named = named_end w.now p w.directories w.names (k.holds Homes).named;
     }
-    by Current = λ file live. k.holds Current file (list_any-update_fails p (is_live_name_of file) (dies w.now) w.names (λ row. and_false _) live)
+    by Current = λ file live. k.holds Current file (list_any-update_fails p (is_live_name_of file) (dies w.now) w.names (λ row. and-false _) live)
     by Ended = ends
     by part = k.holds part
 

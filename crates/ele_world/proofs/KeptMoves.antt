@@ -1,11 +1,11 @@
 -- A name that moves keeps a world well formed.
 use Rattle.ele_world.proofs.Basics.{◌≡◌, ℕ, Bool, true, ◌==◌, List, [], ◌∷◌, ◌++◌, length, length-append, Some, refl, arith, find, list_any, false≢true, nat_tests}
-use Rattle.ele_world.proofs.Basics.{list_any-append, update_first, later-weaker, all-found, all-push, all-update_first, found_passes, length-update_first, all-weaker, any-found, list_any-update_fails, list_any-update_found}
+use Rattle.ele_world.proofs.Basics.{list_any-append, update_first, later-weaker, all-found, all-push, all-update_first, and-false, found_passes, length-update_first, all-weaker, any-found, list_any-update_fails, list_any-update_found}
 use Rattle.ele_world.proofs.Words.{after_change, MoveName, NameRow, Target, File, Directory, born_row, dies, is_live_directory, is_target_directory, is_live_name, IsNameRow, IsDirectoryThere}
 use Rattle.ele_world.proofs.Words.{is_reached, IsHoused, AreOthers, Part, Counted, Names, Homes, Tree, Current, Holds, IsWellFormed, IsThere, IsOfLive, Ended, World, is_target_file, is_live_name_of, is_live}
-use Rattle.ele_world.proofs.Homes.{any_less, any_more, named_end, named_more, or_last, any_last}
+use Rattle.ele_world.proofs.Homes.{any_less, any_more, named_end, named_more, any_last}
 use Rattle.ele_world.proofs.May.{MayMove}
-use Rattle.ele_world.proofs.NameParts.{and_false, free_still, IsUnnamed, names_end, names_more, still_none, tree_end, tree_more, counted_more, found_target, live_still}
+use Rattle.ele_world.proofs.NameParts.{free_still, IsUnnamed, names_end, names_more, still_none, tree_end, tree_more, counted_more, found_target, live_still}
 use Rattle.ele_world.proofs.Walks.{live_row}
 use Rattle.ele_world.proofs.Elements.{none_left}
 
@@ -37,11 +37,11 @@ module _ (w : World) (from : ℕ) (old : List ℕ) (to : ℕ) (new : List ℕ) (
     by row found (Directory id) is =
         let alive = still_none from old row (found_passes p w.names row found) in
         let own : (id == id) ≡ true = grind (arith, nat_tests) in
-        none_left p (is_live_directory id) (dies w.now) w.names row found (rw (is, own) alive) (λ x. and_false (is_target_directory id x.target)) (later-weaker AreOthers _ w.names (λ x y h. h id) (k.holds Tree))
+        none_left p (is_live_directory id) (dies w.now) w.names row found (rw (is, own) alive) (λ x. and-false (is_target_directory id x.target)) (later-weaker AreOthers _ w.names (λ x y h. h id) (k.holds Tree))
 
   -- each directory that was reached is
   reached : (id : ℕ) → is_reached w.names id ≡ true → is_reached (left ++ named ∷ []) id ≡ true
-  reached id h = grind (arith, nat_tests, or_last, list_any-append, list_any-update_found, found_target, any_more)
+  reached id h = grind (arith, nat_tests, list_any-append, list_any-update_found, found_target, any_more)
 
   -- what the name makes live was so
   was_live : (file : ℕ) → is_live_name_of file named ≡ true → is_live w file ≡ true
@@ -65,6 +65,6 @@ module _ (w : World) (from : ℕ) (old : List ℕ) (to : ℕ) (new : List ℕ) (
       named = named_more w.directories left named (named_end w.now p w.directories w.names (k.holds Homes).named);
     }
     by Tree = tree_more w.now left to new target unnamed (tree_end w.now w.names from old (k.holds Tree))
-    by Current = grind (arith, nat_tests, k.holds Current, any_less, was_live, list_any-append, list_any-update_fails, and_false, or_last, false≢true)
+    by Current = grind (arith, nat_tests, k.holds Current, any_less, was_live, list_any-append, list_any-update_fails, false≢true)
     by Ended = all-weaker (IsOfLive w.names) (IsOfLive (left ++ named ∷ [])) w.versions (λ row h none. lives_on row.file (is_target_file row.file target) refl (h none)) (k.holds Ended)
     by part = k.holds part
