@@ -4,7 +4,7 @@ use Rattle.ele_world.proofs.Basics.{◌≡◌, ℕ, ◌<◌, ◌==◌, Bool, tru
 use Rattle.ele_world.proofs.Words.{Cell, IsPolicy, VersionRow, with_version, ripe_of, ripe_at, is_marked, is_newer_of, near_moment, newest_of, AreHeldRead, AreVersions, IsVersion, Readers, Versions, IsWellFormed, World, is_live, is_open, is_version, next_of, policy_of}
 use Rattle.ele_world.proofs.Closes.{new_found, none_next}
 use Rattle.ele_world.proofs.Files.{policies-numbered}
-use Rattle.ele_world.proofs.Homes.{any_none}
+use Rattle.ele_world.proofs.Elements.{any_none}
 use Rattle.ele_world.proofs.Neighbours.{AreInOrder, found_moment, ripe_at_near, versions_in_order}
 use Rattle.ele_world.proofs.NewestHeld.{IsNewest, found_still, newest_ended, newest_held, next_behind, next_in_order, next_other, next_still, none_behind, none_held, none_still}
 use Rattle.ele_world.proofs.Readers.{unread_unheld}

@@ -2,7 +2,8 @@
 use Rattle.ele_world.proofs.Basics.{◌≡◌, ℕ, ◌+◌, ◌≤◌, Bool, true, false, ◌==◌, ◌&&◌, List, [], ◌∷◌, ◌++◌, Ok, refl, ap, ◌∙◌, arith, is_some, AllByRecursion, list_any, nat_tests, find-append, list_any-append, all-weaker, not_found}
 use Rattle.ele_world.proofs.Words.{Policy, after_change, MakeDirectory, LeadsToDirectory, born_row, is_live_in, plan, step, live_target, directory_in, parent_now, Directories, Homes, IsWellFormed, World, is_directory, default_of, MakeDir, DirectoryRow, Directory}
 use Rattle.ele_world.specs.declared.reply.Reply.TheVariants as reply
-use Rattle.ele_world.proofs.Homes.{any_last, any_none, parent_home, directory_given}
+use Rattle.ele_world.proofs.Elements.{any_none}
+use Rattle.ele_world.proofs.Homes.{any_last, parent_home, directory_given}
 use Rattle.ele_world.proofs.Outcomes.{in_all}
 use Rattle.ele_world.proofs.Walks.{new_leads}
 

@@ -11,6 +11,11 @@ pub find-update_still : {X Y : Type 0} (p t : X → Bool) (sees : Option X → Y
 find-update_still p t sees f [] keeps same = refl
 find-update_still p t sees f (x ∷ xs) keeps same = grind (arith, nat_tests, find-update_still p t sees f xs keeps same)
 
+-- where each fails, none passes
+pub any_none : {X : Type 0} (p : X → Bool) (xs : List X) → AllByRecursion (λ x. p x ≡ false) xs → list_any p xs ≡ false
+any_none p [] all = refl
+any_none p (x ∷ xs) all = rw all.0 (any_none p xs all.1)
+
 -- once the only element that passes t, which p finds, is changed, none passes t
 pub none_left : {X : Type 0} (p t : X → Bool) (f : X → X) (xs : List X) (x : X) → find p xs ≡ Some x → t x ≡ true → ((x : X) → t (f x) ≡ false) → AllLater (λ x y. t x ≡ true → t y ≡ false) xs → AllByRecursion (λ x. t x ≡ false) (update_first p f xs)
 none_left p t f [] x found passes fails only = absurd cc

@@ -16,10 +16,6 @@ any_less p xs y from h = grind (arith, nat_tests, list_any-append, false≢true)
 pub any_last : {X : Type 0} (p : X → Bool) (xs : List X) (y : X) → p y ≡ true → list_any p (xs ++ y ∷ []) ≡ true
 any_last p xs y h = grind (arith, nat_tests, list_any-append)
 
-pub any_none : {X : Type 0} (p : X → Bool) (xs : List X) → AllByRecursion (λ x. p x ≡ false) xs → list_any p xs ≡ false
-any_none p [] all = refl
-any_none p (x ∷ xs) all = rw all.0 (any_none p xs all.1)
-
 -- what was of a live file is so
 pub ended_more : (names : List NameRow) (named : NameRow) (versions : List VersionRow) → AllByRecursion (IsOfLive names) versions → AllByRecursion (IsOfLive (names ++ named ∷ [])) versions
 ended_more names named versions each = grind (arith, nat_tests, all-weaker, any_more)
