@@ -1,5 +1,5 @@
 -- The words and lemmas of std and of lists that proofs here use, in one place.
-pub use Rattle.ele_lists.proofs.Alls.{all-append, all-around, all-filter, all-map, all-split, filter-passes, later-around, later-filter, later-map, later-weaker}
+pub use Rattle.ele_lists.proofs.Alls.{all-append, all-around, all-filter, all-map, all-right, all-split, filter-passes, later-around, later-filter, later-map, later-right, later-weaker}
 pub use Rattle.ele_lists.proofs.Cuts.{IsCut, find-cut, insert_before-skip, find-without, remove_first-at, remove_first-unfound, update_first-at, update_first-unfound}
 pub use Rattle.ele_lists.proofs.Edits.{all-any, all-both, all-found, all-insert_before, all-none, all-not_found, all-push, all-remove_first, all-update_first, all-weaker, find-insert_before, find-remove_first, found_passes, later-insert_before, later-push, later-remove_first, later-update_first, length-insert_before, length-remove_first, length-remove_first-le, length-update_first, list_any-insert_before, list_any-remove_first, list_any-update_first, not_found}
 pub use Rattle.ele_lists.proofs.Entries.{all-insert_entry, entries_same, filter_map-map, lookup-insert_entry, sorted-filter_entries, sorted-insert_entry}

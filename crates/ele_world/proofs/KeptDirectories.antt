@@ -45,27 +45,16 @@ module _ (w : World) (directory : ℕ) (name : List ℕ) (empty : (id : ℕ) →
   abbrev after : List NameRow
   after = update_first p (dies w.now) w.names
 
-  -- the name that dies isn't that of the directory
-  abbrev IsSpared : ℕ → Type 0
-  IsSpared id = (row : NameRow) → find p w.names ≡ Some row → is_target_directory id row.target ≡ false
+  -- the name that dies isn't that of a directory in which a live name stands
+  abbrev IsSpared : Option Target → ℕ → Type 0
+  IsSpared o id = o ≡ Some (Directory id) → ⊥
 
-  -- each live name stands in a directory that is spared
-  all_spared : AllByRecursion (λ row. row.death ≡ None → IsSpared row.directory) w.names
-  all_spared = by (find p w.names) refl where
-    of : (found : NameRow) → find p w.names ≡ Some found → (t : Target) → found.target ≡ t → AllByRecursion (λ row. row.death ≡ None → IsSpared row.directory) w.names
-    of found e (File file) is = all-any (λ row. row.death ≡ None → IsSpared row.directory) w.names (λ row none other f. let same : found ≡ other = cc in rw (← same, is) refl)
-    of found e (Directory id) is =
-        let ends : live_target w.names directory name ≡ Some (Directory id) = rw (e, is) refl in
-        all-weaker (λ row. is_live_in id row ≡ false) (λ row. row.death ≡ None → IsSpared row.directory) w.names
-        (λ row out none other f. let same : found ≡ other = cc in let apart : is_live_in id row ≡ false = out in let live : is_none row.death ≡ true = rw none refl in rw (← same, is) (grind (arith, nat_tests)))
-        (all-none (is_live_in id) w.names (empty id ends))
-
-    by : (o : Option NameRow) → find p w.names ≡ o → AllByRecursion (λ row. row.death ≡ None → IsSpared row.directory) w.names
-    by None e = all-any (λ row. row.death ≡ None → IsSpared row.directory) w.names (λ row none other f. absurd cc)
-    by (Some found) e = of found e found.target refl
+  all_spared : (o : Option Target) → live_target w.names directory name ≡ o → AllByRecursion (λ row. row.death ≡ None → IsSpared o row.directory) w.names
+  all_spared (Some (Directory id)) e = all-weaker (λ row. is_live_in id row ≡ false) (λ row. row.death ≡ None → IsSpared (Some (Directory id)) row.directory) w.names (λ row out none same. grind (arith, nat_tests)) (all-none (is_live_in id) w.names (empty id e))
+  all_spared o e = all-any (λ row. row.death ≡ None → IsSpared o row.directory) w.names (λ row none same. cc)
 
   -- so it is reached as before
-  reached_still : (id : ℕ) → IsSpared id → is_reached w.names id ≡ true → is_reached after id ≡ true
+  reached_still : (id : ℕ) → IsSpared (live_target w.names directory name) id → is_reached w.names id ≡ true → is_reached after id ≡ true
   reached_still id spared h = grind (arith, nat_tests, list_any-update_found)
 
   -- all but that the name's file may have a version without an end
@@ -75,22 +64,15 @@ module _ (w : World) (directory : ℕ) (name : List ℕ) (empty : (id : ℕ) →
     by Counted = grind (arith, k.holds Counted, length-update_first p (dies w.now) w.names)
     by Names = names_end w.now w.names directory name w.files (k.holds Names)
     by Tree = tree_end w.now w.names directory name (k.holds Tree)
-    by Homes = record {
-      each = all-update_first p (IsHoused w.directories after) (IsHoused w.directories after) (dies w.now) w.names
-          (λ row h. record { home = h.home; there = h.there; reached = λ none. absurd cc }) (λ row h. h)
-          (all-weaker (λ row. (row.death ≡ None → IsSpared row.directory) × IsHoused w.directories w.names row) (IsHoused w.directories after) w.names
-          (λ row h. record { home = h.1.home; there = h.1.there; reached = λ none. reached_still row.directory (h.0 none) (h.1.reached none) })
-          (all-both _ _ w.names all_spared (k.holds Homes).each));
-      named = named_end w.now p w.directories w.names (k.holds Homes).named;
-    }
-    by Current = λ file live. k.holds Current file (list_any-update_fails p (is_live_name_of file) (dies w.now) w.names (λ row. and-false _) live)
+    by Homes = grind (arith, nat_tests, k.holds Homes, all-update_first p (IsHoused w.directories after) (IsHoused w.directories after) (dies w.now) w.names, all-weaker (λ row. (row.death ≡ None → IsSpared (live_target w.names directory name) row.directory) × IsHoused w.directories w.names row) (IsHoused w.directories after) w.names, reached_still, all-both (λ row. row.death ≡ None → IsSpared (live_target w.names directory name) row.directory) (IsHoused w.directories w.names) w.names, all_spared (live_target w.names directory name) refl, named_end w.now p w.directories w.names)
+    by Current = grind (arith, nat_tests, k.holds Current, list_any-update_fails)
     by Ended = ends
     by part = k.holds part
 
 pub end_name_keeps : (w : World) (directory : ℕ) (name : List ℕ) → MayEnd w directory name → IsWellFormed w → IsWellFormed (after_change w (EndName directory name))
 end_name_keeps w directory name may k = with_ends (without_name w directory name) (end_name_holds w directory name empty (HaveEnded (without_name w directory name)) ends k) where
   empty : (id : ℕ) → live_target w.names directory name ≡ Some (Directory id) → list_any (is_live_in id) w.names ≡ false
-  empty id stands = let was = may.stands in let same : may.id ≡ id = cc in subst (λ d. list_any (is_live_in d) w.names ≡ false) same may.empty
+  empty id stands = grind (arith, nat_tests, may.stands, may.empty)
 
   ends : HaveEnded (without_name w directory name)
-  ends = all-weaker (IsOfLive w.names) (IsOfLive (without_name w directory name).names) w.versions (λ row h none. live_still w.now w.names directory name (Directory may.id) may.stands row.file refl ∙ h none) (k.holds Ended)
+  ends = grind (arith, nat_tests, k.holds Ended, all-weaker (IsOfLive w.names), live_still w.now w.names directory name (Directory may.id) may.stands)
