@@ -18,7 +18,7 @@ default_is rows id all = grind (arith, nat_tests, all-found)
 
 -- the file's new draft is there
 begun : (w : World) (file : ℕ) → list_any (is_draft file) (insert_before (is_draft_after file) (new_draft w file) w.drafts) ≡ true
-begun w file = let own : is_draft file (new_draft w file) ≡ true = grind (arith, nat_tests) in rw (list_any-insert_before (is_draft_after file) (is_draft file) (new_draft w file) w.drafts, own) refl
+begun w file = grind (arith, nat_tests, list_any-insert_before)
 
 pub takes : (w : World) (key : Key) → IsWellFormed w → first_due w ≡ Some key → MayTake CleanOne w w key.file key.number
 takes w key k first = grind (arith, nat_tests, k.holds Versions, first_is_due w key (k.holds Versions).placed first, due_has_ended w, found_passes, due_is_unread)
@@ -29,24 +29,15 @@ finishes w handle file draft k found = grind (arith, nat_tests, k.holds Drafts, 
 
 -- a version that is held may come again
 reverts : (w : World) (file number : ℕ) (row : VersionRow) → IsWellFormed w → 0 < next_of w.files file → version_meant w.files w.versions file (tag.Number number) ≡ Ok row → HasRoom w → MayAppend w file w.now row.cells
-reverts w file number row k there meant room =
-    let its = is_meant w.files w.versions file (tag.Number number) row meant in
-    let is : IsVersion w.files w.now row = all-found its.passes (IsVersion w.files w.now) w.versions row its.found (k.holds Versions).each in
-    let less : row.number < next_of w.files file = subst (λ f. row.number < next_of w.files f) its.own is.numbered in
-    record { there = there; by_now = omega arith; room = room; content = is.content; written = written_more row.number (next_of w.files file) row.cells (omega (arith, less)) is.written }
+reverts w file number row k there meant room = grind (arith, nat_tests, k.holds Versions, is_meant w.files w.versions file (tag.Number number) row, all-found, written_more row.number (next_of w.files file) row.cells)
 
 -- a path's last name isn't live, and may be made
 pub may_name : (w : World) (path : List (List ℕ)) (at : ℕ × List ℕ) → IsWellFormed w → parent_now w.names path ≡ Ok at → is_some (live_target w.names at.0 at.1) ≡ false → nat_le w.limits.names w.made.names ≡ false → MayName w at.0 at.1
 may_name w path at k found free names = grind (arith, nat_tests, parent_home w path)
 
--- the directory that the path leads to has no live name in it
-may_end : (w : World) (path : List (List ℕ)) (at : ℕ × List ℕ) (directory : ℕ) → parent_now w.names path ≡ Ok at → directory_now w.names path ≡ Ok directory → list_any (is_live_in directory) w.names ≡ false → MayEnd w at.0 at.1
-may_end w path at directory found leads empty = record { id = directory; stands = last_leads w.names path at directory found leads; empty = empty }
-
 -- ---- each event
 
 pub allowed : (w : World) (event : Event) → IsWellFormed w → MayPlan event w (plan w event)
-allowed w (RemoveDir path) k = λ at found directory leads empty. (may_end w path at directory found leads empty, tt)
 allowed w (Undelete path) k = search (rules, may_add, may_name, may_revive)
 allowed w (OpenWrite path) k = search (rules, k.holds Names, file_there, begun)
 allowed w (OpenRead tagged) k = λ row found handles. (record { next = refl; room = grind (arith, nat_tests); drafted = tt; held = meant_held w row.file row (is_at w tagged row found) }, tt)
@@ -61,7 +52,6 @@ allowed w (Close handle) k = λ read found. (
   ),
 )
 allowed w (Revert path number) k = λ file found row meant drafts versions. (reverts w file number row k (file_there w.files w.now w.names path file (k.holds Names).each found) meant (grind (arith, nat_tests)), tt)
-allowed w CleanOne k = (λ none. tt, λ key first. (takes w key k first, (tt, tt)))
-allowed w (Read (Of handle)) k = λ read found. tt
-allowed w (Read (Tagged tagged)) k = λ row found. tt
-allowed w event k = grind (arith, nat_tests, k.holds Directories, k.holds Names, may_name, default_is, file_there, file_live, last_names, file_of)
+allowed w CleanOne k = grind (arith, nat_tests, takes)
+allowed w (Read source) k = grind (arith, nat_tests)
+allowed w event k = grind (arith, nat_tests, k.holds Directories, k.holds Names, may_name, default_is, file_there, file_live, last_names, file_of, last_leads)

@@ -1,9 +1,10 @@
 -- Which ripe moments change where a file has a version more: that of its newest held one, which ends unless it had, and gets a
 -- neighbour, and the new one's own.
 use Rattle.ele_world.proofs.Basics.{◌≡◌, ℕ, ◌<◌, ◌==◌, Bool, true, false, cond, ◌&&◌, ◌||◌, List, [], ◌∷◌, Option, Some, None, refl, ap, sym, ◌∙◌, arith, nat_lt, option_and_then, unwrap_or, AllByRecursion, list_any, option_map_or, nat_tests, all-weaker, not_found}
-use Rattle.ele_world.proofs.Words.{Cell, IsPolicy, VersionRow, with_version, ripe_of, ripe_at, is_marked, is_newer_of, near_moment, newest_of, AreHeldRead, AreVersions, IsVersion, Readers, Versions, IsWellFormed, World, is_live, is_open, is_version, next_of, policy_of}
+use Rattle.ele_world.proofs.Words.{Cell, IsPolicy, VersionRow, with_version, ripe_of, ripe_at, is_marked, is_newer_of, is_version_of, near_moment, newest_of, AreHeldRead, AreVersions, IsVersion, Readers, Versions, IsWellFormed, World, is_live, is_open, is_version, next_of, policy_of}
 use Rattle.ele_world.proofs.Closes.{new_found, none_next}
 use Rattle.ele_world.proofs.Files.{policies-numbered}
+use Rattle.ele_world.proofs.Elements.{any_none}
 use Rattle.ele_world.proofs.Neighbours.{AreInOrder, found_moment, ripe_at_near, versions_in_order}
 use Rattle.ele_world.proofs.NewestHeld.{IsNewest, found_still, newest_ended, newest_held, next_behind, next_in_order, next_other, next_still, none_behind, none_held, none_still}
 use Rattle.ele_world.proofs.Readers.{unread_unheld}
@@ -26,10 +27,6 @@ touches versions file next f n = (f == file) && ((n == next) || option_map_or (�
 
 unheld_moment : (w : World) (file number : ℕ) → AllByRecursion (λ row. is_version file number row ≡ false) w.versions → ripe_at w file number ≡ None
 unheld_moment w file number none = ripe_at_is w file number ∙ ap (option_and_then (ripe_of w)) (not_found (is_version file number) w.versions none)
-
-any_none : {X : Type 0} (p : X → Bool) (xs : List X) → AllByRecursion (λ x. p x ≡ false) xs → list_any p xs ≡ false
-any_none p [] all = refl
-any_none p (x ∷ xs) all = rw all.0 (any_none p xs all.1)
 
 module _ (w : World) (file opened : ℕ) (cells : List Cell) (k : MayGrow w file) where
   abbrev next : ℕ
@@ -73,24 +70,8 @@ module _ (w : World) (file opened : ℕ) (cells : List Cell) (k : MayGrow w file
   stays_unheld n other none = unheld_moment appended file n (none_still w file opened cells k.versions n other none) ∙ sym (unheld_moment w file n none)
 
   stays_older : (row : VersionRow) → newest_of w.versions file ≡ Some row → (n : ℕ) → (n == next) ≡ false → (n == row.number) ≡ false → ripe_at appended file n ≡ ripe_at w file n
-  stays_older row is n new newest = by (nat_lt n row.number) refl where
-    its : IsNewest w file row
-    its = newest_held w file k.versions row is
-
-    by : (b : Bool) → nat_lt n row.number ≡ b → ripe_at appended file n ≡ ripe_at w file n
-    by true e =
-        let older : n < row.number = grind (arith, nat_tests) in
-        let before = its.before in
-        found_moment w appended file n ordered then_ordered (λ closed ended. refl) policy refl (next_still w file opened cells k.versions row its n older)
-        (found_still w file opened cells k.versions file n (grind (arith, nat_tests)) (grind (arith, nat_tests)))
-    by false e = stays_unheld n new (all-weaker (λ x. is_newer_of file row.number x ≡ false) (λ x. is_version file n x ≡ false) w.versions (λ x h. grind (arith, nat_tests)) its.most)
+  stays_older row is n new newest = grind (arith, nat_tests, newest_held w file k.versions row is, found_moment w appended file n ordered then_ordered, policy, next_still w file opened cells k.versions row, found_still w file opened cells k.versions file n, stays_unheld n new, all-weaker (λ x. is_newer_of file row.number x ≡ false) (λ x. is_version file n x ≡ false) w.versions)
 
   -- all others stay
   pub others_after : (f n : ℕ) → touches w.versions file next f n ≡ false → ripe_at appended f n ≡ ripe_at w f n
-  others_after f n apart = by (f == file) (newest_of w.versions file) refl refl apart where
-    by : (b : Bool) (o : Option VersionRow) → (f == file) ≡ b → newest_of w.versions file ≡ o → (b && ((n == next) || option_map_or (λ row. n == row.number) o false)) ≡ false → ripe_at appended f n ≡ ripe_at w f n
-    by false o e found apart =
-        found_moment w appended f n ordered then_ordered (λ closed ended. refl) (policies-numbered w.files file f) refl (next_other w file opened cells k.versions f n e)
-        (found_still w file opened cells k.versions f n (grind (arith, nat_tests)) (rw e refl))
-    by true None e found apart = grind (arith, nat_tests, none_held, stays_unheld, all-weaker)
-    by true (Some row) e found apart = grind (arith, nat_tests, stays_older)
+  others_after f n apart = grind (arith, nat_tests, found_moment w appended f n ordered then_ordered, policies-numbered w.files file f, next_other w file opened cells k.versions f n, found_still w file opened cells k.versions f n, none_held w file k.versions, stays_unheld n, stays_older, all-weaker (λ x. is_version_of file x ≡ false) (λ x. is_version file n x ≡ false) w.versions)

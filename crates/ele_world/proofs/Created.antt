@@ -1,22 +1,7 @@
 -- What the making of a file comes to: a row behind the files, the names and the versions.
-use Rattle.ele_world.proofs.Basics.{◌≡◌, ℕ, ◌+◌, ◌<◌, Bool, true, false, List, [], ◌∷◌, ◌++◌, None, refl, ap, arith, AllByRecursion, nat_tests, list_any-append, update_first, insert_before, all-weaker}
-use Rattle.ele_world.proofs.Words.{Policy, next_version, with_file, with_name, after_change, MakeFile, Files, Versions, IsWellFormed, World, next_of, is_live, FileRow, NameRow, File, VersionRow}
+use Rattle.ele_world.proofs.Basics.{◌≡◌, ℕ, ◌+◌, ◌<◌, Bool, true, false, List, [], ◌∷◌, ◌++◌, None, refl, ap, arith, AllByRecursion, nat_tests, list_any-append, update_first, insert_before, all-weaker, append-nil, update_first-at, update_first-unfound, insert_before-skip}
+use Rattle.ele_world.proofs.Words.{Policy, next_version, with_file, with_name, after_change, MakeFile, Files, Versions, IsWellFormed, World, next_of, is_live, is_file, is_version_after, numbered_on, FileRow, NameRow, File, VersionRow}
 use Rattle.ele_world.proofs.Files.{next_of-given, next_of-new}
-
--- ---- a change at the end of a list
-
-module _ {X : Type 0} (p : X → Bool) where
-  update_first-last : (f : X → X) (xs : List X) (y : X) → AllByRecursion (λ x. p x ≡ false) xs → p y ≡ true → update_first p f (xs ++ y ∷ []) ≡ xs ++ f y ∷ []
-  update_first-last f [] y none passes = rw passes refl
-  update_first-last f (x ∷ xs) y none passes = rw (none.0) (ap (λ ys. x ∷ ys) (update_first-last f xs y none.1 passes))
-
-  update_first-none : (f : X → X) (xs : List X) → AllByRecursion (λ x. p x ≡ false) xs → update_first p f xs ≡ xs
-  update_first-none f [] none = refl
-  update_first-none f (x ∷ xs) none = rw (none.0) (ap (λ ys. x ∷ ys) (update_first-none f xs none.1))
-
-  insert_before-last : (xs : List X) (y : X) → AllByRecursion (λ x. p x ≡ false) xs → insert_before p y xs ≡ xs ++ y ∷ []
-  insert_before-last [] y none = refl
-  insert_before-last (x ∷ xs) y none = rw (none.0) (ap (λ ys. x ∷ ys) (insert_before-last xs y none.1))
 
 -- ---- a file is made
 
@@ -59,7 +44,7 @@ module _ (w : World) (directory : ℕ) (name : List ℕ) (policy : Policy) (k : 
   before = versions_before w k
 
   version_is : next_version begun id w.now [] ≡ first_version w id
-  version_is = rw (next_is, named_live (with_file w id policy) directory name id) refl
+  version_is = grind (arith, nat_tests, next_is, named_live)
 
   pub made_is : after_change w (MakeFile directory name (w.made.files + 1) policy) ≡ created w directory name (w.made.files + 1) policy
-  made_is = grind (arith, nat_tests, k.holds Files, update_first-last, all-weaker, update_first-none, before, insert_before-last, version_is)
+  made_is = grind (arith, nat_tests, k.holds Files, update_first-at (is_file id) numbered_on w.files (record { id = id; policy = policy; next = 1 }) [], all-weaker, update_first-unfound, before, insert_before-skip (is_version_after id 1) (first_version w id) w.versions [], append-nil w.versions, version_is)

@@ -1,8 +1,9 @@
 -- A live file has a current version, which ends with its last name.
-use Rattle.ele_world.proofs.Basics.{◌≡◌, ℕ, ◌-◌, true, Some, None, refl, arith, ap, ◌∙◌, find, false≢true, nat_tests, option_map}
+use Rattle.ele_world.proofs.Basics.{◌≡◌, ℕ, ◌-◌, true, Some, None, refl, arith, ap, ◌∙◌, find, all-found, found_passes, false≢true, nat_tests, option_map}
 use Rattle.ele_world.proofs.Words.{VersionRow, Versions, Current, IsWellFormed, World, next_of, is_live, is_version, current_of, ended_at, with_end}
 use Rattle.ele_world.proofs.Versions.{all_found}
-use Rattle.ele_world.proofs.Elements.{one_of, find-updated}
+use Rattle.ele_lists.proofs.Cuts.{any-found as first_passing}
+use Rattle.ele_world.proofs.Elements.{find-updated}
 
 -- its last version is held, and has no end
 pub record HasCurrent (w : World) (file : ℕ) : Type 0 where
@@ -12,8 +13,8 @@ pub record HasCurrent (w : World) (file : ℕ) : Type 0 where
   pub no_end : row.ended ≡ None
 
 pub has_current : (w : World) (file : ℕ) → IsWellFormed w → is_live w file ≡ true → HasCurrent w file
-has_current w file k live = grind (arith, nat_tests, k.holds Versions, k.holds Current, one_of, all_found, false≢true)
+has_current w file k live = grind (arith, nat_tests, k.holds Versions, k.holds Current, first_passing, found_passes, all-found, all_found, false≢true)
 
 -- it is found as before once it ends
 pub last_ends : (w : World) (file : ℕ) (current : HasCurrent w file) → find (is_version file (next_of w.files file - 1)) (with_end w file) ≡ Some (ended_at w.now current.row)
-last_ends w file current = find-updated (is_version file (next_of w.files file - 1)) (ended_at w.now) w.versions (λ row. refl) ∙ ap (option_map (ended_at w.now)) current.found
+last_ends w file current = grind (arith, nat_tests, find-updated)

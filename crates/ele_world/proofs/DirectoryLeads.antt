@@ -2,14 +2,10 @@
 use Rattle.ele_world.proofs.Basics.{◌≡◌, ℕ, ◌+◌, ◌≤◌, Bool, true, false, ◌==◌, ◌&&◌, List, [], ◌∷◌, ◌++◌, Ok, refl, ap, ◌∙◌, arith, is_some, AllByRecursion, list_any, nat_tests, find-append, list_any-append, all-weaker, not_found}
 use Rattle.ele_world.proofs.Words.{Policy, after_change, MakeDirectory, LeadsToDirectory, born_row, is_live_in, plan, step, live_target, directory_in, parent_now, Directories, Homes, IsWellFormed, World, is_directory, default_of, MakeDir, DirectoryRow, Directory}
 use Rattle.ele_world.specs.declared.reply.Reply.TheVariants as reply
-use Rattle.ele_world.proofs.Homes.{or_last, parent_home, directory_given}
+use Rattle.ele_world.proofs.Elements.{any_none}
+use Rattle.ele_world.proofs.Homes.{any_last, parent_home, directory_given}
 use Rattle.ele_world.proofs.Outcomes.{in_all}
 use Rattle.ele_world.proofs.Walks.{new_leads}
-
--- what no element passes none passes with one more
-none_more : {X : Type 0} (p : X → Bool) (xs : List X) (y : X) → AllByRecursion (λ x. p x ≡ false) xs → p y ≡ false → list_any p (xs ++ y ∷ []) ≡ false
-none_more p [] y none last = rw last refl
-none_more p (x ∷ xs) y none last = rw none.0 (none_more p xs y none.1 last)
 
 module _ (w : World) (path : List (List ℕ)) (at : ℕ × List ℕ) (k : IsWellFormed w) where
   abbrev id : ℕ
@@ -24,29 +20,22 @@ module _ (w : World) (path : List (List ℕ)) (at : ℕ × List ℕ) (k : IsWell
   abbrev after : World
   after = after_change w (MakeDirectory at.0 at.1 id policy)
 
-  own : is_directory id new ≡ true
-  own = grind (arith, nat_tests)
-
-  -- no name stands in a directory whose number wasn't given
-  out : (home : ℕ) (b : Bool) → home ≤ w.made.directories → ((home == id) && b) ≡ false
-  out home b given = let no : (home == id) ≡ false = grind (arith, nat_tests) in rw no refl
-
   none_in : AllByRecursion (λ row. is_live_in id row ≡ false) w.names
-  none_in = grind (arith, nat_tests, k.holds Directories, k.holds Homes, all-weaker, out, directory_given)
+  none_in = grind (arith, nat_tests, k.holds Directories, k.holds Homes, all-weaker, directory_given)
 
   none_before : AllByRecursion (λ row. is_directory id row ≡ false) w.directories
   none_before = all-weaker (λ row. row.id ≤ w.made.directories) (λ row. is_directory id row ≡ false) w.directories (λ row h. grind (arith, nat_tests)) (k.holds Directories).given
 
   policy_is : default_of after.directories id ≡ policy
-  policy_is = grind (arith, nat_tests, find-append, not_found, none_before, own)
+  policy_is = grind (arith, nat_tests, find-append, not_found, none_before)
 
   leads_to : parent_now w.names path ≡ Ok at → is_some (live_target w.names at.0 at.1) ≡ false → LeadsToDirectory w path id after
   leads_to found free = record {
     home = at;
     stands = found;
-    there = list_any-append (is_directory id) w.directories (new ∷ []) ∙ rw own (or_last (list_any (is_directory id) w.directories) true refl);
+    there = any_last (is_directory id) w.directories new (grind (arith, nat_tests));
     named = ap directory_in (new_leads w.names path at (Directory id) w.now found free);
-    empty = none_more (is_live_in id) w.names (born_row at.0 at.1 (Directory id) w.now) none_in (out at.0 true (directory_given w.made.directories w.directories at.0 (k.holds Directories).given (parent_home w path at k found).0));
+    empty = grind (arith, nat_tests, list_any-append, any_none (is_live_in id) w.names none_in, directory_given w.made.directories w.directories at.0 (k.holds Directories).given, parent_home w path at k found);
     policy = policy_is;
   }
 

@@ -2,7 +2,7 @@
 use Rattle.ele_world.proofs.Basics.{◌≡◌, ◌==◌, ℕ, false, not, refl, ap, ◌∙◌, arith, option_and_then, AllByRecursion, nat_tests, all-any, all-weaker, all-found, filter-same_all, list_any-filter}
 use Rattle.ele_world.proofs.Words.{DropIdle, without_file, after_change, ripe_at, kept_rows, FileView, view_of, due_in, ripe_in, World, is_version, is_live, is_live_name_of, is_target_file, Target, File, Directory, VersionRow}
 use Rattle.ele_world.specs.Due.{is_due_at, ripe_of}
-use Rattle.ele_world.proofs.Dropped.{dropped, stays_named, idle_versions, policy_of-removed}
+use Rattle.ele_world.proofs.Dropped.{dropped, live_other, stays_named, idle_versions, policy_of-removed}
 use Rattle.ele_world.proofs.GroupMarks.{marks_forgotten}
 use Rattle.ele_world.proofs.RipeAt.{ripe_at_is}
 
@@ -17,9 +17,6 @@ module _ (w v : World) (same : SeesSame w v) where
   unfolding is_due_at
   due_same = all-weaker (λ (row : VersionRow). view_of v row.file ≡ view_of w row.file) (λ row. (at : ℕ) → is_due_at v row at ≡ is_due_at w row at) w.versions (λ row e at. ap (λ (view : FileView). due_in view row at) e) same.views
 
-  pub due_now_same : AllByRecursion (λ row. is_due_at v row v.now ≡ is_due_at w row w.now) w.versions
-  due_now_same = all-weaker (λ row. (at : ℕ) → is_due_at v row at ≡ is_due_at w row at) (λ row. is_due_at v row v.now ≡ is_due_at w row w.now) w.versions (λ row e. ap (is_due_at v row) same.now ∙ e w.now) due_same
-
   pub ripe_of_same : AllByRecursion (λ row. ripe_of v row ≡ ripe_of w row) w.versions
   unfolding ripe_of
   ripe_of_same = all-weaker (λ (row : VersionRow). view_of v row.file ≡ view_of w row.file) (λ row. ripe_of v row ≡ ripe_of w row) w.versions (λ row e. ap (λ (view : FileView). ripe_in view row) e) same.views
@@ -28,20 +25,12 @@ module _ (w v : World) (same : SeesSame w v) where
   ripe_at_same file number = grind (arith, nat_tests, ripe_at_is, option_and_then, is_version, all-found, ripe_of_same)
 
   pub kept_same : kept_rows v ≡ kept_rows w
-  kept_same = grind (arith, nat_tests, filter-same_all, all-weaker, due_now_same)
+  kept_same = grind (arith, nat_tests, filter-same_all, all-weaker, due_same, same.now)
 
 -- ---- the dropping of an idle file
 
--- a name that goes makes no other file live
-no_other : (file other : ℕ) (target : Target) → (other == file) ≡ false → not (is_target_file file target) ≡ false → is_target_file other target ≡ false
-no_other file other (File id) apart goes = grind (arith, nat_tests)
-no_other file other (Directory id) apart goes = refl
-
-pub live_other : (w : World) (file other : ℕ) → (other == file) ≡ false → is_live (without_file w file) other ≡ is_live w other
-live_other w file other apart = list_any-filter (is_live_name_of other) (stays_named file) w.names (λ row goes. rw (no_other file other row.target apart goes) refl)
-
 pub view_other : (w : World) (file other : ℕ) → (other == file) ≡ false → view_of (without_file w file) other ≡ view_of w other
-view_other w file other apart = rw (policy_of-removed w.files file other apart, live_other w file other apart, marks_forgotten w.groups file other apart) refl
+view_other w file other apart = grind (arith, nat_tests, policy_of-removed, live_other, marks_forgotten)
 
 pub dropped_sees : (w : World) (file : ℕ) → SeesSame w (after_change w (DropIdle file))
 dropped_sees w file = grind (arith, nat_tests, dropped, all-weaker, view_other, idle_versions, all-any)

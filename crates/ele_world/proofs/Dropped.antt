@@ -1,5 +1,5 @@
 -- What the dropping of a file comes to: it goes with its names, where nothing was left of it, or nothing changes.
-use Rattle.ele_world.proofs.Basics.{◌≡◌, ◌==◌, ℕ, Bool, true, false, not, List, refl, ap, arith, find, AllByRecursion, list_any, option_map, option_map_or, nat_tests, remove_first, all-none, find-remove_first}
+use Rattle.ele_world.proofs.Basics.{◌≡◌, ◌==◌, ℕ, Bool, true, false, not, List, refl, ap, arith, find, AllByRecursion, list_any, option_map, option_map_or, nat_tests, remove_first, all-none, find-remove_first, list_any-filter}
 use Rattle.ele_world.proofs.Words.{DropIdle, is_idle, without_file, after_change, is_version_of, World, is_file, next_of, policy_of, is_live, has_draft, is_draft, is_target_file, DraftRow, FileRow, NameRow, VersionRow}
 
 -- nothing is left of the file
@@ -22,6 +22,10 @@ dropped_versions w file = dropped (λ v. v.versions ≡ w.versions) w file (λ i
 -- the names that stay
 abbrev pub stays_named : ℕ → NameRow → Bool
 stays_named file row = not (is_target_file file row.target)
+
+-- a name that goes makes no other file live
+pub live_other : (w : World) (file other : ℕ) → (other == file) ≡ false → is_live (without_file w file) other ≡ is_live w other
+live_other w file other apart = grind (arith, nat_tests, list_any-filter)
 
 -- no row is of an idle file
 pub idle_versions : (w : World) (file : ℕ) → IsIdle w file → AllByRecursion (λ (row : VersionRow). (row.file == file) ≡ false) w.versions

@@ -1,42 +1,35 @@
 -- The next number and the policy of a file, after changes of the file rows.
-use Rattle.ele_world.proofs.Basics.{◌≡◌, ◌≢◌, ◌==◌, ℕ, ◌+◌, ◌<◌, ◌≤◌, true, false, List, [], ◌∷◌, ◌++◌, Some, refl, arith, AllByRecursion, option_map, option_map_or, nat_tests, update_first, find-update_other}
+use Rattle.ele_world.proofs.Basics.{◌≡◌, ◌≢◌, ◌==◌, ℕ, ◌+◌, ◌<◌, ◌≤◌, true, false, List, [], ◌∷◌, ◌++◌, Some, refl, arith, AllByRecursion, option_map, option_map_or, nat_tests, update_first, find-update_other, find-append, all-found, found_passes, all-weaker, not_found}
 use Rattle.ele_world.proofs.Words.{FileRow, Target, File, Directory, Policy, numbered_on, put_under, IsFile, IsThere, is_file, next_of, policy_of}
-use Rattle.ele_world.proofs.Elements.{find-update_still}
+use Rattle.ele_world.proofs.Elements.{find-update_still, find-updated}
 
 -- a file that is there keeps its number when rows are added behind
 pub next_of-push : (files : List FileRow) (row : FileRow) (file : ℕ) → 0 < next_of files file → next_of (files ++ row ∷ []) file ≡ next_of files file
-next_of-push [] row file h = absurd (omega arith)
-next_of-push (x ∷ xs) row file h = grind (arith, nat_tests, next_of-push xs row file)
+next_of-push files row file h = grind (arith, nat_tests, find-append)
 
 -- and so does each other file than the one added
 pub next_of-push_other : (files : List FileRow) (row : FileRow) (file : ℕ) → is_file file row ≡ false → next_of (files ++ row ∷ []) file ≡ next_of files file
-next_of-push_other [] row file h = rw h refl
-next_of-push_other (x ∷ xs) row file h = grind (arith, nat_tests, next_of-push_other xs row file h)
+next_of-push_other files row file h = grind (arith, nat_tests, find-append)
 
 -- a file that is there has a number that was given
 pub next_of-given : (given versions : ℕ) (files : List FileRow) (file : ℕ) → AllByRecursion (IsFile given versions) files → 0 < next_of files file → file ≤ given
-next_of-given given versions [] file all h = absurd (omega arith)
-next_of-given given versions (x ∷ xs) file all h = grind (arith, nat_tests, next_of-given given versions xs file all.1)
+next_of-given given versions files file all h = grind (arith, nat_tests, all-found, found_passes)
 
 -- a number not given yet is no file's
 pub next_of-new : (given versions : ℕ) (files : List FileRow) (row : FileRow) → AllByRecursion (IsFile given versions) files → given < row.id → next_of (files ++ row ∷ []) row.id ≡ row.next
-next_of-new given versions [] row all h = let e : is_file row.id row ≡ true = grind (arith, nat_tests) in rw e refl
-next_of-new given versions (x ∷ xs) row all h = grind (arith, nat_tests, next_of-new given versions xs row all.1 h)
+next_of-new given versions files row all h = grind (arith, nat_tests, find-append, not_found, all-weaker)
 
 -- the file's number rises
 pub next_of-numbered_on : (files : List FileRow) (file : ℕ) → 0 < next_of files file → next_of (update_first (is_file file) numbered_on files) file ≡ next_of files file + 1
-next_of-numbered_on [] file h = absurd (omega arith)
-next_of-numbered_on (x ∷ xs) file h = grind (arith, nat_tests, next_of-numbered_on xs file)
+next_of-numbered_on files file h = grind (arith, nat_tests, find-updated)
 
 -- and no other's
 pub next_of-numbered_other : (files : List FileRow) (file other : ℕ) → other ≢ file → next_of (update_first (is_file file) numbered_on files) other ≡ next_of files other
-next_of-numbered_other [] file other ne = refl
-next_of-numbered_other (x ∷ xs) file other ne = grind (arith, nat_tests, next_of-numbered_other xs file other ne)
+next_of-numbered_other files file other ne = grind (arith, nat_tests, find-update_other)
 
 -- so none falls
 pub next_of-numbered_le : (files : List FileRow) (file other : ℕ) → next_of files other ≤ next_of (update_first (is_file file) numbered_on files) other
-next_of-numbered_le [] file other = omega arith
-next_of-numbered_le (x ∷ xs) file other = grind (arith, nat_tests, next_of-numbered_le xs file other)
+next_of-numbered_le files file other = grind (arith, nat_tests, next_of-numbered_on files file, next_of-numbered_other files file other)
 
 -- a file that numbers on keeps its policy, and one that has another policy its number
 pub policies-numbered : (files : List FileRow) (file id : ℕ) → policy_of (update_first (is_file file) numbered_on files) id ≡ policy_of files id
@@ -47,8 +40,7 @@ next_of-put_under files file id policy = find-update_still (is_file file) (is_fi
 
 -- its policy is that one, where it is there
 pub policy_of-put_under : (files : List FileRow) (file : ℕ) (policy : Policy) → 0 < next_of files file → policy_of (update_first (is_file file) (put_under policy) files) file ≡ Some policy
-policy_of-put_under [] file policy there = absurd (omega arith)
-policy_of-put_under (x ∷ xs) file policy there = grind (arith, nat_tests, policy_of-put_under xs file policy)
+policy_of-put_under files file policy there = grind (arith, nat_tests, find-updated)
 
 -- and each other file keeps its own
 pub policy_of-put_other : (files : List FileRow) (file other : ℕ) (policy : Policy) → (other == file) ≡ false → policy_of (update_first (is_file file) (put_under policy) files) other ≡ policy_of files other
@@ -56,13 +48,10 @@ policy_of-put_other files file other policy apart = grind (arith, nat_tests, opt
 
 -- a target stays there
 pub there-push : (files : List FileRow) (row : FileRow) (target : Target) → IsThere files target → IsThere (files ++ row ∷ []) target
-there-push files row (File file) h = omega (arith, h, next_of-push files row file h)
-there-push files row (Directory directory) h = tt
+there-push files row target h = grind (arith, nat_tests, next_of-push)
 
 pub there-numbered_on : (files : List FileRow) (file : ℕ) (target : Target) → IsThere files target → IsThere (update_first (is_file file) numbered_on files) target
-there-numbered_on files file (File other) h = omega (arith, h, next_of-numbered_le files file other)
-there-numbered_on files file (Directory directory) h = tt
+there-numbered_on files file target h = grind (arith, nat_tests, next_of-numbered_le)
 
 pub there-put_under : (files : List FileRow) (file : ℕ) (policy : Policy) (target : Target) → IsThere files target → IsThere (update_first (is_file file) (put_under policy) files) target
-there-put_under files file policy (File other) h = rw (next_of-put_under files file other policy) h
-there-put_under files file policy (Directory directory) h = tt
+there-put_under files file policy target h = grind (arith, nat_tests, next_of-put_under)

@@ -2,7 +2,7 @@
 use Rattle.ele_world.proofs.Basics.{◌≡◌, ℕ, true, false, cond, List, [], ◌∷◌, Option, Some, None, refl, sym, subst, ◌||◌, arith, ◌&&◌, ◌==◌, Bool, find, list_any, option_map_or, bytes_eq, false≢true, nat_tests, AllLater, all-found}
 use Rattle.ele_world.proofs.Words.{DropGroup, AddMember, RemoveMember, AddMark, RemoveMark, after_change, ripe_at, covers_moment, group_named, has_mark, has_member, is_group, is_marked, is_marked_at, is_member, with_mark}
 use Rattle.ele_world.proofs.Words.{with_member, without_group, without_mark, without_member, is_marked_without, members_of, marks_of, moment_under, Groups, IsGroup, IsWellFormed, World, is_open, is_version, policy_of, Counts, GroupRow, VersionRow}
-use Rattle.ele_world.proofs.MarksChanged.{grouped_fewer, grouped_still, joined_fewer, joined_more, joined_still, marked_fewer, marked_more, marked_still, or_false, or_true, touches}
+use Rattle.ele_world.proofs.MarksChanged.{grouped_fewer, grouped_still, joined_fewer, joined_more, joined_still, marked_fewer, marked_more, marked_still, touches}
 use Rattle.ele_world.proofs.Neighbours.{IfHeld, in_order_of, moment_none, moment_same, ripe_at_near}
 
 -- the file's version with that number, if it is held, was current at one of the marks
@@ -26,10 +26,6 @@ pub record MarksGo (w v : World) (name : List ℕ) (left : Option ℕ) (files ma
   pub own : (file number : ℕ) → is_touched files marks w.versions file number ≡ true
       → ripe_at v file number ≡ cond (is_open w.handles file number) None (moment_under (is_marked_without w.groups name left file) (policy_of w.files file) w.versions file number)
 
-none_if : (b : Bool) → ◌≡◌ {A = Option ℕ} (cond b None None) None
-none_if true = refl
-none_if false = refl
-
 module _ (w : World) (k : IsWellFormed w) where
   abbrev held_moment : List GroupRow → ℕ → ℕ → Option ℕ
   held_moment groups file number = moment_under (is_marked groups file) (policy_of w.files file) w.versions file number
@@ -51,12 +47,12 @@ module _ (w : World) (k : IsWellFormed w) where
       held_touched file number b h row found = rw found at h
 
       comes : ((file closed : ℕ) (ended : Option ℕ) → is_marked groups file closed ended ≡ (is_marked w.groups file closed ended || touches file closed ended files marks)) → MarksCome w regrouped files marks
-      comes more = grind (arith, nat_tests, moment_then, moment_same, held_touched, or_false, ripe_at_near, in_order_of, moment_none, or_true, none_if)
+      comes more = grind (arith, nat_tests, moment_then, moment_same, held_touched, ripe_at_near, in_order_of, moment_none)
 
       goes : (name : List ℕ) (left : Option ℕ) → ((file closed : ℕ) (ended : Option ℕ) → is_marked w.groups file closed ended ≡ (is_marked groups file closed ended || touches file closed ended files marks))
           → ((file closed : ℕ) (ended : Option ℕ) → touches file closed ended files marks ≡ true → is_marked groups file closed ended ≡ is_marked_without w.groups name left file closed ended)
           → MarksGo w regrouped name left files marks
-      goes name left fewer still = grind (arith, nat_tests, moment_then, moment_same, held_touched, or_false, ripe_at_near, in_order_of, moment_none, or_true, none_if)
+      goes name left fewer still = grind (arith, nat_tests, moment_then, moment_same, held_touched, ripe_at_near, in_order_of, moment_none)
 
   abbrev named : AllLater (λ (earlier : GroupRow) later. bytes_eq earlier.name later.name ≡ false) w.groups
   named = (k.holds Groups).named
@@ -81,16 +77,7 @@ mark_goes w name mark k has =
     (λ file closed ended touched. marked_still w.groups name file closed ended (named w k) mark group.0 group.1 group.2.once)
 
 pub member_goes : (w : World) (name : List ℕ) (file : ℕ) → IsWellFormed w → has_member w.groups name file ≡ true → MarksGo w (after_change w (RemoveMember name file)) name None (file ∷ []) (marks_of w.groups name)
-member_goes w name member k has =
-    let group = group_there w k (is_member member) name has in
-    goes w k (without_member name member w.groups) w.made (member ∷ []) (marks_of w.groups name) name None
-    (λ file closed ended. joined_fewer w.groups name file closed ended member has)
-    (λ file closed ended touched.
-    let same = its member file (list_any (covers_moment closed ended) (marks_of w.groups name)) touched in
-    subst (λ f. is_marked (without_member name f w.groups) file closed ended ≡ is_marked_without w.groups name None file closed ended) (sym same)
-    (joined_still w.groups name file closed ended (named w k) group.0 group.1 group.2.apart)) where
-      its : (member file : ℕ) (b : Bool) → (((member == file) || false) && b) ≡ true → member ≡ file
-      its member file b h = grind (arith, nat_tests)
+member_goes w name member k has = grind (arith, nat_tests, goes w k (without_member name member w.groups) w.made (member ∷ []) (marks_of w.groups name) name None, group_there w k (is_member member) name has, joined_fewer, joined_still, named w k)
 
 pub group_goes : (w : World) (name : List ℕ) → IsWellFormed w → MarksGo w (after_change w (DropGroup name)) name None (members_of w.groups name) (marks_of w.groups name)
 group_goes w name k = grind (arith, nat_tests, goes, without_group, members_of, marks_of, grouped_fewer, grouped_still, named)

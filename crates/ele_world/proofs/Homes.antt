@@ -1,27 +1,24 @@
 -- The directories that names stand in.
 use Rattle.ele_world.proofs.Basics.{◌≡◌, ℕ, ◌≤◌, Bool, true, false, ◌==◌, ◌||◌, List, [], ◌∷◌, ◌++◌, Some, Ok, refl, ◌∙◌, arith, AllByRecursion, list_any, false≢true, nat_tests, list_any-append, all-push, all-weaker, all-found, found_passes, list_any-update_first, any-found, update_first}
-use Rattle.ele_world.proofs.Words.{is_name_of_directory, dies, live_target, parent_now, has_directory, is_reached, IsDirectoryThere, IsHoused, Directories, Homes, IsWellFormed, AreHoused, IsOfLive, World, root, is_live_name_of, DirectoryRow, NameRow, Target, File, Directory, VersionRow}
+use Rattle.ele_world.proofs.Words.{is_name_of_directory, dies, live_target, parent_now, has_directory, is_directory, is_reached, IsDirectoryThere, IsHoused, Directories, Homes, IsWellFormed, AreHoused, IsOfLive, World, root, is_live_name_of, DirectoryRow, NameRow, Target, File, Directory, VersionRow}
+use Rattle.ele_lists.proofs.Cuts.{any-found as first_passing}
 use Rattle.ele_world.proofs.Walks.{live_row, parent_to}
 use Rattle.ele_world.proofs.NameParts.{still_none}
 
-pub or_last : (a b : Bool) → b ≡ true → (a || b) ≡ true
-or_last true b h = refl
-or_last false b h = h
-
 -- what was there is there beside more
 pub any_more : {X : Type 0} (p : X → Bool) (xs : List X) (y : X) → list_any p xs ≡ true → list_any p (xs ++ y ∷ []) ≡ true
-any_more p xs y h = list_any-append p xs (y ∷ []) ∙ rw h refl
+any_more p xs y h = grind (arith, nat_tests, list_any-append)
 
 -- and what one more makes so was so, where it was so whenever that one is
 pub any_less : {X : Type 0} (p : X → Bool) (xs : List X) (y : X) → (p y ≡ true → list_any p xs ≡ true) → list_any p (xs ++ y ∷ []) ≡ true → list_any p xs ≡ true
 any_less p xs y from h = grind (arith, nat_tests, list_any-append, false≢true)
 
 pub any_last : {X : Type 0} (p : X → Bool) (xs : List X) (y : X) → p y ≡ true → list_any p (xs ++ y ∷ []) ≡ true
-any_last p xs y h = list_any-append p xs (y ∷ []) ∙ or_last (list_any p xs) (list_any p (y ∷ [])) (rw h refl)
+any_last p xs y h = grind (arith, nat_tests, list_any-append)
 
 -- what was of a live file is so
 pub ended_more : (names : List NameRow) (named : NameRow) (versions : List VersionRow) → AllByRecursion (IsOfLive names) versions → AllByRecursion (IsOfLive (names ++ named ∷ [])) versions
-ended_more names named versions each = all-weaker (IsOfLive names) (IsOfLive (names ++ named ∷ [])) versions (λ row h none. any_more (is_live_name_of row.file) names named (h none)) each
+ended_more names named versions each = grind (arith, nat_tests, all-weaker, any_more)
 
 pub reached_more : (names : List NameRow) (named : NameRow) (id : ℕ) → is_reached names id ≡ true → is_reached (names ++ named ∷ []) id ≡ true
 reached_more names named id h = grind (arith, nat_tests, any_more)
@@ -35,7 +32,7 @@ IsHome directories names (Directory directory) = (has_directory directories dire
 
 live_home : (directories : List DirectoryRow) (names : List NameRow) → AllByRecursion (IsHoused directories names) names
     → (directory : ℕ) (name : List ℕ) (target : Target) → live_target names directory name ≡ Some target → IsHome directories names target
-live_home directories names each directory name target = grind (arith, nat_tests, live_row, all-found, still_none, found_passes, or_last, any-found)
+live_home directories names each directory name target = grind (arith, nat_tests, live_row, all-found, still_none, found_passes, any-found)
 
 pub parent_home : (w : World) (path : List (List ℕ)) (at : ℕ × List ℕ) → IsWellFormed w → parent_now w.names path ≡ Ok at → (has_directory w.directories at.0 ≡ true) × (is_reached w.names at.0 ≡ true)
 parent_home w path at k found = parent_to (IsHome w.directories w.names) w.names (live_home w.directories w.names (k.holds Homes).each) path at ((k.holds Directories).rooted, refl) found
@@ -47,13 +44,7 @@ pub named_housed : (directories more : List DirectoryRow) (names : List NameRow)
     → ((id : ℕ) → has_directory directories id ≡ true → has_directory more id ≡ true)
     → has_directory directories named.directory ≡ true → is_reached names named.directory ≡ true → IsDirectoryThere more named.target
     → AllByRecursion (IsHoused directories names) names → AllByRecursion (IsHoused more (names ++ named ∷ [])) (names ++ named ∷ [])
-named_housed directories more names named wider home reached there each =
-    all-push (IsHoused more (names ++ named ∷ [])) names named
-    (all-weaker (IsHoused directories names) (IsHoused more (names ++ named ∷ [])) names
-    (λ row h. record { home = wider row.directory h.home; there = stays row.target h.there; reached = λ none. reached_more names named row.directory (h.reached none) }) each)
-    (record { home = wider named.directory home; there = there; reached = λ none. reached_more names named named.directory reached }) where
-      stays : (target : Target) → IsDirectoryThere directories target → IsDirectoryThere more target
-      stays target h = grind (arith, nat_tests)
+named_housed directories more names named wider home reached there each = grind (arith, nat_tests, all-push (IsHoused more (names ++ named ∷ [])) names named, all-weaker (IsHoused directories names) (IsHoused more (names ++ named ∷ [])) names, reached_more)
 
 -- the root, or a directory that has a name, live or dead
 abbrev pub HasName : List NameRow → DirectoryRow → Type 0
@@ -70,5 +61,4 @@ homes_more directories names named home reached there are = grind (arith, nat_te
 
 -- a directory that is there has a number that was given
 pub directory_given : (made : ℕ) (rows : List DirectoryRow) (id : ℕ) → AllByRecursion (λ row. row.id ≤ made) rows → has_directory rows id ≡ true → id ≤ made
-directory_given made [] id all h = absurd (false≢true h)
-directory_given made (row ∷ rows) id all h = grind (arith, nat_tests, directory_given made rows id all.1)
+directory_given made rows id all h = grind (arith, nat_tests, first_passing (is_directory id) rows, found_passes, all-found)

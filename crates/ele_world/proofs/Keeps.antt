@@ -14,13 +14,9 @@ use Rattle.ele_world.proofs.KeptLinks.{add_name_keeps, end_file_name_keeps}
 use Rattle.ele_world.proofs.KeptMoves.{move_name_keeps}
 use Rattle.ele_world.proofs.Outcomes.{outcome_of}
 
--- the version that is taken had ended
-taken_ended : (event : Event) (first w : World) (file number : ℕ) → MayTake event first w file number → (row : VersionRow) → find (is_version file number) w.versions ≡ Some row → is_none row.ended ≡ false
-taken_ended event first w file number may row found = grind (arith, nat_tests)
-
 pub change_keeps : (event : Event) (first w : World) (change : Change) → IsEvent event → May event first w change → IsWellFormed w → IsWellFormed (after_change w change)
 change_keeps event first w (Time to) is may k = time_keeps w to (may.1 is) may.0 k
-change_keeps event first w (Take file number) is may k = take_keeps w file number (taken_ended event first w file number may) may.unread k
+change_keeps event first w (Take file number) is may k = take_keeps w file number (λ row found. grind (arith, nat_tests)) may.unread k
 change_keeps event first w (Append file opened cells) is may k = append_keeps w file opened cells may k
 change_keeps event first w (WriteDraft file offset bytes) is may k = write_keeps w file offset bytes may k
 change_keeps event first w (TruncateDraft file size) is may k = truncate_keeps w file size may k

@@ -1,11 +1,11 @@
 -- The making of a directory, and the end of a name, keep a world well formed.
-use Rattle.ele_world.proofs.Basics.{rules, ◌≡◌, ℕ, ◌+◌, Bool, true, false, ◌==◌, ◌||◌, List, [], ◌∷◌, ◌++◌, length-append, Option, Some, None, refl, ap, sym, subst, ◌∙◌, arith, find, is_none}
+use Rattle.ele_world.proofs.Basics.{rules, and-false, ◌≡◌, ℕ, ◌+◌, Bool, true, false, ◌==◌, ◌||◌, List, [], ◌∷◌, ◌++◌, length-append, Option, Some, None, refl, ap, sym, subst, ◌∙◌, arith, find, is_none}
 use Rattle.ele_world.proofs.Basics.{AllByRecursion, list_any, nat_tests, list_any-append, update_first, all-any, all-push, all-weaker, all-both, all-none, all-update_first, later-push, length-update_first, list_any-update_found, list_any-update_fails}
 use Rattle.ele_world.proofs.Words.{Policy, after_change, MakeDirectory, EndName, without_name, born_row, dies, is_live_in, is_name_of_directory, is_target_directory, is_live_directory, is_live_name, live_target, has_directory}
 use Rattle.ele_world.proofs.Words.{is_reached, IsHoused, Part, Counted, Directories, Names, Homes, Current, Holds, IsWellFormed, Tree, Ended, HaveEnded, IsOfLive, World, root, is_directory, is_live_name_of, DirectoryRow, NameRow, Target, File, Directory}
-use Rattle.ele_world.proofs.Homes.{or_last, any_more, named_housed, HasName, named_more, named_end, directory_given, ended_more}
+use Rattle.ele_world.proofs.Homes.{any_last, any_more, named_housed, HasName, named_more, named_end, directory_given, ended_more}
 use Rattle.ele_world.proofs.May.{MayMakeDirectory, MayEnd}
-use Rattle.ele_world.proofs.NameParts.{and_false, names_more, names_end, tree_more, tree_end, live_still}
+use Rattle.ele_world.proofs.NameParts.{names_more, names_end, tree_more, tree_end, live_still}
 
 -- ---- a directory is made
 
@@ -13,45 +13,19 @@ use Rattle.ele_world.proofs.NameParts.{and_false, names_more, names_end, tree_mo
 pub no_file_named : (names : List NameRow) (directory : ℕ) (name : List ℕ) (id now file : ℕ) → list_any (is_live_name_of file) (names ++ born_row directory name (Directory id) now ∷ []) ≡ list_any (is_live_name_of file) names
 no_file_named names directory name id now file = grind (arith, nat_tests, list_any-append)
 
-module _ (w : World) (directory : ℕ) (name : List ℕ) (policy : Policy) where
-  abbrev id : ℕ
-  id = w.made.directories + 1
-
-  abbrev new : DirectoryRow
-  new = record { id = id; default = policy }
-
-  abbrev named : NameRow
-  named = born_row directory name (Directory id) w.now
-
-  abbrev made : World
-  made = after_change w (MakeDirectory directory name id policy)
-
-  new_keeps : MayMakeDirectory w directory name id policy → IsWellFormed w → IsWellFormed made
-  new_keeps may k = record { holds = by } where
-    own : (id == id) ≡ true
-    own = grind (arith, nat_tests)
-
-    there : has_directory made.directories id ≡ true
-    there = list_any-append (is_directory id) w.directories (new ∷ []) ∙ rw own (or_last (list_any (is_directory id) w.directories) true refl)
-
-    by : (part : Part) → Holds made part
-    by Counted = simp length-append (grind (arith, k.holds Counted))
-    by Directories = grind (arith, nat_tests, k.holds Directories, any_more, all-push, later-push, all-weaker, length-append)
-    by Names = names_more w.files w.now w.names directory name (Directory id) may.named.free tt (k.holds Names)
-    by Homes = record {
-      each = named_housed w.directories made.directories w.names named (λ d h. any_more (is_directory d) w.directories new h) may.named.home may.named.reached there (k.holds Homes).each;
-      named = all-push (HasName made.names) w.directories new (named_more w.directories w.names named (k.holds Homes).named)
-          (or_last (id == root) (list_any (is_name_of_directory id) made.names) (list_any-append (is_name_of_directory id) w.names (named ∷ []) ∙ rw own (or_last (list_any (is_name_of_directory id) w.names) true refl)));
-    }
-    by Tree = grind (arith, nat_tests, k.holds Homes, k.holds Tree, k.holds Directories, tree_more, all-weaker, there, directory_given)
-    by Current = λ file live. k.holds Current file (sym (no_file_named w.names directory name id w.now file) ∙ live)
-    by Ended = ended_more w.names named w.versions (k.holds Ended)
-    by part = k.holds part
-
 pub make_directory_keeps : (w : World) (directory : ℕ) (name : List ℕ) (id : ℕ) (policy : Policy) → MayMakeDirectory w directory name id policy → IsWellFormed w → IsWellFormed (after_change w (MakeDirectory directory name id policy))
-make_directory_keeps w directory name id policy may k =
-    subst (λ n. MayMakeDirectory w directory name n policy → IsWellFormed (after_change w (MakeDirectory directory name n policy))) (sym may.next)
-    (λ m. new_keeps w directory name policy m k) may
+make_directory_keeps w directory name id policy may k = record { holds = by } where
+  there : has_directory (w.directories ++ record { id = id; default = policy } ∷ []) id ≡ true
+  there = any_last (is_directory id) w.directories (record { id = id; default = policy }) (grind (arith, nat_tests))
+
+  by : (part : Part) → Holds (after_change w (MakeDirectory directory name id policy)) part
+  by Names = names_more w.files w.now w.names directory name (Directory id) may.named.free tt (k.holds Names)
+  by Homes = record {
+    each = named_housed w.directories _ w.names _ (λ d h. any_more (is_directory d) w.directories _ h) may.named.home may.named.reached there (k.holds Homes).each;
+    named = grind (arith, nat_tests, all-push (HasName (w.names ++ born_row directory name (Directory id) w.now ∷ [])) w.directories, named_more, k.holds Homes, any_last);
+  }
+  by Tree = grind (arith, nat_tests, k.holds Homes, k.holds Tree, k.holds Directories, tree_more, all-weaker, there, directory_given)
+  by part = grind (arith, nat_tests, k.holds part, length-append, any_more, all-push, later-push, all-weaker, no_file_named, ended_more)
 
 -- ---- a name dies
 
@@ -71,28 +45,17 @@ module _ (w : World) (directory : ℕ) (name : List ℕ) (empty : (id : ℕ) →
   abbrev after : List NameRow
   after = update_first p (dies w.now) w.names
 
-  -- the name that dies isn't that of the directory
-  abbrev IsSpared : ℕ → Type 0
-  IsSpared id = (row : NameRow) → find p w.names ≡ Some row → is_target_directory id row.target ≡ false
+  -- the name that dies isn't that of a directory in which a live name stands
+  abbrev IsSpared : Option Target → ℕ → Type 0
+  IsSpared o id = o ≡ Some (Directory id) → ⊥
 
-  -- each live name stands in a directory that is spared
-  all_spared : AllByRecursion (λ row. row.death ≡ None → IsSpared row.directory) w.names
-  all_spared = by (find p w.names) refl where
-    of : (found : NameRow) → find p w.names ≡ Some found → (t : Target) → found.target ≡ t → AllByRecursion (λ row. row.death ≡ None → IsSpared row.directory) w.names
-    of found e (File file) is = all-any (λ row. row.death ≡ None → IsSpared row.directory) w.names (λ row none other f. let same : found ≡ other = cc in rw (← same, is) refl)
-    of found e (Directory id) is =
-        let ends : live_target w.names directory name ≡ Some (Directory id) = rw (e, is) refl in
-        all-weaker (λ row. is_live_in id row ≡ false) (λ row. row.death ≡ None → IsSpared row.directory) w.names
-        (λ row out none other f. let same : found ≡ other = cc in let apart : is_live_in id row ≡ false = out in let live : is_none row.death ≡ true = rw none refl in rw (← same, is) (grind (arith, nat_tests)))
-        (all-none (is_live_in id) w.names (empty id ends))
-
-    by : (o : Option NameRow) → find p w.names ≡ o → AllByRecursion (λ row. row.death ≡ None → IsSpared row.directory) w.names
-    by None e = all-any (λ row. row.death ≡ None → IsSpared row.directory) w.names (λ row none other f. absurd cc)
-    by (Some found) e = of found e found.target refl
+  all_spared : (o : Option Target) → live_target w.names directory name ≡ o → AllByRecursion (λ row. row.death ≡ None → IsSpared o row.directory) w.names
+  all_spared (Some (Directory id)) e = all-weaker (λ row. is_live_in id row ≡ false) (λ row. row.death ≡ None → IsSpared (Some (Directory id)) row.directory) w.names (λ row out none same. grind (arith, nat_tests)) (all-none (is_live_in id) w.names (empty id e))
+  all_spared o e = all-any (λ row. row.death ≡ None → IsSpared o row.directory) w.names (λ row none same. cc)
 
   -- so it is reached as before
-  reached_still : (id : ℕ) → IsSpared id → is_reached w.names id ≡ true → is_reached after id ≡ true
-  reached_still id spared h = ap (λ b. (id == root) || b) (list_any-update_found p (is_live_directory id) (dies w.now) w.names (λ row found. rw (spared row found) refl)) ∙ h
+  reached_still : (id : ℕ) → IsSpared (live_target w.names directory name) id → is_reached w.names id ≡ true → is_reached after id ≡ true
+  reached_still id spared h = grind (arith, nat_tests, list_any-update_found)
 
   -- all but that the name's file may have a version without an end
   pub end_name_holds : (Q : Type 0) → Q → IsWellFormed w → (part : Part) → HoldsWith Q (without_name w directory name) part
@@ -101,22 +64,15 @@ module _ (w : World) (directory : ℕ) (name : List ℕ) (empty : (id : ℕ) →
     by Counted = grind (arith, k.holds Counted, length-update_first p (dies w.now) w.names)
     by Names = names_end w.now w.names directory name w.files (k.holds Names)
     by Tree = tree_end w.now w.names directory name (k.holds Tree)
-    by Homes = record {
-      each = all-update_first p (IsHoused w.directories after) (IsHoused w.directories after) (dies w.now) w.names
-          (λ row h. record { home = h.home; there = h.there; reached = λ none. absurd cc }) (λ row h. h)
-          (all-weaker (λ row. (row.death ≡ None → IsSpared row.directory) × IsHoused w.directories w.names row) (IsHoused w.directories after) w.names
-          (λ row h. record { home = h.1.home; there = h.1.there; reached = λ none. reached_still row.directory (h.0 none) (h.1.reached none) })
-          (all-both _ _ w.names all_spared (k.holds Homes).each));
-      named = named_end w.now p w.directories w.names (k.holds Homes).named;
-    }
-    by Current = λ file live. k.holds Current file (list_any-update_fails p (is_live_name_of file) (dies w.now) w.names (λ row. and_false _) live)
+    by Homes = grind (arith, nat_tests, k.holds Homes, all-update_first p (IsHoused w.directories after) (IsHoused w.directories after) (dies w.now) w.names, all-weaker (λ row. (row.death ≡ None → IsSpared (live_target w.names directory name) row.directory) × IsHoused w.directories w.names row) (IsHoused w.directories after) w.names, reached_still, all-both (λ row. row.death ≡ None → IsSpared (live_target w.names directory name) row.directory) (IsHoused w.directories w.names) w.names, all_spared (live_target w.names directory name) refl, named_end w.now p w.directories w.names)
+    by Current = grind (arith, nat_tests, k.holds Current, list_any-update_fails)
     by Ended = ends
     by part = k.holds part
 
 pub end_name_keeps : (w : World) (directory : ℕ) (name : List ℕ) → MayEnd w directory name → IsWellFormed w → IsWellFormed (after_change w (EndName directory name))
 end_name_keeps w directory name may k = with_ends (without_name w directory name) (end_name_holds w directory name empty (HaveEnded (without_name w directory name)) ends k) where
   empty : (id : ℕ) → live_target w.names directory name ≡ Some (Directory id) → list_any (is_live_in id) w.names ≡ false
-  empty id stands = let was = may.stands in let same : may.id ≡ id = cc in subst (λ d. list_any (is_live_in d) w.names ≡ false) same may.empty
+  empty id stands = grind (arith, nat_tests, may.stands, may.empty)
 
   ends : HaveEnded (without_name w directory name)
-  ends = all-weaker (IsOfLive w.names) (IsOfLive (without_name w directory name).names) w.versions (λ row h none. live_still w.now w.names directory name (Directory may.id) may.stands row.file refl ∙ h none) (k.holds Ended)
+  ends = grind (arith, nat_tests, k.holds Ended, all-weaker (IsOfLive w.names), live_still w.now w.names directory name (Directory may.id) may.stands)

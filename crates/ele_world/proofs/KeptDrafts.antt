@@ -11,14 +11,10 @@ use Rattle.ele_world.proofs.Writers.{changed_written, fitted_written, written_mo
 current_is : (w : World) (file : ℕ) → IsWellFormed w → IsContent (current_cells w file) × AreWrittenBy (next_of w.files file) (current_cells w file)
 current_is w file k = grind (arith, nat_tests, k.holds Versions, all-found, found_passes, written_more)
 
-or_true : (b : Bool) → (b || true) ≡ true
-or_true true = refl
-or_true false = refl
-
 pub start_keeps : (w : World) (file : ℕ) → MayStart w file → IsWellFormed w → IsWellFormed (after_change w (StartDraft file))
 start_keeps w file may k = record { holds = λ part. grind (arith, nat_tests, k.holds part, current_is w file k, length-insert_before (is_draft_after file) (new_draft w file) w.drafts, all-insert_before (is_draft_after file) (IsDraft w.files w.now) (new_draft w file) w.drafts, later-insert_before (is_draft_after file) (λ earlier later. earlier.file < later.file) (λ row. is_draft file row ≡ false) (new_draft w file) w.drafts, all-none (is_draft file) w.drafts may.none, all-weaker, readable) } where
   readable : (reads : Reads) → IsReadable w.drafts reads → IsReadable (insert_before (is_draft_after file) (new_draft w file) w.drafts) reads
-  readable reads there = grind (arith, nat_tests, list_any-insert_before, or_true)
+  readable reads there = grind (arith, nat_tests, list_any-insert_before)
 
 -- ---- a draft is changed
 

@@ -16,22 +16,13 @@ AreNamedApart earlier later = bytes_eq earlier.name later.name ≡ false
 pub groups_on : (made : ℕ) (files after : List FileRow) (now to : ℕ) (rows : List GroupRow) → now ≤ to → ((file : ℕ) → 0 < next_of files file → 0 < next_of after file) → AreGroups made files now rows → AreGroups made after to rows
 groups_on made files after now to rows le still are = grind (arith, nat_tests, all-weaker)
 
+there_without : (files after : List FileRow) (file : ℕ) (members : List ℕ) → ((other : ℕ) → (other == file) ≡ false → 0 < next_of files other → 0 < next_of after other) → AllByRecursion (λ member. 0 < next_of files member) members → AllByRecursion (λ member. 0 < next_of after member) (filter (λ member. not (member == file)) members)
+there_without files after file [] still all = tt
+there_without files after file (x ∷ xs) still all = grind (arith, nat_tests, there_without files after file xs still all.1)
+
 -- where each other file that is there stays there, and the file leaves its groups
 pub groups_forgotten : (made : ℕ) (files after : List FileRow) (now file : ℕ) (rows : List GroupRow) → ((other : ℕ) → (other == file) ≡ false → 0 < next_of files other → 0 < next_of after other) → AreGroups made files now rows → AreGroups made after now (forgotten file rows)
-groups_forgotten made files after now file rows still are = record {
-  each = all-map (forgets file) (IsGroup after now) rows
-      (all-weaker (IsGroup files now) (λ row. IsGroup after now (forgets file row)) rows
-      (λ row is. record { there = there row is; apart = later-filter AreTwo AreTwo stays row.members (λ x y e f h. h) is.apart; past = is.past; once = is.once }) are.each);
-  named = later-map (forgets file) AreNamedApart rows are.named;
-  counted = omega (arith, are.counted, length-map rows (forgets file));
-} where
-  stays : ℕ → Bool
-  stays member = not (member == file)
-
-  there : (row : GroupRow) → IsGroup files now row → AllByRecursion (λ member. 0 < next_of after member) (filter stays row.members)
-  there row is = all-weaker (λ member. (stays member ≡ true) × (0 < next_of files member)) (λ member. 0 < next_of after member) (filter stays row.members)
-      (λ member h. still member (not-true (member == file) h.0) h.1)
-      (all-both _ _ (filter stays row.members) (filter-passes stays row.members) (all-filter (λ member. 0 < next_of files member) stays row.members is.there))
+groups_forgotten made files after now file rows still are = grind (arith, nat_tests, all-map (forgets file) (IsGroup after now) rows, all-weaker (IsGroup files now) (λ row. IsGroup after now (forgets file row)) rows, there_without files after file, (λ (row : GroupRow). later-filter AreTwo AreTwo (λ member. not (member == file)) row.members), later-map (forgets file) AreNamedApart rows, length-map rows (forgets file))
 
 -- ---- one group
 
@@ -39,11 +30,6 @@ groups_forgotten made files after now file rows still are = record {
 all-update_found : {X : Type 0} (p : X → Bool) (P : X → Type 0) (f : X → X) (xs : List X) → ((x : X) → find p xs ≡ Some x → P x → P (f x)) → AllByRecursion P xs → AllByRecursion P (update_first p f xs)
 all-update_found p P f [] changes all = tt
 all-update_found p P f (x ∷ xs) changes all = grind (arith, nat_tests, all-update_found p P f xs)
-
--- what the group of that name lacks, it lacks where it is found
-found_lacks : (t : GroupRow → Bool) (o : Option GroupRow) (row : GroupRow) → o ≡ Some row → option_map_or t o false ≡ false → t row ≡ false
-found_lacks t None row found h = absurd cc
-found_lacks t (Some other) row found h = let same : other ≡ row = cc in rw (← same) h
 
 -- a group that keeps its name changes to a group
 groups_edited : (w : World) (name : List ℕ) (f : GroupRow → GroupRow) → ((row : GroupRow) → (f row).name ≡ row.name) → ((row : GroupRow) → find (is_group name) w.groups ≡ Some row → IsGroup w.files w.now row → IsGroup w.files w.now (f row)) → IsWellFormed w → AreGroups w.made.groups w.files w.now (update_first (is_group name) f w.groups)
@@ -58,7 +44,7 @@ drop_group_keeps w name k = record { holds = λ part. grind (arith, nat_tests, k
 -- ---- its files
 
 pub add_member_keeps : (w : World) (name : List ℕ) (file : ℕ) → MayJoin w name file → IsWellFormed w → IsWellFormed (after_change w (AddMember name file))
-add_member_keeps w name file may k = record { holds = λ part. grind (arith, nat_tests, k.holds part, groups_edited w name (adds file), all-push, later-push AreTwo, all-none (λ member. member == file), found_lacks (is_member file) (find (is_group name) w.groups)) }
+add_member_keeps w name file may k = record { holds = λ part. grind (arith, nat_tests, k.holds part, groups_edited w name (adds file), all-push, later-push AreTwo, all-none (λ member. member == file)) }
 
 pub remove_member_keeps : (w : World) (name : List ℕ) (file : ℕ) → IsWellFormed w → IsWellFormed (after_change w (RemoveMember name file))
 remove_member_keeps w name file k = record { holds = λ part. grind (arith, nat_tests, k.holds part, groups_edited w name (removes file), all-remove_first, later-remove_first) }
@@ -66,7 +52,7 @@ remove_member_keeps w name file k = record { holds = λ part. grind (arith, nat_
 -- ---- its marks
 
 pub add_mark_keeps : (w : World) (name : List ℕ) (mark : ℕ) → MayMark w name mark → IsWellFormed w → IsWellFormed (after_change w (AddMark name mark))
-add_mark_keeps w name mark may k = record { holds = λ part. grind (arith, nat_tests, k.holds part, groups_edited w name (marks mark), all-push, later-push AreTwo, all-none (λ made. made == mark), found_lacks (has_mark mark) (find (is_group name) w.groups)) }
+add_mark_keeps w name mark may k = record { holds = λ part. grind (arith, nat_tests, k.holds part, groups_edited w name (marks mark), all-push, later-push AreTwo, all-none (λ made. made == mark)) }
 
 pub remove_mark_keeps : (w : World) (name : List ℕ) (mark : ℕ) → IsWellFormed w → IsWellFormed (after_change w (RemoveMark name mark))
 remove_mark_keeps w name mark k = record { holds = λ part. grind (arith, nat_tests, k.holds part, groups_edited w name (unmarks mark), all-remove_first, later-remove_first) }

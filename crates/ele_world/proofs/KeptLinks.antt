@@ -1,14 +1,14 @@
 -- A name more of what is there, and the end of a file's name, keep a world well formed.
 use Rattle.ele_world.proofs.Basics.{◌≡◌, ℕ, ◌-◌, Bool, true, false, cond, ◌==◌, List, [], ◌∷◌, ◌++◌, length, length-append, Some, refl, sym, subst, ◌∙◌, arith, list_any, AllByRecursion, false≢true, nat_tests, all-none, length-update_first, list_any-update_first, all-weaker, all-both, all-update_first}
 use Rattle.ele_world.proofs.Words.{after_change, ended_at, with_end, without_name, AddName, EndFileName, Target, File, Directory, born_row, is_live_directory, is_live_in, live_target, Part}
-use Rattle.ele_world.proofs.Words.{Counted, Names, Homes, Versions, Readers, Current, Holds, IsWellFormed, is_current, HaveEnded, IsOfLive, Ended, World, next_of, is_live, is_live_name_of, is_version, VersionRow}
+use Rattle.ele_world.proofs.Words.{Counted, Names, Homes, Versions, Readers, Current, Holds, IsWellFormed, is_current, HaveCurrent, IsVersion, HaveEnded, IsOfLive, Ended, World, next_of, is_live, is_live_name_of, is_version, VersionRow}
 use Rattle.ele_world.proofs.Readers.{read_on}
 use Rattle.ele_world.proofs.Homes.{any_less, homes_more, ended_more}
 use Rattle.ele_world.proofs.KeptDirectories.{HoldsWith, with_ends, end_name_holds}
-use Rattle.ele_world.proofs.KeptVersions.{versions_ended, current_ended}
+use Rattle.ele_world.proofs.KeptVersions.{ended_own, ended_versions, current_ended}
 use Rattle.ele_world.proofs.May.{MayHaveMore, MayAdd}
 use Rattle.ele_world.proofs.NameParts.{IsUnnamed, names_more, tree_more, counted_more, live_still}
-use Rattle.ele_world.proofs.Versions.{IsEndedBy, file_ended}
+use Rattle.ele_world.proofs.Versions.{IsEndedBy}
 
 -- ---- a name more
 
@@ -39,23 +39,15 @@ with_end_keeps w file dead holds = record { holds = by } where
   last : ℕ
   last = next_of w.files file - 1
 
-  current : (other : ℕ) (b : Bool) → (file == other) ≡ b → is_live w other ≡ true → list_any (is_current other (next_of w.files other)) (with_end w file) ≡ true
-  current other true e live = let same : file ≡ other = grind (arith, nat_tests) in absurd (false≢true (sym (subst (λ f. is_live w f ≡ false) same dead) ∙ live))
-  current other false e live = current_ended file other last (next_of w.files other) w.now w.versions e ∙ holds Current other live
-
-  -- the file's have ended, and each other is as before
-  of_live : (row : VersionRow) → (row.file ≡ file → IsEndedBy w.now row) → ((row.file == file) ≡ false → IsOfLive w.names row) → (b : Bool) → (row.file == file) ≡ b → IsOfLive w.names row
-  of_live row own other true e none = let ends = own (grind (arith, nat_tests)) in let is = ends.is in absurd cc
-  of_live row own other false e none = other e none
+  current : HaveCurrent (record w { versions = with_end w file })
+  current other live = grind (arith, nat_tests, holds Current, dead, current_ended file other last (next_of w.files other) w.now w.versions)
 
   by : (part : Part) → Holds (record w { versions = with_end w file }) part
   by Counted = grind (arith, holds Counted, length-update_first (is_version file last) (ended_at w.now) w.versions)
-  by Versions = versions_ended w.files w.now (is_version file last) w.versions (holds Versions)
-  by Readers = read_on w.versions (with_end w file) w.handles (λ f n held. list_any-update_first (is_version file last) (is_version f n) (ended_at w.now) w.versions (λ row e. refl) ∙ held) (holds Readers)
-  by Current = λ other live. current other (file == other) refl live
-  by Ended = all-weaker (λ row. (row.file ≡ file → IsEndedBy w.now row) × ((row.file == file) ≡ false → IsOfLive w.names row)) (IsOfLive w.names) (with_end w file) (λ row h. of_live row h.0 h.1 (row.file == file) refl)
-      (all-both _ _ (with_end w file) (file_ended w.files w.now file w.versions (holds Versions).placed (holds Versions).each)
-      (all-update_first (is_version file last) (λ row. (row.file == file) ≡ false → IsOfLive w.names row) (λ row. (row.file == file) ≡ false → IsOfLive w.names row) (ended_at w.now) w.versions (λ row h other none. absurd cc) (λ row h. h) (holds Ended)))
+  by Versions = ended_versions w file (holds Versions)
+  by Readers = read_on w.versions (with_end w file) w.handles (λ f n held. grind (arith, nat_tests, list_any-update_first)) (holds Readers)
+  by Current = current
+  by Ended = grind (arith, nat_tests, holds Ended, holds Versions, all-weaker (λ row. ((row.file ≡ file → IsEndedBy w.now row) × IsVersion w.files w.now row) × ((row.file == file) ≡ false → IsOfLive w.names row)) (IsOfLive w.names) (with_end w file), all-both (λ row. (row.file ≡ file → IsEndedBy w.now row) × IsVersion w.files w.now row) (λ row. (row.file == file) ≡ false → IsOfLive w.names row) (with_end w file), ended_own w file, all-update_first (is_version file last) (λ row. (row.file == file) ≡ false → IsOfLive w.names row) (λ row. (row.file == file) ≡ false → IsOfLive w.names row) (ended_at w.now) w.versions)
   by part = holds part
 
 module _ (w : World) (directory : ℕ) (name : List ℕ) (file : ℕ) (leads : live_target w.names directory name ≡ Some (File file)) (k : IsWellFormed w) where
@@ -63,7 +55,7 @@ module _ (w : World) (directory : ℕ) (name : List ℕ) (file : ℕ) (leads : l
   left = without_name w directory name
 
   no_directory : (id : ℕ) → live_target w.names directory name ≡ Some (Directory id) → list_any (is_live_in id) w.names ≡ false
-  no_directory id stands = absurd (let no : Some (File file) ≡ Some (Directory id) = sym leads ∙ stands in cc)
+  no_directory id stands = absurd cc
 
   -- each other file is live as before
   beside : EndBeside file left

@@ -1,11 +1,11 @@
 -- A name that moves keeps a world well formed.
-use Rattle.ele_world.proofs.Basics.{◌≡◌, ℕ, Bool, true, ◌==◌, List, [], ◌∷◌, ◌++◌, length, length-append, Some, refl, arith, find, list_any, false≢true, nat_tests}
-use Rattle.ele_world.proofs.Basics.{list_any-append, update_first, later-weaker, all-found, all-push, all-update_first, found_passes, length-update_first, all-weaker, any-found, list_any-update_fails, list_any-update_found}
+use Rattle.ele_world.proofs.Basics.{◌≡◌, ℕ, Bool, true, false, ◌==◌, List, [], ◌∷◌, ◌++◌, length, length-append, Some, refl, arith, find, list_any, false≢true, nat_tests}
+use Rattle.ele_world.proofs.Basics.{list_any-append, update_first, later-weaker, all-found, all-push, all-update_first, and-false, found_passes, length-update_first, all-weaker, any-found, list_any-update_fails, list_any-update_found}
 use Rattle.ele_world.proofs.Words.{after_change, MoveName, NameRow, Target, File, Directory, born_row, dies, is_live_directory, is_target_directory, is_live_name, IsNameRow, IsDirectoryThere}
 use Rattle.ele_world.proofs.Words.{is_reached, IsHoused, AreOthers, Part, Counted, Names, Homes, Tree, Current, Holds, IsWellFormed, IsThere, IsOfLive, Ended, World, is_target_file, is_live_name_of, is_live}
-use Rattle.ele_world.proofs.Homes.{any_less, any_more, named_end, named_more, or_last, any_last}
+use Rattle.ele_world.proofs.Homes.{any_less, any_more, named_end, named_more, any_last}
 use Rattle.ele_world.proofs.May.{MayMove}
-use Rattle.ele_world.proofs.NameParts.{and_false, free_still, IsUnnamed, names_end, names_more, still_none, tree_end, tree_more, counted_more, found_target, live_still}
+use Rattle.ele_world.proofs.NameParts.{free_still, IsUnnamed, names_end, names_more, still_none, tree_end, tree_more, counted_more, found_target, live_still}
 use Rattle.ele_world.proofs.Walks.{live_row}
 use Rattle.ele_world.proofs.Elements.{none_left}
 
@@ -19,52 +19,36 @@ module _ (w : World) (from : ℕ) (old : List ℕ) (to : ℕ) (new : List ℕ) (
   abbrev named : NameRow
   named = born_row to new target w.now
 
-  -- what is true of the row that dies and its target
-  of_row : (P : Target → Type 0) → ((row : NameRow) → find p w.names ≡ Some row → P row.target) → P target
-  of_row P each = live_row P w.names from old target each may.stands
-
   there : IsThere w.files target
-  there = of_row (IsThere w.files) (λ row found. let is : IsNameRow w.files w.now row = all-found p (IsNameRow w.files w.now) w.names row found (k.holds Names).each in is.there)
+  there = live_row (IsThere w.files) w.names from old target (λ row found. (all-found p (IsNameRow w.files w.now) w.names row found (k.holds Names).each).there) may.stands
 
   housed : IsDirectoryThere w.directories target
-  housed = of_row (IsDirectoryThere w.directories) (λ row found. let is : IsHoused w.directories w.names row = all-found p (IsHoused w.directories w.names) w.names row found (k.holds Homes).each in is.there)
+  housed = live_row (IsDirectoryThere w.directories) w.names from old target (λ row found. (all-found p (IsHoused w.directories w.names) w.names row found (k.holds Homes).each).there) may.stands
 
   -- it had the only name of a directory
-  unnamed : IsUnnamed left target
-  unnamed = of_row (IsUnnamed left) (λ row found. by row found row.target refl) where
-    by : (row : NameRow) → find p w.names ≡ Some row → (t : Target) → row.target ≡ t → IsUnnamed left t
-    by row found (File file) is = tt
-    by row found (Directory id) is =
-        let alive = still_none from old row (found_passes p w.names row found) in
-        let own : (id == id) ≡ true = grind (arith, nat_tests) in
-        none_left p (is_live_directory id) (dies w.now) w.names row found (rw (is, own) alive) (λ x. and_false (is_target_directory id x.target)) (later-weaker AreOthers _ w.names (λ x y h. h id) (k.holds Tree))
+  unnamed : (t : Target) (row : NameRow) → find p w.names ≡ Some row → row.target ≡ t → IsUnnamed left t
+  unnamed (File file) row found is = tt
+  unnamed (Directory id) row found is = none_left p (is_live_directory id) (dies w.now) w.names row found (grind (arith, nat_tests, still_none from old row, found_passes p w.names row found)) (λ x. and-false (is_target_directory id x.target)) (later-weaker AreOthers _ w.names (λ x y h. h id) (k.holds Tree))
 
   -- each directory that was reached is
   reached : (id : ℕ) → is_reached w.names id ≡ true → is_reached (left ++ named ∷ []) id ≡ true
-  reached id h = grind (arith, nat_tests, or_last, list_any-append, list_any-update_found, found_target, any_more)
+  reached id h = grind (arith, nat_tests, list_any-append, list_any-update_found, found_target, any_more)
 
   -- what the name makes live was so
   was_live : (file : ℕ) → is_live_name_of file named ≡ true → is_live w file ≡ true
-  was_live file = grind (arith, nat_tests, of_row, any-found, still_none, found_passes)
+  was_live file = grind (arith, nat_tests, may.stands, any-found p (is_live_name_of file) w.names, still_none, found_passes)
 
   -- each file that was live is
-  lives_on : (file : ℕ) (b : Bool) → is_target_file file target ≡ b → list_any (is_live_name_of file) w.names ≡ true → list_any (is_live_name_of file) (left ++ named ∷ []) ≡ true
-  lives_on file b own live = grind (arith, nat_tests, any_last, any_more, live_still)
+  lives_on : (file : ℕ) → list_any (is_live_name_of file) w.names ≡ true → list_any (is_live_name_of file) (left ++ named ∷ []) ≡ true
+  lives_on file live = grind (arith, nat_tests, any_last, any_more, live_still)
 
   pub move_name_keeps : IsWellFormed (after_change w (MoveName from old to new target))
   move_name_keeps = record { holds = by } where
     by : (part : Part) → Holds (after_change w (MoveName from old to new target)) part
     by Counted = counted_more w (length (left ++ named ∷ [])) k may.named.room (simp length-append (omega (arith, length-update_first p (dies w.now) w.names)))
     by Names = names_more w.files w.now left to new target (free_still w.now w.names from old to new may.named.free) there (names_end w.now w.names from old w.files (k.holds Names))
-    by Homes = record {
-      each = all-push (IsHoused w.directories (left ++ named ∷ [])) left named
-          (all-update_first p (IsHoused w.directories w.names) (IsHoused w.directories (left ++ named ∷ [])) (dies w.now) w.names
-          (λ row h. record { home = h.home; there = h.there; reached = λ none. absurd cc })
-          (λ row h. record { home = h.home; there = h.there; reached = λ none. reached row.directory (h.reached none) }) (k.holds Homes).each)
-          (record { home = may.named.home; there = housed; reached = λ none. reached to may.named.reached });
-      named = named_more w.directories left named (named_end w.now p w.directories w.names (k.holds Homes).named);
-    }
-    by Tree = tree_more w.now left to new target unnamed (tree_end w.now w.names from old (k.holds Tree))
-    by Current = grind (arith, nat_tests, k.holds Current, any_less, was_live, list_any-append, list_any-update_fails, and_false, or_last, false≢true)
-    by Ended = all-weaker (IsOfLive w.names) (IsOfLive (left ++ named ∷ [])) w.versions (λ row h none. lives_on row.file (is_target_file row.file target) refl (h none)) (k.holds Ended)
+    by Homes = grind (arith, nat_tests, k.holds Homes, all-push (IsHoused w.directories (left ++ named ∷ [])) left named, all-update_first p (IsHoused w.directories w.names) (IsHoused w.directories (left ++ named ∷ [])) (dies w.now) w.names, may.named, housed, reached, named_more w.directories left named, named_end w.now p w.directories w.names)
+    by Tree = tree_more w.now left to new target (live_row (IsUnnamed left) w.names from old target (λ row found. unnamed row.target row found refl) may.stands) (tree_end w.now w.names from old (k.holds Tree))
+    by Current = grind (arith, nat_tests, k.holds Current, any_less, was_live, list_any-append, list_any-update_fails, false≢true)
+    by Ended = all-weaker (IsOfLive w.names) (IsOfLive (left ++ named ∷ [])) w.versions (λ row h none. lives_on row.file (h none)) (k.holds Ended)
     by part = k.holds part

@@ -14,17 +14,8 @@ use Rattle.ele_world.proofs.NameParts.{all_apart, names_more, tree_more}
 
 -- ---- the clock
 
-name_later : (files : List FileRow) (now to : ℕ) (row : NameRow) → now ≤ to → IsNameRow files now row → IsNameRow files to row
-name_later files now to row le h = grind (arith, nat_tests)
-
-version_later : (files : List FileRow) (now to : ℕ) (row : VersionRow) → now ≤ to → IsVersion files now row → IsVersion files to row
-version_later files now to row le h = grind (arith, nat_tests)
-
-draft_later : (files : List FileRow) (now to : ℕ) (row : DraftRow) → now ≤ to → IsDraft files now row → IsDraft files to row
-draft_later files now to row le h = record { there = h.there; opened = omega (arith, h.opened); content = h.content; written = h.written }
-
 pub time_keeps : (w : World) (to : ℕ) → to ≤ last_moment → w.now ≤ to → IsWellFormed w → IsWellFormed (after_change w (Time to))
-time_keeps w to fits le k = record { holds = λ part. grind (arith, nat_tests, k.holds part, all-weaker, name_later, version_later, draft_later, groups_on) }
+time_keeps w to fits le k = record { holds = λ part. grind (arith, nat_tests, k.holds part, all-weaker (IsNameRow w.files w.now) (IsNameRow w.files to) w.names, all-weaker (IsVersion w.files w.now) (IsVersion w.files to) w.versions, all-weaker (IsDraft w.files w.now) (IsDraft w.files to) w.drafts, groups_on w.made.groups w.files w.files w.now to w.groups) }
 
 -- ---- a directory or a file has another policy
 
@@ -44,29 +35,6 @@ put_under_keeps w file policy is k = record { holds = by } where
 pub apart_from_new : (w : World) (directory : ℕ) (name : List ℕ) (named : NameRow) → IsWellFormed w → is_some (live_target w.names directory name) ≡ false
     → named.directory ≡ directory → named.name ≡ name → named.birth ≡ w.now → AllByRecursion (λ row. AreApart row named) w.names
 apart_from_new w directory name named k = all_apart w.files w.now w.names directory name named (k.holds Names).each
-
--- the new file has its first version, and each other what it had
-created_current : (w : World) (new : FileRow) (named : NameRow) (version : VersionRow) → next_of (w.files ++ new ∷ []) new.id ≡ version.number + 1 → AllByRecursion (IsFile w.made.files w.made.versions) w.files → HaveCurrent w → named.target ≡ File new.id → version.file ≡ new.id → version.ended ≡ None → (file : ℕ) → list_any (is_live_name_of file) (w.names ++ named ∷ []) ≡ true → list_any (is_current file (next_of (w.files ++ new ∷ []) file)) (w.versions ++ version ∷ []) ≡ true
-created_current w new named version new_next given current target of_file no_end file live =
-    elim (eqb new.id file) as (λ b. eqb new.id file ≡ b → list_any (is_current file (next_of (w.files ++ new ∷ []) file)) (w.versions ++ version ∷ []) ≡ true) [
-      | true ↦ λ e.
-          let same : new.id ≡ file = grind (arith, nat_tests) in
-          let next : next_of (w.files ++ new ∷ []) file ≡ version.number + 1 = rw (← same) new_next in
-          let is : is_current file (version.number + 1) version ≡ true = rw no_end (grind (arith, nat_tests)) in
-          rw (next, list_any-append (is_current file (version.number + 1)) w.versions (version ∷ []), is) (or_true (list_any (is_current file (version.number + 1)) w.versions))
-      | false ↦ λ e.
-          let other : is_target_file file named.target ≡ false = rw (target, e) refl in
-          let alive : is_live w file ≡ true = sym (list_any-append (is_live_name_of file) w.names (named ∷ []) ∙ ap (λ b. list_any (is_live_name_of file) w.names || ((b && is_none named.death) || false)) other ∙ or_false (is_live w file)) ∙ live in
-          let next : next_of (w.files ++ new ∷ []) file ≡ next_of w.files file = next_of-push_other w.files new file e in
-          rw (next, list_any-append (is_current file (next_of w.files file)) w.versions (version ∷ []), current file alive) refl
-    ] refl where
-      or_true : (a : Bool) → (a || (true || false)) ≡ true
-      or_true true = refl
-      or_true false = refl
-
-      or_false : (a : Bool) → (a || false) ≡ a
-      or_false true = refl
-      or_false false = refl
 
 module _ (w : World) (directory : ℕ) (name : List ℕ) (policy : Policy) where
   abbrev id : ℕ
@@ -89,16 +57,13 @@ module _ (w : World) (directory : ℕ) (name : List ℕ) (policy : Policy) where
     by : (part : Part) → Holds (created w directory name id policy) part
     by Counted = simp length-append (grind (arith, k.holds Counted))
     by Files = grind (arith, nat_tests, k.holds Files, all-push, all-weaker, later-push)
-    by Names = names_more files w.now w.names directory name (File id) may.named.free (omega (arith, new_next)) (record {
-      each = all-weaker (IsNameRow w.files w.now) (IsNameRow files w.now) w.names (λ row h. record { there = there-push w.files new row.target h.there; born = h.born; dead = h.dead }) (k.holds Names).each;
-      lives = (k.holds Names).lives;
-    })
+    by Names = names_more files w.now w.names directory name (File id) may.named.free (omega (arith, new_next)) (grind (arith, nat_tests, k.holds Names, all-weaker (IsNameRow w.files w.now) (IsNameRow files w.now) w.names, there-push))
     by Homes = homes_more w.directories w.names named may.named.home may.named.reached tt (k.holds Homes)
     by Tree = tree_more w.now w.names directory name (File id) tt (k.holds Tree)
     by Versions = grind (arith, nat_tests, k.holds Versions, k.holds Files, all-push, files, first_version, all-weaker, next_of-push, new_next, later-push, next_of-given)
     by Drafts = grind (arith, nat_tests, k.holds Drafts, all-weaker, files, next_of-push, written_more)
     by Readers = read_on w.versions (w.versions ++ first_version w id ∷ []) w.handles (λ f n held. any_more (is_version f n) w.versions (first_version w id) held) (k.holds Readers)
-    by Current = created_current w new named (first_version w id) (new_next ∙ omega arith) (k.holds Files).each (k.holds Current) refl refl refl
+    by Current = grind (arith, nat_tests, k.holds Current, new_next, next_of-push_other w.files new, list_any-append)
     by Ended = grind (arith, nat_tests, k.holds Ended, all-push, first_version, ended_more, any_last)
     by Groups = groups_on w.made.groups w.files files w.now w.now w.groups (omega arith) (λ file h. omega (arith, h, next_of-push w.files new file h)) (k.holds Groups)
     by part = k.holds part

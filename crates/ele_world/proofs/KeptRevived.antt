@@ -33,16 +33,7 @@ module _ (w : World) (directory : ℕ) (name : List ℕ) (file : ℕ) where
 
   -- a version like the last one may be made
   pub again : MayRevive w directory name file → AllByRecursion (IsVersion w.files w.now) w.versions → MayAppend named file w.now (current_cells w file)
-  again may each =
-      let last = last_is w file may.last each may.held in
-      let next : may.last.number < next_of w.files file = subst (λ f. may.last.number < next_of w.files f) last.own last.is.numbered in
-      rw may.held (record {
-        there = omega (arith, next);
-        by_now = omega arith;
-        room = may.room;
-        content = last.is.content;
-        written = written_more may.last.number (next_of w.files file) may.last.cells (omega (arith, next)) last.is.written;
-      })
+  again may each = grind (arith, nat_tests, last_is w file may.last each may.held, written_more may.last.number (next_of w.files file) may.last.cells)
 
   pub revive_keeps : MayRevive w directory name file → IsWellFormed w → IsWellFormed (after_change w (Revive directory name file))
   revive_keeps may k = grind (arith, nat_tests, k.holds Versions, again may (k.holds Versions).each, append_completes named file w.now (current_cells w file), named_holds may.named)

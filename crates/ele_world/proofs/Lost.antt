@@ -21,7 +21,7 @@ last_row rows directory name lost = grind (arith, nat_tests)
 
 -- what is true of what each name stands for is so of what a dead name last stood for
 lost_is : (P : Target → Type 0) (rows : List NameRow) (directory : ℕ) (name : List ℕ) (lost : Target) → AllByRecursion (λ row. P row.target) rows → last_target rows directory name ≡ Ok lost → P lost
-lost_is P rows directory name lost all h = let last = last_row rows directory name lost (lost_dead rows directory name lost h) in subst P last.target (last_has (is_named directory name) (λ row. P row.target) rows last.row all last.is).0
+lost_is P rows directory name lost all h = grind (arith, nat_tests, last_row rows directory name lost, lost_dead, last_has (is_named directory name) (λ row. P row.target) rows)
 
 -- to what has a live name, or is a directory, a name may be added
 pub may_add : (w : World) (at : ℕ × List ℕ) (lost : Target) → IsWellFormed w → MayName w at.0 at.1 → last_target w.names at.0 at.1 ≡ Ok lost → nameless w lost ≡ None → not (may_return w lost) ≡ false → MayAdd w at.0 at.1 lost

@@ -122,14 +122,10 @@ May event first w (WriteDraft file offset bytes) = offset + length bytes ≤ lon
 May event first w (TruncateDraft file size) = size ≤ longest_content
 May event first w (EndDraft file) = list_any (is_writer file) w.handles ≡ false
 May event first w (OpenHandle number reads) = MayOpen w number reads
-May event first w (ShutHandle number) = Unit {0}
-May event first w (DropIdle file) = Unit {0}
 May event first w (MakeGroup name) = MayGroup w name
-May event first w (DropGroup name) = Unit {0}
 May event first w (AddMember name file) = MayJoin w name file
-May event first w (RemoveMember name file) = Unit {0}
 May event first w (AddMark name mark) = MayMark w name mark
-May event first w (RemoveMark name mark) = Unit {0}
+May event first w change = Unit {0}
 
 -- each in its turn
 abbrev pub MayAll : Event → World → World → List Change → Type 0

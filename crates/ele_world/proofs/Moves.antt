@@ -1,5 +1,5 @@
 -- What a change does to the row of a version that is held before it: nothing, or it ends, or it is taken.
-use Rattle.ele_world.proofs.Basics.{◌≡◌, ℕ, ◌<◌, ◌≤◌, Bool, true, false, cond, List, [], ◌∷◌, Option, None, refl, ap, sym, subst, arith, eqb, ◌⊎◌, inl, find, AllByRecursion, option_map}
+use Rattle.ele_world.proofs.Basics.{◌≡◌, ◌==◌, ◌&&◌, ℕ, ◌<◌, ◌≤◌, Bool, true, false, cond, List, [], ◌∷◌, Option, None, refl, ap, sym, subst, arith, eqb, ◌⊎◌, inl, find, AllByRecursion, option_map}
 use Rattle.ele_world.proofs.Basics.{false≢true, nat_tests, update_first, remove_first, all-weaker, not_found, find-insert_before, find-remove_first, all-push, all-update_first, all-remove_first, all-found, found_passes, AllLater}
 use Rattle.ele_world.proofs.Words.{Cell, Change, MakeFile, PutUnder, Append, Take, after_change, ended_at, next_version, with_end, with_file, with_name, with_version, EndFileName, Revive, DropIdle, without_name, current_cells, numbered_on, put_under, ArePlaced, World, next_of, is_version, is_version_after, is_live, is_file, Event, FileRow, File, VersionRow}
 use Rattle.ele_world.proofs.Dropped.{dropped_versions}
@@ -23,7 +23,7 @@ all_behind [] file number placed less = tt
 all_behind (x ∷ xs) file number placed less = grind (arith, nat_tests, all-weaker, false≢true, all_behind xs file number placed.1)
 
 past_numbered : (files : List FileRow) (of file number : ℕ) → AllByRecursion (IsBehind file number) files → AllByRecursion (IsBehind file number) (update_first (is_file of) numbered_on files)
-past_numbered files of file number = all-update_first (is_file of) (IsBehind file number) (IsBehind file number) numbered_on files (λ row h same. let less = h same in omega arith) (λ row h. h)
+past_numbered files of file number = grind (arith, nat_tests, all-update_first (is_file of) (IsBehind file number) (IsBehind file number) numbered_on files)
 
 -- so it isn't the next number
 not_next : (w : World) (of file number opened : ℕ) (cells : List Cell) → IsPast w file number → is_version file number (next_version w of opened cells) ≡ false
@@ -66,7 +66,10 @@ module _ (event : Event) (first : World) (file number : ℕ) where
   ends w of = grind (arith, nat_tests, found_updated)
 
   appends : (w : World) (of opened : ℕ) (cells : List Cell) → is_version file number (next_version w of opened cells) ≡ false → MovesTo w (with_version w of opened cells).versions
-  appends w of opened cells other = subst (λ o. Moves event first w.now w.versions file number (row_of w file number) o) (sym (find-insert_before (is_version_after of (next_of w.files of)) (is_version file number) (next_version w of opened cells) (with_end w of) other)) (ends w of)
+  appends w of opened cells other = rw (find-insert_before (is_version_after of (next_of w.files of)) (is_version file number) (next_version w of opened cells) (with_end w of) other) (ends w of)
+
+  takes : (w : World) (of taken : ℕ) → MayTake event first w of taken → AllLater ArePlaced first.versions → of ≡ file → taken ≡ number → MovesTo w (remove_first (is_version of taken) w.versions)
+  takes w of taken may placed a b = Taken w (rw (a, b) at may) refl (grind (arith, nat_tests, removed_gone of taken w.versions, may.same))
 
   pub change_moves : (w : World) (change : Change) → AllLater ArePlaced first.versions → May event first w change → IsPast w file number → MovesTo w (after_change w change).versions
   change_moves w (MakeFile directory name id policy) placed may is =
@@ -75,23 +78,13 @@ module _ (event : Event) (first : World) (file number : ℕ) where
   change_moves w (Revive directory name of) placed may is =
       let named = with_name w directory name (File of) in
       appends named of w.now (current_cells w of) (not_next named of file number w.now (current_cells w of) (record { given = is.given; first = is.first; past = is.past }))
-  change_moves w (EndFileName directory name of) placed may is =
-      let nameless = without_name w directory name in
-      elim (is_live nameless of) as (λ b. MovesTo w (cond b w.versions (with_end nameless of))) [
-        | true ↦ Same refl
-        | false ↦ ends nameless of
-      ]
+  change_moves w (EndFileName directory name of) placed may is = by (is_live (without_name w directory name) of) where
+    by : (b : Bool) → MovesTo w (cond b w.versions (with_end (without_name w directory name) of))
+    by true = Same refl
+    by false = ends (without_name w directory name) of
   change_moves w (DropIdle of) placed may is = Same (ap (find (is_version file number)) (dropped_versions w of))
-  change_moves w (Take of taken) placed may is = by (eqb of file) (eqb taken number) refl refl where
-    gone : find (is_version of taken) (remove_first (is_version of taken) w.versions) ≡ None
-    gone = removed_gone of taken w.versions (subst (λ rows. AllLater ArePlaced rows) (sym may.same) placed)
-
-    by : (b c : Bool) → eqb of file ≡ b → eqb taken number ≡ c → MovesTo w (remove_first (is_version of taken) w.versions)
-    by true true e f =
-        let file_is : of ≡ file = grind (arith, nat_tests) in
-        let number_is : taken ≡ number = grind (arith, nat_tests) in
-        subst (λ g. Moves event first w.now w.versions g number (row_of w g number) (find (is_version g number) (remove_first (is_version of taken) w.versions))) file_is
-        (subst (λ n. Moves event first w.now w.versions of n (row_of w of n) (find (is_version of n) (remove_first (is_version of taken) w.versions))) number_is (Taken w may refl gone))
-    by true false e f = Same (find-remove_first (is_version of taken) (is_version file number) w.versions (λ x passes. grind (arith, nat_tests)))
-    by false c e f = Same (find-remove_first (is_version of taken) (is_version file number) w.versions (λ x passes. grind (arith, nat_tests)))
+  change_moves w (Take of taken) placed may is = by ((of == file) && (taken == number)) refl where
+    by : (b : Bool) → ((of == file) && (taken == number)) ≡ b → MovesTo w (remove_first (is_version of taken) w.versions)
+    by true e = takes w of taken may placed (grind (arith, nat_tests)) (grind (arith, nat_tests))
+    by false e = Same (find-remove_first (is_version of taken) (is_version file number) w.versions (λ x passes. grind (arith, nat_tests)))
   change_moves w change placed may is = Same refl

@@ -5,15 +5,6 @@ use Rattle.ele_world.proofs.NameParts.{still_none, dies_so}
 use Rattle.ele_world.proofs.Outcomes.{in_all}
 use Rattle.ele_world.proofs.Walks.{parent_is}
 
--- a live name stands in its directory, by its name
-record IsNamed (d : ℕ) (n : List ℕ) (row : NameRow) : Type 0 where
-  directory : row.directory ≡ d
-  name : row.name ≡ n
-  live : is_none row.death ≡ true
-
-is_named_so : (d : ℕ) (n : List ℕ) (row : NameRow) → is_live_name d n row ≡ true → IsNamed d n row
-is_named_so d n row h = grind (arith, nat_tests, bytes_eq-Decides, still_none)
-
 -- ---- the name that dies, and each other
 
 module _ (rows : List NameRow) (d : ℕ) (n : List ℕ) (now : ℕ) where
@@ -21,10 +12,10 @@ module _ (rows : List NameRow) (d : ℕ) (n : List ℕ) (now : ℕ) where
   after = update_first (is_live_name d n) (dies now) rows
 
   pub gone : AllLater AreApart rows → live_target after d n ≡ None
-  gone apart = grind (arith, nat_tests, find-update_none, dies_so, later-weaker, is_named_so, false≢true)
+  gone apart = grind (arith, nat_tests, find-update_none, dies_so, later-weaker, bytes_eq-Decides, still_none, false≢true)
 
   pub other_stays : (e : ℕ) (m : List ℕ) → ((d == e) && bytes_eq n m) ≡ false → live_target after e m ≡ live_target rows e m
-  other_stays e m not = grind (arith, nat_tests, find-update_other, is_named_so, dies_so, false≢true)
+  other_stays e m not = grind (arith, nat_tests, find-update_other, bytes_eq-Decides, still_none, dies_so, false≢true)
 
 -- ---- a path along it
 
@@ -33,9 +24,7 @@ module _ (rows after : List NameRow) (at : ℕ × List ℕ) (nowhere : live_targ
   ends_along : (from : Target) (names : List (List ℕ)) → walk rows from names ≡ Ok (Directory at.0) → walk after from (names ++ at.1 ∷ []) ≡ Err NoEntry
   ends_along from [] h = let same : from ≡ Directory at.0 = cc in rw (same, nowhere) refl
   ends_along (File file) (m ∷ names) h = absurd cc
-  ends_along (Directory e) (m ∷ names) h = by (λ next. ends_along next names) ((at.0 == e) && bytes_eq at.1 m) refl where
-    by : ((next : Target) → walk rows next names ≡ Ok (Directory at.0) → walk after next (names ++ at.1 ∷ []) ≡ Err NoEntry) → (b : Bool) → ((at.0 == e) && bytes_eq at.1 m) ≡ b → walk after (Directory e) (m ∷ (names ++ at.1 ∷ [])) ≡ Err NoEntry
-    by more x2 is = grind (arith, nat_tests, bytes_eq-Decides)
+  ends_along (Directory e) (m ∷ names) h = grind (arith, nat_tests, (λ (next : Target). ends_along next names), bytes_eq-Decides)
 
   pub path_ends : (path : List (List ℕ)) → parent_now rows path ≡ Ok at → walk_now after path ≡ Err NoEntry
   path_ends path found = let parent = parent_is rows path at found in ap (walk_now after) parent.whole ∙ ends_along (Directory root) parent.front parent.leads

@@ -3,7 +3,7 @@ use Rattle.ele_world.proofs.Basics.{◌≡◌, ℕ, ◌-◌, true, false, ◌==�
 use Rattle.ele_world.proofs.Words.{ended_at, with_end, after_change, EndFileName, ripe_at, view_of, is_marked, near_moment, next_closing, AreVersions, Versions, IsWellFormed, World, policy_of, next_of, is_live, is_open, is_version}
 use Rattle.ele_world.specs.Due.{ripe_of}
 use Rattle.ele_world.proofs.Currents.{HasCurrent, last_ends}
-use Rattle.ele_world.proofs.KeptVersions.{versions_ended}
+use Rattle.ele_world.proofs.KeptVersions.{ended_versions}
 use Rattle.ele_world.proofs.Neighbours.{AreInOrder, found_moment, in_order_of, next_closing-ended, none_past, ripe_at_near, versions_in_order}
 use Rattle.ele_world.proofs.RipeAt.{ripe_at_is, unended}
 use Rattle.ele_world.proofs.Views.{policies_of}
@@ -21,11 +21,8 @@ module _ (w : World) (directory : ℕ) (name : List ℕ) (file : ℕ) where
   abbrev last : ℕ
   last = next_of w.files file - 1
 
-  ended : IsWellFormed w → AreVersions w.files w.now (with_end w file)
-  ended k = versions_ended w.files w.now (is_version file last) w.versions (k.holds Versions)
-
   pub ended_in_order : IsWellFormed w → AreInOrder after.files after.versions
-  ended_in_order k = grind (arith, nat_tests, in_order_of, versions_in_order, policies_of, ended)
+  ended_in_order k = grind (arith, nat_tests, in_order_of, versions_in_order, policies_of, k.holds Versions, ended_versions w file)
 
   -- while it has another name all stay
   pub live_moments : IsWellFormed w → is_live after file ≡ true → (f n : ℕ) → ripe_at after f n ≡ ripe_at w f n
@@ -45,5 +42,5 @@ module _ (w : World) (directory : ℕ) (name : List ℕ) (file : ℕ) where
     pub ended_moment : IsWellFormed w → is_live after file ≡ false → ripe_at after file last ≡ cond (is_open w.handles file last) None (near_moment (is_marked w.groups file) (policy_of w.files file) None current.row.closed w.now)
     ended_moment k dead =
         let found : find (is_version file last) after.versions ≡ Some (ended_at w.now current.row) = rw dead (last_ends w file current) in
-        let next : next_closing after.versions file last ≡ None = rw dead (none_past w.files w.now (with_end w file) file last (ended k).each (omega arith)) in
+        let next : next_closing after.versions file last ≡ None = rw dead (none_past w.files w.now (with_end w file) file last (ended_versions w file (k.holds Versions)).each (omega arith)) in
         ripe_at_near after file last (ended_in_order k) ∙ rw (found, next, current.no_end) refl

@@ -5,25 +5,16 @@ use Rattle.ele_world.proofs.Words.{born_row, dies, is_live_directory, live_targe
 
 -- ---- a name more
 
--- a name that isn't live has died
-dead_name : (files : List FileRow) (now directory : ℕ) (name : List ℕ) (x y : NameRow) → is_live_name directory name x ≡ false → IsNameRow files now x → y.directory ≡ directory → y.name ≡ name → y.birth ≡ now → AreApart x y
-dead_name files now directory name x y dead is same_directory same_name birth = grind (arith, nat_tests, bytes_eq-Decides, false≢true)
-
 no_live : (names : List NameRow) (directory : ℕ) (name : List ℕ) → is_some (live_target names directory name) ≡ false → AllByRecursion (λ row. is_live_name directory name row ≡ false) names
 no_live names directory name h = grind (arith, nat_tests, all-not_found (is_live_name directory name) names, false≢true)
 
 -- each row of a name that isn't live is over when the name is born again
 pub all_apart : (files : List FileRow) (now : ℕ) (names : List NameRow) (directory : ℕ) (name : List ℕ) (named : NameRow) → AllByRecursion (IsNameRow files now) names → is_some (live_target names directory name) ≡ false
     → named.directory ≡ directory → named.name ≡ name → named.birth ≡ now → AllByRecursion (λ row. AreApart row named) names
-all_apart files now names directory name named each free d n b =
-    all-weaker (λ row. (is_live_name directory name row ≡ false) × IsNameRow files now row) (λ row. AreApart row named) names
-    (λ row h. dead_name files now directory name row named h.0 h.1 d n b) (all-both _ _ names (no_live names directory name free) each)
+all_apart files now names directory name named each free d n b = grind (arith, nat_tests, all-weaker (λ row. (is_live_name directory name row ≡ false) × IsNameRow files now row) (λ row. AreApart row named) names, all-both (λ row. is_live_name directory name row ≡ false) (IsNameRow files now) names (no_live names directory name free) each, bytes_eq-Decides, false≢true)
 
 pub names_more : (files : List FileRow) (now : ℕ) (names : List NameRow) (directory : ℕ) (name : List ℕ) (target : Target) → is_some (live_target names directory name) ≡ false → IsThere files target → AreNames files now names → AreNames files now (names ++ born_row directory name target now ∷ [])
-names_more files now names directory name target free there are = let named = born_row directory name target now in record {
-  each = all-push (IsNameRow files now) names named are.each (record { there = there; born = omega arith; dead = tt });
-  lives = later-push AreApart names named are.lives (all_apart files now names directory name named are.each free refl refl refl);
-}
+names_more files now names directory name target free there are = grind (arith, nat_tests, all-push (IsNameRow files now) names, later-push AreApart names, all_apart files now names directory name (born_row directory name target now))
 
 -- no live name stands for it, if it is a directory
 abbrev pub IsUnnamed : List NameRow → Target → Type 0
@@ -39,16 +30,12 @@ counted_more w rows k room le = grind (arith, nat_tests, k.holds Counted)
 
 -- ---- the end of a name
 
-pub and_false : (b : Bool) → (b && false) ≡ false
-and_false true = refl
-and_false false = refl
-
 pub still_none : (directory : ℕ) (name : List ℕ) (row : NameRow) → is_live_name directory name row ≡ true → is_none row.death ≡ true
 still_none directory name row h = grind (arith, nat_tests)
 
 -- a dead name isn't live
 pub dies_so : (now directory : ℕ) (name : List ℕ) (row : NameRow) → is_live_name directory name (dies now row) ≡ false
-dies_so now directory name row = grind (arith, nat_tests, and_false)
+dies_so now directory name row = grind (arith, nat_tests)
 
 module _ (now : ℕ) (names : List NameRow) (directory : ℕ) (name : List ℕ) where
   abbrev p : NameRow → Bool
@@ -61,7 +48,7 @@ module _ (now : ℕ) (names : List NameRow) (directory : ℕ) (name : List ℕ) 
   names_end files are = grind (arith, nat_tests, all-update_first p (IsNameRow files now) (IsNameRow files now) (dies now) names, later-update_found p AreApart (dies now) names, still_none directory name, false≢true)
 
   pub tree_end : AllLater AreOthers names → AllLater AreOthers after
-  tree_end = later-update_first p AreOthers (dies now) names (λ x y h id live. absurd (false≢true (sym (and_false _) ∙ live))) (λ x y h id live. and_false _)
+  tree_end tree = grind (arith, nat_tests, later-update_first p AreOthers (dies now) names, false≢true)
 
   -- a name that wasn't live isn't
   pub free_still : (other : ℕ) (new : List ℕ) → is_some (live_target names other new) ≡ false → is_some (live_target after other new) ≡ false
@@ -69,8 +56,8 @@ module _ (now : ℕ) (names : List NameRow) (directory : ℕ) (name : List ℕ) 
 
   -- the row that dies stands for the name's target
   pub found_target : (target : Target) → live_target names directory name ≡ Some target → (row : NameRow) → find p names ≡ Some row → row.target ≡ target
-  found_target target stands row found = let at : Some row.target ≡ Some target = rw found at stands in cc
+  found_target target stands row found = grind (arith, nat_tests)
 
   -- a file that the name isn't of is live as before
   pub live_still : (target : Target) → live_target names directory name ≡ Some target → (file : ℕ) → is_target_file file target ≡ false → list_any (is_live_name_of file) after ≡ list_any (is_live_name_of file) names
-  live_still target stands file other = list_any-update_found p (is_live_name_of file) (dies now) names (λ row found. rw (found_target target stands row found, other) refl)
+  live_still target stands file other = grind (arith, nat_tests, list_any-update_found, found_target)

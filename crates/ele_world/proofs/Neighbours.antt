@@ -1,7 +1,7 @@
 -- A version's ripe moment: none while a handle reads it or it is marked, and else what its policy, its own moments and its next
 -- held neighbour tell.
 use Rattle.ele_world.proofs.Basics.{◌≡◌, ℕ, ◌+◌, ◌≤◌, ◌==◌, ◌&&◌, ◌||◌, Bool, true, false, not, cond, List, [], ◌∷◌, ◌++◌, Option, Some, None, refl, ap, subst, ◌∙◌, arith}
-use Rattle.ele_world.proofs.Basics.{filter, slice_get, find, option_and_then, IfSome, AllByRecursion, list_any, option_map_or, nat_tests, slice_get-map, find-cut, find-filter_both, AllLater, update_first, all-weaker, not_found}
+use Rattle.ele_world.proofs.Basics.{filter, slice_get, find, option_and_then, IfSome, AllByRecursion, list_any, option_map_or, nat_tests, slice_get-map, find-cut, find-filter_both, AllLater, update_first, all-weaker, found_passes, not_found}
 use Rattle.ele_world.proofs.Words.{never_due, ripe_nearest, Policy, IsPolicy, IsNearest, is_due_by, alone, candidates, earliest_of, FileRow, VersionRow, ended_at, ripe_at, FileView, view_of, beside, ripe_in}
 use Rattle.ele_world.proofs.Words.{covers_moment, is_marked, near_moment, next_closing, moment_under, free_moment, ArePlaced, AreVersions, IsVersion, Versions, IsWellFormed, World, is_open, is_version, next_of, policy_of}
 use Rattle.ele_policy.specs.Ripe.{ripe_by}
@@ -51,42 +51,24 @@ ripe_in_near v row nearest governed near = by (list_any (λ number. number == ro
 
   by : (b : Bool) (p : Option Policy) (e : Option ℕ) → IfSome p IsPolicy
       → option_and_then (λ policy. option_and_then (λ ended. earliest_of (due (b || marked_in v row.closed e) p e) (candidates policy ended)) e) p ≡ moment_if (marked_in v) b p nearest row e
-  by true None e given = refl
-  by true (Some policy) None given = refl
   by true (Some policy) (Some ended) given = never_due (candidates policy ended)
-  by false None None given = refl
-  by false None (Some ended) given = grind (arith, nat_tests)
-  by false (Some policy) None given = refl
   by false (Some policy) (Some ended) given = marked (marked_in v row.closed (Some ended)) policy ended given
+  by b p e given = grind (arith, nat_tests)
 
-ripe_of_near : (w : World) → AreInOrder w.files w.versions → (before : List VersionRow) (row : VersionRow) (behind : List VersionRow) → w.versions ≡ before ++ row ∷ behind
-    → ripe_of w row ≡ moment_if (is_marked w.groups row.file) (is_open w.handles row.file row.number) (policy_of w.files row.file) (next_closing w.versions row.file row.number) row row.ended
+ripe_of_near : (w : World) → AreInOrder w.files w.versions → (file number : ℕ) (row : VersionRow) → find (is_version file number) w.versions ≡ Some row
+    → ripe_of w row ≡ moment_if (is_marked w.groups file) (is_open w.handles file number) (policy_of w.files file) (next_closing w.versions file number) row row.ended
 unfolding ripe_of
-ripe_of_near w ordered before row behind whole =
+ripe_of_near w ordered file number row found =
+    let cut = find-cut (is_version file number) w.versions row found in
+    let passes = cut.passes in
+    let own : row.file ≡ file = grind (arith, nat_tests) in
+    let its : row.number ≡ number = grind (arith, nat_tests) in
     let view = view_in w row.file ordered.policies ordered.lives ordered.placed in
-    let policy = policy_of w.files row.file in
-    let next = next_closing w.versions row.file row.number in
-    ripe_in_near (view_of w row.file) row next view.governed (subst (λ n. IsNearest row.closed n (beside (view_of w row.file) row)) (nearest_closing w row) (nearest_of w before row behind view whole))
-    ∙ ap (λ b. moment_if (marked_in (view_of w row.file)) b policy next row row.ended) (numbers_are w.handles row.file row.number)
-    ∙ by row.ended where
-      by : (e : Option ℕ) → moment_if (marked_in (view_of w row.file)) (is_open w.handles row.file row.number) (policy_of w.files row.file) (next_closing w.versions row.file row.number) row e
-          ≡ moment_if (is_marked w.groups row.file) (is_open w.handles row.file row.number) (policy_of w.files row.file) (next_closing w.versions row.file row.number) row e
-      by None = refl
-      by (Some ended) = rw (marks_tell w.groups row.file row.closed (Some ended)) refl
+    let near = nearest_of w cut.before row cut.behind view cut.whole in
+    rw (← own, ← its) (grind (arith, nat_tests, ripe_in_near (view_of w row.file) row (next_closing w.versions row.file row.number) view.governed, near, nearest_closing w row, numbers_are w.handles row.file row.number, marks_tell w.groups row.file row.closed))
 
 pub ripe_at_near : (w : World) (file number : ℕ) → AreInOrder w.files w.versions → ripe_at w file number ≡ cond (is_open w.handles file number) None (free_moment w.groups w.files w.versions file number)
-ripe_at_near w file number ordered = ripe_at_is w file number ∙ by (find (is_version file number) w.versions) refl where
-  by : (o : Option VersionRow) → find (is_version file number) w.versions ≡ o
-      → option_and_then (ripe_of w) o ≡ cond (is_open w.handles file number) None (option_and_then (λ row. option_and_then (near_moment (is_marked w.groups file) (policy_of w.files file) (next_closing w.versions file number) row.closed) row.ended) o)
-  by None e = grind (arith, nat_tests)
-  by (Some row) e =
-      let cut = find-cut (is_version file number) w.versions row e in
-      let passes = cut.passes in
-      let own : row.file ≡ file = grind (arith, nat_tests) in
-      let its : row.number ≡ number = grind (arith, nat_tests) in
-      ripe_of_near w ordered cut.before row cut.behind cut.whole
-      ∙ ap (λ f. moment_if (is_marked w.groups f) (is_open w.handles f row.number) (policy_of w.files f) (next_closing w.versions f row.number) row row.ended) own
-      ∙ ap (λ n. moment_if (is_marked w.groups file) (is_open w.handles file n) (policy_of w.files file) (next_closing w.versions file n) row row.ended) its
+ripe_at_near w file number ordered = grind (arith, nat_tests, ripe_at_is w file number, ripe_of_near w ordered file number)
 
 -- ---- by two tests that mark
 

@@ -1,9 +1,10 @@
 -- The newest held version of a file, and the place at which its next one comes in.
-use Rattle.ele_world.proofs.Basics.{◌≡◌, ℕ, ◌+◌, ◌-◌, ◌<◌, ◌≤◌, ◌==◌, Bool, true, false, cond, ◌&&◌, ◌||◌, List, [], ◌∷◌, Option, Some, None, IfSome, refl, ap, sym, subst, ◌∙◌, arith, find, AllByRecursion, list_any, option_map}
-use Rattle.ele_world.proofs.Basics.{false≢true, nat_tests, last_passing, AllLater, insert_before, later-weaker, all-both, all-insert_before, all-update_first, all-weaker, find-insert_before, later-insert_before, list_any-update_first, any-found, find-inserted, find-update_other, last_has}
+use Rattle.ele_world.proofs.Basics.{◌≡◌, ℕ, ◌+◌, ◌-◌, ◌<◌, ◌≤◌, ◌==◌, Bool, true, false, cond, ◌&&◌, ◌||◌, List, [], ◌∷◌, Option, Some, None, IfSome, is_none, refl, ap, sym, subst, ◌∙◌, arith, find, AllByRecursion, list_any, option_map}
+use Rattle.ele_world.proofs.Basics.{false≢true, nat_tests, last_passing, AllLater, insert_before, later-weaker, all-both, all-insert_before, all-update_first, all-weaker, all-found, found_passes, find-insert_before, later-insert_before, list_any-update_first, any-found, update_first, find-inserted, find-update_other, last_has}
 use Rattle.ele_world.proofs.Words.{Cell, IsPolicy, ended_at, next_version, with_end, with_version, is_version_of, is_newer_of, newest_of, next_closing, ArePlaced, AreVersions, IsVersion, World, is_file, is_live, is_version, is_version_after, next_of, VersionRow}
+use Rattle.ele_lists.proofs.Cuts.{any-found as first_passing}
 use Rattle.ele_world.proofs.Elements.{find-updated}
-use Rattle.ele_world.proofs.KeptVersions.{versions_ended}
+use Rattle.ele_world.proofs.KeptVersions.{behind_too, ended_versions, next_placed}
 use Rattle.ele_world.proofs.Neighbours.{AreInOrder, next_closing-ended, none_past}
 use Rattle.ele_world.proofs.Versions.{IsEndedBy, all_found, file_ended}
 use Rattle.ele_world.proofs.Views.{IsLife, lives_in}
@@ -12,19 +13,15 @@ last-none : {X : Type 0} (p : X → Bool) (xs : List X) → last_passing p xs �
 last-none p [] none = tt
 last-none {X} p (x ∷ xs) none = grind (arith, nat_tests, last-none p xs)
 
--- what is found is so still where an element comes in behind it
-find-insert_behind : {X : Type 0} (p q : X → Bool) (y : X) (xs : List X) → AllByRecursion (λ x. q x ≡ true → p x ≡ false) xs → AllLater (λ x z. p x ≡ true → p z ≡ true) xs → list_any q xs ≡ true → find q (insert_before p y xs) ≡ find q xs
-find-insert_behind p q y [] apart later some = absurd (false≢true some)
-find-insert_behind {X} p q y (x ∷ xs) apart later some = elim (p x) as (λ b. p x ≡ b → find q (cond b (y ∷ x ∷ xs) (x ∷ insert_before p y xs)) ≡ find q (x ∷ xs)) [
-  | true ↦ λ e. absurd (false≢true (sym (none (x ∷ xs) apart (e, all-weaker (λ z. p x ≡ true → p z ≡ true) (λ z. p z ≡ true) xs (λ z on. on e) later.0)) ∙ some))
-  | false ↦ λ e. elim (q x) as (λ b. (b || list_any q xs) ≡ true → cond b (Some x) (find q (insert_before p y xs)) ≡ cond b (Some x) (find q xs)) [
-    | true ↦ λ more. refl
-    | false ↦ λ more. find-insert_behind p q y xs apart.1 later.1 more
-  ] some
-] refl where
-  none : (zs : List X) → AllByRecursion (λ z. q z ≡ true → p z ≡ false) zs → AllByRecursion (λ z. p z ≡ true) zs → list_any q zs ≡ false
-  none [] apart all = refl
-  none (z ∷ zs) apart all = grind (arith, nat_tests, false≢true, none zs apart.1 all.1)
+-- what is found in front is so still where an element comes in behind it
+find-insert_behind : {X : Type 0} (p q : X → Bool) (y : X) (xs : List X) (x : X) → AllLater (λ x z. p x ≡ true → p z ≡ true) xs → find q xs ≡ Some x → p x ≡ false → find q (insert_before p y xs) ≡ Some x
+find-insert_behind p q y [] x later found before = absurd cc
+find-insert_behind p q y (z ∷ xs) x later found before = grind (arith, nat_tests, all-found q (λ x. p z ≡ true → p x ≡ true) xs, find-insert_behind p q y xs x)
+
+-- the last of those that have no end ends, and the others stay as they are
+found_ended : (file last n now : ℕ) (rows : List VersionRow) (row : VersionRow) → find (is_version file n) rows ≡ Some row → ((n == last) ≡ false → is_none row.ended ≡ false) → find (is_version file n) (update_first (is_version file last) (ended_at now) rows) ≡ Some (ended_at now row)
+found_ended file last n now [] row found had = absurd cc
+found_ended file last n now (x ∷ xs) row found had = grind (arith, nat_tests, found_ended file last n now xs row)
 
 -- ---- the newest
 
@@ -69,41 +66,17 @@ module _ (w : World) (file opened : ℕ) (cells : List Cell) (are : AreVersions 
   behind = is_version_after file next
 
   ended : AreVersions w.files w.now (with_end w file)
-  ended = versions_ended w.files w.now p w.versions are
-
-  -- all stands in order
-  abbrev IsOld : VersionRow → Type 0
-  IsOld row = (row.file ≡ file → IsEndedBy w.now row) × IsVersion w.files w.now row
-
-  numbered : (row : VersionRow) → IsOld row → row.file ≡ file → row.number < next
-  numbered row old own = subst (λ f. row.number < next_of w.files f) own old.1.numbered
-
-  after_old : (row : VersionRow) → IsOld row → behind row ≡ false → ArePlaced row new
-  after_old row old isnt = grind (arith, nat_tests, ended, numbered)
-
-  before_old : (row : VersionRow) → IsOld row → behind row ≡ true → ArePlaced new row
-  before_old row old is = grind (arith, nat_tests, ended, numbered, false≢true)
-
-  stands_behind : (x z : VersionRow) → behind x ≡ true → ArePlaced x z → behind z ≡ true
-  stands_behind x z is placed = let after = placed.after in grind (arith, nat_tests)
-
-  placed : AllLater ArePlaced appended.versions
-  placed = later-insert_before behind ArePlaced IsOld new (with_end w file) after_old before_old stands_behind
-      (all-both (λ row. row.file ≡ file → IsEndedBy w.now row) (IsVersion w.files w.now) (with_end w file) (file_ended w.files w.now file w.versions are.placed are.each) ended.each) ended.placed
-
-  life : (b : Bool) → IfSome (cond b None (Some w.now)) (λ ended. w.now ≤ ended)
-  life true = tt
-  life false = omega arith
+  ended = ended_versions w file are
 
   pub next_in_order : AllByRecursion (λ row. IsPolicy row.policy) w.files → AreInOrder appended.files appended.versions
-  next_in_order policies = grind (arith, nat_tests, all-update_first (is_file file), all-insert_before behind IsLife new (with_end w file) (life (is_live w file)) (lives_in w.files w.now (with_end w file) ended.each), life (is_live w file), lives_in w.files w.now (with_end w file) ended.each, placed)
+  next_in_order policies = grind (arith, nat_tests, all-update_first (is_file file), all-insert_before behind IsLife new (with_end w file), lives_in w.files w.now (with_end w file), ended, next_placed w file are opened cells)
 
   -- each other version is found as before, but that its file's last one ends
   pub found_after : (f n : ℕ) → is_version f n new ≡ false → find (is_version f n) appended.versions ≡ find (is_version f n) (with_end w file)
   found_after f n apart = find-insert_before behind (is_version f n) new (with_end w file) apart
 
   pub found_still : (f n : ℕ) → is_version f n new ≡ false → ((f == file) && (n + 1 == next)) ≡ false → find (is_version f n) appended.versions ≡ find (is_version f n) w.versions
-  found_still f n apart last = found_after f n apart ∙ find-update_other p (is_version f n) (ended_at w.now) w.versions (λ row h. (grind (arith, nat_tests), grind (arith, nat_tests)))
+  found_still f n apart last = grind (arith, nat_tests, found_after f n, find-update_other p (is_version f n) (ended_at w.now) w.versions)
 
   -- so is what stands behind a version of another file
   pub next_other : (f n : ℕ) → (f == file) ≡ false → next_closing appended.versions f n ≡ next_closing w.versions f n
@@ -122,16 +95,8 @@ module _ (w : World) (file opened : ℕ) (cells : List Cell) (are : AreVersions 
     pub newest_ended : find (is_version file row.number) appended.versions ≡ Some (ended_at w.now row)
     newest_ended =
         let before = newest.before in
-        found_after file row.number (grind (arith, nat_tests)) ∙ by (row.number == next - 1) refl where
-          of : (o : Option ℕ) → row.ended ≡ o → (row.number + 1 ≡ next_of w.files row.file → ⊥) → row ≡ ended_at w.now row
-          of o is not_last = grind (arith, nat_tests, ended)
-
-          by : (b : Bool) → (row.number == next - 1) ≡ b → find (is_version file row.number) (with_end w file) ≡ Some (ended_at w.now row)
-          by true e = grind (arith, nat_tests, find-updated)
-          by false e =
-              find-update_other p (is_version file row.number) (ended_at w.now) w.versions (λ x h. (grind (arith, nat_tests), grind (arith, nat_tests)))
-              ∙ newest.found
-              ∙ ap Some (of row.ended refl (λ last. let last' : row.number + 1 ≡ next = last ∙ ap (next_of w.files) newest.own in absurd (false≢true (grind (arith, nat_tests)))))
+        let own = newest.own in
+        found_after file row.number (grind (arith, nat_tests)) ∙ found_ended file (next - 1) row.number w.now w.versions row newest.found (λ other. grind (arith, nat_tests, newest.is))
 
     pub next_behind : next_closing appended.versions file row.number ≡ Some w.now
     next_behind = grind (arith, nat_tests, find-inserted behind (is_newer_of file row.number) new (with_end w file), all-update_first p (IsNoNewer file row.number) (IsNoNewer file row.number) (ended_at w.now) w.versions)
@@ -139,11 +104,8 @@ module _ (w : World) (file opened : ℕ) (cells : List Cell) (are : AreVersions 
     -- what stands behind an older one is as before
     pub next_still : (n : ℕ) → n < row.number → next_closing appended.versions file n ≡ next_closing w.versions file n
     next_still n older =
-        let before = newest.before in
-        ap (option_map (λ (x : VersionRow). x.closed)) (find-insert_behind behind (is_newer_of file n) new (with_end w file)
-        (all-weaker (IsVersion w.files w.now) (λ x. is_newer_of file n x ≡ true → behind x ≡ false) (with_end w file) (λ x is h. isnt_behind x is h) ended.each)
-        (later-weaker ArePlaced (λ x z. behind x ≡ true → behind z ≡ true) (with_end w file) (λ x z placed is. stands_behind x z is placed) ended.placed)
-        (list_any-update_first p (is_newer_of file n) (ended_at w.now) w.versions (λ x h. refl) ∙ any-found (is_version file row.number) (is_newer_of file n) w.versions row newest.found (let own = newest.own in grind (arith, nat_tests))))
-        ∙ next_closing-ended p w.now w.versions file n where
-          isnt_behind : (x : VersionRow) → IsVersion w.files w.now x → is_newer_of file n x ≡ true → behind x ≡ false
-          isnt_behind x is h = grind (arith, nat_tests)
+        let newer : is_newer_of file n row ≡ true = let own = newest.own in grind (arith, nat_tests) in
+        let is = first_passing (is_newer_of file n) (with_end w file) (list_any-update_first p (is_newer_of file n) (ended_at w.now) w.versions (λ x h. refl) ∙ any-found (is_version file row.number) (is_newer_of file n) w.versions row newest.found newer) in
+        let before : behind is.0 ≡ false = grind (arith, nat_tests, found_passes (is_newer_of file n) (with_end w file) is.0 is.1, all-found (is_newer_of file n) (IsVersion w.files w.now) (with_end w file) is.0 is.1 ended.each) in
+        ap (option_map (λ (x : VersionRow). x.closed)) (find-insert_behind behind (is_newer_of file n) new (with_end w file) is.0 (later-weaker ArePlaced (λ x z. behind x ≡ true → behind z ≡ true) (with_end w file) (λ x z placed is. behind_too file next x z is placed) ended.placed) is.1 before ∙ sym is.1)
+        ∙ next_closing-ended p w.now w.versions file n

@@ -1,6 +1,6 @@
 -- No event leaves a file of which nothing is left. In a well-formed world a live file has a version, so what counts is whether
 -- each file has a version or a draft.
-use Rattle.ele_world.proofs.Basics.{rules, ◌≡◌, ◌==◌, ℕ, Bool, true, false, not, ◌||◌, List, [], ◌∷◌, refl, sym, subst, ◌∙◌, arith, AllByRecursion, list_any, false≢true, nat_tests, update_first}
+use Rattle.ele_world.proofs.Basics.{rules, ◌≡◌, ◌==◌, ℕ, Bool, true, false, not, ◌||◌, List, [], ◌∷◌, refl, sym, subst, ◌∙◌, arith, AllByRecursion, list_any, false≢true, not-true, nat_tests, update_first}
 use Rattle.ele_world.proofs.Basics.{remove_first, filter-passes, all-push, all-weaker, all-both, all-update_first, all-remove_first, found_passes, list_any-update_first, list_any-insert_before, list_any-remove_first, any-found, remove_first-key}
 use Rattle.ele_world.proofs.Words.{Cell, Policy, Take, MakeFile, PutUnder, EndFileName, EndDraft, DropIdle, ShutHandle, StartDraft, after_change, is_idle, numbered_on, put_under, current_cells, with_file, with_name, with_version}
 use Rattle.ele_world.proofs.Words.{without_file, is_version_of, HasNoIdle, NoIdleStays, run_of, IsEvent, plan, step, Files, Current, IsWellFormed, World, is_file, is_draft, is_live, has_draft, Event}
@@ -27,15 +27,6 @@ AreBusyBut w file = AllByRecursion (λ row. (row.id == file) ≡ false → has_r
 all_but : (w : World) (file : ℕ) → AreBusy w → AreBusyBut w file
 all_but w file = all-weaker (λ row. has_rows w row.id ≡ true) (λ row. (row.id == file) ≡ false → has_rows w row.id ≡ true) w.files (λ row h apart. h)
 
-or_mid : (a b c : Bool) → (b || c) ≡ true → ((a || b) || c) ≡ true
-or_mid true b c h = refl
-or_mid false b c h = h
-
-or_more : (a b c : Bool) → (a || c) ≡ true → (a || (b || c)) ≡ true
-or_more true b c h = refl
-or_more false true c h = refl
-or_more false false c h = h
-
 -- ---- a version more
 
 module _ (w : World) (file opened : ℕ) (cells : List Cell) where
@@ -46,25 +37,21 @@ module _ (w : World) (file opened : ℕ) (cells : List Cell) where
   held_after id = grind (arith, nat_tests, list_any-insert_before, list_any-update_first)
 
   versioned : AreBusyBut w file → AreBusy after
-  versioned = all-update_first (is_file file) (λ row. (row.id == file) ≡ false → has_rows w row.id ≡ true) (λ row. has_rows after row.id ≡ true) numbered_on w.files (λ row h. one row.id h (row.id == file) refl) (λ row h. one row.id h (row.id == file) refl) where
-    one : (id : ℕ) → ((id == file) ≡ false → has_rows w id ≡ true) → (b : Bool) → (id == file) ≡ b → has_rows after id ≡ true
-    one id h true e = let same : (file == id) ≡ true = grind (arith, nat_tests) in rw (held_after id, same) refl
-    one id h false e = rw (held_after id) (or_mid (file == id) (list_any (is_version_of id) w.versions) (has_draft w id) (h e))
+  versioned = grind (arith, nat_tests, all-update_first (is_file file) (λ row. (row.id == file) ≡ false → has_rows w row.id ≡ true) (λ row. has_rows after row.id ≡ true) numbered_on w.files, held_after)
 
 -- ---- the other changes
 
 made : (w : World) (directory : ℕ) (name : List ℕ) (id : ℕ) (policy : Policy) → AreBusy w → AreBusy (after_change w (MakeFile directory name id policy))
-made w directory name id policy all = versioned (with_name (with_file w id policy) directory name (File id)) id w.now []
-    (all-push (λ row. (row.id == id) ≡ false → has_rows w row.id ≡ true) w.files (record { id = id; policy = policy; next = 1 }) (all_but w id all) (λ apart. absurd (let own : (id == id) ≡ true = grind (arith, nat_tests) in false≢true (sym apart ∙ own))))
+made w directory name id policy all = versioned (with_name (with_file w id policy) directory name (File id)) id w.now [] (grind (arith, nat_tests, all-push (λ row. (row.id == id) ≡ false → has_rows w row.id ≡ true) w.files, all_but w id))
 
 put : (w : World) (file : ℕ) (policy : Policy) → AreBusy w → AreBusy (after_change w (PutUnder file policy))
-put w file policy = all-update_first (is_file file) (λ row. has_rows w row.id ≡ true) (λ row. has_rows w row.id ≡ true) (put_under policy) w.files (λ row h. h) (λ row h. h)
+put w file policy = grind (arith, nat_tests, all-update_first (is_file file) (λ row. has_rows w row.id ≡ true) (λ row. has_rows w row.id ≡ true) (put_under policy) w.files)
 
 nameless : (w : World) (directory : ℕ) (name : List ℕ) (file : ℕ) → AreBusy w → AreBusy (after_change w (EndFileName directory name file))
 nameless w directory name file all = grind (arith, nat_tests, all-weaker, list_any-update_first)
 
 begun : (w : World) (file : ℕ) → AreBusy w → AreBusy (after_change w (StartDraft file))
-begun w file = grind (arith, nat_tests, all-weaker, list_any-insert_before, or_more)
+begun w file = grind (arith, nat_tests, all-weaker, list_any-insert_before)
 
 edited : (w : World) (file : ℕ) (f : DraftRow → DraftRow) → ((row : DraftRow) → (f row).file ≡ row.file) → AreBusy w → AreBusy (record w { drafts = update_first (is_draft file) f w.drafts })
 edited w file f same = grind (arith, nat_tests, all-weaker, list_any-update_first)
@@ -85,20 +72,12 @@ busy_is : (w : World) (file : ℕ) → IsWellFormed w → is_idle w file ≡ fal
 busy_is w file k = grind (arith, nat_tests, held_if_live, false≢true)
 
 idle_gone : (w : World) (file : ℕ) → IsWellFormed w → AreBusyBut w file → AreBusy (after_change w (DropIdle file))
-idle_gone w file k but = dropped AreBusy w file (λ idle. gone) (λ busy. all-weaker (λ row. (row.id == file) ≡ false → has_rows w row.id ≡ true) (λ row. has_rows w row.id ≡ true) w.files (λ row h. stays busy row h (row.id == file) refl) but) where
-  stays : is_idle w file ≡ false → (row : FileRow) → ((row.id == file) ≡ false → has_rows w row.id ≡ true) → (b : Bool) → (row.id == file) ≡ b → has_rows w row.id ≡ true
-  stays busy row h true e = let same : file ≡ row.id = grind (arith, nat_tests) in subst (λ id. has_rows w id ≡ true) same (busy_is w file k busy)
-  stays busy row h false e = h e
-
+idle_gone w file k but = dropped AreBusy w file (λ idle. gone) (λ busy. grind (arith, nat_tests, busy_is w file k, all-weaker (λ row. (row.id == file) ≡ false → has_rows w row.id ≡ true) (λ row. has_rows w row.id ≡ true) w.files)) where
   others : AllByRecursion (λ row. not (row.id == file) ≡ true) (remove_first (is_file file) w.files)
-  others = subst (AllByRecursion (λ (row : FileRow). not (row.id == file) ≡ true)) (sym (remove_first-key (λ (row : FileRow). row.id) file w.files (k.holds Files).placed)) (filter-passes (λ (row : FileRow). not (row.id == file)) w.files)
-
-  apart : (b : Bool) → not b ≡ true → b ≡ false
-  apart true h = absurd (false≢true h)
-  apart false h = refl
+  others = rw (remove_first-key (λ (row : FileRow). row.id) file w.files (k.holds Files).placed) (filter-passes (λ (row : FileRow). not (row.id == file)) w.files)
 
   gone : AreBusy (without_file w file)
-  gone = all-weaker (λ row. (not (row.id == file) ≡ true) × ((row.id == file) ≡ false → has_rows w row.id ≡ true)) (λ row. has_rows w row.id ≡ true) (remove_first (is_file file) w.files) (λ row h. h.1 (apart (row.id == file) h.0))
+  gone = all-weaker (λ row. (not (row.id == file) ≡ true) × ((row.id == file) ≡ false → has_rows w row.id ≡ true)) (λ row. has_rows w row.id ≡ true) (remove_first (is_file file) w.files) (λ row h. h.1 (not-true (row.id == file) h.0))
       (all-both _ _ (remove_first (is_file file) w.files) others (all-remove_first (is_file file) (λ row. (row.id == file) ≡ false → has_rows w row.id ≡ true) w.files but))
 
 -- ---- each event
@@ -126,8 +105,7 @@ tidy w (Close handle) k all = λ read found. (
 )
 tidy w (Revert path number) k all = λ file found row meant drafts versions. versioned w file w.now row.cells (all_but w file all)
 tidy w CleanOne k all = (λ none. all, λ key first. idle_gone (after_change w (Take key.file key.number)) key.file (change_keeps CleanOne w w (Take key.file key.number) tt (takes w key k first) k) (taken w key.file key.number all))
-tidy w (Read (Of handle)) k all = λ read found. all
-tidy w (Read (Tagged tagged)) k all = λ row found. all
+tidy w (Read source) k all = grind (arith, nat_tests)
 tidy w event k all = search (rules, made, nameless, begun, edited, same_file, put)
 
 pub no_idle_stays : NoIdleStays

@@ -7,31 +7,23 @@ use Rattle.ele_world.proofs.Neighbours.{AreInOrder, found_moment, ripe_at_near}
 pub read_moment : (w : World) (file number : ℕ) → AreInOrder w.files w.versions → is_open w.handles file number ≡ true → ripe_at w file number ≡ None
 read_moment w file number ordered is_read = ripe_at_near w file number ordered ∙ rw is_read refl
 
-or_false : (b : Bool) → (b || false) ≡ b
-or_false true = refl
-or_false false = refl
-
 module _ (w : World) (number : ℕ) (reads : Reads) where
   -- a handle more that reads this opens just what it reads
   pub open_more : (f n : ℕ) → is_open (after_change w (OpenHandle number reads)).handles f n ≡ (is_open w.handles f n || reads_version f n reads)
-  open_more f n = grind (arith, nat_tests, list_any-append, reads_version, is_open, or_false)
+  open_more f n = grind (arith, nat_tests, list_any-append, reads_version, is_open)
 
   -- no other moment changes
   pub opened_others : AreInOrder w.files w.versions → (f n : ℕ) → reads_version f n reads ≡ false → ripe_at (after_change w (OpenHandle number reads)) f n ≡ ripe_at w f n
-  opened_others ordered f n other = found_moment w (after_change w (OpenHandle number reads)) f n ordered ordered (λ closed ended. refl) refl (open_more f n ∙ rw other (or_false (is_open w.handles f n))) refl refl
+  opened_others ordered f n other = grind (arith, nat_tests, found_moment w (after_change w (OpenHandle number reads)) f n ordered ordered, open_more f n)
 
   -- and what it reads has none
   pub opened_own : AreInOrder w.files w.versions → (f n : ℕ) → reads_version f n reads ≡ true → ripe_at (after_change w (OpenHandle number reads)) f n ≡ None
   opened_own ordered f n own = grind (arith, nat_tests, read_moment (after_change w (OpenHandle number reads)) f n ordered, open_more f n)
 
 module _ (w : World) (number : ℕ) (reads : Reads) (is : reads_by w.handles number ≡ Ok reads) where
-  -- the handle's row reads this
-  found_reads : (row : HandleRow) → find (is_handle number) w.handles ≡ Some row → row.reads ≡ reads
-  found_reads row found = let same : option_map_or (λ (r : HandleRow). Ok r.reads) (Some row) (Err NoHandle) ≡ Ok reads = ap (λ o. option_map_or (λ (r : HandleRow). Ok r.reads) o (Err NoHandle)) (sym found) ∙ is in cc
-
   -- what else was open is so without the handle
   pub open_still : (f n : ℕ) → reads_version f n reads ≡ false → is_open (remove_first (is_handle number) w.handles) f n ≡ is_open w.handles f n
-  open_still f n other = list_any-remove_first (is_handle number) (λ row. reads_version f n row.reads) w.handles (λ row found. rw (found_reads row found) other)
+  open_still f n other = grind (arith, nat_tests, list_any-remove_first (is_handle number) (λ row. reads_version f n row.reads) w.handles)
 
   -- and has the moment that it had
   pub shut_others : AreInOrder w.files w.versions → (f n : ℕ) → reads_version f n reads ≡ false → ripe_at (after_change w (ShutHandle number)) f n ≡ ripe_at w f n

@@ -23,19 +23,16 @@ drafts-opened w file = grind (arith, nat_tests, filter-insert_before)
 abbrev pub other_versions : ℕ → List VersionRow → List VersionRow
 other_versions file rows = filter (λ row. not (eqb row.file file)) rows
 
-own_version : (file number : ℕ) (row : VersionRow) → is_version file number row ≡ true → not (eqb row.file file) ≡ false
-own_version file number row e = grind (arith, nat_tests)
-
 pub versions-removed : (file number : ℕ) (rows : List VersionRow) → other_versions file (remove_first (is_version file number) rows) ≡ other_versions file rows
-versions-removed file number rows = grind (arith, nat_tests, filter-remove_first, own_version, found_passes)
+versions-removed file number rows = grind (arith, nat_tests, filter-remove_first, found_passes)
 
 pub versions-finished : (file next number now : ℕ) (row : VersionRow) (rows : List VersionRow) → row.file ≡ file → other_versions file (insert_before (is_version_after file next) row (update_first (is_version file number) (ended_at now) rows)) ≡ other_versions file rows
-versions-finished file next number now row rows own = grind (arith, nat_tests, filter-insert_before, filter-update_first, own_version)
+versions-finished file next number now row rows own = grind (arith, nat_tests, filter-insert_before, filter-update_first)
 
 -- ---- files
 
 pub kinds-numbered : (files : List FileRow) (file : ℕ) (k : Kind) (id : ℕ) → is_file_of (update_first (is_file file) numbered_on files) k id ≡ is_file_of files k id
-kinds-numbered files file k id = ap (λ (p : Option Policy). option_map_or (λ (policy : Policy). is_kind k (kind_of policy)) p false) (policies-numbered files file id)
+kinds-numbered files file k id = grind (arith, nat_tests, policies-numbered)
 
 pub files-numbered : (files : List FileRow) (file : ℕ) (k : Kind) → length (filter (is_of k) (update_first (is_file file) numbered_on files)) ≡ length (filter (is_of k) files)
 files-numbered [] file k = refl

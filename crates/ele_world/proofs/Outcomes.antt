@@ -1,5 +1,5 @@
 -- What holds of all that a plan may come to holds of what it comes to.
-use Rattle.ele_world.proofs.Basics.{◌≡◌, true, false, List, [], Some, None, Ok, refl}
+use Rattle.ele_world.proofs.Basics.{arith, ◌≡◌, true, false, List, [], Some, None, Ok, refl}
 use Rattle.ele_world.proofs.Words.{Change, after_changes, Plan, Tell, Make, Unless, When, Need, IfFound, refused, outcome, World, Refusal, Reply}
 
 -- of each answer with its changes, where the checks pass
@@ -15,8 +15,7 @@ pub outcome_of : (w : World) (Q : Reply → List Change → Type 0) (R : Reply �
 outcome_of w Q R to none (Tell reply) all = to reply [] all
 outcome_of w Q R to none (Make reply changes) all = to reply changes all
 outcome_of w Q R to none (Unless false refusal next) all = outcome_of w Q R to none next (all refl)
-outcome_of w Q R to none (When true passing otherwise) all = outcome_of w Q R to none passing (all.0 refl)
-outcome_of w Q R to none (When false passing otherwise) all = outcome_of w Q R to none otherwise (all.1 refl)
+outcome_of w Q R to none (When test passing otherwise) all = grind (arith, outcome_of w Q R to none passing, outcome_of w Q R to none otherwise)
 outcome_of w Q R to none (Need (Ok x) next) all = outcome_of w Q R to none (next x) (all x refl)
 outcome_of w Q R to none (IfFound None otherwise next) all = outcome_of w Q R to none otherwise (all.0 refl)
 outcome_of w Q R to none (IfFound (Some x) otherwise next) all = outcome_of w Q R to none (next x) (all.1 x refl)

@@ -13,13 +13,11 @@ IsFair event reply [] = Unit {0}
 IsFair event reply (change ∷ changes) = (is_refusal reply || asks event) ≡ false
 
 fair : (w : World) (event : Event) → InAll (IsFair event) (plan w event)
-fair w (Read (Of handle)) = λ read found. tt
-fair w (Read (Tagged tagged)) = λ row found. tt
+fair w (Read source) = grind (arith, nat_tests)
 fair w event = search (rules)
 
 still : (w : World) (event : Event) (reply : Reply) (changes : List Change) → IsFair event reply changes → (is_refusal reply || asks event) ≡ true → after_changes w changes ≡ w
-still w event reply [] fair is = refl
-still w event reply (change ∷ changes) fair is = absurd (false≢true (sym fair ∙ is))
+still w event reply changes fair is = grind (arith, nat_tests, false≢true)
 
 stays : (w : World) (event : Event) → (is_refusal ((step w event).0) || asks event) ≡ true → (step w event).1 ≡ w
 stays w event = outcome_of w (IsFair event) (λ answer. (is_refusal (answer.0) || asks event) ≡ true → answer.1 ≡ w) (still w event) (λ refusal is. refl) (plan w event) (fair w event)

@@ -16,10 +16,8 @@ module _ (rows : List NameRow) where
 
   -- what is moved doesn't avoid itself, where it leads to a directory
   avoids_itself : (moved : Target) (names : List (List ℕ)) (d : ℕ) → walk rows moved names ≡ Ok (Directory d) → Avoids moved moved names → ⊥
-  avoids_itself (File file) [] d h avoids = cc
-  avoids_itself (File file) (m ∷ names) d h avoids = cc
-  avoids_itself (Directory id) [] d h avoids = let own : (id == id) ≡ true = grind (arith, nat_tests) in false≢true (sym avoids ∙ own)
-  avoids_itself (Directory id) (m ∷ names) d h avoids = grind (arith, nat_tests, false≢true)
+  avoids_itself moved [] d h avoids = grind (arith, nat_tests, false≢true)
+  avoids_itself moved (m ∷ names) d h avoids = grind (arith, nat_tests, false≢true)
 
   module _ (at : ℕ × List ℕ) (moved : Target) (now : ℕ) (stands : live_target rows at.0 at.1 ≡ Some moved) where
     abbrev left : List NameRow
@@ -28,10 +26,7 @@ module _ (rows : List NameRow) where
     leads_still : (d : ℕ) (from : Target) (names : List (List ℕ)) → Avoids moved from names → walk rows from names ≡ Ok (Directory d) → walk left from names ≡ Ok (Directory d)
     leads_still d from [] avoids h = h
     leads_still d (File file) (m ∷ names) avoids h = absurd cc
-    leads_still d (Directory e) (m ∷ names) avoids h = onward (λ next. leads_still d next names) (live_target rows e m) refl h where
-      onward : ((next : Target) → Avoids moved next names → walk rows next names ≡ Ok (Directory d) → walk left next names ≡ Ok (Directory d)) → (o : Option Target) → live_target rows e m ≡ o → option_map_or (λ target. walk rows target names) o (Err NoEntry) ≡ Ok (Directory d) → walk left (Directory e) (m ∷ names) ≡ Ok (Directory d)
-      onward more None edge h = absurd cc
-      onward more (Some next) edge h = grind (arith, nat_tests, false≢true, other_stays rows at.0 at.1 now e m, bytes_eq-Decides, avoids_itself)
+    leads_still d (Directory e) (m ∷ names) avoids h = grind (arith, nat_tests, false≢true, (λ (next : Target). leads_still d next names), other_stays rows at.0 at.1 now e m, bytes_eq-Decides, avoids_itself)
 
 -- ---- the law
 
@@ -66,5 +61,4 @@ module _ (w : World) (from to : List (List ℕ)) (k : IsWellFormed w) (old : ℕ
   }
 
 pub rename_leads : RenameLeads
-rename_leads w from to k = in_all w (λ answer. answer.0 ≡ Done → LeadsInstead w from to (answer.1)) (plan w (Rename from to)) (λ refusal e. absurd cc)
-    (λ old found moved leads at home apart free names e. leads_instead w from to k old found moved leads at home apart free)
+rename_leads w from to k = grind (arith, nat_tests, leads_instead w from to k)

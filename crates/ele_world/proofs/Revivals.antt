@@ -7,16 +7,9 @@ use Rattle.ele_world.proofs.May.{MayRevive}
 use Rattle.ele_world.proofs.Others.{kinds-numbered, files-numbered, versions-finished}
 
 module _ (w : World) (directory : ℕ) (name : List ℕ) (file : ℕ) (may : MayRevive w directory name file) (k : IsWellFormed w) where
-  each : AllByRecursion (IsVersion w.files w.now) w.versions
-  each = (k.holds Versions).each
-
   -- the file may have its next version once it has the name
   pub named_grows : MayGrow (with_name w directory name (File file)) file
-  named_grows =
-      let last = last_is w file may.last each may.held in
-      let next : may.last.number < next_of w.files file = subst (λ f. may.last.number < next_of w.files f) last.own last.is.numbered in
-      let grows = may_grow w file k (omega arith) in
-      record { there = grows.there; versions = grows.versions; readers = grows.readers; policies = grows.policies }
+  named_grows = grind (arith, nat_tests, last_is w file may.last (k.holds Versions).each may.held, may_grow w file k)
 
 -- ---- usage
 

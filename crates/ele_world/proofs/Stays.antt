@@ -1,5 +1,5 @@
 -- What an event does to the versions that are held before it.
-use Rattle.ele_world.proofs.Basics.{nat_tests, ◌≡◌, ℕ, true, List, [], ◌∷◌, Option, Some, None, ap, ◌∙◌, arith, ◌⊎◌, inl, inr, find, list_any, AllByRecursion, option_map, all-weaker, all-both, AllLater}
+use Rattle.ele_world.proofs.Basics.{nat_tests, ◌≡◌, ℕ, true, List, [], ◌∷◌, Option, Some, None, ap, ◌∙◌, arith, ◌⊎◌, inl, inr, find, list_any, AllByRecursion, option_map, all-weaker, all-both, any-found, found_passes, AllLater}
 use Rattle.ele_world.proofs.Words.{Change, after_change, after_changes, ended_at, is_due_at, IsSameVersion, StaysSame, StaysOrWasDue, plan, step, ArePlaced, IsVersion, Files, Versions, IsWellFormed, World, is_version, Event, CleanOne, VersionRow}
 use Rattle.ele_world.proofs.DueRows.{due_is_unmarked, due_is_unread}
 use Rattle.ele_world.proofs.Allowed.{allowed}
@@ -20,11 +20,7 @@ abbrev StillOrDue : Event → World → VersionRow → Option VersionRow → Typ
 StillOrDue event first row found = IsStill row found ⊎ ((event ≡ CleanOne) × (is_due_at first row first.now ≡ true) × (found ≡ None))
 
 moved : (event : Event) (first : World) (now : ℕ) (rows : List VersionRow) (row : VersionRow) (before after : Option VersionRow) → IsFound first.versions row → StillOrDue event first row before → Moves event first now rows row.file row.number before after → StillOrDue event first row after
-moved event first now rows row before after found (inl still) (Same e) = inl (record { after = still.after; is = e ∙ still.is; same = still.same })
-moved event first now rows row before after found (inl still) (Ended e) = grind (arith, nat_tests)
-moved event first now rows row before after found (inr gone) (Same e) = inr (gone.0, gone.1, e ∙ gone.2)
-moved event first now rows row before after found (inr gone) (Ended e) = inr (gone.0, gone.1, e ∙ ap (option_map (ended_at now)) gone.2)
-moved event first now rows row before after found was (Taken w may same none) = grind (arith, nat_tests)
+moved event first now rows row before after found was moves = grind (arith, nat_tests)
 
 follow : (event : Event) (first w : World) (row : VersionRow) (changes : List Change) → IsFound first.versions row → AllLater ArePlaced first.versions → MayAll event first w changes → IsPast w row.file row.number → StillOrDue event first row (find (is_version row.file row.number) w.versions) → StillOrDue event first row (find (is_version row.file row.number) (after_changes w changes).versions)
 follow event first w row [] found placed may past was = was
@@ -40,11 +36,10 @@ row_stays w event row k is found = grind (arith, nat_tests, k.holds Versions, re
 -- ---- both laws
 
 held_if_found : (file number : ℕ) (rows : List VersionRow) (row : VersionRow) → find (is_version file number) rows ≡ Some row → list_any (is_version file number) rows ≡ true
-held_if_found file number [] row h = absurd cc
-held_if_found file number (x ∷ xs) row h = grind (arith, nat_tests, held_if_found file number xs row)
+held_if_found file number rows row h = any-found (is_version file number) (is_version file number) rows row h (found_passes (is_version file number) rows row h)
 
 each_row : (w : World) (event : Event) (Q : VersionRow → Type 0) → IsWellFormed w → ((row : VersionRow) → StillOrDue event w row (find (is_version row.file row.number) ((step w event).1).versions) → Q row) → AllByRecursion Q w.versions
-each_row w event Q k then = all-weaker (λ row. IsVersion w.files w.now row × IsFound w.versions row) Q w.versions (λ row h. then row (row_stays w event row k h.0 h.1)) (all-both (IsVersion w.files w.now) (IsFound w.versions) w.versions (k.holds Versions).each (all_found w.versions (k.holds Versions).placed))
+each_row w event Q k then = grind (arith, nat_tests, k.holds Versions, all-weaker (λ row. IsVersion w.files w.now row × IsFound w.versions row) Q w.versions, row_stays w event, all-both (IsVersion w.files w.now) (IsFound w.versions) w.versions, all_found w.versions)
 
 pub only_due_leave : (w : World) (event : Event) → IsWellFormed w → AllByRecursion (StaysOrWasDue w event) w.versions
 only_due_leave w event k = grind (arith, nat_tests, each_row w event (StaysOrWasDue w event) k, held_if_found, due_is_unread w, due_is_unmarked w)

@@ -15,7 +15,7 @@ IsFound rows row = find (is_version row.file row.number) rows ≡ Some row
 -- each row is the one that is found by its file and number
 pub all_found : (rows : List VersionRow) → AllLater ArePlaced rows → AllByRecursion (IsFound rows) rows
 all_found [] placed = tt
-all_found (x ∷ xs) placed = (rw (is_itself x) refl, all-weaker (λ y. ArePlaced x y × IsFound xs y) (IsFound (x ∷ xs)) xs (λ y h. rw (apart x y h.0) (h.1)) (all-both (ArePlaced x) (IsFound xs) xs placed.0 (all_found xs placed.1)))
+all_found (x ∷ xs) placed = grind (arith, nat_tests, all-weaker (λ y. ArePlaced x y × IsFound xs y) (IsFound (x ∷ xs)) xs, apart, is_itself, all-both (ArePlaced x) (IsFound xs) xs, all_found xs)
 
 -- the row has ended by then
 pub record IsEndedBy (now : ℕ) (row : VersionRow) : Type 0 where
@@ -30,15 +30,11 @@ ends now row h = grind (arith, nat_tests)
 pub other_ended : (files : List FileRow) (now : ℕ) (row : VersionRow) → IsVersion files now row → (row.number + 1 ≡ next_of files row.file → ⊥) → IsEndedBy now row
 other_ended files now row h not_last = grind (arith, nat_tests)
 
+-- behind the last stands none of the file
+none_later : (files : List FileRow) (now file : ℕ) (x : VersionRow) (xs : List VersionRow) → is_version file (next_of files file - 1) x ≡ true → AllByRecursion (ArePlaced x) xs → AllByRecursion (IsVersion files now) xs → AllByRecursion (λ row. row.file ≡ file → IsEndedBy now row) xs
+none_later files now file x xs e placed all = all-weaker (λ y. ArePlaced x y × IsVersion files now y) (λ row. row.file ≡ file → IsEndedBy now row) xs (λ y h same. absurd (grind (arith, nat_tests))) (all-both (ArePlaced x) (IsVersion files now) xs placed all)
+
 -- once the last has ended all of the file have
 pub file_ended : (files : List FileRow) (now file : ℕ) (rows : List VersionRow) → AllLater ArePlaced rows → AllByRecursion (IsVersion files now) rows → AllByRecursion (λ row. row.file ≡ file → IsEndedBy now row) (update_first (is_version file (next_of files file - 1)) (ended_at now) rows)
 file_ended files now file [] placed all = tt
-file_ended files now file (x ∷ xs) placed all = elim (is_version file (next_of files file - 1) x) as (λ b. is_version file (next_of files file - 1) x ≡ b → AllByRecursion (λ row. row.file ≡ file → IsEndedBy now row) (cond b (ended_at now x ∷ xs) (x ∷ update_first (is_version file (next_of files file - 1)) (ended_at now) xs))) [
-  | true ↦ λ e. ((λ _. ends now x all.0.ended), all-weaker (λ y. ArePlaced x y × IsVersion files now y) (λ row. row.file ≡ file → IsEndedBy now row) xs (λ y h same. absurd (no_later x y e h.0 h.1 same)) (all-both (ArePlaced x) (IsVersion files now) xs placed.0 all.1))
-  | false ↦ λ e. ((λ same. other_ended files now x all.0 (λ last. not_that x e same last)), file_ended files now file xs placed.1 all.1)
-] refl where
-  no_later : (x y : VersionRow) → is_version file (next_of files file - 1) x ≡ true → ArePlaced x y → IsVersion files now y → y.file ≡ file → ⊥
-  no_later x y e placed is same = grind (arith, nat_tests)
-
-  not_that : (x : VersionRow) → is_version file (next_of files file - 1) x ≡ false → x.file ≡ file → x.number + 1 ≡ next_of files x.file → ⊥
-  not_that x e same last = grind (arith, nat_tests)
+file_ended files now file (x ∷ xs) placed all = grind (arith, nat_tests, ends now x all.0.ended, other_ended files now x all.0, none_later files now file x xs, file_ended files now file xs placed.1 all.1)

@@ -1,5 +1,5 @@
 -- A file's rows in a well-formed world, and which are newer than one of them, by its place.
-use Rattle.ele_world.proofs.Basics.{◌≡◌, ℕ, ◌<◌, ◌≤◌, true, false, List, [], ◌∷◌, ◌++◌, Some, refl, ap, sym, subst, ◌∙◌, filter, arith, slice_get, IfSome, AllByRecursion, filter-append, IfSome_then, nat_tests, AllLater, all-weaker, all-filter, later-filter, later-around, filter-all, filter-none}
+use Rattle.ele_world.proofs.Basics.{◌≡◌, ℕ, ◌<◌, ◌≤◌, true, false, List, [], ◌∷◌, ◌++◌, Some, refl, ap, sym, subst, ◌∙◌, filter, arith, slice_get, IfSome, AllByRecursion, filter-append, IfSome_then, nat_tests, AllLater, all-weaker, all-filter, all-map, all-right, later-right, later-filter, later-around, filter-all, filter-none}
 use Rattle.ele_world.proofs.Words.{last_moment, IsPolicy, IsNearest, FileRow, VersionRow, FileView, view_of, is_version_of, is_newer, closings, beside, Now, Files, Versions, IsFile, IsVersion, ArePlaced, IsWellFormed, World, policy_of}
 
 -- the version didn't end before it closed
@@ -52,22 +52,16 @@ view_is w k file = view_in w file (policies_of w k) (lives_of w k) (placed_of w 
 
 -- ---- the newer rows
 
-is_before : (x y : VersionRow) → Precedes x y → is_newer x y ≡ true
-is_before x y h = let less = h.number in grind (arith, nat_tests)
-
-isnt_behind : (x y : VersionRow) → Precedes x y → is_newer y x ≡ false
-isnt_behind x y h = let less = h.number in grind (arith, nat_tests)
-
 -- they are those behind
 pub newer_is : (xs : List VersionRow) (row : VersionRow) (ys : List VersionRow) → AllLater Precedes (xs ++ row ∷ ys) → filter (is_newer row) (xs ++ row ∷ ys) ≡ ys
-newer_is xs row ys placed = grind (arith, nat_tests, later-around Precedes xs, filter-append, filter-none, all-weaker, isnt_behind, filter-all, is_before)
+newer_is xs row ys placed = grind (arith, nat_tests, later-around Precedes xs, filter-append, filter-none, all-weaker, filter-all)
 
 all_behind : (x row : VersionRow) (ys : List VersionRow) → Precedes x row → AllByRecursion (Precedes row) ys → filter (is_newer x) ys ≡ ys
-all_behind x row ys before all = filter-all (is_newer x) ys (all-weaker (Precedes row) (λ y. is_newer x y ≡ true) ys (λ y h. let one = before.number in let two = h.number in grind (arith, nat_tests)) all)
+all_behind x row ys before all = grind (arith, nat_tests, filter-all, all-weaker (Precedes row))
 
 -- of one before the row: some before the row, the row, and all behind it
 pub newer_before : (x : VersionRow) (xs : List VersionRow) (row : VersionRow) (ys : List VersionRow) → AllLater Precedes (xs ++ row ∷ ys) → Precedes x row → filter (is_newer x) (xs ++ row ∷ ys) ≡ filter (is_newer x) xs ++ row ∷ ys
-newer_before x xs row ys placed before = grind (arith, nat_tests, filter-append, is_before, all_behind, later-around)
+newer_before x xs row ys placed before = grind (arith, nat_tests, filter-append (is_newer x) xs (row ∷ ys), all_behind x row ys before, later-around Precedes xs row ys placed)
 
 -- and without the row the others
 pub newer_without : (x : VersionRow) (xs : List VersionRow) (row : VersionRow) (ys : List VersionRow) → AllLater Precedes (xs ++ row ∷ ys) → Precedes x row → filter (is_newer x) (xs ++ ys) ≡ filter (is_newer x) xs ++ ys
@@ -75,29 +69,18 @@ newer_without x xs row ys placed before = grind (arith, nat_tests, filter-append
 
 -- of one behind the row: the same with it and without
 pub newer_behind : (x : VersionRow) (xs : List VersionRow) (row : VersionRow) (ys : List VersionRow) → Precedes row x → filter (is_newer x) (xs ++ row ∷ ys) ≡ filter (is_newer x) (xs ++ ys)
-newer_behind x xs row ys after = grind (arith, nat_tests, filter-append, isnt_behind)
+newer_behind x xs row ys after = grind (arith, nat_tests, filter-append)
 
 -- ---- their closings
 
 -- they never fall
 closings_rise : (rows : List VersionRow) → AllByRecursion IsLife rows → AllLater Precedes rows → AllLater ◌≤◌ (closings rows)
 closings_rise [] lives placed = tt
-closings_rise (x ∷ xs) lives placed = (each xs placed.0, closings_rise xs lives.1 placed.1) where
-  each : (ys : List VersionRow) → AllByRecursion (Precedes x) ys → AllByRecursion (◌≤◌ x.closed) (closings ys)
-  each [] all = tt
-  each (y ∷ ys) all = grind (arith, nat_tests, each ys all.1)
-
-tail_of : (xs rows : List VersionRow) → AllByRecursion IsLife (xs ++ rows) → AllLater Precedes (xs ++ rows) → AllByRecursion IsLife rows × AllLater Precedes rows
-tail_of [] rows lives placed = (lives, placed)
-tail_of (x ∷ xs) rows lives placed = tail_of xs rows lives.1 placed.1
+closings_rise (x ∷ xs) lives placed = grind (arith, nat_tests, all-map (λ row. row.closed) (◌≤◌ x.closed) xs, all-weaker (Precedes x) (λ row. x.closed ≤ row.closed) xs, closings_rise xs)
 
 -- so what stands beside a row is as its policy wants it
 pub nearest_is : (v : FileView) → IsView v → (xs : List VersionRow) (row : VersionRow) (ys : List VersionRow) → v.rows ≡ xs ++ row ∷ ys → IsNearest row.closed (slice_get (beside v row).newer 0) (beside v row)
-nearest_is v view xs row ys whole =
-    let placed = subst (AllLater Precedes) whole view.placed in
-    let tail = tail_of xs (row ∷ ys) (subst (AllByRecursion IsLife) whole view.lives) placed in
-    let newer : filter (is_newer row) v.rows ≡ ys = ap (filter (is_newer row)) whole ∙ newer_is xs row ys placed in
-    record { in_order = subst (λ t. AllLater ◌≤◌ (row.closed ∷ closings t)) (sym newer) (closings_rise (row ∷ ys) tail.0 tail.1); first = refl }
+nearest_is v view xs row ys whole = grind (arith, nat_tests, closings_rise (row ∷ ys), newer_is xs row ys, all-right IsLife xs (row ∷ ys), later-right Precedes xs (row ∷ ys))
 
 -- ---- the rows of a row's own file
 

@@ -1,6 +1,6 @@
 -- What a path leads to, where it stands, and where a name is added.
 use Rattle.ele_world.proofs.Basics.{◌≡◌, ℕ, suc, zero, ◌+◌, ◌-◌, ◌<◌, true, false, List, [], ◌∷◌, ◌++◌, length, take, Option, Some, None, Result, Ok, Err, refl, ap, sym}
-use Rattle.ele_world.proofs.Basics.{◌∙◌, arith, find, is_some, slice_get, AllByRecursion, list_any, option_map_or, false≢true, nat_tests, find-append, bytes_eq-Decides, all-found, found_passes, any-found}
+use Rattle.ele_world.proofs.Basics.{◌∙◌, arith, find, is_some, nil_from_length, slice_get_within, slice_get, AllByRecursion, list_any, option_map_or, false≢true, nat_tests, find-append, bytes_eq-Decides, all-found, found_passes, any-found}
 use Rattle.ele_world.proofs.Words.{Refusal, NoEntry, FileRow, NameRow, Target, File, Directory, born_row, is_live_name, live_target, walk, walk_now, file_at, file_now, directory_in, directory_now, parent_now, IsNameRow, IsThere, next_of, root, is_live_name_of}
 
 -- ---- what is true of each target of a live name is so of the place that a walk ends at
@@ -9,11 +9,7 @@ walk_to : (P : Target → Type 0) (rows : List NameRow) → ((directory : ℕ) (
     → (at target : Target) (names : List (List ℕ)) → P at → walk rows at names ≡ Ok target → P target
 walk_to P rows each at target [] so h = let same : at ≡ target = cc in rw (← same) so
 walk_to P rows each (File file) target (name ∷ names) so h = absurd cc
-walk_to P rows each (Directory directory) target (name ∷ names) so h =
-    go (λ next so. walk_to P rows each next target names so) (live_target rows directory name) refl h where
-      go : ((next : Target) → P next → walk rows next names ≡ Ok target → P target) → (o : Option Target) → live_target rows directory name ≡ o → option_map_or (λ target. walk rows target names) o (Err NoEntry) ≡ Ok target → P target
-      go onward None e h = absurd cc
-      go onward (Some next) e h = onward next (each directory name next e) h
+walk_to P rows each (Directory directory) target (name ∷ names) so h = grind (arith, nat_tests, each directory name, (λ (next : Target). walk_to P rows each next target names))
 
 -- what is true of the row of each live name's target
 pub live_row : (P : Target → Type 0) (rows : List NameRow) (directory : ℕ) (name : List ℕ) (target : Target)
@@ -26,9 +22,7 @@ file_of r file h = grind (arith, nat_tests)
 -- the file at a path is there
 pub file_there : (files : List FileRow) (now : ℕ) (rows : List NameRow) (path : List (List ℕ)) (file : ℕ) → AllByRecursion (IsNameRow files now) rows → file_now rows path ≡ Ok file → 0 < next_of files file
 file_there files now rows path file all h =
-    walk_to (IsThere files) rows (λ directory name target. live_row (IsThere files) rows directory name target
-    (λ row found. let is : IsNameRow files now row = all-found (is_live_name directory name) (IsNameRow files now) rows row found all in is.there))
-    (Directory root) (File file) path tt (file_of (walk_now rows path) file h)
+    walk_to (IsThere files) rows (λ directory name target. grind (arith, nat_tests, live_row, all-found)) (Directory root) (File file) path tt (file_of (walk_now rows path) file h)
 
 -- it is live
 abbrev pub IsLive : List NameRow → Target → Type 0
@@ -50,31 +44,20 @@ live_target-push rows row directory name target h = grind (arith, nat_tests, fin
 pub walk-push : (rows : List NameRow) (row : NameRow) (at : Target) (names : List (List ℕ)) (target : Target) → walk rows at names ≡ Ok target → walk (rows ++ row ∷ []) at names ≡ Ok target
 walk-push rows row at [] target h = h
 walk-push rows row (File file) (name ∷ names) target h = absurd cc
-walk-push rows row (Directory directory) (name ∷ names) target h = go (λ next. walk-push rows row next names target) (live_target rows directory name) refl h where
-  go : ((next : Target) → walk rows next names ≡ Ok target → walk (rows ++ row ∷ []) next names ≡ Ok target) → (o : Option Target) → live_target rows directory name ≡ o → option_map_or (λ target. walk rows target names) o (Err NoEntry) ≡ Ok target → walk (rows ++ row ∷ []) (Directory directory) (name ∷ names) ≡ Ok target
-  go onward None e h = absurd cc
-  go onward (Some next) e h = rw (live_target-push rows row directory name next e) (onward next h)
+walk-push rows row (Directory directory) (name ∷ names) target h = grind (arith, nat_tests, live_target-push, (λ (next : Target). walk-push rows row next names target))
 
 -- a walk goes on from where it led
 pub walk-on : (rows : List NameRow) (at target : Target) (names more : List (List ℕ)) → walk rows at names ≡ Ok target → walk rows at (names ++ more) ≡ walk rows target more
 walk-on rows at target [] more h = let same : at ≡ target = cc in rw same refl
 walk-on rows (File file) target (name ∷ names) more h = absurd cc
-walk-on rows (Directory directory) target (name ∷ names) more h = go (λ next h. walk-on rows next target names more h) (live_target rows directory name) refl h where
-  go : ((next : Target) → walk rows next names ≡ Ok target → walk rows next (names ++ more) ≡ walk rows target more) → (o : Option Target) → live_target rows directory name ≡ o → option_map_or (λ target. walk rows target names) o (Err NoEntry) ≡ Ok target → walk rows (Directory directory) (name ∷ (names ++ more)) ≡ walk rows target more
-  go onward None e h = absurd cc
-  go onward (Some next) e h = rw e (onward next h)
+walk-on rows (Directory directory) target (name ∷ names) more h = grind (arith, nat_tests, (λ (next : Target). walk-on rows next target names more))
 
 -- ---- a path's parent
 
 split-at : {X : Type 0} (xs : List X) (n : ℕ) (x : X) → n + 1 ≡ length xs → slice_get xs n ≡ Some x → xs ≡ take n xs ++ x ∷ []
 split-at [] n x is h = absurd cc
-split-at (y ∷ []) zero x is h = let same : y ≡ x = cc in ap (λ z. z ∷ []) same
-split-at (y ∷ z ∷ zs) zero x is h = absurd (omega (arith, is))
-split-at (y ∷ ys) (suc n) x is h = ap (λ t. y ∷ t) (split-at ys n x (omega (arith, is)) h)
-
-split-last : {X : Type 0} (xs : List X) (x : X) → slice_get xs (length xs - 1) ≡ Some x → xs ≡ take (length xs - 1) xs ++ x ∷ []
-split-last [] x h = absurd cc
-split-last (y ∷ ys) x h = split-at (y ∷ ys) (length (y ∷ ys) - 1) x (omega arith) h
+split-at (y ∷ ys) zero x is h = grind (arith, nat_tests, nil_from_length)
+split-at (y ∷ ys) (suc n) x is h = grind (arith, nat_tests, split-at ys n x)
 
 pub record IsParent (names : List NameRow) (path : List (List ℕ)) (at : ℕ × List ℕ) : Type 0 where
   pub front : List (List ℕ)
@@ -83,39 +66,25 @@ pub record IsParent (names : List NameRow) (path : List (List ℕ)) (at : ℕ ×
   pub leads : walk_now names front ≡ Ok (Directory at.0)
 
 pub parent_is : (names : List NameRow) (path : List (List ℕ)) (at : ℕ × List ℕ) → parent_now names path ≡ Ok at → IsParent names path at
-parent_is names path at h = grind (arith, nat_tests, split-last)
+parent_is names path at h = grind (arith, nat_tests, split-at path (length path - 1), slice_get_within path (length path - 1))
 
 -- what is true of the root, and of each live name's target, is so of the directory that a path's last name stands in
 pub parent_to : (P : Target → Type 0) (rows : List NameRow) → ((directory : ℕ) (name : List ℕ) (target : Target) → live_target rows directory name ≡ Some target → P target)
     → (path : List (List ℕ)) (at : ℕ × List ℕ) → P (Directory root) → parent_now rows path ≡ Ok at → P (Directory at.0)
 parent_to P rows each path at so h = let parent = parent_is rows path at h in walk_to P rows each (Directory root) (Directory at.0) parent.front so parent.leads
 
-directory_of : (r : Result Target Refusal) (directory : ℕ) → directory_in r ≡ Ok directory → r ≡ Ok (Directory directory)
-directory_of r directory h = grind (arith, nat_tests)
-
 -- the path's last name is that of what the path leads to
 pub last_names : (rows : List NameRow) (path : List (List ℕ)) (at : ℕ × List ℕ) (target : Target) → parent_now rows path ≡ Ok at → walk_now rows path ≡ Ok target → live_target rows at.0 at.1 ≡ Some target
-last_names rows path at target found leads = by (live_target rows at.0 at.1) (sym on ∙ leads) where
-  parent : IsParent rows path at
-  parent = parent_is rows path at found
-
-  on : walk_now rows path ≡ option_map_or (λ target. Ok target) (live_target rows at.0 at.1) (Err NoEntry)
-  on = ap (walk_now rows) parent.whole ∙ walk-on rows (Directory root) (Directory at.0) parent.front (at.1 ∷ []) parent.leads
-
-  by : (o : Option Target) → option_map_or (λ (target : Target). Ok target) o (Err NoEntry) ≡ Ok target → o ≡ Some target
-  by o h = grind (arith, nat_tests)
+last_names rows path at target found leads = grind (arith, nat_tests, parent_is rows path at found, walk-on rows (Directory root) (Directory at.0) (parent_is rows path at found).front (at.1 ∷ []))
 
 pub last_leads : (rows : List NameRow) (path : List (List ℕ)) (at : ℕ × List ℕ) (directory : ℕ) → parent_now rows path ≡ Ok at → directory_now rows path ≡ Ok directory → live_target rows at.0 at.1 ≡ Some (Directory directory)
-last_leads rows path at directory found leads = last_names rows path at (Directory directory) found (directory_of (walk_now rows path) directory leads)
+last_leads rows path at directory found leads = grind (arith, nat_tests, last_names rows path at (Directory directory) found)
 
 -- ---- a new name
 
 module _ (rows : List NameRow) (directory : ℕ) (name : List ℕ) (target : Target) (now : ℕ) where
-  none_before : is_some (live_target rows directory name) ≡ false → find (is_live_name directory name) rows ≡ None
-  none_before free = grind (arith, nat_tests, false≢true)
-
   target_is : is_some (live_target rows directory name) ≡ false → live_target (rows ++ born_row directory name target now ∷ []) directory name ≡ Some target
-  target_is free = grind (arith, nat_tests, find-append, none_before, bytes_eq-Decides)
+  target_is free = grind (arith, nat_tests, find-append, false≢true, bytes_eq-Decides)
 
 -- the path leads to the target of its new name
 pub named_leads : (rows : List NameRow) (path : List (List ℕ)) (at : ℕ × List ℕ) (target : Target) (now : ℕ) → IsParent rows path at → is_some (live_target rows at.0 at.1) ≡ false → walk_now (rows ++ born_row at.0 at.1 target now ∷ []) path ≡ Ok target

@@ -55,7 +55,7 @@ pub use Rattle.ele_world.specs.Scan.{due_key, first_due, in_order, key_cmp, key_
 pub use Rattle.ele_world.specs.Step.{clean_step, draft_read, plan, step}
 pub use Rattle.ele_world.specs.Tagged.{had_closed, had_life, held_or_forgotten, last_number, lives_at, version_at, version_found, version_living, version_meant, version_numbered, walk_meant}
 pub use Rattle.ele_world.specs.Told.{stood_in}
-pub use Rattle.ele_world.specs.UndeleteLeads.{HasNameAgain, HasVersionAgain, LeadsAgain}
+pub use Rattle.ele_world.specs.UndeleteLeads.{HasNameAgain, HasVersionAgain, LeadsAgain, UndeleteLeads}
 pub use Rattle.ele_world.specs.UnlinkEnds.{EndsName, UnlinkEnds}
 pub use Rattle.ele_world.specs.Usage.{bytes_in, is_file_of, is_of, places, places_from, usages}
 pub use Rattle.ele_world.specs.Walk.{comes_through, directory_in, directory_now, file_at, file_now, is_live_name, live_target, parent_now, stands_in, walk, walk_now}

@@ -1,5 +1,5 @@
 -- Who wrote the cells that a write or a truncate leaves.
-use Rattle.ele_world.proofs.Basics.{nat_tests, rules, ℕ, suc, zero, ◌≤◌, Bool, true, false, cond, List, [], ◌∷◌, map, arith, AllByRecursion, all-weaker}
+use Rattle.ele_world.proofs.Basics.{nat_tests, rules, ℕ, suc, zero, ◌≤◌, Bool, true, false, cond, List, [], ◌∷◌, map, arith, AllByRecursion, all-any, all-map, all-weaker}
 use Rattle.ele_world.proofs.Words.{Cell, writer_at, changed_by, fitted_by, AreWrittenBy, DraftRow}
 use Rattle.ele_content.specs.Content.{cells_after_write, cells_after_truncate}
 
@@ -8,21 +8,13 @@ writer_at-le number [] slot all = omega arith
 writer_at-le number (cell ∷ cells) zero all = all.0
 writer_at-le number (cell ∷ cells) (suc slot) all = writer_at-le number cells slot all.1
 
-all-map : {X : Type 0} (P : Cell → Type 0) (f : X → Cell) (xs : List X) → ((x : X) → P (f x)) → AllByRecursion P (map f xs)
-all-map P f [] each = tt
-all-map P f (x ∷ xs) each = (each x, all-map P f xs each)
-
-either-le : (b : Bool) (m n : ℕ) → n ≤ m → cond b m n ≤ m
-either-le true m n h = omega arith
-either-le false m n h = h
-
 written_by : (number offset : ℕ) (bytes : List ℕ) (cells : List Cell) → AreWrittenBy number cells → AreWrittenBy number (cells_after_write number offset bytes cells)
 unfolding cells_after_write
-written_by number offset bytes cells all = search (rules, all-map, either-le, writer_at-le)
+written_by number offset bytes cells all = grind (arith, nat_tests, all-map, all-any, writer_at-le)
 
 truncated_by : (number size : ℕ) (cells : List Cell) → AreWrittenBy number cells → AreWrittenBy number (cells_after_truncate number size cells)
 unfolding cells_after_truncate
-truncated_by number size cells all = search (rules, all-map, either-le, writer_at-le)
+truncated_by number size cells all = grind (arith, nat_tests, all-map, all-any, writer_at-le)
 
 pub changed_written : (number offset : ℕ) (bytes : List ℕ) (row : DraftRow) → AreWrittenBy number row.cells → AreWrittenBy number ((changed_by number offset bytes row).cells)
 changed_written number offset bytes row all = written_by number offset bytes row.cells all
