@@ -5,7 +5,7 @@ use Rattle.ele_world.specs.Scan.{due_key, scan}
 use Rattle.ele_world.proofs.Cleans.{clean_of}
 use Rattle.ele_world.proofs.DropViews.{dropped_sees, kept_same}
 use Rattle.ele_world.proofs.DueRows.{first_is_due}
-use Rattle.ele_world.proofs.RemovalOrder.{removal_order}
+use Rattle.ele_world.proofs.RemovalOrder.{removal_order, taken}
 use Rattle.ele_world.proofs.RipeMoments.{due_from_ripe}
 use Rattle.ele_world.proofs.StepKeeps.{step_keeps}
 use Rattle.ele_world.proofs.Views.{now_of, placed_of}
@@ -16,12 +16,10 @@ clean_keeps_kept w k = by (first_due w) refl where
   by : (o : Option Key) → first_due w ≡ o → kept_rows ((clean_of w o).1) ≡ kept_rows w
   by None e = refl
   by (Some key) e =
-      let p = is_version key.file key.number in
       let due = first_is_due w key (placed_of w k) e in
-      let at = find-cut p w.versions due.row due.found in
-      let taken = after_change w (Take key.file key.number) in
-      kept_same taken _ (dropped_sees taken key.file)
-      ∙ ap (λ (rows : List VersionRow). kept_rows (record w { versions = rows })) (ap (remove_first p) at.whole ∙ remove_first-at p at.before due.row at.behind at.none at.passes)
+      let at = find-cut (is_version key.file key.number) w.versions due.row due.found in
+      kept_same (after_change w (Take key.file key.number)) _ (dropped_sees (after_change w (Take key.file key.number)) key.file)
+      ∙ ap kept_rows (taken w key.file key.number due.row due.found)
       ∙ (removal_order w at.before due.row at.behind k at.whole due.due).kept
 
 pub cleaned_keeps_kept : (n : ℕ) (w : World) → IsWellFormed w → (kept_rows (after_cleans n w) ≡ kept_rows w) × IsWellFormed (after_cleans n w)
