@@ -8,37 +8,21 @@ use Rattle.ele_world.specs.Due.{is_due_at, ripe_of}
 use Rattle.ele_world.specs.Scan.{due_key, scan}
 use Rattle.ele_world.proofs.Cleans.{clean_of}
 use Rattle.ele_world.proofs.DropViews.{ripe_at_dropped}
-use Rattle.ele_world.proofs.DueRows.{first_is_due}
+use Rattle.ele_world.proofs.DueRows.{IsFirst, first_is_due, first_of_rows}
 use Rattle.ele_world.proofs.RemovalOrder.{rest, IsBeside, stays, no_more, sides, taken}
 use Rattle.ele_world.proofs.RipeAt.{ripe_at_is, ripe_same}
-use Rattle.ele_world.proofs.RipeMoments.{due_from_ripe_of}
-use Rattle.ele_world.proofs.Views.{now_of, placed_of, view_is}
-
--- ---- the first key is ripe before the others
-
--- the first of the keys in order is no later than each of them
-first_least : (sorted keys : List Key) (first : Key) → slice_get (fold (insert_key key_cmp) sorted keys) 0 ≡ Some first → IfSome (slice_get sorted 0) (λ k. first.ripe ≤ k.ripe) × AllByRecursion (λ k. first.ripe ≤ k.ripe) keys
-first_least [] [] first is = absurd cc
-first_least (y ∷ ys) [] first is = let same : y ≡ first = cc in (rw same (omega arith), tt)
-first_least [] (x ∷ xs) first is = let rest = first_least (x ∷ []) xs first is in (tt, (rest.0, rest.1))
-first_least (y ∷ ys) (x ∷ xs) first is = grind (arith, nat_tests, first_least (insert_key key_cmp (y ∷ ys) x) xs first is)
-
-all-unmapped : {X Y : Type 0} (Q : Y → Type 0) (h : X → Option Y) (xs : List X) → AllByRecursion Q (filter_map h xs) → AllByRecursion (λ x. IfSome (h x) Q) xs
-all-unmapped Q h [] all = tt
-all-unmapped {X} {Y} Q h (x ∷ xs) all = grind (arith, nat_tests, all-unmapped Q h xs)
+use Rattle.ele_world.proofs.RipeMoments.{ripens}
+use Rattle.ele_world.proofs.Views.{now_of, placed_of}
 
 -- a version that is ripe isn't so before that moment
 abbrev IsLater : World → ℕ → VersionRow → Type 0
 IsLater w first row = IfSome (ripe_of w row) (λ m. first ≤ m)
 
-from_ripe : (w : World) → IsWellFormed w → (row : VersionRow) → IsDueFromRipe w row
-from_ripe w k row = due_from_ripe_of w row (view_is w k row.file).governed
-
 all_later : (w : World) (k : IsWellFormed w) (key : Key) → first_due w ≡ Some key → key.ripe ≤ w.now → AllByRecursion (IsLater w key.ripe) w.versions
-unfolding scan due_key
-all_later w k key first come = grind (arith, nat_tests, all-weaker (λ row. IfSome (due_key w row) (λ j. key.ripe ≤ j.ripe)) (IsLater w key.ripe) w.versions, one, all-unmapped (λ j. key.ripe ≤ j.ripe) (due_key w) w.versions, first_least [] (filter_map (due_key w) w.versions) key first) where
-  one : (row : VersionRow) → IfSome (due_key w row) (λ j. key.ripe ≤ j.ripe) → IsLater w key.ripe row
-  one row least = grind (arith, nat_tests, now_of w k, from_ripe w k row)
+unfolding due_key
+all_later w k key first come = all-weaker (λ row. IfSome (due_key w row) (IsFirst (first_due w))) (IsLater w key.ripe) w.versions one (first_of_rows w) where
+  one : (row : VersionRow) → IfSome (due_key w row) (IsFirst (first_due w)) → IsLater w key.ripe row
+  one row least = grind (arith, nat_tests, first, now_of w k, ripens w k row w.now)
 
 -- ---- the other versions
 
@@ -50,7 +34,7 @@ module _ (w : World) (before : List VersionRow) (row : VersionRow) (behind : Lis
   without_row = rest w before row behind k whole
 
   due_stays : (x : VersionRow) → IsBeside row x → IsLater w first x → (at : ℕ) → at ≤ last_moment → is_due_at without_row x at ≡ is_due_at w x at
-  due_stays x side late at fits = settled _ _ (ripe_of w x) first at (λ come. stays w before row behind k whole at (from_ripe w k row at fits ∙ rw (own, come) refl) x side) (no_more w before row behind k whole at x side) (from_ripe w k x at fits) late
+  due_stays x side late at fits = settled _ _ (ripe_of w x) first at (λ come. stays w before row behind k whole at (ripens w k row at fits ∙ rw (own, come) refl) x side) (no_more w before row behind k whole at x side) (ripens w k x at fits) late
 
   stay : AllByRecursion (λ x. ripe_of without_row x ≡ ripe_of w x) (before ++ behind)
   unfolding ripe_of is_due_at
@@ -71,7 +55,7 @@ take_keeps_keys w key k first =
     let due = first_is_due w key (placed_of w k) first in
     let at = find-cut (is_version key.file key.number) w.versions due.row due.found in
     let passes = at.passes in
-    let come : key.ripe ≤ w.now = grind (arith, nat_tests, from_ripe w k due.row w.now (now_of w k), due.due, due.ripe) in
+    let come : key.ripe ≤ w.now = grind (arith, nat_tests, ripens w k due.row w.now (now_of w k), due.due, due.ripe) in
     let later = all_later w k key first come in
     rw (taken w key.file key.number due.row due.found) (record {
       was = grind (arith, ripe_at_is w key.file key.number, due.found, due.ripe);
@@ -80,12 +64,4 @@ take_keeps_keys w key k first =
     })
 
 pub clean_keeps_keys : CleanKeepsKeys
-clean_keeps_keys w key k first =
-    let w' = after_change w (Take key.file key.number) in
-    let one = take_keeps_keys w key k first in
-    let same = ripe_at_dropped w' key.file in
-    subst (λ (v : World). TakesOneKey w key v) (sym (ap (λ o. (clean_of w o).1) first)) (record {
-      was = one.was;
-      gone = same key.file key.number ∙ one.gone;
-      others = λ file number apart. same file number ∙ one.others file number apart;
-    })
+clean_keeps_keys w key k first = grind (arith, first, take_keeps_keys w key k first, ripe_at_dropped (after_change w (Take key.file key.number)) key.file)

@@ -4,7 +4,7 @@ use Rattle.ele_world.proofs.Words.{Key, has_key, is_key, is_ripe_by, last_moment
 use Rattle.ele_world.specs.Due.{is_due, ripe_of}
 use Rattle.ele_world.specs.FileView.{ripe_numbered}
 use Rattle.ele_world.specs.Scan.{due_key}
-use Rattle.ele_world.proofs.RipeMoments.{due_from_ripe}
+use Rattle.ele_world.proofs.RipeMoments.{ripens}
 use Rattle.ele_world.proofs.Views.{now_of, placed_of}
 
 pub ripe_at_is : (w : World) (file number : ℕ) → ripe_at w file number ≡ option_and_then (ripe_of w) (find (is_version file number) w.versions)
@@ -21,7 +21,7 @@ unended v row none = grind (arith, nat_tests)
 -- a version is due from it on
 pub is_due_is : (w : World) (file number : ℕ) → IsWellFormed w → is_due w file number ≡ option_map_or (λ m. nat_le m w.now) (ripe_at w file number) false
 unfolding is_due
-is_due_is w file number k = grind (arith, nat_tests, ripe_at_is, all-found, due_from_ripe, now_of)
+is_due_is w file number k = grind (arith, nat_tests, ripe_at_is, ripens w k, now_of)
 
 -- ---- the ripe moment is told by the moments at which the version is due
 
@@ -50,7 +50,7 @@ has_due_key w k row fits from = grind (arith, nat_tests)
 
 -- the due rows have just the keys whose moment has come
 pub scan_members : (w : World) → IsWellFormed w → (k : Key) → has_key k (filter_map (due_key w) w.versions) ≡ (is_ripe_by w.now k && is_moment k.ripe (ripe_at w k.file k.number))
-scan_members w formed k = grind (arith, nat_tests, any-filter_map (is_key k) (due_key w) w.versions, each w.versions (due_from_ripe w formed), any-numbered k.file k.number (λ row. is_ripe_by w.now k && is_moment k.ripe (ripe_of w row)) w.versions (placed_of w formed), ripe_at_is) where
-  each : (xs : List VersionRow) → AllByRecursion (IsDueFromRipe w) xs → list_any (λ row. option_map_or (is_key k) (due_key w row) false) xs ≡ list_any (λ row. is_version k.file k.number row && (is_ripe_by w.now k && is_moment k.ripe (ripe_of w row))) xs
-  each [] all = refl
-  each (x ∷ xs) all = grind (arith, has_due_key w k x (now_of w formed) all.0, each xs all.1)
+scan_members w formed k = grind (arith, nat_tests, any-filter_map (is_key k) (due_key w) w.versions, each w.versions, any-numbered k.file k.number (λ row. is_ripe_by w.now k && is_moment k.ripe (ripe_of w row)) w.versions (placed_of w formed), ripe_at_is) where
+  each : (xs : List VersionRow) → list_any (λ row. option_map_or (is_key k) (due_key w row) false) xs ≡ list_any (λ row. is_version k.file k.number row && (is_ripe_by w.now k && is_moment k.ripe (ripe_of w row))) xs
+  each [] = refl
+  each (x ∷ xs) = grind (arith, has_due_key w k x (now_of w formed) (ripens w formed x), each xs)
