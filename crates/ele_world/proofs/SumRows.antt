@@ -17,21 +17,9 @@ pub cell_places : (others : List Place) (file : ℕ) (cells : List Cell) (i : �
 cell_places others file cells i cell lt is = grind (arith, nat_tests, drop_more, new_places-cons, places_from)
 
 -- the places of what is left of the versions
-version_places : (t : ℕ → Bool) (versions : List VersionRow) (drafts : List DraftRow) (i : ℕ) (row : VersionRow) → i < length versions → row ≡ get_or versions i row → different_of t (drop i versions) drafts ≡ cond (t row.file) (new_places (places (drop (i + 1) versions) drafts) (places_from row.file 0 row.cells)) 0 + different_of t (drop (i + 1) versions) drafts
-version_places t versions drafts i row lt is = rw (drop_more versions i row lt, ← is) (different_version t row (drop (i + 1) versions) drafts)
-
-pub version_counts : (t : ℕ → Bool) (versions : List VersionRow) (drafts : List DraftRow) (i : ℕ) (row : VersionRow) (cells : List Cell) (count : ℕ) → i < length versions → row ≡ get_or versions i row → t row.file ≡ true → cells ≡ row.cells → count ≡ new_places (places (take (length versions - (i + 1)) (drop (i + 1) versions)) drafts) (places_from row.file 0 cells) → different_of t (drop i versions) drafts ≡ count + different_of t (drop (i + 1) versions) drafts
-version_counts t versions drafts i row cells count lt is passes own more = grind (arith, nat_tests, version_places t versions drafts i row lt is, take_all (length versions - (i + 1)) (drop (i + 1) versions), length-drop (i + 1) versions)
-
-pub version_skips : (t : ℕ → Bool) (versions : List VersionRow) (drafts : List DraftRow) (i : ℕ) (row : VersionRow) → i < length versions → row ≡ get_or versions i row → t row.file ≡ false → different_of t (drop i versions) drafts ≡ different_of t (drop (i + 1) versions) drafts
-version_skips t versions drafts i row lt is fails = grind (arith, version_places t versions drafts i row lt is)
+pub version_places : (t : ℕ → Bool) (versions : List VersionRow) (drafts : List DraftRow) (i : ℕ) (row : VersionRow) → i < length versions → row ≡ get_or versions i row → different_of t (drop i versions) drafts ≡ cond (t row.file) (new_places (places (take (length versions - (i + 1)) (drop (i + 1) versions)) drafts) (places_from row.file 0 row.cells)) 0 + different_of t (drop (i + 1) versions) drafts
+version_places t versions drafts i row lt is = grind (arith, nat_tests, drop_more versions i row lt, different_version t row (drop (i + 1) versions) drafts, take_all (length versions - (i + 1)) (drop (i + 1) versions), length-drop (i + 1) versions)
 
 -- and of the drafts
-draft_places : (t : ℕ → Bool) (drafts : List DraftRow) (i : ℕ) (row : DraftRow) → i < length drafts → row ≡ get_or drafts i row → different_of t [] (drop i drafts) ≡ cond (t row.file) (new_places (places [] (drop (i + 1) drafts)) (places_from row.file 0 row.cells)) 0 + different_of t [] (drop (i + 1) drafts)
-draft_places t drafts i row lt is = rw (drop_more drafts i row lt, ← is) (different_draft t row (drop (i + 1) drafts))
-
-pub draft_counts : (t : ℕ → Bool) (drafts : List DraftRow) (i : ℕ) (row : DraftRow) (cells : List Cell) (count : ℕ) → i < length drafts → row ≡ get_or drafts i row → t row.file ≡ true → cells ≡ row.cells → count ≡ new_places (places [] (take (length drafts - (i + 1)) (drop (i + 1) drafts))) (places_from row.file 0 cells) → different_of t [] (drop i drafts) ≡ count + different_of t [] (drop (i + 1) drafts)
-draft_counts t drafts i row cells count lt is passes own more = grind (arith, nat_tests, draft_places t drafts i row lt is, take_all (length drafts - (i + 1)) (drop (i + 1) drafts), length-drop (i + 1) drafts)
-
-pub draft_skips : (t : ℕ → Bool) (drafts : List DraftRow) (i : ℕ) (row : DraftRow) → i < length drafts → row ≡ get_or drafts i row → t row.file ≡ false → different_of t [] (drop i drafts) ≡ different_of t [] (drop (i + 1) drafts)
-draft_skips t drafts i row lt is fails = grind (arith, draft_places t drafts i row lt is)
+pub draft_places : (t : ℕ → Bool) (drafts : List DraftRow) (i : ℕ) (row : DraftRow) → i < length drafts → row ≡ get_or drafts i row → different_of t [] (drop i drafts) ≡ cond (t row.file) (new_places (places [] (take (length drafts - (i + 1)) (drop (i + 1) drafts))) (places_from row.file 0 row.cells)) 0 + different_of t [] (drop (i + 1) drafts)
+draft_places t drafts i row lt is = grind (arith, nat_tests, drop_more drafts i row lt, different_draft t row (drop (i + 1) drafts), take_all (length drafts - (i + 1)) (drop (i + 1) drafts), length-drop (i + 1) drafts)
