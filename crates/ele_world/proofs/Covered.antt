@@ -22,7 +22,7 @@ module _ (now : ℕ) (life : ℕ → ℕ → Type 0) where
   died directory name (row ∷ rows) all = grind (arith, nat_tests, false≢true, still_none, died directory name rows all.1)
 
   born : (directory : ℕ) (name : List ℕ) (target : Target) (rows : List NameRow) → AllByRecursion CoveredBefore rows → AllByRecursion CoveredBefore (rows ++ born_row directory name target now ∷ [])
-  born directory name target rows all = all-push CoveredBefore rows (born_row directory name target now) all (λ file moment own covered less. absurd (let late : (nat_le now moment && true) ≡ true = covered in grind (arith, nat_tests)))
+  born directory name target rows all = all-push CoveredBefore rows (born_row directory name target now) all (λ file moment own covered less. grind (arith, nat_tests))
 
 change_covered : (w : World) (change : Change) (life : ℕ → ℕ → Type 0) → AllByRecursion (CoveredBefore w.now life) w.names → AllByRecursion (CoveredBefore w.now life) (after_change w change).names
 change_covered w (MakeDirectory directory name id policy) life all = born w.now life directory name (Directory id) w.names all
@@ -44,15 +44,12 @@ counted_live (row ∷ rows) = grind (arith, nat_tests, all-weaker, counted_live 
 
 current_covers : (w : World) (known : Known) → IsWellFormed w → ((file number : ℕ) (row : VersionRow) → row_of w file number ≡ Some row → known file number ≡ Some row)
     → AllByRecursion (CoveredFrom w.now (HadLife known)) w.names
-current_covers w known k held = all-weaker (λ name. IsNameRow w.files w.now name × ((file : ℕ) → is_live_name_of file name ≡ true → is_live w file ≡ true))
-    (CoveredFrom w.now (HadLife known)) w.names
-    (λ name h file moment own covered late. life file moment late (h.1 file (undying name file moment own covered late h.0.dead)))
-    (all-both (IsNameRow w.files w.now) (λ name. (file : ℕ) → is_live_name_of file name ≡ true → is_live w file ≡ true) w.names (k.holds Names).each (counted_live w.names)) where
-      undying : (name : NameRow) (file moment : ℕ) → name.target ≡ File file → covers moment name ≡ true → w.now ≤ moment → IfSome name.death (λ death. (name.birth ≤ death) × (death ≤ w.now)) → is_live_name_of file name ≡ true
-      undying name file moment own covered late dead = grind (arith, nat_tests)
+current_covers w known k held = grind (arith, nat_tests, all-weaker (λ name. IsNameRow w.files w.now name × ((file : ℕ) → is_live_name_of file name ≡ true → is_live w file ≡ true)) (CoveredFrom w.now (HadLife known)) w.names, one, all-both (IsNameRow w.files w.now), (k.holds Names).each, counted_live w.names) where
+  life : (file moment : ℕ) → w.now ≤ moment → is_live w file ≡ true → HadLife known file moment
+  life file moment late live = grind (arith, nat_tests, k.holds Versions, has_current w file k live, last_is w file)
 
-      life : (file moment : ℕ) → w.now ≤ moment → is_live w file ≡ true → HadLife known file moment
-      life file moment late live = grind (arith, nat_tests, k.holds Versions, has_current w file k live, last_is w file)
+  one : (name : NameRow) → IsNameRow w.files w.now name × ((file : ℕ) → is_live_name_of file name ≡ true → is_live w file ≡ true) → CoveredFrom w.now (HadLife known) name
+  one name h file moment own covered late = life file moment late (h.1 file (let dead = h.0.dead in grind (arith, nat_tests)))
 
 -- ---- a change
 
@@ -68,18 +65,15 @@ module _ (event : Event) (first w : World) (change : Change) (before : Known) (t
 
   covered_on : (after_change w change).now ≤ w.now → AllByRecursion (IsCovered known) (after_change w change).names
   covered_on same = all-weaker (λ name. CoveredBefore w.now (HadLife known) name × CoveredFrom (after_change w change).now (HadLife known) name) (IsCovered known) (after_change w change).names
-      (λ name h file moment own covered. by file moment (h.0 file moment own covered) (h.1 file moment own covered) (cases_lt moment w.now))
+      (λ name h file moment own covered. grind (arith, nat_tests, h.0 file moment own covered, h.1 file moment own covered, cases_lt moment w.now))
       (all-both (CoveredBefore w.now (HadLife known)) (CoveredFrom (after_change w change).now (HadLife known)) (after_change w change).names
       (change_covered w change (HadLife known) (all-weaker (IsCovered (known_in w before)) (CoveredBefore w.now (HadLife known)) w.names (λ name h file moment own covered less. life_on file moment less (h file moment own covered)) t.known.covered))
-      (current_covers (after_change w change) known t.formed_after held)) where
-        by : (file moment : ℕ) → (moment < w.now → HadLife known file moment) → ((after_change w change).now ≤ moment → HadLife known file moment) → (moment < w.now) ⊎ (w.now ≤ moment) → HadLife known file moment
-        by file moment past now (inl less) = past less
-        by file moment past now (inr late) = now (omega (arith, late, same))
+      (current_covers (after_change w change) known t.formed_after held))
 
 -- where the time goes on, names and versions stay
 all_covered : (event : Event) (first w : World) (change : Change) (before : Known) → IsTurn event first w change before → AllByRecursion (IsCovered (known_in (after_change w change) before)) (after_change w change).names
 all_covered event first w (Time to) before t = t.known.covered
-all_covered event first w (DropIdle of) before t = covered_on event first w (DropIdle of) before t (dropped (λ v. v.now ≤ w.now) w of (λ idle. omega arith) (λ busy. omega arith))
+all_covered event first w (DropIdle of) before t = covered_on event first w (DropIdle of) before t (grind (arith))
 all_covered event first w change before t = covered_on event first w change before t (omega arith)
 
 pub change_known : (event : Event) (first w : World) (change : Change) (before : Known) → IsTurn event first w change before → AreKnown (after_change w change) (known_in (after_change w change) before)

@@ -1,9 +1,10 @@
 -- What the files of each kind use after the dropping of an idle file: as much as before, but for the file.
-use Rattle.ele_world.proofs.Basics.{nat_tests, ◌≡◌, ◌==◌, ℕ, ◌+◌, Bool, true, false, cond, List, length, Some, refl, ap, arith, filter, option_map_or, remove_first, all-weaker, filter-same_all, length-filter_removed}
+use Rattle.ele_world.proofs.Basics.{nat_tests, ◌≡◌, ◌==◌, ℕ, ◌+◌, Bool, true, false, cond, List, length, Some, refl, ap, arith, filter, option_map_or, remove_first, filter-none, length-filter_removed}
 use Rattle.ele_world.proofs.Words.{Kind, Policy, kind_of, is_kind, Usage, only_at, nothing, plus, is_idle, without_file, is_of, is_file_of, World, is_file, policy_of, DraftRow, FileRow, VersionRow}
 use Rattle.ele_world.specs.Usage.{usage_of}
 use Rattle.ele_world.proofs.Dropped.{IsIdle, idle_is, idle_versions, idle_drafts, policy_of-removed}
-use Rattle.ele_world.proofs.Usages.{same_usage, only_at_is}
+use Rattle.ele_world.proofs.Splits.{file_moves, same_usage}
+use Rattle.ele_world.proofs.Usages.{only_at_is}
 
 -- a file, and nothing of it
 abbrev pub one_file : Usage
@@ -16,18 +17,11 @@ kind_other files file other k apart = ap (λ o. option_map_or (λ (policy : Poli
 fewer_files : (files : List FileRow) (file : ℕ) (k : Kind) → length (filter (is_of k) (remove_first (is_file file) files)) + cond (is_file_of files k file) 1 0 ≡ length (filter (is_of k) files)
 fewer_files files file k = grind (arith, nat_tests, length-filter_removed)
 
-less : (b : Bool) (a c : Usage) → a.files + cond b 1 0 ≡ c.files → a.versions ≡ c.versions → a.bytes ≡ c.bytes → a.blocks ≡ c.blocks → plus a (cond b one_file nothing) ≡ c
-less true a c files versions bytes blocks = same_usage (plus a one_file) c files (omega (arith, versions)) (omega (arith, bytes)) (omega (arith, blocks))
-less false a c files versions bytes blocks = same_usage (plus a nothing) c files (omega (arith, versions)) (omega (arith, bytes)) (omega (arith, blocks))
-
 without_usage : (w : World) (file : ℕ) (k : Kind) → IsIdle w file → plus (usage_of (without_file w file) k) (cond (is_file_of w.files k file) one_file nothing) ≡ usage_of w k
 unfolding usage_of
 without_usage w file k idle =
-    let versions = filter-same_all (λ (row : VersionRow). is_file_of (remove_first (is_file file) w.files) k row.file) (λ row. is_file_of w.files k row.file) w.versions
-    (all-weaker (λ (row : VersionRow). (row.file == file) ≡ false) (λ row. is_file_of (remove_first (is_file file) w.files) k row.file ≡ is_file_of w.files k row.file) w.versions (λ row apart. kind_other w.files file row.file k apart) (idle_versions w file idle)) in
-    let drafts = filter-same_all (λ (row : DraftRow). is_file_of (remove_first (is_file file) w.files) k row.file) (λ row. is_file_of w.files k row.file) w.drafts
-    (all-weaker (λ (row : DraftRow). (row.file == file) ≡ false) (λ row. is_file_of (remove_first (is_file file) w.files) k row.file ≡ is_file_of w.files k row.file) w.drafts (λ row apart. kind_other w.files file row.file k apart) (idle_drafts w file idle)) in
-    rw (versions, drafts) (less (is_file_of w.files k file) _ _ (fewer_files w.files file k) refl refl refl)
+    let moves = file_moves file (is_file_of w.files k) (is_file_of (without_file w file).files k) (λ other apart. kind_other w.files file other k apart) w.versions w.versions w.drafts w.drafts refl refl in
+    grind (arith, nat_tests, same_usage, moves, fewer_files w.files file k, filter-none (λ (row : VersionRow). row.file == file) w.versions (idle_versions w file idle), filter-none (λ (row : DraftRow). row.file == file) w.drafts (idle_drafts w file idle))
 
 -- the same by the file's policy
 pub dropped_at : (w : World) (file : ℕ) (policy : Policy) → policy_of w.files file ≡ Some policy → is_idle w file ≡ true → (k : Kind) → plus (usage_of (without_file w file) k) (only_at (kind_of policy) one_file k) ≡ usage_of w k

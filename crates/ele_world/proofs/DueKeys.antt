@@ -15,9 +15,7 @@ use Rattle.ele_world.proofs.RipeMoments.{due_from_ripe_of, free_ripe, protected_
 pub looks_at_none : (policy : Policy) → (policy ≡ One) ⊎ ((policy ≡ All) ⊎ ((interval : ℕ) × (policy ≡ Safe interval)))
     → (closed ended : ℕ) (stands other : Beside) → ripe_by policy closed stands ended ≡ ripe_by policy closed other ended
 unfolding ripe_by
-looks_at_none policy (inl is) closed ended stands other = rw is refl
-looks_at_none policy (inr (inl is)) closed ended stands other = rw is refl
-looks_at_none policy (inr (inr is)) closed ended stands other = rw is.1 refl
+looks_at_none policy is closed ended stands other = grind (arith)
 
 -- ---- a row's ripe moment, and that it is due from then on
 
@@ -57,14 +55,7 @@ module _ (w : World) (row : VersionRow) where
     pub ripe-told : (policy : Policy) (ended : ℕ) (ripe : Option ℕ) → policy_of w.files row.file ≡ Some policy → IsPolicy policy → row.ended ≡ Some ended
         → ((live : Bool) → ripe ≡ ripe_by policy row.closed (record { newer = newer_than w.versions row; live = live }) ended) → IsRipeOf w row ripe
     unfolding ripe_of
-    ripe-told policy ended ripe filed given end is =
-        let live = is_live w row.file in
-        let newer : newer_than w.versions row ≡ (beside (view_of w row.file) row).newer = sym (ap closings (filter-both (is_newer row) (is_version_of row.file) w.versions)) in (
-          is live
-              ∙ ap (λ newer. ripe_by policy row.closed (record { newer = newer; live = live }) ended) newer
-              ∙ sym (free_ripe (view_of w row.file) row policy ended (protected_is w row ∙ free) filed end),
-          due_from_ripe_of w row (rw filed given),
-        )
+    ripe-told policy ended ripe filed given end is = grind (arith, nat_tests, is (is_live w row.file), filter-both (is_newer row) (is_version_of row.file) w.versions, free_ripe (view_of w row.file) row policy ended, protected_is w row, due_from_ripe_of w row)
 
 -- ---- and its key
 

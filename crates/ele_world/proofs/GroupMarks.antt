@@ -9,7 +9,7 @@ marks_tell (row ∷ rows) file closed ended = grind (arith, nat_tests, list_any-
 
 -- where a file is forgotten, any other is in the groups that it was in
 member_forgotten : (row : GroupRow) (file other : ℕ) → (other == file) ≡ false → is_member other (forgets file row) ≡ is_member other row
-member_forgotten row file other apart = list_any-filter (λ member. member == other) (λ member. not (member == file)) row.members (λ member gone. grind (arith, nat_tests))
+member_forgotten row file other apart = grind (arith, nat_tests, list_any-filter)
 
 pub marks_forgotten : (rows : List GroupRow) (file other : ℕ) → (other == file) ≡ false → marks_over (forgotten file rows) other ≡ marks_over rows other
 marks_forgotten [] file other apart = refl

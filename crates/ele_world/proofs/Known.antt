@@ -38,9 +38,6 @@ pub record AreKnown (w : World) (known : Known) : Type 0 where
   pub placed : (file number later : ℕ) (row next : VersionRow) → known file number ≡ Some row → known file later ≡ Some next → number < later → IsEndedBy next.closed row
   pub covered : AllByRecursion (IsCovered known) w.names
 
-neither : (o p : Option VersionRow) → option_or o p ≡ None → (o ≡ None) × (p ≡ None)
-neither o p e = grind (arith, nat_tests)
-
 pub or_none : (o : Option VersionRow) → o ≡ option_or o None
 or_none o = grind (arith, nat_tests)
 
@@ -62,10 +59,7 @@ ended_row : (w : World) (row : VersionRow) → IsVersion w.files w.now row → i
 ended_row w row is ended = grind (arith, nat_tests, false≢true)
 
 known_past : (w : World) (known : Known) (file number : ℕ) (row : VersionRow) → IsWellFormed w → AreKnown w known → known file number ≡ Some row → IsPast w file number
-known_past w known file number row k s is = by (row_of w file number) refl where
-  by : (o : Option VersionRow) → row_of w file number ≡ o → IsPast w file number
-  by None e = (s.gone file number row e is).past
-  by (Some held) e = found_past w file number held k e
+known_past w known file number row k s is = grind (arith, nat_tests, s.gone file number row, found_past w file number)
 
 -- ---- what becomes of a version
 
@@ -96,10 +90,7 @@ module _ (file number : ℕ) where
   change_closes w (MakeFile directory name id policy) all = let v = with_name (with_file w id policy) directory name (File id) in new_closes v id w.now [] (ended_closes v id (all w.now))
   change_closes w (Append of opened cells) all = new_closes w of opened cells (ended_closes w of (all w.now))
   change_closes w (Revive directory name of) all = let v = with_name w directory name (File of) in new_closes v of w.now (current_cells w of) (ended_closes v of (all w.now))
-  change_closes w (EndFileName directory name of) all = elim (is_live (without_name w directory name) of) as (λ b. AllByRecursion (ClosesAt w.now) (cond b w.versions (with_end w of))) [
-    | true ↦ all w.now
-    | false ↦ ended_closes w of (all w.now)
-  ]
+  change_closes w (EndFileName directory name of) all = grind (arith, ended_closes w of (all w.now), all w.now)
   change_closes w (Take of taken) all = all-remove_first (is_version of taken) (ClosesAt w.now) w.versions (all w.now)
   change_closes w (DropIdle of) all = dropped (λ v. AllByRecursion (ClosesAt v.now) v.versions) w of (λ idle. all w.now) (λ busy. all w.now)
   change_closes w change all = all (after_change w change).now
@@ -140,14 +131,14 @@ module _ (event : Event) (first w : World) (change : Change) (before : Known) (t
   Turning file number = Turned w (before file number) (row_of w file number) (row_of after file number)
 
   turned : (file number : ℕ) → IsPast w file number → Turning file number
-  turned file number past = by (row_of w file number) refl (change_moves event first file number w change t.placed t.may past) where
-    by : (o : Option VersionRow) → row_of w file number ≡ o → Moves event first w.now w.versions file number (row_of w file number) (row_of after file number) → Turning file number
-    by o e (Same same) = Stays same
-    by None e (Ended ended) = Stays (ended ∙ ap (option_map (ended_at w.now)) e ∙ sym e)
-    by (Some row) e (Ended ended) = Ends row e (ended ∙ ap (option_map (ended_at w.now)) e)
-    by o e (Taken v take same none) =
+  turned file number past = by (row_of w file number) (row_of after file number) refl (change_moves event first file number w change t.placed t.may past) where
+    by : (o after : Option VersionRow) → row_of w file number ≡ o → Moves event first w.now w.versions file number o after → Turned w (before file number) o after
+    by o after e (Same same) = Stays same
+    by None after e (Ended ended) = Stays ended
+    by (Some row) after e (Ended ended) = Ends row refl ended
+    by o after e (Taken v take same none) =
         let found : row_of w file number ≡ Some take.row = ap (find (is_version file number)) (same ∙ take.same) ∙ take.found in
-        Goes take.row found none (t.first_held file number take.row take.found) (ended_row w take.row (held_row w file number take.row t.formed found).is take.ended)
+        Goes take.row (sym e ∙ found) none (t.first_held file number take.row take.found) (ended_row w take.row (held_row w file number take.row t.formed found).is take.ended)
 
   pub becomes : (file number : ℕ) (old : VersionRow) → known_in w before file number ≡ Some old → Becomes w.now old (known_in after before file number)
   becomes file number old is = grind (arith, nat_tests, turned file number (known_past w (known_in w before) file number old t.formed t.known is), known_past w (known_in w before) file number old t.formed t.known is)
@@ -158,14 +149,14 @@ module _ (event : Event) (first w : World) (change : Change) (before : Known) (t
 
   from : (file number : ℕ) (row : VersionRow) → known_in after before file number ≡ Some row → From w after (known_in w before) file number row
   from file number row is = by (known_in w before file number) refl where
+    closes : row_of w file number ≡ None → row_of after file number ≡ Some row → row.closed ≡ after.now
+    closes none found = all-found (is_version file number) (ClosesAt file number after.now) after.versions row found
+        (change_closes file number w change (λ now. all-weaker (λ row. is_version file number row ≡ false) (ClosesAt file number now) w.versions (λ row other is. absurd (false≢true (sym other ∙ is))) (all-not_found (is_version file number) w.versions none)))
+        (found_passes (is_version file number) after.versions row found)
+
     by : (o : Option VersionRow) → known_in w before file number ≡ o → From w after (known_in w before) file number row
     by (Some old) e = let next = becomes file number old e in let now = next.is in let same : next.row ≡ row = cc in Was old e (subst (IsOn w.now old) same next.on)
-    by None e =
-        let none = neither (row_of w file number) (before file number) e in
-        let here : row_of after file number ≡ Some row = or_none (row_of after file number) ∙ subst (λ o. option_or (row_of after file number) o ≡ Some row) none.1 is in
-        let others = all-not_found (is_version file number) w.versions none.0 in
-        let closes = change_closes file number w change (λ now. all-weaker (λ row. is_version file number row ≡ false) (ClosesAt file number now) w.versions (λ row other is. absurd (false≢true (sym other ∙ is))) others) in
-        New none.0 here (all-found (is_version file number) (ClosesAt file number after.now) after.versions row here closes (found_passes (is_version file number) after.versions row here))
+    by None e = let none : (row_of w file number ≡ None) × (row_of after file number ≡ Some row) = grind (arith, e, is) in New none.0 none.1 (closes none.0 none.1)
 
   pub gone_known : (file number : ℕ) (row : VersionRow) → row_of after file number ≡ None → known_in after before file number ≡ Some row → IsGone after file number row
   gone_known file number row none is = by (row_of w file number) refl where
@@ -183,18 +174,7 @@ module _ (event : Event) (first w : World) (change : Change) (before : Known) (t
 
   -- a version before a new one has ended
   before_new : (file number later : ℕ) (row next : VersionRow) → known_in after before file number ≡ Some row → row_of after file later ≡ Some next → number < later → IsEndedBy after.now row
-  before_new file number later row next is new less = by (row_of after file number) refl where
-    last : IsHeldRow after file later next
-    last = held_row after file later next t.formed_after new
-
-    by : (o : Option VersionRow) → row_of after file number ≡ o → IsEndedBy after.now row
-    by None e = (gone_known file number row e is).ended
-    by (Some held) e =
-        let was = rw e at is in
-        let same : held ≡ row = cc in
-        let it = held_row after file number held t.formed_after e in
-        let numbered : next.number < next_of after.files held.file = rw it.own (subst (λ f. next.number < next_of after.files f) last.own last.is.numbered) in
-        subst (IsEndedBy after.now) same (other_ended after.files after.now held it.is (λ more. absurd (omega (arith, numbered, more, it.numbered, last.numbered, less))))
+  before_new file number later row next is new less = grind (arith, nat_tests, gone_known file number row, held_row after file number row t.formed_after, held_row after file later next t.formed_after new, other_ended after.files after.now row)
 
   pub placed_on : (file number later : ℕ) (row next : VersionRow) → known_in after before file number ≡ Some row → known_in after before file later ≡ Some next → number < later → IsEndedBy next.closed row
   placed_on file number later row next is next_is less = by (from file later next next_is) (from file number row is) where

@@ -9,30 +9,21 @@ pub record IsMeant (versions : List VersionRow) (file : ℕ) (row : VersionRow) 
   pub found : find passes versions ≡ Some row
   pub own : row.file ≡ file
 
-found_of : (found : Option VersionRow) (before : Option ℕ) (row : VersionRow) → held_or_forgotten found before ≡ Ok row → found ≡ Some row
-found_of found before row is = grind (arith, nat_tests)
-
 pub numbered_found : (versions : List VersionRow) (file number : ℕ) (row : VersionRow) → version_numbered versions file number ≡ Ok row → find (is_version file number) versions ≡ Some row
-numbered_found versions file number row is = found_of (find (is_version file number) versions) _ row is
-
-numbered : (versions : List VersionRow) (file number : ℕ) (row : VersionRow) → version_numbered versions file number ≡ Ok row → IsMeant versions file row
-numbered versions file number row is = grind (arith, nat_tests, numbered_found, found_passes)
+numbered_found versions file number row is = grind (arith, nat_tests)
 
 -- a number that was made
 pub made_of : (files : List FileRow) (versions : List VersionRow) (file number : ℕ) (row : VersionRow) → version_meant files versions file (tag.Number number) ≡ Ok row → version_numbered versions file number ≡ Ok row
 made_of files versions file number row is = grind (arith, nat_tests)
 
 pub is_meant : (files : List FileRow) (versions : List VersionRow) (file : ℕ) (t : Tag) (row : VersionRow) → version_meant files versions file t ≡ Ok row → IsMeant versions file row
-is_meant files versions file tag.Now row is = numbered versions file (next_of files file - 1) row is
-is_meant files versions file (tag.At moment) row is = grind (arith, nat_tests, found_of, found_passes)
-is_meant files versions file (tag.Number number) row is = numbered versions file number row (made_of files versions file number row is)
+is_meant files versions file t row is = grind (arith, nat_tests, found_passes)
 
 pub meant_held : (w : World) (file : ℕ) (row : VersionRow) → IsMeant w.versions file row → is_held w row.file row.number ≡ true
 meant_held w file row is = any-found is.passes (is_version row.file row.number) w.versions row is.found (grind (arith, nat_tests))
 
 pub is_found : (w : World) (found : Result ℕ Refusal) (t : Tag) (row : VersionRow) → version_found w found t ≡ Ok row → IsMeant w.versions row.file row
-is_found w (Err refusal) t row is = absurd cc
-is_found w (Ok file) t row is = let meant = is_meant w.files w.versions file t row is in subst (λ f. IsMeant w.versions f row) (sym meant.own) meant
+is_found w found t row is = grind (arith, nat_tests, is_meant w.files w.versions)
 
 -- the version that a tagged path means
 pub is_at : (w : World) (tagged : TaggedPath) (row : VersionRow) → version_at w tagged ≡ Ok row → IsMeant w.versions row.file row

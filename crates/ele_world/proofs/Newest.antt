@@ -40,13 +40,8 @@ name_total = then_total (on_total (λ (k : Key). k.0) nat_cmp_total) (on_total (
 name_exact : CmpEqualImpliesEq name_cmp
 name_exact = exact_pairs nat_cmp (slice_cmp nat_cmp) exact_unsigned exact_bytes
 
-both : (x y : Ordering) → is_eq (ordering_then x y) ≡ (is_eq x && is_eq y)
-both Less y = refl
-both Equal y = refl
-both Greater y = refl
-
 is_at_name : (d : ℕ) (n : List ℕ) (row : NameRow) → is_eq (name_cmp (key_of row) (d, n)) ≡ is_named d n row
-is_at_name d n row = both (nat_cmp row.directory d) (slice_cmp nat_cmp row.name n) ∙ rw (unsigned_tied row.directory d, is_eq-slice_cmp row.name n) refl
+is_at_name d n row = grind (arith, nat_tests, unsigned_tied row.directory d, is_eq-slice_cmp row.name n)
 
 -- ---- the newest rows
 
@@ -66,17 +61,7 @@ newest_own (row ∷ rows) newest own = newest_own rows (more newest row) (all-in
 -- and a name has its last row
 newest_found : (d : ℕ) (n : List ℕ) (rows : List NameRow) (newest : List Entry) → lookup (is_at (name_cmp (d, n))) (fold more newest rows) ≡ option_or (last_passing (is_named d n) rows) (lookup (is_at (name_cmp (d, n))) newest)
 newest_found d n [] newest = refl
-newest_found d n (row ∷ rows) newest =
-    newest_found d n rows (more newest row)
-    ∙ ap (option_or (last_passing (is_named d n) rows)) (lookup-insert_entry name_total (d, n) newest (key_of row) row ∙ ap (λ b. cond b (Some row) old) (is_at_name d n row))
-    ∙ by (last_passing (is_named d n) rows) (is_named d n row) where
-      old : Option NameRow
-      old = lookup (is_at (name_cmp (d, n))) newest
-
-      by : (o : Option NameRow) (b : Bool) → option_or o (cond b (Some row) old) ≡ option_or (option_or o (cond b (Some row) None)) old
-      by (Some last) b = refl
-      by None true = refl
-      by None false = refl
+newest_found d n (row ∷ rows) newest = grind (arith, newest_found d n rows (more newest row), lookup-insert_entry name_total (d, n) newest (key_of row) row, is_at_name d n row)
 
 -- ---- those that are dead, with what they stood for
 
@@ -101,10 +86,7 @@ dead_found rows d n =
     lookup-map_values (λ (row : NameRow). row.target) (is_at (name_cmp (d, n))) (dead_of (newest_rows rows))
     ∙ ap (option_map (λ (row : NameRow). row.target)) (
     lookup-filter-values (eq_by_cmp_equiv name_total) is_dead (d, n) (newest_rows rows) (IsDistinct-from_sorted name_cmp (keys_of (newest_rows rows)) (sorted_rows rows))
-    ∙ ap (option_filter is_dead) (newest_found d n rows [])
-    ∙ by (last_passing (is_named d n) rows)) where
-      by : (o : Option NameRow) → option_filter is_dead (option_or o None) ≡ passing is_dead o
-      by o = grind (arith, nat_tests)
+    ∙ rw (newest_found d n rows []) (grind (arith, nat_tests)))
 
 -- ---- those that may come back
 

@@ -1,5 +1,5 @@
 -- In a run one version of a file lived at each moment that a name of the file covers.
-use Rattle.ele_world.proofs.Basics.{◌≡◌, ℕ, true, false, List, [], ◌∷◌, Option, Some, None, refl, ap, sym, ◌∙◌, arith, find, Ok, Err, AllByRecursion, option_or, false≢true, cases_lt, nat_tests, all-found, all-not_found, all-weaker, found_passes, any-found, AllLater}
+use Rattle.ele_world.proofs.Basics.{◌≡◌, ℕ, true, false, List, [], ◌∷◌, Option, Some, None, refl, ap, subst, sym, ◌∙◌, arith, find, Ok, Err, AllByRecursion, option_or, false≢true, cases_lt, nat_tests, all-found, all-not_found, all-weaker, found_passes, any-found, AllLater}
 use Rattle.ele_world.proofs.Words.{Bounds, AreBounds, Change, after_change, after_changes, last_stood, HasOneLife, OneLife, run_of, IsEvent, plan, step, had_closed, had_life, held_or_forgotten, last_number, lives_at, version_living, ArePlaced, Versions, IsWellFormed, World, fresh_world, is_held, is_version, Event, Forgotten, VersionRow}
 use Rattle.ele_lists.proofs.Cuts.{any-found as first_passing}
 use Rattle.ele_world.proofs.Allowed.{allowed}
@@ -12,14 +12,6 @@ use Rattle.ele_world.proofs.StepKeeps.{fresh_is, step_keeps, run_keeps}
 use Rattle.ele_world.proofs.Versions.{IsEndedBy, all_found}
 
 -- ---- events
-
-same_known : (w : World) (known other : Known) → ((file number : ℕ) → other file number ≡ known file number) → AreKnown w known → AreKnown w other
-same_known w known other same s = record {
-  held = λ file number row found. same file number ∙ s.held file number row found;
-  gone = λ file number row none is. s.gone file number row none (sym (same file number) ∙ is);
-  placed = λ file number later row next is next_is less. s.placed file number later row next (sym (same file number) ∙ is) (sym (same file later) ∙ next_is) less;
-  covered = all-weaker (IsCovered known) (IsCovered other) w.names (λ name h file moment own covered. let life = h file moment own covered in record { row = life.row; stood = same file life.row.number ∙ life.stood; lived = life.lived }) s.covered;
-}
 
 -- what is known twice is known
 known_once : (o p : Option VersionRow) → option_or o (option_or o p) ≡ option_or o p
@@ -48,11 +40,9 @@ run_known w (event ∷ events) before are k s =
     let by = reached event w (plan w event) (allowed w event k) in
     let v = (step w event).1 in
     let known = known_in w before in
-    let again : AreKnown w (known_in w known) = same_known w known (known_in w known) (λ file number. known_once (row_of w file number) (before file number)) s in
+    let again : AreKnown w (known_in w known) = subst (AreKnown w) (λ i file number. sym (known_once (row_of w file number) (before file number)) i) s in
     let then : AreKnown v (known_in v known) = rw by.is (all_known event w w by.changes known (k.holds Versions).placed s.held are.0 k by.may again) in
-    same_known (run_of v events) (known_after v events known) (known_after w (event ∷ events) before)
-    (λ file number. known_rest (last_stood v events file number) (row_of w file number) (before file number))
-    (run_known v events known are.1 (step_keeps w event are.0 k) then)
+    subst (AreKnown (run_of v events)) (λ i file number. sym (known_rest (last_stood v events file number) (row_of w file number) (before file number)) i) (run_known v events known are.1 (step_keeps w event are.0 k) then)
 
 abbrev nothing : Known
 nothing file number = None
@@ -63,14 +53,13 @@ fresh_known limits = grind (arith, nat_tests)
 ever_known : (limits : Bounds) (events : List Event) → AreBounds limits → AllByRecursion IsEvent events → AreKnown (run_of (fresh_world limits) events) (last_stood (fresh_world limits) events)
 ever_known limits events bounds are =
     let first = fresh_world limits in
-    same_known (run_of first events) (known_after first events nothing) (last_stood first events) (λ file number. or_none (last_stood first events file number))
-    (run_known first events nothing are (fresh_is limits bounds) (fresh_known limits))
+    subst (AreKnown (run_of first events)) (λ i file number. sym (or_none (last_stood first events file number)) i) (run_known first events nothing are (fresh_is limits bounds) (fresh_known limits))
 
 -- ---- one life
 
 -- of two versions the one that had ended when the other closed doesn't live with it
 not_both : (moment : ℕ) (row next : VersionRow) → IsEndedBy next.closed row → lives_at moment row ≡ true → lives_at moment next ≡ true → ⊥
-not_both moment row next ended lives lives_next = let by_then = ended.by_now in let until = rw ended.is at lives in grind (arith, nat_tests)
+not_both moment row next ended lives lives_next = grind (arith, nat_tests)
 
 module _ (first : World) (events : List Event) (k : IsWellFormed (run_of first events)) (s : AreKnown (run_of first events) (last_stood first events)) (file moment : ℕ) (life : HadLife (last_stood first events) file moment) where
   abbrev w : World
@@ -84,25 +73,12 @@ module _ (first : World) (events : List Event) (k : IsWellFormed (run_of first e
   found_is row found = grind (arith, nat_tests, k.holds Versions, found_passes, row_of, all-found, all_found, only)
 
   held_reads : is_held w file life.row.number ≡ true → version_living w.versions file moment ≡ Ok life.row
-  held_reads held = by (find (had_life file moment) w.versions) refl where
-    one : (row : VersionRow) × (row_of w file life.row.number ≡ Some row)
-    one = first_passing (is_version file life.row.number) w.versions held
-
-    by : (o : Option VersionRow) → find (had_life file moment) w.versions ≡ o → held_or_forgotten o (last_number (had_closed file moment) w.versions) ≡ Ok life.row
-    by None e =
-        let stood = s.held file life.row.number one.0 one.1 in
-        let was = life.stood in
-        let same : one.0 ≡ life.row = cc in
-        let passes = found_passes (is_version file life.row.number) w.versions one.0 one.1 in
-        let fails = all-found (is_version file life.row.number) (λ row. had_life file moment row ≡ false) w.versions one.0 one.1 (all-not_found (had_life file moment) w.versions e) in
-        let lives : lives_at moment one.0 ≡ true = rw same life.lived in
-        absurd (let no : true ≡ false = grind (arith, nat_tests) in false≢true (sym no))
-    by (Some row) e = ap Ok (found_is row e).0
+  held_reads held = grind (arith, nat_tests, found_is, here, all-found (is_version file life.row.number) (λ row. had_life file moment row ≡ false) w.versions, all-not_found (had_life file moment) w.versions, found_passes (is_version file life.row.number) w.versions) where
+    here : row_of w file life.row.number ≡ Some life.row
+    here = grind (arith, s.held file life.row.number, life.stood, first_passing (is_version file life.row.number) w.versions held)
 
   gone_forgotten : is_held w file life.row.number ≡ false → (before : Option ℕ) × (version_living w.versions file moment ≡ Err (Forgotten before))
-  gone_forgotten gone = (last_number (had_closed file moment) w.versions, by (find (had_life file moment) w.versions) refl) where
-    by : (o : Option VersionRow) → find (had_life file moment) w.versions ≡ o → held_or_forgotten o (last_number (had_closed file moment) w.versions) ≡ Err (Forgotten (last_number (had_closed file moment) w.versions))
-    by o e = grind (arith, nat_tests, found_is, any-found, found_passes, false≢true)
+  gone_forgotten gone = (last_number (had_closed file moment) w.versions, grind (arith, nat_tests, found_is, any-found (is_version file life.row.number) (is_version file life.row.number) w.versions life.row, found_passes (is_version file life.row.number) w.versions life.row, false≢true))
 
   has_one_life : HasOneLife first events file moment
   has_one_life = record { row = life.row; stood = life.stood; lived = life.lived; only = only; held = held_reads; gone = gone_forgotten }

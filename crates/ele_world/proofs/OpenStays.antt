@@ -25,7 +25,7 @@ open_stays w event handle file number k is = by (all-found (is_version file numb
   is_read = any-found (is_handle handle) (λ row. reads_version file number row.reads) w.handles its.row its.found (rw its.its (grind (arith, nat_tests)))
 
   own : (first.0.file ≡ file) × (first.0.number ≡ number)
-  own = let passes = found_passes (is_version file number) w.versions first.0 first.1 in (grind (arith, nat_tests), grind (arith, nat_tests))
+  own = grind (arith, nat_tests, found_passes (is_version file number) w.versions first.0 first.1)
 
   by : StaysOrWasDue w event first.0 → is_held ((step w event).1) file number ≡ true
   by (inl still) = subst (λ f. is_held ((step w event).1) f number ≡ true) own.0 (subst (λ n. is_held ((step w event).1) first.0.file n ≡ true) own.1 still)

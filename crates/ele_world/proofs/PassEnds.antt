@@ -31,9 +31,7 @@ clean_removes w keeps some = by (first_due w) refl some where
 cleaned_removes : (n : ℕ) (w : World) → IsWellFormed w → ((k : ℕ) → k < n → IsSome (first_due (after_cleans k w))) → length (after_cleans n w).versions + n ≡ length w.versions
 cleaned_removes zero w keeps each = omega arith
 cleaned_removes (suc n) w keeps each =
-    let first = clean_removes w keeps (each 0 (omega arith)) in
-    let rest = cleaned_removes n ((clean_step w).1) (step_keeps w CleanOne tt keeps) (λ k h. each (suc k) (omega arith)) in
-    omega (arith, first, rest)
+    omega (arith, clean_removes w keeps (each 0 (omega arith)), cleaned_removes n ((clean_step w).1) (step_keeps w CleanOne tt keeps) (λ k h. each (suc k) (omega arith)))
 
 -- the end, when the budget is spent
 pub budget_ends : (w : World) (n : ℕ) (v : World) → IsWellFormed w → IsCleaned w n v → HasRemoved w n v

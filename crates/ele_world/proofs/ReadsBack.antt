@@ -24,10 +24,7 @@ record IsFixed (w : World) (file number : ℕ) (cells : List Cell) : Type 0 wher
 
 module _ (event : Event) (first : World) (placed : AllLater ArePlaced first.versions) (file number : ℕ) (cells : List Cell) where
   moved : (now : ℕ) (rows : List VersionRow) (before after : Option VersionRow) → HaveCells cells before → Moves event first now rows file number before after → HaveCells cells after
-  moved now rows before after have (Same e) = rw e have
-  moved now rows None after have (Ended e) = rw e tt
-  moved now rows (Some row) after have (Ended e) = rw e have
-  moved now rows before after have (Taken w may same e) = rw e tt
+  moved now rows before after have moves = grind (arith, nat_tests)
 
   all_fixed : (w : World) (changes : List Change) → MayAll event first w changes → IsFixed w file number cells → IsFixed (after_changes w changes) file number cells
   all_fixed w [] may fixed = fixed

@@ -15,10 +15,6 @@ due_beside v row at newer =
     not (is_protected v row at)
     && option_map_or (λ policy. option_map_or (λ ended. is_due_by policy row.closed (newer_at v newer) ended at) row.ended false) v.policy false
 
-both : (a b : Bool) → (a && b) ≡ true → (a ≡ true) × (b ≡ true)
-both true b h = (refl, h)
-both false b h = absurd (false≢true h)
-
 -- what a due row is
 record IsDue (v : FileView) (row : VersionRow) (at : ℕ) (newer : List ℕ) : Type 0 where
   policy : Policy
@@ -29,7 +25,7 @@ record IsDue (v : FileView) (row : VersionRow) (at : ℕ) (newer : List ℕ) : T
   goes : lets_go policy row.closed (newer_at v newer) (at - ended) ≡ true
 
 due_is : (v : FileView) (row : VersionRow) (at : ℕ) (newer : List ℕ) → due_beside v row at newer ≡ true → IsDue v row at newer
-due_is v row at newer h = grind (arith, nat_tests, both, false≢true)
+due_is v row at newer h = grind (arith, nat_tests)
 
 closings-append : (xs ys : List VersionRow) → closings (xs ++ ys) ≡ closings xs ++ closings ys
 closings-append [] ys = refl
@@ -37,7 +33,7 @@ closings-append (x ∷ xs) ys = ap (λ t. x.closed ∷ t) (closings-append xs ys
 
 -- what is due beside fewer is due beside more
 beside_more : (v : FileView) (row : VersionRow) (at : ℕ) (xs : List ℕ) (more : ℕ) (ys : List ℕ) → due_beside v row at (xs ++ ys) ≡ true → due_beside v row at (xs ++ more ∷ ys) ≡ true
-beside_more v row at xs more ys = grind (arith, nat_tests, both, lets_go_fewer)
+beside_more v row at xs more ys = grind (arith, nat_tests, lets_go_fewer)
 
 module _ (v : FileView) (xs : List VersionRow) (row : VersionRow) (ys : List VersionRow) (placed : AllLater Precedes (xs ++ row ∷ ys)) (life : IsLife row) (governed : IfSome v.policy IsPolicy) where
   before_stays : (x : VersionRow) (at : ℕ) → Precedes x row → due_in (with_rows v (xs ++ row ∷ ys)) row at ≡ true → due_in (with_rows v (xs ++ row ∷ ys)) x at ≡ due_in (with_rows v (xs ++ ys)) x at
@@ -49,8 +45,5 @@ module _ (v : FileView) (xs : List VersionRow) (row : VersionRow) (ys : List Ver
 
   -- and none is due without the row that wasn't with it
   pub no_more_due : (x : VersionRow) (at : ℕ) → Precedes x row ⊎ Precedes row x → due_in (with_rows v (xs ++ ys)) x at ≡ true → due_in (with_rows v (xs ++ row ∷ ys)) x at ≡ true
-  no_more_due x at (inl before) due =
-      let newer = filter (is_newer x) xs in
-      ap (due_beside v x at) (ap closings (newer_before x xs row ys placed before) ∙ closings-append newer (row ∷ ys))
-      ∙ beside_more v x at (closings newer) row.closed (closings ys) (subst (λ t. due_beside v x at t ≡ true) (ap closings (newer_without x xs row ys placed before) ∙ closings-append newer ys) due)
-  no_more_due x at (inr after) due = ap (λ t. due_beside v x at (closings t)) (newer_behind x xs row ys after) ∙ due
+  no_more_due x at (inl before) due = grind (arith, newer_before x xs row ys placed before, newer_without x xs row ys placed before, closings-append, beside_more v x at (closings (filter (is_newer x) xs)) row.closed (closings ys), due)
+  no_more_due x at (inr after) due = grind (arith, newer_behind x xs row ys after, due)

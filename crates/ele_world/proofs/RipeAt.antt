@@ -4,7 +4,7 @@ use Rattle.ele_world.proofs.Words.{Key, has_key, is_key, is_ripe_by, last_moment
 use Rattle.ele_world.specs.Due.{is_due, ripe_of}
 use Rattle.ele_world.specs.FileView.{ripe_numbered}
 use Rattle.ele_world.specs.Scan.{due_key}
-use Rattle.ele_world.proofs.RipeMoments.{due_from_ripe}
+use Rattle.ele_world.proofs.RipeMoments.{ripens}
 use Rattle.ele_world.proofs.Views.{now_of, placed_of}
 
 pub ripe_at_is : (w : World) (file number : ℕ) → ripe_at w file number ≡ option_and_then (ripe_of w) (find (is_version file number) w.versions)
@@ -12,10 +12,7 @@ unfolding ripe_numbered ripe_of
 ripe_at_is w file number = ap (option_and_then (ripe_in (view_of w file))) (find-filter_both (is_numbered number) (is_version_of file) w.versions) ∙ by (find (is_version file number) w.versions) refl where
   by : (o : Option VersionRow) → find (is_version file number) w.versions ≡ o → option_and_then (ripe_in (view_of w file)) o ≡ option_and_then (λ row. ripe_in (view_of w row.file) row) o
   by None e = refl
-  by (Some row) e =
-      let passes = found_passes (is_version file number) w.versions row e in
-      let same : file ≡ row.file = grind (arith, nat_tests) in
-      ap (λ f. ripe_in (view_of w f) row) same
+  by (Some row) e = let same : file ≡ row.file = grind (arith, nat_tests, found_passes (is_version file number) w.versions row e) in ap (λ f. ripe_in (view_of w f) row) same
 
 -- a version without an end has none
 pub unended : (v : FileView) (row : VersionRow) → row.ended ≡ None → ripe_in v row ≡ None
@@ -24,7 +21,7 @@ unended v row none = grind (arith, nat_tests)
 -- a version is due from it on
 pub is_due_is : (w : World) (file number : ℕ) → IsWellFormed w → is_due w file number ≡ option_map_or (λ m. nat_le m w.now) (ripe_at w file number) false
 unfolding is_due
-is_due_is w file number k = grind (arith, nat_tests, ripe_at_is, all-found, due_from_ripe, now_of)
+is_due_is w file number k = grind (arith, nat_tests, ripe_at_is, ripens w k, now_of)
 
 -- ---- the ripe moment is told by the moments at which the version is due
 
@@ -38,19 +35,13 @@ any-filter_map t h [] = refl
 any-filter_map {X} {Y} t h (x ∷ xs) = grind (arith, nat_tests, any-filter_map t h xs)
 
 -- of rows apart at most one has the number
+none-numbered : (file number : ℕ) (g : VersionRow → Bool) (x : VersionRow) (ys : List VersionRow) → is_version file number x ≡ true → AllByRecursion (ArePlaced x) ys → list_any (λ y. is_version file number y && g y) ys ≡ false
+none-numbered file number g x [] e all = refl
+none-numbered file number g x (y ∷ ys) e all = grind (arith, nat_tests, all.0.after, none-numbered file number g x ys e all.1)
+
 any-numbered : (file number : ℕ) (g : VersionRow → Bool) (xs : List VersionRow) → AllLater ArePlaced xs → list_any (λ x. is_version file number x && g x) xs ≡ option_map_or g (find (is_version file number) xs) false
 any-numbered file number g [] placed = refl
-any-numbered file number g (x ∷ xs) placed = elim (is_version file number x) as (λ b. is_version file number x ≡ b → ((b && g x) || list_any (λ x. is_version file number x && g x) xs) ≡ option_map_or g (cond b (Some x) (find (is_version file number) xs)) false) [
-  | true ↦ λ e. ap (λ b. g x || b) (none e xs placed.0) ∙ or_false (g x)
-  | false ↦ λ e. any-numbered file number g xs placed.1
-] refl where
-  or_false : (a : Bool) → (a || false) ≡ a
-  or_false true = refl
-  or_false false = refl
-
-  none : is_version file number x ≡ true → (ys : List VersionRow) → AllByRecursion (ArePlaced x) ys → list_any (λ x. is_version file number x && g x) ys ≡ false
-  none e [] all = refl
-  none e (y ∷ ys) all = let first = all.0 in let after = first.after in let other : is_version file number y ≡ false = grind (arith, nat_tests) in rw other (none e ys all.1)
+any-numbered file number g (x ∷ xs) placed = grind (arith, nat_tests, none-numbered file number g x xs, any-numbered file number g xs placed.1)
 
 -- a row has the key if its number is the key's and its moment, which has come, too
 has_due_key : (w : World) (k : Key) (row : VersionRow) → w.now ≤ last_moment → IsDueFromRipe w row → option_map_or (is_key k) (due_key w row) false ≡ (is_version k.file k.number row && (is_ripe_by w.now k && is_moment k.ripe (ripe_of w row)))
@@ -59,15 +50,7 @@ has_due_key w k row fits from = grind (arith, nat_tests)
 
 -- the due rows have just the keys whose moment has come
 pub scan_members : (w : World) → IsWellFormed w → (k : Key) → has_key k (filter_map (due_key w) w.versions) ≡ (is_ripe_by w.now k && is_moment k.ripe (ripe_at w k.file k.number))
-scan_members w formed k =
-    any-filter_map (is_key k) (due_key w) w.versions
-    ∙ each w.versions (due_from_ripe w formed)
-    ∙ any-numbered k.file k.number (λ row. is_ripe_by w.now k && is_moment k.ripe (ripe_of w row)) w.versions (placed_of w formed)
-    ∙ by (find (is_version k.file k.number) w.versions)
-    ∙ ap (λ o. is_ripe_by w.now k && is_moment k.ripe o) (sym (ripe_at_is w k.file k.number)) where
-      each : (xs : List VersionRow) → AllByRecursion (IsDueFromRipe w) xs → list_any (λ row. option_map_or (is_key k) (due_key w row) false) xs ≡ list_any (λ row. is_version k.file k.number row && (is_ripe_by w.now k && is_moment k.ripe (ripe_of w row))) xs
-      each [] all = refl
-      each (x ∷ xs) all = rw (has_due_key w k x (now_of w formed) all.0, each xs all.1) refl
-
-      by : (o : Option VersionRow) → option_map_or (λ row. is_ripe_by w.now k && is_moment k.ripe (ripe_of w row)) o false ≡ (is_ripe_by w.now k && is_moment k.ripe (option_and_then (ripe_of w) o))
-      by o = grind (arith, nat_tests)
+scan_members w formed k = grind (arith, nat_tests, any-filter_map (is_key k) (due_key w) w.versions, each w.versions, any-numbered k.file k.number (λ row. is_ripe_by w.now k && is_moment k.ripe (ripe_of w row)) w.versions (placed_of w formed), ripe_at_is) where
+  each : (xs : List VersionRow) → list_any (λ row. option_map_or (is_key k) (due_key w row) false) xs ≡ list_any (λ row. is_version k.file k.number row && (is_ripe_by w.now k && is_moment k.ripe (ripe_of w row))) xs
+  each [] = refl
+  each (x ∷ xs) = grind (arith, has_due_key w k x (now_of w formed) (ripens w formed x), each xs)

@@ -1,6 +1,6 @@
 -- A held version is due from its ripe moment on, which its next held version tells.
-use Rattle.ele_world.proofs.Basics.{◌≡◌, ℕ, ◌≤◌, ◌&&◌, Bool, true, false, not, Option, Some, None, refl, ap, sym, subst, ◌∙◌, nat_le, option_and_then, IfSome, option_map_or, all-split, all-any}
-use Rattle.ele_world.proofs.Words.{last_moment, Policy, is_due_by, candidates, earliest_of, never_due, due_from, IsPolicy, VersionRow, FileView, view_of, beside, is_protected, due_in, ripe_in, IsDueFromRipe, DueFromRipe, RipeIsAnswer, RipeIsAnswered, World, policy_of}
+use Rattle.ele_world.proofs.Basics.{◌≡◌, ℕ, ◌≤◌, ◌&&◌, Bool, true, false, not, Option, Some, None, refl, ap, sym, subst, ◌∙◌, nat_le, option_and_then, IfSome, option_map_or, all-split, all-any, arith}
+use Rattle.ele_world.proofs.Words.{last_moment, Policy, is_due_by, candidates, earliest_of, never_due, due_from, IsPolicy, VersionRow, FileView, view_of, beside, is_protected, due_in, ripe_in, IsDueFromRipe, DueFromRipe, RipeIsAnswer, RipeIsAnswered, IsWellFormed, World, policy_of}
 use Rattle.ele_policy.specs.Ripe.{ripe_by}
 use Rattle.ele_world.specs.Due.{is_due_at, ripe_of}
 use Rattle.ele_world.proofs.Views.{view_is, nearest_of}
@@ -12,32 +12,32 @@ due_by b v row p e at = not b && option_map_or (λ policy. option_map_or (λ end
 abbrev ripe_if : Bool → FileView → VersionRow → Option Policy → Option ℕ → Option ℕ
 ripe_if b v row p e = option_and_then (λ policy. option_and_then (λ ended. earliest_of (due_by b v row p e) (candidates policy ended)) e) p
 
+-- a protected version never ripens
+never_ripe : (v : FileView) (row : VersionRow) (p : Option Policy) (e : Option ℕ) → ripe_if true v row p e ≡ None
+never_ripe v row None e = refl
+never_ripe v row (Some policy) None = refl
+never_ripe v row (Some policy) (Some ended) = never_due (candidates policy ended)
+
 due_from_ripe_in : (v : FileView) (row : VersionRow) (at : ℕ) → IfSome v.policy IsPolicy → at ≤ last_moment → due_in v row at ≡ option_map_or (λ ripe. nat_le ripe at) (ripe_in v row) false
 unfolding ripe_by
 due_from_ripe_in v row at governed fits = by (is_protected v row at) v.policy row.ended governed where
   by : (b : Bool) (p : Option Policy) (e : Option ℕ) → IfSome p IsPolicy → due_by b v row p e at ≡ option_map_or (λ ripe. nat_le ripe at) (ripe_if b v row p e) false
-  by true None e given = refl
-  by true (Some policy) None given = refl
-  by true (Some policy) (Some ended) given = ap (λ o. option_map_or (λ ripe. nat_le ripe at) o false) (sym (never_due (candidates policy ended)))
-  by false None e given = refl
-  by false (Some policy) None given = refl
-  by false (Some policy) (Some ended) given = due_from policy row.closed ended at (beside v row) given fits
+  by true p e given = rw (never_ripe v row p e) refl
+  by false p e given = grind (arith, due_from)
 
 -- of any rows, whose policies are such as can be given
 pub due_from_ripe_of : (w : World) (row : VersionRow) → IfSome (policy_of w.files row.file) IsPolicy → IsDueFromRipe w row
 unfolding is_due_at ripe_of
 due_from_ripe_of w row governed at fits = due_from_ripe_in (view_of w row.file) row at governed fits
 
-pub due_from_ripe : DueFromRipe
-due_from_ripe w k = all-any (IsDueFromRipe w) w.versions (λ row. due_from_ripe_of w row (view_is w k row.file).governed)
+pub ripens : (w : World) → IsWellFormed w → (row : VersionRow) → IsDueFromRipe w row
+ripens w k row = due_from_ripe_of w row (view_is w k row.file).governed
 
--- a protected version has none
+pub due_from_ripe : DueFromRipe
+due_from_ripe w k = all-any (IsDueFromRipe w) w.versions (ripens w k)
+
 pub protected_ripe : (v : FileView) (row : VersionRow) → is_protected v row 0 ≡ true → ripe_in v row ≡ None
-protected_ripe v row is = subst (λ b. ripe_if b v row v.policy row.ended ≡ None) (sym is) (by v.policy row.ended) where
-  by : (p : Option Policy) (e : Option ℕ) → ripe_if true v row p e ≡ None
-  by None e = refl
-  by (Some policy) None = refl
-  by (Some policy) (Some ended) = never_due (candidates policy ended)
+protected_ripe v row is = subst (λ b. ripe_if b v row v.policy row.ended ≡ None) (sym is) (never_ripe v row v.policy row.ended)
 
 -- and any other one what its policy tells
 pub free_ripe : (v : FileView) (row : VersionRow) (policy : Policy) (ended : ℕ) → is_protected v row 0 ≡ false → v.policy ≡ Some policy → row.ended ≡ Some ended → ripe_in v row ≡ ripe_by policy row.closed (beside v row) ended
