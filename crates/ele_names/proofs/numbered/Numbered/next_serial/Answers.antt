@@ -1,6 +1,6 @@
 use Rattle.ele_names.proofs.Basics.{◌<◌, subst, sym, ◌∙◌, arith, AllByRecursion, keys_of}
 use Rattle.ele_names.proofs.Words.{entries_from}
-use Rattle.ele_names.proofs.Numbering.{all_below, from_few}
+use Rattle.ele_names.proofs.Numbering.{from_below, from_few}
 use Rattle.ele_names.proofs.numbered.Numbered.next_serial.Goals as goal
 
 pub returns-clause-few : goal.returns-clause-few
@@ -12,4 +12,4 @@ returns-clause-few c =
 pub returns-clause-below : goal.returns-clause-below
 returns-clause-below c =
     let items = c.self.inside.places.items in
-    rw (← c.self.view_is) (subst (λ n. AllByRecursion (λ serial. serial < n) (keys_of (entries_from 0 items))) (sym (c.len.ensures ∙ c.self.inside.places.ok.0)) (all_below items))
+    rw (← c.self.view_is) (from_below 0 items _ (omega (arith, c.len.ensures, c.self.inside.places.ok.0)))

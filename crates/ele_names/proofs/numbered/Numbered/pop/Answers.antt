@@ -1,6 +1,6 @@
 use Rattle.ele_names.proofs.Basics.{◌≡◌, ℕ, ◌∷◌, [], ◌++◌, Some, None, length, IsSome, length-append, refl, sym, ap, subst, ◌<◌, ◌∙◌, arith, AllByRecursion, keys_of, option_to_list, false≢true}
 use Rattle.ele_names.proofs.Words.{entries_from}
-use Rattle.ele_names.proofs.Numbering.{all_below, from_none, place_pushed, none_taken}
+use Rattle.ele_names.proofs.Numbering.{from_below, from_none, place_pushed, none_taken}
 use Rattle.ele_names.proofs.numbered.Numbered.pop.Goals as goal
 
 pub loop-place-init : goal.loop-place-init
@@ -33,4 +33,4 @@ returns-clause-none c =
 pub returns-in-Some-place-clause-below : goal.returns-in-Some-place-clause-below
 returns-in-Some-place-clause-below c =
     let left = c.pop.new.self.items in
-    subst (λ n. AllByRecursion (λ serial. serial < n) (keys_of (entries_from 0 left))) (sym c.next_serial.ensures.next) (all_below left)
+    from_below 0 left _ (omega (arith, c.next_serial.ensures.next))
