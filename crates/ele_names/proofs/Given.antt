@@ -1,5 +1,5 @@
 -- A name more, which is live nowhere.
-use Rattle.ele_names.proofs.Basics.{◌≡◌, ℕ, ◌<◌, ◌^◌, Bool, IsSome, true, false, cond, List, [], ◌∷◌, ◌++◌, length, slice_get, Option, Some, None, refl, sym, ap, ◌∙◌, arith, length-append, option_map_or, nat_cmp, is_at, get, keys_of, length-map, map-append, get_or_append_left, get_or_push, slice_get_past, slice_get-get_or, nat_tests, insert_entry-new}
+use Rattle.ele_names.proofs.Basics.{◌≡◌, ℕ, ◌<◌, ◌^◌, Bool, IsSome, true, false, cond, List, [], ◌∷◌, ◌++◌, length, slice_get, Option, Some, None, refl, sym, ap, ◌∙◌, arith, length-append, option_map_or, nat_cmp, is_at, get, keys_of, length-map, map-append, get_or_append_left, get_or_push, slice_get_past, slice_got, nat_tests, insert_entry-new}
 use Rattle.ele_names.proofs.Words.{Target, Live, Lives, live_at, AreListed, name_eq, names_of, place_in}
 use Rattle.std.specs.Bool.{nat_eq}
 use Rattle.ele_names.specs.Chained.{Gains, Keeps, newest_in}
@@ -13,7 +13,7 @@ stands_in d name = nat_eq name.0 d
 
 -- the element behind a list
 got_pushed : {X : Type 0} (xs : List X) (x : X) (s : ℕ) → slice_get (xs ++ x ∷ []) s ≡ cond (is_at (nat_cmp (length xs)) s) (Some x) (slice_get xs s)
-got_pushed xs x s = grind (arith, nat_tests, slice_get-get_or (xs ++ x ∷ []) s x, length-append xs (x ∷ []), get_or_push xs x x s, get_or_append_left xs (x ∷ []) x s, slice_get-get_or xs s x, slice_get_past (xs ++ x ∷ []) s, slice_get_past xs s)
+got_pushed xs x s = grind (arith, nat_tests, slice_got (xs ++ x ∷ []) s x, length-append xs (x ∷ []), get_or_push xs x x s, get_or_append_left xs (x ∷ []) x s, slice_got xs s x, slice_get_past (xs ++ x ∷ []) s, slice_get_past xs s)
 
 module _ (old new : Lives) (d : ℕ) (n : List ℕ) (unknown : place_in (names_of old) d n ≡ length (names_of old)) where
   pub names_pushed : new.by_name.entries ≡ insert_entry name_eq old.by_name.entries (d, n) None → names_of new ≡ names_of old ++ (d, n) ∷ []

@@ -95,6 +95,7 @@ impl Lives {
     }
 
     // Sets the live row of a name that was given.
+    #[tactic(auto, using(crate::proofs::Basics::nat_tests, crate::proofs::Numbers::not_missing, crate::proofs::Numbers::present, crate::proofs::Basics::keys_present))]
     fn set(&mut self, directory: DirId, name: &Name, live: Option<Live<Target>>)
         requires { place_in (names_of self.old) directory name.now < length (names_of self.old) }
         ensures names { names_of self.new ≡ names_of self.old }

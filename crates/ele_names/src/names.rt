@@ -180,6 +180,7 @@ impl Names {
     }
 
     // The newest row of the name that was born by that many seconds.
+    #[tactic(auto, using(crate::proofs::Newest::none_known, crate::proofs::Newest::newest))]
     fn newest_by(&self, directory: DirId, name: &Name, seconds: u64) -> Option<NameRow>
         ensures newest { result
             ≡ last_passing (is_born_by directory name.now seconds) self.now }
@@ -253,6 +254,7 @@ impl Names {
     }
 
     /// Whether the directory has a live name.
+    #[tactic(auto, using(crate::proofs::Basics::any_count, crate::proofs::Counts::directory_names))]
     pub fn dir_live(&self, directory: DirId) -> bool
         ensures { result ≡ list_any (is_live_directory directory) self.now }
     {
@@ -260,7 +262,7 @@ impl Names {
     }
 
     /// Whether the file has a live name.
-    #[tactic(auto, using(crate::proofs::Steps::is_live_steps))]
+    #[tactic(auto, using(crate::proofs::Basics::any_count, crate::proofs::Words::is_live_name_of))]
     pub fn is_live(&self, file: FileId) -> bool
         ensures { result ≡ list_any (is_live_name_of file) self.now }
     {
@@ -268,6 +270,7 @@ impl Names {
     }
 
     /// How many live names the file has.
+    #[tactic(auto, using(crate::proofs::Counts::file_names))]
     pub fn names_of(&self, file: FileId) -> u64
         ensures { result ≡ count_by (is_live_name_of file) self.now }
     {

@@ -27,6 +27,7 @@ pub struct Places {
 
 impl Places {
     /// No row anywhere.
+    #[tactic(auto, using(crate::proofs::Added::live_none))]
     pub fn new(alloc: Global) -> Places
         ensures placed { (names : List (ℕ × List ℕ)) → ArePlaced names (λ _. None) result }
         ensures live { (t : Target) → live_of result t ≡ 0 }
