@@ -16,6 +16,11 @@ pub placed_back : (names : List (ℕ × List ℕ)) (es : List (ℕ × NameRow)) 
     → ArePlaced names (λ s. cond (is_at (nat_cmp n) s) None (cond (is_at (nat_cmp n) s) (Some row) (value_at es s))) places → ArePlaced names (value_at es) places
 placed_back names es n row fresh places placed = placed_same names _ (value_at es) places (λ s. grind (arith, nat_tests, fresh)) placed
 
+-- counts by target, from those of files and of directories
+pub live_same : (old new : Places) → ((f : ℕ) → live_of new (File f) ≡ live_of old (File f)) → ((d : ℕ) → live_of new (Directory d) ≡ live_of old (Directory d)) → (t : Target) → live_of new t ≡ live_of old t
+live_same old new files directories (File f) = files f
+live_same old new files directories (Directory d) = directories d
+
 -- no row
 pub live_none : (places : Places) → ((f : ℕ) → live_of places (File f) ≡ 0) → ((d : ℕ) → live_of places (Directory d) ≡ 0) → (t : Target) → live_of places t ≡ 0
 live_none places files directories (File f) = files f

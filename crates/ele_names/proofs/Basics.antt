@@ -4,7 +4,7 @@ pub use Rattle.ele_lists.proofs.Cuts.{update_first-at}
 pub use Rattle.ele_lists.proofs.Edits.{all-any, all-push, all-weaker, later-push}
 pub use Rattle.ele_lists.proofs.Entries.{lookup-insert_entry, sorted-insert_entry}
 pub use Rattle.ele_lists.proofs.Filters.{filter-all}
-pub use Rattle.ele_lists.proofs.Indexed.{at_itself, index_change, index_insert, index_same, index_undo}
+pub use Rattle.ele_lists.proofs.Indexed.{at_itself, index_change, index_insert, index_remove, index_same, index_undo}
 pub use Rattle.ele_lists.proofs.Lasts.{find_last}
 pub use Rattle.ele_lists.proofs.Serials.{IsRising, IsSplitAt, after_head, all_from_each, all_keys_without, found_key, is_last, later_at, none_last, not_true, not_yet, pushed, rest_rises, split_at}
 pub use Rattle.ele_lists.proofs.Sums.{any-count as any_count, sum_by-around, sum_by-same}
@@ -15,7 +15,7 @@ pub use Rattle.ele_lists.specs.Serial.{is_placed, value_at}
 pub use Rattle.ele_lists.specs.Tally.{counted}
 pub use Rattle.indexmap.proofs.CallerLemmas.{insert_entry-new, keys-insert_entry-present as keys_present}
 pub use Rattle.indexmap.proofs.MapLemmas.{some_index}
-pub use Rattle.std.proofs.Common.{Bool, Err, IsSome, List, None, Ok, Option, Some, [], ap, append-nil, append_assoc, arith, cond, drop, eqb, false, filter, filter_map, find, inl, inr, is_none, is_some, length, length-append, map, nat_le, nat_lt, not, position, refl, rules, slice_get, slice_set, subst, suc, sym, take, tests, true, zero, ℕ, ◌&&◌, ◌++◌, ◌+◌, ◌-◌, ◌<◌, ◌==◌, ◌^◌, ◌∙◌, ◌∷◌, ◌≡◌, ◌≤◌, ◌⊎◌}
+pub use Rattle.std.proofs.Common.{Bool, Err, IsSome, List, None, Ok, Option, Some, [], ap, append-nil, append_assoc, arith, cond, drop, eqb, false, filter, filter_map, find, inl, inr, is_none, is_some, length, length-append as length_append, map, nat_le, nat_lt, not, position, refl, rules, slice_get, slice_set, subst, suc, sym, take, tests, true, zero, ℕ, ◌&&◌, ◌++◌, ◌+◌, ◌-◌, ◌<◌, ◌==◌, ◌^◌, ◌∙◌, ◌∷◌, ◌≡◌, ◌≤◌, ◌⊎◌}
 pub use Rattle.std.proofs.lemmas.Bool.{cases_lt, false≢true, true≢false}
 pub use Rattle.std.proofs.lemmas.Bool.Decides.{nat_tests}
 pub use Rattle.std.proofs.lemmas.Cmp.{nat_cmp_total, nat_list_cmp_total, on_total, then_total, tied_itself}

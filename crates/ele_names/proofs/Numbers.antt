@@ -1,5 +1,5 @@
 -- The numbers of names.
-use Rattle.ele_names.proofs.Basics.{◌≡◌, ℕ, suc, ◌+◌, ◌<◌, Bool, true, false, cond, not, ◌==◌, eqb, nat_lt, List, [], ◌∷◌, ◌++◌, length, slice_get, position, is_some, Option, Some, None, length-append, refl, sym, ap, ◌∙◌, ◌⊎◌, arith, list_any, HashMap, get, keys, false≢true, true≢false, cases_lt, nat_tests, position_or_len_push, prefix_len-le-length, bytes_eq-Decides, some_index}
+use Rattle.ele_names.proofs.Basics.{◌≡◌, ℕ, suc, ◌+◌, ◌<◌, Bool, true, false, cond, not, ◌==◌, eqb, nat_lt, List, [], ◌∷◌, ◌++◌, length, slice_get, position, is_some, Option, Some, None, length_append, refl, sym, ap, ◌∙◌, ◌⊎◌, arith, list_any, HashMap, get, keys, false≢true, true≢false, cases_lt, nat_tests, position_or_len_push, prefix_len-le-length, bytes_eq-Decides, some_index}
 use Rattle.ele_names.proofs.Words.{NameRow, Target, is_named, Live, name_eq, place_in, number_in, KeepsPlaces}
 
 pub exact : (k q : ℕ × List ℕ) → name_eq k q ≡ true → k ≡ q
@@ -40,7 +40,7 @@ known names d n = grind (arith, nat_tests, cases_lt, place_in, behind, prefix_le
 module _ (names : List (ℕ × List ℕ)) where
   -- a name more behind the others leaves them their numbers
   pub keeps_pushed : (k : ℕ × List ℕ) → KeepsPlaces names (names ++ k ∷ [])
-  keeps_pushed k = grind (arith, nat_tests, place_in, position_or_len_push, name_eq, length-append)
+  keeps_pushed k = grind (arith, nat_tests, place_in, position_or_len_push, name_eq, length_append)
 
   -- the new name's number is the next
   pub pushed_place : (k : ℕ × List ℕ) → place_in names k.0 k.1 ≡ length names → place_in (names ++ k ∷ []) k.0 k.1 ≡ length names

@@ -94,6 +94,7 @@ impl Names {
 
     /// Takes out the last row in order of making: right behind `add` the one that it made. It takes
     /// no memory.
+    #[tactic(auto, using(crate::proofs::Basics::nat_tests, crate::proofs::Gone::last_gone))]
     pub fn take_back(&mut self)
         requires { 0 < length self.old }
         ensures { (rows : List NameRow) (newest : NameRow)
@@ -110,6 +111,7 @@ impl Names {
     }
 
     /// Ends the live name at the moment. It takes no memory.
+    #[tactic(auto, using(crate::proofs::Basics::nat_tests, crate::proofs::Gone::found_known))]
     pub fn kill(&mut self, directory: DirId, name: &Name, moment: Moment)
         requires { IsSome (live_target self.old directory name.now) }
         ensures { self.new
@@ -132,6 +134,7 @@ impl Names {
     }
 
     // Takes out one row of the file, if there is one, and answers whether there was.
+    #[tactic(auto, using(crate::proofs::Basics::nat_tests, crate::proofs::Gone::fewer, crate::proofs::Gone::row_known))]
     fn drop_one(&mut self, file: FileId) -> bool
         ensures others { filter (λ row. not (is_of file row)) self.new
             ≡ filter (λ row. not (is_of file row)) self.old }
