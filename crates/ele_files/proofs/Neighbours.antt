@@ -26,11 +26,11 @@ module _ (s : Store) (files : List File) (a : AllSessions) (kept : Keeps s files
     before_next : filter (is_before f.next) f.log.rows ≡ f.log.rows
     before_next = filter-all (is_before f.next) f.log.rows (all-weaker (IsRowOf f.next) (λ row. is_before f.next row ≡ true) f.log.rows (λ row is. let h = is.number in grind (arith, nat_tests)) (all_found (is_id file) IsFileKept files f found kept.files_kept).rows)
 
-    pub newest_shown : option_map stamps_of (newest_of versions file) ≡ option_map stamps_in (last_passing (is_before f.next) f.log.rows)
-    newest_shown =
+    pub newest_shown : (o : Option LogRow) → o ≡ last_passing (is_before f.next) f.log.rows → option_map stamps_of (newest_of versions file) ≡ option_map stamps_in o
+    newest_shown o is =
         newest_told ∙ ap last (list_shown s files a kept file f found)
         ∙ last-map (λ _. true) stamps_in (λ _. true) f.log.rows (λ row. refl)
-        ∙ ap (option_map stamps_in) (ap last (sym before_next) ∙ last-kept (is_before f.next) f.log.rows)
+        ∙ ap (option_map stamps_in) (ap last (sym before_next) ∙ last-kept (is_before f.next) f.log.rows ∙ sym is)
 
-    pub closing_shown : (number : ℕ) → next_closing versions file number ≡ option_map (λ (row : LogRow). row.closed) (find (is_after number) f.log.rows)
-    closing_shown number = rw (find_shown s files a kept file f found (is_newer_of file number) (is_after number) (λ row e. grind (arith, nat_tests)) (λ row. rw (own s files a kept file f found) refl)) (grind arith)
+    pub closing_shown : (number : ℕ) (o : Option LogRow) → o ≡ find (is_after number) f.log.rows → next_closing versions file number ≡ option_map (λ (row : LogRow). row.closed) o
+    closing_shown number o is = rw (is, find_shown s files a kept file f found (is_newer_of file number) (is_after number) (λ row e. grind (arith, nat_tests)) (λ row. rw (own s files a kept file f found) refl)) (grind arith)

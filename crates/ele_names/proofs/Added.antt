@@ -1,6 +1,6 @@
 -- A row at the end of the others.
 use Rattle.ele_names.proofs.Basics.{◌≡◌, ℕ, false, ◌+◌, ◌≤◌, ◌<◌, ◌^◌, cond, List, [], ◌∷◌, ◌++◌, length, Some, None, Option, refl, sym, ap, ◌∙◌, arith, AllByRecursion, IsStrictlySortedBy, option_map_or, nat_cmp, is_at, insert_entry, keys_of, values_of, nat_tests, map-append, value_at, is_placed, index_same, count_by, nat_cmp_total, lookup-insert_entry, sorted-insert_entry, all-push, all-weaker, later-push, pushed, not_yet, split_at, all-mid}
-use Rattle.ele_names.proofs.Words.{last_moment, Target, NameRow, Lives, Places, Table, AreCounted, AreNumbered, IsKept, IsTable, rows_of, ArePlaced, AreListed, KeepsPlaces, names_of, number_in, is_of, live_of, is_live_of, Follows}
+use Rattle.ele_names.proofs.Words.{Directory, File, last_moment, Target, NameRow, Lives, Places, Table, AreCounted, AreNumbered, IsKept, IsTable, rows_of, ArePlaced, AreListed, KeepsPlaces, names_of, number_in, is_of, live_of, is_live_of, Follows}
 use Rattle.ele_names.proofs.Chained.{chained_same}
 use Rattle.ele_names.proofs.Live.{numbered_same}
 
@@ -16,7 +16,16 @@ pub placed_back : (names : List (ℕ × List ℕ)) (es : List (ℕ × NameRow)) 
     → ArePlaced names (λ s. cond (is_at (nat_cmp n) s) None (cond (is_at (nat_cmp n) s) (Some row) (value_at es s))) places → ArePlaced names (value_at es) places
 placed_back names es n row fresh places placed = placed_same names _ (value_at es) places (λ s. grind (arith, nat_tests, fresh)) placed
 
+-- counts by target, from those of files and of directories
+pub live_same : (old new : Places) → ((f : ℕ) → live_of new (File f) ≡ live_of old (File f)) → ((d : ℕ) → live_of new (Directory d) ≡ live_of old (Directory d)) → (t : Target) → live_of new t ≡ live_of old t
+live_same old new files directories (File f) = files f
+live_same old new files directories (Directory d) = directories d
+
 -- no row
+pub live_none : (places : Places) → ((f : ℕ) → live_of places (File f) ≡ 0) → ((d : ℕ) → live_of places (Directory d) ≡ 0) → (t : Target) → live_of places t ≡ 0
+live_none places files directories (File f) = files f
+live_none places files directories (Directory d) = directories d
+
 pub table_new : (names : List (ℕ × List ℕ)) (t : Table) → t.rows.entries ≡ [] → ArePlaced names (λ _. None) t.places → IsTable names t
 unfolding IsStrictlySortedBy
 table_new names t is placed = grind (arith, nat_tests, placed_same, value_at)

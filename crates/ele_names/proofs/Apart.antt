@@ -8,9 +8,6 @@ split a b h = grind (arith, nat_tests)
 pub equal : (a b : ℕ) → (a == b) ≡ true → a ≡ b
 equal a b h = grind (arith, nat_tests)
 
-below : (b t : ℕ) → nat_le b t ≡ true → b ≤ t
-below b t h = grind (arith, nat_tests)
-
 -- rows of one name stand in one directory and have one name
 pub same_name : (d : ℕ) (n : List ℕ) (row other : NameRow) → is_named d n row ≡ true → is_named d n other ≡ true → (row.directory ≡ other.directory) × (row.name ≡ other.name)
 same_name d n row other a b = grind (arith, nat_tests, split, bytes_eq, equal, bytes_eq-Decides)
@@ -28,25 +25,14 @@ find_same : {X : Type 0} (p q : X → Bool) (xs : List X) → ((x : X) → p x �
 find_same p q [] same = refl
 find_same p q (x ∷ xs) same = grind (arith, nat_tests, same x, find_same p q xs same)
 
-regroup : (a b c : Bool) → (a && (b && c)) ≡ ((a && b) && c)
-regroup a b c = grind (arith, nat_tests)
-
-over : (o : Option ℕ) (death b t : ℕ) → o ≡ Some death → death ≤ b → b ≤ t → option_map_or (λ death. nat_lt t death) o true ≡ false
-over o death b t is le up = grind (arith, nat_tests)
-
 module _ (d : ℕ) (n : List ℕ) (rows : List NameRow) (apart : AllLater Follows rows) where
   -- the row that covers a moment is the newest by then, if it lives on
   pub covering_is_newest : (t : ℕ) (newest : Option NameRow) → newest ≡ last_passing (is_born_by d n t) rows → find (λ row. is_named d n row && covers t row) rows ≡ passing (lives_past t) newest
   covering_is_newest t newest is =
-      find_same (λ row. is_named d n row && covers t row) (λ row. is_born_by d n t row && lives_past t row) rows (λ row. regroup (is_named d n row) (nat_le row.birth t) (lives_past t row))
+      find_same (λ row. is_named d n row && covers t row) (λ row. is_born_by d n t row && lives_past t row) rows (λ row. grind (arith, nat_tests))
       ∙ find_last (is_born_by d n t) (lives_past t) rows
       (later-weaker Follows (λ x y. is_born_by d n t x ≡ true → is_born_by d n t y ≡ true → lives_past t x ≡ false) rows
-      (λ x y follows a b.
-      let first = split (is_named d n x) (nat_le x.birth t) a in
-      let second = split (is_named d n y) (nat_le y.birth t) b in
-      let same = same_name d n x y first.0 second.0 in
-      let dead = follows.apart same.0 same.1 in
-      over x.death dead.0 y.birth t dead.1 dead.2 (below y.birth t second.1)) apart)
+      (λ x y follows a b. grind (arith, nat_tests, same_name d n x y, follows.apart)) apart)
       ∙ ap (passing (lives_past t)) (sym is)
 
 -- all rows are born by the greatest number of seconds

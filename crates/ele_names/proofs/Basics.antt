@@ -4,18 +4,18 @@ pub use Rattle.ele_lists.proofs.Cuts.{update_first-at}
 pub use Rattle.ele_lists.proofs.Edits.{all-any, all-push, all-weaker, later-push}
 pub use Rattle.ele_lists.proofs.Entries.{lookup-insert_entry, sorted-insert_entry}
 pub use Rattle.ele_lists.proofs.Filters.{filter-all}
-pub use Rattle.ele_lists.proofs.Indexed.{at_itself, index_change, index_insert, index_same, index_undo}
+pub use Rattle.ele_lists.proofs.Indexed.{at_itself, index_change, index_insert, index_remove, index_same, index_undo}
 pub use Rattle.ele_lists.proofs.Lasts.{find_last}
 pub use Rattle.ele_lists.proofs.Serials.{IsRising, IsSplitAt, after_head, all_from_each, all_keys_without, found_key, is_last, later_at, none_last, not_true, not_yet, pushed, rest_rises, split_at}
-pub use Rattle.ele_lists.proofs.Sums.{any-count, sum_by-around, sum_by-same}
+pub use Rattle.ele_lists.proofs.Sums.{any-count as any_count, sum_by-around, sum_by-same}
 pub use Rattle.ele_lists.specs.Index.{IsLastOf, has, is_entry}
 pub use Rattle.ele_lists.specs.Last.{last_passing, passing}
 pub use Rattle.ele_lists.specs.Lists.{AllLater, update_first}
 pub use Rattle.ele_lists.specs.Serial.{is_placed, value_at}
 pub use Rattle.ele_lists.specs.Tally.{counted}
-pub use Rattle.indexmap.proofs.CallerLemmas.{insert_entry-new, keys-insert_entry-present}
+pub use Rattle.indexmap.proofs.CallerLemmas.{insert_entry-new, keys-insert_entry-present as keys_present}
 pub use Rattle.indexmap.proofs.MapLemmas.{some_index}
-pub use Rattle.std.proofs.Common.{Bool, Err, IsSome, List, None, Ok, Option, Some, [], ap, append-nil, append_assoc, arith, cond, drop, eqb, false, filter, filter_map, find, inl, inr, is_none, is_some, length, length-append, map, nat_le, nat_lt, not, position, refl, rules, slice_get, slice_set, subst, suc, sym, take, tests, true, zero, ℕ, ◌&&◌, ◌++◌, ◌+◌, ◌-◌, ◌<◌, ◌==◌, ◌^◌, ◌∙◌, ◌∷◌, ◌≡◌, ◌≤◌, ◌⊎◌}
+pub use Rattle.std.proofs.Common.{Bool, Err, IsSome, List, None, Ok, Option, Some, [], ap, append-nil, append_assoc, arith, cond, drop, eqb, false, filter, filter_map, find, inl, inr, is_none, is_some, length, length-append as length_append, map, nat_le, nat_lt, not, position, refl, rules, slice_get, slice_set, subst, suc, sym, take, tests, true, zero, ℕ, ◌&&◌, ◌++◌, ◌+◌, ◌-◌, ◌<◌, ◌==◌, ◌^◌, ◌∙◌, ◌∷◌, ◌≡◌, ◌≤◌, ◌⊎◌}
 pub use Rattle.std.proofs.lemmas.Bool.{cases_lt, false≢true, true≢false}
 pub use Rattle.std.proofs.lemmas.Bool.Decides.{nat_tests}
 pub use Rattle.std.proofs.lemmas.Cmp.{nat_cmp_total, nat_list_cmp_total, on_total, then_total, tied_itself}
@@ -26,7 +26,7 @@ pub use Rattle.std.proofs.lemmas.List.{get_or_append_left, get_or_push, length-m
 pub use Rattle.std.proofs.lemmas.List.Folds.{position_or_len_push}
 pub use Rattle.std.proofs.lemmas.List.Sums.{prefix_len-le-length}
 pub use Rattle.std.proofs.lemmas.Map.Lookups.{CmpEqualImpliesEq, exact_bytes, exact_pairs, exact_unsigned}
-pub use Rattle.std.proofs.lemmas.Option.{slice_get-get_or, slice_get_past, slice_get_read, slice_get_within}
+pub use Rattle.std.proofs.lemmas.Option.{slice_get-get_or as slice_got, slice_get_past, slice_get_read, slice_get_within}
 pub use Rattle.std.proofs.lemmas.Result.{err_from_is_err_and}
 pub use Rattle.std.proofs.lemmas.Slice.Eq.{bytes_eq-Decides}
 pub use Rattle.std.specs.BTreeMap.{insert_entry, is_at}

@@ -1,6 +1,6 @@
 -- Live rows and counts of them, where one comes or goes.
-use Rattle.ele_names.proofs.Basics.{◌≡◌, ℕ, ◌+◌, ◌-◌, ◌==◌, ◌&&◌, Bool, true, false, cond, not, nat_lt, is_none, List, [], ◌∷◌, ◌++◌, Some, None, refl, arith, count_by, list_any, AllByRecursion, AllLater, all-append, later-around, all-any, all-weaker, sum_by-around, sum_by-same, any-count, nat_tests}
-use Rattle.ele_names.proofs.Words.{NameRow, Target, Directory, File, is_live_name_of, is_target_file, is_live_in, is_target_directory, is_live_directory, is_named, is_live_name, live_target, is_live_of, Leaves, Follows, target_eq}
+use Rattle.ele_names.proofs.Basics.{◌≡◌, ℕ, ◌+◌, ◌-◌, ◌==◌, ◌&&◌, Bool, true, false, cond, not, nat_lt, is_none, List, [], ◌∷◌, ◌++◌, Some, None, refl, arith, count_by, list_any, AllByRecursion, AllLater, all-append, later-around, all-any, all-weaker, sum_by-around, sum_by-same, any_count, nat_tests}
+use Rattle.ele_names.proofs.Words.{IsKept, Lives, Table, live_of, rows_of, NameRow, Target, Directory, File, is_live_name_of, is_target_file, is_live_in, is_target_directory, is_live_directory, is_named, is_live_name, live_target, is_live_of, Leaves, Follows, target_eq}
 use Rattle.ele_names.proofs.Apart.{named_and_live, named_dead, same_name}
 
 -- what a test counts of one row that is live, or dead
@@ -49,15 +49,15 @@ module _ (row : NameRow) (before behind : List NameRow) (apart : AllLater Follow
 
 -- nothing passes where the count is 0
 pub none_counted : {X : Type 0} (p : X → Bool) (xs : List X) → not (list_any p xs) ≡ (count_by p xs == 0)
-none_counted p xs = grind (arith, nat_tests, not, any-count, count_by, nat_lt)
+none_counted p xs = grind (arith, nat_tests, not, any_count, count_by, nat_lt)
 
 -- the names of a directory, found as those of the target
-pub directory_names : (d : ℕ) (rows : List NameRow) → count_by (is_live_of (Directory d)) rows ≡ count_by (is_live_directory d) rows
-directory_names d rows = grind (arith, nat_tests, sum_by-same, is_live_of, is_live_directory, all-any, is_none, target_eq, is_target_directory)
+pub directory_names : (table : Table) (lives : Lives) → IsKept table lives → (d : ℕ) → live_of table.places (Directory d) ≡ count_by (is_live_directory d) (rows_of table)
+directory_names table lives kept d = grind (arith, nat_tests, kept.targets (Directory d), sum_by-same, is_live_of, is_live_directory, all-any, is_none, target_eq, is_target_directory)
 
 -- and of a file
-pub file_names : (f : ℕ) (rows : List NameRow) → count_by (is_live_of (File f)) rows ≡ count_by (is_live_name_of f) rows
-file_names f rows = grind (arith, nat_tests, sum_by-same, is_live_of, is_live_name_of, all-any, is_none, target_eq, is_target_file)
+pub file_names : (table : Table) (lives : Lives) → IsKept table lives → (f : ℕ) → live_of table.places (File f) ≡ count_by (is_live_name_of f) (rows_of table)
+file_names table lives kept f = grind (arith, nat_tests, kept.targets (File f), sum_by-same, is_live_of, is_live_name_of, all-any, is_none, target_eq, is_target_file)
 
 -- the counts by target, where a live row comes
 pub target_with : (t : Target) (row : NameRow) (was now : List NameRow) → Leaves row now was → is_none row.death ≡ true → (old new : ℕ) → old ≡ count_by (is_live_of t) was → new ≡ old + cond (target_eq row.target t) 1 0

@@ -1,5 +1,5 @@
 -- A name more, which is live nowhere.
-use Rattle.ele_names.proofs.Basics.{◌≡◌, ℕ, ◌<◌, ◌^◌, Bool, IsSome, true, false, cond, List, [], ◌∷◌, ◌++◌, length, slice_get, Option, Some, None, refl, sym, ap, ◌∙◌, arith, length-append, option_map_or, nat_cmp, is_at, get, keys_of, length-map, map-append, get_or_append_left, get_or_push, slice_get_past, slice_get-get_or, nat_tests, insert_entry-new}
+use Rattle.ele_names.proofs.Basics.{◌≡◌, ℕ, ◌<◌, ◌^◌, Bool, IsSome, true, false, cond, List, [], ◌∷◌, ◌++◌, length, slice_get, Option, Some, None, refl, sym, ap, ◌∙◌, arith, length_append, option_map_or, nat_cmp, is_at, get, keys_of, length-map, map-append, get_or_append_left, get_or_push, slice_get_past, slice_got, nat_tests, insert_entry-new}
 use Rattle.ele_names.proofs.Words.{Target, Live, Lives, live_at, AreListed, name_eq, names_of, place_in}
 use Rattle.std.specs.Bool.{nat_eq}
 use Rattle.ele_names.specs.Chained.{Gains, Keeps, newest_in}
@@ -13,7 +13,7 @@ stands_in d name = nat_eq name.0 d
 
 -- the element behind a list
 got_pushed : {X : Type 0} (xs : List X) (x : X) (s : ℕ) → slice_get (xs ++ x ∷ []) s ≡ cond (is_at (nat_cmp (length xs)) s) (Some x) (slice_get xs s)
-got_pushed xs x s = grind (arith, nat_tests, slice_get-get_or (xs ++ x ∷ []) s x, length-append xs (x ∷ []), get_or_push xs x x s, get_or_append_left xs (x ∷ []) x s, slice_get-get_or xs s x, slice_get_past (xs ++ x ∷ []) s, slice_get_past xs s)
+got_pushed xs x s = grind (arith, nat_tests, slice_got (xs ++ x ∷ []) s x, length_append xs (x ∷ []), get_or_push xs x x s, get_or_append_left xs (x ∷ []) x s, slice_got xs s x, slice_get_past (xs ++ x ∷ []) s, slice_get_past xs s)
 
 module _ (old new : Lives) (d : ℕ) (n : List ℕ) (unknown : place_in (names_of old) d n ≡ length (names_of old)) where
   pub names_pushed : new.by_name.entries ≡ insert_entry name_eq old.by_name.entries (d, n) None → names_of new ≡ names_of old ++ (d, n) ∷ []
@@ -28,7 +28,7 @@ module _ (old new : Lives) (d : ℕ) (n : List ℕ) (unknown : place_in (names_o
   -- and the name is the newest of its directory
   pub listed_pushed : length (names_of old) < 2 ^ 63 → names_of new ≡ names_of old ++ (d, n) ∷ [] → Gains d (length (names_of old)) old.in_directory new.in_directory → AreListed old → AreListed new
   listed_pushed few are gains was = record {
-    few = rw (are, length-append (names_of old) ((d, n) ∷ [])) (omega (arith, few));
+    few = rw (are, length_append (names_of old) ((d, n) ∷ [])) (omega (arith, few));
     each = chained_same stands_in (λ s. cond (is_at (nat_cmp (length (names_of old))) s) (Some (d, n)) (slice_get (names_of old) s)) (slice_get (names_of new)) new.in_directory
         (λ g s. ap (λ o. option_map_or (stands_in g) o false) (ap (λ names. slice_get names s) are ∙ got_pushed (names_of old) (d, n) s))
         (chained_entered stands_in (slice_get (names_of old)) (length (names_of old)) (λ s le. slice_get_past (names_of old) s le) (d, n) d (λ g. refl) old.in_directory new.in_directory (omega (arith, few)) gains was.each);

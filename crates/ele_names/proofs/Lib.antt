@@ -12,4 +12,3 @@ pub mod Added
 pub mod Gone
 pub mod Told
 pub mod Leads
-pub mod Steps

@@ -19,10 +19,6 @@ counted_same rows old new named directories was = grind (arith, nat_tests)
 pub numbered_same : (at to : ℕ → Option NameRow) (old new : Lives) → ((s : ℕ) → to s ≡ at s) → ((d : ℕ) (n : List ℕ) → live_at new d n ≡ live_at old d n) → AreNumbered at old → AreNumbered to new
 numbered_same at to old new same named was = grind (arith, nat_tests, same, named, was.each)
 
--- what is set of a name
-pub live_set : (b : Bool) (live : Option (Live Target)) (o p : Option (Option (Live Target))) → p ≡ cond b (Some live) o → option_and_then (λ live. live) p ≡ cond b live (option_and_then (λ live. live) o)
-live_set b live o p h = grind (arith, nat_tests, option_and_then)
-
 pub own_name : (row : NameRow) → is_named row.directory row.name row ≡ true
 own_name row = itself (row.directory, row.name)
 

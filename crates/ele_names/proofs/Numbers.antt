@@ -1,5 +1,5 @@
 -- The numbers of names.
-use Rattle.ele_names.proofs.Basics.{◌≡◌, ℕ, suc, ◌+◌, ◌<◌, Bool, true, false, cond, not, ◌==◌, eqb, nat_lt, List, [], ◌∷◌, ◌++◌, length, slice_get, position, is_some, Option, Some, None, length-append, refl, sym, ap, ◌∙◌, ◌⊎◌, arith, list_any, HashMap, get, keys, false≢true, true≢false, cases_lt, nat_tests, position_or_len_push, prefix_len-le-length, bytes_eq-Decides, some_index}
+use Rattle.ele_names.proofs.Basics.{◌≡◌, ℕ, suc, ◌+◌, ◌<◌, Bool, true, false, cond, not, ◌==◌, eqb, nat_lt, List, [], ◌∷◌, ◌++◌, length, slice_get, position, is_some, Option, Some, None, length_append, refl, sym, ap, ◌∙◌, ◌⊎◌, arith, list_any, HashMap, get, keys, false≢true, true≢false, cases_lt, nat_tests, position_or_len_push, prefix_len-le-length, bytes_eq-Decides, some_index}
 use Rattle.ele_names.proofs.Words.{NameRow, Target, is_named, Live, name_eq, place_in, number_in, KeepsPlaces}
 
 pub exact : (k q : ℕ × List ℕ) → name_eq k q ≡ true → k ≡ q
@@ -11,27 +11,17 @@ itself k = grind (arith, nat_tests, bytes_eq-Decides)
 other : (k q x : ℕ × List ℕ) → k ≡ x → name_eq q x ≡ false → name_eq k q ≡ false
 other k q x same f = grind (arith, nat_tests, exact k q, itself)
 
-zero : (b : Bool) (p : ℕ) → ((cond (not b) (1 + p) 0) == 0) ≡ b
-zero true p = refl
-zero false p = grind (arith, nat_tests)
-
-never : (m : ℕ) → (0 == (1 + m)) ≡ false
-never m = grind (arith, nat_tests)
-
-more : (p q : ℕ) → ((1 + p) == (1 + q)) ≡ (p == q)
-more p q = grind (arith, nat_tests)
-
 -- two names have one number if they are one
 pub one_place : (names : List (ℕ × List ℕ)) (k q : ℕ × List ℕ) → place_in names q.0 q.1 < length names → (place_in names k.0 k.1 == place_in names q.0 q.1) ≡ name_eq k q
 one_place [] k q inside = absurd (omega (arith, inside))
-one_place (x ∷ xs) k q inside = grind (arith, nat_tests, exact q x, exact k x, exact k q, itself, other k q x, zero, never, more, one_place xs k q)
+one_place (x ∷ xs) k q inside = grind (arith, nat_tests, exact q x, exact k x, exact k q, itself, other k q x, one_place xs k q)
 
 -- rows of one name have its number
 pub named_place : (names : List (ℕ × List ℕ)) (d : ℕ) (n : List ℕ) (row : NameRow) → is_named d n row ≡ true → number_in names row ≡ place_in names d n
 named_place names d n row named = ap (λ (k : ℕ × List ℕ). place_in names k.0 k.1) (exact (row.directory, row.name) (d, n) named)
 
 behind : {X : Type 0} (x : X) (xs : List X) (p : ℕ) → slice_get (x ∷ xs) (1 + p) ≡ slice_get xs p
-behind x xs p = let next : 1 + p ≡ suc p = omega arith in rw next refl
+behind x xs p = grind arith
 
 -- a name with a number stands there
 pub at_place : (names : List (ℕ × List ℕ)) (d : ℕ) (n : List ℕ) → place_in names d n < length names → slice_get names (place_in names d n) ≡ Some (d, n)
@@ -47,20 +37,14 @@ any_known (x ∷ xs) d n inside = grind (arith, nat_tests, any_known xs d n)
 pub known : (names : List (ℕ × List ℕ)) (d : ℕ) (n : List ℕ) → (place_in names d n < length names) ⊎ (place_in names d n ≡ length names)
 known names d n = grind (arith, nat_tests, cases_lt, place_in, behind, prefix_len-le-length, not, name_eq)
 
-before : (p l m : ℕ) → p < l → cond (eqb p l) m p ≡ p
-before p l m h = grind (arith, nat_tests)
-
-last : (l : ℕ) → cond (eqb l l) (l + 0) l ≡ l
-last l = grind (arith, nat_tests)
-
 module _ (names : List (ℕ × List ℕ)) where
   -- a name more behind the others leaves them their numbers
   pub keeps_pushed : (k : ℕ × List ℕ) → KeepsPlaces names (names ++ k ∷ [])
-  keeps_pushed k = grind (arith, nat_tests, place_in, position_or_len_push, name_eq, before, length-append)
+  keeps_pushed k = grind (arith, nat_tests, place_in, position_or_len_push, name_eq, length_append)
 
   -- the new name's number is the next
   pub pushed_place : (k : ℕ × List ℕ) → place_in names k.0 k.1 ≡ length names → place_in (names ++ k ∷ []) k.0 k.1 ≡ length names
-  pushed_place k new = position_or_len_push (name_eq k) names k ∙ rw (new, itself k) (last (length names))
+  pushed_place k new = grind (arith, nat_tests, position_or_len_push (name_eq k) names k, itself k, new)
 
   -- a name that isn't found has no number
   pub unnumbered : (d : ℕ) (n : List ℕ) → None ≡ position (name_eq (d, n)) names → place_in names d n ≡ length names

@@ -42,6 +42,7 @@ impl Numbered {
     }
 
     /// The serial number that the next row gets.
+    #[tactic(auto, using(crate::proofs::Numbering::from_below, crate::proofs::Numbering::from_few))]
     pub fn next_serial(&self) -> u64
         ensures next { result ≡ self.now.made }
         ensures small { result < 2 ^ 63 }
@@ -60,6 +61,7 @@ impl Numbered {
     }
 
     /// Adds a row behind all others. `NoMemory` where there is no room; all is as it was.
+    #[tactic(auto, using(crate::proofs::Numbering::place_pushed, crate::proofs::Numbering::from_below, crate::proofs::Basics::pushed))]
     pub fn push(&mut self, row: NameRow) -> Result<(), NoMemory>
         ensures ok { OnOk result
             (self.new.entries ≡ insert_entry nat_cmp self.old.entries self.old.made row) }
@@ -70,6 +72,7 @@ impl Numbered {
     }
 
     /// Ends the row of the serial number at the moment.
+    #[tactic(auto, using(crate::proofs::Basics::nat_tests, crate::proofs::Numbering::placed_within, crate::proofs::Numbering::at_place, crate::proofs::Numbering::place_set, crate::proofs::Basics::slice_got, crate::proofs::Basics::option_and_then, crate::proofs::Words::dies))]
     pub fn end(&mut self, serial: u64, moment: Moment)
         requires { IsSome (value_at self.old.entries serial) }
         ensures { (row : NameRow) → value_at self.old.entries serial ≡ Some row
@@ -81,6 +84,7 @@ impl Numbered {
     }
 
     /// Takes out the row of the serial number.
+    #[tactic(auto, using(crate::proofs::Basics::nat_tests, crate::proofs::Numbering::placed_within, crate::proofs::Numbering::at_place, crate::proofs::Numbering::place_cleared, crate::proofs::Basics::slice_got, crate::proofs::Basics::option_and_then))]
     pub fn take(&mut self, serial: u64) -> Option<NameRow>
         requires { IsSome (value_at self.old.entries serial) }
         ensures row { result ≡ value_at self.old.entries serial }
@@ -91,6 +95,7 @@ impl Numbered {
     }
 
     /// Takes out the last row, with its serial number, and the empty places behind it.
+    #[tactic(auto, using(crate::proofs::Basics::nat_tests, crate::proofs::Numbering::from_none, crate::proofs::Numbering::place_pushed, crate::proofs::Numbering::from_below, crate::proofs::Numbering::none_taken, crate::proofs::Basics::option_to_list))]
     pub fn pop(&mut self) -> Option<(u64, NameRow)>
         ensures some { IfSome result (λ e. self.old.entries ≡ self.new.entries ++ e ∷ []) }
         ensures below { IfSome result

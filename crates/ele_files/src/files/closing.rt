@@ -71,6 +71,7 @@ impl Files {
     /// next version, and the version before that ends. The caller tells whether the file is live;
     /// where it isn't, the new version ends at once. The answer is its number. Where memory is
     /// refused, all is as it was.
+    #[tactic(auto, using(std::proofs::lemmas::Bool::Decides::nat_tests, crate::proofs::Closes::not_missing))]
     pub fn finish(
         &mut self,
         handle: Handle,

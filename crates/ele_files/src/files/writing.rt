@@ -15,7 +15,7 @@ impl Files {
     /// offset where it ends before. No bytes change nothing. Faults, in this order: `NoHandle`,
     /// `NotWriter` where it reads a version, `TooBig` where the bytes would end past 1,048,576,
     /// `NoMemory`; a fault leaves all as it was.
-    #[tactic(auto, using(std::proofs::lemmas::Bool::Decides::nat_tests, crate::proofs::Stock::draft_lives, crate::proofs::Rows::fault_shown, crate::proofs::Rows::handle_file_shown))]
+    #[tactic(auto, using(std::proofs::lemmas::Bool::Decides::nat_tests, crate::proofs::Stock::draft_lives, crate::proofs::Rows::fault_shown, crate::proofs::Rows::handle_file_shown, crate::proofs::Drafts::wrote))]
     pub fn write(&mut self, handle: Handle, offset: u64, bytes: &[u8]) -> Result<(), SessionFault>
         ensures refused { ForSome
             (write_refusal_of (file_or_fault self.old.handles handle) offset bytes.now)
@@ -34,7 +34,7 @@ impl Files {
     /// Makes the draft under the handle so many bytes long; one of that length stays. Faults, in
     /// this order: `NoHandle`, `NotWriter` where it reads a version, `TooBig` for more than 1,048,576
     /// bytes, `NoMemory`; a fault leaves all as it was.
-    #[tactic(auto, using(std::proofs::lemmas::Bool::Decides::nat_tests, crate::proofs::Stock::draft_lives, crate::proofs::Rows::fault_shown, crate::proofs::Rows::handle_file_shown, crate::proofs::Drafts::length_is, crate::proofs::Rows::draft_found))]
+    #[tactic(auto, using(std::proofs::lemmas::Bool::Decides::nat_tests, crate::proofs::Stock::draft_lives, crate::proofs::Rows::fault_shown, crate::proofs::Rows::handle_file_shown, crate::proofs::Drafts::length_is, crate::proofs::Rows::draft_found, crate::proofs::Drafts::cut))]
     pub fn truncate(&mut self, handle: Handle, size: u64) -> Result<(), SessionFault>
         ensures refused { ForSome
             (truncate_refusal_of (file_or_fault self.old.handles handle) size)

@@ -2,27 +2,12 @@ use Rattle.ele_files.proofs.Lemmas.{its_past, map-all, all_found, next_is, arith
 use Rattle.ele_files.proofs.files.Files.finish.Goals as goal
 use Rattle.ele_files.proofs.files.Files.finish.Goals.{After-self-2-1}
 
-pub unreachable-requires : goal.unreachable-requires
-unreachable-requires c = not_missing _ _ _ c.args.handle c.args.file c.args.opened c.self.invariant (rw (← c.self.view_is) at c.requires.file) (rw (← c.self.view_is) at c.requires.changed) (sym (rw c.deref.ensures.value at c.in_default.ensures))
-
 pub invariant_of-self : goal.invariant_of-self
 invariant_of-self c = (waits _ _ _ c.self.invariant c.args.file _ _ (rw c.deref.ensures.value at c.in-Some.ensures) (rw (← c.get_mut-held.ensures.value) at c.index_mut.ensures.value) c.reserve.new.self c.reserve.ensures.rows).keeps
 
 pub returns-in_err-reserve-clause-err : goal.returns-in_err-reserve-clause-err
 returns-in_err-reserve-clause-err c =
     on_err c.from_residual.result _ (rw (← c.self.view_is) (waits _ _ _ c.self.invariant c.args.file _ _ (rw c.deref.ensures.value at c.in-Some.ensures) (rw (← c.get_mut-held.ensures.value) at c.index_mut.ensures.value) c.reserve.new.self c.reserve.ensures.rows).shows)
-
-pub unreachable-requires-in_default-map_of : goal.unreachable-requires-in_default-map_of
-unreachable-requires-in_default-map_of c =
-    let none = c.map_of.ensures ∙ ap (option_and_then (λ a. a.1)) c.close.ensures.answer in
-    let some = its_map _ _ _ c.args.handle c.args.file c.args.opened c.self.invariant (rw (← c.self.view_is) at c.requires.file) (rw (← c.self.view_is) at c.requires.changed) in
-    cc
-
-pub append-requires-clause-past : goal.append-requires-clause-past
-append-requires-clause-past c = ready_past _ _ _ c.self.invariant c.args.file _ _ (rw c.deref.ensures.value at c.in-Some.ensures) (rw (← c.get_mut-held.ensures.value) at c.index_mut.ensures.value) c.reserve.new.self c.reserve.ensures.rows c.args.now (rw (← c.self.view_is) at c.requires.past)
-
-pub append-requires-clause-numbered : goal.append-requires-clause-numbered
-append-requires-clause-numbered c = its_few _ _ _ c.self.invariant c.args.file _ _ (rw c.deref.ensures.value at c.in-Some.ensures) (rw (← c.get_mut-held.ensures.value) at c.index_mut.ensures.value) _ (rw (← c.self.view_is) at c.requires.numbered)
 
 done : (c : After-self-2-1) → IsFinished c.self.inside.store (held_of c.self.inside) c.args.handle c.args.file c.args.opened c.args.now c.args.is_live c.get_mut-held.result.now.next (set c.self.inside.files.items c.in-Some.at c.append.new.self) (closed c.self.inside.sessions c.args.handle)
 done c =
@@ -37,3 +22,15 @@ returns-clause-number c = rw (← c.self.view_is) (c.append.ensures.number ∙ (
 
 pub returns-clause-ok : goal.returns-clause-ok
 returns-clause-ok c = rw (← c.self.view_is, c.close.ensures.sessions) (done c).shows
+
+pub unreachable-requires-in_default-map_of : goal.unreachable-requires-in_default-map_of
+unreachable-requires-in_default-map_of c =
+    let none = c.map_of.ensures ∙ ap (option_and_then (λ a. a.1)) c.close.ensures.answer in
+    let some = its_map _ _ _ c.args.handle c.args.file c.args.opened c.self.invariant (rw (← c.self.view_is) at c.requires.file) (rw (← c.self.view_is) at c.requires.changed) in
+    cc
+
+pub append-requires-clause-past : goal.append-requires-clause-past
+append-requires-clause-past c = ready_past _ _ _ c.self.invariant c.args.file _ _ (rw c.deref.ensures.value at c.in-Some.ensures) (rw (← c.get_mut-held.ensures.value) at c.index_mut.ensures.value) c.reserve.new.self c.reserve.ensures.rows c.args.now (rw (← c.self.view_is) at c.requires.past)
+
+pub append-requires-clause-numbered : goal.append-requires-clause-numbered
+append-requires-clause-numbered c = its_few _ _ _ c.self.invariant c.args.file _ _ (rw c.deref.ensures.value at c.in-Some.ensures) (rw (← c.get_mut-held.ensures.value) at c.index_mut.ensures.value) _ (rw (← c.self.view_is) at c.requires.numbered)

@@ -11,9 +11,6 @@ returns-in_err-row-clause-value c = rw (← c.self.view_is, (unheld _ _ _ c.self
 pub returns-in_err-row-clause-rows : goal.returns-in_err-row-clause-rows
 returns-in_err-row-clause-rows c = rw (← c.self.view_is) (unheld _ _ _ c.self.invariant c.args.file c.args.number _ _ (rw c.deref.ensures.value at c.in_ok-at.ensures) (rw (← c.get_mut.ensures.value) at c.index_mut.ensures.value) c.remove.new.self c.remove.ensures.rows (sym c.in_err-row.ensures.row)).0.shows
 
-pub give_up-requires : goal.give_up-requires
-give_up-requires c = lives _ _ _ c.self.invariant c.args.file c.args.number _ _ (rw c.deref.ensures.value at c.in_ok-at.ensures) (rw (← c.get_mut.ensures.value) at c.index_mut.ensures.value) c.remove.new.self c.remove.ensures.rows _ (sym c.in_ok-row.ensures.row)
-
 pub invariant_of-self-2 : goal.invariant_of-self-2
 invariant_of-self-2 c = (gone _ _ _ c.self.invariant c.args.file c.args.number _ _ (rw c.deref.ensures.value at c.in_ok-at.ensures) (rw (← c.get_mut.ensures.value) at c.index_mut.ensures.value) c.remove.new.self c.remove.ensures.rows _ (sym c.in_ok-row.ensures.row) _ c.give_up.ensures).0.keeps
 
@@ -22,3 +19,6 @@ returns-clause-value c = rw (← c.self.view_is, c.length-length.ensures) (sym (
 
 pub returns-clause-rows : goal.returns-clause-rows
 returns-clause-rows c = rw (← c.self.view_is) (gone _ _ _ c.self.invariant c.args.file c.args.number _ _ (rw c.deref.ensures.value at c.in_ok-at.ensures) (rw (← c.get_mut.ensures.value) at c.index_mut.ensures.value) c.remove.new.self c.remove.ensures.rows _ (sym c.in_ok-row.ensures.row) _ c.give_up.ensures).0.shows
+
+pub give_up-requires : goal.give_up-requires
+give_up-requires c = lives _ _ _ c.self.invariant c.args.file c.args.number _ _ (rw c.deref.ensures.value at c.in_ok-at.ensures) (rw (← c.get_mut.ensures.value) at c.index_mut.ensures.value) c.remove.new.self c.remove.ensures.rows _ (sym c.in_ok-row.ensures.row)

@@ -3,6 +3,3 @@ use Rattle.ele_files.proofs.files.Files.write.Goals as goal
 
 pub invariant_of-self : goal.invariant_of-self
 invariant_of-self c = (wrote _ _ _ c.self.invariant _ _ c.write.ensures.orderly _ _ _ _ c.write.ensures.writes c.write.ensures.err).0
-
-pub returns-clause-ok : goal.returns-clause-ok
-returns-clause-ok c = rw (← c.self.view_is) (wrote _ _ _ c.self.invariant _ _ c.write.ensures.orderly _ _ _ _ c.write.ensures.writes c.write.ensures.err).1

@@ -1,4 +1,4 @@
-use Rattle.ele_names.proofs.Basics.{◌≡◌, cond, Some, append_assoc, nat_eq, option_and_then, option_map_or, slice_get, slice_get-get_or, ap, sym, ◌∙◌}
+use Rattle.ele_names.proofs.Basics.{◌≡◌, cond, Some, append_assoc, nat_eq, option_and_then, option_map_or, slice_get, slice_got, ap, sym, ◌∙◌}
 use Rattle.ele_names.proofs.Chained.{cut_kept, own_pushed, same_seen, set_seen}
 use Rattle.ele_names.proofs.chains.Chains.enter.Goals as goal
 
@@ -9,7 +9,7 @@ returns-clause-ok c =
     let groups = c.know.new.self.groups.items in
     let members = c.index_mut.result.now in
     let resized = c.resize.new.self in
-    let there : slice_get groups group ≡ Some members = slice_get-get_or groups group members c.in_ok-know.ensures.known ∙ ap (λ m. Some m) (sym c.index_mut.ensures.value) in
+    let there : slice_get groups group ≡ Some members = slice_got groups group members c.in_ok-know.ensures.known ∙ ap (λ m. Some m) (sym c.index_mut.ensures.value) in
     record {
       newest = λ g. set_seen (option_and_then (λ m. m.newest)) groups group _ c.in_ok-know.ensures.known g ∙ ap (λ o. cond (nat_eq group g) (Some c.args.number) o) (known.newest g);
       live = λ g. same_seen (λ o. option_map_or (λ m. m.live) o 0) groups group _ (ap (λ o. option_map_or (λ m. m.live) o 0) (sym there)) g ∙ known.live g;

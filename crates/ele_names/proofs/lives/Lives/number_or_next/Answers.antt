@@ -1,6 +1,6 @@
-use Rattle.ele_names.proofs.Basics.{◌≡◌, ℕ, List, length, length-append, ◌∷◌, [], refl, sym, ap, subst, ◌∙◌, ◌++◌, arith, keys_of}
+use Rattle.ele_names.proofs.Basics.{◌≡◌, ℕ, List, length, length_append, ◌∷◌, [], refl, sym, ap, subst, ◌∙◌, ◌++◌, arith, keys_of}
 use Rattle.ele_names.proofs.Words.{Lives, live_at, names_of}
-use Rattle.ele_names.proofs.Given.{names_pushed, names_counted, same_live, listed_pushed, listed_kept, listed_told}
+use Rattle.ele_names.proofs.Given.{names_pushed, names_counted, same_live, listed_pushed, listed_kept}
 use Rattle.ele_names.proofs.Live.{counted_same, numbered_same}
 use Rattle.ele_names.proofs.Numbers.{keeps_pushed, pushed_place}
 use Rattle.ele_names.specs.Chained.{Gains}
@@ -21,9 +21,6 @@ lives_same c = same_live (old c) (new c) c.args.directory c.args.name c.in_defau
 next : (c : goal.In_default-insert) → c.len-number.result ≡ length (names_of (old c))
 next c = c.len-number.ensures.len ∙ ap length c.reserve.ensures.entries ∙ names_counted (old c)
 
-pub returns-in_err-reserve-clause-listed : goal.returns-in_err-reserve-clause-listed
-returns-in_err-reserve-clause-listed c = listed_told c.args.self.now _ (ap keys_of c.reserve.ensures.entries) (λ g. refl) refl
-
 pub returns-in_err-enter-clause-listed : goal.returns-in_err-enter-clause-listed
 returns-in_err-enter-clause-listed c =
     let next = c.len-number.ensures.len ∙ ap length c.reserve.ensures.entries ∙ names_counted c.args.self.now in
@@ -33,7 +30,7 @@ pub returns-clause-number : goal.returns-clause-number
 returns-clause-number c =
     rw (pushed c) (
       next c ∙ sym (pushed_place (names_of (old c)) (c.args.directory, c.args.name) c.in_default.ensures.none),
-      rw (length-append (names_of (old c)) ((c.args.directory, c.args.name) ∷ [])) (omega (arith, next c)),
+      rw (length_append (names_of (old c)) ((c.args.directory, c.args.name) ∷ [])) (omega (arith, next c)),
     )
 
 pub returns-clause-places : goal.returns-clause-places

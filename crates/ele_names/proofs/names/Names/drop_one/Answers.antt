@@ -6,10 +6,6 @@ use Rattle.ele_names.proofs.names.Names.drop_one.Goals as goal
 pub returns-in_default-clause-none : goal.returns-in_default-clause-none
 returns-in_default-clause-none c = rw (← c.self.view_is) (λ _. none_of_file c.self.inside c.self.invariant c.args.file _ (rw c.file.view_is at c.newest.ensures) c.in_default.is)
 
-pub unreachable-requires-in_default-number : goal.unreachable-requires-in_default-number
-unreachable-requires-in_default-number c =
-    absurd (omega (arith, row_known c.self.inside c.self.invariant c.in-Some.serial c.in-Some-take.row (sym c.take.ensures.row ∙ c.in-Some-take.is), c.in_default-number.ensures.none))
-
 pub invariant_of-self : goal.invariant_of-self
 invariant_of-self c =
     let at = sym c.take.ensures.row ∙ c.in-Some-take.is in
@@ -17,9 +13,6 @@ invariant_of-self c =
     c.take.ensures.entries (c.leave.ensures.placed (names_of c.self.inside.lives) (value_at c.self.inside.table.rows.entries) (sym c.in-Some-number.ensures.some.0) at
     (is_newest c.self.inside c.self.invariant c.args.file _ (rw c.file.view_is at c.newest.ensures) c.in-Some.serial c.in-Some.is c.in-Some-take.row at))
     c.leave-2.ensures.counted c.leave-2.ensures.numbered c.leave.ensures.live
-
-pub returns-clause-fewer : goal.returns-clause-fewer
-returns-clause-fewer c = rw (← c.self.view_is, c.take.ensures.entries) (λ _. fewer c.self.inside c.self.invariant c.in-Some.serial c.in-Some-take.row (sym c.take.ensures.row ∙ c.in-Some-take.is))
 
 pub returns-clause-others : goal.returns-clause-others
 returns-clause-others c = rw (← c.self.view_is, c.take.ensures.entries)

@@ -5,9 +5,6 @@ use Rattle.ele_names.proofs.names.Names.kill.Goals as goal
 pub end-requires : goal.end-requires
 end-requires c = rw (found c.self.inside c.self.invariant c.args.directory c.args.name.now c.in-Some.live (sym c.live.ensures ∙ c.in-Some.is)).there refl
 
-pub end-requires-3 : goal.end-requires-3
-end-requires-3 c = found_known c.self.inside c.self.invariant c.args.directory c.args.name.now c.in-Some.live (sym c.live.ensures ∙ c.in-Some.is)
-
 pub invariant_of-self : goal.invariant_of-self
 invariant_of-self c =
     let a = c.self.inside in

@@ -17,6 +17,3 @@ invariant_of-self c =
     (c.leave.ensures.placed (names_of c.self.inside.lives) (value_at c.self.inside.table.rows.entries) (sym c.in-Some-number.ensures.some.0) at
     (λ f k _ over. ap (λ o. option_map_or (is_of f) o false) (none_past c.in-Some.serial c.in-Some.row _ _ c.in-Some.ensures.some c.in-Some.ensures.below k over))) c.leave-2.ensures.counted c.leave-2.ensures.numbered
     c.leave.ensures.live
-
-pub returns : goal.returns
-returns c = λ rows newest are. last_gone rows newest _ _ c.in-Some.serial c.in-Some.row c.in-Some.ensures.some (c.self.view_is ∙ are)

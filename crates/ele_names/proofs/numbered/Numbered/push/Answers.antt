@@ -1,9 +1,0 @@
-use Rattle.ele_names.proofs.Basics.{sym, ◌∙◌, length, pushed}
-use Rattle.ele_names.proofs.Words.{entries_from}
-use Rattle.ele_names.proofs.Numbering.{all_below, place_pushed}
-use Rattle.ele_names.proofs.numbered.Numbered.push.Goals as goal
-
-pub returns-clause-ok : goal.returns-clause-ok
-returns-clause-ok c =
-    let places = c.self.inside.places.items in
-    rw (← c.self.view_is, c.in_ok-push.ensures.items) (place_pushed places c.args.row ∙ sym (pushed (length places) c.args.row (entries_from 0 places) (all_below places)))
