@@ -23,20 +23,15 @@ hands_none s = record { leaves = λ q. refl; blocks = λ id. refl; same = λ q l
 module _ (s t : Store) (leaf : ℕ) (there : 0 < owners s.leaves leaf) where
   -- where its slots and all blocks stay
   alone : (was now : List ℕ) (place : Option (Counted (List Slot))) → t.blocks ≡ s.blocks → Sets s.leaves t.leaves leaf place → value_of place ≡ value_of (place_at s.leaves leaf) → Trades s.leaves t.leaves was now → Hands s t (λ q. times q was) (λ q. times q now)
-  alone was now place same sets value trades = record {
-    leaves = λ q. omega (arith, trades.owed q);
-    blocks = λ id. grind (arith, backing_sets s.leaves t.leaves leaf place id sets, ap (λ v. times id (ids_of (unwrap_or v []))) value);
-    same = λ q lt. ap (λ v. unwrap_or v []) (trades.kept q lt);
-    shows = λ q lt stand. grind (arith, cells_each s t (leaf_at s q));
-  }
+  alone was now place same sets value trades = grind (arith, nat_tests, same, value, trades.owed, trades.kept, λ (id : ℕ). backing_sets s.leaves t.leaves leaf place id sets, cells_each s t)
 
   -- a leaf has an owner more
   pub share_leaf : t.blocks ≡ s.blocks → Sets s.leaves t.leaves leaf (shared (place_at s.leaves leaf)) → Hands s t (λ q. 0) (λ q. times q (leaf ∷ []))
-  share_leaf same sets = alone [] (leaf ∷ []) _ same sets (shared_value (place_at s.leaves leaf)) (trades_share s.leaves t.leaves leaf there sets)
+  share_leaf same sets = alone [] (leaf ∷ []) _ same sets (grind (arith, nat_tests)) (trades_share s.leaves t.leaves leaf there sets)
 
   -- a leaf with other owners has one fewer
   pub leaf_stays : None ≡ leaving (place_at s.leaves leaf) → t.blocks ≡ s.blocks → Sets s.leaves t.leaves leaf (released (place_at s.leaves leaf)) → Hands s t (λ q. times q (leaf ∷ [])) (λ q. 0)
-  leaf_stays none same sets = alone (leaf ∷ []) [] _ same sets (released_value (place_at s.leaves leaf) (grind (arith, nat_tests))) (trades_release s.leaves t.leaves leaf there sets)
+  leaf_stays none same sets = alone (leaf ∷ []) [] _ same sets (grind (arith, nat_tests)) (trades_release s.leaves t.leaves leaf there sets)
 
   module _ (slots : List Slot) (last : Some slots ≡ leaving (place_at s.leaves leaf)) (backed : AreBacked s (leaf_at s leaf)) where
     its_slots : leaf_at s leaf ≡ slots
@@ -49,9 +44,8 @@ module _ (s t : Store) (leaf : ℕ) (there : 0 < owners s.leaves leaf) where
     -- a leaf goes with its last owner, and its blocks have an owner fewer
     pub leaf_goes : Sets s.leaves t.leaves leaf (released (place_at s.leaves leaf)) → Trades s.blocks t.blocks (ids_of slots) [] → Hands s t (λ q. times q (leaf ∷ [])) (λ q. 0)
     leaf_goes sets freed =
-        let trades = trades_release s.leaves t.leaves leaf there sets in
         let left : (id : ℕ) → backing t.leaves id + times id (ids_of slots) ≡ backing s.leaves id = λ id. grind (arith, leaving_last, backing_sets s.leaves t.leaves leaf (released (place_at s.leaves leaf)) id sets, its_slots) in
-        grind (arith, trades, left, freed, backed, backing_least, cells_each, its_slots)
+        grind (arith, trades_release s.leaves t.leaves leaf there sets, left, freed, backed, backing_least, cells_each, its_slots)
 
 -- ---- along a list of leaves: those so far, and one more
 

@@ -1,25 +1,18 @@
 -- How owners change hands, one change after another.
-use Rattle.ele_blocks.proofs.Words.{[], add-one, Adds, ap, append_assoc, arith, Counted, Covers, drop, eqb, false, get_or, ids_of, leaving, length, length-map, length-take-le, List, map, map-append, map_more, nat_tests, None, Option, owners, owners_of, place_at, refl, released, Sets, shared, Slot, Some, suc, sym, take, take-append-drop, take-suc, times, Trades, true, value_at, value_of, zero, ℕ, ◌++◌, ◌+◌, ◌<◌, ◌^◌, ◌∙◌, ◌∷◌, ◌≡◌, ◌≤◌}
+use Rattle.ele_blocks.proofs.Words.{[], add-one, Adds, ap, append_assoc, arith, Counted, Covers, drop, eqb, false, get_or, ids_of, leaving, length, length-map, length-take-le, List, map, map-append, map_more, nat_tests, None, Option, owners, owners_of, place_at, refl, released, Sets, shared, Slot, Some, suc, sym, take, take-append-drop, take-suc, times, Trades, true, value_at, value_of, zero, ℕ, ◌++◌, ◌+◌, ◌<◌, ◌^◌, ◌∙◌, ◌∷◌, ◌≡◌, ◌≤◌, ◌-◌, take_more}
 
 pub times-append : (id : ℕ) (xs ys : List ℕ) → times id (xs ++ ys) ≡ times id xs + times id ys
 times-append id [] ys = omega arith
 times-append id (x ∷ xs) ys = omega (arith, times-append id xs ys)
 
-pub times-self : (x : ℕ) → times x (x ∷ []) ≡ 1
-times-self x = let one : eqb x x ≡ true = grind (arith, nat_tests) in rw one refl
-
 -- a number of the list stands in it
 pub times_at : (xs : List ℕ) (k : ℕ) → k < length xs → 0 < times (get_or xs k 0) xs
 times_at [] k lt = absurd (omega (arith, lt))
-times_at (x ∷ xs) zero lt = grind (arith, nat_tests)
-times_at (x ∷ xs) (suc k) lt = omega (arith, times_at xs k (omega (arith, lt)))
+times_at (x ∷ xs) k lt = grind (arith, nat_tests, times_at xs (k - 1))
 
 pub times-le-length : (q : ℕ) (xs : List ℕ) → times q xs ≤ length xs
 times-le-length q [] = omega arith
 times-le-length q (x ∷ xs) = grind (arith, nat_tests, times-le-length q xs)
-
-pub take_one : (xs : List ℕ) (k : ℕ) (x : ℕ) → k < length xs → x ≡ get_or xs k x → take (k + 1) xs ≡ take k xs ++ x ∷ []
-take_one xs k x lt is = rw add-one (take-suc xs k x lt ∙ ap (λ y. take k xs ++ y ∷ []) (sym is))
 
 module _ {X : Type 0} where
   -- one place changes, and the owners there by those that go and come
@@ -73,10 +66,10 @@ module _ {X : Type 0} where
 -- a list so far, and one more
 module _ (ids : List ℕ) (k id : ℕ) (lt : k < length ids) (is : id ≡ get_or ids k id) where
   pub times_next : (q : ℕ) → times q (take (k + 1) ids) ≡ times q (take k ids) + times q (id ∷ [])
-  times_next q = ap (times q) (take_one ids k id lt is) ∙ times-append q (take k ids) (id ∷ [])
+  times_next q = grind (arith, take_more ids k id lt, is, times-append)
 
   pub one_more : times id (take k ids) + 1 ≤ times id ids
-  one_more = omega (arith, times_next id, times-self id, ap (times id) (take-append-drop (k + 1) ids), times-append id (take (k + 1) ids) (drop (k + 1) ids))
+  one_more = grind (arith, nat_tests, times_next id, take-append-drop (k + 1) ids, times-append id (take (k + 1) ids) (drop (k + 1) ids))
 
 pub times-ids : (q : ℕ) (xs ys : List Slot) → times q (ids_of (xs ++ ys)) ≡ times q (ids_of xs) + times q (ids_of ys)
 times-ids q xs ys = grind (arith, map-append, times-append)
@@ -93,7 +86,7 @@ module _ (slots : List Slot) (k : ℕ) (slot : Slot) (lt : k < length slots) (is
   slot_next q = grind (arith, ids_more, times-append)
 
   slot_more : times slot.block (ids_of (take k slots)) + 1 ≤ times slot.block (ids_of slots)
-  slot_more = omega (arith, slot_next slot.block, times-self slot.block, times-split slot.block (k + 1) slots)
+  slot_more = grind (arith, nat_tests, slot_next slot.block, times-split slot.block (k + 1) slots)
 
   pub slot_named : 0 < times slot.block (ids_of slots)
   slot_named = omega (arith, slot_more)
