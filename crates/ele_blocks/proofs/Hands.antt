@@ -49,25 +49,25 @@ module _ (s t : Store) (leaf : ℕ) (there : 0 < owners s.leaves leaf) where
 
 -- ---- along a list of leaves: those so far, and one more
 
-module _ (ids : List ℕ) (k id : ℕ) (lt : k < length ids) (is : id ≡ get_or ids k id) (s0 s t : Store) where
-  pub share_leaves_next : Covers s0.leaves ids → Hands s0 s (λ q. 0) (λ q. times q (take k ids)) → 0 < owners s.leaves id
-  share_leaves_next covers h = omega (arith, one_more ids k id lt is, covers.owned id, h.leaves id)
+module _ (ids : List ℕ) (k : ℕ) (lt : k < length ids) (s0 s t : Store) where
+  pub share_leaves_next : Covers s0.leaves ids → Hands s0 s (λ q. 0) (λ q. times q (take k ids)) → 0 < owners s.leaves (get_or ids k 0)
+  share_leaves_next covers h = omega (arith, one_more ids k lt, covers.owned (get_or ids k 0), h.leaves (get_or ids k 0))
 
-  pub share_leaves_few : Hands s0 s (λ q. 0) (λ q. times q (take k ids)) → owners s0.leaves id + length ids ≤ 2 ^ 63 → owners s.leaves id < 2 ^ 63
-  share_leaves_few h few = omega (arith, h.leaves id, times-le-length id (take k ids), length-take-le k ids (omega (arith, lt)), lt, few)
+  pub share_leaves_few : Hands s0 s (λ q. 0) (λ q. times q (take k ids)) → owners s0.leaves (get_or ids k 0) + length ids ≤ 2 ^ 63 → owners s.leaves (get_or ids k 0) < 2 ^ 63
+  share_leaves_few h few = omega (arith, h.leaves (get_or ids k 0), times-le-length (get_or ids k 0) (take k ids), length-take-le k ids (omega (arith, lt)), lt, few)
 
-  pub share_leaves_more : Hands s0 s (λ q. 0) (λ q. times q (take k ids)) → Hands s t (λ q. 0) (λ q. times q (id ∷ [])) → Hands s0 t (λ q. 0) (λ q. times q (take (k + 1) ids))
-  share_leaves_more h one = grind (arith, hands_with, hands_then, times_next ids k id lt is)
+  pub share_leaves_more : Hands s0 s (λ q. 0) (λ q. times q (take k ids)) → Hands s t (λ q. 0) (λ q. times q (get_or ids k 0 ∷ [])) → Hands s0 t (λ q. 0) (λ q. times q (take (k + 1) ids))
+  share_leaves_more h one = grind (arith, hands_with, hands_then, times_next ids k lt)
 
   module _ (covers : Covers s0.leaves ids) (h : Hands s0 s (λ q. times q (take k ids)) (λ q. 0)) where
-    pub release_leaves_next : 0 < owners s.leaves id
-    release_leaves_next = omega (arith, one_more ids k id lt is, covers.owned id, h.leaves id)
+    pub release_leaves_next : 0 < owners s.leaves (get_or ids k 0)
+    release_leaves_next = omega (arith, one_more ids k lt, covers.owned (get_or ids k 0), h.leaves (get_or ids k 0))
 
-    pub release_leaves_backed : AreBacked s0 (slots_in s0 ids) → AreBacked s (leaf_at s id)
+    pub release_leaves_backed : AreBacked s0 (slots_in s0 ids) → AreBacked s (leaf_at s (get_or ids k 0))
     release_leaves_backed backed b some = grind (arith, nat_tests, one_more, slots_least)
 
-    pub release_leaves_more : Hands s t (λ q. times q (id ∷ [])) (λ q. 0) → Hands s0 t (λ q. times q (take (k + 1) ids)) (λ q. 0)
-    release_leaves_more one = hands_with s0 t _ _ (λ q. times q (take (k + 1) ids)) (λ q. 0) (λ q. 0) (hands_then s0 s t _ _ _ _ h one) (λ q. omega (arith, times_next ids k id lt is q)) (λ q. refl)
+    pub release_leaves_more : Hands s t (λ q. times q (get_or ids k 0 ∷ [])) (λ q. 0) → Hands s0 t (λ q. times q (take (k + 1) ids)) (λ q. 0)
+    release_leaves_more one = hands_with s0 t _ _ (λ q. times q (take (k + 1) ids)) (λ q. 0) (λ q. 0) (hands_then s0 s t _ _ _ _ h one) (λ q. omega (arith, times_next ids k lt q)) (λ q. refl)
 
 -- ---- what stays
 

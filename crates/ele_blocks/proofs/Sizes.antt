@@ -1,5 +1,5 @@
 -- The sizes of a map that is whole, and the bytes of its slots.
-use Rattle.ele_blocks.proofs.Words.{[], ap, AreSized, arith, bytes_at, Cell, cell_of, content_of, drop, get_or, get_or-drop, get_or-map, get_or-take, get_or_from_slice_get, is_whole, Layout, leaf_at, leaf_count, leb, length, length-map, List, LivesIn, longest_content, nat_tests, owners, refl, shown, slice_get, slice_get_read, slice_get_within, Slot, slot_bytes, slot_count, slots_of, Some, Store, sym, take, true, ℕ, ◌%◌, ◌*◌, ◌+◌, ◌/◌, ◌<◌, ◌∙◌, ◌≡◌, ◌≤◌}
+use Rattle.ele_blocks.proofs.Words.{[], ap, AreSized, arith, bytes_at, Cell, cell_of, content_of, drop, get_or, get_or-drop, get_or-map, get_or-take, get_or_from_slice_get, is_whole, Layout, leaf_at, leaf_count, leb, length, length-map, List, LivesIn, longest_content, nat_tests, owners, refl, shown, slice_get, slice_get_read, slice_get_within, Slot, slot_bytes, slot_count, slots_of, Some, Store, sym, take, true, ℕ, ◌%◌, ◌*◌, ◌+◌, ◌/◌, ◌<◌, ◌∙◌, ◌≡◌, ◌≤◌, get_or_default}
 use Rattle.ele_blocks.proofs.Trades.{one_more}
 use Rattle.ele_blocks.proofs.Sized.{fills_sized, sized_fills, sized-length, sized-count, flat-at}
 
@@ -43,7 +43,7 @@ module _ (s : Store) (m : Layout) (lives : LivesIn s m) (slot leaf : ℕ) (lt : 
   leaf_within = omega (arith, leaves-count s m lives.whole, lt)
 
   pub leaf_owned : 0 < owners s.leaves leaf
-  leaf_owned = omega (arith, one_more m.leaves (slot / 16) leaf leaf_within is, lives.owned.owned leaf)
+  leaf_owned = grind (arith, one_more m.leaves (slot / 16) leaf_within, get_or_default m.leaves (slot / 16) leaf 0 leaf_within, is, lives.owned.owned leaf)
 
   pub leaf_is : leaf_at s leaf ≡ take 16 (drop (16 * (slot / 16)) (slots_of s m))
   leaf_is = ap (leaf_at s) is ∙ flat-at 16 (leaf_at s) (omega arith) (slot / 16) (slot_count m.size) m.leaves leaf (whole_is s m lives.whole).leaves leaf_within

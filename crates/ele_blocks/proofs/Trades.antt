@@ -5,11 +5,6 @@ pub times-append : (id : ℕ) (xs ys : List ℕ) → times id (xs ++ ys) ≡ tim
 times-append id [] ys = omega arith
 times-append id (x ∷ xs) ys = omega (arith, times-append id xs ys)
 
--- a number of the list stands in it
-pub times_at : (xs : List ℕ) (k : ℕ) → k < length xs → 0 < times (get_or xs k 0) xs
-times_at [] k lt = absurd (omega (arith, lt))
-times_at (x ∷ xs) k lt = grind (arith, nat_tests, times_at xs (k - 1))
-
 pub times-le-length : (q : ℕ) (xs : List ℕ) → times q xs ≤ length xs
 times-le-length q [] = omega arith
 times-le-length q (x ∷ xs) = grind (arith, nat_tests, times-le-length q xs)
@@ -64,12 +59,12 @@ module _ {X : Type 0} where
   leaving_last place x lt e = grind (arith, nat_tests)
 
 -- a list so far, and one more
-module _ (ids : List ℕ) (k id : ℕ) (lt : k < length ids) (is : id ≡ get_or ids k id) where
-  pub times_next : (q : ℕ) → times q (take (k + 1) ids) ≡ times q (take k ids) + times q (id ∷ [])
-  times_next q = grind (arith, take_more ids k id lt, is, times-append)
+module _ (ids : List ℕ) (k : ℕ) (lt : k < length ids) where
+  pub times_next : (q : ℕ) → times q (take (k + 1) ids) ≡ times q (take k ids) + times q (get_or ids k 0 ∷ [])
+  times_next q = grind (arith, take_more ids k 0 lt, times-append)
 
-  pub one_more : times id (take k ids) + 1 ≤ times id ids
-  one_more = grind (arith, nat_tests, times_next id, take-append-drop (k + 1) ids, times-append id (take (k + 1) ids) (drop (k + 1) ids))
+  pub one_more : times (get_or ids k 0) (take k ids) + 1 ≤ times (get_or ids k 0) ids
+  one_more = grind (arith, nat_tests, times_next (get_or ids k 0), take-append-drop (k + 1) ids, times-append (get_or ids k 0) (take (k + 1) ids) (drop (k + 1) ids))
 
 pub times-ids : (q : ℕ) (xs ys : List Slot) → times q (ids_of (xs ++ ys)) ≡ times q (ids_of xs) + times q (ids_of ys)
 times-ids q xs ys = grind (arith, map-append, times-append)
@@ -82,7 +77,7 @@ module _ (slots : List Slot) (k : ℕ) (slot : Slot) (lt : k < length slots) (is
   ids_more : ids_of (take (k + 1) slots) ≡ ids_of (take k slots) ++ slot.block ∷ []
   ids_more = map_more (λ (x : Slot). x.block) slots k slot lt ∙ ap (λ (x : Slot). ids_of (take k slots) ++ x.block ∷ []) (sym is)
 
-  slot_next : (q : ℕ) → times q (ids_of (take (k + 1) slots)) ≡ times q (ids_of (take k slots)) + times q (slot.block ∷ [])
+  pub slot_next : (q : ℕ) → times q (ids_of (take (k + 1) slots)) ≡ times q (ids_of (take k slots)) + times q (slot.block ∷ [])
   slot_next q = grind (arith, ids_more, times-append)
 
   slot_more : times slot.block (ids_of (take k slots)) + 1 ≤ times slot.block (ids_of slots)
@@ -90,10 +85,6 @@ module _ (slots : List Slot) (k : ℕ) (slot : Slot) (lt : k < length slots) (is
 
   pub slot_named : 0 < times slot.block (ids_of slots)
   slot_named = omega (arith, slot_more)
-
-  -- what holds of the blocks so far and of the next one
-  pub each_more : (P : ℕ → Type 0) → ((id : ℕ) → 0 < times id (ids_of (take k slots)) → P id) → P slot.block → (id : ℕ) → 0 < times id (ids_of (take (k + 1) slots)) → P id
-  each_more P each here id some = grind (arith, nat_tests, slot_next)
 
   module _ {X : Type 0} {s0 s : List (Option (Counted X))} where
     pub release_next : Covers s0 (ids_of slots) → Trades s0 s (ids_of (take k slots)) [] → 0 < owners s slot.block
