@@ -143,6 +143,7 @@ impl<T: Drop> Shared<T> {
     }
 
     /// Takes one owner from the value, which leaves with its last and is then answered.
+    #[tactic(auto, using(crate::proofs::Cited::is_counted, crate::proofs::Cited::get_or_default_zero, crate::proofs::Cited::owned_less, crate::proofs::Cited::owners_counted, crate::proofs::Cited::none_leaves))]
     pub fn release(&mut self, id: usize) -> Option<T>
         requires { 0 < owners self.old.slots id }
         ensures sets { Sets self.old.slots self.new.slots id
