@@ -1,5 +1,5 @@
 -- How many slots of leaves name a block, as leaves come and go.
-use Rattle.ele_blocks.proofs.Words.{[], ap, arith, backing, Counted, drop, ids_of, leaf_at, List, nat_tests, None, Option, order, place_at, refl, Sets, Slot, slots_in, Some, Store, suc, sym, take, times, unwrap_or, value_of, zero, ℕ, ⊎_elim, ◌+◌, ◌<◌, ◌∙◌, ◌∷◌, ◌≡◌, ◌≤◌}
+use Rattle.ele_blocks.proofs.Words.{[], ap, arith, backing, Counted, drop, ids_of, leaf_at, List, nat_tests, None, Option, order, place_at, refl, Sets, Slot, slots_in, Some, Store, suc, sym, take, times, unwrap_or, value_of, zero, ℕ, ⊎_elim, ◌+◌, ◌<◌, ◌∙◌, ◌∷◌, ◌≡◌, ◌≤◌, ◌-◌}
 use Rattle.ele_blocks.proofs.Trades.{times-split, times-ids}
 
 abbrev pub Leaves : Type 0
@@ -8,17 +8,16 @@ Leaves = List (Option (Counted (List Slot)))
 abbrev pub weight : Option (Counted (List Slot)) → ℕ → ℕ
 weight place id = times id (ids_of (unwrap_or (value_of place) []))
 
-alike : (old new : Leaves) (id : ℕ) → ((k : ℕ) → place_at new k ≡ place_at old k) → backing new id ≡ backing old id
-alike [] [] id h = refl
-alike [] (y ∷ ys) id h = let first : y ≡ None = h 0 in rw first (omega (arith, alike [] ys id (λ k. h (suc k))))
-alike (x ∷ xs) [] id h = let first : x ≡ None = sym (h 0) in rw first (omega (arith, alike xs [] id (λ k. h (suc k))))
-alike (x ∷ xs) (y ∷ ys) id h = let first : y ≡ x = h 0 in rw first (omega (arith, alike xs ys id (λ k. h (suc k))))
-
 unfolds : (s : Leaves) (id : ℕ) → backing s id ≡ weight (place_at s 0) id + backing (drop 1 s) id
 unfolds xs id = grind (arith, nat_tests)
 
 ahead : (s : Leaves) (k : ℕ) → place_at (drop 1 s) k ≡ place_at s (suc k)
 ahead xs k = grind (arith, nat_tests)
+
+alike : (old new : Leaves) (id : ℕ) → ((k : ℕ) → place_at new k ≡ place_at old k) → backing new id ≡ backing old id
+alike [] [] id h = refl
+alike [] (y ∷ ys) id h = grind (arith, h 0, alike [] ys id (λ k. h (suc k)))
+alike (x ∷ xs) ys id h = grind (arith, h 0, unfolds ys id, alike xs (drop 1 ys) id (λ k. ahead ys k ∙ h (suc k)))
 
 -- one place changes
 pub backing_sets : (old new : Leaves) (q : ℕ) (place : Option (Counted (List Slot))) (id : ℕ) → Sets old new q place → backing new id + weight (place_at old q) id ≡ backing old id + weight place id
@@ -29,8 +28,7 @@ backing_sets old new (suc q) place id h =
 -- a leaf's slots are among those
 pub backing_least : (s : Leaves) (leaf id : ℕ) → weight (place_at s leaf) id ≤ backing s id
 backing_least [] leaf id = omega arith
-backing_least (x ∷ xs) zero id = omega arith
-backing_least (x ∷ xs) (suc leaf) id = omega (arith, backing_least xs leaf id)
+backing_least (x ∷ xs) leaf id = grind (arith, nat_tests, backing_least xs (leaf - 1) id)
 
 -- and some leaf names what is named
 pub record IsNamedBy (s : Leaves) (id : ℕ) : Type 0 where
@@ -39,8 +37,7 @@ pub record IsNamedBy (s : Leaves) (id : ℕ) : Type 0 where
 
 pub backing_some : (s : Leaves) (id : ℕ) → 0 < backing s id → IsNamedBy s id
 backing_some [] id lt = absurd (omega (arith, lt))
-backing_some (x ∷ xs) id lt = ⊎_elim (λ (some : 0 < weight x id). record { leaf = 0; names = some })
-    (λ (none : weight x id ≤ 0). let more = backing_some xs id (omega (arith, lt, none)) in record { leaf = suc more.leaf; names = more.names }) (order 0 (weight x id))
+backing_some (x ∷ xs) id lt = ⊎_elim (λ (some : 0 < weight x id). record { leaf = 0; names = some }) (λ (none : weight x id ≤ 0). let more = backing_some xs id (omega (arith, lt, none)) in record { leaf = suc more.leaf; names = more.names }) (order 0 (weight x id))
 
 -- a block of slots in leaves is named by one of them
 pub slots_backed : (s : Store) (leaves : List ℕ) (id : ℕ) → 0 < times id (ids_of (slots_in s leaves)) → 0 < backing s.leaves id

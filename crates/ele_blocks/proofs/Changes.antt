@@ -25,13 +25,7 @@ module _ (s t : Store) (m new : Layout) (w : ℕ) (test : ℕ → Bool) (after :
   pub rewritten : (size : ℕ) (cells : List Cell) → new.size ≡ size → map (λ slot. let c : Cell = record { writer = cond (test slot) w (writer_at (shown s m) slot); bytes = slot_bytes after slot } in c) (range_with_len 0 (slot_count new.size)) ≡ cells → IsRewritten s t w test size after cells m new
   rewritten size cells is are =
       let slots : n ≡ slot_count new.size = omega (arith, sized-length 16 (leaf_at t) (omega arith) n new.leaves leaves, long, count) in
-      record {
-        size = is;
-        content = content;
-        cells = new_cells ∙ are;
-        moves = moved_one s t m new hands (is_whole_by t new (record { short = short; bytes = bytes; leaves = sized-is 16 (leaf_at t) (omega arith) n (slot_count new.size) new.leaves slots leaves }));
-        renews = renews;
-      }
+      grind (arith, is, are, content, new_cells, renews, moved_one s t m new hands, is_whole_by t new, short, bytes, sized-is 16 (leaf_at t) (omega arith) n (slot_count new.size) new.leaves slots leaves)
 
 -- ---- pieces of a patch laid over the first slots of a map
 
@@ -155,8 +149,7 @@ module _ (s : Store) (m : Layout) (w : ℕ) (lives : LivesIn s m) where
       rewritten s s m m w test after (slot_count m.size) hands whole.leaves renews same whole.bytes whole.short m.size cells refl are
 
   pub resized_same : IsResized s s w m.size m m
-  resized_same = let size = length-content s m lives.whole in
-      stays (refits m.size m.size) _ (cells_after_truncate w m.size (shown s m)) (λ slot. grind (arith, nat_tests)) (grind (arith, append-nil, take_all, size)) (resized_cells s m w m.size lives)
+  resized_same = stays (refits m.size m.size) _ (cells_after_truncate w m.size (shown s m)) (λ slot. grind (arith, nat_tests)) (grind (arith, append-nil, take_all, length-content s m lives.whole)) (resized_cells s m w m.size lives)
 
   -- a write of no bytes within the content
   pub written_nothing : (o : ℕ) (x : List ℕ) → o + length x ≤ min o m.size → IsWritten s s w o x m m
@@ -175,6 +168,4 @@ unfolding cells_after_write cells_after_truncate
 grown_cells w size cells lt = grind (arith, nat_tests, length-append, length-take, length-replicate, grown_content)
 
 pub grown : (s t : Store) (m n : Layout) (w size : ℕ) → LivesIn s m → m.size < size → IsWritten s t w size [] m n → IsResized s t w size m n
-grown s t m n w size lives lt h =
-    let long = length-content s m lives.whole in
-    grind (arith, nat_tests, long, grown_content, grown_cells, renews_as)
+grown s t m n w size lives lt h = grind (arith, nat_tests, length-content s m lives.whole, grown_content, grown_cells, renews_as)

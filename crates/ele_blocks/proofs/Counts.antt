@@ -5,19 +5,13 @@ use Rattle.ele_blocks.specs.SharedInside.{counted, counted_with, with_count}
 module _ {X : Type 0} where
   pub place-counted : (values : List (Option X)) (counts : List ℕ) (id : ℕ) → place_at (counted values counts) id ≡ option_map (with_count (get_or counts id 0)) (get_or values id None)
   place-counted [] counts id = refl
-  place-counted (v ∷ vs) [] zero = refl
-  place-counted (v ∷ vs) [] (suc id) = place-counted vs [] id
-  place-counted (v ∷ vs) (c ∷ cs) zero = refl
-  place-counted (v ∷ vs) (c ∷ cs) (suc id) = place-counted vs cs id
-
-  count_more : (v : Option X) (c : ℕ) (vs : List (Option X)) (rest : List (Option (Counted X))) → count_by is_some rest ≡ count_by is_some vs → count_by is_some (option_map (with_count c) v ∷ rest) ≡ count_by is_some (v ∷ vs)
-  count_more None c vs rest h = omega (arith, h, sum_by-cons (λ (o : Option X). cond (is_some o) 1 0) None vs, sum_by-cons (λ (o : Option (Counted X)). cond (is_some o) 1 0) None rest)
-  count_more (Some v) c vs rest h = omega (arith, h, sum_by-cons (λ (o : Option X). cond (is_some o) 1 0) (Some v) vs, sum_by-cons (λ (o : Option (Counted X)). cond (is_some o) 1 0) (Some (with_count c v)) rest)
+  place-counted (v ∷ vs) [] id = grind (arith, nat_tests, place-counted vs [] (id - 1))
+  place-counted (v ∷ vs) (c ∷ cs) id = grind (arith, nat_tests, place-counted vs cs (id - 1))
 
   pub count-counted : (values : List (Option X)) (counts : List ℕ) → count_by is_some (counted values counts) ≡ count_by is_some values
   count-counted [] counts = refl
-  count-counted (v ∷ vs) [] = count_more v 0 vs (counted vs []) (count-counted vs [])
-  count-counted (v ∷ vs) (c ∷ cs) = count_more v c vs (counted vs cs) (count-counted vs cs)
+  count-counted (v ∷ vs) [] = grind (arith, count-counted vs [], sum_by-cons (λ (o : Option X). cond (is_some o) 1 0) v vs, sum_by-cons (λ (o : Option (Counted X)). cond (is_some o) 1 0) (option_map (with_count 0) v) (counted vs []))
+  count-counted (v ∷ vs) (c ∷ cs) = grind (arith, count-counted vs cs, sum_by-cons (λ (o : Option X). cond (is_some o) 1 0) v vs, sum_by-cons (λ (o : Option (Counted X)). cond (is_some o) 1 0) (option_map (with_count c) v) (counted vs cs))
 
   -- places of no owner more
   pub counted-more : (values : List (Option X)) (counts : List ℕ) (n : ℕ) → counted values (counts ++ replicate n 0) ≡ counted values counts

@@ -23,20 +23,15 @@ hands_none s = record { leaves = λ q. refl; blocks = λ id. refl; same = λ q l
 module _ (s t : Store) (leaf : ℕ) (there : 0 < owners s.leaves leaf) where
   -- where its slots and all blocks stay
   alone : (was now : List ℕ) (place : Option (Counted (List Slot))) → t.blocks ≡ s.blocks → Sets s.leaves t.leaves leaf place → value_of place ≡ value_of (place_at s.leaves leaf) → Trades s.leaves t.leaves was now → Hands s t (λ q. times q was) (λ q. times q now)
-  alone was now place same sets value trades = record {
-    leaves = λ q. omega (arith, trades.owed q);
-    blocks = λ id. grind (arith, backing_sets s.leaves t.leaves leaf place id sets, ap (λ v. times id (ids_of (unwrap_or v []))) value);
-    same = λ q lt. ap (λ v. unwrap_or v []) (trades.kept q lt);
-    shows = λ q lt stand. grind (arith, cells_each s t (leaf_at s q));
-  }
+  alone was now place same sets value trades = grind (arith, nat_tests, same, value, trades.owed, trades.kept, λ (id : ℕ). backing_sets s.leaves t.leaves leaf place id sets, cells_each s t)
 
   -- a leaf has an owner more
   pub share_leaf : t.blocks ≡ s.blocks → Sets s.leaves t.leaves leaf (shared (place_at s.leaves leaf)) → Hands s t (λ q. 0) (λ q. times q (leaf ∷ []))
-  share_leaf same sets = alone [] (leaf ∷ []) _ same sets (shared_value (place_at s.leaves leaf)) (trades_share s.leaves t.leaves leaf there sets)
+  share_leaf same sets = alone [] (leaf ∷ []) _ same sets (grind (arith, nat_tests)) (trades_share s.leaves t.leaves leaf there sets)
 
   -- a leaf with other owners has one fewer
   pub leaf_stays : None ≡ leaving (place_at s.leaves leaf) → t.blocks ≡ s.blocks → Sets s.leaves t.leaves leaf (released (place_at s.leaves leaf)) → Hands s t (λ q. times q (leaf ∷ [])) (λ q. 0)
-  leaf_stays none same sets = alone (leaf ∷ []) [] _ same sets (released_value (place_at s.leaves leaf) (grind (arith, nat_tests))) (trades_release s.leaves t.leaves leaf there sets)
+  leaf_stays none same sets = alone (leaf ∷ []) [] _ same sets (grind (arith, nat_tests)) (trades_release s.leaves t.leaves leaf there sets)
 
   module _ (slots : List Slot) (last : Some slots ≡ leaving (place_at s.leaves leaf)) (backed : AreBacked s (leaf_at s leaf)) where
     its_slots : leaf_at s leaf ≡ slots
@@ -49,31 +44,30 @@ module _ (s t : Store) (leaf : ℕ) (there : 0 < owners s.leaves leaf) where
     -- a leaf goes with its last owner, and its blocks have an owner fewer
     pub leaf_goes : Sets s.leaves t.leaves leaf (released (place_at s.leaves leaf)) → Trades s.blocks t.blocks (ids_of slots) [] → Hands s t (λ q. times q (leaf ∷ [])) (λ q. 0)
     leaf_goes sets freed =
-        let trades = trades_release s.leaves t.leaves leaf there sets in
         let left : (id : ℕ) → backing t.leaves id + times id (ids_of slots) ≡ backing s.leaves id = λ id. grind (arith, leaving_last, backing_sets s.leaves t.leaves leaf (released (place_at s.leaves leaf)) id sets, its_slots) in
-        grind (arith, trades, left, freed, backed, backing_least, cells_each, its_slots)
+        grind (arith, trades_release s.leaves t.leaves leaf there sets, left, freed, backed, backing_least, cells_each, its_slots)
 
 -- ---- along a list of leaves: those so far, and one more
 
-module _ (ids : List ℕ) (k id : ℕ) (lt : k < length ids) (is : id ≡ get_or ids k id) (s0 s t : Store) where
-  pub share_leaves_next : Covers s0.leaves ids → Hands s0 s (λ q. 0) (λ q. times q (take k ids)) → 0 < owners s.leaves id
-  share_leaves_next covers h = omega (arith, one_more ids k id lt is, covers.owned id, h.leaves id)
+module _ (ids : List ℕ) (k : ℕ) (lt : k < length ids) (s0 s t : Store) where
+  pub share_leaves_next : Covers s0.leaves ids → Hands s0 s (λ q. 0) (λ q. times q (take k ids)) → 0 < owners s.leaves (get_or ids k 0)
+  share_leaves_next covers h = omega (arith, one_more ids k lt, covers.owned (get_or ids k 0), h.leaves (get_or ids k 0))
 
-  pub share_leaves_few : Hands s0 s (λ q. 0) (λ q. times q (take k ids)) → owners s0.leaves id + length ids ≤ 2 ^ 63 → owners s.leaves id < 2 ^ 63
-  share_leaves_few h few = omega (arith, h.leaves id, times-le-length id (take k ids), length-take-le k ids (omega (arith, lt)), lt, few)
+  pub share_leaves_few : Hands s0 s (λ q. 0) (λ q. times q (take k ids)) → owners s0.leaves (get_or ids k 0) + length ids ≤ 2 ^ 63 → owners s.leaves (get_or ids k 0) < 2 ^ 63
+  share_leaves_few h few = omega (arith, h.leaves (get_or ids k 0), times-le-length (get_or ids k 0) (take k ids), length-take-le k ids (omega (arith, lt)), lt, few)
 
-  pub share_leaves_more : Hands s0 s (λ q. 0) (λ q. times q (take k ids)) → Hands s t (λ q. 0) (λ q. times q (id ∷ [])) → Hands s0 t (λ q. 0) (λ q. times q (take (k + 1) ids))
-  share_leaves_more h one = grind (arith, hands_with, hands_then, times_next ids k id lt is)
+  pub share_leaves_more : Hands s0 s (λ q. 0) (λ q. times q (take k ids)) → Hands s t (λ q. 0) (λ q. times q (get_or ids k 0 ∷ [])) → Hands s0 t (λ q. 0) (λ q. times q (take (k + 1) ids))
+  share_leaves_more h one = grind (arith, hands_with, hands_then, times_next ids k lt)
 
   module _ (covers : Covers s0.leaves ids) (h : Hands s0 s (λ q. times q (take k ids)) (λ q. 0)) where
-    pub release_leaves_next : 0 < owners s.leaves id
-    release_leaves_next = omega (arith, one_more ids k id lt is, covers.owned id, h.leaves id)
+    pub release_leaves_next : 0 < owners s.leaves (get_or ids k 0)
+    release_leaves_next = omega (arith, one_more ids k lt, covers.owned (get_or ids k 0), h.leaves (get_or ids k 0))
 
-    pub release_leaves_backed : AreBacked s0 (slots_in s0 ids) → AreBacked s (leaf_at s id)
+    pub release_leaves_backed : AreBacked s0 (slots_in s0 ids) → AreBacked s (leaf_at s (get_or ids k 0))
     release_leaves_backed backed b some = grind (arith, nat_tests, one_more, slots_least)
 
-    pub release_leaves_more : Hands s t (λ q. times q (id ∷ [])) (λ q. 0) → Hands s0 t (λ q. times q (take (k + 1) ids)) (λ q. 0)
-    release_leaves_more one = hands_with s0 t _ _ (λ q. times q (take (k + 1) ids)) (λ q. 0) (λ q. 0) (hands_then s0 s t _ _ _ _ h one) (λ q. omega (arith, times_next ids k id lt is q)) (λ q. refl)
+    pub release_leaves_more : Hands s t (λ q. times q (get_or ids k 0 ∷ [])) (λ q. 0) → Hands s0 t (λ q. times q (take (k + 1) ids)) (λ q. 0)
+    release_leaves_more one = hands_with s0 t _ _ (λ q. times q (take (k + 1) ids)) (λ q. 0) (λ q. 0) (hands_then s0 s t _ _ _ _ h one) (λ q. omega (arith, times_next ids k lt q)) (λ q. refl)
 
 -- ---- what stays
 

@@ -1,5 +1,5 @@
 -- What stands in each place of a list over which items were laid.
-use Rattle.ele_blocks.proofs.Words.{drop-append-add, [], ap, append_assoc, arith, cond, drop, drop-drop, drop-map, is_between, laid_over, length, length-append, length-drop, length-map, length-take-le, List, map, map-append, nat_tests, refl, set, set_split, slice_get, suc, sym, take, take-map, take_at, zero, ℕ, ◌++◌, ◌+◌, ◌-◌, ◌<◌, ◌∙◌, ◌∷◌, ◌≡◌, ◌≤◌}
+use Rattle.ele_blocks.proofs.Words.{drop-append-add, [], ap, append_assoc, arith, cond, drop, drop-drop, drop-map, is_between, laid_over, length, length-append, length-drop, length-map, length-take-le, List, map, map-append, nat_tests, refl, set, set_split, slice_get, suc, sym, take, take-map, take_at, zero, ℕ, ◌++◌, ◌+◌, ◌-◌, ◌<◌, ◌∙◌, ◌∷◌, ◌≡◌, ◌≤◌, take-nil}
 
 pub drop_past : {X : Type 0} (xs ys : List X) (a n : ℕ) → n ≡ length xs + a → drop n (xs ++ ys) ≡ drop a ys
 drop_past xs ys a n e = rw e (drop-append-add xs ys a)
@@ -12,19 +12,17 @@ module _ {X : Type 0} where
   slice_get-take (suc n) (suc k) (x ∷ xs) lt = slice_get-take n k xs (omega (arith, lt))
 
   slice_get-drop : (n k : ℕ) (xs : List X) → slice_get (drop n xs) k ≡ slice_get xs (n + k)
-  slice_get-drop zero k xs = let e : 0 + k ≡ k = omega arith in rw e refl
+  slice_get-drop zero k xs = grind arith
   slice_get-drop (suc n) k [] = refl
-  slice_get-drop (suc n) k (x ∷ xs) = let e : suc n + k ≡ suc (n + k) = omega arith in rw e (slice_get-drop n k xs)
+  slice_get-drop (suc n) k (x ∷ xs) = grind (arith, slice_get-drop n k xs)
 
   slice_get-left : (xs ys : List X) (k : ℕ) → k < length xs → slice_get (xs ++ ys) k ≡ slice_get xs k
   slice_get-left [] ys k lt = absurd (omega (arith, lt))
-  slice_get-left (x ∷ xs) ys zero lt = refl
-  slice_get-left (x ∷ xs) ys (suc k) lt = slice_get-left xs ys k (omega (arith, lt))
+  slice_get-left (x ∷ xs) ys k lt = grind (arith, nat_tests, slice_get-left xs ys (k - 1))
 
   slice_get-right : (xs ys : List X) (k n : ℕ) → n ≡ length xs + k → slice_get (xs ++ ys) n ≡ slice_get ys k
-  slice_get-right [] ys k n e = let same : n ≡ k = omega (arith, e) in rw same refl
-  slice_get-right (x ∷ xs) ys k zero e = absurd (omega (arith, e))
-  slice_get-right (x ∷ xs) ys k (suc n) e = slice_get-right xs ys k n (omega (arith, e))
+  slice_get-right [] ys k n e = grind (arith, e)
+  slice_get-right (x ∷ xs) ys k n e = grind (arith, nat_tests, slice_get-right xs ys k (n - 1))
 
   module _ (first : ℕ) (new old : List X) (within : first ≤ length old) where
     abbrev back : List X
@@ -42,15 +40,11 @@ module _ {X : Type 0} where
 
     -- one item behind those that were laid
     pub laid_more : (n : ℕ) (y : X) → n ≡ first + length new → laid_over n (y ∷ []) (laid_over first new old) ≡ laid_over first (new ++ y ∷ []) old
-    laid_more n y e =
-        let size : length (take first old ++ new) ≡ n = omega (arith, e, length-append (take first old) new, front) in
-        let apart : laid_over first new old ≡ (take first old ++ new) ++ back = sym (append_assoc (take first old) new back) in
-        rw (apart, take_at (take first old ++ new) back n size, drop_past (take first old ++ new) back 1 (n + 1) (omega (arith, size)), drop-drop 1 (first + length new) old) (grind (arith, append_assoc, length-append))
+    laid_more n y e = grind (arith, e, front, append_assoc, take_at (take first old ++ new) back n, drop_past (take first old ++ new) back 1 (n + 1), drop-drop 1 (first + length new) old, length-append)
 
 pub laid_over-map : {X Y : Type 0} (g : X → Y) (first : ℕ) (new old : List X) → map g (laid_over first new old) ≡ laid_over first (map g new) (map g old)
-laid_over-map g first new old =
-    rw (map-append g (take first old) (new ++ drop (first + length new) old), map-append g new (drop (first + length new) old), ← take-map g first old, ← drop-map g (first + length new) old, length-map new g) refl
+laid_over-map g first new old = grind (arith, map-append, take-map, drop-map, length-map)
 
 -- one item
 pub laid_set : {X : Type 0} (xs : List X) (at : ℕ) (y : X) → at < length xs → set xs at y ≡ laid_over at (y ∷ []) xs
-laid_set xs at y lt = set_split xs at y lt ∙ ap (λ n. take at xs ++ y ∷ drop n xs) (let e : suc at ≡ at + 1 = omega arith in e)
+laid_set xs at y lt = grind (arith, set_split xs at y lt)

@@ -16,4 +16,3 @@ pub mod Changes
 pub mod Runs
 mod Counts
 mod Cited
-pub mod Steps

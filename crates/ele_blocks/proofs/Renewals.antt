@@ -5,18 +5,12 @@ use Rattle.ele_blocks.proofs.Distincts.{Blocks}
 use Rattle.std.proofs.lemmas.Simd.{map-map}
 use Rattle.std.proofs.lemmas.List.{map-id}
 
-ids_of_fresh : (w : ℕ) (fresh : List ℕ) → ids_of (map (slot_by w) fresh) ≡ fresh
-ids_of_fresh w fresh = map-map (λ (slot : Slot). slot.block) (slot_by w) fresh ∙ map-id fresh
-
-cells_of_fresh : (s : Store) (w : ℕ) (fresh : List ℕ) → map (cell_of s) (map (slot_by w) fresh) ≡ map (cell_by w) (map (bytes_at s) fresh)
-cells_of_fresh s w fresh = map-map (cell_of s) (slot_by w) fresh ∙ sym (map-map (cell_by w) (bytes_at s) fresh)
-
 -- values that are there are the lists
 values_are : {X : Type 0} (s : List (Option (Counted (List X)))) (ids : List ℕ) (xs : List (List X)) → map (value_at s) ids ≡ map (λ x. Some x) xs → map (λ id. unwrap_or (value_at s id) []) ids ≡ xs
 values_are {X = X} s ids xs h = sym (map-map (λ (v : Option (List X)). unwrap_or v []) (value_at s) ids) ∙ (ap (map (λ (v : Option (List X)). unwrap_or v [])) h ∙ (map-map (λ (v : Option (List X)). unwrap_or v []) (λ (x : List X). Some x) xs ∙ map-id xs))
 
 pub times_laid : (window : List Slot) (first w : ℕ) (fresh : List ℕ) (q : ℕ) → times q (ids_of (laid_over first (map (slot_by w) fresh) window)) ≡ times q (ids_of (take first window)) + (times q fresh + times q (ids_of (drop (first + length fresh) window)))
-times_laid window first w fresh q = rw (← (length-map fresh (slot_by w))) (omega (arith, times-ids q (take first window) (map (slot_by w) fresh ++ drop (first + length (map (slot_by w) fresh)) window), times-ids q (map (slot_by w) fresh) (drop (first + length (map (slot_by w) fresh)) window), ap (times q) (ids_of_fresh w fresh)))
+times_laid window first w fresh q = rw (← (length-map fresh (slot_by w))) (grind (arith, times-ids q (take first window) (map (slot_by w) fresh ++ drop (first + length (map (slot_by w) fresh)) window), times-ids q (map (slot_by w) fresh) (drop (first + length (map (slot_by w) fresh)) window), map-map (λ (slot : Slot). slot.block) (slot_by w) fresh, map-id fresh))
 
 -- new blocks are there, and those around their place are to be shared
 pub record IsStaged (s b1 : Blocks) (window : List Slot) (first : ℕ) (fresh : List ℕ) : Type 0 where
@@ -68,14 +62,13 @@ module _ {s mid : Store} {window : List Slot} {first w : ℕ} {staged : List (Li
   now_parts = values_are mid.leaves now (parts slots) h.values
 
   now_slots : slots_in mid now ≡ slots
-  now_slots = sym (flat_map-map (λ (leaf : List Slot). leaf) (leaf_at mid) now) ∙ (ap (flat_map (λ (leaf : List Slot). leaf)) now_parts ∙ chunks_joined 16 (omega arith) (leaf_count (length slots)) slots (omega arith))
+  now_slots = grind (arith, flat_map-map (λ (leaf : List Slot). leaf) (leaf_at mid) now, now_parts, chunks_joined 16 (omega arith) (leaf_count (length slots)) slots)
 
   now_cells : map (cell_of mid) (slots_in mid now) ≡ laid_over first (map (cell_by w) staged) (map (cell_of s) window)
-  now_cells = rw (now_slots, h.laid.are, laid_over-map (cell_of mid) first (map (slot_by w) h.laid.blocks) window, cells_of_fresh mid w h.laid.blocks, values_are mid.blocks h.laid.blocks staged h.laid.values, same_cells window h.there) refl
+  now_cells = grind (arith, now_slots, h.laid.are, laid_over-map (cell_of mid) first (map (slot_by w) h.laid.blocks) window, map-map (cell_of mid) (slot_by w) h.laid.blocks, map-map (cell_by w) (bytes_at mid) h.laid.blocks, values_are mid.blocks h.laid.blocks staged h.laid.values, same_cells window h.there)
 
   pub was_backed : AreBacked mid (slots_in mid was)
-  was_backed id some = let stay = stay_in s mid _ _ was came (λ q lt. omega (arith, lt, h.owned.owned q)) (leaf_there s was h.backed) in
-      omega (arith, h.backed id, some, ap (λ xs. times id (ids_of xs)) stay.slots, h.laid.owed id, h.backs id)
+  was_backed id some = grind (arith, stay_in s mid _ _ was came (λ q lt. omega (arith, lt, h.owned.owned q)) (leaf_there s was h.backed), h.backed id, h.laid.owed id, h.backs id)
 
   pub renewed : (u : Store) → Hands mid u (λ q. times q was) (λ q. 0) → IsRenewed s u was window first w staged now
   renewed u went =

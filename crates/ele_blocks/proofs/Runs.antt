@@ -1,12 +1,10 @@
 -- New slots over the first slots of a map, and new leaves in place of the run of those that they meet.
-use Rattle.ele_blocks.proofs.Lemmas.{[], ap, append-nil, append_assoc, AreBacked, AreSized, AreThere, arith, backed_there, cell_by, cell_of, chunks_joined, cond, Covers, drop, drop-append-le, drop-drop, drop_all, drop_past, flat-drop, flat-take, flat_map, flat_map-append, flat_map-map, get_or, get_or-map, hands_with, ids_of, inl, inr, is_between, IsRenewed, IsReplaced, laid_at, laid_over, Layout, leaf_at, leaf_count, leaf_there, leaves-count, length, length-append, length-chunks, length-drop, length-laid_over, length-map, length-take, length-take-le, List, LivesIn, map, map-append, map-id, max, min, nat_tests, order, owners_at, parts, refl, Renews, shown, sized-append, sized-chunks, sized-count, sized-drop, sized-is, sized-length, sized-map, sized-take, slice_get, slice_get-get_or, slice_get-take, Slot, slot_by, slot_count, slots-count, slots_in, slots_of, stay_in, StayIn, Store, sym, take, take-add, take-append-drop, take-append-le, take-map, take-take, take_all, take_at, take_past, times, times-append, times-split, times_at, whole_is, ℕ, ⊎_elim, ◌*◌, ◌++◌, ◌+◌, ◌-◌, ◌/◌, ◌<◌, ◌∙◌, ◌≡◌, ◌≤◌, ◌⊎◌}
+use Rattle.ele_blocks.proofs.Lemmas.{[], ap, append-nil, append_assoc, AreBacked, AreSized, AreThere, arith, backed_there, cell_by, cell_of, chunks_joined, cond, Covers, drop, drop-append-le, drop-drop, drop_all, drop_past, flat-drop, flat-take, flat_map, flat_map-append, flat_map-map, get_or, get_or-map, hands_with, ids_of, inl, inr, is_between, IsRenewed, IsReplaced, laid_at, laid_over, Layout, leaf_at, leaf_count, leaf_there, leaves-count, length, length-append, length-chunks, length-drop, length-laid_over, length-map, length-take, length-take-le, List, LivesIn, map, map-append, map-id, max, min, nat_tests, order, owners_at, parts, refl, Renews, shown, sized-append, sized-chunks, sized-count, sized-drop, sized-is, sized-length, sized-map, sized-take, slice_get, slice_get-get_or, slice_get-take, Slot, slot_by, slot_count, slots-count, slots_in, slots_of, stay_in, StayIn, Store, sym, take, take-add, take-append-drop, take-append-le, take-map, take-take, take_all, take_at, take_past, times, times-append, times-split, one_more, whole_is, ℕ, ⊎_elim, ◌*◌, ◌++◌, ◌+◌, ◌-◌, ◌/◌, ◌<◌, ◌∙◌, ◌≡◌, ◌≤◌, ◌⊎◌}
 use Rattle.ele_blocks.proofs.Renewals.{times_laid}
 
 -- what is laid over the middle of a list, or over its end
 laid_apart : {X : Type 0} (first at : ℕ) (new front middle back : List X) → first ≡ length front + at → at ≤ length middle → (at + length new ≤ length middle) ⊎ (back ≡ []) → laid_over first new (front ++ (middle ++ back)) ≡ front ++ (laid_over at new middle ++ back)
-laid_apart first at new front middle back is within fit =
-    let rest : drop (at + length new) (middle ++ back) ≡ drop (at + length new) middle ++ back = grind (arith, fit, drop-append-le, append-nil) in
-    rw (take_past front (middle ++ back) at first is, take-append-le at middle back within, drop_past front (middle ++ back) (at + length new) (first + length new) (omega (arith, is)), rest) (simp append_assoc)
+laid_apart first at new front middle back is within fit = grind (arith, fit, is, drop-append-le, append-nil, take_past front (middle ++ back) at first, take-append-le at middle back within, drop_past front (middle ++ back) (at + length new) (first + length new), append_assoc)
 
 -- new slots by a writer over the first slots of a map: those that stand there are renewed
 laid_renews : (s t : Store) (was now : Layout) (w first kept : ℕ) (fresh : List ℕ) → LivesIn s was → first ≤ kept → kept ≤ length (slots_of s was) → ((id : ℕ) → 0 < owners_at s id → times id fresh ≡ 0) → ((id : ℕ) → times id fresh ≤ 1) → slots_of t now ≡ laid_over first (map (slot_by w) fresh) (take kept (slots_of s was)) → Renews s t w (is_between first (first + length fresh)) was now
@@ -18,12 +16,9 @@ laid_renews s t was now w first kept fresh lives le kept_le new one is =
     let at : (slot : ℕ) → slice_get (slots_of t now) slot ≡ cond (is_between first (first + length fresh) slot) (slice_get (map (slot_by w) fresh) (slot - first)) (slice_get old slot) = λ slot. rw (is, ← count) (laid_at first (map (slot_by w) fresh) old within slot) in
     record {
       fresh = λ slot yes.
-          let from : first ≤ slot = grind (arith, nat_tests) in
-          let to : slot < first + length fresh = grind (arith, nat_tests) in
           let none : Slot = record { writer = 0; block = 0 } in
-          let free : owners_at s (get_or fresh (slot - first) 0) ≡ 0 = grind (arith, new (get_or fresh (slot - first) 0), times_at fresh (slot - first)) in
-          rw (at slot, yes, slice_get-get_or (map (slot_by w) fresh) (slot - first) none (omega (arith, from, to, count)), get_or-map (slot_by w) fresh (slot - first) 0 none (omega (arith, from, to))) (refl, free);
-      stays = λ slot no lt. let below : slot < kept = grind (arith, nat_tests, length-laid_over first (map (slot_by w) fresh) old within, ap length is) in rw (at slot, no) (slice_get-take kept slot (slots_of s was) below);
+          grind (arith, nat_tests, at slot, slice_get-get_or (map (slot_by w) fresh) (slot - first) none, get_or-map (slot_by w) fresh (slot - first) 0 none, new (get_or fresh (slot - first) 0), one_more fresh (slot - first), count);
+      stays = λ slot no lt. grind (arith, nat_tests, length-laid_over first (map (slot_by w) fresh) old within, is, at slot, slice_get-take kept slot (slots_of s was));
       once = λ id zero. grind (arith, backed_there s was.leaves lives.backed id, ap (λ xs. times id (ids_of xs)) is, times_laid old first w fresh id, one id, times-split id kept (slots_of s was), times-split id first old, times-split id (first + length fresh) old);
     }
 
@@ -61,7 +56,7 @@ module _ {s : Store} {m : Layout} {staged : List (List ℕ)} {first kept from me
   order_of = (omega arith, grind (arith, h.to_met, h.to_end), grind (arith, h.to_met, h.to_end), omega arith)
 
   in_three : m.leaves ≡ front ++ (was ++ back)
-  in_three = sym (ap (λ ys. front ++ (was ++ ys)) (let e : from + (to - from) ≡ to = omega (arith, order_of) in sym (drop-drop (to - from) from m.leaves ∙ ap (λ j. drop j m.leaves) e)) ∙ (ap (λ ys. front ++ ys) (take-append-drop (to - from) (drop from m.leaves)) ∙ take-append-drop from m.leaves))
+  in_three = grind (arith, order_of, drop-drop (to - from) from m.leaves, take-append-drop (to - from) (drop from m.leaves), take-append-drop from m.leaves)
 
   part_slots : (a d : ℕ) → slots_in s (take d (drop a m.leaves)) ≡ take (16 * d) (drop (16 * a) (slots_of s m))
   part_slots a d = flat-take 16 (leaf_at s) (omega arith) d (slot_count m.size - 16 * a) (drop a m.leaves) (sized-drop 16 (leaf_at s) (omega arith) a (slot_count m.size) m.leaves sized) ∙ ap (take (16 * d)) (flat-drop 16 (leaf_at s) (omega arith) a (slot_count m.size) m.leaves sized)
@@ -73,7 +68,7 @@ module _ {s : Store} {m : Layout} {staged : List (List ℕ)} {first kept from me
   back_slots = flat-drop 16 (leaf_at s) (omega arith) to (slot_count m.size) m.leaves sized
 
   front_long : length (slots_in s front) ≡ 16 * from
-  front_long = ap length front_slots ∙ length-take-le (16 * from) (slots_of s m) (omega (arith, long))
+  front_long = grind (arith, front_slots, length-take-le (16 * from) (slots_of s m), long)
 
   -- what a renewal of the run asks
   pub part_owned : (a d : ℕ) → Covers s.leaves (take d (drop a m.leaves))
@@ -101,16 +96,7 @@ module _ {s : Store} {m : Layout} {staged : List (List ℕ)} {first kept from me
   inside = omega (arith, window_long, order_of)
 
   cut : take kept (slots_of s m) ≡ slots_in s front ++ (window ++ slots_in s back)
-  cut =
-      let rest = drop (16 * from) (slots_of s m) in
-      ⊎_elim (λ (more : 16 * met < kept).
-      let all : kept ≡ slot_count m.size = h.behind (omega (arith, more)) in
-      let whole : window ≡ take (16 * (met - from)) rest = rw (part_slots from (met - from)) (take_all (kept - 16 * from) (take (16 * (met - from)) rest) (omega (arith, length-take (16 * (met - from)) rest, more))) in
-      grind (arith, whole, all, long, order_of, h.to_met more, front_slots, back_slots, take_all kept (slots_of s m), drop-drop (16 * (met - from)) (16 * from) (slots_of s m), take-append-drop (16 * (met - from)) rest, take-append-drop (16 * from) (slots_of s m)))
-      (λ (end : kept ≤ 16 * met).
-      let part : window ≡ take (kept - 16 * from) rest = rw (part_slots from (met - from)) (take-take (kept - 16 * from) (16 * (met - from)) rest (omega (arith, end))) in
-      grind (arith, part, none_behind end, front_slots, append-nil (take (kept - 16 * from) rest), take-add (16 * from) (kept - 16 * from) (slots_of s m)))
-      (order (16 * met) kept)
+  cut = grind (arith, long, order_of, h.to_met, h.behind, none_behind, front_slots, back_slots, part_slots from (met - from), take_all kept (slots_of s m), take_all (kept - 16 * from) (take (16 * (met - from)) (drop (16 * from) (slots_of s m))), length-take (16 * (met - from)) (drop (16 * from) (slots_of s m)), take-take (kept - 16 * from) (16 * (met - from)) (drop (16 * from) (slots_of s m)), drop-drop (16 * (met - from)) (16 * from) (slots_of s m), take-append-drop (16 * (met - from)) (drop (16 * from) (slots_of s m)), take-append-drop (16 * from) (slots_of s m), append-nil (take (kept - 16 * from) (drop (16 * from) (slots_of s m))), take-add (16 * from) (kept - 16 * from) (slots_of s m))
 
   -- the new leaves in their places
   module _ {t : Store} {w : ℕ} {now : List ℕ} (renewed : IsRenewed s t was window (first - 16 * from) w staged now) where
@@ -148,34 +134,14 @@ module _ {s : Store} {m : Layout} {staged : List (List ℕ)} {first kept from me
     now_slots = sym (flat_map-map (λ (leaf : List Slot). leaf) (leaf_at t) now) ∙ (ap (flat_map (λ (leaf : List Slot). leaf)) renewed.leaves ∙ chunks_joined 16 (omega arith) (leaf_count (length laid)) laid (omega arith))
 
     module _ (new : Layout) (is : new.leaves ≡ front ++ (now ++ back)) where
-      fit_by : {X : Type 0} (by : List X) (mid : List X) (tail : List X) → length by ≡ length staged → length mid ≡ length window → (slots_in s back ≡ [] → tail ≡ []) → (first - 16 * from + length by ≤ length mid) ⊎ (tail ≡ [])
-      fit_by by mid tail a b none = ⊎_elim (λ (le : first - 16 * from + length staged ≤ length window). inl (omega (arith, le, a, b))) (λ (e : slots_in s back ≡ []). inr (none e)) fit
-
       new_slots : slots_of t new ≡ laid_over first (map (slot_by w) renewed.blocks) (take kept (slots_of s m))
-      new_slots =
-          ap (slots_in t) is ∙ (flat_map-append (leaf_at t) front (now ++ back) ∙ (rw (flat_map-append (leaf_at t) now back, front_stays.slots, back_stays.slots, now_slots) refl
-          ∙ sym (ap (laid_over first (map (slot_by w) renewed.blocks)) cut ∙ laid_apart first (first - 16 * from) (map (slot_by w) renewed.blocks) (slots_in s front) window (slots_in s back) (omega (arith, front_long)) inside (fit_by (map (slot_by w) renewed.blocks) window (slots_in s back) count refl (λ e. e)))))
+      new_slots = grind (arith, is, cut, flat_map-append (leaf_at t) front (now ++ back), flat_map-append (leaf_at t) now back, front_stays.slots, back_stays.slots, now_slots, laid_apart first (first - 16 * from) (map (slot_by w) renewed.blocks) (slots_in s front) window (slots_in s back), front_long, inside, count, fit)
 
       new_cells : shown t new ≡ laid_over first (map (cell_by w) staged) (take kept (shown s m))
       new_cells =
           let g = cell_of s in
           let by = map (cell_by w) staged in
-          let fit = fit_by by (map g window) (map g (slots_in s back)) (length-map staged (cell_by w)) (length-map window g) (ap (map g)) in
-          rw (
-            is,
-            flat_map-append (leaf_at t) front (now ++ back),
-            flat_map-append (leaf_at t) now back,
-            map-append (cell_of t) (slots_in t front) (slots_in t now ++ slots_in t back),
-            map-append (cell_of t) (slots_in t now) (slots_in t back),
-            front_stays.cells,
-            back_stays.cells,
-            renewed.cells,
-            take-map g kept (slots_of s m),
-            cut,
-            map-append g (slots_in s front) (window ++ slots_in s back),
-            map-append g window (slots_in s back),
-          )
-          (sym (laid_apart first (first - 16 * from) by (map g (slots_in s front)) (map g window) (map g (slots_in s back)) (omega (arith, front_long, length-map (slots_in s front) g)) (omega (arith, inside, length-map window g)) fit))
+          grind (arith, is, cut, flat_map-append (leaf_at t) front (now ++ back), flat_map-append (leaf_at t) now back, map-append (cell_of t) (slots_in t front) (slots_in t now ++ slots_in t back), map-append (cell_of t) (slots_in t now) (slots_in t back), front_stays.cells, back_stays.cells, renewed.cells, take-map g kept (slots_of s m), map-append g (slots_in s front) (window ++ slots_in s back), map-append g window (slots_in s back), laid_apart first (first - 16 * from) by (map g (slots_in s front)) (map g window) (map g (slots_in s back)), front_long, length-map (slots_in s front) g, inside, length-map window g, length-map staged (cell_by w), fit)
 
       filled : AreSized 16 (leaf_at t) (length (slots_of t new)) new.leaves
       filled =
@@ -189,12 +155,7 @@ module _ {s : Store} {m : Layout} {staged : List (List ℕ)} {first kept from me
           rw (sized-length 16 (leaf_at t) (omega arith) all new.leaves joined) joined
 
       pub replaced : IsReplaced s t w first kept staged m new
-      replaced = record {
-        cells = new_cells;
-        filled = filled;
-        renews = rw renewed.count at (laid_renews s t m new w first kept renewed.blocks h.lives h.le (omega (arith, long)) renewed.fresh renewed.once new_slots);
-        hands = hands_with s t _ _ (λ q. times q m.leaves) (λ q. times q new.leaves) (λ q. times q front + times q back) renewed.hands times_old (λ q. omega (arith, ap (times q) is, times-append q front (now ++ back), times-append q now back));
-      }
+      replaced = grind (arith, new_cells, filled, renewed.count, laid_renews s t m new w first kept renewed.blocks h.lives h.le (omega (arith, long)) renewed.fresh renewed.once new_slots, hands_with s t _ _ (λ q. times q m.leaves) (λ q. times q new.leaves) (λ q. times q front + times q back) renewed.hands times_old (λ q. omega (arith, ap (times q) is, times-append q front (now ++ back), times-append q now back)))
 
       -- a leaf for each 16 slots
       pub leaves_new : length new.leaves ≡ leaf_count (max kept (first + length staged))

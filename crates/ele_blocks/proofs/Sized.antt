@@ -28,10 +28,8 @@ module _ {A X : Type 0} (c : ℕ) (f : A → List X) (some : 0 < c) where
   sized-length n (x ∷ xs) h = omega (arith, h, sized-length (n - c) xs h.2, length-append (f x) (flat_map f xs))
 
   pub sized-count : (n : ℕ) (xs : List A) → AreSized c f n xs → (n ≤ c * length xs) × (c * length xs < n + c)
-  sized-count n [] h = (omega (arith, h), omega (arith, h))
-  sized-count n (x ∷ xs) h =
-      let more = sized-count (n - c) xs h.2 in
-      (omega (arith, h, more, mul-suc c (length xs)), ⊎_elim (λ (lt : c < n). omega (arith, h, more, lt, mul-suc c (length xs))) (λ (le : n ≤ c). let none : xs ≡ [] = sized-nil xs (sized-is (n - c) 0 xs (omega (arith, le)) h.2) in let one : c * 1 ≡ c = omega arith in rw none (omega (arith, h, one))) (order c n))
+  sized-count n [] h = grind arith
+  sized-count n (x ∷ xs) h = grind (arith, mul-suc c (length xs), sized-count (n - c) xs h.2, sized-nil xs)
 
   pub sized-drop : (k n : ℕ) (xs : List A) → AreSized c f n xs → AreSized c f (n - c * k) (drop k xs)
   sized-drop zero n xs h = sized-is n (n - c * 0) xs (omega arith) h
@@ -50,41 +48,29 @@ module _ {A X : Type 0} (c : ℕ) (f : A → List X) (some : 0 < c) where
 
   -- the items of some pieces
   pub flat-take : (k n : ℕ) (xs : List A) → AreSized c f n xs → flat_map f (take k xs) ≡ take (c * k) (flat_map f xs)
-  flat-take zero n xs h = let none : c * 0 ≡ 0 = omega arith in rw none refl
-  flat-take (suc k) n [] h = sym (take_all (c * suc k) (let none : List X = [] in none) (omega arith))
-  flat-take (suc k) n (x ∷ xs) h = ⊎_elim
-      (λ (more : c < n).
-      let size : c * suc k ≡ length (f x) + c * k = omega (arith, h, more, mul-suc c k) in
-      ap (λ ys. f x ++ ys) (flat-take k (n - c) xs h.2) ∙ sym (ap (λ j. take j (f x ++ flat_map f xs)) size ∙ take-append-add (f x) (flat_map f xs) (c * k)))
-      (λ (last : n ≤ c).
-      let none : xs ≡ [] = sized-nil xs (sized-is (n - c) 0 xs (omega (arith, last)) h.2) in
-      rw (none, take-nil k) (sym (take_all (c * suc k) (f x ++ []) (omega (arith, h, last, length-append (f x) [], mul-suc c k)))))
-      (order c n)
+  flat-take zero n xs h = grind arith
+  flat-take (suc k) n [] h = grind (arith, take_all)
+  flat-take (suc k) n (x ∷ xs) h = grind (arith, mul-suc c k, flat-take k (n - c) xs h.2, take-append-add (f x) (flat_map f xs) (c * k), sized-nil xs, take-nil {A = A} k, take_all (c * suc k) (f x ++ []), append-nil (f x), length-append (f x) [])
 
   pub flat-drop : (k n : ℕ) (xs : List A) → AreSized c f n xs → flat_map f (drop k xs) ≡ drop (c * k) (flat_map f xs)
-  flat-drop k n xs h = append_cancel_left (take (c * k) (flat_map f xs)) (flat_map f (drop k xs)) (drop (c * k) (flat_map f xs))
-      (ap (λ ys. ys ++ flat_map f (drop k xs)) (sym (flat-take k n xs h)) ∙ (sym (flat_map-append f (take k xs) (drop k xs)) ∙ (ap (flat_map f) (take-append-drop k xs) ∙ sym (take-append-drop (c * k) (flat_map f xs)))))
+  flat-drop k n xs h = append_cancel_left (take (c * k) (flat_map f xs)) (flat_map f (drop k xs)) (drop (c * k) (flat_map f xs)) (grind (arith, flat-take k n xs h, flat_map-append f (take k xs) (drop k xs), take-append-drop k xs, take-append-drop (c * k) (flat_map f xs)))
 
   pub flat-at : (k n : ℕ) (xs : List A) (d : A) → AreSized c f n xs → k < length xs → f (get_or xs k d) ≡ take c (drop (c * k) (flat_map f xs))
-  flat-at k n xs d h lt =
-      let first : take 1 (drop k xs) ≡ get_or xs k d ∷ [] = ap (take 1) (drop_more xs k d lt) in
-      grind (arith, append-nil (f (get_or xs k d)), first, flat-take 1 (n - c * k) (drop k xs) (sized-drop k n xs h), flat-drop k n xs h)
+  flat-at k n xs d h lt = grind (arith, append-nil (f (get_or xs k d)), drop_more xs k d lt, flat-take 1 (n - c * k) (drop k xs) (sized-drop k n xs h), flat-drop k n xs h)
 
   -- pieces laid over others
   pub flat-laid : (first n : ℕ) (new old : List A) → AreSized c f n old → flat_map f (laid_over first new old) ≡ take (c * first) (flat_map f old) ++ (flat_map f new ++ drop (c * (first + length new)) (flat_map f old))
   flat-laid first n new old h = rw (flat_map-append f (take first old) (new ++ drop (first + length new) old), flat-take first n old h, flat_map-append f new (drop (first + length new) old), flat-drop (first + length new) n old h) refl
 
   pub sized-laid : (first n m : ℕ) (new old : List A) → AreSized c f n old → AreSized c f m new → first ≤ length old → c * first ≤ n → (m ≡ c * length new) ⊎ (n ≤ c * (first + length new)) → AreSized c f (c * first + (m + (n - c * (first + length new)))) (laid_over first new old)
-  sized-laid first n m new old h k within fit reach =
-      let rest = n - c * (first + length new) in
-      grind (arith, sized-append (c * first) (m + rest) (take first old) (new ++ drop (first + length new) old), sized-is (min n (c * first)) (c * first) (take first old), sized-take first n old h, sized-append m rest new (drop (first + length new) old) k (sized-drop (first + length new) n old h), length-take-le first old within)
+  sized-laid first n m new old h k within fit reach = grind (arith, sized-append (c * first) (m + (n - c * (first + length new))) (take first old) (new ++ drop (first + length new) old), sized-is (min n (c * first)) (c * first) (take first old), sized-take first n old h, sized-append m (n - c * (first + length new)) new (drop (first + length new) old) k (sized-drop (first + length new) n old h), length-take-le first old within)
 
 -- pieces that show the same
 pub sized-map : {A B X : Type 0} (c : ℕ) (f : A → List X) (g : B → List X) (n : ℕ) (xs : List A) (ys : List B) → map f xs ≡ map g ys → AreSized c f n xs → AreSized c g n ys
 sized-map c f g n [] [] e h = h
 sized-map c f g n [] (y ∷ ys) e h = absurd cc
 sized-map c f g n (x ∷ xs) [] e h = absurd cc
-sized-map c f g n (x ∷ xs) (y ∷ ys) e h = let same : f x ≡ g y = cc in let rest : map f xs ≡ map g ys = cc in (rw (← same) h.0, h.1, sized-map c f g (n - c) xs ys rest h.2)
+sized-map c f g n (x ∷ xs) (y ∷ ys) e h = grind (arith, sized-map c f g (n - c) xs ys (cc) h.2)
 
 -- a list that is cut
 module _ {X : Type 0} (c : ℕ) (some : 0 < c) where

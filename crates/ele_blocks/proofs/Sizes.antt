@@ -1,5 +1,5 @@
 -- The sizes of a map that is whole, and the bytes of its slots.
-use Rattle.ele_blocks.proofs.Words.{[], ap, AreSized, arith, bytes_at, Cell, cell_of, content_of, drop, get_or, get_or-drop, get_or-map, get_or-take, get_or_from_slice_get, is_whole, Layout, leaf_at, leaf_count, leb, length, length-map, List, LivesIn, longest_content, nat_tests, owners, refl, shown, slice_get, slice_get_read, slice_get_within, Slot, slot_bytes, slot_count, slots_of, Some, Store, sym, take, true, ℕ, ◌%◌, ◌*◌, ◌+◌, ◌/◌, ◌<◌, ◌∙◌, ◌≡◌, ◌≤◌}
+use Rattle.ele_blocks.proofs.Words.{[], ap, AreSized, arith, bytes_at, Cell, cell_of, content_of, drop, get_or, get_or-drop, get_or-map, get_or-take, get_or_from_slice_get, is_whole, Layout, leaf_at, leaf_count, leb, length, length-map, List, LivesIn, longest_content, nat_tests, owners, refl, shown, slice_get, slice_get_read, slice_get_within, Slot, slot_bytes, slot_count, slots_of, Some, Store, sym, take, true, ℕ, ◌%◌, ◌*◌, ◌+◌, ◌/◌, ◌<◌, ◌∙◌, ◌≡◌, ◌≤◌, get_or_default}
 use Rattle.ele_blocks.proofs.Trades.{one_more}
 use Rattle.ele_blocks.proofs.Sized.{fills_sized, sized_fills, sized-length, sized-count, flat-at}
 
@@ -20,7 +20,7 @@ module _ (s : Store) (m : Layout) where
   whole_is h = record { short = grind (arith, nat_tests, h); bytes = fills_sized 512 bytes_of _ _ (grind (arith, nat_tests, h)); leaves = fills_sized 16 (leaf_at s) _ _ (grind (arith, nat_tests, h)) }
 
   pub is_whole_by : IsWhole → is_whole s m ≡ true
-  is_whole_by h = let e : leb m.size longest_content ≡ true = let short = h.short in grind (arith, nat_tests, short) in rw (e, sized_fills 512 bytes_of m.size (shown s m) h.bytes, sized_fills 16 (leaf_at s) (slot_count m.size) m.leaves h.leaves) refl
+  is_whole_by h = grind (arith, nat_tests, h, sized_fills 512 bytes_of m.size (shown s m) h.bytes, sized_fills 16 (leaf_at s) (slot_count m.size) m.leaves h.leaves)
 
   module _ (whole : is_whole s m ≡ true) where
     pub length-content : length (content_of (shown s m)) ≡ m.size
@@ -34,9 +34,7 @@ module _ (s : Store) (m : Layout) where
 
     -- the bytes of a slot
     pub its_bytes : (slot : ℕ) (x : Slot) → slice_get (slots_of s m) slot ≡ Some x → bytes_at s x.block ≡ slot_bytes (content_of (shown s m)) slot
-    its_bytes slot x got =
-        let here : get_or (shown s m) slot no_cell ≡ cell_of s x = grind (arith, get_or-map (cell_of s) (slots_of s m) slot x no_cell, slice_get_within (slots_of s m) slot x got, get_or_from_slice_get (slots_of s m) slot x x got) in
-        sym (ap bytes_of here) ∙ flat-at 512 bytes_of (omega arith) slot m.size (shown s m) no_cell (whole_is whole).bytes (omega (arith, slice_get_within (slots_of s m) slot x got, length-map (slots_of s m) (cell_of s)))
+    its_bytes slot x got = grind (arith, flat-at 512 bytes_of (omega arith) slot m.size (shown s m) no_cell (whole_is whole).bytes, length-map (slots_of s m) (cell_of s), get_or-map (cell_of s) (slots_of s m) slot x no_cell, slice_get_within (slots_of s m) slot x got, get_or_from_slice_get (slots_of s m) slot x x got)
 
 -- ---- a slot in its leaf
 
@@ -45,7 +43,7 @@ module _ (s : Store) (m : Layout) (lives : LivesIn s m) (slot leaf : ℕ) (lt : 
   leaf_within = omega (arith, leaves-count s m lives.whole, lt)
 
   pub leaf_owned : 0 < owners s.leaves leaf
-  leaf_owned = omega (arith, one_more m.leaves (slot / 16) leaf leaf_within is, lives.owned.owned leaf)
+  leaf_owned = grind (arith, one_more m.leaves (slot / 16) leaf_within, get_or_default m.leaves (slot / 16) leaf 0 leaf_within, is, lives.owned.owned leaf)
 
   pub leaf_is : leaf_at s leaf ≡ take 16 (drop (16 * (slot / 16)) (slots_of s m))
   leaf_is = ap (leaf_at s) is ∙ flat-at 16 (leaf_at s) (omega arith) (slot / 16) (slot_count m.size) m.leaves leaf (whole_is s m lives.whole).leaves leaf_within

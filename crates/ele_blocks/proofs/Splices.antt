@@ -34,8 +34,7 @@ length-spliced content offset bytes = grind (arith, nat_tests, length-append, le
 
 -- what stands behind the bytes stays
 spliced-back : (content : List ℕ) (offset : ℕ) (bytes : List ℕ) (n : ℕ) → offset + length bytes ≤ n → drop n (content_after_write content offset bytes) ≡ drop n content
-spliced-back content offset bytes n le =
-    grind (arith, drop_past (take offset content ++ replicate (offset - length content) 0 ++ bytes) (drop (offset + length bytes) content) (n - (offset + length bytes)) n, length-append, length-take, length-replicate, drop-drop)
+spliced-back content offset bytes n le = grind (arith, drop_past (take offset content ++ replicate (offset - length content) 0 ++ bytes) (drop (offset + length bytes) content) (n - (offset + length bytes)) n, length-append, length-take, length-replicate, drop-drop)
 
 -- so a splice is the part of q bytes from p on, between what stood before it and behind it
 pub spliced_part : (content : List ℕ) (offset p q r : ℕ) (bytes : List ℕ) → p ≤ offset → p ≤ length content → offset + length bytes ≤ r → r ≡ p + q → content_after_write content offset bytes ≡ take p content ++ (take q (drop p (content_after_write content offset bytes)) ++ drop r content)

@@ -1,25 +1,13 @@
 -- How owners change hands, one change after another.
-use Rattle.ele_blocks.proofs.Words.{[], add-one, Adds, ap, append_assoc, arith, Counted, Covers, drop, eqb, false, get_or, ids_of, leaving, length, length-map, length-take-le, List, map, map-append, map_more, nat_tests, None, Option, owners, owners_of, place_at, refl, released, Sets, shared, Slot, Some, suc, sym, take, take-append-drop, take-suc, times, Trades, true, value_at, value_of, zero, ℕ, ◌++◌, ◌+◌, ◌<◌, ◌^◌, ◌∙◌, ◌∷◌, ◌≡◌, ◌≤◌}
+use Rattle.ele_blocks.proofs.Words.{[], add-one, Adds, ap, append_assoc, arith, Counted, Covers, drop, eqb, false, get_or, ids_of, leaving, length, length-map, length-take-le, List, map, map-append, map_more, nat_tests, None, Option, owners, owners_of, place_at, refl, released, Sets, shared, Slot, Some, suc, sym, take, take-append-drop, take-suc, times, Trades, true, value_at, value_of, zero, ℕ, ◌++◌, ◌+◌, ◌<◌, ◌^◌, ◌∙◌, ◌∷◌, ◌≡◌, ◌≤◌, ◌-◌, take_more}
 
 pub times-append : (id : ℕ) (xs ys : List ℕ) → times id (xs ++ ys) ≡ times id xs + times id ys
 times-append id [] ys = omega arith
 times-append id (x ∷ xs) ys = omega (arith, times-append id xs ys)
 
-pub times-self : (x : ℕ) → times x (x ∷ []) ≡ 1
-times-self x = let one : eqb x x ≡ true = grind (arith, nat_tests) in rw one refl
-
--- a number of the list stands in it
-pub times_at : (xs : List ℕ) (k : ℕ) → k < length xs → 0 < times (get_or xs k 0) xs
-times_at [] k lt = absurd (omega (arith, lt))
-times_at (x ∷ xs) zero lt = grind (arith, nat_tests)
-times_at (x ∷ xs) (suc k) lt = omega (arith, times_at xs k (omega (arith, lt)))
-
 pub times-le-length : (q : ℕ) (xs : List ℕ) → times q xs ≤ length xs
 times-le-length q [] = omega arith
 times-le-length q (x ∷ xs) = grind (arith, nat_tests, times-le-length q xs)
-
-pub take_one : (xs : List ℕ) (k : ℕ) (x : ℕ) → k < length xs → x ≡ get_or xs k x → take (k + 1) xs ≡ take k xs ++ x ∷ []
-take_one xs k x lt is = rw add-one (take-suc xs k x lt ∙ ap (λ y. take k xs ++ y ∷ []) (sym is))
 
 module _ {X : Type 0} where
   -- one place changes, and the owners there by those that go and come
@@ -71,12 +59,12 @@ module _ {X : Type 0} where
   leaving_last place x lt e = grind (arith, nat_tests)
 
 -- a list so far, and one more
-module _ (ids : List ℕ) (k id : ℕ) (lt : k < length ids) (is : id ≡ get_or ids k id) where
-  pub times_next : (q : ℕ) → times q (take (k + 1) ids) ≡ times q (take k ids) + times q (id ∷ [])
-  times_next q = ap (times q) (take_one ids k id lt is) ∙ times-append q (take k ids) (id ∷ [])
+module _ (ids : List ℕ) (k : ℕ) (lt : k < length ids) where
+  pub times_next : (q : ℕ) → times q (take (k + 1) ids) ≡ times q (take k ids) + times q (get_or ids k 0 ∷ [])
+  times_next q = grind (arith, take_more ids k 0 lt, times-append)
 
-  pub one_more : times id (take k ids) + 1 ≤ times id ids
-  one_more = omega (arith, times_next id, times-self id, ap (times id) (take-append-drop (k + 1) ids), times-append id (take (k + 1) ids) (drop (k + 1) ids))
+  pub one_more : times (get_or ids k 0) (take k ids) + 1 ≤ times (get_or ids k 0) ids
+  one_more = grind (arith, nat_tests, times_next (get_or ids k 0), take-append-drop (k + 1) ids, times-append (get_or ids k 0) (take (k + 1) ids) (drop (k + 1) ids))
 
 pub times-ids : (q : ℕ) (xs ys : List Slot) → times q (ids_of (xs ++ ys)) ≡ times q (ids_of xs) + times q (ids_of ys)
 times-ids q xs ys = grind (arith, map-append, times-append)
@@ -89,18 +77,14 @@ module _ (slots : List Slot) (k : ℕ) (slot : Slot) (lt : k < length slots) (is
   ids_more : ids_of (take (k + 1) slots) ≡ ids_of (take k slots) ++ slot.block ∷ []
   ids_more = map_more (λ (x : Slot). x.block) slots k slot lt ∙ ap (λ (x : Slot). ids_of (take k slots) ++ x.block ∷ []) (sym is)
 
-  slot_next : (q : ℕ) → times q (ids_of (take (k + 1) slots)) ≡ times q (ids_of (take k slots)) + times q (slot.block ∷ [])
+  pub slot_next : (q : ℕ) → times q (ids_of (take (k + 1) slots)) ≡ times q (ids_of (take k slots)) + times q (slot.block ∷ [])
   slot_next q = grind (arith, ids_more, times-append)
 
   slot_more : times slot.block (ids_of (take k slots)) + 1 ≤ times slot.block (ids_of slots)
-  slot_more = omega (arith, slot_next slot.block, times-self slot.block, times-split slot.block (k + 1) slots)
+  slot_more = grind (arith, nat_tests, slot_next slot.block, times-split slot.block (k + 1) slots)
 
   pub slot_named : 0 < times slot.block (ids_of slots)
   slot_named = omega (arith, slot_more)
-
-  -- what holds of the blocks so far and of the next one
-  pub each_more : (P : ℕ → Type 0) → ((id : ℕ) → 0 < times id (ids_of (take k slots)) → P id) → P slot.block → (id : ℕ) → 0 < times id (ids_of (take (k + 1) slots)) → P id
-  each_more P each here id some = grind (arith, nat_tests, slot_next)
 
   module _ {X : Type 0} {s0 s : List (Option (Counted X))} where
     pub release_next : Covers s0 (ids_of slots) → Trades s0 s (ids_of (take k slots)) [] → 0 < owners s slot.block

@@ -38,7 +38,7 @@ pub fn lay_slots(slots: &mut Vec<Slot>, first: usize, writer: VersionNo, ids: &[
 }
 
 /// Lays the leaves over the leaves from the first on. There is room for those that go past the end.
-#[tactic(auto, using(crate::proofs::Steps::lay_leaves_steps))]
+#[tactic(auto, using(crate::proofs::Cited::length_take_le, crate::proofs::Cited::take_more, crate::proofs::Cited::laid_more))]
 pub fn lay_leaves(leaves: &mut Vec<u32>, first: usize, ids: &[u32])
     requires within { first ≤ length leaves.old.items }
     requires room { first + length ids.now ≤ vec_capacity leaves.old }

@@ -69,7 +69,7 @@ impl BlockMap {
     }
 
     /// The version that last wrote the slot, and the slot's block; none past the last slot.
-    #[tactic(auto, using(crate::proofs::Steps::cell_steps))]
+    #[tactic(auto, using(crate::proofs::Cited::slice_get_past, crate::proofs::Cited::slots_count))]
     pub fn cell(&self, store: &BlockStore, slot: usize) -> Option<(VersionNo, BlockId)>
         requires { LivesIn store.now self.now }
         ensures cell { result ≡ option_map (λ cell. (cell.writer, cell.block))
@@ -84,7 +84,7 @@ impl BlockMap {
     }
 
     /// A slot of the map.
-    #[tactic(auto, using(crate::proofs::Steps::slot_at_steps))]
+    #[tactic(auto, using(crate::proofs::Cited::length_take, crate::proofs::Cited::length_drop, crate::proofs::Cited::slots_count, crate::proofs::Cited::slot_found, crate::proofs::Cited::slots_of, crate::proofs::Cited::slot_owned, crate::proofs::Cited::its_bytes))]
     fn slot_at(&self, store: &BlockStore, slot: usize) -> Slot
         requires lives { LivesIn store.now self.now }
         requires within { slot < slot_count self.now.size }
@@ -128,7 +128,7 @@ impl BlockMap {
     }
 
     /// The bytes of the content.
-    #[tactic(auto, using(crate::proofs::Steps::content_steps))]
+    #[tactic(auto, using(crate::proofs::Cited::content_of, crate::proofs::Cited::shown, crate::proofs::Cited::take_add, crate::proofs::Cited::take_all, crate::proofs::Cited::length_content))]
     pub fn content(&self, store: &BlockStore) -> Result<Vec<u8>, NoMemory>
         requires { LivesIn store.now self.now }
         ensures bytes { IfOk result (λ bytes. bytes.items ≡ content_of (shown store.now self.now)) }
@@ -151,7 +151,7 @@ impl BlockMap {
     }
 
     /// The bytes of a slot; none past the last.
-    #[tactic(auto, using(crate::proofs::Steps::bytes_at_steps))]
+    #[tactic(auto, using(crate::proofs::Cited::drop_all, crate::proofs::Cited::length_content, crate::proofs::Cited::take_nil))]
     fn bytes_at<'a>(&self, store: &'a BlockStore, slot: usize) -> &'a [u8]
         requires { LivesIn store.now self.now }
         ensures { result.now ≡ slot_bytes (content_of (shown store.now self.now)) slot }

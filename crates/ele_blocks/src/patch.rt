@@ -47,7 +47,7 @@ pub fn patched(
 }
 
 /// The bytes cut into pieces of 512, of which the last may be shorter.
-#[tactic(auto, using(crate::proofs::Steps::pieces_steps), unfolding(crate::specs::Pieces::pieces))]
+#[tactic(auto, using(crate::proofs::Cited::chunk_next, crate::proofs::Cited::append_assoc, crate::proofs::Cited::length_drop), unfolding(crate::specs::Pieces::pieces))]
 pub fn pieces(alloc: Global, all: &[u8]) -> Result<Vec<ByteList>, NoMemory>
     ensures { IfOk result (λ cut. cut.items ≡ pieces all.now) }
 {

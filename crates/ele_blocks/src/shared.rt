@@ -74,7 +74,7 @@ impl<T: Drop> Shared<T> {
     }
 
     /// Keeps a value with one owner where there is room.
-    #[tactic(auto, using(crate::proofs::Steps::put_reserved_steps))]
+    #[tactic(auto, using(crate::proofs::Cited::room_in, crate::proofs::Cited::HasRoomFor, crate::proofs::Cited::owned_new, crate::proofs::Cited::place_counted, crate::proofs::Cited::sets_new, crate::proofs::Cited::room_after))]
     pub fn put_reserved(&mut self, value: T) -> usize
         requires { HasRoomFor self.old 1 }
         ensures vacant { place_at self.old.slots result ≡ None }
@@ -106,7 +106,7 @@ impl<T: Drop> Shared<T> {
     }
 
     /// The value under the number.
-    #[tactic(auto, using(crate::proofs::Steps::get_steps))]
+    #[tactic(auto, using(crate::proofs::Cited::place_counted, crate::proofs::Cited::value_counted))]
     pub fn get(&self, id: usize) -> &T
         requires { 0 < owners self.now.slots id }
         ensures { value_at self.now.slots id ≡ Some result.now }
@@ -115,7 +115,7 @@ impl<T: Drop> Shared<T> {
     }
 
     /// How many own the value under the number.
-    #[tactic(auto, using(crate::proofs::Steps::owners_steps))]
+    #[tactic(auto, using(crate::proofs::Cited::is_counted, crate::proofs::Cited::get_or_default_zero, crate::proofs::Cited::owners_counted))]
     pub fn owners(&self, id: usize) -> u64
         requires { 0 < owners self.now.slots id }
         ensures { result ≡ owners self.now.slots id }
@@ -124,7 +124,7 @@ impl<T: Drop> Shared<T> {
     }
 
     /// How many values stand.
-    #[tactic(auto, using(crate::proofs::Steps::len_steps))]
+    #[tactic(auto, using(crate::proofs::Cited::count_counted))]
     pub fn len(&self) -> usize
         ensures count { result ≡ count_by is_some self.now.slots }
         ensures owned { Owned self.now.slots }
@@ -133,7 +133,7 @@ impl<T: Drop> Shared<T> {
     }
 
     /// Gives the value one owner more.
-    #[tactic(auto, using(crate::proofs::Steps::share_steps))]
+    #[tactic(auto, using(crate::proofs::Cited::is_counted, crate::proofs::Cited::get_or_default_zero, crate::proofs::Cited::owners_counted, crate::proofs::Cited::owned_more, crate::proofs::Cited::sets_more))]
     pub fn share(&mut self, id: usize)
         requires there { 0 < owners self.old.slots id }
         requires few { owners self.old.slots id < 2 ^ 63 }
@@ -143,6 +143,7 @@ impl<T: Drop> Shared<T> {
     }
 
     /// Takes one owner from the value, which leaves with its last and is then answered.
+    #[tactic(auto, using(crate::proofs::Cited::is_counted, crate::proofs::Cited::get_or_default_zero, crate::proofs::Cited::owned_less, crate::proofs::Cited::owners_counted, crate::proofs::Cited::none_leaves))]
     pub fn release(&mut self, id: usize) -> Option<T>
         requires { 0 < owners self.old.slots id }
         ensures sets { Sets self.old.slots self.new.slots id

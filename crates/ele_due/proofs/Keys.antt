@@ -24,22 +24,12 @@ key_exact a b alike =
     (exact_pairs nat_cmp inner exact_unsigned (exact_pairs nat_cmp nat_cmp exact_unsigned exact_unsigned)
     (a.ripe, (a.file, a.number)) (b.ripe, (b.file, b.number)) alike)
 
-is_equal : (o : Ordering) → is_eq o ≡ true → o ≡ Equal
-is_equal Less h = cc
-is_equal Equal h = refl
-is_equal Greater h = cc
-
 -- keys that are one are equal
 pub is_key-same : (a b : Key) → is_key a b ≡ true → a ≡ b
-is_key-same a b h = key_exact a b (is_equal (key_cmp a b) h)
-
-turned : (o : Ordering) → is_eq (ordering_reverse o) ≡ is_eq o
-turned Less = refl
-turned Equal = refl
-turned Greater = refl
+is_key-same a b h = grind (arith, key_exact a b)
 
 pub is_key-sym : (a b : Key) → is_key a b ≡ is_key b a
-is_key-sym a b = ap is_eq (key_total.antisymm a b) ∙ turned (key_cmp b a)
+is_key-sym a b = grind (arith, key_total.antisymm a b)
 
 -- the lower key is ripe no later
 pub less-ripe : (a b : Key) → key_cmp a b ≡ Less → a.ripe ≤ b.ripe

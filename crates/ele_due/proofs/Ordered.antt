@@ -24,25 +24,14 @@ all-weaker P Q (x ∷ xs) weaker all = (weaker x all.0, all-weaker P Q xs weaker
 
 all-insert_key : (P : Key → Type 0) (key : Key) (keys : List Key) → P key → AllByRecursion P keys → AllByRecursion P (insert_key key_cmp keys key)
 all-insert_key P key [] one all = (one, tt)
-all-insert_key P key (x ∷ xs) one all =
-    elim (key_cmp key x) as (λ o. AllByRecursion P (match_ordering o (key ∷ x ∷ xs) (x ∷ xs) (x ∷ insert_key key_cmp xs key))) [
-      | Less ↦ (one, all)
-      | Equal ↦ all
-      | Greater ↦ (all.0, all-insert_key P key xs one all.1)
-    ]
+all-insert_key P key (x ∷ xs) one all = grind (arith, all-insert_key P key xs one all.1)
 
 -- a key inserted keeps the order
 pub IsInOrder-insert_key : (key : Key) (keys : List Key) → IsInOrder keys → IsInOrder (insert_key key_cmp keys key)
 unfolding IsStrictlySortedBy
 IsInOrder-insert_key key [] up = (tt, tt)
 IsInOrder-insert_key key (x ∷ xs) up =
-    elim (key_cmp key x) as (λ o. key_cmp key x ≡ o → IsInOrder (match_ordering o (key ∷ x ∷ xs) (x ∷ xs) (x ∷ insert_key key_cmp xs key))) [
-      | Less ↦ λ e. ((e, all-weaker (λ y. key_cmp x y ≡ Less) (λ y. key_cmp key y ≡ Less) xs (λ y h. key_total.trans key x y e h) up.0), up)
-      | Equal ↦ λ e. up
-      | Greater ↦ λ e.
-          let below : key_cmp x key ≡ Less = key_total.antisymm x key ∙ ap ordering_reverse e in
-          (all-insert_key (λ y. key_cmp x y ≡ Less) key xs below up.0, IsInOrder-insert_key key xs up.1)
-    ] refl
+    grind (arith, key_total.antisymm x key, all-insert_key (λ y. key_cmp x y ≡ Less) key xs, IsInOrder-insert_key key xs up.1, λ (e : key_cmp key x ≡ Less). all-weaker (λ y. key_cmp x y ≡ Less) (λ y. key_cmp key y ≡ Less) xs (λ y h. key_total.trans key x y e h) up.0)
 
 IsInOrder-fold : (keys sorted : List Key) → IsInOrder sorted → IsInOrder (fold (insert_key key_cmp) sorted keys)
 IsInOrder-fold [] sorted up = up
@@ -67,9 +56,7 @@ none_ripe moment [] all = refl
 none_ripe moment (k ∷ ks) all = rw all.0 (none_ripe moment ks all.1)
 
 still_unripe : (moment : ℕ) (x y : Key) → is_ripe_by moment x ≡ false → key_cmp x y ≡ Less → is_ripe_by moment y ≡ false
-still_unripe moment x y late below = let le = less-ripe x y below in after x.ripe y.ripe moment le late where
-  after : (a b m : ℕ) → a ≤ b → nat_le a m ≡ false → nat_le b m ≡ false
-  after a b m le late = grind (arith, nat_tests)
+still_unripe moment x y late below = grind (arith, nat_tests, less-ripe x y below)
 
 -- after the first key that is not ripe, none is
 unripe_after : (moment : ℕ) (x : Key) (xs : List Key) → IsInOrder (x ∷ xs) → is_ripe_by moment x ≡ false → filter (is_ripe_by moment) xs ≡ []
@@ -77,19 +64,11 @@ unfolding IsStrictlySortedBy
 unripe_after moment x xs up late =
     none_ripe moment xs (all-weaker (λ y. key_cmp x y ≡ Less) (λ y. is_ripe_by moment y ≡ false) xs (λ y. still_unripe moment x y late) up.0)
 
-IsInOrder-rest : (x : Key) (xs : List Key) → IsInOrder (x ∷ xs) → IsInOrder xs
-unfolding IsStrictlySortedBy
-IsInOrder-rest x xs up = up.1
-
 -- in a list in order, the ripe keys stand in front
 pub ripe_in_front : (moment : ℕ) (keys : List Key) → IsInOrder keys → take_while (is_ripe_by moment) keys ≡ filter (is_ripe_by moment) keys
+unfolding IsStrictlySortedBy
 ripe_in_front moment [] up = refl
-ripe_in_front moment (x ∷ xs) up =
-    take_while-cons (is_ripe_by moment) x xs
-    ∙ elim (is_ripe_by moment x) as (λ b. is_ripe_by moment x ≡ b → cond b (x ∷ take_while (is_ripe_by moment) xs) [] ≡ cond b (x ∷ filter (is_ripe_by moment) xs) (filter (is_ripe_by moment) xs)) [
-      | true ↦ λ e. ap (λ l. x ∷ l) (ripe_in_front moment xs (IsInOrder-rest x xs up))
-      | false ↦ λ e. sym (unripe_after moment x xs up e)
-    ] refl
+ripe_in_front moment (x ∷ xs) up = grind (arith, take_while-cons (is_ripe_by moment) x xs, ripe_in_front moment xs up.1, unripe_after moment x xs up)
 
 -- the ripe keys of a list in order are whatever list has just them, in order
 pub ripe_in_order : (moment : ℕ) (queue keys : List Key) → IsInOrder queue → ((k : Key) → has_key k keys ≡ (is_ripe_by moment k && has_key k queue)) → filter (is_ripe_by moment) queue ≡ in_order keys
@@ -100,8 +79,4 @@ ripe_in_order moment queue keys up same =
 -- the first of the ripe keys is the first of all, if it is ripe
 pub first_ripe : (moment : ℕ) (keys : List Key) → IsInOrder keys → slice_get (filter (is_ripe_by moment) keys) 0 ≡ option_and_then (λ k. cond (is_ripe_by moment k) (Some k) None) (slice_get keys 0)
 first_ripe moment [] up = refl
-first_ripe moment (x ∷ xs) up =
-    elim (is_ripe_by moment x) as (λ b. is_ripe_by moment x ≡ b → slice_get (cond b (x ∷ filter (is_ripe_by moment) xs) (filter (is_ripe_by moment) xs)) 0 ≡ cond b (Some x) None) [
-      | true ↦ λ e. refl
-      | false ↦ λ e. ap (λ (l : List Key). slice_get l 0) (unripe_after moment x xs up e)
-    ] refl
+first_ripe moment (x ∷ xs) up = grind (arith, unripe_after moment x xs up)

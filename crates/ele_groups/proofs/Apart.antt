@@ -17,15 +17,9 @@ gone k (x ∷ xs) apart = grind (arith, nat_tests, is_same, none_equal, gone k x
 pub others : (k t : ℕ) (xs : List ℕ) → (k == t) ≡ false → list_any (λ x. x == t) (remove_first (λ x. x == k) xs) ≡ list_any (λ x. x == t) xs
 others k t xs apart = grind (arith, nat_tests, list_any-remove_first, is_same, found_passes)
 
-both_ways : (b : Bool) → b ≡ (b && true)
-both_ways x0 = grind (arith, nat_tests)
-
-nothing : (b : Bool) → false ≡ (b && false)
-nothing x0 = grind (arith, nat_tests)
-
 -- the others stay
 pub any_removed : (k t : ℕ) (xs : List ℕ) → AreApart xs → list_any (λ x. x == t) (remove_first (λ x. x == k) xs) ≡ (list_any (λ x. x == t) xs && not (k == t))
-any_removed k t xs apart = grind (arith, nat_tests, list_any, remove_first, not, is_same, gone, nothing, others, both_ways)
+any_removed k t xs apart = grind (arith, nat_tests, is_same, gone, others)
 
 kept_all : (k : ℕ) (xs : List ℕ) → AllByRecursion (λ y. (k == y) ≡ false) xs → xs ≡ filter (λ x. not (x == k)) xs
 kept_all k [] all = refl

@@ -5,12 +5,6 @@ use Rattle.ele_groups.proofs.Words.{GroupRow, changed_at}
 pub same_serial : (a b : ℕ) → is_at (nat_cmp a) b ≡ true → a ≡ b
 same_serial a b h = grind (arith, nat_tests)
 
-apart_above : (a b : ℕ) → a < b → is_at (nat_cmp b) a ≡ false
-apart_above a b h = grind (arith, nat_tests)
-
-turn : (a b : ℕ) → is_at (nat_cmp a) b ≡ false → is_at (nat_cmp b) a ≡ false
-turn a b h = grind (arith, nat_tests)
-
 abbrev pub Entries : Type 0
 Entries = List (ℕ × GroupRow)
 
@@ -36,7 +30,7 @@ module _ (serial : ℕ) (f : GroupRow → GroupRow) where
   -- and elsewhere nothing
   pub changed_elsewhere : (es : Entries) (t : ℕ) → is_at (nat_cmp serial) t ≡ false → value_at (changed_at serial f es) t ≡ value_at es t
   changed_elsewhere [] t apart = refl
-  changed_elsewhere (e ∷ es) t apart = grind (arith, nat_tests, is_at, same_serial, turn, changed_elsewhere es t apart)
+  changed_elsewhere (e ∷ es) t apart = grind (arith, nat_tests, same_serial, changed_elsewhere es t apart)
 
   -- a test of the rows that sees no change
   pub changed_same : (p : GroupRow → Bool) → ((row : GroupRow) → p (f row) ≡ p row) → (es : Entries) (t : ℕ) → option_map_or p (value_at (changed_at serial f es) t) false ≡ option_map_or p (value_at es t) false
@@ -51,7 +45,7 @@ pub record IsOne (p : GroupRow → Bool) (es : Entries) (serial : ℕ) (v : Grou
 module _ (p : GroupRow → Bool) where
   pub one : (es : Entries) (s : ℕ) (v : GroupRow) → IsRising es → value_at es s ≡ Some v → p v ≡ true → ((t : ℕ) (w : GroupRow) → value_at es t ≡ Some w → p w ≡ true → t ≡ s) → IsOne p es s v
   one [] s v up there passes only = absurd cc
-  one (e ∷ es) s v up there passes only = grind (arith, nat_tests, at_itself e.0, apart_above e.0 s, only e.0 e.1, head_or_later e es s v up there, after_head e es, one es s v (rest_rises e es up))
+  one (e ∷ es) s v up there passes only = grind (arith, nat_tests, at_itself e.0, only e.0 e.1, head_or_later e es s v up there, after_head e es, one es s v (rest_rises e es up))
 
   -- some row passes
   pub any_value : (es : Entries) (s : ℕ) → option_map_or p (value_at es s) false ≡ true → list_any p (values_of es) ≡ true

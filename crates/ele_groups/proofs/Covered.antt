@@ -23,15 +23,9 @@ module _ (except : Option Except) (file closed : ℕ) (ended : Option ℕ) (es :
   abbrev pub AreLeft : List (ℕ × ℕ × ℕ) → Type 0
   AreLeft xs = (s : ℕ) → s < 2 ^ 64 → option_map_or passes (value_at es s) false ≡ true → list_any (λ e. e.2 == s) xs ≡ true
 
-  first_of : (o : Option GroupRow) → option_map_or passes o false ≡ true → has_file file o ≡ true
-  first_of x0 h = grind (arith, nat_tests)
-
-  second_of : (o : Option GroupRow) → option_map_or passes o false ≡ true → option_map_or covering o false ≡ true
-  second_of x0 h = grind (arith, nat_tests, second_holds)
-
   -- one of them was looked at and doesn't cover
   pub left_next : (e : ℕ × ℕ × ℕ) (xs : List (ℕ × ℕ × ℕ)) → AreLeft (e ∷ xs) → option_map_or covering (value_at es e.2) false ≡ false → AreLeft xs
-  left_next e xs left fails = grind (arith, nat_tests, list_any, false≢true, second_of, value_at)
+  left_next e xs left fails = grind (arith, nat_tests, list_any, false≢true, second_holds, value_at)
 
   -- none is left
   pub none_left : IsStrictlySortedBy nat_cmp (keys_of es) → AllByRecursion (λ s. s < 2 ^ 64) (keys_of es) → AreLeft [] → list_any passes (values_of es) ≡ false
@@ -40,7 +34,7 @@ module _ (except : Option Except) (file closed : ℕ) (ended : Option ℕ) (es :
   module _ (places : Index ℕ) (placed : ArePlaced (value_at es) places) where
     -- at first all entries of the file are
     pub all_left : (xs : List (ℕ × ℕ × ℕ)) → ((r s : ℕ) → r < 2 ^ 64 → s < 2 ^ 64 → has nat_cmp places file r s ≡ true → list_any (λ e. e.2 == s) xs ≡ true) → AreLeft xs
-    all_left xs all = λ s fits holds. all s s fits fits (stands (value_at es) places placed file s ∙ first_of (value_at es s) holds)
+    all_left xs all = λ s fits holds. all s s fits fits (stands (value_at es) places placed file s ∙ grind (arith, nat_tests))
 
     -- one of them covers
     pub covers_at_one : (e : ℕ × ℕ × ℕ) → has nat_cmp places file e.1 e.2 ≡ true → option_map_or covering (value_at es e.2) false ≡ true → list_any passes (values_of es) ≡ true

@@ -7,10 +7,6 @@ pub none_any : (p : GroupRow → Bool) (rows : List GroupRow) → AllByRecursion
 none_any p [] all = refl
 none_any p (row ∷ rows) all = rw all.0 (none_any p rows all.1)
 
--- a value that passes a test is there
-pub there : (p : GroupRow → Bool) (o : Option GroupRow) → option_map_or p o false ≡ true → (row : GroupRow) × (o ≡ Some row) × (p row ≡ true)
-there p x1 h = grind (arith, nat_tests, false≢true)
-
 -- no groups
 pub kept_empty : (es : Entries) (number : List ℕ → Option ℕ) (places : Index ℕ) → es ≡ [] → ((n : List ℕ) → number n ≡ None) → ((q r s : ℕ) → has nat_cmp places q r s ≡ false) → AreKept es 0 number places
 unfolding IsStrictlySortedBy
@@ -24,18 +20,15 @@ kept_empty es number places is none empty = record {
 
 module _ (es : Entries) (made : ℕ) (number : List ℕ → Option ℕ) (places : Index ℕ) (kept : AreKept es made number places) where
   module _ (name : List ℕ) where
-    only : (s : ℕ) → number name ≡ Some s → (t : ℕ) (w : GroupRow) → value_at es t ≡ Some w → is_group name w ≡ true → t ≡ s
-    only s is t w at passes = grind (arith, nat_tests, kept.named.known name t)
-
     pub named_row : (s : ℕ) → number name ≡ Some s → (row : GroupRow) × (value_at es s ≡ Some row) × (is_group name row ≡ true)
-    named_row s is = there (is_group name) (value_at es s) (kept.named.numbered name s is)
+    named_row s is = grind (arith, nat_tests, false≢true, kept.named.numbered name s is)
 
     pub the_one : (s : ℕ) (row : GroupRow) → number name ≡ Some s → value_at es s ≡ Some row → IsOne (is_group name) es s row
-    the_one s row is at = one (is_group name) es s row kept.rising at (rw at at (kept.named.numbered name s is)) (only s is)
+    the_one s row is at = one (is_group name) es s row kept.rising at (rw at at (kept.named.numbered name s is)) (λ t w there passes. grind (arith, nat_tests, kept.named.known name t))
 
     -- the group is found
     pub found_at : (s : ℕ) → number name ≡ Some s → find (is_group name) (values_of es) ≡ value_at es s
-    found_at s is = let row = named_row s is in (the_one s row.0 is row.1).found ∙ sym row.1
+    found_at s is = let row = named_row s is in grind (arith, row, the_one s row.0 is row.1)
 
     -- changed
     pub changed_rows : (s : ℕ) (f : GroupRow → GroupRow) → number name ≡ Some s → values_of (changed_at s f es) ≡ update_first (is_group name) f (values_of es)
@@ -121,7 +114,7 @@ module _ (es : Entries) (made : ℕ) (number : List ℕ → Option ℕ) (places 
       fits = kept.fits;
       named = record {
         numbered = λ n t h. grind (arith, nat_tests, at t, changed n, same_serial s t, named_row name s own, bytes_eq-Decides, kept.named.numbered n t);
-        known = λ n t h. grind (arith, nat_tests, at t, changed n, same_serial s t, same_name n, kept.named.known n t);
+        known = λ n t h. grind (arith, nat_tests, at t, changed n, same_serial s t, (bytes_eq-Decides name n).0, kept.named.known n t);
       };
       placed = placed;
     }

@@ -6,12 +6,6 @@ use Rattle.ele_groups.proofs.Changed.{changed_here, changed_elsewhere}
 entry : (file s q r t : ℕ) → is_entry nat_cmp file s s q r t ≡ ((s == t) && (r == t) && (file == q))
 entry file s q r t = grind (arith, nat_tests)
 
-pub itself : (t : ℕ) → (t == t) ≡ true
-itself t = grind (arith, nat_tests)
-
-apart_at : (s t : ℕ) → (s == t) ≡ false → is_at (nat_cmp s) t ≡ false
-apart_at s t h = grind (arith, nat_tests)
-
 pub second_holds : (a b : Bool) → (a && b) ≡ true → b ≡ true
 second_holds x0 b h = grind (arith, nat_tests, false≢true)
 
@@ -28,7 +22,7 @@ pub placed_come : (file s : ℕ) (row : GroupRow) (old new : Index ℕ) (es : Li
     → ((q r t : ℕ) → has nat_cmp new q r t ≡ cond (is_entry nat_cmp file s s q r t) true (has nat_cmp old q r t))
     → ArePlaced (value_at (changed_at s (adds file) es)) new
 placed_come file s row old new es placed there changed =
-    placed_changed true file s old new (value_at es) (value_at (changed_at s (adds file) es)) placed (λ t apart. changed_elsewhere s (adds file) es t (apart_at s t apart)) changed
+    placed_changed true file s old new (value_at es) (value_at (changed_at s (adds file) es)) placed (λ t apart. changed_elsewhere s (adds file) es t (grind (arith, nat_tests))) changed
     (λ q. grind (arith, nat_tests, changed_here s (adds file) es, there, list_any-append (λ member. member == q) row.members (file ∷ [])))
 
 -- or loses it
@@ -37,7 +31,7 @@ pub placed_gone : (file s : ℕ) (f : GroupRow → GroupRow) (old new : Index �
     → ((q : ℕ) → has_file q (value_at (changed_at s f es) s) ≡ (has_file q (value_at es s) && not (file == q)))
     → ArePlaced (value_at (changed_at s f es)) new
 placed_gone file s f old new es placed changed members =
-    placed_changed false file s old new (value_at es) (value_at (changed_at s f es)) placed (λ t apart. changed_elsewhere s f es t (apart_at s t apart)) changed (λ q. grind (arith, nat_tests, members q))
+    placed_changed false file s old new (value_at es) (value_at (changed_at s f es)) placed (λ t apart. changed_elsewhere s f es t (grind (arith, nat_tests))) changed (λ q. grind (arith, nat_tests, members q))
 
 -- places that say the same
 pub placed_same : (old new : Index ℕ) (at : ℕ → Option GroupRow) → ArePlaced at old → ((q r t : ℕ) → has nat_cmp new q r t ≡ has nat_cmp old q r t) → ArePlaced at new
@@ -67,7 +61,7 @@ left_more file s files first mid new left changed q r t = grind (arith, nat_test
 module _ (at : ℕ → Option GroupRow) (places : Index ℕ) (placed : ArePlaced at places) (file : ℕ) where
   -- a group of the file stands at its place
   pub stands : (s : ℕ) → has nat_cmp places file s s ≡ has_file file (at s)
-  stands s = placed.each file s s ∙ rw (itself s) refl
+  stands s = grind (arith, nat_tests, placed.each file s s)
 
   -- the last entry is that of the last group
   pub last_is : (bound r s : ℕ) → bound < 2 ^ 64 → IsLastOf (has nat_cmp places file) bound r s → IsLastBy at file bound s

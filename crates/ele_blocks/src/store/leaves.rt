@@ -45,7 +45,7 @@ fn reserve_leaves(leaves: &mut Shared<Leaf>, more: usize) -> Result<(), NoMemory
 }
 
 /// Keeps the slots as new leaves where there is room, and adds their numbers.
-#[tactic(auto, using(crate::proofs::Steps::put_leaves_steps))]
+#[tactic(auto, using(crate::proofs::Cited::chunk_next, crate::proofs::Cited::puts_more, crate::proofs::Cited::length_drop, crate::proofs::Cited::length_append, crate::proofs::Cited::backing_put))]
 fn put_leaves(leaves: &mut Shared<Leaf>, ids: &mut Vec<u32>, slots: &[Slot])
     requires room { HasRoomFor leaves.old (leaf_count (length slots.now)) }
     requires room_ids { leaf_count (length slots.now) ≤ vec_capacity ids.old }

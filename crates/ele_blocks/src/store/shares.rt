@@ -38,7 +38,7 @@ pub fn share_all(blocks: &mut Shared<ByteList>, slots: &[Slot])
 
 impl BlockStore {
     /// Whether no block of the slots has so many owners that more could not be counted.
-    #[tactic(auto, using(crate::proofs::Lemmas::slot_named, crate::proofs::Lemmas::each_more, crate::proofs::Lemmas::owners_at))]
+    #[tactic(auto, using(crate::proofs::Cited::slot_named, crate::proofs::Cited::slot_next))]
     pub(crate) fn can_share(&self, slots: &[Slot]) -> bool
         requires { AreThere self.now slots.now }
         ensures { IsTrue result

@@ -1,15 +1,13 @@
 use Rattle.ele_groups.proofs.Basics.{nat_tests, arith, ◌∙◌, sym, ap, is_at, set_value, nat_cmp, set_value_same}
 use Rattle.ele_groups.proofs.Words.{adds}
-use Rattle.ele_groups.proofs.Changed.{written, unwritten, ok_then, err_then}
+use Rattle.ele_groups.proofs.Changed.{written, unwritten}
 use Rattle.ele_groups.proofs.rows.add_to.Goals as goal
 
 pub returns-in-Some-clause-ok : goal.returns-in-Some-clause-ok
-returns-in-Some-clause-ok c = let es = c.args.rows.now.entries in
-    ok_then c.add.result c.add.ensures.ok (λ is. (c.get_mut.follows.holds c.add.new.self).0 ∙ ap (set_value (is_at (nat_cmp c.args.serial)) es) is
-    ∙ written c.args.serial (adds c.args.file) es c.in-Some.group.now (sym c.in-Some.ensures.value))
+returns-in-Some-clause-ok c = grind (arith, c.get_mut.follows.holds c.add.new.self, c.add.ensures.ok, written c.args.serial (adds c.args.file) c.args.rows.now.entries c.in-Some.group.now, c.in-Some.ensures.value)
 
 pub returns-in-Some-clause-err : goal.returns-in-Some-clause-err
-returns-in-Some-clause-err c = grind (arith, nat_tests, err_then, is_at, set_value_same)
+returns-in-Some-clause-err c = grind (arith, nat_tests, is_at, set_value_same)
 
 pub returns-in-None-clause-ok : goal.returns-in-None-clause-ok
 returns-in-None-clause-ok c = rw c.get_mut.follows.holds-at-none (unwritten c.args.serial (adds c.args.file) c.args.rows.now.entries (sym c.in-None.ensures.value))

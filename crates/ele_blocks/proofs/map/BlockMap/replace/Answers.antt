@@ -3,18 +3,7 @@ use Rattle.ele_blocks.proofs.map.BlockMap.replace.Goals as goal
 use Rattle.ele_blocks.proofs.map.BlockMap.replace.Goals.{After-reserve, After-deref, After-deref-3, After-truncate, After-drop-now}
 
 run : (c : After-reserve) → IsRun c.args.store.now c.args.self.now c.args.change.staged.items c.args.change.first c.args.change.kept c.run_of-run.result.from c.run_of-run.result.met c.run_of-run.result.to
-run c =
-    let size = ap (λ (m : Layout). m.size) c.self.view_is in
-    record {
-      lives = c.requires.lives;
-      le = c.requires.within;
-      kept_le = c.requires.kept;
-      behind = λ lt. c.requires.behind (omega (arith, lt));
-      is_from = c.run_of-run.ensures.from;
-      is_met = omega (arith, c.self.invariant.leaves, size);
-      to_end = λ end. omega (arith, c.run_of-run.ensures.to_end end, c.self.invariant.leaves, size);
-      to_met = c.run_of-run.ensures.to_met;
-    }
+run c = grind (arith, c.self.view_is, c.self.invariant, c.run_of-run.ensures, c.requires)
 
 its_leaves : (c : After-deref) → c.reserve.new.self.items ≡ c.args.self.now.leaves
 its_leaves c = c.in_ok-reserve.ensures.items ∙ ap (λ (m : Layout). m.leaves) c.self.view_is
@@ -27,22 +16,14 @@ came : (c : After-deref-3) → c.reserve.new.self.items ≡ c.args.self.now.leav
 came c same = rw (c.deref-2.ensures.value, same, its_window (goal.at.lay_leaves-requires-clause-room c).After-truncate same) at c.in_ok-now.ensures.renewed
 
 pub slots_in-requires : goal.slots_in-requires
-slots_in-requires c = let at = goal.at.slots_in-requires c in
-    rw (c.deref.ensures.value, its_leaves at.After-deref) (part_owned (run at.After-reserve) c.run_of-run.result.from (c.run_of-run.result.met - c.run_of-run.result.from))
+slots_in-requires c = let at = goal.at.slots_in-requires c in grind (arith, c.deref.ensures.value, its_leaves at.After-deref, part_owned (run at.After-reserve) c.run_of-run.result.from (c.run_of-run.result.met - c.run_of-run.result.from))
 
 pub renew-requires : goal.renew-requires
 renew-requires c =
     let at = goal.at.renew-requires c in
     let h = run at.After-reserve in
     let same = its_leaves at.After-deref in
-    let is = its_window at.After-truncate same in
-    record {
-      owned = rw (c.deref-2.ensures.value, same) (part_owned h c.run_of-run.result.from (c.run_of-run.result.to - c.run_of-run.result.from));
-      backed = rw (c.deref-2.ensures.value, same) (part_backed h c.run_of-run.result.from (c.run_of-run.result.to - c.run_of-run.result.from));
-      there = rw is (window_there h);
-      within = omega (arith, inside h, ap length is, c.truncate.new.self.ok);
-      small = search rules;
-    }
+    grind (arith, c.deref-2.ensures.value, same, its_window at.After-truncate same, part_owned h c.run_of-run.result.from (c.run_of-run.result.to - c.run_of-run.result.from), part_backed h c.run_of-run.result.from (c.run_of-run.result.to - c.run_of-run.result.from), window_there h, inside h, c.truncate.new.self.ok)
 
 pub lay_leaves-requires-clause-room : goal.lay_leaves-requires-clause-room
 lay_leaves-requires-clause-room c = grind (arith, now_room, came, its_leaves)
@@ -56,10 +37,7 @@ invariant_of-self-2 c =
     let h = run at.After-reserve in
     let same = its_leaves at.After-deref in
     let renewed = came at.After-deref-3 same in
-    record {
-      short = c.requires.short;
-      leaves = omega (arith, leaves_new h renewed (record { size = c.args.size; leaves = c.truncate-2.new.self.items }) (new_leaves at.After-drop-now same ∙ placed h renewed), c.requires.count, c.args.change.staged.ok);
-    }
+    grind (arith, c.requires.short, leaves_new h renewed (record { size = c.args.size; leaves = c.truncate-2.new.self.items }) (new_leaves at.After-drop-now same ∙ placed h renewed), c.requires.count, c.args.change.staged.ok)
 
 pub returns-clause-replaced : goal.returns-clause-replaced
 returns-clause-replaced c =

@@ -9,12 +9,10 @@ pub invariant_of-self-in-Continue-branch-2 : goal.invariant_of-self-in-Continue-
 invariant_of-self-in-Continue-branch-2 g c = subst Owned (sym (same g c)) c.self.invariant
 
 pub returns-in_ok-resize-clause-room : goal.returns-in_ok-resize-clause-room
-returns-in_ok-resize-clause-room g c =
-    room_of c.reserve.new.self c.resize.new.self.items c.args.more c.in_ok-reserve.ensures.room (omega (arith, c.resize.new.self.ok.0, c.in_ok-resize.ensures.len, c.capacity-capacity.ensures.value))
+returns-in_ok-resize-clause-room g c = grind (arith, room_of c.reserve.new.self c.resize.new.self.items c.args.more, c.resize.new.self.ok.0, c.in_ok-resize.ensures.len, c.capacity-capacity.ensures.value)
 
 pub returns-in_ok-resize-clause-same : goal.returns-in_ok-resize-clause-same
 returns-in_ok-resize-clause-same g c = same g c ∙ ap (λ v. v.slots) c.self.view_is
 
 pub returns-else-len-capacity-clause-room : goal.returns-else-len-capacity-clause-room
-returns-else-len-capacity-clause-room g c =
-    room_of c.reserve.new.self c.self.inside.owners.items c.args.more c.in_ok-reserve.ensures.room (omega (arith, c.self.inside.owners.ok.0, c.if-len-capacity.false, c.len.ensures, c.capacity-capacity.ensures.value))
+returns-else-len-capacity-clause-room g c = grind (arith, room_of c.reserve.new.self c.self.inside.owners.items c.args.more, c.self.inside.owners.ok.0, c.len.ensures, c.capacity-capacity.ensures.value)

@@ -20,12 +20,9 @@ share_all-requires c = grind (arith, front_there, front_few)
 pub share_all-requires-2 : goal.share_all-requires-2
 share_all-requires-2 c =
     let at = (goal.at.share_all-requires-2 c).After-split_at in
-    let behind = back (goal.at.share_all-requires-2 c).After-split_at-2 (its_count at) in
-    let shared = rw (front at) at c.share_all.ensures in
-    record { there = rw behind (back_there (staged at) c.share_all.new.blocks.slots shared); few = rw behind (back_few (staged at) c.share_all.new.blocks.slots shared) }
+    grind (arith, back (goal.at.share_all-requires-2 c).After-split_at-2 (its_count at), front at, back_there (staged at) c.share_all.new.blocks.slots, back_few (staged at) c.share_all.new.blocks.slots, c.share_all.ensures)
 
 pub returns-clause-laid : goal.returns-clause-laid
 returns-clause-laid c =
     let at = (goal.at.returns-clause-laid c).After-split_at in
-    let at2 = (goal.at.returns-clause-laid c).After-split_at-2 in
-    is_laid (staged at) c.share_all.new.blocks.slots (rw (front at) at c.share_all.ensures) c.share_all-2.new.blocks.slots c.args.stage.writer c.args.stage.staged.items c.lay_slots.new.slots.items (rw (back at2 (its_count at)) at c.share_all-2.ensures) c.in_ok-fresh.ensures.values (rw (c.deref-3.ensures.value, c.in_ok-reserve.ensures.items) at c.lay_slots.ensures)
+    grind (arith, is_laid (staged at) c.share_all.new.blocks.slots, front at, back (goal.at.returns-clause-laid c).After-split_at-2 (its_count at), c.share_all.ensures, c.share_all-2.ensures, c.in_ok-fresh.ensures.values, c.deref-3.ensures.value, c.in_ok-reserve.ensures.items, c.lay_slots.ensures)

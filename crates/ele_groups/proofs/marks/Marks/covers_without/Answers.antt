@@ -7,10 +7,10 @@ returns-then-lies_between c = rw (← c.seconds-left.ensures.value, ← c.second
     (first_answer _ _ _ _ (rw c.min.ensures at c.lies_between.ensures) c.if-lies_between.true (until_without c.seconds-left.result c.seconds-closed.result c.args.self.now c.seconds-ended.result))
 
 pub returns-else-lies_between : goal.returns-else-lies_between
-returns-else-lies_between c = grind (arith, nat_tests, second_answer, until_without c.seconds-left.result c.seconds-closed.result c.args.self.now c.seconds-ended.result)
+returns-else-lies_between c = grind (arith, nat_tests, until_without c.seconds-left.result c.seconds-closed.result c.args.self.now c.seconds-ended.result)
 
 pub returns-then-lies_between-2 : goal.returns-then-lies_between-2
-returns-then-lies_between-2 c = grind (arith, nat_tests, first_answer, from_without c.seconds-left.result c.seconds-closed.result c.args.self.now)
+returns-then-lies_between-2 c = grind (arith, nat_tests, from_without c.seconds-left.result c.seconds-closed.result c.args.self.now)
 
 pub returns-else-lies_between-2 : goal.returns-else-lies_between-2
-returns-else-lies_between-2 c = grind (arith, nat_tests, second_answer, from_without)
+returns-else-lies_between-2 c = grind (arith, nat_tests, from_without c.seconds-left.result c.seconds-closed.result c.args.self.now)
