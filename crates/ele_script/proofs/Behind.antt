@@ -1,18 +1,11 @@
 -- Single words and their faults.
-use Rattle.std.proofs.Common.{◌≡◌, ℕ, List, [], ◌∷◌, true, false, refl, ap, ◌⊎◌, inl, inr, Option, Some, None}
-use Rattle.std.specs.Prelude.{IfSome, OnOk}
-use Rattle.std.specs.Option.{ok_or}
-use Rattle.ele_moment.specs.Number.{SpellsNumber}
-use Rattle.ele_script.specs.declared.fault.LineFault.{LineFault}
-use Rattle.ele_script.specs.declared.fault.LineFault.TheVariants.{NoMemory, Syntax}
+use Rattle.ele_script.proofs.Basics.{◌≡◌, ℕ, List, [], ◌∷◌, true, false, refl, ap, ◌⊎◌, inl, inr, Option, Some, None, OnOk, ok_or}
+use Rattle.ele_script.proofs.Prelude.{SpellsNumber, LineFault, NoMemory, Syntax, IsTaggedFault, fault_of_path, IsTaggedWordFault, begins_path, of_handle, NumberWord, PathWord, SourceWord, PolicyWord, IsOfKind, IsWordFault, IsRefused}
+use Rattle.ele_script.proofs.Prelude.{bad_word}
+use Rattle.std.specs.Prelude.{IfSome}
 use Rattle.ele_time_path.specs.declared.fault.PathFault.{PathFault}
 use Rattle.ele_time_path.specs.declared.fault.PathFault.TheVariants as path
-use Rattle.ele_time_path.specs.TaggedFault.{IsTaggedFault}
-use Rattle.ele_script.specs.LineFault.{fault_of_path}
-use Rattle.ele_script.specs.PathWord.{IsTaggedWordFault, begins_path, of_handle}
-use Rattle.ele_script.specs.Value.{NumberWord, PathWord, SourceWord, PolicyWord, Number}
-use Rattle.ele_script.specs.FirstFault.{IsOfKind, IsWordFault}
-use Rattle.ele_script.specs.Reads.{IsRefused, bad_word}
+use Rattle.ele_script.specs.Value.{Number}
 
 -- a word of which a number was read is one of a number
 pub number_kind : (word : List ℕ) (read : Option ℕ) → IfSome read (SpellsNumber word) → OnOk (ok_or read Syntax) (IsOfKind NumberWord word)

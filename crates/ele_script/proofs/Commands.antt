@@ -1,18 +1,9 @@
 -- The command in front of words.
-use Rattle.std.proofs.lemmas.Bool.Decides.{nat_tests}
-use Rattle.std.proofs.Common.{arith, ◌≡◌, ℕ, List, [], ◌∷◌, ◌++◌, length, map, refl, sym, ap, ◌∙◌, Option, Some, None, IfSome, Result, Ok, Err, ◌⊎◌, inl, inr, subst}
-use Rattle.std.specs.Prelude.{IfOk, IfErr}
-use Rattle.std.specs.Cmp.Lexicographic.{bytes_decides}
-use Rattle.ele_script.specs.declared.command.Command.{Command}
-use Rattle.ele_script.specs.declared.fault.LineFault.{LineFault}
-use Rattle.ele_script.specs.declared.fault.LineFault.TheVariants.{Syntax, NoMemory}
-use Rattle.ele_script.specs.declared.reading.Line.{Line}
-use Rattle.ele_script.specs.Spells.{SpellsWords}
-use Rattle.ele_script.specs.Command.{command_words, kinds_behind}
-use Rattle.ele_script.specs.Memory.{TakesMemory}
-use Rattle.ele_script.specs.CommandOf.{behind, command_of, commands, find_command, named}
-use Rattle.ele_script.specs.Reads.{IsFaultOfKinds, miscounted, bad_word, ReadsLine}
-use Rattle.ele_script.specs.FirstFault.{FitsCommand, IsFaultOfWords, no_command, of_word}
+use Rattle.ele_script.proofs.Basics.{nat_tests, arith, ◌≡◌, ℕ, List, [], ◌∷◌, ◌++◌, length, map, refl, sym, ap, ◌∙◌, Option, Some, None, Result, Ok, Err, ◌⊎◌, inl, inr, subst, IfOk, IfErr, bytes_decides}
+use Rattle.ele_script.proofs.Prelude.{Command, LineFault, Syntax, NoMemory, Line, SpellsWords, command_words, kinds_behind, TakesMemory, behind, commands, find_command, named, IsFaultOfKinds, miscounted, bad_word, ReadsLine, FitsCommand}
+use Rattle.ele_script.proofs.Prelude.{IsFaultOfWords, no_command, of_word}
+use Rattle.std.proofs.Common.{IfSome}
+use Rattle.ele_script.specs.CommandOf.{command_of}
 
 -- a command's words, and what stands behind them
 command_of-words : (command : Command) (arguments : List (List ℕ)) → command_of (command_words command ++ arguments) ≡ Some (command, arguments)

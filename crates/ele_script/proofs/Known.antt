@@ -1,11 +1,7 @@
 -- What a writer holds and what is held for it, piece after piece.
-use Rattle.std.proofs.Common.{◌≡◌, ℕ, List, [], ◌++◌, Option, Result, Ok, Err, refl, append_assoc}
-use Rattle.std.proofs.lemmas.List.{append-nil}
-use Rattle.std.proofs.KnownBytes.{Appends-nil, Appends-trans}
-use Rattle.std.specs.Io.KnownBytes.{Appends}
-use Rattle.std.specs.Prelude.{OnOk, OnErr, IsErr}
+use Rattle.ele_script.proofs.Basics.{◌≡◌, ℕ, List, [], ◌++◌, Option, Result, Ok, Err, refl, append_assoc, append-nil, Appends-nil, Appends-trans, Appends, OnOk, OnErr, IsErr}
+use Rattle.ele_script.proofs.Prelude.{Outlet, outlet, Takes, TakesFront, Puts, HandsOver}
 use Rattle.ele_script.specs.Front.{AppendsFront}
-use Rattle.ele_script.specs.Outlet.{Outlet, outlet, Takes, TakesFront, Puts, HandsOver}
 
 pub takes_nil : (a : Outlet) → Takes a a []
 takes_nil a = record { sent = []; parts = append-nil a.held; written = Appends-nil a.known }

@@ -1,20 +1,12 @@
 -- What is true of lines: each asks for one thing, or has a first fault, and not both.
-use Rattle.std.proofs.lemmas.Bool.Decides.{nat_tests}
-use Rattle.std.proofs.Common.{◌≡◌, ◌≢◌, ℕ, ◌≤◌, true, true≢false, List, [], ◌∷◌, length, refl, sym, ap, ◌∙◌, arith, ◌⊎◌, inl, inr, Option, Some, None, Result, Ok, Err}
-use Rattle.std.specs.Prelude.{IfOk, IfErr}
+use Rattle.ele_script.proofs.Basics.{nat_tests, ◌≡◌, ◌≢◌, ℕ, ◌≤◌, true, true≢false, List, [], ◌∷◌, length, refl, sym, ap, ◌∙◌, arith, ◌⊎◌, inl, inr, Option, Some, None, Result, Ok, Err, IfOk, IfErr}
+use Rattle.ele_script.proofs.Prelude.{Line, Command, LineFault, NoMemory, WordKind, Value, Moment, Name, Path, Timed, Bytes, word_kind, kinds_behind, words_of, is_worded, line_parts, SpellsValues, SpellsWords, SpellsLine, Spells}
+use Rattle.ele_script.proofs.Prelude.{IsFirstWordFault, IsFaultOfWords, no_command, of_word, IsFirstFault, too_long, not_worded, of_words, IsEventFault, of_line, no_event}
 use Rattle.ele_world.specs.declared.event.Event.{Event}
 use Rattle.ele_world.specs.declared.event.Event.TheVariants as event
-use Rattle.ele_script.specs.declared.reading.Line.{Line}
 use Rattle.ele_script.specs.declared.reading.Line.TheVariants as asks
-use Rattle.ele_script.specs.declared.command.Command.{Command}
 use Rattle.ele_script.specs.declared.command.Command.TheVariants.{Clock, Tick, MakeDir, RemoveDir, Create, Link, Unlink, Rename, Undelete, OpenWrite, OpenRead, Write, Truncate, Close, Revert, SetPolicy, Default, GroupMake, GroupDrop, GroupAdd, GroupRemove, Mark, Unmark, Clean, Read, Stat, Versions, ListNames, Restorable, Due, Usage, Groups, Pass}
-use Rattle.ele_script.specs.declared.fault.LineFault.{LineFault}
-use Rattle.ele_script.specs.declared.fault.LineFault.TheVariants.{NoMemory}
-use Rattle.ele_script.specs.Value.{WordKind, Value, Number, Moment, Name, Path, Tagged, Timed, Source, Bytes, Policy, word_kind}
-use Rattle.ele_script.specs.Command.{kinds_behind}
-use Rattle.ele_script.specs.Words.{words_of, is_worded}
-use Rattle.ele_script.specs.Spells.{line_parts, SpellsValues, SpellsWords, SpellsLine, Spells}
-use Rattle.ele_script.specs.FirstFault.{IsFirstWordFault, IsFaultOfWords, no_command, of_word, IsFirstFault, too_long, not_worded, of_words, IsEventFault, of_line, no_event}
+use Rattle.ele_script.specs.Value.{Number, Tagged, Source, Policy}
 use Rattle.ele_script.specs.EventOf.{event_of}
 use Rattle.ele_script.proofs.Commands.{one_fit}
 use Rattle.ele_script.proofs.Values.{one_value, faultless_word, one_word_fault}

@@ -1,3 +1,5 @@
+mod Prelude
+mod Basics
 pub mod Known
 pub mod Lines
 pub mod Commands

@@ -1,17 +1,10 @@
 -- The bytes of a line, word after word.
-use Rattle.std.proofs.lemmas.Bool.Decides.{nat_tests}
-use Rattle.std.proofs.Common.{arith, ◌==◌, true, ◌≡◌, ℕ, ◌+◌, ◌<◌, List, [], ◌∷◌, ◌++◌, length, map, take, drop, get_or, ◌/◌, ◌%◌, refl, sym, ap, ◌∙◌, append_assoc}
-use Rattle.std.specs.Prelude.{codes}
-use Rattle.std.specs.Fmt.{decimal}
-use Rattle.std.proofs.lemmas.Bool.{eqb-true}
-use Rattle.std.proofs.lemmas.Fmt.{decimal_digit}
-use Rattle.std.proofs.lemmas.List.{drop_more, append-nil, take-append-drop}
-use Rattle.ele_policy.specs.Ladder.{Rung}
+use Rattle.ele_script.proofs.Basics.{nat_tests, arith, ◌==◌, true, ◌≡◌, ℕ, ◌+◌, ◌<◌, List, [], ◌∷◌, ◌++◌, length, map, take, drop, get_or, ◌/◌, ◌%◌, refl, sym, ap, ◌∙◌, append_assoc, codes, decimal, eqb-true, decimal_digit, drop_more}
+use Rattle.ele_script.proofs.Basics.{append-nil, take-append-drop, join_with_byte, flat_map, IsFirstAndRest, encode_lower, lower_digits}
+use Rattle.ele_script.proofs.Prelude.{Rung, line_text, pair_word, bytes_text, kind_words, usage_line, usage_lines, numbers_word, group_line}
 use Rattle.ele_usage.specs.declared.usage.Usage.{Usage}
 use Rattle.ele_world.specs.declared.rows.GroupRow.{GroupRow}
-use Rattle.std.specs.List.{join_with_byte, flat_map, IsFirstAndRest}
-use Rattle.hex.specs.Hex.{encode_with, encode_lower, lower_digits}
-use Rattle.ele_script.specs.Printed.{line_text, pair_word, bytes_text, kind_words, usage_line, usage_lines, numbers_word, group_line}
+use Rattle.hex.specs.Hex.{encode_with}
 
 -- what follows a word of a line
 abbrev pub behind_word : List (List ℕ) → List ℕ

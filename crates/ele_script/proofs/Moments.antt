@@ -1,12 +1,10 @@
 -- Words of numbers and moments: each one number or one moment.
-use Rattle.std.proofs.Common.{◌≡◌, ℕ, ◌≤◌, List, length, sym, ap, ◌∙◌, arith, inl, inr, Option, Some}
-use Rattle.std.proofs.lemmas.Fmt.{decimal_injective}
+use Rattle.ele_script.proofs.Basics.{◌≡◌, ℕ, ◌≤◌, List, length, sym, ap, ◌∙◌, arith, inl, inr, Option, Some, decimal_injective, nat_tests}
+use Rattle.ele_script.proofs.Prelude.{SpellsNumber, SpellsMoment, SpellsTimestamp, IsTimestamp, IsWorth, timestamp_text}
 use Rattle.std.proofs.lemmas.Int.{ints}
-use Rattle.std.proofs.lemmas.Bool.Decides.{nat_tests}
 use Rattle.ele_moment.specs.declared.timestamp.Fields.{Fields}
-use Rattle.ele_moment.specs.Number.{SpellsNumber}
 use Rattle.ele_moment.specs.ReadFields.{fields_of}
-use Rattle.ele_moment.specs.Spelled.{SpellsMoment, SpellsTimestamp, IsTimestamp, IsWorth, timestamp_text, last_moment}
+use Rattle.ele_moment.specs.Spelled.{last_moment}
 use Rattle.ele_moment.proofs.Timestamps.{fields_again}
 use Rattle.ele_moment.proofs.Moments.{short_number}
 

@@ -1,22 +1,11 @@
 -- Words of pairs: each one pair, cut at its slash.
-use Rattle.std.proofs.lemmas.Bool.Decides.{nat_tests}
-use Rattle.std.proofs.Common.{◌≡◌, ℕ, zero, suc, ◌+◌, ◌<◌, ◌≤◌, ◌==◌, Bool, false, List, [], ◌∷◌, ◌++◌, length, take, drop, refl, sym, ap, ◌∙◌, arith, length-append, Option, Some, None, IfNone, get_or}
+use Rattle.ele_script.proofs.Basics.{nat_tests, ◌≡◌, ℕ, zero, suc, ◌+◌, ◌<◌, ◌≤◌, ◌==◌, Bool, false, List, [], ◌∷◌, ◌++◌, length, take, drop, refl, sym, ap, ◌∙◌, arith, length-append, Option, Some, None, IfNone, get_or, AllZip, position}
+use Rattle.ele_script.proofs.Basics.{position_or_len, slice_split, decimal, AllDigits, digits_value, eqb-true, lt-ltb, digits_decimal, drop_more, take-append-drop, position-Some, All-nil, All-cons, All-head, All-tail}
+use Rattle.ele_script.proofs.Prelude.{SpellsNumber, Rung, Keeps, SpellsPair, parts_of}
 use Rattle.std.specs.Prelude.{All}
-use Rattle.std.specs.List.{AllZip, position, position_or_len, slice_split}
 use Rattle.std.specs.Char.{digit_value}
-use Rattle.std.specs.Fmt.{decimal}
-use Rattle.std.specs.Str.Parse.{AllDigits, digits_value}
-use Rattle.std.proofs.lemmas.Bool.{eqb-true, lt-ltb}
-use Rattle.std.proofs.lemmas.Fmt.{digits_decimal}
 use Rattle.std.proofs.Math.Seq.{take-append_seam, drop-append_seam}
-use Rattle.std.proofs.lemmas.List.{drop_more, take-append-drop}
-use Rattle.std.proofs.lemmas.List.Quantifiers.{position-Some}
-use Rattle.std.proofs.lemmas.List.Elements.{All-nil, All-cons, All-head, All-tail}
 use Rattle.std.proofs.lemmas.Str.Parse.{IsNumeralModel}
-use Rattle.ele_moment.specs.Number.{SpellsNumber}
-use Rattle.ele_policy.specs.Ladder.{Rung}
-use Rattle.ele_script.specs.KeptPairs.{Keeps}
-use Rattle.ele_script.specs.PolicyWord.{SpellsPair, parts_of}
 use Rattle.ele_script.proofs.Moments.{one_number}
 
 abbrev pub is_slash : ℕ → Bool

@@ -1,27 +1,16 @@
 -- Words of paths with tags or at a moment, and of sources: each one value, or one fault.
-use Rattle.std.proofs.lemmas.Bool.Decides.{nat_tests}
-use Rattle.std.proofs.Common.{◌≡◌, ◌==◌, ℕ, Bool, true, false, true≢false, List, [], ◌∷◌, ◌++◌, refl, sym, ap, subst, ◌∙◌, arith, Option}
-use Rattle.std.specs.Str.Parse.{AllDigits}
-use Rattle.std.proofs.lemmas.Bool.{eqb-true}
-use Rattle.std.proofs.lemmas.Fmt.{decimal_is_IsNumeral}
-use Rattle.ele_moment.specs.Number.{SpellsNumber}
+use Rattle.ele_script.proofs.Basics.{nat_tests, ◌≡◌, ◌==◌, ℕ, Bool, true, false, true≢false, List, [], ◌∷◌, ◌++◌, refl, sym, ap, subst, ◌∙◌, arith, Option, AllDigits, eqb-true, decimal_is_IsNumeral}
+use Rattle.ele_script.proofs.Prelude.{SpellsNumber, path_part, tag_part, IsCut, cut_of, one_path, tagged_at, LineFault, fault_of_path, IsTaggedWordFault, begins_path, IsSourceFault, SpellsSource}
 use Rattle.ele_time_path.specs.declared.path_at.PathAt.{PathAt}
 use Rattle.ele_time_path.specs.declared.tagged.Tag.{Tag}
 use Rattle.ele_time_path.specs.declared.tagged.Tag.TheVariants.{Now, At, Number}
 use Rattle.ele_time_path.specs.declared.tagged.TaggedPath.{TaggedPath}
 use Rattle.ele_time_path.specs.Tagged.{SpellsTag, SpellsTaggedPath}
-use Rattle.ele_time_path.specs.TaggedFault.{path_part, tag_part}
 use Rattle.ele_time_path.specs.PathAt.{tag_at, SpellsPathAt}
-use Rattle.ele_time_path.proofs.Spelled.{IsCut, cut_of, one_path}
 use Rattle.ele_time_path.proofs.Tags.{spelled_parts}
 use Rattle.ele_time_path.proofs.TaggedFaults.{tagged_faultless, one_tagged_fault}
-use Rattle.ele_time_path.proofs.PathsAt.{tagged_at}
 use Rattle.ele_world.specs.declared.event.Source.{Source}
 use Rattle.ele_world.specs.declared.event.Source.TheVariants.{Tagged, Of}
-use Rattle.ele_script.specs.declared.fault.LineFault.{LineFault}
-use Rattle.ele_script.specs.LineFault.{fault_of_path}
-use Rattle.ele_script.specs.PathWord.{IsTaggedWordFault, begins_path, IsSourceFault}
-use Rattle.ele_script.specs.Value.{SpellsSource}
 use Rattle.ele_script.proofs.Moments.{one_number, one_moment}
 
 one_tag : (text : List ℕ) (a b : Tag) → SpellsTag text a → SpellsTag text b → a ≡ b

@@ -1,21 +1,14 @@
 -- Words of policies: each one policy, or at one fault.
-use Rattle.std.proofs.lemmas.Bool.Decides.{nat_tests}
-use Rattle.std.proofs.Common.{◌≡◌, ◌⊎◌, ℕ, ◌==◌, cond, false, true≢false, List, [], ◌∷◌, ◌++◌, refl, sym, ap, subst, ◌∙◌, arith, Option, Some, None, inl, inr}
-use Rattle.std.specs.Prelude.{codes}
+use Rattle.ele_script.proofs.Basics.{nat_tests, ◌≡◌, ◌⊎◌, ℕ, ◌==◌, cond, false, true≢false, List, [], ◌∷◌, ◌++◌, refl, sym, ap, subst, ◌∙◌, arith, Option, Some, None, inl, inr, codes, bytes_decides, take_all}
+use Rattle.ele_script.proofs.Prelude.{One, Safe, Landmarks, Rung, IsLadder, LineFault, BadLadder, Syntax, KeepsLadder, IsSafeWord, IsLadderWord, SpellsPolicy, IsPolicyForm, one, all, safe, standard, ladder, IsPolicyFault, formless}
+use Rattle.ele_script.proofs.Prelude.{no_interval, no_ladder}
 use Rattle.std.specs.Str.{bytes_eq}
-use Rattle.std.specs.Cmp.Lexicographic.{bytes_decides}
-use Rattle.std.proofs.lemmas.List.{take_all}
 use Rattle.ele_policy.specs.declared.policy.Kind.{Kind}
 use Rattle.ele_policy.specs.declared.policy.Kind.TheVariants as kind
 use Rattle.ele_policy.specs.declared.policy.Policy.{Policy}
-use Rattle.ele_policy.specs.declared.policy.Policy.TheVariants.{One, All, Safe, Landmarks}
+use Rattle.ele_policy.specs.declared.policy.Policy.TheVariants.{All}
 use Rattle.ele_policy.specs.Interval.{IsInterval}
-use Rattle.ele_policy.specs.Ladder.{Rung, IsLadder}
 use Rattle.ele_policy.specs.Policy.{kind_of}
-use Rattle.ele_script.specs.declared.fault.LineFault.{LineFault}
-use Rattle.ele_script.specs.declared.fault.LineFault.TheVariants.{BadLadder, Syntax}
-use Rattle.ele_script.specs.KeptPairs.{KeepsLadder}
-use Rattle.ele_script.specs.PolicyWord.{IsSafeWord, IsLadderWord, SpellsPolicy, IsPolicyForm, one, all, safe, standard, ladder, IsPolicyFault, formless, no_interval, no_ladder}
 use Rattle.ele_script.proofs.Moments.{one_number}
 use Rattle.ele_script.proofs.PairWords.{one_pairs}
 

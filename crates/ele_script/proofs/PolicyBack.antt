@@ -1,18 +1,10 @@
 -- The words by which policies are printed spell them.
-use Rattle.std.proofs.Common.{◌≡◌, ℕ, ◌<◌, ◌≤◌, ◌==◌, ◌&&◌, Bool, true, false, List, [], ◌∷◌, length, map, refl, ap, ◌∙◌, arith, inr, length-append}
+use Rattle.ele_script.proofs.Basics.{◌≡◌, ℕ, ◌<◌, ◌≤◌, ◌==◌, ◌&&◌, Bool, true, false, List, [], ◌∷◌, length, map, refl, ap, ◌∙◌, arith, inr, length-append, AllZip, join_with_byte, slice_split, decimal, nat_tests, All-append, All-cons}
+use Rattle.ele_script.proofs.Basics.{slice_split_none, slice_split_at}
+use Rattle.ele_script.proofs.Prelude.{SpellsNumber, One, KeepAll, Safe, Landmarks, Rung, IsLadder, climbs, ground, is_above, SpellsPair, SpellsPairs, pair_word}
 use Rattle.std.specs.Prelude.{All}
-use Rattle.std.specs.List.{AllZip, join_with_byte, slice_split}
-use Rattle.std.specs.Fmt.{decimal}
-use Rattle.std.proofs.lemmas.Bool.Decides.{nat_tests}
-use Rattle.std.proofs.lemmas.List.Elements.{All-append, All-cons}
-use Rattle.std.proofs.lemmas.List.Splits.{slice_split_none, slice_split_at}
 use Rattle.ele_moment.specs.Last.{last_moment}
-use Rattle.ele_moment.specs.Number.{SpellsNumber}
-use Rattle.ele_policy.specs.declared.policy.Policy.TheVariants.{One, All as KeepAll, Safe, Landmarks}
-use Rattle.ele_policy.specs.Ladder.{Rung, IsLadder, climbs, ground, is_above}
 use Rattle.ele_script.specs.PolicyBack.{PolicyBack}
-use Rattle.ele_script.specs.PolicyWord.{SpellsPair, SpellsPairs}
-use Rattle.ele_script.specs.Printed.{pair_word}
 use Rattle.ele_script.proofs.PairWords.{number_unmarked, parts_are}
 
 -- a number up to the last moment is spelled by its digits

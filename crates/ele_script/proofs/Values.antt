@@ -1,22 +1,12 @@
 -- Words and what they stand for: each one value of a kind.
-use Rattle.std.proofs.lemmas.Bool.Decides.{nat_tests}
-use Rattle.std.proofs.Common.{arith, ◌≡◌, ℕ, List, refl, sym, ap, subst, ◌∙◌, Option, Some, None, Ok, Err, Result}
-use Rattle.std.specs.Prelude.{codes, IfErr}
-use Rattle.std.specs.Option.{ok_or}
+use Rattle.ele_script.proofs.Basics.{nat_tests, arith, ◌≡◌, ℕ, List, refl, sym, ap, subst, ◌∙◌, Option, Some, None, Ok, Err, Result, codes, IfErr, ok_or, decode_of, option_map}
+use Rattle.ele_script.proofs.Prelude.{SpellsMoment, one_path, spelled_faultless, at_faultless, one_at_fault, LineFault, BadMoment, WordKind, NumberWord, MomentWord, NameWord, PathWord, TaggedWord, TimedWord, SourceWord, BytesWord}
+use Rattle.ele_script.proofs.Prelude.{PolicyWord, Value, Moment, Name, Path, Timed, Bytes, word_kind, SpellsBytes, SpellsValue, fault_of_path, fault_of_path_at, IsOfKind, IsWordFault}
 use Rattle.std.specs.Result.{result_ok}
-use Rattle.ele_moment.specs.Spelled.{SpellsMoment}
-use Rattle.hex.specs.Hex.{decode_of}
-use Rattle.std.specs.Option.{option_map}
-use Rattle.ele_time_path.proofs.Spelled.{one_path, spelled_faultless}
-use Rattle.ele_time_path.proofs.PathsAt.{at_faultless, one_at_fault}
 use Rattle.ele_script.proofs.Moments.{one_number, one_moment}
 use Rattle.ele_script.proofs.PathWords.{one_tagged, one_timed, one_source, faultless_tagged, faultless_source, one_tagged_word, one_source_fault}
-use Rattle.ele_script.specs.declared.fault.LineFault.{LineFault}
-use Rattle.ele_script.specs.declared.fault.LineFault.TheVariants.{BadMoment}
 use Rattle.ele_script.proofs.Policies.{one_policy, faultless_policy, one_policy_fault}
-use Rattle.ele_script.specs.Value.{WordKind, NumberWord, MomentWord, NameWord, PathWord, TaggedWord, TimedWord, SourceWord, BytesWord, PolicyWord, Value, Number, Moment, Name, Path, Tagged, Timed, Source, Bytes, Policy, word_kind, SpellsBytes, SpellsValue}
-use Rattle.ele_script.specs.LineFault.{fault_of_path, fault_of_path_at}
-use Rattle.ele_script.specs.FirstFault.{IsOfKind, IsWordFault}
+use Rattle.ele_script.specs.Value.{Number, Tagged, Source, Policy}
 
 some_is : {A : Type 0} {x y : A} → ◌≡◌ {A = Option A} (Some x) (Some y) → x ≡ y
 some_is h = cc

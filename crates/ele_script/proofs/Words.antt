@@ -1,19 +1,10 @@
 -- The words of a line, cut off one after another.
-use Rattle.std.proofs.Common.{◌≡◌, ◌≢◌, ℕ, zero, suc, ◌+◌, ◌<◌, ◌≤◌, ◌==◌, not, cond, ◌&&◌, Bool, true, false, List, [], ◌∷◌, ◌++◌, length, take, drop, get_or, Some, None, refl, sym, ap, ◌∙◌, arith, append_assoc, length-append, map, ◌⊎◌, nat_lt, subst}
-use Rattle.std.specs.List.{list_all, position}
+use Rattle.ele_script.proofs.Basics.{◌≡◌, ◌≢◌, ℕ, zero, suc, ◌+◌, ◌<◌, ◌≤◌, ◌==◌, not, cond, ◌&&◌, Bool, true, false, List, [], ◌∷◌, ◌++◌, length, take, drop, get_or, Some, None, refl, sym, ap, ◌∙◌, arith, append_assoc, length-append, map}
+use Rattle.ele_script.proofs.Basics.{◌⊎◌, nat_lt, subst, list_all, position, ltb-false, lt-ltb, eqb-true, nat_tests, map-append, length-map, length-take-le, drop_more, take-append-drop, position-Some, length-slice_split}
+use Rattle.ele_script.proofs.Prelude.{Command, Syntax, command_words, kinds_behind, IsFaultOfWords, IsFirstFault, words_of, is_plain, is_worded, ends_word}
 use Rattle.std.proofs.Math.Bool.{and-false}
-use Rattle.std.proofs.lemmas.Bool.{ltb-false, lt-ltb, eqb-true}
-use Rattle.std.proofs.lemmas.Bool.Decides.{nat_tests}
-use Rattle.std.proofs.lemmas.List.{map-append, length-map, length-take-le, drop_more, take-append-drop}
 use Rattle.std.proofs.lemmas.List.Folds.{list_all-append, list_all_at}
-use Rattle.std.proofs.lemmas.List.Quantifiers.{position-Some}
-use Rattle.std.proofs.lemmas.List.Splits.{length-slice_split}
 use Rattle.std.proofs.lemmas.List.Sums.{prefix_len_passes}
-use Rattle.ele_script.specs.declared.command.Command.{Command}
-use Rattle.ele_script.specs.declared.fault.LineFault.TheVariants.{Syntax}
-use Rattle.ele_script.specs.Command.{command_words, kinds_behind}
-use Rattle.ele_script.specs.FirstFault.{IsFaultOfWords, IsFirstFault}
-use Rattle.ele_script.specs.Words.{words_of, is_plain, is_worded, ends_word}
 
 abbrev is_space : ℕ → Bool
 is_space byte = byte == 32

@@ -16,11 +16,7 @@ name_passes n (byte ∷ bytes) h is =
 -- names have no fault
 pub names_pass : (n : ℕ) (names rest : List (List ℕ)) → n + length names ≤ 32 → All IsName names → faults_from n (names ++ rest) ≡ faults_from (n + length names) rest
 names_pass n [] rest h are = ap (λ m. faults_from m rest) (omega arith)
-names_pass n (name ∷ names) rest h are =
-    let passes = name_passes n name (omega arith) (All-head IsName name names are) in
-    let more = names_pass (n + 1) names rest (omega arith) (All-tail IsName name names are) in
-    let count : n + 1 + length names ≡ n + length (name ∷ names) = omega arith in
-    ap (λ f. cons_option f (faults_from (n + 1) (names ++ rest))) passes ∙ more ∙ ap (λ m. faults_from m rest) count
+names_pass n (name ∷ names) rest h are = grind (arith, nat_tests, name_passes, All-head, names_pass (n + 1) names rest (omega arith) (All-tail IsName name names are))
 
 plain_unbroken : (byte : ℕ) → is_name_byte byte ≡ true → eqb byte 47 ≡ false
 plain_unbroken byte plain = grind (arith, nat_tests)
@@ -66,4 +62,4 @@ next_fault pieces names n piece fault is front more here bad =
 
 -- one more name behind fewer than 32
 pub one_more : (names : List (List ℕ)) (name : List ℕ) → IsPath names → length names < 32 → IsName name → IsPath (names ++ name ∷ [])
-one_more names name is few more = record { short = omega (arith, length-append names (name ∷ []), few); named = All-push IsName names name is.named more }
+one_more names name is few more = record { short = omega (arith, length-append names (name ∷ [])); named = All-push IsName names name is.named more }

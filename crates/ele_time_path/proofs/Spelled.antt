@@ -1,5 +1,5 @@
 -- What a word spells.
-use Rattle.ele_time_path.proofs.Basics.{◌≡◌, eqb, ℕ, ◌-◌, ◌≤◌, get_or, take, drop, subst, List, [], ◌∷◌, ◌++◌, length, refl, sym, ap, ◌∙◌, arith, ◌⊎◌, inl, inr, Some, None, slice_get, All, append-nil, take_all, All-head, length-slice_split}
+use Rattle.ele_time_path.proofs.Basics.{◌≡◌, eqb, ℕ, ◌-◌, ◌≤◌, get_or, take, drop, subst, List, [], ◌∷◌, ◌++◌, length, refl, sym, ap, ◌∙◌, arith, nat_tests, ◌⊎◌, inl, inr, Some, None, slice_get, All, append-nil, take_all, All-head, length-slice_split}
 use Rattle.ele_time_path.proofs.Words.{IsName, PathFault, NoMemory, IsPath, SpellsPath, path_text, pieces_of, piece_faults, path_fault}
 use Rattle.ele_time_path.proofs.Pieces.{names_pass, pieces_of_text, text_of_pieces, faults_from}
 
@@ -12,10 +12,7 @@ spelled text names is are = record {
 
 -- the same of a word that begins with a slash
 pub spelled_behind : (word : List ℕ) (names : List (List ℕ)) → 2 ≤ length word → get_or word 0 0 ≡ 47 → IsPath names → names ≡ pieces_of (take (length word - 1) (drop 1 word)) → SpellsPath word names
-spelled_behind [] names long slash is are = absurd (omega arith)
-spelled_behind (byte ∷ text) names long slash is are =
-    let whole : take (length (byte ∷ text) - 1) text ≡ text = take_all _ text (omega arith) in
-    subst (λ (first : ℕ). SpellsPath (first ∷ text) names) (sym slash) (spelled text names is (are ∙ ap pieces_of whole))
+spelled_behind word names long slash is are = grind (arith, nat_tests, take_all, spelled (take (length word - 1) (drop 1 word)) names is are)
 
 -- a word that spells a path is a slash alone, or a slash and a text whose pieces are the names
 pub data IsCut (word : List ℕ) (names : List (List ℕ)) : Type 0 where

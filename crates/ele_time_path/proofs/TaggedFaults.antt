@@ -1,5 +1,5 @@
 -- The faults of words of paths with tags: none where one is spelled, and else one.
-use Rattle.ele_time_path.proofs.Basics.{◌≡◌, ℕ, get_or, ◌∷◌, List, sym, ap, subst, ◌∙◌, arith, Some}
+use Rattle.ele_time_path.proofs.Basics.{◌≡◌, ℕ, get_or, ◌∷◌, List, sym, ap, subst, ◌∙◌, arith, nat_tests, Some}
 use Rattle.ele_time_path.proofs.Words.{PathFault, Tag, Now, At, Number, TaggedPath, path_fault, SpellsPath, SpellsTag, SpellsTaggedPath, path_part, tag_part, IsTagFault, IsTaggedFault, of_path, of_tag, no_moment, no_number}
 use Rattle.ele_time_path.proofs.Spelled.{spelled_faultless}
 use Rattle.ele_time_path.proofs.Tags.{spelled_parts}
@@ -29,14 +29,8 @@ one_mark : {P : Type 0} (text rest other : List ℕ) → text ≡ 64 ∷ rest �
 one_mark text rest other at sharp = absurd (omega (arith, ap (λ text. get_or text 0 0) (sym at ∙ sharp)))
 
 one_tag_fault : (text : List ℕ) (a b : PathFault) → IsTagFault text a → IsTagFault text b → a ≡ b
-one_tag_fault text a b (no_moment rest is none x) (no_moment other also nor y) = x ∙ sym y
-one_tag_fault text a b (no_moment rest is none x) (no_number other also nor y) = one_mark text rest other is also
-one_tag_fault text a b (no_number rest is none x) (no_moment other also nor y) = one_mark text other rest also is
-one_tag_fault text a b (no_number rest is none x) (no_number other also nor y) = x ∙ sym y
+one_tag_fault text a b x y = grind (arith, nat_tests)
 
 -- and a word has one fault
 pub one_tagged_fault : (word : List ℕ) (a b : PathFault) → IsTaggedFault word a → IsTaggedFault word b → a ≡ b
-one_tagged_fault word a b (of_path x) (of_path y) = let same = sym x ∙ y in cc
-one_tagged_fault word a b (of_path x) (of_tag names path y) = faultless_path (path_part word) names a path x
-one_tagged_fault word a b (of_tag names path x) (of_path y) = faultless_path (path_part word) names b path y
-one_tagged_fault word a b (of_tag names path x) (of_tag others also y) = one_tag_fault (tag_part word) a b x y
+one_tagged_fault word a b x y = grind (arith, nat_tests, spelled_faultless, one_tag_fault)

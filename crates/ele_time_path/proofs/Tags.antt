@@ -40,12 +40,7 @@ path_unmarked : (text : List ℕ) (names : List (List ℕ)) → SpellsPath text 
 path_unmarked text names h = grind (arith, nat_tests, is_mark, names_unmarked)
 
 tag_marked : (text : List ℕ) (tag : Tag) → SpellsTag text tag → is_tag_text text ≡ true
-tag_marked [] Now h = refl
-tag_marked (mark ∷ text) (At moment) h = rw h.0 refl
-tag_marked (mark ∷ text) (Number number) h = rw h.0 refl
-tag_marked [] (At moment) h = absurd h
-tag_marked [] (Number number) h = absurd h
-tag_marked (mark ∷ text) Now h = absurd h
+tag_marked text tag h = grind (arith, nat_tests)
 
 -- a text without a mark, and that of a tag behind it, are cut between the two
 cut_between : (text tag : List ℕ) → HasNoMark text → is_tag_text tag ≡ true → (text ≡ path_part (text ++ tag)) × (tag ≡ tag_part (text ++ tag))
@@ -93,8 +88,4 @@ at_fault text rest e is only = no_moment rest is (λ m spells. let read = only m
 
 -- what is behind another mark than `@` is behind `#`
 pub number_fault : (text rest : List ℕ) (mark : ℕ) → is_tag_text text ≡ true → text ≡ mark ∷ rest → (mark ≡ 64 → ⊥) → ((n : ℕ) → SpellsNumber rest n → ◌≡◌ {A = Option ℕ} None (Some n)) → IsTagFault text BadPath
-number_fault text rest mark begins is other only =
-    let marked : is_mark mark ≡ true = sym (ap is_tag_text is) ∙ begins in
-    no_number rest (is ∙ ap (λ (b : ℕ). b ∷ rest) (sharp mark marked other)) (λ n spells. let read = only n spells in cc) refl where
-      sharp : (b : ℕ) → is_mark b ≡ true → (b ≡ 64 → ⊥) → b ≡ 35
-      sharp b marked other = grind (arith, nat_tests)
+number_fault text rest mark begins is other only = no_number rest (grind (arith, nat_tests)) (λ n spells. let read = only n spells in cc) refl

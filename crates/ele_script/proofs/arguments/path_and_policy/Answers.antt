@@ -1,4 +1,4 @@
-use Rattle.std.proofs.lemmas.Result.{err_from_is_err_and}
+use Rattle.ele_script.proofs.Basics.{err_from_is_err_and}
 use Rattle.ele_script.proofs.Behind.{refused_policy}
 use Rattle.ele_script.proofs.arguments.path_and_policy.Goals as goal
 

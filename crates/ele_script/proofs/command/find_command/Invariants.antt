@@ -1,5 +1,5 @@
-use Rattle.std.proofs.Common.{◌≡◌, map, drop}
-use Rattle.ele_script.specs.CommandOf.{find_command, name_of}
+use Rattle.ele_script.proofs.Basics.{◌≡◌, map, drop}
+use Rattle.ele_script.proofs.Prelude.{find_command, name_of}
 use Rattle.ele_script.proofs.command.find_command.Given as goal
 
 -- no row so far was found

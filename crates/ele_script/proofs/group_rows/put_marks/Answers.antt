@@ -1,5 +1,4 @@
-use Rattle.std.proofs.Common.{ℕ, ◌∷◌, arith}
-use Rattle.std.specs.Fmt.{decimal}
+use Rattle.ele_script.proofs.Basics.{ℕ, ◌∷◌, arith, decimal}
 use Rattle.ele_script.proofs.Known.{puts_err, sent_more, sent_err}
 use Rattle.ele_script.proofs.Lines.{numbers_are, lines_here}
 use Rattle.ele_script.proofs.group_rows.put_marks.Goals as goal

@@ -1,8 +1,5 @@
-use Rattle.std.proofs.Common.{ℕ, ◌∷◌, drop}
-use Rattle.std.specs.Fmt.{decimal}
-use Rattle.std.specs.List.{flat_map}
-use Rattle.ele_script.specs.Outlet.{outlet}
-use Rattle.ele_script.specs.Printed.{numbers_word}
+use Rattle.ele_script.proofs.Basics.{ℕ, ◌∷◌, drop, decimal, flat_map}
+use Rattle.ele_script.proofs.Prelude.{outlet, numbers_word}
 use Rattle.ele_script.proofs.Known.{HasSent}
 use Rattle.ele_script.proofs.group_rows.put_marks.Given as goal
 

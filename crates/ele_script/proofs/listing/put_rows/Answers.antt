@@ -1,4 +1,4 @@
-use Rattle.std.proofs.Common.{refl, arith}
+use Rattle.ele_script.proofs.Basics.{refl, arith}
 use Rattle.ele_script.proofs.Known.{puts_err, sent_more, sent_err}
 use Rattle.ele_script.proofs.Lines.{lines_here}
 use Rattle.ele_script.proofs.listing.put_rows.Goals as goal

@@ -1,8 +1,5 @@
-use Rattle.std.proofs.Common.{◌∷◌, [], ◌++◌, length, drop}
-use Rattle.std.specs.List.{flat_map}
-use Rattle.std.specs.Fmt.{decimal}
-use Rattle.ele_script.specs.Printed.{line_text}
-use Rattle.ele_script.specs.Outlet.{outlet}
+use Rattle.ele_script.proofs.Basics.{◌∷◌, [], ◌++◌, length, drop, flat_map, decimal}
+use Rattle.ele_script.proofs.Prelude.{line_text, outlet}
 use Rattle.ele_script.proofs.Known.{HasSent}
 use Rattle.ele_script.proofs.listing.put_rows.Given as goal
 

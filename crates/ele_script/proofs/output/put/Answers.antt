@@ -1,6 +1,4 @@
-use Rattle.std.proofs.Common.{◌≡◌, ◌++◌, refl, ap, ◌∙◌, append_assoc, List, ℕ, take, drop}
-use Rattle.std.proofs.KnownBytes.{Appends-trans, Appends-kept}
-use Rattle.std.proofs.lemmas.List.{take-append-drop}
+use Rattle.ele_script.proofs.Basics.{◌≡◌, ◌++◌, refl, ap, ◌∙◌, append_assoc, List, ℕ, take, drop, Appends-trans, Appends-kept, take-append-drop}
 use Rattle.ele_script.proofs.output.put.Goals.{in-Ok, in-Err+else-ne}
 use Rattle.ele_script.proofs.output.put.Goals as goal
 

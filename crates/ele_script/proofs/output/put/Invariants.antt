@@ -1,5 +1,4 @@
-use Rattle.std.proofs.Common.{◌≡◌, ℕ, List, ◌++◌}
-use Rattle.std.specs.Io.KnownBytes.{Appends}
+use Rattle.ele_script.proofs.Basics.{◌≡◌, ℕ, List, ◌++◌, Appends}
 use Rattle.ele_script.proofs.output.put.Given as goal
 
 -- a part is written, and the rest is left

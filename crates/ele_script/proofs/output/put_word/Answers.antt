@@ -1,4 +1,4 @@
-use Rattle.std.proofs.Common.{refl}
+use Rattle.ele_script.proofs.Basics.{refl}
 use Rattle.ele_script.proofs.Known.{puts_then, puts_err}
 use Rattle.ele_script.proofs.output.put_word.Goals as goal
 

@@ -1,4 +1,4 @@
-use Rattle.std.proofs.Common.{Bor, List, ℕ, ◌∷◌, arith}
+use Rattle.ele_script.proofs.Basics.{Bor, List, ℕ, ◌∷◌, arith}
 use Rattle.ele_script.proofs.Known.{puts_err, sent_more, sent_err}
 use Rattle.ele_script.proofs.Lines.{joined_are, here}
 use Rattle.ele_script.proofs.output.put_words.Goals as goal

@@ -1,6 +1,5 @@
-use Rattle.std.proofs.Common.{Bor, List, ℕ, ◌∷◌, drop, map}
-use Rattle.std.specs.List.{join_with_byte, flat_map}
-use Rattle.ele_script.specs.Outlet.{outlet}
+use Rattle.ele_script.proofs.Basics.{Bor, List, ℕ, ◌∷◌, drop, map, join_with_byte, flat_map}
+use Rattle.ele_script.proofs.Prelude.{outlet}
 use Rattle.ele_script.proofs.Known.{HasSent}
 use Rattle.ele_script.proofs.output.put_words.Given as goal
 

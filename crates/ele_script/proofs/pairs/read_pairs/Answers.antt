@@ -1,10 +1,7 @@
-use Rattle.std.proofs.Common.{rules, tests, ◌==◌, ◌∙◌, ◌<◌, length, map, Bor, List, ℕ, sym, subst, arith}
-use Rattle.std.proofs.lemmas.Bool.{eqb-true}
-use Rattle.std.proofs.lemmas.Bool.Decides.{nat_tests}
-use Rattle.std.proofs.lemmas.List.{map-append}
+use Rattle.ele_script.proofs.Basics.{rules, tests, ◌==◌, ◌∙◌, ◌<◌, length, map, Bor, List, ℕ, sym, subst, arith, eqb-true, nat_tests, map-append}
+use Rattle.ele_script.proofs.Prelude.{Keeps}
 use Rattle.std.proofs.lemmas.Iterator.Splits.{YieldsList-from_slice_split}
 use Rattle.std.proofs.lemmas.Iterator.Consumers.{YieldsList-at, YieldsList-turn, YieldsList-end}
-use Rattle.ele_script.specs.KeptPairs.{Keeps}
 use Rattle.ele_script.proofs.PairWords.{all_pairs, parts_are, keeps_more, keeps_first}
 use Rattle.ele_script.proofs.pairs.read_pairs.Goals as goal
 

@@ -1,5 +1,5 @@
-use Rattle.std.proofs.Common.{map}
-use Rattle.ele_script.specs.KeptPairs.{Keeps}
+use Rattle.ele_script.proofs.Basics.{map}
+use Rattle.ele_script.proofs.Prelude.{Keeps}
 use Rattle.ele_script.proofs.pairs.read_pairs.Given as goal
 
 -- the parts so far are pairs, and the first of them are kept

@@ -1,4 +1,4 @@
-use Rattle.std.proofs.Common.{sym, ◌∙◌}
+use Rattle.ele_script.proofs.Basics.{sym, ◌∙◌}
 use Rattle.ele_script.proofs.Lines.{no_bytes}
 use Rattle.ele_script.proofs.putting.put_bytes.Goals as goal
 

@@ -1,5 +1,4 @@
-use Rattle.std.proofs.Common.{sym, ◌∙◌}
-use Rattle.std.proofs.lemmas.List.{append-nil}
+use Rattle.ele_script.proofs.Basics.{sym, ◌∙◌, append-nil}
 use Rattle.ele_script.proofs.Known.{sent_more, sent_err}
 use Rattle.ele_script.proofs.Lines.{digits_split, digits_none}
 use Rattle.ele_script.proofs.putting.put_hexadecimal.Goals as goal

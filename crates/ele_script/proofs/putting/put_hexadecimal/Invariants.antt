@@ -1,6 +1,5 @@
-use Rattle.std.proofs.Common.{length}
-use Rattle.hex.specs.Hex.{encode_lower}
-use Rattle.ele_script.specs.Outlet.{outlet}
+use Rattle.ele_script.proofs.Basics.{length, encode_lower}
+use Rattle.ele_script.proofs.Prelude.{outlet}
 use Rattle.ele_script.proofs.Known.{HasSent}
 use Rattle.ele_script.proofs.putting.put_hexadecimal.Given as goal
 

@@ -1,4 +1,4 @@
-use Rattle.std.proofs.Common.{refl}
+use Rattle.ele_script.proofs.Basics.{refl}
 use Rattle.ele_script.proofs.putting.put_reply.Goals as goal
 
 pub returns-in-Err : goal.returns-in-Err

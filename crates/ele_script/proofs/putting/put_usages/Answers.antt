@@ -1,4 +1,4 @@
-use Rattle.std.proofs.Common.{refl}
+use Rattle.ele_script.proofs.Basics.{refl}
 use Rattle.ele_script.proofs.Known.{puts_then, puts_err}
 use Rattle.ele_script.proofs.Lines.{usages_are}
 use Rattle.ele_script.proofs.putting.put_usages.Goals as goal

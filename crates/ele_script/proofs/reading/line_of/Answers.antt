@@ -1,4 +1,4 @@
-use Rattle.std.proofs.Common.{sym, inr}
+use Rattle.ele_script.proofs.Basics.{sym, inr}
 use Rattle.ele_script.proofs.Commands.{spelled_words, unfit_words, faults_of_words, memory_of_words}
 use Rattle.ele_script.proofs.reading.line_of.Goals as goal
 

@@ -1,5 +1,5 @@
-use Rattle.std.proofs.Common.{sym, ◌∙◌}
-use Rattle.ele_script.specs.Spells.{Spells}
+use Rattle.ele_script.proofs.Basics.{sym, ◌∙◌}
+use Rattle.ele_script.proofs.Prelude.{Spells}
 use Rattle.ele_script.proofs.Laws.{only_read, only_refused, one_event, one_event_fault, event_faultless, event_found, event_refused, event_memory}
 use Rattle.ele_script.proofs.reading.read_event.Goals as goal
 

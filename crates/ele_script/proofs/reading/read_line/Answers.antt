@@ -1,7 +1,5 @@
-use Rattle.std.proofs.Common.{◌∙◌, ap, inr, map, refl, rules, subst, Err}
-use Rattle.ele_script.specs.declared.fault.LineFault.TheVariants.{Syntax}
-use Rattle.ele_script.specs.Spells.{SpellsLine}
-use Rattle.ele_script.specs.Memory.{TakesMemory}
+use Rattle.ele_script.proofs.Basics.{◌∙◌, ap, inr, map, refl, rules, subst, Err}
+use Rattle.ele_script.proofs.Prelude.{Syntax, SpellsLine, TakesMemory}
 use Rattle.ele_script.proofs.Laws.{only_read, only_refused, one_line, one_fault, spelled_faultless, fault_of_line}
 use Rattle.ele_script.proofs.Words.{unfit_line}
 use Rattle.ele_script.proofs.reading.read_line.Goals as goal

@@ -1,5 +1,4 @@
-use Rattle.std.proofs.Common.{Bor, List, ℕ, length, drop, ap, sym, ◌∙◌, arith, inl, inr}
-use Rattle.std.proofs.lemmas.Bool.{eqb-true}
+use Rattle.ele_script.proofs.Basics.{Bor, List, ℕ, length, drop, ap, sym, ◌∙◌, arith, inl, inr, eqb-true}
 use Rattle.ele_script.proofs.Words.{cut_more, cut_last, cut_worded, cut_some, cut_unplain, cut_empty, cut_none, unworded}
 use Rattle.ele_script.proofs.reading.words_in.Goals as goal
 

@@ -1,4 +1,4 @@
-use Rattle.std.proofs.Common.{map, length}
+use Rattle.ele_script.proofs.Basics.{map, length}
 use Rattle.ele_script.proofs.Words.{AreCut}
 use Rattle.ele_script.proofs.reading.words_in.Given as goal
 

@@ -1,7 +1,5 @@
-use Rattle.std.proofs.Common.{refl, append_assoc, map, ◌∷◌, []}
-use Rattle.std.specs.Prelude.{codes}
-use Rattle.std.specs.List.{join_with_byte}
-use Rattle.ele_script.specs.Printed.{pair_word}
+use Rattle.ele_script.proofs.Basics.{refl, append_assoc, map, ◌∷◌, [], codes, join_with_byte}
+use Rattle.ele_script.proofs.Prelude.{pair_word}
 use Rattle.ele_script.proofs.Known.{puts_then, puts_err}
 use Rattle.ele_script.proofs.rows.put_ladder.Goals as goal
 

@@ -1,8 +1,5 @@
-use Rattle.std.proofs.Common.{◌∷◌, drop, map}
-use Rattle.std.specs.List.{join_with_byte, flat_map}
-use Rattle.ele_policy.specs.Ladder.{Rung}
-use Rattle.ele_script.specs.Outlet.{outlet}
-use Rattle.ele_script.specs.Printed.{pair_word}
+use Rattle.ele_script.proofs.Basics.{◌∷◌, drop, map, join_with_byte, flat_map}
+use Rattle.ele_script.proofs.Prelude.{Rung, outlet, pair_word}
 use Rattle.ele_script.proofs.Known.{HasSent}
 use Rattle.ele_script.proofs.rows.put_pairs.Given as goal
 

@@ -1,5 +1,5 @@
-use Rattle.std.proofs.Common.{refl}
-use Rattle.ele_script.specs.Value.{Path}
+use Rattle.ele_script.proofs.Basics.{refl}
+use Rattle.ele_script.proofs.Prelude.{Path}
 use Rattle.ele_script.proofs.word.path.Goals as goal
 
 pub returns-clause-kind : goal.returns-clause-kind

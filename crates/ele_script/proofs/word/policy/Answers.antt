@@ -1,7 +1,5 @@
-use Rattle.std.proofs.Common.{◌∙◌, sym, refl}
-use Rattle.std.proofs.lemmas.Bool.{false≢true}
-use Rattle.std.proofs.lemmas.Result.{err_from_is_err_and}
-use Rattle.ele_script.specs.PolicyWord.{no_interval}
+use Rattle.ele_script.proofs.Basics.{◌∙◌, sym, refl, false≢true, err_from_is_err_and}
+use Rattle.ele_script.proofs.Prelude.{no_interval}
 use Rattle.ele_script.proofs.Policies.{formless_word, refused_ladder}
 use Rattle.ele_script.proofs.word.policy.Goals as goal
 

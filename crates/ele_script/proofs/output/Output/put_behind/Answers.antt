@@ -1,4 +1,4 @@
-use Rattle.std.proofs.Common.{[], ◌++◌, ◌≡◌}
+use Rattle.ele_script.proofs.Basics.{[], ◌++◌, ◌≡◌}
 use Rattle.ele_script.proofs.Known.{puts_direct, takes_behind}
 use Rattle.ele_script.proofs.output.Output.put_behind.Goals.{in-Ok, in-Err}
 use Rattle.ele_script.proofs.output.Output.put_behind.Goals as goal
