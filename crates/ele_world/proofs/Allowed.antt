@@ -13,9 +13,6 @@ use Rattle.ele_world.proofs.Walks.{file_there, last_leads, file_live, file_of, l
 
 -- ---- what the checks found
 
-default_is : (rows : List DirectoryRow) (id : ℕ) → AllByRecursion (λ row. IsPolicy row.default) rows → IsPolicy (default_of rows id)
-default_is rows id all = grind (arith, nat_tests, all-found)
-
 -- the file's new draft is there
 begun : (w : World) (file : ℕ) → list_any (is_draft file) (insert_before (is_draft_after file) (new_draft w file) w.drafts) ≡ true
 begun w file = grind (arith, nat_tests, list_any-insert_before)
@@ -54,4 +51,4 @@ allowed w (Close handle) k = λ read found. (
 allowed w (Revert path number) k = λ file found row meant drafts versions. (reverts w file number row k (file_there w.files w.now w.names path file (k.holds Names).each found) meant (grind (arith, nat_tests)), tt)
 allowed w CleanOne k = grind (arith, nat_tests, takes)
 allowed w (Read source) k = grind (arith, nat_tests)
-allowed w event k = grind (arith, nat_tests, k.holds Directories, k.holds Names, may_name, default_is, file_there, file_live, last_names, file_of, last_leads)
+allowed w event k = grind (arith, nat_tests, k.holds Directories, k.holds Names, may_name, all-found, file_there, file_live, last_names, file_of, last_leads)

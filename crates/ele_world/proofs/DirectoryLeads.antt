@@ -20,23 +20,14 @@ module _ (w : World) (path : List (List ℕ)) (at : ℕ × List ℕ) (k : IsWell
   abbrev after : World
   after = after_change w (MakeDirectory at.0 at.1 id policy)
 
-  none_in : AllByRecursion (λ row. is_live_in id row ≡ false) w.names
-  none_in = grind (arith, nat_tests, k.holds Directories, k.holds Homes, all-weaker, directory_given)
-
-  none_before : AllByRecursion (λ row. is_directory id row ≡ false) w.directories
-  none_before = all-weaker (λ row. row.id ≤ w.made.directories) (λ row. is_directory id row ≡ false) w.directories (λ row h. grind (arith, nat_tests)) (k.holds Directories).given
-
-  policy_is : default_of after.directories id ≡ policy
-  policy_is = grind (arith, nat_tests, find-append, not_found, none_before)
-
   leads_to : parent_now w.names path ≡ Ok at → is_some (live_target w.names at.0 at.1) ≡ false → LeadsToDirectory w path id after
   leads_to found free = record {
     home = at;
     stands = found;
     there = any_last (is_directory id) w.directories new (grind (arith, nat_tests));
     named = ap directory_in (new_leads w.names path at (Directory id) w.now found free);
-    empty = grind (arith, nat_tests, list_any-append, any_none (is_live_in id) w.names none_in, directory_given w.made.directories w.directories at.0 (k.holds Directories).given, parent_home w path at k found);
-    policy = policy_is;
+    empty = grind (arith, nat_tests, list_any-append, any_none (is_live_in id) w.names, k.holds Homes, all-weaker, k.holds Directories, directory_given, parent_home w path at k found);
+    policy = grind (arith, nat_tests, find-append, not_found (is_directory id) w.directories, all-weaker (λ row. row.id ≤ w.made.directories) (λ row. is_directory id row ≡ false) w.directories, k.holds Directories);
   }
 
 pub make_dir_leads : (w : World) (path : List (List ℕ)) (id : ℕ) → IsWellFormed w → (step w (MakeDir path)).0 ≡ reply.Directory id → LeadsToDirectory w path id ((step w (MakeDir path)).1)

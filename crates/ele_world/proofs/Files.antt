@@ -45,13 +45,3 @@ policy_of-put_under files file policy there = grind (arith, nat_tests, find-upda
 -- and each other file keeps its own
 pub policy_of-put_other : (files : List FileRow) (file other : ℕ) (policy : Policy) → (other == file) ≡ false → policy_of (update_first (is_file file) (put_under policy) files) other ≡ policy_of files other
 policy_of-put_other files file other policy apart = grind (arith, nat_tests, option_map, find-update_other, is_file, put_under)
-
--- a target stays there
-pub there-push : (files : List FileRow) (row : FileRow) (target : Target) → IsThere files target → IsThere (files ++ row ∷ []) target
-there-push files row target h = grind (arith, nat_tests, next_of-push)
-
-pub there-numbered_on : (files : List FileRow) (file : ℕ) (target : Target) → IsThere files target → IsThere (update_first (is_file file) numbered_on files) target
-there-numbered_on files file target h = grind (arith, nat_tests, next_of-numbered_le)
-
-pub there-put_under : (files : List FileRow) (file : ℕ) (policy : Policy) (target : Target) → IsThere files target → IsThere (update_first (is_file file) (put_under policy) files) target
-there-put_under files file policy target h = grind (arith, nat_tests, next_of-put_under)

@@ -20,9 +20,6 @@ any_last p xs y h = grind (arith, nat_tests, list_any-append)
 pub ended_more : (names : List NameRow) (named : NameRow) (versions : List VersionRow) → AllByRecursion (IsOfLive names) versions → AllByRecursion (IsOfLive (names ++ named ∷ [])) versions
 ended_more names named versions each = grind (arith, nat_tests, all-weaker, any_more)
 
-pub reached_more : (names : List NameRow) (named : NameRow) (id : ℕ) → is_reached names id ≡ true → is_reached (names ++ named ∷ []) id ≡ true
-reached_more names named id h = grind (arith, nat_tests, any_more)
-
 -- ---- where a path's last name stands
 
 -- a directory there that a path leads to
@@ -44,7 +41,7 @@ pub named_housed : (directories more : List DirectoryRow) (names : List NameRow)
     → ((id : ℕ) → has_directory directories id ≡ true → has_directory more id ≡ true)
     → has_directory directories named.directory ≡ true → is_reached names named.directory ≡ true → IsDirectoryThere more named.target
     → AllByRecursion (IsHoused directories names) names → AllByRecursion (IsHoused more (names ++ named ∷ [])) (names ++ named ∷ [])
-named_housed directories more names named wider home reached there each = grind (arith, nat_tests, all-push (IsHoused more (names ++ named ∷ [])) names named, all-weaker (IsHoused directories names) (IsHoused more (names ++ named ∷ [])) names, reached_more)
+named_housed directories more names named wider home reached there each = grind (arith, nat_tests, all-push (IsHoused more (names ++ named ∷ [])) names named, all-weaker (IsHoused directories names) (IsHoused more (names ++ named ∷ [])) names, any_more)
 
 -- the root, or a directory that has a name, live or dead
 abbrev pub HasName : List NameRow → DirectoryRow → Type 0

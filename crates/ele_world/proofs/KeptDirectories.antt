@@ -9,10 +9,6 @@ use Rattle.ele_world.proofs.NameParts.{names_more, names_end, tree_more, tree_en
 
 -- ---- a directory is made
 
--- a name of a directory makes no file live
-pub no_file_named : (names : List NameRow) (directory : ℕ) (name : List ℕ) (id now file : ℕ) → list_any (is_live_name_of file) (names ++ born_row directory name (Directory id) now ∷ []) ≡ list_any (is_live_name_of file) names
-no_file_named names directory name id now file = grind (arith, nat_tests, list_any-append)
-
 pub make_directory_keeps : (w : World) (directory : ℕ) (name : List ℕ) (id : ℕ) (policy : Policy) → MayMakeDirectory w directory name id policy → IsWellFormed w → IsWellFormed (after_change w (MakeDirectory directory name id policy))
 make_directory_keeps w directory name id policy may k = record { holds = by } where
   there : has_directory (w.directories ++ record { id = id; default = policy } ∷ []) id ≡ true
@@ -25,7 +21,7 @@ make_directory_keeps w directory name id policy may k = record { holds = by } wh
     named = grind (arith, nat_tests, all-push (HasName (w.names ++ born_row directory name (Directory id) w.now ∷ [])) w.directories, named_more, k.holds Homes, any_last);
   }
   by Tree = grind (arith, nat_tests, k.holds Homes, k.holds Tree, k.holds Directories, tree_more, all-weaker, there, directory_given)
-  by part = grind (arith, nat_tests, k.holds part, length-append, any_more, all-push, later-push, all-weaker, no_file_named, ended_more)
+  by part = grind (arith, nat_tests, k.holds part, length-append, any_more, all-push, later-push, all-weaker, list_any-append, ended_more)
 
 -- ---- a name dies
 

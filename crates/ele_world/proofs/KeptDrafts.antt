@@ -4,15 +4,12 @@ use Rattle.ele_world.proofs.Basics.{all-remove_first, all-insert_before, later-u
 use Rattle.ele_world.proofs.Words.{longest_content, written_short, written_fills, truncated_short, truncated_fills, current_cells, new_draft, fitted_by, after_change, StartDraft, WriteDraft, TruncateDraft, EndDraft, OpenHandle, ShutHandle, IsContent}
 use Rattle.ele_world.proofs.Words.{AreWrittenBy, IsDraft, IsReadable, IsHeldRead, IsHandle, Part, Versions, Drafts, Readers, Holds, IsWellFormed, World, next_of, is_draft, is_draft_after, writes, is_writer, DraftRow, HandleRow, Reads}
 use Rattle.ele_world.proofs.May.{MayStart, MayOpen}
-use Rattle.ele_world.proofs.Writers.{changed_written, fitted_written, written_more}
+use Rattle.ele_world.proofs.Writers.{written_by, truncated_by, written_more}
 
 -- ---- a draft is begun
 
-current_is : (w : World) (file : ℕ) → IsWellFormed w → IsContent (current_cells w file) × AreWrittenBy (next_of w.files file) (current_cells w file)
-current_is w file k = grind (arith, nat_tests, k.holds Versions, all-found, found_passes, written_more)
-
 pub start_keeps : (w : World) (file : ℕ) → MayStart w file → IsWellFormed w → IsWellFormed (after_change w (StartDraft file))
-start_keeps w file may k = record { holds = λ part. grind (arith, nat_tests, k.holds part, current_is w file k, length-insert_before (is_draft_after file) (new_draft w file) w.drafts, all-insert_before (is_draft_after file) (IsDraft w.files w.now) (new_draft w file) w.drafts, later-insert_before (is_draft_after file) (λ earlier later. earlier.file < later.file) (λ row. is_draft file row ≡ false) (new_draft w file) w.drafts, all-none (is_draft file) w.drafts may.none, all-weaker, readable) } where
+start_keeps w file may k = record { holds = λ part. grind (arith, nat_tests, k.holds part, k.holds Versions, all-found, found_passes, written_more, length-insert_before (is_draft_after file) (new_draft w file) w.drafts, all-insert_before (is_draft_after file) (IsDraft w.files w.now) (new_draft w file) w.drafts, later-insert_before (is_draft_after file) (λ earlier later. earlier.file < later.file) (λ row. is_draft file row ≡ false) (new_draft w file) w.drafts, all-none (is_draft file) w.drafts may.none, all-weaker, readable) } where
   readable : (reads : Reads) → IsReadable w.drafts reads → IsReadable (insert_before (is_draft_after file) (new_draft w file) w.drafts) reads
   readable reads there = grind (arith, nat_tests, list_any-insert_before)
 
@@ -34,13 +31,13 @@ edit_keeps w file f same edits k = record { holds = by } where
   by part = grind (arith, nat_tests, k.holds part, all-weaker, readable, length-update_first (is_draft file) f w.drafts)
 
 pub write_keeps : (w : World) (file offset : ℕ) (bytes : List ℕ) → offset + length bytes ≤ longest_content → IsWellFormed w → IsWellFormed (after_change w (WriteDraft file offset bytes))
-write_keeps w file offset bytes fits k = grind (arith, nat_tests, edit_keeps, written_short, written_fills, changed_written)
+write_keeps w file offset bytes fits k = grind (arith, nat_tests, edit_keeps, written_short, written_fills, written_by)
 
 pub same_file : (number size : ℕ) (row : DraftRow) → (fitted_by number size row).file ≡ row.file
 same_file number size row = grind (arith, nat_tests)
 
 pub truncate_keeps : (w : World) (file size : ℕ) → size ≤ longest_content → IsWellFormed w → IsWellFormed (after_change w (TruncateDraft file size))
-truncate_keeps w file size fits k = grind (arith, nat_tests, edit_keeps, same_file, truncated_short, truncated_fills, fitted_written)
+truncate_keeps w file size fits k = grind (arith, nat_tests, edit_keeps, same_file, truncated_short, truncated_fills, truncated_by)
 
 -- ---- a draft goes that nobody writes
 

@@ -16,23 +16,13 @@ module _ (w : World) (file : ℕ) (idle : IsIdle w file) where
   abbrev names : List NameRow
   names = filter keep w.names
 
-  there_still : (target : Target) → not (is_target_file file target) ≡ true → IsThere w.files target → IsThere files target
-  there_still target stays h = grind (arith, nat_tests, next_of-removed)
-
-  -- directories are named and reached as before
-  named_still : (id : ℕ) → list_any (is_name_of_directory id) names ≡ list_any (is_name_of_directory id) w.names
-  named_still id = grind (arith, nat_tests, list_any-filter)
-
-  reached_still : (id : ℕ) → is_reached names id ≡ is_reached w.names id
-  reached_still id = grind (arith, nat_tests, list_any-filter)
-
   drop_file_keeps : IsWellFormed w → IsWellFormed (without_file w file)
   drop_file_keeps k = record { holds = by } where
     by : (part : Part) → Holds (without_file w file) part
     by Counted = grind (arith, k.holds Counted, length-remove_first-le (is_file file) w.files, length-split keep w.names)
     by Files = grind (arith, nat_tests, k.holds Files, all-remove_first, later-remove_first)
-    by Names = grind (arith, nat_tests, k.holds Names, all-weaker (λ row. (keep row ≡ true) × IsNameRow w.files w.now row) (IsNameRow files w.now) names, there_still, all-both (λ row. keep row ≡ true) (IsNameRow w.files w.now) names, filter-passes keep w.names, all-filter (IsNameRow w.files w.now) keep w.names, later-filter AreApart AreApart keep w.names)
-    by Homes = grind (arith, nat_tests, k.holds Homes, all-weaker, reached_still, all-filter, named_still)
+    by Names = grind (arith, nat_tests, k.holds Names, all-weaker (λ row. (keep row ≡ true) × IsNameRow w.files w.now row) (IsNameRow files w.now) names, next_of-removed, all-both (λ row. keep row ≡ true) (IsNameRow w.files w.now) names, filter-passes keep w.names, all-filter (IsNameRow w.files w.now) keep w.names, later-filter AreApart AreApart keep w.names)
+    by Homes = grind (arith, nat_tests, k.holds Homes, all-weaker, all-filter, list_any-filter)
     by Tree = later-filter AreOthers AreOthers keep w.names (λ x y e f h. h) (k.holds Tree)
     by Versions = grind (arith, nat_tests, k.holds Versions, all-weaker (λ row. ((row.file == file) ≡ false) × IsVersion w.files w.now row) (IsVersion files w.now) w.versions, next_of-removed, all-both (λ row. (row.file == file) ≡ false) (IsVersion w.files w.now) w.versions, idle_versions w file idle)
     by Drafts = grind (arith, nat_tests, k.holds Drafts, all-weaker (λ row. ((row.file == file) ≡ false) × IsDraft w.files w.now row) (IsDraft files w.now) w.drafts, next_of-removed, all-both (λ row. (row.file == file) ≡ false) (IsDraft w.files w.now) w.drafts, idle_drafts w file idle)

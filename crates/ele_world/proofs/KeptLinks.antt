@@ -14,18 +14,10 @@ use Rattle.ele_world.proofs.Versions.{IsEndedBy}
 
 pub add_name_keeps : (w : World) (directory : ℕ) (name : List ℕ) (target : Target) → MayAdd w directory name target → IsWellFormed w → IsWellFormed (after_change w (AddName directory name target))
 add_name_keeps w directory name target may k = record { holds = by } where
-  unnamed : (t : Target) → MayHaveMore w t → IsUnnamed w.names t
-  unnamed (File file) more = tt
-  unnamed (Directory id) more = all-none (is_live_directory id) w.names more
-
-  -- what it makes live was so
-  was_live : (t : Target) (file : ℕ) → MayHaveMore w t → is_live_name_of file (born_row directory name t w.now) ≡ true → is_live w file ≡ true
-  was_live t file more own = grind (arith, nat_tests, false≢true)
-
   by : (part : Part) → Holds (after_change w (AddName directory name target)) part
   by Names = names_more w.files w.now w.names directory name target may.named.free may.there (k.holds Names)
   by Homes = homes_more w.directories w.names (born_row directory name target w.now) may.named.home may.named.reached may.housed (k.holds Homes)
-  by part = grind (arith, nat_tests, k.holds part, counted_more w (length (w.names ++ born_row directory name target w.now ∷ [])) k may.named.room, length-append, tree_more, unnamed target may.more, any_less, was_live target, ended_more)
+  by part = grind (arith, nat_tests, k.holds part, counted_more w (length (w.names ++ born_row directory name target w.now ∷ [])) k may.named.room, length-append, tree_more, (λ (id : ℕ). all-none (is_live_directory id) w.names), any_less, ended_more, may.more, false≢true)
 
 -- ---- the end of a file's name
 
@@ -39,14 +31,11 @@ with_end_keeps w file dead holds = record { holds = by } where
   last : ℕ
   last = next_of w.files file - 1
 
-  current : HaveCurrent (record w { versions = with_end w file })
-  current other live = grind (arith, nat_tests, holds Current, dead, current_ended file other last (next_of w.files other) w.now w.versions)
-
   by : (part : Part) → Holds (record w { versions = with_end w file }) part
   by Counted = grind (arith, holds Counted, length-update_first (is_version file last) (ended_at w.now) w.versions)
   by Versions = ended_versions w file (holds Versions)
   by Readers = read_on w.versions (with_end w file) w.handles (λ f n held. grind (arith, nat_tests, list_any-update_first)) (holds Readers)
-  by Current = current
+  by Current = λ other live. grind (arith, nat_tests, holds Current other, dead, current_ended file other last (next_of w.files other) w.now w.versions)
   by Ended = grind (arith, nat_tests, holds Ended, holds Versions, all-weaker (λ row. ((row.file ≡ file → IsEndedBy w.now row) × IsVersion w.files w.now row) × ((row.file == file) ≡ false → IsOfLive w.names row)) (IsOfLive w.names) (with_end w file), all-both (λ row. (row.file ≡ file → IsEndedBy w.now row) × IsVersion w.files w.now row) (λ row. (row.file == file) ≡ false → IsOfLive w.names row) (with_end w file), ended_own w file, all-update_first (is_version file last) (λ row. (row.file == file) ≡ false → IsOfLive w.names row) (λ row. (row.file == file) ≡ false → IsOfLive w.names row) (ended_at w.now) w.versions)
   by part = holds part
 
@@ -61,12 +50,8 @@ module _ (w : World) (directory : ℕ) (name : List ℕ) (file : ℕ) (leads : l
   beside : EndBeside file left
   beside = grind (arith, nat_tests, k.holds Ended, all-weaker (IsOfLive w.names), live_still w.now w.names directory name (File file) leads)
 
-  -- and so is the file, if another name is left
-  all_live : is_live left file ≡ true → HaveEnded left
-  all_live live = grind (arith, nat_tests, all-weaker, beside)
-
   pub end_file_name_keeps : IsWellFormed (after_change w (EndFileName directory name file))
   end_file_name_keeps = elim (is_live left file) as (λ b. is_live left file ≡ b → IsWellFormed (record left { versions = cond b w.versions (with_end left file) })) [
-    | true ↦ λ e. with_ends left (end_name_holds w directory name no_directory (HaveEnded left) (all_live e) k)
+    | true ↦ λ e. with_ends left (end_name_holds w directory name no_directory (HaveEnded left) (all-weaker _ (IsOfLive left.names) w.versions (λ row h. grind (arith, nat_tests)) beside) k)
     | false ↦ λ e. with_end_keeps left file e (end_name_holds w directory name no_directory (EndBeside file left) beside k)
   ] refl

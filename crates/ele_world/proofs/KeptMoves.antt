@@ -34,14 +34,6 @@ module _ (w : World) (from : ℕ) (old : List ℕ) (to : ℕ) (new : List ℕ) (
   reached : (id : ℕ) → is_reached w.names id ≡ true → is_reached (left ++ named ∷ []) id ≡ true
   reached id h = grind (arith, nat_tests, list_any-append, list_any-update_found, found_target, any_more)
 
-  -- what the name makes live was so
-  was_live : (file : ℕ) → is_live_name_of file named ≡ true → is_live w file ≡ true
-  was_live file = grind (arith, nat_tests, may.stands, any-found p (is_live_name_of file) w.names, still_none, found_passes)
-
-  -- each file that was live is
-  lives_on : (file : ℕ) → list_any (is_live_name_of file) w.names ≡ true → list_any (is_live_name_of file) (left ++ named ∷ []) ≡ true
-  lives_on file live = grind (arith, nat_tests, any_last, any_more, live_still)
-
   pub move_name_keeps : IsWellFormed (after_change w (MoveName from old to new target))
   move_name_keeps = record { holds = by } where
     by : (part : Part) → Holds (after_change w (MoveName from old to new target)) part
@@ -49,6 +41,6 @@ module _ (w : World) (from : ℕ) (old : List ℕ) (to : ℕ) (new : List ℕ) (
     by Names = names_more w.files w.now left to new target (free_still w.now w.names from old to new may.named.free) there (names_end w.now w.names from old w.files (k.holds Names))
     by Homes = grind (arith, nat_tests, k.holds Homes, all-push (IsHoused w.directories (left ++ named ∷ [])) left named, all-update_first p (IsHoused w.directories w.names) (IsHoused w.directories (left ++ named ∷ [])) (dies w.now) w.names, may.named, housed, reached, named_more w.directories left named, named_end w.now p w.directories w.names)
     by Tree = tree_more w.now left to new target (live_row (IsUnnamed left) w.names from old target (λ row found. unnamed row.target row found refl) may.stands) (tree_end w.now w.names from old (k.holds Tree))
-    by Current = grind (arith, nat_tests, k.holds Current, any_less, was_live, list_any-append, list_any-update_fails, false≢true)
-    by Ended = all-weaker (IsOfLive w.names) (IsOfLive (left ++ named ∷ [])) w.versions (λ row h none. lives_on row.file (h none)) (k.holds Ended)
+    by Current = grind (arith, nat_tests, k.holds Current, any_less, may.stands, (λ (file : ℕ). any-found p (is_live_name_of file) w.names), still_none, found_passes, list_any-append, list_any-update_fails, false≢true)
+    by Ended = all-weaker (IsOfLive w.names) (IsOfLive (left ++ named ∷ [])) w.versions (λ row h none. grind (arith, nat_tests, h none, any_last, any_more, live_still, may.stands)) (k.holds Ended)
     by part = k.holds part

@@ -5,7 +5,7 @@ use Rattle.ele_world.proofs.Words.{last_moment, Policy, governed_by, put_under, 
 use Rattle.ele_world.proofs.Words.{Files, Names, Homes, Versions, Drafts, Readers, Current, Holds, IsWellFormed, Tree, Ended, Groups, World, root, is_directory, is_file, next_of, is_live, is_live_name_of, is_target_file, is_version, DraftRow, FileRow, NameRow, File, VersionRow}
 use Rattle.ele_world.proofs.Readers.{read_on}
 use Rattle.ele_world.proofs.Created.{new_file, new_name, first_version, created, made_is}
-use Rattle.ele_world.proofs.Files.{next_of-push, next_of-push_other, next_of-given, next_of-new, next_of-put_under, there-push, there-put_under}
+use Rattle.ele_world.proofs.Files.{next_of-push, next_of-push_other, next_of-given, next_of-new, next_of-put_under}
 use Rattle.ele_world.proofs.Homes.{any_more, homes_more, ended_more, any_last}
 use Rattle.ele_world.proofs.KeptGroups.{groups_on}
 use Rattle.ele_world.proofs.May.{MayMake}
@@ -27,7 +27,7 @@ put_under_keeps w file policy is k = record { holds = by } where
   by : (part : Part) → Holds (after_change w (PutUnder file policy)) part
   by Files = grind (arith, nat_tests, k.holds Files, all-update_first (is_file file) (IsFile w.made.files w.made.versions) (IsFile w.made.files w.made.versions) (put_under policy) w.files, later-update_first (is_file file))
   by Current = λ id live. rw (next_of-put_under w.files file id policy) (k.holds Current id live)
-  by part = grind (arith, nat_tests, k.holds part, all-weaker, next_of-put_under, there-put_under, groups_on, length-update_first (is_file file) (put_under policy) w.files)
+  by part = grind (arith, nat_tests, k.holds part, all-weaker, next_of-put_under, groups_on, length-update_first (is_file file) (put_under policy) w.files)
 
 -- ---- a file is made
 
@@ -57,7 +57,7 @@ module _ (w : World) (directory : ℕ) (name : List ℕ) (policy : Policy) where
     by : (part : Part) → Holds (created w directory name id policy) part
     by Counted = simp length-append (grind (arith, k.holds Counted))
     by Files = grind (arith, nat_tests, k.holds Files, all-push, all-weaker, later-push)
-    by Names = names_more files w.now w.names directory name (File id) may.named.free (omega (arith, new_next)) (grind (arith, nat_tests, k.holds Names, all-weaker (IsNameRow w.files w.now) (IsNameRow files w.now) w.names, there-push))
+    by Names = names_more files w.now w.names directory name (File id) may.named.free (omega (arith, new_next)) (grind (arith, nat_tests, k.holds Names, all-weaker (IsNameRow w.files w.now) (IsNameRow files w.now) w.names, next_of-push))
     by Homes = homes_more w.directories w.names named may.named.home may.named.reached tt (k.holds Homes)
     by Tree = tree_more w.now w.names directory name (File id) tt (k.holds Tree)
     by Versions = grind (arith, nat_tests, k.holds Versions, k.holds Files, all-push, files, first_version, all-weaker, next_of-push, new_next, later-push, next_of-given)

@@ -4,19 +4,11 @@ use Rattle.ele_world.proofs.Basics.{AllLater, all-weaker, all-both, found_passes
 use Rattle.ele_world.proofs.Words.{Cell, numbered_on, ended_at, next_version, with_end, with_version, after_change, Take, IsFile, IsNameRow, IsVersion, ArePlaced, IsDraft, is_current, HaveCurrent, IsHeldRead, Part, Counted, Files, Names}
 use Rattle.ele_world.proofs.Words.{Versions, Drafts, Readers, Current, Holds, IsWellFormed, AreVersions, IsOfLive, Ended, Groups, World, next_of, is_file, is_live, is_open, is_version, is_version_after, reads_version, Reads, FileRow, VersionRow}
 use Rattle.ele_world.proofs.Readers.{read_on}
-use Rattle.ele_world.proofs.Files.{next_of-numbered_on, next_of-numbered_other, next_of-numbered_le, there-numbered_on}
+use Rattle.ele_world.proofs.Files.{next_of-numbered_on, next_of-numbered_other, next_of-numbered_le}
 use Rattle.ele_world.proofs.KeptGroups.{groups_on}
 use Rattle.ele_world.proofs.May.{MayAppend}
 use Rattle.ele_world.proofs.Versions.{IsEndedBy, file_ended}
 use Rattle.ele_world.proofs.Writers.{written_more}
-
--- the rows of a file that has numbered on: its own have ended
-numbered_version : (files : List FileRow) (now file : ℕ) (row : VersionRow) → (row.file ≡ file → IsEndedBy now row) → IsVersion files now row → IsVersion (update_first (is_file file) numbered_on files) now row
-numbered_version files now file row has_ended h = grind (arith, nat_tests, next_of-numbered_le, next_of-numbered_other)
-
--- rows in their order stay so when one of them ends
-versions_ended : (files : List FileRow) (now : ℕ) (p : VersionRow → Bool) (rows : List VersionRow) → AreVersions files now rows → AreVersions files now (update_first p (ended_at now) rows)
-versions_ended files now p rows are = grind (arith, nat_tests, all-update_first p (IsVersion files now) (IsVersion files now) (ended_at now) rows, later-update_first p ArePlaced (ended_at now) rows)
 
 -- what is current in another file is so still
 pub current_ended : (file other number next now : ℕ) (rows : List VersionRow) → (file == other) ≡ false → list_any (is_current other next) (update_first (is_version file number) (ended_at now) rows) ≡ list_any (is_current other next) rows
@@ -30,7 +22,7 @@ behind_too file number x z e placed = let after = placed.after in grind (arith, 
 
 module _ (w : World) (file : ℕ) (are : AreVersions w.files w.now w.versions) where
   pub ended_versions : AreVersions w.files w.now (with_end w file)
-  ended_versions = versions_ended w.files w.now (is_version file (next_of w.files file - 1)) w.versions are
+  ended_versions = grind (arith, nat_tests, all-update_first (is_version file (next_of w.files file - 1)) (IsVersion w.files w.now) (IsVersion w.files w.now) (ended_at w.now) w.versions, later-update_first (is_version file (next_of w.files file - 1)) ArePlaced (ended_at w.now) w.versions)
 
   -- each of the file's has ended
   pub ended_own : AllByRecursion (λ row. (row.file ≡ file → IsEndedBy w.now row) × IsVersion w.files w.now row) (with_end w file)
@@ -62,13 +54,6 @@ module _ (w : World) (file opened : ℕ) (cells : List Cell) (may : MayAppend w 
   next_is : next_of files file ≡ next_of w.files file + 1
   next_is = next_of-numbered_on w.files file may.there
 
-  new_is : IsVersion files w.now new
-  new_is = grind (arith, nat_tests, next_is)
-
-  -- each live file has its current version: the file its new one, and each other what it had
-  current_after : HoldsBeside file w Current → HaveCurrent (with_version w file opened cells)
-  current_after current other live = grind (arith, nat_tests, next_is, list_any-insert_before, next_of-numbered_other w.files file other, current_ended file other (next_of w.files file - 1) (next_of w.files other) w.now w.versions)
-
   abbrev next : ℕ
   next = next_of w.files file
 
@@ -80,15 +65,15 @@ module _ (w : World) (file opened : ℕ) (cells : List Cell) (may : MayAppend w 
     by : (part : Part) → Holds (with_version w file opened cells) part
     by Counted = grind (arith, holds Counted, length-update_first (is_file file) numbered_on w.files, length-update_first p (ended_at w.now) w.versions, length-insert_before (is_version_after file next) new (with_end w file))
     by Files = grind (arith, nat_tests, holds Files, all-update_first (is_file file) (IsFile w.made.files w.made.versions) (IsFile w.made.files (w.made.versions + 1)) numbered_on w.files, later-update_first (is_file file))
-    by Names = grind (arith, nat_tests, holds Names, all-weaker (IsNameRow w.files w.now) (IsNameRow files w.now) w.names, there-numbered_on)
+    by Names = grind (arith, nat_tests, holds Names, all-weaker (IsNameRow w.files w.now) (IsNameRow files w.now) w.names, next_of-numbered_le)
     by Versions = record {
-      each = all-insert_before (is_version_after file next) (IsVersion files w.now) new (with_end w file) new_is
-          (all-weaker _ (IsVersion files w.now) (with_end w file) (λ row h. numbered_version w.files w.now file row h.0 h.1) (ended_own w file (holds Versions)));
+      each = all-insert_before (is_version_after file next) (IsVersion files w.now) new (with_end w file) (grind (arith, nat_tests, next_is))
+          (all-weaker _ (IsVersion files w.now) (with_end w file) (λ row h. grind (arith, nat_tests, next_of-numbered_le, next_of-numbered_other)) (ended_own w file (holds Versions)));
       placed = next_placed w file (holds Versions) opened cells;
     }
     by Drafts = grind (arith, nat_tests, holds Drafts, all-weaker (IsDraft w.files w.now) (IsDraft files w.now) w.drafts, next_of-numbered_le, written_more)
     by Readers = read_on w.versions (with_version w file opened cells).versions w.handles (λ f n held. grind (arith, nat_tests, list_any-insert_before, list_any-update_first)) (holds Readers)
-    by Current = current_after (holds Current)
+    by Current = λ other live. grind (arith, nat_tests, holds Current other, next_is, list_any-insert_before, next_of-numbered_other w.files file other, current_ended file other (next_of w.files file - 1) (next_of w.files other) w.now w.versions)
     by Ended = grind (arith, nat_tests, holds Ended, all-insert_before (is_version_after file next) (IsOfLive w.names) new (with_end w file), all-update_first p (IsOfLive w.names) (IsOfLive w.names) (ended_at w.now) w.versions)
     by Groups = groups_on w.made.groups w.files files w.now w.now w.groups (omega arith) (λ f h. omega (arith, h, next_of-numbered_le w.files file f)) (holds Groups)
     by part = holds part
@@ -99,10 +84,7 @@ module _ (w : World) (file opened : ℕ) (cells : List Cell) (may : MayAppend w 
 -- ---- a version that has ended goes
 
 pub take_keeps : (w : World) (file number : ℕ) → ((row : VersionRow) → find (is_version file number) w.versions ≡ Some row → is_none row.ended ≡ false) → is_open w.handles file number ≡ false → IsWellFormed w → IsWellFormed (after_change w (Take file number))
-take_keeps w file number ended unread k = record { holds = λ part. grind (arith, nat_tests, k.holds part, length-remove_first-le (is_version file number) w.versions, all-remove_first, later-remove_first, all-weaker (λ row. (reads_version file number row.reads ≡ false) × IsHeldRead w.versions row.reads) (λ row. IsHeldRead (remove_first (is_version file number) w.versions) row.reads) w.handles, still, all-both (λ row. reads_version file number row.reads ≡ false) (λ row. IsHeldRead w.versions row.reads) w.handles, all-none (λ row. reads_version file number row.reads) w.handles unread, list_any-remove_first, not_current) } where
+take_keeps w file number ended unread k = record { holds = λ part. grind (arith, nat_tests, k.holds part, length-remove_first-le (is_version file number) w.versions, all-remove_first, later-remove_first, all-weaker (λ row. (reads_version file number row.reads ≡ false) × IsHeldRead w.versions row.reads) (λ row. IsHeldRead (remove_first (is_version file number) w.versions) row.reads) w.handles, still, all-both (λ row. reads_version file number row.reads ≡ false) (λ row. IsHeldRead w.versions row.reads) w.handles, all-none (λ row. reads_version file number row.reads) w.handles unread, list_any-remove_first) } where
   -- a handle reads another version, and that is still held
   still : (reads : Reads) → reads_version file number reads ≡ false → IsHeldRead w.versions reads → IsHeldRead (remove_first (is_version file number) w.versions) reads
   still reads other h = grind (arith, nat_tests, list_any-remove_first, found_passes)
-
-  not_current : (other : ℕ) (row : VersionRow) → is_none row.ended ≡ false → is_current other (next_of w.files other) row ≡ false
-  not_current other row e = grind (arith, nat_tests)

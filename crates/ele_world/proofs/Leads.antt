@@ -16,17 +16,8 @@ module _ (w : World) (path : List (List ℕ)) (at : ℕ × List ℕ) (k : IsWell
   abbrev policy : Policy
   policy = default_of w.directories at.0
 
-  named : parent_now w.names path ≡ Ok at → is_some (live_target w.names at.0 at.1) ≡ false → file_now (w.names ++ new_name w at.0 at.1 id ∷ []) path ≡ Ok id
-  named found free = ap file_at (new_leads w.names path at (File id) w.now found free)
-
-  next_is : next_of (w.files ++ new_file id policy ∷ []) id ≡ 2
-  next_is = next_of-new w.made.files w.made.versions w.files (new_file id policy) (k.holds Files).each (omega arith)
-
-  current_is : current_of (created w at.0 at.1 id policy) id ≡ Some (first_version w id)
-  current_is = grind (arith, nat_tests, not_found, all-weaker, versions_before, first_version, next_is, find-append)
-
   leads_to : parent_now w.names path ≡ Ok at → is_some (live_target w.names at.0 at.1) ≡ false → LeadsToNew path id (after_change w (MakeFile at.0 at.1 id policy))
-  leads_to found free = rw (made_is w at.0 at.1 policy k) (record { named = named found free; empty = ap (option_map (λ (row : VersionRow). row.cells)) current_is })
+  leads_to found free = rw (made_is w at.0 at.1 policy k) (record { named = ap file_at (new_leads w.names path at (File id) w.now found free); empty = grind (arith, nat_tests, not_found, all-weaker, versions_before w k, find-append, next_of-new w.made.files w.made.versions w.files (new_file id policy), k.holds Files) })
 
 pub create_leads : (w : World) (path : List (List ℕ)) (file : ℕ) → IsWellFormed w → (step w (Create path)).0 ≡ reply.File file → LeadsToNew path file ((step w (Create path)).1)
 create_leads w path file k = in_all w (λ answer. answer.0 ≡ reply.File file → LeadsToNew path file (answer.1)) (plan w (Create path)) (λ refusal e. absurd cc)

@@ -4,24 +4,9 @@ use Rattle.ele_world.proofs.Words.{is_named, last_dead, last_target, may_return,
 use Rattle.ele_lists.proofs.Cuts.{any-found}
 use Rattle.ele_world.proofs.May.{HasRoom, MayName, MayAdd, MayRevive}
 
-pub lost_dead : (rows : List NameRow) (directory : ℕ) (name : List ℕ) (lost : Target) → last_target rows directory name ≡ Ok lost → last_dead rows directory name ≡ Some lost
-lost_dead rows directory name lost = grind (arith, nat_tests)
-
--- the newest row of the name
-pub record IsLastRow (rows : List NameRow) (directory : ℕ) (name : List ℕ) (lost : Target) : Type 0 where
-  pub row : NameRow
-  pub is : last_passing (is_named directory name) rows ≡ Some row
-  pub dead : is_some row.death ≡ true
-  pub target : row.target ≡ lost
-
-pub last_row : (rows : List NameRow) (directory : ℕ) (name : List ℕ) (lost : Target) → last_dead rows directory name ≡ Some lost → IsLastRow rows directory name lost
-last_row rows directory name lost = grind (arith, nat_tests)
-
--- ---- what returns
-
 -- what is true of what each name stands for is so of what a dead name last stood for
 lost_is : (P : Target → Type 0) (rows : List NameRow) (directory : ℕ) (name : List ℕ) (lost : Target) → AllByRecursion (λ row. P row.target) rows → last_target rows directory name ≡ Ok lost → P lost
-lost_is P rows directory name lost all h = grind (arith, nat_tests, last_row rows directory name lost, lost_dead, last_has (is_named directory name) (λ row. P row.target) rows)
+lost_is P rows directory name lost all h = grind (arith, nat_tests, last_has (is_named directory name) (λ row. P row.target) rows)
 
 -- to what has a live name, or is a directory, a name may be added
 pub may_add : (w : World) (at : ℕ × List ℕ) (lost : Target) → IsWellFormed w → MayName w at.0 at.1 → last_target w.names at.0 at.1 ≡ Ok lost → nameless w lost ≡ None → not (may_return w lost) ≡ false → MayAdd w at.0 at.1 lost

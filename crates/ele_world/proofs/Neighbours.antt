@@ -27,10 +27,6 @@ slice_get-filter : {X : Type 0} (p : X → Bool) (xs : List X) → slice_get (fi
 slice_get-filter p [] = refl
 slice_get-filter p (x ∷ xs) = grind (arith, nat_tests, slice_get-filter p xs)
 
--- the nearest of the closings beside it is that of the next held version
-nearest_closing : (w : World) (row : VersionRow) → slice_get (beside (view_of w row.file) row).newer 0 ≡ next_closing w.versions row.file row.number
-nearest_closing w row = grind (arith, nat_tests, slice_get-map, slice_get-filter, find-filter_both)
-
 -- what a held version's moment is, by what is marked, by whether it is open, and by its file's policy and its end
 abbrev moment_if : (ℕ → Option ℕ → Bool) → Bool → Option Policy → Option ℕ → VersionRow → Option ℕ → Option ℕ
 moment_if marked b policy nearest row ended = cond b None (option_and_then (near_moment marked policy nearest row.closed) ended)
@@ -65,7 +61,7 @@ ripe_of_near w ordered file number row found =
     let its : row.number ≡ number = grind (arith, nat_tests) in
     let view = view_in w row.file ordered.policies ordered.lives ordered.placed in
     let near = nearest_of w cut.before row cut.behind view cut.whole in
-    rw (← own, ← its) (grind (arith, nat_tests, ripe_in_near (view_of w row.file) row (next_closing w.versions row.file row.number) view.governed, near, nearest_closing w row, numbers_are w.handles row.file row.number, marks_tell w.groups row.file row.closed))
+    rw (← own, ← its) (grind (arith, nat_tests, ripe_in_near (view_of w row.file) row (next_closing w.versions row.file row.number) view.governed, near, slice_get-map, slice_get-filter, find-filter_both, numbers_are w.handles row.file row.number, marks_tell w.groups row.file row.closed))
 
 pub ripe_at_near : (w : World) (file number : ℕ) → AreInOrder w.files w.versions → ripe_at w file number ≡ cond (is_open w.handles file number) None (free_moment w.groups w.files w.versions file number)
 ripe_at_near w file number ordered = grind (arith, nat_tests, ripe_at_is w file number, ripe_of_near w ordered file number)

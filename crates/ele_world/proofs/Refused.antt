@@ -16,11 +16,8 @@ fair : (w : World) (event : Event) → InAll (IsFair event) (plan w event)
 fair w (Read source) = grind (arith, nat_tests)
 fair w event = search (rules)
 
-still : (w : World) (event : Event) (reply : Reply) (changes : List Change) → IsFair event reply changes → (is_refusal reply || asks event) ≡ true → after_changes w changes ≡ w
-still w event reply changes fair is = grind (arith, nat_tests, false≢true)
-
 stays : (w : World) (event : Event) → (is_refusal ((step w event).0) || asks event) ≡ true → (step w event).1 ≡ w
-stays w event = outcome_of w (IsFair event) (λ answer. (is_refusal (answer.0) || asks event) ≡ true → answer.1 ≡ w) (still w event) (λ refusal is. refl) (plan w event) (fair w event)
+stays w event = outcome_of w (IsFair event) (λ answer. (is_refusal (answer.0) || asks event) ≡ true → answer.1 ≡ w) (λ reply changes fair is. grind (arith, nat_tests, false≢true)) (λ refusal is. refl) (plan w event) (fair w event)
 
 pub refused_stays : (w : World) (event : Event) (refusal : Refusal) → (step w event).0 ≡ Refused refusal → (step w event).1 ≡ w
 refused_stays w event refusal e = stays w event (rw e refl)

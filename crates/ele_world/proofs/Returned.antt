@@ -7,14 +7,14 @@ use Rattle.ele_world.proofs.Closes.{new_found}
 use Rattle.ele_world.proofs.Created.{named_live}
 use Rattle.ele_world.proofs.Files.{next_of-numbered_on}
 use Rattle.ele_world.proofs.KeptRevived.{again}
-use Rattle.ele_world.proofs.Lost.{lost_dead, may_revive}
+use Rattle.ele_world.proofs.Lost.{may_revive}
 use Rattle.ele_world.proofs.May.{MayRevive}
 use Rattle.ele_world.proofs.Outcomes.{in_all}
 use Rattle.ele_world.proofs.Walks.{new_leads}
 
 module _ (w : World) (path : List (List ℕ)) (at : ℕ × List ℕ) (k : IsWellFormed w) (found : parent_now w.names path ≡ Ok at) (free : is_some (live_target w.names at.0 at.1) ≡ false) where
   named_again : (lost : Target) (after : World) → after.names ≡ (with_name w at.0 at.1 lost).names → last_target w.names at.0 at.1 ≡ Ok lost → LeadsAgain w path lost after
-  named_again lost after names last = record { home = at; stands = found; lost = lost_dead w.names at.0 at.1 lost last; leads = rw names (new_leads w.names path at lost w.now found free) }
+  named_again lost after names last = record { home = at; stands = found; lost = grind (arith, nat_tests); leads = rw names (new_leads w.names path at lost w.now found free) }
 
   name_again : (lost : Target) → last_target w.names at.0 at.1 ≡ Ok lost → HasNameAgain w path (after_change w (AddName at.0 at.1 lost))
   name_again lost last = record { target = lost; named = named_again lost (with_name w at.0 at.1 lost) refl last; versions = refl }
@@ -23,10 +23,7 @@ module _ (w : World) (path : List (List ℕ)) (at : ℕ × List ℕ) (k : IsWell
     abbrev revived : World
     revived = after_change w (Revive at.0 at.1 file)
 
-    abbrev new : VersionRow
-    new = next_version (with_name w at.0 at.1 (File file)) file w.now (current_cells w file)
-
-    current_is : current_of revived file ≡ Some new
+    current_is : current_of revived file ≡ Some (next_version (with_name w at.0 at.1 (File file)) file w.now (current_cells w file))
     current_is = grind (arith, nat_tests, again w at.0 at.1 file may (k.holds Versions).each, next_of-numbered_on w.files file, new_found (with_name w at.0 at.1 (File file)) file (k.holds Versions).each w.now (current_cells w file))
 
     version_again : (number : ℕ) → next_of w.files file ≡ number → last_target w.names at.0 at.1 ≡ Ok (File file) → HasVersionAgain w path number revived

@@ -35,14 +35,11 @@ row_stays w event row k is found = grind (arith, nat_tests, k.holds Versions, re
 
 -- ---- both laws
 
-held_if_found : (file number : ℕ) (rows : List VersionRow) (row : VersionRow) → find (is_version file number) rows ≡ Some row → list_any (is_version file number) rows ≡ true
-held_if_found file number rows row h = any-found (is_version file number) (is_version file number) rows row h (found_passes (is_version file number) rows row h)
-
 each_row : (w : World) (event : Event) (Q : VersionRow → Type 0) → IsWellFormed w → ((row : VersionRow) → StillOrDue event w row (find (is_version row.file row.number) ((step w event).1).versions) → Q row) → AllByRecursion Q w.versions
 each_row w event Q k then = grind (arith, nat_tests, k.holds Versions, all-weaker (λ row. IsVersion w.files w.now row × IsFound w.versions row) Q w.versions, row_stays w event, all-both (IsVersion w.files w.now) (IsFound w.versions) w.versions, all_found w.versions)
 
 pub only_due_leave : (w : World) (event : Event) → IsWellFormed w → AllByRecursion (StaysOrWasDue w event) w.versions
-only_due_leave w event k = grind (arith, nat_tests, each_row w event (StaysOrWasDue w event) k, held_if_found, due_is_unread w, due_is_unmarked w)
+only_due_leave w event k = grind (arith, nat_tests, each_row w event (StaysOrWasDue w event) k, (λ (row : VersionRow). any-found (is_version row.file row.number) (is_version row.file row.number) ((step w event).1).versions), found_passes, due_is_unread w, due_is_unmarked w)
 
 pub held_stays : (w : World) (event : Event) → IsWellFormed w → AllByRecursion (StaysSame w event) w.versions
 held_stays w event k = grind (arith, nat_tests, each_row w event (StaysSame w event) k)

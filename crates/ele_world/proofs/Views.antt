@@ -78,10 +78,6 @@ closings_rise : (rows : List VersionRow) → AllByRecursion IsLife rows → AllL
 closings_rise [] lives placed = tt
 closings_rise (x ∷ xs) lives placed = grind (arith, nat_tests, all-map (λ row. row.closed) (◌≤◌ x.closed) xs, all-weaker (Precedes x) (λ row. x.closed ≤ row.closed) xs, closings_rise xs)
 
--- so what stands beside a row is as its policy wants it
-pub nearest_is : (v : FileView) → IsView v → (xs : List VersionRow) (row : VersionRow) (ys : List VersionRow) → v.rows ≡ xs ++ row ∷ ys → IsNearest row.closed (slice_get (beside v row).newer 0) (beside v row)
-nearest_is v view xs row ys whole = grind (arith, nat_tests, closings_rise (row ∷ ys), newer_is xs row ys, all-right IsLife xs (row ∷ ys), later-right Precedes xs (row ∷ ys))
-
 -- ---- the rows of a row's own file
 
 pub own_rows : (before : List VersionRow) (row : VersionRow) (behind : List VersionRow) → filter (is_version_of row.file) (before ++ row ∷ behind) ≡ filter (is_version_of row.file) before ++ row ∷ filter (is_version_of row.file) behind
@@ -90,7 +86,7 @@ own_rows before row behind = grind (arith, nat_tests, filter-append)
 -- so what stands beside a version of a world is as its policy wants it
 pub nearest_of : (w : World) (before : List VersionRow) (row : VersionRow) (behind : List VersionRow) → IsView (view_of w row.file) → w.versions ≡ before ++ row ∷ behind
     → IsNearest row.closed (slice_get (beside (view_of w row.file) row).newer 0) (beside (view_of w row.file) row)
-nearest_of w before row behind view whole = grind (arith, nat_tests, nearest_is (view_of w row.file) view (filter (is_version_of row.file) before) row (filter (is_version_of row.file) behind) (ap (filter (is_version_of row.file)) whole ∙ own_rows before row behind), own_rows before row behind)
+nearest_of w before row behind view whole = grind (arith, nat_tests, own_rows before row behind, closings_rise (row ∷ filter (is_version_of row.file) behind), newer_is (filter (is_version_of row.file) before) row (filter (is_version_of row.file) behind), all-right IsLife (filter (is_version_of row.file) before) (row ∷ filter (is_version_of row.file) behind), later-right Precedes (filter (is_version_of row.file) before) (row ∷ filter (is_version_of row.file) behind))
 
 -- of another file
 pub other_rows : (file : ℕ) (before : List VersionRow) (row : VersionRow) (behind : List VersionRow) → is_version_of file row ≡ false → filter (is_version_of file) (before ++ row ∷ behind) ≡ filter (is_version_of file) (before ++ behind)

@@ -82,18 +82,13 @@ last_leads rows path at directory found leads = grind (arith, nat_tests, last_na
 
 -- ---- a new name
 
-module _ (rows : List NameRow) (directory : ℕ) (name : List ℕ) (target : Target) (now : ℕ) where
-  target_is : is_some (live_target rows directory name) ≡ false → live_target (rows ++ born_row directory name target now ∷ []) directory name ≡ Some target
-  target_is free = grind (arith, nat_tests, find-append, false≢true, bytes_eq-Decides)
-
 -- the path leads to the target of its new name
 pub named_leads : (rows : List NameRow) (path : List (List ℕ)) (at : ℕ × List ℕ) (target : Target) (now : ℕ) → IsParent rows path at → is_some (live_target rows at.0 at.1) ≡ false → walk_now (rows ++ born_row at.0 at.1 target now ∷ []) path ≡ Ok target
 named_leads rows path at target now parent free =
     let row = born_row at.0 at.1 target now in
-    let there = target_is rows at.0 at.1 target now free in
     ap (walk_now (rows ++ row ∷ [])) parent.whole
     ∙ walk-on (rows ++ row ∷ []) (Directory root) (Directory at.0) parent.front (at.1 ∷ []) (walk-push rows row (Directory root) parent.front (Directory at.0) parent.leads)
-    ∙ rw there refl
+    ∙ grind (arith, nat_tests, find-append, false≢true, bytes_eq-Decides)
 
 pub new_leads : (rows : List NameRow) (path : List (List ℕ)) (at : ℕ × List ℕ) (target : Target) (now : ℕ) → parent_now rows path ≡ Ok at → is_some (live_target rows at.0 at.1) ≡ false → walk_now (rows ++ born_row at.0 at.1 target now ∷ []) path ≡ Ok target
 new_leads rows path at target now found = named_leads rows path at target now (parent_is rows path at found)

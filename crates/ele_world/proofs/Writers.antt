@@ -8,19 +8,13 @@ writer_at-le number [] slot all = omega arith
 writer_at-le number (cell ∷ cells) zero all = all.0
 writer_at-le number (cell ∷ cells) (suc slot) all = writer_at-le number cells slot all.1
 
-written_by : (number offset : ℕ) (bytes : List ℕ) (cells : List Cell) → AreWrittenBy number cells → AreWrittenBy number (cells_after_write number offset bytes cells)
+pub written_by : (number offset : ℕ) (bytes : List ℕ) (cells : List Cell) → AreWrittenBy number cells → AreWrittenBy number (cells_after_write number offset bytes cells)
 unfolding cells_after_write
 written_by number offset bytes cells all = grind (arith, nat_tests, all-map, all-any, writer_at-le)
 
-truncated_by : (number size : ℕ) (cells : List Cell) → AreWrittenBy number cells → AreWrittenBy number (cells_after_truncate number size cells)
+pub truncated_by : (number size : ℕ) (cells : List Cell) → AreWrittenBy number cells → AreWrittenBy number (cells_after_truncate number size cells)
 unfolding cells_after_truncate
 truncated_by number size cells all = grind (arith, nat_tests, all-map, all-any, writer_at-le)
-
-pub changed_written : (number offset : ℕ) (bytes : List ℕ) (row : DraftRow) → AreWrittenBy number row.cells → AreWrittenBy number ((changed_by number offset bytes row).cells)
-changed_written number offset bytes row all = written_by number offset bytes row.cells all
-
-pub fitted_written : (number size : ℕ) (row : DraftRow) → AreWrittenBy number row.cells → AreWrittenBy number ((fitted_by number size row).cells)
-fitted_written number size row all = grind (arith, nat_tests, truncated_by)
 
 -- by more versions
 pub written_more : (less more : ℕ) (cells : List Cell) → less ≤ more → AreWrittenBy less cells → AreWrittenBy more cells
