@@ -1,10 +1,11 @@
--- A file's next version is appended, and the first one of a new file.
-use Rattle.ele_files.proofs.Words.{sum_by_cons, sum_by-update_same, sum_by_push, AllByRecursion, AllLater, AllSessions, Append, Bool, Cell, Draft, File, FileRow, GotFile, HasAppended, Held, IsDraftKept, IsFileKept, IsLocal, IsRowOf, IsRowPast, IsStocked, Keeps, Layout, List, LogRow, None, Some, StockLaws, Store, VersionRow, World, [], after_change, all-both, all_found, all-map, all-push, all-weaker, ap, append_nil, arith, bucket_changes, cond, empty_layout, ended_at, ended_rows, eqb, false, file_row, find, find-at, flat_map, flat_map-append, held_in, insert_before, is_file, is_id, is_live, is_version, is_version_after, later-push, local-after, local-insert_before, local-update_first, ltb, map, map-all, map-append, named_live, nat_tests, next_of, next_of-numbered_other, next_of-push, next_row, not_found, numbered_on, refl, row_in, row_stock, rows_in, rows_of, shown, stock_of, subst, sym, true, update_first, update_first-at, with_file, with_name, with_rows, ℕ, ◌&&◌, ◌++◌, ◌+◌, ◌-◌, ◌<◌, ◌||◌, ◌∙◌, ◌∷◌, ◌≡◌, ◌≢◌}
-use Rattle.ele_files.proofs.Endings.{closed_kept, of_rows}
-use Rattle.ele_files.proofs.Exchanges.{after, rise_over, files_over, rows_over}
-use Rattle.ele_files.proofs.Rows.{its_id, next_found, file_of, tagged, own_version, ended_shown}
-use Rattle.ele_files.proofs.Stock.{exchanged, total, over, row_added, file_added}
+-- A file's next version is appended: the first one of a new file, or a held one that comes again.
+use Rattle.ele_files.proofs.Words.{sum_by_cons, sum_by-update_same, sum_by_push, AllByRecursion, AllLater, AllSessions, Append, Bool, Cell, Draft, File, FileRow, GotFile, HasAppended, Held, IsDraftKept, IsFileKept, IsLocal, IsRowOf, IsRowPast, IsStocked, Keeps, Layout, List, LogRow, None, Some, StockLaws, Store, VersionRow, World, [], after_change, all-both, all_found, all-map, all-push, all-weaker, ap, append_nil, arith, bucket_changes, cond, empty_layout, ended_at, ended_rows, eqb, false, file_row, find, find-at, flat_map, flat_map-append, held_in, insert_before, is_file, is_id, is_live, is_version, is_version_after, later-push, local-after, local-insert_before, local-update_first, ltb, map, map-all, map-append, named_live, nat_tests, next_of, next_of-numbered_other, next_of-push, next_row, not_found, numbered_on, refl, row_in, row_stock, rows_in, rows_of, shown, stock_of, subst, sym, true, update_first, update_first-at, with_file, with_name, with_rows, ℕ, ◌&&◌, ◌++◌, ◌+◌, ◌-◌, ◌<◌, ◌||◌, ◌∙◌, ◌∷◌, ◌≡◌, ◌≢◌, Became, HeldRows, IsPast, IsSome, LivesIn, Moves, Option, Stays, cells_of_version, get_or, is_numbered, list_any, position, set}
+use Rattle.ele_files.proofs.Endings.{closed_kept, of_rows, its_kept, its_past}
+use Rattle.ele_files.proofs.Exchanges.{after, rise_over, files_over, rows_over, IsReached, reached}
+use Rattle.ele_files.proofs.Rows.{its_id, next_found, file_of, tagged, own_version, ended_shown, undrafted, no_file, version_none, version_of}
+use Rattle.ele_files.proofs.Stock.{exchanged, total, over, row_added, file_added, row_copied, row_same, held_stays, row_apart, row_lives}
 use Rattle.ele_world.specs.declared.rows.Target.TheVariants as target
+use Rattle.ele_world.specs.World as world
 
 -- what comes in behind all
 insert_end : {X : Type 0} (p : X → Bool) (y : X) (xs : List X) → AllByRecursion (λ x. p x ≡ false) xs → insert_before p y xs ≡ xs ++ y ∷ []
@@ -27,8 +28,8 @@ module _ (s : Store) (files : List File) (id : ℕ) (f g : File) (found : find (
   abbrev new : LogRow
   new = next_row f.next opened now live cells
 
-  its_kept : IsFileKept f
-  its_kept = all_found (is_id id) IsFileKept files f found files_kept
+  kept_file : IsFileKept f
+  kept_file = all_found (is_id id) IsFileKept files f found files_kept
 
   is : f.id ≡ id
   is = its_id files id f found
@@ -43,10 +44,10 @@ module _ (s : Store) (files : List File) (id : ℕ) (f g : File) (found : find (
   pub appended_keeps : StockLaws → (a : AllSessions) → AllByRecursion (IsDraftKept files) a.drafts → AllByRecursion (λ d. d.file ≢ id) a.drafts → IsStocked s (row_stock f.id new ∷ stock_of files a.drafts) → Keeps s (after files id f g found) a
   appended_keeps laws a kept others stocked =
       let with_row = laws.same s (row_stock f.id new ∷ stock_of files a.drafts) (stock_of (after files id f g found) a.drafts) (record { sums = λ k. sym ((row_added files a.drafts id f g found now new closed.rows).sums k) }) stocked in
-      assumption (with_row, rise_over files id f g found rise, files_over files id f g found (closed_kept f now its_kept past opened live cells g closed) files_kept, others_keep a.drafts others kept)
+      assumption (with_row, rise_over files id f g found rise, files_over files id f g found (closed_kept f now kept_file past opened live cells g closed) files_kept, others_keep a.drafts others kept)
 
   none_later : AllByRecursion (λ row. is_version_after id f.next row ≡ false) (map (row_in s f.id) (ended_rows f now))
-  none_later = grind (arith, nat_tests, all-map, all-weaker, of_rows, its_kept, is)
+  none_later = grind (arith, nat_tests, all-map, all-weaker, of_rows, kept_file, is)
 
   local : IsLocal file_of id (appended id f.next now (row_in s f.id new))
   local =
@@ -95,8 +96,8 @@ module _ (s : Store) (files : List File) (a : AllSessions) (kept : Keeps s files
       assumption (stocked, drafts_kept, later-push (λ (g h : File). g.id < h.id) files f kept.rise before, all-push IsFileKept files f kept.files_kept (fresh_kept f next none))
 
   -- no draft is of the file
-  pub undrafted : AllByRecursion (λ d. d.file ≢ f.id) a.drafts
-  undrafted = grind (arith, nat_tests, all-weaker, next_found, not_found, others)
+  pub draftless : AllByRecursion (λ d. d.file ≢ f.id) a.drafts
+  draftless = grind (arith, nat_tests, all-weaker, next_found, not_found, others)
 
   pub placed : after (files ++ f ∷ []) f.id f x found ≡ files ++ x ∷ []
   placed = update_first-at (is_id f.id) (over x) files f [] others (grind (arith, nat_tests)) ∙ ap (λ g. files ++ g ∷ []) (sym (rw (appended.id, appended.policy) refl))
@@ -105,7 +106,7 @@ module _ (s : Store) (files : List File) (a : AllSessions) (kept : Keeps s files
   same_next = subst (λ (n : ℕ). HasAppended f x now (next_row n now now true empty_layout)) (sym next) appended
 
   pub added_keeps : Keeps s (files ++ x ∷ []) a
-  added_keeps = rw (← placed) (appended_keeps s (files ++ f ∷ []) f.id f x found begun.rise begun.files_kept now now true empty_layout same_next (rw none tt) kept.laws a begun.drafts_kept undrafted (kept.laws.empty s f.id (f.next + 1) (stock_of (files ++ f ∷ []) a.drafts) begun.stocked))
+  added_keeps = rw (← placed) (appended_keeps s (files ++ f ∷ []) f.id f x found begun.rise begun.files_kept now now true empty_layout same_next (rw none tt) kept.laws a begun.drafts_kept draftless (kept.laws.empty s f.id (f.next + 1) (stock_of (files ++ f ∷ []) a.drafts) begun.stocked))
 
   pub added_shows : GotFile (held_in s files a) f.id f.policy now (held_in s (files ++ x ∷ []) a)
   added_shows w directory name time =
@@ -117,3 +118,57 @@ module _ (s : Store) (files : List File) (a : AllSessions) (kept : Keeps s files
 
         rows : rows_of (with_name (with_file (with_rows w (held_in s files a)) f.id f.policy) directory name (target.File f.id)) ≡ held_in s (files ++ f ∷ []) a
         rows = rw (more_rows, flat_map-append (rows_in s) files (f ∷ []), none_shown, append_nil (flat_map (rows_in s) files), next) refl
+
+pub some_found : {X : Type 0} (o : Option X) → IsSome o → o ≡ None → ⊥
+some_found o some none = cc
+
+-- what the files and the store are then
+pub record IsRestored (t : Store) (was : Held) (file restored now : ℕ) (live : Bool) (next : ℕ) (files : List File) (a : AllSessions) : Type 0 where
+  pub keeps : Keeps t files a
+  pub number : next ≡ next_of was.files file
+  pub shows : Became was now file live (Append file now (cells_of_version was file restored) ∷ []) (held_in t files a)
+
+module _ (s : Store) (files : List File) (a : AllSessions) (kept : Keeps s files a) (file number : ℕ) (some : IsSome (find (is_version file number) (held_in s files a).versions)) where
+  -- the version's file is there
+  pub not_missing : None ≡ position (is_id file) files → ⊥
+  not_missing none = some_found (find (is_version file number) (held_in s files a).versions) some (version_none s file number files kept.rise (no_file files file none))
+
+  module _ (i : ℕ) (f : File) (place : Some i ≡ position (is_id file) files) (is : f ≡ get_or files i f) (these : HeldRows) (rows_stay : these.rows ≡ f.log.rows) where
+    abbrev at : IsReached files file i f
+    at = reached files file i f place is
+
+    abbrev k : File
+    k = record f { log = these }
+
+    -- and its row
+    pub not_lost : None ≡ find (is_numbered number) these.rows → ⊥
+    not_lost none = some_found (find (is_version file number) (held_in s files a).versions) some (rw (version_of s file number files kept.rise f at.found, ← rows_stay, ← none) refl)
+
+    module _ (row : LogRow) (held : Some row ≡ find (is_numbered number) these.rows) where
+      its_row : find (is_numbered number) f.log.rows ≡ Some row
+      its_row = rw (← rows_stay) (sym held)
+
+      pub lives : LivesIn s row.cells
+      lives = row_lives s files a kept file (is_numbered number) f row at.found its_row
+
+      module _ (t : Store) (moves : Moves s t [] (row.cells ∷ [])) (alone : list_any (world.is_draft file) (held_in s files a).drafts ≡ false) (now : ℕ) (live : Bool) (m : Layout) (same : m ≡ row.cells) (l : File) (appended : HasAppended k l now (next_row f.next now now live m)) (past : AllByRecursion (IsPast now) (held_in s files a).versions) where
+        abbrev again : LogRow
+        again = next_row f.next now now live row.cells
+
+        f_appended : HasAppended f l now again
+        f_appended = record { id = appended.id; policy = appended.policy; next = appended.next; rows = rw (← same) (appended.rows ∙ rw rows_stay refl) }
+
+        came : Stays s t (stock_of files a.drafts) (row_stock f.id again ∷ stock_of files a.drafts)
+        came =
+            let below = (all_found (is_numbered number) (IsRowOf f.next) f.log.rows row its_row (its_kept s files a kept file i f place is).rows).number in
+            row_copied s t files a kept file f at.found (is_numbered number) row its_row moves (f.next + 1) (omega (arith, below)) (row_stock f.id again ∷ stock_of files a.drafts) (record { sums = λ x. refl })
+
+        cells : cells_of_version (held_in s files a) file number ≡ shown t row.cells
+        cells = rw (version_of s file number files kept.rise f at.found, its_row) (sym (row_same s t files a kept file f at.found (is_numbered number) row its_row came.shows))
+
+        pub restored : IsRestored t (held_in s files a) file number now live f.next (set files i l) a
+        restored = record {
+          keeps = rw (at.changed l appended.id appended.policy) (appended_keeps t files file f l at.found kept.rise kept.files_kept now now live row.cells f_appended (its_past s files a kept file i f place is now past) kept.laws a kept.drafts_kept (undrafted s file a.drafts alone) came.stocked);
+          number = sym (next_found files file (Some f) at.found);
+          shows = λ w time lives. rw (at.changed l appended.id appended.policy, cells) (appended_shows t files file f l at.found kept.rise kept.files_kept now now live row.cells f_appended (its_past s files a kept file i f place is now past) a (with_rows w (held_in s files a)) (sym (held_stays s t files a came.shows)) time lives);
+        }

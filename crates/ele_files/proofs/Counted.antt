@@ -1,11 +1,11 @@
--- The places of a file's maps, counted by the slots that were met.
-use Rattle.ele_files.proofs.Words.{AllByRecursion, AllLater, AllSessions, Bool, Cell, Counts, Draft, DraftRow, File, IsFileKept, Keeps, Layout, List, LivesIn, LogRow, Meets, None, Option, Place, Slot, Some, StockLaws, Store, Usage, VersionRow, [], all_found, all-weaker, ap, append_nil, append_assoc, arith, bytes_at, bytes_in, cell_of, cond, different, draft_in, draft_of, eqb, false, file_usage, filter, filter-buckets, find, flat_map, flat_map-map, flat_map_single, found_passes, is_among, is_id, is_key, is_place, is_version_of, length, length-map, length-split, length-take-le, list_any, list_any-append, log_bytes, log_places, map, nat_tests, not, option_map, option_map_or, places, places_from, refl, row_in, rows_in, shown, slice_get, slots_of, subst, sum-map, sum_by_cons, sum_by-map, sum_by-same, sym, take, true, ℕ, ◌&&◌, ◌*◌, ◌++◌, ◌+◌, ◌<◌, ◌^◌, ◌||◌, ◌∙◌, ◌∷◌, ◌≡◌, ◌≤◌}
+-- The places of all maps, as the rows show them, and those of a file's maps, counted by the slots that were met.
+use Rattle.ele_files.proofs.Words.{AllByRecursion, AllLater, AllSessions, Bool, Cell, Counts, Draft, DraftRow, File, IsFileKept, Keeps, Layout, List, LivesIn, LogRow, Meets, None, Option, Place, Slot, Some, StockLaws, Store, Usage, VersionRow, [], all_found, all-weaker, ap, append_nil, append_assoc, arith, bytes_at, bytes_in, cell_of, cond, different, draft_in, draft_of, eqb, false, file_usage, filter, filter-buckets, find, flat_map, flat_map-map, flat_map_single, found_passes, is_among, is_id, is_key, is_place, is_version_of, length, length-map, length-split, length-take-le, list_any, list_any-append, log_bytes, log_places, map, nat_tests, not, option_map, option_map_or, places, places_from, refl, row_in, rows_in, shown, slice_get, slots_of, subst, sum-map, sum_by_cons, sum_by-map, sum_by-same, sym, take, true, ℕ, ◌&&◌, ◌*◌, ◌++◌, ◌+◌, ◌<◌, ◌^◌, ◌||◌, ◌∙◌, ◌∷◌, ◌≡◌, ◌≤◌, Named, Tagged, draft_stock, file_stock, flat_map-append, map-append, names_from, names_in, names_of, row_stock, stock_of}
 use Rattle.ele_files.proofs.Copies.{cell_next}
 use Rattle.ele_files.proofs.Rows.{its_id}
 use Rattle.ele_files.proofs.Stock.{logs_live}
 use Rattle.ele_files.proofs.Tagged.{own_rows}
-use Rattle.ele_sessions.specs.Sessions as sessions
 use Rattle.ele_world.specs.World.{is_draft}
+use Rattle.ele_sessions.specs.Sessions as sessions
 
 -- ---- different places
 
@@ -63,8 +63,8 @@ pub bytes_few : StockLaws → (s : Store) (rows : List LogRow) → AllByRecursio
 bytes_few laws s [] lives = omega arith
 bytes_few laws s (row ∷ rows) lives = omega (arith, sum_by_cons (λ (r : LogRow). r.cells.size) row rows, laws.short s row.cells lives.0, bytes_few laws s rows lives.1)
 
-pub places_shown : (s : Store) (file : ℕ) (rows : List LogRow) → log_places s rows file ≡ flat_map (λ (row : VersionRow). places_from row.file 0 row.cells) (map (row_in s file) rows)
-places_shown s file rows = sym (flat_map-map (λ (row : VersionRow). places_from row.file 0 row.cells) (row_in s file) rows)
+pub log_shown : (s : Store) (file : ℕ) (rows : List LogRow) → log_places s rows file ≡ flat_map (λ (row : VersionRow). places_from row.file 0 row.cells) (map (row_in s file) rows)
+log_shown s file rows = sym (flat_map-map (λ (row : VersionRow). places_from row.file 0 row.cells) (row_in s file) rows)
 
 -- ---- the rows of one file
 
@@ -95,7 +95,7 @@ module _ (s : Store) (files : List File) (a : AllSessions) (kept : Keeps s files
     own_few few = omega (arith, bytes_few kept.laws s f.log.rows (all_found (is_id file) (λ (g : File). AllByRecursion (λ (row : LogRow). LivesIn s row.cells) g.log.rows) files f found (logs_live s files a kept)), own_count, length-split (is_version_of file) (flat_map (rows_in s) files))
 
     pub own_places : log_places s f.log.rows file ≡ places own []
-    own_places = ap (log_places s f.log.rows) (sym (its_id files file f found)) ∙ places_shown s f.id f.log.rows ∙ ap (flat_map row_places) (sym shows) ∙ sym (append_nil (flat_map row_places own))
+    own_places = ap (log_places s f.log.rows) (sym (its_id files file f found)) ∙ log_shown s f.id f.log.rows ∙ ap (flat_map row_places) (sym shows) ∙ sym (append_nil (flat_map row_places own))
 
 -- a file has one draft at most
 pub draft_places : (s : Store) (a : AllSessions) (file : ℕ) → AllLater (λ (x y : Draft). x.file < y.file) a.drafts → flat_map draft_row_places (filter (is_draft file) (map (draft_in s) a.drafts)) ≡ option_map_or (λ m. places_from file 0 (shown s m)) (option_map (λ (d : Draft). d.layout) (draft_of a file)) []
@@ -118,3 +118,25 @@ module _ (versions : List VersionRow) (drafts : List DraftRow) (file : ℕ) (non
 
   pub usage_counts : (count bytes blocks : ℕ) → count ≡ length (filter (is_version_of file) versions) → bytes ≡ bytes_in (filter (is_version_of file) versions) → blocks ≡ length now → usage_by count bytes blocks ≡ file_usage versions drafts file
   usage_counts count bytes blocks counts sums meets = rw (counts, sums, meets, met_all) refl
+
+abbrev place : Named → Place
+place n = n.place
+
+module _ (s : Store) where
+  abbrev tag_places : Tagged → List Place
+  tag_places t = places_from t.file 0 (shown s t.layout)
+
+  slot-places : (file first : ℕ) (slots : List Slot) → map place (names_from file first slots) ≡ places_from file first (map (cell_of s) slots)
+  slot-places file first [] = refl
+  slot-places file first (x ∷ xs) = ap (λ ps. record { file = file; slot = first; writer = x.writer } ∷ ps) (slot-places file (first + 1) xs)
+
+  stock-places : (ts : List Tagged) → map place (names_in s ts) ≡ flat_map tag_places ts
+  stock-places [] = refl
+  stock-places (t ∷ ts) = rw (map-append place (names_of s t.file t.layout) (names_in s ts), slot-places t.file 0 (slots_of s t.layout), stock-places ts) refl
+
+  file-places : (files : List File) → flat_map tag_places (flat_map file_stock files) ≡ flat_map row_places (flat_map (rows_in s) files)
+  file-places [] = refl
+  file-places (f ∷ fs) = grind (arith, flat_map-append, flat_map-map, file-places fs)
+
+  pub places_shown : (files : List File) (drafts : List Draft) → map place (names_in s (stock_of files drafts)) ≡ places (flat_map (rows_in s) files) (map (draft_in s) drafts)
+  places_shown files drafts = grind (arith, stock-places (stock_of files drafts), flat_map-append, flat_map-map, file-places)

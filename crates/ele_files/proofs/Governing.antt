@@ -1,6 +1,6 @@
 -- A file has another policy, and all else stays.
 use Rattle.ele_files.proofs.Words.{AllSessions, Bool, File, IsDraftKept, IsFileKept, IsStocked, stock_of, Keeps, List, None, Policy, PutUnder, Some, Store, [], all_not_found, all-update_first, all-weaker, ap, arith, changed_at, file_row, file_stock, flat_map, get_or, held_in, is_file, is_id, later-update_first, map, nat_tests, next_of, option_map, position, refl, rows_in, set, set-first, sym, update_first, update_first-map, update_first_unfound, ℕ, ◌<◌, ◌∙◌, ◌∷◌, ◌≡◌}
-use Rattle.ele_files.proofs.Looks.{IsSeen}
+use Rattle.ele_files.proofs.Stock.{IsSeen}
 use Rattle.ele_files.proofs.Rows.{file_row_found, no_file}
 use Rattle.ele_world.specs.Change as world
 

@@ -1,5 +1,5 @@
--- The maps of files and drafts as one stock, where one file or one draft has changed.
-use Rattle.ele_files.proofs.Words.{AllByRecursion, AllSessions, Bool, Draft, File, Keeps, List, LivesIn, LogRow, SameStock, Some, Store, Tagged, [], all_found, all-left, all-right, all-split, arith, draft_stock, ended_by, ended_rows, file_stock, find, flat_map, flat_map-all, insert_before, is_draft, is_id, is_numbered, map, map-all, nat_tests, refl, remove_first, row_stock, stock_of, sum_by, sum_by-append, sum_by-around, sum_by_cons, sum_by-flat_map, sum_by-insert_before, sum_by-map, sum_by-remove_first, sum_by-update_first, sum_by-update_same, sum_by_push, update_first, ℕ, ◌++◌, ◌+◌, ◌-◌, ◌∷◌, ◌≡◌}
+-- The maps of files and drafts as one stock, where one file or one draft has changed, and what they show through another store.
+use Rattle.ele_files.proofs.Words.{AllByRecursion, AllSessions, Bool, Draft, File, Keeps, List, LivesIn, LogRow, SameStock, Some, Store, Tagged, [], all_found, all-left, all-right, all-split, arith, draft_stock, ended_by, ended_rows, file_stock, find, flat_map, flat_map-all, insert_before, is_draft, is_id, is_numbered, map, map-all, nat_tests, refl, remove_first, row_stock, stock_of, sum_by, sum_by-append, sum_by-around, sum_by_cons, sum_by-flat_map, sum_by-insert_before, sum_by-map, sum_by-remove_first, sum_by-update_first, sum_by-update_same, sum_by_push, update_first, ℕ, ◌++◌, ◌+◌, ◌-◌, ◌∷◌, ◌≡◌, Held, ShowsSame, draft_in, held_in, row_in, rows_in, Moves, Stays, shown, ◌≤◌}
 
 -- a file with the rows and the next number of g
 abbrev pub over : File → File → File
@@ -65,3 +65,38 @@ module _ (s : Store) (files : List File) (a : AllSessions) (kept : Keeps s files
   -- a found row of a found file
   pub row_lives : (id : ℕ) (q : LogRow → Bool) (f : File) (row : LogRow) → find (is_id id) files ≡ Some f → find q f.log.rows ≡ Some row → LivesIn s row.cells
   row_lives id q f row there held = all_found q (λ (row : LogRow). LivesIn s row.cells) f.log.rows row held (all_found (is_id id) (LogLives s) files f there logs_live)
+
+-- the fields keep their laws, and show these rows
+pub record IsSeen (s : Store) (files : List File) (ss : AllSessions) (h : Held) : Type 0 where
+  pub keeps : Keeps s files ss
+  pub shows : held_in s files ss ≡ h
+
+module _ (s t : Store) where
+  rows_same : (file : ℕ) (rows : List LogRow) → AllByRecursion (ShowsSame s t) (map (row_stock file) rows) → map (row_in t file) rows ≡ map (row_in s file) rows
+  rows_same file [] all = refl
+  rows_same file (r ∷ rows) all = rw (all.0.same, rows_same file rows all.1) refl
+
+  pub versions_same : (files : List File) → AllByRecursion (ShowsSame s t) (flat_map file_stock files) → flat_map (rows_in t) files ≡ flat_map (rows_in s) files
+  versions_same [] all = refl
+  versions_same (f ∷ files) all = rw (rows_same f.id f.log.rows (all-left (ShowsSame s t) (file_stock f) (flat_map file_stock files) all), versions_same files (all-right (ShowsSame s t) (file_stock f) (flat_map file_stock files) all)) refl
+
+  pub drafts_same : (drafts : List Draft) → AllByRecursion (ShowsSame s t) (map draft_stock drafts) → map (draft_in t) drafts ≡ map (draft_in s) drafts
+  drafts_same [] all = refl
+  drafts_same (d ∷ drafts) all = rw (all.0.same, drafts_same drafts all.1) refl
+
+  pub held_stays : (files : List File) (a : AllSessions) → AllByRecursion (ShowsSame s t) (stock_of files a.drafts) → held_in t files a ≡ held_in s files a
+  held_stays files a all = rw (versions_same files (all-left (ShowsSame s t) (flat_map file_stock files) (map draft_stock a.drafts) all), drafts_same a.drafts (all-right (ShowsSame s t) (flat_map file_stock files) (map draft_stock a.drafts) all)) refl
+
+module _ (s t : Store) (files : List File) (a : AllSessions) (kept : Keeps s files a) (id : ℕ) (f : File) (found : find (is_id id) files ≡ Some f) (q : LogRow → Bool) (row : LogRow) (held : find q f.log.rows ≡ Some row) where
+  -- the stock has it too, for whatever file's later version
+  pub row_copied : Moves s t [] (row.cells ∷ []) → (below : ℕ) → row.number + 1 ≤ below → (us : List Tagged) → SameStock us (record (row_stock f.id row) { below = below } ∷ stock_of files a.drafts) → Stays s t (stock_of files a.drafts) us
+  row_copied moves below later us is =
+      let g : File = record f { log = record f.log { rows = remove_first q f.log.rows } } in
+      kept.laws.copied s t (stock_of files a.drafts) (row_stock f.id row) (stock_of (update_first (is_id id) (over g) files) a.drafts) below us kept.stocked (row_apart files a.drafts id f g found q row held refl) later moves is
+
+  -- and the version shows what it showed
+  pub row_same : AllByRecursion (ShowsSame s t) (stock_of files a.drafts) → shown t row.cells ≡ shown s row.cells
+  row_same all =
+      let mine = flat_map-all file_stock (ShowsSame s t) files (all-left (ShowsSame s t) (flat_map file_stock files) (map draft_stock a.drafts) all) in
+      let rows = map-all (row_stock f.id) (ShowsSame s t) f.log.rows (all_found (is_id id) (λ x. AllByRecursion (ShowsSame s t) (file_stock x)) files f found mine) in
+      (all_found q (λ r. ShowsSame s t (row_stock f.id r)) f.log.rows row held rows).same

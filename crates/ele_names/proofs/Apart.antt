@@ -1,6 +1,5 @@
 -- Rows of one name are over when a later one is born, so the newest decides.
-use Rattle.ele_names.proofs.Basics.{◌≡◌, ℕ, ◌≤◌, Bool, true, false, ◌&&◌, ◌==◌, nat_le, nat_lt, List, [], ◌∷◌, Some, Option, is_none, refl, ap, sym, ◌∙◌, arith, find, AllByRecursion, option_map_or, bytes_eq, false≢true, nat_tests, bytes_eq-Decides, AllLater, last_passing, passing, later-weaker, find_last}
-use Rattle.ele_names.proofs.Words.{last_moment, NameRow, is_named, covers, lives_past, is_live_name, is_born_by, Follows}
+use Rattle.ele_names.proofs.Words.{◌≡◌, ℕ, ◌≤◌, Bool, true, false, ◌&&◌, ◌==◌, nat_le, nat_lt, List, [], ◌∷◌, Some, Option, is_none, refl, ap, sym, ◌∙◌, arith, find, AllByRecursion, option_map_or, bytes_eq, false≢true, nat_tests, bytes_eq-Decides, AllLater, last_passing, passing, later-weaker, find_last, last_moment, NameRow, is_named, covers, lives_past, is_live_name, is_born_by, Follows}
 
 pub split : (a b : Bool) → (a && b) ≡ true → (a ≡ true) × (b ≡ true)
 split a b h = grind (arith, nat_tests)

@@ -1,7 +1,5 @@
 -- The members of each group, where a newer one comes or the newest goes.
-use Rattle.ele_names.proofs.Basics.{◌≡◌, ℕ, zero, suc, ◌≤◌, ◌<◌, ◌^◌, Bool, true, false, cond, List, [], ◌∷◌, ◌++◌, length, take, slice_get, slice_set, IsSome, Option, Some, None, refl, sym, ◌∙◌, arith, inl, inr, is_at, nat_eq, option_map_or, nat_cmp, false≢true, cases_lt, nat_tests}
-use Rattle.ele_names.specs.declared.chains.Chains.{Chains}
-use Rattle.ele_names.specs.Chained.{AreChained, HasOlder, IsLastBelow, Gains, Keeps, Loses, is_member, newest_in}
+use Rattle.ele_names.proofs.Words.{◌≡◌, ℕ, zero, suc, ◌≤◌, ◌<◌, ◌^◌, Bool, true, false, cond, List, [], ◌∷◌, ◌++◌, length, take, slice_get, slice_set, IsSome, Option, Some, None, refl, sym, ◌∙◌, arith, inl, inr, is_at, nat_eq, option_map_or, nat_cmp, false≢true, cases_lt, nat_tests, Chains, AreChained, HasOlder, IsLastBelow, Gains, Keeps, Loses, is_member, newest_in}
 use Rattle.ele_names.proofs.Live.{same_serial}
 
 apart : (n s : ℕ) → s < n → is_at (nat_cmp n) s ≡ false

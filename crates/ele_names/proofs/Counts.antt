@@ -1,6 +1,5 @@
 -- Live rows and counts of them, where one comes or goes.
-use Rattle.ele_names.proofs.Basics.{◌≡◌, ℕ, ◌+◌, ◌-◌, ◌==◌, ◌&&◌, Bool, true, false, cond, not, nat_lt, is_none, List, [], ◌∷◌, ◌++◌, Some, None, refl, arith, count_by, list_any, AllByRecursion, AllLater, all-append, later-around, all-any, all-weaker, sum_by-around, sum_by-same, any_count, nat_tests}
-use Rattle.ele_names.proofs.Words.{IsKept, Lives, Table, live_of, rows_of, NameRow, Target, Directory, File, is_live_name_of, is_target_file, is_live_in, is_target_directory, is_live_directory, is_named, is_live_name, live_target, is_live_of, Leaves, Follows, target_eq}
+use Rattle.ele_names.proofs.Words.{◌≡◌, ℕ, ◌+◌, ◌-◌, ◌==◌, ◌&&◌, Bool, true, false, cond, not, nat_lt, is_none, List, [], ◌∷◌, ◌++◌, Some, None, refl, arith, count_by, list_any, AllByRecursion, AllLater, all-append, later-around, all-any, all-weaker, sum_by-around, sum_by-same, any_count, nat_tests, IsKept, Lives, Table, live_of, rows_of, NameRow, Target, Directory, File, is_live_name_of, is_target_file, is_live_in, is_target_directory, is_live_directory, is_named, is_live_name, live_target, is_live_of, Leaves, Follows, target_eq}
 use Rattle.ele_names.proofs.Apart.{named_and_live, named_dead, same_name}
 
 -- what a test counts of one row that is live, or dead

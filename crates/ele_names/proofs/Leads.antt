@@ -1,6 +1,5 @@
 -- Where a path leads, by the place of its last name.
-use Rattle.ele_names.proofs.Basics.{◌≡◌, ℕ, List, [], ◌∷◌, Ok, Err, Some, None, ap, ◌∙◌, refl, option_map_or}
-use Rattle.ele_names.proofs.Words.{NoEntry, NameRow, Target, Directory, live_target, parent_now, walk_now, root, parent_is, walk-on, StopsAtPlace}
+use Rattle.ele_names.proofs.Words.{◌≡◌, ℕ, List, [], ◌∷◌, Ok, Err, Some, None, ap, ◌∙◌, refl, option_map_or, NoEntry, NameRow, Target, Directory, live_target, parent_now, walk_now, root, parent_is, walk-on, StopsAtPlace}
 
 -- a path leads to what its last name stands for
 pub leads_by_place : (rows : List NameRow) (path : List (List ℕ)) (at : ℕ × List ℕ) → parent_now rows path ≡ Ok at → walk_now rows path ≡ option_map_or (λ target. Ok target) (live_target rows at.0 at.1) (Err NoEntry)

@@ -1,4 +1,3 @@
-pub mod Basics
 pub mod Words
 pub mod Apart
 pub mod Numbers
@@ -12,3 +11,4 @@ pub mod Added
 pub mod Gone
 pub mod Told
 pub mod Leads
+pub mod Lemmas

@@ -1,7 +1,5 @@
 -- The live rows by directory and name, where one comes or goes.
-use Rattle.ele_names.proofs.Basics.{◌≡◌, ℕ, Bool, true, false, cond, List, Some, None, Option, is_none, refl, sym, ap, ◌∙◌, arith, option_and_then, option_map, option_map_or, nat_cmp, is_at, true≢false, false≢true, nat_tests}
-use Rattle.ele_names.proofs.Words.{NameRow, Target, is_named, is_live_name, live_target, Live, Lives, AreCounted, AreNumbered, Leaves, live_at, name_eq}
-use Rattle.ele_names.specs.Chained.{live_in}
+use Rattle.ele_names.proofs.Words.{◌≡◌, ℕ, Bool, true, false, cond, List, Some, None, Option, is_none, refl, sym, ap, ◌∙◌, arith, option_and_then, option_map, option_map_or, nat_cmp, is_at, true≢false, false≢true, nat_tests, NameRow, Target, is_named, is_live_name, live_target, Live, Lives, AreCounted, AreNumbered, Leaves, live_at, name_eq, live_in}
 use Rattle.ele_names.proofs.Apart.{named_dead, named_live}
 use Rattle.ele_names.proofs.Numbers.{exact, itself}
 

@@ -1,6 +1,5 @@
 -- What the index by name says of the rows.
-use Rattle.ele_names.proofs.Basics.{◌≡◌, ℕ, ◌≤◌, ◌<◌, ◌^◌, Bool, true, false, ◌&&◌, ◌==◌, nat_le, List, length, Some, None, Option, refl, sym, ◌∙◌, arith, Ordering, nat_cmp, ordering_then, is_eq, unsigned_tied, false≢true, nat_tests, last_passing, has, IsLastOf, value_at, is_placed, all-mid, split_at, found_key, later_at, none_last, is_last, not_true}
-use Rattle.ele_names.proofs.Words.{NameRow, is_named, Table, IsTable, rows_of, is_born_by, number_in, place_in, Follows}
+use Rattle.ele_names.proofs.Words.{◌≡◌, ℕ, ◌≤◌, ◌<◌, ◌^◌, Bool, true, false, ◌&&◌, ◌==◌, nat_le, List, length, Some, None, Option, refl, sym, ◌∙◌, arith, Ordering, nat_cmp, ordering_then, is_eq, unsigned_tied, false≢true, nat_tests, last_passing, has, IsLastOf, value_at, is_placed, all-mid, split_at, found_key, later_at, none_last, is_last, not_true, NameRow, is_named, Table, IsTable, rows_of, is_born_by, number_in, place_in, Follows}
 use Rattle.ele_names.proofs.Apart.{same_name}
 use Rattle.ele_names.proofs.Numbers.{named_place, one_place}
 

@@ -66,7 +66,7 @@ impl Lives {
     }
 
     /// The number of the name; one that was never given gets the next.
-    #[tactic(auto, using(crate::proofs::Basics::nat_tests, crate::proofs::Given::listed_told))]
+    #[tactic(auto, using(crate::proofs::Words::nat_tests, crate::proofs::Given::listed_told))]
     pub fn number_or_next(&mut self, directory: DirId, name: Name) -> Result<u64, NoMemory>
         ensures number { IfOk result (λ number. (number ≡ place_in (names_of self.new) directory name)
             × (number < length (names_of self.new))) }
@@ -96,7 +96,7 @@ impl Lives {
     }
 
     // Sets the live row of a name that was given.
-    #[tactic(auto, using(crate::proofs::Basics::nat_tests, crate::proofs::Numbers::not_missing, crate::proofs::Numbers::present, crate::proofs::Basics::keys_present))]
+    #[tactic(auto, using(crate::proofs::Words::nat_tests, crate::proofs::Numbers::not_missing, crate::proofs::Numbers::present, crate::proofs::Words::keys_present))]
     fn set(&mut self, directory: DirId, name: &Name, live: Option<Live<Target>>)
         requires { place_in (names_of self.old) directory name.now < length (names_of self.old) }
         ensures names { names_of self.new ≡ names_of self.old }
@@ -110,7 +110,7 @@ impl Lives {
     }
 
     /// Takes in a live row of that serial number.
-    #[tactic(auto, using(crate::proofs::Basics::nat_tests, crate::proofs::Given::listed_told, crate::proofs::Given::has_names, crate::proofs::Counts::live_one, crate::proofs::Live::entered))]
+    #[tactic(auto, using(crate::proofs::Words::nat_tests, crate::proofs::Given::listed_told, crate::proofs::Given::has_names, crate::proofs::Counts::live_one, crate::proofs::Live::entered))]
     pub fn enter(&mut self, row: &NameRow, serial: u64)
         requires known { number_in (names_of self.old) row.now < length (names_of self.old) }
         requires listed { AreListed self.old }
@@ -132,7 +132,7 @@ impl Lives {
     }
 
     /// Takes out a row, if it was live. It takes no memory.
-    #[tactic(auto, using(crate::proofs::Basics::nat_tests, crate::proofs::Apart::named_live, crate::proofs::Live::own_name))]
+    #[tactic(auto, using(crate::proofs::Words::nat_tests, crate::proofs::Apart::named_live, crate::proofs::Live::own_name))]
     pub fn leave(&mut self, row: &NameRow)
         requires { number_in (names_of self.old) row.now < length (names_of self.old) }
         ensures names { names_of self.new ≡ names_of self.old }
@@ -149,7 +149,7 @@ impl Lives {
     }
 
     /// Takes out the live row of the name. It takes no memory.
-    #[tactic(auto, using(crate::proofs::Basics::nat_tests, crate::proofs::Given::listed_told, crate::proofs::Apart::named_and_live, crate::proofs::Counts::live_one, crate::proofs::Live::left, crate::proofs::Live::set_of_name, crate::proofs::Numbers::exact))]
+    #[tactic(auto, using(crate::proofs::Words::nat_tests, crate::proofs::Given::listed_told, crate::proofs::Apart::named_and_live, crate::proofs::Counts::live_one, crate::proofs::Live::left, crate::proofs::Live::set_of_name, crate::proofs::Numbers::exact))]
     pub fn end(&mut self, directory: DirId, name: &Name)
         requires { place_in (names_of self.old) directory name.now < length (names_of self.old) }
         ensures names { names_of self.new ≡ names_of self.old }

@@ -94,7 +94,7 @@ impl Names {
 
     /// Takes out the last row in order of making: right behind `add` the one that it made. It takes
     /// no memory.
-    #[tactic(auto, using(crate::proofs::Basics::nat_tests, crate::proofs::Gone::last_gone))]
+    #[tactic(auto, using(crate::proofs::Words::nat_tests, crate::proofs::Gone::last_gone))]
     pub fn take_back(&mut self)
         requires { 0 < length self.old }
         ensures { (rows : List NameRow) (newest : NameRow)
@@ -111,7 +111,7 @@ impl Names {
     }
 
     /// Ends the live name at the moment. It takes no memory.
-    #[tactic(auto, using(crate::proofs::Basics::nat_tests, crate::proofs::Gone::found_known))]
+    #[tactic(auto, using(crate::proofs::Words::nat_tests, crate::proofs::Gone::found_known))]
     pub fn kill(&mut self, directory: DirId, name: &Name, moment: Moment)
         requires { IsSome (live_target self.old directory name.now) }
         ensures { self.new
@@ -134,7 +134,7 @@ impl Names {
     }
 
     // Takes out one row of the file, if there is one, and answers whether there was.
-    #[tactic(auto, using(crate::proofs::Basics::nat_tests, crate::proofs::Gone::fewer, crate::proofs::Gone::row_known))]
+    #[tactic(auto, using(crate::proofs::Words::nat_tests, crate::proofs::Gone::fewer, crate::proofs::Gone::row_known))]
     fn drop_one(&mut self, file: FileId) -> bool
         ensures others { filter (λ row. not (is_of file row)) self.new
             ≡ filter (λ row. not (is_of file row)) self.old }
@@ -257,7 +257,7 @@ impl Names {
     }
 
     /// Whether the directory has a live name.
-    #[tactic(auto, using(crate::proofs::Basics::any_count, crate::proofs::Counts::directory_names))]
+    #[tactic(auto, using(crate::proofs::Words::any_count, crate::proofs::Counts::directory_names))]
     pub fn dir_live(&self, directory: DirId) -> bool
         ensures { result ≡ list_any (is_live_directory directory) self.now }
     {
@@ -265,7 +265,7 @@ impl Names {
     }
 
     /// Whether the file has a live name.
-    #[tactic(auto, using(crate::proofs::Basics::any_count, crate::proofs::Words::is_live_name_of))]
+    #[tactic(auto, using(crate::proofs::Words::any_count, crate::proofs::Words::is_live_name_of))]
     pub fn is_live(&self, file: FileId) -> bool
         ensures { result ≡ list_any (is_live_name_of file) self.now }
     {

@@ -53,7 +53,7 @@ impl Numbered {
     }
 
     /// The row of the serial number.
-    #[tactic(auto, using(crate::proofs::Basics::nat_tests, crate::proofs::Numbering::at_place, crate::proofs::Basics::option_and_then, crate::proofs::Basics::slice_get_past, crate::proofs::Basics::slice_get, crate::proofs::Basics::slice_get_read))]
+    #[tactic(auto, using(crate::proofs::Words::nat_tests, crate::proofs::Numbering::at_place, crate::proofs::Words::option_and_then, crate::proofs::Words::slice_get_past, crate::proofs::Words::slice_get, crate::proofs::Words::slice_get_read))]
     pub fn get(&self, serial: u64) -> Option<&NameRow>
         ensures { option_copied result ≡ value_at self.now.entries serial }
     {
@@ -61,7 +61,7 @@ impl Numbered {
     }
 
     /// Adds a row behind all others. `NoMemory` where there is no room; all is as it was.
-    #[tactic(auto, using(crate::proofs::Numbering::place_pushed, crate::proofs::Numbering::from_below, crate::proofs::Basics::pushed))]
+    #[tactic(auto, using(crate::proofs::Numbering::place_pushed, crate::proofs::Numbering::from_below, crate::proofs::Words::pushed))]
     pub fn push(&mut self, row: NameRow) -> Result<(), NoMemory>
         ensures ok { OnOk result
             (self.new.entries ≡ insert_entry nat_cmp self.old.entries self.old.made row) }
@@ -72,7 +72,7 @@ impl Numbered {
     }
 
     /// Ends the row of the serial number at the moment.
-    #[tactic(auto, using(crate::proofs::Basics::nat_tests, crate::proofs::Numbering::placed_within, crate::proofs::Numbering::at_place, crate::proofs::Numbering::place_set, crate::proofs::Basics::slice_got, crate::proofs::Basics::option_and_then, crate::proofs::Words::dies))]
+    #[tactic(auto, using(crate::proofs::Words::nat_tests, crate::proofs::Numbering::placed_within, crate::proofs::Numbering::at_place, crate::proofs::Numbering::place_set, crate::proofs::Words::slice_got, crate::proofs::Words::option_and_then, crate::proofs::Words::dies))]
     pub fn end(&mut self, serial: u64, moment: Moment)
         requires { IsSome (value_at self.old.entries serial) }
         ensures { (row : NameRow) → value_at self.old.entries serial ≡ Some row
@@ -84,7 +84,7 @@ impl Numbered {
     }
 
     /// Takes out the row of the serial number.
-    #[tactic(auto, using(crate::proofs::Basics::nat_tests, crate::proofs::Numbering::placed_within, crate::proofs::Numbering::at_place, crate::proofs::Numbering::place_cleared, crate::proofs::Basics::slice_got, crate::proofs::Basics::option_and_then))]
+    #[tactic(auto, using(crate::proofs::Words::nat_tests, crate::proofs::Numbering::placed_within, crate::proofs::Numbering::at_place, crate::proofs::Numbering::place_cleared, crate::proofs::Words::slice_got, crate::proofs::Words::option_and_then))]
     pub fn take(&mut self, serial: u64) -> Option<NameRow>
         requires { IsSome (value_at self.old.entries serial) }
         ensures row { result ≡ value_at self.old.entries serial }
@@ -95,7 +95,7 @@ impl Numbered {
     }
 
     /// Takes out the last row, with its serial number, and the empty places behind it.
-    #[tactic(auto, using(crate::proofs::Basics::nat_tests, crate::proofs::Numbering::from_none, crate::proofs::Numbering::place_pushed, crate::proofs::Numbering::from_below, crate::proofs::Numbering::none_taken, crate::proofs::Basics::option_to_list))]
+    #[tactic(auto, using(crate::proofs::Words::nat_tests, crate::proofs::Numbering::from_none, crate::proofs::Numbering::place_pushed, crate::proofs::Numbering::from_below, crate::proofs::Numbering::none_taken, crate::proofs::Words::option_to_list))]
     pub fn pop(&mut self) -> Option<(u64, NameRow)>
         ensures some { IfSome result (λ e. self.old.entries ≡ self.new.entries ++ e ∷ []) }
         ensures below { IfSome result

@@ -51,7 +51,7 @@ impl Places {
 
     /// Puts a live row, newer than all others, at its places, by the number of its name, and counts
     /// it. `NoMemory` where there is no room; it then stands at none.
-    #[tactic(auto, using(crate::proofs::Basics::nat_tests, crate::proofs::Basics::index_same, crate::proofs::Basics::index_undo))]
+    #[tactic(auto, using(crate::proofs::Words::nat_tests, crate::proofs::Words::index_same, crate::proofs::Words::index_undo))]
     pub fn enter(&mut self, number: u64, row: &NameRow, serial: u64) -> Result<(), NoMemory>
         requires { live_of self.old row.now.target + 1 < 2 ^ 64 }
         ensures ok { OnOk result ((names : List (ℕ × List ℕ)) (at : ℕ → Option NameRow)
@@ -77,7 +77,7 @@ impl Places {
     }
 
     // Puts a live row of the target in front of those of its file, and counts it.
-    #[tactic(auto, using(crate::proofs::Basics::nat_tests, crate::proofs::Chained::chained_kept))]
+    #[tactic(auto, using(crate::proofs::Words::nat_tests, crate::proofs::Chained::chained_kept))]
     fn enter_target(&mut self, target: Target, serial: u64) -> Result<(), NoMemory>
         requires { live_of self.old target + 1 < 2 ^ 64 }
         ensures named { self.new.by_name ≡ self.old.by_name }

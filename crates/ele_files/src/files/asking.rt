@@ -97,7 +97,7 @@ impl Files {
     }
 
     /// Whether the file has a draft.
-    #[tactic(auto, using(std::proofs::lemmas::Bool::Decides::nat_tests, crate::proofs::Asked::drafted))]
+    #[tactic(auto, using(std::proofs::lemmas::Bool::Decides::nat_tests, crate::proofs::Tagged::drafted))]
     pub fn has_draft(&self, file: FileId) -> bool
         ensures { result ≡ list_any (is_draft file) self.now.drafts }
     {

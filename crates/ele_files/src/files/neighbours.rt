@@ -13,7 +13,7 @@ use ele_world::Stamps;
 
 impl Files {
     /// When the file's next held version behind the number closed; none where there is none. It reads at most one row.
-    #[tactic(auto, using(std::proofs::lemmas::Bool::Decides::nat_tests, crate::proofs::Neighbours::closing_none, crate::proofs::Neighbours::closing_shown))]
+    #[tactic(auto, using(std::proofs::lemmas::Bool::Decides::nat_tests, crate::proofs::Tagged::closing_none, crate::proofs::Tagged::closing_shown))]
     pub fn next_closing(&self, file: FileId, number: VersionNo, meter: &mut Meter) -> Option<Moment>
         requires meter { meter.old < 2 ^ 60 }
         ensures value { result ≡ next_closing self.now.versions file number }
@@ -25,7 +25,7 @@ impl Files {
     }
 
     /// The file's newest held version; none where it holds none. It reads at most one row.
-    #[tactic(auto, using(std::proofs::lemmas::Bool::Decides::nat_tests, crate::proofs::Neighbours::newest_told, crate::proofs::Tagged::none_shown, crate::proofs::Neighbours::newest_shown))]
+    #[tactic(auto, using(std::proofs::lemmas::Bool::Decides::nat_tests, crate::proofs::Tagged::newest_told, crate::proofs::Tagged::none_shown, crate::proofs::Tagged::newest_shown))]
     pub fn newest(&self, file: FileId, meter: &mut Meter) -> Option<Stamps>
         requires meter { meter.old < 2 ^ 60 }
         ensures value { result ≡ option_map stamps_of (newest_of self.now.versions file) }

@@ -31,7 +31,7 @@ impl Files {
     /// now, and the version before that ends. No draft of the file is there. The caller tells whether
     /// the file is live; where it isn't, the new version ends at once. The answer is its number. Where
     /// memory is refused, all is as it was.
-    #[tactic(auto, using(std::proofs::lemmas::Bool::Decides::nat_tests, crate::proofs::Openings::maps_seen, crate::proofs::Restores::lives, crate::proofs::Restores::not_missing, crate::proofs::Restores::not_lost))]
+    #[tactic(auto, using(std::proofs::lemmas::Bool::Decides::nat_tests, crate::proofs::Openings::maps_seen, crate::proofs::Appends::lives, crate::proofs::Appends::not_missing, crate::proofs::Appends::not_lost))]
     pub fn restore(
         &mut self,
         file: FileId,

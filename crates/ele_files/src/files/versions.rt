@@ -24,7 +24,7 @@ use std::alloc::Global;
 
 impl Files {
     /// The version's number, its moments and its length; none where it isn't held.
-    #[tactic(auto, using(std::proofs::lemmas::Bool::Decides::nat_tests, crate::proofs::Asked::stamps_shown, crate::proofs::Rows::version_none))]
+    #[tactic(auto, using(std::proofs::lemmas::Bool::Decides::nat_tests, crate::proofs::Tagged::stamps_shown, crate::proofs::Rows::version_none))]
     pub fn stamps(&self, file: FileId, number: VersionNo, meter: &mut Meter) -> Option<Stamps>
         requires { meter.old < 2 ^ 62 }
         ensures value { result
@@ -73,7 +73,7 @@ impl Files {
     }
 
     /// The bytes of the version; none where it isn't held.
-    #[tactic(auto, using(std::proofs::lemmas::Bool::Decides::nat_tests, crate::proofs::Asked::cells_none, crate::proofs::Asked::cells_some, crate::proofs::Rows::version_none, crate::proofs::Stock::row_lives))]
+    #[tactic(auto, using(std::proofs::lemmas::Bool::Decides::nat_tests, crate::proofs::Tagged::cells_none, crate::proofs::Tagged::cells_some, crate::proofs::Rows::version_none, crate::proofs::Stock::row_lives))]
     pub fn version_content(
         &self,
         file: FileId,

@@ -1,5 +1,4 @@
-use Rattle.ele_names.proofs.Basics.{◌≡◌, drop}
-use Rattle.ele_names.proofs.Words.{comes_through, root, Directory}
+use Rattle.ele_names.proofs.Lemmas.{◌≡◌, drop, comes_through, root, Directory}
 use Rattle.ele_names.proofs.walk.comes_through.Given as goal
 
 abbrev pub invariant-loop-name : goal.invariant-loop-name

@@ -1,5 +1,4 @@
-use Rattle.std.proofs.Common.{◌≡◌, drop}
-use Rattle.ele_world.specs.Walk.{walk, walk_now}
+use Rattle.ele_names.proofs.Lemmas.{◌≡◌, drop, walk, walk_now}
 use Rattle.ele_names.proofs.walk.walk.Given as goal
 
 abbrev pub invariant-loop-name : goal.invariant-loop-name

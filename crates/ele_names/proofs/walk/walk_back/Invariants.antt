@@ -1,5 +1,4 @@
-use Rattle.ele_names.proofs.Basics.{◌≡◌, drop}
-use Rattle.ele_names.proofs.Words.{walk_covering, root, Directory}
+use Rattle.ele_names.proofs.Lemmas.{◌≡◌, drop, walk_covering, root, Directory}
 use Rattle.ele_names.proofs.walk.walk_back.Given as goal
 
 abbrev pub invariant-loop-name : goal.invariant-loop-name

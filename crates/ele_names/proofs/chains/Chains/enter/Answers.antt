@@ -1,5 +1,4 @@
-use Rattle.ele_names.proofs.Basics.{◌≡◌, cond, Some, append_assoc, nat_eq, option_and_then, option_map_or, slice_get, slice_got, ap, sym, ◌∙◌}
-use Rattle.ele_names.proofs.Chained.{cut_kept, own_pushed, same_seen, set_seen}
+use Rattle.ele_names.proofs.Lemmas.{◌≡◌, cond, Some, append_assoc, nat_eq, option_and_then, option_map_or, slice_get, slice_got, ap, sym, ◌∙◌, cut_kept, own_pushed, same_seen, set_seen}
 use Rattle.ele_names.proofs.chains.Chains.enter.Goals as goal
 
 pub returns-clause-ok : goal.returns-clause-ok

@@ -1,6 +1,4 @@
-use Rattle.ele_names.proofs.Basics.{None, arith, nat_tests}
-use Rattle.ele_names.proofs.Apart.{named_and_live}
-use Rattle.ele_names.proofs.Live.{numbered_without, set_of_name, others_live}
+use Rattle.ele_names.proofs.Lemmas.{None, arith, nat_tests, named_and_live, numbered_without, set_of_name, others_live}
 use Rattle.ele_names.proofs.lives.Lives.end.Goals as goal
 
 pub returns-clause-numbered : goal.returns-clause-numbered

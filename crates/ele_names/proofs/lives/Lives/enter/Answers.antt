@@ -1,5 +1,4 @@
-use Rattle.ele_names.proofs.Basics.{refl}
-use Rattle.ele_names.proofs.Live.{numbered_with}
+use Rattle.ele_names.proofs.Lemmas.{refl, numbered_with}
 use Rattle.ele_names.proofs.lives.Lives.enter.Goals as goal
 
 pub returns-clause-numbered : goal.returns-clause-numbered

@@ -1,9 +1,4 @@
-use Rattle.ele_names.proofs.Basics.{◌≡◌, ℕ, List, length, length_append, ◌∷◌, [], refl, sym, ap, subst, ◌∙◌, ◌++◌, arith, keys_of}
-use Rattle.ele_names.proofs.Words.{Lives, live_at, names_of}
-use Rattle.ele_names.proofs.Given.{names_pushed, names_counted, same_live, listed_pushed, listed_kept}
-use Rattle.ele_names.proofs.Live.{counted_same, numbered_same}
-use Rattle.ele_names.proofs.Numbers.{keeps_pushed, pushed_place}
-use Rattle.ele_names.specs.Chained.{Gains}
+use Rattle.ele_names.proofs.Lemmas.{◌≡◌, ℕ, List, length, length_append, ◌∷◌, [], refl, sym, ap, subst, ◌∙◌, ◌++◌, arith, keys_of, Lives, live_at, names_of, names_pushed, names_counted, same_live, listed_pushed, listed_kept, counted_same, numbered_same, keeps_pushed, pushed_place, Gains}
 use Rattle.ele_names.proofs.lives.Lives.number_or_next.Goals as goal
 
 abbrev old : goal.In_default-insert → Lives

@@ -1,4 +1,4 @@
-use Rattle.ele_names.proofs.Basics.{arith, nat_tests}
+use Rattle.ele_names.proofs.Lemmas.{arith, nat_tests}
 use Rattle.ele_names.proofs.lives.Lives.set.Goals as goal
 
 pub returns-clause-live : goal.returns-clause-live

@@ -1,8 +1,4 @@
-use Rattle.ele_names.proofs.Basics.{true, ◌++◌, ◌∷◌, [], Some, cond, refl, sym, ap, ◌∙◌, append-nil, arith, nat_cmp, is_at, values_of, value_at, later-push, at_itself}
-use Rattle.ele_names.proofs.Words.{Leaves, IsKept, is_of, live_of, rows_of, names_of, target_eq, Follows, born_row}
-use Rattle.ele_names.proofs.Added.{fresh, kept_over, kept_placed, kept_pushed, placed_back, rows_pushed}
-use Rattle.ele_names.proofs.Chained.{none_behind}
-use Rattle.ele_names.proofs.Counts.{leaves_without, live_one, target_with}
+use Rattle.ele_names.proofs.Lemmas.{true, ◌++◌, ◌∷◌, [], Some, cond, refl, sym, ap, ◌∙◌, append-nil, arith, nat_cmp, is_at, values_of, value_at, later-push, at_itself, Leaves, IsKept, is_of, live_of, rows_of, names_of, target_eq, Follows, born_row, fresh, kept_over, kept_placed, kept_pushed, placed_back, rows_pushed, none_behind, leaves_without, live_one, target_with}
 use Rattle.ele_names.proofs.names.Names.add.Goals as goal
 
 pub invariant_of-self : goal.invariant_of-self

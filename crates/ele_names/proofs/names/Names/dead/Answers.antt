@@ -1,6 +1,4 @@
-use Rattle.ele_names.proofs.Basics.{◌≡◌, ◌∷◌, Ok, map, ap, ◌∙◌, rules, tests, list_any, AllocError, items_from_collect, YieldsList-from_map, YieldsList-from_rest}
-use Rattle.ele_names.proofs.Words.{last_dead, rows_of, by_name, name_cmp, name_eq}
-use Rattle.ele_names.proofs.Told.{dead_begun, dead_next, name_exact, name_total, parted, parted_back, told_all, told_one}
+use Rattle.ele_names.proofs.Lemmas.{◌≡◌, ◌∷◌, Ok, map, ap, ◌∙◌, rules, tests, list_any, AllocError, items_from_collect, YieldsList-from_map, YieldsList-from_rest, last_dead, rows_of, by_name, name_cmp, name_eq, dead_begun, dead_next, name_exact, name_total, parted, parted_back, told_all, told_one}
 use Rattle.ele_names.proofs.names.Names.dead.Goals as goal
 
 entries_are : (c : goal.In_ok-collect) → map by_name c.in_ok-collect.field-0.items ≡ c.loop-directory.found.entries

@@ -1,6 +1,4 @@
-use Rattle.ele_names.proofs.Basics.{list_any}
-use Rattle.ele_names.proofs.Words.{last_dead, rows_of, name_cmp, name_eq}
-use Rattle.ele_names.proofs.Told.{AreTold}
+use Rattle.ele_names.proofs.Lemmas.{list_any, last_dead, rows_of, name_cmp, name_eq, AreTold}
 use Rattle.ele_names.proofs.names.Names.dead.Given as goal
 
 abbrev pub invariant-loop-directory : goal.invariant-loop-directory

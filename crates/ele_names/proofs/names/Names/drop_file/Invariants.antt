@@ -1,5 +1,4 @@
-use Rattle.ele_names.proofs.Basics.{◌≡◌, length, filter, not}
-use Rattle.ele_names.proofs.Words.{is_of}
+use Rattle.ele_names.proofs.Lemmas.{◌≡◌, length, filter, not, is_of}
 use Rattle.ele_names.proofs.names.Names.drop_file.Given as goal
 
 abbrev pub invariant-loop-file : goal.invariant-loop-file

@@ -1,9 +1,4 @@
-use Rattle.std.proofs.Common.{ℕ, suc, ◌<◌, Option, Some, None, arith}
-use Rattle.std.specs.Prelude.{IfSome}
-use Rattle.std.specs.Option.{option_map_or}
-use Rattle.ele_names.proofs.Basics.{Ok, slice_cmp, nat_cmp, AllocError, nat_list_cmp_total, items_from_collect, YieldsList-from_rest, exact_bytes}
-use Rattle.ele_names.proofs.Words.{target_at, rows_of, names_of}
-use Rattle.ele_names.proofs.Told.{is_left, list_begun, list_first, list_next, list_second, list_smaller, list_stands, told_all, told_one}
+use Rattle.ele_names.proofs.Lemmas.{ℕ, suc, ◌<◌, Option, Some, None, arith, IfSome, option_map_or, Ok, slice_cmp, nat_cmp, AllocError, nat_list_cmp_total, items_from_collect, YieldsList-from_rest, exact_bytes, target_at, rows_of, names_of, is_left, list_begun, list_first, list_next, list_second, list_smaller, list_stands, told_all, told_one}
 use Rattle.ele_names.proofs.names.Names.list.Goals as goal
 
 less : (o : Option ℕ) (r : ℕ) → IfSome o (λ s. s < r) → option_map_or suc o 0 < suc r

@@ -1,11 +1,4 @@
-use Rattle.std.proofs.Common.{◌≡◌, suc, true, slice_get}
-use Rattle.std.specs.Prelude.{IfSome}
-use Rattle.std.specs.Bool.{nat_eq}
-use Rattle.std.specs.Option.{option_map_or}
-use Rattle.ele_names.proofs.Basics.{slice_cmp, nat_cmp}
-use Rattle.ele_names.proofs.Words.{target_at, rows_of, names_of}
-use Rattle.ele_names.specs.Chained.{is_member}
-use Rattle.ele_names.proofs.Told.{AreTold, is_left}
+use Rattle.ele_names.proofs.Lemmas.{◌≡◌, suc, true, slice_get, IfSome, nat_eq, option_map_or, slice_cmp, nat_cmp, target_at, rows_of, names_of, is_member, AreTold, is_left}
 use Rattle.ele_names.proofs.names.Names.list.Given as goal
 
 abbrev pub invariant-loop-next : goal.invariant-loop-next

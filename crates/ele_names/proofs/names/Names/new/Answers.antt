@@ -1,5 +1,4 @@
-use Rattle.ele_names.proofs.Basics.{arith, value_at}
-use Rattle.ele_names.proofs.Words.{names_of}
+use Rattle.ele_names.proofs.Lemmas.{arith, value_at, names_of}
 use Rattle.ele_names.proofs.names.Names.new.Goals as goal
 
 pub invariant_of-result : goal.invariant_of-result

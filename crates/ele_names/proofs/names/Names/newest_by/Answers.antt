@@ -1,4 +1,4 @@
-use Rattle.ele_names.proofs.Newest.{none_newest}
+use Rattle.ele_names.proofs.Lemmas.{none_newest}
 use Rattle.ele_names.proofs.names.Names.newest_by.Goals as goal
 
 pub returns-in_err-serial-clause-newest : goal.returns-in_err-serial-clause-newest

@@ -1,7 +1,4 @@
-use Rattle.ele_names.proofs.Basics.{false, sym, ap, ◌∙◌, arith, option_map_or, value_at}
-use Rattle.ele_names.proofs.Words.{is_of, names_of}
-use Rattle.ele_names.proofs.Gone.{kept_without, last_gone, row_known}
-use Rattle.ele_names.proofs.Numbering.{at_last, none_past, without_last}
+use Rattle.ele_names.proofs.Lemmas.{false, sym, ap, ◌∙◌, arith, option_map_or, value_at, is_of, names_of, kept_without, last_gone, row_known, at_last, none_past, without_last}
 use Rattle.ele_names.proofs.names.Names.take_back.Goals as goal
 
 pub unreachable-requires-in_default-number : goal.unreachable-requires-in_default-number

@@ -1,6 +1,4 @@
-use Rattle.ele_names.proofs.Basics.{Option, ◌∙◌, sym, rules, tests, YieldsList-from_slice, option_map_id, YieldsList-from_filter_map, nth_from_yields_List}
-use Rattle.ele_names.proofs.Words.{NameRow}
-use Rattle.ele_names.proofs.Numbering.{from_values}
+use Rattle.ele_names.proofs.Lemmas.{Option, ◌∙◌, sym, rules, tests, YieldsList-from_slice, option_map_id, YieldsList-from_filter_map, nth_from_yields_List, NameRow, from_values}
 use Rattle.ele_names.proofs.numbered.Numbered.nth.Goals as goal
 
 pub returns : goal.returns

@@ -1,4 +1,4 @@
-use Rattle.std.proofs.Common.{◌≡◌}
+use Rattle.ele_names.proofs.Lemmas.{◌≡◌}
 use Rattle.ele_names.proofs.numbered.Numbered.pop.Given as goal
 
 abbrev pub invariant-loop-place : goal.invariant-loop-place

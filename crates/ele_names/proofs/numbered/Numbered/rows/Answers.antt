@@ -1,6 +1,4 @@
-use Rattle.ele_names.proofs.Basics.{Option, Ok, rules, tests, YieldsList-from_slice, items_from_collect, YieldsList-from_filter_map, AllocError}
-use Rattle.ele_names.proofs.Words.{NameRow}
-use Rattle.ele_names.proofs.Numbering.{from_values}
+use Rattle.ele_names.proofs.Lemmas.{Option, Ok, rules, tests, YieldsList-from_slice, items_from_collect, YieldsList-from_filter_map, AllocError, NameRow, from_values}
 use Rattle.ele_names.proofs.numbered.Numbered.rows.Goals as goal
 
 pub returns : goal.returns

@@ -1,4 +1,4 @@
-use Rattle.ele_names.proofs.Basics.{refl, arith, index_insert}
+use Rattle.ele_names.proofs.Lemmas.{refl, arith, index_insert}
 use Rattle.ele_names.proofs.places.Places.enter.Goals as goal
 
 pub returns-clause-ok : goal.returns-clause-ok

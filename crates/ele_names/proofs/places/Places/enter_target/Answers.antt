@@ -1,7 +1,4 @@
-use Rattle.ele_names.proofs.Basics.{ap, arith, nat_tests, ◌∙◌}
-use Rattle.ele_names.proofs.Words.{is_of, is_target_file}
-use Rattle.ele_names.proofs.Added.{live_same}
-use Rattle.ele_names.proofs.Chained.{chained_entered, chained_told}
+use Rattle.ele_names.proofs.Lemmas.{ap, arith, nat_tests, ◌∙◌, is_of, is_target_file, live_same, chained_entered, chained_told}
 use Rattle.ele_names.proofs.places.Places.enter_target.Goals as goal
 
 pub returns-in_err-reserve-in-Directory-clause-same : goal.returns-in_err-reserve-in-Directory-clause-same

@@ -1,5 +1,4 @@
-use Rattle.ele_names.proofs.Basics.{refl}
-use Rattle.ele_lists.proofs.Indexed.{index_remove}
+use Rattle.ele_names.proofs.Lemmas.{refl, index_remove}
 use Rattle.ele_names.proofs.places.Places.leave.Goals as goal
 
 pub returns-then-is_none-clause-placed : goal.returns-then-is_none-clause-placed

@@ -1,6 +1,4 @@
-use Rattle.ele_names.proofs.Basics.{arith, nat_tests}
-use Rattle.ele_names.proofs.Words.{is_of, is_target_file}
-use Rattle.ele_names.proofs.Chained.{chained_left, newest_known}
+use Rattle.ele_names.proofs.Lemmas.{arith, nat_tests, is_of, is_target_file, chained_left, newest_known}
 use Rattle.ele_names.proofs.places.Places.leave_file.Goals as goal
 
 pub returns-in-File-clause-chained : goal.returns-in-File-clause-chained

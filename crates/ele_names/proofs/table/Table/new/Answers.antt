@@ -1,4 +1,4 @@
-use Rattle.ele_names.proofs.Added.{table_new}
+use Rattle.ele_names.proofs.Lemmas.{table_new}
 use Rattle.ele_names.proofs.table.Table.new.Goals as goal
 
 pub returns-clause-is : goal.returns-clause-is
