@@ -1,4 +1,7 @@
 -- Rows in order, after each change, and which of them lives at a moment.
+pub use Rattle.ele_lists.proofs.Keys.{before_sinks, behind_sinks, remove_first-key as remove_first_key}
+pub use Rattle.ele_lists.proofs.Shown.{is_some-copied as is_some_copied}
+pub use Rattle.ele_lists.proofs.Alls.{all-place as all_place}
 use Rattle.std.proofs.Common.{◌≡◌, ℕ, ◌<◌, ◌≤◌, Bool, true, false, cond, ◌&&◌, List, [], ◌∷◌, ◌++◌, reverse, Option, Some, None, refl, sym, ap, ◌∙◌, arith}
 use Rattle.std.specs.Prelude.{find, nat_lt, is_some, IfSome, IsSomeAnd}
 use Rattle.std.specs.Option.{option_or, option_map_or, ForSome}
@@ -16,94 +19,58 @@ use Rattle.ele_lists.proofs.Ends.{later-update_last, find_last-cons, find_last-i
 use Rattle.ele_lists.proofs.Lasts.{find_last}
 
 pub closes_first : (earlier later : VersionRow) → EndsInTime earlier → Precedes earlier later → earlier.closed ≤ later.closed
-closes_first earlier later ends precedes = between earlier.ended ends precedes.ended where
-  between : (o : Option ℕ) → IfSome o (λ ended. earlier.closed ≤ ended) → IsSomeAnd o (λ ended. ended ≤ later.closed) → earlier.closed ≤ later.closed
-  between None a b = absurd b
-  between (Some ended) a b = omega arith
+closes_first earlier later ends precedes = grind (arith, ends, precedes.ended)
 
 precedes_through : (a b c : VersionRow) → Precedes a b → EndsInTime b → Precedes b c → Precedes a c
-precedes_through a b c first ends second = record { number = let m = first.number in let n = second.number in omega arith; ended = at a.ended first.ended } where
-  at : (o : Option ℕ) → IsSomeAnd o (λ ended. ended ≤ b.closed) → IsSomeAnd o (λ ended. ended ≤ c.closed)
-  at None h = absurd h
-  at (Some ended) h = let more = closes_first b c ends second in omega arith
+precedes_through a b c first ends second = grind (arith, first.number, second.number, first.ended, closes_first b c ends second)
 
 -- numbers rise, and closings don't fall
 pub numbers_rise : (rows : List VersionRow) → AreInOrder rows → Rises (λ row. row.number) rows
 numbers_rise rows order = later-weaker Precedes (λ earlier later. earlier.number < later.number) rows (λ earlier later precedes. precedes.number) order.order
 
 pub closings_sink : (moment : ℕ) (rows : List VersionRow) → AreInOrder rows → AllLater (Sinks (has_closed_by moment)) rows
-closings_sink moment rows order = by rows order.ends order.order where
-  by : (rows : List VersionRow) → AllByRecursion EndsInTime rows → AllLater Precedes rows → AllLater (Sinks (has_closed_by moment)) rows
-  by [] ends later = tt
-  by (row ∷ rows) ends later = (all-weaker (Precedes row) (Sinks (has_closed_by moment) row) rows (λ next precedes h. let le = closes_first row next ends.0 precedes in grind (arith, nat_tests, le, h)) later.0, by rows ends.1 later.1)
+closings_sink moment [] order = tt
+closings_sink moment (row ∷ rows) order =
+    (all-weaker (Precedes row) (Sinks (has_closed_by moment) row) rows (λ next precedes h. grind (arith, nat_tests, closes_first row next order.ends.0 precedes, h)) order.order.0, closings_sink moment rows (record { ends = order.ends.1; order = order.order.1 }))
 
 -- what the last row precedes, all rows precede
 pub all_precede : (rows : List VersionRow) (row : VersionRow) → AllByRecursion EndsInTime rows → AllLater Precedes rows → ForSome (last_of rows) (λ last. Precedes last row) → AllByRecursion (λ held. Precedes held row) rows
 all_precede [] row ends order last = tt
 all_precede (one ∷ []) row ends order last = (last one refl, tt)
-all_precede (one ∷ two ∷ rows) row ends order last =
-    let others = all_precede (two ∷ rows) row ends.1 order.1 last in
-    (precedes_through one two row order.0.0 ends.1.0 others.0, others)
+all_precede (one ∷ two ∷ rows) row ends order last = grind (arith, precedes_through one two row, all_precede (two ∷ rows) row ends.1 order.1 last)
 
-pub in_order-push : (rows : List VersionRow) (row : VersionRow) → AreInOrder rows → ForSome (last_of rows) (λ last. Precedes last row) → EndsInTime row → AreInOrder (rows ++ row ∷ [])
-in_order-push rows row order last ends = record {
-  ends = all-append EndsInTime rows (row ∷ []) order.ends (ends, tt);
-  order = later-push Precedes rows row order.order (all_precede rows row order.ends order.order last);
-}
+pub in_order_pushed : (rows : List VersionRow) (row : VersionRow) → AreInOrder rows → ForSome (last_of rows) (λ last. Precedes last row) → EndsInTime row → AreInOrder (rows ++ row ∷ [])
+in_order_pushed rows row order last ends = grind (arith, all-append EndsInTime rows (row ∷ []) order.ends, later-push Precedes rows row order.order, all_precede rows row order.ends order.order last)
 
-pub in_order-removed : (p : VersionRow → Bool) (rows : List VersionRow) → AreInOrder rows → AreInOrder (remove_first p rows)
-in_order-removed p rows order = record {
-  ends = all-remove_first p EndsInTime rows order.ends;
-  order = later-remove_first p Precedes rows order.order;
-}
+pub in_order_removed : (p : VersionRow → Bool) (rows : List VersionRow) → AreInOrder rows → AreInOrder (remove_first p rows)
+in_order_removed p rows order = assumption (all-remove_first p EndsInTime rows order.ends, later-remove_first p Precedes rows order.order)
 
 ends-update_last : (moment : ℕ) (rows : List VersionRow) → IsSomeAnd (last_of rows) (CanEndAt moment) → AllByRecursion EndsInTime rows → AllByRecursion EndsInTime (update_last (ended_at moment) rows)
 ends-update_last moment [] can ends = tt
 ends-update_last moment (row ∷ []) can ends = (can.closed, tt)
 ends-update_last moment (row ∷ next ∷ rows) can ends = (ends.0, ends-update_last moment (next ∷ rows) can ends.1)
 
-pub in_order-ended : (moment : ℕ) (rows : List VersionRow) → IsSomeAnd (last_of rows) (CanEndAt moment) → AreInOrder rows → AreInOrder (update_last (ended_at moment) rows)
-in_order-ended moment rows can order = record {
-  ends = ends-update_last moment rows can order.ends;
-  order = later-update_last Precedes (ended_at moment) rows (λ earlier later h. record { number = h.number; ended = h.ended }) order.order;
-}
+pub in_order_ended : (moment : ℕ) (rows : List VersionRow) → IsSomeAnd (last_of rows) (CanEndAt moment) → AreInOrder rows → AreInOrder (update_last (ended_at moment) rows)
+in_order_ended moment rows can order = assumption (ends-update_last moment rows can order.ends, later-update_last Precedes (ended_at moment) rows (λ earlier later h. record { number = h.number; ended = h.ended }) order.order)
 
 -- a row that ended when a later one closed doesn't live where that one had closed
 ended_by : (moment : ℕ) (row later : VersionRow) → Precedes row later → has_closed_by moment later ≡ true → ends_after moment row ≡ false
-ended_by moment row later precedes closed = at row.ended precedes.ended where
-  at : (o : Option ℕ) → IsSomeAnd o (λ ended. ended ≤ later.closed) → option_map_or (λ ended. nat_lt moment ended) o true ≡ false
-  at None h = absurd h
-  at (Some ended) h = grind (arith, nat_tests, closed, h)
+ended_by moment row later precedes closed = grind (arith, nat_tests, closed, precedes.ended)
 
 -- a search from the end finds the last row that passes
-pub last-reversed : (p : VersionRow → Bool) (rows : List VersionRow) → find p (reverse rows) ≡ last_passing p rows
-last-reversed p [] = refl
-last-reversed p (row ∷ rows) = find_last-cons p row rows ∙ ap (λ o. option_or o (cond (p row) (Some row) None)) (last-reversed p rows)
+pub last_reversed : (p : VersionRow → Bool) (rows : List VersionRow) → find p (reverse rows) ≡ last_passing p rows
+last_reversed p [] = refl
+last_reversed p (row ∷ rows) = find_last-cons p row rows ∙ ap (λ o. option_or o (cond (p row) (Some row) None)) (last_reversed p rows)
 
-pub last-is_some : (p : VersionRow → Bool) (rows : List VersionRow) → is_some (last_passing p rows) ≡ list_any p rows
-last-is_some p rows = ap is_some (sym (last-reversed p rows)) ∙ find_last-is_some p rows
+pub last_is_some : (p : VersionRow → Bool) (rows : List VersionRow) → is_some (last_passing p rows) ≡ list_any p rows
+last_is_some p rows = ap is_some (sym (last_reversed p rows)) ∙ find_last-is_some p rows
 
 -- if a version lives at the moment, it is the last that had closed by then
-pub lives-is_last : (moment : ℕ) (rows : List VersionRow) → AllLater Precedes rows → find (lives_at moment) rows ≡ passing (ends_after moment) (last_passing (has_closed_by moment) rows)
-lives-is_last moment rows order = find_last (has_closed_by moment) (ends_after moment) rows (later-weaker Precedes (λ row later. has_closed_by moment row ≡ true → has_closed_by moment later ≡ true → ends_after moment row ≡ false) rows (λ row later precedes both closed. ended_by moment row later precedes closed) order)
-
-and_left : (a b : Bool) → (a && b) ≡ true → a ≡ true
-and_left true b h = refl
-and_left false b h = h
-
-and_false : (a : Bool) → (a && false) ≡ false
-and_false true = refl
-and_false false = refl
+pub lives_is_last : (moment : ℕ) (rows : List VersionRow) → AllLater Precedes rows → find (lives_at moment) rows ≡ passing (ends_after moment) (last_passing (has_closed_by moment) rows)
+lives_is_last moment rows order = find_last (has_closed_by moment) (ends_after moment) rows (later-weaker Precedes (λ row later. has_closed_by moment row ≡ true → has_closed_by moment later ≡ true → ends_after moment row ≡ false) rows (λ row later precedes both closed. ended_by moment row later precedes closed) order)
 
 -- a row that ended when a later one closed isn't the one that lives where the later one does
 pub lives_alone : (moment : ℕ) (rows : List VersionRow) → AllLater Precedes rows → AllByRecursion (λ row. lives_at moment row ≡ true → find (lives_at moment) rows ≡ Some row) rows
 lives_alone moment [] order = tt
 lives_alone moment (row ∷ rows) order =
-    ((λ lives. rw lives refl), all-weaker _ _ rows (λ later both lives. at later both.0 lives (both.1 lives)) (all-both _ _ rows order.0 (lives_alone moment rows order.1)))
-  where
-    at : (later : VersionRow) → Precedes row later → lives_at moment later ≡ true → find (lives_at moment) rows ≡ Some later → find (lives_at moment) (row ∷ rows) ≡ Some later
-    at later precedes lives found =
-        let closed : has_closed_by moment later ≡ true = and_left (has_closed_by moment later) (ends_after moment later) lives in
-        let over : ends_after moment row ≡ false = ended_by moment row later precedes closed in
-        let fails : lives_at moment row ≡ false = ap (λ b. has_closed_by moment row && b) over ∙ and_false (has_closed_by moment row) in
-        rw fails found
+    ((λ lives. rw lives refl), all-weaker _ _ rows (λ later both lives. grind (arith, nat_tests, both.0, both.1 lives, ended_by moment row later)) (all-both _ _ rows order.0 (lives_alone moment rows order.1)))

@@ -87,6 +87,7 @@ impl InodeLog {
     }
 
     /// Ends the last version at the moment.
+    #[tactic(auto, using(crate::proofs::Order::in_order_ended))]
     pub fn end_last(&mut self, moment: Moment)
         requires { IsSomeAnd (last_of self.old.rows) (CanEndAt moment) }
         ensures ended { self.new.rows ≡ update_last (ended_at moment) self.old.rows }
@@ -96,6 +97,7 @@ impl InodeLog {
     }
 
     /// The row of that number.
+    #[tactic(auto, using(crate::proofs::Order::numbers_rise))]
     pub fn get(&self, number: VersionNo, meter: &mut Meter) -> Option<&VersionRow>
         requires { meter.old < 2 ^ 63 }
         ensures row { option_copied result ≡ find (is_numbered number) self.now.rows }
@@ -114,6 +116,7 @@ impl InodeLog {
     }
 
     /// The last row with a lesser number.
+    #[tactic(auto, using(crate::proofs::Order::last_reversed))]
     pub fn prev_held(&self, number: VersionNo, meter: &mut Meter) -> Option<&VersionRow>
         requires { meter.old < 2 ^ 63 }
         ensures row { option_copied result ≡ last_passing (is_before number) self.now.rows }
@@ -123,6 +126,7 @@ impl InodeLog {
     }
 
     /// Takes out the row of that number.
+    #[tactic(auto, using(crate::proofs::Order::numbers_rise, crate::proofs::Order::in_order_removed, crate::proofs::Order::remove_first_key))]
     pub fn remove(&mut self, number: VersionNo, meter: &mut Meter) -> Option<VersionRow>
         requires { meter.old < 2 ^ 63 }
         ensures row { result ≡ find (is_numbered number) self.old.rows }
@@ -137,6 +141,7 @@ impl InodeLog {
 
     /// The last row of a version that had closed by the moment. If any version lives at the moment,
     /// it is this one.
+    #[tactic(auto, using(crate::proofs::Order::last_reversed, crate::proofs::Order::lives_is_last))]
     pub fn closed_by(&self, moment: Moment, meter: &mut Meter) -> Option<&VersionRow>
         requires { meter.old < 2 ^ 63 }
         ensures row { option_copied result
@@ -152,6 +157,7 @@ impl InodeLog {
     /// The number of the version in whose life the moment lies: it had closed by then, and ended
     /// after that or not at all. No two versions live at one moment. A row is read where one had
     /// closed.
+    #[tactic(auto, using(crate::proofs::Order::last_is_some, crate::proofs::Order::is_some_copied, crate::proofs::Order::lives_alone, crate::proofs::Order::all_place))]
     pub fn at(&self, moment: Moment, meter: &mut Meter) -> Option<VersionNo>
         requires { meter.old < 2 ^ 63 }
         ensures number { result ≡ option_map (λ row. row.number)

@@ -19,3 +19,4 @@ pub use Rattle.std.proofs.lemmas.List.{length-append}
 pub use Rattle.std.specs.List.{AllByRecursion, count_by, filter, find, insert, list_any, position, remove, sum_by}
 pub use Rattle.std.specs.Option.{option_map, unwrap_or}
 pub use Rattle.std.specs.Result.{IfErr, OnErr}
+pub use Rattle.std.proofs.lemmas.List.Folds.{list_any-append}

@@ -1,5 +1,5 @@
 -- How many handles read a thing, before and after a handle comes or goes.
-use Rattle.ele_sessions.proofs.Basics.{◌≡◌, ℕ, ◌+◌, Bool, cond, nat_lt, List, [], ◌∷◌, ◌++◌, Some, refl, sym, ap, ◌∙◌, append-nil, count_by, sum_by, list_any, find, remove_first, all-any, sum_by-around, sum_by-remove_first, sum_by-same, any-count}
+use Rattle.ele_sessions.proofs.Basics.{◌≡◌, ℕ, ◌+◌, Bool, cond, nat_lt, List, [], ◌∷◌, ◌++◌, Some, refl, sym, ap, ◌∙◌, append-nil, count_by, sum_by, list_any, find, remove_first, all-any, sum_by-around, sum_by-remove_first, sum_by-same, any-count, arith, nat_tests}
 use Rattle.ele_sessions.proofs.Words.{reads_eq, reading, writes, reads_version, is_handle, is_writer, is_reader, OpenHandle, Reads, Version}
 use Rattle.ele_sessions.specs.declared.reads.Reads.TheVariants.{Draft}
 
@@ -14,12 +14,10 @@ reading-left what number hs h found = sum_by-remove_first (one what) (is_handle 
 
 -- who reads the same as a writer writes the file
 writes-eq : (file : ℕ) (what : Reads) → reads_eq what (Draft file) ≡ writes file what
-writes-eq file (Draft other) = refl
-writes-eq file (Version other number) = refl
+writes-eq file what = grind (arith, nat_tests)
 
 reads-eq : (file number : ℕ) (what : Reads) → reads_eq what (Version file number) ≡ reads_version file number what
-reads-eq file number (Draft other) = refl
-reads-eq file number (Version other n) = refl
+reads-eq file number what = grind (arith, nat_tests)
 
 module _ (p q : OpenHandle → Bool) (same : (h : OpenHandle) → p h ≡ q h) where
   count-same : (hs : List OpenHandle) → count_by p hs ≡ count_by q hs

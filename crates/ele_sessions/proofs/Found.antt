@@ -1,16 +1,14 @@
 -- The entry that a search found, as the list of drafts shows it.
-use Rattle.ele_sessions.proofs.Basics.{◌≡◌, ℕ, true, false, length, eqb, List, get_or, Some, None, Result, Ok, Err, refl, sym, ap, ◌∙◌, set, map-set_same, find, remove, insert, list_any, position, unwrap_or, OnErr, IfErr, has_key, is_behind, false≢true, remove_first, insert_before, find-position, find-none, find-shown, set-shown, remove-shown, any-shown, any-missing, find-missing, insert-shown, remove-place}
+use Rattle.ele_sessions.proofs.Basics.{◌≡◌, ℕ, true, false, length, eqb, List, get_or, Some, None, Result, Ok, Err, refl, sym, ap, ◌∙◌, set, map-set_same, find, remove, insert, list_any, position, unwrap_or, OnErr, IfErr, has_key, is_behind, false≢true, remove_first, insert_before, find-position, find-none, find-shown, set-shown, remove-shown, any-shown, any-missing, find-missing, insert-shown, remove-place, arith}
 use Rattle.ele_sessions.proofs.Words.{Layout, Entry, OpenHandle, RewritesDraft, rewritten_by, has_length, IsAt, IsGap, drafts_of, draft_in, file_in, number_in, Draft, is_draft, is_draft_after, is_handle}
 
 -- what holds anyway, said of an error
 pub on_err : {T E : Type 0} (r : Result T E) (P : Type 0) → P → OnErr r P
-on_err (Ok x) P h = tt
-on_err (Err e) P h = h
+on_err r P h = grind (arith, h)
 
 -- a gap, of what a search says of it
 pub gap_of : {X : Type 0} (key : X → ℕ) (this : ℕ) (xs : List X) (r : Result ℕ ℕ) → IfErr r (λ at. position (has_key key this) xs ≡ None) → IfErr r (λ at. unwrap_or (position (is_behind key this) xs) (length xs) ≡ at) → IfErr r (IsGap key this xs)
-gap_of key this xs (Ok at) missing gap = tt
-gap_of key this xs (Err at) missing gap = record { missing = missing; gap = gap }
+gap_of key this xs r missing gap = grind (arith, missing, gap)
 
 module _ (es : List Entry) (file i : ℕ) where
   pub drafts_insert : (y : Entry) → IsGap file_in file es i → (d : Draft) → draft_in y ≡ d → drafts_of (insert es i y) ≡ insert_before (is_draft_after file) d (drafts_of es)

@@ -12,10 +12,7 @@ pub record IsRead (hs : List OpenHandle) (number : ℕ) (what : Reads) : Type 0 
   pub is : handle.reads ≡ what
 
 pub read_by : (hs : List OpenHandle) (number : ℕ) (what : Reads) → Some what ≡ reads_by hs number → IsRead hs number what
-read_by hs number what is = by (find (is_handle number) hs) refl where
-  by : (o : Option OpenHandle) → find (is_handle number) hs ≡ o → IsRead hs number what
-  by None e = absurd (let h = rw e at is in cc)
-  by (Some h) e = record { handle = h; found = e; is = let h' = rw e at is in cc }
+read_by hs number what is = grind (arith, is)
 
 -- a file that is written through the handle
 pub written_by : (hs : List OpenHandle) (number file : ℕ) → Ok file ≡ file_by hs number → Some (reads.Draft file) ≡ reads_by hs number
@@ -76,10 +73,4 @@ module _ (s : AllSessions) (counts : Tally Reads) (keeps : Keeps s counts) where
 
       -- and before
       pub stays_then : nat_lt 1 (counted reads_eq counts (reads.Draft file)) ≡ list_any (is_writer file) rest
-      stays_then =
-          let own : reads_eq (reads.Draft file) (reads.Draft file) ≡ true = grind (arith, nat_tests) in
-          let left : reading (reads.Draft file) rest + 1 ≡ reading (reads.Draft file) s.handles = rw (is, own) at (fewer_by (reads.Draft file)) in
-          ap (nat_lt 1) (keeps.counted (reads.Draft file) ∙ sym left) ∙ (one_less (reading (reads.Draft file) rest) ∙ any-writer file rest)
-        where
-          one_less : (n : ℕ) → nat_lt 1 (n + 1) ≡ nat_lt 0 n
-          one_less n = grind (arith, nat_tests)
+      stays_then = grind (arith, nat_tests, is, keeps.counted (reads.Draft file), fewer_by (reads.Draft file), any-writer file rest)

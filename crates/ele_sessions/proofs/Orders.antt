@@ -1,5 +1,5 @@
 -- That drafts and handles stay orderly when a handle comes or goes.
-use Rattle.ele_sessions.proofs.Basics.{◌≡◌, ℕ, ◌+◌, ◌<◌, Bool, true, false, cond, not, eqb, ◌||◌, List, [], ◌∷◌, ◌++◌, Some, refl, sym, ◌∙◌, arith, AllByRecursion, list_any, find, filter, nat_tests, update_first, remove_first, insert_before, filter-passes, all-push, all-weaker, all-both, all-none, all-update_first, all-insert_before, all-remove_first, all-found, found_passes, later-push, later-update_first, later-remove_first, later-insert_before, list_any-update_first, list_any-insert_before, list_any-remove_first, remove_first-key}
+use Rattle.ele_sessions.proofs.Basics.{◌≡◌, ℕ, ◌+◌, ◌<◌, Bool, true, false, cond, not, eqb, ◌||◌, List, [], ◌∷◌, ◌++◌, Some, refl, sym, ◌∙◌, arith, AllByRecursion, list_any, find, filter, nat_tests, update_first, remove_first, insert_before, filter-passes, all-push, all-weaker, all-both, all-none, all-update_first, all-insert_before, all-remove_first, all-found, found_passes, later-push, later-update_first, later-remove_first, later-insert_before, list_any-update_first, list_any-insert_before, list_any-remove_first, remove_first-key, list_any-append}
 use Rattle.ele_sessions.proofs.Words.{Layout, rewritten_by, left_drafts, with_draft, Rises, IsReadable, AreOrderly, Draft, AllSessions, is_draft, is_draft_after, is_handle, writes, is_writer, OpenHandle, Reads}
 use Rattle.ele_sessions.specs.declared.reads.Reads.TheVariants as reads
 
@@ -11,19 +11,13 @@ or_true true = refl
 or_true false = refl
 
 not_true : (b : Bool) → not b ≡ true → b ≡ false
-not_true true h = absurd cc
-not_true false h = refl
+not_true b h = grind (arith, h)
 
 any-more : {X : Type 0} (p : X → Bool) (xs : List X) (x : X) → list_any p xs ≡ true → list_any p (xs ++ x ∷ []) ≡ true
-any-more p [] x h = absurd cc
-any-more p (y ∷ ys) x h = elim (p y) as (λ b. (b || list_any p ys) ≡ true → (b || list_any p (ys ++ x ∷ [])) ≡ true) [
-  | true ↦ λ e. refl
-  | false ↦ λ e. any-more p ys x e
-] h
+any-more p xs x h = grind (arith, h, list_any-append p xs (x ∷ []))
 
 any-last : {X : Type 0} (p : X → Bool) (xs : List X) (x : X) → p x ≡ true → list_any p (xs ++ x ∷ []) ≡ true
-any-last p [] x h = rw h refl
-any-last p (y ∷ ys) x h = rw (any-last p ys x h) (or_true (p y))
+any-last p xs x h = grind (arith, h, list_any-append p xs (x ∷ []))
 
 -- the drafts with a new one, unless its file has one
 module _ (new : Draft) (ds : List Draft) (rise : Rises (λ (d : Draft). d.file) ds) where
@@ -40,10 +34,7 @@ module _ (new : Draft) (ds : List Draft) (rise : Rises (λ (d : Draft). d.file) 
   with-any f there = grind (arith, nat_tests, list_any, is_draft, insert_before, is_draft_after, list_any-insert_before, or_true)
 
   with-own : list_any (is_draft new.file) (with_draft new ds) ≡ true
-  with-own = elim (list_any (is_draft new.file) ds) as (λ b. list_any (is_draft new.file) ds ≡ b → list_any (is_draft new.file) (cond b ds (insert_before (is_draft_after new.file) new ds)) ≡ true) [
-    | true ↦ λ e. e
-    | false ↦ λ e. let own : is_draft new.file new ≡ true = grind (arith, nat_tests) in rw (list_any-insert_before (is_draft_after new.file) (is_draft new.file) new ds, own) refl
-  ] refl
+  with-own = grind (arith, nat_tests, list_any-insert_before (is_draft_after new.file) (is_draft new.file) new ds)
 
 module _ (s : AllSessions) (orderly : AreOrderly s) where
   -- one handle more
@@ -60,8 +51,7 @@ module _ (s : AllSessions) (orderly : AreOrderly s) where
     pub writer_entered : (new : Draft) → h.reads ≡ reads.Draft new.file → AreOrderly (record { drafts = with_draft new s.drafts; handles = s.handles ++ h ∷ []; opened = s.opened + 1 })
     writer_entered new is = entered (with_draft new s.drafts) (with-rise new s.drafts orderly.drafts_rise) on (rw is (with-own new s.drafts orderly.drafts_rise)) (with-all new s.drafts orderly.drafts_rise (IsWritten (s.handles ++ h ∷ [])) own still_written) where
       on : (what : Reads) → IsReadable s.drafts what → IsReadable (with_draft new s.drafts) what
-      on (reads.Draft file) there = with-any new s.drafts orderly.drafts_rise file there
-      on (reads.Version file number) there = tt
+      on what there = grind (arith, there, with-any new s.drafts orderly.drafts_rise)
 
       own : IsWritten (s.handles ++ h ∷ []) new
       own = let writes : is_writer new.file h ≡ true = rw is (let e : eqb new.file new.file ≡ true = grind (arith, nat_tests) in e) in any-last (is_writer new.file) s.handles h writes
@@ -111,13 +101,9 @@ module _ (s : AllSessions) (orderly : AreOrderly s) where
 
   -- another map for a draft
   pub rewritten : (file : ℕ) (layout : Layout) → AreOrderly (record s { drafts = update_first (is_draft file) (rewritten_by layout) s.drafts })
-  rewritten file layout = record {
-    drafts_rise = later-update_first (is_draft file) (λ (x y : Draft). x.file < y.file) (rewritten_by layout) s.drafts (λ x y r. r) (λ x y r. r) orderly.drafts_rise;
-    handles_rise = orderly.handles_rise;
-    opened = orderly.opened;
-    drafted = all-weaker (λ (x : OpenHandle). IsReadable s.drafts x.reads) (λ (x : OpenHandle). IsReadable (update_first (is_draft file) (rewritten_by layout) s.drafts) x.reads) s.handles (λ x. on x.reads) orderly.drafted;
-    written = all-update_first (is_draft file) (IsWritten s.handles) (IsWritten s.handles) (rewritten_by layout) s.drafts (λ d w. w) (λ d w. w) orderly.written;
-  } where
-    on : (what : Reads) → IsReadable s.drafts what → IsReadable (update_first (is_draft file) (rewritten_by layout) s.drafts) what
-    on (reads.Draft f) there = list_any-update_first (is_draft file) (is_draft f) (rewritten_by layout) s.drafts (λ x e. refl) ∙ there
-    on (reads.Version f n) there = tt
+  rewritten file layout =
+      let rises = later-update_first (is_draft file) (λ (x y : Draft). x.file < y.file) (rewritten_by layout) s.drafts (λ x y r. r) (λ x y r. r) orderly.drafts_rise in
+      let drafted = all-weaker (λ (x : OpenHandle). IsReadable s.drafts x.reads) (λ (x : OpenHandle). IsReadable (update_first (is_draft file) (rewritten_by layout) s.drafts) x.reads) s.handles (λ x. on x.reads) orderly.drafted in
+      assumption (rises, orderly, drafted, all-update_first (is_draft file) (IsWritten s.handles) (IsWritten s.handles) (rewritten_by layout) s.drafts (λ d w. w) (λ d w. w) orderly.written) where
+        on : (what : Reads) → IsReadable s.drafts what → IsReadable (update_first (is_draft file) (rewritten_by layout) s.drafts) what
+        on what there = grind (arith, there, λ (f : ℕ). list_any-update_first (is_draft file) (is_draft f) (rewritten_by layout) s.drafts (λ x e. refl))

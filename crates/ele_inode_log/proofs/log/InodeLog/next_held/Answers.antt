@@ -1,6 +1,5 @@
-use Rattle.ele_lists.proofs.Keys.{behind_sinks}
 use Rattle.ele_inode_log.specs.declared.row.VersionRow.{VersionRow}
-use Rattle.ele_inode_log.proofs.Order.{numbers_rise}
+use Rattle.ele_inode_log.proofs.Order.{behind_sinks, numbers_rise}
 use Rattle.ele_inode_log.proofs.log.InodeLog.next_held.Goals as goal
 
 pub first_behind-requires : goal.first_behind-requires
