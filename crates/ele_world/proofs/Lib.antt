@@ -40,7 +40,6 @@ pub mod OpenMoments
 pub mod GroupMarks
 pub mod MarksChanged
 pub mod Neighbours
-pub mod NewestHeld
 pub mod AppendMoments
 pub mod PolicyMoments
 pub mod GroupMoments
