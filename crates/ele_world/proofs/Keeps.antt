@@ -5,7 +5,7 @@ use Rattle.ele_world.proofs.Words.{after_change, after_changes, Plan, outcome, I
 use Rattle.ele_world.proofs.KeptDrafts.{start_keeps, write_keeps, truncate_keeps, end_keeps, open_keeps, shut_keeps}
 use Rattle.ele_world.proofs.KeptDirectories.{make_directory_keeps, end_name_keeps}
 use Rattle.ele_world.proofs.KeptNames.{time_keeps, govern_keeps, put_under_keeps, make_keeps}
-use Rattle.ele_world.proofs.KeptDrops.{drop_keeps}
+use Rattle.ele_world.proofs.Dropped.{drop_keeps}
 use Rattle.ele_world.proofs.KeptGroups.{make_group_keeps, drop_group_keeps, add_member_keeps, remove_member_keeps, add_mark_keeps, remove_mark_keeps}
 use Rattle.ele_world.proofs.KeptRevived.{revive_keeps}
 use Rattle.ele_world.proofs.KeptVersions.{append_keeps, take_keeps}

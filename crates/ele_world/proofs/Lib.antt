@@ -9,15 +9,9 @@ pub mod May
 pub mod Writers
 pub mod Created
 pub mod Opened
-pub mod Outcomes
-pub mod Leads
-pub mod DirectoryLeads
 pub mod NameParts
-pub mod NameEnds
 pub mod Currents
-pub mod Links
-pub mod Renames
-pub mod Closes
+pub mod NameEnds
 pub mod Homes
 pub mod KeptGroups
 pub mod KeptNames
@@ -26,7 +20,6 @@ pub mod KeptDrafts
 pub mod KeptVersions
 pub mod KeptLinks
 pub mod KeptMoves
-pub mod Lost
 pub mod KeptRevived
 pub mod Keeps
 pub mod Views
@@ -52,9 +45,9 @@ pub mod Moves
 pub mod Stays
 pub mod OpenStays
 pub mod MarkedStays
-pub mod Reverts
-pub mod Refused
-pub mod Returned
+pub mod Closes
+pub mod Outcomes
+pub mod Leads
 pub mod Cleans
 pub mod CleanKeepsKeys
 pub mod Passes
@@ -69,7 +62,6 @@ pub mod Usages
 pub mod EndUsage
 pub mod PassEnds
 pub mod Dropped
-pub mod KeptDrops
 pub mod DropViews
 pub mod DropUsage
 pub mod NoIdle
