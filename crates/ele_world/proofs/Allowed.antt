@@ -1,12 +1,11 @@
 -- The changes of each event may be made, each in its turn.
-use Rattle.ele_world.proofs.Basics.{nat_tests, arith, ◌≡◌, ℕ, true, false, not, List, Some, None, Ok, subst, is_some, AllByRecursion, false≢true, last_passing, all-weaker, last_has, rules, ◌<◌, [], ◌∷◌, refl, find, nat_le, list_any}
-use Rattle.ele_world.proofs.Basics.{all-found, found_passes, length-remove_first, list_any-insert_before, insert_before}
-use Rattle.ele_world.proofs.Words.{is_named, last_dead, last_target, may_return, nameless, IsThere, IsDirectoryThere, IsNameRow, IsHoused, Names, Homes, IsWellFormed, World, NameRow, Target, Key, new_draft, EndDraft, ShutHandle}
-use Rattle.ele_world.proofs.Words.{after_changes, is_live_in, first_due, plan, version_meant, live_target, directory_now, parent_now, IsPolicy, IsVersion, Counted, Directories, Versions, Drafts, default_of, next_of, is_draft}
-use Rattle.ele_world.proofs.Words.{is_draft_after, Event, RemoveDir, Undelete, OpenWrite, OpenRead, Close, Revert, CleanOne, Read, Tagged, Of, DirectoryRow, DraftRow, VersionRow}
+use Rattle.ele_world.proofs.Basics.{nat_tests, arith, ◌≡◌, ℕ, true, false, not, List, Some, None, Ok, is_some, AllByRecursion, false≢true, all-weaker, last_has, rules, ◌<◌, [], ◌∷◌, refl, find, nat_le, list_any, all-found, found_passes}
+use Rattle.ele_world.proofs.Basics.{length-remove_first, list_any-insert_before, insert_before}
+use Rattle.ele_world.proofs.Words.{is_named, last_target, may_return, nameless, IsThere, IsDirectoryThere, IsNameRow, IsHoused, Names, Homes, IsWellFormed, World, NameRow, Target, Key, new_draft, EndDraft, ShutHandle, after_changes, first_due, plan}
+use Rattle.ele_world.proofs.Words.{version_meant, live_target, parent_now, Counted, Directories, Versions, Drafts, next_of, is_draft, is_draft_after, Event, Undelete, OpenWrite, OpenRead, Close, Revert, CleanOne, Read, DraftRow, VersionRow}
 use Rattle.ele_time_path.specs.declared.tagged.Tag.TheVariants as tag
 use Rattle.ele_lists.proofs.Cuts.{any-found}
-use Rattle.ele_world.proofs.May.{HasRoom, MayName, MayAdd, MayRevive, MayEnd, MayAppend, MayTake, MayPlan}
+use Rattle.ele_world.proofs.May.{HasRoom, MayName, MayAdd, MayRevive, MayAppend, MayTake, MayPlan}
 use Rattle.ele_world.proofs.DueRows.{first_is_due, due_has_ended, due_is_unread}
 use Rattle.ele_world.proofs.Homes.{parent_home}
 use Rattle.ele_world.proofs.Meant.{is_meant, meant_held, is_at}

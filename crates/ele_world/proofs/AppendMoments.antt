@@ -1,9 +1,10 @@
 -- Which ripe moments change where a file has a version more: that of its newest held one, which ends unless it had, and gets a
 -- neighbour, and the new one's own.
-use Rattle.ele_world.proofs.Basics.{◌≡◌, ℕ, ◌+◌, ◌-◌, ◌<◌, ◌==◌, Bool, true, false, cond, ◌&&◌, ◌||◌, List, [], ◌∷◌, Option, Some, None, is_none, refl, ap, sym, ◌∙◌, arith, find, nat_lt, option_and_then, option_map, unwrap_or, AllByRecursion, list_any, option_map_or, nat_tests}
-use Rattle.ele_world.proofs.Basics.{false≢true, last_passing, last_has, AllLater, insert_before, update_first, later-weaker, all-both, all-insert_before, all-update_first, all-weaker, all-found, found_passes, not_found, find-insert_before, list_any-update_first, any-found, find-inserted, find-update_other}
-use Rattle.ele_world.proofs.Words.{Cell, IsPolicy, VersionRow, ended_at, next_version, with_end, with_version, ripe_of, ripe_at, is_marked, is_newer_of, is_version_of, near_moment, newest_of, next_closing, ArePlaced, AreHeldRead, AreVersions, IsVersion, Readers, Versions}
-use Rattle.ele_world.proofs.Words.{IsWellFormed, World, is_file, is_live, is_open, is_version, is_version_after, next_of, policy_of}
+use Rattle.ele_world.proofs.Basics.{◌≡◌, ℕ, ◌+◌, ◌-◌, ◌<◌, ◌==◌, Bool, true, false, cond, ◌&&◌, ◌||◌, List, [], ◌∷◌, Some, None, is_none, refl, ap, sym, ◌∙◌, arith, find, option_and_then, option_map, unwrap_or, AllByRecursion, option_map_or}
+use Rattle.ele_world.proofs.Basics.{nat_tests, last_passing, last_has, AllLater, insert_before, update_first, later-weaker, all-both, all-insert_before, all-update_first, all-weaker, all-found, found_passes, not_found, find-insert_before}
+use Rattle.ele_world.proofs.Basics.{list_any-update_first, any-found, find-inserted, find-update_other}
+use Rattle.ele_world.proofs.Words.{Cell, IsPolicy, VersionRow, ended_at, next_version, with_end, with_version, ripe_of, ripe_at, is_marked, is_newer_of, is_version_of, near_moment, newest_of, next_closing, ArePlaced, AreHeldRead, AreVersions}
+use Rattle.ele_world.proofs.Words.{IsVersion, Readers, Versions, IsWellFormed, World, is_file, is_live, is_open, is_version, is_version_after, next_of, policy_of}
 use Rattle.ele_lists.proofs.Cuts.{any-found as first_passing}
 use Rattle.ele_world.proofs.Closes.{new_found, none_next}
 use Rattle.ele_world.proofs.Files.{policies-numbered}

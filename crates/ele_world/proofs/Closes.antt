@@ -1,8 +1,7 @@
 -- A close that tells of a version has made it of all that was written, and a revert of the version that was named.
-use Rattle.ele_world.proofs.Basics.{◌≡◌, ℕ, ◌-◌, false, List, [], ◌∷◌, Some, ap, subst, ◌∙◌, arith, find, Ok, option_map, AllByRecursion, nat_tests, all-update_first, find-inserted, ◌<◌, refl, sym, update_first}
-use Rattle.ele_world.proofs.Words.{after_changes, ShutHandle, EndDraft, Append, DraftRow, is_draft, ended_at, next_version, with_end, with_version, KeepsDraft, draft_read, plan, step, IsVersion, Versions, IsWellFormed, World, next_of}
-use Rattle.ele_world.proofs.Words.{is_version, is_version_after, file_by, file_written, reads_by, Close, FileRow, Reads, Draft, Version, VersionRow, after_change, file_now, version_meant, numbered_on, CopiesVersion, RevertKeeps, Names}
-use Rattle.ele_world.proofs.Words.{is_file, Revert}
+use Rattle.ele_world.proofs.Basics.{◌≡◌, ℕ, ◌-◌, false, List, [], ◌∷◌, Some, arith, find, Ok, AllByRecursion, nat_tests, all-update_first, find-inserted, refl}
+use Rattle.ele_world.proofs.Words.{after_changes, ShutHandle, EndDraft, Append, DraftRow, is_draft, ended_at, next_version, with_end, with_version, KeepsDraft, draft_read, step, IsVersion, Versions, IsWellFormed, World, next_of, is_version}
+use Rattle.ele_world.proofs.Words.{is_version_after, reads_by, Close, FileRow, Reads, VersionRow, after_change, file_now, version_meant, CopiesVersion, RevertKeeps, Names}
 use Rattle.ele_world.specs.declared.reply.Reply.TheVariants as reply
 use Rattle.ele_time_path.specs.declared.tagged.Tag.TheVariants as tag
 use Rattle.ele_world.proofs.Outcomes.{in_all}

@@ -1,20 +1,18 @@
 -- After a create, a mkdir or an undelete its path leads to what is made, or to what the name last stood for.
-use Rattle.ele_world.proofs.Basics.{◌≡◌, ℕ, ◌+◌, false, List, [], ◌∷◌, ◌++◌, Some, Ok, ap, subst, arith, is_some, option_map, nat_tests, find-append, all-weaker, not_found, ◌≤◌, Bool, true, ◌==◌, ◌&&◌, refl, ◌∙◌, AllByRecursion, list_any}
-use Rattle.ele_world.proofs.Basics.{list_any-append, ◌-◌, find}
-use Rattle.ele_world.proofs.Words.{after_change, MakeFile, Policy, LeadsToNew, plan, step, live_target, file_at, file_now, parent_now, Files, IsWellFormed, World, default_of, next_of, current_of, Create, File, VersionRow, MakeDirectory}
-use Rattle.ele_world.proofs.Words.{LeadsToDirectory, born_row, is_live_in, directory_in, Directories, Homes, is_directory, MakeDir, DirectoryRow, Directory, AddName, Revive, current_cells, next_version, with_name, last_target, nameless}
-use Rattle.ele_world.proofs.Words.{LeadsAgain, HasNameAgain, HasVersionAgain, Versions, is_version, Undelete, UndeleteLeads, Reply, Target}
+use Rattle.ele_world.proofs.Basics.{◌≡◌, ℕ, ◌+◌, false, List, Some, Ok, ap, subst, arith, is_some, nat_tests, find-append, all-weaker, not_found, ◌≤◌, refl, list_any-append}
+use Rattle.ele_world.proofs.Words.{after_change, MakeFile, Policy, LeadsToNew, plan, step, live_target, file_at, parent_now, Files, IsWellFormed, World, default_of, next_of, current_of, Create, File, MakeDirectory, LeadsToDirectory, is_live_in}
+use Rattle.ele_world.proofs.Words.{directory_in, Directories, Homes, is_directory, MakeDir, DirectoryRow, Directory, AddName, Revive, current_cells, next_version, with_name, last_target, LeadsAgain, HasNameAgain, HasVersionAgain, Versions, Undelete}
+use Rattle.ele_world.proofs.Words.{UndeleteLeads, Target}
 use Rattle.ele_world.specs.declared.reply.Reply.TheVariants as reply
-use Rattle.ele_world.proofs.Created.{new_file, new_name, first_version, created, made_is, versions_before, named_live}
+use Rattle.ele_world.proofs.Created.{new_file, made_is, versions_before, named_live}
 use Rattle.ele_world.proofs.Files.{next_of-new, next_of-numbered_on}
 use Rattle.ele_world.proofs.Outcomes.{in_all}
 use Rattle.ele_world.proofs.Walks.{new_leads}
 use Rattle.ele_world.proofs.Elements.{any_none}
 use Rattle.ele_world.proofs.Homes.{any_last, parent_home, directory_given}
-use Rattle.ele_world.proofs.Allowed.{may_name}
+use Rattle.ele_world.proofs.Allowed.{may_name, may_revive}
 use Rattle.ele_world.proofs.Closes.{new_found}
 use Rattle.ele_world.proofs.KeptRevived.{again}
-use Rattle.ele_world.proofs.Allowed.{may_revive}
 use Rattle.ele_world.proofs.May.{MayRevive}
 
 -- ---- a create

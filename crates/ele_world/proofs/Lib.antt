@@ -15,11 +15,9 @@ pub mod NameEnds
 pub mod Homes
 pub mod KeptGroups
 pub mod KeptNames
-pub mod KeptDirectories
 pub mod KeptDrafts
 pub mod KeptVersions
-pub mod KeptLinks
-pub mod KeptMoves
+pub mod KeptDirectories
 pub mod KeptRevived
 pub mod Keeps
 pub mod Views

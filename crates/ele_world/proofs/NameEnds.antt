@@ -1,8 +1,8 @@
 -- Where a name has died its path leads nowhere: so after a rmdir, an unlink and a rename, by which, as by a link, a new path leads.
-use Rattle.ele_world.proofs.Basics.{◌≡◌, ℕ, Bool, true, false, ◌==◌, ◌&&◌, List, [], ◌∷◌, ◌++◌, Some, None, Ok, Err, refl, ap, ◌∙◌, arith, is_none, bytes_eq, false≢true, nat_tests, bytes_eq-Decides, update_first, AllLater, later-weaker}
-use Rattle.ele_world.proofs.Basics.{find-update_other, find-update_none, Option, unwrap_or, option_map, sym, is_some, option_map_or, find-append}
-use Rattle.ele_world.proofs.Words.{dies, step, is_live_name, live_target, walk, walk_now, parent_now, AreApart, Names, IsWellFormed, World, root, RemoveDir, NoEntry, Done, NameRow, Target, File, Directory, after_change, EndFileName, Unlink}
-use Rattle.ele_world.proofs.Words.{VersionRow, LinkLeads, plan, EndsName, UnlinkEnds, file_now, MoveName, Rename, born_row, LeadsInstead, RenameLeads, comes_through, stands_in}
+use Rattle.ele_world.proofs.Basics.{◌≡◌, ℕ, false, ◌==◌, ◌&&◌, List, [], ◌∷◌, ◌++◌, Some, None, Ok, Err, refl, ap, ◌∙◌, arith, bytes_eq, false≢true, nat_tests, bytes_eq-Decides, update_first, AllLater, later-weaker, find-update_other}
+use Rattle.ele_world.proofs.Basics.{find-update_none, sym, is_some, find-append}
+use Rattle.ele_world.proofs.Words.{dies, step, is_live_name, live_target, walk, walk_now, parent_now, AreApart, Names, IsWellFormed, World, root, RemoveDir, NoEntry, Done, NameRow, Target, File, Directory, after_change, EndFileName, LinkLeads}
+use Rattle.ele_world.proofs.Words.{EndsName, UnlinkEnds, file_now, MoveName, born_row, LeadsInstead, RenameLeads, comes_through, stands_in}
 use Rattle.ele_world.proofs.NameParts.{still_none, dies_so, free_still}
 use Rattle.ele_world.proofs.Outcomes.{in_all}
 use Rattle.ele_world.proofs.Walks.{parent_is, file_of, last_names, new_leads, target_live, walk-push, IsParent, live_target-push, named_leads}

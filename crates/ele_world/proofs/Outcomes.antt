@@ -1,6 +1,6 @@
 -- What holds of all that a plan may come to holds of what it comes to.
-use Rattle.ele_world.proofs.Basics.{arith, ◌≡◌, true, false, List, [], Some, None, Ok, refl, rules, nat_tests, Bool, ◌||◌, ◌∷◌, sym, ◌∙◌, false≢true}
-use Rattle.ele_world.proofs.Words.{Change, after_changes, Plan, Tell, Make, Unless, When, Need, IfFound, refused, outcome, World, Refusal, Reply, asks, plan, step, Event, Read, Tagged, Of, Refused}
+use Rattle.ele_world.proofs.Basics.{arith, ◌≡◌, true, false, List, [], Some, None, Ok, refl, rules, nat_tests, Bool, ◌||◌, ◌∷◌, false≢true}
+use Rattle.ele_world.proofs.Words.{Change, after_changes, Plan, Tell, Make, Unless, When, Need, IfFound, refused, outcome, World, Refusal, Reply, asks, plan, step, Event, Read, Refused}
 
 -- of each answer with its changes, where the checks pass
 abbrev pub InAll : (Reply → List Change → Type 0) → Plan → Type 0

@@ -1,7 +1,7 @@
 -- What a path leads to, where it stands, and where a name is added.
-use Rattle.ele_world.proofs.Basics.{◌≡◌, ℕ, suc, zero, ◌+◌, ◌-◌, ◌<◌, true, false, List, [], ◌∷◌, ◌++◌, length, take, Option, Some, None, Result, Ok, Err, refl, ap, sym}
-use Rattle.ele_world.proofs.Basics.{◌∙◌, arith, find, is_some, nil_from_length, slice_get_within, slice_get, AllByRecursion, list_any, option_map_or, false≢true, nat_tests, find-append, bytes_eq-Decides, all-found, found_passes, any-found}
-use Rattle.ele_world.proofs.Words.{Refusal, NoEntry, FileRow, NameRow, Target, File, Directory, born_row, is_live_name, live_target, walk, walk_now, file_at, file_now, directory_in, directory_now, parent_now, IsNameRow, IsThere, next_of, root, is_live_name_of}
+use Rattle.ele_world.proofs.Basics.{◌≡◌, ℕ, suc, zero, ◌+◌, ◌-◌, ◌<◌, true, false, List, [], ◌∷◌, ◌++◌, length, take, Some, Result, Ok, refl, ap, ◌∙◌, arith, find, is_some, nil_from_length, slice_get_within, slice_get, AllByRecursion, list_any}
+use Rattle.ele_world.proofs.Basics.{false≢true, nat_tests, find-append, bytes_eq-Decides, all-found, found_passes, any-found}
+use Rattle.ele_world.proofs.Words.{Refusal, FileRow, NameRow, Target, File, Directory, born_row, is_live_name, live_target, walk, walk_now, file_at, file_now, directory_now, parent_now, IsNameRow, IsThere, next_of, root, is_live_name_of}
 
 -- ---- what is true of each target of a live name is so of the place that a walk ends at
 
