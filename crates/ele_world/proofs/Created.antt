@@ -34,8 +34,5 @@ module _ (w : World) (directory : ℕ) (name : List ℕ) (policy : Policy) (k : 
   abbrev id : ℕ
   id = w.made.files + 1
 
-  abbrev begun : World
-  begun = with_name (with_file w id policy) directory name (File id)
-
   pub made_is : after_change w (MakeFile directory name (w.made.files + 1) policy) ≡ created w directory name (w.made.files + 1) policy
   made_is = grind (arith, nat_tests, k.holds Files, update_first-at (is_file id) numbered_on w.files (record { id = id; policy = policy; next = 1 }) [], all-weaker, update_first-unfound, versions_before w k, insert_before-skip (is_version_after id 1) (first_version w id) w.versions [], append-nil w.versions, next_of-new w.made.files w.made.versions w.files (record { id = id; policy = policy; next = 1 }), named_live)

@@ -23,10 +23,7 @@ make_directory_keeps w directory name id policy may k = record { holds = by } wh
 
   by : (part : Part) → Holds (after_change w (MakeDirectory directory name id policy)) part
   by Names = names_more w.files w.now w.names directory name (Directory id) may.named.free tt (k.holds Names)
-  by Homes = record {
-    each = named_housed w.directories _ w.names _ (λ d h. any_more (is_directory d) w.directories _ h) may.named.home may.named.reached there (k.holds Homes).each;
-    named = grind (arith, nat_tests, all-push (HasName (w.names ++ born_row directory name (Directory id) w.now ∷ [])) w.directories, named_more, k.holds Homes, any_last);
-  }
+  by Homes = grind (arith, nat_tests, k.holds Homes, named_housed w.directories (w.directories ++ record { id = id; default = policy } ∷ []) w.names (born_row directory name (Directory id) w.now), any_more, may.named, there, all-push (HasName (w.names ++ born_row directory name (Directory id) w.now ∷ [])) w.directories, named_more, any_last)
   by Tree = grind (arith, nat_tests, k.holds Homes, k.holds Tree, k.holds Directories, tree_more, all-weaker, there, directory_given)
   by part = grind (arith, nat_tests, k.holds part, length-append, any_more, all-push, later-push, all-weaker, list_any-append, ended_more)
 
@@ -62,15 +59,13 @@ module _ (w : World) (directory : ℕ) (name : List ℕ) (empty : (id : ℕ) →
 
   -- all but that the name's file may have a version without an end
   pub end_name_holds : (Q : Type 0) → Q → IsWellFormed w → (part : Part) → HoldsWith Q (without_name w directory name) part
-  end_name_holds Q ends k = by where
-    by : (part : Part) → HoldsWith Q (without_name w directory name) part
-    by Counted = grind (arith, k.holds Counted, length-update_first p (dies w.now) w.names)
-    by Names = names_end w.now w.names directory name w.files (k.holds Names)
-    by Tree = tree_end w.now w.names directory name (k.holds Tree)
-    by Homes = grind (arith, nat_tests, k.holds Homes, all-update_first p (IsHoused w.directories after) (IsHoused w.directories after) (dies w.now) w.names, all-weaker (λ row. (row.death ≡ None → IsSpared (live_target w.names directory name) row.directory) × IsHoused w.directories w.names row) (IsHoused w.directories after) w.names, reached_still, all-both (λ row. row.death ≡ None → IsSpared (live_target w.names directory name) row.directory) (IsHoused w.directories w.names) w.names, all_spared (live_target w.names directory name) refl, named_end w.now p w.directories w.names)
-    by Current = grind (arith, nat_tests, k.holds Current, list_any-update_fails)
-    by Ended = ends
-    by part = k.holds part
+  end_name_holds Q ends k Counted = grind (arith, k.holds Counted, length-update_first p (dies w.now) w.names)
+  end_name_holds Q ends k Names = names_end w.now w.names directory name w.files (k.holds Names)
+  end_name_holds Q ends k Tree = tree_end w.now w.names directory name (k.holds Tree)
+  end_name_holds Q ends k Homes = grind (arith, nat_tests, k.holds Homes, all-update_first p (IsHoused w.directories after) (IsHoused w.directories after) (dies w.now) w.names, all-weaker (λ row. (row.death ≡ None → IsSpared (live_target w.names directory name) row.directory) × IsHoused w.directories w.names row) (IsHoused w.directories after) w.names, reached_still, all-both (λ row. row.death ≡ None → IsSpared (live_target w.names directory name) row.directory) (IsHoused w.directories w.names) w.names, all_spared (live_target w.names directory name) refl, named_end w.now p w.directories w.names)
+  end_name_holds Q ends k Current = grind (arith, nat_tests, k.holds Current, list_any-update_fails)
+  end_name_holds Q ends k Ended = ends
+  end_name_holds Q ends k part = k.holds part
 
 pub end_name_keeps : (w : World) (directory : ℕ) (name : List ℕ) → MayEnd w directory name → IsWellFormed w → IsWellFormed (after_change w (EndName directory name))
 end_name_keeps w directory name may k = with_ends (without_name w directory name) (end_name_holds w directory name empty (HaveEnded (without_name w directory name)) ends k) where

@@ -25,11 +25,9 @@ module _ (w : World) (directory : ℕ) (name : List ℕ) (file : ℕ) where
 
   -- a file's new name leaves all but that the file may have no current version
   pub named_holds : MayName w directory name → 0 < next_of w.files file → IsWellFormed w → (part : Part) → HoldsBeside file named part
-  named_holds may there k = by where
-    by : (part : Part) → HoldsBeside file named part
-    by Names = names_more w.files w.now w.names directory name (File file) may.free there (k.holds Names)
-    by Homes = homes_more w.directories w.names row may.home may.reached tt (k.holds Homes)
-    by part = grind (arith, nat_tests, k.holds part, counted_more w (length named.names) k may.room, length-append, tree_more, any_less, ended_more)
+  named_holds may there k Names = names_more w.files w.now w.names directory name (File file) may.free there (k.holds Names)
+  named_holds may there k Homes = homes_more w.directories w.names row may.home may.reached tt (k.holds Homes)
+  named_holds may there k part = grind (arith, nat_tests, k.holds part, counted_more w (length named.names) k may.room, length-append, tree_more, any_less, ended_more)
 
   -- a version like the last one may be made
   pub again : MayRevive w directory name file → AllByRecursion (IsVersion w.files w.now) w.versions → MayAppend named file w.now (current_cells w file)

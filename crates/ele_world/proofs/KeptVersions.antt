@@ -41,10 +41,6 @@ abbrev pub HoldsBeside : ℕ → World → Part → Type 0
 HoldsBeside file w Current = (other : ℕ) → other ≢ file → is_live w other ≡ true → list_any (is_current other (next_of w.files other)) w.versions ≡ true
 HoldsBeside file w part = Holds w part
 
-beside : (file : ℕ) (w : World) → IsWellFormed w → (part : Part) → HoldsBeside file w part
-beside file w k Current = λ other apart live. k.holds Current other live
-beside file w k part = k.holds part
-
 module _ (w : World) (file opened : ℕ) (cells : List Cell) (may : MayAppend w file opened cells) where
   abbrev new : VersionRow
   new = next_version w file opened cells
@@ -80,7 +76,7 @@ module _ (w : World) (file opened : ℕ) (cells : List Cell) (may : MayAppend w 
     by part = holds part
 
   pub append_keeps : IsWellFormed w → IsWellFormed (with_version w file opened cells)
-  append_keeps k = append_completes (beside file w k)
+  append_keeps k = append_completes (λ part. grind (arith, k.holds part))
 
 -- ---- a version that has ended goes
 

@@ -5,7 +5,7 @@ use Rattle.ele_world.proofs.Words.{Refusal, FileRow, NameRow, Target, File, Dire
 
 -- ---- what is true of each target of a live name is so of the place that a walk ends at
 
-walk_to : (P : Target → Type 0) (rows : List NameRow) → ((directory : ℕ) (name : List ℕ) (target : Target) → live_target rows directory name ≡ Some target → P target)
+pub walk_to : (P : Target → Type 0) (rows : List NameRow) → ((directory : ℕ) (name : List ℕ) (target : Target) → live_target rows directory name ≡ Some target → P target)
     → (at target : Target) (names : List (List ℕ)) → P at → walk rows at names ≡ Ok target → P target
 walk_to P rows each at target [] so h = let same : at ≡ target = cc in rw (← same) so
 walk_to P rows each (File file) target (name ∷ names) so h = absurd cc
@@ -67,11 +67,6 @@ pub record IsParent (names : List NameRow) (path : List (List ℕ)) (at : ℕ ×
 
 pub parent_is : (names : List NameRow) (path : List (List ℕ)) (at : ℕ × List ℕ) → parent_now names path ≡ Ok at → IsParent names path at
 parent_is names path at h = grind (arith, nat_tests, split-at path (length path - 1), slice_get_within path (length path - 1))
-
--- what is true of the root, and of each live name's target, is so of the directory that a path's last name stands in
-pub parent_to : (P : Target → Type 0) (rows : List NameRow) → ((directory : ℕ) (name : List ℕ) (target : Target) → live_target rows directory name ≡ Some target → P target)
-    → (path : List (List ℕ)) (at : ℕ × List ℕ) → P (Directory root) → parent_now rows path ≡ Ok at → P (Directory at.0)
-parent_to P rows each path at so h = let parent = parent_is rows path at h in walk_to P rows each (Directory root) (Directory at.0) parent.front so parent.leads
 
 -- the path's last name is that of what the path leads to
 pub last_names : (rows : List NameRow) (path : List (List ℕ)) (at : ℕ × List ℕ) (target : Target) → parent_now rows path ≡ Ok at → walk_now rows path ≡ Ok target → live_target rows at.0 at.1 ≡ Some target
