@@ -1,15 +1,30 @@
 -- The changes of each event may be made, each in its turn.
-use Rattle.ele_world.proofs.Basics.{rules, ◌≡◌, ℕ, ◌<◌, true, List, [], ◌∷◌, Some, refl, subst, arith, find, is_some, nat_le, Ok, false, list_any, AllByRecursion, nat_tests, all-found, found_passes, length-remove_first, list_any-insert_before, insert_before}
-use Rattle.ele_world.proofs.Words.{Key, new_draft, EndDraft, ShutHandle, after_changes, is_live_in, first_due, plan, version_meant, live_target, directory_now, parent_now, IsPolicy, IsVersion, Counted, Directories, Names, Versions, Drafts, IsWellFormed, World, default_of, next_of, is_draft, is_draft_after, Event}
-use Rattle.ele_world.proofs.Words.{RemoveDir, Undelete, OpenWrite, OpenRead, Close, Revert, CleanOne, Read, Tagged, Of, DirectoryRow, DraftRow, VersionRow}
+use Rattle.ele_world.proofs.Basics.{nat_tests, arith, ◌≡◌, ℕ, true, false, not, List, Some, None, Ok, is_some, AllByRecursion, false≢true, all-weaker, last_has, rules, ◌<◌, [], ◌∷◌, refl, find, nat_le, list_any, all-found, found_passes}
+use Rattle.ele_world.proofs.Basics.{length-remove_first, list_any-insert_before, insert_before}
+use Rattle.ele_world.proofs.Words.{is_named, last_target, may_return, nameless, IsThere, IsDirectoryThere, IsNameRow, IsHoused, Names, Homes, IsWellFormed, World, NameRow, Target, Key, new_draft, EndDraft, ShutHandle, after_changes, first_due, plan}
+use Rattle.ele_world.proofs.Words.{version_meant, live_target, parent_now, Counted, Directories, Versions, Drafts, next_of, is_draft, is_draft_after, Event, Undelete, OpenWrite, OpenRead, Close, Revert, CleanOne, Read, DraftRow, VersionRow}
 use Rattle.ele_time_path.specs.declared.tagged.Tag.TheVariants as tag
+use Rattle.ele_lists.proofs.Cuts.{any-found}
+use Rattle.ele_world.proofs.May.{HasRoom, MayName, MayAdd, MayRevive, MayAppend, MayTake, MayPlan}
 use Rattle.ele_world.proofs.DueRows.{first_is_due, due_has_ended, due_is_unread}
 use Rattle.ele_world.proofs.Homes.{parent_home}
-use Rattle.ele_world.proofs.Lost.{may_add, may_revive}
-use Rattle.ele_world.proofs.May.{HasRoom, MayName, MayEnd, MayAppend, MayTake, MayPlan}
 use Rattle.ele_world.proofs.Meant.{is_meant, meant_held, is_at}
 use Rattle.ele_world.proofs.Writers.{written_more}
 use Rattle.ele_world.proofs.Walks.{file_there, last_leads, file_live, file_of, last_names}
+
+-- ---- what a dead name last stood for may have its name again
+
+-- what is true of what each name stands for is so of what a dead name last stood for
+lost_is : (P : Target → Type 0) (rows : List NameRow) (directory : ℕ) (name : List ℕ) (lost : Target) → AllByRecursion (λ row. P row.target) rows → last_target rows directory name ≡ Ok lost → P lost
+lost_is P rows directory name lost all h = grind (arith, nat_tests, last_has (is_named directory name) (λ row. P row.target) rows)
+
+-- to what has a live name, or is a directory, a name may be added
+pub may_add : (w : World) (at : ℕ × List ℕ) (lost : Target) → IsWellFormed w → MayName w at.0 at.1 → last_target w.names at.0 at.1 ≡ Ok lost → nameless w lost ≡ None → not (may_return w lost) ≡ false → MayAdd w at.0 at.1 lost
+may_add w at lost k named last live returns = grind (arith, nat_tests, k.holds Names, k.holds Homes, lost_is (IsThere w.files) w.names at.0 at.1, all-weaker (IsNameRow w.files w.now), lost_is (IsDirectoryThere w.directories) w.names at.0 at.1, all-weaker (IsHoused w.directories w.names), false≢true)
+
+-- a file without a live name may be revived
+pub may_revive : (w : World) (at : ℕ × List ℕ) (lost : Target) (file : ℕ) → MayName w at.0 at.1 → nameless w lost ≡ Some file → not (may_return w lost) ≡ false → HasRoom w → MayRevive w at.0 at.1 file
+may_revive w at lost file named none returns room = grind (arith, nat_tests, any-found, false≢true)
 
 -- ---- what the checks found
 

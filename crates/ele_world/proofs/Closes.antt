@@ -1,8 +1,12 @@
--- A close that tells of a version has made it of all that was written.
-use Rattle.ele_world.proofs.Basics.{◌≡◌, ℕ, ◌-◌, false, List, [], ◌∷◌, Some, ap, subst, ◌∙◌, arith, find, Ok, option_map, AllByRecursion, nat_tests, all-update_first, find-inserted}
-use Rattle.ele_world.proofs.Words.{after_changes, ShutHandle, EndDraft, Append, DraftRow, is_draft, ended_at, next_version, with_end, with_version, KeepsDraft, draft_read, plan, step, IsVersion, Versions, IsWellFormed, World, next_of, is_version, is_version_after, file_by, file_written, reads_by, Close, FileRow, Reads, Draft, Version, VersionRow}
+-- A close that tells of a version has made it of all that was written, and a revert of the version that was named.
+use Rattle.ele_world.proofs.Basics.{◌≡◌, ℕ, ◌-◌, false, List, [], ◌∷◌, Some, arith, find, Ok, AllByRecursion, nat_tests, all-update_first, find-inserted, refl}
+use Rattle.ele_world.proofs.Words.{after_changes, ShutHandle, EndDraft, Append, DraftRow, is_draft, ended_at, next_version, with_end, with_version, KeepsDraft, draft_read, step, IsVersion, Versions, IsWellFormed, World, next_of, is_version}
+use Rattle.ele_world.proofs.Words.{is_version_after, reads_by, Close, FileRow, Reads, VersionRow, after_change, file_now, version_meant, CopiesVersion, RevertKeeps, Names}
 use Rattle.ele_world.specs.declared.reply.Reply.TheVariants as reply
+use Rattle.ele_time_path.specs.declared.tagged.Tag.TheVariants as tag
 use Rattle.ele_world.proofs.Outcomes.{in_all}
+use Rattle.ele_world.proofs.Files.{next_of-numbered_on}
+use Rattle.ele_world.proofs.Walks.{file_there}
 
 -- no version has the file's next number
 pub none_next : (files : List FileRow) (now file : ℕ) (row : VersionRow) → IsVersion files now row → is_version file (next_of files file) row ≡ false
@@ -18,3 +22,22 @@ keeps w handle file read draft k reads its drafted = record { file = file; draft
 
 pub close_keeps : (w : World) (handle number : ℕ) → IsWellFormed w → (step w (Close handle)).0 ≡ reply.Closed (Some number) → KeepsDraft w handle number ((step w (Close handle)).1)
 close_keeps w handle number k = grind (arith, nat_tests, in_all, keeps w handle)
+
+-- ---- a revert
+
+copies : (w : World) (path : List (List ℕ)) (number file : ℕ) (row : VersionRow) → IsWellFormed w → file_now w.names path ≡ Ok file → version_meant w.files w.versions file (tag.Number number) ≡ Ok row → CopiesVersion w path number (next_of w.files file) (after_change w (Append file w.now row.cells))
+copies w path number file row k named meant = record {
+  file = file;
+  was = row;
+  is = next_version w file w.now row.cells;
+  named = named;
+  meant = meant;
+  current = grind (arith, nat_tests, new_found w file (k.holds Versions).each w.now row.cells, next_of-numbered_on w.files file, file_there w.files w.now w.names path file (k.holds Names).each named);
+  numbered = refl;
+  cells = refl;
+  opened = refl;
+  closed = refl;
+}
+
+pub revert_keeps : RevertKeeps
+revert_keeps w path number made k = grind (arith, nat_tests, in_all, copies w path number)

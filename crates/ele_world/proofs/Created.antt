@@ -1,6 +1,6 @@
 -- What the making of a file comes to: a row behind the files, the names and the versions.
-use Rattle.ele_world.proofs.Basics.{◌≡◌, ℕ, ◌+◌, ◌<◌, Bool, true, false, List, [], ◌∷◌, ◌++◌, None, refl, ap, arith, AllByRecursion, nat_tests, list_any-append, update_first, insert_before, all-weaker, append-nil, update_first-at, update_first-unfound, insert_before-skip}
-use Rattle.ele_world.proofs.Words.{Policy, next_version, with_file, with_name, after_change, MakeFile, Files, Versions, IsWellFormed, World, next_of, is_live, is_file, is_version_after, numbered_on, FileRow, NameRow, File, VersionRow}
+use Rattle.ele_world.proofs.Basics.{◌≡◌, ℕ, ◌+◌, ◌<◌, true, List, [], ◌∷◌, ◌++◌, None, arith, AllByRecursion, nat_tests, list_any-append, all-weaker, append-nil, update_first-at, update_first-unfound, insert_before-skip}
+use Rattle.ele_world.proofs.Words.{Policy, with_file, with_name, after_change, MakeFile, Files, Versions, IsWellFormed, World, is_live, is_file, is_version_after, numbered_on, FileRow, NameRow, File, VersionRow}
 use Rattle.ele_world.proofs.Files.{next_of-given, next_of-new}
 
 -- ---- a file is made
@@ -33,9 +33,6 @@ versions_before w k = grind (arith, nat_tests, k.holds Files, k.holds Versions, 
 module _ (w : World) (directory : ℕ) (name : List ℕ) (policy : Policy) (k : IsWellFormed w) where
   abbrev id : ℕ
   id = w.made.files + 1
-
-  abbrev begun : World
-  begun = with_name (with_file w id policy) directory name (File id)
 
   pub made_is : after_change w (MakeFile directory name (w.made.files + 1) policy) ≡ created w directory name (w.made.files + 1) policy
   made_is = grind (arith, nat_tests, k.holds Files, update_first-at (is_file id) numbered_on w.files (record { id = id; policy = policy; next = 1 }) [], all-weaker, update_first-unfound, versions_before w k, insert_before-skip (is_version_after id 1) (first_version w id) w.versions [], append-nil w.versions, next_of-new w.made.files w.made.versions w.files (record { id = id; policy = policy; next = 1 }), named_live)

@@ -1,5 +1,5 @@
 -- A live file has a current version, which ends with its last name.
-use Rattle.ele_world.proofs.Basics.{◌≡◌, ℕ, ◌-◌, true, Some, None, refl, arith, ap, ◌∙◌, find, all-found, found_passes, false≢true, nat_tests, option_map}
+use Rattle.ele_world.proofs.Basics.{◌≡◌, ℕ, ◌-◌, true, Some, None, arith, find, all-found, found_passes, false≢true, nat_tests}
 use Rattle.ele_world.proofs.Words.{VersionRow, Versions, Current, IsWellFormed, World, next_of, is_live, is_version, current_of, ended_at, with_end}
 use Rattle.ele_world.proofs.Versions.{all_found}
 use Rattle.ele_lists.proofs.Cuts.{any-found as first_passing}

@@ -1,8 +1,8 @@
 -- Due versions and ripe moments after a change that no file's view sees, as the dropping of an idle file.
-use Rattle.ele_world.proofs.Basics.{◌≡◌, ◌==◌, ℕ, false, not, refl, ap, ◌∙◌, arith, option_and_then, AllByRecursion, nat_tests, all-any, all-weaker, all-found, filter-same_all, list_any-filter}
-use Rattle.ele_world.proofs.Words.{DropIdle, without_file, after_change, ripe_at, kept_rows, FileView, view_of, due_in, ripe_in, World, is_version, is_live, is_live_name_of, is_target_file, Target, File, Directory, VersionRow}
+use Rattle.ele_world.proofs.Basics.{◌≡◌, ◌==◌, ℕ, false, ap, arith, option_and_then, AllByRecursion, nat_tests, all-any, all-weaker, all-found, filter-same_all}
+use Rattle.ele_world.proofs.Words.{DropIdle, without_file, after_change, ripe_at, kept_rows, FileView, view_of, due_in, ripe_in, World, is_version, VersionRow}
 use Rattle.ele_world.specs.Due.{is_due_at, ripe_of}
-use Rattle.ele_world.proofs.Dropped.{dropped, live_other, stays_named, idle_versions, policy_of-removed}
+use Rattle.ele_world.proofs.Dropped.{dropped, live_other, idle_versions, policy_of-removed}
 use Rattle.ele_world.proofs.GroupMarks.{marks_forgotten}
 use Rattle.ele_world.proofs.RipeAt.{ripe_at_is}
 
@@ -17,23 +17,17 @@ module _ (w v : World) (same : SeesSame w v) where
   unfolding is_due_at
   due_same = all-weaker (λ (row : VersionRow). view_of v row.file ≡ view_of w row.file) (λ row. (at : ℕ) → is_due_at v row at ≡ is_due_at w row at) w.versions (λ row e at. ap (λ (view : FileView). due_in view row at) e) same.views
 
-  pub ripe_of_same : AllByRecursion (λ row. ripe_of v row ≡ ripe_of w row) w.versions
-  unfolding ripe_of
-  ripe_of_same = all-weaker (λ (row : VersionRow). view_of v row.file ≡ view_of w row.file) (λ row. ripe_of v row ≡ ripe_of w row) w.versions (λ row e. ap (λ (view : FileView). ripe_in view row) e) same.views
-
   pub ripe_at_same : (file number : ℕ) → ripe_at v file number ≡ ripe_at w file number
-  ripe_at_same file number = grind (arith, nat_tests, ripe_at_is, option_and_then, is_version, all-found, ripe_of_same)
+  unfolding ripe_of
+  ripe_at_same file number = grind (arith, nat_tests, ripe_at_is, option_and_then, is_version, all-found (is_version file number) (λ (row : VersionRow). view_of v row.file ≡ view_of w row.file) w.versions, same)
 
   pub kept_same : kept_rows v ≡ kept_rows w
   kept_same = grind (arith, nat_tests, filter-same_all, all-weaker, due_same, same.now)
 
 -- ---- the dropping of an idle file
 
-pub view_other : (w : World) (file other : ℕ) → (other == file) ≡ false → view_of (without_file w file) other ≡ view_of w other
-view_other w file other apart = grind (arith, nat_tests, policy_of-removed, live_other, marks_forgotten)
-
 pub dropped_sees : (w : World) (file : ℕ) → SeesSame w (after_change w (DropIdle file))
-dropped_sees w file = grind (arith, nat_tests, dropped, all-weaker, view_other, idle_versions, all-any)
+dropped_sees w file = grind (arith, nat_tests, dropped, all-weaker, policy_of-removed, live_other, marks_forgotten, idle_versions, all-any)
 
 -- each version has its ripe moment, and is due, as before
 pub ripe_at_dropped : (w : World) (file other number : ℕ) → ripe_at (after_change w (DropIdle file)) other number ≡ ripe_at w other number

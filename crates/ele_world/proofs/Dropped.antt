@@ -1,6 +1,9 @@
 -- What the dropping of a file comes to: it goes with its names, where nothing was left of it, or nothing changes.
-use Rattle.ele_world.proofs.Basics.{◌≡◌, ◌==◌, ℕ, Bool, true, false, not, List, refl, ap, arith, find, AllByRecursion, list_any, option_map, option_map_or, nat_tests, remove_first, all-none, find-remove_first, list_any-filter}
-use Rattle.ele_world.proofs.Words.{DropIdle, is_idle, without_file, after_change, is_version_of, World, is_file, next_of, policy_of, is_live, has_draft, is_draft, is_target_file, DraftRow, FileRow, NameRow, VersionRow}
+use Rattle.ele_world.proofs.Basics.{◌≡◌, ◌==◌, ℕ, Bool, true, false, not, List, refl, ap, arith, find, AllByRecursion, list_any, option_map, option_map_or, nat_tests, remove_first, all-none, find-remove_first, list_any-filter, filter, all-filter}
+use Rattle.ele_world.proofs.Basics.{filter-passes, later-filter, all-weaker, all-both, all-remove_first, later-remove_first, length-remove_first-le, any-filtered, length-split}
+use Rattle.ele_world.proofs.Words.{DropIdle, is_idle, without_file, after_change, is_version_of, World, is_file, next_of, policy_of, is_live, has_draft, is_draft, is_target_file, DraftRow, FileRow, NameRow, VersionRow, IsNameRow, AreApart, AreOthers}
+use Rattle.ele_world.proofs.Words.{IsVersion, IsDraft, Part, Counted, Files, Names, Homes, Tree, Versions, Drafts, Current, Holds, IsWellFormed, IsOfLive, Ended, Groups, is_live_name_of}
+use Rattle.ele_world.proofs.KeptGroups.{groups_forgotten}
 
 -- nothing is left of the file
 pub record IsIdle (w : World) (file : ℕ) : Type 0 where
@@ -44,3 +47,33 @@ next_of-removed files file other apart = ap (λ o. option_map_or (λ (row : File
 
 pub policy_of-removed : (files : List FileRow) (file other : ℕ) → (other == file) ≡ false → policy_of (remove_first (is_file file) files) other ≡ policy_of files other
 policy_of-removed files file other apart = ap (option_map (λ (row : FileRow). row.policy)) (find-removed files file other apart)
+
+-- ---- a world stays well formed
+
+module _ (w : World) (file : ℕ) (idle : IsIdle w file) where
+  abbrev files : List FileRow
+  files = remove_first (is_file file) w.files
+
+  abbrev keep : NameRow → Bool
+  keep = stays_named file
+
+  abbrev names : List NameRow
+  names = filter keep w.names
+
+  drop_file_keeps : IsWellFormed w → IsWellFormed (without_file w file)
+  drop_file_keeps k = record { holds = by } where
+    by : (part : Part) → Holds (without_file w file) part
+    by Counted = grind (arith, k.holds Counted, length-remove_first-le (is_file file) w.files, length-split keep w.names)
+    by Files = grind (arith, nat_tests, k.holds Files, all-remove_first, later-remove_first)
+    by Names = grind (arith, nat_tests, k.holds Names, all-weaker (λ row. (keep row ≡ true) × IsNameRow w.files w.now row) (IsNameRow files w.now) names, next_of-removed, all-both (λ row. keep row ≡ true) (IsNameRow w.files w.now) names, filter-passes keep w.names, all-filter (IsNameRow w.files w.now) keep w.names, later-filter AreApart AreApart keep w.names)
+    by Homes = grind (arith, nat_tests, k.holds Homes, all-weaker, all-filter, list_any-filter)
+    by Tree = later-filter AreOthers AreOthers keep w.names (λ x y e f h. h) (k.holds Tree)
+    by Versions = grind (arith, nat_tests, k.holds Versions, all-weaker (λ row. ((row.file == file) ≡ false) × IsVersion w.files w.now row) (IsVersion files w.now) w.versions, next_of-removed, all-both (λ row. (row.file == file) ≡ false) (IsVersion w.files w.now) w.versions, idle_versions w file idle)
+    by Drafts = grind (arith, nat_tests, k.holds Drafts, all-weaker (λ row. ((row.file == file) ≡ false) × IsDraft w.files w.now row) (IsDraft files w.now) w.drafts, next_of-removed, all-both (λ row. (row.file == file) ≡ false) (IsDraft w.files w.now) w.drafts, idle_drafts w file idle)
+    by Current = λ other live. grind (arith, nat_tests, k.holds Current other, any-filtered (is_live_name_of other) keep w.names live, next_of-removed w.files file other)
+    by Ended = grind (arith, nat_tests, k.holds Ended, all-weaker (λ row. ((row.file == file) ≡ false) × IsOfLive w.names row) (IsOfLive names) w.versions, live_other w file, all-both (λ row. (row.file == file) ≡ false) (IsOfLive w.names) w.versions, idle_versions w file idle)
+    by Groups = groups_forgotten w.made.groups w.files files w.now file w.groups (λ other apart h. rw (next_of-removed w.files file other apart) h) (k.holds Groups)
+    by part = k.holds part
+
+pub drop_keeps : (w : World) (file : ℕ) → IsWellFormed w → IsWellFormed (after_change w (DropIdle file))
+drop_keeps w file k = dropped IsWellFormed w file (λ idle. drop_file_keeps w file idle k) (λ busy. k)

@@ -1,7 +1,7 @@
 -- Which ripe moments change where marks of groups come and go: those of versions that they cover, and no other.
-use Rattle.ele_world.proofs.Basics.{◌≡◌, ℕ, true, false, cond, List, [], ◌∷◌, Option, Some, None, refl, sym, subst, ◌||◌, arith, ◌&&◌, ◌==◌, Bool, find, list_any, option_map_or, bytes_eq, false≢true, nat_tests, AllLater, all-found}
-use Rattle.ele_world.proofs.Words.{DropGroup, AddMember, RemoveMember, AddMark, RemoveMark, after_change, ripe_at, covers_moment, group_named, has_mark, has_member, is_group, is_marked, is_marked_at, is_member, with_mark}
-use Rattle.ele_world.proofs.Words.{with_member, without_group, without_mark, without_member, is_marked_without, members_of, marks_of, moment_under, Groups, IsGroup, IsWellFormed, World, is_open, is_version, policy_of, Counts, GroupRow, VersionRow}
+use Rattle.ele_world.proofs.Basics.{◌≡◌, ℕ, true, false, cond, List, [], ◌∷◌, Option, Some, None, ◌||◌, arith, ◌&&◌, ◌==◌, Bool, find, list_any, option_map_or, bytes_eq, false≢true, nat_tests, AllLater, all-found}
+use Rattle.ele_world.proofs.Words.{DropGroup, AddMember, RemoveMember, AddMark, RemoveMark, after_change, ripe_at, covers_moment, group_named, has_mark, has_member, is_group, is_marked, is_marked_at, is_member, with_mark, with_member, without_group}
+use Rattle.ele_world.proofs.Words.{without_mark, without_member, is_marked_without, members_of, marks_of, moment_under, Groups, IsGroup, IsWellFormed, World, is_open, is_version, policy_of, Counts, GroupRow, VersionRow}
 use Rattle.ele_world.proofs.MarksChanged.{grouped_fewer, grouped_still, joined_fewer, joined_more, joined_still, marked_fewer, marked_more, marked_still, touches}
 use Rattle.ele_world.proofs.Neighbours.{IfHeld, in_order_of, moment_none, moment_same, ripe_at_near}
 

@@ -1,8 +1,10 @@
 -- The directories that names stand in.
-use Rattle.ele_world.proofs.Basics.{◌≡◌, ℕ, ◌≤◌, Bool, true, false, ◌==◌, ◌||◌, List, [], ◌∷◌, ◌++◌, Some, Ok, refl, ◌∙◌, arith, AllByRecursion, list_any, false≢true, nat_tests, list_any-append, all-push, all-weaker, all-found, found_passes, list_any-update_first, any-found, update_first}
-use Rattle.ele_world.proofs.Words.{is_name_of_directory, dies, live_target, parent_now, has_directory, is_directory, is_reached, IsDirectoryThere, IsHoused, Directories, Homes, IsWellFormed, AreHoused, IsOfLive, World, root, is_live_name_of, DirectoryRow, NameRow, Target, File, Directory, VersionRow}
+use Rattle.ele_world.proofs.Basics.{◌≡◌, ℕ, ◌≤◌, Bool, true, ◌==◌, ◌||◌, List, [], ◌∷◌, ◌++◌, Some, Ok, refl, arith, AllByRecursion, list_any, false≢true, nat_tests, list_any-append, all-push, all-weaker, all-found, found_passes}
+use Rattle.ele_world.proofs.Basics.{list_any-update_first, any-found, update_first}
+use Rattle.ele_world.proofs.Words.{is_name_of_directory, dies, live_target, parent_now, has_directory, is_directory, is_reached, IsDirectoryThere, IsHoused, Directories, Homes, IsWellFormed, AreHoused, IsOfLive, World, root, DirectoryRow, NameRow}
+use Rattle.ele_world.proofs.Words.{Target, File, Directory, VersionRow}
 use Rattle.ele_lists.proofs.Cuts.{any-found as first_passing}
-use Rattle.ele_world.proofs.Walks.{live_row, parent_to}
+use Rattle.ele_world.proofs.Walks.{live_row, parent_is, walk_to}
 use Rattle.ele_world.proofs.NameParts.{still_none}
 
 -- what was there is there beside more
@@ -27,12 +29,10 @@ abbrev IsHome : List DirectoryRow → List NameRow → Target → Type 0
 IsHome directories names (File file) = Unit {0}
 IsHome directories names (Directory directory) = (has_directory directories directory ≡ true) × (is_reached names directory ≡ true)
 
-live_home : (directories : List DirectoryRow) (names : List NameRow) → AllByRecursion (IsHoused directories names) names
-    → (directory : ℕ) (name : List ℕ) (target : Target) → live_target names directory name ≡ Some target → IsHome directories names target
-live_home directories names each directory name target = grind (arith, nat_tests, live_row, all-found, still_none, found_passes, any-found)
-
 pub parent_home : (w : World) (path : List (List ℕ)) (at : ℕ × List ℕ) → IsWellFormed w → parent_now w.names path ≡ Ok at → (has_directory w.directories at.0 ≡ true) × (is_reached w.names at.0 ≡ true)
-parent_home w path at k found = parent_to (IsHome w.directories w.names) w.names (live_home w.directories w.names (k.holds Homes).each) path at ((k.holds Directories).rooted, refl) found
+parent_home w path at k found =
+    let parent = parent_is w.names path at found in
+    walk_to (IsHome w.directories w.names) w.names (λ directory name target. grind (arith, nat_tests, k.holds Homes, live_row, all-found, still_none, found_passes, any-found)) (Directory root) (Directory at.0) parent.front ((k.holds Directories).rooted, refl) parent.leads
 
 -- ---- a name more
 

@@ -1,17 +1,14 @@
 -- Each change that may be made keeps a world well formed, and so do all changes of a plan.
-use Rattle.ele_world.proofs.Basics.{nat_tests, arith, ◌≡◌, ℕ, false, List, [], ◌∷◌, Some, refl, is_none, find}
-use Rattle.ele_world.proofs.Words.{Change, Time, Revive, Append, Take, WriteDraft, TruncateDraft, EndDraft}
-use Rattle.ele_world.proofs.Words.{after_change, after_changes, Plan, outcome, IsEvent, IsWellFormed, World, is_version, Event, VersionRow}
+use Rattle.ele_world.proofs.Basics.{nat_tests, arith, ◌≡◌, List, [], ◌∷◌, refl}
+use Rattle.ele_world.proofs.Words.{Change, Time, Revive, Append, Take, WriteDraft, TruncateDraft, EndDraft, after_change, after_changes, Plan, outcome, IsEvent, IsWellFormed, World, Event}
 use Rattle.ele_world.proofs.KeptDrafts.{start_keeps, write_keeps, truncate_keeps, end_keeps, open_keeps, shut_keeps}
-use Rattle.ele_world.proofs.KeptDirectories.{make_directory_keeps, end_name_keeps}
+use Rattle.ele_world.proofs.KeptDirectories.{make_directory_keeps, end_name_keeps, add_name_keeps, end_file_name_keeps, move_name_keeps}
 use Rattle.ele_world.proofs.KeptNames.{time_keeps, govern_keeps, put_under_keeps, make_keeps}
-use Rattle.ele_world.proofs.KeptDrops.{drop_keeps}
+use Rattle.ele_world.proofs.Dropped.{drop_keeps}
 use Rattle.ele_world.proofs.KeptGroups.{make_group_keeps, drop_group_keeps, add_member_keeps, remove_member_keeps, add_mark_keeps, remove_mark_keeps}
 use Rattle.ele_world.proofs.KeptRevived.{revive_keeps}
 use Rattle.ele_world.proofs.KeptVersions.{append_keeps, take_keeps}
-use Rattle.ele_world.proofs.May.{MayTake, May, MayAll, MayPlan}
-use Rattle.ele_world.proofs.KeptLinks.{add_name_keeps, end_file_name_keeps}
-use Rattle.ele_world.proofs.KeptMoves.{move_name_keeps}
+use Rattle.ele_world.proofs.May.{May, MayAll, MayPlan}
 use Rattle.ele_world.proofs.Outcomes.{outcome_of}
 
 pub change_keeps : (event : Event) (first w : World) (change : Change) → IsEvent event → May event first w change → IsWellFormed w → IsWellFormed (after_change w change)

@@ -1,8 +1,9 @@
 -- Changes of drafts and handles keep a world well formed.
-use Rattle.ele_world.proofs.Basics.{rules, ◌≡◌, ℕ, ◌+◌, ◌<◌, ◌≤◌, Bool, true, false, ◌||◌, List, [], ◌∷◌, length, refl, arith, AllByRecursion, list_any, nat_tests, update_first, remove_first, insert_before, all-push, all-weaker, all-both, later-push}
-use Rattle.ele_world.proofs.Basics.{all-remove_first, all-insert_before, later-update_first, later-remove_first, later-insert_before, length-update_first, length-insert_before, length-remove_first-le, all-found, all-none, found_passes, list_any-update_first, list_any-insert_before, list_any-remove_first}
-use Rattle.ele_world.proofs.Words.{longest_content, written_short, written_fills, truncated_short, truncated_fills, current_cells, new_draft, fitted_by, after_change, StartDraft, WriteDraft, TruncateDraft, EndDraft, OpenHandle, ShutHandle, IsContent}
-use Rattle.ele_world.proofs.Words.{AreWrittenBy, IsDraft, IsReadable, IsHeldRead, IsHandle, Part, Versions, Drafts, Readers, Holds, IsWellFormed, World, next_of, is_draft, is_draft_after, writes, is_writer, DraftRow, HandleRow, Reads}
+use Rattle.ele_world.proofs.Basics.{rules, ◌≡◌, ℕ, ◌+◌, ◌<◌, ◌≤◌, Bool, true, false, List, [], ◌∷◌, length, arith, AllByRecursion, list_any, nat_tests, update_first, remove_first, insert_before, all-push, all-weaker, all-both, later-push}
+use Rattle.ele_world.proofs.Basics.{all-remove_first, all-insert_before, later-update_first, later-remove_first, later-insert_before, length-update_first, length-insert_before, length-remove_first-le, all-found, all-none, found_passes}
+use Rattle.ele_world.proofs.Basics.{list_any-update_first, list_any-insert_before, list_any-remove_first}
+use Rattle.ele_world.proofs.Words.{longest_content, written_short, written_fills, truncated_short, truncated_fills, new_draft, fitted_by, after_change, StartDraft, WriteDraft, TruncateDraft, EndDraft, OpenHandle, ShutHandle, IsDraft, IsReadable}
+use Rattle.ele_world.proofs.Words.{IsHeldRead, IsHandle, Part, Versions, Drafts, Readers, Holds, IsWellFormed, World, is_draft, is_draft_after, writes, is_writer, DraftRow, HandleRow, Reads}
 use Rattle.ele_world.proofs.May.{MayStart, MayOpen}
 use Rattle.ele_world.proofs.Writers.{written_by, truncated_by, written_more}
 

@@ -1,7 +1,8 @@
 -- Changes of groups keep a world well formed, and groups stay what they are beside other changes.
-use Rattle.ele_world.proofs.Basics.{nat_tests, ◌≡◌, ℕ, ◌<◌, ◌≤◌, ◌==◌, Bool, true, false, not, List, [], ◌∷◌, length-append, Option, Some, None, arith, filter, find, AllByRecursion, option_map_or, bytes_eq, not-true}
-use Rattle.ele_world.proofs.Basics.{length-map, update_first, all-filter, all-map, filter-passes, later-filter, later-map, all-both, all-none, all-push, all-remove_first, all-weaker, later-push, later-remove_first, later-update_first, length-remove_first-le, length-update_first}
-use Rattle.ele_world.proofs.Words.{AddMark, AddMember, DropGroup, MakeGroup, RemoveMark, RemoveMember, after_change, adds, forgets, forgotten, has_mark, is_group, is_member, marks, new_group, removes, unmarks, AreGroups, Groups, IsGroup, IsWellFormed, World, next_of, FileRow, GroupRow}
+use Rattle.ele_world.proofs.Basics.{nat_tests, ◌≡◌, ℕ, ◌<◌, ◌≤◌, ◌==◌, Bool, false, not, List, [], ◌∷◌, length-append, Some, arith, filter, find, AllByRecursion, bytes_eq, length-map, update_first, all-map, later-filter, later-map, all-none}
+use Rattle.ele_world.proofs.Basics.{all-push, all-remove_first, all-weaker, later-push, later-remove_first, later-update_first, length-remove_first-le, length-update_first}
+use Rattle.ele_world.proofs.Words.{AddMark, AddMember, DropGroup, MakeGroup, RemoveMark, RemoveMember, after_change, adds, forgets, forgotten, is_group, marks, new_group, removes, unmarks, AreGroups, Groups, IsGroup, IsWellFormed, World, next_of}
+use Rattle.ele_world.proofs.Words.{FileRow, GroupRow}
 use Rattle.ele_world.proofs.May.{MayGroup, MayJoin, MayMark}
 
 abbrev AreTwo : ℕ → ℕ → Type 0

@@ -1,5 +1,5 @@
 -- A file that has a name again, and a version like its last one, keeps a world well formed.
-use Rattle.ele_world.proofs.Basics.{◌≡◌, ℕ, ◌-◌, ◌<◌, List, length-append, Some, subst, arith, length, AllByRecursion, nat_tests, all-found, found_passes}
+use Rattle.ele_world.proofs.Basics.{◌≡◌, ℕ, ◌-◌, ◌<◌, List, length-append, Some, arith, length, AllByRecursion, nat_tests, all-found, found_passes}
 use Rattle.ele_world.proofs.Words.{after_change, Revive, current_cells, with_name, born_row, IsVersion, Part, Names, Homes, Versions, IsWellFormed, World, next_of, current_of, NameRow, File, VersionRow}
 use Rattle.ele_world.proofs.Homes.{any_less, homes_more, ended_more}
 use Rattle.ele_world.proofs.KeptVersions.{HoldsBeside, append_completes}
@@ -25,11 +25,9 @@ module _ (w : World) (directory : ℕ) (name : List ℕ) (file : ℕ) where
 
   -- a file's new name leaves all but that the file may have no current version
   pub named_holds : MayName w directory name → 0 < next_of w.files file → IsWellFormed w → (part : Part) → HoldsBeside file named part
-  named_holds may there k = by where
-    by : (part : Part) → HoldsBeside file named part
-    by Names = names_more w.files w.now w.names directory name (File file) may.free there (k.holds Names)
-    by Homes = homes_more w.directories w.names row may.home may.reached tt (k.holds Homes)
-    by part = grind (arith, nat_tests, k.holds part, counted_more w (length named.names) k may.room, length-append, tree_more, any_less, ended_more)
+  named_holds may there k Names = names_more w.files w.now w.names directory name (File file) may.free there (k.holds Names)
+  named_holds may there k Homes = homes_more w.directories w.names row may.home may.reached tt (k.holds Homes)
+  named_holds may there k part = grind (arith, nat_tests, k.holds part, counted_more w (length named.names) k may.room, length-append, tree_more, any_less, ended_more)
 
   -- a version like the last one may be made
   pub again : MayRevive w directory name file → AllByRecursion (IsVersion w.files w.now) w.versions → MayAppend named file w.now (current_cells w file)

@@ -1,8 +1,9 @@
 -- The making and the removal of a version keep a world well formed.
-use Rattle.ele_world.proofs.Basics.{◌≡◌, ◌≢◌, ℕ, ◌+◌, ◌-◌, ◌<◌, Bool, true, false, cond, ◌||◌, List, Option, Some, None, refl, ap, subst, ◌∙◌, arith, eqb, ◌==◌, find, unwrap_or, is_none, list_any, AllByRecursion, false≢true, nat_tests, remove_first, update_first, all-none}
-use Rattle.ele_world.proofs.Basics.{AllLater, all-weaker, all-both, found_passes, all-update_first, all-remove_first, all-insert_before, later-update_first, later-remove_first, later-insert_before, length-update_first, length-insert_before, length-remove_first-le, list_any-update_first, list_any-insert_before, list_any-remove_first}
-use Rattle.ele_world.proofs.Words.{Cell, numbered_on, ended_at, next_version, with_end, with_version, after_change, Take, IsFile, IsNameRow, IsVersion, ArePlaced, IsDraft, is_current, HaveCurrent, IsHeldRead, Part, Counted, Files, Names}
-use Rattle.ele_world.proofs.Words.{Versions, Drafts, Readers, Current, Holds, IsWellFormed, AreVersions, IsOfLive, Ended, Groups, World, next_of, is_file, is_live, is_open, is_version, is_version_after, reads_version, Reads, FileRow, VersionRow}
+use Rattle.ele_world.proofs.Basics.{◌≡◌, ◌≢◌, ℕ, ◌+◌, ◌-◌, Bool, true, false, List, Some, arith, ◌==◌, find, is_none, list_any, AllByRecursion, false≢true, nat_tests, remove_first, update_first, all-none, AllLater, all-weaker, all-both, found_passes}
+use Rattle.ele_world.proofs.Basics.{all-update_first, all-remove_first, all-insert_before, later-update_first, later-remove_first, later-insert_before, length-update_first, length-insert_before, length-remove_first-le, list_any-update_first}
+use Rattle.ele_world.proofs.Basics.{list_any-insert_before, list_any-remove_first}
+use Rattle.ele_world.proofs.Words.{Cell, numbered_on, ended_at, next_version, with_end, with_version, after_change, Take, IsFile, IsNameRow, IsVersion, ArePlaced, IsDraft, is_current, IsHeldRead, Part, Counted, Files, Names, Versions, Drafts}
+use Rattle.ele_world.proofs.Words.{Readers, Current, Holds, IsWellFormed, AreVersions, IsOfLive, Ended, Groups, World, next_of, is_file, is_live, is_open, is_version, is_version_after, reads_version, Reads, FileRow, VersionRow}
 use Rattle.ele_world.proofs.Readers.{read_on}
 use Rattle.ele_world.proofs.Files.{next_of-numbered_on, next_of-numbered_other, next_of-numbered_le}
 use Rattle.ele_world.proofs.KeptGroups.{groups_on}
@@ -40,10 +41,6 @@ abbrev pub HoldsBeside : ℕ → World → Part → Type 0
 HoldsBeside file w Current = (other : ℕ) → other ≢ file → is_live w other ≡ true → list_any (is_current other (next_of w.files other)) w.versions ≡ true
 HoldsBeside file w part = Holds w part
 
-beside : (file : ℕ) (w : World) → IsWellFormed w → (part : Part) → HoldsBeside file w part
-beside file w k Current = λ other apart live. k.holds Current other live
-beside file w k part = k.holds part
-
 module _ (w : World) (file opened : ℕ) (cells : List Cell) (may : MayAppend w file opened cells) where
   abbrev new : VersionRow
   new = next_version w file opened cells
@@ -79,7 +76,7 @@ module _ (w : World) (file opened : ℕ) (cells : List Cell) (may : MayAppend w 
     by part = holds part
 
   pub append_keeps : IsWellFormed w → IsWellFormed (with_version w file opened cells)
-  append_keeps k = append_completes (beside file w k)
+  append_keeps k = append_completes (λ part. grind (arith, k.holds part))
 
 -- ---- a version that has ended goes
 

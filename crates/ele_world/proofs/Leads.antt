@@ -1,24 +1,80 @@
--- After a create its path leads to the new file.
-use Rattle.ele_world.proofs.Basics.{◌≡◌, ℕ, ◌+◌, false, List, [], ◌∷◌, ◌++◌, Some, Ok, ap, subst, arith, is_some, option_map, nat_tests, find-append, all-weaker, not_found}
-use Rattle.ele_world.proofs.Words.{after_change, MakeFile, Policy, LeadsToNew, plan, step, live_target, file_at, file_now, parent_now, Files, IsWellFormed, World, default_of, next_of, current_of, Create, File, VersionRow}
+-- After a create, a mkdir or an undelete its path leads to what is made, or to what the name last stood for.
+use Rattle.ele_world.proofs.Basics.{◌≡◌, ℕ, ◌+◌, false, List, Some, Ok, ap, subst, arith, is_some, nat_tests, find-append, all-weaker, not_found, ◌≤◌, refl, list_any-append}
+use Rattle.ele_world.proofs.Words.{after_change, MakeFile, Policy, LeadsToNew, plan, step, live_target, file_at, parent_now, Files, IsWellFormed, World, default_of, next_of, current_of, Create, File, MakeDirectory, LeadsToDirectory, is_live_in}
+use Rattle.ele_world.proofs.Words.{directory_in, Directories, Homes, is_directory, MakeDir, DirectoryRow, Directory, AddName, Revive, current_cells, next_version, with_name, last_target, LeadsAgain, HasNameAgain, HasVersionAgain, Versions, Undelete}
+use Rattle.ele_world.proofs.Words.{UndeleteLeads, Target}
 use Rattle.ele_world.specs.declared.reply.Reply.TheVariants as reply
-use Rattle.ele_world.proofs.Created.{new_file, new_name, first_version, created, made_is, versions_before}
-use Rattle.ele_world.proofs.Files.{next_of-new}
+use Rattle.ele_world.proofs.Created.{new_file, made_is, versions_before, named_live}
+use Rattle.ele_world.proofs.Files.{next_of-new, next_of-numbered_on}
 use Rattle.ele_world.proofs.Outcomes.{in_all}
 use Rattle.ele_world.proofs.Walks.{new_leads}
+use Rattle.ele_world.proofs.Elements.{any_none}
+use Rattle.ele_world.proofs.Homes.{any_last, parent_home, directory_given}
+use Rattle.ele_world.proofs.Allowed.{may_name, may_revive}
+use Rattle.ele_world.proofs.Closes.{new_found}
+use Rattle.ele_world.proofs.KeptRevived.{again}
+use Rattle.ele_world.proofs.May.{MayRevive}
 
--- ---- the new file
+-- ---- a create
+
+module _ (w : World) (path : List (List ℕ)) (at : ℕ × List ℕ) (k : IsWellFormed w) where
+  file_leads : parent_now w.names path ≡ Ok at → is_some (live_target w.names at.0 at.1) ≡ false → LeadsToNew path (w.made.files + 1) (after_change w (MakeFile at.0 at.1 (w.made.files + 1) (default_of w.directories at.0)))
+  file_leads found free = rw (made_is w at.0 at.1 (default_of w.directories at.0) k) (record { named = ap file_at (new_leads w.names path at (File (w.made.files + 1)) w.now found free); empty = grind (arith, nat_tests, not_found, all-weaker, versions_before w k, find-append, next_of-new w.made.files w.made.versions w.files (new_file (w.made.files + 1) (default_of w.directories at.0)), k.holds Files) })
+
+pub create_leads : (w : World) (path : List (List ℕ)) (file : ℕ) → IsWellFormed w → (step w (Create path)).0 ≡ reply.File file → LeadsToNew path file ((step w (Create path)).1)
+create_leads w path file k = in_all w (λ answer. answer.0 ≡ reply.File file → LeadsToNew path file (answer.1)) (plan w (Create path)) (λ refusal e. absurd cc)
+    (λ at found free files names versions e. let same : w.made.files + 1 ≡ file = cc in subst (λ n. LeadsToNew path n (after_change w (MakeFile at.0 at.1 (w.made.files + 1) (default_of w.directories at.0)))) same (file_leads w path at k found free))
+
+-- ---- a mkdir
 
 module _ (w : World) (path : List (List ℕ)) (at : ℕ × List ℕ) (k : IsWellFormed w) where
   abbrev id : ℕ
-  id = w.made.files + 1
+  id = w.made.directories + 1
 
   abbrev policy : Policy
   policy = default_of w.directories at.0
 
-  leads_to : parent_now w.names path ≡ Ok at → is_some (live_target w.names at.0 at.1) ≡ false → LeadsToNew path id (after_change w (MakeFile at.0 at.1 id policy))
-  leads_to found free = rw (made_is w at.0 at.1 policy k) (record { named = ap file_at (new_leads w.names path at (File id) w.now found free); empty = grind (arith, nat_tests, not_found, all-weaker, versions_before w k, find-append, next_of-new w.made.files w.made.versions w.files (new_file id policy), k.holds Files) })
+  abbrev new : DirectoryRow
+  new = record { id = id; default = policy }
 
-pub create_leads : (w : World) (path : List (List ℕ)) (file : ℕ) → IsWellFormed w → (step w (Create path)).0 ≡ reply.File file → LeadsToNew path file ((step w (Create path)).1)
-create_leads w path file k = in_all w (λ answer. answer.0 ≡ reply.File file → LeadsToNew path file (answer.1)) (plan w (Create path)) (λ refusal e. absurd cc)
-    (λ at found free files names versions e. let same : w.made.files + 1 ≡ file = cc in subst (λ n. LeadsToNew path n (after_change w (MakeFile at.0 at.1 (w.made.files + 1) (default_of w.directories at.0)))) same (leads_to w path at k found free))
+  abbrev after : World
+  after = after_change w (MakeDirectory at.0 at.1 id policy)
+
+  leads_to : parent_now w.names path ≡ Ok at → is_some (live_target w.names at.0 at.1) ≡ false → LeadsToDirectory w path id after
+  leads_to found free = record {
+    home = at;
+    stands = found;
+    there = any_last (is_directory id) w.directories new (grind (arith, nat_tests));
+    named = ap directory_in (new_leads w.names path at (Directory id) w.now found free);
+    empty = grind (arith, nat_tests, list_any-append, any_none (is_live_in id) w.names, k.holds Homes, all-weaker, k.holds Directories, directory_given, parent_home w path at k found);
+    policy = grind (arith, nat_tests, find-append, not_found (is_directory id) w.directories, all-weaker (λ row. row.id ≤ w.made.directories) (λ row. is_directory id row ≡ false) w.directories, k.holds Directories);
+  }
+
+pub make_dir_leads : (w : World) (path : List (List ℕ)) (id : ℕ) → IsWellFormed w → (step w (MakeDir path)).0 ≡ reply.Directory id → LeadsToDirectory w path id ((step w (MakeDir path)).1)
+make_dir_leads w path id k = grind (arith, nat_tests, in_all, id, plan, after_change, default_of, leads_to)
+
+-- ---- an undelete
+
+module _ (w : World) (path : List (List ℕ)) (at : ℕ × List ℕ) (k : IsWellFormed w) (found : parent_now w.names path ≡ Ok at) (free : is_some (live_target w.names at.0 at.1) ≡ false) where
+  named_again : (lost : Target) (after : World) → after.names ≡ (with_name w at.0 at.1 lost).names → last_target w.names at.0 at.1 ≡ Ok lost → LeadsAgain w path lost after
+  named_again lost after names last = record { home = at; stands = found; lost = grind (arith, nat_tests); leads = rw names (new_leads w.names path at lost w.now found free) }
+
+  name_again : (lost : Target) → last_target w.names at.0 at.1 ≡ Ok lost → HasNameAgain w path (after_change w (AddName at.0 at.1 lost))
+  name_again lost last = record { target = lost; named = named_again lost (with_name w at.0 at.1 lost) refl last; versions = refl }
+
+  module _ (file : ℕ) (may : MayRevive w at.0 at.1 file) where
+    abbrev revived : World
+    revived = after_change w (Revive at.0 at.1 file)
+
+    current_is : current_of revived file ≡ Some (next_version (with_name w at.0 at.1 (File file)) file w.now (current_cells w file))
+    current_is = grind (arith, nat_tests, again w at.0 at.1 file may (k.holds Versions).each, next_of-numbered_on w.files file, new_found (with_name w at.0 at.1 (File file)) file (k.holds Versions).each w.now (current_cells w file))
+
+    version_again : (number : ℕ) → next_of w.files file ≡ number → last_target w.names at.0 at.1 ≡ Ok (File file) → HasVersionAgain w path number revived
+    version_again number same last = grind (arith, nat_tests, named_again (File file) revived refl last, current_is, named_live w at.0 at.1 file)
+
+pub undelete_leads : UndeleteLeads
+undelete_leads w path k = (
+  grind (arith, nat_tests, in_all, name_again w path),
+  λ number. in_all w (λ answer. answer.0 ≡ reply.Version number → HasVersionAgain w path number (answer.1)) (plan w (Undelete path)) (λ refusal e. absurd cc)
+      (λ at found free lost last returns. (λ none names e. absurd cc, λ file none drafts names versions e. version_again w path at k found free file (may_revive w at lost file (may_name w path at k found free names) none returns (grind (arith, nat_tests))) number (grind (arith, nat_tests)) (grind (arith, nat_tests)))),
+)

@@ -1,8 +1,8 @@
 -- What each change needs, so that it leaves a well-formed world, and takes only what was due.
 use Rattle.ele_world.proofs.Basics.{◌≡◌, ℕ, ◌+◌, ◌<◌, ◌≤◌, true, false, List, [], ◌∷◌, length, Some, is_some, is_none, find, list_any}
-use Rattle.ele_world.proofs.Words.{Cell, longest_content, last_moment, Policy, Change, Time, Govern, MakeDirectory, EndName, AddName, MoveName, EndFileName, Revive, MakeFile, PutUnder, Append, Take, StartDraft, WriteDraft, TruncateDraft, EndDraft, OpenHandle}
-use Rattle.ele_world.proofs.Words.{ShutHandle, DropIdle, MakeGroup, DropGroup, AddMember, RemoveMember, AddMark, RemoveMark, after_change, is_due_at, has_group, has_member, is_marked_at, is_live_in, is_live_directory, Plan}
-use Rattle.ele_world.proofs.Words.{IsEvent, live_target, IsPolicy, IsThere, IsDirectoryThere, has_directory, is_reached, IsContent, AreWrittenBy, IsReadable, IsHeldRead, World, next_of, is_version, is_live, current_of, is_open, has_draft, is_writer, Event, CleanOne, Reads, Target, File, Directory, VersionRow}
+use Rattle.ele_world.proofs.Words.{Cell, longest_content, last_moment, Policy, Change, Time, Govern, MakeDirectory, EndName, AddName, MoveName, EndFileName, Revive, MakeFile, PutUnder, Append, Take, StartDraft, WriteDraft, TruncateDraft, EndDraft}
+use Rattle.ele_world.proofs.Words.{OpenHandle, MakeGroup, AddMember, AddMark, after_change, is_due_at, has_group, has_member, is_marked_at, is_live_in, is_live_directory, Plan, IsEvent, live_target, IsPolicy, IsThere, IsDirectoryThere, has_directory}
+use Rattle.ele_world.proofs.Words.{is_reached, IsContent, AreWrittenBy, IsReadable, IsHeldRead, World, next_of, is_version, is_live, current_of, is_open, has_draft, is_writer, Event, CleanOne, Reads, Target, File, Directory, VersionRow}
 use Rattle.ele_world.proofs.Outcomes.{InAll}
 
 abbrev pub HasRoom : World → Type 0

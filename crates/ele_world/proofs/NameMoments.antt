@@ -1,6 +1,6 @@
 -- Which ripe moments change where names come, go or move: with a file's last name that of its last version, and no other.
 use Rattle.ele_world.proofs.Basics.{◌≡◌, ℕ, ◌-◌, true, false, ◌==◌, ◌&&◌, List, Some, None, refl, ap, ◌∙◌, arith, cond, find, option_and_then, nat_tests, find-update_other}
-use Rattle.ele_world.proofs.Words.{ended_at, with_end, after_change, EndFileName, ripe_at, view_of, is_marked, near_moment, next_closing, AreVersions, Versions, IsWellFormed, World, policy_of, next_of, is_live, is_open, is_version}
+use Rattle.ele_world.proofs.Words.{ended_at, with_end, after_change, EndFileName, ripe_at, view_of, is_marked, near_moment, next_closing, Versions, IsWellFormed, World, policy_of, next_of, is_live, is_open, is_version}
 use Rattle.ele_world.specs.Due.{ripe_of}
 use Rattle.ele_world.proofs.Currents.{HasCurrent, last_ends}
 use Rattle.ele_world.proofs.KeptVersions.{ended_versions}

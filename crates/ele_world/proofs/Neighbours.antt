@@ -1,9 +1,9 @@
 -- A version's ripe moment: none while a handle reads it or it is marked, and else what its policy, its own moments and its next
 -- held neighbour tell.
-use Rattle.ele_world.proofs.Basics.{◌≡◌, ℕ, ◌+◌, ◌≤◌, ◌==◌, ◌&&◌, ◌||◌, Bool, true, false, not, cond, List, [], ◌∷◌, ◌++◌, Option, Some, None, refl, ap, subst, ◌∙◌, arith}
-use Rattle.ele_world.proofs.Basics.{filter, slice_get, find, option_and_then, IfSome, AllByRecursion, list_any, option_map_or, nat_tests, slice_get-map, find-cut, find-filter_both, AllLater, update_first, all-weaker, found_passes, not_found}
-use Rattle.ele_world.proofs.Words.{never_due, ripe_nearest, Policy, IsPolicy, IsNearest, is_due_by, alone, candidates, earliest_of, FileRow, VersionRow, ended_at, ripe_at, FileView, view_of, beside, ripe_in}
-use Rattle.ele_world.proofs.Words.{covers_moment, is_marked, near_moment, next_closing, moment_under, free_moment, ArePlaced, AreVersions, IsVersion, Versions, IsWellFormed, World, is_open, is_version, next_of, policy_of}
+use Rattle.ele_world.proofs.Basics.{◌≡◌, ℕ, ◌+◌, ◌≤◌, ◌==◌, ◌&&◌, ◌||◌, Bool, true, false, not, cond, List, [], ◌∷◌, Option, Some, None, refl, arith, filter, slice_get, find, option_and_then, IfSome, AllByRecursion, list_any, option_map_or}
+use Rattle.ele_world.proofs.Basics.{nat_tests, slice_get-map, find-cut, find-filter_both, AllLater, update_first, all-weaker, not_found}
+use Rattle.ele_world.proofs.Words.{never_due, ripe_nearest, Policy, IsPolicy, IsNearest, is_due_by, alone, candidates, earliest_of, FileRow, VersionRow, ended_at, ripe_at, FileView, view_of, beside, ripe_in, covers_moment, is_marked, near_moment}
+use Rattle.ele_world.proofs.Words.{next_closing, moment_under, free_moment, ArePlaced, AreVersions, IsVersion, Versions, IsWellFormed, World, is_open, is_version, next_of, policy_of}
 use Rattle.ele_policy.specs.Ripe.{ripe_by}
 use Rattle.ele_world.specs.Due.{ripe_of}
 use Rattle.ele_world.proofs.GroupMarks.{marks_tell}

@@ -1,10 +1,10 @@
 -- No event leaves a file of which nothing is left. In a well-formed world a live file has a version, so what counts is whether
 -- each file has a version or a draft.
-use Rattle.ele_world.proofs.Basics.{rules, ◌≡◌, ◌==◌, ℕ, Bool, true, false, not, ◌||◌, List, [], ◌∷◌, refl, sym, subst, ◌∙◌, arith, AllByRecursion, list_any, false≢true, not-true, nat_tests, update_first}
-use Rattle.ele_world.proofs.Basics.{remove_first, filter-passes, all-push, all-weaker, all-both, all-update_first, all-remove_first, found_passes, list_any-update_first, list_any-insert_before, list_any-remove_first, any-found, remove_first-key}
-use Rattle.ele_world.proofs.Words.{Cell, Policy, Take, MakeFile, PutUnder, EndFileName, EndDraft, DropIdle, ShutHandle, StartDraft, after_change, is_idle, numbered_on, put_under, current_cells, with_file, with_name, with_version}
-use Rattle.ele_world.proofs.Words.{without_file, is_version_of, HasNoIdle, NoIdleStays, run_of, IsEvent, plan, step, Files, Current, IsWellFormed, World, is_file, is_draft, is_live, has_draft, Event}
-use Rattle.ele_world.proofs.Words.{Undelete, Close, Revert, CleanOne, Read, Tagged, Of, DraftRow, FileRow, File}
+use Rattle.ele_world.proofs.Basics.{rules, ◌≡◌, ◌==◌, ℕ, Bool, true, false, not, ◌||◌, List, [], ◌∷◌, arith, AllByRecursion, list_any, false≢true, not-true, nat_tests, update_first, remove_first, filter-passes, all-push, all-weaker, all-both}
+use Rattle.ele_world.proofs.Basics.{all-update_first, all-remove_first, found_passes, list_any-update_first, list_any-insert_before, list_any-remove_first, any-found, remove_first-key}
+use Rattle.ele_world.proofs.Words.{Cell, Policy, Take, MakeFile, PutUnder, EndFileName, EndDraft, DropIdle, ShutHandle, StartDraft, after_change, is_idle, numbered_on, put_under, current_cells, with_file, with_name, with_version, without_file}
+use Rattle.ele_world.proofs.Words.{is_version_of, HasNoIdle, NoIdleStays, run_of, IsEvent, plan, step, Files, Current, IsWellFormed, World, is_file, is_draft, is_live, has_draft, Event, Undelete, Close, Revert, CleanOne, Read, DraftRow, FileRow}
+use Rattle.ele_world.proofs.Words.{File}
 use Rattle.ele_lists.proofs.Cuts.{any-found as first_passing}
 use Rattle.ele_world.proofs.Allowed.{takes}
 use Rattle.ele_world.proofs.Dropped.{dropped}
@@ -24,25 +24,18 @@ AreBusy w = AllByRecursion (λ row. has_rows w row.id ≡ true) w.files
 abbrev AreBusyBut : World → ℕ → Type 0
 AreBusyBut w file = AllByRecursion (λ row. (row.id == file) ≡ false → has_rows w row.id ≡ true) w.files
 
-all_but : (w : World) (file : ℕ) → AreBusy w → AreBusyBut w file
-all_but w file = all-weaker (λ row. has_rows w row.id ≡ true) (λ row. (row.id == file) ≡ false → has_rows w row.id ≡ true) w.files (λ row h apart. h)
-
 -- ---- a version more
 
-module _ (w : World) (file opened : ℕ) (cells : List Cell) where
-  abbrev after : World
-  after = with_version w file opened cells
+versioned : (w : World) (file opened : ℕ) (cells : List Cell) → AreBusyBut w file → AreBusy (with_version w file opened cells)
+versioned w file opened cells = grind (arith, nat_tests, all-update_first (is_file file) (λ row. (row.id == file) ≡ false → has_rows w row.id ≡ true) (λ row. has_rows (with_version w file opened cells) row.id ≡ true) numbered_on w.files, list_any-insert_before, list_any-update_first)
 
-  held_after : (id : ℕ) → list_any (is_version_of id) after.versions ≡ ((file == id) || list_any (is_version_of id) w.versions)
-  held_after id = grind (arith, nat_tests, list_any-insert_before, list_any-update_first)
-
-  versioned : AreBusyBut w file → AreBusy after
-  versioned = grind (arith, nat_tests, all-update_first (is_file file) (λ row. (row.id == file) ≡ false → has_rows w row.id ≡ true) (λ row. has_rows after row.id ≡ true) numbered_on w.files, held_after)
+grown : (w : World) (file opened : ℕ) (cells : List Cell) → AreBusy w → AreBusy (with_version w file opened cells)
+grown w file opened cells all = versioned w file opened cells (all-weaker (λ row. has_rows w row.id ≡ true) (λ row. (row.id == file) ≡ false → has_rows w row.id ≡ true) w.files (λ row h apart. h) all)
 
 -- ---- the other changes
 
 made : (w : World) (directory : ℕ) (name : List ℕ) (id : ℕ) (policy : Policy) → AreBusy w → AreBusy (after_change w (MakeFile directory name id policy))
-made w directory name id policy all = versioned (with_name (with_file w id policy) directory name (File id)) id w.now [] (grind (arith, nat_tests, all-push (λ row. (row.id == id) ≡ false → has_rows w row.id ≡ true) w.files, all_but w id))
+made w directory name id policy all = versioned (with_name (with_file w id policy) directory name (File id)) id w.now [] (grind (arith, nat_tests, all-push (λ row. (row.id == id) ≡ false → has_rows w row.id ≡ true) w.files, all-weaker (λ row. has_rows w row.id ≡ true) (λ row. (row.id == id) ≡ false → has_rows w row.id ≡ true) w.files))
 
 put : (w : World) (file : ℕ) (policy : Policy) → AreBusy w → AreBusy (after_change w (PutUnder file policy))
 put w file policy = grind (arith, nat_tests, all-update_first (is_file file) (λ row. has_rows w row.id ≡ true) (λ row. has_rows w row.id ≡ true) (put_under policy) w.files)
@@ -65,11 +58,8 @@ ended : (w : World) (file : ℕ) → AreBusy w → AreBusyBut (after_change w (E
 ended w file = grind (arith, nat_tests, all-weaker, list_any-remove_first, found_passes)
 
 -- a live file has its current version
-held_if_live : (w : World) (file : ℕ) → IsWellFormed w → is_live w file ≡ true → list_any (is_version_of file) w.versions ≡ true
-held_if_live w file k live = grind (arith, nat_tests, k.holds Current, first_passing, any-found, found_passes)
-
 busy_is : (w : World) (file : ℕ) → IsWellFormed w → is_idle w file ≡ false → has_rows w file ≡ true
-busy_is w file k = grind (arith, nat_tests, held_if_live, false≢true)
+busy_is w file k = grind (arith, nat_tests, k.holds Current, first_passing, any-found, found_passes, false≢true)
 
 idle_gone : (w : World) (file : ℕ) → IsWellFormed w → AreBusyBut w file → AreBusy (after_change w (DropIdle file))
 idle_gone w file k but = dropped AreBusy w file (λ idle. gone) (λ busy. grind (arith, nat_tests, busy_is w file k, all-weaker (λ row. (row.id == file) ≡ false → has_rows w row.id ≡ true) (λ row. has_rows w row.id ≡ true) w.files)) where
@@ -83,11 +73,6 @@ idle_gone w file k but = dropped AreBusy w file (λ idle. gone) (λ busy. grind 
 -- ---- each event
 
 tidy : (w : World) (event : Event) → IsWellFormed w → AreBusy w → AfterAll w (λ answer. AreBusy (answer.1)) (plan w event)
-tidy w (Undelete path) k all = λ at parent free lost last may. (
-  λ none names. all,
-  λ file none undrafted names versions.
-      let named = with_name w at.0 at.1 (File file) in versioned named file w.now (current_cells w file) (all_but named file all),
-)
 tidy w (Close handle) k all = λ read found. (
   λ none. all,
   λ file writes. (
@@ -103,10 +88,9 @@ tidy w (Close handle) k all = λ read found. (
     ),
   ),
 )
-tidy w (Revert path number) k all = λ file found row meant drafts versions. versioned w file w.now row.cells (all_but w file all)
 tidy w CleanOne k all = (λ none. all, λ key first. idle_gone (after_change w (Take key.file key.number)) key.file (change_keeps CleanOne w w (Take key.file key.number) tt (takes w key k first) k) (taken w key.file key.number all))
 tidy w (Read source) k all = grind (arith, nat_tests)
-tidy w event k all = search (rules, made, nameless, begun, edited, same_file, put)
+tidy w event k all = search (rules, made, grown, nameless, begun, edited, same_file, put)
 
 pub no_idle_stays : NoIdleStays
 no_idle_stays w event k none = grind (arith, nat_tests, all-weaker, is_idle, has_rows, busy_is, step, in_all, AreBusy, plan, tidy)

@@ -1,6 +1,6 @@
 -- Which ripe moments change where handles come and go: that of a version that a handle reads, and no other.
-use Rattle.ele_world.proofs.Basics.{nat_tests, arith, ◌≡◌, ℕ, ◌||◌, Bool, true, false, cond, Some, None, refl, ap, sym, ◌∙◌, find, Ok, Err, option_map_or, list_any-append, remove_first, list_any-remove_first}
-use Rattle.ele_world.proofs.Words.{after_change, OpenHandle, ShutHandle, ripe_at, NoHandle, HandleRow, Reads, free_moment, World, is_handle, is_open, reads_by, reads_version}
+use Rattle.ele_world.proofs.Basics.{nat_tests, arith, ◌≡◌, ℕ, ◌||◌, true, false, cond, None, refl, ◌∙◌, Ok, list_any-append, remove_first, list_any-remove_first}
+use Rattle.ele_world.proofs.Words.{after_change, OpenHandle, ShutHandle, ripe_at, Reads, free_moment, World, is_handle, is_open, reads_by, reads_version}
 use Rattle.ele_world.proofs.Neighbours.{AreInOrder, found_moment, ripe_at_near}
 
 -- an open version has none

@@ -1,6 +1,6 @@
 -- The rows of other files stay where one file's rows change.
-use Rattle.ele_world.proofs.Basics.{◌≡◌, ℕ, true, false, not, List, [], ◌∷◌, length, Option, refl, ap, arith, eqb, filter, option_map_or, nat_tests, update_first, remove_first, insert_before, found_passes, filter-update_first, filter-remove_first, filter-insert_before}
-use Rattle.ele_world.proofs.Words.{Kind, Policy, kind_of, is_kind, DraftRow, FileRow, VersionRow, numbered_on, ended_at, is_of, is_file_of, World, is_draft, is_file, is_version, is_version_after}
+use Rattle.ele_world.proofs.Basics.{◌≡◌, ℕ, not, List, [], ◌∷◌, length, refl, arith, eqb, filter, nat_tests, update_first, remove_first, insert_before, found_passes, filter-update_first, filter-remove_first, filter-insert_before}
+use Rattle.ele_world.proofs.Words.{Kind, DraftRow, FileRow, VersionRow, numbered_on, ended_at, is_of, is_file_of, World, is_draft, is_file, is_version, is_version_after}
 use Rattle.ele_world.proofs.Opened.{with_draft}
 use Rattle.ele_world.proofs.Files.{policies-numbered}
 

@@ -1,6 +1,6 @@
 -- What holds of all that a plan may come to holds of what it comes to.
-use Rattle.ele_world.proofs.Basics.{arith, ◌≡◌, true, false, List, [], Some, None, Ok, refl}
-use Rattle.ele_world.proofs.Words.{Change, after_changes, Plan, Tell, Make, Unless, When, Need, IfFound, refused, outcome, World, Refusal, Reply}
+use Rattle.ele_world.proofs.Basics.{arith, ◌≡◌, true, false, List, [], Some, None, Ok, refl, rules, nat_tests, Bool, ◌||◌, ◌∷◌, false≢true}
+use Rattle.ele_world.proofs.Words.{Change, after_changes, Plan, Tell, Make, Unless, When, Need, IfFound, refused, outcome, World, Refusal, Reply, asks, plan, step, Event, Read, Refused}
 
 -- of each answer with its changes, where the checks pass
 abbrev pub InAll : (Reply → List Change → Type 0) → Plan → Type 0
@@ -27,3 +27,27 @@ AfterAll w Q plan = InAll (λ reply changes. Q (reply, after_changes w changes))
 
 pub in_all : (w : World) (Q : Reply × World → Type 0) (plan : Plan) → ((refusal : Refusal) → Q (refused w refusal)) → AfterAll w Q plan → Q (outcome w plan)
 in_all w Q plan none all = outcome_of w (λ reply changes. Q (reply, after_changes w changes)) Q (λ reply changes so. so) none plan all
+
+-- ---- an event that is refused, or only asks, leaves the world
+
+abbrev is_refusal : Reply → Bool
+is_refusal (Refused refusal) = true
+is_refusal _ = false
+
+-- what makes changes is no refusal, and isn't only asked
+abbrev IsFair : Event → Reply → List Change → Type 0
+IsFair event reply [] = Unit {0}
+IsFair event reply (change ∷ changes) = (is_refusal reply || asks event) ≡ false
+
+fair : (w : World) (event : Event) → InAll (IsFair event) (plan w event)
+fair w (Read source) = grind (arith, nat_tests)
+fair w event = search (rules)
+
+stays : (w : World) (event : Event) → (is_refusal ((step w event).0) || asks event) ≡ true → (step w event).1 ≡ w
+stays w event = outcome_of w (IsFair event) (λ answer. (is_refusal (answer.0) || asks event) ≡ true → answer.1 ≡ w) (λ reply changes fair is. grind (arith, nat_tests, false≢true)) (λ refusal is. refl) (plan w event) (fair w event)
+
+pub refused_stays : (w : World) (event : Event) (refusal : Refusal) → (step w event).0 ≡ Refused refusal → (step w event).1 ≡ w
+refused_stays w event refusal e = stays w event (rw e refl)
+
+pub asking_stays : (w : World) (event : Event) → asks event ≡ true → (step w event).1 ≡ w
+asking_stays w event is = grind (arith, nat_tests, stays w event)

@@ -1,6 +1,6 @@
 -- A file that has a name again: its last version had ended, it may have its next one, and what changes for usage.
-use Rattle.ele_world.proofs.Basics.{nat_tests, ℕ, ◌<◌, List, subst, arith, AllByRecursion}
-use Rattle.ele_world.proofs.Words.{after_change, Revive, with_name, IsVersion, Versions, IsWellFormed, ChangesOnly, World, next_of, File}
+use Rattle.ele_world.proofs.Basics.{nat_tests, ℕ, List, arith}
+use Rattle.ele_world.proofs.Words.{after_change, Revive, with_name, Versions, IsWellFormed, ChangesOnly, World, File}
 use Rattle.ele_world.proofs.AppendMoments.{MayGrow, may_grow}
 use Rattle.ele_world.proofs.KeptRevived.{last_is}
 use Rattle.ele_world.proofs.May.{MayRevive}

@@ -1,12 +1,12 @@
 -- What an event does to the versions that are held before it.
-use Rattle.ele_world.proofs.Basics.{nat_tests, ◌≡◌, ℕ, true, List, [], ◌∷◌, Option, Some, None, ap, ◌∙◌, arith, ◌⊎◌, inl, inr, find, list_any, AllByRecursion, option_map, all-weaker, all-both, any-found, found_passes, AllLater}
-use Rattle.ele_world.proofs.Words.{Change, after_change, after_changes, ended_at, is_due_at, IsSameVersion, StaysSame, StaysOrWasDue, plan, step, ArePlaced, IsVersion, Files, Versions, IsWellFormed, World, is_version, Event, CleanOne, VersionRow}
+use Rattle.ele_world.proofs.Basics.{nat_tests, ◌≡◌, ℕ, true, List, [], ◌∷◌, Option, Some, None, arith, ◌⊎◌, find, AllByRecursion, all-weaker, all-both, any-found, found_passes, AllLater}
+use Rattle.ele_world.proofs.Words.{Change, after_change, after_changes, is_due_at, IsSameVersion, StaysSame, StaysOrWasDue, plan, step, ArePlaced, IsVersion, Files, Versions, IsWellFormed, World, is_version, Event, CleanOne, VersionRow}
 use Rattle.ele_world.proofs.DueRows.{due_is_unmarked, due_is_unread}
 use Rattle.ele_world.proofs.Allowed.{allowed}
 use Rattle.ele_world.proofs.Files.{next_of-given}
 use Rattle.ele_world.proofs.Keeps.{reached}
 use Rattle.ele_world.proofs.May.{MayAll}
-use Rattle.ele_world.proofs.Moves.{IsPast, all_behind, change_past, Moves, Same, Ended, Taken, change_moves}
+use Rattle.ele_world.proofs.Moves.{IsPast, all_behind, change_past, Moves, change_moves}
 use Rattle.ele_world.proofs.Versions.{IsFound, all_found}
 
 -- ---- one version, from the first world on

@@ -1,13 +1,10 @@
 -- Version rows apart and in their order.
-use Rattle.ele_world.proofs.Basics.{◌≡◌, ℕ, ◌+◌, ◌-◌, ◌≤◌, true, false, cond, List, [], ◌∷◌, Some, IfSome, refl, arith, find, AllByRecursion, nat_tests, update_first, AllLater, all-weaker, all-both}
+use Rattle.ele_world.proofs.Basics.{◌≡◌, ℕ, ◌+◌, ◌-◌, ◌≤◌, true, false, List, [], ◌∷◌, Some, IfSome, arith, find, AllByRecursion, nat_tests, update_first, AllLater, all-weaker, all-both}
 use Rattle.ele_world.proofs.Words.{FileRow, VersionRow, ended_at, IsVersion, ArePlaced, is_version, next_of}
 
 -- a later row isn't the earlier one
 pub apart : (x y : VersionRow) → ArePlaced x y → is_version y.file y.number x ≡ false
 apart x y placed = let after = placed.after in grind (arith, nat_tests)
-
-pub is_itself : (x : VersionRow) → is_version x.file x.number x ≡ true
-is_itself x = grind (arith, nat_tests)
 
 abbrev pub IsFound : List VersionRow → VersionRow → Type 0
 IsFound rows row = find (is_version row.file row.number) rows ≡ Some row
@@ -15,16 +12,13 @@ IsFound rows row = find (is_version row.file row.number) rows ≡ Some row
 -- each row is the one that is found by its file and number
 pub all_found : (rows : List VersionRow) → AllLater ArePlaced rows → AllByRecursion (IsFound rows) rows
 all_found [] placed = tt
-all_found (x ∷ xs) placed = grind (arith, nat_tests, all-weaker (λ y. ArePlaced x y × IsFound xs y) (IsFound (x ∷ xs)) xs, apart, is_itself, all-both (ArePlaced x) (IsFound xs) xs, all_found xs)
+all_found (x ∷ xs) placed = grind (arith, nat_tests, all-weaker (λ y. ArePlaced x y × IsFound xs y) (IsFound (x ∷ xs)) xs, apart, all-both (ArePlaced x) (IsFound xs) xs, all_found xs)
 
 -- the row has ended by then
 pub record IsEndedBy (now : ℕ) (row : VersionRow) : Type 0 where
   pub ended : ℕ
   pub is : row.ended ≡ Some ended
   pub by_now : ended ≤ now
-
-pub ends : (now : ℕ) (row : VersionRow) → IfSome row.ended (λ ended. (row.closed ≤ ended) × (ended ≤ now)) → IsEndedBy now (ended_at now row)
-ends now row h = grind (arith, nat_tests)
 
 -- of a file's rows all but the last have ended
 pub other_ended : (files : List FileRow) (now : ℕ) (row : VersionRow) → IsVersion files now row → (row.number + 1 ≡ next_of files row.file → ⊥) → IsEndedBy now row
@@ -37,4 +31,4 @@ none_later files now file x xs e placed all = all-weaker (λ y. ArePlaced x y ×
 -- once the last has ended all of the file have
 pub file_ended : (files : List FileRow) (now file : ℕ) (rows : List VersionRow) → AllLater ArePlaced rows → AllByRecursion (IsVersion files now) rows → AllByRecursion (λ row. row.file ≡ file → IsEndedBy now row) (update_first (is_version file (next_of files file - 1)) (ended_at now) rows)
 file_ended files now file [] placed all = tt
-file_ended files now file (x ∷ xs) placed all = grind (arith, nat_tests, ends now x all.0.ended, other_ended files now x all.0, none_later files now file x xs, file_ended files now file xs placed.1 all.1)
+file_ended files now file (x ∷ xs) placed all = grind (arith, nat_tests, all.0.ended, other_ended files now x all.0, none_later files now file x xs, file_ended files now file xs placed.1 all.1)

@@ -1,11 +1,11 @@
 -- What a path leads to, where it stands, and where a name is added.
-use Rattle.ele_world.proofs.Basics.{◌≡◌, ℕ, suc, zero, ◌+◌, ◌-◌, ◌<◌, true, false, List, [], ◌∷◌, ◌++◌, length, take, Option, Some, None, Result, Ok, Err, refl, ap, sym}
-use Rattle.ele_world.proofs.Basics.{◌∙◌, arith, find, is_some, nil_from_length, slice_get_within, slice_get, AllByRecursion, list_any, option_map_or, false≢true, nat_tests, find-append, bytes_eq-Decides, all-found, found_passes, any-found}
-use Rattle.ele_world.proofs.Words.{Refusal, NoEntry, FileRow, NameRow, Target, File, Directory, born_row, is_live_name, live_target, walk, walk_now, file_at, file_now, directory_in, directory_now, parent_now, IsNameRow, IsThere, next_of, root, is_live_name_of}
+use Rattle.ele_world.proofs.Basics.{◌≡◌, ℕ, suc, zero, ◌+◌, ◌-◌, ◌<◌, true, false, List, [], ◌∷◌, ◌++◌, length, take, Some, Result, Ok, refl, ap, ◌∙◌, arith, find, is_some, nil_from_length, slice_get_within, slice_get, AllByRecursion, list_any}
+use Rattle.ele_world.proofs.Basics.{false≢true, nat_tests, find-append, bytes_eq-Decides, all-found, found_passes, any-found}
+use Rattle.ele_world.proofs.Words.{Refusal, FileRow, NameRow, Target, File, Directory, born_row, is_live_name, live_target, walk, walk_now, file_at, file_now, directory_now, parent_now, IsNameRow, IsThere, next_of, root, is_live_name_of}
 
 -- ---- what is true of each target of a live name is so of the place that a walk ends at
 
-walk_to : (P : Target → Type 0) (rows : List NameRow) → ((directory : ℕ) (name : List ℕ) (target : Target) → live_target rows directory name ≡ Some target → P target)
+pub walk_to : (P : Target → Type 0) (rows : List NameRow) → ((directory : ℕ) (name : List ℕ) (target : Target) → live_target rows directory name ≡ Some target → P target)
     → (at target : Target) (names : List (List ℕ)) → P at → walk rows at names ≡ Ok target → P target
 walk_to P rows each at target [] so h = let same : at ≡ target = cc in rw (← same) so
 walk_to P rows each (File file) target (name ∷ names) so h = absurd cc
@@ -67,11 +67,6 @@ pub record IsParent (names : List NameRow) (path : List (List ℕ)) (at : ℕ ×
 
 pub parent_is : (names : List NameRow) (path : List (List ℕ)) (at : ℕ × List ℕ) → parent_now names path ≡ Ok at → IsParent names path at
 parent_is names path at h = grind (arith, nat_tests, split-at path (length path - 1), slice_get_within path (length path - 1))
-
--- what is true of the root, and of each live name's target, is so of the directory that a path's last name stands in
-pub parent_to : (P : Target → Type 0) (rows : List NameRow) → ((directory : ℕ) (name : List ℕ) (target : Target) → live_target rows directory name ≡ Some target → P target)
-    → (path : List (List ℕ)) (at : ℕ × List ℕ) → P (Directory root) → parent_now rows path ≡ Ok at → P (Directory at.0)
-parent_to P rows each path at so h = let parent = parent_is rows path at h in walk_to P rows each (Directory root) (Directory at.0) parent.front so parent.leads
 
 -- the path's last name is that of what the path leads to
 pub last_names : (rows : List NameRow) (path : List (List ℕ)) (at : ℕ × List ℕ) (target : Target) → parent_now rows path ≡ Ok at → walk_now rows path ≡ Ok target → live_target rows at.0 at.1 ≡ Some target

@@ -1,6 +1,6 @@
 -- Who wrote the cells that a write or a truncate leaves.
-use Rattle.ele_world.proofs.Basics.{nat_tests, rules, ℕ, suc, zero, ◌≤◌, Bool, true, false, cond, List, [], ◌∷◌, map, arith, AllByRecursion, all-any, all-map, all-weaker}
-use Rattle.ele_world.proofs.Words.{Cell, writer_at, changed_by, fitted_by, AreWrittenBy, DraftRow}
+use Rattle.ele_world.proofs.Basics.{nat_tests, ℕ, suc, zero, ◌≤◌, List, [], ◌∷◌, arith, all-any, all-map, all-weaker}
+use Rattle.ele_world.proofs.Words.{Cell, writer_at, AreWrittenBy}
 use Rattle.ele_content.specs.Content.{cells_after_write, cells_after_truncate}
 
 writer_at-le : (number : ℕ) (cells : List Cell) (slot : ℕ) → AreWrittenBy number cells → writer_at cells slot ≤ number

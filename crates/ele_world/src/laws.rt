@@ -43,19 +43,19 @@ pub fn always_well_formed()
 {}
 
 /// An event that is refused changes nothing.
-#[tactic(auto, using(crate::proofs::Refused::refused_stays))]
+#[tactic(auto, using(crate::proofs::Outcomes::refused_stays))]
 pub fn refused_stays()
     ensures { RefusedStays }
 {}
 
 /// An event that only asks changes nothing.
-#[tactic(auto, using(crate::proofs::Refused::asking_stays))]
+#[tactic(auto, using(crate::proofs::Outcomes::asking_stays))]
 pub fn asking_stays()
     ensures { AskingStays }
 {}
 
 /// After a mkdir its path leads to the new directory, which has no names, and the policy of the directory that it stands in.
-#[tactic(auto, using(crate::proofs::DirectoryLeads::make_dir_leads))]
+#[tactic(auto, using(crate::proofs::Leads::make_dir_leads))]
 pub fn make_dir_leads()
     ensures { MakeDirLeads }
 {}
@@ -83,13 +83,13 @@ pub fn rename_leads()
 {}
 
 /// After an unlink its path leads nowhere, and a file without another live name has no current version.
-#[tactic(auto, using(crate::proofs::Links::unlink_ends))]
+#[tactic(auto, using(crate::proofs::NameEnds::unlink_ends))]
 pub fn unlink_ends()
     ensures { UnlinkEnds }
 {}
 
 /// After an undelete its path leads to what the name last stood for, and a version that it made has the cells of the last.
-#[tactic(auto, using(crate::proofs::Returned::undelete_leads))]
+#[tactic(auto, using(crate::proofs::Leads::undelete_leads))]
 pub fn undelete_leads()
     ensures { UndeleteLeads }
 {}

@@ -1,4 +1,4 @@
-use Rattle.ele_world.proofs.Renames.{rename_leads}
+use Rattle.ele_world.proofs.NameEnds.{rename_leads}
 use Rattle.ele_world.proofs.laws.rename_leads.Goals as goal
 
 pub returns : goal.returns

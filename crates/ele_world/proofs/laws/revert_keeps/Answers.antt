@@ -1,4 +1,4 @@
-use Rattle.ele_world.proofs.Reverts.{revert_keeps}
+use Rattle.ele_world.proofs.Closes.{revert_keeps}
 use Rattle.ele_world.proofs.laws.revert_keeps.Goals as goal
 
 pub returns : goal.returns
