@@ -151,18 +151,12 @@ module _ (event : Event) (first w : World) (change : Change) (before : Known) (t
     by None e = let none : (row_of w file number ≡ None) × (row_of after file number ≡ Some row) = grind (arith, e, is) in New none.0 none.1 (change_closes file number row w change none.0 none.1)
 
   pub gone_known : (file number : ℕ) (row : VersionRow) → row_of after file number ≡ None → known_in after before file number ≡ Some row → IsGone after file number row
-  gone_known file number row none is = by (row_of w file number) refl where
-    known : before file number ≡ Some row
-    known = let was = rw none at is in was
-
-    on : IsPast w file number → IsEndedBy w.now row → IsGone after file number row
-    on past ended = record { ended = record { ended = ended.ended; is = ended.is; by_now = omega (arith, ended.by_now, change_later event first w change t.may) }; past = change_past event first w change file number t.may past }
-
-    taken : Turning file number → (held : VersionRow) → row_of w file number ≡ Some held → IsEndedBy w.now row
-    taken held x2 found = grind (arith, nat_tests, row)
-
-    by : (o : Option VersionRow) → row_of w file number ≡ o → IsGone after file number row
-    by o e = grind (arith, nat_tests, number, row, known, on, found_past, taken, turned)
+  gone_known file number row none is = record { ended = record { ended = was.1.ended; is = was.1.is; by_now = omega (arith, was.1.by_now, change_later event first w change t.may) }; past = change_past event first w change file number t.may was.0 } where
+    was : IsPast w file number × IsEndedBy w.now row
+    was = by (row_of w file number) refl where
+      by : (o : Option VersionRow) → row_of w file number ≡ o → IsPast w file number × IsEndedBy w.now row
+      by None e = let gone = t.known.gone file number row e (grind (arith, none, is, e)) in (gone.past, gone.ended)
+      by (Some held) e = let past = found_past w file number held t.formed e in (past, grind (arith, none, is, e, turned file number past))
 
   -- a version before a new one has ended
   before_new : (file number later : ℕ) (row next : VersionRow) → known_in after before file number ≡ Some row → row_of after file later ≡ Some next → number < later → IsEndedBy after.now row

@@ -31,7 +31,6 @@ pub mod KeptRevived
 pub mod Keeps
 pub mod Views
 pub mod RipeMoments
-pub mod Removal
 pub mod RemovalOrder
 pub mod DueRows
 pub mod RipeAt
@@ -58,12 +57,10 @@ pub mod Refused
 pub mod Returned
 pub mod Cleans
 pub mod CleanKeepsKeys
-pub mod Passes
 pub mod DueKeys
 pub mod Newest
 pub mod Listed
 pub mod SlotPlaces
-pub mod SumRows
 pub mod Splits
 pub mod Others
 pub mod Usages
