@@ -35,7 +35,7 @@ module _ (w : World) (row : VersionRow) where
   -- of one whose file is missing
   pub ripe-unfiled : policy_of w.files row.file ≡ None → IsRipeOf w row None
   unfolding ripe_of
-  ripe-unfiled filed = (rw filed refl, due_from_ripe_of w row (rw filed tt))
+  ripe-unfiled filed = grind (arith, filed, due_from_ripe_of w row)
 
   module _ (free : is_open_or_marked w row ≡ false) where
     -- of one that hasn't ended

@@ -124,10 +124,7 @@ module _ (event : Event) (first w : World) (change : Change) (before : Known) (t
   abbrev after : World
   after = after_change w change
 
-  abbrev Turning : ℕ → ℕ → Type 0
-  Turning file number = Turned w (before file number) (row_of w file number) (row_of after file number)
-
-  turned : (file number : ℕ) → IsPast w file number → Turning file number
+  turned : (file number : ℕ) → IsPast w file number → Turned w (before file number) (row_of w file number) (row_of after file number)
   turned file number past = by (row_of w file number) (row_of after file number) refl (change_moves event first file number w change t.placed t.may past) where
     by : (o after : Option VersionRow) → row_of w file number ≡ o → Moves event first w.now w.versions file number o after → Turned w (before file number) o after
     by o after e (Same same) = Stays same

@@ -79,9 +79,7 @@ dead_sorted rows = subst (IsStrictlySortedBy name_cmp) (sym (keys_of-map_values 
 dead_found : (rows : List NameRow) (d : ℕ) (n : List ℕ) → lookup (is_at (name_cmp (d, n))) (targets (dead_of (newest_rows rows))) ≡ last_dead rows d n
 dead_found rows d n =
     lookup-map_values (λ (row : NameRow). row.target) (is_at (name_cmp (d, n))) (dead_of (newest_rows rows))
-    ∙ ap (option_map (λ (row : NameRow). row.target)) (
-    lookup-filter-values (eq_by_cmp_equiv name_total) is_dead (d, n) (newest_rows rows) (IsDistinct-from_sorted name_cmp (keys_of (newest_rows rows)) (sorted_rows rows))
-    ∙ rw (inserted_found name_total key_of (λ row. row) (d, n) rows [], last_same d n rows) (grind (arith, nat_tests)))
+    ∙ rw (lookup-filter-values (eq_by_cmp_equiv name_total) is_dead (d, n) (newest_rows rows) (IsDistinct-from_sorted name_cmp (keys_of (newest_rows rows)) (sorted_rows rows)), inserted_found name_total key_of (λ row. row) (d, n) rows [], last_same d n rows) (grind (arith, nat_tests))
 
 -- ---- those that may come back
 

@@ -2,6 +2,7 @@
 use Rattle.ele_world.proofs.Basics.{◌≡◌, ℕ, ◌-◌, ◌≤◌, Bool, true, false, not, ◌&&◌, List, [], ◌∷◌, ◌++◌, Some, refl, ap, subst, ◌∙◌, filter, arith, ◌⊎◌, inl, inr, IfSome, option_map_or, false≢true, nat_tests, AllLater, sym, find, AllByRecursion, filter-append, all-weaker, all-append, all-around, later-around, filter-same_all, remove_first, find-cut, remove_first-at}
 use Rattle.ele_world.proofs.Words.{Policy, IsPolicy, Beside, is_due_by, lets_go, lets_go_without, lets_go_fewer, VersionRow, FileView, is_newer, closings, is_protected, due_in, ArePlaced, view_of, is_version, is_version_of, RemovalOrder, Take, after_change, IsWellFormed, World}
 use Rattle.ele_world.proofs.Views.{IsLife, Precedes, newer_is, newer_before, newer_without, newer_behind, IsView, precedes, view_is, lives_of, placed_of, own_rows, other_rows}
+use Rattle.std.proofs.lemmas.List.{map-append}
 use Rattle.ele_world.specs.Due.{is_due_at}
 
 -- ---- in one file
@@ -31,8 +32,7 @@ due_is : (v : FileView) (row : VersionRow) (at : ℕ) (newer : List ℕ) → due
 due_is v row at newer h = grind (arith, nat_tests)
 
 closings-append : (xs ys : List VersionRow) → closings (xs ++ ys) ≡ closings xs ++ closings ys
-closings-append [] ys = refl
-closings-append (x ∷ xs) ys = ap (λ t. x.closed ∷ t) (closings-append xs ys)
+closings-append = map-append (λ (row : VersionRow). row.closed)
 
 -- what is due beside fewer is due beside more
 beside_more : (v : FileView) (row : VersionRow) (at : ℕ) (xs : List ℕ) (more : ℕ) (ys : List ℕ) → due_beside v row at (xs ++ ys) ≡ true → due_beside v row at (xs ++ more ∷ ys) ≡ true
