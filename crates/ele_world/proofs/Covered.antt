@@ -57,9 +57,6 @@ module _ (event : Event) (first w : World) (change : Change) (before : Known) (t
   abbrev known : Known
   known = known_in (after_change w change) before
 
-  held : (file number : ℕ) (row : VersionRow) → row_of (after_change w change) file number ≡ Some row → known file number ≡ Some row
-  held file number row found = rw found refl
-
   life_on : (file moment : ℕ) → moment < w.now → HadLife (known_in w before) file moment → HadLife known file moment
   life_on file moment less life = grind (arith, nat_tests, becomes event first w change before t file life.row.number life.row life.stood)
 
@@ -68,7 +65,7 @@ module _ (event : Event) (first w : World) (change : Change) (before : Known) (t
       (λ name h file moment own covered. grind (arith, nat_tests, h.0 file moment own covered, h.1 file moment own covered, cases_lt moment w.now))
       (all-both (CoveredBefore w.now (HadLife known)) (CoveredFrom (after_change w change).now (HadLife known)) (after_change w change).names
       (change_covered w change (HadLife known) (all-weaker (IsCovered (known_in w before)) (CoveredBefore w.now (HadLife known)) w.names (λ name h file moment own covered less. life_on file moment less (h file moment own covered)) t.known.covered))
-      (current_covers (after_change w change) known t.formed_after held))
+      (current_covers (after_change w change) known t.formed_after (λ file number row found. rw found refl)))
 
 -- where the time goes on, names and versions stay
 all_covered : (event : Event) (first w : World) (change : Change) (before : Known) → IsTurn event first w change before → AllByRecursion (IsCovered (known_in (after_change w change) before)) (after_change w change).names
@@ -78,7 +75,7 @@ all_covered event first w change before t = covered_on event first w change befo
 
 pub change_known : (event : Event) (first w : World) (change : Change) (before : Known) → IsTurn event first w change before → AreKnown (after_change w change) (known_in (after_change w change) before)
 change_known event first w change before t = record {
-  held = held event first w change before t;
+  held = λ file number row found. rw found refl;
   gone = gone_known event first w change before t;
   placed = placed_on event first w change before t;
   covered = all_covered event first w change before t;

@@ -10,18 +10,11 @@ use Rattle.ele_world.proofs.Usages.{only_at_is}
 abbrev pub one_file : Usage
 one_file = record { files = 1; versions = 0; bytes = 0; blocks = 0 }
 
-pub kind_other : (files : List FileRow) (file other : ℕ) (k : Kind) → (other == file) ≡ false → is_file_of (remove_first (is_file file) files) k other ≡ is_file_of files k other
-kind_other files file other k apart = ap (λ o. option_map_or (λ (policy : Policy). is_kind k (kind_of policy)) o false) (policy_of-removed files file other apart)
-
--- of the file's kind there is one file fewer
-fewer_files : (files : List FileRow) (file : ℕ) (k : Kind) → length (filter (is_of k) (remove_first (is_file file) files)) + cond (is_file_of files k file) 1 0 ≡ length (filter (is_of k) files)
-fewer_files files file k = grind (arith, nat_tests, length-filter_removed)
-
 without_usage : (w : World) (file : ℕ) (k : Kind) → IsIdle w file → plus (usage_of (without_file w file) k) (cond (is_file_of w.files k file) one_file nothing) ≡ usage_of w k
 unfolding usage_of
 without_usage w file k idle =
-    let moves = file_moves file (is_file_of w.files k) (is_file_of (without_file w file).files k) (λ other apart. kind_other w.files file other k apart) w.versions w.versions w.drafts w.drafts refl refl in
-    grind (arith, nat_tests, same_usage, moves, fewer_files w.files file k, filter-none (λ (row : VersionRow). row.file == file) w.versions (idle_versions w file idle), filter-none (λ (row : DraftRow). row.file == file) w.drafts (idle_drafts w file idle))
+    let moves = file_moves file (is_file_of w.files k) (is_file_of (without_file w file).files k) (λ other apart. grind (arith, policy_of-removed w.files file other apart)) w.versions w.versions w.drafts w.drafts refl refl in
+    grind (arith, nat_tests, same_usage, moves, length-filter_removed (is_of k) (is_file file) w.files, filter-none (λ (row : VersionRow). row.file == file) w.versions (idle_versions w file idle), filter-none (λ (row : DraftRow). row.file == file) w.drafts (idle_drafts w file idle))
 
 -- the same by the file's policy
 pub dropped_at : (w : World) (file : ℕ) (policy : Policy) → policy_of w.files file ≡ Some policy → is_idle w file ≡ true → (k : Kind) → plus (usage_of (without_file w file) k) (only_at (kind_of policy) one_file k) ≡ usage_of w k

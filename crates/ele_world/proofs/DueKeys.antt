@@ -10,13 +10,6 @@ use Rattle.ele_world.proofs.Readers.{numbers_are}
 use Rattle.ele_world.proofs.RipeAt.{unended}
 use Rattle.ele_world.proofs.RipeMoments.{due_from_ripe_of, free_ripe, protected_ripe}
 
--- ---- no policy but a ladder looks at what stands beside a version
-
-pub looks_at_none : (policy : Policy) → (policy ≡ One) ⊎ ((policy ≡ All) ⊎ ((interval : ℕ) × (policy ≡ Safe interval)))
-    → (closed ended : ℕ) (stands other : Beside) → ripe_by policy closed stands ended ≡ ripe_by policy closed other ended
-unfolding ripe_by
-looks_at_none policy is closed ended stands other = grind (arith)
-
 -- ---- a row's ripe moment, and that it is due from then on
 
 -- the closings of the newer versions of its file
@@ -42,7 +35,7 @@ module _ (w : World) (row : VersionRow) where
   -- of one whose file is missing
   pub ripe-unfiled : policy_of w.files row.file ≡ None → IsRipeOf w row None
   unfolding ripe_of
-  ripe-unfiled filed = (rw filed refl, due_from_ripe_of w row (rw filed tt))
+  ripe-unfiled filed = grind (arith, filed, due_from_ripe_of w row)
 
   module _ (free : is_open_or_marked w row ≡ false) where
     -- of one that hasn't ended
@@ -51,7 +44,6 @@ module _ (w : World) (row : VersionRow) where
     ripe-unended policy filed end = grind (arith, nat_tests, unended, protected_is)
 
     -- of one whose file and end are known
-
     pub ripe-told : (policy : Policy) (ended : ℕ) (ripe : Option ℕ) → policy_of w.files row.file ≡ Some policy → IsPolicy policy → row.ended ≡ Some ended
         → ((live : Bool) → ripe ≡ ripe_by policy row.closed (record { newer = newer_than w.versions row; live = live }) ended) → IsRipeOf w row ripe
     unfolding ripe_of

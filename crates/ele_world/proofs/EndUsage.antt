@@ -4,18 +4,10 @@ use Rattle.ele_world.proofs.Words.{Place, Kind, ended_at, VersionRow, is_file_of
 use Rattle.ele_world.specs.Usage.{usage_of}
 use Rattle.ele_world.proofs.Splits.{bytes_in-cons}
 
-abbrev slots : List VersionRow → List Place
-slots = flat_map (λ row. places_from row.file 0 row.cells)
-
--- as many rows, of the same bytes and slots
-record AreAlike (xs ys : List VersionRow) : Type 0 where
-  count : length xs ≡ length ys
-  bytes : bytes_in xs ≡ bytes_in ys
-  places : slots xs ≡ slots ys
-
--- of the files that pass
-alike_ended : (t : ℕ → Bool) (p : VersionRow → Bool) (now : ℕ) (rows : List VersionRow) → AreAlike (filter (λ row. t row.file) (update_first p (ended_at now) rows)) (filter (λ row. t row.file) rows)
-alike_ended t p now [] = record { count = refl; bytes = refl; places = refl }
+-- of the files that pass as many rows, of the same bytes and slots
+alike_ended : (t : ℕ → Bool) (p : VersionRow → Bool) (now : ℕ) (rows : List VersionRow) → let ended = filter (λ row. t row.file) (update_first p (ended_at now) rows) in let all = filter (λ row. t row.file) rows in
+    (length ended ≡ length all) × (bytes_in ended ≡ bytes_in all) × (flat_map (λ row. places_from row.file 0 row.cells) ended ≡ flat_map (λ row. places_from row.file 0 row.cells) all)
+alike_ended t p now [] = (refl, refl, refl)
 alike_ended t p now (x ∷ xs) = grind (arith, nat_tests, bytes_in-cons, flat_map-cons, alike_ended t p now xs)
 
 pub usage_ended : (w : World) (p : VersionRow → Bool) (now : ℕ) (k : Kind) → usage_of (record w { versions = update_first p (ended_at now) w.versions }) k ≡ usage_of w k

@@ -1,11 +1,11 @@
 -- What a history knows of versions: those that are held, and those that were removed as they last stood. One change.
 use Rattle.ele_world.proofs.Basics.{◌≡◌, ℕ, ◌-◌, ◌<◌, ◌≤◌, true, false, cond, List, [], Option, Some, None, refl, ap, sym, subst, ◌∙◌, arith, is_none, find}
-use Rattle.ele_world.proofs.Basics.{AllByRecursion, option_or, option_map, false≢true, nat_tests, all-found, all-insert_before, all-not_found, all-remove_first, all-update_first, all-weaker, found_passes, AllLater}
+use Rattle.ele_world.proofs.Basics.{AllByRecursion, option_or, option_map, false≢true, nat_tests, all-found, find-insert_before, find-inserted, not_found, remove_first, all-not_found, all-remove_first, all-update_first, all-weaker, found_passes, AllLater}
 use Rattle.ele_world.proofs.Words.{Cell, current_cells, Change, Time, EndFileName, Revive, MakeFile, Append, Take, DropIdle, after_change, ended_at, next_version, with_end, with_file, with_name}
 use Rattle.ele_world.proofs.Words.{with_version, without_name, covers, lives_at, ArePlaced, IsVersion, Versions, IsWellFormed, World, is_live, is_version, is_version_after, next_of, Event, NameRow, File, VersionRow}
-use Rattle.ele_world.proofs.Dropped.{dropped}
+use Rattle.ele_world.proofs.Dropped.{dropped, dropped_versions}
 use Rattle.ele_world.proofs.May.{May}
-use Rattle.ele_world.proofs.Moves.{IsBehind, IsPast, change_past, Moves, row_of, Same, Ended, Taken, change_moves}
+use Rattle.ele_world.proofs.Moves.{IsBehind, IsPast, change_past, Moves, row_of, found_updated, Same, Ended, Taken, change_moves}
 use Rattle.ele_world.proofs.Stays.{held_past}
 use Rattle.ele_world.proofs.Versions.{IsEndedBy, other_ended}
 
@@ -76,24 +76,21 @@ pub record Becomes (now : ℕ) (old : VersionRow) (found : Option VersionRow) : 
   pub on : IsOn now old row
 
 -- a version that a change brings closes then
-module _ (file number : ℕ) where
-  abbrev ClosesAt : ℕ → VersionRow → Type 0
-  ClosesAt now row = is_version file number row ≡ true → row.closed ≡ now
+module _ (file number : ℕ) (row : VersionRow) where
+  ended_closes : (w : World) (of : ℕ) → row_of w file number ≡ None → find (is_version file number) (with_end w of) ≡ None
+  ended_closes w of none = grind (arith, found_updated (is_version of (next_of w.files of - 1)) (is_version file number) (ended_at w.now) w.versions)
 
-  new_closes : (w : World) (of opened : ℕ) (cells : List Cell) → AllByRecursion (ClosesAt w.now) (with_end w of) → AllByRecursion (ClosesAt w.now) (with_version w of opened cells).versions
-  new_closes w of opened cells = all-insert_before (is_version_after of (next_of w.files of)) (ClosesAt w.now) (next_version w of opened cells) (with_end w of) (λ is. refl)
+  new_closes : (w : World) (of opened : ℕ) (cells : List Cell) → row_of w file number ≡ None → row_of (with_version w of opened cells) file number ≡ Some row → row.closed ≡ w.now
+  new_closes w of opened cells none found = grind (arith, nat_tests, find-insert_before (is_version_after of (next_of w.files of)) (is_version file number) (next_version w of opened cells) (with_end w of), find-inserted (is_version_after of (next_of w.files of)) (is_version file number) (next_version w of opened cells) (with_end w of), all-not_found (is_version file number) (with_end w of), ended_closes w of none)
 
-  ended_closes : (w : World) (of : ℕ) → AllByRecursion (ClosesAt w.now) w.versions → AllByRecursion (ClosesAt w.now) (with_end w of)
-  ended_closes w of = all-update_first (is_version of (next_of w.files of - 1)) (ClosesAt w.now) (ClosesAt w.now) (ended_at w.now) w.versions (λ row h. h) (λ row h. h)
-
-  change_closes : (w : World) (change : Change) → ((now : ℕ) → AllByRecursion (ClosesAt now) w.versions) → AllByRecursion (ClosesAt (after_change w change).now) (after_change w change).versions
-  change_closes w (MakeFile directory name id policy) all = let v = with_name (with_file w id policy) directory name (File id) in new_closes v id w.now [] (ended_closes v id (all w.now))
-  change_closes w (Append of opened cells) all = new_closes w of opened cells (ended_closes w of (all w.now))
-  change_closes w (Revive directory name of) all = let v = with_name w directory name (File of) in new_closes v of w.now (current_cells w of) (ended_closes v of (all w.now))
-  change_closes w (EndFileName directory name of) all = grind (arith, ended_closes w of (all w.now), all w.now)
-  change_closes w (Take of taken) all = all-remove_first (is_version of taken) (ClosesAt w.now) w.versions (all w.now)
-  change_closes w (DropIdle of) all = dropped (λ v. AllByRecursion (ClosesAt v.now) v.versions) w of (λ idle. all w.now) (λ busy. all w.now)
-  change_closes w change all = all (after_change w change).now
+  change_closes : (w : World) (change : Change) → row_of w file number ≡ None → row_of (after_change w change) file number ≡ Some row → row.closed ≡ (after_change w change).now
+  change_closes w (MakeFile directory name id policy) none found = new_closes (with_name (with_file w id policy) directory name (File id)) id w.now [] none found
+  change_closes w (Append of opened cells) none found = new_closes w of opened cells none found
+  change_closes w (Revive directory name of) none found = new_closes (with_name w directory name (File of)) of w.now (current_cells w of) none found
+  change_closes w (EndFileName directory name of) none found = grind (arith, none, found, ended_closes w of)
+  change_closes w (Take of taken) none found = grind (arith, none, found, all-remove_first (is_version of taken) (λ x. is_version file number x ≡ false) w.versions, all-not_found (is_version file number) w.versions, not_found (is_version file number) (remove_first (is_version of taken) w.versions))
+  change_closes w (DropIdle of) none found = grind (arith, none, found, dropped_versions w of)
+  change_closes w change none found = absurd cc
 
 -- ---- one change
 
@@ -127,10 +124,7 @@ module _ (event : Event) (first w : World) (change : Change) (before : Known) (t
   abbrev after : World
   after = after_change w change
 
-  abbrev Turning : ℕ → ℕ → Type 0
-  Turning file number = Turned w (before file number) (row_of w file number) (row_of after file number)
-
-  turned : (file number : ℕ) → IsPast w file number → Turning file number
+  turned : (file number : ℕ) → IsPast w file number → Turned w (before file number) (row_of w file number) (row_of after file number)
   turned file number past = by (row_of w file number) (row_of after file number) refl (change_moves event first file number w change t.placed t.may past) where
     by : (o after : Option VersionRow) → row_of w file number ≡ o → Moves event first w.now w.versions file number o after → Turned w (before file number) o after
     by o after e (Same same) = Stays same
@@ -149,28 +143,17 @@ module _ (event : Event) (first w : World) (change : Change) (before : Known) (t
 
   from : (file number : ℕ) (row : VersionRow) → known_in after before file number ≡ Some row → From w after (known_in w before) file number row
   from file number row is = by (known_in w before file number) refl where
-    closes : row_of w file number ≡ None → row_of after file number ≡ Some row → row.closed ≡ after.now
-    closes none found = all-found (is_version file number) (ClosesAt file number after.now) after.versions row found
-        (change_closes file number w change (λ now. all-weaker (λ row. is_version file number row ≡ false) (ClosesAt file number now) w.versions (λ row other is. absurd (false≢true (sym other ∙ is))) (all-not_found (is_version file number) w.versions none)))
-        (found_passes (is_version file number) after.versions row found)
-
     by : (o : Option VersionRow) → known_in w before file number ≡ o → From w after (known_in w before) file number row
     by (Some old) e = let next = becomes file number old e in let now = next.is in let same : next.row ≡ row = cc in Was old e (subst (IsOn w.now old) same next.on)
-    by None e = let none : (row_of w file number ≡ None) × (row_of after file number ≡ Some row) = grind (arith, e, is) in New none.0 none.1 (closes none.0 none.1)
+    by None e = let none : (row_of w file number ≡ None) × (row_of after file number ≡ Some row) = grind (arith, e, is) in New none.0 none.1 (change_closes file number row w change none.0 none.1)
 
   pub gone_known : (file number : ℕ) (row : VersionRow) → row_of after file number ≡ None → known_in after before file number ≡ Some row → IsGone after file number row
-  gone_known file number row none is = by (row_of w file number) refl where
-    known : before file number ≡ Some row
-    known = let was = rw none at is in was
-
-    on : IsPast w file number → IsEndedBy w.now row → IsGone after file number row
-    on past ended = record { ended = record { ended = ended.ended; is = ended.is; by_now = omega (arith, ended.by_now, change_later event first w change t.may) }; past = change_past event first w change file number t.may past }
-
-    taken : Turning file number → (held : VersionRow) → row_of w file number ≡ Some held → IsEndedBy w.now row
-    taken held x2 found = grind (arith, nat_tests, row)
-
-    by : (o : Option VersionRow) → row_of w file number ≡ o → IsGone after file number row
-    by o e = grind (arith, nat_tests, number, row, known, on, found_past, taken, turned)
+  gone_known file number row none is = record { ended = record { ended = was.1.ended; is = was.1.is; by_now = omega (arith, was.1.by_now, change_later event first w change t.may) }; past = change_past event first w change file number t.may was.0 } where
+    was : IsPast w file number × IsEndedBy w.now row
+    was = by (row_of w file number) refl where
+      by : (o : Option VersionRow) → row_of w file number ≡ o → IsPast w file number × IsEndedBy w.now row
+      by None e = let gone = t.known.gone file number row e (grind (arith, none, is, e)) in (gone.past, gone.ended)
+      by (Some held) e = let past = found_past w file number held t.formed e in (past, grind (arith, none, is, e, turned file number past))
 
   -- a version before a new one has ended
   before_new : (file number later : ℕ) (row next : VersionRow) → known_in after before file number ≡ Some row → row_of after file later ≡ Some next → number < later → IsEndedBy after.now row

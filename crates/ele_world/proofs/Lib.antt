@@ -22,7 +22,6 @@ pub mod KeptRevived
 pub mod Keeps
 pub mod Views
 pub mod RipeMoments
-pub mod Removal
 pub mod RemovalOrder
 pub mod DueRows
 pub mod RipeAt
@@ -48,12 +47,10 @@ pub mod Outcomes
 pub mod Leads
 pub mod Cleans
 pub mod CleanKeepsKeys
-pub mod Passes
 pub mod DueKeys
 pub mod Newest
 pub mod Listed
 pub mod SlotPlaces
-pub mod SumRows
 pub mod Splits
 pub mod Others
 pub mod Usages

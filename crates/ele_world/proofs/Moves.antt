@@ -50,7 +50,7 @@ abbrev pub row_of : World → ℕ → ℕ → Option VersionRow
 row_of w file number = find (is_version file number) w.versions
 
 -- a change of an element where p passes, that t doesn't see, changes the one found or none
-found_updated : {X : Type 0} (p t : X → Bool) (f : X → X) (xs : List X) → ((x : X) → t (f x) ≡ t x) → (find t (update_first p f xs) ≡ find t xs) ⊎ (find t (update_first p f xs) ≡ option_map f (find t xs))
+pub found_updated : {X : Type 0} (p t : X → Bool) (f : X → X) (xs : List X) → ((x : X) → t (f x) ≡ t x) → (find t (update_first p f xs) ≡ find t xs) ⊎ (find t (update_first p f xs) ≡ option_map f (find t xs))
 found_updated p t f [] same = inl refl
 found_updated p t f (x ∷ xs) same = grind (arith, nat_tests, found_updated p t f xs same)
 

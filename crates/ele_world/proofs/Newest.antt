@@ -5,6 +5,7 @@ use Rattle.ele_world.proofs.Basics.{option_filter, lookup-filter-values, IsDisti
 use Rattle.ele_world.proofs.Words.{is_named, last_dead, name_cmp, newest_rows, returning_name, returning, World, is_file, next_of, DeadName, FileRow, NameRow, Target}
 use Rattle.std.specs.List.Sorted.{IsStrictlySortedBy}
 use Rattle.ele_world.specs.Restorable.{restorable}
+use Rattle.ele_world.proofs.Listed.{all_sorted, inserted_found}
 
 abbrev Key : Type 0
 Key = ℕ × List ℕ
@@ -48,20 +49,18 @@ is_at_name d n row = grind (arith, nat_tests, unsigned_tied row.directory d, is_
 abbrev IsOwn : Entry → Type 0
 IsOwn e = e.0 ≡ key_of e.1
 
--- they stand in order
-newest_sorted : (rows : List NameRow) (newest : List Entry) → IsStrictlySortedBy name_cmp (keys_of newest) → IsStrictlySortedBy name_cmp (keys_of (fold more newest rows))
-newest_sorted [] newest up = up
-newest_sorted (row ∷ rows) newest up = newest_sorted rows (more newest row) (sorted-insert_entry name_total newest (key_of row) row up)
-
 -- each at its own name
 newest_own : (rows : List NameRow) (newest : List Entry) → AllByRecursion IsOwn newest → AllByRecursion IsOwn (fold more newest rows)
 newest_own [] newest own = own
 newest_own (row ∷ rows) newest own = newest_own rows (more newest row) (all-insert_entry IsOwn name_cmp newest (key_of row) row refl (λ e alike. sym (name_exact (key_of row) e.0 alike)) own)
 
+sorted_rows : (rows : List NameRow) → IsStrictlySortedBy name_cmp (keys_of (newest_rows rows))
+sorted_rows rows = all_sorted name_total key_of (λ row. row) rows
+
 -- and a name has its last row
-newest_found : (d : ℕ) (n : List ℕ) (rows : List NameRow) (newest : List Entry) → lookup (is_at (name_cmp (d, n))) (fold more newest rows) ≡ option_or (last_passing (is_named d n) rows) (lookup (is_at (name_cmp (d, n))) newest)
-newest_found d n [] newest = refl
-newest_found d n (row ∷ rows) newest = grind (arith, newest_found d n rows (more newest row), lookup-insert_entry name_total (d, n) newest (key_of row) row, is_at_name d n row)
+last_same : (d : ℕ) (n : List ℕ) (rows : List NameRow) → last_passing (λ row. is_eq (name_cmp (key_of row) (d, n))) rows ≡ last_passing (is_named d n) rows
+last_same d n [] = refl
+last_same d n (row ∷ rows) = grind (arith, is_at_name d n row, last_same d n rows)
 
 -- ---- those that are dead, with what they stood for
 
@@ -74,19 +73,13 @@ dead_of newest = filter (λ (e : Entry). is_dead e.1) newest
 abbrev targets : List Entry → List (Key × Target)
 targets newest = map (λ (e : Entry). (e.0, e.1.target)) newest
 
-sorted_rows : (rows : List NameRow) → IsStrictlySortedBy name_cmp (keys_of (newest_rows rows))
-unfolding IsStrictlySortedBy
-sorted_rows rows = newest_sorted rows [] tt
-
 dead_sorted : (rows : List NameRow) → IsStrictlySortedBy name_cmp (keys_of (targets (dead_of (newest_rows rows))))
 dead_sorted rows = subst (IsStrictlySortedBy name_cmp) (sym (keys_of-map_values (λ (row : NameRow). row.target) (dead_of (newest_rows rows)))) (sorted-filter_entries name_cmp (λ (e : Entry). is_dead e.1) (newest_rows rows) (sorted_rows rows))
 
 dead_found : (rows : List NameRow) (d : ℕ) (n : List ℕ) → lookup (is_at (name_cmp (d, n))) (targets (dead_of (newest_rows rows))) ≡ last_dead rows d n
 dead_found rows d n =
     lookup-map_values (λ (row : NameRow). row.target) (is_at (name_cmp (d, n))) (dead_of (newest_rows rows))
-    ∙ ap (option_map (λ (row : NameRow). row.target)) (
-    lookup-filter-values (eq_by_cmp_equiv name_total) is_dead (d, n) (newest_rows rows) (IsDistinct-from_sorted name_cmp (keys_of (newest_rows rows)) (sorted_rows rows))
-    ∙ rw (newest_found d n rows []) (grind (arith, nat_tests)))
+    ∙ rw (lookup-filter-values (eq_by_cmp_equiv name_total) is_dead (d, n) (newest_rows rows) (IsDistinct-from_sorted name_cmp (keys_of (newest_rows rows)) (sorted_rows rows)), inserted_found name_total key_of (λ row. row) (d, n) rows [], last_same d n rows) (grind (arith, nat_tests))
 
 -- ---- those that may come back
 

@@ -13,9 +13,6 @@ use Rattle.ele_world.proofs.Usages.{only_at_is}
 same_kind : (k : Kind) → is_kind k k ≡ true
 same_kind k = grind (arith)
 
-abbrev is_kind_of : Kind → Option Policy → Bool
-is_kind_of k found = option_map_or (λ policy. is_kind k (kind_of policy)) found false
-
 -- ---- usage
 
 module _ (w : World) (file : ℕ) (was policy : Policy) (k : IsWellFormed w) (filed : policy_of w.files file ≡ Some was) where
@@ -25,15 +22,9 @@ module _ (w : World) (file : ℕ) (was policy : Policy) (k : IsWellFormed w) (fi
   its : (row : FileRow) × (find (is_file file) w.files ≡ Some row) × (row.policy ≡ was)
   its = grind (arith, nat_tests)
 
-  -- the file alone is of another kind
-  was_of : (kind : Kind) → is_file_of w.files kind file ≡ is_kind kind (kind_of was)
-  was_of kind = ap (is_kind_of kind) filed
-
-  now_of : (kind : Kind) → is_file_of files kind file ≡ is_kind kind (kind_of policy)
-  now_of kind = grind (arith, nat_tests, find-updated)
-
+  -- no other file is of another kind
   others_of : (kind : Kind) (id : ℕ) → (id == file) ≡ false → is_file_of files kind id ≡ is_file_of w.files kind id
-  others_of kind id apart = ap (is_kind_of kind) (policy_of-put_other w.files file id policy apart)
+  others_of kind id apart = grind (arith, policy_of-put_other w.files file id policy apart)
 
   abbrev one : Kind → FileRow → ℕ
   one kind row = cond (is_of kind row) 1 0
@@ -41,18 +32,15 @@ module _ (w : World) (file : ℕ) (was policy : Policy) (k : IsWellFormed w) (fi
   files_move : (kind : Kind) → length (filter (is_of kind) files) + cond (is_kind kind (kind_of was)) 1 0 ≡ length (filter (is_of kind) w.files) + cond (is_kind kind (kind_of policy)) 1 0
   files_move kind = rw (length-filter (is_of kind) files, length-filter (is_of kind) w.files, ← its.2) (sum_by-update_first (one kind) (is_file file) (put_under policy) w.files its.0 its.1)
 
-  file_counts : 1 ≤ length (filter (is_of (kind_of was)) w.files)
-  file_counts = grind (arith, nat_tests, same_kind, length-filter, sum_by-found)
-
   pub policy_usage : (kind : Kind) → plus (usage_of (after_change w (PutUnder file policy)) kind) (only_at (kind_of was) (file_usage w.versions w.drafts file) kind) ≡ plus (usage_of w kind) (only_at (kind_of policy) (file_usage w.versions w.drafts file) kind)
   unfolding usage_of
   policy_usage kind =
       let moves = file_moves file (is_file_of w.files kind) (is_file_of files kind) (others_of kind) w.versions w.versions w.drafts w.drafts refl refl in
-      grind (arith, nat_tests, same_usage, only_at_is, moves, was_of kind, now_of kind, files_move kind)
+      grind (arith, nat_tests, same_usage, only_at_is, moves, filed, find-updated, files_move kind)
 
   -- that much is there
   pub file_within : IsWithin (file_usage w.versions w.drafts file) (usage_of w (kind_of was))
   unfolding usage_of
   file_within =
       let whole = passing_split file (is_file_of w.files (kind_of was)) w.versions w.drafts in
-      grind (arith, nat_tests, whole, was_of (kind_of was), same_kind (kind_of was), file_counts)
+      grind (arith, nat_tests, whole, filed, its, same_kind (kind_of was), length-filter, sum_by-found)

@@ -40,14 +40,11 @@ run_fixed w (event ∷ events) file number cells are k fixed =
 -- ---- what is read
 
 module _ (w : World) (k : IsWellFormed w) (row : VersionRow) (fixed : IsFixed w row.file row.number row.cells) where
-  cells_of : (held : VersionRow) → find (is_version row.file row.number) w.versions ≡ Some held → held.cells ≡ row.cells
-  cells_of held found = subst (HaveCells row.cells) found fixed.same
-
   tagged_reads : (tagged : TaggedPath) (held : VersionRow) → version_at w tagged ≡ Ok held → held.file ≡ row.file → held.number ≡ row.number → (step w (Read (Tagged tagged))).0 ≡ Bytes (content_of row.cells)
-  tagged_reads tagged held meant own number = grind (arith, nat_tests, k.holds Versions, is_at, all-found, all_found, cells_of)
+  tagged_reads tagged held meant own number = grind (arith, nat_tests, k.holds Versions, is_at, all-found, all_found, fixed.same)
 
   handle_reads : (handle : ℕ) → reads_by w.handles handle ≡ Ok (Version row.file row.number) → (step w (Read (Of handle))).0 ≡ Bytes (content_of row.cells)
-  handle_reads handle reads = grind (arith, nat_tests, k.holds Readers, has_row, any-found, all-found, cells_of)
+  handle_reads handle reads = grind (arith, nat_tests, k.holds Readers, has_row, any-found, all-found, fixed.same)
 
 pub reads_as_closed : (w : World) (events : List Event) → AllByRecursion IsEvent events → IsWellFormed w → AllByRecursion (ReadsRow (run_of w events)) w.versions
 reads_as_closed w events are k = all-weaker (λ row. IsVersion w.files w.now row × IsFound w.versions row) (ReadsRow (run_of w events)) w.versions

@@ -35,13 +35,14 @@ any-filter_map t h [] = refl
 any-filter_map {X} {Y} t h (x ∷ xs) = grind (arith, nat_tests, any-filter_map t h xs)
 
 -- of rows apart at most one has the number
-none-numbered : (file number : ℕ) (g : VersionRow → Bool) (x : VersionRow) (ys : List VersionRow) → is_version file number x ≡ true → AllByRecursion (ArePlaced x) ys → list_any (λ y. is_version file number y && g y) ys ≡ false
-none-numbered file number g x [] e all = refl
-none-numbered file number g x (y ∷ ys) e all = grind (arith, nat_tests, all.0.after, none-numbered file number g x ys e all.1)
+module _ (file number : ℕ) (g h : VersionRow → Bool) (same : (x : VersionRow) → h x ≡ (is_version file number x && g x)) where
+  none-numbered : (x : VersionRow) (ys : List VersionRow) → is_version file number x ≡ true → AllByRecursion (ArePlaced x) ys → list_any h ys ≡ false
+  none-numbered x [] e all = refl
+  none-numbered x (y ∷ ys) e all = grind (arith, nat_tests, same y, all.0.after, none-numbered x ys e all.1)
 
-any-numbered : (file number : ℕ) (g : VersionRow → Bool) (xs : List VersionRow) → AllLater ArePlaced xs → list_any (λ x. is_version file number x && g x) xs ≡ option_map_or g (find (is_version file number) xs) false
-any-numbered file number g [] placed = refl
-any-numbered file number g (x ∷ xs) placed = grind (arith, nat_tests, none-numbered file number g x xs, any-numbered file number g xs placed.1)
+  any-numbered : (xs : List VersionRow) → AllLater ArePlaced xs → list_any h xs ≡ option_map_or g (find (is_version file number) xs) false
+  any-numbered [] placed = refl
+  any-numbered (x ∷ xs) placed = grind (arith, nat_tests, same x, none-numbered x xs, any-numbered xs placed.1)
 
 -- a row has the key if its number is the key's and its moment, which has come, too
 has_due_key : (w : World) (k : Key) (row : VersionRow) → w.now ≤ last_moment → IsDueFromRipe w row → option_map_or (is_key k) (due_key w row) false ≡ (is_version k.file k.number row && (is_ripe_by w.now k && is_moment k.ripe (ripe_of w row)))
@@ -50,7 +51,6 @@ has_due_key w k row fits from = grind (arith, nat_tests)
 
 -- the due rows have just the keys whose moment has come
 pub scan_members : (w : World) → IsWellFormed w → (k : Key) → has_key k (filter_map (due_key w) w.versions) ≡ (is_ripe_by w.now k && is_moment k.ripe (ripe_at w k.file k.number))
-scan_members w formed k = grind (arith, nat_tests, any-filter_map (is_key k) (due_key w) w.versions, each w.versions, any-numbered k.file k.number (λ row. is_ripe_by w.now k && is_moment k.ripe (ripe_of w row)) w.versions (placed_of w formed), ripe_at_is) where
-  each : (xs : List VersionRow) → list_any (λ row. option_map_or (is_key k) (due_key w row) false) xs ≡ list_any (λ row. is_version k.file k.number row && (is_ripe_by w.now k && is_moment k.ripe (ripe_of w row))) xs
-  each [] = refl
-  each (x ∷ xs) = grind (arith, has_due_key w k x (now_of w formed) (ripens w formed x), each xs)
+scan_members w formed k =
+    let rows = any-numbered k.file k.number (λ row. is_ripe_by w.now k && is_moment k.ripe (ripe_of w row)) (λ row. option_map_or (is_key k) (due_key w row) false) (λ row. has_due_key w k row (now_of w formed) (ripens w formed row)) w.versions (placed_of w formed) in
+    grind (arith, nat_tests, any-filter_map (is_key k) (due_key w) w.versions, rows, ripe_at_is)

@@ -8,7 +8,7 @@ use Rattle.ele_world.specs.Usage.{usage_of}
 use Rattle.ele_world.proofs.Created.{new_file, created, versions_before}
 use Rattle.ele_world.proofs.Files.{next_of-given}
 use Rattle.ele_world.proofs.Opened.{opened}
-use Rattle.ele_world.proofs.Others.{other_drafts, drafts-updated, drafts-opened, versions-removed}
+use Rattle.ele_world.proofs.Others.{drafts-updated, drafts-opened, versions-removed}
 use Rattle.ele_world.proofs.Splits.{bytes_in-cons, file_moves, same_usage, split_usage}
 
 -- ---- a change of one file
@@ -51,14 +51,11 @@ unfolding usage_of
 usage_same w v files versions drafts k = rw (files, versions, drafts) refl
 
 -- a change of the file's draft alone
-pub changes_drafts : (file : ℕ) (w v : World) → v.files ≡ w.files → v.versions ≡ w.versions → other_drafts file v.drafts ≡ other_drafts file w.drafts → ChangesOnly file w v
-changes_drafts file w v files versions drafts = grind (arith, nat_tests)
-
 pub changes_updated : (file : ℕ) (w : World) (f : DraftRow → DraftRow) → ((row : DraftRow) → (f row).file ≡ row.file) → ChangesOnly file w (record w { drafts = update_first (is_draft file) f w.drafts })
-changes_updated file w f keeps = changes_drafts file w (record w { drafts = update_first (is_draft file) f w.drafts }) refl refl (drafts-updated file f w.drafts keeps)
+changes_updated file w f keeps = record { kinds = λ k id. refl; files = λ k. refl; versions = refl; drafts = drafts-updated file f w.drafts keeps }
 
 pub changes_opened : (w : World) (file number : ℕ) → ChangesOnly file w (opened w file number)
-changes_opened w file number = changes_drafts file w (opened w file number) refl refl (drafts-opened w file)
+changes_opened w file number = record { kinds = λ k id. refl; files = λ k. refl; versions = refl; drafts = drafts-opened w file }
 
 pub changes_removed : (file number : ℕ) (w : World) → ChangesOnly file w (record w { versions = remove_first (is_version file number) w.versions })
 changes_removed file number w = record { kinds = λ k id. refl; files = λ k. refl; versions = versions-removed file number w.versions; drafts = refl }

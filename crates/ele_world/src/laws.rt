@@ -162,13 +162,13 @@ pub fn reads_as_closed()
 {}
 
 /// An undisturbed finished pass leaves exactly the versions that the scan at its start kept.
-#[tactic(auto, using(crate::proofs::Passes::pass_leaves_kept))]
+#[tactic(auto, using(crate::proofs::PassEnds::pass_leaves_kept))]
 pub fn pass_leaves_kept()
     ensures { PassLeavesKept }
 {}
 
 /// The same of every run.
-#[tactic(auto, using(crate::proofs::Passes::pass_leaves_kept, crate::proofs::Words::run_of, crate::proofs::Words::fresh_world, crate::proofs::StepKeeps::run_keeps, crate::proofs::StepKeeps::fresh_is))]
+#[tactic(auto, using(crate::proofs::PassEnds::pass_leaves_kept, crate::proofs::Words::run_of, crate::proofs::Words::fresh_world, crate::proofs::StepKeeps::run_keeps, crate::proofs::StepKeeps::fresh_is))]
 pub fn pass_leaves_kept_in_runs()
     ensures { PassLeavesKeptInRuns }
 {}

@@ -114,6 +114,7 @@ fn newer_closings(
 
 /// When the policy lets the version go that ended then. In plain rows, which nobody checked, any
 /// newer one may tell.
+#[tactic(auto, unfolding(ele_policy::specs::Ripe::ripe_by))]
 fn ripe_by(
     policy: &Policy,
     versions: &[VersionRow],

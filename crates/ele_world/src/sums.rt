@@ -54,7 +54,7 @@ fn versions_of(files: &[FileRow], versions: &[VersionRow], kind: Kind) -> u64
 }
 
 /// How many bytes the cells have.
-#[tactic(auto, using(crate::proofs::SumRows::cell_bytes, std::proofs::lemmas::List::drop_all))]
+#[tactic(auto, using(crate::proofs::SlotPlaces::cell_bytes, std::proofs::lemmas::List::drop_all))]
 fn length_of(cells: &[Cell]) -> u64
     requires { length (content_of cells.now) < 2 ^ 64 }
     ensures { result ≡ length (content_of cells.now) }
@@ -67,7 +67,7 @@ fn length_of(cells: &[Cell]) -> u64
 }
 
 /// How many bytes the versions of files with a policy of the kind have.
-#[tactic(auto, using(crate::proofs::SumRows::row_bytes, std::proofs::lemmas::List::drop_all))]
+#[tactic(auto, using(crate::proofs::SlotPlaces::row_bytes, std::proofs::lemmas::List::drop_all))]
 fn bytes_of(files: &[FileRow], versions: &[VersionRow], kind: Kind) -> u64
     requires { bytes_in (filter (λ row. is_file_of files.now kind row.file) versions.now)
         < 2 ^ 64 }
@@ -125,7 +125,7 @@ fn is_among(
 }
 
 /// How many of the slots of a file no version and no draft has.
-#[tactic(auto, using(crate::proofs::SumRows::cell_places, std::proofs::lemmas::List::drop_all))]
+#[tactic(auto, using(crate::proofs::SlotPlaces::cell_places, std::proofs::lemmas::List::drop_all))]
 fn new_slots(file: FileId, cells: &[Cell], versions: &[VersionRow], drafts: &[DraftRow]) -> u64
     ensures { result ≡ new_places (places versions.now drafts.now) (places_from file 0 cells.now) }
 {

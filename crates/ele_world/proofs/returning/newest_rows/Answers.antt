@@ -5,7 +5,6 @@ use Rattle.ele_world.proofs.returning.newest_rows.Goals as goal
 
 pub loop-row-preserved : goal.loop-row-preserved
 loop-row-preserved c =
-    let row = c.row-item.result in
     c.in_ok-_older.ensures.entries
-    ∙ ap (λ es. insert_entry name_cmp es (row.directory, row.name) row) c.loop-row.invariant
-    ∙ sym (newest_more c.args.rows.now c.loop-row.row-index row c.loop-row-test.true c.row-item.is)
+    ∙ ap (λ es. insert_entry name_cmp es (c.row-item.result.directory, c.row-item.result.name) c.row-item.result) c.loop-row.invariant
+    ∙ sym (newest_more c.args.rows.now c.loop-row.row-index c.row-item.result c.loop-row-test.true c.row-item.is)

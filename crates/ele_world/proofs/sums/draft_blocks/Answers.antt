@@ -1,6 +1,6 @@
 use Rattle.ele_world.proofs.Basics.{arith, nat_tests}
 use Rattle.ele_world.proofs.Words.{is_file_of}
-use Rattle.ele_world.proofs.SumRows.{draft_places}
+use Rattle.ele_world.proofs.SlotPlaces.{draft_places}
 use Rattle.ele_world.proofs.sums.draft_blocks.Goals as goal
 
 pub overflow_add-blocks : goal.overflow_add-blocks
