@@ -1,13 +1,7 @@
 -- Which keys the versions have, once a file has its next version: two came, and all others stayed.
-use Rattle.ele_core.proofs.Words.{◌≡◌, ℕ, ◌==◌, Bool, true, false, cond, not, ◌&&◌, ◌||◌, List, Option, Some, None, refl, ap, sym, ◌∙◌, arith, unwrap_or, option_and_then, AllByRecursion, option_map_or, false≢true, nat_tests, Cell, NewKeys, IsQueued, is_entry, is_new, gained_moment, own_moment, new_keys, Key, has_key, rows_of, all-found, Policy, IsPolicy, FileRow, VersionRow, with_version, ripe_at, is_moment, near_moment, newest_of, is_marked, World, is_live, is_open, next_of, policy_of, MayGrow, touches, next_before, next_after, newest_before, newest_was, newest_is, others_after}
+use Rattle.ele_core.proofs.Words.{ap, sym, ◌≡◌, ℕ, ◌<◌, ◌==◌, Bool, true, false, cond, not, ◌&&◌, ◌||◌, List, Option, Some, None, refl, ◌∙◌, and-false, arith, or-false, unwrap_or, option_and_then, AllByRecursion, option_map_or, false≢true, nat_tests, Cell, IsSound, NewKeys, Rows, world_of, IsQueued, is_entry, is_new, gained_moment, own_moment, new_keys, Key, has_key, rows_of, all-found, Policy, IsPolicy, FileRow, VersionRow, with_version, ripe_at, is_moment, near_moment, newest_of, is_marked, World, is_live, is_open, may_grow, next_of, policy_of, MayGrow, touches, next_before, next_after, newest_before, newest_was, newest_is, others_after, []}
 use Rattle.ele_core.proofs.Following.{follows}
 use Rattle.ele_policy.proofs.Waits.{ripe_keeps}
-
-or_false : (b : Bool) → (b || false) ≡ b
-or_false x0 = grind (arith, nat_tests)
-
-and_false : (b : Bool) → (b && false) ≡ false
-and_false x0 = grind (arith, nat_tests)
 
 -- the policy that a file has is one
 pub policy_is : (files : List FileRow) (file : ℕ) (policy : Policy) → AllByRecursion (λ row. IsPolicy row.policy) files → policy_of files file ≡ Some policy → IsPolicy policy
@@ -22,7 +16,7 @@ record IsGained (m : ℕ) (was came is : Option ℕ) : Type 0 where
 
 gained : (marks : ℕ → Option ℕ → Bool) (policy : Option Policy) (now closed m : ℕ) (ended : Option ℕ) → ((p : Policy) → policy ≡ Some p → IsPolicy p)
     → IsGained m (option_and_then (near_moment marks policy None closed) ended) (gained_moment marks policy now closed ended) (near_moment marks policy (Some now) closed (unwrap_or ended now))
-gained marks policy now closed m x5 given = grind (arith, nat_tests, or_false, ripe_keeps, false≢true)
+gained marks policy now closed m x5 given = grind (arith, nat_tests, or-false, ripe_keeps, false≢true)
 
 module _ (w : World) (file opened : ℕ) (cells : List Cell) (k : MayGrow w file) where
   abbrev next : ℕ
@@ -31,8 +25,8 @@ module _ (w : World) (file opened : ℕ) (cells : List Cell) (k : MayGrow w file
   abbrev pub appended : World
   appended = with_version w file opened cells
 
-  abbrev own : Option ℕ
-  own = own_moment w.groups w.files file w.now (is_live w file)
+  abbrev own : Bool → Option ℕ
+  own live = own_moment w.groups w.files file w.now live
 
   abbrev came : VersionRow → Option ℕ
   came row = cond (is_open w.handles file row.number) None (gained_moment (is_marked w.groups file) (policy_of w.files file) w.now row.closed row.ended)
@@ -46,58 +40,53 @@ module _ (w : World) (file opened : ℕ) (cells : List Cell) (k : MayGrow w file
   -- ---- the queue
 
   -- the keys that come, where that is the newest version
-  abbrev comes_with : Option VersionRow → Key → Bool
-  comes_with newest j = is_entry file (option_map_or (λ (row : VersionRow). row.number) newest 0) (option_and_then came newest) j || is_entry file next own j
-
-  abbrev comes : Key → Bool
-  comes j = is_new (new_keys w.groups (rows_of w) file w.now (is_live w file)) j
+  abbrev comes_with : Bool → Option VersionRow → Key → Bool
+  comes_with live newest j = is_entry file (option_map_or (λ (row : VersionRow). row.number) newest 0) (option_and_then came newest) j || is_entry file next (own live) j
 
   abbrev touched_with : Option VersionRow → ℕ → ℕ → Bool
   touched_with newest f n = (f == file) && ((n == next) || option_map_or (λ (row : VersionRow). n == row.number) newest false)
 
+  -- none of them was there
+  absent : (live : Bool) (j : Key) (newest : Option VersionRow) → newest_of w.versions file ≡ newest → comes_with live newest j ≡ true → is_moment j.ripe (ripe_at w j.file j.number) ≡ false
+  absent live j None e is = by (j.file == file) (j.number == next) refl refl (sym (ap (λ b. b || is_entry file next (own live) j) (and-false ((j.file == file) && (j.number == 0)))) ∙ is) where
+    by : (a c : Bool) → (j.file == file) ≡ a → (j.number == next) ≡ c → ((a && c) && is_moment j.ripe (own live)) ≡ true → is_moment j.ripe (ripe_at w j.file j.number) ≡ false
+    by false c f n is = absurd (false≢true is)
+    by true false f n is = absurd (false≢true is)
+    by true true f n is =
+        let file_is : j.file ≡ file = grind (arith, nat_tests) in
+        let number_is : j.number ≡ next = grind (arith, nat_tests) in
+        rw (file_is, number_is, next_before w file opened cells k) refl
+  absent live j (Some row) e is = by (j.file == file) (j.number == row.number) (j.number == next) refl refl refl is where
+    by : (a b c : Bool) → (j.file == file) ≡ a → (j.number == row.number) ≡ b → (j.number == next) ≡ c → (((a && b) && is_moment j.ripe (came row)) || ((a && c) && is_moment j.ripe (own live))) ≡ true → is_moment j.ripe (ripe_at w j.file j.number) ≡ false
+    by false b c f l n is = absurd (false≢true is)
+    by true false false f l n is = absurd (false≢true is)
+    by true b true f l n is =
+        let file_is : j.file ≡ file = grind (arith, nat_tests) in
+        let number_is : j.number ≡ next = grind (arith, nat_tests) in
+        rw (file_is, number_is, next_before w file opened cells k) refl
+    by true true false f l n is =
+        let file_is : j.file ≡ file = grind (arith, nat_tests) in
+        let number_is : j.number ≡ row.number = grind (arith, nat_tests) in
+        rw (file_is, number_is) ((newest_gains row j.ripe e).wasnt (sym (or-false (is_moment j.ripe (came row))) ∙ is))
+
   module _ (queue after : List Key) (queued : IsQueued w queue) where
     -- and the newest one's
-    has_now : (j : Key) (newest : Option VersionRow) → newest_of w.versions file ≡ newest → (comes_with newest j || has_key j queue) ≡ cond (touched_with newest j.file j.number) (is_moment j.ripe (ripe_at appended j.file j.number)) (has_key j queue)
-    has_now j x1 e = grind (arith, nat_tests, and_false, or_false, next_before w file opened cells k, next_after w file opened cells k, or_false (is_moment j.ripe own), newest_before, false≢true, newest_gains)
+    has_now : (j : Key) (newest : Option VersionRow) → newest_of w.versions file ≡ newest → (comes_with (is_live w file) newest j || has_key j queue) ≡ cond (touched_with newest j.file j.number) (is_moment j.ripe (ripe_at appended j.file j.number)) (has_key j queue)
+    has_now j x1 e = grind (arith, nat_tests, and-false, or-false, next_before w file opened cells k, next_after w file opened cells k, or-false (is_moment j.ripe (own (is_live w file))), newest_before, false≢true, newest_gains)
 
     -- with the keys that come it has those of all versions
-    pub appended_queue : ((j : Key) → has_key j after ≡ (comes j || has_key j queue)) → IsQueued appended after
-    appended_queue edited = follows w appended queue after queued (touches w.versions file next) (others_after w file opened cells k) (λ j. edited j ∙ has_now j (newest_of w.versions file) refl)
+    pub appended_queue : (keys : NewKeys) → keys ≡ new_keys w.groups (rows_of w) file w.now (is_live w file) → ((j : Key) → has_key j after ≡ (is_new keys j || has_key j queue)) → IsQueued appended after
+    appended_queue keys are edited = follows w appended queue after queued (touches w.versions file next) (others_after w file opened cells k) (λ j. edited j ∙ rw are (has_now j (newest_of w.versions file) refl))
 
-    -- none of them was there
-    absent : (j : Key) (newest : Option VersionRow) → newest_of w.versions file ≡ newest → comes_with newest j ≡ true → is_moment j.ripe (ripe_at w j.file j.number) ≡ false
-    absent j None e is = by (j.file == file) (j.number == next) refl refl (sym (ap (λ b. b || is_entry file next own j) (and_false ((j.file == file) && (j.number == 0)))) ∙ is) where
-      by : (a c : Bool) → (j.file == file) ≡ a → (j.number == next) ≡ c → ((a && c) && is_moment j.ripe own) ≡ true → is_moment j.ripe (ripe_at w j.file j.number) ≡ false
-      by false c f n is = absurd (false≢true is)
-      by true false f n is = absurd (false≢true is)
-      by true true f n is =
-          let file_is : j.file ≡ file = grind (arith, nat_tests) in
-          let number_is : j.number ≡ next = grind (arith, nat_tests) in
-          rw (file_is, number_is, next_before w file opened cells k) refl
-    absent j (Some row) e is = by (j.file == file) (j.number == row.number) (j.number == next) refl refl refl is where
-      by : (a b c : Bool) → (j.file == file) ≡ a → (j.number == row.number) ≡ b → (j.number == next) ≡ c → (((a && b) && is_moment j.ripe (came row)) || ((a && c) && is_moment j.ripe own)) ≡ true → is_moment j.ripe (ripe_at w j.file j.number) ≡ false
-      by false b c f l n is = absurd (false≢true is)
-      by true false false f l n is = absurd (false≢true is)
-      by true b true f l n is =
-          let file_is : j.file ≡ file = grind (arith, nat_tests) in
-          let number_is : j.number ≡ next = grind (arith, nat_tests) in
-          rw (file_is, number_is, next_before w file opened cells k) refl
-      by true true false f l n is =
-          let file_is : j.file ≡ file = grind (arith, nat_tests) in
-          let number_is : j.number ≡ row.number = grind (arith, nat_tests) in
-          rw (file_is, number_is) ((newest_gains row j.ripe e).wasnt (sym (or_false (is_moment j.ripe (came row))) ∙ is))
+-- ---- keys that are refused
 
-    comes_absent : (j : Key) → comes j ≡ true → has_key j queue ≡ false
-    comes_absent j is = queued j ∙ absent j (newest_of w.versions file) refl is
+module _ (rows : Rows) (file : ℕ) (live : Bool) (keys : NewKeys) (after : List Key) (sound : IsSound rows) (there : 0 < next_of rows.files.files file) (are : keys ≡ new_keys rows.groups rows.files file rows.moment live) where
+  none_there : (j : Key) → is_new keys j ≡ true → has_key j rows.queue ≡ false
+  none_there j is = sound.tracked.queue j ∙ absent (world_of rows) file 0 [] (may_grow (world_of rows) file sound.formed there) live j (newest_of rows.files.versions file) refl (rw are at is)
 
-    -- so the queue is as it was where they are taken out again, or the former alone came and went
-    pub taken_back : ((j : Key) → has_key j after ≡ (not (comes j) && (comes j || has_key j queue))) → IsQueued w after
-    taken_back edited j = edited j ∙ back (comes j) (has_key j queue) (comes_absent j) ∙ queued j where
-      back : (e q : Bool) → (e ≡ true → q ≡ false) → (not e && (e || q)) ≡ q
-      back x0 q absent = grind (arith, nat_tests)
+  -- the queue is as it was where they are taken out again, or the former alone came and went
+  pub taken_back : (between : List Key) → ((j : Key) → has_key j between ≡ (is_new keys j || has_key j rows.queue)) → ((j : Key) → has_key j after ≡ (not (is_new keys j) && has_key j between)) → IsQueued (world_of rows) after
+  taken_back between came went j = grind (arith, nat_tests, none_there j, sound.tracked.queue j)
 
-    abbrev keys : NewKeys
-    keys = new_keys w.groups (rows_of w) file w.now (is_live w file)
-
-    pub refused : ((j : Key) → (is_entry file keys.newest keys.former j ≡ true → has_key j queue ≡ false) → has_key j after ≡ has_key j queue) → IsQueued w after
-    refused edited j = edited j (λ is. comes_absent j (rw is refl)) ∙ queued j
+  pub refused : ((j : Key) → (is_entry keys.file keys.newest keys.former j ≡ true → has_key j rows.queue ≡ false) → has_key j after ≡ has_key j rows.queue) → IsQueued (world_of rows) after
+  refused edited j = edited j (λ is. none_there j (rw is refl)) ∙ sound.tracked.queue j

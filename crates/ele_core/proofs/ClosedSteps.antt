@@ -1,30 +1,26 @@
 -- What closing a handle leaves, as the step of the world has it.
-use Rattle.ele_core.proofs.Words.{◌≡◌, ◌<◌, ◌^◌, ℕ, List, Bool, true, false, cond, [], ◌∷◌, length, is_some, Option, Some, None, Result, Ok, refl, ap, sym, ◌∙◌, arith, find, false≢true, AllByRecursion, option_and_then, option_map, option_map_or, result_ok, nat_tests, content_of, IsSound, NewKeys, IsQueued, gained_moment, new_keys, told_by, Rows, Key, changed_opening, finishing, last_draft, leaving, left_by, left_of, opening_by, IsPast, Held, changed_at, rows_of, with_rows, found_passes, all-found, all-weaker, is_marked, Close, Refusal, Reply, Closed, DraftRow, FileRow, Draft, VersionRow, EndDraft, ShutHandle, Append, DropIdle, after_change, after_changes, found_outcome, draft_read, has_other_writer, step, Counted, Drafts, Files, Handles, Versions, IsWellFormed, ChangesOnly, dropped, all_keep, drafts-removed, World, file_by, file_written, has_draft, is_draft, is_open, next_of, policy_of, reads_by, is_moment, newest_of, AreInOrder, in_order_of, open_still, shut_others, has_row}
-use Rattle.ele_world.specs.declared.rows.Reads.{Reads}
-
--- the step, by what the file's draft is, and by the file that the handle writes
-abbrev draft_step : World → ℕ → ℕ → Option DraftRow → Reply × World
-draft_step w handle file found = option_map_or (λ draft.
-    cond draft.changed
-    (Closed (Some (next_of w.files file)), after_changes w (ShutHandle handle ∷ EndDraft file ∷ Append file draft.opened draft.cells ∷ []))
-    (Closed None, after_changes w (ShutHandle handle ∷ EndDraft file ∷ DropIdle file ∷ []))) found (Closed None, after_changes w (ShutHandle handle ∷ []))
-
-abbrev file_step : World → ℕ → ℕ → Reply × World
-file_step w handle file = cond (has_other_writer w handle file) (Closed None, after_changes w (ShutHandle handle ∷ [])) (draft_step w handle file (find (is_draft file) w.drafts))
-
-abbrev close_of : World → ℕ → Result Reads Refusal → Reply × World
-close_of w handle found = found_outcome w found (λ read. option_map_or (file_step w handle) (draft_read read) (Closed None, after_changes w (ShutHandle handle ∷ [])))
+use Rattle.ele_core.proofs.Words.{◌≡◌, ◌<◌, ◌^◌, ◌||◌, ℕ, List, Bool, true, false, cond, ◌∷◌, length, is_some, Option, Some, None, Ok, refl, ap, sym, ◌∙◌, arith, find, false≢true, AllByRecursion, option_map, option_map_or, nat_tests, content_of, IsSound, NewKeys, IsQueued, is_new, new_keys, Rows, Key, has_key, cells_of_draft, is_live, may_grow, finishing, last_draft, leaving, left_by, opening_by, IsPast, Held, rows_of, with_rows, found_passes, all-found, all-weaker, Close, Closed, DraftRow, FileRow, Draft, EndDraft, ShutHandle, DropIdle, after_change, after_changes, has_other_writer, step, Counted, Drafts, Files, Handles, Versions, IsWellFormed, dropped, all_keep, drafts-removed, World, file_by, file_written, has_draft, is_draft, next_of, reads_by, is_moment, in_order_of, open_still, shut_others, has_row, []}
+use Rattle.ele_core.proofs.Appended.{appended_queue}
+use Rattle.ele_world.proofs.Others.{other_drafts}
+use Rattle.ele_world.specs.declared.rows.HandleRow.{HandleRow}
 
 -- one that reads a draft writes the file
-pub writes_file : (w : World) (handle file : ℕ) → reads_by w.handles handle ≡ Ok (Draft file) → file_by w.handles handle ≡ Ok file
-writes_file w handle file reads = ap file_written reads
+pub writes_file : (rows : List HandleRow) (handle file : ℕ) → reads_by rows handle ≡ Ok (Draft file) → file_by rows handle ≡ Ok file
+writes_file rows handle file reads = ap file_written reads
 
 module _ (w : World) (handle file : ℕ) (reads : reads_by w.handles handle ≡ Ok (Draft file)) where
-  of_file : file_by w.handles handle ≡ Ok file
-  of_file = writes_file w handle file reads
+  -- ---- before the draft becomes a version
 
-  opening : (o : Option ℕ) → opening_by (rows_of w) handle ≡ o → changed_opening (last_draft (rows_of w) handle file) ≡ o
-  opening o is = sym (ap (λ r. option_and_then (λ id. changed_opening (last_draft (rows_of w) handle id)) (result_ok r)) of_file) ∙ is
+  -- the handle and the draft have gone
+  abbrev pub over : World
+  over = after_changes w (ShutHandle handle ∷ EndDraft file ∷ [])
+
+  over_queue : IsWellFormed w → (queue : List Key) → IsQueued w queue → IsQueued over queue
+  over_queue formed queue queued k = queued k ∙ ap (is_moment k.ripe) (sym (shut_others w handle (Draft file) reads (in_order_of w formed) k.file k.number refl))
+
+  -- the same keys come
+  over_keys : (live : Bool) → new_keys over.groups (rows_of over) file w.now live ≡ new_keys w.groups (rows_of w) file w.now live
+  over_keys live = grind (arith, nat_tests, open_still w handle (Draft file) reads)
 
   -- ---- a version is made of the draft
 
@@ -37,16 +33,23 @@ module _ (w : World) (handle file : ℕ) (reads : reads_by w.handles handle ≡ 
 
   module _ (opened : ℕ) (opens : opening_by (rows_of w) handle ≡ Some opened) where
     pub is_final : IsFinal opened
-    is_final = grind (arith, nat_tests, opening (Some opened) opens)
+    is_final = grind (arith, nat_tests, opens, writes_file w.handles handle file reads)
 
     pub finished_step : step w (Close handle) ≡ (Closed (Some (next_of w.files file)), after_changes w (finishing (rows_of w) handle file opened))
-    finished_step = let f = is_final in ap (close_of w handle) reads ∙ rw (f.alone, f.found, f.changed, f.its_opening) refl
+    finished_step = let f = is_final in rw (reads, f.alone, f.found, f.changed, f.its_opening) refl
 
     pub drafted : is_some (find (is_draft file) w.drafts) ≡ true
     drafted = rw is_final.found refl
 
     pub file_there : IsWellFormed w → 0 < next_of w.files file
     file_there formed = grind (arith, nat_tests, is_final, all-found, found_passes, formed.holds Drafts)
+
+    -- the keys that come with it are those of all versions
+    pub finished_queue : (formed : IsWellFormed w) (queue after : List Key) (live : Bool) (keys : NewKeys) → IsQueued w queue → live ≡ is_live w file → keys ≡ new_keys w.groups (rows_of w) file w.now live → ((j : Key) → has_key j after ≡ (is_new keys j || has_key j queue))
+        → IsQueued (after_changes w (finishing (rows_of w) handle file opened)) after
+    finished_queue formed queue after live keys queued lives are =
+        let kept = all_keep (Close handle) w w (ShutHandle handle ∷ EndDraft file ∷ []) tt (tt, (is_final.alone, tt)) formed in
+        appended_queue over file opened (cells_of_draft (rows_of w) file) (may_grow over file kept (file_there formed)) queue after (over_queue formed queue queued) keys (are ∙ ap (new_keys w.groups (rows_of w) file w.now) lives ∙ sym (over_keys (is_live w file)))
 
   -- ---- none is made
 
@@ -65,7 +68,7 @@ module _ (w : World) (handle file : ℕ) (reads : reads_by w.handles handle ≡ 
   stays formed = dropped (λ v. v ≡ shut) shut file (λ idle. absurd (false≢true (sym idle.undrafted ∙ drafted_by formed))) (λ busy. refl)
 
   pub left_step : IsWellFormed w → opening_by (rows_of w) handle ≡ None → step w (Close handle) ≡ (Closed None, after_change (after_changes w (leaving handle file goes)) (DropIdle file))
-  left_step formed opens = grind (arith, nat_tests, opening None opens, stays formed)
+  left_step formed opens = grind (arith, nat_tests, opens, writes_file w.handles handle file reads, stays formed)
 
   -- and a well-formed world stays so, before the drop too
   pub left_keeps : IsWellFormed w → IsWellFormed (after_changes w (leaving handle file goes))
@@ -75,49 +78,21 @@ module _ (w : World) (handle file : ℕ) (reads : reads_by w.handles handle ≡ 
     by false alone None = all_keep (Close handle) w w (ShutHandle handle ∷ []) tt (tt, tt) formed
     by false alone (Some draft) = all_keep (Close handle) w w (ShutHandle handle ∷ EndDraft file ∷ []) tt (tt, (alone, tt)) formed
 
-  left_at : left_by (rows_of w) handle ≡ changed_at (rows_of w) 0 (leaving handle file goes)
-  left_at = ap (left_of (rows_of w) handle) reads
-
   pub left_world : with_rows w (left_by (rows_of w) handle) ≡ after_changes w (leaving handle file goes)
-  left_world = grind (arith, nat_tests, left_at)
+  left_world = grind (arith, nat_tests, reads)
 
   -- files and versions stay, and at most the file's draft goes
   pub record IsLeft (after : Held) : Type 0 where
     pub files : after.files ≡ w.files
     pub versions : after.versions ≡ w.versions
-    pub changes : ChangesOnly file (told_by (rows_of w)) (told_by after)
+    pub drafts : other_drafts file after.drafts ≡ other_drafts file w.drafts
 
   pub leaves : IsLeft (left_by (rows_of w) handle)
-  leaves = grind (arith, nat_tests, left_at, drafts-removed file w.drafts)
+  leaves = grind (arith, nat_tests, reads, drafts-removed file w.drafts)
 
   -- the keys stay, whoever writes
   pub left_queue : IsWellFormed w → (queue : List Key) → IsQueued w queue → IsQueued (after_changes w (leaving handle file goes)) queue
-  left_queue formed queue queued = by goes where
-    ordered : AreInOrder w.files w.versions
-    ordered = in_order_of w formed
-
-    by : (b : Bool) → IsQueued (after_changes w (leaving handle file b)) queue
-    by true k = queued k ∙ ap (is_moment k.ripe) (sym (shut_others w handle (Draft file) reads ordered k.file k.number refl))
-    by false k = queued k ∙ ap (is_moment k.ripe) (sym (shut_others w handle (Draft file) reads ordered k.file k.number refl))
-
-  -- ---- before the draft becomes a version
-
-  -- the handle and the draft have gone
-  abbrev pub over : World
-  over = after_changes w (ShutHandle handle ∷ EndDraft file ∷ [])
-
-  pub over_keeps : has_other_writer w handle file ≡ false → IsWellFormed w → IsWellFormed over
-  over_keeps alone formed = all_keep (Close handle) w w (ShutHandle handle ∷ EndDraft file ∷ []) tt (tt, (alone, tt)) formed
-
-  pub over_queue : IsWellFormed w → (queue : List Key) → IsQueued w queue → IsQueued over queue
-  over_queue formed queue queued k = queued k ∙ ap (is_moment k.ripe) (sym (shut_others w handle (Draft file) reads (in_order_of w formed) k.file k.number refl))
-
-  -- the same keys come
-  pub over_keys : (live : Bool) → new_keys over.groups (rows_of over) file w.now live ≡ new_keys w.groups (rows_of w) file w.now live
-  over_keys live = ap (λ (o : Option ℕ). let keys : NewKeys = record (new_keys w.groups (rows_of w) file w.now live) { former = o } in keys) (by (newest_of w.versions file)) where
-    by : (o : Option VersionRow) → option_and_then (λ (row : VersionRow). cond (is_open over.handles file row.number) None (gained_moment (is_marked w.groups file) (policy_of w.files file) w.now row.closed row.ended)) o ≡ option_and_then (λ (row : VersionRow). cond (is_open w.handles file row.number) None (gained_moment (is_marked w.groups file) (policy_of w.files file) w.now row.closed row.ended)) o
-    by None = refl
-    by (Some row) = rw (open_still w handle (Draft file) reads file row.number refl) refl
+  left_queue formed queue queued k = grind (arith, nat_tests, shut_others w handle (Draft file) reads (in_order_of w formed) k.file k.number refl, queued k)
 
 -- ---- what is told of the file and of the draft
 

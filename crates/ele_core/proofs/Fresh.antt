@@ -1,5 +1,5 @@
 -- At first there is no key and no usage.
-use Rattle.ele_core.proofs.Words.{◌≡◌, List, [], refl, sym, IsQueued, told_by, IsBooked, Key, Held, Kind, Book, sums_of, nothing, World}
+use Rattle.ele_core.proofs.Words.{◌≡◌, List, refl, sym, IsQueued, told_by, IsBooked, Key, Held, Kind, Book, sums_of, nothing, World, []}
 use Rattle.ele_world.specs.FileView.{ripe_numbered}
 use Rattle.ele_world.specs.Usage.{usage_of}
 

@@ -1,6 +1,6 @@
 -- The keys and the book, once a file has another policy.
-use Rattle.ele_core.proofs.Words.{◌≡◌, ℕ, ◌<◌, ◌==◌, Bool, true, false, cond, not, ◌&&◌, ◌||◌, List, [], ◌∷◌, Option, Some, refl, ap, sym, subst, ◌∙◌, arith, filter, map, IfOk, Result, AllByRecursion, cons_option, filter_map, list_any, option_map_or, nat_tests, world_of, IsSound, IsQueued, is_under, key_under, unread_under, told_by, IsBooked, Rows, Key, has_key, is_key, Held, changed_at, rows_of, found_passes, any-found, Kind, Policy, IsPolicy, is_kind, kind_of, Usage, Book, sums_of, only_at, nothing, plus, Fits, IsWithin, GroupRow, Stamps, VersionRow, PutUnder, after_change, is_moment, is_version_of, stamps_of, file_usage, usage_of, usages, Bounded, IsWellFormed, World, is_version, next_of, policy_of, in_order_of, ripe_at_near, put_under_keeps, usage_same, usages_fit}
-use Rattle.ele_core.proofs.Booked.{and_nothing, booked, same_kind, same_usage}
+use Rattle.ele_core.proofs.Words.{rows_of, ◌≡◌, ℕ, ◌<◌, ◌==◌, Bool, true, false, cond, not, ◌&&◌, ◌||◌, List, ◌∷◌, Option, Some, refl, sym, subst, arith, filter, map, AllByRecursion, filter_map, list_any, option_map_or, nat_tests, world_of, IsSound, IsQueued, is_under, key_under, unread_under, told_by, IsBooked, Rows, Key, has_key, is_key, Held, changed_at, found_passes, any-found, Kind, Policy, IsPolicy, is_kind, kind_of, Usage, Book, sums_of, only_at, plus, Fits, IsWithin, GroupRow, Stamps, VersionRow, PutUnder, after_change, is_moment, is_version_of, stamps_of, file_usage, usage_of, usages, Bounded, World, is_version, next_of, policy_of, in_order_of, ripe_at_near, put_under_keeps, usage_same, usages_fit, [], IsWellFormed, cons_option}
+use Rattle.ele_core.proofs.Booked.{booked, plus-cancel, same_kind}
 use Rattle.ele_core.proofs.Following.{follows}
 use Rattle.ele_world.proofs.PolicyUsage.{file_within, policy_usage}
 use Rattle.ele_world.proofs.PolicyMoments.{policy_others, policy_own}
@@ -32,11 +32,8 @@ module _ (groups : List GroupRow) (h : Held) (file : ℕ) (policy other : Policy
     more x0 is then = grind (arith, nat_tests, and_or)
 
   -- so those told of the file's versions are just those
-  pub keys_told : (k : Key) → has_key k (filter_map (λ (s : Stamps). its s.number) (map stamps_of (filter (is_version_of file) h.versions))) ≡ is_under groups h file policy other k
-  keys_told k = grind (arith, nat_tests, told_key h.versions k, any-found, found_passes)
-
-pub then_ok : {A E : Type 0} {P Q : A → Type 0} (r : Result A E) → IfOk r P → ((a : A) → P a → Q a) → IfOk r Q
-then_ok x0 is then = grind (arith, nat_tests)
+  pub keys_told : (keys : List Key) → keys ≡ filter_map (λ (s : Stamps). its s.number) (map stamps_of (filter (is_version_of file) h.versions)) → (k : Key) → has_key k keys ≡ is_under groups h file policy other k
+  keys_told keys is k = grind (arith, nat_tests, told_key h.versions k, any-found, found_passes)
 
 -- ---- the queue
 
@@ -53,17 +50,21 @@ module _ (w : World) (file : ℕ) (was policy : Policy) (k : IsWellFormed w) (fi
     had j own = grind (arith, nat_tests, ripe_at_near w file j.number (in_order_of w k), in_order_of w k)
 
     -- with the keys that come, and without those that go, it has those of all versions
-    pub governed_queue : (after : List Key) → ((j : Key) → has_key j between ≡ (is_under w.groups h file policy was j || has_key j queue)) → ((j : Key) → has_key j after ≡ (not (is_under w.groups h file was policy j) && has_key j between)) → IsQueued v after
-    governed_queue after came went = grind (arith, nat_tests, follows, policy_others w file policy k, had, policy_own)
+    governed_in : (after : List Key) → ((j : Key) → has_key j between ≡ (is_under w.groups h file policy was j || has_key j queue)) → ((j : Key) → has_key j after ≡ (not (is_under w.groups h file was policy j) && has_key j between)) → IsQueued v after
+    governed_in after came went = grind (arith, nat_tests, follows, policy_others w file policy k, had, policy_own)
 
     -- none of those that come was there
-    pub ungoverned_queue : ((j : Key) → has_key j between ≡ (not (is_under w.groups h file policy was j) && has_key j queue)) → IsQueued w between
-    ungoverned_queue stays j = grind (arith, nat_tests, had)
+    pub ungoverned_in : ((j : Key) → has_key j between ≡ (not (is_under w.groups h file policy was j) && has_key j queue)) → IsQueued w between
+    ungoverned_in stays j = grind (arith, nat_tests, had)
+
+module _ (rows : Rows) (file : ℕ) (was policy : Policy) (between after : List Key) (sound : IsSound rows) (filed : policy_of rows.files.files file ≡ Some was) (there : 0 < next_of rows.files.files file) (given : IsPolicy policy) where
+  pub governed_queue : ((j : Key) → has_key j between ≡ (is_under rows.groups rows.files file policy was j || has_key j rows.queue)) → ((j : Key) → has_key j after ≡ (not (is_under rows.groups rows.files file was policy j) && has_key j between)) → IsQueued (after_change (world_of rows) (PutUnder file policy)) after
+  governed_queue = governed_in (world_of rows) file was policy sound.formed filed there given rows.queue between sound.tracked.queue after
+
+  pub ungoverned_queue : ((j : Key) → has_key j between ≡ (not (is_under rows.groups rows.files file policy was j) && has_key j rows.queue)) → IsQueued (world_of rows) between
+  ungoverned_queue = ungoverned_in (world_of rows) file was policy sound.formed filed there given rows.queue between sound.tracked.queue
 
 -- ---- the book
-
-plus-cancel : (a b x : Usage) → plus a x ≡ plus b x → a ≡ b
-plus-cancel a b x e = grind (arith, nat_tests, same_usage)
 
 kinds_apart : (a b : Kind) → (a ≡ b → ⊥) → is_kind a b ≡ false
 kinds_apart x0 x1 other = grind (arith, nat_tests)
@@ -87,16 +88,9 @@ module _ (rows : Rows) (file : ℕ) (was policy : Policy) (sound : IsSound rows)
   uses_fit other =
       let formed = put_under_keeps (world_of rows) file policy given sound.formed in
       let moves = policy_usage (world_of rows) file was policy sound.formed filed (kind_of policy) in
-      let leaves : only_at (kind_of was) uses (kind_of policy) ≡ nothing = rw (kinds_apart (kind_of was) (kind_of policy) other) refl in
-      let comes : only_at (kind_of policy) uses (kind_of policy) ≡ uses = rw (same_kind (kind_of policy)) refl in
-      let is : usage_of now (kind_of policy) ≡ plus (sums_of rows.book (kind_of policy)) uses =
-      sym (and_nothing (usage_of now (kind_of policy))) ∙ ap (plus (usage_of now (kind_of policy))) (sym leaves) ∙ moves
-      ∙ ap (plus (usage_of (world_of rows) (kind_of policy))) comes ∙ ap (λ (u : Usage). plus u uses) (sym (booked rows sound.tracked (kind_of policy))) in
-      subst Fits is (fits_at now (usages_fit now formed (formed.holds Bounded)) (kind_of policy))
+      grind (arith, nat_tests, moves, kinds_apart, same_kind, booked rows sound.tracked (kind_of policy), fits_at now (usages_fit now formed (formed.holds Bounded)) (kind_of policy))
 
   -- once it has moved the book follows
   pub governed_book : (book : Book) → ((k : Kind) → plus (sums_of book k) (only_at (kind_of was) uses k) ≡ plus (sums_of rows.book k) (only_at (kind_of policy) uses k)) → IsBooked (changed_at rows.files 0 (PutUnder file policy ∷ [])) book
   governed_book book moved k =
-      plus-cancel (sums_of book k) (usage_of now k) (only_at (kind_of was) uses k)
-      (moved k ∙ ap (λ (u : Usage). plus u (only_at (kind_of policy) uses k)) (booked rows sound.tracked k) ∙ sym (policy_usage (world_of rows) file was policy sound.formed filed k))
-      ∙ usage_same (told_by (changed_at rows.files 0 (PutUnder file policy ∷ []))) now refl refl refl k
+      grind (arith, nat_tests, plus-cancel (sums_of book k) (usage_of now k) (only_at (kind_of was) uses k), moved k, booked rows sound.tracked k, policy_usage (world_of rows) file was policy sound.formed filed k, usage_same (told_by (changed_at rows.files 0 (PutUnder file policy ∷ []))) now refl refl refl k)

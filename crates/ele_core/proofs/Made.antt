@@ -1,5 +1,5 @@
 -- A new file brings no key.
-use Rattle.ele_core.proofs.Words.{◌≡◌, ℕ, ◌==◌, ◌+◌, Bool, false, cond, List, [], ◌∷◌, Option, Some, None, refl, ap, sym, ◌∙◌, arith, append-nil, subst, find, option_and_then, option_or, filter-append, find-append, list_any-append, nat_tests, IsQueued, Key, all-found, Policy, VersionRow, MakeFile, after_change, ripe_at, is_moment, view_of, IsWellFormed, World, is_version, created, made_is, new_file, new_name, first_version, versions_before, ripe_at_is, unended}
+use Rattle.ele_core.proofs.Words.{◌≡◌, ℕ, ◌+◌, Bool, cond, List, ◌∷◌, Option, Some, None, refl, ap, sym, ◌∙◌, arith, append-nil, subst, find, option_and_then, option_or, filter-append, find-append, list_any-append, nat_tests, IsQueued, IsSound, Rows, world_of, all-found, Policy, VersionRow, MakeFile, after_change, ripe_at, is_moment, view_of, IsWellFormed, World, is_version, created, made_is, new_file, new_name, first_version, versions_before, ripe_at_is, unended, []}
 use Rattle.ele_world.specs.Due.{ripe_of}
 
 module _ (w : World) (directory : ℕ) (name : List ℕ) (policy : Policy) (k : IsWellFormed w) where
@@ -23,5 +23,6 @@ module _ (w : World) (directory : ℕ) (name : List ℕ) (policy : Policy) (k : 
         by : (o : Option VersionRow) → find (is_version file number) w.versions ≡ o → option_and_then (ripe_of made) (option_or o (find (is_version file number) (first_version w id ∷ []))) ≡ option_and_then (ripe_of w) o
         by x0 e = grind (arith, nat_tests, new, first_version w id, all-found, versions_before w k, find-append, new_file, filter-append, first_version, append-nil, list_any-append, new_name)
 
-  pub made_queue : (queue : List Key) → IsQueued w queue → IsQueued (after_change w (MakeFile directory name (w.made.files + 1) policy)) queue
-  made_queue queue queued = subst (λ (v : World). IsQueued v queue) (sym (made_is w directory name policy k)) (λ j. queued j ∙ ap (is_moment j.ripe) (sym (moment_stays j.file j.number)))
+pub made_queue : (rows : Rows) (directory : ℕ) (name : List ℕ) (policy : Policy) → IsSound rows → IsQueued (after_change (world_of rows) (MakeFile directory name (rows.made.files + 1) policy)) rows.queue
+made_queue rows directory name policy sound =
+    subst (λ (v : World). IsQueued v rows.queue) (sym (made_is (world_of rows) directory name policy sound.formed)) (λ j. sound.tracked.queue j ∙ ap (is_moment j.ripe) (sym (moment_stays (world_of rows) directory name policy sound.formed j.file j.number)))

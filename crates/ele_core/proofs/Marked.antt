@@ -1,6 +1,7 @@
 -- The keys of versions that were current at marks: which keys these are, and that the queue follows where marks come and go.
-use Rattle.ele_core.proofs.Words.{◌≡◌, ℕ, ◌+◌, ◌<◌, ◌==◌, ◌++◌, length, get_or, take, append_assoc, Bool, true, false, cond, not, ◌&&◌, ◌||◌, List, [], ◌∷◌, Option, Some, None, refl, ap, sym, ◌∙◌, arith, find, option_and_then, filter_map, list_any, cons_option, AllByRecursion, option_map, option_map_or, take_more, filter_map-append, nat_tests, IsQueued, key_at, keys_at, marked_but, moment_but, Left, Key, has_key, is_key, Held, rows_of, found_passes, AllLater, ripe_at, is_moment, moment_under, covers_moment, had_life, lives_at, stamps_of, ArePlaced, IsWellFormed, World, is_open, is_version, policy_of, GroupRow, Stamps, VersionRow, MarksCome, MarksGo, is_covered, is_touched, in_order_of, ripe_at_near, any-filter_map, placed_of}
+use Rattle.ele_core.proofs.Words.{◌≡◌, ℕ, ◌+◌, ◌<◌, ◌==◌, ◌++◌, length, get_or, take, and-false, and_assoc, append_assoc, Bool, true, false, cond, not, ◌&&◌, ◌||◌, List, ◌∷◌, Option, Some, None, refl, ap, sym, ◌∙◌, arith, find, filter_map, list_any, cons_option, AllByRecursion, option_map, option_map_or, or-false, take_more, filter_map-append, nat_tests, IsSound, Rows, world_of, IsQueued, key_at, keys_at, marked_but, moment_but, Left, Key, has_key, is_key, Held, rows_of, all-found, found_passes, AllLater, is_moment, moment_under, covers_moment, had_life, lives_at, stamps_of, ArePlaced, IsWellFormed, World, is_open, is_version, policy_of, GroupRow, Stamps, VersionRow, AddMark, AddMember, DropGroup, RemoveMark, RemoveMember, after_change, mark_comes, mark_goes, marks_of, member_comes, member_goes, members_of, group_goes, MarksCome, MarksGo, is_covered, is_touched, in_order_of, ripe_at_near, any-filter_map, placed_of, [], option_and_then}
 use Rattle.ele_core.proofs.Following.{follows}
+use Rattle.ele_world.specs.GroupRows.{has_member, is_marked_at}
 use Rattle.ele_world.proofs.SlotPlaces.{list_any-flat_map}
 
 -- ---- the version that was current at a moment, by its number
@@ -11,23 +12,12 @@ if_numbered number g row = (row.number == number) && g row
 abbrev if_living : ℕ → (VersionRow → Bool) → VersionRow → Bool
 if_living moment g row = lives_at moment row && g row
 
--- of rows behind one that lived at the moment none of its file did
-none_living : (file moment : ℕ) (x : VersionRow) (p : VersionRow → Bool) (g : VersionRow → Bool) (ys : List VersionRow) → x.file ≡ file → lives_at moment x ≡ true → AllByRecursion (ArePlaced x) ys
-    → option_map_or (if_living moment g) (find (λ row. (row.file == file) && p row) ys) false ≡ false
-none_living file moment x p g [] own lived all = refl
-none_living file moment x p g (y ∷ ys) own lived all = by (none_living file moment x p g ys own lived all.1) ((y.file == file) && p y) refl where
-  by : option_map_or (if_living moment g) (find (λ row. (row.file == file) && p row) ys) false ≡ false
-      → (b : Bool) → ((y.file == file) && p y) ≡ b → option_map_or (if_living moment g) (cond b (Some y) (find (λ row. (row.file == file) && p row) ys)) false ≡ false
-  by rest x1 e = grind (arith, nat_tests)
+-- of rows behind one of the file that lived at the moment none of the file did, and none has its number
+none_living : (file number moment : ℕ) (x : VersionRow) (g : VersionRow → Bool) (ys : List VersionRow) → x.file ≡ file → lives_at moment x ≡ true → AllByRecursion (ArePlaced x) ys → option_map_or (if_living moment g) (find (is_version file number) ys) false ≡ false
+none_living file number moment x g ys own lived all = grind (arith, nat_tests, all-found, found_passes)
 
--- and none has a number up to its own
-none_numbered : (file number : ℕ) (x : VersionRow) (p : VersionRow → Bool) (g : VersionRow → Bool) (ys : List VersionRow) → x.file ≡ file → x.number ≡ number → AllByRecursion (ArePlaced x) ys
-    → option_map_or (if_numbered number g) (find (λ row. (row.file == file) && p row) ys) false ≡ false
-none_numbered file number x p g [] own its all = refl
-none_numbered file number x p g (y ∷ ys) own its all = by (none_numbered file number x p g ys own its all.1) ((y.file == file) && p y) refl where
-  by : option_map_or (if_numbered number g) (find (λ row. (row.file == file) && p row) ys) false ≡ false
-      → (b : Bool) → ((y.file == file) && p y) ≡ b → option_map_or (if_numbered number g) (cond b (Some y) (find (λ row. (row.file == file) && p row) ys)) false ≡ false
-  by rest x1 e = grind (arith, nat_tests)
+none_numbered : (file number moment : ℕ) (x : VersionRow) (g : VersionRow → Bool) (ys : List VersionRow) → x.file ≡ file → x.number ≡ number → AllByRecursion (ArePlaced x) ys → option_map_or (if_numbered number g) (find (had_life file moment) ys) false ≡ false
+none_numbered file number moment x g ys own its all = grind (arith, nat_tests, all-found, found_passes)
 
 -- to find the one that lived then, and look at its number, is to find the one of that number, and look whether it lived
 living_numbered : (file number moment : ℕ) (g : VersionRow → Bool) (xs : List VersionRow) → AllLater ArePlaced xs
@@ -36,16 +26,7 @@ living_numbered file number moment g [] placed = refl
 living_numbered file number moment g (x ∷ xs) placed = by (living_numbered file number moment g xs placed.1) (x.file == file) (lives_at moment x) (x.number == number) refl refl refl where
   by : option_map_or (if_numbered number g) (find (had_life file moment) xs) false ≡ option_map_or (if_living moment g) (find (is_version file number) xs) false → (a l e : Bool) → (x.file == file) ≡ a → lives_at moment x ≡ l → (x.number == number) ≡ e
       → option_map_or (if_numbered number g) (cond (a && l) (Some x) (find (had_life file moment) xs)) false ≡ option_map_or (if_living moment g) (cond (a && e) (Some x) (find (is_version file number) xs)) false
-  by rest false l e own lived its = rest
-  by rest true true true own lived its = rw (lived, its) refl
-  by rest true true false own lived its =
-      let of : x.file ≡ file = grind (arith, nat_tests) in
-      rw its (sym (none_living file moment x (λ row. row.number == number) g xs of lived placed.0))
-  by rest true false true own lived its =
-      let of : x.file ≡ file = grind (arith, nat_tests) in
-      let number_is : x.number ≡ number = grind (arith, nat_tests) in
-      rw lived (none_numbered file number x (lives_at moment) g xs of number_is placed.0)
-  by rest true false false own lived its = rest
+  by rest x1 l e own lived its = grind (arith, nat_tests, none_living file number moment x g xs, none_numbered file number moment x g xs, placed)
 
 -- ---- lists
 
@@ -61,16 +42,11 @@ any-same p q (x ∷ xs) same = rw (same x, any-same p q xs same) refl
 -- where the second part is the same for all, it is asked once
 any-and : {X : Type 0} (p : X → Bool) (b : Bool) (xs : List X) → list_any (λ x. p x && b) xs ≡ (list_any p xs && b)
 any-and p b [] = refl
-any-and p b (x ∷ xs) = ap (λ c. (p x && b) || c) (any-and p b xs) ∙ by (p x) b (list_any p xs) where
-  by : (a b c : Bool) → ((a && b) || (c && b)) ≡ ((a || c) && b)
-  by x0 b c = grind (arith, nat_tests)
+any-and p b (x ∷ xs) = grind (arith, nat_tests, any-and p b xs)
 
 any-never : {X : Type 0} (xs : List X) → list_any (λ x. false) xs ≡ false
 any-never [] = refl
 any-never (x ∷ xs) = any-never xs
-
-and_false : (b : Bool) → false ≡ (b && false)
-and_false x0 = grind (arith, nat_tests)
 
 -- ---- the keys
 
@@ -109,9 +85,6 @@ module _ (left : Option Left) (groups : List GroupRow) (h : Held) (placed : AllL
       ∙ any-same _ _ marks (λ mark. passes file mark ∙ living_numbered file k.number mark (has_moment file) h.versions placed)
       ∙ covered file marks (find (is_version file k.number) h.versions)
       ∙ by (file == k.file) refl where
-        other : (o : Option VersionRow) → (k.file == file) ≡ false → option_map_or (λ row. list_any (covers_moment row.closed row.ended) marks && has_moment file row) o false ≡ false
-        other x0 apart = grind (arith, nat_tests, and_false)
-
         own : (o : Option VersionRow) → find (is_version k.file k.number) h.versions ≡ o
             → option_map_or (λ row. list_any (covers_moment row.closed row.ended) marks && ((k.file == k.file) && is_moment k.ripe (moment_but left groups h k.file row.number row.closed row.ended))) o false ≡ is_its marks
         own None e = rw e refl
@@ -121,7 +94,7 @@ module _ (left : Option Left) (groups : List GroupRow) (h : Held) (placed : AllL
             rw (e, itself, number) refl
 
         by : (b : Bool) → (file == k.file) ≡ b → option_map_or (λ row. list_any (covers_moment row.closed row.ended) marks && has_moment file row) (find (is_version file k.number) h.versions) false ≡ (b && is_its marks)
-        by false apart = other (find (is_version file k.number) h.versions) (grind (arith, nat_tests))
+        by false apart = grind (arith, nat_tests, and-false)
         by true same = let file_is : file ≡ k.file = grind (arith, nat_tests) in rw file_is (own (find (is_version k.file k.number) h.versions) refl)
 
   -- of all: those of versions that the marks cover
@@ -130,9 +103,7 @@ module _ (left : Option Left) (groups : List GroupRow) (h : Held) (placed : AllL
       list_any-flat_map (is_key k) (λ file. filter_map (key_at left groups h file) marks) files
       ∙ any-same _ _ files (λ file. file_keys file marks)
       ∙ any-and (λ file. file == k.file) (is_its marks) files
-      ∙ assoc (list_any (λ file. file == k.file) files) (is_covered marks h.versions k.file k.number) (is_moment k.ripe its) where
-        assoc : (a b c : Bool) → (a && (b && c)) ≡ ((a && b) && c)
-        assoc x0 b c = grind (arith, nat_tests)
+      ∙ sym (and_assoc (list_any (λ file. file == k.file) files) (is_covered marks h.versions k.file k.number) (is_moment k.ripe its))
 
 -- ---- the queue
 
@@ -154,14 +125,51 @@ module _ (w v : World) (formed : IsWellFormed w) (files marks : List ℕ) (queue
 
     -- where marks go, the keys come that the versions have without them
     pub go_queue : (after : List Key) → ((k : Key) → has_key k after ≡ (has_key k (keys_at left w.groups (rows_of w) files marks) || has_key k queue)) → IsQueued v after
-    go_queue after edited = follows w v queue after queued touched goes.others (λ k. edited k ∙ ap (λ b. b || has_key k queue) (keys_told left w.groups (rows_of w) (placed_of w formed) k files marks) ∙ by k (touched k.file k.number) refl) where
-      or_false : (b : Bool) → (b || false) ≡ b
-      or_false x0 = grind (arith, nat_tests)
-
-      by : (k : Key) (b : Bool) → touched k.file k.number ≡ b
-          → ((b && is_moment k.ripe (its left w.groups (rows_of w) (placed_of w formed) k)) || has_key k queue) ≡ cond b (is_moment k.ripe (ripe_at v k.file k.number)) (has_key k queue)
-      by k x1 apart = grind (arith, nat_tests, absent, or_false)
+    go_queue after edited = grind (arith, nat_tests, follows, keys_told, placed_of, absent, or-false, goes.others, goes.own)
 
     -- and where they are refused, it is as it was
     pub unfreed_queue : (after : List Key) → ((k : Key) → has_key k after ≡ (not (has_key k (keys_at left w.groups (rows_of w) files marks)) && has_key k queue)) → IsQueued w after
-    unfreed_queue after edited k = grind (arith, nat_tests, keys_told, placed_of, absent, and_false)
+    unfreed_queue after edited k = grind (arith, nat_tests, keys_told, placed_of, absent, and-false)
+
+-- ---- the changes of groups
+
+module _ (rows : Rows) (name : List ℕ) (sound : IsSound rows) where
+  abbrev world : World
+  world = world_of rows
+
+  abbrev but : Option ℕ → Option Left
+  but mark = Some (record { group = name; mark = mark })
+
+  -- the keys of all files or marks of the group, or of one, went, or came, or were refused
+  abbrev Went : List ℕ → List ℕ → List Key → Type 0
+  Went files marks after = (k : Key) → has_key k after ≡ (not (has_key k (keys_at None rows.groups rows.files files marks)) && has_key k rows.queue)
+
+  abbrev Came : Option ℕ → List ℕ → List ℕ → List Key → Type 0
+  Came mark files marks after = (k : Key) → has_key k after ≡ (has_key k (keys_at (but mark) rows.groups rows.files files marks) || has_key k rows.queue)
+
+  abbrev Stayed : Option ℕ → List ℕ → List ℕ → List Key → Type 0
+  Stayed mark files marks after = (k : Key) → has_key k after ≡ (not (has_key k (keys_at (but mark) rows.groups rows.files files marks)) && has_key k rows.queue)
+
+  pub mark_queue : (mark : ℕ) (after : List Key) → Went (members_of rows.groups name) (mark ∷ []) after → IsQueued (after_change world (AddMark name mark)) after
+  mark_queue mark = come_queue world _ sound.formed _ _ rows.queue sound.tracked.queue (mark_comes world name mark sound.formed)
+
+  pub member_queue : (file : ℕ) (after : List Key) → Went (file ∷ []) (marks_of rows.groups name) after → IsQueued (after_change world (AddMember name file)) after
+  member_queue file = come_queue world _ sound.formed _ _ rows.queue sound.tracked.queue (member_comes world name file sound.formed)
+
+  pub unmark_queue : (mark : ℕ) (after : List Key) → is_marked_at rows.groups name mark ≡ true → Came (Some mark) (members_of rows.groups name) (mark ∷ []) after → IsQueued (after_change world (RemoveMark name mark)) after
+  unmark_queue mark after marked = go_queue world _ sound.formed _ _ rows.queue sound.tracked.queue name _ (mark_goes world name mark sound.formed marked) after
+
+  pub leave_queue : (file : ℕ) (after : List Key) → has_member rows.groups name file ≡ true → Came None (file ∷ []) (marks_of rows.groups name) after → IsQueued (after_change world (RemoveMember name file)) after
+  leave_queue file after member = go_queue world _ sound.formed _ _ rows.queue sound.tracked.queue name _ (member_goes world name file sound.formed member) after
+
+  pub drop_queue : (after : List Key) → Came None (members_of rows.groups name) (marks_of rows.groups name) after → IsQueued (after_change world (DropGroup name)) after
+  drop_queue = go_queue world _ sound.formed _ _ rows.queue sound.tracked.queue name _ (group_goes world name sound.formed)
+
+  pub marked_still : (mark : ℕ) (after : List Key) → is_marked_at rows.groups name mark ≡ true → Stayed (Some mark) (members_of rows.groups name) (mark ∷ []) after → IsQueued world after
+  marked_still mark after marked = unfreed_queue world _ sound.formed _ _ rows.queue sound.tracked.queue name _ (mark_goes world name mark sound.formed marked) after
+
+  pub member_still : (file : ℕ) (after : List Key) → has_member rows.groups name file ≡ true → Stayed None (file ∷ []) (marks_of rows.groups name) after → IsQueued world after
+  member_still file after member = unfreed_queue world _ sound.formed _ _ rows.queue sound.tracked.queue name _ (member_goes world name file sound.formed member) after
+
+  pub group_still : (after : List Key) → Stayed None (members_of rows.groups name) (marks_of rows.groups name) after → IsQueued world after
+  group_still = unfreed_queue world _ sound.formed _ _ rows.queue sound.tracked.queue name _ (group_goes world name sound.formed)

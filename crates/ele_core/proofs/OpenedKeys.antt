@@ -1,23 +1,11 @@
 -- Which keys the versions have, once a handle was opened or closed.
-use Rattle.ele_core.proofs.Words.{◌≡◌, ℕ, ◌+◌, Bool, true, false, cond, not, ◌&&◌, ◌||◌, ◌==◌, List, [], ◌∷◌, Option, None, Ok, refl, ap, sym, ◌∙◌, arith, list_any, nat_tests, world_of, IsSound, IsQueued, IsRekeyed, Rows, Key, has_key, changed_at, opened_by, with_rows, OpenHandle, ShutHandle, StartDraft, after_change, ripe_at, free_moment, is_moment, AreInOrder, in_order_of, World, is_draft, is_open, reads_by, reads_version, Draft, Version, opened_others, opened_own, read_moment, shut_others, shut_own, has_row, any-found}
+use Rattle.ele_core.proofs.Words.{◌≡◌, ℕ, ◌+◌, Bool, true, false, cond, ◌&&◌, ◌==◌, List, Option, None, Ok, refl, ◌∙◌, arith, nat_tests, world_of, IsSound, IsQueued, IsRekeyed, Rows, Key, has_key, opened_by, with_rows, OpenHandle, ShutHandle, after_change, ripe_at, free_moment, AreInOrder, in_order_of, World, is_open, reads_by, Draft, Version, opened_others, opened_own, read_moment, shut_others, shut_own, has_row, any-found}
 use Rattle.ele_core.proofs.Asked.{ripe_told}
 use Rattle.ele_core.proofs.Following.{entry_follows}
 
 -- a handle that writes touches no key
 pub opened_queue : (rows : Rows) (file : ℕ) → IsSound rows → IsQueued (with_rows (world_of rows) (opened_by rows.files file rows.moment)) rows.queue
-opened_queue rows file sound = by (list_any (is_draft file) rows.files.drafts) where
-  number : ℕ
-  number = rows.files.opened + 1
-
-  ordered : AreInOrder rows.files.files rows.files.versions
-  ordered = in_order_of (world_of rows) sound.formed
-
-  queued : IsQueued (world_of rows) rows.queue
-  queued = sound.tracked.queue
-
-  by : (b : Bool) → IsQueued (with_rows (world_of rows) (changed_at rows.files rows.moment (cond b (OpenHandle number (Draft file) ∷ []) (StartDraft file ∷ OpenHandle number (Draft file) ∷ [])))) rows.queue
-  by true k = queued k ∙ ap (is_moment k.ripe) (sym (opened_others (world_of rows) number (Draft file) ordered k.file k.number refl))
-  by false k = queued k ∙ ap (is_moment k.ripe) (sym (opened_others (world_of rows) number (Draft file) ordered k.file k.number refl))
+opened_queue rows file sound k = grind (arith, nat_tests, opened_others (world_of rows) (rows.files.opened + 1) (Draft file) (in_order_of (world_of rows) sound.formed) k.file k.number refl, sound.tracked.queue k)
 
 -- ---- a version that a handle reads, or read
 
@@ -37,15 +25,9 @@ module _ (w : World) (file number : ℕ) (queue : List Key) (queued : IsQueued w
 pub read_queue : (rows : Rows) (handle file number : ℕ) (after : List Key) → IsSound rows → IsRekeyed file number (free_moment rows.groups rows.files.files rows.files.versions file number) None rows.queue after
     → IsQueued (after_change (world_of rows) (OpenHandle handle (Version file number))) after
 read_queue rows handle file number after sound edited =
-    let queued = sound.tracked.queue in
-    let ordered = in_order_of (world_of rows) sound.formed in
     let w = world_of rows in
-    let v = after_change w (OpenHandle handle (Version file number)) in
-    let own : reads_version file number (Version file number) ≡ true = grind (arith, nat_tests) in
-    entry_follows w v rows.queue after queued file number (λ f n apart. opened_others w handle (Version file number) ordered f n (apart_reads f n apart))
-    (rw (opened_own w handle (Version file number) ordered file number own) (taken_key w file number rows.queue queued (free_moment rows.groups rows.files.files rows.files.versions file number) (ripe_told rows file number sound) after edited)) where
-      apart_reads : (f n : ℕ) → ((f == file) && (n == number)) ≡ false → reads_version f n (Version file number) ≡ false
-      apart_reads f n apart = grind (arith, nat_tests)
+    let ordered = in_order_of w sound.formed in
+    grind (arith, nat_tests, entry_follows, sound.tracked.queue, taken_key, ripe_told rows file number sound, opened_own w handle (Version file number) ordered file number, opened_others w handle (Version file number) ordered)
 
 -- the close of a handle that read gives it back, unless another reads on
 module _ (rows : Rows) (handle file number : ℕ) (reads : reads_by rows.files.handles handle ≡ Ok (Version file number)) (sound : IsSound rows) where
@@ -82,12 +64,4 @@ module _ (rows : Rows) (handle file number : ℕ) (reads : reads_by rows.files.h
 
   -- another reads on
   pub read_on_queue : (between after : List Key) → is_open v.handles file number ≡ true → IsRekeyed file number None free rows.queue between → IsRekeyed file number free None between after → IsQueued v after
-  read_on_queue between after still came went =
-      let own : ripe_at v file number ≡ None = read_moment v file number ordered still in
-      entry_follows w v rows.queue after queued file number others
-      (rw (before, own) (λ k. put_back w file number rows.queue queued free told is_read between after came went k ∙ by (its_key k) (has_key k rows.queue))) where
-        its_key : Key → Bool
-        its_key k = (k.file == file) && (k.number == number)
-
-        by : (e h : Bool) → h ≡ ((e && false) || (not (e && false) && h))
-        by x0 h = grind (arith, nat_tests)
+  read_on_queue between after still came went = grind (arith, nat_tests, read_moment v file number ordered still, entry_follows, others, before, put_back w file number rows.queue queued free told is_read between after came went)

@@ -1,6 +1,6 @@
 -- A clean event takes the row of the first key, and that key.
-use Rattle.ele_core.proofs.Words.{nat_tests, ◌≡◌, ℕ, ◌+◌, Bool, true, cond, List, length, Some, None, ap, sym, subst, ◌∙◌, arith, find, option_map, content_of, world_of, IsSound, IsQueued, IsRekeyed, told_by, blocks_of, one_version, of_file, IsOwed, Rows, Key, Held, without, remove_first, length-remove_first, Kind, Usage, Book, sums_of, nothing, plus, Fits, IsWithin, VersionRow, first_due, Take, after_change, IsWellFormed, CleanOne, is_file_of, bytes_in, usage_of, whole, ChangesOnly, World, is_version, takes, change_keeps, IsDueKey, sum_by-remove_first, usage_changes, changes_removed}
-use Rattle.ele_core.proofs.Booked.{few, owed, some_versions, and_nothing, size, bytes_are}
+use Rattle.ele_core.proofs.Words.{nat_tests, ◌≡◌, ℕ, ◌+◌, Bool, true, List, length, Some, None, sym, subst, ◌∙◌, arith, find, option_map, content_of, world_of, IsSound, IsQueued, IsRekeyed, told_by, blocks_of, one_version, of_file, IsOwed, Rows, Key, Held, without, remove_first, length-remove_first, Kind, Book, sums_of, plus, Fits, IsWithin, VersionRow, first_due, Take, after_change, IsWellFormed, CleanOne, is_file_of, bytes_in, usage_of, ChangesOnly, World, is_version, takes, change_keeps, IsDueKey, sum_by-remove_first, usage_changes, changes_removed}
+use Rattle.ele_core.proofs.Booked.{few, owed, and_none, size, bytes_are}
 use Rattle.ele_core.proofs.Following.{entry_follows}
 use Rattle.ele_world.proofs.CleanKeepsKeys.{take_keeps_keys}
 
@@ -25,17 +25,7 @@ bytes-removed p xs row e = omega (arith, bytes_are (remove_first p xs), bytes_ar
 pub removed_within : (rows : Rows) (file number : ℕ) (row : VersionRow) (now : Held) → IsSound rows → find (is_version file number) rows.files.versions ≡ Some row → now ≡ without rows.files file number → (k : Kind) → is_file_of now.files k file ≡ true → IsWithin (one_version (length (content_of row.cells))) (sums_of rows.book k)
 removed_within rows file number row now sound found after k of =
     let w = told_by rows.files in
-    let v = told_by (without rows.files file number) in
-    let of' : is_file_of rows.files.files k file ≡ true = subst (λ (h : Held). is_file_of h.files k file ≡ true) after of in
-    let moved = subst (λ d. plus (usage_of v k) (cond d (whole w) nothing) ≡ plus (usage_of w k) (cond d (whole v) nothing)) of' (usage_changes file w v (changes_removed file number w) k) in
-    let versions = ap (λ (u : Usage). u.versions) moved in
-    let bytes = ap (λ (u : Usage). u.bytes) moved in
-    let fewer = length-remove_first (is_version file number) rows.files.versions row found in
-    let less = bytes-removed (is_version file number) rows.files.versions row found in
-    rw (sound.tracked.book k) (record { files = omega arith; versions = omega (arith, versions, fewer); bytes = omega (arith, bytes, less); blocks = omega arith })
-
-same_none : (d : Bool) (u : Usage) → plus u (cond d (some_versions 0 0) nothing) ≡ u
-same_none x0 u = grind (arith, nat_tests, and_nothing u)
+    grind (arith, nat_tests, usage_changes file w (told_by (without rows.files file number)) (changes_removed file number w) k, length-remove_first (is_version file number) rows.files.versions row found, bytes-removed (is_version file number) rows.files.versions row found, sound.tracked.book k)
 
 pub removed_owed : (rows : Rows) (file number before : ℕ) (row : VersionRow) (now : Held) (book : Book) → IsSound rows → find (is_version file number) rows.files.versions ≡ Some row → before ≡ blocks_of rows.files → now ≡ without rows.files file number → ((k : Kind) → plus (sums_of book k) (of_file now file (one_version (length (content_of row.cells))) k) ≡ sums_of rows.book k) → IsOwed now book file before
 removed_owed rows file number before row now book sound found is after taken =
@@ -45,7 +35,7 @@ removed_owed rows file number before row now book sound found is after taken =
     (subst (λ (h : Held). ChangesOnly file w (told_by h)) (sym after) (changes_removed file number w))
     (rw after (omega (arith, length-remove_first (is_version file number) rows.files.versions row found)))
     (rw after (omega (arith, bytes-removed (is_version file number) rows.files.versions row found)))
-    (λ k. taken k ∙ sound.tracked.book k ∙ sym (same_none (is_file_of now.files k file) (usage_of w k))))
+    (λ k. taken k ∙ sound.tracked.book k ∙ sym (and_none (usage_of w k) (is_file_of now.files k file))))
 
 pub removed_fits : (rows : Rows) (book : Book) (now : Held) (file bytes : ℕ) → IsSound rows → ((k : Kind) → plus (sums_of book k) (of_file now file (one_version bytes) k) ≡ sums_of rows.book k) → (k : Kind) → Fits (record (sums_of book k) { blocks = 0 })
 removed_fits rows book now file bytes sound taken k = grind (arith, nat_tests, few rows sound k)

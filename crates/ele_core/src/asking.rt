@@ -60,6 +60,7 @@ fn read_handle(rows: &mut Rows, handle: Handle) -> Result<Reply, NoMemory>
 }
 
 /// The bytes of the version that the path and its tag mean.
+#[tactic(auto, using(crate::proofs::Words::nat_tests, crate::proofs::ToldVersions::told_read))]
 fn read_version(rows: &mut Rows, tagged: &TaggedPath) -> Result<Reply, NoMemory>
     requires sound { IsSound rows.old }
     requires meter { rows.old.meter ≡ 0 }
@@ -135,6 +136,7 @@ fn stat_file(rows: &mut Rows, file: FileId, tag: Tag) -> Reply
 }
 
 /// What is told of the directory, which has no numbered versions.
+#[tactic(auto, using(crate::proofs::Bounded::directories_placed))]
 fn stat_directory(rows: &Rows, id: DirId, tag: Tag) -> Reply
     requires { IsSound rows.now }
     ensures { result ≡ told (stat_of (world_of rows.now) (Directory id) tag) }

@@ -90,6 +90,7 @@ pub fn clean_one(rows: &mut Rows) -> Reply
 }
 
 /// The version of the key, which is the first due one, is removed.
+#[tactic(auto, using(crate::proofs::Words::nat_tests, crate::proofs::Words::first_is_due, crate::proofs::Words::placed_of, crate::proofs::Removed::removed_bytes, crate::proofs::Removed::removed_within, crate::proofs::Removed::removed_owed, crate::proofs::Removed::removed_queue))]
 fn remove(rows: &mut Rows, key: &Key)
     requires sound { IsSound rows.old }
     requires meter { rows.old.meter ≡ 0 }
@@ -112,6 +113,7 @@ fn remove(rows: &mut Rows, key: &Key)
 }
 
 /// Clean events again and again, until nothing is due or as many versions are removed as the budget allows.
+#[tactic(auto, using(crate::proofs::Words::nat_tests, crate::proofs::Passing::none_due, crate::proofs::Passing::some_due, ele_world::proofs::PassEnds::cleaned_none, ele_world::proofs::PassEnds::cleaned_more, ele_world::proofs::PassEnds::pass_finishes))]
 pub fn pass(rows: &mut Rows, budget: u64) -> PassEnd
     requires { IsSound rows.old }
     ensures end { EndsPass (world_of rows.old) budget result (world_of rows.new) }

@@ -30,6 +30,7 @@ fn draft_bytes(files: &Files, file: FileId) -> u64
 }
 
 /// The last handle of a changed draft is closed, which becomes the file's next version.
+#[tactic(auto, using(crate::proofs::ClosedSteps::numbered, crate::proofs::ClosedSteps::past, crate::proofs::ClosedSteps::writes_file))]
 fn finish(rows: &mut Rows, handle: Handle, file: FileId, opened: Moment) -> Result<Reply, NoMemory>
     requires sound { IsSound rows.old }
     requires meter { rows.old.meter ≡ 0 }
@@ -71,6 +72,7 @@ fn finish(rows: &mut Rows, handle: Handle, file: FileId, opened: Moment) -> Resu
 }
 
 /// A handle is closed whose draft stays, or goes without a trace, and with it a file of which nothing else is left.
+#[tactic(auto, using(crate::proofs::Words::nat_tests, crate::proofs::Booked::fits, crate::proofs::ClosedSums::left_owed, crate::proofs::ClosedSums::left_answer))]
 fn leave(rows: &mut Rows, handle: Handle, file: FileId) -> Reply
     requires sound { IsSound rows.old }
     requires meter { rows.old.meter ≡ 0 }

@@ -15,7 +15,7 @@ use ele_policy::Policy;
 use ele_world::{DirId, DirectoryRow, Path, Reply};
 
 /// Files that are made in the directory from now on get the policy.
-#[tactic(auto, using(ele_lists::proofs::Places::first_places))]
+#[tactic(auto, using(ele_lists::proofs::Places::first_places, crate::proofs::Words::nat_tests, crate::proofs::Words::set_first))]
 fn govern(directories: &mut Vec<DirectoryRow>, directory: DirId, policy: Policy)
     requires { AllLater (λ x y. x.id < y.id) directories.old.items }
     ensures { directories.new.items
@@ -28,6 +28,7 @@ fn govern(directories: &mut Vec<DirectoryRow>, directory: DirId, policy: Policy)
 }
 
 /// The directory at the path gets the policy.
+#[tactic(auto, using(crate::proofs::Bounded::directories_placed))]
 pub fn set_default(rows: &mut Rows, path: &Path, policy: Policy) -> Reply
     requires { IsSound rows.old }
     ensures step { (result, world_of rows.new)

@@ -14,6 +14,7 @@ use ele_names::{parent_now, placed_now};
 use ele_world::{DirId, DirectoryRow, Name, NoMemory, Path, Refusal, Reply, Target, Which};
 
 /// A directory is made in another, with that one's policy, once nothing refuses it.
+#[tactic(auto, using(crate::proofs::Words::nat_tests, crate::proofs::Bounded::directories_placed))]
 fn add_directory(rows: &mut Rows, directory: DirId, name: Name) -> Result<DirId, NoMemory>
     requires sound { IsSound rows.old }
     requires directories { rows.old.made.directories < rows.old.limits.directories }
@@ -63,6 +64,7 @@ pub fn make_dir(rows: &mut Rows, path: &Path) -> Result<Reply, NoMemory>
 }
 
 /// The name of the directory at the path dies, if no name in it is live.
+#[tactic(auto, using(crate::proofs::Words::nat_tests, crate::proofs::LinkedNames::queue_stays, crate::proofs::Placed::placed_stands))]
 pub fn remove_dir(rows: &mut Rows, path: &Path) -> Reply
     requires { IsSound rows.old }
     ensures step { (result, world_of rows.new)

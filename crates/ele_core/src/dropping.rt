@@ -16,6 +16,7 @@ const ONE_FILE: Usage = Usage {
 };
 
 /// The file goes with its dead names, and leaves its groups, if it has no live name, no held version and no draft.
+#[tactic(auto, using(crate::proofs::Words::nat_tests, crate::proofs::DroppedFiles::absent_stays, crate::proofs::DroppedFiles::dropped_within))]
 pub fn drop_idle(rows: &mut Rows, file: FileId)
     requires { IsSound rows.old }
     ensures world { world_of rows.new ≡ after_change (world_of rows.old) (DropIdle file) }

@@ -49,6 +49,7 @@ pub fn make_group(rows: &mut Rows, name: &Name) -> Result<Reply, NoMemory>
 }
 
 /// The group goes, and the versions that its marks alone kept have their keys again.
+#[tactic(auto, using(crate::proofs::Words::nat_tests, crate::proofs::Marked::drop_queue))]
 fn take_group(rows: &mut Rows, name: &Name) -> Result<(), NoMemory>
     requires sound { IsSound rows.old }
     requires there { has_group rows.old.groups name.now ≡ true }
@@ -87,6 +88,7 @@ pub fn drop_group(rows: &mut Rows, name: &Name) -> Result<Reply, NoMemory>
 }
 
 /// The group gets the file, whose versions that its marks cover lose their keys.
+#[tactic(auto, using(crate::proofs::Words::nat_tests, crate::proofs::Marked::member_queue))]
 fn add_member(rows: &mut Rows, name: &Name, file: FileId) -> Result<(), NoMemory>
     requires sound { IsSound rows.old }
     requires there { has_group rows.old.groups name.now ≡ true }
@@ -133,6 +135,7 @@ pub fn add_to_group(rows: &mut Rows, name: &Name, path: &Path) -> Result<Reply, 
 }
 
 /// The group loses the file, whose versions that its marks alone kept have their keys again.
+#[tactic(auto, using(crate::proofs::Words::nat_tests, crate::proofs::Marked::leave_queue, crate::proofs::Marked::member_still))]
 fn take_member(rows: &mut Rows, name: &Name, file: FileId) -> Result<(), NoMemory>
     requires sound { IsSound rows.old }
     requires there { has_group rows.old.groups name.now ≡ true }
@@ -178,6 +181,7 @@ pub fn remove_from_group(rows: &mut Rows, name: &Name, path: &Path) -> Result<Re
 }
 
 /// The group is marked, and the versions that the mark covers lose their keys.
+#[tactic(auto, using(crate::proofs::Words::nat_tests, crate::proofs::Marked::mark_queue))]
 fn add_mark(rows: &mut Rows, name: &Name, mark: Moment) -> Result<(), NoMemory>
     requires sound { IsSound rows.old }
     requires there { has_group rows.old.groups name.now ≡ true }
@@ -223,6 +227,7 @@ pub fn mark(rows: &mut Rows, name: &Name, mark: Moment) -> Result<Reply, NoMemor
 }
 
 /// The group loses the mark, and the versions that it alone kept have their keys again.
+#[tactic(auto, using(crate::proofs::Words::nat_tests, crate::proofs::Marked::unmark_queue, crate::proofs::Marked::marked_still))]
 fn take_mark(rows: &mut Rows, name: &Name, mark: Moment) -> Result<(), NoMemory>
     requires sound { IsSound rows.old }
     requires there { has_group rows.old.groups name.now ≡ true }

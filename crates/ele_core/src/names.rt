@@ -23,6 +23,7 @@ const NEW_FILE: Usage = Usage {
 };
 
 /// A file is made in the directory, with an empty first version, once nothing refuses it.
+#[tactic(auto, using(crate::proofs::Words::nat_tests, crate::proofs::Bounded::directories_placed, crate::proofs::Bounded::files_before, crate::proofs::Booked::made_fits))]
 fn add_file(rows: &mut Rows, directory: DirId, name: Name) -> Result<FileId, NoMemory>
     requires sound { IsSound rows.old }
     requires files { rows.old.made.files < rows.old.limits.files }

@@ -36,6 +36,7 @@ fn add_handle(rows: &mut Rows, file: FileId) -> Result<Handle, NoMemory>
 }
 
 /// A handle is opened by which the file at the path is written.
+#[tactic(auto, using(crate::proofs::Words::nat_tests, crate::proofs::Bounded::file_found))]
 pub fn open_write(rows: &mut Rows, path: &Path) -> Result<Reply, NoMemory>
     requires sound { IsSound rows.old }
     requires meter { rows.old.meter ≡ 0 }

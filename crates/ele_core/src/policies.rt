@@ -75,6 +75,7 @@ fn keys_of(
 }
 
 /// The keys that the file's versions have under the one policy and not under the other.
+#[tactic(auto, using(crate::proofs::Words::nat_tests, crate::proofs::Governed::keys_told))]
 fn keys_under(
     alloc: Global,
     files: &Files,
@@ -91,6 +92,7 @@ fn keys_under(
 }
 
 /// The file gets the policy, under which its versions have other keys and count for its kind.
+#[tactic(auto, using(crate::proofs::Words::nat_tests, crate::proofs::Bounded::rows_few, crate::proofs::Governed::uses_within, crate::proofs::Governed::uses_fit, crate::proofs::Governed::ungoverned_queue))]
 fn put_under(rows: &mut Rows, file: FileId, policy: Policy) -> Result<(), NoMemory>
     requires sound { IsSound rows.old }
     requires there { 0 < next_of rows.old.files.files file }
@@ -115,6 +117,7 @@ fn put_under(rows: &mut Rows, file: FileId, policy: Policy) -> Result<(), NoMemo
 }
 
 /// The file at the path has the policy from now on.
+#[tactic(auto, using(crate::proofs::Words::nat_tests, crate::proofs::Bounded::file_found))]
 pub fn set_policy(rows: &mut Rows, path: &Path, policy: Policy) -> Result<Reply, NoMemory>
     requires sound { IsSound rows.old }
     requires meter { rows.old.meter ≡ 0 }

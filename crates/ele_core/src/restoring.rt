@@ -35,6 +35,7 @@ fn may_return(rows: &Rows, target: &Target) -> bool
 }
 
 /// Whether the file's last version is held.
+#[tactic(auto, using(crate::proofs::Words::nat_tests, crate::proofs::Revived::unheld, crate::proofs::Revived::no_next, crate::proofs::Revived::stamped, crate::proofs::ClosedSteps::number_told))]
 fn has_last_version(rows: &Rows, file: FileId) -> bool
     requires { IsSound rows.now }
     ensures { result ≡ is_held (world_of rows.now) file (next_of rows.now.files.files file - 1) }
@@ -71,6 +72,7 @@ fn version_bytes(files: &Files, file: FileId, number: VersionNo, meter: &mut Met
 }
 
 /// A file without a live name has one again, and a version with the content of its last one.
+#[tactic(auto, using(crate::proofs::ClosedSteps::numbered, crate::proofs::ClosedSteps::past, crate::proofs::Bounded::rows_few))]
 fn revive(
     rows: &mut Rows,
     directory: DirId,

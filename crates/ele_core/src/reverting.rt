@@ -16,6 +16,7 @@ use crate::walk::file_now;
 use ele_world::{FileId, NoMemory, Path, Refusal, Reply, Stamps, Tag, VersionNo, Which};
 
 /// The file has a version more, with the content of the version of these stamps, once nothing refuses it.
+#[tactic(auto, using(crate::proofs::ClosedSteps::numbered, crate::proofs::ClosedSteps::past, crate::proofs::Bounded::versions_few, crate::proofs::Bounded::rows_few))]
 fn bring_back(rows: &mut Rows, file: FileId, stamps: &Stamps) -> Result<VersionNo, NoMemory>
     requires sound { IsSound rows.old }
     requires meter { rows.old.meter < 2 ^ 59 }
@@ -53,6 +54,7 @@ fn bring_back(rows: &mut Rows, file: FileId, stamps: &Stamps) -> Result<VersionN
 }
 
 /// The file at the path gets a version more, with the content of the one with that number.
+#[tactic(auto, using(crate::proofs::Words::nat_tests, crate::proofs::Bounded::file_found, crate::proofs::Words::file_live, crate::proofs::Reverted::numbered_held, crate::proofs::Reverted::reverted_step))]
 pub fn revert(rows: &mut Rows, path: &Path, number: VersionNo) -> Result<Reply, NoMemory>
     requires sound { IsSound rows.old }
     requires meter { rows.old.meter ≡ 0 }

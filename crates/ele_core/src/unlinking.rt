@@ -16,6 +16,7 @@ use ele_names::placed_now;
 use ele_world::{DirId, FileId, Name, NoMemory, Path, Refusal, Reply, Target};
 
 /// The only name of the file dies, and its current version ends.
+#[tactic(auto, using(crate::proofs::Words::nat_tests, crate::proofs::ClosedSteps::past, crate::proofs::Unlinked::name_there, crate::proofs::Unlinked::last_ends, crate::proofs::Unlinked::ended_queue, crate::proofs::Unlinked::ended_book))]
 fn end_last_name(
     rows: &mut Rows,
     directory: DirId,
@@ -47,6 +48,7 @@ fn end_last_name(
 }
 
 /// The file's name dies, and with its last one its current version ends.
+#[tactic(auto, using(crate::proofs::Words::nat_tests, crate::proofs::LinkedNames::queue_stays, crate::proofs::Unlinked::others_live))]
 fn end_name(rows: &mut Rows, directory: DirId, name: &Name, file: FileId) -> Result<(), NoMemory>
     requires sound { IsSound rows.old }
     requires meter { rows.old.meter ≡ 0 }
@@ -64,6 +66,7 @@ fn end_name(rows: &mut Rows, directory: DirId, name: &Name, file: FileId) -> Res
 }
 
 /// The name of the file at the path dies, and with its last one its current version ends.
+#[tactic(auto, using(crate::proofs::Words::nat_tests, crate::proofs::Placed::placed_stands))]
 pub fn unlink(rows: &mut Rows, path: &Path) -> Result<Reply, NoMemory>
     requires sound { IsSound rows.old }
     requires meter { rows.old.meter ≡ 0 }
