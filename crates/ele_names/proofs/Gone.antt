@@ -5,6 +5,7 @@ use Rattle.ele_names.proofs.Apart.{named_and_live, named_dead, named_live, same_
 use Rattle.ele_names.proofs.Chained.{chained_same}
 use Rattle.ele_names.proofs.Counts.{leaves_without, leaves_dead, live_one, target_without}
 use Rattle.ele_names.proofs.Live.{LiveRow, same_serial, stands_live}
+use Rattle.ele_names.proofs.Newest.{row_known}
 use Rattle.ele_names.proofs.Numbers.{named_place}
 use Rattle.ele_names.proofs.Numbering.{rises_without, gone_at}
 
@@ -22,10 +23,6 @@ module _ (a : Inside) (kept : IsKept a.table a.lives) where
 
   abbrev names : List (ℕ × List ℕ)
   names = names_of a.lives
-
-  -- the name of each row has a number
-  pub row_known : (s : ℕ) (row : NameRow) → value_at es s ≡ Some row → number_in names row < length names
-  row_known s row at = let c = split_at es s row kept.is_table.rising at in all-mid (λ row. number_in names row < length names) c.before row c.behind (rw c.values at kept.is_table.known)
 
   module _ (s : ℕ) (row : NameRow) (at : value_at es s ≡ Some row) where
     c : IsSplitAt es s row
@@ -135,7 +132,7 @@ module _ (a : Inside) (kept : IsKept a.table a.lives) where
     its_name = named_and_live d n found.row found.live
 
     pub found_known : place_in names d n < length names
-    found_known = subst (λ p. p < length names) (named_place names d n found.row its_name.0) (row_known live.serial found.row found.there)
+    found_known = subst (λ p. p < length names) (named_place names d n found.row its_name.0) (row_known names a.table kept.is_table live.serial found.row found.there)
 
     pub found_target : live.target ≡ found.row.target
     found_target = grind (arith, nat_tests, is, kept.counts.named d n, live_target_is live.serial found.row found.there d n found.live)

@@ -12,13 +12,14 @@ born a b t h = grind (arith, nat_tests)
 itself : (b : ℕ) → (b == b) ≡ true
 itself b = grind (arith, nat_tests)
 
+-- the name of each row has a number
+pub row_known : (names : List (ℕ × List ℕ)) (table : Table) → IsTable names table → (s : ℕ) (row : NameRow) → value_at table.rows.entries s ≡ Some row → number_in names row < length names
+row_known names table is s row there = let c = split_at table.rows.entries s row is.rising there in all-mid (λ row. number_in names row < length names) c.before row c.behind (rw c.values at is.known)
+
 module _ (names : List (ℕ × List ℕ)) (table : Table) (is : IsTable names table) (d : ℕ) (n : List ℕ) (t : ℕ) where
   -- no row has a name that was never given
   pub none_known : place_in names d n ≡ length names → None ≡ last_passing (is_born_by d n t) (rows_of table)
-  none_known unknown = sym (none_last (is_born_by d n t) table.rows.entries is.rising (λ s row there. not_true (is_born_by d n t row) (λ passes.
-      let c = split_at table.rows.entries s row is.rising there in
-      let inside = all-mid (λ row. number_in names row < length names) c.before row c.behind (rw c.values at is.known) in
-      grind (arith, nat_tests, passes, inside, named_place names d n row, unknown))))
+  none_known unknown = sym (none_last (is_born_by d n t) table.rows.entries is.rising (λ s row there. not_true (is_born_by d n t row) (λ passes. grind (arith, nat_tests, passes, row_known names table is s row there, named_place names d n row, unknown))))
 
   module _ (g : ℕ) (is_its : g ≡ place_in names d n) (inside : g < length names) where
     placed_named : (row : NameRow) (r : ℕ) → is_placed nat_cmp (number_in names row) row.birth g r ≡ (is_named d n row && (row.birth == r))
