@@ -1,5 +1,5 @@
 -- The members of each group, where a newer one comes or the newest goes.
-use Rattle.ele_names.proofs.Words.{◌≡◌, ℕ, zero, suc, ◌≤◌, ◌<◌, ◌^◌, Bool, true, false, cond, List, [], ◌∷◌, ◌++◌, length, take, slice_get, slice_set, IsSome, Option, Some, None, refl, sym, ◌∙◌, arith, inl, inr, is_at, nat_eq, option_map_or, nat_cmp, false≢true, cases_lt, nat_tests, Chains, AreChained, HasOlder, IsLastBelow, Gains, Keeps, Loses, is_member, newest_in}
+use Rattle.ele_names.proofs.Words.{◌≡◌, ℕ, zero, suc, ◌≤◌, ◌<◌, ◌^◌, Bool, true, false, cond, List, [], ◌∷◌, ◌++◌, length, take, slice_get, slice_set, IsSome, Option, Some, None, refl, sym, ◌∙◌, arith, inl, inr, is_at, nat_eq, option_map_or, nat_cmp, false≢true, cases_lt, nat_tests, Chains, AreChained, HasOlder, IsLastBelow, Gains, Keeps, Loses, is_member, newest_in, at_itself}
 use Rattle.ele_names.proofs.Live.{same_serial}
 
 apart : (n s : ℕ) → s < n → is_at (nat_cmp n) s ≡ false
@@ -101,36 +101,25 @@ module _ {X : Type 0} (belongs : ℕ → X → Bool) where
       pub chained_entered : (group : ℕ) → ((g : ℕ) → belongs g x ≡ nat_eq group g) → (old new : Chains) → number < 2 ^ 64 → Gains group number old new → AreChained belongs at old → AreChained belongs entered new
       chained_entered group its old new short gains was = record { newest = newest; older = older } where
         newest : (g : ℕ) → IsLastBelow (is_member belongs entered g) (2 ^ 64) (newest_in new g)
-        newest g = rw (gains.newest g) (elim (nat_eq group g) as (λ b. nat_eq group g ≡ b → IsLastBelow (is_member belongs entered g) (2 ^ 64) (cond b (Some number) (newest_in old g))) [
-          | true ↦ λ e. record {
-            there = rw (itself number) (its g ∙ e);
-            below = short;
-            last = λ s over lt. none_behind g s over;
-          }
-          | false ↦ λ e. last_same (is_member belongs at g) (is_member belongs entered g) (2 ^ 64) (newest_in old g) (λ s lt. others g (its g ∙ e) s) (was.newest g)
-        ] refl) where
-          itself : (n : ℕ) → is_at (nat_cmp n) n ≡ true
-          itself n = grind (arith, nat_tests)
+        newest g = rw (gains.newest g) (by (nat_eq group g) refl) where
+          by : (b : Bool) → nat_eq group g ≡ b → IsLastBelow (is_member belongs entered g) (2 ^ 64) (cond b (Some number) (newest_in old g))
+          by true e = record { there = rw (at_itself number) (its g ∙ e); below = short; last = λ s over lt. none_behind g s over }
+          by false e = last_same (is_member belongs at g) (is_member belongs entered g) (2 ^ 64) (newest_in old g) (λ s lt. others g (its g ∙ e) s) (was.newest g)
 
         older : (g s : ℕ) → is_member belongs entered g s ≡ true → HasOlder (is_member belongs entered g) new.older.items s
-        older g s is = elim (is_at (nat_cmp number) s) as (λ b. is_at (nat_cmp number) s ≡ b → option_map_or (belongs g) (cond b (Some x) (at s)) false ≡ true → HasOlder (is_member belongs entered g) new.older.items s) [
-          | true ↦ λ e h. let same = same_serial number s e in let group_is : group ≡ g = equal group g (sym (its g) ∙ h) in rw (← same, ← group_is) (record {
+        older g s is = by (is_at (nat_cmp number) s) refl is where
+          by : (b : Bool) → is_at (nat_cmp number) s ≡ b → option_map_or (belongs g) (cond b (Some x) (at s)) false ≡ true → HasOlder (is_member belongs entered g) new.older.items s
+          by true e h = let group_is : group ≡ g = grind (arith, nat_tests, its g) in rw (← same_serial number s e, ← group_is) (record {
             number = newest_in old group;
             there = gains.own;
             last = last_same (is_member belongs at group) (is_member belongs entered group) number (newest_in old group) (before group)
                 (last_lower (is_member belongs at group) number (2 ^ 64) (omega (arith, short)) (λ k le lt. none_stands group k le) (newest_in old group) (was.newest group));
           })
-          | false ↦ λ e h.
-              let prior = was.older g s h in
-              let lt = first g s h in
-              record {
-                number = prior.number;
-                there = gains.older s prior.number lt prior.there;
-                last = last_same (is_member belongs at g) (is_member belongs entered g) s prior.number (λ k less. before g k (omega (arith, less, lt))) prior.last;
-              }
-        ] refl is where
-          equal : (a b : ℕ) → nat_eq a b ≡ true → a ≡ b
-          equal a b h = grind (arith, nat_tests)
+          by false e h = let prior = was.older g s h in let lt = first g s h in record {
+            number = prior.number;
+            there = gains.older s prior.number lt prior.there;
+            last = last_same (is_member belongs at g) (is_member belongs entered g) s prior.number (λ k less. before g k (omega (arith, less, lt))) prior.last;
+          }
 
   -- a member of a group that nothing of it follows
   module _ (at : ℕ → Option X) (x : X) (number : ℕ) (there : at number ≡ Some x) where
@@ -158,31 +147,24 @@ module _ {X : Type 0} (belongs : ℕ → X → Bool) where
       pub chained_left : (old new : Chains) → number < 2 ^ 64 → Loses group number old new → AreChained belongs at old → AreChained belongs left new
       chained_left old new short loses was = record { newest = newest; older = older } where
         prior : HasOlder (is_member belongs at group) old.older.items number
-        prior = was.older group number (rw there (its group ∙ itself group)) where
-          itself : (n : ℕ) → nat_eq n n ≡ true
-          itself n = grind (arith, nat_tests)
+        prior = was.older group number (rw there (its group ∙ grind (arith, nat_tests)))
 
         newest : (g : ℕ) → IsLastBelow (is_member belongs left g) (2 ^ 64) (newest_in new g)
-        newest g = rw (loses.newest g, prior.there) (elim (nat_eq group g) as (λ b. nat_eq group g ≡ b → IsLastBelow (is_member belongs left g) (2 ^ 64) (cond b prior.number (newest_in old g))) [
-          | true ↦ λ e. rw (← equal g e) (last_higher (is_member belongs left group) number (2 ^ 64) (omega (arith, short)) (λ s le lt. gone s le) prior.number
+        newest g = rw (loses.newest g, prior.there) (by (nat_eq group g) refl) where
+          by : (b : Bool) → nat_eq group g ≡ b → IsLastBelow (is_member belongs left g) (2 ^ 64) (cond b prior.number (newest_in old g))
+          by true e = rw (← equal g e) (last_higher (is_member belongs left group) number (2 ^ 64) (omega (arith, short)) (λ s le lt. gone s le) prior.number
               (last_same (is_member belongs at group) (is_member belongs left group) number prior.number (below group) prior.last))
-          | false ↦ λ e. last_same (is_member belongs at g) (is_member belongs left g) (2 ^ 64) (newest_in old g) (λ s lt. unlike g (its g ∙ e) s) (was.newest g)
-        ] refl)
+          by false e = last_same (is_member belongs at g) (is_member belongs left g) (2 ^ 64) (newest_in old g) (λ s lt. unlike g (its g ∙ e) s) (was.newest g)
 
         older : (g s : ℕ) → is_member belongs left g s ≡ true → HasOlder (is_member belongs left g) new.older.items s
-        older g s is = elim (is_at (nat_cmp number) s) as (λ b. is_at (nat_cmp number) s ≡ b → option_map_or (belongs g) (cond b None (at s)) false ≡ true → HasOlder (is_member belongs left g) new.older.items s) [
-          | true ↦ λ e h. absurd (false≢true h)
-          | false ↦ λ e h. let prior = was.older g s h in record {
+        older g s is = by (is_at (nat_cmp number) s) refl is where
+          alike : is_at (nat_cmp number) s ≡ false → is_member belongs at g s ≡ true → (k : ℕ) → k < s → is_member belongs left g k ≡ is_member belongs at g k
+          alike e h k less = grind (arith, nat_tests, below g k, unlike g, its g, equal g, newest_of s, after number s)
+
+          by : (b : Bool) → is_at (nat_cmp number) s ≡ b → option_map_or (belongs g) (cond b None (at s)) false ≡ true → HasOlder (is_member belongs left g) new.older.items s
+          by true e h = absurd (false≢true h)
+          by false e h = let prior = was.older g s h in record {
             number = prior.number;
             there = rw loses.older prior.there;
-            last = last_same (is_member belongs at g) (is_member belongs left g) s prior.number (alike g s e h) prior.last;
+            last = last_same (is_member belongs at g) (is_member belongs left g) s prior.number (alike e h) prior.last;
           }
-        ] refl is where
-          alike : (g s : ℕ) → is_at (nat_cmp number) s ≡ false → is_member belongs at g s ≡ true → (k : ℕ) → k < s → is_member belongs left g k ≡ is_member belongs at g k
-          alike g s e h k less = elim (nat_eq group g) as (λ b. nat_eq group g ≡ b → is_member belongs left g k ≡ is_member belongs at g k) [
-            | true ↦ λ f. elim (cases_lt s number) as (λ _. is_member belongs left g k ≡ is_member belongs at g k) [
-              | inl first ↦ below g k (omega (arith, less, first))
-              | inr over ↦ absurd (false≢true (sym (newest_of s (after number s e over)) ∙ rw (equal g f) h))
-            ]
-            | false ↦ λ f. unlike g (its g ∙ f) k
-          ] refl

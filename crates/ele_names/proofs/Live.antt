@@ -21,11 +21,8 @@ pub own_name : (row : NameRow) → is_named row.directory row.name row ≡ true
 own_name row = itself (row.directory, row.name)
 
 -- a row has a name where it has that of the row
-named_alike : (row : NameRow) (d : ℕ) (n : List ℕ) → is_named d n row ≡ true → (e : ℕ) (m : List ℕ) → is_named e m row ≡ name_eq (d, n) (e, m)
-named_alike row d n named e m = ap (λ (k : ℕ × List ℕ). name_eq k (e, m)) (exact (row.directory, row.name) (d, n) named)
-
 pub set_of_name : (row : NameRow) (d : ℕ) (n : List ℕ) → is_named d n row ≡ true → (e : ℕ) (m : List ℕ) (live o p : Option (Live Target)) → p ≡ cond (name_eq (d, n) (e, m)) live o → p ≡ cond (is_named e m row) live o
-set_of_name row d n named e m live o p changed = rw (named_alike row d n named e m) changed
+set_of_name row d n named e m live o p changed = rw (ap (λ (k : ℕ × List ℕ). name_eq k (e, m)) (exact (row.directory, row.name) (d, n) named)) changed
 
 module _ (row : NameRow) (d : ℕ) (n : List ℕ) where
   unnamed : is_named d n row ≡ false → is_live_name d n row ≡ false
