@@ -50,8 +50,7 @@ module _ (old new : List (ℕ × List ℕ)) (keeps : KeepsPlaces old new) (table
   } where
     same : (q r s : ℕ) (o : Option NameRow) → value_at table.rows.entries s ≡ o
         → option_map_or (λ row. is_placed nat_cmp (number_in old row) row.birth q r) o false ≡ option_map_or (λ row. is_placed nat_cmp (number_in new row) row.birth q r) o false
-    same q r s None there = refl
-    same q r s (Some row) there = rw (stays row (row_known old table is s row there)).0 refl
+    same q r s o there = grind (arith, nat_tests, stays, row_known old table is s)
 
 module _ (names : List (ℕ × List ℕ)) (table : Table) (kept : IsTable names table) (made : ℕ) (below : AllByRecursion (λ k. k < made) (keys_of table.rows.entries)) where
   abbrev es : List (ℕ × NameRow)

@@ -1,5 +1,5 @@
 -- The members of each group, where a newer one comes or the newest goes.
-use Rattle.ele_names.proofs.Words.{◌≡◌, ℕ, zero, suc, ◌≤◌, ◌<◌, ◌^◌, Bool, true, false, cond, List, [], ◌∷◌, ◌++◌, length, take, slice_get, slice_set, IsSome, Option, Some, None, refl, sym, ◌∙◌, arith, inl, inr, is_at, nat_eq, option_map_or, nat_cmp, false≢true, cases_lt, nat_tests, Chains, AreChained, HasOlder, IsLastBelow, Gains, Keeps, Loses, is_member, newest_in, at_itself}
+use Rattle.ele_names.proofs.Words.{◌≡◌, ℕ, zero, suc, ◌≤◌, ◌<◌, ◌^◌, Bool, true, false, cond, List, [], ◌∷◌, ◌++◌, length, take, slice_get, slice_set, IsSome, Option, Some, None, refl, sym, ◌∙◌, arith, inl, inr, is_at, nat_eq, option_map_or, nat_cmp, false≢true, cases_lt, nat_tests, Chains, AreChained, HasOlder, IsLastBelow, Gains, Keeps, Loses, is_member, newest_in, at_itself, ◌-◌}
 use Rattle.ele_names.proofs.Live.{same_serial}
 
 apart : (n s : ℕ) → s < n → is_at (nat_cmp n) s ≡ false
@@ -13,63 +13,45 @@ module _ {X : Type 0} where
   pub cut_kept : (xs ys : List X) (n s : ℕ) (x : X) → s < n → slice_get xs s ≡ Some x → slice_get (take n xs ++ ys) s ≡ Some x
   cut_kept [] ys n s x lt is = absurd cc
   cut_kept (y ∷ xs) ys zero s x lt is = absurd (omega (arith, lt))
-  cut_kept (y ∷ xs) ys (suc n) zero x lt is = is
-  cut_kept (y ∷ xs) ys (suc n) (suc s) x lt is = cut_kept xs ys n s x (omega (arith, lt)) is
+  cut_kept (y ∷ xs) ys (suc n) s x lt is = grind (arith, nat_tests, cut_kept xs ys n (s - 1) x)
 
   pub own_pushed : (xs : List X) (x : X) (n : ℕ) → length xs ≡ n → slice_get (xs ++ x ∷ []) n ≡ Some x
   own_pushed [] x n is = rw (← is) refl
-  own_pushed (y ∷ xs) x zero is = absurd (omega (arith, is))
-  own_pushed (y ∷ xs) x (suc n) is = own_pushed xs x n (omega (arith, is))
+  own_pushed (y ∷ xs) x n is = grind (arith, nat_tests, own_pushed xs x (n - 1))
 
 -- what is seen of an element, where one is set
 module _ {X Y : Type 0} (f : Option X → Y) where
   pub set_seen : (xs : List X) (n : ℕ) (v : X) → n < length xs → (s : ℕ) → f (slice_get (slice_set xs n v) s) ≡ cond (nat_eq n s) (f (Some v)) (f (slice_get xs s))
   set_seen [] n v lt s = absurd (omega (arith, lt))
-  set_seen (x ∷ xs) zero v lt zero = refl
-  set_seen (x ∷ xs) zero v lt (suc s) = grind (arith, nat_tests)
-  set_seen (x ∷ xs) (suc n) v lt zero = grind (arith, nat_tests)
-  set_seen (x ∷ xs) (suc n) v lt (suc s) = grind (arith, nat_tests, set_seen xs n v (omega (arith, lt)) s)
+  set_seen (x ∷ xs) n v lt s = grind (arith, nat_tests, set_seen xs (n - 1) v)
 
   pub same_seen : (xs : List X) (n : ℕ) (v : X) → f (Some v) ≡ f (slice_get xs n) → (s : ℕ) → f (slice_get (slice_set xs n v) s) ≡ f (slice_get xs s)
   same_seen [] n v same s = refl
-  same_seen (x ∷ xs) zero v same zero = same
-  same_seen (x ∷ xs) zero v same (suc s) = refl
-  same_seen (x ∷ xs) (suc n) v same zero = refl
-  same_seen (x ∷ xs) (suc n) v same (suc s) = same_seen xs n v same s
+  same_seen (x ∷ xs) n v same s = grind (arith, nat_tests, same, same_seen xs (n - 1) v)
 
 -- what passes alike has the same last
 last_same : (p q : ℕ → Bool) (bound : ℕ) (o : Option ℕ) → ((s : ℕ) → s < bound → q s ≡ p s) → IsLastBelow p bound o → IsLastBelow q bound o
-last_same p q bound None same none = λ s lt. same s lt ∙ none s lt
-last_same p q bound (Some r) same last = grind (arith, nat_tests, same, last.last)
+last_same p q bound x0 same last = grind (arith, nat_tests, same, last)
 
 -- where nothing passes between two bounds, the last below the one is that below the other
 module _ (p : ℕ → Bool) (low high : ℕ) (le : low ≤ high) (none : (s : ℕ) → low ≤ s → s < high → p s ≡ false) where
   last_lower : (o : Option ℕ) → IsLastBelow p high o → IsLastBelow p low o
-  last_lower None last = λ s lt. last s (omega (arith, le, lt))
-  last_lower (Some r) last = grind (arith, nat_tests, none r, last.last)
+  last_lower x0 last = grind (arith, nat_tests, none, last)
 
   last_higher : (o : Option ℕ) → IsLastBelow p low o → IsLastBelow p high o
-  last_higher None last = λ s lt. grind (arith, nat_tests, last s, none s)
-  last_higher (Some r) last = grind (arith, nat_tests, none, last.last)
+  last_higher x0 last = grind (arith, nat_tests, none, last)
 
 module _ {X : Type 0} (belongs : ℕ → X → Bool) where
   -- members of the same groups are chained alike
   pub chained_same : (at to : ℕ → Option X) (chains : Chains) → ((g s : ℕ) → is_member belongs to g s ≡ is_member belongs at g s) → AreChained belongs at chains → AreChained belongs to chains
   chained_same at to chains same was = record {
     newest = λ g. last_same (is_member belongs at g) (is_member belongs to g) (2 ^ 64) (newest_in chains g) (λ s lt. same g s) (was.newest g);
-    older = λ g s is. let prior = was.older g s (sym (same g s) ∙ is) in record {
-      number = prior.number;
-      there = prior.there;
-      last = last_same (is_member belongs at g) (is_member belongs to g) s prior.number (λ k lt. same g k) prior.last;
-    };
+    older = λ g s is. let prior = was.older g s (sym (same g s) ∙ is) in record { number = prior.number; there = prior.there; last = last_same (is_member belongs at g) (is_member belongs to g) s prior.number (λ k lt. same g k) prior.last };
   }
 
   -- and so are chains that tell the same
   pub chained_told : (at : ℕ → Option X) (old new : Chains) → ((g : ℕ) → newest_in new g ≡ newest_in old g) → new.older ≡ old.older → AreChained belongs at old → AreChained belongs at new
-  chained_told at old new newest older was = record {
-    newest = λ g. rw (newest g) (was.newest g);
-    older = λ g s is. let prior = was.older g s is in record { number = prior.number; there = rw older prior.there; last = prior.last };
-  }
+  chained_told at old new newest older was = grind (arith, nat_tests, newest, was.newest, was.older)
 
   pub chained_none : (chains : Chains) → ((g : ℕ) → newest_in chains g ≡ None) → AreChained belongs (λ _. None) chains
   chained_none chains empty = record { newest = λ g. rw (empty g) (λ s lt. refl); older = λ g s is. absurd (false≢true is) }
