@@ -16,14 +16,6 @@ insert_end p y (x ∷ xs) none = rw none.0 (ap (λ zs. x ∷ zs) (insert_end p y
 abbrev appended : ℕ → ℕ → ℕ → VersionRow → List VersionRow → List VersionRow
 appended id next now row rows = insert_before (is_version_after id next) row (update_first (is_version id (next - 1)) (ended_at now) rows)
 
-abbrev with_next : Held → ℕ → ℕ → ℕ → Bool → List Cell → Held
-with_next h id opened now live cells =
-    let next = next_of h.files id in
-    record h {
-      files = update_first (is_file id) numbered_on h.files;
-      versions = appended id next now (record { file = id; number = next; opened = opened; closed = now; ended = cond live None (Some now); cells = cells }) h.versions;
-    }
-
 module _ (s : Store) (files : List File) (id : ℕ) (f g : File) (found : find (is_id id) files ≡ Some f) (rise : AllLater (λ (x y : File). x.id < y.id) files) (files_kept : AllByRecursion IsFileKept files) (opened now : ℕ) (live : Bool) (cells : Layout) (closed : HasAppended f g now (next_row f.next opened now live cells)) (past : AllByRecursion (IsRowPast now) f.log.rows) where
   abbrev new : LogRow
   new = next_row f.next opened now live cells
@@ -68,8 +60,7 @@ module _ (s : Store) (files : List File) (id : ℕ) (f g : File) (found : find (
   -- what a world with the rows has once the version is appended there
   pub appended_shows : (a : AllSessions) (w : World) → rows_of w ≡ held_in s files a → w.now ≡ now → is_live w id ≡ live → held_in s (after files id f g found) a ≡ rows_of (after_change w (Append id opened (shown s cells)))
   appended_shows a w rows time lives =
-      let told : with_next (rows_of w) id opened w.now (is_live w id) (shown s cells) ≡ with_next (held_in s files a) id opened w.now (is_live w id) (shown s cells) = ap (λ (h : Held). with_next h id opened w.now (is_live w id) (shown s cells)) rows in
-      shows_next a ∙ (rw (next_found files id (Some f) found, is, ← time, ← lives) refl ∙ sym told)
+      grind (arith, nat_tests, rows, shows_next a, next_found files id (Some f) found, is)
 
 -- ---- a file comes without a version, and gets its first
 

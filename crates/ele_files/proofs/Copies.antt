@@ -24,17 +24,13 @@ left_behind behind [] row rise h = absurd cc
 left_behind behind (x ∷ xs) row rise h = grind (arith, nat_tests, h, all-after x.number x xs, all-after behind x xs, rise.0, left_behind behind xs row rise.1, found_passes (is_after behind) xs row)
 
 -- the cells of a map
-abbrev cell_from : Store → ℕ × ℕ → Cell
-cell_from s c = record { writer = c.0; bytes = bytes_at s c.1 }
-
 module _ (laws : StockLaws) (s : Store) (m : Layout) (lives : LivesIn s m) (k : ℕ) (cell : ℕ × ℕ) (got : Some cell ≡ option_map (λ (x : Slot). (x.writer, x.block)) (slice_get (slots_of s m) k)) where
   slot : (x : Slot) × (slice_get (slots_of s m) k ≡ Some x) × ((x.writer, x.block) ≡ cell)
   slot = grind (arith, nat_tests)
 
   pub cell_next : (bytes : List ℕ) → bytes ≡ bytes_at s cell.1 → map (cell_of s) (take (k + 1) (slots_of s m)) ≡ map (cell_of s) (take k (slots_of s m)) ++ record { writer = cell.0; bytes = bytes } ∷ []
   cell_next bytes is =
-      let made : cell_of s slot.0 ≡ record { writer = cell.0; bytes = bytes } = ap (cell_from s) slot.2 ∙ ap (cell_by cell.0) (sym is) in
-      (taken-next (cell_of s) (slots_of s m) k slot.0 slot.1) ∙ ap (λ (c : Cell). map (cell_of s) (take k (slots_of s m)) ++ c ∷ []) made
+      let next = taken-next (cell_of s) (slots_of s m) k slot.0 slot.1 in grind (arith, nat_tests, next, slot.2, is)
 
 -- the rows of a log
 module _ (f : File) (kept : IsFileKept f) where
@@ -50,7 +46,7 @@ module _ (f : File) (kept : IsFileKept f) where
 
     -- what is told of the rows behind begins with the row
     pub told_next : (told : List Stamps) → told ++ map stamps_in (filter (is_after behind) f.log.rows) ≡ map stamps_in f.log.rows → (told ++ stamps_in row ∷ []) ++ map stamps_in (filter (is_after row.number) f.log.rows) ≡ map stamps_in f.log.rows
-    told_next told h = rw append_assoc (ap (λ xs. told ++ map stamps_in xs) (sym (left_behind behind f.log.rows row rise (sym found))) ∙ h)
+    told_next told h = grind (arith, nat_tests, left_behind, rise, found, append_assoc)
 
     pub log_fewer : length (filter (is_after row.number) f.log.rows) < length (filter (is_after behind) f.log.rows)
     log_fewer = let left = left_behind behind f.log.rows row rise (sym found) in rw left (omega arith)
@@ -59,24 +55,15 @@ module _ (f : File) (kept : IsFileKept f) where
     log_next s rows all cells is h = grind (arith, nat_tests, left_behind, rise, found, append_assoc)
 
 -- the rows of drafts
-abbrev draft_from : ℕ × ℕ × Bool → List Cell → DraftRow
-draft_from t cells = record { file = t.0; opened = t.1; cells = cells; changed = t.2 }
-
 module _ (s : Store) (drafts : List Draft) (rise : AllLater (λ (x y : Draft). x.file < y.file) drafts) (k : ℕ) (t : ℕ × ℕ × Bool) (got : Some t ≡ option_map (λ (d : Draft). (d.file, d.opened, d.changed)) (slice_get drafts k)) where
   pub draft : (d : Draft) × (slice_get drafts k ≡ Some d) × ((d.file, d.opened, d.changed) ≡ t)
   draft = grind (arith, nat_tests)
 
   pub found : find (sessions.is_draft t.0) drafts ≡ Some draft.0
-  found = subst (λ (u : ℕ × ℕ × Bool). find (sessions.is_draft u.0) drafts ≡ Some draft.0) draft.2 (found-got (λ (d : Draft). d.file) drafts k draft.0 rise draft.1)
+  found = let h = found-got (λ (d : Draft). d.file) drafts k draft.0 rise draft.1 in grind (arith, nat_tests, draft.2, h)
 
   pub draft_there : None ≡ option_map (λ (d : Draft). d.layout) (find (sessions.is_draft t.0) drafts) → ⊥
-  draft_there none = let h = none ∙ ap (option_map (λ (d : Draft). d.layout)) found in cc
+  draft_there none = grind (arith, none, found)
 
   pub draft_next : (m : Layout) (cells : List Cell) → Some m ≡ option_map (λ (d : Draft). d.layout) (find (sessions.is_draft t.0) drafts) → cells ≡ shown s m → map (draft_in s) (take (k + 1) drafts) ≡ map (draft_in s) (take k drafts) ++ record { file = t.0; opened = t.1; cells = cells; changed = t.2 } ∷ []
-  draft_next m cells layout is =
-      let next = taken-next (draft_in s) drafts k draft.0 draft.1 in
-      let h : Some m ≡ Some draft.0.layout = layout ∙ ap (option_map (λ (d : Draft). d.layout)) found in
-      let same : m ≡ draft.0.layout = cc in
-      let shows : shown s draft.0.layout ≡ cells = ap (shown s) (sym same) ∙ sym is in
-      let made : draft_in s draft.0 ≡ draft_from (t.0, t.1, t.2) cells = ap (draft_from (draft.0.file, draft.0.opened, draft.0.changed)) shows ∙ ap (λ (u : ℕ × ℕ × Bool). draft_from u cells) draft.2 in
-      next ∙ ap (λ (row : DraftRow). map (draft_in s) (take k drafts) ++ row ∷ []) made
+  draft_next m cells layout is = let next = taken-next (draft_in s) drafts k draft.0 draft.1 in grind (arith, nat_tests, next, draft.2, found, layout, is)

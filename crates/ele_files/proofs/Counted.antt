@@ -24,14 +24,9 @@ module _ (file slot writer : ℕ) where
       → ((key : ℕ × ℕ) → list_any (is_key key.0 key.1) now ≡ cond (is_key slot writer key) true (list_any (is_key key.0 key.1) was))
       → (before places : List Place) → Counts file was (before ++ places) → Counts file now (before ++ (places ++ met ∷ []))
   met_next was now added is long has before places counts = subst (Counts file now) (append_assoc before places (met ∷ [])) (record {
-    count = long ∙ rw (is, counts.has slot writer) (one (is_among (before ++ places) met)) ∙ sym (different-push (before ++ places) met);
-    has = λ s w. has (s, w) ∙ rw (counts.has s w, list_any-append (λ p. is_place p (record { file = file; slot = s; writer = w })) (before ++ places) (met ∷ [])) (either (is_key slot writer (s, w)) (is_among (before ++ places) (record { file = file; slot = s; writer = w })));
-  }) where
-    one : (b : Bool) → length was + cond (not b) 1 0 ≡ different is_place (before ++ places) + cond b 0 1
-    one b = grind (arith, counts.count)
-
-    either : (b c : Bool) → cond b true c ≡ (c || ((eqb file file && b) || false))
-    either b c = grind (arith, nat_tests)
+    count = grind (arith, nat_tests, counts.has slot writer, counts.count, different-push (before ++ places) met);
+    has = λ s w. grind (arith, nat_tests, has (s, w), counts.has s w, list_any-append (λ p. is_place p (record { file = file; slot = s; writer = w })) (before ++ places) (met ∷ []));
+  })
 
 -- ---- the slots of a map
 

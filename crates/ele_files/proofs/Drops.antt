@@ -5,6 +5,11 @@ use Rattle.ele_files.proofs.Stock.{IsSeen, file_dropped}
 use Rattle.ele_files.proofs.Rows.{file_of, tagged, undrafted}
 use Rattle.ele_world.specs.World as world
 
+-- each row is a version
+no_rows : (s : Store) (id : ℕ) (f : File) → is_id id f ≡ true → (rows : List LogRow) → list_any (is_version_of id) (map (row_in s f.id) rows) ≡ false → rows ≡ []
+no_rows s id f is [] none = refl
+no_rows s id f is (row ∷ rows) none = absurd (false≢true (sym (rw is at none)))
+
 module _ (s : Store) (id : ℕ) (files : List File) (rise : AllLater (λ (x y : File). x.id < y.id) files) where
   found_in : find (is_version_of id) (flat_map (rows_in s) files) ≡ option_and_then (λ f. find (is_version_of id) (rows_in s f)) (find (is_id id) files)
   found_in = find-buckets (λ (f : File). f.id) (rows_in s) file_of (tagged s) id (is_version_of id) (λ row is. grind (arith, nat_tests)) files rise
@@ -19,24 +24,13 @@ module _ (s : Store) (id : ℕ) (files : List File) (rise : AllLater (λ (x y : 
 
   -- whether it has any
   pub any_held : (f : File) → find (is_id id) files ≡ Some f → (none : Bool) → IsTrue none ↔ (f.log.rows ≡ []) → not none ≡ list_any (is_version_of id) (flat_map (rows_in s) files)
-  any_held f found none is = by none f.log.rows is ∙ sym (held_by f found) where
-    by : (b : Bool) (rows : List LogRow) → IsTrue b ↔ (rows ≡ []) → not b ≡ list_any (is_version_of id) (map (row_in s f.id) rows)
-    by true rows h = rw (h.0 refl) refl
-    by false [] h = absurd (false≢true (h.1 refl))
-    by false (row ∷ rows) h = let e : eqb f.id id ≡ true = found_passes (is_id id) files f found in rw e refl
+  any_held f found none is = grind (arith, nat_tests, held_by f found, no_rows s id f (found_passes (is_id id) files f found) f.log.rows, is.0, is.1)
 
 -- ---- the file's row goes
 
 some_item : {X : Type 0} (p : X → Bool) (xs : List X) (i : ℕ) → Some i ≡ position p xs → X
 some_item p [] i at = absurd cc
 some_item p (x ∷ xs) i at = x
-
--- each row is a version
-no_rows : (s : Store) (id : ℕ) (f : File) → is_id id f ≡ true → list_any (is_version_of id) (rows_in s f) ≡ false → f.log.rows ≡ []
-no_rows s id f is none = by f.log.rows none where
-  by : (rows : List LogRow) → list_any (is_version_of id) (map (row_in s f.id) rows) ≡ false → rows ≡ []
-  by [] h = refl
-  by (row ∷ rows) h = absurd (false≢true (sym (rw is at h)))
 
 module _ (s : Store) (files : List File) (a : AllSessions) (kept : Keeps s files a) (id : ℕ) (bare : is_bare (held_in s files a) id ≡ true) where
   abbrev fewer : List File
@@ -53,7 +47,7 @@ module _ (s : Store) (files : List File) (a : AllSessions) (kept : Keeps s files
 
   module _ (f : File) (found : find (is_id id) files ≡ Some f) where
     no_log : f.log.rows ≡ []
-    no_log = no_rows s id f (found_passes (is_id id) files f found) (sym (held_by s id files kept.rise f found) ∙ versionless)
+    no_log = no_rows s id f (found_passes (is_id id) files f found) f.log.rows (sym (held_by s id files kept.rise f found) ∙ versionless)
 
     versions_stay : (fs : List File) → find (is_id id) fs ≡ Some f → flat_map (rows_in s) fs ≡ flat_map (rows_in s) (remove_first (is_id id) fs)
     versions_stay [] h = absurd cc

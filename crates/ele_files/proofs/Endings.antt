@@ -20,8 +20,7 @@ last_row (x ∷ y ∷ rows) number now row order found endless = grind (arith, n
 
 pub can_end : (rows : List LogRow) (number now : ℕ) (row : LogRow) → AllByRecursion (IsRowPast now) rows → AllLater Precedes rows → find (is_numbered number) rows ≡ Some row → row.ended ≡ None → IsSomeAnd (last_of rows) (CanEndAt now)
 can_end rows number now row past order found endless =
-    let is = last_row rows number now row order found endless in
-    rw is.last (record { no_end = endless; closed = (all_found (is_numbered number) (IsRowPast now) rows row found past).closed })
+    rw (last_row rows number now row order found endless).last (record { no_end = endless; closed = (all_found (is_numbered number) (IsRowPast now) rows row found past).closed })
 
 pub no_end : (o : Option ℕ) → is_some o ≡ false → o ≡ None
 no_end o h = grind arith
@@ -38,19 +37,13 @@ module _ (next now : ℕ) (new : LogRow) (number : new.number ≡ next) (closed 
 
 -- a file whose version before the next one ends
 module _ (f : File) (now : ℕ) (kept : IsFileKept f) (past : AllByRecursion (IsRowPast now) f.log.rows) where
-  ended_in_time : (row : LogRow) → EndsInTime row × IsRowPast now row → EndsInTime (ended_by now row)
-  ended_in_time row h = let e = h.0 in let p = h.1.closed in grind (arith, e, p)
-
-  ended_before : (x y : LogRow) → Precedes x y → Precedes (ended_by now x) y
-  ended_before x y h = record { number = h.number; ended = let e = h.ended in grind (arith, e) }
-
   pub of_rows : AllByRecursion (IsRowOf f.next) (ended_rows f now)
   of_rows = all-update_first (is_numbered (f.next - 1)) (IsRowOf f.next) (IsRowOf f.next) (ended_by now) f.log.rows (λ row h. record { first = h.first; number = h.number; open_end = λ endless. absurd cc }) (λ row h. h) kept.rows
 
   pub ended_order : AreInOrder (ended_rows f now)
   ended_order = record {
-    ends = all-update_first (is_numbered (f.next - 1)) (λ row. EndsInTime row × IsRowPast now row) EndsInTime (ended_by now) f.log.rows ended_in_time (λ row h. h.0) (all-both EndsInTime (IsRowPast now) f.log.rows kept.order.ends past);
-    order = later-update_first (is_numbered (f.next - 1)) Precedes (ended_by now) f.log.rows ended_before (λ x y h. record { number = h.number; ended = h.ended }) kept.order.order;
+    ends = all-update_first (is_numbered (f.next - 1)) (λ row. EndsInTime row × IsRowPast now row) EndsInTime (ended_by now) f.log.rows (λ row h. let e = h.0 in let p = h.1.closed in grind (arith, e, p)) (λ row h. h.0) (all-both EndsInTime (IsRowPast now) f.log.rows kept.order.ends past);
+    order = later-update_first (is_numbered (f.next - 1)) Precedes (ended_by now) f.log.rows (λ x y h. record { number = h.number; ended = let e = h.ended in grind (arith, e) }) (λ x y h. record { number = h.number; ended = h.ended }) kept.order.order;
   }
 
   pub ended_kept : (g : File) → HasRows f g (ended_rows f now) → IsFileKept g
@@ -64,17 +57,11 @@ module _ (f : File) (now : ℕ) (kept : IsFileKept f) (past : AllByRecursion (Is
     before_new : AllByRecursion (λ row. Precedes row new) (ended_rows f now)
     before_new = all_precede f.next now new refl refl f.log.rows kept.order.order kept.rows past
 
-    ends_in_time : EndsInTime new
-    ends_in_time = grind (arith, nat_tests)
-
-    more : (row : LogRow) → IsRowOf f.next row × Precedes row new → IsRowOf (f.next + 1) row
-    more row h = grind (arith, nat_tests, not_some)
-
     pub closed_kept : (g : File) → HasAppended f g now new → IsFileKept g
     closed_kept g closed = record {
       next = rw closed.next (omega arith);
-      rows = rw (closed.next, closed.rows) (all-append (IsRowOf (f.next + 1)) (ended_rows f now) (new ∷ []) (all-weaker (λ row. IsRowOf f.next row × Precedes row new) (IsRowOf (f.next + 1)) (ended_rows f now) more (all-both (IsRowOf f.next) (λ row. Precedes row new) (ended_rows f now) of_rows before_new)) (record { first = kept.next; number = omega arith; open_end = λ endless. refl }, tt));
-      order = rw closed.rows (record { ends = all-append EndsInTime (ended_rows f now) (new ∷ []) ended_order.ends (ends_in_time, tt); order = later-push Precedes (ended_rows f now) new ended_order.order before_new });
+      rows = rw (closed.next, closed.rows) (all-append (IsRowOf (f.next + 1)) (ended_rows f now) (new ∷ []) (all-weaker (λ row. IsRowOf f.next row × Precedes row new) (IsRowOf (f.next + 1)) (ended_rows f now) (λ row h. grind (arith, nat_tests, not_some)) (all-both (IsRowOf f.next) (λ row. Precedes row new) (ended_rows f now) of_rows before_new)) (record { first = kept.next; number = omega arith; open_end = λ endless. refl }, tt));
+      order = rw closed.rows (record { ends = all-append EndsInTime (ended_rows f now) (new ∷ []) ended_order.ends (grind (arith, nat_tests), tt); order = later-push Precedes (ended_rows f now) new ended_order.order before_new });
     }
 
 module _ (s : Store) (files : List File) (a : AllSessions) (kept : Keeps s files a) (file i : ℕ) (f : File) (place : Some i ≡ position (is_id file) files) (is : f ≡ get_or files i f) where

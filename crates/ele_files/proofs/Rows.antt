@@ -68,7 +68,7 @@ any_draft s file ds = any-map (draft_in s) (is_draft file) ds
 
 -- no draft is of a file that has none
 pub undrafted : (s : Store) (file : ℕ) (ds : List Draft) → list_any (is_draft file) (map (draft_in s) ds) ≡ false → AllByRecursion (λ (d : Draft). d.file ≢ file) ds
-undrafted s file ds none = all-weaker (λ (d : Draft). sessions.is_draft file d ≡ false) (λ (d : Draft). d.file ≢ file) ds (λ d no same. absurd (let yes : eqb d.file file ≡ true = grind (arith, nat_tests) in cc)) (all-none (sessions.is_draft file) ds (sym (any_draft s file ds) ∙ none))
+undrafted s file ds none = all-weaker (λ (d : Draft). sessions.is_draft file d ≡ false) (λ (d : Draft). d.file ≢ file) ds (λ d no same. grind (arith, nat_tests, no, same)) (all-none (sessions.is_draft file) ds (sym (any_draft s file ds) ∙ none))
 
 -- what the sessions answer of a handle, as the rows say it
 abbrev pub reads_of : Option session.Reads → Result Reads Refusal

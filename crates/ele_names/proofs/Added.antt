@@ -1,7 +1,9 @@
 -- A row at the end of the others.
-use Rattle.ele_names.proofs.Words.{◌≡◌, ℕ, false, ◌+◌, ◌≤◌, ◌<◌, ◌^◌, cond, List, [], ◌∷◌, ◌++◌, length, Some, None, Option, refl, sym, ap, ◌∙◌, arith, AllByRecursion, IsStrictlySortedBy, option_map_or, nat_cmp, is_at, insert_entry, keys_of, values_of, nat_tests, map-append, value_at, is_placed, index_same, count_by, nat_cmp_total, lookup-insert_entry, sorted-insert_entry, all-push, all-weaker, later-push, pushed, not_yet, split_at, all-mid, Directory, File, last_moment, Target, NameRow, Lives, Places, Table, AreCounted, AreNumbered, IsKept, IsTable, rows_of, ArePlaced, AreListed, KeepsPlaces, names_of, number_in, is_of, live_of, is_live_of, Follows}
+use Rattle.ele_names.proofs.Words.{◌≡◌, ℕ, false, ◌+◌, ◌≤◌, ◌<◌, ◌^◌, cond, List, [], ◌∷◌, ◌++◌, length, Some, None, Option, refl, sym, ap, ◌∙◌, arith, AllByRecursion, IsStrictlySortedBy, option_map_or, nat_cmp, is_at, insert_entry, keys_of, values_of, nat_tests, map-append, value_at, is_placed, index_same, count_by, nat_cmp_total, lookup-insert_entry, sorted-insert_entry, all-push, all-weaker, later-push, pushed, not_yet, split_at, all-mid, Directory, File, last_moment, Target, NameRow, Lives, Places, Table, AreCounted, AreNumbered, IsKept, IsTable, rows_of, ArePlaced, AreListed, KeepsPlaces, names_of, number_in, is_of, live_of, is_live_of, Follows, is_none, append-nil, Leaves, target_eq, true}
 use Rattle.ele_names.proofs.Chained.{chained_same}
+use Rattle.ele_names.proofs.Counts.{leaves_without, target_with}
 use Rattle.ele_names.proofs.Live.{numbered_same}
+use Rattle.ele_names.proofs.Newest.{row_known}
 
 -- the places are of whatever has the same rows
 pub placed_same : (names : List (ℕ × List ℕ)) (at to : ℕ → Option NameRow) (places : Places) → ((s : ℕ) → to s ≡ at s) → ArePlaced names at places → ArePlaced names to places
@@ -48,11 +50,7 @@ module _ (old new : List (ℕ × List ℕ)) (keeps : KeepsPlaces old new) (table
   } where
     same : (q r s : ℕ) (o : Option NameRow) → value_at table.rows.entries s ≡ o
         → option_map_or (λ row. is_placed nat_cmp (number_in old row) row.birth q r) o false ≡ option_map_or (λ row. is_placed nat_cmp (number_in new row) row.birth q r) o false
-    same q r s None there = refl
-    same q r s (Some row) there =
-        let c = split_at table.rows.entries s row is.rising there in
-        let inside = all-mid (λ row. number_in old row < length old) c.before row c.behind (rw c.values at is.known) in
-        rw (stays row inside).0 refl
+    same q r s o there = grind (arith, nat_tests, stays, row_known old table is s)
 
 module _ (names : List (ℕ × List ℕ)) (table : Table) (kept : IsTable names table) (made : ℕ) (below : AllByRecursion (λ k. k < made) (keys_of table.rows.entries)) where
   abbrev es : List (ℕ × NameRow)
@@ -104,21 +102,33 @@ module _ (table : Table) (lives : Lives) (kept : IsKept table lives) where
   }
 
   module _ (made : ℕ) (below : AllByRecursion (λ k. k < made) (keys_of table.rows.entries)) where
-    -- with places that say the same
-    pub kept_placed : (t : Table) → t.rows.entries ≡ table.rows.entries → ArePlaced (names_of lives) (value_at table.rows.entries) t.places → ((target : Target) → live_of t.places target ≡ live_of table.places target) → IsKept t lives
-    kept_placed t is placed live = grind (arith, nat_tests, table_same, names_of)
+    not_there : (s : ℕ) → made ≤ s → value_at table.rows.entries s ≡ None
+    not_there = fresh (names_of lives) table kept.is_table made below
 
-    pub kept_pushed : (row : NameRow) (t : Table) (new : Lives) → names_of new ≡ names_of lives → AreListed new → t.rows.entries ≡ insert_entry nat_cmp table.rows.entries made row
-        → made + 1 < 2 ^ 64 → row.birth ≤ last_moment → number_in (names_of lives) row < length (names_of lives) → AllByRecursion (λ earlier. Follows earlier row) (rows_of table)
-        → ArePlaced (names_of lives) (λ s. cond (is_at (nat_cmp made) s) (Some row) (value_at table.rows.entries s)) t.places
-        → AreCounted (rows_of table ++ row ∷ []) new → AreNumbered (λ s. cond (is_at (nat_cmp made) s) (Some row) (value_at table.rows.entries s)) new
-        → ((target : Target) → live_of t.places target ≡ count_by (is_live_of target) (rows_of table ++ row ∷ []))
-        → IsKept t new
-    kept_pushed row t new same listed is fits born known follows placed counts numbered targets = let rows_are = ap values_of is ∙ rows_pushed (names_of lives) table kept.is_table made below row in record {
-      is_table = rw same (table_pushed (names_of lives) table kept.is_table made below row t is fits born known follows placed);
-      listed = listed;
-      counts = rw rows_are counts;
-      numbered = numbered_same (λ s. cond (is_at (nat_cmp made) s) (Some row) (value_at table.rows.entries s)) (value_at t.rows.entries) new new
-          (λ s. ap (λ entries. value_at entries s) is ∙ lookup-insert_entry nat_cmp_total s table.rows.entries made row) (λ d n. refl) numbered;
-      targets = rw rows_are targets;
-    }
+    -- with places that say the same
+    pub kept_placed : (t : Table) → t.rows.entries ≡ table.rows.entries
+        → (((s : ℕ) → made ≤ s → value_at table.rows.entries s ≡ None) → ArePlaced (names_of lives) (value_at table.rows.entries) table.places → ArePlaced (names_of lives) (value_at table.rows.entries) t.places)
+        → ((target : Target) → live_of t.places target ≡ live_of table.places target) → IsKept t lives
+    kept_placed t is placed live = let now = placed not_there kept.is_table.placed in grind (arith, nat_tests, table_same, names_of)
+
+    module _ (row : NameRow) where
+      abbrev pushed_at : ℕ → Option NameRow
+      pushed_at s = cond (is_at (nat_cmp made) s) (Some row) (value_at table.rows.entries s)
+
+      pub kept_pushed : (t : Table) (new : Lives) → names_of new ≡ names_of lives → AreListed new → t.rows.entries ≡ insert_entry nat_cmp table.rows.entries made row
+          → made + 1 < 2 ^ 64 → row.birth ≤ last_moment → number_in (names_of lives) row < length (names_of lives) → AllByRecursion (λ earlier. Follows earlier row) (rows_of table) → is_none row.death ≡ true
+          → (((s : ℕ) → made ≤ s → value_at table.rows.entries s ≡ None) → ArePlaced (names_of lives) (value_at table.rows.entries) table.places → ArePlaced (names_of lives) pushed_at t.places)
+          → ((was now : List NameRow) → Leaves row now was → AreCounted was lives → AreCounted now new)
+          → ((at : ℕ → Option NameRow) → at made ≡ None → AreNumbered at lives → AreNumbered (λ s. cond (is_at (nat_cmp made) s) (Some row) (at s)) new)
+          → ((target : Target) → live_of t.places target ≡ live_of table.places target + cond (target_eq row.target target) 1 0)
+          → IsKept t new
+      kept_pushed t new same listed is fits born known follows lives_on placed counts numbered counted =
+          let rows_are = ap values_of is ∙ rows_pushed (names_of lives) table kept.is_table made below row in
+          let leaves : Leaves row (rows_of table ++ row ∷ []) (rows_of table) = rw append-nil at (leaves_without row (rows_of table) [] (later-push Follows (rows_of table) row kept.is_table.apart follows)) in record {
+            is_table = rw same (table_pushed (names_of lives) table kept.is_table made below row t is fits born known follows (placed not_there kept.is_table.placed));
+            listed = listed;
+            counts = rw rows_are (counts (rows_of table) (rows_of table ++ row ∷ []) leaves kept.counts);
+            numbered = numbered_same pushed_at (value_at t.rows.entries) new new
+                (λ s. ap (λ entries. value_at entries s) is ∙ lookup-insert_entry nat_cmp_total s table.rows.entries made row) (λ d n. refl) (numbered (value_at table.rows.entries) (not_there made (omega arith)) kept.numbered);
+            targets = rw rows_are (λ target. target_with target row (rows_of table) (rows_of table ++ row ∷ []) leaves lives_on (live_of table.places target) _ (kept.targets target) (counted target));
+          }

@@ -1,5 +1,5 @@
 -- The members of each group, where a newer one comes or the newest goes.
-use Rattle.ele_names.proofs.Words.{◌≡◌, ℕ, zero, suc, ◌≤◌, ◌<◌, ◌^◌, Bool, true, false, cond, List, [], ◌∷◌, ◌++◌, length, take, slice_get, slice_set, IsSome, Option, Some, None, refl, sym, ◌∙◌, arith, inl, inr, is_at, nat_eq, option_map_or, nat_cmp, false≢true, cases_lt, nat_tests, Chains, AreChained, HasOlder, IsLastBelow, Gains, Keeps, Loses, is_member, newest_in}
+use Rattle.ele_names.proofs.Words.{◌≡◌, ℕ, zero, suc, ◌≤◌, ◌<◌, ◌^◌, Bool, true, false, cond, List, [], ◌∷◌, ◌++◌, length, take, slice_get, slice_set, IsSome, Option, Some, None, refl, sym, ◌∙◌, arith, inl, inr, is_at, nat_eq, option_map_or, nat_cmp, false≢true, cases_lt, nat_tests, Chains, AreChained, HasOlder, IsLastBelow, Gains, Keeps, Loses, is_member, newest_in, at_itself, ◌-◌}
 use Rattle.ele_names.proofs.Live.{same_serial}
 
 apart : (n s : ℕ) → s < n → is_at (nat_cmp n) s ≡ false
@@ -13,63 +13,45 @@ module _ {X : Type 0} where
   pub cut_kept : (xs ys : List X) (n s : ℕ) (x : X) → s < n → slice_get xs s ≡ Some x → slice_get (take n xs ++ ys) s ≡ Some x
   cut_kept [] ys n s x lt is = absurd cc
   cut_kept (y ∷ xs) ys zero s x lt is = absurd (omega (arith, lt))
-  cut_kept (y ∷ xs) ys (suc n) zero x lt is = is
-  cut_kept (y ∷ xs) ys (suc n) (suc s) x lt is = cut_kept xs ys n s x (omega (arith, lt)) is
+  cut_kept (y ∷ xs) ys (suc n) s x lt is = grind (arith, nat_tests, cut_kept xs ys n (s - 1) x)
 
   pub own_pushed : (xs : List X) (x : X) (n : ℕ) → length xs ≡ n → slice_get (xs ++ x ∷ []) n ≡ Some x
   own_pushed [] x n is = rw (← is) refl
-  own_pushed (y ∷ xs) x zero is = absurd (omega (arith, is))
-  own_pushed (y ∷ xs) x (suc n) is = own_pushed xs x n (omega (arith, is))
+  own_pushed (y ∷ xs) x n is = grind (arith, nat_tests, own_pushed xs x (n - 1))
 
 -- what is seen of an element, where one is set
 module _ {X Y : Type 0} (f : Option X → Y) where
   pub set_seen : (xs : List X) (n : ℕ) (v : X) → n < length xs → (s : ℕ) → f (slice_get (slice_set xs n v) s) ≡ cond (nat_eq n s) (f (Some v)) (f (slice_get xs s))
   set_seen [] n v lt s = absurd (omega (arith, lt))
-  set_seen (x ∷ xs) zero v lt zero = refl
-  set_seen (x ∷ xs) zero v lt (suc s) = grind (arith, nat_tests)
-  set_seen (x ∷ xs) (suc n) v lt zero = grind (arith, nat_tests)
-  set_seen (x ∷ xs) (suc n) v lt (suc s) = grind (arith, nat_tests, set_seen xs n v (omega (arith, lt)) s)
+  set_seen (x ∷ xs) n v lt s = grind (arith, nat_tests, set_seen xs (n - 1) v)
 
   pub same_seen : (xs : List X) (n : ℕ) (v : X) → f (Some v) ≡ f (slice_get xs n) → (s : ℕ) → f (slice_get (slice_set xs n v) s) ≡ f (slice_get xs s)
   same_seen [] n v same s = refl
-  same_seen (x ∷ xs) zero v same zero = same
-  same_seen (x ∷ xs) zero v same (suc s) = refl
-  same_seen (x ∷ xs) (suc n) v same zero = refl
-  same_seen (x ∷ xs) (suc n) v same (suc s) = same_seen xs n v same s
+  same_seen (x ∷ xs) n v same s = grind (arith, nat_tests, same, same_seen xs (n - 1) v)
 
 -- what passes alike has the same last
 last_same : (p q : ℕ → Bool) (bound : ℕ) (o : Option ℕ) → ((s : ℕ) → s < bound → q s ≡ p s) → IsLastBelow p bound o → IsLastBelow q bound o
-last_same p q bound None same none = λ s lt. same s lt ∙ none s lt
-last_same p q bound (Some r) same last = grind (arith, nat_tests, same, last.last)
+last_same p q bound x0 same last = grind (arith, nat_tests, same, last)
 
 -- where nothing passes between two bounds, the last below the one is that below the other
 module _ (p : ℕ → Bool) (low high : ℕ) (le : low ≤ high) (none : (s : ℕ) → low ≤ s → s < high → p s ≡ false) where
   last_lower : (o : Option ℕ) → IsLastBelow p high o → IsLastBelow p low o
-  last_lower None last = λ s lt. last s (omega (arith, le, lt))
-  last_lower (Some r) last = grind (arith, nat_tests, none r, last.last)
+  last_lower x0 last = grind (arith, nat_tests, none, last)
 
   last_higher : (o : Option ℕ) → IsLastBelow p low o → IsLastBelow p high o
-  last_higher None last = λ s lt. grind (arith, nat_tests, last s, none s)
-  last_higher (Some r) last = grind (arith, nat_tests, none, last.last)
+  last_higher x0 last = grind (arith, nat_tests, none, last)
 
 module _ {X : Type 0} (belongs : ℕ → X → Bool) where
   -- members of the same groups are chained alike
   pub chained_same : (at to : ℕ → Option X) (chains : Chains) → ((g s : ℕ) → is_member belongs to g s ≡ is_member belongs at g s) → AreChained belongs at chains → AreChained belongs to chains
   chained_same at to chains same was = record {
     newest = λ g. last_same (is_member belongs at g) (is_member belongs to g) (2 ^ 64) (newest_in chains g) (λ s lt. same g s) (was.newest g);
-    older = λ g s is. let prior = was.older g s (sym (same g s) ∙ is) in record {
-      number = prior.number;
-      there = prior.there;
-      last = last_same (is_member belongs at g) (is_member belongs to g) s prior.number (λ k lt. same g k) prior.last;
-    };
+    older = λ g s is. let prior = was.older g s (sym (same g s) ∙ is) in record { number = prior.number; there = prior.there; last = last_same (is_member belongs at g) (is_member belongs to g) s prior.number (λ k lt. same g k) prior.last };
   }
 
   -- and so are chains that tell the same
   pub chained_told : (at : ℕ → Option X) (old new : Chains) → ((g : ℕ) → newest_in new g ≡ newest_in old g) → new.older ≡ old.older → AreChained belongs at old → AreChained belongs at new
-  chained_told at old new newest older was = record {
-    newest = λ g. rw (newest g) (was.newest g);
-    older = λ g s is. let prior = was.older g s is in record { number = prior.number; there = rw older prior.there; last = prior.last };
-  }
+  chained_told at old new newest older was = grind (arith, nat_tests, newest, was.newest, was.older)
 
   pub chained_none : (chains : Chains) → ((g : ℕ) → newest_in chains g ≡ None) → AreChained belongs (λ _. None) chains
   chained_none chains empty = record { newest = λ g. rw (empty g) (λ s lt. refl); older = λ g s is. absurd (false≢true is) }
@@ -101,36 +83,25 @@ module _ {X : Type 0} (belongs : ℕ → X → Bool) where
       pub chained_entered : (group : ℕ) → ((g : ℕ) → belongs g x ≡ nat_eq group g) → (old new : Chains) → number < 2 ^ 64 → Gains group number old new → AreChained belongs at old → AreChained belongs entered new
       chained_entered group its old new short gains was = record { newest = newest; older = older } where
         newest : (g : ℕ) → IsLastBelow (is_member belongs entered g) (2 ^ 64) (newest_in new g)
-        newest g = rw (gains.newest g) (elim (nat_eq group g) as (λ b. nat_eq group g ≡ b → IsLastBelow (is_member belongs entered g) (2 ^ 64) (cond b (Some number) (newest_in old g))) [
-          | true ↦ λ e. record {
-            there = rw (itself number) (its g ∙ e);
-            below = short;
-            last = λ s over lt. none_behind g s over;
-          }
-          | false ↦ λ e. last_same (is_member belongs at g) (is_member belongs entered g) (2 ^ 64) (newest_in old g) (λ s lt. others g (its g ∙ e) s) (was.newest g)
-        ] refl) where
-          itself : (n : ℕ) → is_at (nat_cmp n) n ≡ true
-          itself n = grind (arith, nat_tests)
+        newest g = rw (gains.newest g) (by (nat_eq group g) refl) where
+          by : (b : Bool) → nat_eq group g ≡ b → IsLastBelow (is_member belongs entered g) (2 ^ 64) (cond b (Some number) (newest_in old g))
+          by true e = record { there = rw (at_itself number) (its g ∙ e); below = short; last = λ s over lt. none_behind g s over }
+          by false e = last_same (is_member belongs at g) (is_member belongs entered g) (2 ^ 64) (newest_in old g) (λ s lt. others g (its g ∙ e) s) (was.newest g)
 
         older : (g s : ℕ) → is_member belongs entered g s ≡ true → HasOlder (is_member belongs entered g) new.older.items s
-        older g s is = elim (is_at (nat_cmp number) s) as (λ b. is_at (nat_cmp number) s ≡ b → option_map_or (belongs g) (cond b (Some x) (at s)) false ≡ true → HasOlder (is_member belongs entered g) new.older.items s) [
-          | true ↦ λ e h. let same = same_serial number s e in let group_is : group ≡ g = equal group g (sym (its g) ∙ h) in rw (← same, ← group_is) (record {
+        older g s is = by (is_at (nat_cmp number) s) refl is where
+          by : (b : Bool) → is_at (nat_cmp number) s ≡ b → option_map_or (belongs g) (cond b (Some x) (at s)) false ≡ true → HasOlder (is_member belongs entered g) new.older.items s
+          by true e h = let group_is : group ≡ g = grind (arith, nat_tests, its g) in rw (← same_serial number s e, ← group_is) (record {
             number = newest_in old group;
             there = gains.own;
             last = last_same (is_member belongs at group) (is_member belongs entered group) number (newest_in old group) (before group)
                 (last_lower (is_member belongs at group) number (2 ^ 64) (omega (arith, short)) (λ k le lt. none_stands group k le) (newest_in old group) (was.newest group));
           })
-          | false ↦ λ e h.
-              let prior = was.older g s h in
-              let lt = first g s h in
-              record {
-                number = prior.number;
-                there = gains.older s prior.number lt prior.there;
-                last = last_same (is_member belongs at g) (is_member belongs entered g) s prior.number (λ k less. before g k (omega (arith, less, lt))) prior.last;
-              }
-        ] refl is where
-          equal : (a b : ℕ) → nat_eq a b ≡ true → a ≡ b
-          equal a b h = grind (arith, nat_tests)
+          by false e h = let prior = was.older g s h in let lt = first g s h in record {
+            number = prior.number;
+            there = gains.older s prior.number lt prior.there;
+            last = last_same (is_member belongs at g) (is_member belongs entered g) s prior.number (λ k less. before g k (omega (arith, less, lt))) prior.last;
+          }
 
   -- a member of a group that nothing of it follows
   module _ (at : ℕ → Option X) (x : X) (number : ℕ) (there : at number ≡ Some x) where
@@ -158,31 +129,24 @@ module _ {X : Type 0} (belongs : ℕ → X → Bool) where
       pub chained_left : (old new : Chains) → number < 2 ^ 64 → Loses group number old new → AreChained belongs at old → AreChained belongs left new
       chained_left old new short loses was = record { newest = newest; older = older } where
         prior : HasOlder (is_member belongs at group) old.older.items number
-        prior = was.older group number (rw there (its group ∙ itself group)) where
-          itself : (n : ℕ) → nat_eq n n ≡ true
-          itself n = grind (arith, nat_tests)
+        prior = was.older group number (rw there (its group ∙ grind (arith, nat_tests)))
 
         newest : (g : ℕ) → IsLastBelow (is_member belongs left g) (2 ^ 64) (newest_in new g)
-        newest g = rw (loses.newest g, prior.there) (elim (nat_eq group g) as (λ b. nat_eq group g ≡ b → IsLastBelow (is_member belongs left g) (2 ^ 64) (cond b prior.number (newest_in old g))) [
-          | true ↦ λ e. rw (← equal g e) (last_higher (is_member belongs left group) number (2 ^ 64) (omega (arith, short)) (λ s le lt. gone s le) prior.number
+        newest g = rw (loses.newest g, prior.there) (by (nat_eq group g) refl) where
+          by : (b : Bool) → nat_eq group g ≡ b → IsLastBelow (is_member belongs left g) (2 ^ 64) (cond b prior.number (newest_in old g))
+          by true e = rw (← equal g e) (last_higher (is_member belongs left group) number (2 ^ 64) (omega (arith, short)) (λ s le lt. gone s le) prior.number
               (last_same (is_member belongs at group) (is_member belongs left group) number prior.number (below group) prior.last))
-          | false ↦ λ e. last_same (is_member belongs at g) (is_member belongs left g) (2 ^ 64) (newest_in old g) (λ s lt. unlike g (its g ∙ e) s) (was.newest g)
-        ] refl)
+          by false e = last_same (is_member belongs at g) (is_member belongs left g) (2 ^ 64) (newest_in old g) (λ s lt. unlike g (its g ∙ e) s) (was.newest g)
 
         older : (g s : ℕ) → is_member belongs left g s ≡ true → HasOlder (is_member belongs left g) new.older.items s
-        older g s is = elim (is_at (nat_cmp number) s) as (λ b. is_at (nat_cmp number) s ≡ b → option_map_or (belongs g) (cond b None (at s)) false ≡ true → HasOlder (is_member belongs left g) new.older.items s) [
-          | true ↦ λ e h. absurd (false≢true h)
-          | false ↦ λ e h. let prior = was.older g s h in record {
+        older g s is = by (is_at (nat_cmp number) s) refl is where
+          alike : is_at (nat_cmp number) s ≡ false → is_member belongs at g s ≡ true → (k : ℕ) → k < s → is_member belongs left g k ≡ is_member belongs at g k
+          alike e h k less = grind (arith, nat_tests, below g k, unlike g, its g, equal g, newest_of s, after number s)
+
+          by : (b : Bool) → is_at (nat_cmp number) s ≡ b → option_map_or (belongs g) (cond b None (at s)) false ≡ true → HasOlder (is_member belongs left g) new.older.items s
+          by true e h = absurd (false≢true h)
+          by false e h = let prior = was.older g s h in record {
             number = prior.number;
             there = rw loses.older prior.there;
-            last = last_same (is_member belongs at g) (is_member belongs left g) s prior.number (alike g s e h) prior.last;
+            last = last_same (is_member belongs at g) (is_member belongs left g) s prior.number (alike e h) prior.last;
           }
-        ] refl is where
-          alike : (g s : ℕ) → is_at (nat_cmp number) s ≡ false → is_member belongs at g s ≡ true → (k : ℕ) → k < s → is_member belongs left g k ≡ is_member belongs at g k
-          alike g s e h k less = elim (nat_eq group g) as (λ b. nat_eq group g ≡ b → is_member belongs left g k ≡ is_member belongs at g k) [
-            | true ↦ λ f. elim (cases_lt s number) as (λ _. is_member belongs left g k ≡ is_member belongs at g k) [
-              | inl first ↦ below g k (omega (arith, less, first))
-              | inr over ↦ absurd (false≢true (sym (newest_of s (after number s e over)) ∙ rw (equal g f) h))
-            ]
-            | false ↦ λ f. unlike g (its g ∙ f) k
-          ] refl

@@ -20,14 +20,11 @@ none_named d n (row ∷ rows) none = rw none.0 (none_named d n rows none.1)
 
 module _ (row : NameRow) (before behind : List NameRow) (apart : AllLater Follows (before ++ row ∷ behind)) where
   module _ (d : ℕ) (n : List ℕ) where
-    its_name : is_live_name d n row ≡ true → (is_named d n row ≡ true) × (is_none row.death ≡ true)
-    its_name = named_and_live d n row
-
     earlier : is_live_name d n row ≡ true → AllByRecursion (λ b. is_live_name d n b ≡ false) before
-    earlier is = all-weaker (λ b. Follows b row) (λ b. is_live_name d n b ≡ false) before (λ b follows. grind (arith, nat_tests, is, its_name, named_dead d n b, same_name d n b row, follows.apart)) (later-around Follows before row behind apart).0
+    earlier is = all-weaker (λ b. Follows b row) (λ b. is_live_name d n b ≡ false) before (λ b follows. grind (arith, nat_tests, is, named_and_live d n row, named_dead d n b, same_name d n b row, follows.apart)) (later-around Follows before row behind apart).0
 
     later : is_live_name d n row ≡ true → AllByRecursion (λ b. is_live_name d n b ≡ false) behind
-    later is = all-weaker (Follows row) (λ b. is_live_name d n b ≡ false) behind (λ b follows. grind (arith, nat_tests, is, its_name, named_dead d n b, same_name d n row b, follows.apart)) (later-around Follows before row behind apart).1
+    later is = all-weaker (Follows row) (λ b. is_live_name d n b ≡ false) behind (λ b follows. grind (arith, nat_tests, is, named_and_live d n row, named_dead d n b, same_name d n row b, follows.apart)) (later-around Follows before row behind apart).1
 
     stands : (xs : List NameRow) → AllByRecursion (λ b. is_live_name d n b ≡ false) xs → is_live_name d n row ≡ true → live_target (xs ++ row ∷ behind) d n ≡ Some row.target
     stands [] none is = rw is refl

@@ -48,6 +48,4 @@ listed_none new none empty = record { few = rw none (omega arith); each = rw non
 
 -- the directory of a name that was given has one
 pub has_names : (lives : Lives) (d : ℕ) (n : List ℕ) → place_in (names_of lives) d n < length (names_of lives) → AreListed lives → IsSome (newest_in lives.in_directory d)
-has_names lives d n known listed = newest_known stands_in (slice_get (names_of lives)) (d, n) (place_in (names_of lives) d n) (at_place (names_of lives) d n known) d (itself d) lives.in_directory (omega (arith, known, listed.few)) listed.each where
-  itself : (d : ℕ) → nat_eq d d ≡ true
-  itself d = grind (arith, nat_tests)
+has_names lives d n known listed = newest_known stands_in (slice_get (names_of lives)) (d, n) (place_in (names_of lives) d n) (at_place (names_of lives) d n known) d (grind (arith, nat_tests)) lives.in_directory (omega (arith, known, listed.few)) listed.each

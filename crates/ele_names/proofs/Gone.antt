@@ -1,16 +1,13 @@
 -- A row between others that dies, or leaves.
-use Rattle.ele_names.proofs.Words.{◌≡◌, ℕ, ◌-◌, ◌≤◌, ◌<◌, ◌^◌, Bool, true, false, cond, not, List, [], ◌∷◌, ◌++◌, length, filter, Some, None, Option, is_none, refl, sym, subst, ap, ◌∙◌, arith, length_append, nat_cmp, is_at, insert_entry, keys_of, values_of, remove_entry, option_map_or, nat_tests, true≢false, nat_cmp_total, map-append, update_first, value_at, all-append, all-around, all-mid, all-exchange, later-around, later-without, later-exchange, update_first-at, all-weaker, lookup-insert_entry, filter-all, index_change, IsSplitAt, split_at, all_keys_without, all_from_each, found_key, last_moment, NameRow, Target, is_named, is_live_name, is_target_file, live_target, live_at, Live, Lives, place_in, Inside, Table, AreCounted, AreNumbered, Leaves, IsKept, rows_of, ArePlaced, AreListed, names_of, number_in, Follows, dies, IsLast, IsLastBelow, is_member, is_of, is_live_of, live_of, newest_in, target_eq, AreChained, same_from_push}
+use Rattle.ele_names.proofs.Words.{◌≡◌, ℕ, ◌-◌, ◌≤◌, ◌<◌, ◌^◌, Bool, true, false, cond, not, List, [], ◌∷◌, ◌++◌, length, filter, Some, None, Option, is_none, refl, sym, subst, ap, ◌∙◌, arith, length_append, nat_cmp, is_at, insert_entry, keys_of, values_of, remove_entry, option_map_or, nat_tests, true≢false, nat_cmp_total, map-append, update_first, value_at, all-append, all-around, all-mid, all-exchange, later-around, later-without, later-exchange, update_first-at, all-weaker, lookup-insert_entry, filter-all, index_change, IsSplitAt, split_at, all_keys_without, all_from_each, found_key, last_moment, NameRow, Target, is_named, is_live_name, is_target_file, live_target, live_at, Live, Lives, place_in, Inside, Table, AreCounted, AreNumbered, Leaves, IsKept, rows_of, ArePlaced, AreListed, names_of, number_in, Follows, dies, IsLast, IsLastBelow, is_member, is_of, is_live_of, live_of, newest_in, target_eq, AreChained, same_from_push, filter-append}
 use Rattle.ele_names.proofs.Added.{placed_same}
 use Rattle.ele_names.proofs.Apart.{named_and_live, named_dead, named_live, same_name}
 use Rattle.ele_names.proofs.Chained.{chained_same}
 use Rattle.ele_names.proofs.Counts.{leaves_without, leaves_dead, live_one, target_without}
 use Rattle.ele_names.proofs.Live.{LiveRow, same_serial, stands_live}
+use Rattle.ele_names.proofs.Newest.{row_known}
 use Rattle.ele_names.proofs.Numbers.{named_place}
 use Rattle.ele_names.proofs.Numbering.{rises_without, gone_at}
-
-filter_between : {X : Type 0} (p : X → Bool) (before : List X) (x : X) (behind : List X) → p x ≡ false → filter p (before ++ x ∷ behind) ≡ filter p (before ++ behind)
-filter_between p [] x behind h = grind (arith, nat_tests)
-filter_between p (b ∷ before) x behind h = grind (arith, nat_tests, filter_between p before x behind h)
 
 -- the last entry leaves the values before it
 pub last_gone : {X : Type 0} (rows : List X) (row : X) (es fs : List (ℕ × X)) (n : ℕ) (x : X) → es ≡ fs ++ (n, x) ∷ [] → values_of es ≡ rows ++ row ∷ [] → values_of fs ≡ rows
@@ -23,10 +20,6 @@ module _ (a : Inside) (kept : IsKept a.table a.lives) where
   abbrev names : List (ℕ × List ℕ)
   names = names_of a.lives
 
-  -- the name of each row has a number
-  pub row_known : (s : ℕ) (row : NameRow) → value_at es s ≡ Some row → number_in names row < length names
-  row_known s row at = let c = split_at es s row kept.is_table.rising at in all-mid (λ row. number_in names row < length names) c.before row c.behind (rw c.values at kept.is_table.known)
-
   module _ (s : ℕ) (row : NameRow) (at : value_at es s ≡ Some row) where
     c : IsSplitAt es s row
     c = split_at es s row kept.is_table.rising at
@@ -36,10 +29,6 @@ module _ (a : Inside) (kept : IsKept a.table a.lives) where
     live_target_is d n live = rw c.values ((leaves_without row c.before c.behind (rw c.values at kept.is_table.apart)).its d n live)
 
     module _ (live : is_none row.death ≡ true) (moment : ℕ) where
-      -- nothing of its name follows a live row
-      over : (b : NameRow) → Follows row b → Follows (dies moment row) b
-      over b follows = grind (arith, nat_tests, is_none, true≢false)
-
       pub kept_dead : (t : Table) (lives : Lives) → names_of lives ≡ names → AreListed lives → t.places.by_name ≡ a.table.places.by_name → (AreChained is_of (value_at es) a.table.places.of_file → AreChained is_of (value_at es) t.places.of_file)
           → t.rows.entries ≡ insert_entry nat_cmp es s (dies moment row)
           → ((was now : List NameRow) → Leaves row was now → AreCounted was a.lives → AreCounted now lives)
@@ -51,7 +40,7 @@ module _ (a : Inside) (kept : IsKept a.table a.lives) where
           rising = rw keys_are kept.is_table.rising;
           short = rw keys_are kept.is_table.short;
           born = rw rows_are (let born = rw c.values at kept.is_table.born in all-exchange (λ row. row.birth ≤ last_moment) c.before row (dies moment row) c.behind (all-mid (λ row. row.birth ≤ last_moment) c.before row c.behind born) born);
-          apart = rw rows_are (later-exchange Follows c.before row (dies moment row) c.behind (λ b h. record { apart = h.apart; born = h.born }) (λ rows. all-weaker (Follows row) (Follows (dies moment row)) rows over) (rw c.values at kept.is_table.apart));
+          apart = rw rows_are (later-exchange Follows c.before row (dies moment row) c.behind (λ b h. record { apart = h.apart; born = h.born }) (λ rows. all-weaker (Follows row) (Follows (dies moment row)) rows (λ b follows. grind (arith, nat_tests, is_none, true≢false))) (rw c.values at kept.is_table.apart));
           known = rw rows_are (let known = rw c.values at kept.is_table.known in all-exchange (λ row. number_in names row < length names) c.before row (dies moment row) c.behind (all-mid (λ row. number_in names row < length names) c.before row c.behind known) known);
           placed = record {
             named = rw by_name (index_change (value_at t.rows.entries) s row (dies moment row) a.table.places.by_name kept.is_table.placed.named at (λ q r. refl) now);
@@ -124,7 +113,7 @@ module _ (a : Inside) (kept : IsKept a.table a.lives) where
     fewer = rw (c.without, c.values) (omega (arith, length_append c.before c.behind, length_append c.before (row ∷ c.behind)))
 
     pub others_stay : (file : ℕ) → is_of file row ≡ true → filter (λ row. not (is_of file row)) (values_of (remove_entry (is_at (nat_cmp s)) es)) ≡ filter (λ row. not (is_of file row)) (rows_of a.table)
-    others_stay file its = rw (c.without, c.values) (sym (filter_between (λ row. not (is_of file row)) c.before row c.behind (ap not its)))
+    others_stay file its = rw (c.without, c.values) (rw (filter-append (λ row. not (is_of file row)) c.before c.behind, filter-append (λ row. not (is_of file row)) c.before (row ∷ c.behind), its) refl)
 
   -- the live row of a name
   module _ (d : ℕ) (n : List ℕ) (live : Live Target) (is : live_at a.lives d n ≡ Some live) where
@@ -135,7 +124,7 @@ module _ (a : Inside) (kept : IsKept a.table a.lives) where
     its_name = named_and_live d n found.row found.live
 
     pub found_known : place_in names d n < length names
-    found_known = subst (λ p. p < length names) (named_place names d n found.row its_name.0) (row_known live.serial found.row found.there)
+    found_known = subst (λ p. p < length names) (named_place names d n found.row its_name.0) (row_known names a.table kept.is_table live.serial found.row found.there)
 
     pub found_target : live.target ≡ found.row.target
     found_target = grind (arith, nat_tests, is, kept.counts.named d n, live_target_is live.serial found.row found.there d n found.live)

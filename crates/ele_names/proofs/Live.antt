@@ -21,15 +21,12 @@ pub own_name : (row : NameRow) → is_named row.directory row.name row ≡ true
 own_name row = itself (row.directory, row.name)
 
 -- a row has a name where it has that of the row
-named_alike : (row : NameRow) (d : ℕ) (n : List ℕ) → is_named d n row ≡ true → (e : ℕ) (m : List ℕ) → is_named e m row ≡ name_eq (d, n) (e, m)
-named_alike row d n named e m = ap (λ (k : ℕ × List ℕ). name_eq k (e, m)) (exact (row.directory, row.name) (d, n) named)
-
 pub set_of_name : (row : NameRow) (d : ℕ) (n : List ℕ) → is_named d n row ≡ true → (e : ℕ) (m : List ℕ) (live o p : Option (Live Target)) → p ≡ cond (name_eq (d, n) (e, m)) live o → p ≡ cond (is_named e m row) live o
-set_of_name row d n named e m live o p changed = rw (named_alike row d n named e m) changed
+set_of_name row d n named e m live o p changed = rw (ap (λ (k : ℕ × List ℕ). name_eq k (e, m)) (exact (row.directory, row.name) (d, n) named)) changed
 
 module _ (row : NameRow) (d : ℕ) (n : List ℕ) where
   unnamed : is_named d n row ≡ false → is_live_name d n row ≡ false
-  unnamed e = named_dead d n row (λ is. absurd (true≢false (sym is ∙ e)))
+  unnamed e = grind (arith, nat_tests, named_dead d n row)
 
   -- the row's name is live now
   pub entered : (was now : List NameRow) → Leaves row now was → is_none row.death ≡ true → (live : Live Target) (o p : Option (Live Target)) → p ≡ cond (is_named d n row) (Some live) o → live.target ≡ row.target
@@ -68,7 +65,4 @@ pub record LiveRow (at : ℕ → Option NameRow) (d : ℕ) (n : List ℕ) (s : �
   pub live : is_live_name d n row ≡ true
 
 pub stands_live : (at : ℕ → Option NameRow) (lives : Lives) → AreNumbered at lives → (d : ℕ) (n : List ℕ) (live : Live Target) → live_at lives d n ≡ Some live → LiveRow at d n live.serial
-stands_live at lives numbered d n live found = by (at live.serial) refl (numbered.each d n live found) where
-  by : (o : Option NameRow) → at live.serial ≡ o → option_map_or (is_live_name d n) o false ≡ true → LiveRow at d n live.serial
-  by None there known = absurd (false≢true known)
-  by (Some row) there known = record { row = row; there = there; live = known }
+stands_live at lives numbered d n live found = grind (arith, nat_tests, numbered.each d n live found)

@@ -3,28 +3,18 @@ use Rattle.ele_names.proofs.Words.{◌≡◌, ℕ, ◌≤◌, ◌<◌, ◌^◌, 
 use Rattle.ele_names.proofs.Apart.{same_name}
 use Rattle.ele_names.proofs.Numbers.{named_place, one_place}
 
-both : (x y : Ordering) → is_eq (ordering_then x y) ≡ (is_eq x && is_eq y)
-both x y = grind (arith, nat_tests)
-
-born : (a : Bool) (b t : ℕ) → (a && nat_le b t) ≡ true → (a ≡ true) × (b ≤ t)
-born a b t h = grind (arith, nat_tests)
-
-itself : (b : ℕ) → (b == b) ≡ true
-itself b = grind (arith, nat_tests)
+-- the name of each row has a number
+pub row_known : (names : List (ℕ × List ℕ)) (table : Table) → IsTable names table → (s : ℕ) (row : NameRow) → value_at table.rows.entries s ≡ Some row → number_in names row < length names
+row_known names table is s row there = let c = split_at table.rows.entries s row is.rising there in all-mid (λ row. number_in names row < length names) c.before row c.behind (rw c.values at is.known)
 
 module _ (names : List (ℕ × List ℕ)) (table : Table) (is : IsTable names table) (d : ℕ) (n : List ℕ) (t : ℕ) where
   -- no row has a name that was never given
   pub none_known : place_in names d n ≡ length names → None ≡ last_passing (is_born_by d n t) (rows_of table)
-  none_known unknown = sym (none_last (is_born_by d n t) table.rows.entries is.rising (λ s row there. not_true (is_born_by d n t row) (λ passes.
-      let c = split_at table.rows.entries s row is.rising there in
-      let inside = all-mid (λ row. number_in names row < length names) c.before row c.behind (rw c.values at is.known) in
-      grind (arith, nat_tests, passes, inside, named_place names d n row, unknown))))
+  none_known unknown = sym (none_last (is_born_by d n t) table.rows.entries is.rising (λ s row there. not_true (is_born_by d n t row) (λ passes. grind (arith, nat_tests, passes, row_known names table is s row there, named_place names d n row, unknown))))
 
   module _ (g : ℕ) (is_its : g ≡ place_in names d n) (inside : g < length names) where
     placed_named : (row : NameRow) (r : ℕ) → is_placed nat_cmp (number_in names row) row.birth g r ≡ (is_named d n row && (row.birth == r))
-    placed_named row r =
-        both (nat_cmp (number_in names row) g) (nat_cmp row.birth r)
-        ∙ rw (unsigned_tied (number_in names row) g, unsigned_tied row.birth r, is_its, one_place names (row.directory, row.name) (d, n) (rw (← is_its) inside)) refl
+    placed_named row r = grind (arith, nat_tests, unsigned_tied, one_place names (row.directory, row.name) (d, n))
 
     abbrev pub has_at : ℕ → ℕ → Bool
     has_at = has nat_cmp table.places.by_name g
@@ -34,12 +24,11 @@ module _ (names : List (ℕ × List ℕ)) (table : Table) (is : IsTable names ta
 
     -- a row of the name stands at its birth
     stands : (s : ℕ) (row : NameRow) → at s ≡ Some row → is_named d n row ≡ true → has_at row.birth s ≡ true
-    stands s row there named = grind (arith, nat_tests, placed_named, itself)
+    stands s row there named = grind (arith, nat_tests, placed_named)
 
     pub none_newest : ((r s : ℕ) → r ≤ t → s < 2 ^ 64 → has_at r s ≡ false) → None ≡ last_passing (is_born_by d n t) (rows_of table)
     none_newest none = sym (none_last (is_born_by d n t) table.rows.entries is.rising (λ s row there. not_true (is_born_by d n t row) (λ passes.
-        let by = born (is_named d n row) row.birth t passes in
-        false≢true (sym (none row.birth s by.1 (found_key (λ k. k < 2 ^ 64) table.rows.entries s row is.short there)) ∙ stands s row there by.0))))
+        grind (arith, nat_tests, passes, none row.birth s, found_key (λ k. k < 2 ^ 64) table.rows.entries s row is.short there, stands s row there))))
 
     module _ (r s : ℕ) (last : IsLastOf has_at t r s) where
       gone : at s ≡ None → ⊥

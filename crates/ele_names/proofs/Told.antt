@@ -10,7 +10,7 @@ module _ {K : Type 0} (cmp : K → K → Ordering) (about : K → Option Target)
   AreTold rest entries = (k : K) → (lookup (is_at (cmp k)) entries ≡ about k) ⊎ ((lookup (is_at (cmp k)) entries ≡ None) × (rest k ≡ true))
 
   pub told_all : (entries : List (K × Target)) → AreTold (λ _. false) entries → (k : K) → lookup (is_at (cmp k)) entries ≡ about k
-  told_all entries told k = elim (told k) [ inl is ↦ is | inr later ↦ absurd (false≢true later.1) ]
+  told_all entries told k = grind (arith, told k)
 
   pub told_one : IsTotalOrder cmp → CmpEqualImpliesEq cmp → (rest left : K → Bool) (entries : List (K × Target)) (key : K) (target : Option Target)
       → ((k : K) → rest k ≡ true → (k ≡ key) ⊎ (left k ≡ true)) → target ≡ about key
@@ -23,8 +23,7 @@ is_left names d next n = option_map_or (λ r. nat_le (place_in names d n) r) nex
 
 -- what passes below a bound isn't above the last that does
 not_above : (passes : ℕ → Bool) (bound p : ℕ) (next : Option ℕ) → IsLastBelow passes bound next → passes p ≡ true → p < bound → option_map_or (λ r. nat_le p r) next false ≡ true
-not_above passes bound p None last there lt = absurd (false≢true (sym (last p lt) ∙ there))
-not_above passes bound p (Some r) last there lt = grind (arith, nat_tests, last, cases_lt, nat_le, false≢true)
+not_above passes bound p x0 last there lt = grind (arith, nat_tests, last, cases_lt, nat_le, false≢true)
 
 module _ (a : Inside) (kept : IsKept a.table a.lives) where
   abbrev names : List (ℕ × List ℕ)
@@ -50,8 +49,7 @@ module _ (a : Inside) (kept : IsKept a.table a.lives) where
     list_begun next is n = grind (arith, nat_tests, known names d n, not_above in_directory (2 ^ 64) (place_in names d n) next, is, kept.listed.each.newest d, listed n, kept.listed.few, never_at moment d n)
 
     some : (bound : ℕ) (o : Option ℕ) → IsLastBelow in_directory bound o → IfSome o (λ r. in_directory r ≡ true)
-    some bound None last = tt
-    some bound (Some r) last = last.there
+    some bound x0 last = grind (arith, nat_tests, last)
 
     -- the next to come is of the directory
     pub list_first : (next : Option ℕ) → next ≡ newest_in a.lives.in_directory d → IfSome next (λ r. in_directory r ≡ true)

@@ -50,6 +50,7 @@ pub use Rattle.std.proofs.lemmas.Iterator.{YieldsList-from_map, YieldsList-from_
 pub use Rattle.std.proofs.lemmas.List.Folds.{position_or_len_push}
 pub use Rattle.std.proofs.lemmas.List.Sums.{prefix_len-le-length}
 pub use Rattle.std.proofs.lemmas.List.{get_or_append_left, get_or_push, length-map, map-append, same_from_push}
+pub use Rattle.std.proofs.lemmas.List.Elements.{filter-append}
 pub use Rattle.std.proofs.lemmas.Map.Lookups.{CmpEqualImpliesEq, exact_bytes, exact_pairs, exact_unsigned}
 pub use Rattle.std.proofs.lemmas.Option.{slice_get-get_or as slice_got, slice_get_past, slice_get_read, slice_get_within}
 pub use Rattle.std.proofs.lemmas.Result.{err_from_is_err_and}

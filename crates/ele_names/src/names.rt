@@ -134,7 +134,7 @@ impl Names {
     }
 
     // Takes out one row of the file, if there is one, and answers whether there was.
-    #[tactic(auto, using(crate::proofs::Words::nat_tests, crate::proofs::Gone::fewer, crate::proofs::Gone::row_known))]
+    #[tactic(auto, using(crate::proofs::Words::nat_tests, crate::proofs::Gone::fewer, crate::proofs::Newest::row_known))]
     fn drop_one(&mut self, file: FileId) -> bool
         ensures others { filter (λ row. not (is_of file row)) self.new
             ≡ filter (λ row. not (is_of file row)) self.old }

@@ -23,10 +23,7 @@ returns-in_err-enter-clause-listed c =
 
 pub returns-clause-number : goal.returns-clause-number
 returns-clause-number c =
-    rw (pushed c) (
-      next c ∙ sym (pushed_place (names_of (old c)) (c.args.directory, c.args.name) c.in_default.ensures.none),
-      rw (length_append (names_of (old c)) ((c.args.directory, c.args.name) ∷ [])) (omega (arith, next c)),
-    )
+    rw (pushed c) (grind (arith, next c, pushed_place (names_of (old c)) (c.args.directory, c.args.name) c.in_default.ensures.none, length_append))
 
 pub returns-clause-places : goal.returns-clause-places
 returns-clause-places c = rw (pushed c) (keeps_pushed (names_of (old c)) (c.args.directory, c.args.name))

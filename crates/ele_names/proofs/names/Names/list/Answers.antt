@@ -1,10 +1,6 @@
 use Rattle.ele_names.proofs.Lemmas.{ℕ, suc, ◌<◌, Option, Some, None, arith, IfSome, option_map_or, Ok, slice_cmp, nat_cmp, AllocError, nat_list_cmp_total, items_from_collect, YieldsList-from_rest, exact_bytes, target_at, rows_of, names_of, is_left, list_begun, list_first, list_next, list_second, list_smaller, list_stands, told_all, told_one}
 use Rattle.ele_names.proofs.names.Names.list.Goals as goal
 
-less : (o : Option ℕ) (r : ℕ) → IfSome o (λ s. s < r) → option_map_or suc o 0 < suc r
-less None r h = omega arith
-less (Some s) r h = omega (arith, h)
-
 pub loop-next-init : goal.loop-next-init
 loop-next-init c = (
   list_first c.self.inside c.self.invariant c.args.moment c.args.directory c.newest-next.result (rw c.directory.view_is at c.newest-next.ensures),
@@ -15,8 +11,7 @@ pub unreachable-requires : goal.unreachable-requires
 unreachable-requires c = list_stands c.self.inside c.self.invariant c.args.moment c.args.directory c.in-Some.number (rw c.in-Some.is at c.loop-next.invariant.0) c.in_default-name.ensures
 
 pub loop-next-smaller : goal.loop-next-smaller
-loop-next-smaller c = rw c.in-Some.is (less c.older-next.result c.in-Some.number
-    (list_smaller c.self.inside c.self.invariant c.args.moment c.args.directory c.in-Some.number c.in-Some-name.name c.in-Some-name.ensures (rw c.in-Some.is at c.loop-next.invariant.0) c.older-next.result c.older-next.ensures))
+loop-next-smaller c = rw c.in-Some.is (let less = list_smaller c.self.inside c.self.invariant c.args.moment c.args.directory c.in-Some.number c.in-Some-name.name c.in-Some-name.ensures (rw c.in-Some.is at c.loop-next.invariant.0) c.older-next.result c.older-next.ensures in grind (arith, less))
 
 pub loop-next-preserved : goal.loop-next-preserved
 loop-next-preserved c =

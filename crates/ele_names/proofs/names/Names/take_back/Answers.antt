@@ -4,7 +4,7 @@ use Rattle.ele_names.proofs.names.Names.take_back.Goals as goal
 pub unreachable-requires-in_default-number : goal.unreachable-requires-in_default-number
 unreachable-requires-in_default-number c =
     let at = at_last c.in-Some.serial c.in-Some.row _ _ c.in-Some.ensures.some c.in-Some.ensures.below in
-    absurd (omega (arith, row_known c.self.inside c.self.invariant c.in-Some.serial c.in-Some.row at, c.in_default-number.ensures.none))
+    absurd (omega (arith, row_known _ c.self.inside.table c.self.invariant.is_table c.in-Some.serial c.in-Some.row at, c.in_default-number.ensures.none))
 
 pub invariant_of-self : goal.invariant_of-self
 invariant_of-self c =
