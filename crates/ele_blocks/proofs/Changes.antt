@@ -1,5 +1,5 @@
 -- What a write and a truncate make of a map and its store.
-use Rattle.ele_blocks.proofs.Lemmas.{slice_get-map, [], ap, append-nil, AreSized, arith, backed_there, Bool, bytes_of, Cell, cell_by, cell_of, cond, content_after_truncate, content_after_write, content_of, drop, drop_all, false, fill_by_all, flat-at, flat-laid, flat-take, flat_map, flat_map-map, Hands, hands_none, hands_with, is_between, is_whole_by, IsReplaced, IsResized, IsRewritten, IsWritten, Layout, leaf_at, length, length-append, length-chunks, length-content, length-drop, length-map, length-pieces, length-replicate, length-spliced, length-take, List, LivesIn, longest_content, map, max, meets, min, moved_one, nat_tests, nil_from_length, no_cell, pieces, pieces_between, pieces_joined, pieces_sized, pieces_taken, range_with_len, refits, refl, Renews, shown, sized-count, sized-is, sized-laid, sized-length, sized-map, sized-take, slice_get-get_or, Slot, slot_bytes, slot_count, slots_of, spliced_part, Store, sym, take, take-add, take-append-drop, take-take, take_all, times, whole_is, writer_at, ℕ, ◌*◌, ◌++◌, ◌+◌, ◌-◌, ◌/◌, ◌<◌, ◌∙◌, ◌≡◌, ◌≤◌, ◌⊎◌}
+use Rattle.ele_blocks.proofs.Lemmas.{slice_get-map, [], ap, append-nil, AreSized, arith, backed_there, Bool, bytes_of, Cell, cell_by, cell_of, cond, content_after_truncate, content_after_write, content_of, drop, drop_all, false, fill_by_all, flat-at, flat-laid, flat-take, flat_map, flat_map-map, Hands, hands_with, is_between, is_whole_by, IsReplaced, IsResized, IsRewritten, IsWritten, Layout, leaf_at, length, length-append, length-chunks, length-content, length-drop, length-map, length-replicate, length-spliced, length-take, List, LivesIn, longest_content, map, max, meets, min, moved_one, nat_tests, nil_from_length, no_cell, pieces, pieces_between, pieces_are, pieces_taken, range_with_len, refits, refl, Renews, shown, sized-count, sized-is, sized-laid, sized-length, sized-map, sized-take, slice_get-get_or, Slot, slot_bytes, slot_count, slots_of, spliced_part, Store, sym, take, take-add, take-append-drop, take-take, take_all, times, whole_is, writer_at, ℕ, ◌*◌, ◌++◌, ◌+◌, ◌-◌, ◌/◌, ◌<◌, ◌∙◌, ◌≡◌, ◌≤◌, ◌⊎◌}
 use Rattle.ele_content.specs.Content.{cells_after_truncate, cells_after_write}
 use Rattle.std.proofs.lemmas.Simd.{map-map}
 
@@ -39,23 +39,18 @@ module _ (s t : Store) (m new : Layout) (w first kept : ℕ) (staged : List (Lis
   sized_old : AreSized 512 bytes_of (min m.size (512 * kept)) (take kept (shown s m))
   sized_old = sized-take 512 bytes_of (omega arith) kept m.size (shown s m) sized_whole
 
-  its_bytes : map (λ piece. piece) staged ≡ map bytes_of (map (cell_by w) staged)
-  its_bytes = sym (map-map bytes_of (cell_by w) staged)
-
   same_count : length (map (cell_by w) staged) ≡ length staged
   same_count = length-map staged (cell_by w)
 
   pub laid_content : content_of (shown t new) ≡ take (512 * first) base ++ (patch ++ drop (512 * (first + length staged)) base)
   laid_content =
-      let own : flat_map bytes_of (map (cell_by w) staged) ≡ patch = flat_map-map bytes_of (cell_by w) staged ∙ (ap (flat_map (λ piece. piece)) cut ∙ pieces_joined patch) in
+      let own : flat_map bytes_of (map (cell_by w) staged) ≡ patch = flat_map-map bytes_of (cell_by w) staged ∙ (ap (flat_map (λ piece. piece)) cut ∙ (pieces_are patch).2) in
       ap content_of h.cells ∙ (flat-laid 512 bytes_of (omega arith) first (min m.size (512 * kept)) (map (cell_by w) staged) (take kept (shown s m)) sized_old ∙ rw (flat-take 512 bytes_of (omega arith) kept m.size (shown s m) sized_whole, own, same_count) refl)
 
   pub laid_bytes : AreSized 512 bytes_of (512 * first + (length patch + (min m.size (512 * kept) - 512 * (first + length staged)))) (shown t new)
   laid_bytes =
-      let reach : (length patch ≡ 512 * length (map (cell_by w) staged)) ⊎ (min m.size (512 * kept) ≤ 512 * (first + length (map (cell_by w) staged))) = grind (arith, fit, same_count) in
-      let few = sized-count 512 bytes_of (omega arith) (min m.size (512 * kept)) (take kept (shown s m)) sized_old in
-      let new_sized = sized-map 512 (λ piece. piece) bytes_of (length patch) staged (map (cell_by w) staged) its_bytes (rw (← cut) at (pieces_sized patch)) in
-      rw (h.cells, ← same_count) (sized-laid 512 bytes_of (omega arith) first (min m.size (512 * kept)) (length patch) (map (cell_by w) staged) (take kept (shown s m)) sized_old new_sized (omega (arith, few, kept_le, le, start)) (omega (arith, le, start)) reach)
+      let new_sized = sized-map 512 (λ piece. piece) bytes_of (length patch) staged (map (cell_by w) staged) (sym (map-map bytes_of (cell_by w) staged)) (rw (← cut) at (pieces_are patch).1) in
+      grind (arith, h.cells, same_count, fit, kept_le, le, start, sized-count 512 bytes_of (omega arith) (min m.size (512 * kept)) (take kept (shown s m)) sized_old, sized-laid 512 bytes_of (omega arith) first (min m.size (512 * kept)) (length patch) (map (cell_by w) staged) (take kept (shown s m)) sized_old new_sized)
 
 -- ---- the cells of a write and of a truncate
 
@@ -102,15 +97,10 @@ module _ (s : Store) (m : Layout) (w o f : ℕ) (x : List ℕ) (staged : List (L
       let content = content_of (shown s m) in
       let after = content_after_write content o x in
       let test = meets (min o m.size) (o + length x) in
-      let start : 512 * f ≤ m.size = omega (arith, is_f) in
-      let le : f ≤ slot_count m.size = omega (arith, is_f) in
-      let all : take (512 * slot_count m.size) content ≡ content = take_all (512 * slot_count m.size) content (omega (arith, whole_long)) in
       let fit : 512 * (f + length staged) < min m.size (512 * slot_count m.size) → length patch ≡ 512 * length staged = λ lt. omega (arith, lt, reach, patch_long, staged_count) in
-      let part : after ≡ take (512 * f) content ++ (patch ++ drop (512 * (f + length staged)) content) = spliced_part content o (512 * f) (512 * many) (512 * (f + length staged)) x (omega (arith, is_f)) (omega (arith, start, whole_long)) (omega (arith, reach)) (omega (arith, staged_count)) in
-      let is : content_of (shown t new) ≡ after = laid_content s t m new w f (slot_count m.size) staged patch lives h cut (omega arith) le start fit ∙ rw all (sym part) in
-      let bytes = sized-is 512 bytes_of (omega arith) (512 * f + (length patch + (min m.size (512 * slot_count m.size) - 512 * (f + length staged)))) new.size (shown t new) (omega (arith, size, reach, patch_long, is_f, staged_count, some)) (laid_bytes s t m new w f (slot_count m.size) staged patch lives h cut (omega arith) le start fit) in
-      let same : (slot : ℕ) → test slot ≡ is_between f (f + length staged) slot = λ slot. grind (arith, nat_tests, some, is_f, reach) in
-      rewritten s t m new w test after (length (slots_of t new)) h.hands h.filled (renews_as s t w (is_between f (f + length staged)) test m new same h.renews) is bytes (omega (arith, size, short, (whole_is s m lives.whole).short)) (max m.size (o + length x)) (cells_after_write w o x (shown s m)) size (written_cells s m w o new.size x lives size)
+      let is : content_of (shown t new) ≡ after = grind (arith, laid_content s t m new w f (slot_count m.size) staged patch lives h cut (omega arith) (omega (arith, is_f)) (omega (arith, is_f)) fit, take_all (512 * slot_count m.size) content, spliced_part content o (512 * f) (512 * many) (512 * (f + length staged)) x, whole_long, reach, staged_count, is_f) in
+      let bytes = sized-is 512 bytes_of (omega arith) (512 * f + (length patch + (min m.size (512 * slot_count m.size) - 512 * (f + length staged)))) new.size (shown t new) (omega (arith, size, reach, patch_long, is_f, staged_count, some)) (laid_bytes s t m new w f (slot_count m.size) staged patch lives h cut (omega arith) (omega (arith, is_f)) (omega (arith, is_f)) fit) in
+      rewritten s t m new w test after (length (slots_of t new)) h.hands h.filled (renews_as s t w (is_between f (f + length staged)) test m new (λ slot. grind (arith, nat_tests, some, is_f, reach)) h.renews) is bytes (omega (arith, size, short, (whole_is s m lives.whole).short)) (max m.size (o + length x)) (cells_after_write w o x (shown s m)) size (written_cells s m w o new.size x lives size)
 
 -- ---- a truncate to fewer bytes: f slots stay whole, and kept slots stay
 
@@ -119,24 +109,16 @@ module _ (s : Store) (m : Layout) (w size f kept : ℕ) (staged : List (List ℕ
   cut_long = omega (arith, length-take (size - 512 * f) (slot_bytes (content_of (shown s m)) f), length-take 512 (drop (512 * f) (content_of (shown s m))), length-drop (512 * f) (content_of (shown s m)), length-content s m lives.whole, is_f, less)
 
   pub cut_reach : f + length staged ≡ kept
-  cut_reach = omega (arith, ap length is_staged, length-pieces (take (size - 512 * f) (slot_bytes (content_of (shown s m)) f)), cut_long, is_f, is_kept)
+  cut_reach = omega (arith, ap length is_staged, (pieces_are (take (size - 512 * f) (slot_bytes (content_of (shown s m)) f))).0, cut_long, is_f, is_kept)
 
   pub cut_change : (t : Store) (new : Layout) → new.size ≡ size → IsReplaced s t w f kept staged m new → IsResized s t w size m new
   cut_change t new is h =
       let content = content_of (shown s m) in
       let patch = take (size - 512 * f) (slot_bytes content f) in
-      let whole_long = length-content s m lives.whole in
-      let kept_le : kept ≤ slot_count m.size = omega (arith, is_kept, less) in
-      let le : f ≤ kept = omega (arith, is_f, is_kept) in
-      let start : 512 * f ≤ m.size = omega (arith, is_f, less) in
       let fit : 512 * (f + length staged) < min m.size (512 * kept) → length patch ≡ 512 * length staged = λ lt. absurd (omega (arith, lt, cut_reach)) in
-      let mid : patch ≡ take (size - 512 * f) (drop (512 * f) content) = take-take (size - 512 * f) 512 (drop (512 * f) content) (omega (arith, is_f)) in
-      let tail : drop (512 * (f + length staged)) (take (512 * kept) content) ≡ [] = drop_all (512 * (f + length staged)) (take (512 * kept) content) (omega (arith, length-take (512 * kept) content, cut_reach)) in
-      let after : content_of (shown t new) ≡ content_after_truncate content size = laid_content s t m new w f kept staged patch lives h is_staged kept_le le start fit
-      ∙ grind (arith, le, mid, tail, whole_long, less, is_f, take-take (512 * f) (512 * kept) content, append-nil, take-add (512 * f) (size - 512 * f) content) in
-      let bytes = sized-is 512 bytes_of (omega arith) (512 * f + (length patch + (min m.size (512 * kept) - 512 * (f + length staged)))) new.size (shown t new) (omega (arith, is, cut_long, cut_reach, is_f)) (laid_bytes s t m new w f kept staged patch lives h is_staged kept_le le start fit) in
-      let same : (slot : ℕ) → refits m.size size slot ≡ is_between f (f + length staged) slot = λ slot. grind (arith, nat_tests, less, is_f, cut_reach, is_kept) in
-      rewritten s t m new w (refits m.size size) (content_after_truncate content size) (length (slots_of t new)) h.hands h.filled (renews_as s t w (is_between f (f + length staged)) (refits m.size size) m new same h.renews) after bytes (omega (arith, is, less, (whole_is s m lives.whole).short)) size (cells_after_truncate w size (shown s m)) is (rw is (resized_cells s m w size lives))
+      let after : content_of (shown t new) ≡ content_after_truncate content size = grind (arith, laid_content s t m new w f kept staged patch lives h is_staged (omega (arith, is_kept, less)) (omega (arith, is_f, is_kept)) (omega (arith, is_f, less)) fit, take-take (size - 512 * f) 512 (drop (512 * f) content), drop_all (512 * (f + length staged)) (take (512 * kept) content), length-take (512 * kept) content, cut_reach, length-content s m lives.whole, less, is_f, is_kept, take-take (512 * f) (512 * kept) content, append-nil, take-add (512 * f) (size - 512 * f) content) in
+      let bytes = sized-is 512 bytes_of (omega arith) (512 * f + (length patch + (min m.size (512 * kept) - 512 * (f + length staged)))) new.size (shown t new) (omega (arith, is, cut_long, cut_reach, is_f)) (laid_bytes s t m new w f kept staged patch lives h is_staged (omega (arith, is_kept, less)) (omega (arith, is_f, is_kept)) (omega (arith, is_f, less)) fit) in
+      rewritten s t m new w (refits m.size size) (content_after_truncate content size) (length (slots_of t new)) h.hands h.filled (renews_as s t w (is_between f (f + length staged)) (refits m.size size) m new (λ slot. grind (arith, nat_tests, less, is_f, cut_reach, is_kept)) h.renews) after bytes (omega (arith, is, less, (whole_is s m lives.whole).short)) size (cells_after_truncate w size (shown s m)) is (rw is (resized_cells s m w size lives))
 
 -- ---- what changes nothing
 
@@ -144,7 +126,7 @@ module _ (s : Store) (m : Layout) (w : ℕ) (lives : LivesIn s m) where
   stays : (test : ℕ → Bool) (after : List ℕ) (cells : List Cell) → ((slot : ℕ) → test slot ≡ false) → content_of (shown s m) ≡ after → slots_by test w (shown s m) after m.size ≡ cells → IsRewritten s s w test m.size after cells m m
   stays test after cells none same are =
       let whole = whole_is s m lives.whole in
-      let hands = hands_with s s _ _ (λ q. times q m.leaves) (λ q. times q m.leaves) (λ q. times q m.leaves) (hands_none s) (λ q. omega arith) (λ q. omega arith) in
+      let hands : Hands s s (λ q. times q m.leaves) (λ q. times q m.leaves) = grind (arith) in
       let renews : Renews s s w test m m = grind (arith, none, backed_there s m.leaves lives.backed) in
       rewritten s s m m w test after (slot_count m.size) hands whole.leaves renews same whole.bytes whole.short m.size cells refl are
 

@@ -36,9 +36,6 @@ module _ {X : Type 0} where
   pub sets_less : (values : List (Option X)) (counts : List ℕ) (id : ℕ) → 0 < owners (counted values counts) id → 1 < get_or counts id 0 → Sets (counted values counts) (counted values (set counts id (get_or counts id 0 - 1))) id (released (place_at (counted values counts) id))
   sets_less vs cs id lt many = grind (arith, nat_tests, place-counted, is_counted, get_or-set_same, get_or-set_other)
 
-  last_leaves : (place : Option (Counted X)) → owners_of place ≤ 1 → leaving place ≡ value_of place
-  last_leaves o le = grind (arith, nat_tests)
-
   pub none_leaves : (place : Option (Counted X)) → 1 < owners_of place → leaving place ≡ None
   none_leaves o lt = grind (arith, nat_tests)
 
@@ -46,7 +43,7 @@ module _ {X : Type 0} where
   sets_gone vs new cs id le gone others = grind (arith, nat_tests, place-counted)
 
   pub leaves_with_last : (values : List (Option X)) (counts : List ℕ) (id : ℕ) → owners (counted values counts) id ≤ 1 → leaving (place_at (counted values counts) id) ≡ get_or values id None
-  leaves_with_last vs cs id le = rw (last_leaves (place_at (counted vs cs) id) le) (value-counted vs cs id)
+  leaves_with_last vs cs id le = grind (arith, nat_tests, place-counted)
 
   pub sets_new : (values new : List (Option X)) (counts : List ℕ) (id : ℕ) (value : X) → id < length counts → get_or new id None ≡ Some value → ((other : ℕ) → other ≢ id → get_or new other None ≡ get_or values other None) → Sets (counted values counts) (counted new (set counts id 1)) id (Some (record { value = value; owners = 1 }))
   sets_new vs new cs id v lt is others = grind (arith, place-counted, get_or-set_same, get_or-set_other)

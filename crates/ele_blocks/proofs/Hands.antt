@@ -2,7 +2,7 @@
 use Rattle.ele_blocks.proofs.Words.{[], ap, AreBacked, AreThere, arith, backing, bytes_at, cell_of, Counted, Covers, get_or, Hands, ids_of, is_whole, Layout, leaf_at, leaving, length, length-take-le, List, LivesIn, map, map-append, Moves, nat_tests, None, Option, owners, place_at, refl, released, Sets, shared, Slot, slot_count, slots_in, Some, Store, take, times, Trades, true, unwrap_or, value_of, ℕ, ◌+◌, ◌<◌, ◌^◌, ◌∷◌, ◌≡◌, ◌≤◌}
 use Rattle.ele_blocks.proofs.Sized.{fills-map}
 use Rattle.ele_blocks.proofs.Backing.{backing_sets, backing_least, slots_backed, slots_least}
-use Rattle.ele_blocks.proofs.Trades.{times-le-length, shared_value, released_value, trades_share, trades_release, leaving_last, one_more, times_next}
+use Rattle.ele_blocks.proofs.Trades.{times-le-length, shared_value, released_value, trades_share, trades_release, one_more, times_next}
 
 pub cells_each : (s t : Store) (slots : List Slot) → ((id : ℕ) → 0 < times id (ids_of slots) → bytes_at t id ≡ bytes_at s id) → map (cell_of t) slots ≡ map (cell_of s) slots
 cells_each s t [] same = refl
@@ -35,7 +35,7 @@ module _ (s t : Store) (leaf : ℕ) (there : 0 < owners s.leaves leaf) where
 
   module _ (slots : List Slot) (last : Some slots ≡ leaving (place_at s.leaves leaf)) (backed : AreBacked s (leaf_at s leaf)) where
     its_slots : leaf_at s leaf ≡ slots
-    its_slots = ap (λ v. unwrap_or v []) (leaving_last (place_at s.leaves leaf) slots there last).value
+    its_slots = grind (arith, nat_tests, last, there)
 
     -- its blocks count it
     pub leaf_covered : Covers s.blocks (ids_of slots)
@@ -44,7 +44,7 @@ module _ (s t : Store) (leaf : ℕ) (there : 0 < owners s.leaves leaf) where
     -- a leaf goes with its last owner, and its blocks have an owner fewer
     pub leaf_goes : Sets s.leaves t.leaves leaf (released (place_at s.leaves leaf)) → Trades s.blocks t.blocks (ids_of slots) [] → Hands s t (λ q. times q (leaf ∷ [])) (λ q. 0)
     leaf_goes sets freed =
-        let left : (id : ℕ) → backing t.leaves id + times id (ids_of slots) ≡ backing s.leaves id = λ id. grind (arith, leaving_last, backing_sets s.leaves t.leaves leaf (released (place_at s.leaves leaf)) id sets, its_slots) in
+        let left : (id : ℕ) → backing t.leaves id + times id (ids_of slots) ≡ backing s.leaves id = λ id. grind (arith, nat_tests, last, there, backing_sets s.leaves t.leaves leaf (released (place_at s.leaves leaf)) id sets, its_slots) in
         grind (arith, trades_release s.leaves t.leaves leaf there sets, left, freed, backed, backing_least, cells_each, its_slots)
 
 -- ---- along a list of leaves: those so far, and one more

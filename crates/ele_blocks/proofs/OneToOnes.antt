@@ -75,9 +75,5 @@ module _ (s t : Store) (w file : ℕ) (p : ℕ → Bool) (was now : Layout) (res
   of_name : (n : Named) → IsIn n (names_of t file now ++ rest) → IsFresh n ⊎ IsOld n
   of_name n i = grind (arith, of_slot n, slot_from, in_back, none n, owned n, in_either n (names_of t file now) rest i)
 
-  -- a fresh block is named once
-  once : (m : Named) → (h : IsFresh m) → times h.cell.block (ids_of (slots_of t now)) ≤ 1
-  once m h = renews.once h.cell.block h.free
-
   pub stays_one_to_one : AreOneToOne (names_of t file now ++ rest)
   stays_one_to_one m n i j = grind (arith, nat_tests, times_two, false≢true, of_name)

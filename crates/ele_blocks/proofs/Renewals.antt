@@ -22,7 +22,7 @@ pub record IsStaged (s b1 : Blocks) (window : List Slot) (first : ℕ) (fresh : 
 
 module _ {s b1 : Blocks} {window : List Slot} {first : ℕ} {fresh : List ℕ} (h : IsStaged s b1 window first fresh) where
   pub front_there : (id : ℕ) → 0 < times id (ids_of (take first window)) → 0 < owners b1 id
-  front_there id some = omega (arith, h.there id (omega (arith, some, times-split id first window)), h.adds.trades.owed id)
+  front_there id some = grind (arith, h.there id, h.adds.trades.owed id, times-split id first window)
 
   pub front_few : (id : ℕ) → 0 < times id (ids_of (take first window)) → owners b1 id + length (take first window) ≤ 2 ^ 63
   front_few id some = grind (arith, nat_tests, times-split, length-take-le)

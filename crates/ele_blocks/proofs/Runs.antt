@@ -1,10 +1,11 @@
 -- New slots over the first slots of a map, and new leaves in place of the run of those that they meet.
-use Rattle.ele_blocks.proofs.Lemmas.{[], ap, append-nil, append_assoc, AreBacked, AreSized, AreThere, arith, backed_there, cell_by, cell_of, chunks_joined, cond, Covers, drop, drop-append-le, drop-drop, drop_all, drop_past, flat-drop, flat-take, flat_map, flat_map-append, flat_map-map, get_or, get_or-map, hands_with, ids_of, inl, inr, is_between, IsRenewed, IsReplaced, laid_at, laid_over, Layout, leaf_at, leaf_count, leaf_there, leaves-count, length, length-append, length-chunks, length-drop, length-laid_over, length-map, length-take, length-take-le, List, LivesIn, map, map-append, map-id, max, min, nat_tests, order, owners_at, parts, refl, Renews, shown, sized-append, sized-chunks, sized-count, sized-drop, sized-is, sized-length, sized-map, sized-take, slice_get, slice_get-get_or, slice_get-take, Slot, slot_by, slot_count, slots-count, slots_in, slots_of, stay_in, StayIn, Store, sym, take, take-add, take-append-drop, take-append-le, take-map, take-take, take_all, take_at, take_past, times, times-append, times-split, one_more, whole_is, ℕ, ⊎_elim, ◌*◌, ◌++◌, ◌+◌, ◌-◌, ◌/◌, ◌<◌, ◌∙◌, ◌≡◌, ◌≤◌, ◌⊎◌}
+use Rattle.ele_blocks.proofs.Lemmas.{[], ap, append-nil, append_assoc, AreBacked, AreSized, AreThere, arith, backed_there, cell_by, cell_of, chunks_joined, cond, Covers, drop, drop-append-le, drop-drop, drop_all, flat-drop, flat-take, flat_map, flat_map-append, flat_map-map, get_or, get_or-map, hands_with, ids_of, inl, inr, is_between, IsRenewed, IsReplaced, laid_at, laid_over, Layout, leaf_at, leaf_count, leaf_there, leaves-count, length, length-append, length-chunks, length-drop, length-laid_over, length-map, length-take, length-take-le, List, LivesIn, map, map-append, map-id, max, min, nat_tests, order, owners_at, parts, refl, Renews, shown, sized-append, sized-chunks, sized-count, sized-drop, sized-is, sized-length, sized-map, sized-take, slice_get, slice_get-get_or, slice_get-take, Slot, slot_by, slot_count, slots-count, slots_in, slots_of, stay_in, StayIn, Store, sym, take, take-add, take-append-drop, take-append-le, take-map, take-take, take_all, take_at, times, times-append, times-split, one_more, whole_is, ℕ, ⊎_elim, ◌*◌, ◌++◌, ◌+◌, ◌-◌, ◌/◌, ◌<◌, ◌∙◌, ◌≡◌, ◌≤◌, ◌⊎◌}
+use Rattle.ele_blocks.proofs.Words.{drop-append-add, take-append-add}
 use Rattle.ele_blocks.proofs.Renewals.{times_laid}
 
 -- what is laid over the middle of a list, or over its end
 laid_apart : {X : Type 0} (first at : ℕ) (new front middle back : List X) → first ≡ length front + at → at ≤ length middle → (at + length new ≤ length middle) ⊎ (back ≡ []) → laid_over first new (front ++ (middle ++ back)) ≡ front ++ (laid_over at new middle ++ back)
-laid_apart first at new front middle back is within fit = grind (arith, fit, is, drop-append-le, append-nil, take_past front (middle ++ back) at first, take-append-le at middle back within, drop_past front (middle ++ back) (at + length new) (first + length new), append_assoc)
+laid_apart first at new front middle back is within fit = grind (arith, fit, is, drop-append-le, append-nil, take-append-add front (middle ++ back) at, take-append-le at middle back within, drop-append-add front (middle ++ back) (at + length new), append_assoc)
 
 -- new slots by a writer over the first slots of a map: those that stand there are renewed
 laid_renews : (s t : Store) (was now : Layout) (w first kept : ℕ) (fresh : List ℕ) → LivesIn s was → first ≤ kept → kept ≤ length (slots_of s was) → ((id : ℕ) → 0 < owners_at s id → times id fresh ≡ 0) → ((id : ℕ) → times id fresh ≤ 1) → slots_of t now ≡ laid_over first (map (slot_by w) fresh) (take kept (slots_of s was)) → Renews s t w (is_between first (first + length fresh)) was now
@@ -13,12 +14,12 @@ laid_renews s t was now w first kept fresh lives le kept_le new one is =
     let count = length-map fresh (slot_by w) in
     let few = length-take-le kept (slots_of s was) kept_le in
     let within : first ≤ length old = omega (arith, few, le) in
-    let at : (slot : ℕ) → slice_get (slots_of t now) slot ≡ cond (is_between first (first + length fresh) slot) (slice_get (map (slot_by w) fresh) (slot - first)) (slice_get old slot) = λ slot. rw (is, ← count) (laid_at first (map (slot_by w) fresh) old within slot) in
+    let none : Slot = record { writer = 0; block = 0 } in
+    let at : (slot : ℕ) → slice_get (slots_of t now) slot ≡ cond (is_between first (first + length fresh) slot) (slice_get (map (slot_by w) fresh) (slot - first)) (slice_get old slot) = λ slot. rw (is, ← count) (laid_at first (map (slot_by w) fresh) old within none slot) in
     record {
       fresh = λ slot yes.
-          let none : Slot = record { writer = 0; block = 0 } in
           grind (arith, nat_tests, at slot, slice_get-get_or (map (slot_by w) fresh) (slot - first) none, get_or-map (slot_by w) fresh (slot - first) 0 none, new (get_or fresh (slot - first) 0), one_more fresh (slot - first), count);
-      stays = λ slot no lt. grind (arith, nat_tests, length-laid_over first (map (slot_by w) fresh) old within, is, at slot, slice_get-take kept slot (slots_of s was));
+      stays = λ slot no lt. grind (arith, nat_tests, length-laid_over first (map (slot_by w) fresh) old within, is, at slot, slice_get-take none kept slot (slots_of s was));
       once = λ id zero. grind (arith, backed_there s was.leaves lives.backed id, ap (λ xs. times id (ids_of xs)) is, times_laid old first w fresh id, one id, times-split id kept (slots_of s was), times-split id first old, times-split id (first + length fresh) old);
     }
 
@@ -146,13 +147,12 @@ module _ {s : Store} {m : Layout} {staged : List (List ℕ)} {first kept from me
       filled : AreSized 16 (leaf_at t) (length (slots_of t new)) new.leaves
       filled =
           let n = slot_count m.size in
-          let all = 16 * from + (length laid + (n - 16 * to)) in
           let head = sized-map 16 (leaf_at s) (leaf_at t) (16 * from) front front (sym front_stays.leaves) (sized-is 16 (leaf_at s) (omega arith) (min n (16 * from)) (16 * from) front (omega arith) (sized-take 16 (leaf_at s) (omega arith) from n m.leaves sized)) in
           let mid = sized-map 16 (λ leaf. leaf) (leaf_at t) (length laid) (parts laid) now (map-id (parts laid) ∙ sym renewed.leaves) (sized-chunks 16 (omega arith) (leaf_count (length laid)) laid (omega arith) (omega arith)) in
           let tail = sized-map 16 (leaf_at s) (leaf_at t) (n - 16 * to) back back (sym back_stays.leaves) (sized-drop 16 (leaf_at s) (omega arith) to n m.leaves sized) in
           let even : (length laid ≡ 16 * length now) ⊎ (n - 16 * to ≡ 0) = grind (arith, h.to_end, now_long, laid_long, window_long, order_of) in
-          let joined : AreSized 16 (leaf_at t) all new.leaves = rw is (sized-append 16 (leaf_at t) (omega arith) (16 * from) (length laid + (n - 16 * to)) front (now ++ back) head (sized-append 16 (leaf_at t) (omega arith) (length laid) (n - 16 * to) now back mid tail even) (inl (ap (λ j. 16 * j) (sym (length-take-le from m.leaves (omega (arith, leaves-count s m h.lives.whole, order_of))))))) in
-          rw (sized-length 16 (leaf_at t) (omega arith) all new.leaves joined) joined
+          let joined : AreSized 16 (leaf_at t) (16 * from + (length laid + (n - 16 * to))) new.leaves = rw is (sized-append 16 (leaf_at t) (omega arith) (16 * from) (length laid + (n - 16 * to)) front (now ++ back) head (sized-append 16 (leaf_at t) (omega arith) (length laid) (n - 16 * to) now back mid tail even) (inl (ap (λ j. 16 * j) (sym (length-take-le from m.leaves (omega (arith, leaves-count s m h.lives.whole, order_of))))))) in
+          rw (sized-length 16 (leaf_at t) (omega arith) (16 * from + (length laid + (n - 16 * to))) new.leaves joined) joined
 
       pub replaced : IsReplaced s t w first kept staged m new
       replaced = grind (arith, new_cells, filled, renewed.count, laid_renews s t m new w first kept renewed.blocks h.lives h.le (omega (arith, long)) renewed.fresh renewed.once new_slots, hands_with s t _ _ (λ q. times q m.leaves) (λ q. times q new.leaves) (λ q. times q front + times q back) renewed.hands times_old (λ q. omega (arith, ap (times q) is, times-append q front (now ++ back), times-append q now back)))

@@ -1,21 +1,12 @@
 -- A splice touches only the part of a content that it meets, which is cut into pieces.
-use Rattle.ele_blocks.proofs.Words.{take-append-add, [], AreSized, arith, content_after_write, drop, drop-drop, first_chunks, flat_map, length, length-append, length-drop, length-replicate, length-take, List, max, nat_tests, pieces_between, replicate, slot_bytes, slot_count, take, take-append-drop, take-append-le, take-take, ℕ, ◌*◌, ◌++◌, ◌+◌, ◌-◌, ◌<◌, ◌∷◌, ◌≡◌, ◌≤◌}
+use Rattle.ele_blocks.proofs.Words.{take-append-add, [], AreSized, arith, content_after_write, drop, drop-drop, first_chunks, flat_map, length, length-append, length-drop, length-replicate, length-take, List, max, nat_tests, pieces_between, replicate, slot_bytes, slot_count, take, take-append-drop, take-append-le, take-take, ℕ, ◌*◌, ◌++◌, ◌+◌, ◌-◌, ◌<◌, ◌∷◌, ◌≡◌, ◌≤◌, drop-append-add}
 use Rattle.ele_blocks.specs.Pieces.{pieces}
-use Rattle.ele_blocks.proofs.LaidOvers.{drop_past}
 use Rattle.ele_blocks.proofs.Sized.{chunk_more, sized-chunks, chunks_joined, chunks_taken, length-chunks}
 
--- bytes in pieces of 512
-pub length-pieces : (xs : List ℕ) → length (pieces xs) ≡ slot_count (length xs)
+-- bytes in pieces of 512: how many, each of so many bytes, and joined again
+pub pieces_are : (xs : List ℕ) → (length (pieces xs) ≡ slot_count (length xs)) × AreSized 512 (λ piece. piece) (length xs) (pieces xs) × (flat_map (λ piece. piece) (pieces xs) ≡ xs)
 unfolding pieces
-length-pieces xs = length-chunks 512 (slot_count (length xs)) xs
-
-pub pieces_sized : (xs : List ℕ) → AreSized 512 (λ piece. piece) (length xs) (pieces xs)
-unfolding pieces
-pieces_sized xs = sized-chunks 512 (omega arith) (slot_count (length xs)) xs (omega arith) (omega arith)
-
-pub pieces_joined : (xs : List ℕ) → flat_map (λ piece. piece) (pieces xs) ≡ xs
-unfolding pieces
-pieces_joined xs = chunks_joined 512 (omega arith) (slot_count (length xs)) xs (omega arith)
+pieces_are xs = (length-chunks 512 (slot_count (length xs)) xs, sized-chunks 512 (omega arith) (slot_count (length xs)) xs (omega arith) (omega arith), chunks_joined 512 (omega arith) (slot_count (length xs)) xs (omega arith))
 
 -- one piece more
 pub piece_more : (first slot : ℕ) (xs : List ℕ) → first ≤ slot → pieces_between first (slot + 1) xs ≡ pieces_between first slot xs ++ slot_bytes xs slot ∷ []
@@ -26,15 +17,12 @@ pub pieces_taken : (n : ℕ) (xs : List ℕ) → 512 * n < length xs + 512 → p
 unfolding pieces
 pieces_taken n xs lt = grind (arith, nat_tests, length-take, chunks_taken)
 
-pub take_past : {X : Type 0} (xs ys : List X) (a n : ℕ) → n ≡ length xs + a → take n (xs ++ ys) ≡ xs ++ take a ys
-take_past xs ys a n e = rw e (take-append-add xs ys a)
-
 pub length-spliced : (content : List ℕ) (offset : ℕ) (bytes : List ℕ) → length (content_after_write content offset bytes) ≡ max (length content) (offset + length bytes)
 length-spliced content offset bytes = grind (arith, nat_tests, length-append, length-take, length-replicate, length-drop)
 
 -- what stands behind the bytes stays
 spliced-back : (content : List ℕ) (offset : ℕ) (bytes : List ℕ) (n : ℕ) → offset + length bytes ≤ n → drop n (content_after_write content offset bytes) ≡ drop n content
-spliced-back content offset bytes n le = grind (arith, drop_past (take offset content ++ replicate (offset - length content) 0 ++ bytes) (drop (offset + length bytes) content) (n - (offset + length bytes)) n, length-append, length-take, length-replicate, drop-drop)
+spliced-back content offset bytes n le = grind (arith, drop-append-add (take offset content ++ replicate (offset - length content) 0 ++ bytes) (drop (offset + length bytes) content) (n - (offset + length bytes)), length-append, length-take, length-replicate, drop-drop)
 
 -- so a splice is the part of q bytes from p on, between what stood before it and behind it
 pub spliced_part : (content : List ℕ) (offset p q r : ℕ) (bytes : List ℕ) → p ≤ offset → p ≤ length content → offset + length bytes ≤ r → r ≡ p + q → content_after_write content offset bytes ≡ take p content ++ (take q (drop p (content_after_write content offset bytes)) ++ drop r content)

@@ -19,9 +19,6 @@ named_few : (s : Store) (leaf : ℕ) (ms : List Layout) → broken s ms ≡ 0 �
 named_few s leaf [] h = omega arith
 named_few s leaf (m ∷ ms) h = grind (arith, nat_tests, times-le-length, leaves-count, whole_is, named_few s leaf ms (omega (arith, h)))
 
-pub owes_uncrowded : (s : Store) (all : List Layout) → Owes s all → length all ≤ 2 ^ 50 → IsUncrowded s
-owes_uncrowded s all owes few = record { few = λ leaf. omega (arith, owes.counted leaf, named_few s leaf all owes.whole, few) }
-
 abbrev pub late : Store → List Tagged → ℕ
 late s ts = tally (λ t. cond (is_below s t) 0 1) ts
 
@@ -130,16 +127,9 @@ tally-layouts f [] = refl
 tally-layouts f (t ∷ ts) = omega (arith, tally-layouts f ts)
 
 in_same : (s : Store) (ts us : List Tagged) → SameStock ts us → IsStocked s ts → IsStocked s us
-in_same s ts us same h = record {
-  owed = record { counted = λ leaf. h.owed.counted leaf ∙ by (λ m. times leaf m.leaves); backed = h.owed.backed; whole = sym (by (λ m. cond (is_whole s m) 0 1)) ∙ h.owed.whole };
-  one_to_one = fewer (names_in s us) (names_in s ts) (same_in s ts us same) h.one_to_one;
-  written = sym (same_tally ts us same (λ t. cond (is_below s t) 0 1)) ∙ h.written;
-} where
-  by : (f : Layout → ℕ) → tally f (layouts_of ts) ≡ tally f (layouts_of us)
-  by f = tally-layouts f ts ∙ (same_tally ts us same (λ t. f t.layout) ∙ sym (tally-layouts f us))
-
-back : (ts us : List Tagged) → SameStock ts us → SameStock us ts
-back ts us same = record { sums = λ f. sym (same.sums f) }
+in_same s ts us same h =
+    let by : (f : Layout → ℕ) → tally f (layouts_of ts) ≡ tally f (layouts_of us) = λ f. tally-layouts f ts ∙ (same_tally ts us same (λ t. f t.layout) ∙ sym (tally-layouts f us)) in
+    grind (arith, h.owed, h.written, λ (leaf : ℕ). by (λ m. times leaf m.leaves), by (λ m. cond (is_whole s m) 0 1), same_tally ts us same (λ t. cond (is_below s t) 0 1), fewer (names_in s us) (names_in s ts) (same_in s ts us same) h.one_to_one)
 
 module _ (s t : Store) (ts : List Tagged) (was : Tagged) (rest : List Tagged) (stocked : IsStocked s ts) (apart : SameStock ts (was ∷ rest)) where
   h : IsStocked s (was ∷ rest)
@@ -156,29 +146,20 @@ module _ (s t : Store) (ts : List Tagged) (was : Tagged) (rest : List Tagged) (s
       let one = fewer (names_in s rest) (names_in s (was ∷ rest)) (λ n i. in_back n (names_of s was.file was.layout) (names_in s rest) i) h.one_to_one in
       grind (arith, rest_stays s t (was.layout ∷ []) [] moves rest h.owed, one, moves_owes s t (was.layout ∷ []) [] moves rest h.owed, all_written)
 
-  -- a name of the map is there
-  was_in : (n : Named) → IsIn n (names_of s was.file was.layout) → IsIn n (names_in s ts)
-  was_in n i = same_in s ts (was ∷ rest) apart n (in_front n (names_of s was.file was.layout) (names_in s rest) i)
-
   copies : (below : ℕ) (us : List Tagged) → was.below ≤ below → Moves s t [] (was.layout ∷ []) → SameStock us (record was { below = below } ∷ ts) → Stays s t ts us
   copies below us le moves same =
       let stay = rest_stays s t [] (was.layout ∷ []) moves ts stocked.owed in
       let mine = (its_leaves s t [] (was.layout ∷ []) moves ts stocked.owed was.layout (λ leaf. omega (arith, h.owed.counted leaf))).slots in
-      let one = fewer (names_in s (was ∷ ts)) (names_in s ts) (λ n i. grind (arith, was_in n, in_either n (names_of s was.file was.layout) (names_in s ts) i)) stocked.one_to_one in
+      let one = fewer (names_in s (was ∷ ts)) (names_in s ts) (λ n i. grind (arith, same_in s ts (was ∷ rest) apart n, in_front n (names_of s was.file was.layout) (names_in s rest), in_either n (names_of s was.file was.layout) (names_in s ts) i)) stocked.one_to_one in
       let all : IsStocked t (record was { below = below } ∷ ts) = grind (arith, moves_owes s t [] (was.layout ∷ []) moves ts stocked.owed, mine, stay, one, below_more was.below below (slots_of s was.layout) le was_below, stocked.written) in
-      record { stocked = in_same t (record was { below = below } ∷ ts) us (back us (record was { below = below } ∷ ts) same) all; shows = stay.shows }
+      record { stocked = in_same t (record was { below = below } ∷ ts) us (record { sums = λ f. sym (same.sums f) }) all; shows = stay.shows }
 
   rewrites : (writer : ℕ) (renewed : ℕ → Bool) (now : Layout) (us : List Tagged) → was.below ≡ writer + 1 → AllByRecursion (IsEarlier was.file writer) rest → Moves s t (was.layout ∷ []) (now ∷ []) → Renews s t writer renewed was.layout now → SameStock us (record was { layout = now } ∷ rest) → Stays s t rest us
   rewrites writer renewed now us is others moves renews same =
       let stay = rest_stays s t (was.layout ∷ []) (now ∷ []) moves rest h.owed in
-      record {
-        stocked = in_same t (record was { layout = now } ∷ rest) us (back us (record was { layout = now } ∷ rest) same) (record {
-          owed = moves_owes s t (was.layout ∷ []) (now ∷ []) moves rest h.owed;
-          one_to_one = rw stay.names (stays_one_to_one s t writer was.file renewed was.layout now (names_in s rest) (owes_lives s was.layout (layouts_of rest) h.owed) moves renews (none_by s was.file writer rest all_written others) (λ n i. omega (arith, owned_names s n rest all_written i, h.owed.backed n.block)) h.one_to_one);
-          written = rw (below_renewed s t writer was.below renewed was.layout now is renews was_below, stay.late) (omega (arith, all_written));
-        });
-        shows = stay.shows;
-      }
+      let one = stays_one_to_one s t writer was.file renewed was.layout now (names_in s rest) (owes_lives s was.layout (layouts_of rest) h.owed) moves renews (none_by s was.file writer rest all_written others) (λ n i. omega (arith, owned_names s n rest all_written i, h.owed.backed n.block)) h.one_to_one in
+      let all : IsStocked t (record was { layout = now } ∷ rest) = grind (arith, stay, one, moves_owes s t (was.layout ∷ []) (now ∷ []) moves rest h.owed, below_renewed s t writer was.below renewed was.layout now is renews was_below, all_written) in
+      record { stocked = in_same t (record was { layout = now } ∷ rest) us (record { sums = λ f. sym (same.sums f) }) all; shows = stay.shows }
 
 slot-blocks : (file first : ℕ) (slots : List Slot) → map (λ (n : Named). n.block) (names_from file first slots) ≡ ids_of slots
 slot-blocks file first [] = refl
@@ -200,7 +181,7 @@ stock_laws = record {
   short = λ s m lives. (whole_is s m lives.whole).short;
   owned = λ s m k slot lives got. slot_owned s m lives k slot got;
   slots = λ s m lives. slots-count s m lives.whole;
-  few = λ s ts h few. owes_uncrowded s (layouts_of ts) h.owed (omega (arith, few, length-map ts (λ (t : Tagged). t.layout)));
+  few = λ s ts h few. record { few = λ leaf. omega (arith, h.owed.counted leaf, named_few s leaf (layouts_of ts) h.owed.whole, few, length-map ts (λ (t : Tagged). t.layout)) };
   blocks = λ s ts h. rw (← blocks_named s ts) (sym (as_many (names_in s ts) h.one_to_one));
   gone = goes;
   copied = λ s t ts was rest below us h apart. copies s t ts was rest h apart below us;

@@ -49,15 +49,6 @@ module _ {X : Type 0} where
   pub puts_more : (s0 s t : List (Option (Counted X))) (ids : List ℕ) (x : X) (rest all : List X) (id : ℕ) → PutsSoFar s0 s ids (x ∷ rest) all → place_at s id ≡ None → Sets s t id (Some (record { value = x; owners = 1 })) → PutsSoFar s0 t (ids ++ id ∷ []) rest all
   puts_more s0 s t ids x rest all id h vacant sets = grind (arith, nat_tests, trades_then, trades_put, times-append, map-append, values_stay s t [] (id ∷ []) ids (trades_put s t id x vacant sets) (λ q. omega (arith, h.adds.trades.owed q)), append_assoc, ap value_of sets.changed)
 
-  -- a place that a last owner leaves
-  pub record IsLast (place : Option (Counted X)) (x : X) : Type 0 where
-    pub owners : owners_of place ≡ 1
-    pub value : value_of place ≡ Some x
-    pub gone : released place ≡ None
-
-  pub leaving_last : (place : Option (Counted X)) (x : X) → 0 < owners_of place → Some x ≡ leaving place → IsLast place x
-  leaving_last place x lt e = grind (arith, nat_tests)
-
 -- a list so far, and one more
 module _ (ids : List ℕ) (k : ℕ) (lt : k < length ids) where
   pub times_next : (q : ℕ) → times q (take (k + 1) ids) ≡ times q (take k ids) + times q (get_or ids k 0 ∷ [])

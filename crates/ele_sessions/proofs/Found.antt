@@ -1,10 +1,6 @@
 -- The entry that a search found, as the list of drafts shows it.
-use Rattle.ele_sessions.proofs.Basics.{◌≡◌, ℕ, true, false, length, eqb, List, get_or, Some, None, Result, Ok, Err, refl, sym, ap, ◌∙◌, set, map-set_same, find, remove, insert, list_any, position, unwrap_or, OnErr, IfErr, has_key, is_behind, false≢true, remove_first, insert_before, find-position, find-none, find-shown, set-shown, remove-shown, any-shown, any-missing, find-missing, insert-shown, remove-place, arith}
-use Rattle.ele_sessions.proofs.Words.{Layout, Entry, OpenHandle, RewritesDraft, rewritten_by, has_length, IsAt, IsGap, drafts_of, draft_in, file_in, number_in, Draft, is_draft, is_draft_after, is_handle}
-
--- what holds anyway, said of an error
-pub on_err : {T E : Type 0} (r : Result T E) (P : Type 0) → P → OnErr r P
-on_err r P h = grind (arith, h)
+use Rattle.ele_sessions.proofs.Basics.{◌≡◌, ℕ, true, false, length, eqb, List, get_or, Some, None, Result, Ok, Err, refl, sym, ap, ◌∙◌, set, map-set_same, find, remove, insert, list_any, position, unwrap_or, OnErr, IfErr, has_key, is_behind, false≢true, remove_first, insert_before, find-position, find-none, find-shown, set-shown, remove-shown, any-shown, any-missing, find-missing, insert-shown, remove-place, arith, rises-map, all-not_found, remove_first-unfound}
+use Rattle.ele_sessions.proofs.Words.{Layout, Entry, OpenHandle, RewritesDraft, rewritten_by, has_length, IsAt, IsGap, drafts_of, draft_in, file_in, number_in, Draft, is_draft, is_draft_after, is_handle, Rises}
 
 -- a gap, of what a search says of it
 pub gap_of : {X : Type 0} (key : X → ℕ) (this : ℕ) (xs : List X) (r : Result ℕ ℕ) → IfErr r (λ at. position (has_key key this) xs ≡ None) → IfErr r (λ at. unwrap_or (position (is_behind key this) xs) (length xs) ≡ at) → IfErr r (IsGap key this xs)
@@ -42,16 +38,12 @@ module _ (es : List Entry) (file i : ℕ) where
     rewrites Made y draft_is made =
         record { was = draft_in e; layout = y.draft.value.map; found = found_draft; made = set-shown draft_in (is_draft file) es i at (rewritten_by y.draft.value.map) e y is draft_is; how = made }
 
-    pub length_found : (size : ℕ) → has_length size (find (is_draft file) (drafts_of es)) ≡ eqb e.draft.value.map.size size
-    length_found size = rw found_draft refl
+-- drafts in order, as entries
+pub rises_in : (es : List Entry) → Rises (λ (d : Draft). d.file) (drafts_of es) → Rises file_in es
+rises_in es rise = rises-map draft_in (λ (d : Draft). d.file) es rise
 
--- the handle that a search found
-module _ (hs : List OpenHandle) (number i : ℕ) where
-  pub found_handle : (x : OpenHandle) → IsAt number_in number hs i → x ≡ get_or hs i x → find (is_handle number) hs ≡ Some x
-  found_handle x at is = find-position (is_handle number) hs i x at ∙ ap (λ h. Some h) (sym is)
+-- the search for a handle found none
+pub no_handle : (hs : List OpenHandle) (number i : ℕ) → IsGap number_in number hs i → find (is_handle number) hs ≡ None
+no_handle hs number i gap = find-none (is_handle number) hs gap.missing
 
-  pub removed_handle : IsAt number_in number hs i → remove hs i ≡ remove_first (is_handle number) hs
-  removed_handle at = remove-place (is_handle number) hs i at
-
-  pub no_handle : IsGap number_in number hs i → find (is_handle number) hs ≡ None
-  no_handle gap = find-none (is_handle number) hs gap.missing
+pub ruleset handle_steps = (find-none, find-position, remove-place, all-not_found, remove_first-unfound)

@@ -11,9 +11,6 @@ pub record IsRead (hs : List OpenHandle) (number : ℕ) (what : Reads) : Type 0 
   pub found : find (is_handle number) hs ≡ Some handle
   pub is : handle.reads ≡ what
 
-pub read_by : (hs : List OpenHandle) (number : ℕ) (what : Reads) → Some what ≡ reads_by hs number → IsRead hs number what
-read_by hs number what is = grind (arith, is)
-
 -- a file that is written through the handle
 pub written_by : (hs : List OpenHandle) (number file : ℕ) → Ok file ≡ file_by hs number → Some (reads.Draft file) ≡ reads_by hs number
 written_by hs number file is = grind (arith, nat_tests, is, reads_by)
@@ -29,9 +26,6 @@ module _ (s : AllSessions) (counts : Tally Reads) (keeps : Keeps s counts) where
     counted = λ what. omega (arith, same what, more what, keeps.counted what, reading-push what s.handles h);
   }
 
-  pub pinned : (file number : ℕ) → nat_lt 0 (counted reads_eq counts (reads.Version file number)) ≡ list_any (is_reader file number) s.handles
-  pinned file number = ap (nat_lt 0) (keeps.counted (reads.Version file number)) ∙ any-reader file number s.handles
-
   -- another map for a draft
   pub rewritten_keeps : (ds : List Draft) (file : ℕ) (Made : Draft → Layout → Type 0) → RewritesDraft s.drafts ds file Made → Keeps (record s { drafts = ds }) counts
   rewritten_keeps ds file Made h = rw h.made (record { orderly = rewritten s keeps.orderly file h.layout; few = keeps.few; counted = keeps.counted })
@@ -45,7 +39,7 @@ module _ (s : AllSessions) (counts : Tally Reads) (keeps : Keeps s counts) where
     rest = remove_first (is_handle number) s.handles
 
     its : IsRead s.handles number what
-    its = read_by s.handles number what read
+    its = grind (arith, read)
 
     fewer_by : (other : Reads) → reading other rest + cond (reads_eq what other) 1 0 ≡ reading other s.handles
     fewer_by other = rw (← its.is) (reading-left other number s.handles its.handle its.found)

@@ -6,32 +6,18 @@ use Rattle.ele_sessions.specs.declared.reads.Reads.TheVariants as reads
 abbrev IsWritten : List OpenHandle → Draft → Type 0
 IsWritten hs d = list_any (is_writer d.file) hs ≡ true
 
-or_true : (a : Bool) → (a || true) ≡ true
-or_true true = refl
-or_true false = refl
-
-not_true : (b : Bool) → not b ≡ true → b ≡ false
-not_true b h = grind (arith, h)
-
-any-more : {X : Type 0} (p : X → Bool) (xs : List X) (x : X) → list_any p xs ≡ true → list_any p (xs ++ x ∷ []) ≡ true
-any-more p xs x h = grind (arith, h, list_any-append p xs (x ∷ []))
-
-any-last : {X : Type 0} (p : X → Bool) (xs : List X) (x : X) → p x ≡ true → list_any p (xs ++ x ∷ []) ≡ true
-any-last p xs x h = grind (arith, h, list_any-append p xs (x ∷ []))
-
 -- the drafts with a new one, unless its file has one
 module _ (new : Draft) (ds : List Draft) (rise : Rises (λ (d : Draft). d.file) ds) where
   with-rise : Rises (λ (d : Draft). d.file) (with_draft new ds)
-  with-rise = elim (list_any (is_draft new.file) ds) as (λ b. list_any (is_draft new.file) ds ≡ b → Rises (λ (d : Draft). d.file) (cond b ds (insert_before (is_draft_after new.file) new ds))) [
-    | true ↦ λ e. rise
-    | false ↦ λ e. later-insert_before (is_draft_after new.file) (λ (x y : Draft). x.file < y.file) (λ (d : Draft). is_draft new.file d ≡ false) new ds (λ x other no. grind (arith, nat_tests)) (λ x other passes. grind (arith, nat_tests)) (λ x z passes lt. grind (arith, nat_tests)) (all-none (is_draft new.file) ds e) rise
-  ] refl
+  with-rise =
+      let put : list_any (is_draft new.file) ds ≡ false → Rises (λ (d : Draft). d.file) (insert_before (is_draft_after new.file) new ds) = λ e. later-insert_before (is_draft_after new.file) (λ (x y : Draft). x.file < y.file) (λ (d : Draft). is_draft new.file d ≡ false) new ds (λ x other no. grind (arith, nat_tests)) (λ x other passes. grind (arith, nat_tests)) (λ x z passes lt. grind (arith, nat_tests)) (all-none (is_draft new.file) ds e) rise in
+      grind (arith, nat_tests, list_any, is_draft, insert_before, is_draft_after, rise, put)
 
   with-all : (P : Draft → Type 0) → P new → AllByRecursion P ds → AllByRecursion P (with_draft new ds)
   with-all P h all = grind (arith, nat_tests, list_any, is_draft, insert_before, is_draft_after, all-insert_before)
 
   with-any : (f : ℕ) → list_any (is_draft f) ds ≡ true → list_any (is_draft f) (with_draft new ds) ≡ true
-  with-any f there = grind (arith, nat_tests, list_any, is_draft, insert_before, is_draft_after, list_any-insert_before, or_true)
+  with-any f there = grind (arith, nat_tests, list_any, is_draft, insert_before, is_draft_after, list_any-insert_before)
 
   with-own : list_any (is_draft new.file) (with_draft new ds) ≡ true
   with-own = grind (arith, nat_tests, list_any-insert_before (is_draft_after new.file) (is_draft new.file) new ds)
@@ -43,7 +29,7 @@ module _ (s : AllSessions) (orderly : AreOrderly s) where
     entered ds rise on its written = grind (arith, nat_tests, on, later-push, all-weaker, all-push)
 
     still_written : AllByRecursion (IsWritten (s.handles ++ h ∷ [])) s.drafts
-    still_written = all-weaker (IsWritten s.handles) (IsWritten (s.handles ++ h ∷ [])) s.drafts (λ d w. any-more (is_writer d.file) s.handles h w) orderly.written
+    still_written = all-weaker (IsWritten s.handles) (IsWritten (s.handles ++ h ∷ [])) s.drafts (λ d w. grind (arith, w, list_any-append (is_writer d.file) s.handles (h ∷ []))) orderly.written
 
     pub reader_entered : (file number : ℕ) → h.reads ≡ reads.Version file number → AreOrderly (record s { handles = s.handles ++ h ∷ []; opened = s.opened + 1 })
     reader_entered file number is = entered s.drafts orderly.drafts_rise (λ what r. r) (rw is tt) still_written
@@ -54,7 +40,7 @@ module _ (s : AllSessions) (orderly : AreOrderly s) where
       on what there = grind (arith, there, with-any new s.drafts orderly.drafts_rise)
 
       own : IsWritten (s.handles ++ h ∷ []) new
-      own = let writes : is_writer new.file h ≡ true = rw is (let e : eqb new.file new.file ≡ true = grind (arith, nat_tests) in e) in any-last (is_writer new.file) s.handles h writes
+      own = grind (arith, nat_tests, is, list_any-append (is_writer new.file) s.handles (h ∷ []))
 
   -- one handle fewer
   module _ (number : ℕ) (h : OpenHandle) (found : find (is_handle number) s.handles ≡ Some h) where
@@ -94,7 +80,7 @@ module _ (s : AllSessions) (orderly : AreOrderly s) where
         on (reads.Version f n) there other = tt
 
         apart : AllByRecursion (λ (d : Draft). eqb d.file file ≡ false) fewer
-        apart = rw (remove_first-key (λ (d : Draft). d.file) file s.drafts orderly.drafts_rise) (all-weaker (λ (d : Draft). not (eqb d.file file) ≡ true) (λ (d : Draft). eqb d.file file ≡ false) (filter (λ (d : Draft). not (eqb d.file file)) s.drafts) (λ d. not_true (eqb d.file file)) (filter-passes (λ (d : Draft). not (eqb d.file file)) s.drafts))
+        apart = rw (remove_first-key (λ (d : Draft). d.file) file s.drafts orderly.drafts_rise) (all-weaker (λ (d : Draft). not (eqb d.file file) ≡ true) (λ (d : Draft). eqb d.file file ≡ false) (filter (λ (d : Draft). not (eqb d.file file)) s.drafts) (λ d h. grind (arith, h)) (filter-passes (λ (d : Draft). not (eqb d.file file)) s.drafts))
 
       pub writer_left : AreOrderly (record s { drafts = left_drafts (list_any (is_writer file) rest) file s.drafts; handles = rest })
       writer_left = grind (arith, nat_tests, list_any, is_writer, stays, goes)

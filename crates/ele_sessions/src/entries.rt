@@ -77,6 +77,7 @@ pub fn enter(handles: &mut Vec<OpenHandle>, counts: &mut Tally<Reads>, handle: &
 }
 
 /// The handle of that number goes. The answer is what was read through it, if there was one.
+#[tactic(auto, using(crate::proofs::Found::handle_steps))]
 pub fn take_handle(handles: &mut Vec<OpenHandle>, number: Handle) -> Option<Reads>
     requires { Rises number_in handles.old.items }
     ensures reads { result ≡ reads_by handles.old.items number }
@@ -89,6 +90,7 @@ pub fn take_handle(handles: &mut Vec<OpenHandle>, number: Handle) -> Option<Read
 }
 
 /// What is read through the handle.
+#[tactic(auto, using(crate::proofs::Found::handle_steps))]
 pub fn reads_by(handles: &[OpenHandle], number: Handle) -> Option<Reads>
     requires { Rises number_in handles.now }
     ensures { result ≡ reads_by handles.now number }

@@ -76,6 +76,7 @@ impl Sessions {
     /// A handle that writes the file. It joins the file's draft, or where there is none it starts one,
     /// which is to be the version of that number, is opened at that moment, and has a copy of the map.
     /// Where memory is refused, sessions and store are as they were.
+    #[tactic(auto, using(crate::proofs::Found::rises_in))]
     pub fn open_write(
         &mut self,
         store: &mut BlockStore,
@@ -136,6 +137,7 @@ impl Sessions {
     /// whatever the offset. Faults, in this order: `NoHandle` where no open handle has that number,
     /// `NotWriter` where it reads a version, `TooBig` where the bytes would end past 1,048,576,
     /// `NoMemory`. A fault leaves all as it was.
+    #[tactic(auto, using(crate::proofs::Found::rises_in))]
     pub fn write(
         &mut self,
         store: &mut BlockStore,
@@ -170,6 +172,7 @@ impl Sessions {
     /// where it has that length, nothing is changed. Faults, in this order: `NoHandle` where no open
     /// handle has that number, `NotWriter` where it reads a version, `TooBig` for more than 1,048,576
     /// bytes, `NoMemory`. A fault leaves all as it was.
+    #[tactic(auto, using(crate::proofs::Found::rises_in))]
     pub fn truncate(
         &mut self,
         store: &mut BlockStore,
@@ -199,6 +202,7 @@ impl Sessions {
     /// Closes the handle; none where no open handle has that number. With the last handle of a file
     /// its draft goes, and its map comes out: whoever takes it gives it up or keeps it. A handle that
     /// read a version just goes.
+    #[tactic(auto, using(crate::proofs::Found::rises_in))]
     pub fn close(&mut self, handle: Handle) -> Option<(Closing, Option<BlockMap>)>
         ensures answer { result ≡ closing self.old handle }
         ensures sessions { self.new ≡ closed self.old handle }

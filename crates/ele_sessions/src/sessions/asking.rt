@@ -33,6 +33,7 @@ impl Sessions {
     }
 
     /// What closing the handle would answer; none where no open handle has that number.
+    #[tactic(auto, using(crate::proofs::Found::rises_in))]
     pub fn peek_close(&self, handle: Handle) -> Option<Closing>
         ensures { result ≡ option_map (λ answer. answer.0) (closing self.now handle) }
     {
@@ -60,6 +61,7 @@ impl Sessions {
     }
 
     /// The map of the file's draft; none where no handle writes the file.
+    #[tactic(auto, using(crate::proofs::Found::rises_in))]
     pub fn draft(&self, file: FileId) -> Option<&BlockMap>
         ensures { option_copied result
             ≡ option_map (λ draft. draft.layout) (draft_of self.now file) }

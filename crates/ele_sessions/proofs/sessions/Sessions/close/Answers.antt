@@ -9,9 +9,6 @@ invariant_of-self c = rw (c.in_err-file.ensures.left, none_left c.self.inside.ha
 pub returns-in_err-file-clause-sessions : goal.returns-in_err-file-clause-sessions
 returns-in_err-file-clause-sessions c = grind (arith, c.self.view_is, c.in_err-file.ensures, none_left c.self.inside.handles.items c.args.handle)
 
-pub leave-requires-clause-rise : goal.leave-requires-clause-rise
-leave-requires-clause-rise c = rises-map draft_in (λ (d : Draft). d.file) c.self.inside.drafts.items c.self.invariant.orderly.drafts_rise
-
 pub leave-requires-clause-there : goal.leave-requires-clause-there
 leave-requires-clause-there c = draft_there (sessions_of c.self.inside) c.self.inside.counts c.self.invariant c.args.handle c.in_ok-file.field-0 c.in_ok-file.ensures.reads c.in-Draft.file c.in-Draft.is
 

@@ -3,9 +3,6 @@ use Rattle.ele_sessions.proofs.Words.{IsAt, IsGap, file_in, draft_in, Draft}
 use Rattle.ele_sessions.proofs.Found.{found_draft, missing_draft}
 use Rattle.ele_sessions.proofs.sessions.Sessions.draft.Goals as goal
 
-pub place_of-requires : goal.place_of-requires
-place_of-requires c = rw c.deref.ensures.value (rises-map draft_in (λ (d : Draft). d.file) c.self.inside.drafts.items c.self.invariant.orderly.drafts_rise)
-
 pub returns-in_default : goal.returns-in_default
 returns-in_default c = grind (arith, c.self.view_is, c.deref.ensures.value, c.in_default.ensures.gap, missing_draft c.self.inside.drafts.items c.args.file c.in_default.field-0)
 

@@ -4,9 +4,6 @@ use Rattle.ele_sessions.proofs.Keepings.{entered_keeps}
 use Rattle.ele_sessions.proofs.Orders.{writer_entered}
 use Rattle.ele_sessions.proofs.sessions.Sessions.open_write.Goals as goal
 
-pub join-requires-clause-rise : goal.join-requires-clause-rise
-join-requires-clause-rise c = rises-map draft_in (λ (d : Draft). d.file) c.self.inside.drafts.items c.self.invariant.orderly.drafts_rise
-
 pub invariant_of-self-2 : goal.invariant_of-self-2
 invariant_of-self-2 c =
     let s = sessions_of c.self.inside in

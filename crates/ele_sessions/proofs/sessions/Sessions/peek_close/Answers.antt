@@ -3,9 +3,6 @@ use Rattle.ele_sessions.proofs.Words.{closing_of, left_handles, draft_in, sessio
 use Rattle.ele_sessions.proofs.Keepings.{stays_then, draft_there}
 use Rattle.ele_sessions.proofs.sessions.Sessions.peek_close.Goals as goal
 
-pub peek-requires-clause-rise : goal.peek-requires-clause-rise
-peek-requires-clause-rise c = rw c.deref-in-Draft.ensures.value (rises-map draft_in (λ (d : Draft). d.file) c.self.inside.drafts.items c.self.invariant.orderly.drafts_rise)
-
 pub peek-requires-clause-there : goal.peek-requires-clause-there
 peek-requires-clause-there c = grind (arith, c.deref.ensures.value, c.in_ok-file.ensures, c.deref-in-Draft.ensures.value, c.in-Draft.is, draft_there (sessions_of c.self.inside) c.self.inside.counts c.self.invariant c.args.handle c.in_ok-file.field-0)
 

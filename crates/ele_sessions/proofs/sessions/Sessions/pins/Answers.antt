@@ -1,7 +1,7 @@
-use Rattle.std.proofs.Common.{nat_lt, ap, ◌∙◌}
-use Rattle.ele_sessions.specs.Kept.{sessions_of}
-use Rattle.ele_sessions.proofs.Keepings.{pinned}
+use Rattle.ele_sessions.proofs.Basics.{arith}
+use Rattle.ele_sessions.proofs.Counts.{any-reader}
+use Rattle.ele_sessions.specs.declared.reads.Reads.TheVariants.{Version}
 use Rattle.ele_sessions.proofs.sessions.Sessions.pins.Goals as goal
 
 pub returns : goal.returns
-returns c = rw (← c.self.view_is) (ap (nat_lt 0) c.count.ensures ∙ pinned (sessions_of c.self.inside) c.self.inside.counts c.self.invariant c.args.file c.args.number)
+returns c = grind (arith, c.self.view_is, c.count.ensures, c.self.invariant.counted (Version c.args.file c.args.number), any-reader c.args.file c.args.number c.self.inside.handles.items)

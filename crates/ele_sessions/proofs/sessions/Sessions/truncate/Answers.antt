@@ -3,9 +3,6 @@ use Rattle.ele_sessions.proofs.Words.{draft_in, sessions_of, Draft}
 use Rattle.ele_sessions.proofs.Keepings.{written_by, draft_there, resized_keeps}
 use Rattle.ele_sessions.proofs.sessions.Sessions.truncate.Goals as goal
 
-pub truncate_draft-requires-clause-rise : goal.truncate_draft-requires-clause-rise
-truncate_draft-requires-clause-rise c = rises-map draft_in (λ (d : Draft). d.file) c.self.inside.drafts.items c.self.invariant.orderly.drafts_rise
-
 pub truncate_draft-requires-clause-there : goal.truncate_draft-requires-clause-there
 truncate_draft-requires-clause-there c = draft_there (sessions_of c.self.inside) c.self.inside.counts c.self.invariant c.args.handle _ (written_by c.self.inside.handles.items c.args.handle c.in_ok-file.file (rw c.deref.ensures.value at c.in_ok-file.ensures)) c.in_ok-file.file refl
 
