@@ -12,7 +12,7 @@ use Rattle.ele_policy.specs.declared.policy.Policy.{Policy}
 use Rattle.ele_policy.specs.declared.policy.Policy.TheVariants.{One, All, Safe, Landmarks}
 use Rattle.ele_policy.specs.Ladder.{Rung, ground, climbs, level_of, rung_at, shares}
 use Rattle.ele_policy.specs.Policy.{IsPolicy}
-use Rattle.ele_policy.specs.Ripe.{Beside, IsNearest, IsRipe, alone, lets_go, is_due_by, candidates, earliest_of, ripe_by}
+use Rattle.ele_policy.specs.Ripe.{Beside, IsNearest, alone, lets_go, is_due_by, candidates, earliest_of, ripe_by}
 use Rattle.ele_policy.specs.Wait.{has_newer, wait, in_time, ripe_after}
 use Rattle.ele_policy.proofs.Earliest.{earliest_from, earliest_same, is_candidate, never_due}
 use Rattle.ele_policy.proofs.Nesting.{climbed, nests, nearest_decides, shares_on}
@@ -167,8 +167,8 @@ nearest_tells policy closed nearest beside is = by policy nearest beside.newer i
   by policy nearest newer later first = grind arith
 
 -- and so is the ripe moment
-pub ripe_nearest : (policy : Policy) (closed ended : ℕ) (nearest r : Option ℕ) → IsPolicy policy → r ≡ ripe_by policy closed (alone nearest) ended → IsRipe policy closed ended nearest r
-ripe_nearest policy closed ended nearest r given told beside is = grind (arith, told, ripe_is policy closed ended beside given, ripe_is policy closed ended (alone nearest) given, nearest_tells policy closed nearest beside is)
+pub ripe_nearest : (policy : Policy) (closed ended : ℕ) (nearest : Option ℕ) (beside : Beside) → IsPolicy policy → IsNearest closed nearest beside → ripe_by policy closed beside ended ≡ ripe_by policy closed (alone nearest) ended
+ripe_nearest policy closed ended nearest beside given is = grind (arith, ripe_is policy closed ended beside given, ripe_is policy closed ended (alone nearest) given, nearest_tells policy closed nearest beside is)
 
 -- beside all that the nearest tells of, the version is due from the ripe moment on, or never
 due_nearest : (policy : Policy) (closed ended at : ℕ) (nearest wait_is : Option ℕ) (beside : Beside) → IsPolicy policy → IsNearest closed nearest beside → wait policy closed (alone nearest).newer ≡ wait_is → is_due_by policy closed beside ended at ≡ (nat_le ended at && reached wait_is (at - ended))
