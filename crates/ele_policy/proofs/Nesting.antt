@@ -17,12 +17,8 @@ pub record IsAbove (low high : Rung) : Type 0 where
 above : (low high : Rung) → is_above low high ≡ true → IsAbove low high
 above low high h = record { older = grind (arith, nat_tests); some = grind (arith, nat_tests); divides = grind (arith, nat_tests) }
 
-both : (a b : Bool) → (a && b) ≡ true → (a ≡ true) × (b ≡ true)
-both true b h = (refl, h)
-both false b h = absurd cc
-
 pub climbed : (low rung : Rung) (rungs : List Rung) → climbs low (rung ∷ rungs) ≡ true → IsAbove low rung × (climbs rung rungs ≡ true)
-climbed low rung rungs h = let parts = both (is_above low rung) (climbs rung rungs) h in (above low rung parts.0, parts.1)
+climbed low rung rungs h = (above low rung (grind (arith, nat_tests)), grind (arith, nat_tests))
 
 -- sharing a span of a rung implies sharing one of each higher one
 pub nests : (low high : Rung) (a b : ℕ) → IsAbove low high → shares a b low ≡ true → shares a b high ≡ true
@@ -42,10 +38,7 @@ div-mono m n (suc k) h = let most = div-mul-le_self m (suc k) in le-div (m / suc
 
 -- what lies between lies in the span of both
 between_shares : (rung : Rung) (a n x : ℕ) → a ≤ n → n ≤ x → shares a x rung ≡ true → shares a n rung ≡ true
-between_shares rung a n x an nx h =
-    let low = div-mono a n rung.1 an in
-    let high = div-mono n x rung.1 nx in
-    grind (arith, nat_tests)
+between_shares rung a n x an nx h = grind (arith, nat_tests, div-mono a n rung.1 an, div-mono n x rung.1 nx)
 
 pub nearest_decides : (rung : Rung) (closed n : ℕ) (more : List ℕ) → AllLater ◌≤◌ (closed ∷ n ∷ more) → list_any (λ newer. shares closed newer rung) (n ∷ more) ≡ shares closed n rung
 nearest_decides rung closed n more later =

@@ -24,9 +24,9 @@ filled rungs is =
 
 -- two moments in one span of a rung are in one of each higher rung
 shares_above : (low : Rung) (rungs : List Rung) (level a b : ℕ) → climbs low rungs ≡ true → shares a b low ≡ true → option_map_or (shares a a) (slice_get rungs level) false ≡ true → option_map_or (shares a b) (slice_get rungs level) false ≡ true
-shares_above low [] level a b up here there = absurd cc
 shares_above low (rung ∷ rungs) zero a b up here there = nests low rung a b (climbed low rung rungs up).0 here
 shares_above low (rung ∷ rungs) (suc level) a b up here there = shares_above rung rungs level a b (climbed low rung rungs up).1 (nests low rung a b (climbed low rung rungs up).0 here) there
+shares_above low _ level a b up here there = absurd cc
 
 nest : (below : Rung) (rungs : List Rung) (low high a b : ℕ) → climbs below rungs ≡ true → low ≤ high → option_map_or (shares a a) (slice_get rungs high) false ≡ true → option_map_or (shares a b) (slice_get rungs low) false ≡ true → option_map_or (shares a b) (slice_get rungs high) false ≡ true
 nest below [] low high a b up le there here = absurd cc

@@ -28,11 +28,7 @@ has_reached age rung = cond (nat_le rung.0 age) 1 0
 
 none_reached : (low : Rung) (rungs : List Rung) (age : ℕ) → climbs low rungs ≡ true → nat_le low.0 age ≡ false → level_of rungs age ≡ 0
 none_reached low [] age up young = refl
-none_reached low (rung ∷ rungs) age up young =
-    let older = (climbed low rung rungs up).0.older in
-    let younger : nat_le rung.0 age ≡ false = grind (arith, nat_tests) in
-    let rest = none_reached rung rungs age (climbed low rung rungs up).1 younger in
-    sum_by-cons (has_reached age) rung rungs ∙ rw (younger, rest) refl
+none_reached low (rung ∷ rungs) age up young = grind (arith, nat_tests, sum_by-cons, (climbed low rung rungs up).0.older, none_reached rung rungs age (climbed low rung rungs up).1)
 
 at_level : Option Rung → List Rung → ℕ → Option Rung
 at_level below rungs zero = below
@@ -40,10 +36,8 @@ at_level below rungs (suc place) = slice_get rungs place
 
 one_higher : (below : Option Rung) (rung : Rung) (rungs : List Rung) (level : ℕ) → at_level below (rung ∷ rungs) (1 + level) ≡ at_level (Some rung) rungs level
 unfolding at_level
-one_higher below rung rungs level = ap (at_level below (rung ∷ rungs)) (let next : 1 + level ≡ suc level = omega arith in next) ∙ by level where
-  by : (level : ℕ) → at_level below (rung ∷ rungs) (suc level) ≡ at_level (Some rung) rungs level
-  by zero = refl
-  by (suc place) = refl
+one_higher below rung rungs zero = refl
+one_higher below rung rungs (suc place) = grind arith
 
 rung_is : (low : Rung) (below : Option Rung) (rungs : List Rung) (age : ℕ) → climbs low rungs ≡ true → at_level below rungs (level_of rungs age) ≡ rung_of below rungs age
 unfolding at_level rung_of
@@ -55,10 +49,7 @@ rung_is low below (rung ∷ rungs) age up = ap (at_level below (rung ∷ rungs))
 
 highest : (rungs : List Rung) (age : ℕ) → climbs ground rungs ≡ true → rung_at rungs (level_of rungs age) ≡ rung_of None rungs age
 unfolding at_level
-highest rungs age up = by (level_of rungs age) ∙ rung_is ground None rungs age up where
-  by : (level : ℕ) → rung_at rungs level ≡ at_level None rungs level
-  by zero = refl
-  by (suc place) = refl
+highest rungs age up = grind (arith, rung_is ground None rungs age up)
 
 -- ---- tests of rungs
 
@@ -77,20 +68,12 @@ module _ (test : Rung → Bool) (on : GoesOn test) where
   passes : (low : Rung) (rungs : List Rung) (age : ℕ) → climbs low rungs ≡ true → test low ≡ true → option_map_or test (rung_of (Some low) rungs age) false ≡ true
   unfolding rung_of
   passes low [] age up here = here
-  passes low (rung ∷ rungs) age up here = elim (nat_le rung.0 age) as (λ b. option_map_or test (cond b (rung_of (Some rung) rungs age) (Some low)) false ≡ true) [
-    | true ↦ passes rung rungs age (climbed low rung rungs up).1 (on low rung rungs up here)
-    | false ↦ here
-  ]
+  passes low (rung ∷ rungs) age up here = grind (arith, nat_tests, passes rung rungs age (climbed low rung rungs up).1 (on low rung rungs up here))
 
   -- no rung is reached before those below it are passed
   too_young : (low : Rung) (rungs : List Rung) (age : ℕ) → climbs low rungs ≡ true → age ≤ low.0 → reached (first_age test rungs) age ≡ false
   too_young low [] age up h = refl
-  too_young low (rung ∷ rungs) age up h =
-      let older = (climbed low rung rungs up).0.older in
-      elim (test rung) as (λ b. reached (option_map (λ rung. rung.0) (cond b (Some rung) (find test rungs))) age ≡ false) [
-        | true ↦ grind (arith, nat_tests)
-        | false ↦ too_young rung rungs age (climbed low rung rungs up).1 (omega arith)
-      ]
+  too_young low (rung ∷ rungs) age up h = grind (arith, nat_tests, (climbed low rung rungs up).0.older, too_young rung rungs age (climbed low rung rungs up).1)
 
   -- the highest rung passes from the age of the first that does
   from_age : (low : Rung) (below : Option Rung) (rungs : List Rung) (age : ℕ) → climbs low rungs ≡ true → option_map_or test below false ≡ false → option_map_or test (rung_of below rungs age) false ≡ reached (first_age test rungs) age
@@ -101,10 +84,7 @@ module _ (test : Rung → Bool) (on : GoesOn test) where
       | true ↦ λ e. passes rung rungs age (climbed low rung rungs up).1 e ∙ sym old
       | false ↦ λ e. from_age rung (Some rung) rungs age (climbed low rung rungs up).1 e
     ] refl
-    | false ↦ λ young. fails ∙ sym (elim (test rung) as (λ b. reached (option_map (λ rung. rung.0) (cond b (Some rung) (find test rungs))) age ≡ false) [
-      | true ↦ young
-      | false ↦ too_young rung rungs age (climbed low rung rungs up).1 (grind (arith, nat_tests))
-    ])
+    | false ↦ λ young. grind (arith, nat_tests, too_young rung rungs age (climbed low rung rungs up).1)
   ] refl
 
   -- so at a level from one age on
@@ -113,10 +93,7 @@ module _ (test : Rung → Bool) (on : GoesOn test) where
 
   -- and at a later age still
   stays : (rungs : List Rung) (early late : ℕ) → climbs ground rungs ≡ true → early ≤ late → option_map_or test (rung_at rungs (level_of rungs early)) false ≡ true → option_map_or test (rung_at rungs (level_of rungs late)) false ≡ true
-  stays rungs early late up le h = from_level rungs late up ∙ by (first_age test rungs) (sym (from_level rungs early up) ∙ h) where
-    by : (o : Option ℕ) → reached o early ≡ true → reached o late ≡ true
-    by None h = h
-    by (Some least) h = grind (arith, nat_tests)
+  stays rungs early late up le h = from_level rungs late up ∙ grind (arith, nat_tests, from_level rungs early up)
 
 -- ---- one age, and so one moment
 
@@ -134,10 +111,8 @@ lets_go_from (Landmarks rungs) closed beside age given = from_level (has_newer c
 
 -- the moment so long after the end is one of those at which the version may become due
 may_wait : (policy : Policy) (closed ended age : ℕ) (newer : List ℕ) → wait policy closed newer ≡ Some age → list_any (λ at. at == ended + age) (candidates policy ended) ≡ true
-may_wait One closed ended age newer is = let same : age ≡ 0 = cc in grind (arith, nat_tests)
-may_wait All closed ended age newer is = absurd cc
-may_wait (Safe interval) closed ended age newer is = let same : interval ≡ age = cc in grind (arith, nat_tests)
 may_wait (Landmarks rungs) closed ended age newer is = is_candidate (has_newer closed newer) ended age rungs is
+may_wait policy closed ended age newer is = grind (arith, nat_tests)
 
 pub ripe_is : (policy : Policy) (closed ended : ℕ) (beside : Beside) → IsPolicy policy → ripe_by policy closed beside ended ≡ ripe_after policy closed ended beside.newer
 unfolding ripe_by
@@ -158,33 +133,19 @@ due_from policy closed ended at beside given fits =
     ∙ by (wait policy closed beside.newer)
     ∙ ap (λ o. option_map_or (λ m. nat_le m at) o false) (sym (ripe_is policy closed ended beside given)) where
       by : (o : Option ℕ) → (nat_le ended at && reached o (at - ended)) ≡ option_map_or (λ m. nat_le m at) (option_and_then (λ age. in_time (ended + age)) o) false
-      by None = elim (nat_le ended at) as (λ b. (b && false) ≡ false) [
-        | true ↦ refl
-        | false ↦ refl
-      ]
+      by None = grind (arith, nat_tests)
       by (Some age) = grind (arith, nat_tests)
 
 -- ---- other versions beside it
 
 -- a version that is let go itself may be missing: one that has been ended as long goes as before
 pub lets_go_without : (policy : Policy) (live : Bool) (xs : List ℕ) (gone : ℕ) (ys : List ℕ) (closed age gone_age : ℕ) → IsPolicy policy → gone_age ≤ age → lets_go policy gone (record { newer = ys; live = live }) gone_age ≡ true → lets_go policy closed (record { newer = xs ++ gone ∷ ys; live = live }) age ≡ lets_go policy closed (record { newer = xs ++ ys; live = live }) age
-lets_go_without One live xs gone ys closed age gone_age given longer goes = refl
-lets_go_without All live xs gone ys closed age gone_age given longer goes = refl
-lets_go_without (Safe interval) live xs gone ys closed age gone_age given longer goes = refl
-lets_go_without (Landmarks rungs) live xs gone ys closed age gone_age given longer goes = by (rung_at rungs (level_of rungs age)) (stays (has_newer gone ys) (newer_on gone ys) rungs gone_age age given.climbing longer goes) where
-  by : (o : Option Rung) → option_map_or (has_newer gone ys) o false ≡ true → option_map_or (has_newer closed (xs ++ gone ∷ ys)) o false ≡ option_map_or (has_newer closed (xs ++ ys)) o false
-  by None h = refl
-  by (Some rung) h = any-without (λ n. shares closed n rung) xs gone ys (λ same. any-weaker (λ n. shares gone n rung) (λ n. shares closed n rung) ys (λ n. shares_on rung closed gone n same) h)
+lets_go_without (Landmarks rungs) live xs gone ys closed age gone_age given longer goes = grind (arith, nat_tests, any-without, any-weaker, shares_on, stays (has_newer gone ys) (newer_on gone ys) rungs gone_age age given.climbing longer goes)
+lets_go_without policy live xs gone ys closed age gone_age given longer goes = grind arith
 
 -- and one that goes beside fewer goes beside more
 pub lets_go_fewer : (policy : Policy) (live : Bool) (xs : List ℕ) (more : ℕ) (ys : List ℕ) (closed age : ℕ) → lets_go policy closed (record { newer = xs ++ ys; live = live }) age ≡ true → lets_go policy closed (record { newer = xs ++ more ∷ ys; live = live }) age ≡ true
-lets_go_fewer One live xs more ys closed age goes = goes
-lets_go_fewer All live xs more ys closed age goes = goes
-lets_go_fewer (Safe interval) live xs more ys closed age goes = goes
-lets_go_fewer (Landmarks rungs) live xs more ys closed age goes = by (rung_at rungs (level_of rungs age)) goes where
-  by : (o : Option Rung) → option_map_or (has_newer closed (xs ++ ys)) o false ≡ true → option_map_or (has_newer closed (xs ++ more ∷ ys)) o false ≡ true
-  by None h = h
-  by (Some rung) h = any-with (λ n. shares closed n rung) xs more ys h
+lets_go_fewer policy live xs more ys closed age goes = grind (arith, nat_tests, any-with)
 
 -- ---- told by the nearest newer closing alone
 
@@ -196,31 +157,22 @@ nearest_tells policy closed nearest beside is = by policy nearest beside.newer i
   same_found f g (rung ∷ rungs) same = rw (same rung, same_found f g rungs same) refl
 
   by : (policy : Policy) (nearest : Option ℕ) (newer : List ℕ) → AllLater ◌≤◌ (closed ∷ newer) → slice_get newer 0 ≡ nearest → wait policy closed newer ≡ wait policy closed (alone nearest).newer
-  by One nearest newer later first = refl
-  by All nearest newer later first = refl
-  by (Safe interval) nearest newer later first = refl
   by (Landmarks rungs) None [] later first = refl
   by (Landmarks rungs) (Some n) [] later first = absurd cc
   by (Landmarks rungs) None (x ∷ more) later first = absurd cc
   by (Landmarks rungs) (Some n) (x ∷ more) later first =
       let same : x ≡ n = cc in
       ap (option_map (λ (rung : Rung). rung.0)) (same_found (has_newer closed (x ∷ more)) (has_newer closed (n ∷ [])) rungs
-      (λ rung. nearest_decides rung closed x more later ∙ rw same (or_false (shares closed n rung)))) where
-        or_false : (b : Bool) → b ≡ (b || false)
-        or_false true = refl
-        or_false false = refl
+      (λ rung. grind (arith, nat_tests, nearest_decides rung closed x more later)))
+  by policy nearest newer later first = grind arith
 
 -- and so is the ripe moment
 pub ripe_nearest : (policy : Policy) (closed ended : ℕ) (nearest : Option ℕ) (beside : Beside) → IsPolicy policy → IsNearest closed nearest beside → ripe_by policy closed beside ended ≡ ripe_by policy closed (alone nearest) ended
-ripe_nearest policy closed ended nearest beside given is =
-    ripe_is policy closed ended beside given
-    ∙ ap (option_and_then (λ age. in_time (ended + age))) (nearest_tells policy closed nearest beside is)
-    ∙ sym (ripe_is policy closed ended (alone nearest) given)
+ripe_nearest policy closed ended nearest beside given is = grind (arith, ripe_is policy closed ended beside given, ripe_is policy closed ended (alone nearest) given, nearest_tells policy closed nearest beside is)
 
 -- beside all that the nearest tells of, the version is due from the ripe moment on, or never
 due_nearest : (policy : Policy) (closed ended at : ℕ) (nearest wait_is : Option ℕ) (beside : Beside) → IsPolicy policy → IsNearest closed nearest beside → wait policy closed (alone nearest).newer ≡ wait_is → is_due_by policy closed beside ended at ≡ (nat_le ended at && reached wait_is (at - ended))
-due_nearest policy closed ended at nearest wait_is beside given near is =
-    ap (λ b. nat_le ended at && b) (lets_go_from policy closed beside (at - ended) given ∙ ap (λ o. reached o (at - ended)) (nearest_tells policy closed nearest beside near ∙ is))
+due_nearest policy closed ended at nearest wait_is beside given near is = grind (arith, nat_tests, lets_go_from policy closed beside (at - ended) given, nearest_tells policy closed nearest beside near)
 
 abbrev pub DueFrom : Policy → ℕ → ℕ → Option ℕ → Option ℕ → Type 0
 DueFrom policy closed ended nearest ripe = IfSome ripe (λ m. (beside : Beside) → IsNearest closed nearest beside → (at : ℕ) → is_due_by policy closed beside ended at ≡ nat_le m at)
@@ -228,8 +180,8 @@ DueFrom policy closed ended nearest ripe = IfSome ripe (λ m. (beside : Beside) 
 abbrev pub NeverDue : Policy → ℕ → ℕ → Option ℕ → Option ℕ → Type 0
 NeverDue policy closed ended nearest ripe = IfNone ripe ((beside : Beside) → IsNearest closed nearest beside → (at : ℕ) → at ≤ last_moment → is_due_by policy closed beside ended at ≡ false)
 
-pub ripe_from : (policy : Policy) (closed ended : ℕ) (nearest : Option ℕ) → IsPolicy policy → DueFrom policy closed ended nearest (ripe_by policy closed (alone nearest) ended)
-ripe_from policy closed ended nearest given = subst (DueFrom policy closed ended nearest) (sym (ripe_is policy closed ended (alone nearest) given)) (by (wait policy closed (alone nearest).newer) refl) where
+pub ripe_from : (policy : Policy) (closed ended : ℕ) (nearest r : Option ℕ) → IsPolicy policy → r ≡ ripe_by policy closed (alone nearest) ended → DueFrom policy closed ended nearest r
+ripe_from policy closed ended nearest r given told = subst (DueFrom policy closed ended nearest) (sym (told ∙ ripe_is policy closed ended (alone nearest) given)) (by (wait policy closed (alone nearest).newer) refl) where
   by : (o : Option ℕ) → wait policy closed (alone nearest).newer ≡ o → DueFrom policy closed ended nearest (option_and_then (λ age. in_time (ended + age)) o)
   by None is = tt
   by (Some age) is = elim (nat_le (ended + age) last_moment) as (λ b. DueFrom policy closed ended nearest (cond b (Some (ended + age)) None)) [
@@ -237,8 +189,8 @@ ripe_from policy closed ended nearest given = subst (DueFrom policy closed ended
     | false ↦ tt
   ]
 
-pub ripe_never : (policy : Policy) (closed ended : ℕ) (nearest : Option ℕ) → IsPolicy policy → NeverDue policy closed ended nearest (ripe_by policy closed (alone nearest) ended)
-ripe_never policy closed ended nearest given = subst (NeverDue policy closed ended nearest) (sym (ripe_is policy closed ended (alone nearest) given)) (by (wait policy closed (alone nearest).newer) refl) where
+pub ripe_never : (policy : Policy) (closed ended : ℕ) (nearest r : Option ℕ) → IsPolicy policy → r ≡ ripe_by policy closed (alone nearest) ended → NeverDue policy closed ended nearest r
+ripe_never policy closed ended nearest r given told = subst (NeverDue policy closed ended nearest) (sym (told ∙ ripe_is policy closed ended (alone nearest) given)) (by (wait policy closed (alone nearest).newer) refl) where
   by : (o : Option ℕ) → wait policy closed (alone nearest).newer ≡ o → NeverDue policy closed ended nearest (option_and_then (λ age. in_time (ended + age)) o)
   by None is = λ beside near at fits. due_nearest policy closed ended at nearest None beside given near is ∙ grind (arith, nat_tests)
   by (Some age) is = elim (nat_le (ended + age) last_moment) as (λ b. nat_le (ended + age) last_moment ≡ b → NeverDue policy closed ended nearest (cond b (Some (ended + age)) None)) [
@@ -255,7 +207,5 @@ ripe_keeps policy closed ended m nearest given is =
       none (rung ∷ rungs) = none rungs
 
       by : (policy : Policy) → ripe_after policy closed ended [] ≡ Some m → ripe_after policy closed ended (nearest ∷ []) ≡ Some m
-      by One h = h
-      by All h = h
-      by (Safe interval) h = h
       by (Landmarks rungs) h = absurd (let no = none rungs in cc)
+      by policy h = grind arith

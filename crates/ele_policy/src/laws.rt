@@ -9,6 +9,7 @@ pub fn lets_go_from()
 {}
 
 /// Two moments that share a span of a ladder share one of each higher rung.
+#[tactic(auto, using(crate::proofs::Rungs::shares_nest))]
 pub fn shares_nest()
     ensures { SharesNest }
 {}

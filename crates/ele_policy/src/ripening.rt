@@ -51,6 +51,7 @@ pub fn ripe_beside(
 
 /// The same, told by the closing of the next held version of the file, if there is one, which isn't
 /// before the version's own: whatever stands behind that one, the answer is the same.
+#[tactic(auto, using(crate::proofs::Waits::ripe_from, crate::proofs::Waits::ripe_never))]
 pub fn ripe(
     policy: &Policy,
     closed: Moment,

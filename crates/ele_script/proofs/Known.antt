@@ -1,4 +1,6 @@
 -- What a writer holds and what is held for it, piece after piece.
+use Rattle.ele_script.proofs.Lines.{lines_here}
+use Rattle.ele_script.proofs.Basics.{◌∷◌, get_or, drop, length, flat_map, ◌<◌, ◌+◌}
 use Rattle.ele_script.proofs.Basics.{◌≡◌, ℕ, List, [], ◌++◌, Option, Result, Ok, Err, refl, append_assoc, append-nil, Appends-nil, Appends-trans, Appends, OnOk, OnErr, IsErr}
 use Rattle.ele_script.proofs.Prelude.{Outlet, outlet, Takes, TakesFront, Puts, HandsOver}
 use Rattle.ele_script.specs.Front.{AppendsFront}
@@ -58,6 +60,13 @@ sent_more {a} {b} {c} {x = x} y s e p = record { sent = s.sent ++ x; parts = cc 
 -- a front of a piece of the rest is put
 pub sent_err : {A E : Type 0} {a b c : Outlet} {whole rest x : List ℕ} (y : List ℕ) (r : Result A E) → HasSent a b whole rest → rest ≡ x ++ y → IsErr r → TakesFront b c x → Puts a c whole r
 sent_err {c = c} {rest = rest} y r s e is p = puts_then c rest r s.parts s.written (puts_err y r e is p)
+
+-- at an item of a list, its line is put
+pub list_more : {A : Type 0} {a b c : Outlet} {whole : List ℕ} (line : A → List ℕ) (xs : List A) (i : ℕ) (x : A) → i < length xs → x ≡ get_or xs i x → HasSent a b whole (flat_map line (drop i xs)) → Takes b c (line x) → HasSent a c whole (flat_map line (drop (i + 1) xs))
+list_more line xs i x lt is s p = sent_more _ s (lines_here line xs i x lt is) p
+
+pub list_err : {A B E : Type 0} {a b c : Outlet} {whole : List ℕ} (line : A → List ℕ) (xs : List A) (i : ℕ) (x : A) (r : Result B E) → i < length xs → x ≡ get_or xs i x → HasSent a b whole (flat_map line (drop i xs)) → IsErr r → TakesFront b c (line x) → Puts a c whole r
+list_err line xs i x r lt is s bad p = sent_err _ r s (lines_here line xs i x lt is) bad p
 
 -- what was held was handed over, and the bytes behind it straight to the writer
 pub puts_direct : {A E : Type 0} (a b c : Option (List ℕ)) (held left bytes : List ℕ) (r : Result A E)

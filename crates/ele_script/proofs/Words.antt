@@ -1,5 +1,5 @@
 -- The words of a line, cut off one after another.
-use Rattle.ele_script.proofs.Basics.{◌≡◌, ◌≢◌, ℕ, zero, suc, ◌+◌, ◌<◌, ◌≤◌, ◌==◌, not, cond, ◌&&◌, Bool, true, false, List, [], ◌∷◌, ◌++◌, length, take, drop, get_or, Some, None, refl, sym, ap, ◌∙◌, arith, append_assoc, length-append, map}
+use Rattle.ele_script.proofs.Basics.{◌≡◌, ◌≢◌, ℕ, zero, suc, ◌+◌, ◌<◌, ◌≤◌, ◌==◌, not, cond, ◌&&◌, Bool, true, false, List, [], ◌∷◌, ◌++◌, length, take, drop, get_or, Some, None, refl, sym, ap, ◌∙◌, arith, append_assoc, length-append, map, Bor}
 use Rattle.ele_script.proofs.Basics.{◌⊎◌, nat_lt, subst, list_all, position, ltb-false, lt-ltb, eqb-true, nat_tests, map-append, length-map, length-take-le, drop_more, take-append-drop, position-Some, length-slice_split}
 use Rattle.ele_script.proofs.Prelude.{Command, Syntax, command_words, kinds_behind, IsFaultOfWords, IsFirstFault, words_of, is_plain, is_worded, ends_word}
 use Rattle.std.proofs.Math.Bool.{and-false}
@@ -68,18 +68,18 @@ push_spaced {A} v front now x pushed before some =
     ap (list_all has_byte) (map_push v front now x pushed) ∙ list_all-append has_byte (map v front) (v x ∷ []) ∙ rw (before, one) refl
 
 -- a word more is cut off
-pub cut_more : {A : Type 0} (v : A → List ℕ) (line : List ℕ) (front now : List A) (word : A) (rest behind : List ℕ) (at : ℕ) → AreCut line (map v front) rest → position ends_word rest ≡ Some at
-    → get_or rest at 0 ≡ 32 → 0 < at → v word ≡ take at rest → behind ≡ drop 1 (drop at rest) → now ≡ front ++ word ∷ [] → AreCut line (map v now) behind
-cut_more {A} v line front now word rest behind at are found space some here there pushed =
+pub cut_more : (line : List ℕ) (front now : List (Bor (List ℕ))) (word : Bor (List ℕ)) (rest behind : List ℕ) (at : ℕ) → AreCut line (map (λ word. word.now) front) rest → position ends_word rest ≡ Some at
+    → get_or rest at 0 ≡ 32 → 0 < at → word.now ≡ take at rest → behind ≡ drop 1 (drop at rest) → now ≡ front ++ word ∷ [] → AreCut line (map (λ word. word.now) now) behind
+cut_more line front now word rest behind at are found space some here there pushed =
     let f = position-Some ends_word rest at 0 found in
     let next : drop at rest ≡ 32 ∷ drop (at + 1) rest = cc (drop_more rest at 0 f.0, space) in
     let parts : rest ≡ take at rest ++ 32 ∷ behind = cc (take-append-drop at rest, rw next at there) in
     let le : at ≤ length rest = omega (arith, f.0) in
-    let words : words_of rest ≡ v word ∷ words_of behind = cc (ap words_of parts, word_before at rest behind le f.2) in
+    let words : words_of rest ≡ word.now ∷ words_of behind = cc (ap words_of parts, word_before at rest behind le f.2) in
     record {
-      words = cc (are.words, words, append_assoc (map v front) (v word ∷ []) (words_of behind), map_push v front now word pushed);
+      words = cc (are.words, words, append_assoc (map (λ word. word.now) front) (word.now ∷ []) (words_of behind), map_push (λ (word : Bor (List ℕ)). word.now) front now word pushed);
       plain = are.plain ∙ ap (list_all is_plain) parts ∙ list_all-append is_plain (take at rest) (32 ∷ behind) ∙ rw (plain_before at rest le f.2) refl;
-      spaced = push_spaced v front now word pushed are.spaced (omega (arith, some, ap length here, length-take-le at rest le));
+      spaced = push_spaced (λ (word : Bor (List ℕ)). word.now) front now word pushed are.spaced (omega (arith, some, ap length here, length-take-le at rest le));
     }
 
 words_unspaced : (line : List ℕ) (front behind : List (List ℕ)) → words_of line ≡ front ++ [] ∷ behind → is_worded line ≡ false
@@ -103,21 +103,21 @@ pub cut_unplain : (line : List ℕ) (front : List (List ℕ)) (rest : List ℕ) 
 cut_unplain line front rest at are found other = grind (arith, nat_tests, position-Some, list_all_at)
 
 -- what is left is the last word
-pub cut_last : {A : Type 0} (v : A → List ℕ) (line : List ℕ) (front now : List A) (last : A) → AreCut line (map v front) (v last) → position ends_word (v last) ≡ None → now ≡ front ++ last ∷ []
-    → map v now ≡ words_of line
-cut_last {A} v line front now last are none pushed = grind (arith, nat_tests, whole_word, no_end, map_push)
+pub cut_last : (line : List ℕ) (front now : List (Bor (List ℕ))) (last : Bor (List ℕ)) → AreCut line (map (λ word. word.now) front) (last.now) → position ends_word (last.now) ≡ None → now ≡ front ++ last ∷ []
+    → map (λ word. word.now) now ≡ words_of line
+cut_last line front now last are none pushed = grind (arith, nat_tests, whole_word last.now, no_end last.now none, map_push (λ (word : Bor (List ℕ)). word.now) front now last pushed, append_assoc)
 
 -- and with it the line is worded
-pub cut_worded : {A : Type 0} (v : A → List ℕ) (line : List ℕ) (front now : List A) (last : A) → AreCut line (map v front) (v last) → position ends_word (v last) ≡ None → now ≡ front ++ last ∷ []
-    → (length (v last) == 0) ≡ false → is_worded line ≡ true
-cut_worded {A} v line front now last are none pushed some =
-    let one = whole_word (v last) (no_end (v last) none) in
-    let spaced = push_spaced v front now last pushed are.spaced (positive (length (v last)) some) in
-    rw (are.plain ∙ one.1) (ap (list_all has_byte) (sym (cut_last v line front now last are none pushed)) ∙ spaced)
+pub cut_worded : (line : List ℕ) (front now : List (Bor (List ℕ))) (last : Bor (List ℕ)) → AreCut line (map (λ word. word.now) front) (last.now) → position ends_word (last.now) ≡ None → now ≡ front ++ last ∷ []
+    → (length (last.now) == 0) ≡ false → is_worded line ≡ true
+cut_worded line front now last are none pushed some =
+    let one = whole_word (last.now) (no_end (last.now) none) in
+    let spaced = push_spaced (λ (word : Bor (List ℕ)). word.now) front now last pushed are.spaced (positive (length (last.now)) some) in
+    rw (are.plain ∙ one.1) (ap (list_all has_byte) (sym (cut_last line front now last are none pushed)) ∙ spaced)
 
 -- there are more words than were cut off
-pub cut_some : {A : Type 0} (v : A → List ℕ) (line : List ℕ) (front : List A) (rest : List ℕ) → AreCut line (map v front) rest → length front < length (words_of line)
-cut_some {A} v line front rest are = omega (arith, ap length are.words, length-append (map v front) (words_of rest), length-map front v, length-slice_split)
+pub cut_some : (line : List ℕ) (front : List (Bor (List ℕ))) (rest : List ℕ) → AreCut line (map (λ word. word.now) front) rest → length front < length (words_of line)
+cut_some line front rest are = omega (arith, ap length are.words, length-append (map (λ word. word.now) front) (words_of rest), length-map front (λ (word : Bor (List ℕ)). word.now), length-slice_split)
 
 pub unworded : (line : List ℕ) → list_all is_plain line ≡ false → is_worded line ≡ false
 unworded line broken = ap (λ b. b && list_all (λ word. nat_lt 0 (length word)) (words_of line)) broken

@@ -38,6 +38,7 @@ const MOST_WORDS: usize = 4;
 /// A line that asks for nothing is answered with its first fault: its length, its bytes and spaces,
 /// its command and number of words, and then the first bad word from the left. `NoMemory` may come
 /// in place of any other answer where the command takes a path or bytes.
+#[tactic(auto, using(crate::proofs::Laws::one_fault, crate::proofs::Words::unfit_line))]
 pub fn read_line(alloc: Global, line: &[u8]) -> Result<Line, LineFault>
     ensures found { IfOk result (SpellsLine line.now) }
     ensures only { (asked : Line) → SpellsLine line.now asked
@@ -59,6 +60,7 @@ pub fn read_line(alloc: Global, line: &[u8]) -> Result<Line, LineFault>
 
 /// The event that a line spells, without its line feed. It is refused as `read_line` refuses it; a
 /// line that asks for something else is `Syntax`.
+#[tactic(auto, using(crate::proofs::Laws::event_found, crate::proofs::Laws::event_memory))]
 pub fn read_event(alloc: Global, line: &[u8]) -> Result<Event, LineFault>
     ensures found { IfOk result (Spells line.now) }
     ensures only { (event : Event) → Spells line.now event
@@ -86,6 +88,7 @@ fn event_in(asked: Result<Line, LineFault>) -> Result<Event, LineFault>
 
 /// The words of a line, if it is plain words with one space between each two, and no more than a
 /// command may have.
+#[tactic(auto, using(crate::proofs::Words::cut_some, crate::proofs::Words::cut_unplain, crate::proofs::Words::cut_empty, crate::proofs::Words::cut_none, crate::proofs::Words::unworded))]
 fn words_in(line: &[u8]) -> Option<ArrayVec<&[u8], MOST_WORDS>>
     ensures found { IfSome result
         (λ words. map (λ word. word.now) words.items ≡ words_of line.now) }
@@ -128,6 +131,7 @@ fn word_end(text: &[u8]) -> Option<usize>
 }
 
 /// What words ask for.
+#[tactic(auto, using(crate::proofs::Commands::spelled_words, crate::proofs::Commands::memory_of_words))]
 fn line_of(alloc: Global, words: &[&[u8]]) -> Result<Line, LineFault>
     ensures found { IfOk result (SpellsWords (map (λ word. word.now) words.now)) }
     ensures fault { IfErr result

@@ -1,14 +1,9 @@
 -- The answer to a line that is run, and its block.
-use Rattle.std.proofs.Common.{◌≡◌, ◌≢◌, Bool, true, false, ℕ, ◌≤◌, List, [], ◌∷◌, ◌++◌, length, Option, Some, Result, Ok, Err, ◌⊎◌, inl, inr, refl, sym, ap, ◌∙◌, append_assoc, arith}
-use Rattle.std.specs.Prelude.{IsErr}
-use Rattle.std.proofs.KnownBytes.{Appends-trans}
+use Rattle.ele_shell.proofs.Basics.{◌≡◌, ◌≢◌, Bool, true, false, ℕ, ◌≤◌, List, [], ◌∷◌, ◌++◌, length, Option, Some, Result, Ok, Err, ◌⊎◌, inl, inr, refl, sym, ap, ◌∙◌, append_assoc, arith, IsErr, Appends-trans}
+use Rattle.ele_shell.proofs.Words.{Reply, Stop, HistoryFull, AppendsFront, Outlet, outlet, Takes, Puts, MayReply, MayAnswer, as_read, as_run, cut_block, MayPass, RunState, PutsReply, PutsAnswer, PutsBlock}
 use Rattle.ele_world.specs.declared.event.Event.{Event}
-use Rattle.ele_world.specs.declared.reply.Reply.{Reply}
-use Rattle.ele_world.specs.declared.refusal.Stop.{Stop}
-use Rattle.ele_world.specs.declared.refusal.Stop.TheVariants.{NoMemory, HistoryFull}
+use Rattle.ele_world.specs.declared.refusal.Stop.TheVariants.{NoMemory}
 use Rattle.ele_script.specs.Spells.{Spells, SpellsLine}
-use Rattle.ele_script.specs.Front.{AppendsFront}
-use Rattle.ele_script.specs.Outlet.{Outlet, outlet, Takes, Puts}
 use Rattle.ele_script.specs.FirstFault.{IsFirstFault}
 use Rattle.ele_script.specs.Memory.{TakesMemory}
 use Rattle.ele_script.specs.Printed.{IsReplyText, stop_text, pass_text, bad_text}
@@ -18,10 +13,8 @@ use Rattle.ele_script.specs.declared.fault.LineFault.TheVariants as fault
 use Rattle.ele_script.specs.declared.reading.Line.TheVariants as asks
 use Rattle.ele_shell.specs.Answer as answer
 use Rattle.ele_world.specs.declared.pass.PassEnd.{PassEnd}
-use Rattle.ele_shell.specs.Block.{MayReply, MayAnswer, as_read, as_run, cut_block}
-use Rattle.ele_shell.specs.Pass.{MayPass}
-use Rattle.ele_shell.specs.RunState.{RunState}
-use Rattle.ele_shell.specs.Written.{PutsReply, PutsAnswer, PutsBlock, Finishes}
+use Rattle.ele_shell.specs.Written.{Finishes}
+use Rattle.ele_shell.proofs.Joins.{front_behind}
 
 may_answer : (before after : RunState) (line : List ℕ) (event : Event) (r : Result Reply Stop)
     → Spells line event → MayReply before event r after → MayAnswer before line (answer.Reply r) after
@@ -79,9 +72,4 @@ pub finishes_front : {E : Type 0} (n : ℕ) (buffer a b c : Option (List ℕ)) (
     → Takes (outlet a held) (outlet b left) (cut_block buffer) → AppendsFront b c left → Finishes n buffer (outlet a held) c r
 finishes_front n buffer a b c held left (Ok x) is p q = absurd cc
 finishes_front n buffer a b c held left (Err x) is p q =
-    record {
-      front = p.sent ++ q.front;
-      back = q.back;
-      parts = p.parts ∙ ap (λ (w : List ℕ). p.sent ++ w) q.parts ∙ sym (append_assoc p.sent q.front q.back);
-      written = Appends-trans a b c p.sent q.front p.written q.written;
-    }
+    rw p.parts (front_behind a b c p.sent left p.written q)

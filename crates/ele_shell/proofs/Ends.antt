@@ -1,28 +1,12 @@
 -- How a run ends.
-use Rattle.std.proofs.Common.{◌≡◌, ℕ, ◌+◌, ◌≤◌, List, [], ◌∷◌, ◌++◌, length, take, get_or, min, ◌-◌, Option, Some, None, Result, Ok, Err, refl, sym, ap, subst, ◌∙◌, arith, append_assoc, inl, inr}
-use Rattle.std.proofs.lemmas.List.{append-nil, length-take}
-use Rattle.std.proofs.lemmas.List.Concat.{flat_map-append}
-use Rattle.std.proofs.lemmas.Bool.{cases_order}
-use Rattle.std.proofs.lemmas.Bool.Decides.{leb_tells}
-use Rattle.std.specs.Prelude.{IfOk}
-use Rattle.std.specs.List.{AllByRecursion}
-use Rattle.std.specs.Io.KnownBytes.{Consumes, Keeps, Appends, IsAtEnd}
-use Rattle.std.proofs.KnownBytes.{Consumes-trans, Consumes-kept, Appends-trans}
-use Rattle.ele_script.specs.Front.{AppendsFront}
-use Rattle.ele_script.specs.Outlet.{outlet}
-use Rattle.ele_script.proofs.Known.{front_over, front_then as puts_front}
+use Rattle.ele_shell.proofs.Basics.{◌≡◌, ℕ, ◌+◌, ◌≤◌, List, [], ◌∷◌, ◌++◌, length, take, get_or, min, ◌-◌, Option, Some, None, Result, Ok, Err, refl, sym, ap, subst, ◌∙◌, arith, append_assoc, inl, inr, append-nil, length-take}
+use Rattle.ele_shell.proofs.Basics.{flat_map-append, cases_order, leb_tells, IfOk, AllByRecursion, Consumes, Keeps, Appends, IsAtEnd, Consumes-trans, Consumes-kept, Appends-trans}
+use Rattle.ele_shell.proofs.Words.{AppendsFront, outlet, cut_block, cut_count, most_lines, line_unless_long, longest_line, IsUnbroken, line_text, lines_text, line_count, AreBlocks, AnswersSome, RunState}
 use Rattle.ele_shell.specs.declared.fault.ShellFault.{ShellFault}
 use Rattle.ele_shell.specs.declared.fault.ShellFault.TheVariants.{ReadFault, WriteFault, TooManyLines, NoMemory}
-use Rattle.ele_shell.specs.Block.{cut_block, cut_count}
-use Rattle.ele_shell.specs.Bounds.{most_lines}
-use Rattle.ele_shell.specs.LineLength.{line_unless_long, longest_line}
-use Rattle.ele_shell.specs.Lines.{IsUnbroken, line_text, lines_text, line_count}
-use Rattle.ele_shell.specs.Output.{AreBlocks}
-use Rattle.ele_shell.specs.Piece.{AnswersSome}
 use Rattle.ele_shell.specs.Running.{Runs, RanToTheEnd, RanPastABound, RanToAWriteFault}
-use Rattle.ele_shell.specs.RunState.{RunState}
 use Rattle.ele_shell.specs.Taken.{TakesPiece}
-use Rattle.ele_shell.proofs.Joins.{blocks_append}
+use Rattle.ele_shell.proofs.Joins.{blocks_append, front_behind, front_then, all_both}
 use Rattle.ele_shell.proofs.Ran.{HasRun, written_all, few_whole}
 
 -- what was read is all, where nothing is left
@@ -36,16 +20,6 @@ known_more : (input rest : Option (List ℕ)) (given : List ℕ) → Consumes in
 known_more None rest given taken = ([], tt)
 known_more (Some xs) None given taken = absurd taken
 known_more (Some xs) (Some ys) given taken = (ys, sym taken)
-
--- all of some bytes, and then a front of more
-front_then : (old mid new : Option (List ℕ)) (bytes more : List ℕ) → Appends old mid bytes → AppendsFront mid new more → AppendsFront old new (bytes ++ more)
-front_then old mid new bytes more a f =
-    record {
-      front = bytes ++ f.front;
-      back = f.back;
-      parts = ap (λ (xs : List ℕ). bytes ++ xs) f.parts ∙ sym (append_assoc bytes f.front f.back);
-      written = Appends-trans old mid new bytes f.front a f.written;
-    }
 
 -- the writer failed in the blocks of these lines, whatever comes behind them
 fails_in : (start state : RunState) (given part text : List ℕ) (lines : List (List ℕ)) (input rest old new : Option (List ℕ))
@@ -89,16 +63,12 @@ one_byte : (piece : List ℕ) (count : ℕ) → 1 ≤ length piece → count ≡
 one_byte [] count some one = absurd (omega (arith, some))
 one_byte (b ∷ bs) count some one = rw one refl
 
-whole_both : (a b : List (List ℕ)) → AllByRecursion IsUnbroken a → AllByRecursion IsUnbroken b → AllByRecursion IsUnbroken (a ++ b)
-whole_both [] b h g = g
-whole_both (x ∷ a) b h g = (h.0, whole_both a b h.1 g)
-
 module _ {start state : RunState} {n : ℕ} {room : ℕ} {buffer input mid old so_far : Option (List ℕ)} {held : List ℕ} (ran : HasRun start n state room buffer input mid old so_far held) where
   -- the writer failed as it was handed what is held
   pub ends_over : (new : Option (List ℕ)) → AppendsFront so_far new held → RanToAWriteFault start input old new
   ends_over new front =
       fails_in start state ran.given ran.part ran.text ran.lines input mid old new ran.are.parts ran.are.whole ran.blocks ran.taken
-      (front_over old so_far new held ran.text ran.put front)
+      (rw ran.put.parts (front_behind old so_far new ran.put.sent held ran.put.written front))
 
   -- the reader failed
   pub ends_read : (rest : Option (List ℕ)) (most : ℕ) (piece : List ℕ) (fault : ShellFault) → held ≡ [] → TakesPiece mid rest most piece (Err fault)
@@ -185,7 +155,7 @@ module _ {start state : RunState} {n : ℕ} {room : ℕ} {buffer input mid old s
     blocks = ran.blocks;
     written = inr (
       ran.are.cut,
-      front_then old so_far new ran.text (cut_block (line_unless_long ran.part)) (written_all ran none)
+      front_behind old so_far new ran.text (cut_block (line_unless_long ran.part)) (written_all ran none)
           (subst (AppendsFront so_far new) (ap (λ (w : List ℕ). w ++ cut_block buffer) none ∙ ap cut_block ran.keeps) front),
     );
   }
@@ -197,10 +167,10 @@ module _ {start state : RunState} {n : ℕ} {room : ℕ} {buffer input mid old s
       fails_in start after (ran.given ++ piece) did.rest (ran.text ++ did.text) (ran.lines ++ did.lines) input rest old new
       (ap (λ (w : List ℕ). w ++ piece) ran.are.parts ∙ append_assoc (lines_text ran.lines) ran.part piece ∙ ap (λ (w : List ℕ). lines_text ran.lines ++ w) did.parts
       ∙ sym (append_assoc (lines_text ran.lines) (lines_text did.lines) did.rest) ∙ ap (λ (w : List ℕ). w ++ did.rest) (sym (flat_map-append line_text ran.lines did.lines)))
-      (whole_both ran.lines did.lines ran.are.whole did.whole)
+      (all_both IsUnbroken ran.lines did.lines ran.are.whole did.whole)
       (blocks_append start state after ran.lines did.lines ran.text did.text ran.blocks did.blocks)
       (Consumes-trans input mid rest ran.given piece ran.taken took)
-      (puts_front (outlet old []) (outlet so_far held) (outlet new left) ran.text did.text ran.put did.put).front
+      (front_then (outlet old []) (outlet so_far held) (outlet new left) ran.text did.text ran.put did.put)
 
 -- what a run has done at each end
 pub ran_to_the_end : (start : RunState) (input rest old new : Option (List ℕ)) (r : Result ℕ ShellFault) → Runs start input rest old new r

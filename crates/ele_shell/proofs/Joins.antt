@@ -1,10 +1,33 @@
 -- Lines and their blocks, and then more of them.
-use Rattle.std.proofs.Common.{◌≡◌, ℕ, List, [], ◌∷◌, ◌++◌, sym, ap, ◌∙◌, append_assoc}
-use Rattle.std.proofs.lemmas.List.Concat.{flat_map-append}
-use Rattle.std.specs.List.{AllByRecursion}
-use Rattle.ele_shell.specs.Lines.{IsUnbroken, AreLines, line_text, lines_text}
-use Rattle.ele_shell.specs.Output.{AreBlocks}
-use Rattle.ele_shell.specs.RunState.{RunState}
+use Rattle.ele_shell.proofs.Basics.{Option, Appends, Appends-nil, Appends-trans, append-nil, ◌≡◌, ℕ, List, [], ◌∷◌, ◌++◌, sym, ap, ◌∙◌, append_assoc, flat_map-append, AllByRecursion}
+use Rattle.ele_shell.proofs.Words.{Outlet, outlet, Takes, TakesFront, AppendsFront, IsUnbroken, AreLines, line_text, lines_text, AreBlocks, RunState}
+
+-- what was put at first, and then more
+pub takes_nil : (a : Outlet) → Takes a a []
+takes_nil a = record { sent = []; parts = append-nil a.held; written = Appends-nil a.known }
+
+pub takes_then : (a b c : Outlet) (x y : List ℕ) → Takes a b x → Takes b c y → Takes a c (x ++ y)
+takes_then a b c x y p q =
+    record { sent = p.sent ++ q.sent; parts = cc (append_assoc a.held x y, append_assoc p.sent b.held y, append_assoc p.sent q.sent c.held); written = Appends-trans _ _ _ _ _ p.written q.written }
+
+-- what was put is written once all that is held is handed over
+pub takes_over : (a b c : Option (List ℕ)) (held text : List ℕ) → Takes (outlet a []) (outlet b held) text → Appends b c held → Appends a c text
+takes_over a b c held text p q = rw p.parts (Appends-trans a b c p.sent held p.written q)
+
+-- all of some bytes, and then a front of more
+pub front_behind : (a b c : Option (List ℕ)) (x y : List ℕ) → Appends a b x → AppendsFront b c y → AppendsFront a c (x ++ y)
+front_behind a b c x y p q = record { front = x ++ q.front; back = q.back; parts = cc (append_assoc x q.front q.back); written = Appends-trans _ _ _ _ _ p q.written }
+
+-- all of x was put, and then a front of y
+pub front_then : (a b c : Outlet) (x y : List ℕ) → Takes a b x → TakesFront b c y → AppendsFront a.known c.known (a.held ++ (x ++ y))
+front_then a b c x y p q =
+    let parts : a.held ++ (x ++ y) ≡ p.sent ++ (b.held ++ y) = cc (append_assoc a.held x y, append_assoc p.sent b.held y) in
+    rw parts (front_behind _ _ _ p.sent (b.held ++ y) p.written q.front)
+
+-- what holds of each of two lists holds of each of both
+pub all_both : {A : Type 0} (P : A → Type 0) (a b : List A) → AllByRecursion P a → AllByRecursion P b → AllByRecursion P (a ++ b)
+all_both P [] b h g = g
+all_both P (x ∷ a) b h g = (h.0, all_both P a b h.1 g)
 
 -- these lines stand before those of the rest
 pub lines_before : (input rest : List ℕ) (before after : List (List ℕ)) (last : List ℕ)
@@ -13,13 +36,9 @@ lines_before input rest before after last e whole h =
     record {
       parts = e ∙ ap (λ (xs : List ℕ). lines_text before ++ xs) h.parts ∙ sym (append_assoc (lines_text before) (lines_text after) last)
           ∙ ap (λ (xs : List ℕ). xs ++ last) (sym (flat_map-append line_text before after));
-      whole = all_append before after whole h.whole;
+      whole = all_both IsUnbroken before after whole h.whole;
       cut = h.cut;
     }
-  where
-    all_append : (a b : List (List ℕ)) → AllByRecursion IsUnbroken a → AllByRecursion IsUnbroken b → AllByRecursion IsUnbroken (a ++ b)
-    all_append [] b h g = g
-    all_append (x ∷ a) b h g = (h.0, all_append a b h.1 g)
 
 -- blocks of lines, and then those of more
 pub blocks_append : (s t u : RunState) (a b : List (List ℕ)) (text more : List ℕ) → AreBlocks s a text t → AreBlocks t b more u → AreBlocks s (a ++ b) (text ++ more) u

@@ -1,3 +1,5 @@
+mod Words
+mod Basics
 pub mod Blocks
 pub mod Ends
 pub mod Joins

@@ -1,10 +1,8 @@
 -- Clean events in a row.
-use Rattle.std.proofs.Common.{◌≡◌, ℕ, ◌+◌, ◌<◌, true, false, Option, Some, None, inl, inr, refl, ap, sym, subst, ◌∙◌, arith, Err}
-use Rattle.std.specs.Prelude.{is_some, IsSome}
-use Rattle.std.proofs.lemmas.Bool.{cases_lt}
+use Rattle.ele_shell.proofs.Basics.{◌≡◌, ℕ, ◌+◌, ◌<◌, true, false, Option, Some, None, inl, inr, refl, ap, sym, subst, ◌∙◌, arith, Err, is_some, IsSome, cases_lt}
+use Rattle.ele_shell.proofs.Words.{Reply, Stop, HistoryFull, Removes, Fills, MayPass, RunState}
 use Rattle.ele_due.specs.declared.key.Key.{Key}
 use Rattle.ele_world.specs.declared.event.Event.TheVariants.{CleanOne}
-use Rattle.ele_world.specs.declared.reply.Reply.{Reply}
 use Rattle.ele_world.specs.Pass.{IsCleaned}
 use Rattle.ele_world.proofs.PassEnds.{cleaned_none, cleaned_more}
 use Rattle.ele_world.specs.Scan.{first_due}
@@ -12,19 +10,9 @@ use Rattle.ele_world.specs.Step.{step, clean_step}
 use Rattle.ele_world.proofs.Cleans.{clean_of}
 use Rattle.ele_world.specs.World.{World}
 use Rattle.ele_world.specs.declared.pass.PassEnd.TheVariants.{Stopped}
-use Rattle.ele_world.specs.declared.refusal.Stop.{Stop}
-use Rattle.ele_world.specs.declared.refusal.Stop.TheVariants.{NoMemory, HistoryFull}
+use Rattle.ele_world.specs.declared.refusal.Stop.TheVariants.{NoMemory}
 use Rattle.ele_shell.specs.Clean.{is_removed, Cleans, MayClean}
-use Rattle.ele_shell.specs.Pass.{Removes, Finishes, Fills, MayPass}
-use Rattle.ele_shell.specs.RunState.{RunState}
-
-is_some_true : (o : Option Key) → is_some o ≡ true → IsSome o
-is_some_true (Some key) h = h
-is_some_true None h = h
-
-is_some_false : (o : Option Key) → is_some o ≡ false → o ≡ None
-is_some_false None h = refl
-is_some_false (Some key) h = absurd cc
+use Rattle.ele_shell.specs.Pass.{Finishes}
 
 pub removes_none : (s : RunState) → Removes s 0 s
 removes_none s = record {
@@ -36,17 +24,12 @@ removes_none s = record {
 
 -- below one more there is that one, and what was below
 below_more : (P : ℕ → Type 0) (n : ℕ) → ((k : ℕ) → k < n → P k) → P n → (k : ℕ) → k < n + 1 → P k
-below_more P n below here k lt = elim (cases_lt k n) [
-  | inl less ↦ below k less
-  | inr more ↦
-      let same : n ≡ k = omega (arith, lt, more) in
-      subst P same here
-]
+below_more P n below here k lt = grind (arith, below, here)
 
 -- one more is removed
 pub removes_more : (s t u : RunState) (n : ℕ) → Removes s n t → Cleans t true u → Removes s (n + 1) u
 removes_more s t u n r c =
-    let one = cleaned_more s.world n t.world r.cleaned (is_some_true (first_due t.world) c.due) in
+    let one = cleaned_more s.world n t.world r.cleaned (let some : IsSome (first_due t.world) = c.due in some) in
     record {
       cleaned = subst (λ w. IsCleaned s.world (n + 1) w) (sym c.world) one;
       below = below_more (λ k. s.replies + k < s.most) n r.below (omega (arith, c.below, r.replies, r.most));
@@ -60,7 +43,7 @@ nothing_due w none = ap (λ o. (clean_of w o).1) none
 -- nothing is due any more
 pub finishes : (s t u : RunState) (budget n : ℕ) → Removes s n t → n < budget → Cleans t false u → Finishes s budget n u
 finishes s t u budget n r lt c =
-    let none : first_due t.world ≡ None = is_some_false (first_due t.world) c.due in
+    let none : first_due t.world ≡ None = (grind (arith, c.due)) in
     let same : u.world ≡ t.world = c.world ∙ nothing_due t.world none in
     record {
       pass = record { each = r.cleaned.each; after_is = same ∙ r.cleaned.after_is; last = ap first_due same ∙ none };
@@ -76,10 +59,7 @@ fills s t u budget n r lt (full, same) = rw same (record { removes = r; within =
 
 -- a clean event tells whether it removed a version
 pub clean_tells : (w v : World) (r : Reply) → (r, v) ≡ step w CleanOne → (is_some (first_due w) ≡ is_removed r) × (v ≡ (clean_step w).1)
-clean_tells w v r is = by (first_due w) is where
-  by : (o : Option Key) → (r, v) ≡ clean_of w o → (is_some o ≡ is_removed r) × (v ≡ (clean_of w o).1)
-  by None h = (ap (λ (p : Reply × World). is_removed p.0) (sym h), ap (λ (p : Reply × World). p.1) h)
-  by (Some key) h = (ap (λ (p : Reply × World). is_removed p.0) (sym h), ap (λ (p : Reply × World). p.1) h)
+clean_tells w v r is = grind (arith, is)
 
 -- a stop ends the pass
 pub stopped : (s t u : RunState) (budget n : ℕ) (stop : Stop) → Removes s n t → n < budget → MayClean t (Err stop) u → MayPass s budget (Stopped stop n) u

@@ -1,23 +1,12 @@
 -- A piece that was answered so far.
-use Rattle.std.proofs.Common.{◌≡◌, ℕ, ◌+◌, ◌<◌, ◌≤◌, ◌⊎◌, List, [], ◌∷◌, ◌++◌, length, take, drop, get_or, Option, Some, None, Result, Ok, Err, refl, sym, ap, subst, ◌∙◌, arith, append_assoc, length-append, inl, inr, true}
-use Rattle.std.specs.Prelude.{◌==◌, zero, suc, IsErr}
-use Rattle.std.proofs.lemmas.List.{take-append-drop, drop_more, length-drop}
-use Rattle.std.proofs.lemmas.Bool.{lt-leb, eq-eqb, eqb-true}
-use Rattle.std.proofs.lemmas.Bool.Decides.{leb_tells}
-use Rattle.std.specs.List.{AllByRecursion}
+use Rattle.ele_shell.proofs.Basics.{◌≢◌, ◌≡◌, ℕ, ◌+◌, ◌<◌, ◌≤◌, ◌⊎◌, List, [], ◌∷◌, ◌++◌, length, take, drop, get_or, Option, Some, None, Result, Ok, Err, refl, sym, ap, subst, ◌∙◌, arith, append_assoc, length-append, inl, inr, true, ◌==◌, zero}
+use Rattle.ele_shell.proofs.Basics.{suc, IsErr, take-append-drop, drop_more, length-drop, lt-leb, eq-eqb, eqb-true, leb_tells, AllByRecursion}
+use Rattle.ele_shell.proofs.Words.{Outlet, Takes, TakesFront, IsBlock, line_unless_long, longest_line, IsUnbroken, line_text, lines_text, AreBlocks, Answers, AnswersAll, AnswersSome, RunState, PutsBlock}
 use Rattle.std.specs.Option.{option_and_then}
 use Rattle.memchr.specs.Find.{IsFirstByte, is_byte}
 use Rattle.ele_script.specs.declared.fault.WriteFault.{WriteFault}
-use Rattle.ele_script.specs.Outlet.{Outlet, Takes, TakesFront}
-use Rattle.ele_script.proofs.Known.{takes_nil, takes_then, front_then}
-use Rattle.ele_shell.specs.Block.{IsBlock}
-use Rattle.ele_shell.specs.LineLength.{line_unless_long, longest_line}
-use Rattle.ele_shell.specs.Lines.{IsUnbroken, line_text, lines_text}
-use Rattle.ele_shell.specs.Output.{AreBlocks}
-use Rattle.ele_shell.specs.Piece.{Answers, AnswersAll, AnswersSome}
-use Rattle.ele_shell.specs.RunState.{RunState}
-use Rattle.ele_shell.specs.Written.{PutsBlock}
-use Rattle.ele_shell.proofs.Ran.{blocks_push, all_push, joined_push}
+use Rattle.ele_shell.proofs.Ran.{blocks_push, joined_push}
+use Rattle.ele_shell.proofs.Joins.{takes_nil, takes_then, front_then, all_both}
 
 -- these lines of a piece were answered, and so much of it is left; a line that began before is only the first
 pub record HasAnswered (before state : RunState) (part piece left : List ℕ) (buffer : Option (List ℕ)) (n count : ℕ) (old new : Outlet) : Type 0 where
@@ -66,10 +55,6 @@ unbroken_before [] (suc n) h = tt
 unbroken_before (x ∷ xs) (suc n) h =
     (λ e. h 0 (omega arith) (eq-eqb x 10 e), unbroken_before xs n (λ k lt is. h (suc k) (omega (arith, lt)) is))
 
-all_of_two : (a b : List ℕ) → IsUnbroken a → IsUnbroken b → IsUnbroken (a ++ b)
-all_of_two [] b h g = g
-all_of_two (x ∷ a) b h g = (h.0, all_of_two a b h.1 g)
-
 -- what is too long stays too long
 pub kept_more : (line bytes : List ℕ) → option_and_then (λ line. line_unless_long (line ++ bytes)) (line_unless_long line) ≡ line_unless_long (line ++ bytes)
 kept_more line bytes =
@@ -101,8 +86,8 @@ module _ {before between : RunState} {part piece left : List ℕ} {buffer : Opti
 
   whole_at : (at : ℕ) → IsFirstByte (is_byte 10) left (Some at) → AllByRecursion IsUnbroken (done.lines ++ (done.begun ++ take at left) ∷ [])
   whole_at at h =
-      all_push IsUnbroken done.lines (done.begun ++ take at left) done.whole
-      (all_of_two done.begun (take at left) done.unbroken (unbroken_before left at (λ k lt is. h.0.before k (omega arith) lt is)))
+      all_both IsUnbroken done.lines ((done.begun ++ take at left) ∷ []) done.whole
+      (all_both (λ b. b ≢ 10) done.begun (take at left) done.unbroken (unbroken_before left at (λ k lt is. h.0.before k (omega arith) lt is)), tt)
 
   block_at : {A E : Type 0} (at : ℕ) (line : List ℕ) (after : RunState) (new : Outlet) (r : Result A E) → line ≡ take at left
       → (wrote : PutsBlock between (option_and_then (λ l. line_unless_long (l ++ line)) buffer) after mid new r) → IsBlock between (line_unless_long (done.begun ++ take at left)) wrote.block after
@@ -145,7 +130,7 @@ module _ {before between : RunState} {part piece left : List ℕ} {buffer : Opti
         parts = parts_at at h;
         whole = whole_at at h;
         blocks = blocks_push before between after done.lines (done.begun ++ take at left) done.text wrote.block done.blocks is;
-        put = front_then old mid new done.text wrote.block done.put put;
+        put = record { front = front_then old mid new done.text wrote.block done.put put };
       }
 
   -- no line feed is left
@@ -156,7 +141,7 @@ module _ {before between : RunState} {part piece left : List ℕ} {buffer : Opti
         lines = done.lines;
         last = done.begun ++ left;
         text = done.text;
-        are = record { parts = done.parts; whole = done.whole; cut = all_of_two done.begun left done.unbroken (none_found left h) };
+        are = record { parts = done.parts; whole = done.whole; cut = all_both (λ b. b ≢ 10) done.begun left done.unbroken (none_found left h) };
         counted = done.counted;
         few = few_of done.begun done.first;
         keeps = pushed ∙ ap (option_and_then (λ (b : List ℕ). line_unless_long (b ++ left))) done.keeps ∙ kept_more done.begun left;

@@ -1,20 +1,8 @@
 -- A run so far, and how it goes on.
-use Rattle.std.proofs.Common.{◌≡◌, ℕ, ◌+◌, ◌≤◌, ◌⊎◌, List, [], ◌∷◌, ◌++◌, length, Option, Some, refl, sym, ap, subst, ◌∙◌, arith, append_assoc, length-append, inl, inr}
-use Rattle.std.proofs.lemmas.List.{append-nil}
-use Rattle.std.proofs.lemmas.List.Concat.{flat_map-append, flat_map-cons}
-use Rattle.std.specs.List.{AllByRecursion}
-use Rattle.std.specs.Io.KnownBytes.{Consumes, Appends}
-use Rattle.std.proofs.KnownBytes.{Consumes-nil, Consumes-trans, Appends-nil}
-use Rattle.ele_script.specs.Outlet.{outlet, Takes}
-use Rattle.ele_script.proofs.Known.{takes_nil, takes_then, takes_over}
-use Rattle.ele_shell.specs.Block.{IsBlock}
-use Rattle.ele_shell.specs.Bounds.{most_lines, most_bytes}
-use Rattle.ele_shell.specs.LineLength.{line_unless_long}
-use Rattle.ele_shell.specs.Lines.{AreLines, line_text, lines_text, line_count}
-use Rattle.ele_shell.specs.Output.{AreBlocks}
-use Rattle.ele_shell.specs.Piece.{AnswersAll}
-use Rattle.ele_shell.specs.RunState.{RunState}
-use Rattle.ele_shell.proofs.Joins.{lines_before, blocks_append}
+use Rattle.ele_shell.proofs.Basics.{◌≡◌, ℕ, ◌+◌, ◌≤◌, ◌⊎◌, List, [], ◌∷◌, ◌++◌, length, Option, Some, refl, sym, ap, subst, ◌∙◌, arith, append_assoc, length-append, inl, inr, append-nil, flat_map-append, flat_map-cons, AllByRecursion}
+use Rattle.ele_shell.proofs.Basics.{Consumes, Appends, Consumes-nil, Consumes-trans, Appends-nil}
+use Rattle.ele_shell.proofs.Words.{outlet, Takes, IsBlock, most_lines, most_bytes, line_unless_long, AreLines, line_text, lines_text, line_count, AreBlocks, AnswersAll, RunState}
+use Rattle.ele_shell.proofs.Joins.{lines_before, blocks_append, takes_nil, takes_then, takes_over}
 
 -- n whole lines were read and a part of one more, and their blocks put, up to this state; there is room for so many bytes more
 pub record HasRun (start : RunState) (n : ℕ) (state : RunState) (room : ℕ) (buffer input rest old new : Option (List ℕ)) (held : List ℕ) : Type 0 where
@@ -66,10 +54,6 @@ blocks_push start between after (first ∷ lines) line text block (own, rest, mi
   blocks_push mid between after lines line rest block more is,
   ap (λ (t : List ℕ). t ++ block) parts ∙ append_assoc own rest block,
 )
-
-pub all_push : (P : List ℕ → Type 0) (lines : List (List ℕ)) (line : List ℕ) → AllByRecursion P lines → P line → AllByRecursion P (lines ++ line ∷ [])
-all_push P [] line all one = (one, tt)
-all_push P (first ∷ lines) line all one = (all.0, all_push P lines line all.1 one)
 
 pub joined_push : (lines : List (List ℕ)) (line : List ℕ) → lines_text (lines ++ line ∷ []) ≡ lines_text lines ++ line_text line
 joined_push lines line = flat_map-append line_text lines (line ∷ []) ∙ ap (λ (xs : List ℕ). lines_text lines ++ xs) (flat_map-cons line_text line [] ∙ append-nil (line_text line))

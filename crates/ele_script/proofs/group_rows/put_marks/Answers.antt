@@ -1,6 +1,6 @@
 use Rattle.ele_script.proofs.Basics.{ℕ, ◌∷◌, arith, decimal}
-use Rattle.ele_script.proofs.Known.{puts_err, sent_more, sent_err}
-use Rattle.ele_script.proofs.Lines.{numbers_are, lines_here}
+use Rattle.ele_script.proofs.Known.{puts_err, list_err}
+use Rattle.ele_script.proofs.Lines.{numbers_are}
 use Rattle.ele_script.proofs.group_rows.put_marks.Goals as goal
 
 pub returns-in_err-put_listed : goal.returns-in_err-put_listed
@@ -11,11 +11,4 @@ loop-mark-init g c = record { sent = _; parts = numbers_are _ _ _ c.in-Some.ensu
 
 pub returns-in_err-put_listed-2 : goal.returns-in_err-put_listed-2
 returns-in_err-put_listed-2 g c =
-    sent_err _ c.from_residual-in_err-put_listed-2.result c.loop-mark.invariant
-    (lines_here (λ (number : ℕ). 44 ∷ decimal number) c.in-Some.rest.now c.loop-mark.mark-index c.mark-item.result (omega arith) c.mark-item.is)
-    c.from_residual-in_err-put_listed-2.ensures.0 (rw c.seconds-in-loop-mark.ensures.value at c.in_err-put_listed-2.ensures)
-
-pub loop-mark-preserved : goal.loop-mark-preserved
-loop-mark-preserved g c =
-    sent_more _ c.loop-mark.invariant (lines_here (λ (number : ℕ). 44 ∷ decimal number) c.in-Some.rest.now c.loop-mark.mark-index c.mark-item.result (omega arith) c.mark-item.is)
-    (rw c.seconds-in-loop-mark.ensures.value at c.in_ok-put_listed-2.ensures)
+    list_err (λ (number : ℕ). 44 ∷ decimal number) c.in-Some.rest.now c.loop-mark.mark-index c.mark-item.result c.from_residual-in_err-put_listed-2.result (omega arith) c.mark-item.is c.loop-mark.invariant c.from_residual-in_err-put_listed-2.ensures.0 (rw c.seconds-in-loop-mark.ensures.value at c.in_err-put_listed-2.ensures)

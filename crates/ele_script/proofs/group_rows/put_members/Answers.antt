@@ -1,6 +1,6 @@
 use Rattle.ele_script.proofs.Basics.{ℕ, ◌∷◌, arith, decimal}
-use Rattle.ele_script.proofs.Known.{puts_err, sent_more, sent_err}
-use Rattle.ele_script.proofs.Lines.{numbers_are, lines_here}
+use Rattle.ele_script.proofs.Known.{puts_err, list_err}
+use Rattle.ele_script.proofs.Lines.{numbers_are}
 use Rattle.ele_script.proofs.group_rows.put_members.Goals as goal
 
 pub returns-in_err-put_listed : goal.returns-in_err-put_listed
@@ -11,11 +11,4 @@ loop-member-init g c = record { sent = _; parts = numbers_are _ _ _ c.in-Some.en
 
 pub returns-in_err-put_listed-2 : goal.returns-in_err-put_listed-2
 returns-in_err-put_listed-2 g c =
-    sent_err _ c.from_residual-in_err-put_listed-2.result c.loop-member.invariant
-    (lines_here (λ (number : ℕ). 44 ∷ decimal number) c.in-Some.rest.now c.loop-member.member-index c.member-item.result (omega arith) c.member-item.is)
-    c.from_residual-in_err-put_listed-2.ensures.0 (rw c.member.view_is at c.in_err-put_listed-2.ensures)
-
-pub loop-member-preserved : goal.loop-member-preserved
-loop-member-preserved g c =
-    sent_more _ c.loop-member.invariant (lines_here (λ (number : ℕ). 44 ∷ decimal number) c.in-Some.rest.now c.loop-member.member-index c.member-item.result (omega arith) c.member-item.is)
-    (rw c.member.view_is at c.in_ok-put_listed-2.ensures)
+    list_err (λ (number : ℕ). 44 ∷ decimal number) c.in-Some.rest.now c.loop-member.member-index c.member-item.result c.from_residual-in_err-put_listed-2.result (omega arith) c.member-item.is c.loop-member.invariant c.from_residual-in_err-put_listed-2.ensures.0 (rw c.member.view_is at c.in_err-put_listed-2.ensures)

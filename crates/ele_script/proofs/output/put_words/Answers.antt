@@ -3,12 +3,6 @@ use Rattle.ele_script.proofs.Known.{puts_err, sent_more, sent_err}
 use Rattle.ele_script.proofs.Lines.{joined_are, here}
 use Rattle.ele_script.proofs.output.put_words.Goals as goal
 
-pub returns-in_err-put : goal.returns-in_err-put
-returns-in_err-put g c = puts_err _ c.from_residual.result (joined_are 32 (λ (word : Bor (List ℕ)). word.now) _ _) c.from_residual.ensures.0 c.in_err-put.ensures
-
-pub loop-word-init : goal.loop-word-init
-loop-word-init g c = record { sent = _; parts = joined_are 32 (λ (word : Bor (List ℕ)). word.now) _ _; written = c.in_ok-put.ensures }
-
 pub returns-in_err-put_word : goal.returns-in_err-put_word
 returns-in_err-put_word g c =
     sent_err _ c.from_residual-in_err-put_word.result c.loop-word.invariant (here (λ (word : Bor (List ℕ)). 32 ∷ word.now) c.args.words.now c.loop-word.word-index _ (omega arith))

@@ -5,11 +5,5 @@ use Rattle.ele_script.proofs.reading.line_of.Goals as goal
 pub returns-in_default-clause-fault : goal.returns-in_default-clause-fault
 returns-in_default-clause-fault c = inr (unfit_words _ (sym c.in_default.ensures))
 
-pub returns-clause-found : goal.returns-clause-found
-returns-clause-found c = spelled_words _ _ _ c.line_behind.result (sym c.in-Some.ensures) c.line_behind.ensures
-
 pub returns-clause-fault : goal.returns-clause-fault
 returns-clause-fault c = faults_of_words _ _ _ c.line_behind.result (sym c.in-Some.ensures) c.line_behind.ensures
-
-pub returns-clause-memory : goal.returns-clause-memory
-returns-clause-memory c = memory_of_words _ _ _ c.line_behind.result (sym c.in-Some.ensures) c.line_behind.ensures

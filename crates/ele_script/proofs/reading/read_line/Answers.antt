@@ -4,14 +4,8 @@ use Rattle.ele_script.proofs.Laws.{only_read, only_refused, one_line, one_fault,
 use Rattle.ele_script.proofs.Words.{unfit_line}
 use Rattle.ele_script.proofs.reading.read_line.Goals as goal
 
-pub returns-in_default-clause-fault : goal.returns-in_default-clause-fault
-returns-in_default-clause-fault c = inr (unfit_line c.args.line.now c.if-line-gt-MOST_BYTES.false (c.in_default.ensures.none refl))
-
 pub returns-in_default-clause-only : goal.returns-in_default-clause-only
-returns-in_default-clause-only c = only_read (SpellsLine c.args.line.now) _ (Err Syntax) (one_line _) (spelled_faultless _) tt (returns-in_default-clause-fault c)
-
-pub returns-in_default-clause-refused : goal.returns-in_default-clause-refused
-returns-in_default-clause-refused c = only_refused (SpellsLine c.args.line.now) _ (Err Syntax) (one_fault _) (spelled_faultless _) tt (returns-in_default-clause-fault c)
+returns-in_default-clause-only c = λ asked h. absurd (spelled_faultless _ asked Syntax h (unfit_line c.args.line.now c.if-line-gt-MOST_BYTES.false (c.in_default.ensures.none refl)))
 
 pub returns-clause-fault : goal.returns-clause-fault
 returns-clause-fault c =
@@ -22,7 +16,3 @@ returns-clause-only c = only_read (SpellsLine c.args.line.now) _ c.line_of.resul
 
 pub returns-clause-refused : goal.returns-clause-refused
 returns-clause-refused c = only_refused (SpellsLine c.args.line.now) _ c.line_of.result (one_fault _) (spelled_faultless _) (search rules) (returns-clause-fault c)
-
-pub returns-clause-memory : goal.returns-clause-memory
-returns-clause-memory c = λ is.
-    subst TakesMemory (ap (λ words. map (λ word. word.now) words) c.as_slice.ensures.value ∙ c.in-Some.ensures.found) (c.line_of.ensures.memory is)

@@ -4,9 +4,6 @@ use Rattle.ele_script.proofs.Known.{puts_err, sent_more, sent_err}
 use Rattle.ele_script.proofs.Lines.{pairs_are, here}
 use Rattle.ele_script.proofs.rows.put_pairs.Goals as goal
 
-pub returns-in_err-put_pair : goal.returns-in_err-put_pair
-returns-in_err-put_pair g c = puts_err _ c.from_residual.result (pairs_are _ _ _ c.in-Some.ensures.cases) c.from_residual.ensures.0 c.in_err-put_pair.ensures
-
 pub loop-pair-init : goal.loop-pair-init
 loop-pair-init g c = record { sent = _; parts = pairs_are _ _ _ c.in-Some.ensures.cases; written = c.in_ok-put_pair.ensures }
 

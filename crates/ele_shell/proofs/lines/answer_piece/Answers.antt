@@ -1,4 +1,4 @@
-use Rattle.std.proofs.Common.{arith, refl}
+use Rattle.ele_shell.proofs.Basics.{arith, refl}
 use Rattle.ele_shell.proofs.Pieces.{answered_none, answered_more, answered_some, answered_all, answers_err}
 use Rattle.ele_shell.proofs.lines.answer_piece.Goals as goal
 

@@ -1,7 +1,5 @@
-use Rattle.std.proofs.Common.{◌≡◌, ℕ, ◌+◌, ◌<◌, ◌^◌, List, length}
-use Rattle.ele_script.specs.Outlet.{outlet}
-use Rattle.ele_shell.specs.LineLength.{line_unless_long}
-use Rattle.ele_shell.specs.Lines.{IsUnbroken}
+use Rattle.ele_shell.proofs.Basics.{◌≡◌, ℕ, ◌+◌, ◌<◌, ◌^◌, List, length}
+use Rattle.ele_shell.proofs.Words.{outlet, line_unless_long, IsUnbroken}
 use Rattle.ele_shell.proofs.Pieces.{HasAnswered}
 use Rattle.ele_shell.proofs.lines.answer_piece.Given as goal
 

@@ -1,4 +1,4 @@
-use Rattle.std.proofs.Common.{refl}
+use Rattle.ele_shell.proofs.Basics.{refl}
 use Rattle.ele_shell.proofs.Blocks.{block_of_answer}
 use Rattle.ele_shell.proofs.lines.put_block.Goals as goal
 

@@ -1,4 +1,4 @@
-use Rattle.std.specs.Io.KnownBytes.{Keeps}
+use Rattle.ele_shell.proofs.Basics.{Keeps}
 use Rattle.ele_shell.proofs.reading.read_piece.Given as goal
 
 -- a read that was interrupted took nothing

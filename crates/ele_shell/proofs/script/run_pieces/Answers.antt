@@ -1,4 +1,4 @@
-use Rattle.std.proofs.Common.{◌≡◌, ◌≤◌, length, take, arith, sym, ◌∙◌}
+use Rattle.ele_shell.proofs.Basics.{◌≡◌, ◌≤◌, length, take, arith, sym, ◌∙◌}
 use Rattle.std.proofs.lemmas.Result.{err_from_is_err_and}
 use Rattle.ele_shell.proofs.Ends.{ends_over, ends_past, ends_all, ends_in_cut, ends_in_piece, nothing_read, length_taken}
 use Rattle.ele_shell.proofs.Ran.{has_run_none, has_run_over, has_run_on}

@@ -1,5 +1,5 @@
-use Rattle.std.proofs.Common.{◌≡◌, arith, refl, subst}
-use Rattle.ele_shell.specs.Pass.{Removes}
+use Rattle.ele_shell.proofs.Basics.{◌≡◌, arith, refl, subst}
+use Rattle.ele_shell.proofs.Words.{Removes}
 use Rattle.ele_shell.proofs.Passes.{removes_none, removes_more, finishes, stopped}
 use Rattle.ele_shell.proofs.keeper.Keeper.pass.Goals as goal
 

@@ -1,4 +1,4 @@
-use Rattle.ele_shell.specs.Pass.{Removes}
+use Rattle.ele_shell.proofs.Words.{Removes}
 use Rattle.ele_shell.proofs.keeper.Keeper.pass.Given as goal
 
 abbrev pub invariant-loop-removed : goal.invariant-loop-removed

@@ -1,4 +1,4 @@
-use Rattle.std.proofs.Common.{Err, ap}
+use Rattle.ele_shell.proofs.Basics.{Err, ap}
 use Rattle.ele_shell.proofs.Blocks.{answer_of_reply, answer_of_pass, answer_of_stop, answer_of_fault}
 use Rattle.ele_shell.proofs.keeper.Keeper.put_answer.Goals.{in-NoMemory, in_default}
 use Rattle.ele_shell.proofs.keeper.Keeper.put_answer.Goals as goal

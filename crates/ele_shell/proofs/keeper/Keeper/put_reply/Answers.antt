@@ -1,5 +1,6 @@
-use Rattle.std.proofs.Common.{refl}
-use Rattle.ele_world.specs.declared.refusal.Stop.TheVariants.{NoMemory, HistoryFull}
+use Rattle.ele_shell.proofs.Basics.{refl}
+use Rattle.ele_shell.proofs.Words.{HistoryFull}
+use Rattle.ele_world.specs.declared.refusal.Stop.TheVariants.{NoMemory}
 use Rattle.ele_shell.proofs.Blocks.{puts_reply, puts_stop, not_ready}
 use Rattle.ele_shell.proofs.keeper.Keeper.put_reply.Goals as goal
 
