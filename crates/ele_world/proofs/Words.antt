@@ -8,7 +8,7 @@ pub use Rattle.ele_due.specs.Key.{is_key, is_ripe_by}
 pub use Rattle.ele_due.specs.declared.key.Key.{Key}
 pub use Rattle.ele_moment.specs.Last.{last_moment}
 pub use Rattle.ele_policy.proofs.Earliest.{earliest_same, never_due}
-pub use Rattle.ele_policy.proofs.Waits.{due_from, lets_go_fewer, lets_go_without, ripe_nearest}
+pub use Rattle.ele_policy.proofs.Waits.{due_from, lets_go_fewer, lets_go_without, ripe_keeps, ripe_nearest}
 pub use Rattle.ele_policy.specs.Policy.{IsPolicy, is_kind, kind_of}
 pub use Rattle.ele_policy.specs.Ripe.{Beside, IsNearest, alone, candidates, earliest_of, is_due_by, lets_go}
 pub use Rattle.ele_policy.specs.declared.policy.Kind.{Kind}
