@@ -39,14 +39,11 @@ idle_drafts w file idle = all-none (is_draft file) w.drafts idle.undrafted
 
 -- ---- the other files
 
-pub find-removed : (files : List FileRow) (file other : ℕ) → (other == file) ≡ false → find (is_file other) (remove_first (is_file file) files) ≡ find (is_file other) files
-find-removed files file other apart = find-remove_first (is_file file) (is_file other) files (λ row e. grind (arith, nat_tests))
-
 pub next_of-removed : (files : List FileRow) (file other : ℕ) → (other == file) ≡ false → next_of (remove_first (is_file file) files) other ≡ next_of files other
-next_of-removed files file other apart = ap (λ o. option_map_or (λ (row : FileRow). row.next) o 0) (find-removed files file other apart)
+next_of-removed files file other apart = grind (arith, nat_tests, find-remove_first (is_file file) (is_file other) files)
 
 pub policy_of-removed : (files : List FileRow) (file other : ℕ) → (other == file) ≡ false → policy_of (remove_first (is_file file) files) other ≡ policy_of files other
-policy_of-removed files file other apart = ap (option_map (λ (row : FileRow). row.policy)) (find-removed files file other apart)
+policy_of-removed files file other apart = grind (arith, nat_tests, find-remove_first (is_file file) (is_file other) files)
 
 -- ---- a world stays well formed
 

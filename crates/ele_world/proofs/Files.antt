@@ -8,10 +8,6 @@ use Rattle.ele_world.proofs.Elements.{find-update_still, find-updated}
 pub next_of-push : (files : List FileRow) (row : FileRow) (file : ℕ) → 0 < next_of files file → next_of (files ++ row ∷ []) file ≡ next_of files file
 next_of-push files row file h = grind (arith, nat_tests, find-append)
 
--- and so does each other file than the one added
-pub next_of-push_other : (files : List FileRow) (row : FileRow) (file : ℕ) → is_file file row ≡ false → next_of (files ++ row ∷ []) file ≡ next_of files file
-next_of-push_other files row file h = grind (arith, nat_tests, find-append)
-
 -- a file that is there has a number that was given
 pub next_of-given : (given versions : ℕ) (files : List FileRow) (file : ℕ) → AllByRecursion (IsFile given versions) files → 0 < next_of files file → file ≤ given
 next_of-given given versions files file all h = grind (arith, nat_tests, all-found, found_passes)

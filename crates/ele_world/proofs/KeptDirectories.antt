@@ -5,9 +5,9 @@ use Rattle.ele_world.proofs.Basics.{found_passes, any-found}
 use Rattle.ele_world.proofs.Words.{Policy, after_change, MakeDirectory, EndName, without_name, born_row, dies, is_live_in, is_live_name, live_target, has_directory, is_reached, IsHoused, Part, Counted, Directories, Names, Homes, Current, Holds}
 use Rattle.ele_world.proofs.Words.{IsWellFormed, Tree, Ended, HaveEnded, IsOfLive, World, is_directory, NameRow, Target, Directory, ended_at, with_end, AddName, EndFileName, File, is_live_directory, Versions, Readers, IsVersion, next_of, is_live}
 use Rattle.ele_world.proofs.Words.{is_version, MoveName, is_target_directory, IsNameRow, IsDirectoryThere, AreOthers, IsThere, is_live_name_of}
-use Rattle.ele_world.proofs.Homes.{any_last, any_more, named_housed, HasName, named_more, named_end, directory_given, ended_more, any_less, homes_more}
+use Rattle.ele_world.proofs.Homes.{named_housed, HasName, named_more, named_end, directory_given, ended_more, any_less, homes_more}
 use Rattle.ele_world.proofs.May.{MayMakeDirectory, MayEnd, MayAdd, MayMove}
-use Rattle.ele_world.proofs.NameParts.{names_more, names_end, tree_more, tree_end, live_still, counted_more, free_still, IsUnnamed, still_none, found_target}
+use Rattle.ele_world.proofs.NameParts.{names_more, names_end, tree_more, tree_end, live_still, counted_more, free_still, IsUnnamed, still_none}
 use Rattle.ele_world.proofs.Readers.{read_on}
 use Rattle.ele_world.proofs.KeptVersions.{ended_own, ended_versions, current_ended}
 use Rattle.ele_world.proofs.Versions.{IsEndedBy}
@@ -19,13 +19,13 @@ use Rattle.ele_world.proofs.Elements.{none_left}
 pub make_directory_keeps : (w : World) (directory : ℕ) (name : List ℕ) (id : ℕ) (policy : Policy) → MayMakeDirectory w directory name id policy → IsWellFormed w → IsWellFormed (after_change w (MakeDirectory directory name id policy))
 make_directory_keeps w directory name id policy may k = record { holds = by } where
   there : has_directory (w.directories ++ record { id = id; default = policy } ∷ []) id ≡ true
-  there = any_last (is_directory id) w.directories (record { id = id; default = policy }) (grind (arith, nat_tests))
+  there = grind (arith, nat_tests, list_any-append)
 
   by : (part : Part) → Holds (after_change w (MakeDirectory directory name id policy)) part
   by Names = names_more w.files w.now w.names directory name (Directory id) may.named.free tt (k.holds Names)
-  by Homes = grind (arith, nat_tests, k.holds Homes, named_housed w.directories (w.directories ++ record { id = id; default = policy } ∷ []) w.names (born_row directory name (Directory id) w.now), any_more, may.named, there, all-push (HasName (w.names ++ born_row directory name (Directory id) w.now ∷ [])) w.directories, named_more, any_last)
+  by Homes = grind (arith, nat_tests, k.holds Homes, named_housed w.directories (w.directories ++ record { id = id; default = policy } ∷ []) w.names (born_row directory name (Directory id) w.now), list_any-append, may.named, there, all-push (HasName (w.names ++ born_row directory name (Directory id) w.now ∷ [])) w.directories, named_more, list_any-append)
   by Tree = grind (arith, nat_tests, k.holds Homes, k.holds Tree, k.holds Directories, tree_more, all-weaker, there, directory_given)
-  by part = grind (arith, nat_tests, k.holds part, length-append, any_more, all-push, later-push, all-weaker, list_any-append, ended_more)
+  by part = grind (arith, nat_tests, k.holds part, length-append, all-push, later-push, all-weaker, list_any-append, ended_more)
 
 -- ---- a name dies
 
@@ -146,7 +146,7 @@ module _ (w : World) (from : ℕ) (old : List ℕ) (to : ℕ) (new : List ℕ) (
 
   -- each directory that was reached is
   reached : (id : ℕ) → is_reached w.names id ≡ true → is_reached (remaining ++ renamed ∷ []) id ≡ true
-  reached id h = grind (arith, nat_tests, list_any-append, list_any-update_found, found_target, any_more)
+  reached id h = grind (arith, nat_tests, list_any-append, list_any-update_found)
 
   pub move_name_keeps : IsWellFormed (after_change w (MoveName from old to new target))
   move_name_keeps = record { holds = by } where
@@ -156,5 +156,5 @@ module _ (w : World) (from : ℕ) (old : List ℕ) (to : ℕ) (new : List ℕ) (
     by Homes = grind (arith, nat_tests, k.holds Homes, all-push (IsHoused w.directories (remaining ++ renamed ∷ [])) remaining renamed, all-update_first dying (IsHoused w.directories w.names) (IsHoused w.directories (remaining ++ renamed ∷ [])) (dies w.now) w.names, may.named, housed, reached, named_more w.directories remaining renamed, named_end w.now dying w.directories w.names)
     by Tree = tree_more w.now remaining to new target (live_row (IsUnnamed remaining) w.names from old target (λ row found. unnamed row.target row found refl) may.stands) (tree_end w.now w.names from old (k.holds Tree))
     by Current = grind (arith, nat_tests, k.holds Current, any_less, may.stands, (λ (file : ℕ). any-found dying (is_live_name_of file) w.names), still_none, found_passes, list_any-append, list_any-update_fails, false≢true)
-    by Ended = all-weaker (IsOfLive w.names) (IsOfLive (remaining ++ renamed ∷ [])) w.versions (λ row h none. grind (arith, nat_tests, h none, any_last, any_more, live_still, may.stands)) (k.holds Ended)
+    by Ended = all-weaker (IsOfLive w.names) (IsOfLive (remaining ++ renamed ∷ [])) w.versions (λ row h none. grind (arith, nat_tests, h none, list_any-append, live_still, may.stands)) (k.holds Ended)
     by part = k.holds part

@@ -1,12 +1,12 @@
 -- The clock, policies and the making of a file keep a world well formed.
-use Rattle.ele_world.proofs.Basics.{◌≡◌, ℕ, ◌+◌, ◌≤◌, false, List, [], ◌∷◌, ◌++◌, length-append, sym, subst, arith, is_some, AllByRecursion, nat_tests, list_any-append, all-push, all-weaker, all-update_first, later-push, later-update_first}
+use Rattle.ele_world.proofs.Basics.{◌≡◌, ℕ, ◌+◌, ◌≤◌, false, List, [], ◌∷◌, ◌++◌, length-append, sym, subst, arith, is_some, AllByRecursion, nat_tests, find-append, list_any-append, all-push, all-weaker, all-update_first, later-push, later-update_first}
 use Rattle.ele_world.proofs.Basics.{length-update_first, list_any-update_first}
 use Rattle.ele_world.proofs.Words.{last_moment, Policy, governed_by, put_under, after_change, Time, Govern, MakeFile, PutUnder, live_target, IsPolicy, IsHoused, IsFile, IsNameRow, AreApart, IsVersion, IsDraft, Part, Counted, Files, Names, Homes}
 use Rattle.ele_world.proofs.Words.{Versions, Drafts, Readers, Current, Holds, IsWellFormed, Tree, Ended, Groups, World, root, is_directory, is_file, next_of, is_version, FileRow, NameRow, File}
 use Rattle.ele_world.proofs.Readers.{read_on}
 use Rattle.ele_world.proofs.Created.{new_file, new_name, first_version, created, made_is}
-use Rattle.ele_world.proofs.Files.{next_of-push, next_of-push_other, next_of-given, next_of-new, next_of-put_under}
-use Rattle.ele_world.proofs.Homes.{any_more, homes_more, ended_more, any_last}
+use Rattle.ele_world.proofs.Files.{next_of-push, next_of-given, next_of-new, next_of-put_under}
+use Rattle.ele_world.proofs.Homes.{homes_more, ended_more}
 use Rattle.ele_world.proofs.KeptGroups.{groups_on}
 use Rattle.ele_world.proofs.May.{MayMake}
 use Rattle.ele_world.proofs.Writers.{written_more}
@@ -62,9 +62,9 @@ module _ (w : World) (directory : ℕ) (name : List ℕ) (policy : Policy) where
     by Tree = tree_more w.now w.names directory name (File id) tt (k.holds Tree)
     by Versions = grind (arith, nat_tests, k.holds Versions, k.holds Files, all-push, files, first_version, all-weaker, next_of-push, new_next, later-push, next_of-given)
     by Drafts = grind (arith, nat_tests, k.holds Drafts, all-weaker, files, next_of-push, written_more)
-    by Readers = read_on w.versions (w.versions ++ first_version w id ∷ []) w.handles (λ f n held. any_more (is_version f n) w.versions (first_version w id) held) (k.holds Readers)
-    by Current = grind (arith, nat_tests, k.holds Current, new_next, next_of-push_other w.files new, list_any-append)
-    by Ended = grind (arith, nat_tests, k.holds Ended, all-push, first_version, ended_more, any_last)
+    by Readers = read_on w.versions (w.versions ++ first_version w id ∷ []) w.handles (λ f n held. grind (arith, nat_tests, list_any-append)) (k.holds Readers)
+    by Current = grind (arith, nat_tests, k.holds Current, new_next, find-append, list_any-append)
+    by Ended = grind (arith, nat_tests, k.holds Ended, all-push, first_version, ended_more, list_any-append)
     by Groups = groups_on w.made.groups w.files files w.now w.now w.groups (omega arith) (λ file h. omega (arith, h, next_of-push w.files new file h)) (k.holds Groups)
     by part = k.holds part
 
