@@ -59,13 +59,9 @@ module _ (w : World) (directory : ℕ) (name : List ℕ) (empty : (id : ℕ) →
 
   -- all but that the name's file may have a version without an end
   pub end_name_holds : (Q : Type 0) → Q → IsWellFormed w → (part : Part) → HoldsWith Q (without_name w directory name) part
-  end_name_holds Q ends k Counted = grind (arith, k.holds Counted, length-update_first p (dies w.now) w.names)
-  end_name_holds Q ends k Names = names_end w.now w.names directory name w.files (k.holds Names)
-  end_name_holds Q ends k Tree = tree_end w.now w.names directory name (k.holds Tree)
   end_name_holds Q ends k Homes = grind (arith, nat_tests, k.holds Homes, all-update_first p (IsHoused w.directories after) (IsHoused w.directories after) (dies w.now) w.names, all-weaker (λ row. (row.death ≡ None → IsSpared (live_target w.names directory name) row.directory) × IsHoused w.directories w.names row) (IsHoused w.directories after) w.names, reached_still, all-both (λ row. row.death ≡ None → IsSpared (live_target w.names directory name) row.directory) (IsHoused w.directories w.names) w.names, all_spared (live_target w.names directory name) refl, named_end w.now p w.directories w.names)
-  end_name_holds Q ends k Current = grind (arith, nat_tests, k.holds Current, list_any-update_fails)
   end_name_holds Q ends k Ended = ends
-  end_name_holds Q ends k part = k.holds part
+  end_name_holds Q ends k part = grind (arith, nat_tests, k.holds part, length-update_first p (dies w.now) w.names, names_end w.now w.names directory name w.files, tree_end w.now w.names directory name, list_any-update_fails)
 
 pub end_name_keeps : (w : World) (directory : ℕ) (name : List ℕ) → MayEnd w directory name → IsWellFormed w → IsWellFormed (after_change w (EndName directory name))
 end_name_keeps w directory name may k = with_ends (without_name w directory name) (end_name_holds w directory name empty (HaveEnded (without_name w directory name)) ends k) where
@@ -97,12 +93,10 @@ with_end_keeps w file dead holds = record { holds = by } where
   last = next_of w.files file - 1
 
   by : (part : Part) → Holds (record w { versions = with_end w file }) part
-  by Counted = grind (arith, holds Counted, length-update_first (is_version file last) (ended_at w.now) w.versions)
-  by Versions = ended_versions w file (holds Versions)
   by Readers = read_on w.versions (with_end w file) w.handles (λ f n held. grind (arith, nat_tests, list_any-update_first)) (holds Readers)
   by Current = λ other live. grind (arith, nat_tests, holds Current other, dead, current_ended file other last (next_of w.files other) w.now w.versions)
   by Ended = grind (arith, nat_tests, holds Ended, holds Versions, all-weaker (λ row. ((row.file ≡ file → IsEndedBy w.now row) × IsVersion w.files w.now row) × ((row.file == file) ≡ false → IsOfLive w.names row)) (IsOfLive w.names) (with_end w file), all-both (λ row. (row.file ≡ file → IsEndedBy w.now row) × IsVersion w.files w.now row) (λ row. (row.file == file) ≡ false → IsOfLive w.names row) (with_end w file), ended_own w file, all-update_first (is_version file last) (λ row. (row.file == file) ≡ false → IsOfLive w.names row) (λ row. (row.file == file) ≡ false → IsOfLive w.names row) (ended_at w.now) w.versions)
-  by part = holds part
+  by part = grind (arith, nat_tests, holds part, length-update_first (is_version file last) (ended_at w.now) w.versions, ended_versions w file)
 
 module _ (w : World) (directory : ℕ) (name : List ℕ) (file : ℕ) (leads : live_target w.names directory name ≡ Some (File file)) (k : IsWellFormed w) where
   abbrev ended : World
