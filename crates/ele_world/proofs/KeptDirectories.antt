@@ -110,10 +110,10 @@ module _ (w : World) (directory : ℕ) (name : List ℕ) (file : ℕ) (leads : l
   beside = grind (arith, nat_tests, k.holds Ended, all-weaker (IsOfLive w.names), live_still w.now w.names directory name (File file) leads)
 
   pub end_file_name_keeps : IsWellFormed (after_change w (EndFileName directory name file))
-  end_file_name_keeps = elim (is_live ended file) as (λ b. is_live ended file ≡ b → IsWellFormed (record ended { versions = cond b w.versions (with_end ended file) })) [
-    | true ↦ λ e. with_ends ended (end_name_holds w directory name no_directory (HaveEnded ended) (all-weaker _ (IsOfLive ended.names) w.versions (λ row h. grind (arith, nat_tests)) beside) k)
-    | false ↦ λ e. with_end_keeps ended file e (end_name_holds w directory name no_directory (EndBeside file ended) beside k)
-  ] refl
+  end_file_name_keeps = by (is_live ended file) refl where
+    by : (b : Bool) → is_live ended file ≡ b → IsWellFormed (record ended { versions = cond b w.versions (with_end ended file) })
+    by true e = with_ends ended (end_name_holds w directory name no_directory (HaveEnded ended) (all-weaker _ (IsOfLive ended.names) w.versions (λ row h. grind (arith, nat_tests)) beside) k)
+    by false e = with_end_keeps ended file e (end_name_holds w directory name no_directory (EndBeside file ended) beside k)
 
 -- ---- a name moves
 
@@ -145,10 +145,7 @@ module _ (w : World) (from : ℕ) (old : List ℕ) (to : ℕ) (new : List ℕ) (
   pub move_name_keeps : IsWellFormed (after_change w (MoveName from old to new target))
   move_name_keeps = record { holds = by } where
     by : (part : Part) → Holds (after_change w (MoveName from old to new target)) part
-    by Counted = counted_more w (length (remaining ++ renamed ∷ [])) k may.named.room (simp length-append (omega (arith, length-update_first dying (dies w.now) w.names)))
     by Names = names_more w.files w.now remaining to new target (free_still w.now w.names from old to new may.named.free) there (names_end w.now w.names from old w.files (k.holds Names))
     by Homes = grind (arith, nat_tests, k.holds Homes, all-push (IsHoused w.directories (remaining ++ renamed ∷ [])) remaining renamed, all-update_first dying (IsHoused w.directories w.names) (IsHoused w.directories (remaining ++ renamed ∷ [])) (dies w.now) w.names, may.named, housed, reached, named_more w.directories remaining renamed, named_end w.now dying w.directories w.names)
     by Tree = tree_more w.now remaining to new target (live_row (IsUnnamed remaining) w.names from old target (λ row found. unnamed row.target row found refl) may.stands) (tree_end w.now w.names from old (k.holds Tree))
-    by Current = grind (arith, nat_tests, k.holds Current, any_less, may.stands, (λ (file : ℕ). any-found dying (is_live_name_of file) w.names), still_none, found_passes, list_any-append, list_any-update_fails, false≢true)
-    by Ended = all-weaker (IsOfLive w.names) (IsOfLive (remaining ++ renamed ∷ [])) w.versions (λ row h none. grind (arith, nat_tests, h none, list_any-append, live_still, may.stands)) (k.holds Ended)
-    by part = k.holds part
+    by part = grind (arith, nat_tests, k.holds part, counted_more w (length (remaining ++ renamed ∷ [])) k may.named.room, length-append, length-update_first dying (dies w.now) w.names, any_less, may.stands, (λ (file : ℕ). any-found dying (is_live_name_of file) w.names), still_none, found_passes, list_any-append, list_any-update_fails, false≢true, all-weaker (IsOfLive w.names) (IsOfLive (remaining ++ renamed ∷ [])) w.versions, live_still w.now w.names from old target)

@@ -55,18 +55,13 @@ module _ (w : World) (directory : ℕ) (name : List ℕ) (policy : Policy) where
     new_next = next_of-new w.made.files w.made.versions w.files new (k.holds Files).each (omega arith)
 
     by : (part : Part) → Holds (created w directory name id policy) part
-    by Counted = simp length-append (grind (arith, k.holds Counted))
     by Files = grind (arith, nat_tests, k.holds Files, all-push, all-weaker, later-push)
     by Names = names_more files w.now w.names directory name (File id) may.named.free (omega (arith, new_next)) (grind (arith, nat_tests, k.holds Names, all-weaker (IsNameRow w.files w.now) (IsNameRow files w.now) w.names, next_of-push))
-    by Homes = homes_more w.directories w.names named may.named.home may.named.reached tt (k.holds Homes)
-    by Tree = tree_more w.now w.names directory name (File id) tt (k.holds Tree)
     by Versions = grind (arith, nat_tests, k.holds Versions, k.holds Files, all-push, files, first_version, all-weaker, next_of-push, new_next, later-push, next_of-given)
     by Drafts = grind (arith, nat_tests, k.holds Drafts, all-weaker, files, next_of-push, written_more)
     by Readers = read_on w.versions (w.versions ++ first_version w id ∷ []) w.handles (λ f n held. grind (arith, nat_tests, list_any-append)) (k.holds Readers)
     by Current = grind (arith, nat_tests, k.holds Current, new_next, find-append, list_any-append)
-    by Ended = grind (arith, nat_tests, k.holds Ended, all-push, first_version, ended_more, list_any-append)
-    by Groups = groups_on w.made.groups w.files files w.now w.now w.groups (omega arith) (λ file h. omega (arith, h, next_of-push w.files new file h)) (k.holds Groups)
-    by part = k.holds part
+    by part = grind (arith, nat_tests, k.holds part, length-append, homes_more w.directories w.names named may.named.home may.named.reached, tree_more w.now w.names directory name (File id), all-push, first_version, ended_more, list_any-append, groups_on w.made.groups w.files files w.now w.now w.groups, next_of-push)
 
 pub make_keeps : (w : World) (directory : ℕ) (name : List ℕ) (id : ℕ) (policy : Policy) → MayMake w directory name id policy → IsWellFormed w → IsWellFormed (after_change w (MakeFile directory name id policy))
 make_keeps w directory name id policy may k =
