@@ -22,10 +22,9 @@ make_directory_keeps w directory name id policy may k = record { holds = by } wh
   there = grind (arith, nat_tests, list_any-append)
 
   by : (part : Part) → Holds (after_change w (MakeDirectory directory name id policy)) part
-  by Names = names_more w.files w.now w.names directory name (Directory id) may.named.free tt (k.holds Names)
   by Homes = grind (arith, nat_tests, k.holds Homes, named_housed w.directories (w.directories ++ record { id = id; default = policy } ∷ []) w.names (born_row directory name (Directory id) w.now), list_any-append, may.named, there, all-push (HasName (w.names ++ born_row directory name (Directory id) w.now ∷ [])) w.directories, named_more, list_any-append)
   by Tree = grind (arith, nat_tests, k.holds Homes, k.holds Tree, k.holds Directories, tree_more, all-weaker, there, directory_given)
-  by part = grind (arith, nat_tests, k.holds part, length-append, all-push, later-push, all-weaker, list_any-append, ended_more)
+  by part = grind (arith, nat_tests, k.holds part, names_more w.files w.now w.names directory name (Directory id) may.named.free tt, length-append, all-push, later-push, all-weaker, list_any-append, ended_more)
 
 -- ---- a name dies
 
@@ -74,11 +73,7 @@ end_name_keeps w directory name may k = with_ends (without_name w directory name
 -- ---- a name more
 
 pub add_name_keeps : (w : World) (directory : ℕ) (name : List ℕ) (target : Target) → MayAdd w directory name target → IsWellFormed w → IsWellFormed (after_change w (AddName directory name target))
-add_name_keeps w directory name target may k = record { holds = by } where
-  by : (part : Part) → Holds (after_change w (AddName directory name target)) part
-  by Names = names_more w.files w.now w.names directory name target may.named.free may.there (k.holds Names)
-  by Homes = homes_more w.directories w.names (born_row directory name target w.now) may.named.home may.named.reached may.housed (k.holds Homes)
-  by part = grind (arith, nat_tests, k.holds part, counted_more w (length (w.names ++ born_row directory name target w.now ∷ [])) k may.named.room, length-append, tree_more, (λ (id : ℕ). all-none (is_live_directory id) w.names), any_less, ended_more, may.more, false≢true)
+add_name_keeps w directory name target may k = record { holds = λ part. grind (arith, nat_tests, k.holds part, names_more w.files w.now w.names directory name target may.named.free may.there, homes_more w.directories w.names (born_row directory name target w.now) may.named.home may.named.reached may.housed, counted_more w (length (w.names ++ born_row directory name target w.now ∷ [])) k may.named.room, length-append, tree_more, (λ (id : ℕ). all-none (is_live_directory id) w.names), any_less, ended_more, may.more, false≢true) }
 
 -- ---- the end of a file's name
 

@@ -40,19 +40,13 @@ module _ (w : World) (directory : ℕ) (name : List ℕ) (policy : Policy) where
   abbrev id : ℕ
   id = w.made.files + 1
 
-  abbrev new : FileRow
-  new = new_file id policy
-
-  abbrev named : NameRow
-  named = new_name w directory name id
-
   abbrev files : List FileRow
-  files = w.files ++ new ∷ []
+  files = w.files ++ new_file id policy ∷ []
 
   created_keeps : MayMake w directory name id policy → IsWellFormed w → IsWellFormed (created w directory name id policy)
   created_keeps may k = record { holds = by } where
     new_next : next_of files id ≡ 2
-    new_next = next_of-new w.made.files w.made.versions w.files new (k.holds Files).each (omega arith)
+    new_next = next_of-new w.made.files w.made.versions w.files (new_file id policy) (k.holds Files).each (omega arith)
 
     by : (part : Part) → Holds (created w directory name id policy) part
     by Files = grind (arith, nat_tests, k.holds Files, all-push, all-weaker, later-push)
@@ -61,7 +55,7 @@ module _ (w : World) (directory : ℕ) (name : List ℕ) (policy : Policy) where
     by Drafts = grind (arith, nat_tests, k.holds Drafts, all-weaker, files, next_of-push, written_more)
     by Readers = read_on w.versions (w.versions ++ first_version w id ∷ []) w.handles (λ f n held. grind (arith, nat_tests, list_any-append)) (k.holds Readers)
     by Current = grind (arith, nat_tests, k.holds Current, new_next, find-append, list_any-append)
-    by part = grind (arith, nat_tests, k.holds part, length-append, homes_more w.directories w.names named may.named.home may.named.reached, tree_more w.now w.names directory name (File id), all-push, first_version, ended_more, list_any-append, groups_on w.made.groups w.files files w.now w.now w.groups, next_of-push)
+    by part = grind (arith, nat_tests, k.holds part, length-append, homes_more w.directories w.names (new_name w directory name id) may.named.home may.named.reached, tree_more w.now w.names directory name (File id), all-push, first_version, ended_more, list_any-append, groups_on w.made.groups w.files files w.now w.now w.groups, next_of-push)
 
 pub make_keeps : (w : World) (directory : ℕ) (name : List ℕ) (id : ℕ) (policy : Policy) → MayMake w directory name id policy → IsWellFormed w → IsWellFormed (after_change w (MakeFile directory name id policy))
 make_keeps w directory name id policy may k =
