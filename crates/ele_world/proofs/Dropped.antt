@@ -39,14 +39,11 @@ idle_drafts w file idle = all-none (is_draft file) w.drafts idle.undrafted
 
 -- ---- the other files
 
-pub find-removed : (files : List FileRow) (file other : ℕ) → (other == file) ≡ false → find (is_file other) (remove_first (is_file file) files) ≡ find (is_file other) files
-find-removed files file other apart = find-remove_first (is_file file) (is_file other) files (λ row e. grind (arith, nat_tests))
-
 pub next_of-removed : (files : List FileRow) (file other : ℕ) → (other == file) ≡ false → next_of (remove_first (is_file file) files) other ≡ next_of files other
-next_of-removed files file other apart = ap (λ o. option_map_or (λ (row : FileRow). row.next) o 0) (find-removed files file other apart)
+next_of-removed files file other apart = grind (arith, nat_tests, find-remove_first (is_file file) (is_file other) files)
 
 pub policy_of-removed : (files : List FileRow) (file other : ℕ) → (other == file) ≡ false → policy_of (remove_first (is_file file) files) other ≡ policy_of files other
-policy_of-removed files file other apart = ap (option_map (λ (row : FileRow). row.policy)) (find-removed files file other apart)
+policy_of-removed files file other apart = grind (arith, nat_tests, find-remove_first (is_file file) (is_file other) files)
 
 -- ---- a world stays well formed
 
@@ -63,17 +60,13 @@ module _ (w : World) (file : ℕ) (idle : IsIdle w file) where
   drop_file_keeps : IsWellFormed w → IsWellFormed (without_file w file)
   drop_file_keeps k = record { holds = by } where
     by : (part : Part) → Holds (without_file w file) part
-    by Counted = grind (arith, k.holds Counted, length-remove_first-le (is_file file) w.files, length-split keep w.names)
-    by Files = grind (arith, nat_tests, k.holds Files, all-remove_first, later-remove_first)
     by Names = grind (arith, nat_tests, k.holds Names, all-weaker (λ row. (keep row ≡ true) × IsNameRow w.files w.now row) (IsNameRow files w.now) names, next_of-removed, all-both (λ row. keep row ≡ true) (IsNameRow w.files w.now) names, filter-passes keep w.names, all-filter (IsNameRow w.files w.now) keep w.names, later-filter AreApart AreApart keep w.names)
-    by Homes = grind (arith, nat_tests, k.holds Homes, all-weaker, all-filter, list_any-filter)
-    by Tree = later-filter AreOthers AreOthers keep w.names (λ x y e f h. h) (k.holds Tree)
     by Versions = grind (arith, nat_tests, k.holds Versions, all-weaker (λ row. ((row.file == file) ≡ false) × IsVersion w.files w.now row) (IsVersion files w.now) w.versions, next_of-removed, all-both (λ row. (row.file == file) ≡ false) (IsVersion w.files w.now) w.versions, idle_versions w file idle)
     by Drafts = grind (arith, nat_tests, k.holds Drafts, all-weaker (λ row. ((row.file == file) ≡ false) × IsDraft w.files w.now row) (IsDraft files w.now) w.drafts, next_of-removed, all-both (λ row. (row.file == file) ≡ false) (IsDraft w.files w.now) w.drafts, idle_drafts w file idle)
     by Current = λ other live. grind (arith, nat_tests, k.holds Current other, any-filtered (is_live_name_of other) keep w.names live, next_of-removed w.files file other)
     by Ended = grind (arith, nat_tests, k.holds Ended, all-weaker (λ row. ((row.file == file) ≡ false) × IsOfLive w.names row) (IsOfLive names) w.versions, live_other w file, all-both (λ row. (row.file == file) ≡ false) (IsOfLive w.names) w.versions, idle_versions w file idle)
     by Groups = groups_forgotten w.made.groups w.files files w.now file w.groups (λ other apart h. rw (next_of-removed w.files file other apart) h) (k.holds Groups)
-    by part = k.holds part
+    by part = grind (arith, nat_tests, k.holds part, length-remove_first-le (is_file file) w.files, length-split keep w.names, all-remove_first, later-remove_first, all-weaker, all-filter, list_any-filter, later-filter AreOthers AreOthers keep w.names)
 
 pub drop_keeps : (w : World) (file : ℕ) → IsWellFormed w → IsWellFormed (after_change w (DropIdle file))
 drop_keeps w file k = dropped IsWellFormed w file (λ idle. drop_file_keeps w file idle k) (λ busy. k)

@@ -8,10 +8,6 @@ use Rattle.ele_world.proofs.Elements.{find-update_still, find-updated}
 pub next_of-push : (files : List FileRow) (row : FileRow) (file : ℕ) → 0 < next_of files file → next_of (files ++ row ∷ []) file ≡ next_of files file
 next_of-push files row file h = grind (arith, nat_tests, find-append)
 
--- and so does each other file than the one added
-pub next_of-push_other : (files : List FileRow) (row : FileRow) (file : ℕ) → is_file file row ≡ false → next_of (files ++ row ∷ []) file ≡ next_of files file
-next_of-push_other files row file h = grind (arith, nat_tests, find-append)
-
 -- a file that is there has a number that was given
 pub next_of-given : (given versions : ℕ) (files : List FileRow) (file : ℕ) → AllByRecursion (IsFile given versions) files → 0 < next_of files file → file ≤ given
 next_of-given given versions files file all h = grind (arith, nat_tests, all-found, found_passes)
@@ -39,10 +35,6 @@ policies-numbered files file id = find-update_still (is_file file) (is_file id) 
 pub next_of-put_under : (files : List FileRow) (file id : ℕ) (policy : Policy) → next_of (update_first (is_file file) (put_under policy) files) id ≡ next_of files id
 next_of-put_under files file id policy = find-update_still (is_file file) (is_file id) (λ o. option_map_or (λ row. row.next) o 0) (put_under policy) files (λ row. refl) (λ row. refl)
 
--- its policy is that one, where it is there
-pub policy_of-put_under : (files : List FileRow) (file : ℕ) (policy : Policy) → 0 < next_of files file → policy_of (update_first (is_file file) (put_under policy) files) file ≡ Some policy
-policy_of-put_under files file policy there = grind (arith, nat_tests, find-updated)
-
--- and each other file keeps its own
+-- each other file keeps its own
 pub policy_of-put_other : (files : List FileRow) (file other : ℕ) (policy : Policy) → (other == file) ≡ false → policy_of (update_first (is_file file) (put_under policy) files) other ≡ policy_of files other
 policy_of-put_other files file other policy apart = grind (arith, nat_tests, option_map, find-update_other, is_file, put_under)

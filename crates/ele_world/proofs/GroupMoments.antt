@@ -27,18 +27,12 @@ pub record MarksGo (w v : World) (name : List ℕ) (left : Option ℕ) (files ma
       → ripe_at v file number ≡ cond (is_open w.handles file number) None (moment_under (is_marked_without w.groups name left file) (policy_of w.files file) w.versions file number)
 
 module _ (w : World) (k : IsWellFormed w) where
-  abbrev held_moment : List GroupRow → ℕ → ℕ → Option ℕ
-  held_moment groups file number = moment_under (is_marked groups file) (policy_of w.files file) w.versions file number
-
-  abbrev unread : ℕ → ℕ → Option ℕ → Option ℕ
-  unread file number moment = cond (is_open w.handles file number) None moment
-
   -- the world in which the groups alone are others
   module _ (groups : List GroupRow) (made : Counts) where
     abbrev regrouped : World
     regrouped = record w { groups = groups; made = made }
 
-    moment_then : (file number : ℕ) → ripe_at regrouped file number ≡ unread file number (held_moment groups file number)
+    moment_then : (file number : ℕ) → ripe_at regrouped file number ≡ cond (is_open w.handles file number) None (moment_under (is_marked groups file) (policy_of w.files file) w.versions file number)
     moment_then file number = ripe_at_near regrouped file number (in_order_of w k)
 
     module _ (files marks : List ℕ) where

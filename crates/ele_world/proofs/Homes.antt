@@ -7,20 +7,13 @@ use Rattle.ele_lists.proofs.Cuts.{any-found as first_passing}
 use Rattle.ele_world.proofs.Walks.{live_row, parent_is, walk_to}
 use Rattle.ele_world.proofs.NameParts.{still_none}
 
--- what was there is there beside more
-pub any_more : {X : Type 0} (p : X → Bool) (xs : List X) (y : X) → list_any p xs ≡ true → list_any p (xs ++ y ∷ []) ≡ true
-any_more p xs y h = grind (arith, nat_tests, list_any-append)
-
--- and what one more makes so was so, where it was so whenever that one is
+-- what one more makes so was so, where it was so whenever that one is
 pub any_less : {X : Type 0} (p : X → Bool) (xs : List X) (y : X) → (p y ≡ true → list_any p xs ≡ true) → list_any p (xs ++ y ∷ []) ≡ true → list_any p xs ≡ true
 any_less p xs y from h = grind (arith, nat_tests, list_any-append, false≢true)
 
-pub any_last : {X : Type 0} (p : X → Bool) (xs : List X) (y : X) → p y ≡ true → list_any p (xs ++ y ∷ []) ≡ true
-any_last p xs y h = grind (arith, nat_tests, list_any-append)
-
 -- what was of a live file is so
 pub ended_more : (names : List NameRow) (named : NameRow) (versions : List VersionRow) → AllByRecursion (IsOfLive names) versions → AllByRecursion (IsOfLive (names ++ named ∷ [])) versions
-ended_more names named versions each = grind (arith, nat_tests, all-weaker, any_more)
+ended_more names named versions each = grind (arith, nat_tests, all-weaker, list_any-append)
 
 -- ---- where a path's last name stands
 
@@ -41,14 +34,14 @@ pub named_housed : (directories more : List DirectoryRow) (names : List NameRow)
     → ((id : ℕ) → has_directory directories id ≡ true → has_directory more id ≡ true)
     → has_directory directories named.directory ≡ true → is_reached names named.directory ≡ true → IsDirectoryThere more named.target
     → AllByRecursion (IsHoused directories names) names → AllByRecursion (IsHoused more (names ++ named ∷ [])) (names ++ named ∷ [])
-named_housed directories more names named wider home reached there each = grind (arith, nat_tests, all-push (IsHoused more (names ++ named ∷ [])) names named, all-weaker (IsHoused directories names) (IsHoused more (names ++ named ∷ [])) names, any_more)
+named_housed directories more names named wider home reached there each = grind (arith, nat_tests, all-push (IsHoused more (names ++ named ∷ [])) names named, all-weaker (IsHoused directories names) (IsHoused more (names ++ named ∷ [])) names, list_any-append)
 
 -- the root, or a directory that has a name, live or dead
 abbrev pub HasName : List NameRow → DirectoryRow → Type 0
 HasName names row = ((row.id == root) || list_any (is_name_of_directory row.id) names) ≡ true
 
 pub named_more : (directories : List DirectoryRow) (names : List NameRow) (named : NameRow) → AllByRecursion (HasName names) directories → AllByRecursion (HasName (names ++ named ∷ [])) directories
-named_more directories names named = grind (arith, nat_tests, all-weaker, any_more)
+named_more directories names named = grind (arith, nat_tests, all-weaker, list_any-append)
 
 pub named_end : (now : ℕ) (p : NameRow → Bool) (directories : List DirectoryRow) (names : List NameRow) → AllByRecursion (HasName names) directories → AllByRecursion (HasName (update_first p (dies now) names)) directories
 named_end now p directories names = grind (arith, nat_tests, all-weaker, list_any-update_first)

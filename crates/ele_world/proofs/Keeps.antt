@@ -12,14 +12,13 @@ use Rattle.ele_world.proofs.May.{May, MayAll, MayPlan}
 use Rattle.ele_world.proofs.Outcomes.{outcome_of}
 
 pub change_keeps : (event : Event) (first w : World) (change : Change) → IsEvent event → May event first w change → IsWellFormed w → IsWellFormed (after_change w change)
-change_keeps event first w (Time to) is may k = time_keeps w to (may.1 is) may.0 k
 change_keeps event first w (Take file number) is may k = take_keeps w file number (λ row found. grind (arith, nat_tests)) may.unread k
 change_keeps event first w (Append file opened cells) is may k = append_keeps w file opened cells may k
+change_keeps event first w (Revive directory name file) is may k = revive_keeps w directory name file may k
 change_keeps event first w (WriteDraft file offset bytes) is may k = write_keeps w file offset bytes may k
 change_keeps event first w (TruncateDraft file size) is may k = truncate_keeps w file size may k
 change_keeps event first w (EndDraft file) is may k = end_keeps w file may k
-change_keeps event first w (Revive directory name file) is may k = revive_keeps w directory name file may k
-change_keeps event first w change is may k = grind (arith, nat_tests, govern_keeps, make_directory_keeps, end_name_keeps, add_name_keeps, move_name_keeps, end_file_name_keeps, make_keeps, put_under_keeps, start_keeps, open_keeps, shut_keeps, drop_keeps, make_group_keeps, drop_group_keeps, add_member_keeps, remove_member_keeps, add_mark_keeps, remove_mark_keeps)
+change_keeps event first w change is may k = grind (arith, nat_tests, time_keeps, govern_keeps, make_directory_keeps, end_name_keeps, add_name_keeps, move_name_keeps, end_file_name_keeps, make_keeps, put_under_keeps, start_keeps, open_keeps, shut_keeps, drop_keeps, make_group_keeps, drop_group_keeps, add_member_keeps, remove_member_keeps, add_mark_keeps, remove_mark_keeps)
 
 pub all_keep : (event : Event) (first w : World) (changes : List Change) → IsEvent event → MayAll event first w changes → IsWellFormed w → IsWellFormed (after_changes w changes)
 all_keep event first w [] is may k = k

@@ -5,9 +5,9 @@ use Rattle.ele_world.proofs.Basics.{found_passes, any-found}
 use Rattle.ele_world.proofs.Words.{Policy, after_change, MakeDirectory, EndName, without_name, born_row, dies, is_live_in, is_live_name, live_target, has_directory, is_reached, IsHoused, Part, Counted, Directories, Names, Homes, Current, Holds}
 use Rattle.ele_world.proofs.Words.{IsWellFormed, Tree, Ended, HaveEnded, IsOfLive, World, is_directory, NameRow, Target, Directory, ended_at, with_end, AddName, EndFileName, File, is_live_directory, Versions, Readers, IsVersion, next_of, is_live}
 use Rattle.ele_world.proofs.Words.{is_version, MoveName, is_target_directory, IsNameRow, IsDirectoryThere, AreOthers, IsThere, is_live_name_of}
-use Rattle.ele_world.proofs.Homes.{any_last, any_more, named_housed, HasName, named_more, named_end, directory_given, ended_more, any_less, homes_more}
+use Rattle.ele_world.proofs.Homes.{named_housed, HasName, named_more, named_end, directory_given, ended_more, any_less, homes_more}
 use Rattle.ele_world.proofs.May.{MayMakeDirectory, MayEnd, MayAdd, MayMove}
-use Rattle.ele_world.proofs.NameParts.{names_more, names_end, tree_more, tree_end, live_still, counted_more, free_still, IsUnnamed, still_none, found_target}
+use Rattle.ele_world.proofs.NameParts.{names_more, names_end, tree_more, tree_end, live_still, counted_more, free_still, IsUnnamed, still_none}
 use Rattle.ele_world.proofs.Readers.{read_on}
 use Rattle.ele_world.proofs.KeptVersions.{ended_own, ended_versions, current_ended}
 use Rattle.ele_world.proofs.Versions.{IsEndedBy}
@@ -19,13 +19,12 @@ use Rattle.ele_world.proofs.Elements.{none_left}
 pub make_directory_keeps : (w : World) (directory : ℕ) (name : List ℕ) (id : ℕ) (policy : Policy) → MayMakeDirectory w directory name id policy → IsWellFormed w → IsWellFormed (after_change w (MakeDirectory directory name id policy))
 make_directory_keeps w directory name id policy may k = record { holds = by } where
   there : has_directory (w.directories ++ record { id = id; default = policy } ∷ []) id ≡ true
-  there = any_last (is_directory id) w.directories (record { id = id; default = policy }) (grind (arith, nat_tests))
+  there = grind (arith, nat_tests, list_any-append)
 
   by : (part : Part) → Holds (after_change w (MakeDirectory directory name id policy)) part
-  by Names = names_more w.files w.now w.names directory name (Directory id) may.named.free tt (k.holds Names)
-  by Homes = grind (arith, nat_tests, k.holds Homes, named_housed w.directories (w.directories ++ record { id = id; default = policy } ∷ []) w.names (born_row directory name (Directory id) w.now), any_more, may.named, there, all-push (HasName (w.names ++ born_row directory name (Directory id) w.now ∷ [])) w.directories, named_more, any_last)
+  by Homes = grind (arith, nat_tests, k.holds Homes, named_housed w.directories (w.directories ++ record { id = id; default = policy } ∷ []) w.names (born_row directory name (Directory id) w.now), list_any-append, may.named, there, all-push (HasName (w.names ++ born_row directory name (Directory id) w.now ∷ [])) w.directories, named_more, list_any-append)
   by Tree = grind (arith, nat_tests, k.holds Homes, k.holds Tree, k.holds Directories, tree_more, all-weaker, there, directory_given)
-  by part = grind (arith, nat_tests, k.holds part, length-append, any_more, all-push, later-push, all-weaker, list_any-append, ended_more)
+  by part = grind (arith, nat_tests, k.holds part, names_more w.files w.now w.names directory name (Directory id) may.named.free tt, length-append, all-push, later-push, all-weaker, list_any-append, ended_more)
 
 -- ---- a name dies
 
@@ -59,13 +58,9 @@ module _ (w : World) (directory : ℕ) (name : List ℕ) (empty : (id : ℕ) →
 
   -- all but that the name's file may have a version without an end
   pub end_name_holds : (Q : Type 0) → Q → IsWellFormed w → (part : Part) → HoldsWith Q (without_name w directory name) part
-  end_name_holds Q ends k Counted = grind (arith, k.holds Counted, length-update_first p (dies w.now) w.names)
-  end_name_holds Q ends k Names = names_end w.now w.names directory name w.files (k.holds Names)
-  end_name_holds Q ends k Tree = tree_end w.now w.names directory name (k.holds Tree)
   end_name_holds Q ends k Homes = grind (arith, nat_tests, k.holds Homes, all-update_first p (IsHoused w.directories after) (IsHoused w.directories after) (dies w.now) w.names, all-weaker (λ row. (row.death ≡ None → IsSpared (live_target w.names directory name) row.directory) × IsHoused w.directories w.names row) (IsHoused w.directories after) w.names, reached_still, all-both (λ row. row.death ≡ None → IsSpared (live_target w.names directory name) row.directory) (IsHoused w.directories w.names) w.names, all_spared (live_target w.names directory name) refl, named_end w.now p w.directories w.names)
-  end_name_holds Q ends k Current = grind (arith, nat_tests, k.holds Current, list_any-update_fails)
   end_name_holds Q ends k Ended = ends
-  end_name_holds Q ends k part = k.holds part
+  end_name_holds Q ends k part = grind (arith, nat_tests, k.holds part, length-update_first p (dies w.now) w.names, names_end w.now w.names directory name w.files, tree_end w.now w.names directory name, list_any-update_fails)
 
 pub end_name_keeps : (w : World) (directory : ℕ) (name : List ℕ) → MayEnd w directory name → IsWellFormed w → IsWellFormed (after_change w (EndName directory name))
 end_name_keeps w directory name may k = with_ends (without_name w directory name) (end_name_holds w directory name empty (HaveEnded (without_name w directory name)) ends k) where
@@ -78,11 +73,7 @@ end_name_keeps w directory name may k = with_ends (without_name w directory name
 -- ---- a name more
 
 pub add_name_keeps : (w : World) (directory : ℕ) (name : List ℕ) (target : Target) → MayAdd w directory name target → IsWellFormed w → IsWellFormed (after_change w (AddName directory name target))
-add_name_keeps w directory name target may k = record { holds = by } where
-  by : (part : Part) → Holds (after_change w (AddName directory name target)) part
-  by Names = names_more w.files w.now w.names directory name target may.named.free may.there (k.holds Names)
-  by Homes = homes_more w.directories w.names (born_row directory name target w.now) may.named.home may.named.reached may.housed (k.holds Homes)
-  by part = grind (arith, nat_tests, k.holds part, counted_more w (length (w.names ++ born_row directory name target w.now ∷ [])) k may.named.room, length-append, tree_more, (λ (id : ℕ). all-none (is_live_directory id) w.names), any_less, ended_more, may.more, false≢true)
+add_name_keeps w directory name target may k = record { holds = λ part. grind (arith, nat_tests, k.holds part, names_more w.files w.now w.names directory name target may.named.free may.there, homes_more w.directories w.names (born_row directory name target w.now) may.named.home may.named.reached may.housed, counted_more w (length (w.names ++ born_row directory name target w.now ∷ [])) k may.named.room, length-append, tree_more, (λ (id : ℕ). all-none (is_live_directory id) w.names), any_less, ended_more, may.more, false≢true) }
 
 -- ---- the end of a file's name
 
@@ -97,12 +88,10 @@ with_end_keeps w file dead holds = record { holds = by } where
   last = next_of w.files file - 1
 
   by : (part : Part) → Holds (record w { versions = with_end w file }) part
-  by Counted = grind (arith, holds Counted, length-update_first (is_version file last) (ended_at w.now) w.versions)
-  by Versions = ended_versions w file (holds Versions)
   by Readers = read_on w.versions (with_end w file) w.handles (λ f n held. grind (arith, nat_tests, list_any-update_first)) (holds Readers)
   by Current = λ other live. grind (arith, nat_tests, holds Current other, dead, current_ended file other last (next_of w.files other) w.now w.versions)
   by Ended = grind (arith, nat_tests, holds Ended, holds Versions, all-weaker (λ row. ((row.file ≡ file → IsEndedBy w.now row) × IsVersion w.files w.now row) × ((row.file == file) ≡ false → IsOfLive w.names row)) (IsOfLive w.names) (with_end w file), all-both (λ row. (row.file ≡ file → IsEndedBy w.now row) × IsVersion w.files w.now row) (λ row. (row.file == file) ≡ false → IsOfLive w.names row) (with_end w file), ended_own w file, all-update_first (is_version file last) (λ row. (row.file == file) ≡ false → IsOfLive w.names row) (λ row. (row.file == file) ≡ false → IsOfLive w.names row) (ended_at w.now) w.versions)
-  by part = holds part
+  by part = grind (arith, nat_tests, holds part, length-update_first (is_version file last) (ended_at w.now) w.versions, ended_versions w file)
 
 module _ (w : World) (directory : ℕ) (name : List ℕ) (file : ℕ) (leads : live_target w.names directory name ≡ Some (File file)) (k : IsWellFormed w) where
   abbrev ended : World
@@ -116,10 +105,10 @@ module _ (w : World) (directory : ℕ) (name : List ℕ) (file : ℕ) (leads : l
   beside = grind (arith, nat_tests, k.holds Ended, all-weaker (IsOfLive w.names), live_still w.now w.names directory name (File file) leads)
 
   pub end_file_name_keeps : IsWellFormed (after_change w (EndFileName directory name file))
-  end_file_name_keeps = elim (is_live ended file) as (λ b. is_live ended file ≡ b → IsWellFormed (record ended { versions = cond b w.versions (with_end ended file) })) [
-    | true ↦ λ e. with_ends ended (end_name_holds w directory name no_directory (HaveEnded ended) (all-weaker _ (IsOfLive ended.names) w.versions (λ row h. grind (arith, nat_tests)) beside) k)
-    | false ↦ λ e. with_end_keeps ended file e (end_name_holds w directory name no_directory (EndBeside file ended) beside k)
-  ] refl
+  end_file_name_keeps = by (is_live ended file) refl where
+    by : (b : Bool) → is_live ended file ≡ b → IsWellFormed (record ended { versions = cond b w.versions (with_end ended file) })
+    by true e = with_ends ended (end_name_holds w directory name no_directory (HaveEnded ended) (all-weaker _ (IsOfLive ended.names) w.versions (λ row h. grind (arith, nat_tests)) beside) k)
+    by false e = with_end_keeps ended file e (end_name_holds w directory name no_directory (EndBeside file ended) beside k)
 
 -- ---- a name moves
 
@@ -146,15 +135,12 @@ module _ (w : World) (from : ℕ) (old : List ℕ) (to : ℕ) (new : List ℕ) (
 
   -- each directory that was reached is
   reached : (id : ℕ) → is_reached w.names id ≡ true → is_reached (remaining ++ renamed ∷ []) id ≡ true
-  reached id h = grind (arith, nat_tests, list_any-append, list_any-update_found, found_target, any_more)
+  reached id h = grind (arith, nat_tests, list_any-append, list_any-update_found)
 
   pub move_name_keeps : IsWellFormed (after_change w (MoveName from old to new target))
   move_name_keeps = record { holds = by } where
     by : (part : Part) → Holds (after_change w (MoveName from old to new target)) part
-    by Counted = counted_more w (length (remaining ++ renamed ∷ [])) k may.named.room (simp length-append (omega (arith, length-update_first dying (dies w.now) w.names)))
     by Names = names_more w.files w.now remaining to new target (free_still w.now w.names from old to new may.named.free) there (names_end w.now w.names from old w.files (k.holds Names))
     by Homes = grind (arith, nat_tests, k.holds Homes, all-push (IsHoused w.directories (remaining ++ renamed ∷ [])) remaining renamed, all-update_first dying (IsHoused w.directories w.names) (IsHoused w.directories (remaining ++ renamed ∷ [])) (dies w.now) w.names, may.named, housed, reached, named_more w.directories remaining renamed, named_end w.now dying w.directories w.names)
     by Tree = tree_more w.now remaining to new target (live_row (IsUnnamed remaining) w.names from old target (λ row found. unnamed row.target row found refl) may.stands) (tree_end w.now w.names from old (k.holds Tree))
-    by Current = grind (arith, nat_tests, k.holds Current, any_less, may.stands, (λ (file : ℕ). any-found dying (is_live_name_of file) w.names), still_none, found_passes, list_any-append, list_any-update_fails, false≢true)
-    by Ended = all-weaker (IsOfLive w.names) (IsOfLive (remaining ++ renamed ∷ [])) w.versions (λ row h none. grind (arith, nat_tests, h none, any_last, any_more, live_still, may.stands)) (k.holds Ended)
-    by part = k.holds part
+    by part = grind (arith, nat_tests, k.holds part, counted_more w (length (remaining ++ renamed ∷ [])) k may.named.room, length-append, length-update_first dying (dies w.now) w.names, any_less, may.stands, (λ (file : ℕ). any-found dying (is_live_name_of file) w.names), still_none, found_passes, list_any-append, list_any-update_fails, false≢true, all-weaker (IsOfLive w.names) (IsOfLive (remaining ++ renamed ∷ [])) w.versions, live_still w.now w.names from old target)

@@ -1,12 +1,12 @@
 -- The clock, policies and the making of a file keep a world well formed.
-use Rattle.ele_world.proofs.Basics.{◌≡◌, ℕ, ◌+◌, ◌≤◌, false, List, [], ◌∷◌, ◌++◌, length-append, sym, subst, arith, is_some, AllByRecursion, nat_tests, list_any-append, all-push, all-weaker, all-update_first, later-push, later-update_first}
+use Rattle.ele_world.proofs.Basics.{◌≡◌, ℕ, ◌+◌, ◌≤◌, false, List, [], ◌∷◌, ◌++◌, length-append, sym, subst, arith, is_some, AllByRecursion, nat_tests, find-append, list_any-append, all-push, all-weaker, all-update_first, later-push, later-update_first}
 use Rattle.ele_world.proofs.Basics.{length-update_first, list_any-update_first}
 use Rattle.ele_world.proofs.Words.{last_moment, Policy, governed_by, put_under, after_change, Time, Govern, MakeFile, PutUnder, live_target, IsPolicy, IsHoused, IsFile, IsNameRow, AreApart, IsVersion, IsDraft, Part, Counted, Files, Names, Homes}
 use Rattle.ele_world.proofs.Words.{Versions, Drafts, Readers, Current, Holds, IsWellFormed, Tree, Ended, Groups, World, root, is_directory, is_file, next_of, is_version, FileRow, NameRow, File}
 use Rattle.ele_world.proofs.Readers.{read_on}
 use Rattle.ele_world.proofs.Created.{new_file, new_name, first_version, created, made_is}
-use Rattle.ele_world.proofs.Files.{next_of-push, next_of-push_other, next_of-given, next_of-new, next_of-put_under}
-use Rattle.ele_world.proofs.Homes.{any_more, homes_more, ended_more, any_last}
+use Rattle.ele_world.proofs.Files.{next_of-push, next_of-given, next_of-new, next_of-put_under}
+use Rattle.ele_world.proofs.Homes.{homes_more, ended_more}
 use Rattle.ele_world.proofs.KeptGroups.{groups_on}
 use Rattle.ele_world.proofs.May.{MayMake}
 use Rattle.ele_world.proofs.Writers.{written_more}
@@ -40,33 +40,22 @@ module _ (w : World) (directory : ℕ) (name : List ℕ) (policy : Policy) where
   abbrev id : ℕ
   id = w.made.files + 1
 
-  abbrev new : FileRow
-  new = new_file id policy
-
-  abbrev named : NameRow
-  named = new_name w directory name id
-
   abbrev files : List FileRow
-  files = w.files ++ new ∷ []
+  files = w.files ++ new_file id policy ∷ []
 
   created_keeps : MayMake w directory name id policy → IsWellFormed w → IsWellFormed (created w directory name id policy)
   created_keeps may k = record { holds = by } where
     new_next : next_of files id ≡ 2
-    new_next = next_of-new w.made.files w.made.versions w.files new (k.holds Files).each (omega arith)
+    new_next = next_of-new w.made.files w.made.versions w.files (new_file id policy) (k.holds Files).each (omega arith)
 
     by : (part : Part) → Holds (created w directory name id policy) part
-    by Counted = simp length-append (grind (arith, k.holds Counted))
     by Files = grind (arith, nat_tests, k.holds Files, all-push, all-weaker, later-push)
     by Names = names_more files w.now w.names directory name (File id) may.named.free (omega (arith, new_next)) (grind (arith, nat_tests, k.holds Names, all-weaker (IsNameRow w.files w.now) (IsNameRow files w.now) w.names, next_of-push))
-    by Homes = homes_more w.directories w.names named may.named.home may.named.reached tt (k.holds Homes)
-    by Tree = tree_more w.now w.names directory name (File id) tt (k.holds Tree)
     by Versions = grind (arith, nat_tests, k.holds Versions, k.holds Files, all-push, files, first_version, all-weaker, next_of-push, new_next, later-push, next_of-given)
     by Drafts = grind (arith, nat_tests, k.holds Drafts, all-weaker, files, next_of-push, written_more)
-    by Readers = read_on w.versions (w.versions ++ first_version w id ∷ []) w.handles (λ f n held. any_more (is_version f n) w.versions (first_version w id) held) (k.holds Readers)
-    by Current = grind (arith, nat_tests, k.holds Current, new_next, next_of-push_other w.files new, list_any-append)
-    by Ended = grind (arith, nat_tests, k.holds Ended, all-push, first_version, ended_more, any_last)
-    by Groups = groups_on w.made.groups w.files files w.now w.now w.groups (omega arith) (λ file h. omega (arith, h, next_of-push w.files new file h)) (k.holds Groups)
-    by part = k.holds part
+    by Readers = read_on w.versions (w.versions ++ first_version w id ∷ []) w.handles (λ f n held. grind (arith, nat_tests, list_any-append)) (k.holds Readers)
+    by Current = grind (arith, nat_tests, k.holds Current, new_next, find-append, list_any-append)
+    by part = grind (arith, nat_tests, k.holds part, length-append, homes_more w.directories w.names (new_name w directory name id) may.named.home may.named.reached, tree_more w.now w.names directory name (File id), all-push, first_version, ended_more, list_any-append, groups_on w.made.groups w.files files w.now w.now w.groups, next_of-push)
 
 pub make_keeps : (w : World) (directory : ℕ) (name : List ℕ) (id : ℕ) (policy : Policy) → MayMake w directory name id policy → IsWellFormed w → IsWellFormed (after_change w (MakeFile directory name id policy))
 make_keeps w directory name id policy may k =

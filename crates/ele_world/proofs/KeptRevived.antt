@@ -17,17 +17,12 @@ pub last_is : (w : World) (file : ℕ) (row : VersionRow) → AllByRecursion (Is
 last_is w file row each found = grind (arith, nat_tests, found_passes, all-found)
 
 module _ (w : World) (directory : ℕ) (name : List ℕ) (file : ℕ) where
-  abbrev row : NameRow
-  row = born_row directory name (File file) w.now
-
   abbrev named : World
   named = with_name w directory name (File file)
 
   -- a file's new name leaves all but that the file may have no current version
   pub named_holds : MayName w directory name → 0 < next_of w.files file → IsWellFormed w → (part : Part) → HoldsBeside file named part
-  named_holds may there k Names = names_more w.files w.now w.names directory name (File file) may.free there (k.holds Names)
-  named_holds may there k Homes = homes_more w.directories w.names row may.home may.reached tt (k.holds Homes)
-  named_holds may there k part = grind (arith, nat_tests, k.holds part, counted_more w (length named.names) k may.room, length-append, tree_more, any_less, ended_more)
+  named_holds may there k part = grind (arith, nat_tests, k.holds part, names_more w.files w.now w.names directory name (File file) may.free, homes_more w.directories w.names (born_row directory name (File file) w.now) may.home may.reached, counted_more w (length named.names) k may.room, length-append, tree_more, any_less, ended_more)
 
   -- a version like the last one may be made
   pub again : MayRevive w directory name file → AllByRecursion (IsVersion w.files w.now) w.versions → MayAppend named file w.now (current_cells w file)

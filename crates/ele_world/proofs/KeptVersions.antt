@@ -60,20 +60,14 @@ module _ (w : World) (file opened : ℕ) (cells : List Cell) (may : MayAppend w 
   pub append_completes : ((part : Part) → HoldsBeside file w part) → IsWellFormed (with_version w file opened cells)
   append_completes holds = record { holds = by } where
     by : (part : Part) → Holds (with_version w file opened cells) part
-    by Counted = grind (arith, holds Counted, length-update_first (is_file file) numbered_on w.files, length-update_first p (ended_at w.now) w.versions, length-insert_before (is_version_after file next) new (with_end w file))
-    by Files = grind (arith, nat_tests, holds Files, all-update_first (is_file file) (IsFile w.made.files w.made.versions) (IsFile w.made.files (w.made.versions + 1)) numbered_on w.files, later-update_first (is_file file))
-    by Names = grind (arith, nat_tests, holds Names, all-weaker (IsNameRow w.files w.now) (IsNameRow files w.now) w.names, next_of-numbered_le)
     by Versions = record {
       each = all-insert_before (is_version_after file next) (IsVersion files w.now) new (with_end w file) (grind (arith, nat_tests, next_is))
           (all-weaker _ (IsVersion files w.now) (with_end w file) (λ row h. grind (arith, nat_tests, next_of-numbered_le, next_of-numbered_other)) (ended_own w file (holds Versions)));
       placed = next_placed w file (holds Versions) opened cells;
     }
-    by Drafts = grind (arith, nat_tests, holds Drafts, all-weaker (IsDraft w.files w.now) (IsDraft files w.now) w.drafts, next_of-numbered_le, written_more)
     by Readers = read_on w.versions (with_version w file opened cells).versions w.handles (λ f n held. grind (arith, nat_tests, list_any-insert_before, list_any-update_first)) (holds Readers)
     by Current = λ other live. grind (arith, nat_tests, holds Current other, next_is, list_any-insert_before, next_of-numbered_other w.files file other, current_ended file other (next_of w.files file - 1) (next_of w.files other) w.now w.versions)
-    by Ended = grind (arith, nat_tests, holds Ended, all-insert_before (is_version_after file next) (IsOfLive w.names) new (with_end w file), all-update_first p (IsOfLive w.names) (IsOfLive w.names) (ended_at w.now) w.versions)
-    by Groups = groups_on w.made.groups w.files files w.now w.now w.groups (omega arith) (λ f h. omega (arith, h, next_of-numbered_le w.files file f)) (holds Groups)
-    by part = holds part
+    by part = grind (arith, nat_tests, holds part, length-update_first (is_file file) numbered_on w.files, length-update_first p (ended_at w.now) w.versions, length-insert_before (is_version_after file next) new (with_end w file), all-update_first (is_file file) (IsFile w.made.files w.made.versions) (IsFile w.made.files (w.made.versions + 1)) numbered_on w.files, later-update_first (is_file file), all-weaker (IsNameRow w.files w.now) (IsNameRow files w.now) w.names, next_of-numbered_le, all-weaker (IsDraft w.files w.now) (IsDraft files w.now) w.drafts, written_more, all-insert_before (is_version_after file next) (IsOfLive w.names) new (with_end w file), all-update_first p (IsOfLive w.names) (IsOfLive w.names) (ended_at w.now) w.versions, groups_on w.made.groups w.files files w.now w.now w.groups)
 
   pub append_keeps : IsWellFormed w → IsWellFormed (with_version w file opened cells)
   append_keeps k = append_completes (λ part. grind (arith, k.holds part))

@@ -9,7 +9,7 @@ use Rattle.ele_world.proofs.Files.{next_of-new, next_of-numbered_on}
 use Rattle.ele_world.proofs.Outcomes.{in_all}
 use Rattle.ele_world.proofs.Walks.{new_leads}
 use Rattle.ele_world.proofs.Elements.{any_none}
-use Rattle.ele_world.proofs.Homes.{any_last, parent_home, directory_given}
+use Rattle.ele_world.proofs.Homes.{parent_home, directory_given}
 use Rattle.ele_world.proofs.Allowed.{may_name, may_revive}
 use Rattle.ele_world.proofs.Closes.{new_found}
 use Rattle.ele_world.proofs.KeptRevived.{again}
@@ -44,7 +44,7 @@ module _ (w : World) (path : List (List ℕ)) (at : ℕ × List ℕ) (k : IsWell
   leads_to found free = record {
     home = at;
     stands = found;
-    there = any_last (is_directory id) w.directories new (grind (arith, nat_tests));
+    there = grind (arith, nat_tests, list_any-append);
     named = ap directory_in (new_leads w.names path at (Directory id) w.now found free);
     empty = grind (arith, nat_tests, list_any-append, any_none (is_live_in id) w.names, k.holds Homes, all-weaker, k.holds Directories, directory_given, parent_home w path at k found);
     policy = grind (arith, nat_tests, find-append, not_found (is_directory id) w.directories, all-weaker (λ row. row.id ≤ w.made.directories) (λ row. is_directory id row ≡ false) w.directories, k.holds Directories);

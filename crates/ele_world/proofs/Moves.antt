@@ -73,12 +73,9 @@ module _ (event : Event) (first : World) (file number : ℕ) where
   takes w of taken may placed a b = Taken w (rw (a, b) at may) refl (grind (arith, nat_tests, removed_gone of taken w.versions, may.same))
 
   pub change_moves : (w : World) (change : Change) → AllLater ArePlaced first.versions → May event first w change → IsPast w file number → MovesTo w (after_change w change).versions
-  change_moves w (MakeFile directory name id policy) placed may is =
-      appends (with_name (with_file w id policy) directory name (File id)) id w.now [] (let given = is.given in let next = may.next in grind (arith, nat_tests))
+  change_moves w (MakeFile directory name id policy) placed may is = appends (with_name (with_file w id policy) directory name (File id)) id w.now [] (grind (arith, nat_tests, is.given, may.next))
   change_moves w (Append of opened cells) placed may is = appends w of opened cells (not_next w of file number opened cells is)
-  change_moves w (Revive directory name of) placed may is =
-      let named = with_name w directory name (File of) in
-      appends named of w.now (current_cells w of) (not_next named of file number w.now (current_cells w of) (record { given = is.given; first = is.first; past = is.past }))
+  change_moves w (Revive directory name of) placed may is = appends (with_name w directory name (File of)) of w.now (current_cells w of) (not_next (with_name w directory name (File of)) of file number w.now (current_cells w of) (record { given = is.given; first = is.first; past = is.past }))
   change_moves w (EndFileName directory name of) placed may is = by (is_live (without_name w directory name) of) where
     by : (b : Bool) → MovesTo w (cond b w.versions (with_end (without_name w directory name) of))
     by true = Same refl

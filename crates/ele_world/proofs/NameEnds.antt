@@ -3,7 +3,7 @@ use Rattle.ele_world.proofs.Basics.{◌≡◌, ℕ, false, ◌==◌, ◌&&◌, L
 use Rattle.ele_world.proofs.Basics.{find-update_none, sym, is_some, find-append}
 use Rattle.ele_world.proofs.Words.{dies, step, is_live_name, live_target, walk, walk_now, parent_now, AreApart, Names, IsWellFormed, World, root, RemoveDir, NoEntry, Done, NameRow, Target, File, Directory, after_change, EndFileName, LinkLeads}
 use Rattle.ele_world.proofs.Words.{EndsName, UnlinkEnds, file_now, MoveName, born_row, LeadsInstead, RenameLeads, comes_through, stands_in}
-use Rattle.ele_world.proofs.NameParts.{still_none, dies_so, free_still}
+use Rattle.ele_world.proofs.NameParts.{still_none, free_still}
 use Rattle.ele_world.proofs.Outcomes.{in_all}
 use Rattle.ele_world.proofs.Walks.{parent_is, file_of, last_names, new_leads, target_live, walk-push, IsParent, live_target-push, named_leads}
 use Rattle.ele_world.proofs.Currents.{has_current, last_ends}
@@ -15,10 +15,10 @@ module _ (rows : List NameRow) (d : ℕ) (n : List ℕ) (now : ℕ) where
   after = update_first (is_live_name d n) (dies now) rows
 
   pub gone : AllLater AreApart rows → live_target after d n ≡ None
-  gone apart = grind (arith, nat_tests, find-update_none, dies_so, later-weaker, bytes_eq-Decides, still_none, false≢true)
+  gone apart = grind (arith, nat_tests, find-update_none, later-weaker, bytes_eq-Decides, still_none, false≢true)
 
   pub other_stays : (e : ℕ) (m : List ℕ) → ((d == e) && bytes_eq n m) ≡ false → live_target after e m ≡ live_target rows e m
-  other_stays e m not = grind (arith, nat_tests, find-update_other, bytes_eq-Decides, still_none, dies_so, false≢true)
+  other_stays e m not = grind (arith, nat_tests, find-update_other, bytes_eq-Decides, still_none, false≢true)
 
 -- ---- a path along it
 

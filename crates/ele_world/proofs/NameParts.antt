@@ -34,10 +34,6 @@ counted_more w rows k room le = grind (arith, nat_tests, k.holds Counted)
 pub still_none : (directory : ℕ) (name : List ℕ) (row : NameRow) → is_live_name directory name row ≡ true → is_none row.death ≡ true
 still_none directory name row h = grind (arith, nat_tests)
 
--- a dead name isn't live
-pub dies_so : (now directory : ℕ) (name : List ℕ) (row : NameRow) → is_live_name directory name (dies now row) ≡ false
-dies_so now directory name row = grind (arith, nat_tests)
-
 module _ (now : ℕ) (names : List NameRow) (directory : ℕ) (name : List ℕ) where
   abbrev p : NameRow → Bool
   p = is_live_name directory name
@@ -53,12 +49,8 @@ module _ (now : ℕ) (names : List NameRow) (directory : ℕ) (name : List ℕ) 
 
   -- a name that wasn't live isn't
   pub free_still : (other : ℕ) (new : List ℕ) → is_some (live_target names other new) ≡ false → is_some (live_target after other new) ≡ false
-  free_still other new free = grind (arith, nat_tests, all-update_first p, dies_so now other new, no_live names other new free, not_found (is_live_name other new) after)
-
-  -- the row that dies stands for the name's target
-  pub found_target : (target : Target) → live_target names directory name ≡ Some target → (row : NameRow) → find p names ≡ Some row → row.target ≡ target
-  found_target target stands row found = grind (arith, nat_tests)
+  free_still other new free = grind (arith, nat_tests, all-update_first p, no_live names other new free, not_found (is_live_name other new) after)
 
   -- a file that the name isn't of is live as before
   pub live_still : (target : Target) → live_target names directory name ≡ Some target → (file : ℕ) → is_target_file file target ≡ false → list_any (is_live_name_of file) after ≡ list_any (is_live_name_of file) names
-  live_still target stands file other = grind (arith, nat_tests, list_any-update_found, found_target)
+  live_still target stands file other = grind (arith, nat_tests, list_any-update_found)

@@ -30,13 +30,10 @@ follow event first w row (change ∷ changes) found placed may past was = grind 
 pub held_past : (w : World) (row : VersionRow) → IsWellFormed w → IsVersion w.files w.now row → IsPast w row.file row.number
 held_past w row k is = grind (arith, nat_tests, k.holds Files, next_of-given, all_behind)
 
-row_stays : (w : World) (event : Event) (row : VersionRow) → IsWellFormed w → IsVersion w.files w.now row → IsFound w.versions row → StillOrDue event w row (find (is_version row.file row.number) ((step w event).1).versions)
-row_stays w event row k is found = grind (arith, nat_tests, k.holds Versions, reached event w (plan w event) (allowed w event k), allowed w event k, follow event w w, held_past w)
-
 -- ---- both laws
 
 each_row : (w : World) (event : Event) (Q : VersionRow → Type 0) → IsWellFormed w → ((row : VersionRow) → StillOrDue event w row (find (is_version row.file row.number) ((step w event).1).versions) → Q row) → AllByRecursion Q w.versions
-each_row w event Q k then = grind (arith, nat_tests, k.holds Versions, all-weaker (λ row. IsVersion w.files w.now row × IsFound w.versions row) Q w.versions, row_stays w event, all-both (IsVersion w.files w.now) (IsFound w.versions) w.versions, all_found w.versions)
+each_row w event Q k then = grind (arith, nat_tests, k.holds Versions, all-weaker (λ row. IsVersion w.files w.now row × IsFound w.versions row) Q w.versions, reached event w (plan w event) (allowed w event k), allowed w event k, follow event w w, held_past w, all-both (IsVersion w.files w.now) (IsFound w.versions) w.versions, all_found w.versions)
 
 pub only_due_leave : (w : World) (event : Event) → IsWellFormed w → AllByRecursion (StaysOrWasDue w event) w.versions
 only_due_leave w event k = grind (arith, nat_tests, each_row w event (StaysOrWasDue w event) k, (λ (row : VersionRow). any-found (is_version row.file row.number) (is_version row.file row.number) ((step w event).1).versions), found_passes, due_is_unread w, due_is_unmarked w)

@@ -1,7 +1,7 @@
 -- A file's rows in a well-formed world, and which are newer than one of them, by its place.
-use Rattle.ele_world.proofs.Basics.{◌≡◌, ℕ, ◌<◌, ◌≤◌, false, List, [], ◌∷◌, ◌++◌, Some, filter, arith, slice_get, IfSome, AllByRecursion, filter-append, IfSome_then, nat_tests, AllLater, all-weaker, all-filter, all-map, all-right, later-right}
+use Rattle.ele_world.proofs.Basics.{all-found, ◌≡◌, ℕ, ◌<◌, ◌≤◌, false, List, [], ◌∷◌, ◌++◌, Some, filter, arith, slice_get, IfSome, AllByRecursion, filter-append, IfSome_then, nat_tests, AllLater, all-weaker, all-filter, all-map, all-right, later-right}
 use Rattle.ele_world.proofs.Basics.{later-filter, later-around, filter-all, filter-none}
-use Rattle.ele_world.proofs.Words.{last_moment, IsPolicy, IsNearest, FileRow, VersionRow, FileView, view_of, is_version_of, is_newer, closings, beside, Now, Files, Versions, IsFile, IsVersion, ArePlaced, IsWellFormed, World, policy_of}
+use Rattle.ele_world.proofs.Words.{is_file, last_moment, IsPolicy, IsNearest, FileRow, VersionRow, FileView, view_of, is_version_of, is_newer, closings, beside, Now, Files, Versions, IsFile, IsVersion, ArePlaced, IsWellFormed, World, policy_of}
 
 -- the version didn't end before it closed
 abbrev pub IsLife : VersionRow → Type 0
@@ -41,8 +41,7 @@ pub policies_of : (w : World) → IsWellFormed w → AllByRecursion (λ row. IsP
 policies_of w k = all-weaker (IsFile w.made.files w.made.versions) (λ row. IsPolicy row.policy) w.files (λ row is. is.policy) (k.holds Files).each
 
 pub policy_is : (files : List FileRow) (file : ℕ) → AllByRecursion (λ row. IsPolicy row.policy) files → IfSome (policy_of files file) IsPolicy
-policy_is [] file all = tt
-policy_is (x ∷ xs) file all = grind (arith, nat_tests, policy_is xs file all.1)
+policy_is files file all = grind (arith, nat_tests, all-found (is_file file) (λ row. IsPolicy row.policy) files)
 
 -- each file of a world is so whose rows are
 pub view_in : (w : World) (file : ℕ) → AllByRecursion (λ row. IsPolicy row.policy) w.files → AllByRecursion IsLife w.versions → AllLater ArePlaced w.versions → IsView (view_of w file)

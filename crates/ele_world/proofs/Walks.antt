@@ -43,14 +43,12 @@ live_target-push rows row directory name target h = grind (arith, nat_tests, fin
 
 pub walk-push : (rows : List NameRow) (row : NameRow) (at : Target) (names : List (List ℕ)) (target : Target) → walk rows at names ≡ Ok target → walk (rows ++ row ∷ []) at names ≡ Ok target
 walk-push rows row at [] target h = h
-walk-push rows row (File file) (name ∷ names) target h = absurd cc
-walk-push rows row (Directory directory) (name ∷ names) target h = grind (arith, nat_tests, live_target-push, (λ (next : Target). walk-push rows row next names target))
+walk-push rows row at (name ∷ names) target h = grind (arith, nat_tests, live_target-push, (λ (next : Target). walk-push rows row next names target))
 
 -- a walk goes on from where it led
 pub walk-on : (rows : List NameRow) (at target : Target) (names more : List (List ℕ)) → walk rows at names ≡ Ok target → walk rows at (names ++ more) ≡ walk rows target more
 walk-on rows at target [] more h = let same : at ≡ target = cc in rw same refl
-walk-on rows (File file) target (name ∷ names) more h = absurd cc
-walk-on rows (Directory directory) target (name ∷ names) more h = grind (arith, nat_tests, (λ (next : Target). walk-on rows next target names more))
+walk-on rows at target (name ∷ names) more h = grind (arith, nat_tests, (λ (next : Target). walk-on rows next target names more))
 
 -- ---- a path's parent
 
