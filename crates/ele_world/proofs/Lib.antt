@@ -51,7 +51,6 @@ pub mod StepKeeps
 pub mod Moves
 pub mod Stays
 pub mod OpenStays
-pub mod MarkedStays
 pub mod Reverts
 pub mod Refused
 pub mod Returned
@@ -73,5 +72,4 @@ pub mod DropUsage
 pub mod NoIdle
 pub mod ReadsBack
 pub mod Known
-pub mod Covered
 pub mod OneLife

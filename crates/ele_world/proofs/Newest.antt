@@ -41,9 +41,6 @@ name_total = then_total (on_total (λ (k : Key). k.0) nat_cmp_total) (on_total (
 name_exact : CmpEqualImpliesEq name_cmp
 name_exact = exact_pairs nat_cmp (slice_cmp nat_cmp) exact_unsigned exact_bytes
 
-is_at_name : (d : ℕ) (n : List ℕ) (row : NameRow) → is_eq (name_cmp (key_of row) (d, n)) ≡ is_named d n row
-is_at_name d n row = grind (arith, nat_tests, unsigned_tied row.directory d, is_eq-slice_cmp row.name n)
-
 -- ---- the newest rows
 
 abbrev IsOwn : Entry → Type 0
@@ -60,7 +57,7 @@ sorted_rows rows = all_sorted name_total key_of (λ row. row) rows
 -- and a name has its last row
 last_same : (d : ℕ) (n : List ℕ) (rows : List NameRow) → last_passing (λ row. is_eq (name_cmp (key_of row) (d, n))) rows ≡ last_passing (is_named d n) rows
 last_same d n [] = refl
-last_same d n (row ∷ rows) = grind (arith, is_at_name d n row, last_same d n rows)
+last_same d n (row ∷ rows) = grind (arith, nat_tests, unsigned_tied row.directory d, is_eq-slice_cmp row.name n, last_same d n rows)
 
 -- ---- those that are dead, with what they stood for
 
