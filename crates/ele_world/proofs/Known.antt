@@ -94,6 +94,49 @@ module _ (file number : ℕ) (row : VersionRow) where
   change_closes w (DropIdle of) none found = grind (arith, none, found, dropped_versions w of)
   change_closes w change none found = absurd cc
 
+-- ---- moments before now, and now and later
+
+module _ (now : ℕ) (life : ℕ → ℕ → Type 0) where
+  abbrev CoveredBefore : NameRow → Type 0
+  CoveredBefore name = (file moment : ℕ) → name.target ≡ File file → covers moment name ≡ true → moment < now → life file moment
+
+  abbrev CoveredFrom : NameRow → Type 0
+  CoveredFrom name = (file moment : ℕ) → name.target ≡ File file → covers moment name ≡ true → now ≤ moment → life file moment
+
+  died : (directory : ℕ) (name : List ℕ) (rows : List NameRow) → AllByRecursion CoveredBefore rows → AllByRecursion CoveredBefore (update_first (is_live_name directory name) (dies now) rows)
+  died directory name [] all = tt
+  died directory name (row ∷ rows) all = grind (arith, nat_tests, false≢true, still_none, died directory name rows all.1)
+
+  born : (directory : ℕ) (name : List ℕ) (target : Target) (rows : List NameRow) → AllByRecursion CoveredBefore rows → AllByRecursion CoveredBefore (rows ++ born_row directory name target now ∷ [])
+  born directory name target rows all = all-push CoveredBefore rows (born_row directory name target now) all (λ file moment own covered less. grind (arith, nat_tests))
+
+change_covered : (w : World) (change : Change) (life : ℕ → ℕ → Type 0) → AllByRecursion (CoveredBefore w.now life) w.names → AllByRecursion (CoveredBefore w.now life) (after_change w change).names
+change_covered w (MakeDirectory directory name id policy) life all = born w.now life directory name (Directory id) w.names all
+change_covered w (EndName directory name) life all = died w.now life directory name w.names all
+change_covered w (AddName directory name target) life all = born w.now life directory name target w.names all
+change_covered w (MoveName from old to new target) life all = born w.now life to new target (update_first (is_live_name from old) (dies w.now) w.names) (died w.now life from old w.names all)
+change_covered w (EndFileName directory name of) life all = died w.now life directory name w.names all
+change_covered w (Revive directory name of) life all = born w.now life directory name (File of) w.names all
+change_covered w (MakeFile directory name id policy) life all = born w.now life directory name (File id) w.names all
+change_covered w (DropIdle of) life all = dropped (λ v. AllByRecursion (CoveredBefore w.now life) v.names) w of (λ idle. all-filter (CoveredBefore w.now life) (stays_named of) w.names all) (λ busy. all)
+change_covered w change life all = all
+
+-- ---- now and later
+
+-- a name that has no death is a live name of its file
+counted_live : (rows : List NameRow) → AllByRecursion (λ name. (file : ℕ) → is_live_name_of file name ≡ true → list_any (is_live_name_of file) rows ≡ true) rows
+counted_live [] = tt
+counted_live (row ∷ rows) = grind (arith, nat_tests, all-weaker, counted_live rows)
+
+current_covers : (w : World) (known : Known) → IsWellFormed w → ((file number : ℕ) (row : VersionRow) → row_of w file number ≡ Some row → known file number ≡ Some row)
+    → AllByRecursion (CoveredFrom w.now (HadLife known)) w.names
+current_covers w known k held = grind (arith, nat_tests, all-weaker (λ name. IsNameRow w.files w.now name × ((file : ℕ) → is_live_name_of file name ≡ true → is_live w file ≡ true)) (CoveredFrom w.now (HadLife known)) w.names, one, all-both (IsNameRow w.files w.now), (k.holds Names).each, counted_live w.names) where
+  life : (file moment : ℕ) → w.now ≤ moment → is_live w file ≡ true → HadLife known file moment
+  life file moment late live = grind (arith, nat_tests, k.holds Versions, has_current w file k live, last_is w file)
+
+  one : (name : NameRow) → IsNameRow w.files w.now name × ((file : ℕ) → is_live_name_of file name ≡ true → is_live w file ≡ true) → CoveredFrom w.now (HadLife known) name
+  one name h file moment own covered late = life file moment late (h.1 file (let dead = h.0.dead in grind (arith, nat_tests)))
+
 -- ---- one change
 
 -- so it was known and is the same or ended, or it is new
@@ -139,10 +182,6 @@ module _ (event : Event) (first w : World) (change : Change) (before : Known) (t
   pub becomes : (file number : ℕ) (old : VersionRow) → known_in w before file number ≡ Some old → Becomes w.now old (known_in after before file number)
   becomes file number old is = grind (arith, nat_tests, turned file number (known_past w (known_in w before) file number old t.formed t.known is), known_past w (known_in w before) file number old t.formed t.known is)
 
-  -- a new version's number wasn't given
-  not_given : (file number : ℕ) (row : VersionRow) → row_of w file number ≡ None → row_of after file number ≡ Some row → IsPast w file number → ⊥
-  not_given file number row none found past = grind (arith, nat_tests, turned)
-
   from : (file number : ℕ) (row : VersionRow) → known_in after before file number ≡ Some row → From w after (known_in w before) file number row
   from file number row is = by (known_in w before file number) refl where
     by : (o : Option VersionRow) → known_in w before file number ≡ o → From w after (known_in w before) file number row
@@ -168,64 +207,16 @@ module _ (event : Event) (first w : World) (change : Change) (before : Known) (t
     by (Was old_next e on) (New none found closed) =
         let it = held_row after file number row t.formed_after found in
         let past = known_past w (known_in w before) file later old_next t.formed t.known e in
-        absurd (not_given file number row none found (record { given = past.given; first = omega (arith, it.numbered, it.is.first); past = all-weaker (IsBehind file later) (IsBehind file number) w.files (λ of behind own. let more = behind own in omega (arith, more, less)) past.past }))
+        let before : IsPast w file number = record { given = past.given; first = omega (arith, it.numbered, it.is.first); past = all-weaker (IsBehind file later) (IsBehind file number) w.files (λ of behind own. let more = behind own in omega (arith, more, less)) past.past } in
+        absurd (grind (arith, nat_tests, none, found, turned file number before))
     by (Was old_next e on) (Was old f on_row) = rw on.closed (on_row.ended old_next.closed (t.known.placed file number later old old_next f e less))
 
--- ---- moments before now, and now and later
-
-module _ (now : ℕ) (life : ℕ → ℕ → Type 0) where
-  abbrev CoveredBefore : NameRow → Type 0
-  CoveredBefore name = (file moment : ℕ) → name.target ≡ File file → covers moment name ≡ true → moment < now → life file moment
-
-  abbrev CoveredFrom : NameRow → Type 0
-  CoveredFrom name = (file moment : ℕ) → name.target ≡ File file → covers moment name ≡ true → now ≤ moment → life file moment
-
-  died : (directory : ℕ) (name : List ℕ) (rows : List NameRow) → AllByRecursion CoveredBefore rows → AllByRecursion CoveredBefore (update_first (is_live_name directory name) (dies now) rows)
-  died directory name [] all = tt
-  died directory name (row ∷ rows) all = grind (arith, nat_tests, false≢true, still_none, died directory name rows all.1)
-
-  born : (directory : ℕ) (name : List ℕ) (target : Target) (rows : List NameRow) → AllByRecursion CoveredBefore rows → AllByRecursion CoveredBefore (rows ++ born_row directory name target now ∷ [])
-  born directory name target rows all = all-push CoveredBefore rows (born_row directory name target now) all (λ file moment own covered less. grind (arith, nat_tests))
-
-change_covered : (w : World) (change : Change) (life : ℕ → ℕ → Type 0) → AllByRecursion (CoveredBefore w.now life) w.names → AllByRecursion (CoveredBefore w.now life) (after_change w change).names
-change_covered w (MakeDirectory directory name id policy) life all = born w.now life directory name (Directory id) w.names all
-change_covered w (EndName directory name) life all = died w.now life directory name w.names all
-change_covered w (AddName directory name target) life all = born w.now life directory name target w.names all
-change_covered w (MoveName from old to new target) life all = born w.now life to new target (update_first (is_live_name from old) (dies w.now) w.names) (died w.now life from old w.names all)
-change_covered w (EndFileName directory name of) life all = died w.now life directory name w.names all
-change_covered w (Revive directory name of) life all = born w.now life directory name (File of) w.names all
-change_covered w (MakeFile directory name id policy) life all = born w.now life directory name (File id) w.names all
-change_covered w (DropIdle of) life all = dropped (λ v. AllByRecursion (CoveredBefore w.now life) v.names) w of (λ idle. all-filter (CoveredBefore w.now life) (stays_named of) w.names all) (λ busy. all)
-change_covered w change life all = all
-
--- ---- now and later
-
--- a name that has no death is a live name of its file
-counted_live : (rows : List NameRow) → AllByRecursion (λ name. (file : ℕ) → is_live_name_of file name ≡ true → list_any (is_live_name_of file) rows ≡ true) rows
-counted_live [] = tt
-counted_live (row ∷ rows) = grind (arith, nat_tests, all-weaker, counted_live rows)
-
-current_covers : (w : World) (known : Known) → IsWellFormed w → ((file number : ℕ) (row : VersionRow) → row_of w file number ≡ Some row → known file number ≡ Some row)
-    → AllByRecursion (CoveredFrom w.now (HadLife known)) w.names
-current_covers w known k held = grind (arith, nat_tests, all-weaker (λ name. IsNameRow w.files w.now name × ((file : ℕ) → is_live_name_of file name ≡ true → is_live w file ≡ true)) (CoveredFrom w.now (HadLife known)) w.names, one, all-both (IsNameRow w.files w.now), (k.holds Names).each, counted_live w.names) where
-  life : (file moment : ℕ) → w.now ≤ moment → is_live w file ≡ true → HadLife known file moment
-  life file moment late live = grind (arith, nat_tests, k.holds Versions, has_current w file k live, last_is w file)
-
-  one : (name : NameRow) → IsNameRow w.files w.now name × ((file : ℕ) → is_live_name_of file name ≡ true → is_live w file ≡ true) → CoveredFrom w.now (HadLife known) name
-  one name h file moment own covered late = life file moment late (h.1 file (let dead = h.0.dead in grind (arith, nat_tests)))
-
--- ---- a change
-
-module _ (event : Event) (first w : World) (change : Change) (before : Known) (t : IsTurn event first w change before) where
-  abbrev known : Known
-  known = known_in (after_change w change) before
-
-  covered_on : (after_change w change).now ≤ w.now → AllByRecursion (IsCovered known) (after_change w change).names
-  covered_on same = all-weaker (λ name. CoveredBefore w.now (HadLife known) name × CoveredFrom (after_change w change).now (HadLife known) name) (IsCovered known) (after_change w change).names
+  covered_on : (after_change w change).now ≤ w.now → AllByRecursion (IsCovered (known_in after before)) after.names
+  covered_on same = all-weaker (λ name. CoveredBefore w.now (HadLife (known_in after before)) name × CoveredFrom after.now (HadLife (known_in after before)) name) (IsCovered (known_in after before)) after.names
       (λ name h file moment own covered. grind (arith, nat_tests, h.0 file moment own covered, h.1 file moment own covered, cases_lt moment w.now))
-      (all-both (CoveredBefore w.now (HadLife known)) (CoveredFrom (after_change w change).now (HadLife known)) (after_change w change).names
-      (change_covered w change (HadLife known) (all-weaker (IsCovered (known_in w before)) (CoveredBefore w.now (HadLife known)) w.names (λ name h file moment own covered less. let life = h file moment own covered in grind (arith, nat_tests, becomes event first w change before t file life.row.number life.row life.stood)) t.known.covered))
-      (current_covers (after_change w change) known t.formed_after (λ file number row found. rw found refl)))
+      (all-both (CoveredBefore w.now (HadLife (known_in after before))) (CoveredFrom after.now (HadLife (known_in after before))) after.names
+      (change_covered w change (HadLife (known_in after before)) (all-weaker (IsCovered (known_in w before)) (CoveredBefore w.now (HadLife (known_in after before))) w.names (λ name h file moment own covered less. let life = h file moment own covered in grind (arith, nat_tests, becomes file life.row.number life.row life.stood)) t.known.covered))
+      (current_covers after (known_in after before) t.formed_after (λ file number row found. rw found refl)))
 
 -- where the time goes on, names and versions stay
 all_covered : (event : Event) (first w : World) (change : Change) (before : Known) → IsTurn event first w change before → AllByRecursion (IsCovered (known_in (after_change w change) before)) (after_change w change).names

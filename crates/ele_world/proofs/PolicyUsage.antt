@@ -8,13 +8,6 @@ use Rattle.ele_world.proofs.Files.{policy_of-put_other}
 use Rattle.ele_world.proofs.Splits.{file_moves, passing_split, same_usage}
 use Rattle.ele_world.proofs.Usages.{only_at_is}
 
--- ---- kinds
-
-same_kind : (k : Kind) → is_kind k k ≡ true
-same_kind k = grind (arith)
-
--- ---- usage
-
 module _ (w : World) (file : ℕ) (was policy : Policy) (k : IsWellFormed w) (filed : policy_of w.files file ≡ Some was) where
   abbrev files : List FileRow
   files = update_first (is_file file) (put_under policy) w.files
@@ -43,4 +36,4 @@ module _ (w : World) (file : ℕ) (was policy : Policy) (k : IsWellFormed w) (fi
   unfolding usage_of
   file_within =
       let whole = passing_split file (is_file_of w.files (kind_of was)) w.versions w.drafts in
-      grind (arith, nat_tests, whole, filed, its, same_kind (kind_of was), length-filter, sum_by-found)
+      grind (arith, nat_tests, whole, filed, its, length-filter, sum_by-found)

@@ -19,18 +19,6 @@ due_beside v row at newer =
     not (is_protected v row at)
     && option_map_or (λ policy. option_map_or (λ ended. is_due_by policy row.closed (newer_at v newer) ended at) row.ended false) v.policy false
 
--- what a due row is
-record IsDue (v : FileView) (row : VersionRow) (at : ℕ) (newer : List ℕ) : Type 0 where
-  policy : Policy
-  governed : v.policy ≡ Some policy
-  ended : ℕ
-  is_ended : row.ended ≡ Some ended
-  by_then : ended ≤ at
-  goes : lets_go policy row.closed (newer_at v newer) (at - ended) ≡ true
-
-due_is : (v : FileView) (row : VersionRow) (at : ℕ) (newer : List ℕ) → due_beside v row at newer ≡ true → IsDue v row at newer
-due_is v row at newer h = grind (arith, nat_tests)
-
 closings-append : (xs ys : List VersionRow) → closings (xs ++ ys) ≡ closings xs ++ closings ys
 closings-append = map-append (λ (row : VersionRow). row.closed)
 
@@ -40,7 +28,7 @@ beside_more v row at xs more ys = grind (arith, nat_tests, lets_go_fewer)
 
 module _ (v : FileView) (xs : List VersionRow) (row : VersionRow) (ys : List VersionRow) (placed : AllLater Precedes (xs ++ row ∷ ys)) (life : IsLife row) (governed : IfSome v.policy IsPolicy) where
   before_stays : (x : VersionRow) (at : ℕ) → Precedes x row → due_in (with_rows v (xs ++ row ∷ ys)) row at ≡ true → due_in (with_rows v (xs ++ row ∷ ys)) x at ≡ due_in (with_rows v (xs ++ ys)) x at
-  before_stays x at before due = grind (arith, nat_tests, due_beside, closings, newer_before, closings-append, is_newer, due_is, newer_is, newer_without, lets_go_without)
+  before_stays x at before due = grind (arith, nat_tests, due_beside, closings, newer_before, closings-append, is_newer, newer_is, newer_without, lets_go_without)
 
   -- on whichever side of the row it stands
   pub others_stay : (x : VersionRow) (at : ℕ) → Precedes x row ⊎ Precedes row x → due_in (with_rows v (xs ++ row ∷ ys)) row at ≡ true → due_in (with_rows v (xs ++ row ∷ ys)) x at ≡ due_in (with_rows v (xs ++ ys)) x at
