@@ -5,7 +5,7 @@ use Rattle.ele_policy.specs.declared.policy.Kind.TheVariants as kinds
 use Rattle.ele_world.specs.Usage.{usage_of}
 use Rattle.ele_world.proofs.Elements.{find-updated}
 use Rattle.ele_world.proofs.Files.{policy_of-put_other}
-use Rattle.ele_world.proofs.Splits.{file_moves, passing_split, same_usage}
+use Rattle.ele_world.proofs.Splits.{file_moves, passing_split}
 use Rattle.ele_world.proofs.Usages.{only_at_is}
 
 module _ (w : World) (file : ℕ) (was policy : Policy) (k : IsWellFormed w) (filed : policy_of w.files file ≡ Some was) where
@@ -29,7 +29,7 @@ module _ (w : World) (file : ℕ) (was policy : Policy) (k : IsWellFormed w) (fi
   unfolding usage_of
   policy_usage kind =
       let moves = file_moves file (is_file_of w.files kind) (is_file_of files kind) (others_of kind) w.versions w.versions w.drafts w.drafts refl refl in
-      grind (arith, nat_tests, same_usage, only_at_is, moves, filed, find-updated, files_move kind)
+      grind (arith, nat_tests, only_at_is, moves, filed, find-updated, files_move kind)
 
   -- that much is there
   pub file_within : IsWithin (file_usage w.versions w.drafts file) (usage_of w (kind_of was))

@@ -22,10 +22,6 @@ due_beside v row at newer =
 closings-append : (xs ys : List VersionRow) → closings (xs ++ ys) ≡ closings xs ++ closings ys
 closings-append = map-append (λ (row : VersionRow). row.closed)
 
--- what is due beside fewer is due beside more
-beside_more : (v : FileView) (row : VersionRow) (at : ℕ) (xs : List ℕ) (more : ℕ) (ys : List ℕ) → due_beside v row at (xs ++ ys) ≡ true → due_beside v row at (xs ++ more ∷ ys) ≡ true
-beside_more v row at xs more ys = grind (arith, nat_tests, lets_go_fewer)
-
 module _ (v : FileView) (xs : List VersionRow) (row : VersionRow) (ys : List VersionRow) (placed : AllLater Precedes (xs ++ row ∷ ys)) (life : IsLife row) (governed : IfSome v.policy IsPolicy) where
   before_stays : (x : VersionRow) (at : ℕ) → Precedes x row → due_in (with_rows v (xs ++ row ∷ ys)) row at ≡ true → due_in (with_rows v (xs ++ row ∷ ys)) x at ≡ due_in (with_rows v (xs ++ ys)) x at
   before_stays x at before due = grind (arith, nat_tests, due_beside, closings, newer_before, closings-append, is_newer, newer_is, newer_without, lets_go_without)
@@ -36,7 +32,7 @@ module _ (v : FileView) (xs : List VersionRow) (row : VersionRow) (ys : List Ver
 
   -- and none is due without the row that wasn't with it
   pub no_more_due : (x : VersionRow) (at : ℕ) → Precedes x row ⊎ Precedes row x → due_in (with_rows v (xs ++ ys)) x at ≡ true → due_in (with_rows v (xs ++ row ∷ ys)) x at ≡ true
-  no_more_due x at (inl before) due = grind (arith, newer_before x xs row ys placed before, newer_without x xs row ys placed before, closings-append, beside_more v x at (closings (filter (is_newer x) xs)) row.closed (closings ys), due)
+  no_more_due x at (inl before) due = grind (arith, newer_before x xs row ys placed before, newer_without x xs row ys placed before, closings-append, lets_go_fewer, due)
   no_more_due x at (inr after) due = grind (arith, newer_behind x xs row ys after, due)
 
 -- ---- from one file to all
