@@ -56,10 +56,6 @@ held_row w file number row k found = grind (arith, nat_tests, k.holds Versions, 
 found_past : (w : World) (file number : ℕ) (row : VersionRow) → IsWellFormed w → row_of w file number ≡ Some row → IsPast w file number
 found_past w file number row k found = grind (arith, nat_tests, held_row w file number row k found, held_past w row k)
 
--- its end, if it has one, has come
-ended_row : (w : World) (row : VersionRow) → IsVersion w.files w.now row → is_none row.ended ≡ false → IsEndedBy w.now row
-ended_row w row is ended = grind (arith, nat_tests, false≢true)
-
 known_past : (w : World) (known : Known) (file number : ℕ) (row : VersionRow) → IsWellFormed w → AreKnown w known → known file number ≡ Some row → IsPast w file number
 known_past w known file number row k s is = grind (arith, nat_tests, s.gone file number row, found_past w file number)
 
@@ -177,7 +173,7 @@ module _ (event : Event) (first w : World) (change : Change) (before : Known) (t
     by (Some row) after e (Ended ended) = Ends row refl ended
     by o after e (Taken v take same none) =
         let found : row_of w file number ≡ Some take.row = ap (find (is_version file number)) (same ∙ take.same) ∙ take.found in
-        Goes take.row (sym e ∙ found) none (t.first_held file number take.row take.found) (ended_row w take.row (held_row w file number take.row t.formed found).is take.ended)
+        Goes take.row (sym e ∙ found) none (t.first_held file number take.row take.found) (let is = (held_row w file number take.row t.formed found).is in grind (arith, nat_tests, is, take.ended, false≢true))
 
   pub becomes : (file number : ℕ) (old : VersionRow) → known_in w before file number ≡ Some old → Becomes w.now old (known_in after before file number)
   becomes file number old is = grind (arith, nat_tests, turned file number (known_past w (known_in w before) file number old t.formed t.known is), known_past w (known_in w before) file number old t.formed t.known is)

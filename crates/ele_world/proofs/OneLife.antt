@@ -53,16 +53,12 @@ ever_known limits events bounds are =
 
 -- ---- one life
 
--- of two versions the one that had ended when the other closed doesn't live with it
-not_both : (moment : ℕ) (row next : VersionRow) → IsEndedBy next.closed row → lives_at moment row ≡ true → lives_at moment next ≡ true → ⊥
-not_both moment row next ended lives lives_next = grind (arith, nat_tests)
-
 module _ (first : World) (events : List Event) (k : IsWellFormed (run_of first events)) (s : AreKnown (run_of first events) (last_stood first events)) (file moment : ℕ) (life : HadLife (last_stood first events) file moment) where
   abbrev w : World
   w = run_of first events
 
   only : (number : ℕ) (other : VersionRow) → last_stood first events file number ≡ Some other → lives_at moment other ≡ true → number ≡ life.row.number
-  only number other stood lives = grind (arith, nat_tests, cases_lt number life.row.number, cases_lt life.row.number number, not_both moment other life.row, not_both moment life.row other)
+  only number other stood lives = grind (arith, nat_tests, stood, lives, life.stood, life.lived, cases_lt number life.row.number, cases_lt life.row.number number, s.placed file number life.row.number other life.row, s.placed file life.row.number number life.row other)
 
   -- a version that is found for the moment is this one
   found_is : (row : VersionRow) → find (had_life file moment) w.versions ≡ Some row → (row ≡ life.row) × (row_of w file life.row.number ≡ Some row)

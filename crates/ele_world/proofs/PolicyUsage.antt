@@ -19,11 +19,8 @@ module _ (w : World) (file : ℕ) (was policy : Policy) (k : IsWellFormed w) (fi
   others_of : (kind : Kind) (id : ℕ) → (id == file) ≡ false → is_file_of files kind id ≡ is_file_of w.files kind id
   others_of kind id apart = grind (arith, policy_of-put_other w.files file id policy apart)
 
-  abbrev one : Kind → FileRow → ℕ
-  one kind row = cond (is_of kind row) 1 0
-
   files_move : (kind : Kind) → length (filter (is_of kind) files) + cond (is_kind kind (kind_of was)) 1 0 ≡ length (filter (is_of kind) w.files) + cond (is_kind kind (kind_of policy)) 1 0
-  files_move kind = rw (length-filter (is_of kind) files, length-filter (is_of kind) w.files, ← its.2) (sum_by-update_first (one kind) (is_file file) (put_under policy) w.files its.0 its.1)
+  files_move kind = rw (length-filter (is_of kind) files, length-filter (is_of kind) w.files, ← its.2) (sum_by-update_first (λ (row : FileRow). cond (is_of kind row) 1 0) (is_file file) (put_under policy) w.files its.0 its.1)
 
   pub policy_usage : (kind : Kind) → plus (usage_of (after_change w (PutUnder file policy)) kind) (only_at (kind_of was) (file_usage w.versions w.drafts file) kind) ≡ plus (usage_of w kind) (only_at (kind_of policy) (file_usage w.versions w.drafts file) kind)
   unfolding usage_of
