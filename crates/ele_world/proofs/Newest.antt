@@ -70,9 +70,6 @@ dead_of newest = filter (λ (e : Entry). is_dead e.1) newest
 abbrev targets : List Entry → List (Key × Target)
 targets newest = map (λ (e : Entry). (e.0, e.1.target)) newest
 
-dead_sorted : (rows : List NameRow) → IsStrictlySortedBy name_cmp (keys_of (targets (dead_of (newest_rows rows))))
-dead_sorted rows = subst (IsStrictlySortedBy name_cmp) (sym (keys_of-map_values (λ (row : NameRow). row.target) (dead_of (newest_rows rows)))) (sorted-filter_entries name_cmp (λ (e : Entry). is_dead e.1) (newest_rows rows) (sorted_rows rows))
-
 dead_found : (rows : List NameRow) (d : ℕ) (n : List ℕ) → lookup (is_at (name_cmp (d, n))) (targets (dead_of (newest_rows rows))) ≡ last_dead rows d n
 dead_found rows d n =
     lookup-map_values (λ (row : NameRow). row.target) (is_at (name_cmp (d, n))) (dead_of (newest_rows rows))
@@ -95,6 +92,7 @@ pub restorable_is : (w : World) (items : List (ℕ × List ℕ × Target)) → I
     → filter_map (returning_name w) items ≡ restorable w
 unfolding restorable
 restorable_is w items up found =
+    let sorted = subst (IsStrictlySortedBy name_cmp) (sym (keys_of-map_values (λ (row : NameRow). row.target) (dead_of (newest_rows w.names)))) (sorted-filter_entries name_cmp (λ (e : Entry). is_dead e.1) (newest_rows w.names) (sorted_rows w.names)) in
     sym (filter_map-map (returning_entry w) as_entry items)
-    ∙ ap (filter_map (returning_entry w)) (entries_same name_total name_exact (map as_entry items) (targets (dead_of (newest_rows w.names))) up (dead_sorted w.names) (λ q. found q.0 q.1 ∙ sym (dead_found w.names q.0 q.1)))
+    ∙ ap (filter_map (returning_entry w)) (entries_same name_total name_exact (map as_entry items) (targets (dead_of (newest_rows w.names))) up sorted (λ q. found q.0 q.1 ∙ sym (dead_found w.names q.0 q.1)))
     ∙ dead_return w (newest_rows w.names) (newest_own w.names [] tt)
