@@ -3,19 +3,17 @@ use Rattle.ele_world.proofs.Basics.{nat_tests, ◌≡◌, ◌==◌, ℕ, ◌+◌
 use Rattle.ele_world.proofs.Words.{Kind, Policy, kind_of, is_kind, Usage, only_at, nothing, plus, is_idle, without_file, is_of, is_file_of, World, is_file, policy_of, DraftRow, FileRow, VersionRow}
 use Rattle.ele_world.specs.Usage.{usage_of}
 use Rattle.ele_world.proofs.Dropped.{IsIdle, idle_is, idle_versions, idle_drafts, policy_of-removed}
-use Rattle.ele_world.proofs.Splits.{file_moves, same_usage}
+use Rattle.ele_world.proofs.Splits.{file_moves}
 use Rattle.ele_world.proofs.Usages.{only_at_is}
 
 -- a file, and nothing of it
 abbrev pub one_file : Usage
 one_file = record { files = 1; versions = 0; bytes = 0; blocks = 0 }
 
-without_usage : (w : World) (file : ℕ) (k : Kind) → IsIdle w file → plus (usage_of (without_file w file) k) (cond (is_file_of w.files k file) one_file nothing) ≡ usage_of w k
-unfolding usage_of
-without_usage w file k idle =
-    let moves = file_moves file (is_file_of w.files k) (is_file_of (without_file w file).files k) (λ other apart. grind (arith, policy_of-removed w.files file other apart)) w.versions w.versions w.drafts w.drafts refl refl in
-    grind (arith, nat_tests, same_usage, moves, length-filter_removed (is_of k) (is_file file) w.files, filter-none (λ (row : VersionRow). row.file == file) w.versions (idle_versions w file idle), filter-none (λ (row : DraftRow). row.file == file) w.drafts (idle_drafts w file idle))
-
--- the same by the file's policy
+-- the file goes with all that it used, by its policy
 pub dropped_at : (w : World) (file : ℕ) (policy : Policy) → policy_of w.files file ≡ Some policy → is_idle w file ≡ true → (k : Kind) → plus (usage_of (without_file w file) k) (only_at (kind_of policy) one_file k) ≡ usage_of w k
-dropped_at w file policy filed idle k = grind (arith, nat_tests, only_at_is, without_usage, idle_is)
+unfolding usage_of
+dropped_at w file policy filed is k =
+    let idle = idle_is w file is in
+    let moves = file_moves file (is_file_of w.files k) (is_file_of (without_file w file).files k) (λ other apart. grind (arith, policy_of-removed w.files file other apart)) w.versions w.versions w.drafts w.drafts refl refl in
+    grind (arith, nat_tests, only_at_is, filed, moves, length-filter_removed (is_of k) (is_file file) w.files, filter-none (λ (row : VersionRow). row.file == file) w.versions (idle_versions w file idle), filter-none (λ (row : DraftRow). row.file == file) w.drafts (idle_drafts w file idle))

@@ -12,10 +12,6 @@ use Rattle.ele_world.proofs.RipeMoments.{due_from_ripe_of, free_ripe, protected_
 
 -- ---- a row's ripe moment, and that it is due from then on
 
--- the closings of the newer versions of its file
-abbrev pub newer_than : List VersionRow → VersionRow → List ℕ
-newer_than versions row = closings (filter (is_newer_of row.file row.number) versions)
-
 abbrev pub IsRipeOf : World → VersionRow → Option ℕ → Type 0
 IsRipeOf w row ripe = (ripe ≡ ripe_of w row) × IsDueFromRipe w row
 
@@ -45,7 +41,7 @@ module _ (w : World) (row : VersionRow) where
 
     -- of one whose file and end are known
     pub ripe-told : (policy : Policy) (ended : ℕ) (ripe : Option ℕ) → policy_of w.files row.file ≡ Some policy → IsPolicy policy → row.ended ≡ Some ended
-        → ((live : Bool) → ripe ≡ ripe_by policy row.closed (record { newer = newer_than w.versions row; live = live }) ended) → IsRipeOf w row ripe
+        → ((live : Bool) → ripe ≡ ripe_by policy row.closed (record { newer = closings (filter (is_newer_of row.file row.number) w.versions); live = live }) ended) → IsRipeOf w row ripe
     unfolding ripe_of
     ripe-told policy ended ripe filed given end is = grind (arith, nat_tests, is (is_live w row.file), filter-both (is_newer row) (is_version_of row.file) w.versions, free_ripe (view_of w row.file) row policy ended, protected_is w row, due_from_ripe_of w row)
 

@@ -18,10 +18,6 @@ pub all-filter_map : {X Y : Type 0} (P : X → Type 0) (Q : Y → Type 0) (h : X
 all-filter_map P Q h gives [] all = tt
 all-filter_map {X} {Y} P Q h gives (x ∷ xs) all = grind (arith, nat_tests, all-filter_map P Q h gives xs all.1)
 
-key_due : (w : World) (row : VersionRow) (key : Key) → IsFound w.versions row → due_key w row ≡ Some key → IsDueKey w key
-unfolding due_key
-key_due w row key found h = grind (arith, nat_tests)
-
 -- what holds of all keys holds of the first in their order
 first_held : (Q : Key → Type 0) (sorted keys : List Key) → IfSome (slice_get sorted 0) Q → AllByRecursion Q keys → IfSome (slice_get (fold (insert_key key_cmp) sorted keys) 0) Q
 first_held Q sorted [] before all = before
@@ -29,8 +25,8 @@ first_held Q [] (x ∷ xs) before all = first_held Q (x ∷ []) xs all.0 all.1
 first_held Q (y ∷ ys) (x ∷ xs) before all = grind (arith, nat_tests, first_held Q (insert_key key_cmp (y ∷ ys) x) xs)
 
 pub first_is_due : (w : World) (key : Key) → AllLater ArePlaced w.versions → first_due w ≡ Some key → IsDueKey w key
-unfolding scan
-first_is_due w key placed h = rw h at (first_held (IsDueKey w) [] (filter_map (due_key w) w.versions) tt (all-filter_map (IsFound w.versions) (IsDueKey w) (due_key w) (key_due w) w.versions (all_found w.versions placed)))
+unfolding scan due_key
+first_is_due w key placed h = rw h at (first_held (IsDueKey w) [] (filter_map (due_key w) w.versions) tt (all-filter_map (IsFound w.versions) (IsDueKey w) (due_key w) (λ row key found is. grind (arith, nat_tests)) w.versions (all_found w.versions placed)))
 
 -- and it is no later than each of them
 abbrev pub IsFirst : Option Key → Key → Type 0

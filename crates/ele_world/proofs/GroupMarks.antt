@@ -7,10 +7,7 @@ pub marks_tell : (rows : List GroupRow) (file closed : ℕ) (ended : Option ℕ)
 marks_tell [] file closed ended = refl
 marks_tell (row ∷ rows) file closed ended = grind (arith, nat_tests, list_any-append, marks_tell rows file closed ended)
 
--- where a file is forgotten, any other is in the groups that it was in
-member_forgotten : (row : GroupRow) (file other : ℕ) → (other == file) ≡ false → is_member other (forgets file row) ≡ is_member other row
-member_forgotten row file other apart = grind (arith, nat_tests, list_any-filter)
-
+-- where a file is forgotten, any other has the marks that it had
 pub marks_forgotten : (rows : List GroupRow) (file other : ℕ) → (other == file) ≡ false → marks_over (forgotten file rows) other ≡ marks_over rows other
 marks_forgotten [] file other apart = refl
-marks_forgotten (row ∷ rows) file other apart = grind (arith, nat_tests, member_forgotten, marks_forgotten rows file other apart)
+marks_forgotten (row ∷ rows) file other apart = grind (arith, nat_tests, list_any-filter (λ member. member == other) (λ member. not (member == file)) row.members, marks_forgotten rows file other apart)

@@ -1,13 +1,15 @@
--- What a history knows of versions: those that are held, and those that were removed as they last stood. One change.
-use Rattle.ele_world.proofs.Basics.{◌≡◌, ℕ, ◌-◌, ◌<◌, ◌≤◌, true, false, cond, List, [], Option, Some, None, refl, ap, sym, subst, ◌∙◌, arith, is_none, find}
-use Rattle.ele_world.proofs.Basics.{AllByRecursion, option_or, option_map, false≢true, nat_tests, all-found, find-insert_before, find-inserted, not_found, remove_first, all-not_found, all-remove_first, all-update_first, all-weaker, found_passes, AllLater}
-use Rattle.ele_world.proofs.Words.{Cell, current_cells, Change, Time, EndFileName, Revive, MakeFile, Append, Take, DropIdle, after_change, ended_at, next_version, with_end, with_file, with_name}
-use Rattle.ele_world.proofs.Words.{with_version, without_name, covers, lives_at, ArePlaced, IsVersion, Versions, IsWellFormed, World, is_live, is_version, is_version_after, next_of, Event, NameRow, File, VersionRow}
-use Rattle.ele_world.proofs.Dropped.{dropped, dropped_versions}
+-- What a history knows of versions: those that are held, and those that were removed as they last stood; at each moment that a name
+-- covers a version of its file lived. A change keeps that.
+use Rattle.ele_world.proofs.Basics.{◌≡◌, ℕ, ◌-◌, ◌<◌, ◌≤◌, true, false, cond, List, [], Option, Some, None, refl, ap, sym, subst, ◌∙◌, arith, is_none, find, AllByRecursion, option_or, option_map, false≢true, nat_tests, all-found, find-insert_before, find-inserted, not_found, remove_first, all-not_found, all-remove_first, all-update_first, all-weaker, found_passes, AllLater, ◌&&◌, ◌++◌, IfSome, ◌∷◌, inl, inr, ◌⊎◌, nat_le, list_any, cases_lt, update_first, all-filter, all-both, all-push}
+use Rattle.ele_world.proofs.Words.{Cell, current_cells, Change, Time, EndFileName, Revive, MakeFile, Append, Take, DropIdle, after_change, ended_at, next_version, with_end, with_file, with_name, with_version, without_name, covers, lives_at, ArePlaced, IsVersion, Versions, IsWellFormed, World, is_live, is_version, is_version_after, next_of, Event, NameRow, File, VersionRow, MakeDirectory, EndName, AddName, MoveName, born_row, dies, is_live_name, IsNameRow, Names, is_live_name_of, Target, Directory}
+use Rattle.ele_world.proofs.Dropped.{dropped, dropped_versions, stays_named}
 use Rattle.ele_world.proofs.May.{May}
 use Rattle.ele_world.proofs.Moves.{IsBehind, IsPast, change_past, Moves, row_of, found_updated, Same, Ended, Taken, change_moves}
 use Rattle.ele_world.proofs.Stays.{held_past}
 use Rattle.ele_world.proofs.Versions.{IsEndedBy, other_ended}
+use Rattle.ele_world.proofs.Currents.{has_current}
+use Rattle.ele_world.proofs.KeptRevived.{last_is}
+use Rattle.ele_world.proofs.NameParts.{still_none}
 
 -- each version that closed, as it last stood
 abbrev pub Known : Type 0
@@ -54,10 +56,6 @@ held_row w file number row k found = grind (arith, nat_tests, k.holds Versions, 
 found_past : (w : World) (file number : ℕ) (row : VersionRow) → IsWellFormed w → row_of w file number ≡ Some row → IsPast w file number
 found_past w file number row k found = grind (arith, nat_tests, held_row w file number row k found, held_past w row k)
 
--- its end, if it has one, has come
-ended_row : (w : World) (row : VersionRow) → IsVersion w.files w.now row → is_none row.ended ≡ false → IsEndedBy w.now row
-ended_row w row is ended = grind (arith, nat_tests, false≢true)
-
 known_past : (w : World) (known : Known) (file number : ℕ) (row : VersionRow) → IsWellFormed w → AreKnown w known → known file number ≡ Some row → IsPast w file number
 known_past w known file number row k s is = grind (arith, nat_tests, s.gone file number row, found_past w file number)
 
@@ -91,6 +89,49 @@ module _ (file number : ℕ) (row : VersionRow) where
   change_closes w (Take of taken) none found = grind (arith, none, found, all-remove_first (is_version of taken) (λ x. is_version file number x ≡ false) w.versions, all-not_found (is_version file number) w.versions, not_found (is_version file number) (remove_first (is_version of taken) w.versions))
   change_closes w (DropIdle of) none found = grind (arith, none, found, dropped_versions w of)
   change_closes w change none found = absurd cc
+
+-- ---- moments before now, and now and later
+
+module _ (now : ℕ) (life : ℕ → ℕ → Type 0) where
+  abbrev CoveredBefore : NameRow → Type 0
+  CoveredBefore name = (file moment : ℕ) → name.target ≡ File file → covers moment name ≡ true → moment < now → life file moment
+
+  abbrev CoveredFrom : NameRow → Type 0
+  CoveredFrom name = (file moment : ℕ) → name.target ≡ File file → covers moment name ≡ true → now ≤ moment → life file moment
+
+  died : (directory : ℕ) (name : List ℕ) (rows : List NameRow) → AllByRecursion CoveredBefore rows → AllByRecursion CoveredBefore (update_first (is_live_name directory name) (dies now) rows)
+  died directory name [] all = tt
+  died directory name (row ∷ rows) all = grind (arith, nat_tests, false≢true, still_none, died directory name rows all.1)
+
+  born : (directory : ℕ) (name : List ℕ) (target : Target) (rows : List NameRow) → AllByRecursion CoveredBefore rows → AllByRecursion CoveredBefore (rows ++ born_row directory name target now ∷ [])
+  born directory name target rows all = all-push CoveredBefore rows (born_row directory name target now) all (λ file moment own covered less. grind (arith, nat_tests))
+
+change_covered : (w : World) (change : Change) (life : ℕ → ℕ → Type 0) → AllByRecursion (CoveredBefore w.now life) w.names → AllByRecursion (CoveredBefore w.now life) (after_change w change).names
+change_covered w (MakeDirectory directory name id policy) life all = born w.now life directory name (Directory id) w.names all
+change_covered w (EndName directory name) life all = died w.now life directory name w.names all
+change_covered w (AddName directory name target) life all = born w.now life directory name target w.names all
+change_covered w (MoveName from old to new target) life all = born w.now life to new target (update_first (is_live_name from old) (dies w.now) w.names) (died w.now life from old w.names all)
+change_covered w (EndFileName directory name of) life all = died w.now life directory name w.names all
+change_covered w (Revive directory name of) life all = born w.now life directory name (File of) w.names all
+change_covered w (MakeFile directory name id policy) life all = born w.now life directory name (File id) w.names all
+change_covered w (DropIdle of) life all = dropped (λ v. AllByRecursion (CoveredBefore w.now life) v.names) w of (λ idle. all-filter (CoveredBefore w.now life) (stays_named of) w.names all) (λ busy. all)
+change_covered w change life all = all
+
+-- ---- now and later
+
+-- a name that has no death is a live name of its file
+counted_live : (rows : List NameRow) → AllByRecursion (λ name. (file : ℕ) → is_live_name_of file name ≡ true → list_any (is_live_name_of file) rows ≡ true) rows
+counted_live [] = tt
+counted_live (row ∷ rows) = grind (arith, nat_tests, all-weaker, counted_live rows)
+
+current_covers : (w : World) (known : Known) → IsWellFormed w → ((file number : ℕ) (row : VersionRow) → row_of w file number ≡ Some row → known file number ≡ Some row)
+    → AllByRecursion (CoveredFrom w.now (HadLife known)) w.names
+current_covers w known k held = grind (arith, nat_tests, all-weaker (λ name. IsNameRow w.files w.now name × ((file : ℕ) → is_live_name_of file name ≡ true → is_live w file ≡ true)) (CoveredFrom w.now (HadLife known)) w.names, one, all-both (IsNameRow w.files w.now), (k.holds Names).each, counted_live w.names) where
+  life : (file moment : ℕ) → w.now ≤ moment → is_live w file ≡ true → HadLife known file moment
+  life file moment late live = grind (arith, nat_tests, k.holds Versions, has_current w file k live, last_is w file)
+
+  one : (name : NameRow) → IsNameRow w.files w.now name × ((file : ℕ) → is_live_name_of file name ≡ true → is_live w file ≡ true) → CoveredFrom w.now (HadLife known) name
+  one name h file moment own covered late = life file moment late (h.1 file (let dead = h.0.dead in grind (arith, nat_tests)))
 
 -- ---- one change
 
@@ -132,14 +173,10 @@ module _ (event : Event) (first w : World) (change : Change) (before : Known) (t
     by (Some row) after e (Ended ended) = Ends row refl ended
     by o after e (Taken v take same none) =
         let found : row_of w file number ≡ Some take.row = ap (find (is_version file number)) (same ∙ take.same) ∙ take.found in
-        Goes take.row (sym e ∙ found) none (t.first_held file number take.row take.found) (ended_row w take.row (held_row w file number take.row t.formed found).is take.ended)
+        Goes take.row (sym e ∙ found) none (t.first_held file number take.row take.found) (let is = (held_row w file number take.row t.formed found).is in grind (arith, nat_tests, is, take.ended, false≢true))
 
   pub becomes : (file number : ℕ) (old : VersionRow) → known_in w before file number ≡ Some old → Becomes w.now old (known_in after before file number)
   becomes file number old is = grind (arith, nat_tests, turned file number (known_past w (known_in w before) file number old t.formed t.known is), known_past w (known_in w before) file number old t.formed t.known is)
-
-  -- a new version's number wasn't given
-  not_given : (file number : ℕ) (row : VersionRow) → row_of w file number ≡ None → row_of after file number ≡ Some row → IsPast w file number → ⊥
-  not_given file number row none found past = grind (arith, nat_tests, turned)
 
   from : (file number : ℕ) (row : VersionRow) → known_in after before file number ≡ Some row → From w after (known_in w before) file number row
   from file number row is = by (known_in w before file number) refl where
@@ -166,5 +203,27 @@ module _ (event : Event) (first w : World) (change : Change) (before : Known) (t
     by (Was old_next e on) (New none found closed) =
         let it = held_row after file number row t.formed_after found in
         let past = known_past w (known_in w before) file later old_next t.formed t.known e in
-        absurd (not_given file number row none found (record { given = past.given; first = omega (arith, it.numbered, it.is.first); past = all-weaker (IsBehind file later) (IsBehind file number) w.files (λ of behind own. let more = behind own in omega (arith, more, less)) past.past }))
+        let before : IsPast w file number = record { given = past.given; first = omega (arith, it.numbered, it.is.first); past = all-weaker (IsBehind file later) (IsBehind file number) w.files (λ of behind own. let more = behind own in omega (arith, more, less)) past.past } in
+        absurd (grind (arith, nat_tests, none, found, turned file number before))
     by (Was old_next e on) (Was old f on_row) = rw on.closed (on_row.ended old_next.closed (t.known.placed file number later old old_next f e less))
+
+  covered_on : (after_change w change).now ≤ w.now → AllByRecursion (IsCovered (known_in after before)) after.names
+  covered_on same = all-weaker (λ name. CoveredBefore w.now (HadLife (known_in after before)) name × CoveredFrom after.now (HadLife (known_in after before)) name) (IsCovered (known_in after before)) after.names
+      (λ name h file moment own covered. grind (arith, nat_tests, h.0 file moment own covered, h.1 file moment own covered, cases_lt moment w.now))
+      (all-both (CoveredBefore w.now (HadLife (known_in after before))) (CoveredFrom after.now (HadLife (known_in after before))) after.names
+      (change_covered w change (HadLife (known_in after before)) (all-weaker (IsCovered (known_in w before)) (CoveredBefore w.now (HadLife (known_in after before))) w.names (λ name h file moment own covered less. let life = h file moment own covered in grind (arith, nat_tests, becomes file life.row.number life.row life.stood)) t.known.covered))
+      (current_covers after (known_in after before) t.formed_after (λ file number row found. rw found refl)))
+
+-- where the time goes on, names and versions stay
+all_covered : (event : Event) (first w : World) (change : Change) (before : Known) → IsTurn event first w change before → AllByRecursion (IsCovered (known_in (after_change w change) before)) (after_change w change).names
+all_covered event first w (Time to) before t = t.known.covered
+all_covered event first w (DropIdle of) before t = covered_on event first w (DropIdle of) before t (grind (arith))
+all_covered event first w change before t = covered_on event first w change before t (omega arith)
+
+pub change_known : (event : Event) (first w : World) (change : Change) (before : Known) → IsTurn event first w change before → AreKnown (after_change w change) (known_in (after_change w change) before)
+change_known event first w change before t = record {
+  held = λ file number row found. rw found refl;
+  gone = gone_known event first w change before t;
+  placed = placed_on event first w change before t;
+  covered = all_covered event first w change before t;
+}

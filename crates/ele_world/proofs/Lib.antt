@@ -41,7 +41,6 @@ pub mod StepKeeps
 pub mod Moves
 pub mod Stays
 pub mod OpenStays
-pub mod MarkedStays
 pub mod Closes
 pub mod Outcomes
 pub mod Leads
@@ -62,5 +61,4 @@ pub mod DropUsage
 pub mod NoIdle
 pub mod ReadsBack
 pub mod Known
-pub mod Covered
 pub mod OneLife

@@ -27,10 +27,6 @@ module _ {K V R : Type 0} {cmp : K → K → Ordering} (o : IsTotalOrder cmp) (k
 
 -- ---- the listing
 
--- a name that was dead by the other's birth doesn't cover what that covers
-over : (o : Option ℕ) (death b t : ℕ) → o ≡ Some death → death ≤ b → b ≤ t → option_map_or (λ death. nat_lt t death) o true ≡ true → true ≡ false
-over o death b t is le up lives = let no : option_map_or (λ (death : ℕ). nat_lt t death) o true ≡ false = rw is (grind (arith, nat_tests)) in sym lives ∙ no
-
 module _ (d t : ℕ) where
   -- a row of the name that covers the moment
   abbrev stood : List ℕ → NameRow → Bool
@@ -38,7 +34,7 @@ module _ (d t : ℕ) where
 
   -- behind such a row there is no other
   alone : (n : List ℕ) (row : NameRow) (rows : List NameRow) → stood n row ≡ true → AllByRecursion (AreApart row) rows → find (stood n) rows ≡ None
-  alone n row rows is apart = grind (arith, nat_tests, not_found, all-weaker, bytes_eq-Decides, over)
+  alone n row rows is apart = grind (arith, nat_tests, not_found, all-weaker, bytes_eq-Decides)
 
   -- so the last that stood is the one
   listed_last : (n : List ℕ) (rows : List NameRow) → AllLater AreApart rows → option_map (λ (row : NameRow). row.target) (last_passing (λ row. is_eq (slice_cmp nat_cmp row.name n)) (filter (stood_in d t) rows)) ≡ target_at rows t d n

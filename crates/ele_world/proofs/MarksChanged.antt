@@ -27,9 +27,6 @@ none_any : {X : Type 0} (t : X → Bool) (xs : List X) → ((x : X) → t x ≡ 
 none_any t [] none = refl
 none_any t (x ∷ xs) none = grind (arith, none x, none_any t xs none)
 
-gone : (k : ℕ) (xs : List ℕ) → AreApart xs → list_any (λ x. x == k) (remove_first (λ x. x == k) xs) ≡ false
-gone k xs apart = any_but (λ x. x == k) k xs apart ∙ none_any (λ x. (x == k) && not (x == k)) xs (λ x. grind (arith, nat_tests))
-
 -- ---- rows of groups
 
 -- the file is one of these, and one of the marks covers
@@ -94,7 +91,7 @@ module _ (rows : List GroupRow) (name : List ℕ) (file closed : ℕ) (ended : O
 
   -- without the file what the other groups mark
   pub joined_still : (row : GroupRow) → find (is_group name) rows ≡ Some row → AreApart row.members → is_marked (without_member name file rows) file closed ended ≡ is_marked_without rows name None file closed ended
-  joined_still row found apart = still_changed name file closed ended rows named None (removes file) row found (grind (arith, nat_tests, gone file row.members apart, none_counts, found_passes))
+  joined_still row found apart = still_changed name file closed ended rows named None (removes file) row found (grind (arith, nat_tests, any_but (λ x. x == file) file row.members apart, none_any (λ x. (x == file) && not (x == file)) row.members (λ x. grind (arith, nat_tests)), none_counts, found_passes))
 
 -- and so without the group
 pub grouped_still : (rows : List GroupRow) (name : List ℕ) (file closed : ℕ) (ended : Option ℕ) → AllLater (λ (earlier : GroupRow) later. bytes_eq earlier.name later.name ≡ false) rows → is_marked (without_group name rows) file closed ended ≡ is_marked_without rows name None file closed ended

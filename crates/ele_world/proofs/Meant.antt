@@ -22,9 +22,6 @@ is_meant files versions file t row is = grind (arith, nat_tests, found_passes)
 pub meant_held : (w : World) (file : ℕ) (row : VersionRow) → IsMeant w.versions file row → is_held w row.file row.number ≡ true
 meant_held w file row is = any-found is.passes (is_version row.file row.number) w.versions row is.found (grind (arith, nat_tests))
 
-pub is_found : (w : World) (found : Result ℕ Refusal) (t : Tag) (row : VersionRow) → version_found w found t ≡ Ok row → IsMeant w.versions row.file row
-is_found w found t row is = grind (arith, nat_tests, is_meant w.files w.versions)
-
 -- the version that a tagged path means
 pub is_at : (w : World) (tagged : TaggedPath) (row : VersionRow) → version_at w tagged ≡ Ok row → IsMeant w.versions row.file row
-is_at w tagged row is = is_found w (file_at (walk_meant w tagged.path tagged.tag)) tagged.tag row is
+is_at w tagged row is = grind (arith, nat_tests, is_meant w.files w.versions)

@@ -41,9 +41,6 @@ name_total = then_total (on_total (λ (k : Key). k.0) nat_cmp_total) (on_total (
 name_exact : CmpEqualImpliesEq name_cmp
 name_exact = exact_pairs nat_cmp (slice_cmp nat_cmp) exact_unsigned exact_bytes
 
-is_at_name : (d : ℕ) (n : List ℕ) (row : NameRow) → is_eq (name_cmp (key_of row) (d, n)) ≡ is_named d n row
-is_at_name d n row = grind (arith, nat_tests, unsigned_tied row.directory d, is_eq-slice_cmp row.name n)
-
 -- ---- the newest rows
 
 abbrev IsOwn : Entry → Type 0
@@ -60,7 +57,7 @@ sorted_rows rows = all_sorted name_total key_of (λ row. row) rows
 -- and a name has its last row
 last_same : (d : ℕ) (n : List ℕ) (rows : List NameRow) → last_passing (λ row. is_eq (name_cmp (key_of row) (d, n))) rows ≡ last_passing (is_named d n) rows
 last_same d n [] = refl
-last_same d n (row ∷ rows) = grind (arith, is_at_name d n row, last_same d n rows)
+last_same d n (row ∷ rows) = grind (arith, nat_tests, unsigned_tied row.directory d, is_eq-slice_cmp row.name n, last_same d n rows)
 
 -- ---- those that are dead, with what they stood for
 
@@ -72,9 +69,6 @@ dead_of newest = filter (λ (e : Entry). is_dead e.1) newest
 
 abbrev targets : List Entry → List (Key × Target)
 targets newest = map (λ (e : Entry). (e.0, e.1.target)) newest
-
-dead_sorted : (rows : List NameRow) → IsStrictlySortedBy name_cmp (keys_of (targets (dead_of (newest_rows rows))))
-dead_sorted rows = subst (IsStrictlySortedBy name_cmp) (sym (keys_of-map_values (λ (row : NameRow). row.target) (dead_of (newest_rows rows)))) (sorted-filter_entries name_cmp (λ (e : Entry). is_dead e.1) (newest_rows rows) (sorted_rows rows))
 
 dead_found : (rows : List NameRow) (d : ℕ) (n : List ℕ) → lookup (is_at (name_cmp (d, n))) (targets (dead_of (newest_rows rows))) ≡ last_dead rows d n
 dead_found rows d n =
@@ -98,6 +92,7 @@ pub restorable_is : (w : World) (items : List (ℕ × List ℕ × Target)) → I
     → filter_map (returning_name w) items ≡ restorable w
 unfolding restorable
 restorable_is w items up found =
+    let sorted = subst (IsStrictlySortedBy name_cmp) (sym (keys_of-map_values (λ (row : NameRow). row.target) (dead_of (newest_rows w.names)))) (sorted-filter_entries name_cmp (λ (e : Entry). is_dead e.1) (newest_rows w.names) (sorted_rows w.names)) in
     sym (filter_map-map (returning_entry w) as_entry items)
-    ∙ ap (filter_map (returning_entry w)) (entries_same name_total name_exact (map as_entry items) (targets (dead_of (newest_rows w.names))) up (dead_sorted w.names) (λ q. found q.0 q.1 ∙ sym (dead_found w.names q.0 q.1)))
+    ∙ ap (filter_map (returning_entry w)) (entries_same name_total name_exact (map as_entry items) (targets (dead_of (newest_rows w.names))) up sorted (λ q. found q.0 q.1 ∙ sym (dead_found w.names q.0 q.1)))
     ∙ dead_return w (newest_rows w.names) (newest_own w.names [] tt)

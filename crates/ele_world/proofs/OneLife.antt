@@ -3,9 +3,8 @@ use Rattle.ele_world.proofs.Basics.{◌≡◌, ℕ, true, false, List, [], ◌�
 use Rattle.ele_world.proofs.Words.{Bounds, AreBounds, Change, after_change, after_changes, last_stood, HasOneLife, OneLife, run_of, IsEvent, plan, step, had_closed, had_life, held_or_forgotten, last_number, lives_at, version_living, ArePlaced, Versions, IsWellFormed, World, fresh_world, is_held, is_version, Event, Forgotten, VersionRow}
 use Rattle.ele_lists.proofs.Cuts.{any-found as first_passing}
 use Rattle.ele_world.proofs.Allowed.{allowed}
-use Rattle.ele_world.proofs.Covered.{change_known}
 use Rattle.ele_world.proofs.Keeps.{change_keeps, reached}
-use Rattle.ele_world.proofs.Known.{Known, known_in, HadLife, IsCovered, AreKnown, or_none}
+use Rattle.ele_world.proofs.Known.{change_known, Known, known_in, HadLife, IsCovered, AreKnown, or_none}
 use Rattle.ele_world.proofs.Moves.{row_of}
 use Rattle.ele_world.proofs.May.{MayAll}
 use Rattle.ele_world.proofs.StepKeeps.{fresh_is, step_keeps, run_keeps}
@@ -47,26 +46,19 @@ run_known w (event ∷ events) before are k s =
 abbrev nothing : Known
 nothing file number = None
 
-fresh_known : (limits : Bounds) → AreKnown (fresh_world limits) (known_in (fresh_world limits) nothing)
-fresh_known limits = grind (arith, nat_tests)
-
 ever_known : (limits : Bounds) (events : List Event) → AreBounds limits → AllByRecursion IsEvent events → AreKnown (run_of (fresh_world limits) events) (last_stood (fresh_world limits) events)
 ever_known limits events bounds are =
     let first = fresh_world limits in
-    subst (AreKnown (run_of first events)) (λ i file number. sym (or_none (last_stood first events file number)) i) (run_known first events nothing are (fresh_is limits bounds) (fresh_known limits))
+    subst (AreKnown (run_of first events)) (λ i file number. sym (or_none (last_stood first events file number)) i) (run_known first events nothing are (fresh_is limits bounds) (grind (arith, nat_tests)))
 
 -- ---- one life
-
--- of two versions the one that had ended when the other closed doesn't live with it
-not_both : (moment : ℕ) (row next : VersionRow) → IsEndedBy next.closed row → lives_at moment row ≡ true → lives_at moment next ≡ true → ⊥
-not_both moment row next ended lives lives_next = grind (arith, nat_tests)
 
 module _ (first : World) (events : List Event) (k : IsWellFormed (run_of first events)) (s : AreKnown (run_of first events) (last_stood first events)) (file moment : ℕ) (life : HadLife (last_stood first events) file moment) where
   abbrev w : World
   w = run_of first events
 
   only : (number : ℕ) (other : VersionRow) → last_stood first events file number ≡ Some other → lives_at moment other ≡ true → number ≡ life.row.number
-  only number other stood lives = grind (arith, nat_tests, cases_lt number life.row.number, cases_lt life.row.number number, not_both moment other life.row, not_both moment life.row other)
+  only number other stood lives = grind (arith, nat_tests, stood, lives, life.stood, life.lived, cases_lt number life.row.number, cases_lt life.row.number number, s.placed file number life.row.number other life.row, s.placed file life.row.number number life.row other)
 
   -- a version that is found for the moment is this one
   found_is : (row : VersionRow) → find (had_life file moment) w.versions ≡ Some row → (row ≡ life.row) × (row_of w file life.row.number ≡ Some row)

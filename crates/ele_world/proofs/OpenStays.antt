@@ -1,6 +1,6 @@
--- A version that a handle reads is held after any event.
-use Rattle.ele_world.proofs.Basics.{◌≡◌, inl, inr, ℕ, true, Some, sym, subst, ◌∙◌, arith, find, Ok, false≢true, nat_tests, all-found, found_passes, any-found}
-use Rattle.ele_world.proofs.Words.{StaysOrWasDue, OpenStays, step, IsHeldRead, Readers, World, is_handle, is_held, is_open, is_version, reads_by, reads_version, HandleRow, Reads, Version, VersionRow}
+-- A version that a handle reads, or that was current at a mark of a group with its file, is held after any event.
+use Rattle.ele_world.proofs.Basics.{◌≡◌, inl, inr, ℕ, true, Some, sym, subst, ◌∙◌, arith, find, Ok, false≢true, nat_tests, all-found, found_passes, any-found, all-weaker}
+use Rattle.ele_world.proofs.Words.{StaysOrWasDue, OpenStays, step, IsHeldRead, Readers, World, is_handle, is_held, is_open, is_version, reads_by, reads_version, HandleRow, Reads, Version, VersionRow, IsMarkedHeld, MarkedStays}
 use Rattle.ele_lists.proofs.Cuts.{any-found as first_passing}
 use Rattle.ele_world.proofs.Stays.{only_due_leave}
 
@@ -30,3 +30,6 @@ open_stays w event handle file number k is = by (all-found (is_version file numb
   by : StaysOrWasDue w event first.0 → is_held ((step w event).1) file number ≡ true
   by (inl still) = subst (λ f. is_held ((step w event).1) f number ≡ true) own.0 (subst (λ n. is_held ((step w event).1) first.0.file n ≡ true) own.1 still)
   by (inr leaves) = absurd (false≢true (sym leaves.unread ∙ rw (own.0, own.1) is_read))
+
+pub marked_stays : MarkedStays
+marked_stays w event k = grind (arith, nat_tests, all-weaker (StaysOrWasDue w event) (IsMarkedHeld w event) w.versions, only_due_leave w event k, false≢true)

@@ -5,15 +5,8 @@ use Rattle.ele_policy.specs.declared.policy.Kind.TheVariants as kinds
 use Rattle.ele_world.specs.Usage.{usage_of}
 use Rattle.ele_world.proofs.Elements.{find-updated}
 use Rattle.ele_world.proofs.Files.{policy_of-put_other}
-use Rattle.ele_world.proofs.Splits.{file_moves, passing_split, same_usage}
+use Rattle.ele_world.proofs.Splits.{file_moves, passing_split}
 use Rattle.ele_world.proofs.Usages.{only_at_is}
-
--- ---- kinds
-
-same_kind : (k : Kind) → is_kind k k ≡ true
-same_kind k = grind (arith)
-
--- ---- usage
 
 module _ (w : World) (file : ℕ) (was policy : Policy) (k : IsWellFormed w) (filed : policy_of w.files file ≡ Some was) where
   abbrev files : List FileRow
@@ -26,21 +19,18 @@ module _ (w : World) (file : ℕ) (was policy : Policy) (k : IsWellFormed w) (fi
   others_of : (kind : Kind) (id : ℕ) → (id == file) ≡ false → is_file_of files kind id ≡ is_file_of w.files kind id
   others_of kind id apart = grind (arith, policy_of-put_other w.files file id policy apart)
 
-  abbrev one : Kind → FileRow → ℕ
-  one kind row = cond (is_of kind row) 1 0
-
   files_move : (kind : Kind) → length (filter (is_of kind) files) + cond (is_kind kind (kind_of was)) 1 0 ≡ length (filter (is_of kind) w.files) + cond (is_kind kind (kind_of policy)) 1 0
-  files_move kind = rw (length-filter (is_of kind) files, length-filter (is_of kind) w.files, ← its.2) (sum_by-update_first (one kind) (is_file file) (put_under policy) w.files its.0 its.1)
+  files_move kind = rw (length-filter (is_of kind) files, length-filter (is_of kind) w.files, ← its.2) (sum_by-update_first (λ (row : FileRow). cond (is_of kind row) 1 0) (is_file file) (put_under policy) w.files its.0 its.1)
 
   pub policy_usage : (kind : Kind) → plus (usage_of (after_change w (PutUnder file policy)) kind) (only_at (kind_of was) (file_usage w.versions w.drafts file) kind) ≡ plus (usage_of w kind) (only_at (kind_of policy) (file_usage w.versions w.drafts file) kind)
   unfolding usage_of
   policy_usage kind =
       let moves = file_moves file (is_file_of w.files kind) (is_file_of files kind) (others_of kind) w.versions w.versions w.drafts w.drafts refl refl in
-      grind (arith, nat_tests, same_usage, only_at_is, moves, filed, find-updated, files_move kind)
+      grind (arith, nat_tests, only_at_is, moves, filed, find-updated, files_move kind)
 
   -- that much is there
   pub file_within : IsWithin (file_usage w.versions w.drafts file) (usage_of w (kind_of was))
   unfolding usage_of
   file_within =
       let whole = passing_split file (is_file_of w.files (kind_of was)) w.versions w.drafts in
-      grind (arith, nat_tests, whole, filed, its, same_kind (kind_of was), length-filter, sum_by-found)
+      grind (arith, nat_tests, whole, filed, its, length-filter, sum_by-found)

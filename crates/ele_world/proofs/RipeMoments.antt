@@ -18,17 +18,16 @@ never_ripe v row None e = refl
 never_ripe v row (Some policy) None = refl
 never_ripe v row (Some policy) (Some ended) = never_due (candidates policy ended)
 
-due_from_ripe_in : (v : FileView) (row : VersionRow) (at : ℕ) → IfSome v.policy IsPolicy → at ≤ last_moment → due_in v row at ≡ option_map_or (λ ripe. nat_le ripe at) (ripe_in v row) false
-unfolding ripe_by
-due_from_ripe_in v row at governed fits = by (is_protected v row at) v.policy row.ended governed where
+-- of any rows, whose policies are such as can be given
+pub due_from_ripe_of : (w : World) (row : VersionRow) → IfSome (policy_of w.files row.file) IsPolicy → IsDueFromRipe w row
+unfolding is_due_at ripe_of ripe_by
+due_from_ripe_of w row governed at fits = by (is_protected v row at) v.policy row.ended governed where
+  v : FileView
+  v = view_of w row.file
+
   by : (b : Bool) (p : Option Policy) (e : Option ℕ) → IfSome p IsPolicy → due_by b v row p e at ≡ option_map_or (λ ripe. nat_le ripe at) (ripe_if b v row p e) false
   by true p e given = rw (never_ripe v row p e) refl
   by false p e given = grind (arith, due_from)
-
--- of any rows, whose policies are such as can be given
-pub due_from_ripe_of : (w : World) (row : VersionRow) → IfSome (policy_of w.files row.file) IsPolicy → IsDueFromRipe w row
-unfolding is_due_at ripe_of
-due_from_ripe_of w row governed at fits = due_from_ripe_in (view_of w row.file) row at governed fits
 
 pub ripens : (w : World) → IsWellFormed w → (row : VersionRow) → IsDueFromRipe w row
 ripens w k row = due_from_ripe_of w row (view_is w k row.file).governed

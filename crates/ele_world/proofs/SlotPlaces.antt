@@ -51,14 +51,6 @@ module _ (t : ℕ → Bool) where
   passing_new versions drafts f s [] passes = refl
   passing_new versions drafts f s (cell ∷ cells) passes = grind (arith, nat_tests, new_places-cons (places versions drafts), list_any-append, list_any-flat_map, list_any-filter, none_other, passing_new versions drafts f (s + 1) cells passes)
 
-  -- one more version in front
-  pub different_version : (row : VersionRow) (versions : List VersionRow) (drafts : List DraftRow) → different_of t (row ∷ versions) drafts ≡ cond (t row.file) (new_places (places versions drafts) (places_from row.file 0 row.cells)) 0 + different_of t versions drafts
-  different_version row versions drafts = grind (arith, nat_tests, flat_map-cons, append_assoc, different_row row.file 0 row.cells, passing_new versions drafts row.file 0 row.cells)
-
-  -- one more draft in front
-  pub different_draft : (row : DraftRow) (drafts : List DraftRow) → different_of t [] (row ∷ drafts) ≡ cond (t row.file) (new_places (places [] drafts) (places_from row.file 0 row.cells)) 0 + different_of t [] drafts
-  different_draft row drafts = grind (arith, nat_tests, flat_map-cons, different_row row.file 0 row.cells, passing_new [] drafts row.file 0 row.cells)
-
 -- ---- one row after another
 
 -- the bytes of what is left of the cells
@@ -75,8 +67,8 @@ cell_places others file cells i cell lt is = grind (arith, nat_tests, drop_more,
 
 -- the places of what is left of the versions
 pub version_places : (t : ℕ → Bool) (versions : List VersionRow) (drafts : List DraftRow) (i : ℕ) (row : VersionRow) → i < length versions → row ≡ get_or versions i row → different_of t (drop i versions) drafts ≡ cond (t row.file) (new_places (places (take (length versions - (i + 1)) (drop (i + 1) versions)) drafts) (places_from row.file 0 row.cells)) 0 + different_of t (drop (i + 1) versions) drafts
-version_places t versions drafts i row lt is = grind (arith, nat_tests, drop_more versions i row lt, different_version t row (drop (i + 1) versions) drafts, take_all (length versions - (i + 1)) (drop (i + 1) versions), length-drop (i + 1) versions)
+version_places t versions drafts i row lt is = grind (arith, nat_tests, drop_more versions i row lt, flat_map-cons, append_assoc, different_row row.file 0 row.cells, passing_new t (drop (i + 1) versions) drafts row.file 0 row.cells, take_all (length versions - (i + 1)) (drop (i + 1) versions), length-drop (i + 1) versions)
 
 -- and of the drafts
 pub draft_places : (t : ℕ → Bool) (drafts : List DraftRow) (i : ℕ) (row : DraftRow) → i < length drafts → row ≡ get_or drafts i row → different_of t [] (drop i drafts) ≡ cond (t row.file) (new_places (places [] (take (length drafts - (i + 1)) (drop (i + 1) drafts))) (places_from row.file 0 row.cells)) 0 + different_of t [] (drop (i + 1) drafts)
-draft_places t drafts i row lt is = grind (arith, nat_tests, drop_more drafts i row lt, different_draft t row (drop (i + 1) drafts), take_all (length drafts - (i + 1)) (drop (i + 1) drafts), length-drop (i + 1) drafts)
+draft_places t drafts i row lt is = grind (arith, nat_tests, drop_more drafts i row lt, flat_map-cons, different_row row.file 0 row.cells, passing_new t [] (drop (i + 1) drafts) row.file 0 row.cells, take_all (length drafts - (i + 1)) (drop (i + 1) drafts), length-drop (i + 1) drafts)

@@ -30,9 +30,6 @@ filter_all t versions drafts = grind (arith, nat_tests, filter-append, filter_ro
 
 -- ---- usage splits by files
 
-pub same_usage : (a b : Usage) → a.files ≡ b.files → a.versions ≡ b.versions → a.bytes ≡ b.bytes → a.blocks ≡ b.blocks → a ≡ b
-same_usage a b files versions bytes blocks = grind (arith, nat_tests)
-
 abbrev pub rows_usage : List VersionRow → List DraftRow → Usage
 rows_usage versions drafts = record { files = 0; versions = length versions; bytes = bytes_in versions; blocks = different is_place (places versions drafts) }
 
@@ -45,7 +42,7 @@ own_usage file = passing (λ id. id == file)
 
 -- the rows of the files that pass and the others are the whole
 pub split_usage : (t : ℕ → Bool) (versions : List VersionRow) (drafts : List DraftRow) → rows_usage versions drafts ≡ plus (passing t versions drafts) (passing (λ id. not (t id)) versions drafts)
-split_usage t versions drafts = same_usage _ _ refl (length-split (λ (r : VersionRow). t r.file) versions) (split_bytes (λ r. t r.file) versions) (rw (← filter_all t versions drafts, ← filter_all (λ id. not (t id)) versions drafts) (split_different t (places versions drafts)))
+split_usage t versions drafts = grind (arith, nat_tests, length-split (λ (r : VersionRow). t r.file) versions, split_bytes (λ r. t r.file) versions, filter_all t versions drafts, filter_all (λ id. not (t id)) versions drafts, split_different t (places versions drafts))
 
 -- ---- a change of one file
 
@@ -75,4 +72,4 @@ pub file_moves : (file : ℕ) (t t' : ℕ → Bool) → ((id : ℕ) → (id == f
 file_moves file t t' same versions versions' drafts drafts' of_versions of_drafts =
     let was = passing_split file t versions drafts in
     let now = rw (others_pass (λ (r : VersionRow). r.file) file t t' same versions versions' of_versions, others_pass (λ (r : DraftRow). r.file) file t t' same drafts drafts' of_drafts) at (passing_split file t' versions' drafts') in
-    grind (arith, nat_tests, same_usage, was, now)
+    grind (arith, nat_tests, was, now)

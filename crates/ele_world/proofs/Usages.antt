@@ -9,7 +9,7 @@ use Rattle.ele_world.proofs.Created.{new_file, created, versions_before}
 use Rattle.ele_world.proofs.Files.{next_of-given}
 use Rattle.ele_world.proofs.Opened.{opened}
 use Rattle.ele_world.proofs.Others.{drafts-updated, drafts-opened, versions-removed}
-use Rattle.ele_world.proofs.Splits.{bytes_in-cons, file_moves, same_usage, split_usage}
+use Rattle.ele_world.proofs.Splits.{bytes_in-cons, file_moves, split_usage}
 
 -- ---- a change of one file
 
@@ -18,7 +18,7 @@ pub usage_changes : (file : ℕ) (w v : World) → ChangesOnly file w v → (k :
 unfolding usage_of
 usage_changes file w v only k =
     let moves = file_moves file (is_file_of w.files k) (is_file_of v.files k) (λ id apart. only.kinds k id) w.versions v.versions w.drafts v.drafts only.versions only.drafts in
-    grind (arith, nat_tests, same_usage, moves, only.files k, only.kinds k file, split_usage (λ id. id == file) w.versions w.drafts, split_usage (λ id. id == file) v.versions v.drafts, only.versions, only.drafts)
+    grind (arith, nat_tests, moves, only.files k, only.kinds k file, split_usage (λ id. id == file) w.versions w.drafts, split_usage (λ id. id == file) v.versions v.drafts, only.versions, only.drafts)
 
 -- what counts at its own kind alone
 pub only_at_is : (k kind : Kind) (usage : Usage) → only_at kind usage k ≡ cond (is_kind k kind) usage nothing
@@ -41,7 +41,7 @@ created_usage w directory name policy keeps k =
     let versions = filter-none (λ (r : VersionRow). r.file == id) w.versions (all-weaker (λ r. r.file < id) (λ r. (r.file == id) ≡ false) w.versions (λ r before. grind (arith, nat_tests)) (versions_before w keeps)) in
     let drafts = filter-none (λ (r : DraftRow). r.file == id) w.drafts (all-weaker (IsDraft w.files w.now) (λ r. (r.file == id) ≡ false) w.drafts (λ r h. grind (arith, nat_tests, h.there, next_of-given w.made.files w.made.versions w.files r.file (keeps.holds Files).each)) (keeps.holds Drafts).each) in
     let moves = file_moves id (is_file_of w.files k) (is_file_of v.files k) (λ other apart. grind (arith, nat_tests, kinds other)) w.versions v.versions w.drafts w.drafts (grind (arith, nat_tests, filter-append, append-nil)) refl in
-    grind (arith, nat_tests, same_usage, moves, kinds id, versions, drafts, filter-append, length-append)
+    grind (arith, nat_tests, moves, kinds id, versions, drafts, filter-append, length-append)
 
 -- ---- which changes are of one file
 

@@ -1,4 +1,4 @@
-use Rattle.ele_world.proofs.MarkedStays.{marked_stays}
+use Rattle.ele_world.proofs.OpenStays.{marked_stays}
 use Rattle.ele_world.proofs.laws.marked_stays.Goals as goal
 
 pub returns : goal.returns
