@@ -1,5 +1,5 @@
 -- Which keys the versions have, once a file has its next version: two came, and all others stayed.
-use Rattle.ele_core.proofs.Words.{ap, sym, ◌≡◌, ℕ, ◌<◌, ◌==◌, Bool, true, false, cond, not, ◌&&◌, ◌||◌, List, Option, Some, None, refl, ◌∙◌, and-false, arith, or-false, unwrap_or, option_and_then, AllByRecursion, option_map_or, false≢true, nat_tests, Cell, IsSound, NewKeys, Rows, world_of, IsQueued, is_entry, is_new, gained_moment, own_moment, new_keys, Key, has_key, rows_of, all-found, Policy, IsPolicy, FileRow, VersionRow, with_version, ripe_at, is_moment, near_moment, newest_of, is_marked, World, is_live, is_open, may_grow, next_of, policy_of, MayGrow, touches, next_before, next_after, newest_before, newest_was, newest_is, others_after, []}
+use Rattle.ele_core.proofs.Words.{◌≡◌, ℕ, ◌<◌, ◌==◌, Bool, true, false, cond, not, ◌&&◌, ◌||◌, List, Option, Some, None, refl, ◌∙◌, and-false, arith, or-false, unwrap_or, option_and_then, AllByRecursion, option_map_or, false≢true, nat_tests, Cell, IsSound, NewKeys, Rows, world_of, IsQueued, is_entry, is_new, gained_moment, own_moment, new_keys, Key, has_key, rows_of, all-found, Policy, IsPolicy, FileRow, VersionRow, with_version, ripe_at, is_moment, near_moment, newest_of, is_marked, World, is_live, is_open, may_grow, next_of, policy_of, MayGrow, touches, next_before, next_after, newest_before, newest_was, newest_is, others_after, []}
 use Rattle.ele_core.proofs.Following.{follows}
 use Rattle.ele_world.proofs.Words.{ripe_keeps}
 
@@ -47,27 +47,21 @@ module _ (w : World) (file opened : ℕ) (cells : List Cell) (k : MayGrow w file
   touched_with newest f n = (f == file) && ((n == next) || option_map_or (λ (row : VersionRow). n == row.number) newest false)
 
   -- none of them was there
+  next_absent : (f n m : ℕ) → (f == file) ≡ true → (n == next) ≡ true → is_moment m (ripe_at w f n) ≡ false
+  next_absent f n m own its =
+      let file_is : f ≡ file = grind (arith, nat_tests) in
+      let number_is : n ≡ next = grind (arith, nat_tests) in
+      rw (file_is, number_is, next_before w file opened cells k) refl
+
+  newest_absent : (row : VersionRow) (f n m : ℕ) → newest_of w.versions file ≡ Some row → (f == file) ≡ true → (n == row.number) ≡ true → is_moment m (came row) ≡ true → is_moment m (ripe_at w f n) ≡ false
+  newest_absent row f n m is own its comes =
+      let file_is : f ≡ file = grind (arith, nat_tests) in
+      let number_is : n ≡ row.number = grind (arith, nat_tests) in
+      rw (file_is, number_is) ((newest_gains row m is).wasnt comes)
+
   absent : (live : Bool) (j : Key) (newest : Option VersionRow) → newest_of w.versions file ≡ newest → comes_with live newest j ≡ true → is_moment j.ripe (ripe_at w j.file j.number) ≡ false
-  absent live j None e is = by (j.file == file) (j.number == next) refl refl (sym (ap (λ b. b || is_entry file next (own live) j) (and-false ((j.file == file) && (j.number == 0)))) ∙ is) where
-    by : (a c : Bool) → (j.file == file) ≡ a → (j.number == next) ≡ c → ((a && c) && is_moment j.ripe (own live)) ≡ true → is_moment j.ripe (ripe_at w j.file j.number) ≡ false
-    by false c f n is = absurd (false≢true is)
-    by true false f n is = absurd (false≢true is)
-    by true true f n is =
-        let file_is : j.file ≡ file = grind (arith, nat_tests) in
-        let number_is : j.number ≡ next = grind (arith, nat_tests) in
-        rw (file_is, number_is, next_before w file opened cells k) refl
-  absent live j (Some row) e is = by (j.file == file) (j.number == row.number) (j.number == next) refl refl refl is where
-    by : (a b c : Bool) → (j.file == file) ≡ a → (j.number == row.number) ≡ b → (j.number == next) ≡ c → (((a && b) && is_moment j.ripe (came row)) || ((a && c) && is_moment j.ripe (own live))) ≡ true → is_moment j.ripe (ripe_at w j.file j.number) ≡ false
-    by false b c f l n is = absurd (false≢true is)
-    by true false false f l n is = absurd (false≢true is)
-    by true b true f l n is =
-        let file_is : j.file ≡ file = grind (arith, nat_tests) in
-        let number_is : j.number ≡ next = grind (arith, nat_tests) in
-        rw (file_is, number_is, next_before w file opened cells k) refl
-    by true true false f l n is =
-        let file_is : j.file ≡ file = grind (arith, nat_tests) in
-        let number_is : j.number ≡ row.number = grind (arith, nat_tests) in
-        rw (file_is, number_is) ((newest_gains row j.ripe e).wasnt (sym (or-false (is_moment j.ripe (came row))) ∙ is))
+  absent live j None e is = grind (arith, nat_tests, and-false, or-false, false≢true, next_absent j.file j.number j.ripe)
+  absent live j (Some row) e is = grind (arith, nat_tests, and-false, or-false, false≢true, next_absent j.file j.number j.ripe, newest_absent row j.file j.number j.ripe e)
 
   module _ (queue after : List Key) (queued : IsQueued w queue) where
     -- and the newest one's

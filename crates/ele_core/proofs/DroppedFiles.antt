@@ -1,5 +1,5 @@
 -- What the drop of a file leaves of the rows, the keys and the book.
-use Rattle.ele_core.proofs.Words.{subst, ◌≡◌, IsQueued, is_moment, ℕ, ◌==◌, ◌<◌, true, not, filter, List, ◌∷◌, Some, None, refl, ap, sym, ◌∙◌, arith, find, AllByRecursion, nat_tests, world_of, IsSound, told_by, IsBooked, Rows, rows_of, remove_first-unfound, all-weaker, filter-all, Kind, Policy, kind_of, Book, sums_of, only_at, plus, IsWithin, DropIdle, is_idle, without_file, after_change, forgotten, usage_of, IsGroup, Groups, IsWellFormed, World, is_file, next_of, policy_of, GroupRow, File, dropped, only_at_is, usage_same, []}
+use Rattle.ele_core.proofs.Words.{subst, ◌≡◌, IsQueued, is_moment, ℕ, ◌==◌, ◌<◌, true, not, filter, List, ◌∷◌, Some, None, refl, ap, sym, ◌∙◌, arith, find, AllByRecursion, nat_tests, world_of, IsSound, told_by, IsBooked, Rows, rows_of, remove_first-unfound, all-weaker, filter-all, Kind, Policy, kind_of, Book, sums_of, only_at, plus, IsWithin, DropIdle, is_idle, without_file, after_change, forgotten, usage_of, IsGroup, Groups, IsWellFormed, World, is_file, next_of, policy_of, GroupRow, File, dropped, usage_same, []}
 use Rattle.ele_core.proofs.Booked.{booked, plus-cancel, same_kind}
 use Rattle.ele_core.proofs.NewNames.{other_target, unnamed}
 use Rattle.ele_lists.proofs.Edits.{all-not_found}
@@ -31,27 +31,22 @@ module _ (w : World) (file : ℕ) (k : IsWellFormed w) (none : policy_of w.files
 pub absent_stays : (rows : Rows) (file : ℕ) → IsSound rows → policy_of rows.files.files file ≡ None → world_of rows ≡ after_change (world_of rows) (DropIdle file)
 absent_stays rows file sound none = stays (world_of rows) file sound.formed none
 
--- ---- the book
-
--- what is idle has no key
+-- no key changes
 pub dropped_queue : (rows : Rows) (file : ℕ) → IsSound rows → is_idle (world_of rows) file ≡ true → IsQueued (without_file (world_of rows) file) rows.queue
 dropped_queue rows file sound idle =
     let w = world_of rows in
     let gone : after_change w (DropIdle file) ≡ without_file w file = rw idle refl in
     subst (λ (v : World). IsQueued v rows.queue) gone (λ k. sound.tracked.queue k ∙ ap (is_moment k.ripe) (sym (ripe_at_dropped w file k.file k.number)))
 
+-- ---- the book
+
 module _ (rows : Rows) (file : ℕ) (policy : Policy) (sound : IsSound rows) (filed : policy_of rows.files.files file ≡ Some policy) (idle : is_idle (world_of rows) file ≡ true) where
   -- its kind has it
   pub dropped_within : IsWithin one_file (sums_of rows.book (kind_of policy))
-  dropped_within =
-      let kind = kind_of policy in
-      let own : only_at kind one_file kind ≡ one_file = only_at_is kind kind one_file ∙ rw (same_kind kind) refl in
-      let had : plus (usage_of (without_file (world_of rows) file) kind) one_file ≡ sums_of rows.book kind = ap (plus (usage_of (without_file (world_of rows) file) kind)) (sym own) ∙ dropped_at (world_of rows) file policy filed idle kind ∙ sym (booked rows sound.tracked kind) in
-      rw (← had) (record { files = omega arith; versions = omega arith; bytes = omega arith; blocks = omega arith })
+  dropped_within = grind (arith, nat_tests, dropped_at (world_of rows) file policy filed idle (kind_of policy), booked rows sound.tracked (kind_of policy), same_kind)
 
   -- and has what the others of its kind use, once it is off
   pub dropped_book : (book : Book) → ((k : Kind) → plus (sums_of book k) (only_at (kind_of policy) one_file k) ≡ sums_of rows.book k) → IsBooked (rows_of (without_file (world_of rows) file)) book
   dropped_book book taken k =
-      plus-cancel (sums_of book k) (usage_of (without_file (world_of rows) file) k) (only_at (kind_of policy) one_file k)
-      (taken k ∙ booked rows sound.tracked k ∙ sym (dropped_at (world_of rows) file policy filed idle k))
-      ∙ usage_same (told_by (rows_of (without_file (world_of rows) file))) (without_file (world_of rows) file) refl refl refl k
+      let after = without_file (world_of rows) file in
+      grind (arith, nat_tests, plus-cancel (sums_of book k) (usage_of after k) (only_at (kind_of policy) one_file k), taken k, booked rows sound.tracked k, dropped_at (world_of rows) file policy filed idle k, usage_same (told_by (rows_of after)) after refl refl refl k)

@@ -7,13 +7,10 @@ pub mod Asked
 pub mod Appended
 pub mod NewNames
 pub mod Marked
-pub mod LinkedNames
 pub mod Made
 pub mod Kept
 pub mod Fresh
 pub mod Removed
-pub mod Passing
-pub mod Placed
 pub mod ClosedSteps
 pub mod ClosedSums
 pub mod DroppedFiles

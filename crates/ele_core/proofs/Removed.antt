@@ -13,8 +13,8 @@ removed_queue rows key queue sound first taken =
     entry_follows w (after_change w (Take key.file key.number)) rows.queue queue sound.tracked.queue key.file key.number one.others (rw (one.was, one.gone) taken)
 
 -- a well-formed world stays so
-pub removed_keeps : (w v : World) (key : Key) → first_due w ≡ Some key → v ≡ after_change w (Take key.file key.number) → IsWellFormed w → IsWellFormed v
-removed_keeps w v key first is k = subst IsWellFormed (sym is) (change_keeps CleanOne w w (Take key.file key.number) tt (takes w key k first) k)
+pub removed_keeps : (rows : Rows) (key : Key) (v : World) → IsSound rows → first_due (world_of rows) ≡ Some key → v ≡ after_change (world_of rows) (Take key.file key.number) → IsWellFormed v
+removed_keeps rows key v sound first is = let w = world_of rows in subst IsWellFormed (sym is) (change_keeps CleanOne w w (Take key.file key.number) tt (takes w key sound.formed first) sound.formed)
 
 -- ---- the book
 

@@ -1,8 +1,8 @@
 -- A file that has a name again, and a version like its last one.
-use Rattle.ele_core.proofs.Words.{◌≡◌, ℕ, ◌-◌, ◌<◌, ◌≤◌, Bool, true, false, cond, ◌||◌, List, ◌∷◌, length, Option, Some, None, is_some, refl, ap, sym, ◌∙◌, arith, find, list_any, option_map, option_map_or, nat_tests, content_of, longest_content, world_of, IsSound, NewKeys, IsQueued, is_new, new_keys, blocks_of, IsOwed, Rows, stamps_of, Key, has_key, Held, Became, cells_of_version, rows_of, all-found, found_passes, Book, Append, Revive, after_change, current_cells, next_version, with_name, Versions, World, is_held, next_of, FileRow, File, VersionRow, named_live, []}
+use Rattle.ele_core.proofs.Words.{◌≡◌, ℕ, ◌-◌, ◌<◌, ◌≤◌, Bool, true, false, ◌||◌, List, ◌∷◌, length, Option, None, is_some, refl, ap, sym, ◌∙◌, arith, find, list_any, option_map, option_map_or, nat_tests, content_of, longest_content, world_of, IsSound, NewKeys, IsQueued, is_new, new_keys, blocks_of, IsOwed, Rows, stamps_of, Key, has_key, Held, Became, cells_of_version, rows_of, all-found, found_passes, Book, Append, Revive, after_change, current_cells, next_version, with_name, Versions, World, is_held, next_of, FileRow, File, VersionRow, named_live, []}
 use Rattle.ele_core.proofs.Appended.{appended_queue}
 use Rattle.ele_core.proofs.ClosedSums.{HasAdded, version_owed}
-use Rattle.ele_core.proofs.LinkedNames.{queue_stays}
+use Rattle.ele_core.proofs.NewNames.{queue_stays}
 use Rattle.ele_lists.proofs.Cuts.{any-found}
 use Rattle.ele_world.proofs.KeptRevived.{again}
 use Rattle.ele_world.proofs.May.{MayRevive}
@@ -19,10 +19,7 @@ no_next x0 e = grind (arith, nat_tests)
 
 pub stamped : (p : VersionRow → Bool) (rows : List VersionRow) → is_some (option_map stamps_of (find p rows)) ≡ list_any p rows
 stamped p [] = refl
-stamped p (row ∷ rows) = elim (p row) as (λ b. is_some (option_map stamps_of (cond b (Some row) (find p rows))) ≡ (b || list_any p rows)) [
-  | true ↦ refl
-  | false ↦ stamped p rows
-]
+stamped p (row ∷ rows) = grind (arith, nat_tests, stamped p rows)
 
 -- ---- the version
 

@@ -1,5 +1,5 @@
 -- What the end of a file's name leaves of the keys and of the book.
-use Rattle.ele_core.proofs.Words.{◌≡◌, ℕ, ◌-◌, ◌<◌, true, false, cond, List, Some, None, refl, sym, subst, ◌∙◌, arith, find, count_by, nat_tests, IsQueued, IsRekeyed, end_moment, is_marked, near_moment, told_by, IsBooked, IsSound, Rows, world_of, Key, Held, current_ended, all-found, found_passes, any-count, count-update_first, Book, EndFileName, after_change, with_end, without_name, ripe_at, is_live_name, live_target, Names, World, is_live, is_live_name_of, is_open, is_version, next_of, policy_of, NameRow, File, ended_moment, no_moment, other_moments, target_live}
+use Rattle.ele_core.proofs.Words.{◌≡◌, ℕ, ◌-◌, ◌<◌, true, false, List, Some, None, sym, ◌∙◌, arith, find, count_by, nat_tests, IsQueued, IsRekeyed, end_moment, told_by, IsBooked, IsSound, Rows, world_of, Key, Held, current_ended, all-found, found_passes, any-count, count-update_first, Book, EndFileName, after_change, with_end, without_name, is_live_name, live_target, Names, World, is_live, is_live_name_of, is_version, next_of, NameRow, File, ended_moment, no_moment, other_moments, target_live}
 use Rattle.ele_core.proofs.Following.{entry_follows}
 use Rattle.ele_world.proofs.Currents.{HasCurrent, has_current}
 use Rattle.ele_world.proofs.EndUsage.{usage_ended}
@@ -36,9 +36,5 @@ module _ (rows : Rows) (directory : ℕ) (name : List ℕ) (file : ℕ) (sound :
   pub ended_queue : is_live (without_name w directory name) file ≡ false → (after : List Key) → IsRekeyed file (next_of rows.files.files file - 1) None (end_moment rows.groups rows.files file rows.moment) rows.queue after → IsQueued (record (without_name w directory name) { versions = with_end w file }) after
   ended_queue dead after edited =
       let current : HasCurrent w file = has_current w file sound.formed (target_live rows.names directory name (File file) stands) in
-      let v = after_change w (EndFileName directory name file) in
-      let is : v ≡ record (without_name w directory name) { versions = with_end w file } = rw dead refl in
-      let ends : end_moment rows.groups rows.files file rows.moment ≡ cond (is_open w.handles file (next_of w.files file - 1)) None (near_moment (is_marked w.groups file) (policy_of w.files file) None current.row.closed w.now) = rw (current.found, current.no_end) refl in
-      let moment : ripe_at v file (next_of w.files file - 1) ≡ end_moment rows.groups rows.files file rows.moment = ended_moment w directory name file current sound.formed dead ∙ sym ends in
-      subst (λ (u : World). IsQueued u after) is
-      (entry_follows w v rows.queue after sound.tracked.queue file (next_of w.files file - 1) (other_moments w directory name file sound.formed) (rw (no_moment w directory name file current, moment) edited))
+      let follows = entry_follows w (after_change w (EndFileName directory name file)) rows.queue after sound.tracked.queue file (next_of w.files file - 1) (other_moments w directory name file sound.formed) in
+      grind (arith, nat_tests, follows, ended_moment w directory name file current sound.formed dead, no_moment w directory name file current, current.found, current.no_end)

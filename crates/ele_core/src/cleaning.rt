@@ -113,7 +113,7 @@ fn remove(rows: &mut Rows, key: &Key)
 }
 
 /// Clean events again and again, until nothing is due or as many versions are removed as the budget allows.
-#[tactic(auto, using(crate::proofs::Words::nat_tests, crate::proofs::Passing::none_due, crate::proofs::Passing::some_due, ele_world::proofs::PassEnds::cleaned_none, ele_world::proofs::PassEnds::cleaned_more, ele_world::proofs::PassEnds::pass_finishes))]
+#[tactic(auto, using(crate::proofs::Words::nat_tests, ele_world::proofs::PassEnds::cleaned_none, ele_world::proofs::PassEnds::cleaned_more, ele_world::proofs::PassEnds::pass_finishes))]
 pub fn pass(rows: &mut Rows, budget: u64) -> PassEnd
     requires { IsSound rows.old }
     ensures end { EndsPass (world_of rows.old) budget result (world_of rows.new) }
@@ -129,7 +129,7 @@ pub fn pass(rows: &mut Rows, budget: u64) -> PassEnd
 }
 
 /// Whether one clean event removes a version.
-#[tactic(auto, using(crate::proofs::Words::nat_tests, crate::proofs::Passing::clean_keeps))]
+#[tactic(auto, using(crate::proofs::Words::nat_tests, crate::proofs::Kept::clean_keeps))]
 fn removes(rows: &mut Rows) -> bool
     requires { IsSound rows.old }
     ensures value { result ≡ is_some (first_due (world_of rows.old)) }

@@ -90,6 +90,7 @@ fn leave(rows: &mut Rows, handle: Handle, file: FileId) -> Reply
 
 /// A handle that reads a version is closed. With the last one that reads it the version's key comes again, where it has one. The
 /// key comes before the handle goes, so that one that is refused leaves all as it was, and goes again while others read.
+#[tactic(auto, using(crate::proofs::Words::nat_tests, crate::proofs::OpenedKeys::unread_queue))]
 fn unread(
     rows: &mut Rows,
     handle: Handle,

@@ -64,7 +64,7 @@ pub fn make_dir(rows: &mut Rows, path: &Path) -> Result<Reply, NoMemory>
 }
 
 /// The name of the directory at the path dies, if no name in it is live.
-#[tactic(auto, using(crate::proofs::Words::nat_tests, crate::proofs::LinkedNames::queue_stays, crate::proofs::Placed::placed_stands))]
+#[tactic(auto, using(crate::proofs::Words::nat_tests, crate::proofs::NewNames::queue_stays, crate::proofs::NewNames::placed_stands))]
 pub fn remove_dir(rows: &mut Rows, path: &Path) -> Reply
     requires { IsSound rows.old }
     ensures step { (result, world_of rows.new)

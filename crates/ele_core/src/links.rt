@@ -12,7 +12,7 @@ use ele_names::{Names, parent_now, placed_now, stands_in};
 use ele_world::{DirId, Name, NoMemory, Path, Refusal, Reply, Target, Which};
 
 /// What is there gets a name more, once nothing refuses it.
-#[tactic(auto, using(crate::proofs::Words::nat_tests, crate::proofs::LinkedNames::queue_stays))]
+#[tactic(auto, using(crate::proofs::Words::nat_tests, crate::proofs::NewNames::queue_stays))]
 pub fn add_name(
     rows: &mut Rows,
     directory: DirId,
@@ -66,7 +66,7 @@ fn is_taken(names: &Names, at: &(DirId, Name)) -> bool
 }
 
 /// The live name gives way to another one of what it stands for, once nothing refuses it.
-#[tactic(auto, using(crate::proofs::Words::nat_tests, crate::proofs::LinkedNames::queue_stays, crate::proofs::LinkedNames::dies_before, crate::proofs::Words::name_stands))]
+#[tactic(auto, using(crate::proofs::Words::nat_tests, crate::proofs::NewNames::queue_stays, crate::proofs::NewNames::dies_before, crate::proofs::Words::name_stands))]
 fn move_name(
     rows: &mut Rows,
     from: &(DirId, Name),
@@ -91,7 +91,7 @@ fn move_name(
 }
 
 /// What stands at the first path stands at the second one from now on.
-#[tactic(auto, using(crate::proofs::Words::nat_tests, crate::proofs::Placed::placed_stands))]
+#[tactic(auto, using(crate::proofs::Words::nat_tests, crate::proofs::NewNames::placed_stands))]
 pub fn rename(rows: &mut Rows, from: &Path, to: &Path) -> Result<Reply, NoMemory>
     requires { IsSound rows.old }
     ensures step { IfOk result (λ reply.

@@ -48,7 +48,7 @@ fn end_last_name(
 }
 
 /// The file's name dies, and with its last one its current version ends.
-#[tactic(auto, using(crate::proofs::Words::nat_tests, crate::proofs::LinkedNames::queue_stays, crate::proofs::Unlinked::others_live))]
+#[tactic(auto, using(crate::proofs::Words::nat_tests, crate::proofs::NewNames::queue_stays, crate::proofs::Unlinked::others_live))]
 fn end_name(rows: &mut Rows, directory: DirId, name: &Name, file: FileId) -> Result<(), NoMemory>
     requires sound { IsSound rows.old }
     requires meter { rows.old.meter ≡ 0 }
@@ -66,7 +66,7 @@ fn end_name(rows: &mut Rows, directory: DirId, name: &Name, file: FileId) -> Res
 }
 
 /// The name of the file at the path dies, and with its last one its current version ends.
-#[tactic(auto, using(crate::proofs::Words::nat_tests, crate::proofs::Placed::placed_stands))]
+#[tactic(auto, using(crate::proofs::Words::nat_tests, crate::proofs::NewNames::placed_stands))]
 pub fn unlink(rows: &mut Rows, path: &Path) -> Result<Reply, NoMemory>
     requires sound { IsSound rows.old }
     requires meter { rows.old.meter ≡ 0 }

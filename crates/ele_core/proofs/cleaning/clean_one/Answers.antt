@@ -4,6 +4,6 @@ use Rattle.ele_core.proofs.cleaning.clean_one.Goals as goal
 
 pub drop_idle-requires : goal.drop_idle-requires
 drop_idle-requires c = record {
-  formed = removed_keeps (world_of c.args.rows.now) (world_of c.remove.new.rows) c.in-Some.key (sym c.due_first.ensures ∙ c.in-Some.is) c.remove.ensures.world c.requires.sound.formed;
+  formed = removed_keeps c.args.rows.now c.in-Some.key (world_of c.remove.new.rows) c.requires.sound (sym c.due_first.ensures ∙ c.in-Some.is) c.remove.ensures.world;
   tracked = c.remove.ensures.tracked;
 }
