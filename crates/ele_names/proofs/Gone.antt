@@ -61,10 +61,7 @@ module _ (a : Inside) (kept : IsKept a.table a.lives) where
         leaves = rw c.values (leaves_dead row c.before c.behind (rw c.values at kept.is_table.apart) (dies moment row) refl)
 
         targets : (g k : ℕ) → is_member is_of (value_at t.rows.entries) g k ≡ is_member is_of (value_at es) g k
-        targets g k = ap (λ o. option_map_or (is_of g) o false) (now k) ∙ elim (is_at (nat_cmp s) k) as (λ b. is_at (nat_cmp s) k ≡ b → option_map_or (is_of g) (cond b (Some (dies moment row)) (value_at es k)) false ≡ is_member is_of (value_at es) g k) [
-          | true ↦ λ e. rw (← same_serial s k e, at) refl
-          | false ↦ λ e. refl
-        ] refl
+        targets g k = grind (arith, nat_tests, now k, same_serial s k, at)
 
         keys_are : keys_of t.rows.entries ≡ keys_of es
         keys_are = ap keys_of is ∙ c.set_keys (dies moment row)
