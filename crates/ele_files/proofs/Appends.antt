@@ -110,9 +110,6 @@ module _ (s : Store) (files : List File) (a : AllSessions) (kept : Keeps s files
         rows : rows_of (with_name (with_file (with_rows w (held_in s files a)) f.id f.policy) directory name (target.File f.id)) ≡ held_in s (files ++ f ∷ []) a
         rows = rw (more_rows, flat_map-append (rows_in s) files (f ∷ []), none_shown, append_nil (flat_map (rows_in s) files), next) refl
 
-pub some_found : {X : Type 0} (o : Option X) → IsSome o → o ≡ None → ⊥
-some_found o some none = cc
-
 -- what the files and the store are then
 pub record IsRestored (t : Store) (was : Held) (file restored now : ℕ) (live : Bool) (next : ℕ) (files : List File) (a : AllSessions) : Type 0 where
   pub keeps : Keeps t files a
@@ -122,7 +119,7 @@ pub record IsRestored (t : Store) (was : Held) (file restored now : ℕ) (live :
 module _ (s : Store) (files : List File) (a : AllSessions) (kept : Keeps s files a) (file number : ℕ) (some : IsSome (find (is_version file number) (held_in s files a).versions)) where
   -- the version's file is there
   pub not_missing : None ≡ position (is_id file) files → ⊥
-  not_missing none = some_found (find (is_version file number) (held_in s files a).versions) some (version_none s file number files kept.rise (no_file files file none))
+  not_missing none = grind (arith, some, version_none s file number files kept.rise (no_file files file none))
 
   module _ (i : ℕ) (f : File) (place : Some i ≡ position (is_id file) files) (is : f ≡ get_or files i f) (these : HeldRows) (rows_stay : these.rows ≡ f.log.rows) where
     abbrev at : IsReached files file i f
@@ -133,7 +130,7 @@ module _ (s : Store) (files : List File) (a : AllSessions) (kept : Keeps s files
 
     -- and its row
     pub not_lost : None ≡ find (is_numbered number) these.rows → ⊥
-    not_lost none = some_found (find (is_version file number) (held_in s files a).versions) some (rw (version_of s file number files kept.rise f at.found, ← rows_stay, ← none) refl)
+    not_lost none = grind (arith, some, none, rows_stay, version_of s file number files kept.rise f at.found)
 
     module _ (row : LogRow) (held : Some row ≡ find (is_numbered number) these.rows) where
       its_row : find (is_numbered number) f.log.rows ≡ Some row

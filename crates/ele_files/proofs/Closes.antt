@@ -73,10 +73,7 @@ module _ (s : Store) (files : List File) (ss : AllSessions) (handle file opened 
   rows = held_in s files ss
 
   pub is_last : IsLast ss handle file opened
-  is_last = by (list_any (is_writer file) (left_handles ss handle)) (find (is_draft file) ss.drafts) refl refl
-      (sym (ap changed_opening (last_shown s files ss handle file)) ∙ (sym (ap (option_and_then (λ f. changed_opening (last_draft rows handle f))) (ap result_ok writes)) ∙ ends)) where
-        by : (b : Bool) (o : Option Draft) → list_any (is_writer file) (left_handles ss handle) ≡ b → find (is_draft file) ss.drafts ≡ o → changed_opening (cond b None (option_map (draft_in s) o)) ≡ Some opened → IsLast ss handle file opened
-        by x0 o alone found is = grind (arith, nat_tests, handle_file_shown)
+  is_last = grind (arith, nat_tests, handle_file_shown, last_shown s files ss handle file, writes, ends)
 
   abbrev d : Draft
   d = is_last.draft

@@ -12,10 +12,7 @@ apart_behind file d drafts is later = all-weaker (λ (x : Draft). d.file < x.fil
 
 pub drafts_apart : (file : ℕ) (drafts : List Draft) → Rises (λ (d : Draft). d.file) drafts → AllByRecursion (λ (d : Draft). d.file ≢ file) (remove_first (is_draft file) drafts)
 drafts_apart file [] rise = tt
-drafts_apart file (x ∷ drafts) rise = elim (eqb x.file file) as (λ b. eqb x.file file ≡ b → AllByRecursion (λ (d : Draft). d.file ≢ file) (cond b drafts (x ∷ remove_first (is_draft file) drafts))) [
-  | true ↦ λ e. apart_behind file x drafts (grind (arith, nat_tests)) rise.0
-  | false ↦ λ e. (λ same. absurd (let yes : eqb x.file file ≡ true = grind (arith, nat_tests) in cc), drafts_apart file drafts rise.1)
-] refl
+drafts_apart file (x ∷ drafts) rise = grind (arith, nat_tests, apart_behind file x drafts, rise.0, drafts_apart file drafts rise.1)
 
 pub its_file : (file : ℕ) (drafts : List Draft) (d : Draft) → find (is_draft file) drafts ≡ Some d → d.file ≡ file
 its_file file drafts d found = let e = found_passes (is_draft file) drafts d found in grind (arith, nat_tests)
@@ -108,9 +105,7 @@ module _ (s : Store) (files : List File) (a : AllSessions) (kept : Keeps s files
           rw (is file, ← number) (rewritten s t files a b kept file r.was r.found r.layout map.renewed map.moves map.renews orderly.drafts_rise (change r.was.number) map.changed (h.0 ∙ ap (λ ds. record a { drafts = ds }) r.made))
 
     written : (handle offset : ℕ) (bytes : List ℕ) → Writes s t a b handle offset bytes → IsSeen t files b (written_by rows handle offset bytes)
-    written handle offset [] h = by (held.handle_file rows.handles handle) where
-      by : (o : Option ℕ) → IsSeen t files b (written_of rows o offset [])
-      by x0 = grind (arith, nat_tests, stays)
+    written handle offset [] h = grind (arith, nat_tests, stays h)
     written handle offset (byte ∷ bytes) h = rewrites handle _ (λ number. changed_by number offset (byte ∷ bytes)) (λ o. written_of rows o offset (byte ∷ bytes)) (λ file. refl)
         (λ file e r. record { moves = r.how.moves; renewed = _; renews = r.how.renews; changed = rw r.how.cells refl }) h
 

@@ -1,7 +1,8 @@
--- One file has other rows: as many, or one fewer.
-use Rattle.ele_files.proofs.Words.{find_position, AllByRecursion, AllLater, AllSessions, Bool, Draft, EndsInTime, File, FileRow, HeldRows, IsDraftKept, IsFileKept, IsRowOf, IsStocked, Keeps, List, LivesIn, LogRow, Moves, None, Precedes, Some, Stays, Store, VersionRow, [], all_found, all_not_found, all-remove_first, all-update_first, all-weaker, ap, arith, bucket_changes, content_of, file_row, filter, find, find-cut, flat_map, get_or, held_in, is_file, is_id, is_numbered, is_other, is_version, later-remove_first, later-update_first, length, local-remove_first, map, nat_tests, option_map, position, refl, remove_first, remove_first-map, remove_first_unfound, row_in, row_stock, rows_in, set, set-first, stock_of, sym, update_first, update_first-at, update_first-map, update_first_same, without, ℕ, ◌++◌, ◌<◌, ◌∙◌, ◌∷◌, ◌≡◌}
+-- One file has other rows, as many or one fewer, or another policy.
+use Rattle.ele_files.proofs.Words.{find_position, AllByRecursion, AllLater, AllSessions, Bool, Draft, EndsInTime, File, FileRow, HeldRows, IsDraftKept, IsFileKept, IsRowOf, IsStocked, Keeps, List, LivesIn, LogRow, Moves, None, Precedes, Some, Stays, Store, VersionRow, [], all_found, all_not_found, all-remove_first, all-update_first, all-weaker, ap, arith, bucket_changes, content_of, file_row, filter, find, find-cut, flat_map, get_or, held_in, is_file, is_id, is_numbered, is_other, is_version, later-remove_first, later-update_first, length, local-remove_first, map, nat_tests, option_map, position, refl, remove_first, remove_first-map, remove_first_unfound, row_in, row_stock, rows_in, set, set-first, stock_of, sym, update_first, update_first-at, update_first-map, update_first_same, without, ℕ, ◌++◌, ◌<◌, ◌∙◌, ◌∷◌, ◌≡◌, remove_first-key, later-weaker, Policy, PutUnder, changed_at, file_stock, next_of, update_first_unfound}
 use Rattle.ele_files.proofs.Rows.{file_row_found, file_of, tagged, no_file, its_id, own_version, same_number, version_of, version_none}
 use Rattle.ele_files.proofs.Stock.{exchanged, over, rows_stay, row_apart, row_lives, IsSeen, held_stays}
+use Rattle.ele_world.specs.Change as world
 
 -- two changes of what is found that are the same there
 pub update_first-alike : {X : Type 0} (p : X → Bool) (f g : X → X) (xs : List X) (x : X) → find p xs ≡ Some x → f x ≡ g x → update_first p f xs ≡ update_first p g xs
@@ -52,15 +53,6 @@ module _ (files : List File) (id : ℕ) (f g : File) (found : find (is_id id) fi
 
 -- ---- a version leaves its file, and its map the store
 
--- numbers rise, so a number is removed once
-others_stay : (number : ℕ) (row : LogRow) (rows : List LogRow) → row.number ≡ number → AllByRecursion (Precedes row) rows → filter (is_other number) rows ≡ rows
-others_stay number row [] is later = refl
-others_stay number row (x ∷ rows) is later = grind (arith, nat_tests, others_stay number row rows is later.1)
-
-filter_removes : (number : ℕ) (rows : List LogRow) → AllLater Precedes rows → filter (is_other number) rows ≡ remove_first (is_numbered number) rows
-filter_removes number [] order = refl
-filter_removes number (x ∷ rows) order = grind (arith, nat_tests, others_stay number x rows, order.0, filter_removes number rows order.1)
-
 -- the file that a search reached
 pub record IsReached (files : List File) (id i : ℕ) (f : File) : Type 0 where
   pub found : find (is_id id) files ≡ Some f
@@ -81,7 +73,7 @@ module _ (s : Store) (files : List File) (a : AllSessions) (kept : Keeps s files
   its_kept = all_found (is_id id) IsFileKept files f at.found kept.files_kept
 
   left : these.rows ≡ remove_first (is_numbered number) f.log.rows
-  left = rows ∙ filter_removes number f.log.rows its_kept.order.order
+  left = rows ∙ sym (remove_first-key (λ (row : LogRow). row.number) number f.log.rows (later-weaker Precedes (λ (x y : LogRow). x.number < y.number) f.log.rows (λ x y p. p.number) its_kept.order.order))
 
   left_kept : IsFileKept g
   left_kept = record {
@@ -126,3 +118,33 @@ module _ (s : Store) (files : List File) (a : AllSessions) (kept : Keeps s files
         }),
         rw (found_row, held) (ap (λ n. Some n) (kept.laws.long s row.cells lives)),
       )
+
+abbrev governed : Policy → File → File
+governed policy f = record f { policy = policy }
+
+-- what each element shows stays where it shows the same once it has changed
+pub flat_map-same : {X Y : Type 0} (h : X → List Y) (p : X → Bool) (g : X → X) (xs : List X) → ((x : X) → h (g x) ≡ h x) → flat_map h (update_first p g xs) ≡ flat_map h xs
+flat_map-same h p g [] same = refl
+flat_map-same h p g (x ∷ xs) same = grind (arith, nat_tests, flat_map-same h p g xs same)
+
+module _ (s : Store) (files : List File) (a : AllSessions) (kept : Keeps s files a) (id : ℕ) (policy : Policy) where
+  abbrev with_policy : List File → List File
+  with_policy files = update_first (is_id id) (governed policy) files
+
+  pub rows_after : map file_row (with_policy files) ≡ update_first (is_file id) (world.put_under policy) (map file_row files)
+  rows_after = sym (update_first-map file_row (is_file id) (is_id id) (λ x. refl) (world.put_under policy) (governed policy) (λ x. refl) files)
+
+  pub next_stays : (files : List File) (file : ℕ) → next_of (map file_row (with_policy files)) file ≡ next_of (map file_row files) file
+  next_stays [] file = refl
+  next_stays (x ∷ xs) file = grind (arith, nat_tests, is_file, next_stays xs file)
+
+  module _ (i : ℕ) (f : File) (place : Some i ≡ position (is_id id) files) (is : f ≡ get_or files i f) where
+    pub governs : IsSeen s (set files i (governed policy f)) a (changed_at (held_in s files a) 0 (PutUnder id policy ∷ []))
+    governs = rw (set-first (is_id id) (governed policy) files i f (governed policy f) (sym place) is refl) (record {
+      keeps =
+          let stocked : IsStocked s (stock_of (with_policy files) a.drafts) = rw (flat_map-same file_stock (is_id id) (governed policy) files (λ f. refl)) kept.stocked in
+          let files_kept = all-update_first (is_id id) IsFileKept IsFileKept (governed policy) files (λ f h. record { next = h.next; rows = h.rows; order = h.order }) (λ f h. h) kept.files_kept in
+          let drafts_kept = all-weaker (IsDraftKept files) (IsDraftKept (with_policy files)) a.drafts (λ d h. record { there = h.there; number = h.number ∙ sym (next_stays files d.file) }) kept.drafts_kept in
+          assumption (later-update_first (is_id id) (λ (x y : File). x.id < y.id) (governed policy) files (λ x y h. h) (λ x y h. h) kept.rise, stocked, files_kept, drafts_kept);
+      shows = rw (rows_after, flat_map-same (rows_in s) (is_id id) (governed policy) files (λ f. refl)) refl;
+    })

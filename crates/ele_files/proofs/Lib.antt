@@ -1,8 +1,7 @@
 pub mod Words
 pub mod Rows
-pub mod Exchanges
 pub mod Endings
-pub mod Governing
+pub mod Exchanges
 pub mod Drafts
 pub mod Stock
 pub mod Openings
@@ -10,6 +9,5 @@ pub mod Appends
 pub mod Drops
 pub mod Tagged
 pub mod Copies
-pub mod Counted
 pub mod Closes
 pub mod Lemmas

@@ -35,9 +35,7 @@ module _ (s : Store) (files : List File) (a : AllSessions) (kept : Keeps s files
 
   -- what a new draft begins with is what the map shows
   first_seen : option_map_or (λ row. row.cells) (find (is_version file (next_of (map file_row files) file - 1)) (flat_map (rows_in s) files)) [] ≡ shown s (first_map f)
-  first_seen = rw (its_next, version_of s file (f.next - 1) files kept.rise f found) (of_row (last_row f)) where
-    of_row : (o : Option LogRow) → option_map_or (λ row. row.cells) (option_map (row_in s f.id) o) [] ≡ shown s (cells_of o)
-    of_row o = grind arith
+  first_seen = rw (its_next, version_of s file (f.next - 1) files kept.rise f found) (grind arith)
 
   module _ (t : Store) (b : AllSessions) (at : ℕ) where
     abbrev new : Draft

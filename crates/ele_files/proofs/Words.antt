@@ -26,6 +26,7 @@ pub use Rattle.ele_lists.proofs.Cuts.{find-at, find-cut, flat_map-cut, remove_fi
 pub use Rattle.ele_lists.proofs.Edits.{all-any, all-both, all-found as all_found, all-insert_before, all-none, all-not_found as all_not_found, all-push, all-remove_first, all-update_first, all-weaker, find-remove_first, found_passes, later-push, later-remove_first, later-update_first, not_found}
 pub use Rattle.ele_lists.proofs.Ends.{all-last as all_last}
 pub use Rattle.ele_lists.proofs.Filters.{filter-all, filter-none as filter_none, find-filter}
+pub use Rattle.ele_lists.proofs.Keys.{remove_first-key}
 pub use Rattle.ele_lists.proofs.Places.{find-none, find-position as find_position, remove_first-none as remove_first_none, remove_first-position, set-first}
 pub use Rattle.ele_lists.proofs.Shown.{any-map, find-map, is_some-copied, insert_before-map, remove_first-map, update_first-map}
 pub use Rattle.ele_lists.proofs.Sums.{length-split, sum_by-around, sum_by-flat_map, sum_by-insert_before, sum_by-map, sum_by-remove_first, sum_by-same, sum_by-update_first, sum_by-update_same}

@@ -189,7 +189,7 @@ impl Files {
 
     /// How many different blocks the versions and drafts have: a slot that several have from one
     /// writer is one block.
-    #[tactic(auto, using(std::proofs::lemmas::Bool::Decides::nat_tests, crate::proofs::Counted::places_shown))]
+    #[tactic(auto, using(std::proofs::lemmas::Bool::Decides::nat_tests, crate::proofs::Copies::places_shown))]
     pub fn blocks(&self) -> u64
         ensures { result ≡ different is_place (places self.now.versions self.now.drafts) }
     {

@@ -1,11 +1,9 @@
 -- A row between others that dies, or leaves.
 use Rattle.ele_names.proofs.Words.{◌≡◌, ℕ, ◌-◌, ◌≤◌, ◌<◌, ◌^◌, Bool, true, false, cond, not, List, [], ◌∷◌, ◌++◌, length, filter, Some, None, Option, is_none, refl, sym, subst, ap, ◌∙◌, arith, length_append, nat_cmp, is_at, insert_entry, keys_of, values_of, remove_entry, option_map_or, nat_tests, true≢false, nat_cmp_total, map-append, update_first, value_at, all-append, all-around, all-mid, all-exchange, later-around, later-without, later-exchange, update_first-at, all-weaker, lookup-insert_entry, filter-all, index_change, IsSplitAt, split_at, all_keys_without, all_from_each, found_key, last_moment, NameRow, Target, is_named, is_live_name, is_target_file, live_target, live_at, Live, Lives, place_in, Inside, Table, AreCounted, AreNumbered, Leaves, IsKept, rows_of, ArePlaced, AreListed, names_of, number_in, Follows, dies, IsLast, IsLastBelow, is_member, is_of, is_live_of, live_of, newest_in, target_eq, AreChained, same_from_push, filter-append}
 use Rattle.ele_names.proofs.Added.{placed_same}
-use Rattle.ele_names.proofs.Apart.{named_and_live, named_dead, named_live, same_name}
+use Rattle.ele_names.proofs.Apart.{named_and_live, named_dead, named_live, same_name, row_known}
 use Rattle.ele_names.proofs.Chained.{chained_same}
-use Rattle.ele_names.proofs.Counts.{leaves_without, leaves_dead, live_one, target_without}
-use Rattle.ele_names.proofs.Live.{LiveRow, same_serial, stands_live}
-use Rattle.ele_names.proofs.Newest.{row_known}
+use Rattle.ele_names.proofs.Live.{leaves_without, leaves_dead, live_one, target_without, LiveRow, same_serial, stands_live}
 use Rattle.ele_names.proofs.Numbers.{named_place}
 use Rattle.ele_names.proofs.Numbering.{rises_without, gone_at}
 
@@ -63,10 +61,7 @@ module _ (a : Inside) (kept : IsKept a.table a.lives) where
         leaves = rw c.values (leaves_dead row c.before c.behind (rw c.values at kept.is_table.apart) (dies moment row) refl)
 
         targets : (g k : ℕ) → is_member is_of (value_at t.rows.entries) g k ≡ is_member is_of (value_at es) g k
-        targets g k = ap (λ o. option_map_or (is_of g) o false) (now k) ∙ elim (is_at (nat_cmp s) k) as (λ b. is_at (nat_cmp s) k ≡ b → option_map_or (is_of g) (cond b (Some (dies moment row)) (value_at es k)) false ≡ is_member is_of (value_at es) g k) [
-          | true ↦ λ e. rw (← same_serial s k e, at) refl
-          | false ↦ λ e. refl
-        ] refl
+        targets g k = grind (arith, nat_tests, now k, same_serial s k, at)
 
         keys_are : keys_of t.rows.entries ≡ keys_of es
         keys_are = ap keys_of is ∙ c.set_keys (dies moment row)

@@ -1,8 +1,6 @@
 pub mod Words
-pub mod Apart
 pub mod Numbers
-pub mod Newest
-pub mod Counts
+pub mod Apart
 pub mod Live
 pub mod Chained
 pub mod Given

@@ -1,6 +1,6 @@
--- The live rows by directory and name, where one comes or goes.
-use Rattle.ele_names.proofs.Words.{◌≡◌, ℕ, Bool, true, false, cond, List, Some, None, Option, is_none, refl, sym, ap, ◌∙◌, arith, option_and_then, option_map, option_map_or, nat_cmp, is_at, true≢false, false≢true, nat_tests, NameRow, Target, is_named, is_live_name, live_target, Live, Lives, AreCounted, AreNumbered, Leaves, live_at, name_eq, live_in}
-use Rattle.ele_names.proofs.Apart.{named_dead, named_live}
+-- The live rows by directory and name, and counts of them, where one comes or goes.
+use Rattle.ele_names.proofs.Words.{◌≡◌, ℕ, Bool, true, false, cond, List, Some, None, Option, is_none, refl, sym, ap, ◌∙◌, arith, option_and_then, option_map, option_map_or, nat_cmp, is_at, true≢false, false≢true, nat_tests, NameRow, Target, is_named, is_live_name, live_target, Live, Lives, AreCounted, AreNumbered, Leaves, live_at, name_eq, live_in, ◌+◌, ◌-◌, ◌==◌, ◌&&◌, not, nat_lt, [], ◌∷◌, ◌++◌, count_by, list_any, AllByRecursion, AllLater, all-append, later-around, all-any, all-weaker, sum_by-around, sum_by-same, any_count, IsKept, Table, live_of, rows_of, Directory, File, is_live_name_of, is_target_file, is_live_in, is_target_directory, is_live_directory, is_live_of, Follows, target_eq}
+use Rattle.ele_names.proofs.Apart.{named_dead, named_live, named_and_live, same_name}
 use Rattle.ele_names.proofs.Numbers.{exact, itself}
 
 pub same_serial : (a b : ℕ) → is_at (nat_cmp a) b ≡ true → a ≡ b
@@ -66,3 +66,66 @@ pub record LiveRow (at : ℕ → Option NameRow) (d : ℕ) (n : List ℕ) (s : �
 
 pub stands_live : (at : ℕ → Option NameRow) (lives : Lives) → AreNumbered at lives → (d : ℕ) (n : List ℕ) (live : Live Target) → live_at lives d n ≡ Some live → LiveRow at d n live.serial
 stands_live at lives numbered d n live found = grind (arith, nat_tests, numbered.each d n live found)
+
+-- what a test counts of one row that is live, or dead
+pub live_one : (a b : Bool) → b ≡ true → ◌≡◌ {A = ℕ} (cond (a && b) 1 0) (cond a 1 0)
+live_one a b h = grind (arith, nat_tests)
+
+pub dead_one : (a b : Bool) → b ≡ false → ◌≡◌ {A = ℕ} (cond (a && b) 1 0) 0
+dead_one a b h = grind (arith, nat_tests)
+
+-- what is live of a name, without a row that isn't
+target_around : (d : ℕ) (n : List ℕ) (before : List NameRow) (row : NameRow) (behind : List NameRow) → is_live_name d n row ≡ false → live_target (before ++ row ∷ behind) d n ≡ live_target (before ++ behind) d n
+target_around d n [] row behind h = grind (arith, nat_tests)
+target_around d n (b ∷ before) row behind h = grind (arith, nat_tests, target_around d n before row behind h)
+
+none_named : (d : ℕ) (n : List ℕ) (rows : List NameRow) → AllByRecursion (λ row. is_live_name d n row ≡ false) rows → live_target rows d n ≡ None
+none_named d n [] none = refl
+none_named d n (row ∷ rows) none = rw none.0 (none_named d n rows none.1)
+
+module _ (row : NameRow) (before behind : List NameRow) (apart : AllLater Follows (before ++ row ∷ behind)) where
+  module _ (d : ℕ) (n : List ℕ) where
+    earlier : is_live_name d n row ≡ true → AllByRecursion (λ b. is_live_name d n b ≡ false) before
+    earlier is = all-weaker (λ b. Follows b row) (λ b. is_live_name d n b ≡ false) before (λ b follows. grind (arith, nat_tests, is, named_and_live d n row, named_dead d n b, same_name d n b row, follows.apart)) (later-around Follows before row behind apart).0
+
+    later : is_live_name d n row ≡ true → AllByRecursion (λ b. is_live_name d n b ≡ false) behind
+    later is = all-weaker (Follows row) (λ b. is_live_name d n b ≡ false) behind (λ b follows. grind (arith, nat_tests, is, named_and_live d n row, named_dead d n b, same_name d n row b, follows.apart)) (later-around Follows before row behind apart).1
+
+    stands : (xs : List NameRow) → AllByRecursion (λ b. is_live_name d n b ≡ false) xs → is_live_name d n row ≡ true → live_target (xs ++ row ∷ behind) d n ≡ Some row.target
+    stands [] none is = rw is refl
+    stands (x ∷ xs) none is = rw none.0 (stands xs none.1 is)
+
+    its : is_live_name d n row ≡ true → live_target (before ++ row ∷ behind) d n ≡ Some row.target
+    its is = stands before (earlier is) is
+
+    named : live_target (before ++ behind) d n ≡ cond (is_live_name d n row) None (live_target (before ++ row ∷ behind) d n)
+    named = grind (arith, nat_tests, is_live_name, live_target, none_named, all-append, earlier, later, target_around)
+
+  pub leaves_without : Leaves row (before ++ row ∷ behind) (before ++ behind)
+  leaves_without = grind (arith, nat_tests, named, its, sum_by-around, is_live_in, is_live_of)
+
+  -- a dead row in its place
+  pub leaves_dead : (dead : NameRow) → is_none dead.death ≡ false → Leaves row (before ++ row ∷ behind) (before ++ dead ∷ behind)
+  leaves_dead dead died = grind (arith, nat_tests, named, target_around, named_dead, its, sum_by-around, is_live_in, dead_one, is_none, is_live_of, target_eq)
+
+-- nothing passes where the count is 0
+pub none_counted : {X : Type 0} (p : X → Bool) (xs : List X) → not (list_any p xs) ≡ (count_by p xs == 0)
+none_counted p xs = grind (arith, nat_tests, not, any_count, count_by, nat_lt)
+
+-- the names of a directory, found as those of the target
+pub directory_names : (table : Table) (lives : Lives) → IsKept table lives → (d : ℕ) → live_of table.places (Directory d) ≡ count_by (is_live_directory d) (rows_of table)
+directory_names table lives kept d = grind (arith, nat_tests, kept.targets (Directory d), sum_by-same, is_live_of, is_live_directory, all-any, is_none, target_eq, is_target_directory)
+
+-- and of a file
+pub file_names : (table : Table) (lives : Lives) → IsKept table lives → (f : ℕ) → live_of table.places (File f) ≡ count_by (is_live_name_of f) (rows_of table)
+file_names table lives kept f = grind (arith, nat_tests, kept.targets (File f), sum_by-same, is_live_of, is_live_name_of, all-any, is_none, target_eq, is_target_file)
+
+-- the counts by target, where a live row comes
+pub target_with : (t : Target) (row : NameRow) (was now : List NameRow) → Leaves row now was → is_none row.death ≡ true → (old new : ℕ) → old ≡ count_by (is_live_of t) was → new ≡ old + cond (target_eq row.target t) 1 0
+    → new ≡ count_by (is_live_of t) now
+target_with t row was now leaves lives old new counts changed = omega (arith, changed, counts, live_one (target_eq row.target t) (is_none row.death) lives, leaves.of_target t)
+
+-- or any row goes
+pub target_without : (t : Target) (row : NameRow) (was now : List NameRow) → Leaves row was now → (old new : ℕ) → old ≡ count_by (is_live_of t) was → new ≡ old - cond (is_live_of t row) 1 0
+    → new ≡ count_by (is_live_of t) now
+target_without t row was now leaves old new counts changed = omega (arith, changed, counts, leaves.of_target t)

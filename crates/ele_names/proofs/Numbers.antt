@@ -7,25 +7,19 @@ exact k q h = grind (arith, nat_tests, bytes_eq-Decides k.1 q.1)
 pub itself : (k : ℕ × List ℕ) → name_eq k k ≡ true
 itself k = grind (arith, nat_tests, bytes_eq-Decides)
 
-other : (k q x : ℕ × List ℕ) → k ≡ x → name_eq q x ≡ false → name_eq k q ≡ false
-other k q x same f = grind (arith, nat_tests, exact k q, itself)
-
 -- two names have one number if they are one
 pub one_place : (names : List (ℕ × List ℕ)) (k q : ℕ × List ℕ) → place_in names q.0 q.1 < length names → (place_in names k.0 k.1 == place_in names q.0 q.1) ≡ name_eq k q
 one_place [] k q inside = absurd (omega (arith, inside))
-one_place (x ∷ xs) k q inside = grind (arith, nat_tests, exact q x, exact k x, exact k q, itself, other k q x, one_place xs k q)
+one_place (x ∷ xs) k q inside = grind (arith, nat_tests, exact q x, exact k x, exact k q, itself, one_place xs k q)
 
 -- rows of one name have its number
 pub named_place : (names : List (ℕ × List ℕ)) (d : ℕ) (n : List ℕ) (row : NameRow) → is_named d n row ≡ true → number_in names row ≡ place_in names d n
 named_place names d n row named = ap (λ (k : ℕ × List ℕ). place_in names k.0 k.1) (exact (row.directory, row.name) (d, n) named)
 
-behind : {X : Type 0} (x : X) (xs : List X) (p : ℕ) → slice_get (x ∷ xs) (1 + p) ≡ slice_get xs p
-behind x xs p = grind arith
-
 -- a name with a number stands there
 pub at_place : (names : List (ℕ × List ℕ)) (d : ℕ) (n : List ℕ) → place_in names d n < length names → slice_get names (place_in names d n) ≡ Some (d, n)
 at_place [] d n inside = absurd (omega (arith, inside))
-at_place (x ∷ xs) d n inside = grind (arith, nat_tests, exact (d, n) x, behind x xs, at_place xs d n)
+at_place (x ∷ xs) d n inside = grind (arith, nat_tests, exact (d, n) x, at_place xs d n)
 
 -- and is one of them
 pub any_known : (names : List (ℕ × List ℕ)) (d : ℕ) (n : List ℕ) → place_in names d n < length names → list_any (name_eq (d, n)) names ≡ true
@@ -34,7 +28,7 @@ any_known (x ∷ xs) d n inside = grind (arith, nat_tests, any_known xs d n)
 
 -- a name has a number, or none
 pub known : (names : List (ℕ × List ℕ)) (d : ℕ) (n : List ℕ) → (place_in names d n < length names) ⊎ (place_in names d n ≡ length names)
-known names d n = grind (arith, nat_tests, cases_lt, place_in, behind, prefix_len-le-length, not, name_eq)
+known names d n = grind (arith, nat_tests, cases_lt, place_in, prefix_len-le-length, not, name_eq)
 
 module _ (names : List (ℕ × List ℕ)) where
   -- a name more behind the others leaves them their numbers

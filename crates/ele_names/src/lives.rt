@@ -110,7 +110,7 @@ impl Lives {
     }
 
     /// Takes in a live row of that serial number.
-    #[tactic(auto, using(crate::proofs::Words::nat_tests, crate::proofs::Given::listed_told, crate::proofs::Given::has_names, crate::proofs::Counts::live_one, crate::proofs::Live::entered))]
+    #[tactic(auto, using(crate::proofs::Words::nat_tests, crate::proofs::Given::listed_told, crate::proofs::Given::has_names, crate::proofs::Live::live_one, crate::proofs::Live::entered))]
     pub fn enter(&mut self, row: &NameRow, serial: u64)
         requires known { number_in (names_of self.old) row.now < length (names_of self.old) }
         requires listed { AreListed self.old }
@@ -149,7 +149,7 @@ impl Lives {
     }
 
     /// Takes out the live row of the name. It takes no memory.
-    #[tactic(auto, using(crate::proofs::Words::nat_tests, crate::proofs::Given::listed_told, crate::proofs::Apart::named_and_live, crate::proofs::Counts::live_one, crate::proofs::Live::left, crate::proofs::Live::set_of_name, crate::proofs::Numbers::exact))]
+    #[tactic(auto, using(crate::proofs::Words::nat_tests, crate::proofs::Given::listed_told, crate::proofs::Apart::named_and_live, crate::proofs::Live::live_one, crate::proofs::Live::left, crate::proofs::Live::set_of_name, crate::proofs::Numbers::exact))]
     pub fn end(&mut self, directory: DirId, name: &Name)
         requires { place_in (names_of self.old) directory name.now < length (names_of self.old) }
         ensures names { names_of self.new ≡ names_of self.old }

@@ -134,7 +134,7 @@ impl Names {
     }
 
     // Takes out one row of the file, if there is one, and answers whether there was.
-    #[tactic(auto, using(crate::proofs::Words::nat_tests, crate::proofs::Gone::fewer, crate::proofs::Newest::row_known))]
+    #[tactic(auto, using(crate::proofs::Words::nat_tests, crate::proofs::Gone::fewer, crate::proofs::Apart::row_known))]
     fn drop_one(&mut self, file: FileId) -> bool
         ensures others { filter (λ row. not (is_of file row)) self.new
             ≡ filter (λ row. not (is_of file row)) self.old }
@@ -183,7 +183,7 @@ impl Names {
     }
 
     // The newest row of the name that was born by that many seconds.
-    #[tactic(auto, using(crate::proofs::Newest::none_known, crate::proofs::Newest::newest))]
+    #[tactic(auto, using(crate::proofs::Apart::none_known, crate::proofs::Apart::newest))]
     fn newest_by(&self, directory: DirId, name: &Name, seconds: u64) -> Option<NameRow>
         ensures newest { result
             ≡ last_passing (is_born_by directory name.now seconds) self.now }
@@ -249,7 +249,7 @@ impl Names {
     }
 
     /// Whether no name in the directory is live.
-    #[tactic(auto, using(crate::proofs::Counts::none_counted, crate::proofs::Words::is_live_in, crate::proofs::Words::rows_of))]
+    #[tactic(auto, using(crate::proofs::Live::none_counted, crate::proofs::Words::is_live_in, crate::proofs::Words::rows_of))]
     pub fn is_empty(&self, directory: DirId) -> bool
         ensures { result ≡ not (list_any (is_live_in directory) self.now) }
     {
@@ -257,7 +257,7 @@ impl Names {
     }
 
     /// Whether the directory has a live name.
-    #[tactic(auto, using(crate::proofs::Words::any_count, crate::proofs::Counts::directory_names))]
+    #[tactic(auto, using(crate::proofs::Words::any_count, crate::proofs::Live::directory_names))]
     pub fn dir_live(&self, directory: DirId) -> bool
         ensures { result ≡ list_any (is_live_directory directory) self.now }
     {
@@ -273,7 +273,7 @@ impl Names {
     }
 
     /// How many live names the file has.
-    #[tactic(auto, using(crate::proofs::Counts::file_names))]
+    #[tactic(auto, using(crate::proofs::Live::file_names))]
     pub fn names_of(&self, file: FileId) -> u64
         ensures { result ≡ count_by (is_live_name_of file) self.now }
     {

@@ -60,7 +60,7 @@ fn meet_log(
 }
 
 /// How many bytes the versions in the file's log have.
-#[tactic(auto, using(std::proofs::lemmas::Bool::Decides::nat_tests, crate::proofs::Copies::log_all, crate::proofs::Copies::log_fewer, crate::proofs::Words::filter_none, crate::proofs::Words::all_not_found))]
+#[tactic(auto, using(std::proofs::lemmas::Bool::Decides::nat_tests, crate::proofs::Copies::log_all, crate::proofs::Copies::log_fewer, crate::proofs::Copies::bytes_next, crate::proofs::Words::filter_none, crate::proofs::Words::all_not_found))]
 fn log_bytes(file: &File) -> u64
     requires kept { IsFileKept file.now }
     requires few { log_bytes file.now.log.rows < 2 ^ 64 }
@@ -77,7 +77,7 @@ fn log_bytes(file: &File) -> u64
 
 impl Files {
     /// How many versions of the file are held.
-    #[tactic(auto, using(std::proofs::lemmas::Bool::Decides::nat_tests, crate::proofs::Counted::own_count, crate::proofs::Tagged::none_shown))]
+    #[tactic(auto, using(std::proofs::lemmas::Bool::Decides::nat_tests, crate::proofs::Copies::own_count, crate::proofs::Tagged::none_shown))]
     fn versions_of(&self, file: FileId) -> u64
         ensures { result ≡ length (filter (is_version_of file) self.now.versions) }
     {
@@ -88,7 +88,7 @@ impl Files {
     }
 
     /// How many bytes the file's versions have.
-    #[tactic(auto, using(std::proofs::lemmas::Bool::Decides::nat_tests, crate::proofs::Words::all_found, crate::proofs::Counted::own_few, crate::proofs::Counted::own_bytes, crate::proofs::Tagged::none_shown))]
+    #[tactic(auto, using(std::proofs::lemmas::Bool::Decides::nat_tests, crate::proofs::Words::all_found, crate::proofs::Copies::own_few, crate::proofs::Copies::own_bytes, crate::proofs::Tagged::none_shown))]
     fn bytes_of(&self, file: FileId) -> u64
         requires few { length self.now.versions ≤ 2 ^ 40 }
         ensures { result ≡ bytes_in (filter (is_version_of file) self.now.versions) }
