@@ -93,7 +93,7 @@ module _ (es : Entries) (made : ℕ) (number : List ℕ → Option ℕ) (places 
         → AreKept to (made + 1) numbers places
     kept_pushed to is rising at changed fresh fits = record {
       rising = rising;
-      below = rw (ap keys_of is ∙ ap keys_of (pushed made (new_group name) es kept.below) ∙ map-append (λ (e : ℕ × GroupRow). e.0) es ((made, new_group name) ∷ []))
+      below = rw (is, pushed made (new_group name) es kept.below, map-append (λ (e : ℕ × GroupRow). e.0) es ((made, new_group name) ∷ []))
           (all-push (λ k. k < made + 1) (keys_of es) made (all-weaker (λ k. k < made) (λ k. k < made + 1) (keys_of es) (λ k h. omega arith) kept.below) (omega arith));
       fits = fits;
       named = record {
