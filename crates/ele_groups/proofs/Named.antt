@@ -83,9 +83,6 @@ module _ (es : Entries) (made : ℕ) (number : List ℕ → Option ℕ) (places 
   pushed_rows name row is = grind (arith, nat_tests, pushed, map-append)
 
   module _ (name : List ℕ) (numbers : List ℕ → Option ℕ) where
-    same_name : (n : List ℕ) → bytes_eq name n ≡ true → name ≡ n
-    same_name n h = (bytes_eq-Decides name n).0 h
-
     -- a new group
     pub kept_pushed : (to : Entries) → to ≡ insert_entry nat_cmp es made (new_group name) → IsStrictlySortedBy nat_cmp (keys_of to)
         → ((t : ℕ) → value_at to t ≡ cond (is_at (nat_cmp made) t) (Some (new_group name)) (value_at es t))
@@ -98,7 +95,7 @@ module _ (es : Entries) (made : ℕ) (number : List ℕ → Option ℕ) (places 
       fits = fits;
       named = record {
         numbered = λ n s h. grind (arith, nat_tests, at s, changed n, same_serial made s, free, kept.named.numbered n s);
-        known = λ n s h. grind (arith, nat_tests, at s, changed n, same_serial made s, free, same_name n, kept.named.known n s);
+        known = λ n s h. grind (arith, nat_tests, at s, changed n, same_serial made s, free, (bytes_eq-Decides name n).0, kept.named.known n s);
       };
       placed = record { each = λ q r t. grind (arith, nat_tests, at t, same_serial made t, free, kept.placed.each q r t) };
     }

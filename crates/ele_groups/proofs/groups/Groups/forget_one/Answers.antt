@@ -17,6 +17,3 @@ invariant_of-self c = rw c.remove_from.ensures.forgets (kept_changed _ _ _ _ c.s
 
 pub returns-clause-others : goal.returns-clause-others
 returns-clause-others c = rw (← c.self.view_is, c.remove_from.ensures.forgets) (forgotten_first c.args.file c.in-Some.serial c.self.inside.rows.entries)
-
-pub returns-clause-fewer : goal.returns-clause-fewer
-returns-clause-fewer c = grind (arith, nat_tests, fewer_have)
