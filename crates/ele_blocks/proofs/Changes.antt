@@ -33,24 +33,18 @@ module _ (s t : Store) (m new : Layout) (w first kept : ℕ) (staged : List (Lis
   abbrev pub base : List ℕ
   base = take (512 * kept) (content_of (shown s m))
 
-  sized_whole : AreSized 512 bytes_of m.size (shown s m)
-  sized_whole = (whole_is s m lives.whole).bytes
-
   sized_old : AreSized 512 bytes_of (min m.size (512 * kept)) (take kept (shown s m))
-  sized_old = sized-take 512 bytes_of (omega arith) kept m.size (shown s m) sized_whole
-
-  same_count : length (map (cell_by w) staged) ≡ length staged
-  same_count = length-map staged (cell_by w)
+  sized_old = sized-take 512 bytes_of (omega arith) kept m.size (shown s m) (whole_is s m lives.whole).bytes
 
   pub laid_content : content_of (shown t new) ≡ take (512 * first) base ++ (patch ++ drop (512 * (first + length staged)) base)
   laid_content =
       let own : flat_map bytes_of (map (cell_by w) staged) ≡ patch = flat_map-map bytes_of (cell_by w) staged ∙ (ap (flat_map (λ piece. piece)) cut ∙ (pieces_are patch).2) in
-      ap content_of h.cells ∙ (flat-laid 512 bytes_of (omega arith) first (min m.size (512 * kept)) (map (cell_by w) staged) (take kept (shown s m)) sized_old ∙ rw (flat-take 512 bytes_of (omega arith) kept m.size (shown s m) sized_whole, own, same_count) refl)
+      ap content_of h.cells ∙ (flat-laid 512 bytes_of (omega arith) first (min m.size (512 * kept)) (map (cell_by w) staged) (take kept (shown s m)) sized_old ∙ rw (flat-take 512 bytes_of (omega arith) kept m.size (shown s m) (whole_is s m lives.whole).bytes, own, length-map staged (cell_by w)) refl)
 
   pub laid_bytes : AreSized 512 bytes_of (512 * first + (length patch + (min m.size (512 * kept) - 512 * (first + length staged)))) (shown t new)
   laid_bytes =
       let new_sized = sized-map 512 (λ piece. piece) bytes_of (length patch) staged (map (cell_by w) staged) (sym (map-map bytes_of (cell_by w) staged)) (rw (← cut) at (pieces_are patch).1) in
-      grind (arith, h.cells, same_count, fit, kept_le, le, start, sized-count 512 bytes_of (omega arith) (min m.size (512 * kept)) (take kept (shown s m)) sized_old, sized-laid 512 bytes_of (omega arith) first (min m.size (512 * kept)) (length patch) (map (cell_by w) staged) (take kept (shown s m)) sized_old new_sized)
+      grind (arith, h.cells, length-map staged (cell_by w), fit, kept_le, le, start, sized-count 512 bytes_of (omega arith) (min m.size (512 * kept)) (take kept (shown s m)) sized_old, sized-laid 512 bytes_of (omega arith) first (min m.size (512 * kept)) (length patch) (map (cell_by w) staged) (take kept (shown s m)) sized_old new_sized)
 
 -- ---- the cells of a write and of a truncate
 

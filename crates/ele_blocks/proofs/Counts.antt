@@ -20,9 +20,6 @@ module _ {X : Type 0} where
   counted-more (v ∷ vs) [] (suc n) = ap (λ rest. option_map (with_count 0) v ∷ rest) (counted-more vs [] n)
   counted-more (v ∷ vs) (c ∷ cs) n = rw (counted-more vs cs n) refl
 
-  pub value-counted : (values : List (Option X)) (counts : List ℕ) (id : ℕ) → value_at (counted values counts) id ≡ get_or values id None
-  value-counted vs cs id = grind (arith, place-counted)
-
   pub owners-counted : (values : List (Option X)) (counts : List ℕ) (id : ℕ) → 0 < owners (counted values counts) id → owners (counted values counts) id ≡ get_or counts id 0
   owners-counted vs cs id lt = grind (arith, place-counted)
 

@@ -11,7 +11,6 @@ pub mod Distincts
 pub mod OneToOnes
 pub mod Renewals
 pub mod Stocks
-pub mod Patches
 pub mod Changes
 pub mod Runs
 mod Counts

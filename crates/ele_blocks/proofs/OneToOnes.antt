@@ -5,10 +5,6 @@ use Rattle.ele_blocks.proofs.Lemmas.{◌-◌, [], AreOneToOne, arith, backed_the
 abbrev pub NoneBy : ℕ → ℕ → List Named → Type 0
 NoneBy file writer ns = (n : Named) → IsIn n ns → n.place.file ≡ file → n.place.writer ≡ writer → ⊥
 
--- each named block is owned
-abbrev pub AreOwnedNames : Store → List Named → Type 0
-AreOwnedNames s ns = (n : Named) → IsIn n ns → 0 < owners_at s n.block
-
 abbrev pub name_of : ℕ → ℕ → Slot → Named
 name_of file slot x = record { place = record { file = file; slot = slot; writer = x.writer }; block = x.block }
 
@@ -53,7 +49,7 @@ times_two j k (z ∷ zs) x y lt e h b = grind (arith, nat_tests, times_got, time
 pub slot_owned : (s : Store) (m : Layout) → LivesIn s m → (k : ℕ) (x : Slot) → slice_get (slots_of s m) k ≡ Some x → 0 < owners_at s x.block
 slot_owned s m lives k x e = backed_there s m.leaves lives.backed x.block (times_got k (slots_of s m) x e)
 
-module _ (s t : Store) (w file : ℕ) (p : ℕ → Bool) (was now : Layout) (rest : List Named) (lives : LivesIn s was) (moves : Moves s t (was ∷ []) (now ∷ [])) (renews : Renews s t w p was now) (none : NoneBy file w rest) (owned : AreOwnedNames s rest) (one : AreOneToOne (names_of s file was ++ rest)) where
+module _ (s t : Store) (w file : ℕ) (p : ℕ → Bool) (was now : Layout) (rest : List Named) (lives : LivesIn s was) (moves : Moves s t (was ∷ []) (now ∷ [])) (renews : Renews s t w p was now) (none : NoneBy file w rest) (owned : (n : Named) → IsIn n rest → 0 < owners_at s n.block) (one : AreOneToOne (names_of s file was ++ rest)) where
   -- a name after the change is fresh, or it was there before and is in no renewed slot by the writer
   record IsFresh (n : Named) : Type 0 where
     pub place : ℕ

@@ -21,21 +21,15 @@ pub record IsStaged (s b1 : Blocks) (window : List Slot) (first : ℕ) (fresh : 
   pub adds : Adds s b1 fresh
 
 module _ {s b1 : Blocks} {window : List Slot} {first : ℕ} {fresh : List ℕ} (h : IsStaged s b1 window first fresh) where
-  pub front_there : (id : ℕ) → 0 < times id (ids_of (take first window)) → 0 < owners b1 id
-  front_there id some = grind (arith, h.there id, h.adds.trades.owed id, times-split id first window)
-
-  pub front_few : (id : ℕ) → 0 < times id (ids_of (take first window)) → owners b1 id + length (take first window) ≤ 2 ^ 63
-  front_few id some = grind (arith, nat_tests, times-split, length-take-le)
+  pub front_ready : (id : ℕ) → 0 < times id (ids_of (take first window)) → (0 < owners b1 id) × (owners b1 id + length (take first window) ≤ 2 ^ 63)
+  front_ready id some = grind (arith, h.there id, h.few id, h.adds.trades.owed id, h.adds.fresh id, h.small, times-split id first window, length-take-le first window h.within)
 
   module _ (b2 : Blocks) (shared : Trades b1 b2 [] (ids_of (take first window))) where
     abbrev back : List Slot
     back = drop (first + length fresh) window
 
-    pub back_there : (id : ℕ) → 0 < times id (ids_of (drop (first + length fresh) window)) → 0 < owners b2 id
-    back_there id some = omega (arith, h.there id (omega (arith, some, times-split id (first + length fresh) window)), h.adds.trades.owed id, shared.owed id)
-
-    pub back_few : (id : ℕ) → 0 < times id (ids_of (drop (first + length fresh) window)) → owners b2 id + length (drop (first + length fresh) window) ≤ 2 ^ 63
-    back_few id some = grind (arith, h, h.few id, h.adds.trades.owed id, h.adds.fresh id, h.there id, shared.owed id, times-split id (first + length fresh) window, times-le-length id (ids_of (take first window)), length-map (take first window) (λ (x : Slot). x.block), length-take-le first window h.within, length-drop (first + length fresh) window)
+    pub back_ready : (id : ℕ) → 0 < times id (ids_of (drop (first + length fresh) window)) → (0 < owners b2 id) × (owners b2 id + length (drop (first + length fresh) window) ≤ 2 ^ 63)
+    back_ready id some = grind (arith, h, h.few id, h.adds.trades.owed id, h.adds.fresh id, h.there id, shared.owed id, times-split id (first + length fresh) window, times-le-length id (ids_of (take first window)), length-map (take first window) (λ (x : Slot). x.block), length-take-le first window h.within, length-drop (first + length fresh) window)
 
     pub is_laid : (b3 : Blocks) (w : ℕ) (staged : List (List ℕ)) (slots : List Slot) → Trades b2 b3 [] (ids_of (drop (first + length fresh) window)) → map (value_at b1) fresh ≡ map (λ x. Some x) staged → slots ≡ laid_over first (map (slot_by w) fresh) window → IsLaid s b3 window first w staged slots
     is_laid b3 w staged slots more values are =

@@ -106,7 +106,7 @@ impl<T: Drop> Shared<T> {
     }
 
     /// The value under the number.
-    #[tactic(auto, using(crate::proofs::Cited::place_counted, crate::proofs::Cited::value_counted))]
+    #[tactic(auto, using(crate::proofs::Cited::place_counted))]
     pub fn get(&self, id: usize) -> &T
         requires { 0 < owners self.now.slots id }
         ensures { value_at self.now.slots id ≡ Some result.now }

@@ -25,10 +25,6 @@ has_key-insert_key k key (x ∷ xs) =
       swapped : (a b c d : Bool) → d ≡ (b || c) → (a || d) ≡ (b || (a || c))
       swapped a b c d h = grind arith
 
--- what is said of a list without the key by a choice, said by a test
-pub without_key : (k key : Key) (b : Bool) → cond (is_key key k) false b ≡ (not (is_key k key) && b)
-without_key k key b = grind (arith, is_key-sym key k)
-
 -- the keys that pass a test
 pub has_key-filter : (k : Key) (test : Key → Bool) (keys : List Key) → has_key k (filter test keys) ≡ (test k && has_key k keys)
 has_key-filter k test keys = any-filter_same (is_key k) test (test k) (λ j same. ap test (sym (is_key-same k j same))) keys

@@ -1,6 +1,6 @@
 -- The words and lemmas of std and of lists that proofs here use, in one place.
 pub use Rattle.ele_lists.proofs.Cuts.{remove_first-unfound, update_first-unfound}
-pub use Rattle.ele_lists.proofs.Edits.{all-none, all-push, all-weaker, found_passes, later-push, later-remove_first, list_any-remove_first, not_found}
+pub use Rattle.ele_lists.proofs.Edits.{all-none, all-push, all-weaker, found_passes, later-push, later-remove_first, later-remove_first as later_remove_first, list_any-remove_first, not_found}
 pub use Rattle.ele_lists.proofs.Indexed.{at_itself}
 pub use Rattle.ele_lists.proofs.Places.{remove_first-none}
 pub use Rattle.ele_lists.proofs.Serials.{IsRising, after_head, all_keys_without, head_or_later, not_true, not_yet, pushed, rest_rises}

@@ -56,20 +56,3 @@ module _ (p : GroupRow → Bool) where
   pub no_value : (es : Entries) → IsRising es → ((s : ℕ) → option_map_or p (value_at es s) false ≡ false) → AllByRecursion (λ row. p row ≡ false) (values_of es)
   no_value [] up none = tt
   no_value (e ∷ es) up none = (rw (at_itself e.0) at (none e.0), no_value es (rest_rises e es up) (λ s. grind (arith, nat_tests, none s, after_head e es s)))
-
--- what follows from a success or a failure
-pub ok_then : {X E A B : Type 0} (r : Result X E) → OnOk r A → (A → B) → OnOk r B
-ok_then x0 h then = grind (arith, nat_tests)
-
-pub err_then : {X E A B : Type 0} (r : Result X E) → OnErr r A → (A → B) → OnErr r B
-err_then x0 h then = grind (arith, nat_tests)
-
-pub either_way : {X E A B C : Type 0} (r : Result X E) → OnOk r A → OnErr r B → (A → C) → (B → C) → C
-either_way x0 a b then other = grind (arith, nat_tests)
-
--- two tests of a row that may be missing
-pub both_hold : (p q : GroupRow → Bool) (o : Option GroupRow) → option_map_or p o false ≡ true → option_map_or q o false ≡ true → option_map_or (λ row. p row && q row) o false ≡ true
-both_hold p q x2 a b = grind (arith, nat_tests)
-
-pub by_bound : {A : Type 0} (s below : ℕ) → (s < below → A) → (below ≤ s → A) → A
-by_bound {A = A} s below less other = grind (arith, nat_tests)

@@ -1,9 +1,9 @@
 -- Whether a mark covers, those of the group left out.
 use Rattle.ele_groups.proofs.Basics.{◌≡◌, ℕ, ◌<◌, ◌^◌, ◌==◌, Bool, true, false, ◌&&◌, not, List, [], ◌∷◌, Option, None, refl, ◌∙◌, arith, list_any, AllByRecursion, IsStrictlySortedBy, keys_of, values_of, option_map_or, nat_cmp, false≢true, nat_tests, Index, has, value_at, all-weaker, not_yet}
 use Rattle.ele_groups.proofs.Words.{GroupRow, covers_moment, is_group, is_member, is_left_out, has_covering_without, Except, has_covering_but, is_marked_row, ArePlaced, has_file}
-use Rattle.ele_groups.proofs.Changed.{any_value, no_value, both_hold, by_bound}
+use Rattle.ele_groups.proofs.Changed.{any_value, no_value}
 use Rattle.ele_groups.proofs.Named.{none_any}
-use Rattle.ele_groups.proofs.Placed.{stands, second_holds}
+use Rattle.ele_groups.proofs.Placed.{stands}
 
 -- the whole group is left out
 pub left_out : (name : List ℕ) (closed : ℕ) (ended : Option ℕ) (row : GroupRow) → is_group name row ≡ true → false ≡ has_covering_without name None closed ended row
@@ -25,11 +25,11 @@ module _ (except : Option Except) (file closed : ℕ) (ended : Option ℕ) (es :
 
   -- one of them was looked at and doesn't cover
   pub left_next : (e : ℕ × ℕ × ℕ) (xs : List (ℕ × ℕ × ℕ)) → AreLeft (e ∷ xs) → option_map_or covering (value_at es e.2) false ≡ false → AreLeft xs
-  left_next e xs left fails = grind (arith, nat_tests, list_any, false≢true, second_holds, value_at)
+  left_next e xs left fails = grind (arith, nat_tests, list_any, false≢true, value_at)
 
   -- none is left
   pub none_left : IsStrictlySortedBy nat_cmp (keys_of es) → AllByRecursion (λ s. s < 2 ^ 64) (keys_of es) → AreLeft [] → list_any passes (values_of es) ≡ false
-  none_left rising fits left = grind (arith, nat_tests, none_any passes (values_of es), no_value passes es rising, by_bound, false≢true, not_yet, all-weaker)
+  none_left rising fits left = grind (arith, nat_tests, none_any passes (values_of es), no_value passes es rising, false≢true, not_yet, all-weaker)
 
   module _ (places : Index ℕ) (placed : ArePlaced (value_at es) places) where
     -- at first all entries of the file are
@@ -38,4 +38,4 @@ module _ (except : Option Except) (file closed : ℕ) (ended : Option ℕ) (es :
 
     -- one of them covers
     pub covers_at_one : (e : ℕ × ℕ × ℕ) → has nat_cmp places file e.1 e.2 ≡ true → option_map_or covering (value_at es e.2) false ≡ true → list_any passes (values_of es) ≡ true
-    covers_at_one e there holds = grind (arith, nat_tests, any_value passes es e.2, both_hold (is_member file) covering (value_at es e.2), second_holds (e.1 == e.2) (has_file file (value_at es e.2)))
+    covers_at_one e there holds = grind (arith, nat_tests, any_value passes es e.2)

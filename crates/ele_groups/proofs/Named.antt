@@ -83,9 +83,6 @@ module _ (es : Entries) (made : ℕ) (number : List ℕ → Option ℕ) (places 
   pushed_rows name row is = grind (arith, nat_tests, pushed, map-append)
 
   module _ (name : List ℕ) (numbers : List ℕ → Option ℕ) where
-    same_name : (n : List ℕ) → bytes_eq name n ≡ true → name ≡ n
-    same_name n h = (bytes_eq-Decides name n).0 h
-
     -- a new group
     pub kept_pushed : (to : Entries) → to ≡ insert_entry nat_cmp es made (new_group name) → IsStrictlySortedBy nat_cmp (keys_of to)
         → ((t : ℕ) → value_at to t ≡ cond (is_at (nat_cmp made) t) (Some (new_group name)) (value_at es t))
@@ -93,12 +90,12 @@ module _ (es : Entries) (made : ℕ) (number : List ℕ → Option ℕ) (places 
         → AreKept to (made + 1) numbers places
     kept_pushed to is rising at changed fresh fits = record {
       rising = rising;
-      below = rw (ap keys_of is ∙ ap keys_of (pushed made (new_group name) es kept.below) ∙ map-append (λ (e : ℕ × GroupRow). e.0) es ((made, new_group name) ∷ []))
+      below = rw (is, pushed made (new_group name) es kept.below, map-append (λ (e : ℕ × GroupRow). e.0) es ((made, new_group name) ∷ []))
           (all-push (λ k. k < made + 1) (keys_of es) made (all-weaker (λ k. k < made) (λ k. k < made + 1) (keys_of es) (λ k h. omega arith) kept.below) (omega arith));
       fits = fits;
       named = record {
         numbered = λ n s h. grind (arith, nat_tests, at s, changed n, same_serial made s, free, kept.named.numbered n s);
-        known = λ n s h. grind (arith, nat_tests, at s, changed n, same_serial made s, free, same_name n, kept.named.known n s);
+        known = λ n s h. grind (arith, nat_tests, at s, changed n, same_serial made s, free, (bytes_eq-Decides name n).0, kept.named.known n s);
       };
       placed = record { each = λ q r t. grind (arith, nat_tests, at t, same_serial made t, free, kept.placed.each q r t) };
     }

@@ -6,9 +6,6 @@ use Rattle.ele_groups.proofs.Changed.{changed_here, changed_elsewhere}
 entry : (file s q r t : ℕ) → is_entry nat_cmp file s s q r t ≡ ((s == t) && (r == t) && (file == q))
 entry file s q r t = grind (arith, nat_tests)
 
-pub second_holds : (a b : Bool) → (a && b) ≡ true → b ≡ true
-second_holds x0 b h = grind (arith, nat_tests, false≢true)
-
 -- a file comes to one group or goes
 pub placed_changed : (b : Bool) (file s : ℕ) (old new : Index ℕ) (at to : ℕ → Option GroupRow) → ArePlaced at old
     → ((t : ℕ) → (s == t) ≡ false → to t ≡ at t)
@@ -32,10 +29,6 @@ pub placed_gone : (file s : ℕ) (f : GroupRow → GroupRow) (old new : Index �
     → ArePlaced (value_at (changed_at s f es)) new
 placed_gone file s f old new es placed changed members =
     placed_changed false file s old new (value_at es) (value_at (changed_at s f es)) placed (λ t apart. changed_elsewhere s f es t (grind (arith, nat_tests))) changed (λ q. grind (arith, nat_tests, members q))
-
--- places that say the same
-pub placed_same : (old new : Index ℕ) (at : ℕ → Option GroupRow) → ArePlaced at old → ((q r t : ℕ) → has nat_cmp new q r t ≡ has nat_cmp old q r t) → ArePlaced at new
-placed_same old new at placed same = record { each = λ q r t. same q r t ∙ placed.each q r t }
 
 -- a file put in and taken out again
 pub placed_undone : (file s : ℕ) (old mid new : Index ℕ) (at : ℕ → Option GroupRow) → ArePlaced at old → has_file file (at s) ≡ false

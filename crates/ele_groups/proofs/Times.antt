@@ -60,6 +60,3 @@ module _ (made : List ℕ) (times : BTreeSet ℕ) (timed : AreTimed made times) 
 -- the first of two answers, or the second
 pub first_answer : (r a b whole : Bool) → r ≡ a → r ≡ true → (a || b) ≡ whole → r ≡ whole
 first_answer r a b whole is held either = let a_true : a ≡ true = sym is ∙ held in held ∙ (rw a_true at either)
-
-pub second_answer : (q r a b whole : Bool) → q ≡ a → q ≡ false → r ≡ b → (a || b) ≡ whole → r ≡ whole
-second_answer q r a b whole is fails next either = let a_false : a ≡ false = sym is ∙ fails in next ∙ (rw a_false at either)

@@ -18,6 +18,7 @@ use std::collections::BTreeMap;
 
 /// Whether a group that has the file has a mark within the span that isn't left out. It looks at the
 /// file's groups alone.
+#[tactic(auto, using(crate::proofs::Basics::nat_tests, crate::proofs::Covered::covers_at_one, crate::proofs::Covered::left_next, crate::proofs::Covered::none_left))]
 pub fn covers(
     rows: &BTreeMap<u64, Group>,
     places: &Index<FileId>,

@@ -87,6 +87,7 @@ impl Group {
     }
 
     /// Takes out the file, wherever it stands. It takes no memory.
+    #[tactic(auto, using(crate::proofs::Basics::later_remove_first))]
     pub fn remove(&mut self, file: FileId)
         ensures removes { self.new ≡ removes file self.old }
         ensures forgets { self.new ≡ forgets file self.old }
@@ -120,6 +121,7 @@ impl Group {
     }
 
     /// Whether a mark that isn't left out lies within the span.
+    #[tactic(auto, using(crate::proofs::Covered::left_out))]
     pub fn covers(&self, span: &Span) -> bool
         ensures { result ≡ has_covering_but span.now.except span.now.closed span.now.ended self.now }
     {

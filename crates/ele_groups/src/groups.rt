@@ -367,6 +367,7 @@ impl Groups {
     }
 
     // Takes the file out of one group that has it, and answers whether one had.
+    #[tactic(auto, using(crate::proofs::Basics::nat_tests, crate::proofs::Forgotten::fewer_have))]
     fn forget_one(&mut self, file: FileId) -> bool
         ensures others { forgotten file self.new ≡ forgotten file self.old }
         ensures fewer { IsTrue result

@@ -103,6 +103,7 @@ impl Marks {
     }
 
     // Whether a mark lies within the seconds, the last not among them.
+    #[tactic(auto, using(crate::proofs::Basics::nat_tests, crate::proofs::Times::told_by_first))]
     fn lies_between(&self, from: u64, until: u64) -> bool
         ensures { result ≡ list_any (covers_moment from (Some until)) self.now }
     {

@@ -11,6 +11,7 @@ use ele_moment::{FileId, Moment, NoMemory};
 use std::collections::BTreeMap;
 
 /// Adds the file to the group.
+#[tactic(auto, using(crate::proofs::Basics::nat_tests, crate::proofs::Basics::set_value_same))]
 pub fn add_to(rows: &mut BTreeMap<u64, Group>, serial: u64, file: FileId) -> Result<(), NoMemory>
     requires { has_file file (value_at rows.old.entries serial) ≡ false }
     ensures ok { OnOk result
@@ -36,6 +37,7 @@ pub fn remove_from(rows: &mut BTreeMap<u64, Group>, serial: u64, file: FileId)
 }
 
 /// Adds the mark to the group.
+#[tactic(auto, using(crate::proofs::Basics::nat_tests, crate::proofs::Basics::set_value_same))]
 pub fn mark_at(rows: &mut BTreeMap<u64, Group>, serial: u64, mark: Moment) -> Result<(), NoMemory>
     requires { option_map_or (has_mark mark) (value_at rows.old.entries serial) false ≡ false }
     ensures ok { OnOk result

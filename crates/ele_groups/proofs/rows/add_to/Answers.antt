@@ -6,8 +6,5 @@ use Rattle.ele_groups.proofs.rows.add_to.Goals as goal
 pub returns-in-Some-clause-ok : goal.returns-in-Some-clause-ok
 returns-in-Some-clause-ok c = grind (arith, c.get_mut.follows.holds c.add.new.self, c.add.ensures.ok, written c.args.serial (adds c.args.file) c.args.rows.now.entries c.in-Some.group.now, c.in-Some.ensures.value)
 
-pub returns-in-Some-clause-err : goal.returns-in-Some-clause-err
-returns-in-Some-clause-err c = grind (arith, nat_tests, is_at, set_value_same)
-
 pub returns-in-None-clause-ok : goal.returns-in-None-clause-ok
 returns-in-None-clause-ok c = rw c.get_mut.follows.holds-at-none (unwritten c.args.serial (adds c.args.file) c.args.rows.now.entries (sym c.in-None.ensures.value))

@@ -1,4 +1,4 @@
-use Rattle.ele_blocks.proofs.Cited.{ap, arith, back_few, back_there, drop, drop_min, front_few, front_there, is_laid, IsStaged, length, length-map, take, ◌+◌, ◌∙◌, ◌≡◌}
+use Rattle.ele_blocks.proofs.Cited.{ap, arith, back_ready, drop, drop_min, front_ready, is_laid, IsStaged, length, length-map, take, ◌+◌, ◌∙◌, ◌≡◌}
 use Rattle.ele_blocks.proofs.store.leaves.lay_stage.Goals as goal
 use Rattle.ele_blocks.proofs.store.leaves.lay_stage.Goals.{After-split_at, After-split_at-2}
 
@@ -15,12 +15,12 @@ back : (c : After-split_at-2) → length c.in_ok-fresh.fresh.items ≡ length c.
 back c count = grind (arith, drop_min)
 
 pub share_all-requires : goal.share_all-requires
-share_all-requires c = grind (arith, front_there, front_few)
+share_all-requires c = grind (arith, front_ready)
 
 pub share_all-requires-2 : goal.share_all-requires-2
 share_all-requires-2 c =
     let at = (goal.at.share_all-requires-2 c).After-split_at in
-    grind (arith, back (goal.at.share_all-requires-2 c).After-split_at-2 (its_count at), front at, back_there (staged at) c.share_all.new.blocks.slots, back_few (staged at) c.share_all.new.blocks.slots, c.share_all.ensures)
+    grind (arith, back (goal.at.share_all-requires-2 c).After-split_at-2 (its_count at), front at, back_ready (staged at) c.share_all.new.blocks.slots, c.share_all.ensures)
 
 pub returns-clause-laid : goal.returns-clause-laid
 returns-clause-laid c =

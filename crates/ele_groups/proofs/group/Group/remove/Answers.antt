@@ -2,9 +2,6 @@ use Rattle.ele_groups.proofs.Basics.{◌==◌, ◌≡◌, false, refl, later-rem
 use Rattle.ele_groups.proofs.Apart.{any_removed, filtered}
 use Rattle.ele_groups.proofs.group.Group.remove.Goals as goal
 
-pub invariant_of-self : goal.invariant_of-self
-invariant_of-self c = rw c.take_out.ensures (later-remove_first (λ x. x == c.args.file) (λ x y. (x == y) ≡ false) c.self.inside.members.items c.self.invariant)
-
 pub returns-clause-forgets : goal.returns-clause-forgets
 returns-clause-forgets c = rw (← c.self.view_is, c.take_out.ensures, filtered c.args.file c.self.inside.members.items c.self.invariant) refl
 

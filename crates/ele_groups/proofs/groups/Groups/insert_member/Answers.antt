@@ -1,14 +1,15 @@
 use Rattle.std.proofs.Common.{sym, refl}
 use Rattle.ele_world.specs.GroupRows.{adds}
 use Rattle.ele_groups.proofs.Named.{kept_changed, kept_over, changed_rows, unchanged_rows, found_at, named_row}
-use Rattle.ele_groups.proofs.Placed.{placed_come, placed_same, placed_undone}
+use Rattle.ele_groups.proofs.Placed.{placed_come, placed_undone}
 use Rattle.ele_groups.proofs.groups.Groups.insert_member.Goals as goal
+use Rattle.ele_groups.proofs.Basics.{arith}
 
 pub returns-in_default-clause-ok : goal.returns-in_default-clause-ok
 returns-in_default-clause-ok c = rw (← c.self.view_is) (unchanged_rows _ _ _ _ c.self.invariant c.args.name.now (adds c.args.file) (sym c.in_default.ensures))
 
 pub invariant_of-self : goal.invariant_of-self
-invariant_of-self c = kept_over _ _ _ _ c.self.invariant _ (placed_same _ _ _ c.self.invariant.placed c.in_err-insert.ensures.err)
+invariant_of-self c = kept_over _ _ _ _ c.self.invariant _ (record { each = λ q r t. grind (arith, c.in_err-insert.ensures.err q r t, c.self.invariant.placed.each q r t) })
 
 pub add_to-requires : goal.add_to-requires
 add_to-requires c = rw (← c.self.view_is, found_at _ _ _ _ c.self.invariant c.args.name.now c.in-Some.serial (sym c.in-Some.ensures)) at c.requires

@@ -1,5 +1,5 @@
 use Rattle.ele_groups.proofs.Basics.{nat_tests, arith}
-use Rattle.ele_groups.proofs.Times.{until_without, from_without, first_answer, second_answer}
+use Rattle.ele_groups.proofs.Times.{until_without, from_without, first_answer}
 use Rattle.ele_groups.proofs.marks.Marks.covers_without.Goals as goal
 
 pub returns-then-lies_between : goal.returns-then-lies_between

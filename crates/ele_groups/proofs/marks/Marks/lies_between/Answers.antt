@@ -2,9 +2,6 @@ use Rattle.ele_groups.proofs.Basics.{nat_tests, arith}
 use Rattle.ele_groups.proofs.Times.{told_by_first, none_from}
 use Rattle.ele_groups.proofs.marks.Marks.lies_between.Goals as goal
 
-pub returns-in-Some : goal.returns-in-Some
-returns-in-Some c = grind (arith, nat_tests, told_by_first)
-
 pub returns-in-None : goal.returns-in-None
 returns-in-None c =
     let range = c.range.ensures.in_range tt in
