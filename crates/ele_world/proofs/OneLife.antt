@@ -1,14 +1,14 @@
 -- In a run one version of a file lived at each moment that a name of the file covers.
-use Rattle.ele_world.proofs.Basics.{◌≡◌, ℕ, true, false, List, [], ◌∷◌, Option, Some, None, refl, ap, subst, sym, ◌∙◌, arith, find, Ok, Err, AllByRecursion, option_or, false≢true, cases_lt, nat_tests, all-found, all-not_found, all-weaker, found_passes, any-found, AllLater}
-use Rattle.ele_world.proofs.Words.{Bounds, AreBounds, Change, after_change, after_changes, last_stood, HasOneLife, OneLife, run_of, IsEvent, plan, step, had_closed, had_life, held_or_forgotten, last_number, lives_at, version_living, ArePlaced, Versions, IsWellFormed, World, fresh_world, is_held, is_version, Event, Forgotten, VersionRow}
+use Rattle.ele_world.proofs.Basics.{◌≡◌, ℕ, true, false, List, [], ◌∷◌, Option, Some, None, subst, sym, arith, find, Ok, Err, AllByRecursion, option_or, false≢true, cases_lt, nat_tests, all-found, all-not_found, all-weaker, found_passes, any-found, AllLater}
+use Rattle.ele_world.proofs.Words.{Bounds, AreBounds, Change, after_change, after_changes, last_stood, HasOneLife, OneLife, run_of, IsEvent, plan, step, had_closed, had_life, last_number, lives_at, version_living, ArePlaced, Versions, IsWellFormed, World, fresh_world, is_held, is_version, Event, Forgotten, VersionRow}
 use Rattle.ele_lists.proofs.Cuts.{any-found as first_passing}
 use Rattle.ele_world.proofs.Allowed.{allowed}
 use Rattle.ele_world.proofs.Keeps.{change_keeps, reached}
-use Rattle.ele_world.proofs.Known.{change_known, Known, known_in, HadLife, IsCovered, AreKnown, or_none}
+use Rattle.ele_world.proofs.Known.{change_known, Known, known_in, HadLife, AreKnown, or_none}
 use Rattle.ele_world.proofs.Moves.{row_of}
 use Rattle.ele_world.proofs.May.{MayAll}
 use Rattle.ele_world.proofs.StepKeeps.{fresh_is, step_keeps, run_keeps}
-use Rattle.ele_world.proofs.Versions.{IsEndedBy, all_found}
+use Rattle.ele_world.proofs.Versions.{all_found}
 
 -- ---- events
 
