@@ -176,7 +176,7 @@ module _ (event : Event) (first w : World) (change : Change) (before : Known) (t
         Goes take.row (sym e ∙ found) none (t.first_held file number take.row take.found) (let is = (held_row w file number take.row t.formed found).is in grind (arith, nat_tests, is, take.ended, false≢true))
 
   pub becomes : (file number : ℕ) (old : VersionRow) → known_in w before file number ≡ Some old → Becomes w.now old (known_in after before file number)
-  becomes file number old is = grind (arith, nat_tests, turned file number (known_past w (known_in w before) file number old t.formed t.known is), known_past w (known_in w before) file number old t.formed t.known is)
+  becomes file number old is = let past = known_past w (known_in w before) file number old t.formed t.known is in grind (arith, nat_tests, turned file number past, past)
 
   from : (file number : ℕ) (row : VersionRow) → known_in after before file number ≡ Some row → From w after (known_in w before) file number row
   from file number row is = by (known_in w before file number) refl where

@@ -43,13 +43,10 @@ run_known w (event ∷ events) before are k s =
     let then : AreKnown v (known_in v known) = rw by.is (all_known event w w by.changes known (k.holds Versions).placed s.held are.0 k by.may again) in
     subst (AreKnown (run_of v events)) (λ i file number. sym (known_rest (last_stood v events file number) (row_of w file number) (before file number)) i) (run_known v events known are.1 (step_keeps w event are.0 k) then)
 
-abbrev nothing : Known
-nothing file number = None
-
 ever_known : (limits : Bounds) (events : List Event) → AreBounds limits → AllByRecursion IsEvent events → AreKnown (run_of (fresh_world limits) events) (last_stood (fresh_world limits) events)
 ever_known limits events bounds are =
     let first = fresh_world limits in
-    subst (AreKnown (run_of first events)) (λ i file number. sym (or_none (last_stood first events file number)) i) (run_known first events nothing are (fresh_is limits bounds) (grind (arith, nat_tests)))
+    subst (AreKnown (run_of first events)) (λ i file number. sym (or_none (last_stood first events file number)) i) (run_known first events (λ file number. None) are (fresh_is limits bounds) (grind (arith, nat_tests)))
 
 -- ---- one life
 
