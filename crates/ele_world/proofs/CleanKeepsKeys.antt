@@ -1,12 +1,10 @@
 -- A removal of the first version of the scan changes no other version's moment: from the first's moment on whatever is due
 -- stays so without it, and before that moment nothing is due, neither with it nor without.
-use Rattle.ele_world.proofs.Basics.{◌≡◌, ℕ, ◌≤◌, Bool, true, false, List, [], ◌∷◌, ◌++◌, Option, Some, None, IfSome, refl, ap, sym, subst, ◌∙◌, fold, slice_get, option_map_or, arith, find, nat_le}
-use Rattle.ele_world.proofs.Basics.{option_and_then, AllByRecursion, filter_map, insert_key, nat_tests, remove_first, all-weaker, all-both, all-found, not_found, all-append, all-around, find-cut, remove_first-at, find-without}
-use Rattle.ele_world.proofs.Words.{Key, last_moment, VersionRow, ripe_at, view_of, TakesOneKey, CleanKeepsKeys, IsDueFromRipe, key_of, first_due, Take, after_change, IsWellFormed, World, is_version}
-use Rattle.ele_due.specs.Key.{key_cmp}
+use Rattle.ele_world.proofs.Basics.{◌≡◌, ℕ, ◌≤◌, Bool, true, false, List, ◌∷◌, ◌++◌, Option, Some, None, IfSome, refl, ap, subst, ◌∙◌, option_map_or, arith, find, nat_le}
+use Rattle.ele_world.proofs.Basics.{AllByRecursion, nat_tests, all-weaker, all-both, all-found, not_found, all-append, all-around, find-cut, find-without}
+use Rattle.ele_world.proofs.Words.{Key, last_moment, VersionRow, ripe_at, view_of, TakesOneKey, CleanKeepsKeys, first_due, Take, after_change, IsWellFormed, World, is_version}
 use Rattle.ele_world.specs.Due.{is_due_at, ripe_of}
-use Rattle.ele_world.specs.Scan.{due_key, scan}
-use Rattle.ele_world.proofs.Cleans.{clean_of}
+use Rattle.ele_world.specs.Scan.{due_key}
 use Rattle.ele_world.proofs.DropViews.{ripe_at_dropped}
 use Rattle.ele_world.proofs.DueRows.{IsFirst, first_is_due, first_of_rows}
 use Rattle.ele_world.proofs.RemovalOrder.{rest, IsBeside, stays, no_more, sides, taken}

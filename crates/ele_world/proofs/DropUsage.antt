@@ -1,8 +1,8 @@
 -- What the files of each kind use after the dropping of an idle file: as much as before, but for the file.
-use Rattle.ele_world.proofs.Basics.{nat_tests, ◌≡◌, ◌==◌, ℕ, ◌+◌, Bool, true, false, cond, List, length, Some, refl, ap, arith, filter, option_map_or, remove_first, filter-none, length-filter_removed}
-use Rattle.ele_world.proofs.Words.{Kind, Policy, kind_of, is_kind, Usage, only_at, nothing, plus, is_idle, without_file, is_of, is_file_of, World, is_file, policy_of, DraftRow, FileRow, VersionRow}
+use Rattle.ele_world.proofs.Basics.{nat_tests, ◌≡◌, ◌==◌, ℕ, true, Some, refl, arith, filter-none, length-filter_removed}
+use Rattle.ele_world.proofs.Words.{Kind, Policy, kind_of, Usage, only_at, plus, is_idle, without_file, is_of, is_file_of, World, is_file, policy_of, DraftRow, VersionRow}
 use Rattle.ele_world.specs.Usage.{usage_of}
-use Rattle.ele_world.proofs.Dropped.{IsIdle, idle_is, idle_versions, idle_drafts, policy_of-removed}
+use Rattle.ele_world.proofs.Dropped.{idle_is, idle_versions, idle_drafts, policy_of-removed}
 use Rattle.ele_world.proofs.Splits.{file_moves}
 use Rattle.ele_world.proofs.Usages.{only_at_is}
 

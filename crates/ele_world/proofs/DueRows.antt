@@ -1,5 +1,5 @@
 -- The first key of the scan is that of a due row.
-use Rattle.ele_world.proofs.Basics.{nat_tests, arith, ◌≡◌, ℕ, Bool, true, false, ◌||◌, List, [], ◌∷◌, Option, Some, refl, sym, ◌∙◌, find, is_none, IfSome, nat_le, option_map_or, slice_get, fold, insert_key, AllByRecursion, filter_map, false≢true, AllLater}
+use Rattle.ele_world.proofs.Basics.{nat_tests, arith, ◌≡◌, ℕ, true, false, List, [], ◌∷◌, Option, Some, find, is_none, IfSome, nat_le, option_map_or, slice_get, fold, insert_key, AllByRecursion, filter_map, false≢true, AllLater}
 use Rattle.ele_world.proofs.Words.{Key, VersionRow, ripe_of, view_of, is_protected, is_marked, key_cmp, first_due, ArePlaced, World, is_open, is_version}
 use Rattle.ele_world.specs.Due.{is_due_at}
 use Rattle.ele_world.specs.Scan.{due_key, scan}

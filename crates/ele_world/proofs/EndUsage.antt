@@ -1,6 +1,6 @@
 -- An end that is set changes nothing of what the files use.
 use Rattle.ele_world.proofs.Basics.{nat_tests, ◌≡◌, ℕ, Bool, List, [], ◌∷◌, length, filter, refl, arith, flat_map, flat_map-cons, update_first}
-use Rattle.ele_world.proofs.Words.{Place, Kind, ended_at, VersionRow, is_file_of, places_from, bytes_in, World}
+use Rattle.ele_world.proofs.Words.{Kind, ended_at, VersionRow, is_file_of, places_from, bytes_in, World}
 use Rattle.ele_world.specs.Usage.{usage_of}
 use Rattle.ele_world.proofs.Splits.{bytes_in-cons}
 

@@ -1,6 +1,6 @@
 -- What the marks of groups say of a file, and which changes of groups leave it.
 use Rattle.ele_world.proofs.Basics.{◌≡◌, ℕ, ◌==◌, false, not, List, [], ◌∷◌, Option, refl, arith, list_any, nat_tests, list_any-append, list_any-filter}
-use Rattle.ele_world.proofs.Words.{GroupRow, covers_moment, forgets, forgotten, is_marked, is_member, marks_over}
+use Rattle.ele_world.proofs.Words.{GroupRow, covers_moment, forgotten, is_marked, marks_over}
 
 -- a file's marks cover what groups that have it cover
 pub marks_tell : (rows : List GroupRow) (file closed : ℕ) (ended : Option ℕ) → list_any (covers_moment closed ended) (marks_over rows file) ≡ is_marked rows file closed ended

@@ -1,7 +1,7 @@
 -- What a history knows of versions: those that are held, and those that were removed as they last stood; at each moment that a name
 -- covers a version of its file lived. A change keeps that.
-use Rattle.ele_world.proofs.Basics.{◌≡◌, ℕ, ◌-◌, ◌<◌, ◌≤◌, true, false, cond, List, [], Option, Some, None, refl, ap, sym, subst, ◌∙◌, arith, is_none, find, AllByRecursion, option_or, option_map, false≢true, nat_tests, all-found, find-insert_before, find-inserted, not_found, remove_first, all-not_found, all-remove_first, all-update_first, all-weaker, found_passes, AllLater, ◌&&◌, ◌++◌, IfSome, ◌∷◌, inl, inr, ◌⊎◌, nat_le, list_any, cases_lt, update_first, all-filter, all-both, all-push}
-use Rattle.ele_world.proofs.Words.{Cell, current_cells, Change, Time, EndFileName, Revive, MakeFile, Append, Take, DropIdle, after_change, ended_at, next_version, with_end, with_file, with_name, with_version, without_name, covers, lives_at, ArePlaced, IsVersion, Versions, IsWellFormed, World, is_live, is_version, is_version_after, next_of, Event, NameRow, File, VersionRow, MakeDirectory, EndName, AddName, MoveName, born_row, dies, is_live_name, IsNameRow, Names, is_live_name_of, Target, Directory}
+use Rattle.ele_world.proofs.Basics.{◌≡◌, ℕ, ◌-◌, ◌<◌, ◌≤◌, true, false, List, [], Option, Some, None, refl, ap, sym, subst, ◌∙◌, arith, find, AllByRecursion, option_or, false≢true, nat_tests, all-found, find-insert_before, find-inserted, not_found, remove_first, all-not_found, all-remove_first, all-weaker, found_passes, AllLater, ◌++◌, ◌∷◌, list_any, cases_lt, update_first, all-filter, all-both, all-push}
+use Rattle.ele_world.proofs.Words.{Cell, current_cells, Change, Time, EndFileName, Revive, MakeFile, Append, Take, DropIdle, after_change, ended_at, next_version, with_end, with_file, with_name, with_version, covers, lives_at, ArePlaced, IsVersion, Versions, IsWellFormed, World, is_live, is_version, is_version_after, next_of, Event, NameRow, File, VersionRow, MakeDirectory, EndName, AddName, MoveName, born_row, dies, is_live_name, IsNameRow, Names, is_live_name_of, Target, Directory}
 use Rattle.ele_world.proofs.Dropped.{dropped, dropped_versions, stays_named}
 use Rattle.ele_world.proofs.May.{May}
 use Rattle.ele_world.proofs.Moves.{IsBehind, IsPast, change_past, Moves, row_of, found_updated, Same, Ended, Taken, change_moves}
@@ -176,7 +176,7 @@ module _ (event : Event) (first w : World) (change : Change) (before : Known) (t
         Goes take.row (sym e ∙ found) none (t.first_held file number take.row take.found) (let is = (held_row w file number take.row t.formed found).is in grind (arith, nat_tests, is, take.ended, false≢true))
 
   pub becomes : (file number : ℕ) (old : VersionRow) → known_in w before file number ≡ Some old → Becomes w.now old (known_in after before file number)
-  becomes file number old is = grind (arith, nat_tests, turned file number (known_past w (known_in w before) file number old t.formed t.known is), known_past w (known_in w before) file number old t.formed t.known is)
+  becomes file number old is = let past = known_past w (known_in w before) file number old t.formed t.known is in grind (arith, nat_tests, turned file number past, past)
 
   from : (file number : ℕ) (row : VersionRow) → known_in after before file number ≡ Some row → From w after (known_in w before) file number row
   from file number row is = by (known_in w before file number) refl where

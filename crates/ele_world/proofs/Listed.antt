@@ -1,6 +1,6 @@
 -- The listing of a directory at a moment, by what each name stood for then.
-use Rattle.ele_world.proofs.Basics.{◌≡◌, ℕ, ◌≤◌, Bool, true, false, ◌&&◌, List, [], ◌∷◌, fold, Option, Some, None, refl, sym, ◌∙◌, filter, find, nat_lt, arith, AllByRecursion, keys_of, lookup, insert_entry}
-use Rattle.ele_world.proofs.Basics.{is_at, option_map, option_map_or, option_or, is_eq, last_passing, Ordering, IsTotalOrder, nat_cmp, slice_cmp, nat_list_cmp_total, nat_tests, exact_bytes, is_eq-slice_cmp, bytes_eq-Decides, AllLater, all-weaker, not_found, entries_same, sorted-insert_entry, lookup-insert_entry}
+use Rattle.ele_world.proofs.Basics.{◌≡◌, ℕ, Bool, true, ◌&&◌, List, [], ◌∷◌, fold, None, refl, filter, find, arith, AllByRecursion, keys_of, lookup, insert_entry}
+use Rattle.ele_world.proofs.Basics.{is_at, option_map, option_or, is_eq, last_passing, Ordering, IsTotalOrder, nat_cmp, slice_cmp, nat_list_cmp_total, nat_tests, exact_bytes, is_eq-slice_cmp, bytes_eq-Decides, AllLater, all-weaker, not_found, entries_same, sorted-insert_entry, lookup-insert_entry}
 use Rattle.ele_world.proofs.Words.{covers, is_named, target_at, stood_in, AreApart, NameRow, Target}
 use Rattle.std.specs.List.Sorted.{IsStrictlySortedBy}
 use Rattle.ele_world.specs.Told.{listing}

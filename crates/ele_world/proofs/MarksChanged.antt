@@ -1,8 +1,8 @@
 -- What is marked after a change of groups: with more members or marks what they add, and with fewer what is left without them.
-use Rattle.ele_world.proofs.Basics.{◌≡◌, ℕ, ◌==◌, Bool, true, false, not, ◌&&◌, ◌||◌, List, [], ◌∷◌, ◌++◌, Option, Some, None, refl, ap, sym, ◌∙◌, arith, find, AllByRecursion, list_any, option_map_or, bytes_eq, false≢true}
-use Rattle.ele_world.proofs.Basics.{nat_tests, list_any-append, bytes_eq-Decides, AllLater, update_first, remove_first, found_passes, all-any, all-weaker}
-use Rattle.ele_world.proofs.Words.{GroupRow, adds, covers_moment, has_covering, has_mark, has_member, is_group, is_marked, is_marked_at, is_member, marks, removes, unmarks, with_mark, with_member, without_group, without_mark, without_member, has_covering_without, is_marked_without, marks_of, members_of}
-use Rattle.std.proofs.Math.Bool.{and-true, and-false}
+use Rattle.ele_world.proofs.Basics.{◌≡◌, ℕ, ◌==◌, Bool, true, false, not, ◌&&◌, ◌||◌, List, [], ◌∷◌, Option, Some, None, refl, ap, arith, find, AllByRecursion, list_any, bytes_eq, false≢true}
+use Rattle.ele_world.proofs.Basics.{nat_tests, list_any-append, bytes_eq-Decides, AllLater, update_first, remove_first, found_passes}
+use Rattle.ele_world.proofs.Words.{GroupRow, covers_moment, has_covering, has_member, is_group, is_marked, is_marked_at, is_member, marks, removes, unmarks, with_mark, with_member, without_group, without_mark, without_member, has_covering_without, is_marked_without, marks_of, members_of}
+use Rattle.std.proofs.Math.Bool.{and-true}
 pub use Rattle.std.proofs.Math.Bool.{or-false as or_false, or-true as or_true}
 
 -- ---- numbers, of which none stands twice

@@ -1,6 +1,6 @@
 -- The version that a tag means is one of its file that is held.
-use Rattle.ele_world.proofs.Basics.{◌≡◌, ℕ, ◌-◌, Bool, true, List, Option, Some, arith, find, subst, sym, Result, Ok, Err, nat_tests, found_passes, any-found}
-use Rattle.ele_world.proofs.Words.{Tag, TaggedPath, held_or_forgotten, version_meant, version_numbered, version_found, version_at, walk_meant, file_at, World, is_held, is_version, next_of, Refusal, FileRow, VersionRow}
+use Rattle.ele_world.proofs.Basics.{◌≡◌, ℕ, Bool, true, List, Some, arith, find, Ok, nat_tests, found_passes, any-found}
+use Rattle.ele_world.proofs.Words.{Tag, TaggedPath, version_meant, version_numbered, version_at, World, is_held, is_version, FileRow, VersionRow}
 use Rattle.ele_time_path.specs.declared.tagged.Tag.TheVariants as tag
 
 -- it was found by a test that only the file's versions pass

@@ -1,7 +1,7 @@
 -- The newest row of each name, and the names that may come back among those whose newest row is dead.
-use Rattle.ele_world.proofs.Basics.{nat_tests, arith, ◌≡◌, ℕ, ◌+◌, ◌<◌, Bool, true, false, cond, ◌&&◌, List, [], ◌∷◌, length, map, get_or, take, fold, Option, Some, None, refl, ap, sym, subst, ◌∙◌, filter, find, is_some, unwrap_or, AllByRecursion, filter_map, keys_of}
-use Rattle.ele_world.proofs.Basics.{values_of, lookup, insert_entry, is_at, option_map, option_or, Ordering, Less, Equal, Greater, nat_cmp, ordering_then, is_eq, IsTotalOrder, nat_cmp_total, unsigned_tied, eq_by_cmp_equiv, slice_cmp, nat_list_cmp_total, then_total, on_total, fold-append, take_more}
-use Rattle.ele_world.proofs.Basics.{option_filter, lookup-filter-values, IsDistinct-from_sorted, CmpEqualImpliesEq, exact_pairs, exact_unsigned, exact_bytes, lookup-map_values, keys_of-map_values, is_eq-slice_cmp, last_passing, passing, entries_same, filter_map-map, sorted-insert_entry, lookup-insert_entry, sorted-filter_entries, all-insert_entry}
+use Rattle.ele_world.proofs.Basics.{nat_tests, arith, ◌≡◌, ℕ, ◌+◌, ◌<◌, Bool, List, [], ◌∷◌, length, map, get_or, take, fold, Option, refl, ap, sym, subst, ◌∙◌, filter, find, is_some, unwrap_or, AllByRecursion, filter_map, keys_of}
+use Rattle.ele_world.proofs.Basics.{values_of, lookup, insert_entry, is_at, option_map, nat_cmp, is_eq, IsTotalOrder, nat_cmp_total, unsigned_tied, eq_by_cmp_equiv, slice_cmp, nat_list_cmp_total, then_total, on_total, fold-append, take_more}
+use Rattle.ele_world.proofs.Basics.{lookup-filter-values, IsDistinct-from_sorted, CmpEqualImpliesEq, exact_pairs, exact_unsigned, exact_bytes, lookup-map_values, keys_of-map_values, is_eq-slice_cmp, last_passing, entries_same, filter_map-map, sorted-filter_entries, all-insert_entry}
 use Rattle.ele_world.proofs.Words.{is_named, last_dead, name_cmp, newest_rows, returning_name, returning, World, is_file, next_of, DeadName, FileRow, NameRow, Target}
 use Rattle.std.specs.List.Sorted.{IsStrictlySortedBy}
 use Rattle.ele_world.specs.Restorable.{restorable}

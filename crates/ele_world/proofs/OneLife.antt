@@ -1,14 +1,14 @@
 -- In a run one version of a file lived at each moment that a name of the file covers.
-use Rattle.ele_world.proofs.Basics.{◌≡◌, ℕ, true, false, List, [], ◌∷◌, Option, Some, None, refl, ap, subst, sym, ◌∙◌, arith, find, Ok, Err, AllByRecursion, option_or, false≢true, cases_lt, nat_tests, all-found, all-not_found, all-weaker, found_passes, any-found, AllLater}
-use Rattle.ele_world.proofs.Words.{Bounds, AreBounds, Change, after_change, after_changes, last_stood, HasOneLife, OneLife, run_of, IsEvent, plan, step, had_closed, had_life, held_or_forgotten, last_number, lives_at, version_living, ArePlaced, Versions, IsWellFormed, World, fresh_world, is_held, is_version, Event, Forgotten, VersionRow}
+use Rattle.ele_world.proofs.Basics.{◌≡◌, ℕ, true, false, List, [], ◌∷◌, Option, Some, None, subst, sym, arith, find, Ok, Err, AllByRecursion, option_or, false≢true, cases_lt, nat_tests, all-found, all-not_found, all-weaker, found_passes, any-found, AllLater}
+use Rattle.ele_world.proofs.Words.{Bounds, AreBounds, Change, after_change, after_changes, last_stood, HasOneLife, OneLife, run_of, IsEvent, plan, step, had_closed, had_life, last_number, lives_at, version_living, ArePlaced, Versions, IsWellFormed, World, fresh_world, is_held, is_version, Event, Forgotten, VersionRow}
 use Rattle.ele_lists.proofs.Cuts.{any-found as first_passing}
 use Rattle.ele_world.proofs.Allowed.{allowed}
 use Rattle.ele_world.proofs.Keeps.{change_keeps, reached}
-use Rattle.ele_world.proofs.Known.{change_known, Known, known_in, HadLife, IsCovered, AreKnown, or_none}
+use Rattle.ele_world.proofs.Known.{change_known, Known, known_in, HadLife, AreKnown, or_none}
 use Rattle.ele_world.proofs.Moves.{row_of}
 use Rattle.ele_world.proofs.May.{MayAll}
 use Rattle.ele_world.proofs.StepKeeps.{fresh_is, step_keeps, run_keeps}
-use Rattle.ele_world.proofs.Versions.{IsEndedBy, all_found}
+use Rattle.ele_world.proofs.Versions.{all_found}
 
 -- ---- events
 
@@ -43,13 +43,10 @@ run_known w (event ∷ events) before are k s =
     let then : AreKnown v (known_in v known) = rw by.is (all_known event w w by.changes known (k.holds Versions).placed s.held are.0 k by.may again) in
     subst (AreKnown (run_of v events)) (λ i file number. sym (known_rest (last_stood v events file number) (row_of w file number) (before file number)) i) (run_known v events known are.1 (step_keeps w event are.0 k) then)
 
-abbrev nothing : Known
-nothing file number = None
-
 ever_known : (limits : Bounds) (events : List Event) → AreBounds limits → AllByRecursion IsEvent events → AreKnown (run_of (fresh_world limits) events) (last_stood (fresh_world limits) events)
 ever_known limits events bounds are =
     let first = fresh_world limits in
-    subst (AreKnown (run_of first events)) (λ i file number. sym (or_none (last_stood first events file number)) i) (run_known first events nothing are (fresh_is limits bounds) (grind (arith, nat_tests)))
+    subst (AreKnown (run_of first events)) (λ i file number. sym (or_none (last_stood first events file number)) i) (run_known first events (λ file number. None) are (fresh_is limits bounds) (grind (arith, nat_tests)))
 
 -- ---- one life
 

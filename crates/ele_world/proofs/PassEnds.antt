@@ -1,6 +1,6 @@
 -- A pass, one clean event after another: where nothing disturbs it it removes the due versions, and no others.
-use Rattle.ele_world.proofs.Basics.{nat_tests, arith, ◌≡◌, ℕ, suc, zero, ◌≤◌, true, false, not, List, [], ◌∷◌, Option, Some, None, refl, ap, ◌∙◌, IfSome, AllByRecursion, filter_map, false≢true, remove_first, all-both, all-weaker, find-cut, remove_first-at, filter-all, ◌+◌, ◌<◌, length, add-one, IsSome, cases_lt, length-remove_first, length-split}
-use Rattle.ele_world.proofs.Words.{last_moment, CleanOne, Key, VersionRow, is_due_at, kept_rows, IsDueFromRipe, after_cleans, IsPass, key_cmp, first_due, Take, after_change, clean_step, IsWellFormed, World, is_version, IsCleaned, HasRemoved, IsFinished}
+use Rattle.ele_world.proofs.Basics.{nat_tests, arith, ◌≡◌, ℕ, suc, zero, true, not, List, Option, Some, None, refl, ap, ◌∙◌, IfSome, all-weaker, find-cut, filter-all, ◌+◌, ◌<◌, length, add-one, IsSome, cases_lt, length-remove_first, length-split}
+use Rattle.ele_world.proofs.Words.{CleanOne, Key, VersionRow, is_due_at, kept_rows, after_cleans, IsPass, first_due, Take, after_change, clean_step, IsWellFormed, World, is_version, IsCleaned, HasRemoved, IsFinished}
 use Rattle.ele_world.specs.Scan.{due_key}
 use Rattle.ele_world.proofs.Cleans.{clean_of}
 use Rattle.ele_world.proofs.DropViews.{dropped_sees, kept_same}

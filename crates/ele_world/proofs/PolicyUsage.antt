@@ -1,7 +1,6 @@
 -- What the files of each kind use where a file gets another policy: what it uses goes from the one kind to the other.
-use Rattle.ele_world.proofs.Basics.{nat_tests, ◌≡◌, ◌==◌, ℕ, ◌+◌, ◌≤◌, Bool, true, false, not, cond, List, length, Option, Some, refl, ap, ◌∙◌, arith, filter, find, option_map_or, not-true, length-filter, update_first, filter-passes, all-weaker, filter-same_all, sum_by-update_first, sum_by-found}
-use Rattle.ele_world.proofs.Words.{Kind, Policy, kind_of, is_kind, Usage, only_at, nothing, plus, IsWithin, PutUnder, put_under, after_change, DraftRow, FileRow, VersionRow, file_usage, is_of, is_file_of, IsWellFormed, World, is_file, policy_of}
-use Rattle.ele_policy.specs.declared.policy.Kind.TheVariants as kinds
+use Rattle.ele_world.proofs.Basics.{nat_tests, ◌≡◌, ◌==◌, ℕ, ◌+◌, false, cond, List, length, Some, refl, arith, filter, find, length-filter, update_first, sum_by-update_first, sum_by-found}
+use Rattle.ele_world.proofs.Words.{Kind, Policy, kind_of, is_kind, only_at, plus, IsWithin, PutUnder, put_under, after_change, FileRow, file_usage, is_of, is_file_of, IsWellFormed, World, is_file, policy_of}
 use Rattle.ele_world.specs.Usage.{usage_of}
 use Rattle.ele_world.proofs.Elements.{find-updated}
 use Rattle.ele_world.proofs.Files.{policy_of-put_other}

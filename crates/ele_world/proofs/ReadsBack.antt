@@ -1,5 +1,5 @@
 -- A version that is held has the cells that it had when it closed.
-use Rattle.ele_world.proofs.Basics.{nat_tests, arith, ◌≡◌, ℕ, List, [], ◌∷◌, Option, Some, None, IfSome, refl, subst, find, Ok, AllByRecursion, all-found, all-weaker, all-both, AllLater}
+use Rattle.ele_world.proofs.Basics.{nat_tests, arith, ◌≡◌, ℕ, List, [], ◌∷◌, Option, IfSome, refl, find, Ok, AllByRecursion, all-found, all-weaker, all-both, AllLater}
 use Rattle.ele_world.proofs.Words.{Cell, content_of, TaggedPath, Change, after_change, after_changes, ReadsRow, run_of, IsEvent, plan, step, version_at, ArePlaced, IsVersion, Versions, Readers, IsWellFormed, World, is_version, reads_by, Event, Read, Tagged, Of, Bytes, Version, VersionRow}
 use Rattle.ele_world.proofs.Allowed.{allowed}
 use Rattle.ele_world.proofs.Keeps.{reached}
@@ -7,7 +7,7 @@ use Rattle.ele_world.proofs.May.{MayAll}
 use Rattle.ele_lists.proofs.Cuts.{any-found}
 use Rattle.ele_world.proofs.Meant.{is_at}
 use Rattle.ele_world.proofs.OpenStays.{has_row}
-use Rattle.ele_world.proofs.Moves.{IsPast, change_past, Moves, Same, Ended, Taken, change_moves}
+use Rattle.ele_world.proofs.Moves.{IsPast, change_past, Moves, change_moves}
 use Rattle.ele_world.proofs.Stays.{held_past}
 use Rattle.ele_world.proofs.StepKeeps.{step_keeps, run_keeps}
 use Rattle.ele_world.proofs.Versions.{IsFound, all_found}

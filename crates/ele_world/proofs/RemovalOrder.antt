@@ -1,7 +1,7 @@
 -- The law of the order of removal. Whichever due row is taken out, every other row is due as before, at each moment at which it was due.
-use Rattle.ele_world.proofs.Basics.{◌≡◌, ℕ, ◌-◌, ◌≤◌, Bool, true, false, not, ◌&&◌, List, [], ◌∷◌, ◌++◌, Some, refl, ap, subst, ◌∙◌, filter, arith, ◌⊎◌, inl, inr, IfSome, option_map_or, false≢true, nat_tests, AllLater, sym, find, AllByRecursion, filter-append, all-weaker, all-append, all-around, later-around, filter-same_all, remove_first, find-cut, remove_first-at}
-use Rattle.ele_world.proofs.Words.{Policy, IsPolicy, Beside, is_due_by, lets_go, lets_go_without, lets_go_fewer, VersionRow, FileView, is_newer, closings, is_protected, due_in, ArePlaced, view_of, is_version, is_version_of, RemovalOrder, Take, after_change, IsWellFormed, World}
-use Rattle.ele_world.proofs.Views.{IsLife, Precedes, newer_is, newer_before, newer_without, newer_behind, IsView, precedes, view_is, lives_of, placed_of, own_rows, other_rows}
+use Rattle.ele_world.proofs.Basics.{◌≡◌, ℕ, Bool, true, not, List, ◌∷◌, ◌++◌, Some, refl, ap, subst, ◌∙◌, filter, arith, ◌⊎◌, inl, inr, IfSome, nat_tests, AllLater, sym, find, AllByRecursion, filter-append, all-weaker, all-append, all-around, later-around, filter-same_all, remove_first, find-cut, remove_first-at}
+use Rattle.ele_world.proofs.Words.{IsPolicy, lets_go_without, lets_go_fewer, VersionRow, FileView, is_newer, closings, due_in, ArePlaced, view_of, is_version, is_version_of, RemovalOrder, Take, after_change, IsWellFormed, World}
+use Rattle.ele_world.proofs.Views.{IsLife, Precedes, newer_is, newer_before, newer_without, newer_behind, precedes, view_is, lives_of, placed_of, own_rows, other_rows}
 use Rattle.std.proofs.lemmas.List.{map-append}
 use Rattle.ele_world.specs.Due.{is_due_at}
 

@@ -1,6 +1,6 @@
 -- A held version is due from its ripe moment on, which its next held version tells.
-use Rattle.ele_world.proofs.Basics.{◌≡◌, ℕ, ◌≤◌, ◌&&◌, Bool, true, false, not, Option, Some, None, refl, ap, sym, subst, ◌∙◌, nat_le, option_and_then, IfSome, option_map_or, all-split, all-any, arith}
-use Rattle.ele_world.proofs.Words.{last_moment, Policy, is_due_by, candidates, earliest_of, never_due, due_from, IsPolicy, VersionRow, FileView, view_of, beside, is_protected, due_in, ripe_in, IsDueFromRipe, DueFromRipe, RipeIsAnswer, RipeIsAnswered, IsWellFormed, World, policy_of}
+use Rattle.ele_world.proofs.Basics.{◌≡◌, ℕ, ◌&&◌, Bool, true, false, not, Option, Some, None, refl, sym, subst, ◌∙◌, nat_le, option_and_then, IfSome, option_map_or, all-split, all-any, arith}
+use Rattle.ele_world.proofs.Words.{Policy, is_due_by, candidates, earliest_of, never_due, due_from, IsPolicy, VersionRow, FileView, view_of, beside, is_protected, ripe_in, IsDueFromRipe, DueFromRipe, RipeIsAnswer, RipeIsAnswered, IsWellFormed, World, policy_of}
 use Rattle.ele_policy.specs.Ripe.{ripe_by}
 use Rattle.ele_world.specs.Due.{is_due_at, ripe_of}
 use Rattle.ele_world.proofs.Views.{view_is, nearest_of}

@@ -1,5 +1,5 @@
 -- Which places the rows have, and how many bytes, one row after another.
-use Rattle.ele_world.proofs.Basics.{◌≡◌, ℕ, ◌+◌, ◌-◌, ◌<◌, zero, suc, Bool, true, false, ◌&&◌, ◌||◌, cond, List, [], ◌∷◌, ◌++◌, length, get_or, take, drop, refl, ap, sym, ◌∙◌, arith, eqb, append_assoc, filter, list_any, flat_map, nat_tests, flat_map-cons, list_any-append, list_any-filter, drop_more, take_all, length-append, length-drop}
+use Rattle.ele_world.proofs.Basics.{◌≡◌, ℕ, ◌+◌, ◌-◌, ◌<◌, zero, suc, Bool, true, false, ◌&&◌, ◌||◌, cond, List, [], ◌∷◌, ◌++◌, length, get_or, take, drop, refl, arith, eqb, append_assoc, filter, list_any, flat_map, nat_tests, flat_map-cons, list_any-append, list_any-filter, drop_more, take_all, length-append, length-drop}
 use Rattle.ele_world.proofs.Words.{Cell, Place, content_of, is_place, different, VersionRow, DraftRow, has_slot, is_among, new_places, different_of, places_from, places, bytes_in}
 use Rattle.ele_world.proofs.Splits.{bytes_in-cons}
 

@@ -1,5 +1,5 @@
 -- What rows use: those of some files and those of the others, and where the rows of one file change.
-use Rattle.ele_world.proofs.Basics.{◌≡◌, ◌==◌, ℕ, ◌+◌, Bool, true, false, not, cond, List, [], ◌∷◌, length, map, refl, ap, ◌∙◌, arith, filter, filter-swap, flat_map, nat_tests, flat_map-cons, filter-append, sum_by-cons, list_any-filter, length-split}
+use Rattle.ele_world.proofs.Basics.{◌≡◌, ◌==◌, ℕ, ◌+◌, Bool, false, not, cond, List, [], ◌∷◌, length, map, refl, arith, filter, filter-swap, flat_map, nat_tests, flat_map-cons, filter-append, sum_by-cons, list_any-filter, length-split}
 use Rattle.ele_world.proofs.Words.{Usage, plus, nothing, Cell, content_of, Place, is_place, different, VersionRow, DraftRow, places_from, places, bytes_in}
 
 -- ---- sums split

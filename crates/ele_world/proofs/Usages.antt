@@ -1,8 +1,8 @@
 -- How changes of the world change usage.
-use Rattle.ele_world.proofs.Basics.{rules, ◌≡◌, ℕ, ◌+◌, ◌*◌, ◌^◌, ◌<◌, ◌≤◌, Bool, true, false, not, cond, List, [], ◌∷◌, ◌++◌, ◌==◌, length, refl, ap, sym, ◌∙◌, arith, eqb, filter}
-use Rattle.ele_world.proofs.Basics.{AllByRecursion, flat_map, nat_tests, flat_map-append, append-nil, length-append, flat_map-cons, filter-append, all-weaker, update_first, remove_first, filter-none, length-split}
+use Rattle.ele_world.proofs.Basics.{◌≡◌, ℕ, ◌+◌, ◌*◌, ◌^◌, ◌<◌, ◌≤◌, false, cond, List, [], ◌∷◌, ◌++◌, ◌==◌, length, refl, arith}
+use Rattle.ele_world.proofs.Basics.{AllByRecursion, flat_map, nat_tests, append-nil, length-append, flat_map-cons, filter-append, all-weaker, update_first, remove_first, filter-none, length-split}
 use Rattle.ele_world.proofs.Words.{Kind, Policy, kind_of, is_kind, Usage, only_at, nothing, plus, Fits, Cell, Place, is_place, different, slots_few, VersionRow, DraftRow, is_of, is_file_of, places_from, places, bytes_in, usages}
-use Rattle.ele_world.proofs.Words.{whole, part, ChangesOnly, World, is_file, next_of, is_draft, is_version, FileRow, IsContent, IsFile, IsVersion, IsDraft, Counted, Files, Versions, Drafts, IsWellFormed, content_of, longest_content, AreBounds}
+use Rattle.ele_world.proofs.Words.{whole, part, ChangesOnly, World, is_draft, is_version, FileRow, IsContent, IsFile, IsVersion, IsDraft, Counted, Files, Versions, Drafts, IsWellFormed, longest_content, AreBounds}
 use Rattle.ele_policy.specs.declared.policy.Kind.TheVariants as kinds
 use Rattle.ele_world.specs.Usage.{usage_of}
 use Rattle.ele_world.proofs.Created.{new_file, created, versions_before}
