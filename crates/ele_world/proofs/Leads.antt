@@ -34,13 +34,7 @@ module _ (w : World) (path : List (List ℕ)) (at : ℕ × List ℕ) (k : IsWell
   abbrev policy : Policy
   policy = default_of w.directories at.0
 
-  abbrev new : DirectoryRow
-  new = record { id = id; default = policy }
-
-  abbrev after : World
-  after = after_change w (MakeDirectory at.0 at.1 id policy)
-
-  leads_to : parent_now w.names path ≡ Ok at → is_some (live_target w.names at.0 at.1) ≡ false → LeadsToDirectory w path id after
+  leads_to : parent_now w.names path ≡ Ok at → is_some (live_target w.names at.0 at.1) ≡ false → LeadsToDirectory w path id (after_change w (MakeDirectory at.0 at.1 id policy))
   leads_to found free = record {
     home = at;
     stands = found;
