@@ -88,9 +88,6 @@ module _ (w : World) (file opened : ℕ) (cells : List Cell) (k : MayGrow w file
   ended : AreVersions w.files w.now (with_end w file)
   ended = ended_versions w file k.versions
 
-  policy : policy_of appended.files file ≡ policy_of w.files file
-  policy = policies-numbered w.files file file
-
   ordered : AreInOrder w.files w.versions
   ordered = versions_in_order w.files w.now w.versions k.policies k.versions
 
@@ -108,7 +105,7 @@ module _ (w : World) (file opened : ℕ) (cells : List Cell) (k : MayGrow w file
 
   -- it has its moment where it ends at once
   pub next_after : ripe_at appended file next ≡ cond (is_live w file) None (near_moment (is_marked w.groups file) (policy_of w.files file) None w.now w.now)
-  next_after = grind (arith, nat_tests, unread_unheld w.versions w.handles file next k.readers (any_none (is_version file next) w.versions none_there), any_none (is_version file next) w.versions none_there, none_there, ripe_at_near appended file next then_ordered, then_ordered, new_found w file k.versions.each opened cells, policy, none_behind)
+  next_after = grind (arith, nat_tests, unread_unheld w.versions w.handles file next k.readers (any_none (is_version file next) w.versions none_there), any_none (is_version file next) w.versions none_there, none_there, ripe_at_near appended file next then_ordered, then_ordered, new_found w file k.versions.each opened cells, policies-numbered w.files file file, none_behind)
 
   -- each other version is found as before, but that its file's last one ends
   found_after : (f n : ℕ) → is_version f n new ≡ false → find (is_version f n) appended.versions ≡ find (is_version f n) (with_end w file)
@@ -147,7 +144,7 @@ module _ (w : World) (file opened : ℕ) (cells : List Cell) (k : MayGrow w file
 
     -- and has a moment with the new version beside it
     pub newest_is : ripe_at appended file row.number ≡ cond (is_open w.handles file row.number) None (near_moment (is_marked w.groups file) (policy_of w.files file) (Some w.now) row.closed (unwrap_or row.ended w.now))
-    newest_is = grind (arith, nat_tests, ripe_at_near appended file row.number then_ordered, newest_ended, policy, next_behind)
+    newest_is = grind (arith, nat_tests, ripe_at_near appended file row.number then_ordered, newest_ended, policies-numbered w.files file file, next_behind)
 
     -- what stands behind an older one is as before
     next_still : (n : ℕ) → n < row.number → next_closing appended.versions file n ≡ next_closing w.versions file n
@@ -159,7 +156,7 @@ module _ (w : World) (file opened : ℕ) (cells : List Cell) (k : MayGrow w file
         ∙ next_closing-ended p w.now w.versions file n
 
     stays_older : (n : ℕ) → (n == next) ≡ false → (n == row.number) ≡ false → ripe_at appended file n ≡ ripe_at w file n
-    stays_older n new newest = grind (arith, nat_tests, its, found_moment w appended file n ordered then_ordered, policy, next_still n, found_still file n, stays_unheld n new, all-weaker (IsNoNewer file row.number) (λ x. is_version file n x ≡ false) w.versions)
+    stays_older n new newest = grind (arith, nat_tests, its, found_moment w appended file n ordered then_ordered, policies-numbered w.files file file, next_still n, found_still file n, stays_unheld n new, all-weaker (IsNoNewer file row.number) (λ x. is_version file n x ≡ false) w.versions)
 
   -- all others stay
   pub others_after : (f n : ℕ) → touches w.versions file next f n ≡ false → ripe_at appended f n ≡ ripe_at w f n

@@ -1,6 +1,6 @@
 -- What the making of a file comes to: a row behind the files, the names and the versions.
 use Rattle.ele_world.proofs.Basics.{◌≡◌, ℕ, ◌+◌, ◌<◌, true, List, [], ◌∷◌, ◌++◌, None, arith, AllByRecursion, nat_tests, list_any-append, all-weaker, append-nil, update_first-at, update_first-unfound, insert_before-skip}
-use Rattle.ele_world.proofs.Words.{Policy, with_file, with_name, after_change, MakeFile, Files, Versions, IsWellFormed, World, is_live, is_file, is_version_after, numbered_on, FileRow, NameRow, File, VersionRow}
+use Rattle.ele_world.proofs.Words.{Policy, with_name, after_change, MakeFile, Files, Versions, IsWellFormed, World, is_live, is_file, is_version_after, numbered_on, FileRow, NameRow, File, VersionRow}
 use Rattle.ele_world.proofs.Files.{next_of-given, next_of-new}
 
 -- ---- a file is made

@@ -1,6 +1,6 @@
 -- Due versions and ripe moments after a change that no file's view sees, as the dropping of an idle file.
-use Rattle.ele_world.proofs.Basics.{◌≡◌, ◌==◌, ℕ, false, ap, arith, option_and_then, AllByRecursion, nat_tests, all-any, all-weaker, all-found, filter-same_all}
-use Rattle.ele_world.proofs.Words.{DropIdle, without_file, after_change, ripe_at, kept_rows, FileView, view_of, due_in, ripe_in, World, is_version, VersionRow}
+use Rattle.ele_world.proofs.Basics.{◌≡◌, ℕ, ap, arith, option_and_then, AllByRecursion, nat_tests, all-any, all-weaker, all-found, filter-same_all}
+use Rattle.ele_world.proofs.Words.{DropIdle, after_change, ripe_at, kept_rows, FileView, view_of, due_in, World, is_version, VersionRow}
 use Rattle.ele_world.specs.Due.{is_due_at, ripe_of}
 use Rattle.ele_world.proofs.Dropped.{dropped, live_other, idle_versions, policy_of-removed}
 use Rattle.ele_world.proofs.GroupMarks.{marks_forgotten}

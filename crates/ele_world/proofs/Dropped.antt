@@ -1,8 +1,8 @@
 -- What the dropping of a file comes to: it goes with its names, where nothing was left of it, or nothing changes.
-use Rattle.ele_world.proofs.Basics.{◌≡◌, ◌==◌, ℕ, Bool, true, false, not, List, refl, ap, arith, find, AllByRecursion, list_any, option_map, option_map_or, nat_tests, remove_first, all-none, find-remove_first, list_any-filter, filter, all-filter}
-use Rattle.ele_world.proofs.Basics.{filter-passes, later-filter, all-weaker, all-both, all-remove_first, later-remove_first, length-remove_first-le, any-filtered, length-split}
+use Rattle.ele_world.proofs.Basics.{◌≡◌, ◌==◌, ℕ, Bool, true, false, not, List, refl, arith, AllByRecursion, list_any, nat_tests, remove_first, all-none, find-remove_first, list_any-filter, filter, all-filter, filter-passes, later-filter, all-weaker}
+use Rattle.ele_world.proofs.Basics.{all-both, all-remove_first, later-remove_first, length-remove_first-le, any-filtered, length-split}
 use Rattle.ele_world.proofs.Words.{DropIdle, is_idle, without_file, after_change, is_version_of, World, is_file, next_of, policy_of, is_live, has_draft, is_draft, is_target_file, DraftRow, FileRow, NameRow, VersionRow, IsNameRow, AreApart, AreOthers}
-use Rattle.ele_world.proofs.Words.{IsVersion, IsDraft, Part, Counted, Files, Names, Homes, Tree, Versions, Drafts, Current, Holds, IsWellFormed, IsOfLive, Ended, Groups, is_live_name_of}
+use Rattle.ele_world.proofs.Words.{IsVersion, IsDraft, Part, Names, Versions, Drafts, Current, Holds, IsWellFormed, IsOfLive, Ended, Groups, is_live_name_of}
 use Rattle.ele_world.proofs.KeptGroups.{groups_forgotten}
 
 -- nothing is left of the file

@@ -1,6 +1,6 @@
 -- The next number and the policy of a file, after changes of the file rows.
-use Rattle.ele_world.proofs.Basics.{◌≡◌, ◌≢◌, ◌==◌, ℕ, ◌+◌, ◌<◌, ◌≤◌, false, List, [], ◌∷◌, ◌++◌, Some, refl, arith, AllByRecursion, option_map, option_map_or, nat_tests, update_first, find-update_other, find-append, all-found, found_passes}
-use Rattle.ele_world.proofs.Basics.{all-weaker, not_found}
+use Rattle.ele_world.proofs.Basics.{◌≡◌, ◌≢◌, ◌==◌, ℕ, ◌+◌, ◌<◌, ◌≤◌, false, List, [], ◌∷◌, ◌++◌, refl, arith, AllByRecursion, option_map, option_map_or, nat_tests, update_first, find-update_other, find-append, all-found, found_passes, all-weaker}
+use Rattle.ele_world.proofs.Basics.{not_found}
 use Rattle.ele_world.proofs.Words.{FileRow, Policy, numbered_on, put_under, IsFile, is_file, next_of, policy_of}
 use Rattle.ele_world.proofs.Elements.{find-update_still, find-updated}
 

@@ -1,8 +1,8 @@
 -- The directories that names stand in.
-use Rattle.ele_world.proofs.Basics.{◌≡◌, ℕ, ◌≤◌, Bool, true, ◌==◌, ◌||◌, List, [], ◌∷◌, ◌++◌, Some, Ok, refl, arith, AllByRecursion, list_any, false≢true, nat_tests, list_any-append, all-push, all-weaker, all-found, found_passes}
-use Rattle.ele_world.proofs.Basics.{list_any-update_first, any-found, update_first}
-use Rattle.ele_world.proofs.Words.{is_name_of_directory, dies, live_target, parent_now, has_directory, is_directory, is_reached, IsDirectoryThere, IsHoused, Directories, Homes, IsWellFormed, AreHoused, IsOfLive, World, root, DirectoryRow, NameRow}
-use Rattle.ele_world.proofs.Words.{Target, File, Directory, VersionRow}
+use Rattle.ele_world.proofs.Basics.{◌≡◌, ℕ, ◌≤◌, Bool, true, ◌==◌, ◌||◌, List, [], ◌∷◌, ◌++◌, Ok, refl, arith, AllByRecursion, list_any, false≢true, nat_tests, list_any-append, all-push, all-weaker, all-found, found_passes, list_any-update_first}
+use Rattle.ele_world.proofs.Basics.{any-found, update_first}
+use Rattle.ele_world.proofs.Words.{is_name_of_directory, dies, parent_now, has_directory, is_directory, is_reached, IsDirectoryThere, IsHoused, Directories, Homes, IsWellFormed, AreHoused, IsOfLive, World, root, DirectoryRow, NameRow, Target, File}
+use Rattle.ele_world.proofs.Words.{Directory, VersionRow}
 use Rattle.ele_lists.proofs.Cuts.{any-found as first_passing}
 use Rattle.ele_world.proofs.Walks.{live_row, parent_is, walk_to}
 use Rattle.ele_world.proofs.NameParts.{still_none}

@@ -1,6 +1,6 @@
 -- Each change that may be made keeps a world well formed, and so do all changes of a plan.
 use Rattle.ele_world.proofs.Basics.{nat_tests, arith, ◌≡◌, List, [], ◌∷◌, refl}
-use Rattle.ele_world.proofs.Words.{Change, Time, Revive, Append, Take, WriteDraft, TruncateDraft, EndDraft, after_change, after_changes, Plan, outcome, IsEvent, IsWellFormed, World, Event}
+use Rattle.ele_world.proofs.Words.{Change, Revive, Append, Take, WriteDraft, TruncateDraft, EndDraft, after_change, after_changes, Plan, outcome, IsEvent, IsWellFormed, World, Event}
 use Rattle.ele_world.proofs.KeptDrafts.{start_keeps, write_keeps, truncate_keeps, end_keeps, open_keeps, shut_keeps}
 use Rattle.ele_world.proofs.KeptDirectories.{make_directory_keeps, end_name_keeps, add_name_keeps, end_file_name_keeps, move_name_keeps}
 use Rattle.ele_world.proofs.KeptNames.{time_keeps, govern_keeps, put_under_keeps, make_keeps}

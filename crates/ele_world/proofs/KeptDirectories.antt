@@ -2,9 +2,9 @@
 use Rattle.ele_world.proofs.Basics.{rules, ◌≡◌, ℕ, Bool, true, false, List, [], ◌∷◌, ◌++◌, length-append, Option, Some, None, refl, arith, AllByRecursion, list_any, nat_tests, list_any-append, update_first, all-any, all-push, all-weaker, all-both}
 use Rattle.ele_world.proofs.Basics.{all-none, all-update_first, later-push, length-update_first, list_any-update_found, list_any-update_fails, ◌-◌, cond, ◌==◌, length, false≢true, list_any-update_first, find, later-weaker, all-found, and-false}
 use Rattle.ele_world.proofs.Basics.{found_passes, any-found}
-use Rattle.ele_world.proofs.Words.{Policy, after_change, MakeDirectory, EndName, without_name, born_row, dies, is_live_in, is_live_name, live_target, has_directory, is_reached, IsHoused, Part, Counted, Directories, Names, Homes, Current, Holds}
-use Rattle.ele_world.proofs.Words.{IsWellFormed, Tree, Ended, HaveEnded, IsOfLive, World, is_directory, NameRow, Target, Directory, ended_at, with_end, AddName, EndFileName, File, is_live_directory, Versions, Readers, IsVersion, next_of, is_live}
-use Rattle.ele_world.proofs.Words.{is_version, MoveName, is_target_directory, IsNameRow, IsDirectoryThere, AreOthers, IsThere, is_live_name_of}
+use Rattle.ele_world.proofs.Words.{Policy, after_change, MakeDirectory, EndName, without_name, born_row, dies, is_live_in, is_live_name, live_target, has_directory, is_reached, IsHoused, Part, Directories, Names, Homes, Current, Holds, IsWellFormed}
+use Rattle.ele_world.proofs.Words.{Tree, Ended, HaveEnded, IsOfLive, World, NameRow, Target, Directory, ended_at, with_end, AddName, EndFileName, File, is_live_directory, Versions, Readers, IsVersion, next_of, is_live, is_version, MoveName}
+use Rattle.ele_world.proofs.Words.{is_target_directory, IsNameRow, IsDirectoryThere, AreOthers, IsThere, is_live_name_of}
 use Rattle.ele_world.proofs.Homes.{named_housed, HasName, named_more, named_end, directory_given, ended_more, any_less, homes_more}
 use Rattle.ele_world.proofs.May.{MayMakeDirectory, MayEnd, MayAdd, MayMove}
 use Rattle.ele_world.proofs.NameParts.{names_more, names_end, tree_more, tree_end, live_still, counted_more, free_still, IsUnnamed, still_none}

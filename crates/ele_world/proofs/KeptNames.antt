@@ -1,8 +1,8 @@
 -- The clock, policies and the making of a file keep a world well formed.
-use Rattle.ele_world.proofs.Basics.{◌≡◌, ℕ, ◌+◌, ◌≤◌, false, List, [], ◌∷◌, ◌++◌, length-append, sym, subst, arith, is_some, AllByRecursion, nat_tests, find-append, list_any-append, all-push, all-weaker, all-update_first, later-push, later-update_first}
-use Rattle.ele_world.proofs.Basics.{length-update_first, list_any-update_first}
-use Rattle.ele_world.proofs.Words.{last_moment, Policy, governed_by, put_under, after_change, Time, Govern, MakeFile, PutUnder, live_target, IsPolicy, IsHoused, IsFile, IsNameRow, AreApart, IsVersion, IsDraft, Part, Counted, Files, Names, Homes}
-use Rattle.ele_world.proofs.Words.{Versions, Drafts, Readers, Current, Holds, IsWellFormed, Tree, Ended, Groups, World, root, is_directory, is_file, next_of, is_version, FileRow, NameRow, File}
+use Rattle.ele_world.proofs.Basics.{◌≡◌, ℕ, ◌+◌, ◌≤◌, false, List, [], ◌∷◌, ◌++◌, length-append, sym, subst, arith, is_some, AllByRecursion, nat_tests, find-append, list_any-append, all-push, all-weaker, all-update_first, later-push}
+use Rattle.ele_world.proofs.Basics.{later-update_first, length-update_first, list_any-update_first}
+use Rattle.ele_world.proofs.Words.{last_moment, Policy, governed_by, put_under, after_change, Time, Govern, MakeFile, PutUnder, live_target, IsPolicy, IsHoused, IsFile, IsNameRow, AreApart, IsVersion, IsDraft, Part, Files, Names, Versions, Drafts}
+use Rattle.ele_world.proofs.Words.{Readers, Current, Holds, IsWellFormed, World, root, is_directory, is_file, next_of, FileRow, NameRow, File}
 use Rattle.ele_world.proofs.Readers.{read_on}
 use Rattle.ele_world.proofs.Created.{new_file, new_name, first_version, created, made_is}
 use Rattle.ele_world.proofs.Files.{next_of-push, next_of-given, next_of-new, next_of-put_under}

@@ -1,6 +1,6 @@
 -- A file that has a name again, and a version like its last one, keeps a world well formed.
 use Rattle.ele_world.proofs.Basics.{◌≡◌, ℕ, ◌-◌, ◌<◌, List, length-append, Some, arith, length, AllByRecursion, nat_tests, all-found, found_passes}
-use Rattle.ele_world.proofs.Words.{after_change, Revive, current_cells, with_name, born_row, IsVersion, Part, Names, Homes, Versions, IsWellFormed, World, next_of, current_of, NameRow, File, VersionRow}
+use Rattle.ele_world.proofs.Words.{after_change, Revive, current_cells, with_name, born_row, IsVersion, Part, Versions, IsWellFormed, World, next_of, current_of, File, VersionRow}
 use Rattle.ele_world.proofs.Homes.{any_less, homes_more, ended_more}
 use Rattle.ele_world.proofs.KeptVersions.{HoldsBeside, append_completes}
 use Rattle.ele_world.proofs.May.{MayName, MayRevive, MayAppend}

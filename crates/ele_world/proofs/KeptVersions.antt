@@ -2,8 +2,8 @@
 use Rattle.ele_world.proofs.Basics.{◌≡◌, ◌≢◌, ℕ, ◌+◌, ◌-◌, Bool, true, false, List, Some, arith, ◌==◌, find, is_none, list_any, AllByRecursion, false≢true, nat_tests, remove_first, update_first, all-none, AllLater, all-weaker, all-both, found_passes}
 use Rattle.ele_world.proofs.Basics.{all-update_first, all-remove_first, all-insert_before, later-update_first, later-remove_first, later-insert_before, length-update_first, length-insert_before, length-remove_first-le, list_any-update_first}
 use Rattle.ele_world.proofs.Basics.{list_any-insert_before, list_any-remove_first}
-use Rattle.ele_world.proofs.Words.{Cell, numbered_on, ended_at, next_version, with_end, with_version, after_change, Take, IsFile, IsNameRow, IsVersion, ArePlaced, IsDraft, is_current, IsHeldRead, Part, Counted, Files, Names, Versions, Drafts}
-use Rattle.ele_world.proofs.Words.{Readers, Current, Holds, IsWellFormed, AreVersions, IsOfLive, Ended, Groups, World, next_of, is_file, is_live, is_open, is_version, is_version_after, reads_version, Reads, FileRow, VersionRow}
+use Rattle.ele_world.proofs.Words.{Cell, numbered_on, ended_at, next_version, with_end, with_version, after_change, Take, IsFile, IsNameRow, IsVersion, ArePlaced, IsDraft, is_current, IsHeldRead, Part, Versions, Readers, Current, Holds, IsWellFormed}
+use Rattle.ele_world.proofs.Words.{AreVersions, IsOfLive, World, next_of, is_file, is_live, is_open, is_version, is_version_after, reads_version, Reads, FileRow, VersionRow}
 use Rattle.ele_world.proofs.Readers.{read_on}
 use Rattle.ele_world.proofs.Files.{next_of-numbered_on, next_of-numbered_other, next_of-numbered_le}
 use Rattle.ele_world.proofs.KeptGroups.{groups_on}

@@ -1,8 +1,8 @@
 -- After a create, a mkdir or an undelete its path leads to what is made, or to what the name last stood for.
 use Rattle.ele_world.proofs.Basics.{◌≡◌, ℕ, ◌+◌, false, List, Some, Ok, ap, subst, arith, is_some, nat_tests, find-append, all-weaker, not_found, ◌≤◌, refl, list_any-append}
 use Rattle.ele_world.proofs.Words.{after_change, MakeFile, Policy, LeadsToNew, plan, step, live_target, file_at, parent_now, Files, IsWellFormed, World, default_of, next_of, current_of, Create, File, MakeDirectory, LeadsToDirectory, is_live_in}
-use Rattle.ele_world.proofs.Words.{directory_in, Directories, Homes, is_directory, MakeDir, DirectoryRow, Directory, AddName, Revive, current_cells, next_version, with_name, last_target, LeadsAgain, HasNameAgain, HasVersionAgain, Versions, Undelete}
-use Rattle.ele_world.proofs.Words.{UndeleteLeads, Target}
+use Rattle.ele_world.proofs.Words.{directory_in, Directories, Homes, is_directory, MakeDir, Directory, AddName, Revive, current_cells, next_version, with_name, last_target, LeadsAgain, HasNameAgain, HasVersionAgain, Versions, Undelete, UndeleteLeads}
+use Rattle.ele_world.proofs.Words.{Target}
 use Rattle.ele_world.specs.declared.reply.Reply.TheVariants as reply
 use Rattle.ele_world.proofs.Created.{new_file, made_is, versions_before, named_live}
 use Rattle.ele_world.proofs.Files.{next_of-new, next_of-numbered_on}
@@ -34,13 +34,7 @@ module _ (w : World) (path : List (List ℕ)) (at : ℕ × List ℕ) (k : IsWell
   abbrev policy : Policy
   policy = default_of w.directories at.0
 
-  abbrev new : DirectoryRow
-  new = record { id = id; default = policy }
-
-  abbrev after : World
-  after = after_change w (MakeDirectory at.0 at.1 id policy)
-
-  leads_to : parent_now w.names path ≡ Ok at → is_some (live_target w.names at.0 at.1) ≡ false → LeadsToDirectory w path id after
+  leads_to : parent_now w.names path ≡ Ok at → is_some (live_target w.names at.0 at.1) ≡ false → LeadsToDirectory w path id (after_change w (MakeDirectory at.0 at.1 id policy))
   leads_to found free = record {
     home = at;
     stands = found;

@@ -1,6 +1,6 @@
 -- A name more, and the end of one, in the parts of a well-formed world that speak of names.
-use Rattle.ele_world.proofs.Basics.{◌≡◌, ℕ, ◌≤◌, Bool, true, false, List, [], ◌∷◌, ◌++◌, Some, arith, ◌+◌, ◌<◌, length, find, is_some, is_none, AllByRecursion, list_any, false≢true, nat_tests, bytes_eq-Decides, update_first, all-any, all-push}
-use Rattle.ele_world.proofs.Basics.{all-weaker, all-both, all-update_first, all-not_found, later-push, later-update_first, not_found, later-update_found, list_any-update_found, AllLater}
+use Rattle.ele_world.proofs.Basics.{◌≡◌, ℕ, ◌≤◌, Bool, true, false, List, [], ◌∷◌, ◌++◌, Some, arith, ◌+◌, ◌<◌, length, is_some, is_none, AllByRecursion, list_any, false≢true, nat_tests, bytes_eq-Decides, update_first, all-any, all-push, all-weaker}
+use Rattle.ele_world.proofs.Basics.{all-both, all-update_first, all-not_found, later-push, later-update_first, not_found, later-update_found, list_any-update_found, AllLater}
 use Rattle.ele_world.proofs.Words.{born_row, dies, is_live_directory, live_target, is_live_name, IsThere, IsNameRow, AreApart, AreNames, AreOthers, AreCounted, Counted, IsWellFormed, FileRow, NameRow, Target, File, Directory, World, is_target_file}
 use Rattle.ele_world.proofs.Words.{is_live_name_of}
 

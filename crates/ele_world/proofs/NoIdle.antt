@@ -2,9 +2,8 @@
 -- each file has a version or a draft.
 use Rattle.ele_world.proofs.Basics.{rules, ◌≡◌, ◌==◌, ℕ, Bool, true, false, not, ◌||◌, List, [], ◌∷◌, arith, AllByRecursion, list_any, false≢true, not-true, nat_tests, update_first, remove_first, filter-passes, all-push, all-weaker, all-both}
 use Rattle.ele_world.proofs.Basics.{all-update_first, all-remove_first, found_passes, list_any-update_first, list_any-insert_before, list_any-remove_first, any-found, remove_first-key}
-use Rattle.ele_world.proofs.Words.{Cell, Policy, Take, MakeFile, PutUnder, EndFileName, EndDraft, DropIdle, ShutHandle, StartDraft, after_change, is_idle, numbered_on, put_under, current_cells, with_file, with_name, with_version, without_file}
-use Rattle.ele_world.proofs.Words.{is_version_of, HasNoIdle, NoIdleStays, run_of, IsEvent, plan, step, Files, Current, IsWellFormed, World, is_file, is_draft, is_live, has_draft, Event, Undelete, Close, Revert, CleanOne, Read, DraftRow, FileRow}
-use Rattle.ele_world.proofs.Words.{File}
+use Rattle.ele_world.proofs.Words.{Cell, Policy, Take, MakeFile, PutUnder, EndFileName, EndDraft, DropIdle, ShutHandle, StartDraft, after_change, is_idle, numbered_on, put_under, with_file, with_name, with_version, without_file, is_version_of}
+use Rattle.ele_world.proofs.Words.{HasNoIdle, NoIdleStays, run_of, IsEvent, plan, step, Files, Current, IsWellFormed, World, is_file, is_draft, has_draft, Event, Close, CleanOne, Read, DraftRow, FileRow, File}
 use Rattle.ele_lists.proofs.Cuts.{any-found as first_passing}
 use Rattle.ele_world.proofs.Allowed.{takes}
 use Rattle.ele_world.proofs.Dropped.{dropped}

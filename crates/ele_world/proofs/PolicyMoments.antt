@@ -1,5 +1,5 @@
 -- Which ripe moments change where a file gets another policy: those of its own versions, and no other.
-use Rattle.ele_world.proofs.Basics.{arith, nat_tests, ◌≡◌, ℕ, ◌<◌, ◌==◌, false, cond, Option, Some, None, ap, ◌∙◌}
+use Rattle.ele_world.proofs.Basics.{arith, nat_tests, ◌≡◌, ℕ, ◌<◌, ◌==◌, false, cond, Option, Some, None, ap}
 use Rattle.ele_world.proofs.Words.{is_file, put_under, Policy, IsPolicy, PutUnder, after_change, ripe_at, view_of, ripe_numbered, is_marked, moment_under, IsWellFormed, World, is_open, next_of}
 use Rattle.ele_world.proofs.Elements.{find-updated}
 use Rattle.ele_world.proofs.Files.{policy_of-put_other}

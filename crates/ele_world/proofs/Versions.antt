@@ -1,5 +1,5 @@
 -- Version rows apart and in their order.
-use Rattle.ele_world.proofs.Basics.{◌≡◌, ℕ, ◌+◌, ◌-◌, ◌≤◌, true, false, List, [], ◌∷◌, Some, IfSome, arith, find, AllByRecursion, nat_tests, update_first, AllLater, all-weaker, all-both}
+use Rattle.ele_world.proofs.Basics.{◌≡◌, ℕ, ◌+◌, ◌-◌, ◌≤◌, true, false, List, [], ◌∷◌, Some, arith, find, AllByRecursion, nat_tests, update_first, AllLater, all-weaker, all-both}
 use Rattle.ele_world.proofs.Words.{FileRow, VersionRow, ended_at, IsVersion, ArePlaced, is_version, next_of}
 
 -- a later row isn't the earlier one

@@ -1,6 +1,6 @@
 -- A file's rows in a well-formed world, and which are newer than one of them, by its place.
-use Rattle.ele_world.proofs.Basics.{all-found, ◌≡◌, ℕ, ◌<◌, ◌≤◌, false, List, [], ◌∷◌, ◌++◌, Some, filter, arith, slice_get, IfSome, AllByRecursion, filter-append, IfSome_then, nat_tests, AllLater, all-weaker, all-filter, all-map, all-right, later-right}
-use Rattle.ele_world.proofs.Basics.{later-filter, later-around, filter-all, filter-none}
+use Rattle.ele_world.proofs.Basics.{all-found, ◌≡◌, ℕ, ◌<◌, ◌≤◌, false, List, [], ◌∷◌, ◌++◌, Some, filter, arith, slice_get, IfSome, AllByRecursion, filter-append, IfSome_then, nat_tests, AllLater, all-weaker, all-filter, all-map, all-right}
+use Rattle.ele_world.proofs.Basics.{later-right, later-filter, later-around, filter-all, filter-none}
 use Rattle.ele_world.proofs.Words.{is_file, last_moment, IsPolicy, IsNearest, FileRow, VersionRow, FileView, view_of, is_version_of, is_newer, closings, beside, Now, Files, Versions, IsFile, IsVersion, ArePlaced, IsWellFormed, World, policy_of}
 
 -- the version didn't end before it closed
