@@ -27,7 +27,6 @@ due_by_key rows file number sound = grind (arith, nat_tests, is_due_is (world_of
 pub ripe_told : (rows : Rows) (file number : ℕ) → IsSound rows → ripe_at (world_of rows) file number ≡ cond (is_open rows.files.handles file number) None (free_moment rows.groups rows.files.files rows.files.versions file number)
 ripe_told rows file number sound = ripe_at_near (world_of rows) file number (in_order_of (world_of rows) sound.formed)
 
--- what comes with the next version, by what is told of the newest one
 -- the moment that the newest version gets, by what is told of it
 abbrev gained_by : List GroupRow → Held → ℕ → ℕ → ℕ → ℕ → Option ℕ → Option ℕ
 gained_by groups h file now number closed ended = cond (is_open h.handles file number) None (gained_moment (is_marked groups file) (policy_of h.files file) now closed ended)

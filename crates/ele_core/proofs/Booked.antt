@@ -1,5 +1,5 @@
 -- The book of usage, as the files change.
-use Rattle.ele_core.proofs.Words.{nat_tests, ◌≡◌, ℕ, ◌+◌, ◌-◌, ◌<◌, ◌≤◌, ◌^◌, Bool, true, cond, List, ◌∷◌, length, Some, Ok, refl, sym, subst, ◌∙◌, arith, sum_by, world_of, IsSound, IsTracked, told_by, blocks_of, only_blocks, IsOwed, IsBooked, Rows, content_of, Held, rows_after, rows_of, opened_by, written_by, fitted, sum_by-map, Kind, Policy, kind_of, is_kind, Usage, Book, sums_of, only_at, nothing, plus, Fits, usage_of, is_file_of, bytes_in, whole, ChangesOnly, VersionRow, MakeFile, created, made_is, policy_of, file_by, usage_changes, usage_same, within_files, within_versions, within_bytes, within_blocks, whole_files, whole_versions, whole_bytes, created_usage, only_at_is, []}
+use Rattle.ele_core.proofs.Words.{nat_tests, ◌≡◌, ℕ, ◌+◌, ◌-◌, ◌<◌, ◌≤◌, ◌^◌, Bool, true, cond, List, ◌∷◌, length, Some, Ok, refl, ◌∙◌, arith, sum_by, world_of, IsSound, IsTracked, told_by, blocks_of, only_blocks, IsOwed, IsBooked, Rows, content_of, Held, rows_after, rows_of, opened_by, written_by, fitted, sum_by-map, Kind, Policy, kind_of, is_kind, Usage, Book, sums_of, only_at, nothing, plus, Fits, usage_of, is_file_of, bytes_in, ChangesOnly, VersionRow, MakeFile, created, made_is, policy_of, file_by, usage_changes, usage_same, within_files, within_versions, within_bytes, within_blocks, whole_files, whole_versions, whole_bytes, created_usage, only_at_is, []}
 use Rattle.ele_world.proofs.Others.{drafts-opened, drafts-updated, other_drafts}
 use Rattle.ele_world.proofs.Usages.{changes_drafts, same_usage}
 
@@ -51,14 +51,7 @@ pub owed : (file : ℕ) (h now : Held) (book : Book) (came_versions came_bytes g
     → bytes_in now.versions + gone_bytes ≡ bytes_in h.versions + came_bytes
     → ((k : Kind) → plus (sums_of book k) (cond (is_file_of now.files k file) (some_versions gone_versions gone_bytes) nothing) ≡ plus (usage_of (told_by h) k) (cond (is_file_of now.files k file) (some_versions came_versions came_bytes) nothing))
     → IsOwed now book file (blocks_of h)
-owed file h now book cv cb gv gb changes versions bytes known k =
-    let w = told_by h in
-    let v = told_by now in
-    let kinds : is_file_of now.files k file ≡ is_file_of h.files k file = changes.kinds k file in
-    let moved = subst (λ d. plus (usage_of v k) (cond d (whole w) nothing) ≡ plus (usage_of w k) (cond d (whole v) nothing)) (sym kinds) (usage_changes file w v changes k) in
-    by (is_file_of now.files k file) (usage_of v k) (usage_of w k) (sums_of book k) moved (known k) where
-      by : (d : Bool) (x u s : Usage) → plus x (cond d (whole (told_by h)) nothing) ≡ plus u (cond d (whole (told_by now)) nothing) → plus s (cond d (some_versions gv gb) nothing) ≡ plus u (cond d (some_versions cv cb) nothing) → plus x (cond d (only_blocks (blocks_of h)) nothing) ≡ plus s (cond d (only_blocks (blocks_of now)) nothing)
-      by x0 x u s e f = grind (arith, nat_tests, same_usage)
+owed file h now book cv cb gv gb changes versions bytes known k = grind (arith, nat_tests, changes.kinds k file, usage_changes file (told_by h) (told_by now) changes k, known k, same_usage)
 
 -- where files, versions and the drafts of other files are the same
 pub drafts_owed : (rows : Rows) (file : ℕ) (now : Held) (before : ℕ) → IsTracked rows → before ≡ blocks_of rows.files → now.files ≡ rows.files.files → now.versions ≡ rows.files.versions → other_drafts file now.drafts ≡ other_drafts file rows.files.drafts → IsOwed now rows.book file before
