@@ -104,11 +104,8 @@ module _ (s : Store) (files : List File) (a : AllSessions) (kept : Keeps s files
       let then : HasAppended f x w.now (next_row f.next w.now w.now true empty_layout) = subst (λ (n : ℕ). HasAppended f x n (next_row f.next n n true empty_layout)) (sym time) same_next in
       let begin : World = with_file (with_rows w (held_in s files a)) f.id f.policy in
       rw (← placed) (appended_shows s (files ++ f ∷ []) f.id f x found begun.rise begun.files_kept w.now w.now true empty_layout then (rw none tt) a (with_name begin directory name (target.File f.id)) rows refl (named_live begin directory name f.id)) where
-        none_shown : rows_in s f ≡ []
-        none_shown = rw none refl
-
         rows : rows_of (with_name (with_file (with_rows w (held_in s files a)) f.id f.policy) directory name (target.File f.id)) ≡ held_in s (files ++ f ∷ []) a
-        rows = rw (more_rows, flat_map-append (rows_in s) files (f ∷ []), none_shown, append_nil (flat_map (rows_in s) files), next) refl
+        rows = rw (more_rows, flat_map-append (rows_in s) files (f ∷ []), none, append_nil (flat_map (rows_in s) files), next) refl
 
 -- what the files and the store are then
 pub record IsRestored (t : Store) (was : Held) (file restored now : ℕ) (live : Bool) (next : ℕ) (files : List File) (a : AllSessions) : Type 0 where

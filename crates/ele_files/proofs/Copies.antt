@@ -115,10 +115,7 @@ module _ (laws : StockLaws) (s : Store) (m : Layout) (lives : LivesIn s m) (k : 
   so_far = map (cell_of s) (take k (slots_of s m))
 
   pub places_next : places_from file 0 (map (cell_of s) (take (k + 1) (slots_of s m))) ≡ places_from file 0 so_far ++ record { file = file; slot = k; writer = cell.0 } ∷ []
-  places_next =
-      let at : 0 + length so_far ≡ k = omega (arith, length-map (take k (slots_of s m)) (cell_of s), length-take-le k (slots_of s m) within) in
-      let next = places_from-push file 0 so_far (record { writer = cell.0; bytes = bytes_at s cell.1 }) in
-      ap (places_from file 0) (cell_next laws s m lives k cell got (bytes_at s cell.1) refl) ∙ next ∙ ap (λ n. places_from file 0 so_far ++ record { file = file; slot = n; writer = cell.0 } ∷ []) at
+  places_next = grind (arith, nat_tests, cell_next laws s m lives k cell got (bytes_at s cell.1) refl, places_from-push file 0 so_far, length-map (take k (slots_of s m)) (cell_of s), length-take-le k (slots_of s m) within)
 
 -- ---- the bytes of a log
 

@@ -6,9 +6,8 @@ use Rattle.ele_world.specs.Change as world
 
 -- two changes of what is found that are the same there
 pub update_first-alike : {X : Type 0} (p : X → Bool) (f g : X → X) (xs : List X) (x : X) → find p xs ≡ Some x → f x ≡ g x → update_first p f xs ≡ update_first p g xs
-update_first-alike p f g xs x found same =
-    let cut = find-cut p xs x found in
-    rw cut.whole (update_first-at p f cut.before x cut.behind cut.none cut.passes ∙ (ap (λ y. cut.before ++ y ∷ cut.behind) same ∙ sym (update_first-at p g cut.before x cut.behind cut.none cut.passes)))
+update_first-alike p f g [] x found same = refl
+update_first-alike p f g (y ∷ xs) x found same = grind (arith, nat_tests, update_first-alike p f g xs x)
 
 abbrev pub next_over : File → FileRow → FileRow
 next_over g row = record row { next = g.next }

@@ -67,13 +67,11 @@ module _ (s : Store) (files : List File) (a : AllSessions) (kept : Keeps s files
     told q r x2 is = grind (arith, nat_tests, row_lives)
 
     numbered_shown : (number : ℕ) → result_map_both stamps_of (λ (refusal : Refusal). refusal) (version_numbered versions file number) ≡ row_numbered f number
-    numbered_shown number =
-        rw (find_shown (is_version file number) (is_numbered number) (λ row e. grind (arith, nat_tests)) (λ row. rw own refl), last_shown (world.is_before file number) (is_before number) (λ row e. grind (arith, nat_tests)) (λ row. rw own refl))
+    numbered_shown number = rw (find_shown (is_version file number) (is_numbered number) (λ row e. grind (arith, nat_tests)) (λ row. rw own refl), last_shown (world.is_before file number) (is_before number) (λ row e. grind (arith, nat_tests)) (λ row. rw own refl))
         (told (is_numbered number) (is_before number) (find (is_numbered number) f.log.rows) refl)
 
     living_shown : (moment : ℕ) → result_map_both stamps_of (λ (refusal : Refusal). refusal) (version_living versions file moment) ≡ row_living f moment
-    living_shown moment =
-        rw (find_shown (had_life file moment) (lives_at moment) (λ row e. grind (arith, nat_tests)) (λ row. rw own refl), last_shown (had_closed file moment) (has_closed_by moment) (λ row e. grind (arith, nat_tests)) (λ row. rw own refl))
+    living_shown moment = rw (find_shown (had_life file moment) (lives_at moment) (λ row e. grind (arith, nat_tests)) (λ row. rw own refl), last_shown (had_closed file moment) (has_closed_by moment) (λ row e. grind (arith, nat_tests)) (λ row. rw own refl))
         (told (lives_at moment) (has_closed_by moment) (find (lives_at moment) f.log.rows) refl)
 
     -- and that which lived at the moment

@@ -1,5 +1,5 @@
 -- A row at the end of the others.
-use Rattle.ele_names.proofs.Words.{◌≡◌, ℕ, false, ◌+◌, ◌≤◌, ◌<◌, ◌^◌, cond, List, [], ◌∷◌, ◌++◌, length, Some, None, Option, refl, sym, ap, ◌∙◌, arith, AllByRecursion, IsStrictlySortedBy, option_map_or, nat_cmp, is_at, insert_entry, keys_of, values_of, nat_tests, map-append, value_at, is_placed, index_same, count_by, nat_cmp_total, lookup-insert_entry, sorted-insert_entry, all-push, all-weaker, later-push, pushed, not_yet, split_at, all-mid, Directory, File, last_moment, Target, NameRow, Lives, Places, Table, AreCounted, AreNumbered, IsKept, IsTable, rows_of, ArePlaced, AreListed, KeepsPlaces, names_of, number_in, is_of, live_of, is_live_of, Follows, is_none, append-nil, Leaves, target_eq, true}
+use Rattle.ele_names.proofs.Words.{◌≡◌, ℕ, false, ◌+◌, ◌≤◌, ◌<◌, ◌^◌, cond, List, [], ◌∷◌, ◌++◌, length, Some, None, Option, refl, sym, ap, ◌∙◌, arith, AllByRecursion, IsStrictlySortedBy, option_map_or, nat_cmp, is_at, insert_entry, keys_of, values_of, nat_tests, map-append, value_at, is_placed, index_same, nat_cmp_total, lookup-insert_entry, sorted-insert_entry, all-push, all-weaker, later-push, pushed, not_yet, Directory, File, last_moment, Target, NameRow, Lives, Places, Table, AreCounted, AreNumbered, IsKept, IsTable, rows_of, ArePlaced, AreListed, KeepsPlaces, names_of, number_in, is_of, live_of, Follows, is_none, append-nil, Leaves, target_eq, true}
 use Rattle.ele_names.proofs.Chained.{chained_same}
 use Rattle.ele_names.proofs.Live.{leaves_without, target_with, numbered_same}
 use Rattle.ele_names.proofs.Apart.{row_known}
