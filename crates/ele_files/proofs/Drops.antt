@@ -1,9 +1,8 @@
 -- A file of which nothing is held.
-use Rattle.ele_files.proofs.Words.{AllLater, AllSessions, Bool, Draft, File, IsDraftKept, IsFileKept, IsTrue, Keeps, List, LogRow, None, Some, Store, [], all-both, all-remove_first, all-weaker, ap, arith, eqb, false, false≢true, file_row, find, find-buckets, find-cut, find_position, find-remove_first, flat_map, flat_map-append, flat_map-cut, found_passes, get_or, held_in, is_bare, is_file, is_id, is_some, is_version_of, later-remove_first, list_any, map, nat_tests, not, option_and_then, position, refl, remove, remove_first, remove_first-at, remove_first-map, remove_first_none, remove_first-position, row_in, rows_in, stock_of, sym, true, without_file, ℕ, ◌&&◌, ◌++◌, ◌<◌, ◌↔◌, ◌∙◌, ◌∷◌, ◌≡◌, ◌≢◌}
+use Rattle.ele_files.proofs.Words.{AllLater, AllSessions, Bool, Draft, File, IsDraftKept, IsFileKept, IsTrue, Keeps, List, LogRow, None, Some, Store, [], all-both, all-remove_first, all-weaker, ap, arith, false, false≢true, file_row, find, find-buckets, find_position, find-remove_first, flat_map, found_passes, get_or, held_in, is_bare, is_file, is_id, is_some, is_version_of, later-remove_first, list_any, map, nat_tests, not, option_and_then, position, refl, remove, remove_first, remove_first-map, remove_first-position, row_in, rows_in, stock_of, sym, true, without_file, ℕ, ◌<◌, ◌↔◌, ◌∙◌, ◌∷◌, ◌≡◌, ◌≢◌}
 use Rattle.ele_files.proofs.Tagged.{any_found}
 use Rattle.ele_files.proofs.Stock.{IsSeen, file_dropped}
 use Rattle.ele_files.proofs.Rows.{file_of, tagged, undrafted}
-use Rattle.ele_world.specs.World as world
 
 -- each row is a version
 no_rows : (s : Store) (id : ℕ) (f : File) → is_id id f ≡ true → (rows : List LogRow) → list_any (is_version_of id) (map (row_in s f.id) rows) ≡ false → rows ≡ []
