@@ -1,9 +1,9 @@
 -- A file's next version is appended: the first one of a new file, or a held one that comes again.
-use Rattle.ele_files.proofs.Words.{sum_by_cons, sum_by-update_same, sum_by_push, AllByRecursion, AllLater, AllSessions, Append, Bool, Cell, Draft, File, FileRow, GotFile, HasAppended, Held, IsDraftKept, IsFileKept, IsLocal, IsRowOf, IsRowPast, IsStocked, Keeps, Layout, List, LogRow, None, Some, StockLaws, Store, VersionRow, World, [], after_change, all-both, all_found, all-map, all-push, all-weaker, ap, append_nil, arith, bucket_changes, cond, empty_layout, ended_at, ended_rows, eqb, false, file_row, find, find-at, flat_map, flat_map-append, held_in, insert_before, is_file, is_id, is_live, is_version, is_version_after, later-push, local-after, local-insert_before, local-update_first, ltb, map, map-all, map-append, named_live, nat_tests, next_of, next_of-numbered_other, next_of-push, next_row, not_found, numbered_on, refl, row_in, row_stock, rows_in, rows_of, shown, stock_of, subst, sym, true, update_first, update_first-at, with_file, with_name, with_rows, ℕ, ◌&&◌, ◌++◌, ◌+◌, ◌-◌, ◌<◌, ◌||◌, ◌∙◌, ◌∷◌, ◌≡◌, ◌≢◌, Became, HeldRows, IsPast, IsSome, LivesIn, Moves, Option, Stays, cells_of_version, get_or, is_numbered, list_any, position, set}
+use Rattle.ele_files.proofs.Words.{AllByRecursion, AllLater, AllSessions, Append, Bool, Draft, File, FileRow, GotFile, HasAppended, Held, IsDraftKept, IsFileKept, IsLocal, IsRowOf, IsRowPast, IsStocked, Keeps, Layout, List, LogRow, None, Some, StockLaws, Store, VersionRow, World, [], after_change, all-both, all_found, all-map, all-push, all-weaker, ap, append_nil, arith, bucket_changes, empty_layout, ended_at, ended_rows, false, file_row, find, find-at, flat_map, flat_map-append, held_in, insert_before, is_file, is_id, is_live, is_version, is_version_after, later-push, local-after, local-insert_before, local-update_first, map, map-all, map-append, named_live, nat_tests, next_of, next_of-numbered_other, next_of-push, next_row, not_found, numbered_on, refl, row_in, row_stock, rows_in, rows_of, shown, stock_of, subst, sym, true, update_first, update_first-at, with_file, with_name, with_rows, ℕ, ◌++◌, ◌+◌, ◌-◌, ◌<◌, ◌∙◌, ◌∷◌, ◌≡◌, ◌≢◌, Became, HeldRows, IsPast, IsSome, LivesIn, Moves, Stays, cells_of_version, get_or, is_numbered, list_any, position, set}
 use Rattle.ele_files.proofs.Endings.{closed_kept, of_rows, its_kept, its_past}
 use Rattle.ele_files.proofs.Exchanges.{after, rise_over, files_over, rows_over, IsReached, reached}
 use Rattle.ele_files.proofs.Rows.{its_id, next_found, file_of, tagged, own_version, ended_shown, undrafted, no_file, version_none, version_of}
-use Rattle.ele_files.proofs.Stock.{exchanged, total, over, row_added, file_added, row_copied, row_same, held_stays, row_apart, row_lives}
+use Rattle.ele_files.proofs.Stock.{over, row_added, file_added, row_copied, row_same, held_stays, row_lives}
 use Rattle.ele_world.specs.declared.rows.Target.TheVariants as target
 use Rattle.ele_world.specs.World as world
 
@@ -104,11 +104,8 @@ module _ (s : Store) (files : List File) (a : AllSessions) (kept : Keeps s files
       let then : HasAppended f x w.now (next_row f.next w.now w.now true empty_layout) = subst (λ (n : ℕ). HasAppended f x n (next_row f.next n n true empty_layout)) (sym time) same_next in
       let begin : World = with_file (with_rows w (held_in s files a)) f.id f.policy in
       rw (← placed) (appended_shows s (files ++ f ∷ []) f.id f x found begun.rise begun.files_kept w.now w.now true empty_layout then (rw none tt) a (with_name begin directory name (target.File f.id)) rows refl (named_live begin directory name f.id)) where
-        none_shown : rows_in s f ≡ []
-        none_shown = rw none refl
-
         rows : rows_of (with_name (with_file (with_rows w (held_in s files a)) f.id f.policy) directory name (target.File f.id)) ≡ held_in s (files ++ f ∷ []) a
-        rows = rw (more_rows, flat_map-append (rows_in s) files (f ∷ []), none_shown, append_nil (flat_map (rows_in s) files), next) refl
+        rows = rw (more_rows, flat_map-append (rows_in s) files (f ∷ []), none, append_nil (flat_map (rows_in s) files), next) refl
 
 -- what the files and the store are then
 pub record IsRestored (t : Store) (was : Held) (file restored now : ℕ) (live : Bool) (next : ℕ) (files : List File) (a : AllSessions) : Type 0 where

@@ -1,5 +1,5 @@
 -- How far a copy of rows has come, or a count of the places of a map.
-use Rattle.ele_files.proofs.Words.{AllByRecursion, AllLater, Bool, Cell, Draft, DraftRow, File, IsFileKept, IsRowOf, Layout, List, LivesIn, LogRow, None, Option, Precedes, Slot, Some, Stamps, StockLaws, Store, [], all-got, all-weaker, ap, append_assoc, arith, bytes_at, cell_by, cell_of, draft_in, eqb, filter, filter-all, find, found_passes, get_or, get_or_from_slice_get, is_after, later-weaker, length, map, map-append, nat_tests, option_map, row_in, shown, slice_get, slice_get_within, slots_of, stamps_in, subst, suc, sym, take, take_more, true, zero, ℕ, ◌++◌, ◌+◌, ◌<◌, ◌∙◌, ◌∷◌, ◌≡◌, ◌≤◌, log_bytes, sum_by_cons, AllSessions, Counts, Keeps, Meets, Place, Usage, VersionRow, all_found, append_nil, bytes_in, cond, different, draft_of, false, file_usage, filter-buckets, flat_map, flat_map-map, flat_map_single, is_among, is_id, is_key, is_place, is_version_of, length-map, length-split, length-take-le, list_any, list_any-append, log_places, not, option_map_or, places, places_from, refl, rows_in, sum-map, sum_by-map, sum_by-same, ◌&&◌, ◌*◌, ◌^◌, ◌||◌, Named, Tagged, draft_stock, file_stock, flat_map-append, names_from, names_in, names_of, row_stock, stock_of}
+use Rattle.ele_files.proofs.Words.{AllByRecursion, AllLater, Bool, Cell, Draft, DraftRow, File, IsFileKept, IsRowOf, Layout, List, LivesIn, LogRow, None, Option, Precedes, Slot, Some, Stamps, StockLaws, Store, [], all-got, all-weaker, ap, append_assoc, arith, bytes_at, cell_of, draft_in, eqb, filter, filter-all, find, found_passes, get_or, get_or_from_slice_get, is_after, later-weaker, length, map, map-append, nat_tests, option_map, row_in, shown, slice_get, slice_get_within, slots_of, stamps_in, subst, suc, sym, take, take_more, true, zero, ℕ, ◌++◌, ◌+◌, ◌<◌, ◌∙◌, ◌∷◌, ◌≡◌, ◌≤◌, log_bytes, sum_by_cons, AllSessions, Counts, Keeps, Meets, Place, Usage, VersionRow, all_found, append_nil, bytes_in, cond, different, draft_of, file_usage, filter-buckets, flat_map, flat_map-map, flat_map_single, is_among, is_id, is_key, is_place, is_version_of, length-map, length-split, length-take-le, list_any, list_any-append, log_places, not, option_map_or, places, places_from, refl, rows_in, sum-map, sum_by-map, sum_by-same, ◌*◌, ◌^◌, Named, Tagged, file_stock, flat_map-append, names_from, names_in, names_of, stock_of}
 use Rattle.ele_files.proofs.Rows.{its_id}
 use Rattle.ele_files.proofs.Stock.{logs_live}
 use Rattle.ele_files.proofs.Tagged.{own_rows}
@@ -115,10 +115,7 @@ module _ (laws : StockLaws) (s : Store) (m : Layout) (lives : LivesIn s m) (k : 
   so_far = map (cell_of s) (take k (slots_of s m))
 
   pub places_next : places_from file 0 (map (cell_of s) (take (k + 1) (slots_of s m))) ≡ places_from file 0 so_far ++ record { file = file; slot = k; writer = cell.0 } ∷ []
-  places_next =
-      let at : 0 + length so_far ≡ k = omega (arith, length-map (take k (slots_of s m)) (cell_of s), length-take-le k (slots_of s m) within) in
-      let next = places_from-push file 0 so_far (record { writer = cell.0; bytes = bytes_at s cell.1 }) in
-      ap (places_from file 0) (cell_next laws s m lives k cell got (bytes_at s cell.1) refl) ∙ next ∙ ap (λ n. places_from file 0 so_far ++ record { file = file; slot = n; writer = cell.0 } ∷ []) at
+  places_next = grind (arith, nat_tests, cell_next laws s m lives k cell got (bytes_at s cell.1) refl, places_from-push file 0 so_far, length-map (take k (slots_of s m)) (cell_of s), length-take-le k (slots_of s m) within)
 
 -- ---- the bytes of a log
 

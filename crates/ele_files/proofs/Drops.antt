@@ -1,9 +1,8 @@
 -- A file of which nothing is held.
-use Rattle.ele_files.proofs.Words.{AllLater, AllSessions, Bool, Draft, File, IsDraftKept, IsFileKept, IsTrue, Keeps, List, LogRow, None, Some, Store, [], all-both, all-remove_first, all-weaker, ap, arith, eqb, false, false≢true, file_row, find, find-buckets, find-cut, find_position, find-remove_first, flat_map, flat_map-append, flat_map-cut, found_passes, get_or, held_in, is_bare, is_file, is_id, is_some, is_version_of, later-remove_first, list_any, map, nat_tests, not, option_and_then, position, refl, remove, remove_first, remove_first-at, remove_first-map, remove_first_none, remove_first-position, row_in, rows_in, stock_of, sym, true, without_file, ℕ, ◌&&◌, ◌++◌, ◌<◌, ◌↔◌, ◌∙◌, ◌∷◌, ◌≡◌, ◌≢◌}
+use Rattle.ele_files.proofs.Words.{AllLater, AllSessions, Bool, Draft, File, IsDraftKept, IsFileKept, IsTrue, Keeps, List, LogRow, None, Some, Store, [], all-both, all-remove_first, all-weaker, ap, arith, false, false≢true, file_row, find, find-buckets, find_position, find-remove_first, flat_map, found_passes, get_or, held_in, is_bare, is_file, is_id, is_some, is_version_of, later-remove_first, list_any, map, nat_tests, not, option_and_then, position, refl, remove, remove_first, remove_first-map, remove_first-position, row_in, rows_in, stock_of, sym, true, without_file, ℕ, ◌<◌, ◌↔◌, ◌∙◌, ◌∷◌, ◌≡◌, ◌≢◌}
 use Rattle.ele_files.proofs.Tagged.{any_found}
 use Rattle.ele_files.proofs.Stock.{IsSeen, file_dropped}
 use Rattle.ele_files.proofs.Rows.{file_of, tagged, undrafted}
-use Rattle.ele_world.specs.World as world
 
 -- each row is a version
 no_rows : (s : Store) (id : ℕ) (f : File) → is_id id f ≡ true → (rows : List LogRow) → list_any (is_version_of id) (map (row_in s f.id) rows) ≡ false → rows ≡ []
@@ -36,18 +35,12 @@ module _ (s : Store) (files : List File) (a : AllSessions) (kept : Keeps s files
   abbrev fewer : List File
   fewer = remove_first (is_id id) files
 
-  versionless : list_any (is_version_of id) (held_in s files a).versions ≡ false
-  versionless = grind (arith, nat_tests)
-
-  alone : list_any (world.is_draft id) (held_in s files a).drafts ≡ false
-  alone = grind (arith, nat_tests)
-
   pub rows_left : map file_row fewer ≡ remove_first (is_file id) (map file_row files)
   rows_left = sym (remove_first-map file_row (is_file id) (is_id id) (λ x. refl) files)
 
   module _ (f : File) (found : find (is_id id) files ≡ Some f) where
     no_log : f.log.rows ≡ []
-    no_log = no_rows s id f (found_passes (is_id id) files f found) f.log.rows (sym (held_by s id files kept.rise f found) ∙ versionless)
+    no_log = no_rows s id f (found_passes (is_id id) files f found) f.log.rows (grind (arith, nat_tests, held_by s id files kept.rise f found))
 
     versions_stay : (fs : List File) → find (is_id id) fs ≡ Some f → flat_map (rows_in s) fs ≡ flat_map (rows_in s) (remove_first (is_id id) fs)
     versions_stay [] h = absurd cc
@@ -60,7 +53,7 @@ module _ (s : Store) (files : List File) (a : AllSessions) (kept : Keeps s files
     drops = record {
       keeps =
           let stocked = kept.laws.same s (stock_of files a.drafts) (stock_of fewer a.drafts) (file_dropped files a.drafts (is_id id) f found no_log) kept.stocked in
-          let drafts_kept = all-weaker (λ d. IsDraftKept files d × (d.file ≢ id)) (IsDraftKept fewer) a.drafts draft_stays (all-both (IsDraftKept files) (λ d. d.file ≢ id) a.drafts kept.drafts_kept (undrafted s id a.drafts alone)) in
+          let drafts_kept = all-weaker (λ d. IsDraftKept files d × (d.file ≢ id)) (IsDraftKept fewer) a.drafts draft_stays (all-both (IsDraftKept files) (λ d. d.file ≢ id) a.drafts kept.drafts_kept (undrafted s id a.drafts (grind (arith, nat_tests)))) in
           assumption (stocked, drafts_kept, later-remove_first (is_id id) (λ (x y : File). x.id < y.id) files kept.rise, all-remove_first (is_id id) IsFileKept files kept.files_kept);
       shows = rw (← versions_stay files found, rows_left) refl;
     }

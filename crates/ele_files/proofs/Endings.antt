@@ -1,9 +1,9 @@
 -- The rows of a file when its next version closes, and the file at its place.
-use Rattle.ele_files.proofs.Words.{AllByRecursion, AllLater, AreInOrder, Bool, CanEndAt, EndsInTime, File, HasAppended, HasRows, IsFileKept, IsRowOf, IsRowPast, IsSomeAnd, Layout, List, LogRow, None, Option, Precedes, Some, [], all-append, all-both, all_found, all-update_first, all-weaker, ap, arith, ended_by, ended_rows, eqb, false, find, is_numbered, is_some, last_of, later-push, later-update_first, nat_tests, next_row, refl, true, update_first, update_last, ℕ, ◌+◌, ◌-◌, ◌∙◌, ◌∷◌, ◌≡◌, ◌≤◌, bucket_changes, AllSessions, HeldRows, IsPast, Keeps, Store, file_row, get_or, held_in, is_id, map-all, position, set, ◌<◌, sum_by-update_same, all_not_found, current_ended, ended_at, flat_map, is_version, local-update_first, map, row_in, rows_in, stock_of, update_first_unfound}
+use Rattle.ele_files.proofs.Words.{AllByRecursion, AllLater, AreInOrder, Bool, CanEndAt, EndsInTime, File, HasAppended, HasRows, IsFileKept, IsRowOf, IsRowPast, IsSomeAnd, Layout, List, LogRow, None, Option, Precedes, Some, [], all-append, all-both, all_found, all-update_first, all-weaker, ap, arith, ended_by, ended_rows, false, find, is_numbered, is_some, last_of, later-push, later-update_first, nat_tests, next_row, refl, update_first, update_last, ℕ, ◌+◌, ◌-◌, ◌∙◌, ◌∷◌, ◌≡◌, bucket_changes, AllSessions, HeldRows, IsPast, Keeps, Store, file_row, get_or, held_in, is_id, map-all, position, set, ◌<◌, current_ended, ended_at, flat_map, is_version, local-update_first, map, row_in, rows_in, stock_of}
 use Rattle.ele_inode_log.specs.Rows.{ended_at as log_ended_at}
 use Rattle.ele_files.proofs.Exchanges.{rows_same, same_keeps, same_shows, IsReached, reached, after, keeps_over, drafts_over}
-use Rattle.ele_files.proofs.Stock.{IsSeen, over, exchanged, rows_ended}
-use Rattle.ele_files.proofs.Rows.{tagged, file_of, file_past, own_version, ended_shown, its_id, next_found, no_file, version_none}
+use Rattle.ele_files.proofs.Stock.{IsSeen, over, rows_ended}
+use Rattle.ele_files.proofs.Rows.{tagged, file_of, file_past, own_version, ended_shown, its_id, next_found}
 
 -- a row without an end is the last
 pub record IsLastRow (rows : List LogRow) (number now : ℕ) (row : LogRow) : Type 0 where

@@ -1,5 +1,5 @@
 -- What the rows show of the files, drafts and handles behind them.
-use Rattle.ele_files.proofs.Words.{AllByRecursion, AllLater, Bool, Draft, File, HandleRow, IsPast, IsRowPast, List, LogRow, NoHandle, None, Option, Refusal, Result, Some, Store, VersionRow, [], all-any, all_found, all-map, all-none, all-weaker, any-map, ap, arith, draft_in, ended_at, ended_by, ended_rows, eqb, false, file_or_fault, file_row, find, find-buckets, find-map, find-none, find_position, flat_map, flat_map-all, found_passes, get_or, handle_in, is_file, is_handle, is_id, is_numbered, is_open, is_version, list_any, map, map-all, nat_tests, next_of, ok_or, option_and_then, option_map, option_map_or, policy_of, position, reads_by, reads_in, reads_version, refl, remove_first, remove_first-map, row_in, rows_in, sym, true, update_first, update_first-map, writes, ℕ, ◌-◌, ◌<◌, ◌∙◌, ◌∷◌, ◌≡◌, ◌≢◌}
+use Rattle.ele_files.proofs.Words.{AllByRecursion, AllLater, Draft, File, IsPast, IsRowPast, List, LogRow, NoHandle, None, Option, Refusal, Result, Some, Store, VersionRow, [], all-any, all_found, all-map, all-none, all-weaker, any-map, ap, arith, draft_in, ended_at, ended_by, ended_rows, eqb, false, file_or_fault, file_row, find, find-buckets, find-map, find-none, flat_map, flat_map-all, found_passes, handle_in, is_file, is_handle, is_id, is_numbered, is_open, is_version, list_any, map, map-all, nat_tests, next_of, ok_or, option_and_then, option_map, option_map_or, position, reads_by, reads_in, refl, remove_first, remove_first-map, row_in, rows_in, sym, true, update_first, update_first-map, ℕ, ◌-◌, ◌<◌, ◌∙◌, ◌∷◌, ◌≡◌, ◌≢◌}
 use Rattle.ele_files.specs.Held.{handle_file}
 use Rattle.ele_sessions.specs.Sessions as sessions
 use Rattle.ele_sessions.specs.declared.entries.OpenHandle.{OpenHandle}

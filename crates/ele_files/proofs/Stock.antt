@@ -1,5 +1,5 @@
 -- The maps of files and drafts as one stock, where one file or one draft has changed, and what they show through another store.
-use Rattle.ele_files.proofs.Words.{AllByRecursion, AllSessions, Bool, Draft, File, Keeps, List, LivesIn, LogRow, SameStock, Some, Store, Tagged, [], all_found, all-left, all-right, all-split, arith, draft_stock, ended_by, ended_rows, file_stock, find, flat_map, flat_map-all, insert_before, is_draft, is_id, is_numbered, map, map-all, nat_tests, refl, remove_first, row_stock, stock_of, sum_by, sum_by-append, sum_by-around, sum_by_cons, sum_by-flat_map, sum_by-insert_before, sum_by-map, sum_by-remove_first, sum_by-update_first, sum_by-update_same, sum_by_push, update_first, ℕ, ◌++◌, ◌+◌, ◌-◌, ◌∷◌, ◌≡◌, Held, ShowsSame, draft_in, held_in, row_in, rows_in, Moves, Stays, shown, ◌≤◌}
+use Rattle.ele_files.proofs.Words.{AllByRecursion, AllSessions, Bool, Draft, File, Keeps, List, LivesIn, LogRow, SameStock, Some, Store, Tagged, [], all_found, all-left, all-right, all-split, arith, draft_stock, ended_rows, file_stock, find, flat_map, flat_map-all, insert_before, is_draft, is_id, map, map-all, nat_tests, refl, remove_first, row_stock, stock_of, sum_by, sum_by-append, sum_by-around, sum_by_cons, sum_by-flat_map, sum_by-insert_before, sum_by-map, sum_by-remove_first, sum_by-update_first, sum_by-update_same, sum_by_push, update_first, ℕ, ◌++◌, ◌+◌, ◌∷◌, ◌≡◌, Held, ShowsSame, draft_in, held_in, row_in, rows_in, Moves, Stays, shown, ◌≤◌}
 
 -- a file with the rows and the next number of g
 abbrev pub over : File → File → File

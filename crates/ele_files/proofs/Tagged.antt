@@ -1,7 +1,7 @@
 -- What is told of versions and drafts, as the log of their file shows it: the version that a tag means, the newest, the next closing.
-use Rattle.ele_files.proofs.Words.{AllByRecursion, AllSessions, Bool, Err, File, Keeps, List, LivesIn, LogRow, NoVersion, None, Ok, Option, Refusal, Some, Stamps, Store, Tag, VersionRow, [], all_found, ap, arith, cond, eqb, false≢true, file_row, filter, filter-buckets, find, find-filter, find-map, flat_map, found_passes, had_closed, had_life, has_closed_by, held_or_forgotten, is_before, is_id, is_numbered, is_version, is_version_of, last_number, last_passing, lives_at, map, nat_lt, nat_tests, option_map, option_map_or, refl, result_map_both, row_in, row_living, row_meant, row_numbered, rows_in, stamps_in, stamps_of, sym, told_or_forgotten, true, version_living, version_meant, version_numbered, ℕ, ◌&&◌, ◌-◌, ◌∙◌, ◌∷◌, ◌≡◌, Bor, Draft, DraftRow, Held, Layout, cells_of_draft, cells_of_version, content_of, draft_in, held_in, is_some, is_some-copied, length, list_any, next_of, option_copied, shown, ◌<◌, IsFileKept, IsRowOf, all-weaker, filter-all, is_after, is_newer_of, newest_of, next_closing}
-use Rattle.ele_files.proofs.Rows.{file_of, next_found, tagged, version_of, version_none, draft_found, any_draft}
-use Rattle.ele_files.proofs.Stock.{logs_live, row_lives, draft_lives}
+use Rattle.ele_files.proofs.Words.{AllByRecursion, AllSessions, Bool, Err, File, Keeps, List, LivesIn, LogRow, None, Ok, Option, Refusal, Some, Stamps, Store, Tag, VersionRow, [], all_found, ap, arith, eqb, false≢true, file_row, filter, filter-buckets, find, find-filter, find-map, flat_map, found_passes, had_closed, had_life, has_closed_by, held_or_forgotten, is_before, is_id, is_numbered, is_version, is_version_of, last_number, last_passing, lives_at, map, nat_tests, option_map, option_map_or, refl, result_map_both, row_in, row_living, row_meant, row_numbered, rows_in, stamps_in, stamps_of, sym, told_or_forgotten, true, version_living, version_meant, version_numbered, ℕ, ◌-◌, ◌∙◌, ◌∷◌, ◌≡◌, Bor, Draft, Layout, cells_of_version, draft_in, held_in, is_some, is_some-copied, list_any, option_copied, shown, IsFileKept, IsRowOf, all-weaker, filter-all, is_after, is_newer_of, newest_of, next_closing}
+use Rattle.ele_files.proofs.Rows.{file_of, next_found, tagged, version_of, any_draft}
+use Rattle.ele_files.proofs.Stock.{logs_live, row_lives}
 use Rattle.ele_world.specs.World.{is_draft}
 use Rattle.ele_time_path.specs.declared.tagged.Tag.TheVariants as tag
 use Rattle.ele_world.specs.Tagged as world
@@ -67,13 +67,11 @@ module _ (s : Store) (files : List File) (a : AllSessions) (kept : Keeps s files
     told q r x2 is = grind (arith, nat_tests, row_lives)
 
     numbered_shown : (number : ℕ) → result_map_both stamps_of (λ (refusal : Refusal). refusal) (version_numbered versions file number) ≡ row_numbered f number
-    numbered_shown number =
-        rw (find_shown (is_version file number) (is_numbered number) (λ row e. grind (arith, nat_tests)) (λ row. rw own refl), last_shown (world.is_before file number) (is_before number) (λ row e. grind (arith, nat_tests)) (λ row. rw own refl))
+    numbered_shown number = rw (find_shown (is_version file number) (is_numbered number) (λ row e. grind (arith, nat_tests)) (λ row. rw own refl), last_shown (world.is_before file number) (is_before number) (λ row e. grind (arith, nat_tests)) (λ row. rw own refl))
         (told (is_numbered number) (is_before number) (find (is_numbered number) f.log.rows) refl)
 
     living_shown : (moment : ℕ) → result_map_both stamps_of (λ (refusal : Refusal). refusal) (version_living versions file moment) ≡ row_living f moment
-    living_shown moment =
-        rw (find_shown (had_life file moment) (lives_at moment) (λ row e. grind (arith, nat_tests)) (λ row. rw own refl), last_shown (had_closed file moment) (has_closed_by moment) (λ row e. grind (arith, nat_tests)) (λ row. rw own refl))
+    living_shown moment = rw (find_shown (had_life file moment) (lives_at moment) (λ row e. grind (arith, nat_tests)) (λ row. rw own refl), last_shown (had_closed file moment) (has_closed_by moment) (λ row e. grind (arith, nat_tests)) (λ row. rw own refl))
         (told (lives_at moment) (has_closed_by moment) (find (lives_at moment) f.log.rows) refl)
 
     -- and that which lived at the moment

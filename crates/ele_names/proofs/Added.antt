@@ -1,5 +1,5 @@
 -- A row at the end of the others.
-use Rattle.ele_names.proofs.Words.{◌≡◌, ℕ, false, ◌+◌, ◌≤◌, ◌<◌, ◌^◌, cond, List, [], ◌∷◌, ◌++◌, length, Some, None, Option, refl, sym, ap, ◌∙◌, arith, AllByRecursion, IsStrictlySortedBy, option_map_or, nat_cmp, is_at, insert_entry, keys_of, values_of, nat_tests, map-append, value_at, is_placed, index_same, count_by, nat_cmp_total, lookup-insert_entry, sorted-insert_entry, all-push, all-weaker, later-push, pushed, not_yet, split_at, all-mid, Directory, File, last_moment, Target, NameRow, Lives, Places, Table, AreCounted, AreNumbered, IsKept, IsTable, rows_of, ArePlaced, AreListed, KeepsPlaces, names_of, number_in, is_of, live_of, is_live_of, Follows, is_none, append-nil, Leaves, target_eq, true}
+use Rattle.ele_names.proofs.Words.{◌≡◌, ℕ, false, ◌+◌, ◌≤◌, ◌<◌, ◌^◌, cond, List, [], ◌∷◌, ◌++◌, length, Some, None, Option, refl, sym, ap, ◌∙◌, arith, AllByRecursion, IsStrictlySortedBy, option_map_or, nat_cmp, is_at, insert_entry, keys_of, values_of, nat_tests, map-append, value_at, is_placed, index_same, nat_cmp_total, lookup-insert_entry, sorted-insert_entry, all-push, all-weaker, later-push, pushed, not_yet, Directory, File, last_moment, Target, NameRow, Lives, Places, Table, AreCounted, AreNumbered, IsKept, IsTable, rows_of, ArePlaced, AreListed, KeepsPlaces, names_of, number_in, is_of, live_of, Follows, is_none, append-nil, Leaves, target_eq, true}
 use Rattle.ele_names.proofs.Chained.{chained_same}
 use Rattle.ele_names.proofs.Live.{leaves_without, target_with, numbered_same}
 use Rattle.ele_names.proofs.Apart.{row_known}
@@ -32,16 +32,13 @@ table_new names t is placed = grind (arith, nat_tests, placed_same, value_at)
 
 -- a table over more names
 module _ (old new : List (ℕ × List ℕ)) (keeps : KeepsPlaces old new) (table : Table) (is : IsTable old table) where
-  stays : (row : NameRow) → number_in old row < length old → (number_in new row ≡ number_in old row) × (number_in new row < length new)
-  stays row inside = keeps.each row.directory row.name inside
-
   pub table_over : IsTable new table
   table_over = record {
     rising = is.rising;
     short = is.short;
     born = is.born;
     apart = is.apart;
-    known = all-weaker (λ row. number_in old row < length old) (λ row. number_in new row < length new) (rows_of table) (λ row inside. (stays row inside).1) is.known;
+    known = all-weaker (λ row. number_in old row < length old) (λ row. number_in new row < length new) (rows_of table) (λ row inside. (keeps.each row.directory row.name inside).1) is.known;
     placed = record {
       named = record { each = λ q r s. is.placed.named.each q r s ∙ same q r s (value_at table.rows.entries s) refl };
       chained = is.placed.chained;
@@ -49,7 +46,7 @@ module _ (old new : List (ℕ × List ℕ)) (keeps : KeepsPlaces old new) (table
   } where
     same : (q r s : ℕ) (o : Option NameRow) → value_at table.rows.entries s ≡ o
         → option_map_or (λ row. is_placed nat_cmp (number_in old row) row.birth q r) o false ≡ option_map_or (λ row. is_placed nat_cmp (number_in new row) row.birth q r) o false
-    same q r s o there = grind (arith, nat_tests, stays, row_known old table is s)
+    same q r s o there = grind (arith, nat_tests, keeps.each, row_known old table is s)
 
 module _ (names : List (ℕ × List ℕ)) (table : Table) (kept : IsTable names table) (made : ℕ) (below : AllByRecursion (λ k. k < made) (keys_of table.rows.entries)) where
   abbrev es : List (ℕ × NameRow)

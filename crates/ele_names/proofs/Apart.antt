@@ -1,16 +1,13 @@
 -- Rows of one name are over when a later one is born, so the newest decides; and what the index by name says of them.
-use Rattle.ele_names.proofs.Words.{◌≡◌, ℕ, ◌≤◌, Bool, true, false, ◌&&◌, ◌==◌, nat_le, nat_lt, List, [], ◌∷◌, Some, Option, is_none, refl, ap, sym, ◌∙◌, arith, find, AllByRecursion, option_map_or, bytes_eq, false≢true, nat_tests, bytes_eq-Decides, AllLater, last_passing, passing, later-weaker, find_last, last_moment, NameRow, is_named, covers, lives_past, is_live_name, is_born_by, Follows, ◌<◌, ◌^◌, length, None, Ordering, nat_cmp, ordering_then, is_eq, unsigned_tied, has, IsLastOf, value_at, is_placed, all-mid, split_at, found_key, later_at, none_last, is_last, not_true, Table, IsTable, rows_of, number_in, place_in}
+use Rattle.ele_names.proofs.Words.{◌≡◌, ℕ, ◌≤◌, Bool, true, false, ◌&&◌, ◌==◌, List, [], ◌∷◌, Some, Option, is_none, refl, ap, sym, ◌∙◌, arith, find, AllByRecursion, bytes_eq, false≢true, nat_tests, bytes_eq-Decides, AllLater, last_passing, passing, later-weaker, find_last, last_moment, NameRow, is_named, covers, lives_past, is_live_name, is_born_by, Follows, ◌<◌, ◌^◌, length, None, nat_cmp, unsigned_tied, has, IsLastOf, value_at, is_placed, all-mid, split_at, found_key, later_at, none_last, is_last, not_true, Table, IsTable, rows_of, number_in, place_in}
 use Rattle.ele_names.proofs.Numbers.{named_place, one_place}
-
-pub split : (a b : Bool) → (a && b) ≡ true → (a ≡ true) × (b ≡ true)
-split a b h = grind (arith, nat_tests)
 
 pub equal : (a b : ℕ) → (a == b) ≡ true → a ≡ b
 equal a b h = grind (arith, nat_tests)
 
 -- rows of one name stand in one directory and have one name
 pub same_name : (d : ℕ) (n : List ℕ) (row other : NameRow) → is_named d n row ≡ true → is_named d n other ≡ true → (row.directory ≡ other.directory) × (row.name ≡ other.name)
-same_name d n row other a b = grind (arith, nat_tests, split, bytes_eq, equal, bytes_eq-Decides)
+same_name d n row other a b = grind (arith, nat_tests, bytes_eq, equal, bytes_eq-Decides)
 
 pub named_live : (d : ℕ) (n : List ℕ) (row : NameRow) → is_named d n row ≡ true → is_none row.death ≡ true → is_live_name d n row ≡ true
 named_live d n row = grind (arith, nat_tests, bytes_eq, is_none)

@@ -1,5 +1,5 @@
 -- The members of each group, where a newer one comes or the newest goes.
-use Rattle.ele_names.proofs.Words.{◌≡◌, ℕ, zero, suc, ◌≤◌, ◌<◌, ◌^◌, Bool, true, false, cond, List, [], ◌∷◌, ◌++◌, length, take, slice_get, slice_set, IsSome, Option, Some, None, refl, sym, ◌∙◌, arith, inl, inr, is_at, nat_eq, option_map_or, nat_cmp, false≢true, cases_lt, nat_tests, Chains, AreChained, HasOlder, IsLastBelow, Gains, Keeps, Loses, is_member, newest_in, at_itself, ◌-◌}
+use Rattle.ele_names.proofs.Words.{◌≡◌, ℕ, zero, suc, ◌≤◌, ◌<◌, ◌^◌, Bool, true, false, cond, List, [], ◌∷◌, ◌++◌, length, take, slice_get, slice_set, IsSome, Option, Some, None, refl, sym, ◌∙◌, arith, is_at, nat_eq, option_map_or, nat_cmp, false≢true, nat_tests, Chains, AreChained, HasOlder, IsLastBelow, Gains, Keeps, Loses, is_member, newest_in, at_itself, ◌-◌}
 use Rattle.ele_names.proofs.Live.{same_serial}
 
 apart : (n s : ℕ) → s < n → is_at (nat_cmp n) s ≡ false

@@ -1,5 +1,5 @@
 -- A name more, which is live nowhere.
-use Rattle.ele_names.proofs.Words.{◌≡◌, ℕ, ◌<◌, ◌^◌, Bool, IsSome, true, false, cond, List, [], ◌∷◌, ◌++◌, length, slice_get, Option, Some, None, refl, sym, ap, ◌∙◌, arith, length_append, option_map_or, nat_cmp, is_at, get, keys_of, length-map, map-append, get_or_append_left, get_or_push, slice_get_past, slice_got, nat_tests, insert_entry-new, Target, Live, Lives, live_at, AreListed, name_eq, names_of, place_in, nat_eq, Gains, Keeps, newest_in}
+use Rattle.ele_names.proofs.Words.{◌≡◌, ℕ, ◌<◌, ◌^◌, Bool, IsSome, false, cond, List, [], ◌∷◌, ◌++◌, length, slice_get, Option, Some, None, refl, sym, ap, ◌∙◌, arith, length_append, option_map_or, nat_cmp, is_at, get, keys_of, length-map, map-append, get_or_append_left, get_or_push, slice_get_past, slice_got, nat_tests, insert_entry-new, Target, Live, Lives, live_at, AreListed, name_eq, names_of, place_in, nat_eq, Gains, Keeps, newest_in}
 use Rattle.indexmap.specs.IndexMap.{insert_entry}
 use Rattle.ele_names.proofs.Chained.{chained_entered, chained_kept, chained_none, chained_same, chained_told, newest_known}
 use Rattle.ele_names.proofs.Numbers.{at_place, exact, missing}

@@ -1,5 +1,5 @@
 -- The live rows by directory and name, and counts of them, where one comes or goes.
-use Rattle.ele_names.proofs.Words.{◌≡◌, ℕ, Bool, true, false, cond, List, Some, None, Option, is_none, refl, sym, ap, ◌∙◌, arith, option_and_then, option_map, option_map_or, nat_cmp, is_at, true≢false, false≢true, nat_tests, NameRow, Target, is_named, is_live_name, live_target, Live, Lives, AreCounted, AreNumbered, Leaves, live_at, name_eq, live_in, ◌+◌, ◌-◌, ◌==◌, ◌&&◌, not, nat_lt, [], ◌∷◌, ◌++◌, count_by, list_any, AllByRecursion, AllLater, all-append, later-around, all-any, all-weaker, sum_by-around, sum_by-same, any_count, IsKept, Table, live_of, rows_of, Directory, File, is_live_name_of, is_target_file, is_live_in, is_target_directory, is_live_directory, is_live_of, Follows, target_eq}
+use Rattle.ele_names.proofs.Words.{◌≡◌, ℕ, Bool, true, false, cond, List, Some, None, Option, is_none, refl, sym, ap, ◌∙◌, arith, option_map, nat_cmp, is_at, nat_tests, NameRow, Target, is_named, is_live_name, live_target, Live, Lives, AreCounted, AreNumbered, Leaves, live_at, name_eq, live_in, ◌+◌, ◌-◌, ◌==◌, ◌&&◌, not, nat_lt, [], ◌∷◌, ◌++◌, count_by, list_any, AllByRecursion, AllLater, all-append, later-around, all-any, all-weaker, sum_by-around, sum_by-same, any_count, IsKept, Table, live_of, rows_of, Directory, File, is_live_name_of, is_target_file, is_live_in, is_target_directory, is_live_directory, is_live_of, Follows, target_eq}
 use Rattle.ele_names.proofs.Apart.{named_dead, named_live, named_and_live, same_name}
 use Rattle.ele_names.proofs.Numbers.{exact, itself}
 

@@ -1,5 +1,5 @@
 -- Rows at the places of their numbers.
-use Rattle.ele_names.proofs.Words.{◌≡◌, ℕ, zero, suc, ◌+◌, ◌-◌, ◌≤◌, ◌<◌, sym, Bool, true, false, List, [], ◌∷◌, ◌++◌, length, slice_get, slice_set, Option, Some, None, IsSome, cond, filter_map, refl, ap, subst, ◌∙◌, arith, AllByRecursion, IsStrictlySortedBy, Less, Equal, Greater, nat_cmp, is_at, insert_entry, keys_of, values_of, remove_entry, option_and_then, false≢true, nat_tests, nat_cmp_total, slice_get_past, lookup-insert_entry, at_itself, value_at, all-weaker, IsRising, after_head, all_keys_without, not_yet, pushed, rest_rises, entries_from}
+use Rattle.ele_names.proofs.Words.{◌≡◌, ℕ, suc, ◌+◌, ◌-◌, ◌≤◌, ◌<◌, Bool, List, [], ◌∷◌, ◌++◌, length, slice_get, slice_set, Option, Some, None, IsSome, cond, filter_map, refl, arith, AllByRecursion, IsStrictlySortedBy, Less, nat_cmp, is_at, insert_entry, keys_of, values_of, remove_entry, option_and_then, false≢true, nat_tests, nat_cmp_total, slice_get_past, lookup-insert_entry, at_itself, value_at, all-weaker, IsRising, after_head, all_keys_without, not_yet, pushed, rest_rises, entries_from}
 
 module _ {X : Type 0} where
   pub from_below : (n : ℕ) (xs : List (Option X)) (m : ℕ) → m ≡ n + length xs → AllByRecursion (λ k. k < m) (keys_of (entries_from n xs))

@@ -1,5 +1,5 @@
 -- The numbers of names.
-use Rattle.ele_names.proofs.Words.{◌≡◌, ℕ, suc, ◌+◌, ◌<◌, Bool, true, false, cond, not, ◌==◌, eqb, nat_lt, List, [], ◌∷◌, ◌++◌, length, slice_get, position, is_some, Option, Some, None, length_append, refl, sym, ap, ◌∙◌, ◌⊎◌, arith, list_any, HashMap, get, keys, false≢true, true≢false, cases_lt, nat_tests, position_or_len_push, prefix_len-le-length, bytes_eq-Decides, some_index, NameRow, Target, is_named, Live, name_eq, place_in, number_in, KeepsPlaces}
+use Rattle.ele_names.proofs.Words.{◌≡◌, ℕ, ◌<◌, true, not, ◌==◌, nat_lt, List, [], ◌∷◌, ◌++◌, length, slice_get, position, is_some, Option, Some, None, length_append, sym, ap, ◌∙◌, ◌⊎◌, arith, list_any, HashMap, get, keys, false≢true, true≢false, cases_lt, nat_tests, position_or_len_push, prefix_len-le-length, bytes_eq-Decides, some_index, NameRow, Target, is_named, Live, name_eq, place_in, number_in, KeepsPlaces}
 
 pub exact : (k q : ℕ × List ℕ) → name_eq k q ≡ true → k ≡ q
 exact k q h = grind (arith, nat_tests, bytes_eq-Decides k.1 q.1)

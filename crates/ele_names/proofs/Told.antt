@@ -1,5 +1,5 @@
 -- Names that are told one after the other, with what they stand for.
-use Rattle.ele_names.proofs.Words.{nat_cmp_total, nat_le, IfSome, ◌≡◌, ◌⊎◌, ℕ, ◌<◌, ◌^◌, Bool, true, false, List, [], ◌∷◌, length, map, slice_get, Some, None, Option, is_some, refl, sym, ap, ◌∙◌, inl, inr, arith, option_map, option_map_or, Ordering, nat_cmp, is_eq, IsTotalOrder, slice_cmp, is_at, insert_entry, list_any, lookup, false≢true, tied_itself, nat_list_cmp_total, on_total, then_total, CmpEqualImpliesEq, exact_bytes, exact_pairs, exact_unsigned, slice_get_within, passing, lookup-insert_entry, Target, target_at, last_dead, Inside, by_name, name_cmp, IsKept, rows_of, name_eq, names_of, place_in, nat_eq, option_and_then, cases_lt, nat_tests, IsLastBelow, is_member, newest_in}
+use Rattle.ele_names.proofs.Words.{nat_cmp_total, nat_le, IfSome, ◌≡◌, ◌⊎◌, ℕ, ◌<◌, ◌^◌, Bool, true, false, List, [], ◌∷◌, length, map, slice_get, Some, None, Option, is_some, refl, sym, ap, ◌∙◌, arith, option_map, option_map_or, Ordering, nat_cmp, is_eq, IsTotalOrder, slice_cmp, is_at, insert_entry, list_any, lookup, false≢true, tied_itself, nat_list_cmp_total, on_total, then_total, CmpEqualImpliesEq, exact_bytes, exact_pairs, exact_unsigned, slice_get_within, passing, lookup-insert_entry, Target, target_at, last_dead, Inside, by_name, name_cmp, IsKept, rows_of, name_eq, names_of, place_in, nat_eq, option_and_then, cases_lt, nat_tests, IsLastBelow, is_member, newest_in}
 use Rattle.ele_names.proofs.Apart.{covering_is_newest, born_by_end, equal, none_known}
 use Rattle.ele_names.proofs.Numbers.{exact, known, any_known, at_place}
 

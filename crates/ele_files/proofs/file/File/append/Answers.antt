@@ -1,4 +1,4 @@
-use Rattle.ele_files.proofs.Lemmas.{arith, nat_tests, LogRow, Precedes, all_last, all_precede, refl}
+use Rattle.ele_files.proofs.Lemmas.{LogRow, Precedes, all_last, all_precede, refl}
 use Rattle.ele_files.proofs.file.File.append.Goals as goal
 
 pub append-requires-clause-last : goal.append-requires-clause-last

@@ -1,4 +1,4 @@
-use Rattle.ele_files.proofs.Lemmas.{same_next, found, appended_keeps, placed, arith, nat_tests, File, added_keeps, added_shows, refl, ◌∙◌}
+use Rattle.ele_files.proofs.Lemmas.{File, added_keeps, added_shows, refl, ◌∙◌}
 use Rattle.ele_files.proofs.files.Files.add.Goals as goal
 
 pub invariant_of-self-2 : goal.invariant_of-self-2

@@ -1,4 +1,4 @@
-use Rattle.ele_files.proofs.Lemmas.{last_shown, handle_file_shown, arith, nat_tests, ap, opening_of, ◌∙◌, opening_shown}
+use Rattle.ele_files.proofs.Lemmas.{ap, opening_of, ◌∙◌, opening_shown}
 use Rattle.ele_files.proofs.files.Files.changed_draft.Goals as goal
 
 pub returns : goal.returns

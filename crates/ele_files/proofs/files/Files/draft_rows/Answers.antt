@@ -1,4 +1,4 @@
-use Rattle.ele_files.proofs.Lemmas.{taken-next, found, arith, draft_next, draft_there, nat_tests, refl}
+use Rattle.ele_files.proofs.Lemmas.{draft_there}
 use Rattle.ele_files.proofs.files.Files.draft_rows.Goals as goal
 
 pub unreachable-requires-in_default-draft : goal.unreachable-requires-in_default-draft

@@ -1,4 +1,4 @@
-use Rattle.ele_files.proofs.Lemmas.{find_position, drops, remove_first-position, remove_first-map, remove_first_none, rows_left, arith, nat_tests, drops_at}
+use Rattle.ele_files.proofs.Lemmas.{drops_at}
 use Rattle.ele_files.proofs.files.Files.drop_file.Goals as goal
 
 pub invariant_of-self : goal.invariant_of-self

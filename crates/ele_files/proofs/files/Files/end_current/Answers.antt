@@ -1,4 +1,4 @@
-use Rattle.ele_files.proofs.Lemmas.{no_file, version_none, all_not_found, update_first_unfound, arith, nat_tests, ends, its_past}
+use Rattle.ele_files.proofs.Lemmas.{ends, its_past}
 use Rattle.ele_files.proofs.files.Files.end_current.Goals as goal
 
 pub invariant_of-self : goal.invariant_of-self

@@ -1,4 +1,4 @@
-use Rattle.ele_files.proofs.Lemmas.{its_past, map-all, all_found, next_is, arith, nat_tests, IsFinished, Some, ap, closed, finished, given, held_of, its_few, its_map, not_missing, on_err, option_and_then, ready_past, set, sym, waits, ◌∙◌, ◌≡◌}
+use Rattle.ele_files.proofs.Lemmas.{IsFinished, Some, ap, closed, finished, given, held_of, its_few, its_map, on_err, option_and_then, ready_past, set, sym, waits, ◌∙◌, ◌≡◌}
 use Rattle.ele_files.proofs.files.Files.finish.Goals as goal
 use Rattle.ele_files.proofs.files.Files.finish.Goals.{After-self-2-1}
 

@@ -1,4 +1,4 @@
-use Rattle.ele_files.proofs.Lemmas.{draft_lives, arith, nat_tests, ap, closed, held_of, left_by, option_and_then, sym, ◌∙◌, IsSeen, leaves}
+use Rattle.ele_files.proofs.Lemmas.{draft_lives, arith, nat_tests, closed, held_of, left_by, IsSeen, leaves}
 use Rattle.ele_files.proofs.files.Files.leave.Goals as goal
 use Rattle.ele_files.proofs.files.Files.leave.Goals.{After-give_up}
 

@@ -1,4 +1,4 @@
-use Rattle.ele_files.proofs.Lemmas.{append_nil, arith, nat_tests, Meets, [], ap, draft_places, meets_none, on_ok_weaker, option_map_or, places_from, refl, shown, subst, sym, ◌∙◌}
+use Rattle.ele_files.proofs.Lemmas.{Meets, [], ap, draft_places, meets_none, on_ok_weaker, option_map_or, places_from, shown, subst, sym, ◌∙◌}
 use Rattle.ele_files.proofs.files.Files.meet_draft.Goals as goal
 
 pub returns-in-Some : goal.returns-in-Some

@@ -1,4 +1,4 @@
-use Rattle.ele_files.proofs.Lemmas.{logs_live, all_found, append_nil, shows, places_shown, its_id, arith, nat_tests, List, Meets, VersionRow, [], meets_none, none_shown, on_ok_weaker, own_places, places, subst, sym}
+use Rattle.ele_files.proofs.Lemmas.{List, Meets, VersionRow, [], meets_none, none_shown, on_ok_weaker, own_places, places, subst, sym}
 use Rattle.ele_files.proofs.files.Files.meet_versions.Goals as goal
 
 pub returns-in-Some : goal.returns-in-Some

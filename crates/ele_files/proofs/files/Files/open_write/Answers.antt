@@ -1,4 +1,4 @@
-use Rattle.ele_files.proofs.Lemmas.{opened, arith, first_lives, maps_seen, nat_tests, next_found, opens, sym}
+use Rattle.ele_files.proofs.Lemmas.{opens, sym}
 use Rattle.ele_files.proofs.files.Files.open_write.Goals as goal
 
 pub invariant_of-self : goal.invariant_of-self

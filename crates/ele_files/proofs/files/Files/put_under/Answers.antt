@@ -1,4 +1,4 @@
-use Rattle.ele_files.proofs.Lemmas.{rows_after, next_stays, all-weaker, all-update_first, flat_map-same, later-update_first, set-first, no_file, file_row_found, all_not_found, update_first_unfound, arith, nat_tests, governs}
+use Rattle.ele_files.proofs.Lemmas.{governs}
 use Rattle.ele_files.proofs.files.Files.put_under.Goals as goal
 
 pub invariant_of-self : goal.invariant_of-self

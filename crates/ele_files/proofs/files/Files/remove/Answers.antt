@@ -1,4 +1,4 @@
-use Rattle.ele_files.proofs.Lemmas.{all_not_found, remove_first_unfound, no_file, version_none, arith, nat_tests, sym, gone, lives}
+use Rattle.ele_files.proofs.Lemmas.{sym, gone, lives}
 use Rattle.ele_files.proofs.Exchanges.{unheld}
 use Rattle.ele_files.proofs.files.Files.remove.Goals as goal
 

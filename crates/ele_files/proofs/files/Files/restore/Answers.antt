@@ -1,5 +1,4 @@
-use Rattle.ele_files.proofs.Lemmas.{its_past, map-all, all_found, version_of, IsRestored, arith, held_of, its_few, maps_seen, nat_tests, not_lost, on_err, ready_past, restored, set, waits, ◌∙◌}
-use Rattle.ele_files.proofs.Appends.{lives, not_missing}
+use Rattle.ele_files.proofs.Lemmas.{IsRestored, held_of, its_few, on_err, ready_past, restored, set, waits, ◌∙◌}
 use Rattle.ele_files.proofs.files.Files.restore.Goals as goal
 use Rattle.ele_files.proofs.files.Files.restore.Goals.{After-self-2-1}
 

@@ -1,4 +1,4 @@
-use Rattle.ele_files.proofs.Lemmas.{draft_found, draft_lives, length_is, false≢true, handle_file_shown, arith, cut, fault_shown, nat_tests}
+use Rattle.ele_files.proofs.Lemmas.{cut}
 use Rattle.ele_files.proofs.files.Files.truncate.Goals as goal
 
 pub invariant_of-self : goal.invariant_of-self

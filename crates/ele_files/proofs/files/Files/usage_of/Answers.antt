@@ -1,4 +1,4 @@
-use Rattle.ele_files.proofs.Lemmas.{met_all, arith, nat_tests, none_count, usage_counts}
+use Rattle.ele_files.proofs.Lemmas.{none_count, usage_counts}
 use Rattle.ele_files.proofs.files.Files.usage_of.Goals as goal
 
 pub returns : goal.returns

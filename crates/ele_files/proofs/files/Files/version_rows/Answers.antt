@@ -1,4 +1,4 @@
-use Rattle.ele_files.proofs.Lemmas.{arith, nat_tests, AllByRecursion, LogLives, all_place, logs_live, subst, sym}
+use Rattle.ele_files.proofs.Lemmas.{AllByRecursion, LogLives, all_place, logs_live, subst, sym}
 use Rattle.ele_files.proofs.files.Files.version_rows.Goals as goal
 
 pub copy_log-requires-clause-lives : goal.copy_log-requires-clause-lives

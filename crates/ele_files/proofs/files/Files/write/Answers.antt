@@ -1,4 +1,4 @@
-use Rattle.ele_files.proofs.Lemmas.{draft_lives, arith, nat_tests, fault_shown, handle_file_shown, wrote}
+use Rattle.ele_files.proofs.Lemmas.{wrote}
 use Rattle.ele_files.proofs.files.Files.write.Goals as goal
 
 pub invariant_of-self : goal.invariant_of-self

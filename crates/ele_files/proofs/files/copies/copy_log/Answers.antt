@@ -1,4 +1,4 @@
-use Rattle.ele_files.proofs.Lemmas.{append_assoc, found, rise, left_behind, LivesIn, LogRow, all_found, all_not_found, ap, append_nil, arith, filter, filter_none, is_after, log_all, log_fewer, log_next, map, nat_tests, row_in, rows_in, sym, ◌++◌, ◌∙◌}
+use Rattle.ele_files.proofs.Lemmas.{ap, filter, is_after, log_next, map, row_in, rows_in, ◌++◌, ◌∙◌}
 use Rattle.ele_files.proofs.files.copies.copy_log.Goals as goal
 
 pub loop-row-preserved : goal.loop-row-preserved

@@ -1,4 +1,4 @@
-use Rattle.ele_files.proofs.Lemmas.{cell_next, places_from-push, length-take-le, length-map, nat_tests, Counts, arith, cell_of, map, met_next, places_next, places_from, slots_of, subst, sym, take, ◌++◌}
+use Rattle.ele_files.proofs.Lemmas.{Counts, arith, cell_of, map, met_next, places_next, places_from, slots_of, subst, sym, take, ◌++◌}
 use Rattle.ele_files.proofs.files.usage.meet.Goals as goal
 
 pub loop-slot-preserved : goal.loop-slot-preserved

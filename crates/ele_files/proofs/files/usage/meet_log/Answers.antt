@@ -1,4 +1,4 @@
-use Rattle.ele_files.proofs.Lemmas.{append_nil, found, rise, left_behind, append_assoc, arith, nat_tests, List, LivesIn, LogRow, Meets, all_found, all_not_found, filter, filter_none, is_after, log_all, log_fewer, log_left, log_places, meets_none, meets_then, places_from, shown, subst, sym}
+use Rattle.ele_files.proofs.Lemmas.{List, LogRow, Meets, all_not_found, filter, filter_none, is_after, log_left, log_places, meets_none, meets_then, places_from, shown, subst, sym}
 use Rattle.ele_files.proofs.files.usage.meet_log.Goals as goal
 
 pub loop-row-preserved : goal.loop-row-preserved

@@ -1,4 +1,4 @@
-use Rattle.ele_names.proofs.Lemmas.{None, arith, nat_tests, named_and_live, numbered_without, set_of_name, others_live}
+use Rattle.ele_names.proofs.Lemmas.{None, named_and_live, numbered_without, set_of_name, others_live}
 use Rattle.ele_names.proofs.lives.Lives.end.Goals as goal
 
 pub returns-clause-numbered : goal.returns-clause-numbered

@@ -1,4 +1,4 @@
-use Rattle.ele_names.proofs.Lemmas.{◌==◌, not, is_none, ap, arith, nat_tests, ◌∙◌, named_dead, named_live, dead_one, dead_left, numbered_without, own_name}
+use Rattle.ele_names.proofs.Lemmas.{not, ap, arith, nat_tests, named_dead, named_live, dead_one, dead_left, numbered_without, own_name}
 use Rattle.ele_names.proofs.lives.Lives.leave.Goals as goal
 
 pub returns-then-is_none-clause-numbered : goal.returns-then-is_none-clause-numbered

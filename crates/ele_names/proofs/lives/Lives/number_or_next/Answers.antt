@@ -1,4 +1,4 @@
-use Rattle.ele_names.proofs.Lemmas.{◌≡◌, ℕ, List, length, length_append, ◌∷◌, [], refl, sym, ap, subst, ◌∙◌, ◌++◌, arith, keys_of, Lives, live_at, names_of, names_pushed, names_counted, same_live, listed_pushed, listed_kept, counted_same, numbered_same, keeps_pushed, pushed_place, Gains}
+use Rattle.ele_names.proofs.Lemmas.{◌≡◌, ℕ, List, length, length_append, ◌∷◌, [], refl, ap, subst, ◌∙◌, ◌++◌, arith, keys_of, Lives, live_at, names_of, names_pushed, names_counted, same_live, listed_pushed, listed_kept, counted_same, numbered_same, keeps_pushed, pushed_place, Gains}
 use Rattle.ele_names.proofs.lives.Lives.number_or_next.Goals as goal
 
 abbrev old : goal.In_default-insert → Lives

@@ -1,4 +1,4 @@
-use Rattle.ele_names.proofs.Lemmas.{sym, ◌∙◌, arith, value_at, names_of, kept_without, fewer, others_stay, is_newest, none_of_file, its_file, row_known}
+use Rattle.ele_names.proofs.Lemmas.{sym, ◌∙◌, value_at, names_of, kept_without, others_stay, is_newest, none_of_file, its_file}
 use Rattle.ele_names.proofs.names.Names.drop_one.Goals as goal
 
 pub returns-in_default-clause-none : goal.returns-in_default-clause-none

@@ -1,4 +1,4 @@
-use Rattle.ele_names.proofs.Lemmas.{refl, sym, ◌∙◌, found, found_known, found_target, its_name, kept_dead, killed}
+use Rattle.ele_names.proofs.Lemmas.{refl, sym, ◌∙◌, found, found_target, its_name, kept_dead, killed}
 use Rattle.ele_names.proofs.names.Names.kill.Goals as goal
 
 pub end-requires : goal.end-requires

@@ -1,4 +1,4 @@
-use Rattle.ele_names.proofs.Lemmas.{ℕ, suc, ◌<◌, Option, Some, None, arith, IfSome, option_map_or, Ok, slice_cmp, nat_cmp, AllocError, nat_list_cmp_total, items_from_collect, YieldsList-from_rest, exact_bytes, target_at, rows_of, names_of, is_left, list_begun, list_first, list_next, list_second, list_smaller, list_stands, told_all, told_one}
+use Rattle.ele_names.proofs.Lemmas.{Some, arith, Ok, slice_cmp, nat_cmp, AllocError, nat_list_cmp_total, items_from_collect, YieldsList-from_rest, exact_bytes, target_at, rows_of, names_of, is_left, list_begun, list_first, list_next, list_second, list_smaller, list_stands, told_all, told_one}
 use Rattle.ele_names.proofs.names.Names.list.Goals as goal
 
 pub loop-next-init : goal.loop-next-init

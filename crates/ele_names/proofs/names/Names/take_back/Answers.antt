@@ -1,4 +1,4 @@
-use Rattle.ele_names.proofs.Lemmas.{false, sym, ap, ◌∙◌, arith, option_map_or, value_at, is_of, names_of, kept_without, last_gone, row_known, at_last, none_past, without_last}
+use Rattle.ele_names.proofs.Lemmas.{false, sym, ap, arith, option_map_or, value_at, is_of, names_of, kept_without, row_known, at_last, none_past, without_last}
 use Rattle.ele_names.proofs.names.Names.take_back.Goals as goal
 
 pub unreachable-requires-in_default-number : goal.unreachable-requires-in_default-number
