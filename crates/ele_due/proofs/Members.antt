@@ -1,5 +1,5 @@
 -- Which keys a list has after a change.
-use Rattle.std.proofs.Common.{◌≡◌, Bool, true, false, not, cond, ◌&&◌, ◌||◌, List, [], ◌∷◌, refl, ap, sym, subst, ◌∙◌, fold, filter, arith}
+use Rattle.std.proofs.Common.{◌≡◌, Bool, ◌&&◌, ◌||◌, List, [], ◌∷◌, refl, ap, sym, fold, filter, arith}
 use Rattle.std.specs.declared.cmp.Ordering.TheVariants.{Less, Equal, Greater}
 use Rattle.std.specs.Ordering.{match_ordering}
 use Rattle.std.specs.BTreeSet.{insert_key}
@@ -8,7 +8,7 @@ use Rattle.ele_due.specs.declared.key.Key.{Key}
 use Rattle.ele_due.specs.Key.{key_cmp, is_key}
 use Rattle.ele_due.specs.HasKey.{has_key}
 use Rattle.ele_due.specs.InOrder.{in_order}
-use Rattle.ele_due.proofs.Keys.{key_exact, is_key-same, is_key-sym}
+use Rattle.ele_due.proofs.Keys.{key_exact, is_key-same}
 
 -- the list with the key inserted has it and the others
 pub has_key-insert_key : (k key : Key) (keys : List Key) → has_key k (insert_key key_cmp keys key) ≡ (is_key k key || has_key k keys)

@@ -1,8 +1,8 @@
 -- That the fields keep their order and counts when a handle comes or goes.
-use Rattle.ele_sessions.proofs.Basics.{◌≡◌, ℕ, ◌+◌, ◌-◌, true, Ok, cond, nat_lt, List, [], ◌∷◌, ◌++◌, Option, Some, None, refl, sym, ap, ◌∙◌, arith, list_any, find, length-append, nat_tests, remove_first, counted, Tally, remove_first-unfound, all-not_found, length-remove_first-le}
-use Rattle.ele_sessions.proofs.Words.{Layout, Store, RewritesDraft, Resizes, has_length, left_drafts, Keeps, reads_eq, reading, AreOrderly, Draft, AllSessions, is_handle, is_writer, is_reader, is_draft, reads_by, file_by, OpenHandle, Reads}
+use Rattle.ele_sessions.proofs.Basics.{◌≡◌, ℕ, ◌+◌, ◌-◌, true, Ok, cond, nat_lt, List, [], ◌∷◌, ◌++◌, Some, None, ap, ◌∙◌, arith, list_any, find, length-append, nat_tests, remove_first, counted, Tally, remove_first-unfound, all-not_found, length-remove_first-le}
+use Rattle.ele_sessions.proofs.Words.{Layout, Store, RewritesDraft, Resizes, has_length, left_drafts, Keeps, reads_eq, reading, AreOrderly, Draft, AllSessions, is_handle, is_writer, is_draft, reads_by, file_by, OpenHandle, Reads}
 use Rattle.ele_sessions.specs.declared.reads.Reads.TheVariants as reads
-use Rattle.ele_sessions.proofs.Counts.{reading-push, reading-left, any-writer, any-reader}
+use Rattle.ele_sessions.proofs.Counts.{reading-push, reading-left, any-writer}
 use Rattle.ele_sessions.proofs.Orders.{reader_left, writer_left, its_draft, rewritten}
 
 -- the handle of that number, by what is read through it

@@ -1,5 +1,5 @@
-use Rattle.ele_sessions.proofs.Basics.{refl, arith}
-use Rattle.ele_sessions.proofs.Words.{IsAt, IsGap, file_in, draft_in, IsWritten}
+use Rattle.ele_sessions.proofs.Basics.{arith}
+use Rattle.ele_sessions.proofs.Words.{IsAt, file_in, draft_in}
 use Rattle.ele_sessions.proofs.Found.{not_missing, found_draft, drafts_stay, rewrites}
 use Rattle.ele_sessions.proofs.changing.write_draft.Goals as goal
 

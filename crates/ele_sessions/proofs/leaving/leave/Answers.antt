@@ -1,5 +1,4 @@
-use Rattle.std.proofs.Common.{refl, arith}
-use Rattle.ele_sessions.specs.Inside.{IsAt, IsGap, file_in}
+use Rattle.std.proofs.Common.{arith}
 use Rattle.ele_sessions.proofs.Found.{not_missing, found_draft, draft_gone}
 use Rattle.ele_sessions.proofs.leaving.leave.Goals as goal
 

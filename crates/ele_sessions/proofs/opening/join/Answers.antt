@@ -1,5 +1,4 @@
-use Rattle.std.proofs.Common.{refl, arith}
-use Rattle.ele_sessions.specs.Inside.{IsAt, IsGap, file_in}
+use Rattle.std.proofs.Common.{arith}
 use Rattle.ele_sessions.proofs.Found.{some_draft, no_draft}
 use Rattle.ele_sessions.proofs.opening.join.Goals as goal
 

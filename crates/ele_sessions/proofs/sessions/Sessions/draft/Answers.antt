@@ -1,5 +1,5 @@
-use Rattle.ele_sessions.proofs.Basics.{refl, rises-map, arith}
-use Rattle.ele_sessions.proofs.Words.{IsAt, IsGap, file_in, draft_in, Draft}
+use Rattle.ele_sessions.proofs.Basics.{refl, arith}
+use Rattle.ele_sessions.proofs.Words.{IsAt, file_in}
 use Rattle.ele_sessions.proofs.Found.{found_draft, missing_draft}
 use Rattle.ele_sessions.proofs.sessions.Sessions.draft.Goals as goal
 

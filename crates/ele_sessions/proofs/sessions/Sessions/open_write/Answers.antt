@@ -1,5 +1,5 @@
-use Rattle.ele_sessions.proofs.Basics.{refl, rises-map}
-use Rattle.ele_sessions.proofs.Words.{draft_in, sessions_of, new_draft, Draft}
+use Rattle.ele_sessions.proofs.Basics.{refl}
+use Rattle.ele_sessions.proofs.Words.{sessions_of, new_draft}
 use Rattle.ele_sessions.proofs.Keepings.{entered_keeps}
 use Rattle.ele_sessions.proofs.Orders.{writer_entered}
 use Rattle.ele_sessions.proofs.sessions.Sessions.open_write.Goals as goal

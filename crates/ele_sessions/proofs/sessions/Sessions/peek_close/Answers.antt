@@ -1,5 +1,5 @@
-use Rattle.ele_sessions.proofs.Basics.{◌≡◌, nat_lt, ap, ◌∙◌, list_any, option_map, rises-map, arith}
-use Rattle.ele_sessions.proofs.Words.{closing_of, left_handles, draft_in, sessions_of, Draft, is_writer}
+use Rattle.ele_sessions.proofs.Basics.{arith}
+use Rattle.ele_sessions.proofs.Words.{sessions_of}
 use Rattle.ele_sessions.proofs.Keepings.{stays_then, draft_there}
 use Rattle.ele_sessions.proofs.sessions.Sessions.peek_close.Goals as goal
 

@@ -1,5 +1,5 @@
-use Rattle.ele_sessions.proofs.Basics.{refl, rises-map}
-use Rattle.ele_sessions.proofs.Words.{draft_in, sessions_of, Draft}
+use Rattle.ele_sessions.proofs.Basics.{refl}
+use Rattle.ele_sessions.proofs.Words.{sessions_of}
 use Rattle.ele_sessions.proofs.Keepings.{written_by, draft_there, resized_keeps}
 use Rattle.ele_sessions.proofs.sessions.Sessions.truncate.Goals as goal
 
