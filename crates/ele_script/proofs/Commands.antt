@@ -38,13 +38,7 @@ no_command_fits words none command arguments fits = let some = fits_found words 
 
 -- the faults behind the command are those of the words
 fault_of_words : (words : List (List ℕ)) (command : Command) (arguments : List (List ℕ)) (fault : LineFault) → command_of words ≡ Some (command, arguments) → words ≡ command_words command ++ arguments → IsFaultOfKinds (kinds_behind command) arguments fault → IsFaultOfWords words fault
-fault_of_words words command arguments fault found are (miscounted number is) =
-    let no : (c : Command) (xs : List (List ℕ)) → FitsCommand words c xs → ⊥ = λ c xs fits.
-    let p : Command × List (List ℕ) = (command, arguments) in
-    let q : Command × List (List ℕ) = (c, xs) in
-    let pair : p ≡ q = some_is (sym found ∙ fits_found words c xs fits) in
-    number (ap (λ (p : Command × List (List ℕ)). length p.1) pair ∙ fits.count ∙ ap (λ (p : Command × List (List ℕ)). length (kinds_behind p.0)) (sym pair)) in
-    no_command no is
+fault_of_words words command arguments fault found are (miscounted number is) = no_command (λ c xs fits. grind (arith, number, fits_found words c xs fits, fits.count, some_is)) is
 fault_of_words words command arguments fault found are (bad_word count first) =
     of_word command arguments (record { are = are; count = count }) first
 
@@ -57,11 +51,7 @@ are words command arguments found = subst (λ o. IfSome o (λ x. words ≡ comma
 
 -- what the words behind the command spell, the words spell
 pub spelled_words : (words : List (List ℕ)) (command : Command) (arguments : List (List ℕ)) (r : Result Line LineFault) → command_of words ≡ Some (command, arguments) → ReadsLine command arguments r → IfOk r (SpellsWords words)
-spelled_words words command arguments (Ok asked) found h = record {
-  arguments = arguments;
-  are = are words command arguments found ∙ ap (λ (c : Command). command_words c ++ arguments) (sym h.command_is);
-  values = h.values;
-}
+spelled_words words command arguments (Ok asked) found h = record { arguments = arguments; are = grind (arith, are words command arguments found, h.command_is); values = h.values }
 spelled_words words command arguments (Err fault) found h = tt
 
 -- and memory that reading them wants, the words want

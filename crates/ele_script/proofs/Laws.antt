@@ -61,12 +61,8 @@ tails h = cc
 
 -- words stand for one list of values of their kinds
 one_list : (words : List (List ℕ)) (vs us : List Value) → kinds_of vs ≡ kinds_of us → SpellsValues words vs → SpellsValues words us → vs ≡ us
-one_list [] [] [] k a b = refl
-one_list [] (v ∷ vs) us k a b = absurd a
-one_list [] [] (u ∷ us) k a b = absurd b
-one_list (word ∷ words) [] us k a b = absurd a
-one_list (word ∷ words) (v ∷ vs) [] k a b = absurd b
 one_list (word ∷ words) (v ∷ vs) (u ∷ us) k a b = grind (arith, nat_tests, one_value, tails, one_list words vs us (tails k) a.1 b.1)
+one_list words vs us k a b = grind arith
 
 parts_is : (c d : Command) (vs us : List Value) → c ≡ d → vs ≡ us → let p : Command × List Value = (c, vs) in let q : Command × List Value = (d, us) in p ≡ q
 parts_is c d vs us p q =
@@ -85,18 +81,14 @@ pub one_event : (line : List ℕ) (a b : Event) → Spells line a → Spells lin
 one_event line a b h k = event_is (one_line line (asks.Event a) (asks.Event b) h k)
 
 as_many : (words : List (List ℕ)) (values : List Value) → SpellsValues words values → length words ≡ length (kinds_of values)
-as_many [] [] h = refl
-as_many [] (v ∷ vs) h = absurd h
-as_many (word ∷ words) [] h = absurd h
-as_many (word ∷ words) (v ∷ vs) h = let more = as_many words vs h.1 in omega (arith, more)
+as_many (word ∷ words) (v ∷ vs) h = omega (arith, as_many words vs h.1)
+as_many words values h = grind arith
 
 -- words that stand for values of their kinds have no fault
 no_first : (words : List (List ℕ)) (values : List Value) (fault : LineFault) → SpellsValues words values → IsFirstWordFault (kinds_of values) words fault → ⊥
-no_first [] [] fault h bad = bad
-no_first [] (v ∷ vs) fault h bad = absurd h
-no_first (word ∷ words) [] fault h bad = bad
 no_first (word ∷ words) (v ∷ vs) fault h (inl bad) = faultless_word (word_kind v) word fault (v, refl, h.0) bad
 no_first (word ∷ words) (v ∷ vs) fault h (inr bad) = no_first words vs fault h.1 bad.1
+no_first words values fault h bad = grind arith
 
 moved : (fault : LineFault) {c d : Command} {xs ys : List (List ℕ)} → c ≡ d → xs ≡ ys → IsFirstWordFault (kinds_behind c) xs fault → IsFirstWordFault (kinds_behind d) ys fault
 moved fault {c} {d} {xs} {ys} p q h = grind (arith, nat_tests)
@@ -111,12 +103,8 @@ spelled_faultless line asked fault h (not_worded short broken is) = true≢false
 spelled_faultless line asked fault h (of_words short worded bad) = no_words (words_of line) asked fault h.words bad
 
 one_first : (kinds : List WordKind) (words : List (List ℕ)) (a b : LineFault) → IsFirstWordFault kinds words a → IsFirstWordFault kinds words b → a ≡ b
-one_first [] words a b x y = absurd x
-one_first (kind ∷ kinds) [] a b x y = absurd x
-one_first (kind ∷ kinds) (word ∷ words) a b (inl x) (inl y) = one_word_fault kind word a b x y
-one_first (kind ∷ kinds) (word ∷ words) a b (inl x) (inr y) = absurd (faultless_word kind word a y.0 x)
-one_first (kind ∷ kinds) (word ∷ words) a b (inr x) (inl y) = absurd (faultless_word kind word b x.0 y)
-one_first (kind ∷ kinds) (word ∷ words) a b (inr x) (inr y) = one_first kinds words a b x.1 y.1
+one_first (kind ∷ kinds) (word ∷ words) a b x y = grind (arith, one_word_fault kind word a b, faultless_word kind word a, faultless_word kind word b, one_first kinds words a b)
+one_first kinds words a b x y = grind arith
 
 one_of_words : (words : List (List ℕ)) (a b : LineFault) → IsFaultOfWords words a → IsFaultOfWords words b → a ≡ b
 one_of_words words a b (no_command unfit x) (no_command also y) = x ∙ sym y

@@ -59,7 +59,7 @@ digits_split bytes piece behind n e f = rw (e, f) (ap encode_lower (sym (take-ap
 pub digits_none : (bytes : List ℕ) → (length bytes == 0) ≡ true → encode_lower bytes ≡ []
 unfolding encode_with
 digits_none [] none = refl
-digits_none (byte ∷ bytes) none = let zero = eqb-true (length (byte ∷ bytes)) 0 none in absurd (omega (arith, zero))
+digits_none (byte ∷ bytes) none = grind (arith, nat_tests)
 
 -- the line of bytes in its parts
 pub bytes_line : (n digits : List ℕ) → line_text (codes "ok bytes" ∷ n ∷ digits ∷ []) ≡ codes "ok bytes " ++ (n ++ ((32 ∷ []) ++ (digits ++ 10 ∷ [])))
@@ -69,13 +69,9 @@ bytes_line n digits = line_is (codes "ok bytes") (n ∷ digits ∷ [])
 pub usages_are : (us : List Usage) (d : Usage) → length us ≡ 4 → usage_lines kind_words us ≡ usage_line (codes "one") (get_or us 0 d) ++ (usage_line (codes "all") (get_or us 1 d) ++ (usage_line (codes "safe") (get_or us 2 d) ++ usage_line (codes "landmarks") (get_or us 3 d)))
 usages_are (a ∷ b ∷ c ∷ e ∷ []) d four =
     ap (λ (rest : List ℕ). usage_line (codes "one") a ++ (usage_line (codes "all") b ++ (usage_line (codes "safe") c ++ rest))) (append-nil (usage_line (codes "landmarks") e))
-usages_are [] d four = absurd (omega (arith, four))
-usages_are (a ∷ []) d four = absurd (omega (arith, four))
-usages_are (a ∷ b ∷ []) d four = absurd (omega (arith, four))
-usages_are (a ∷ b ∷ c ∷ []) d four = absurd (omega (arith, four))
-usages_are (a ∷ b ∷ c ∷ e ∷ f ∷ us) d four = absurd (omega (arith, four))
+usages_are us d four = grind arith
 
 -- the line of no bytes
 pub no_bytes : (bytes : List ℕ) → (length bytes == 0) ≡ true → bytes_text bytes ≡ line_text (codes "ok bytes" ∷ codes "0" ∷ codes "-" ∷ [])
 no_bytes [] none = ap (λ (n : List ℕ). line_text (codes "ok bytes" ∷ n ∷ codes "-" ∷ [])) (decimal_digit 0 (omega arith))
-no_bytes (byte ∷ bytes) none = let zero = eqb-true (length (byte ∷ bytes)) 0 none in absurd (omega (arith, zero))
+no_bytes (byte ∷ bytes) none = grind (arith, nat_tests)

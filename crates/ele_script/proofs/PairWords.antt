@@ -23,10 +23,7 @@ number_unmarked mark high word n is = rw is.digits (unmarked mark high (decimal 
 
 slash_behind : (front rest : List ℕ) → All (λ c. (c == 47) ≡ false) front → position_or_len is_slash (front ++ 47 ∷ rest) ≡ length front
 slash_behind [] rest none = refl
-slash_behind (c ∷ front) rest none =
-    let more = slash_behind front rest (All-tail (λ c. (c == 47) ≡ false) c front none) in
-    let longer : 1 + length front ≡ length (c ∷ front) = omega arith in
-    rw (All-head (λ c. (c == 47) ≡ false) c front none) (ap (λ n. 1 + n) more ∙ longer)
+slash_behind (c ∷ front) rest none = grind (arith, All-head, slash_behind front rest (All-tail (λ c. (c == 47) ≡ false) c front none))
 
 -- the slash of a pair stands behind its age
 slash_at : (word : List ℕ) (pair : Rung) → (is : SpellsPair word pair) → position is_slash word ≡ Some (length is.age)
@@ -86,19 +83,14 @@ one_pair word (age, width) (other, wide) a b =
     ap (λ n. (n, width)) (one_number _ age other x.0 y.0) ∙ ap (λ n. (other, n)) (one_number _ width wide x.1 y.1)
 
 pub one_pairs : (words : List (List ℕ)) (ps qs : List Rung) → AllZip SpellsPair words ps → AllZip SpellsPair words qs → ps ≡ qs
-one_pairs [] [] [] a b = refl
-one_pairs [] (p ∷ ps) qs a b = absurd a
-one_pairs [] [] (q ∷ qs) a b = absurd b
-one_pairs (word ∷ words) [] qs a b = absurd a
-one_pairs (word ∷ words) (p ∷ ps) [] a b = absurd b
 one_pairs (word ∷ words) (p ∷ ps) (q ∷ qs) a b = cc (one_pair word p q a.0 b.0, one_pairs words ps qs a.1 b.1)
+one_pairs words ps qs a b = grind arith
 
 -- if words are pairs, so is each
 pub all_pairs : (words : List (List ℕ)) (ps : List Rung) (i : ℕ) (word : List ℕ) → AllZip SpellsPair words ps → i < length words → word ≡ get_or words i word → ((p : Rung) → ¬ SpellsPair word p) → ⊥
-all_pairs [] ps i word all lt here bad = absurd (omega (arith, lt))
-all_pairs (w ∷ words) [] i word all lt here bad = absurd all
 all_pairs (w ∷ words) (p ∷ ps) zero word all lt here bad = bad p (rw here all.0)
 all_pairs (w ∷ words) (p ∷ ps) (suc i) word all lt here bad = all_pairs words ps i word all.1 (omega (arith, lt)) here bad
+all_pairs words ps i word all lt here bad = grind arith
 
 -- a text with a byte is cut at its commas
 pub parts_are : (text : List ℕ) → (length text == 0) ≡ false → parts_of text ≡ slice_split (λ b. b == 44) text
@@ -106,10 +98,8 @@ parts_are [] some = absurd cc
 parts_are (c ∷ cs) some = refl
 
 pairs_push : (words : List (List ℕ)) (ps : List Rung) (word : List ℕ) (p : Rung) → AllZip SpellsPair words ps → SpellsPair word p → AllZip SpellsPair (words ++ word ∷ []) (ps ++ p ∷ [])
-pairs_push [] [] word p all is = (is, tt)
-pairs_push [] (q ∷ ps) word p all is = absurd all
-pairs_push (w ∷ words) [] word p all is = absurd all
 pairs_push (w ∷ words) (q ∷ ps) word p all is = (all.0, pairs_push words ps word p all.1 is)
+pairs_push words ps word p all is = grind arith
 
 -- a pair behind few is kept, and behind many it isn't
 take_more : (n : ℕ) (ps : List Rung) (p : Rung) → length (take n ps) < n → take n (ps ++ p ∷ []) ≡ take n ps ++ p ∷ []

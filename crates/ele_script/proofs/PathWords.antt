@@ -14,38 +14,20 @@ use Rattle.ele_world.specs.declared.event.Source.TheVariants.{Tagged, Of}
 use Rattle.ele_script.proofs.Moments.{one_number, one_moment}
 
 one_tag : (text : List ℕ) (a b : Tag) → SpellsTag text a → SpellsTag text b → a ≡ b
-one_tag [] Now Now x y = refl
-one_tag [] Now (At n) x y = absurd y
-one_tag [] Now (Number n) x y = absurd y
-one_tag [] (At m) b x y = absurd x
-one_tag [] (Number m) b x y = absurd x
-one_tag (mark ∷ text) Now b x y = absurd x
-one_tag (mark ∷ text) (At m) Now x y = absurd y
 one_tag (mark ∷ text) (At m) (At n) x y = ap At (one_moment text m n x.1 y.1)
-one_tag (mark ∷ text) (At m) (Number n) x y = absurd (omega (arith, x.0, y.0))
-one_tag (mark ∷ text) (Number m) Now x y = absurd y
-one_tag (mark ∷ text) (Number m) (At n) x y = absurd (omega (arith, x.0, y.0))
 one_tag (mark ∷ text) (Number m) (Number n) x y = ap Number (one_number text m n x.1 y.1)
+one_tag text a b x y = grind (arith, nat_tests)
 
 -- a word stands for one path with a tag
 pub one_tagged : (word : List ℕ) (a b : TaggedPath) → SpellsTaggedPath word a → SpellsTaggedPath word b → a ≡ b
-one_tagged word a b x y =
-    let p = spelled_parts word a x in
-    let q = spelled_parts word b y in
-    let path = one_path (path_part word) a.path b.path p.0 q.0 in
-    let tag = one_tag (tag_part word) a.tag b.tag p.1 q.1 in
-    λ i. record { path = path i; tag = tag i }
+one_tagged word a b x y = grind (arith, nat_tests, spelled_parts word a x, spelled_parts word b y, one_path (path_part word) a.path b.path, one_tag (tag_part word) a.tag b.tag)
 
 moment_is : (a b : Option ℕ) → tag_at a ≡ tag_at b → a ≡ b
 moment_is x0 x1 h = grind (arith, nat_tests)
 
 -- and for one path at one moment
 pub one_timed : (word : List ℕ) (a b : PathAt) → SpellsPathAt word a → SpellsPathAt word b → a ≡ b
-one_timed word a b x y =
-    let same = one_tagged word (tagged_at a) (tagged_at b) x y in
-    let path = ap (λ (t : TaggedPath). t.path) same in
-    let moment = moment_is a.moment b.moment (ap (λ (t : TaggedPath). t.tag) same) in
-    λ i. record { path = path i; moment = moment i }
+one_timed word a b x y = grind (arith, nat_tests, one_tagged word (tagged_at a) (tagged_at b) x y, moment_is a.moment b.moment)
 
 -- a path begins with a slash
 begins_cut : (text tag : List ℕ) (names : List (List ℕ)) → IsCut text names → begins_path (text ++ tag) ≡ true

@@ -48,11 +48,9 @@ one_landmarks word ps qs (inr a) (inl b) = absurd (unpaired a.0.text (sym b.0 �
 one_landmarks word ps qs (inr a) (inr b) = one_ladder word ps qs a.0 b.0
 
 one_of_kind : (word : List ℕ) (a b : Policy) → kind_of a ≡ kind_of b → SpellsPolicy word a → SpellsPolicy word b → a ≡ b
-one_of_kind word One One k a b = refl
-one_of_kind word All All k a b = refl
 one_of_kind word (Safe m) (Safe n) k a b = ap Safe (one_safe word m n a.0 b.0)
 one_of_kind word (Landmarks ps) (Landmarks qs) k a b = ap Landmarks (one_landmarks word ps qs a b)
-one_of_kind word _ _ k a b = absurd cc
+one_of_kind word p q k a b = grind arith
 
 -- a word is one policy
 pub one_policy : (word : List ℕ) (a b : Policy) → SpellsPolicy word a → SpellsPolicy word b → a ≡ b

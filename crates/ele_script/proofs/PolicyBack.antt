@@ -11,9 +11,6 @@ use Rattle.ele_script.proofs.PairWords.{number_unmarked, parts_are}
 spelled : (n : ℕ) → n ≤ last_moment → SpellsNumber (decimal n) n
 spelled n le = record { fits = omega (arith, le); digits = refl }
 
-both : (a b : Bool) → (a && b) ≡ true → (a ≡ true) × (b ≡ true)
-both x0 b h = grind (arith, nat_tests)
-
 -- the numbers of a rung are no greater than the last moment
 record IsShort (rung : Rung) : Type 0 where
   age : rung.0 ≤ last_moment
@@ -30,8 +27,7 @@ spelled_pair low rung h =
 spelled_pairs : (low : Rung) (rungs : List Rung) → climbs low rungs ≡ true → AllZip SpellsPair (map pair_word rungs) rungs
 spelled_pairs low [] up = tt
 spelled_pairs low (rung ∷ rungs) up =
-    let parts = both (is_above low rung) (climbs rung rungs) up in
-    (spelled_pair low rung parts.0, spelled_pairs rung rungs parts.1)
+    (spelled_pair low rung (grind (arith, nat_tests)), spelled_pairs rung rungs (grind (arith, nat_tests)))
 
 -- no comma stands in the word of a pair
 whole_pair : (word : List ℕ) (rung : Rung) → SpellsPair word rung → All (λ byte. (byte == 44) ≡ false) word

@@ -39,20 +39,12 @@ none_is h = cc
 
 -- a word that stands for a value of its kind has no fault
 pub faultless_word : (kind : WordKind) (word : List ℕ) (fault : LineFault) → IsOfKind kind word → IsWordFault kind word fault → ⊥
-faultless_word NumberWord word fault is bad = bad.1 is
-faultless_word MomentWord word fault is bad = bad.1 is
-faultless_word NameWord word fault is bad = bad.1 is
 faultless_word PathWord word fault (Path names, k, is) bad = none_is (ap (λ o. option_map fault_of_path o) (sym (spelled_faultless word names is)) ∙ bad)
-faultless_word PathWord word fault (value, k, is) bad = absurd cc
 faultless_word TaggedWord word fault (Tagged value, k, is) bad = faultless_tagged word value fault is bad
-faultless_word TaggedWord word fault (value, k, is) bad = absurd cc
 faultless_word TimedWord word fault (Timed value, k, is) bad = at_faultless word value bad.0 is bad.1
-faultless_word TimedWord word fault (value, k, is) bad = absurd cc
 faultless_word SourceWord word fault (Source value, k, is) bad = faultless_source word value fault is bad
-faultless_word SourceWord word fault (value, k, is) bad = absurd cc
-faultless_word BytesWord word fault is bad = bad.1 is
 faultless_word PolicyWord word fault (Policy policy, k, is) bad = faultless_policy word policy fault is bad
-faultless_word PolicyWord word fault (value, k, is) bad = absurd cc
+faultless_word kind word fault is bad = grind arith
 
 -- a word has one fault of its kind
 pub one_word_fault : (kind : WordKind) (word : List ℕ) (a b : LineFault) → IsWordFault kind word a → IsWordFault kind word b → a ≡ b

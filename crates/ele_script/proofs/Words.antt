@@ -38,9 +38,7 @@ plain_before (suc n) (x ∷ xs) le h = rw (plain_byte x (h 0 (omega arith))) (pl
 -- what has no end is one plain word
 whole_word : (xs : List ℕ) → AreOfWords xs (length xs) → (words_of xs ≡ xs ∷ []) × (list_all is_plain xs ≡ true)
 whole_word [] h = (refl, refl)
-whole_word (x ∷ xs) h =
-    let rest = whole_word xs (λ k lt. h (suc k) (omega (arith, lt))) in
-    (rw (no_space x (h 0 (omega arith)), rest.0) refl, rw (plain_byte x (h 0 (omega arith))) rest.1)
+whole_word (x ∷ xs) h = grind (arith, nat_tests, no_space x, plain_byte x, h 0, whole_word xs (later x xs (length xs) h))
 
 no_end : (text : List ℕ) → position ends_word text ≡ None → AreOfWords text (length text)
 no_end text none k lt = grind (arith, nat_tests, ltb-false, prefix_len_passes)
@@ -96,7 +94,7 @@ cut_empty line front (x ∷ xs) at are found space none =
 -- and so does no rest
 pub cut_none : (line : List ℕ) (front : List (List ℕ)) (rest : List ℕ) → AreCut line front rest → (length rest == 0) ≡ true → is_worded line ≡ false
 cut_none line front [] are none = words_unspaced line front [] are.words
-cut_none line front (x ∷ xs) are none = let zero = eqb-true (length (x ∷ xs)) 0 none in absurd (omega (arith, zero))
+cut_none line front (x ∷ xs) are none = grind (arith, nat_tests)
 
 -- a byte that isn't plain ends a word
 pub cut_unplain : (line : List ℕ) (front : List (List ℕ)) (rest : List ℕ) (at : ℕ) → AreCut line front rest → position ends_word rest ≡ Some at → get_or rest at 0 ≢ 32 → list_all is_plain line ≡ false
