@@ -1,5 +1,5 @@
 -- Numbers of which none stands twice in a list, where one is taken out.
-use Rattle.ele_groups.proofs.Basics.{◌≡◌, ℕ, ◌==◌, Bool, true, false, not, ◌&&◌, List, [], ◌∷◌, refl, arith, filter, list_any, AllByRecursion, nat_tests, remove_first, list_any-remove_first, found_passes}
+use Rattle.ele_groups.proofs.Basics.{◌≡◌, ℕ, ◌==◌, true, false, not, ◌&&◌, List, [], ◌∷◌, refl, arith, filter, list_any, AllByRecursion, nat_tests, remove_first, list_any-remove_first, found_passes}
 use Rattle.ele_groups.proofs.Words.{AreApart}
 
 pub is_same : (x y : ℕ) → (x == y) ≡ true → x ≡ y

@@ -1,5 +1,5 @@
 -- A row changed at its serial number, or taken out.
-use Rattle.ele_groups.proofs.Basics.{◌≡◌, ℕ, ◌<◌, ◌≤◌, Bool, true, false, ◌&&◌, List, [], ◌∷◌, Option, Some, None, refl, arith, find, Result, OnOk, OnErr, is_at, list_any, AllByRecursion, keys_of, values_of, set_value, remove_entry, option_map, option_map_or, nat_cmp, false≢true, nat_tests, update_first, remove_first, value_at, IsRising, after_head, head_or_later, rest_rises, at_itself}
+use Rattle.ele_groups.proofs.Basics.{◌≡◌, ℕ, Bool, true, false, List, [], ◌∷◌, Some, None, refl, arith, find, is_at, list_any, AllByRecursion, keys_of, values_of, set_value, remove_entry, option_map, option_map_or, nat_cmp, false≢true, nat_tests, update_first, remove_first, value_at, IsRising, after_head, head_or_later, rest_rises, at_itself}
 use Rattle.ele_groups.proofs.Words.{GroupRow, changed_at}
 
 pub same_serial : (a b : ℕ) → is_at (nat_cmp a) b ≡ true → a ≡ b

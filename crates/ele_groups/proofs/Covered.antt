@@ -1,6 +1,6 @@
 -- Whether a mark covers, those of the group left out.
 use Rattle.ele_groups.proofs.Basics.{◌≡◌, ℕ, ◌<◌, ◌^◌, ◌==◌, Bool, true, false, ◌&&◌, not, List, [], ◌∷◌, Option, None, refl, ◌∙◌, arith, list_any, AllByRecursion, IsStrictlySortedBy, keys_of, values_of, option_map_or, nat_cmp, false≢true, nat_tests, Index, has, value_at, all-weaker, not_yet}
-use Rattle.ele_groups.proofs.Words.{GroupRow, covers_moment, is_group, is_member, is_left_out, has_covering_without, Except, has_covering_but, is_marked_row, ArePlaced, has_file}
+use Rattle.ele_groups.proofs.Words.{GroupRow, covers_moment, is_group, is_left_out, has_covering_without, Except, has_covering_but, is_marked_row, ArePlaced}
 use Rattle.ele_groups.proofs.Changed.{any_value, no_value}
 use Rattle.ele_groups.proofs.Named.{none_any}
 use Rattle.ele_groups.proofs.Placed.{stands}

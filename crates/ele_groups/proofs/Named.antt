@@ -1,5 +1,5 @@
 -- The group of a name, by its serial number.
-use Rattle.ele_groups.proofs.Basics.{◌≡◌, ℕ, ◌+◌, ◌<◌, ◌≤◌, ◌^◌, Bool, true, false, cond, List, [], ◌∷◌, ◌++◌, Option, Some, None, is_some, refl, sym, ap, ◌∙◌, arith, find, is_at, insert_entry, list_any, AllByRecursion, IsStrictlySortedBy, keys_of, values_of, remove_entry, option_map_or, nat_cmp, bytes_eq, true≢false, false≢true, nat_tests, map-append, bytes_eq-Decides, update_first, remove_first, Index, has, value_at, all-push, all-weaker, not_found, update_first-unfound, remove_first-unfound, pushed, not_yet, all_keys_without}
+use Rattle.ele_groups.proofs.Basics.{◌≡◌, ℕ, ◌+◌, ◌<◌, ◌≤◌, ◌^◌, Bool, true, false, cond, List, [], ◌∷◌, ◌++◌, Option, Some, None, is_some, refl, sym, ◌∙◌, arith, find, is_at, insert_entry, list_any, AllByRecursion, IsStrictlySortedBy, keys_of, values_of, remove_entry, nat_cmp, bytes_eq, true≢false, false≢true, nat_tests, map-append, bytes_eq-Decides, update_first, remove_first, Index, has, value_at, all-push, all-weaker, not_found, update_first-unfound, remove_first-unfound, pushed, not_yet, all_keys_without}
 use Rattle.ele_groups.proofs.Words.{GroupRow, is_group, is_member, new_group, AreKept, ArePlaced, changed_at}
 use Rattle.ele_groups.proofs.Changed.{Entries, IsOne, one, any_value, no_value, changed_keys, changed_same, same_serial}
 

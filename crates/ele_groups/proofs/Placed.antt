@@ -1,5 +1,5 @@
 -- The groups of a file, by their serial numbers.
-use Rattle.ele_groups.proofs.Basics.{◌≡◌, ℕ, ◌==◌, ◌<◌, ◌^◌, Bool, true, false, cond, ◌&&◌, not, List, [], ◌∷◌, ◌++◌, Option, Some, None, refl, ◌∙◌, arith, is_at, list_any, nat_cmp, false≢true, nat_tests, list_any-append, Index, has, is_entry, IsLastOf, value_at}
+use Rattle.ele_groups.proofs.Basics.{◌≡◌, ℕ, ◌==◌, ◌<◌, ◌^◌, Bool, true, false, cond, ◌&&◌, not, List, [], ◌∷◌, ◌++◌, Option, Some, None, arith, is_at, list_any, nat_cmp, nat_tests, list_any-append, Index, has, is_entry, IsLastOf, value_at}
 use Rattle.ele_groups.proofs.Words.{GroupRow, adds, ArePlaced, IsLastBy, has_file, is_place_of, changed_at}
 use Rattle.ele_groups.proofs.Changed.{changed_here, changed_elsewhere}
 

@@ -2,9 +2,9 @@
 pub use Rattle.ele_lists.proofs.Keys.{before_sinks, behind_sinks, remove_first-key as remove_first_key}
 pub use Rattle.ele_lists.proofs.Shown.{is_some-copied as is_some_copied}
 pub use Rattle.ele_lists.proofs.Alls.{all-place as all_place}
-use Rattle.std.proofs.Common.{◌≡◌, ℕ, ◌<◌, ◌≤◌, Bool, true, false, cond, ◌&&◌, List, [], ◌∷◌, ◌++◌, reverse, Option, Some, None, refl, sym, ap, ◌∙◌, arith}
-use Rattle.std.specs.Prelude.{find, nat_lt, is_some, IfSome, IsSomeAnd}
-use Rattle.std.specs.Option.{option_or, option_map_or, ForSome}
+use Rattle.std.proofs.Common.{◌≡◌, ℕ, ◌<◌, ◌≤◌, Bool, true, false, cond, List, [], ◌∷◌, ◌++◌, reverse, Some, None, refl, sym, ap, ◌∙◌, arith}
+use Rattle.std.specs.Prelude.{find, is_some, IsSomeAnd}
+use Rattle.std.specs.Option.{option_or, ForSome}
 use Rattle.std.specs.List.{AllByRecursion, list_any}
 use Rattle.std.proofs.lemmas.Bool.Decides.{nat_tests}
 use Rattle.ele_inode_log.specs.declared.row.VersionRow.{VersionRow}

@@ -1,5 +1,5 @@
 use Rattle.ele_groups.proofs.Basics.{nat_tests, arith}
-use Rattle.ele_groups.proofs.Covered.{all_left, left_next, none_left, covers_at_one}
+use Rattle.ele_groups.proofs.Covered.{all_left}
 use Rattle.ele_groups.proofs.covering.covers.Goals as goal
 
 pub loop-serial-init : goal.loop-serial-init

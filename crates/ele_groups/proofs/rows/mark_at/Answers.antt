@@ -1,4 +1,4 @@
-use Rattle.ele_groups.proofs.Basics.{nat_tests, arith, ◌∙◌, sym, ap, is_at, set_value, nat_cmp, set_value_same}
+use Rattle.ele_groups.proofs.Basics.{arith, sym}
 use Rattle.ele_groups.proofs.Words.{marks}
 use Rattle.ele_groups.proofs.Changed.{written, unwritten}
 use Rattle.ele_groups.proofs.rows.mark_at.Goals as goal

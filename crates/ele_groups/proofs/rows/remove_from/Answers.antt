@@ -1,4 +1,4 @@
-use Rattle.ele_groups.proofs.Basics.{◌∙◌, sym, ap, is_at, set_value, nat_cmp, arith}
+use Rattle.ele_groups.proofs.Basics.{sym, arith}
 use Rattle.ele_groups.proofs.Words.{removes, forgets}
 use Rattle.ele_groups.proofs.Changed.{written, unwritten}
 use Rattle.ele_groups.proofs.rows.remove_from.Goals as goal

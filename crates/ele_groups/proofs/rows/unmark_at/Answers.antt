@@ -1,4 +1,4 @@
-use Rattle.ele_groups.proofs.Basics.{◌∙◌, sym, ap, is_at, set_value, nat_cmp, arith}
+use Rattle.ele_groups.proofs.Basics.{sym, arith}
 use Rattle.ele_groups.proofs.Words.{unmarks}
 use Rattle.ele_groups.proofs.Changed.{written, unwritten}
 use Rattle.ele_groups.proofs.rows.unmark_at.Goals as goal

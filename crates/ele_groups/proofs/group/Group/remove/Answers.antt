@@ -1,4 +1,4 @@
-use Rattle.ele_groups.proofs.Basics.{◌==◌, ◌≡◌, false, refl, later-remove_first}
+use Rattle.ele_groups.proofs.Basics.{refl}
 use Rattle.ele_groups.proofs.Apart.{any_removed, filtered}
 use Rattle.ele_groups.proofs.group.Group.remove.Goals as goal
 

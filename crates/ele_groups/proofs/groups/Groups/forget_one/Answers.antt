@@ -1,7 +1,7 @@
 use Rattle.ele_groups.proofs.Basics.{nat_tests, refl, arith, values_of, value_at}
 use Rattle.ele_groups.proofs.Words.{forgets, is_member}
 use Rattle.ele_groups.proofs.Changed.{no_value}
-use Rattle.ele_groups.proofs.Forgotten.{none_forgotten, forgotten_first, fewer_have}
+use Rattle.ele_groups.proofs.Forgotten.{none_forgotten, forgotten_first}
 use Rattle.ele_groups.proofs.Named.{kept_changed, absent}
 use Rattle.ele_groups.proofs.Placed.{placed_gone}
 use Rattle.ele_groups.proofs.groups.Groups.forget_one.Goals as goal

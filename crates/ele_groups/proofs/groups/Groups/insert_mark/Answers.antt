@@ -1,4 +1,4 @@
-use Rattle.ele_groups.proofs.Basics.{sym, refl, ap, ◌∙◌, values_of, arith}
+use Rattle.ele_groups.proofs.Basics.{sym, refl, arith}
 use Rattle.ele_groups.proofs.Words.{marks}
 use Rattle.ele_groups.proofs.Named.{kept_marked, changed_rows, unchanged_rows, found_at}
 use Rattle.ele_groups.proofs.groups.Groups.insert_mark.Goals as goal

@@ -1,5 +1,4 @@
-use Rattle.ele_groups.proofs.Basics.{nat_tests, arith}
-use Rattle.ele_groups.proofs.Times.{told_by_first, none_from}
+use Rattle.ele_groups.proofs.Times.{none_from}
 use Rattle.ele_groups.proofs.marks.Marks.lies_between.Goals as goal
 
 pub returns-in-None : goal.returns-in-None
