@@ -1,12 +1,9 @@
 -- What a writer holds and what is held for it, piece after piece.
 use Rattle.ele_script.proofs.Lines.{lines_here}
 use Rattle.ele_script.proofs.Basics.{◌∷◌, get_or, drop, length, flat_map, ◌<◌, ◌+◌}
-use Rattle.ele_script.proofs.Basics.{◌≡◌, ℕ, List, [], ◌++◌, Option, Result, Ok, Err, refl, append_assoc, append-nil, Appends-nil, Appends-trans, Appends, OnOk, OnErr, IsErr}
+use Rattle.ele_script.proofs.Basics.{◌≡◌, ℕ, List, [], ◌++◌, Option, Result, Ok, Err, refl, append_assoc, append-nil, Appends-trans, Appends, OnOk, OnErr, IsErr}
 use Rattle.ele_script.proofs.Prelude.{Outlet, outlet, Takes, TakesFront, Puts, HandsOver}
 use Rattle.ele_script.specs.Front.{AppendsFront}
-
-pub takes_nil : (a : Outlet) → Takes a a []
-takes_nil a = record { sent = []; parts = append-nil a.held; written = Appends-nil a.known }
 
 pub takes_then : (a b c : Outlet) (x y : List ℕ) → Takes a b x → Takes b c y → Takes a c (x ++ y)
 takes_then a b c x y p q =
@@ -28,10 +25,6 @@ front_more : (a b : Outlet) (x y : List ℕ) → TakesFront a b x → TakesFront
 front_more a b x y q =
     let parts : a.held ++ (x ++ y) ≡ q.front.front ++ (q.front.back ++ y) = cc (append_assoc a.held x y, append_assoc q.front.front q.front.back y) in
     record { front = record { front = q.front.front; back = q.front.back ++ y; parts = parts; written = q.front.written } }
-
--- what was put is written once all that is held is handed over
-pub takes_over : (a b c : Option (List ℕ)) (held text : List ℕ) → Takes (outlet a []) (outlet b held) text → Appends b c held → Appends a c text
-takes_over a b c held text p q = rw p.parts (Appends-trans a b c p.sent held p.written q)
 
 -- and a front of it where that fails
 pub front_over : (a b c : Option (List ℕ)) (held text : List ℕ) → Takes (outlet a []) (outlet b held) text → AppendsFront b c held → AppendsFront a c text

@@ -23,8 +23,7 @@ may_answer before after line event (Err HistoryFull) spells may = (event, spells
 may_answer before after line event (Err NoMemory) spells may = (as_run event spells may.0, may.1)
 
 pub not_ready : (b : Bool) → (b ≡ true → false ≡ true) → b ≡ false
-not_ready true h = sym (h refl)
-not_ready false h = refl
+not_ready b h = grind arith
 
 -- the reply that an event has
 pub puts_reply : {A E : Type 0} (before after : RunState) (event : Event) (reply : Reply) (old new : Outlet) (r : Result A E) → MayReply before event (Ok reply) after

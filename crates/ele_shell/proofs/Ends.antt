@@ -1,5 +1,5 @@
 -- How a run ends.
-use Rattle.ele_shell.proofs.Basics.{◌≡◌, ℕ, ◌+◌, ◌≤◌, List, [], ◌∷◌, ◌++◌, length, take, get_or, min, ◌-◌, Option, Some, None, Result, Ok, Err, refl, sym, ap, subst, ◌∙◌, arith, append_assoc, inl, inr, append-nil, length-take}
+use Rattle.ele_shell.proofs.Basics.{◌≡◌, ℕ, ◌+◌, ◌≤◌, List, [], ◌∷◌, ◌++◌, length, take, get_or, min, ◌-◌, Option, Some, None, Result, Ok, Err, refl, sym, ap, subst, ◌∙◌, arith, append_assoc, inl, inr, append-nil, length-take, nat_tests}
 use Rattle.ele_shell.proofs.Basics.{flat_map-append, cases_order, leb_tells, IfOk, AllByRecursion, Consumes, Keeps, Appends, IsAtEnd, Consumes-trans, Consumes-kept, Appends-trans}
 use Rattle.ele_shell.proofs.Words.{AppendsFront, outlet, cut_block, cut_count, most_lines, line_unless_long, longest_line, IsUnbroken, line_text, lines_text, line_count, AreBlocks, AnswersSome, RunState}
 use Rattle.ele_shell.specs.declared.fault.ShellFault.{ShellFault}
@@ -11,15 +11,13 @@ use Rattle.ele_shell.proofs.Ran.{HasRun, written_all, few_whole}
 
 -- what was read is all, where nothing is left
 whole_input : (input rest : Option (List ℕ)) (given : List ℕ) → Consumes input rest given → IsAtEnd rest → Keeps input (Some given)
-whole_input None rest given taken at_end = tt
-whole_input (Some xs) None given taken at_end = absurd taken
-whole_input (Some xs) (Some ys) given taken at_end = sym (taken ∙ ap (λ (zs : List ℕ). given ++ zs) at_end ∙ append-nil given)
+whole_input input rest given taken at_end = grind (arith, append-nil)
 
 -- the input goes on in some way behind what was read
 known_more : (input rest : Option (List ℕ)) (given : List ℕ) → Consumes input rest given → (more : List ℕ) × Keeps input (Some (given ++ more))
-known_more None rest given taken = ([], tt)
-known_more (Some xs) None given taken = absurd taken
 known_more (Some xs) (Some ys) given taken = (ys, sym taken)
+known_more input None given taken = ([], grind arith)
+known_more None rest given taken = ([], tt)
 
 -- the writer failed in the blocks of these lines, whatever comes behind them
 fails_in : (start state : RunState) (given part text : List ℕ) (lines : List (List ℕ)) (input rest old new : Option (List ℕ))
@@ -40,16 +38,10 @@ fails_in start state given part text lines input rest old new e whole blocks tak
 
 -- a last line counts as its block does
 counts_cut : (lines : List (List ℕ)) (last : List ℕ) → line_count lines last ≡ length lines + cut_count (line_unless_long last)
-counts_cut lines [] = omega arith
-counts_cut lines (b ∷ bs) =
-    elim (leb_tells (length (b ∷ bs)) longest_line) [
-      | inl fits ↦ rw fits.0 refl
-      | inr longer ↦ rw longer.0 refl
-    ]
+counts_cut lines last = grind (arith, nat_tests)
 
 none_behind : (lines : List (List ℕ)) (part : List ℕ) → length lines ≡ most_lines → line_count lines part ≤ most_lines → part ≡ []
-none_behind lines [] all few = refl
-none_behind lines (b ∷ bs) all few = absurd (omega (arith, all, few))
+none_behind lines part all few = grind arith
 
 -- nothing was read, so the input ends
 pub nothing_read : (mid rest : Option (List ℕ)) (most count : ℕ) (piece : List ℕ) → TakesPiece mid rest most piece (Ok count) → count ≡ 0
@@ -60,8 +52,7 @@ pub length_taken : (count : ℕ) (piece : List ℕ) → count ≤ length piece �
 length_taken count piece le = omega (arith, length-take count piece, le)
 
 one_byte : (piece : List ℕ) (count : ℕ) → 1 ≤ length piece → count ≡ 1 → take count piece ≡ get_or piece 0 0 ∷ []
-one_byte [] count some one = absurd (omega (arith, some))
-one_byte (b ∷ bs) count some one = rw one refl
+one_byte piece count some one = grind arith
 
 module _ {start state : RunState} {n : ℕ} {room : ℕ} {buffer input mid old so_far : Option (List ℕ)} {held : List ℕ} (ran : HasRun start n state room buffer input mid old so_far held) where
   -- the writer failed as it was handed what is held
@@ -86,9 +77,7 @@ module _ {start state : RunState} {n : ℕ} {room : ℕ} {buffer input mid old s
     blocks = ran.blocks;
     written = written_all ran none;
   }
-  ends_read rest most piece WriteFault none h = absurd h
-  ends_read rest most piece TooManyLines none h = absurd h
-  ends_read rest most piece NoMemory none h = absurd h
+  ends_read rest most piece fault none h = absurd h
 
   -- a byte stands behind as much as a script may be
   pub ends_past : (rest : Option (List ℕ)) (piece : List ℕ) (count : ℕ) → held ≡ [] → min room (most_lines - n) ≡ 0 → 1 ≤ length piece → count ≡ 1
@@ -175,5 +164,4 @@ module _ {start state : RunState} {n : ℕ} {room : ℕ} {buffer input mid old s
 -- what a run has done at each end
 pub ran_to_the_end : (start : RunState) (input rest old new : Option (List ℕ)) (r : Result ℕ ShellFault) → Runs start input rest old new r
     → IfOk r (λ n. RanToTheEnd start n input rest old new)
-ran_to_the_end start input rest old new (Ok n) h = h
-ran_to_the_end start input rest old new (Err fault) h = tt
+ran_to_the_end start input rest old new r h = grind arith

@@ -63,5 +63,4 @@ clean_tells w v r is = grind (arith, is)
 
 -- a stop ends the pass
 pub stopped : (s t u : RunState) (budget n : ℕ) (stop : Stop) → Removes s n t → n < budget → MayClean t (Err stop) u → MayPass s budget (Stopped stop n) u
-stopped s t u budget n HistoryFull r lt c = fills s t u budget n r lt c
-stopped s t u budget n NoMemory r lt c = absurd c
+stopped s t u budget n stop r lt c = grind (arith, fills)

@@ -1,6 +1,6 @@
 -- A piece that was answered so far.
 use Rattle.ele_shell.proofs.Basics.{◌≢◌, ◌≡◌, ℕ, ◌+◌, ◌<◌, ◌≤◌, ◌⊎◌, List, [], ◌∷◌, ◌++◌, length, take, drop, get_or, Option, Some, None, Result, Ok, Err, refl, sym, ap, subst, ◌∙◌, arith, append_assoc, length-append, inl, inr, true, ◌==◌, zero}
-use Rattle.ele_shell.proofs.Basics.{suc, IsErr, take-append-drop, drop_more, length-drop, lt-leb, eq-eqb, eqb-true, leb_tells, AllByRecursion}
+use Rattle.ele_shell.proofs.Basics.{nat_tests, suc, IsErr, take-append-drop, drop_more, length-drop, lt-leb, eq-eqb, eqb-true, leb_tells, AllByRecursion}
 use Rattle.ele_shell.proofs.Words.{Outlet, Takes, TakesFront, IsBlock, line_unless_long, longest_line, IsUnbroken, line_text, lines_text, AreBlocks, Answers, AnswersAll, AnswersSome, RunState, PutsBlock}
 use Rattle.std.specs.Option.{option_and_then}
 use Rattle.memchr.specs.Find.{IsFirstByte, is_byte}
@@ -57,13 +57,7 @@ unbroken_before (x ∷ xs) (suc n) h =
 
 -- what is too long stays too long
 pub kept_more : (line bytes : List ℕ) → option_and_then (λ line. line_unless_long (line ++ bytes)) (line_unless_long line) ≡ line_unless_long (line ++ bytes)
-kept_more line bytes =
-    elim (leb_tells (length line) longest_line) [
-      | inl fits ↦ rw fits.0 refl
-      | inr longer ↦
-          let more = lt-leb (length (line ++ bytes)) longest_line (omega (arith, length-append line bytes, longer.1)) in
-          rw (longer.0, more) refl
-    ]
+kept_more line bytes = grind (arith, nat_tests, length-append)
 
 -- a line feed is found at this place
 cut_at : (left : List ℕ) (at : ℕ) → IsFirstByte (is_byte 10) left (Some at) → left ≡ take at left ++ 10 ∷ drop (at + 1) left
@@ -156,5 +150,4 @@ module _ {before between : RunState} {part piece left : List ℕ} {buffer : Opti
 -- an error is the writer's
 pub answers_err : (before after : RunState) (part piece : List ℕ) (buffer : Option (List ℕ)) (n : ℕ) (old new : Outlet) (r : Result ℕ WriteFault)
     → IsErr r → AnswersSome before after part piece old new → Answers before after part piece buffer n old new r
-answers_err before after part piece buffer n old new (Ok x) is h = absurd cc
-answers_err before after part piece buffer n old new (Err x) is h = h
+answers_err before after part piece buffer n old new r is h = grind arith

@@ -90,19 +90,14 @@ written_all {start} {state} {n} {room} {buffer} {input} {rest} {old} {new} {held
 
 -- a line counts at most once
 count_below : (lines : List (List ℕ)) (last : List ℕ) → line_count lines last ≤ length lines + length last
-count_below lines [] = omega arith
-count_below lines (b ∷ bs) = omega arith
+count_below lines last = grind arith
 
 count_more : (before after : List (List ℕ)) (last : List ℕ) (most size : ℕ) → length before + size ≤ most → 1 ≤ size
     → (length after + length last ≤ size) ⊎ (after ≡ []) → line_count (before ++ after) last ≤ most
-count_more before after last most size fits some (inl few) =
-    omega (arith, fits, few, count_below (before ++ after) last, length-append before after)
-count_more before after [] most size fits some (inr none) = rw (none, append-nil before) (omega (arith, fits))
-count_more before after (b ∷ bs) most size fits some (inr none) = rw (none, append-nil before) (omega (arith, fits, some))
+count_more before after last most size fits some few = grind (arith, append-nil, length-append, count_below (before ++ after) last)
 
 pub few_whole : (lines : List (List ℕ)) (part : List ℕ) → line_count lines part ≤ most_lines → length lines ≤ most_lines
-few_whole lines [] few = few
-few_whole lines (b ∷ bs) few = omega (arith, few)
+few_whole lines part few = grind arith
 
 -- a piece more is read and answered
 pub has_run_on : {start between after : RunState} {n ended room left : ℕ} {buffer buffer' input mid rest old so_far new : Option (List ℕ)} {held held' piece : List ℕ}

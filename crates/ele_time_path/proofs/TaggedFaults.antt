@@ -24,10 +24,6 @@ pub tagged_faultless : (word : List ℕ) (value : TaggedPath) (fault : PathFault
 tagged_faultless word value fault h (of_path bad) = faultless_path (path_part word) value.path fault (spelled_parts word value h).0 bad
 tagged_faultless word value fault h (of_tag names path bad) = faultless_tag (tag_part word) value.tag fault (spelled_parts word value h).1 bad
 
--- a text begins with one mark
-one_mark : {P : Type 0} (text rest other : List ℕ) → text ≡ 64 ∷ rest → text ≡ 35 ∷ other → P
-one_mark text rest other at sharp = absurd (omega (arith, ap (λ text. get_or text 0 0) (sym at ∙ sharp)))
-
 one_tag_fault : (text : List ℕ) (a b : PathFault) → IsTagFault text a → IsTagFault text b → a ≡ b
 one_tag_fault text a b x y = grind (arith, nat_tests)
 
