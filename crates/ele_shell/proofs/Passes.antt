@@ -1,17 +1,16 @@
 -- Clean events in a row.
-use Rattle.ele_shell.proofs.Basics.{◌≡◌, ℕ, ◌+◌, ◌<◌, true, false, Option, Some, None, inl, inr, refl, ap, sym, subst, ◌∙◌, arith, Err, is_some, IsSome, cases_lt}
-use Rattle.ele_shell.proofs.Words.{Reply, Stop, HistoryFull, Removes, Fills, MayPass, RunState}
+use Rattle.ele_shell.proofs.Basics.{◌≡◌, ℕ, ◌+◌, ◌<◌, true, false, Option, Some, None, inl, inr, refl, ap, sym, subst, ◌∙◌, arith, Err, IsSome, cases_lt}
+use Rattle.ele_shell.proofs.Words.{Stop, HistoryFull, Removes, Fills, MayPass, RunState}
 use Rattle.ele_due.specs.declared.key.Key.{Key}
-use Rattle.ele_world.specs.declared.event.Event.TheVariants.{CleanOne}
 use Rattle.ele_world.specs.Pass.{IsCleaned}
 use Rattle.ele_world.proofs.PassEnds.{cleaned_none, cleaned_more}
 use Rattle.ele_world.specs.Scan.{first_due}
-use Rattle.ele_world.specs.Step.{step, clean_step}
+use Rattle.ele_world.specs.Step.{clean_step}
 use Rattle.ele_world.proofs.Cleans.{clean_of}
 use Rattle.ele_world.specs.World.{World}
 use Rattle.ele_world.specs.declared.pass.PassEnd.TheVariants.{Stopped}
 use Rattle.ele_world.specs.declared.refusal.Stop.TheVariants.{NoMemory}
-use Rattle.ele_shell.specs.Clean.{is_removed, Cleans, MayClean}
+use Rattle.ele_shell.specs.Clean.{Cleans, MayClean}
 use Rattle.ele_shell.specs.Pass.{Finishes}
 
 pub removes_none : (s : RunState) → Removes s 0 s
@@ -56,10 +55,6 @@ finishes s t u budget n r lt c =
 -- as many replies were given as may be
 pub fills : (s t u : RunState) (budget n : ℕ) → Removes s n t → n < budget → (t.replies ≡ t.most) × (u ≡ t) → Fills s budget n u
 fills s t u budget n r lt (full, same) = rw same (record { removes = r; within = lt; full = full })
-
--- a clean event tells whether it removed a version
-pub clean_tells : (w v : World) (r : Reply) → (r, v) ≡ step w CleanOne → (is_some (first_due w) ≡ is_removed r) × (v ≡ (clean_step w).1)
-clean_tells w v r is = grind (arith, is)
 
 -- a stop ends the pass
 pub stopped : (s t u : RunState) (budget n : ℕ) (stop : Stop) → Removes s n t → n < budget → MayClean t (Err stop) u → MayPass s budget (Stopped stop n) u
