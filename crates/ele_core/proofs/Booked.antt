@@ -1,7 +1,6 @@
 -- The book of usage, as the files change.
-use Rattle.ele_core.proofs.Words.{nat_tests, ◌≡◌, ℕ, ◌+◌, ◌-◌, ◌<◌, ◌≤◌, ◌^◌, Bool, true, cond, List, ◌∷◌, length, Some, Ok, refl, ◌∙◌, arith, sum_by, world_of, IsSound, IsTracked, told_by, blocks_of, only_blocks, IsOwed, IsBooked, Rows, content_of, Held, rows_after, rows_of, opened_by, written_by, fitted, sum_by-map, Kind, Policy, kind_of, is_kind, Usage, Book, sums_of, only_at, nothing, plus, Fits, usage_of, is_file_of, bytes_in, ChangesOnly, VersionRow, MakeFile, created, made_is, policy_of, file_by, usage_changes, usage_same, within_files, within_versions, within_bytes, within_blocks, whole_files, whole_versions, whole_bytes, created_usage, only_at_is, []}
+use Rattle.ele_core.proofs.Words.{nat_tests, ◌≡◌, ℕ, ◌+◌, ◌-◌, ◌<◌, ◌≤◌, ◌^◌, Bool, true, cond, List, ◌∷◌, length, Some, Ok, refl, ◌∙◌, arith, sum_by, world_of, IsSound, IsTracked, told_by, blocks_of, only_blocks, IsOwed, IsBooked, Rows, content_of, Held, rows_after, rows_of, opened_by, written_by, fitted, sum_by-map, Kind, Policy, kind_of, is_kind, Usage, Book, sums_of, only_at, nothing, plus, Fits, usage_of, is_file_of, bytes_in, ChangesOnly, World, VersionRow, MakeFile, created, made_is, policy_of, file_by, usage_changes, usage_same, within_files, within_versions, within_bytes, within_blocks, whole_files, whole_versions, whole_bytes, created_usage, only_at_is, []}
 use Rattle.ele_world.proofs.Others.{drafts-opened, drafts-updated, other_drafts}
-use Rattle.ele_world.proofs.Usages.{changes_drafts, same_usage}
 
 -- what a kind may use, but for its blocks
 pub record IsFew (u : Usage) : Type 0 where
@@ -43,7 +42,7 @@ abbrev pub some_versions : ℕ → ℕ → Usage
 some_versions versions bytes = record { files = 0; versions = versions; bytes = bytes; blocks = 0 }
 
 pub plus-cancel : (a b x : Usage) → plus a x ≡ plus b x → a ≡ b
-plus-cancel a b x e = grind (arith, nat_tests, same_usage)
+plus-cancel a b x e = grind (arith, nat_tests)
 
 -- where so many versions and bytes came and went, and the book has them
 pub owed : (file : ℕ) (h now : Held) (book : Book) (came_versions came_bytes gone_versions gone_bytes : ℕ) → ChangesOnly file (told_by h) (told_by now)
@@ -51,7 +50,11 @@ pub owed : (file : ℕ) (h now : Held) (book : Book) (came_versions came_bytes g
     → bytes_in now.versions + gone_bytes ≡ bytes_in h.versions + came_bytes
     → ((k : Kind) → plus (sums_of book k) (cond (is_file_of now.files k file) (some_versions gone_versions gone_bytes) nothing) ≡ plus (usage_of (told_by h) k) (cond (is_file_of now.files k file) (some_versions came_versions came_bytes) nothing))
     → IsOwed now book file (blocks_of h)
-owed file h now book cv cb gv gb changes versions bytes known k = grind (arith, nat_tests, changes.kinds k file, usage_changes file (told_by h) (told_by now) changes k, known k, same_usage)
+owed file h now book cv cb gv gb changes versions bytes known k = grind (arith, nat_tests, changes.kinds k file, usage_changes file (told_by h) (told_by now) changes k, known k)
+
+-- a change of the file's draft alone
+changes_drafts : (file : ℕ) (w v : World) → v.files ≡ w.files → v.versions ≡ w.versions → other_drafts file v.drafts ≡ other_drafts file w.drafts → ChangesOnly file w v
+changes_drafts file w v files versions drafts = grind (arith, nat_tests)
 
 -- where files, versions and the drafts of other files are the same
 pub drafts_owed : (rows : Rows) (file : ℕ) (now : Held) (before : ℕ) → IsTracked rows → before ≡ blocks_of rows.files → now.files ≡ rows.files.files → now.versions ≡ rows.files.versions → other_drafts file now.drafts ≡ other_drafts file rows.files.drafts → IsOwed now rows.book file before
@@ -91,7 +94,7 @@ pub shift_fits : (files : Held) (book : Book) (file before : ℕ) (policy : Poli
 shift_fits files book file before policy owed of room few_before few_now = grind (arith, nat_tests, same_kind, within_blocks)
 
 pub and_nothing : (u : Usage) → plus u nothing ≡ u
-and_nothing u = same_usage (plus u nothing) u (omega arith) (omega arith) (omega arith) (omega arith)
+and_nothing u = grind (arith, nat_tests)
 
 pub and_none : (u : Usage) (d : Bool) → plus u (cond d nothing nothing) ≡ u
 and_none u x1 = grind (arith, nat_tests, and_nothing u)
