@@ -168,10 +168,10 @@ module _ (event : Event) (first w : World) (change : Change) (before : Known) (t
   turned : (file number : ℕ) → IsPast w file number → Turned w (before file number) (row_of w file number) (row_of after file number)
   turned file number past = by (row_of w file number) (row_of after file number) refl (change_moves event first file number w change t.placed t.may past) where
     by : (o after : Option VersionRow) → row_of w file number ≡ o → Moves event first w.now w.versions file number o after → Turned w (before file number) o after
-    by o after e (Same same) = Stays same
-    by None after e (Ended ended) = Stays ended
-    by (Some row) after e (Ended ended) = Ends row refl ended
-    by o after e (Taken v take same none) =
+    by o later e (Same same) = Stays same
+    by None later e (Ended ended) = Stays ended
+    by (Some row) later e (Ended ended) = Ends row refl ended
+    by o later e (Taken v take same none) =
         let found : row_of w file number ≡ Some take.row = ap (find (is_version file number)) (same ∙ take.same) ∙ take.found in
         Goes take.row (sym e ∙ found) none (t.first_held file number take.row take.found) (let is = (held_row w file number take.row t.formed found).is in grind (arith, nat_tests, is, take.ended, false≢true))
 
