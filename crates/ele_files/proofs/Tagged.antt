@@ -126,7 +126,7 @@ pub any_found : {X : Type 0} (p : X → Bool) (xs : List X) → is_some (find p 
 any_found p [] = refl
 any_found p (x ∷ xs) = grind (arith, any_found p xs)
 
--- the draft of a file
+-- ---- the draft of a file
 
 module _ (s : Store) (files : List File) (ss : AllSessions) (file : ℕ) where
   pub drafted : (o : Option (Bor Layout)) → option_copied o ≡ option_map (λ (d : Draft). d.layout) (sessions.draft_of ss file) → is_some o ≡ list_any (is_draft file) (map (draft_in s) ss.drafts)

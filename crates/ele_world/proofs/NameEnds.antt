@@ -55,8 +55,6 @@ ends w path k at found file leads =
 pub unlink_ends : UnlinkEnds
 unlink_ends w path k = grind (arith, nat_tests, in_all, ends w path k)
 
--- ---- a rename
-
 -- ---- a walk that doesn't come to what is moved leads where it did
 
 module _ (rows : List NameRow) where
