@@ -156,15 +156,11 @@ pub event_memory : (r : Result Line LineFault) → event_of r ≡ Err NoMemory �
 event_memory r is = grind arith
 
 -- what is read of a line makes the event, or there was no memory
-event_so : (r s : Result Line LineFault) → (r ≡ s) ⊎ (r ≡ Err NoMemory) → (event_of r ≡ event_of s) ⊎ (event_of r ≡ Err NoMemory)
+pub event_so : (r s : Result Line LineFault) → (r ≡ s) ⊎ (r ≡ Err NoMemory) → (event_of r ≡ event_of s) ⊎ (event_of r ≡ Err NoMemory)
 event_so r s (inl is) = inl (ap event_of is)
 event_so r s (inr none) = inr (ap event_of none)
 
--- the event that a line spells is read, where all that it asks for is
-pub event_only : (line : List ℕ) (r : Result Line LineFault) → ((asked : Line) → SpellsLine line asked → (r ≡ Ok asked) ⊎ (r ≡ Err NoMemory)) → (event : Event) → Spells line event → (event_of r ≡ Ok event) ⊎ (event_of r ≡ Err NoMemory)
-event_only line r only event h = event_so r (Ok (asks.Event event)) (only (asks.Event event) h)
-
--- and it is refused with its fault
+-- and what is no event is refused with its fault
 pub event_fault : (line : List ℕ) (r : Result Line LineFault) → ((asked : Line) → SpellsLine line asked → (r ≡ Ok asked) ⊎ (r ≡ Err NoMemory)) → ((fault : LineFault) → IsFirstFault line fault → (r ≡ Err fault) ⊎ (r ≡ Err NoMemory)) → (fault : LineFault) → IsEventFault line fault → (event_of r ≡ Err fault) ⊎ (event_of r ≡ Err NoMemory)
 event_fault line r only refused fault (of_line bad) = event_so r (Err fault) (refused fault bad)
 event_fault line r only refused fault (no_event (asks.Event event) is other syntax) = absurd (other event refl)

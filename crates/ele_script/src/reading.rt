@@ -50,7 +50,7 @@ pub fn read_line(alloc: Global, line: &[u8]) -> Result<Line, LineFault>
         → (result ≡ Err fault) ⊎ (result ≡ Err LineFault.NoMemory) }
     ensures memory { result ≡ Err LineFault.NoMemory → TakesMemory (words_of line.now) }
 {
-    // Told for the proof: that no word of a path spells two or has two faults.
+    // Told for the proof: as a path, a word means one thing.
     one_meaning();
     if line.len() > MOST_BYTES {
         return Err(LineFault::LineTooLong);
