@@ -1,5 +1,5 @@
 -- Words of paths at a moment: each one path at one moment, or one fault.
-use Rattle.ele_time_path.proofs.Basics.{◌≡◌, ℕ, get_or, ◌∷◌, List, refl, sym, ap, subst, ◌∙◌, arith, nat_tests, Option, Some, None, Result, Ok, Err}
+use Rattle.ele_time_path.proofs.Basics.{◌≡◌, ℕ, get_or, ◌∷◌, List, refl, sym, ap, subst, ◌∙◌, arith, Option, Some, None, Result, Ok, Err}
 use Rattle.ele_time_path.proofs.Words.{OneMeaning, SpellsMoment, PathAtFault, Path, Numbered, PathAt, Now, TaggedPath, SpellsPath, SpellsTag, path_part, tag_part, of_tag, tag_at, SpellsPathAt, IsNumbered, IsMomentFault, IsPathAtFault}
 use Rattle.ele_time_path.proofs.Spelled.{one_path, spelled_faultless}
 use Rattle.ele_time_path.proofs.Tags.{spelled_parts}

@@ -1,5 +1,5 @@
 -- What a word spells.
-use Rattle.ele_time_path.proofs.Basics.{◌≡◌, eqb, ℕ, ◌-◌, ◌≤◌, get_or, take, drop, subst, List, [], ◌∷◌, ◌++◌, length, refl, sym, ap, ◌∙◌, arith, nat_tests, ◌⊎◌, inl, inr, Some, None, slice_get, All, append-nil, take_all, All-head, length-slice_split}
+use Rattle.ele_time_path.proofs.Basics.{◌≡◌, eqb, ℕ, ◌-◌, ◌≤◌, get_or, take, drop, List, [], ◌∷◌, ◌++◌, length, refl, sym, ap, ◌∙◌, arith, nat_tests, ◌⊎◌, inl, inr, Some, None, slice_get, All, append-nil, take_all, All-head, length-slice_split}
 use Rattle.ele_time_path.proofs.Words.{IsName, PathFault, NoMemory, IsPath, SpellsPath, path_text, pieces_of, piece_faults, path_fault}
 use Rattle.ele_time_path.proofs.Pieces.{names_pass, pieces_of_text, text_of_pieces, faults_from}
 
