@@ -78,7 +78,7 @@ module _ (law : OneMeaning) where
   one_list words vs us k a b = grind arith
 
   -- a line asks for one thing
-  pub one_line : (line : List ℕ) (a b : Line) → SpellsLine line a → SpellsLine line b → a ≡ b
+  one_line : (line : List ℕ) (a b : Line) → SpellsLine line a → SpellsLine line b → a ≡ b
   one_line line a b h k = grind (arith, nat_tests, one_fit, one_list, parts_is, some_is)
 
   -- words that stand for values of their kinds have no fault

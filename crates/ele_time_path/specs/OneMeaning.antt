@@ -15,13 +15,13 @@ pub record OneMeaning : Type 0 where
   pub one_path : (word : List ℕ) (a b : List (List ℕ)) → SpellsPath word a → SpellsPath word b → a ≡ b
   -- a word that spells a path has no fault
   pub faultless_path : (word : List ℕ) (names : List (List ℕ)) → SpellsPath word names → path_fault word ≡ None
-  -- of a word that spells a path with a tag, what stands before the first mark spells the path, and the rest is the tag's text
+  -- of a word that spells a path with a tag, what stands before the first mark spells the path, and the rest the tag
   pub tagged_parts : (word : List ℕ) (value : TaggedPath) → SpellsTaggedPath word value → SpellsPath (path_part word) value.path × SpellsTag (tag_part word) value.tag
-  -- such a word has no fault as a path with a tag
+  -- it has no fault as such
   pub faultless_tagged : (word : List ℕ) (value : TaggedPath) (fault : PathFault) → SpellsTaggedPath word value → IsTaggedFault word fault → ⊥
-  -- two faults that a word has as one are the same
+  -- two faults of a word as a path with a tag are one
   pub one_tagged_fault : (word : List ℕ) (a b : PathFault) → IsTaggedFault word a → IsTaggedFault word b → a ≡ b
-  -- a word that spells a path at a moment has no fault as one
+  -- a word that spells a path at a moment has no fault as such
   pub faultless_at : (word : List ℕ) (value : PathAt) (fault : PathAtFault) → SpellsPathAt word value → IsPathAtFault word fault → ⊥
-  -- two faults that a word has as one are the same
+  -- two faults of a word as a path at a moment are one
   pub one_at_fault : (word : List ℕ) (a b : PathAtFault) → IsPathAtFault word a → IsPathAtFault word b → a ≡ b
