@@ -1,6 +1,6 @@
 -- What is true of lines: each asks for one thing, or has a first fault, and not both.
 use Rattle.ele_script.proofs.Basics.{nat_tests, ◌≡◌, ◌≢◌, ℕ, ◌≤◌, true, true≢false, List, [], ◌∷◌, length, refl, sym, ap, ◌∙◌, arith, ◌⊎◌, inl, inr, Option, Some, None, Result, Ok, Err, IfOk, IfErr}
-use Rattle.ele_script.proofs.Prelude.{Line, Command, LineFault, NoMemory, WordKind, Value, Moment, Name, Path, Timed, Bytes, word_kind, kinds_behind, words_of, is_worded, line_parts, SpellsValues, SpellsWords, SpellsLine, Spells}
+use Rattle.ele_script.proofs.Prelude.{OneMeaning, Line, Command, LineFault, NoMemory, WordKind, Value, Moment, Name, Path, Timed, Bytes, word_kind, kinds_behind, words_of, is_worded, SpellsValues, SpellsWords, SpellsLine, Spells}
 use Rattle.ele_script.proofs.Prelude.{IsFirstWordFault, IsFaultOfWords, no_command, of_word, IsFirstFault, too_long, not_worded, of_words, IsEventFault, of_line, no_event}
 use Rattle.ele_world.specs.declared.event.Event.{Event}
 use Rattle.ele_world.specs.declared.event.Event.TheVariants as event
@@ -59,71 +59,77 @@ some_is h = cc
 tails : {A : Type 0} {x y : A} {xs ys : List A} → x ∷ xs ≡ y ∷ ys → xs ≡ ys
 tails h = cc
 
--- words stand for one list of values of their kinds
-one_list : (words : List (List ℕ)) (vs us : List Value) → kinds_of vs ≡ kinds_of us → SpellsValues words vs → SpellsValues words us → vs ≡ us
-one_list (word ∷ words) (v ∷ vs) (u ∷ us) k a b = grind (arith, nat_tests, one_value, tails, one_list words vs us (tails k) a.1 b.1)
-one_list words vs us k a b = grind arith
-
 parts_is : (c d : Command) (vs us : List Value) → c ≡ d → vs ≡ us → let p : Command × List Value = (c, vs) in let q : Command × List Value = (d, us) in p ≡ q
 parts_is c d vs us p q =
     let P : Type 0 = Command × List Value in
     ap (λ (e : Command). let r : P = (e, vs) in r) p ∙ ap (λ (ws : List Value). let r : P = (d, ws) in r) q
 
--- a line asks for one thing
-pub one_line : (line : List ℕ) (a b : Line) → SpellsLine line a → SpellsLine line b → a ≡ b
-one_line line a b h k = grind (arith, nat_tests, one_fit, one_list, parts_is, some_is)
-
-event_is : {a b : Event} → asks.Event a ≡ asks.Event b → a ≡ b
-event_is h = cc
-
--- so it spells one event
-pub one_event : (line : List ℕ) (a b : Event) → Spells line a → Spells line b → a ≡ b
-one_event line a b h k = event_is (one_line line (asks.Event a) (asks.Event b) h k)
-
 as_many : (words : List (List ℕ)) (values : List Value) → SpellsValues words values → length words ≡ length (kinds_of values)
 as_many (word ∷ words) (v ∷ vs) h = omega (arith, as_many words vs h.1)
 as_many words values h = grind arith
 
--- words that stand for values of their kinds have no fault
-no_first : (words : List (List ℕ)) (values : List Value) (fault : LineFault) → SpellsValues words values → IsFirstWordFault (kinds_of values) words fault → ⊥
-no_first (word ∷ words) (v ∷ vs) fault h (inl bad) = faultless_word (word_kind v) word fault (v, refl, h.0) bad
-no_first (word ∷ words) (v ∷ vs) fault h (inr bad) = no_first words vs fault h.1 bad.1
-no_first words values fault h bad = grind arith
-
 moved : (fault : LineFault) {c d : Command} {xs ys : List (List ℕ)} → c ≡ d → xs ≡ ys → IsFirstWordFault (kinds_behind c) xs fault → IsFirstWordFault (kinds_behind d) ys fault
 moved fault {c} {d} {xs} {ys} p q h = grind (arith, nat_tests)
 
-no_words : (words : List (List ℕ)) (asked : Line) (fault : LineFault) → SpellsWords words asked → IsFaultOfWords words fault → ⊥
-no_words words asked fault h x4 = grind (arith, nat_tests, as_many, one_fit, moved, no_first)
+module _ (law : OneMeaning) where
+  -- words stand for one list of values of their kinds
+  one_list : (words : List (List ℕ)) (vs us : List Value) → kinds_of vs ≡ kinds_of us → SpellsValues words vs → SpellsValues words us → vs ≡ us
+  one_list (word ∷ words) (v ∷ vs) (u ∷ us) k a b = grind (arith, nat_tests, one_value law, tails, one_list words vs us (tails k) a.1 b.1)
+  one_list words vs us k a b = grind arith
 
--- a line that asks for something has no fault
-pub spelled_faultless : (line : List ℕ) (asked : Line) (fault : LineFault) → SpellsLine line asked → IsFirstFault line fault → ⊥
-spelled_faultless line asked fault h (too_long long is) = omega (arith, long, h.short)
-spelled_faultless line asked fault h (not_worded short broken is) = true≢false (sym h.worded ∙ broken)
-spelled_faultless line asked fault h (of_words short worded bad) = no_words (words_of line) asked fault h.words bad
+  -- a line asks for one thing
+  one_line : (line : List ℕ) (a b : Line) → SpellsLine line a → SpellsLine line b → a ≡ b
+  one_line line a b h k = grind (arith, nat_tests, one_fit, one_list, parts_is, some_is)
 
-one_first : (kinds : List WordKind) (words : List (List ℕ)) (a b : LineFault) → IsFirstWordFault kinds words a → IsFirstWordFault kinds words b → a ≡ b
-one_first (kind ∷ kinds) (word ∷ words) a b x y = grind (arith, one_word_fault kind word a b, faultless_word kind word a, faultless_word kind word b, one_first kinds words a b)
-one_first kinds words a b x y = grind arith
+  -- words that stand for values of their kinds have no fault
+  no_first : (words : List (List ℕ)) (values : List Value) (fault : LineFault) → SpellsValues words values → IsFirstWordFault (kinds_of values) words fault → ⊥
+  no_first (word ∷ words) (v ∷ vs) fault h (inl bad) = faultless_word law (word_kind v) word fault (v, refl, h.0) bad
+  no_first (word ∷ words) (v ∷ vs) fault h (inr bad) = no_first words vs fault h.1 bad.1
+  no_first words values fault h bad = grind arith
 
-one_of_words : (words : List (List ℕ)) (a b : LineFault) → IsFaultOfWords words a → IsFaultOfWords words b → a ≡ b
-one_of_words words a b (no_command unfit x) (no_command also y) = x ∙ sym y
-one_of_words words a b (no_command unfit x) (of_word c xs fits bad) = absurd (unfit c xs fits)
-one_of_words words a b (of_word c xs fits bad) (no_command unfit y) = absurd (unfit c xs fits)
-one_of_words words a b (of_word c xs fits x) (of_word d ys other y) =
-    let fit = one_fit words c d xs ys fits.are other.are in one_first (kinds_behind d) ys a b (moved a fit.0 fit.1 x) y
+  no_words : (words : List (List ℕ)) (asked : Line) (fault : LineFault) → SpellsWords words asked → IsFaultOfWords words fault → ⊥
+  no_words words asked fault h x4 = grind (arith, nat_tests, as_many, one_fit, moved, no_first)
 
--- a line has one first fault
-pub one_fault : (line : List ℕ) (a b : LineFault) → IsFirstFault line a → IsFirstFault line b → a ≡ b
-one_fault line a b (too_long long x) (too_long other y) = x ∙ sym y
-one_fault line a b (too_long long x) (not_worded short broken y) = absurd (omega (arith, long, short))
-one_fault line a b (too_long long x) (of_words short whole y) = absurd (omega (arith, long, short))
-one_fault line a b (not_worded short broken x) (too_long long y) = absurd (omega (arith, long, short))
-one_fault line a b (not_worded short broken x) (not_worded also other y) = x ∙ sym y
-one_fault line a b (not_worded short broken x) (of_words also whole y) = absurd (true≢false (sym whole ∙ broken))
-one_fault line a b (of_words short whole x) (too_long long y) = absurd (omega (arith, long, short))
-one_fault line a b (of_words short whole x) (not_worded also broken y) = absurd (true≢false (sym whole ∙ broken))
-one_fault line a b (of_words short whole x) (of_words also other y) = one_of_words (words_of line) a b x y
+  -- a line that asks for something has no fault
+  pub spelled_faultless : (line : List ℕ) (asked : Line) (fault : LineFault) → SpellsLine line asked → IsFirstFault line fault → ⊥
+  spelled_faultless line asked fault h (too_long long is) = omega (arith, long, h.short)
+  spelled_faultless line asked fault h (not_worded short broken is) = true≢false (sym h.worded ∙ broken)
+  spelled_faultless line asked fault h (of_words short worded bad) = no_words (words_of line) asked fault h.words bad
+
+  one_first : (kinds : List WordKind) (words : List (List ℕ)) (a b : LineFault) → IsFirstWordFault kinds words a → IsFirstWordFault kinds words b → a ≡ b
+  one_first (kind ∷ kinds) (word ∷ words) a b x y = grind (arith, one_word_fault law kind word a b, faultless_word law kind word a, faultless_word law kind word b, one_first kinds words a b)
+  one_first kinds words a b x y = grind arith
+
+  one_of_words : (words : List (List ℕ)) (a b : LineFault) → IsFaultOfWords words a → IsFaultOfWords words b → a ≡ b
+  one_of_words words a b (no_command unfit x) (no_command also y) = x ∙ sym y
+  one_of_words words a b (no_command unfit x) (of_word c xs fits bad) = absurd (unfit c xs fits)
+  one_of_words words a b (of_word c xs fits bad) (no_command unfit y) = absurd (unfit c xs fits)
+  one_of_words words a b (of_word c xs fits x) (of_word d ys other y) =
+      let fit = one_fit words c d xs ys fits.are other.are in one_first (kinds_behind d) ys a b (moved a fit.0 fit.1 x) y
+
+  -- a line has one first fault
+  pub one_fault : (line : List ℕ) (a b : LineFault) → IsFirstFault line a → IsFirstFault line b → a ≡ b
+  one_fault line a b (too_long long x) (too_long other y) = x ∙ sym y
+  one_fault line a b (too_long long x) (not_worded short broken y) = absurd (omega (arith, long, short))
+  one_fault line a b (too_long long x) (of_words short whole y) = absurd (omega (arith, long, short))
+  one_fault line a b (not_worded short broken x) (too_long long y) = absurd (omega (arith, long, short))
+  one_fault line a b (not_worded short broken x) (not_worded also other y) = x ∙ sym y
+  one_fault line a b (not_worded short broken x) (of_words also whole y) = absurd (true≢false (sym whole ∙ broken))
+  one_fault line a b (of_words short whole x) (too_long long y) = absurd (omega (arith, long, short))
+  one_fault line a b (of_words short whole x) (not_worded also broken y) = absurd (true≢false (sym whole ∙ broken))
+  one_fault line a b (of_words short whole x) (of_words also other y) = one_of_words (words_of line) a b x y
+
+  -- what was read of a line is all that it asks for
+  pub only_read : (line : List ℕ) (r : Result Line LineFault) → IfOk r (SpellsLine line) → IfErr r (λ fault. (fault ≡ NoMemory) ⊎ IsFirstFault line fault) → (asked : Line) → SpellsLine line asked → (r ≡ Ok asked) ⊎ (r ≡ Err NoMemory)
+  only_read line (Ok other) found fault asked h = inl (ap Ok (one_line line other asked found h))
+  only_read line (Err other) found (inl memory) asked h = inr (ap Err memory)
+  only_read line (Err other) found (inr bad) asked h = absurd (spelled_faultless line asked other h bad)
+
+  -- and what it was refused with is its fault, where it has one
+  pub only_refused : (line : List ℕ) (r : Result Line LineFault) → IfOk r (SpellsLine line) → IfErr r (λ fault. (fault ≡ NoMemory) ⊎ IsFirstFault line fault) → (fault : LineFault) → IsFirstFault line fault → (r ≡ Err fault) ⊎ (r ≡ Err NoMemory)
+  only_refused line (Ok asked) found is fault bad = absurd (spelled_faultless line asked fault found bad)
+  only_refused line (Err other) found (inl memory) fault bad = inr (ap Err memory)
+  only_refused line (Err other) found (inr is) fault bad = inl (ap Err (one_fault line other fault is bad))
 
 -- the faults of the words of a line are the line's
 pub fault_of_line : (line : List ℕ) (words : List (List ℕ)) (r : Result Line LineFault) → length line ≤ 8192 → is_worded line ≡ true → words ≡ words_of line → IfErr r (λ fault. (fault ≡ NoMemory) ⊎ IsFaultOfWords words fault) → IfErr r (λ fault. (fault ≡ NoMemory) ⊎ IsFirstFault line fault)
@@ -149,28 +155,13 @@ event_refused line (Err other) found (inr bad) = inr (of_line bad)
 pub event_memory : (r : Result Line LineFault) → event_of r ≡ Err NoMemory → r ≡ Err NoMemory
 event_memory r is = grind arith
 
--- a line that spells an event has no such fault
-pub event_faultless : (line : List ℕ) (event : Event) (fault : LineFault) → Spells line event → IsEventFault line fault → ⊥
-event_faultless line event fault h (of_line bad) = spelled_faultless line (asks.Event event) fault h bad
-event_faultless line event fault h (no_event asked is other syntax) = other event (one_line line asked (asks.Event event) is h)
+-- what is read of a line makes the event, or there was no memory
+pub event_so : (r s : Result Line LineFault) → (r ≡ s) ⊎ (r ≡ Err NoMemory) → (event_of r ≡ event_of s) ⊎ (event_of r ≡ Err NoMemory)
+event_so r s (inl is) = inl (ap event_of is)
+event_so r s (inr none) = inr (ap event_of none)
 
--- a line has one such fault
-pub one_event_fault : (line : List ℕ) (a b : LineFault) → IsEventFault line a → IsEventFault line b → a ≡ b
-one_event_fault line a b (of_line x) (of_line y) = one_fault line a b x y
-one_event_fault line a b (of_line x) (no_event asked is other y) = absurd (spelled_faultless line asked a is x)
-one_event_fault line a b (no_event asked is other x) (of_line y) = absurd (spelled_faultless line asked b is y)
-one_event_fault line a b (no_event asked is other x) (no_event also has none y) = x ∙ sym y
-
--- what was read of a line is all that it spells, where it spells one thing and what spells something has no fault
-pub only_read : {V : Type 0} (SpellsIt : V → Type 0) (IsFault : LineFault → Type 0) (r : Result V LineFault) → ((a b : V) → SpellsIt a → SpellsIt b → a ≡ b) → ((v : V) (fault : LineFault) → SpellsIt v → IsFault fault → ⊥)
-    → IfOk r SpellsIt → IfErr r (λ fault. (fault ≡ NoMemory) ⊎ IsFault fault) → (v : V) → SpellsIt v → (r ≡ Ok v) ⊎ (r ≡ Err NoMemory)
-only_read SpellsIt IsFault (Ok other) one faultless found fault v h = inl (ap Ok (one other v found h))
-only_read SpellsIt IsFault (Err other) one faultless found (inl memory) v h = inr (ap Err memory)
-only_read SpellsIt IsFault (Err other) one faultless found (inr bad) v h = absurd (faultless v other h bad)
-
--- and what it was refused with is its fault, where it has one
-pub only_refused : {V : Type 0} (SpellsIt : V → Type 0) (IsFault : LineFault → Type 0) (r : Result V LineFault) → ((a b : LineFault) → IsFault a → IsFault b → a ≡ b) → ((v : V) (fault : LineFault) → SpellsIt v → IsFault fault → ⊥)
-    → IfOk r SpellsIt → IfErr r (λ fault. (fault ≡ NoMemory) ⊎ IsFault fault) → (fault : LineFault) → IsFault fault → (r ≡ Err fault) ⊎ (r ≡ Err NoMemory)
-only_refused SpellsIt IsFault (Ok v) one faultless found is fault bad = absurd (faultless v fault found bad)
-only_refused SpellsIt IsFault (Err other) one faultless found (inl memory) fault bad = inr (ap Err memory)
-only_refused SpellsIt IsFault (Err other) one faultless found (inr is) fault bad = inl (ap Err (one other fault is bad))
+-- and what is no event is refused with its fault
+pub event_fault : (line : List ℕ) (r : Result Line LineFault) → ((asked : Line) → SpellsLine line asked → (r ≡ Ok asked) ⊎ (r ≡ Err NoMemory)) → ((fault : LineFault) → IsFirstFault line fault → (r ≡ Err fault) ⊎ (r ≡ Err NoMemory)) → (fault : LineFault) → IsEventFault line fault → (event_of r ≡ Err fault) ⊎ (event_of r ≡ Err NoMemory)
+event_fault line r only refused fault (of_line bad) = event_so r (Err fault) (refused fault bad)
+event_fault line r only refused fault (no_event (asks.Event event) is other syntax) = absurd (other event refl)
+event_fault line r only refused fault (no_event (asks.Pass budget) is other syntax) = rw syntax (event_so r (Ok (asks.Pass budget)) (only (asks.Pass budget) is))

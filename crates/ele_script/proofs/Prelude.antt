@@ -21,6 +21,5 @@ pub use Rattle.ele_script.specs.declared.command.Command.{Command}
 pub use Rattle.ele_script.specs.declared.fault.LineFault.{LineFault}
 pub use Rattle.ele_script.specs.declared.fault.LineFault.TheVariants.{BadLadder, BadMoment, NoMemory, Syntax}
 pub use Rattle.ele_script.specs.declared.reading.Line.{Line}
-pub use Rattle.ele_time_path.proofs.PathsAt.{at_faultless, one_at_fault, tagged_at}
-pub use Rattle.ele_time_path.proofs.Spelled.{IsCut, cut_of, one_path, spelled_faultless}
+pub use Rattle.ele_time_path.specs.OneMeaning.{OneMeaning}
 pub use Rattle.ele_time_path.specs.TaggedFault.{IsTaggedFault, path_part, tag_part}

@@ -1,6 +1,6 @@
 -- Words and what they stand for: each one value of a kind.
 use Rattle.ele_script.proofs.Basics.{nat_tests, arith, ◌≡◌, ℕ, List, refl, sym, ap, subst, ◌∙◌, Option, Some, None, Ok, Err, Result, codes, IfErr, ok_or, decode_of, option_map}
-use Rattle.ele_script.proofs.Prelude.{SpellsMoment, one_path, spelled_faultless, at_faultless, one_at_fault, LineFault, BadMoment, WordKind, NumberWord, MomentWord, NameWord, PathWord, TaggedWord, TimedWord, SourceWord, BytesWord}
+use Rattle.ele_script.proofs.Prelude.{SpellsMoment, OneMeaning, LineFault, BadMoment, WordKind, NumberWord, MomentWord, NameWord, PathWord, TaggedWord, TimedWord, SourceWord, BytesWord}
 use Rattle.ele_script.proofs.Prelude.{PolicyWord, Value, Moment, Name, Path, Timed, Bytes, word_kind, SpellsBytes, SpellsValue, fault_of_path, fault_of_path_at, IsOfKind, IsWordFault}
 use Rattle.std.specs.Result.{result_ok}
 use Rattle.ele_script.proofs.Moments.{one_number, one_moment}
@@ -21,42 +21,43 @@ no_dash word bytes dash digits = absurd_ok (sym (ap decode_of dash) ∙ digits)
 one_bytes : (word : List ℕ) (a b : List ℕ) → SpellsBytes word a → SpellsBytes word b → a ≡ b
 one_bytes word a b x3 x4 = grind (arith, nat_tests, no_dash)
 
--- a word stands for one value of a kind
-pub one_value : (word : List ℕ) (a b : Value) → word_kind a ≡ word_kind b → SpellsValue word a → SpellsValue word b → a ≡ b
-one_value word (Number m) (Number n) k a b = ap Number (one_number word m n a b)
-one_value word (Moment m) (Moment n) k a b = ap Moment (one_moment word m n a b)
-one_value word (Name m) (Name n) k a b = ap Name (a.0 ∙ sym b.0)
-one_value word (Path m) (Path n) k a b = ap Path (one_path word m n a b)
-one_value word (Tagged x) (Tagged y) k a b = ap Tagged (one_tagged word x y a b)
-one_value word (Timed x) (Timed y) k a b = ap Timed (one_timed word x y a b)
-one_value word (Source x) (Source y) k a b = ap Source (one_source word x y a b)
-one_value word (Bytes m) (Bytes n) k a b = ap Bytes (one_bytes word m n a b)
-one_value word (Policy m) (Policy n) k a b = ap Policy (one_policy word m n a b)
-one_value word _ _ k a b = absurd cc
-
 none_is : {A : Type 0} {x : A} → ◌≡◌ {A = Option A} None (Some x) → ⊥
 none_is h = cc
 
--- a word that stands for a value of its kind has no fault
-pub faultless_word : (kind : WordKind) (word : List ℕ) (fault : LineFault) → IsOfKind kind word → IsWordFault kind word fault → ⊥
-faultless_word PathWord word fault (Path names, k, is) bad = none_is (ap (λ o. option_map fault_of_path o) (sym (spelled_faultless word names is)) ∙ bad)
-faultless_word TaggedWord word fault (Tagged value, k, is) bad = faultless_tagged word value fault is bad
-faultless_word TimedWord word fault (Timed value, k, is) bad = at_faultless word value bad.0 is bad.1
-faultless_word SourceWord word fault (Source value, k, is) bad = faultless_source word value fault is bad
-faultless_word PolicyWord word fault (Policy policy, k, is) bad = faultless_policy word policy fault is bad
-faultless_word kind word fault is bad = grind arith
+module _ (law : OneMeaning) where
+  -- a word stands for one value of a kind
+  pub one_value : (word : List ℕ) (a b : Value) → word_kind a ≡ word_kind b → SpellsValue word a → SpellsValue word b → a ≡ b
+  one_value word (Number m) (Number n) k a b = ap Number (one_number word m n a b)
+  one_value word (Moment m) (Moment n) k a b = ap Moment (one_moment word m n a b)
+  one_value word (Name m) (Name n) k a b = ap Name (a.0 ∙ sym b.0)
+  one_value word (Path m) (Path n) k a b = ap Path (law.one_path word m n a b)
+  one_value word (Tagged x) (Tagged y) k a b = ap Tagged (one_tagged law word x y a b)
+  one_value word (Timed x) (Timed y) k a b = ap Timed (one_timed law word x y a b)
+  one_value word (Source x) (Source y) k a b = ap Source (one_source law word x y a b)
+  one_value word (Bytes m) (Bytes n) k a b = ap Bytes (one_bytes word m n a b)
+  one_value word (Policy m) (Policy n) k a b = ap Policy (one_policy word m n a b)
+  one_value word _ _ k a b = absurd cc
 
--- a word has one fault of its kind
-pub one_word_fault : (kind : WordKind) (word : List ℕ) (a b : LineFault) → IsWordFault kind word a → IsWordFault kind word b → a ≡ b
-one_word_fault NumberWord word a b x y = x.0 ∙ sym y.0
-one_word_fault MomentWord word a b x y = x.0 ∙ sym y.0
-one_word_fault NameWord word a b x y = x.0 ∙ sym y.0
-one_word_fault PathWord word a b x y = some_is (sym x ∙ y)
-one_word_fault TaggedWord word a b x y = one_tagged_word word a b x y
-one_word_fault TimedWord word a b x y = x.2 ∙ ap fault_of_path_at (one_at_fault word x.0 y.0 x.1 y.1) ∙ sym y.2
-one_word_fault SourceWord word a b x y = one_source_fault word a b x y
-one_word_fault BytesWord word a b x y = x.0 ∙ sym y.0
-one_word_fault PolicyWord word a b x y = one_policy_fault word a b x y
+  -- a word that stands for a value of its kind has no fault
+  pub faultless_word : (kind : WordKind) (word : List ℕ) (fault : LineFault) → IsOfKind kind word → IsWordFault kind word fault → ⊥
+  faultless_word PathWord word fault (Path names, k, is) bad = none_is (ap (λ o. option_map fault_of_path o) (sym (law.faultless_path word names is)) ∙ bad)
+  faultless_word TaggedWord word fault (Tagged value, k, is) bad = faultless_tagged law word value fault is bad
+  faultless_word TimedWord word fault (Timed value, k, is) bad = law.faultless_at word value bad.0 is bad.1
+  faultless_word SourceWord word fault (Source value, k, is) bad = faultless_source law word value fault is bad
+  faultless_word PolicyWord word fault (Policy policy, k, is) bad = faultless_policy word policy fault is bad
+  faultless_word kind word fault is bad = grind arith
+
+  -- a word has one fault of its kind
+  pub one_word_fault : (kind : WordKind) (word : List ℕ) (a b : LineFault) → IsWordFault kind word a → IsWordFault kind word b → a ≡ b
+  one_word_fault NumberWord word a b x y = x.0 ∙ sym y.0
+  one_word_fault MomentWord word a b x y = x.0 ∙ sym y.0
+  one_word_fault NameWord word a b x y = x.0 ∙ sym y.0
+  one_word_fault PathWord word a b x y = some_is (sym x ∙ y)
+  one_word_fault TaggedWord word a b x y = one_tagged_word law word a b x y
+  one_word_fault TimedWord word a b x y = x.2 ∙ ap fault_of_path_at (law.one_at_fault word x.0 y.0 x.1 y.1) ∙ sym y.2
+  one_word_fault SourceWord word a b x y = one_source_fault law word a b x y
+  one_word_fault BytesWord word a b x y = x.0 ∙ sym y.0
+  one_word_fault PolicyWord word a b x y = one_policy_fault word a b x y
 
 moment_of : (word : List ℕ) → IsOfKind MomentWord word → (m : ℕ) × SpellsMoment word m
 moment_of word (Moment m, k, is) = (m, is)

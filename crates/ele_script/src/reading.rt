@@ -15,6 +15,7 @@ use crate::arguments::{
 use crate::command::{Command, read_command};
 use crate::fault::LineFault;
 use arrayvec::ArrayVec;
+use ele_time_path::one_meaning;
 use ele_world::{Event, Handle, VersionNo};
 use std::alloc::Global;
 
@@ -49,6 +50,8 @@ pub fn read_line(alloc: Global, line: &[u8]) -> Result<Line, LineFault>
         → (result ≡ Err fault) ⊎ (result ≡ Err LineFault.NoMemory) }
     ensures memory { result ≡ Err LineFault.NoMemory → TakesMemory (words_of line.now) }
 {
+    // Told for the proof: as a path, a word means one thing.
+    one_meaning();
     if line.len() > MOST_BYTES {
         return Err(LineFault::LineTooLong);
     }

@@ -1,7 +1,7 @@
 -- Words of paths at a moment: each one path at one moment, or one fault.
-use Rattle.ele_time_path.proofs.Basics.{◌≡◌, ℕ, get_or, ◌∷◌, List, refl, sym, ap, subst, ◌∙◌, arith, nat_tests, Option, Some, None, Result, Ok, Err}
-use Rattle.ele_time_path.proofs.Words.{SpellsMoment, PathAtFault, Path, Numbered, PathAt, Now, TaggedPath, SpellsPath, SpellsTag, path_part, tag_part, of_tag, tag_at, SpellsPathAt, IsNumbered, IsMomentFault, IsPathAtFault}
-use Rattle.ele_time_path.proofs.Spelled.{one_path}
+use Rattle.ele_time_path.proofs.Basics.{◌≡◌, ℕ, get_or, ◌∷◌, List, refl, sym, ap, subst, ◌∙◌, arith, Option, Some, None, Result, Ok, Err}
+use Rattle.ele_time_path.proofs.Words.{OneMeaning, SpellsMoment, PathAtFault, Path, Numbered, PathAt, Now, TaggedPath, SpellsPath, SpellsTag, path_part, tag_part, of_tag, tag_at, SpellsPathAt, IsNumbered, IsMomentFault, IsPathAtFault}
+use Rattle.ele_time_path.proofs.Spelled.{one_path, spelled_faultless}
 use Rattle.ele_time_path.proofs.Tags.{spelled_parts}
 use Rattle.ele_time_path.proofs.TaggedFaults.{tagged_faultless, one_tagged_fault}
 
@@ -19,23 +19,26 @@ moment_only text rest moment is only (Some m) h =
     ap (λ m. Ok (Some m)) (ok_is (only m (subst (λ text. SpellsTag text (tag_at (Some m))) is h).1))
 
 -- what is a moment's text, or none, does not begin with `#`
-pub unnumbered : (word : List ℕ) (value : PathAt) → SpellsPathAt word value → IsNumbered word → ⊥
+unnumbered : (word : List ℕ) (value : PathAt) → SpellsPathAt word value → IsNumbered word → ⊥
 unnumbered word value h numbered = sharp value.moment (subst (λ text. SpellsTag text (tag_at value.moment)) numbered.tag (spelled_parts word (tagged_at value) h).1) where
   sharp : (moment : Option ℕ) → SpellsTag (35 ∷ numbered.rest) (tag_at moment) → ⊥
   sharp None h = h
   sharp (Some m) h = absurd (omega (arith, h.0))
 
 -- a word that spells a path at a moment has no fault
-pub at_faultless : (word : List ℕ) (value : PathAt) (fault : PathAtFault) → SpellsPathAt word value → IsPathAtFault word fault → ⊥
+at_faultless : (word : List ℕ) (value : PathAt) (fault : PathAtFault) → SpellsPathAt word value → IsPathAtFault word fault → ⊥
 at_faultless word value Numbered h bad = unnumbered word value h bad
 at_faultless word value (Path fault) h bad = tagged_faultless word (tagged_at value) fault h bad.0
 
 -- and a word has one fault
-pub one_at_fault : (word : List ℕ) (a b : PathAtFault) → IsPathAtFault word a → IsPathAtFault word b → a ≡ b
+one_at_fault : (word : List ℕ) (a b : PathAtFault) → IsPathAtFault word a → IsPathAtFault word b → a ≡ b
 one_at_fault word Numbered Numbered x y = refl
 one_at_fault word Numbered (Path b) x y = absurd (y.1 x)
 one_at_fault word (Path a) Numbered x y = absurd (x.1 y)
 one_at_fault word (Path a) (Path b) x y = ap Path (one_tagged_fault word a b x.0 y.0)
+
+pub one_meaning : OneMeaning
+one_meaning = record { one_path = one_path; faultless_path = spelled_faultless; tagged_parts = spelled_parts; faultless_tagged = tagged_faultless; one_tagged_fault = one_tagged_fault; faultless_at = at_faultless; one_at_fault = one_at_fault }
 
 -- what is wrong behind a path
 pub fault_behind : (word : List ℕ) (names : List (List ℕ)) (fault : PathAtFault) → SpellsPath (path_part word) names → IsMomentFault (tag_part word) fault → IsPathAtFault word fault

@@ -1,5 +1,5 @@
 -- What a word spells.
-use Rattle.ele_time_path.proofs.Basics.{◌≡◌, eqb, ℕ, ◌-◌, ◌≤◌, get_or, take, drop, subst, List, [], ◌∷◌, ◌++◌, length, refl, sym, ap, ◌∙◌, arith, nat_tests, ◌⊎◌, inl, inr, Some, None, slice_get, All, append-nil, take_all, All-head, length-slice_split}
+use Rattle.ele_time_path.proofs.Basics.{◌≡◌, eqb, ℕ, ◌-◌, ◌≤◌, get_or, take, drop, List, [], ◌∷◌, ◌++◌, length, refl, sym, ap, ◌∙◌, arith, nat_tests, ◌⊎◌, inl, inr, Some, None, slice_get, All, append-nil, take_all, All-head, length-slice_split}
 use Rattle.ele_time_path.proofs.Words.{IsName, PathFault, NoMemory, IsPath, SpellsPath, path_text, pieces_of, piece_faults, path_fault}
 use Rattle.ele_time_path.proofs.Pieces.{names_pass, pieces_of_text, text_of_pieces, faults_from}
 
@@ -15,7 +15,7 @@ pub spelled_behind : (word : List ℕ) (names : List (List ℕ)) → 2 ≤ lengt
 spelled_behind word names long slash is are = grind (arith, nat_tests, take_all, spelled (take (length word - 1) (drop 1 word)) names is are)
 
 -- a word that spells a path is a slash alone, or a slash and a text whose pieces are the names
-pub data IsCut (word : List ℕ) (names : List (List ℕ)) : Type 0 where
+data IsCut (word : List ℕ) (names : List (List ℕ)) : Type 0 where
   alone : word ≡ 47 ∷ [] → names ≡ [] → IsCut word names
   cut : (byte : ℕ) (text : List ℕ) → word ≡ 47 ∷ byte ∷ text → names ≡ pieces_of (byte ∷ text) → IsCut word names
 
@@ -23,7 +23,7 @@ cut_behind : (word name : List ℕ) (names : List (List ℕ)) → All IsName (na
 cut_behind word [] names are is = absurd (omega (arith, (All-head IsName [] names are).some))
 cut_behind word (byte ∷ bytes) names are is = cut byte (bytes ++ path_text names) is (sym (pieces_of_text (byte ∷ bytes) names are))
 
-pub cut_of : (word : List ℕ) (names : List (List ℕ)) → SpellsPath word names → IsCut word names
+cut_of : (word : List ℕ) (names : List (List ℕ)) → SpellsPath word names → IsCut word names
 cut_of word [] h = elim h.form [ inl root ↦ alone root.0 refl | inr more ↦ absurd (omega (arith, more.0)) ]
 cut_of word (name ∷ names) h =
     elim h.form [ inl root ↦ absurd (cc (root.1)) | inr more ↦ cut_behind word name names h.is.named more.1 ]

@@ -4,6 +4,7 @@ pub use Rattle.ele_moment.specs.Number.{SpellsNumber}
 pub use Rattle.ele_moment.specs.Spelled.{SpellsMoment}
 pub use Rattle.ele_time_path.specs.Begins.{is_tag_text}
 pub use Rattle.ele_time_path.specs.FirstFault.{is_name, path_fault, piece_fault, piece_faults}
+pub use Rattle.ele_time_path.specs.OneMeaning.{OneMeaning}
 pub use Rattle.ele_time_path.specs.Path.{IsPath, SpellsPath, path_text, pieces_of}
 pub use Rattle.ele_time_path.specs.PathAt.{IsMomentFault, IsNumbered, IsPathAtFault, SpellsPathAt, tag_at}
 pub use Rattle.ele_time_path.specs.Tagged.{SpellsTag, SpellsTaggedPath, is_mark}

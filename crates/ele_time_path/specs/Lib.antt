@@ -3,4 +3,5 @@ pub mod FirstFault
 pub mod Tagged
 pub mod TaggedFault
 pub mod PathAt
+pub mod OneMeaning
 pub mod Begins

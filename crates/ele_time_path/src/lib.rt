@@ -3,11 +3,13 @@
 #![tactic(auto)]
 
 mod fault;
+mod laws;
 mod path;
 mod path_at;
 mod tagged;
 
 pub use fault::{PathAtFault, PathFault};
+pub use laws::one_meaning;
 pub use path::Path;
 pub use path_at::PathAt;
 pub use tagged::{Tag, TaggedPath};

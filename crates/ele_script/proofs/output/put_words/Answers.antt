@@ -1,6 +1,6 @@
 use Rattle.ele_script.proofs.Basics.{Bor, List, ℕ, ◌∷◌, arith}
-use Rattle.ele_script.proofs.Known.{puts_err, sent_more, sent_err}
-use Rattle.ele_script.proofs.Lines.{joined_are, here}
+use Rattle.ele_script.proofs.Known.{sent_more, sent_err}
+use Rattle.ele_script.proofs.Lines.{here}
 use Rattle.ele_script.proofs.output.put_words.Goals as goal
 
 pub returns-in_err-put_word : goal.returns-in_err-put_word

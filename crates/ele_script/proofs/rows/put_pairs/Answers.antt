@@ -1,6 +1,6 @@
 use Rattle.ele_script.proofs.Basics.{◌∷◌, arith}
 use Rattle.ele_script.proofs.Prelude.{Rung, pair_word}
-use Rattle.ele_script.proofs.Known.{puts_err, sent_more, sent_err}
+use Rattle.ele_script.proofs.Known.{sent_more, sent_err}
 use Rattle.ele_script.proofs.Lines.{pairs_are, here}
 use Rattle.ele_script.proofs.rows.put_pairs.Goals as goal
 
