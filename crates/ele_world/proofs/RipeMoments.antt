@@ -37,7 +37,6 @@ due_from_ripe_of w row governed at fits = by (is_protected v row at) v.policy ro
 
   by : (b : Bool) (p : Option Policy) (e : Option ℕ) → IfSome p IsLawful → due_by b v row p e at ≡ option_map_or (λ ripe. nat_le ripe at) (ripe_if b v row p e) false
   by true p e given = rw (never_ripe v row p e) refl
-  by false (Some policy) (Some ended) given = given.due_from row.closed ended at (beside v row) fits
   by false p e given = grind arith
 
 pub ripens : (w : World) → IsWellFormed w → (row : VersionRow) → IsDueFromRipe w row

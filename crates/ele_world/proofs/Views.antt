@@ -1,9 +1,7 @@
 -- A file's rows in a well-formed world, and which are newer than one of them, by its place.
 use Rattle.ele_world.proofs.Basics.{all-found, ◌≡◌, ℕ, ◌<◌, ◌≤◌, false, List, [], ◌∷◌, ◌++◌, Some, filter, arith, slice_get, IfSome, AllByRecursion, filter-append, IfSome_then, nat_tests, AllLater, all-weaker, all-filter, all-map, all-right}
 use Rattle.ele_world.proofs.Basics.{later-right, later-filter, later-around, filter-all, filter-none}
-use Rattle.ele_world.proofs.Words.{is_file, last_moment, IsLawful, Safe, IsNearest, FileRow, VersionRow, FileView, view_of, is_version_of, is_newer, closings, beside, Now, Files, Versions, IsFile, IsVersion, ArePlaced, IsWellFormed, World, policy_of}
-use Rattle.ele_policy.specs.Interval.{IsInterval}
-use Rattle.ele_policy.specs.Ripe.{ripe_by}
+use Rattle.ele_world.proofs.Words.{is_file, last_moment, IsLawful, IsNearest, FileRow, VersionRow, FileView, view_of, is_version_of, is_newer, closings, beside, Now, Files, Versions, IsFile, IsVersion, ArePlaced, IsWellFormed, World, policy_of}
 
 -- the version didn't end before it closed
 abbrev pub IsLife : VersionRow → Type 0
@@ -38,11 +36,6 @@ lives_of w k = lives_in w.files w.now w.versions (k.holds Versions).each
 
 pub placed_of : (w : World) → IsWellFormed w → AllLater ArePlaced w.versions
 placed_of w k = (k.holds Versions).placed
-
--- a policy that keeps versions for a while is lawful
-pub safe_is : (interval : ℕ) → IsInterval interval → IsLawful (Safe interval)
-unfolding ripe_by
-safe_is interval is = grind (arith, nat_tests)
 
 pub policies_of : (w : World) → IsWellFormed w → AllByRecursion (λ row. IsLawful row.policy) w.files
 policies_of w k = all-weaker (IsFile w.made.files w.made.versions) (λ row. IsLawful row.policy) w.files (λ row is. is.policy) (k.holds Files).each

@@ -129,7 +129,8 @@ pub fn only_due_leave()
 pub fn only_due_leave_in_runs()
     ensures { OnlyDueLeaveInRuns }
 {
-    policies_are_lawful();
+    only_due_leave();
+    always_well_formed();
 }
 
 /// A held version's opened, closed and cells never change, and its end is set at most once.
@@ -141,7 +142,8 @@ pub fn held_stays()
 pub fn held_stays_in_runs()
     ensures { HeldStaysInRuns }
 {
-    policies_are_lawful();
+    held_stays();
+    always_well_formed();
 }
 
 /// A version that a handle reads never leaves.
@@ -184,11 +186,11 @@ pub fn pass_leaves_kept()
 {}
 
 /// The same of every run.
-#[tactic(auto, using(crate::proofs::PassEnds::pass_leaves_kept, crate::proofs::Words::run_of, crate::proofs::Words::fresh_world, crate::proofs::StepKeeps::run_keeps, crate::proofs::StepKeeps::fresh_is, crate::proofs::StepKeeps::lawful_events))]
 pub fn pass_leaves_kept_in_runs()
     ensures { PassLeavesKeptInRuns }
 {
-    policies_are_lawful();
+    pass_leaves_kept();
+    always_well_formed();
 }
 
 /// What the files of each kind of policy use in a well-formed world fits in 64 bits.
