@@ -127,7 +127,6 @@ ripe_is policy closed ended beside given =
           earliest_same (λ at. nat_le ended at && nat_le age (at - ended)) (nat_le (ended + age)) (λ at fits. grind (arith, nat_tests)) (candidates policy ended)
           ∙ earliest_from (ended + age) (candidates policy ended) (may_wait policy closed ended age beside.newer is)
 
--- and from it on the version is due
 pub due_from : (policy : Policy) (closed ended at : ℕ) (beside : Beside) → IsPolicy policy → at ≤ last_moment → is_due_by policy closed beside ended at ≡ option_map_or (λ m. nat_le m at) (ripe_by policy closed beside ended) false
 due_from policy closed ended at beside given fits =
     ap (λ b. nat_le ended at && b) (lets_go_from policy closed beside (at - ended) given)
@@ -139,12 +138,10 @@ due_from policy closed ended at beside given fits =
 
 -- ---- other versions beside it
 
--- a version that is let go itself may be missing: one that has been ended as long goes as before
 lets_go_without : (policy : Policy) (live : Bool) (xs : List ℕ) (gone : ℕ) (ys : List ℕ) (closed age gone_age : ℕ) → IsPolicy policy → gone_age ≤ age → lets_go policy gone (record { newer = ys; live = live }) gone_age ≡ true → lets_go policy closed (record { newer = xs ++ gone ∷ ys; live = live }) age ≡ lets_go policy closed (record { newer = xs ++ ys; live = live }) age
 lets_go_without (Landmarks rungs) live xs gone ys closed age gone_age given longer goes = grind (arith, nat_tests, any-without, any-weaker, shares_on, stays (has_newer gone ys) (newer_on gone ys) rungs gone_age age given.climbing longer goes)
 lets_go_without policy live xs gone ys closed age gone_age given longer goes = grind arith
 
--- and one that goes beside fewer goes beside more
 lets_go_fewer : (policy : Policy) (live : Bool) (xs : List ℕ) (more : ℕ) (ys : List ℕ) (closed age : ℕ) → lets_go policy closed (record { newer = xs ++ ys; live = live }) age ≡ true → lets_go policy closed (record { newer = xs ++ more ∷ ys; live = live }) age ≡ true
 lets_go_fewer policy live xs more ys closed age goes = grind (arith, nat_tests, any-with)
 
@@ -167,7 +164,6 @@ nearest_tells policy closed nearest beside is = by policy nearest beside.newer i
       (λ rung. grind (arith, nat_tests, nearest_decides rung closed x more later)))
   by policy nearest newer later first = grind arith
 
--- and so is the ripe moment
 pub ripe_nearest : (policy : Policy) (closed ended : ℕ) (nearest : Option ℕ) (beside : Beside) → IsPolicy policy → IsNearest closed nearest beside → ripe_by policy closed beside ended ≡ ripe_by policy closed (alone nearest) ended
 ripe_nearest policy closed ended nearest beside given is = grind (arith, ripe_is policy closed ended beside given, ripe_is policy closed ended (alone nearest) given, nearest_tells policy closed nearest beside is)
 
@@ -199,7 +195,6 @@ ripe_never policy closed ended nearest r given told = subst (NeverDue policy clo
     | false ↦ λ late beside near at fits. due_nearest policy closed ended at nearest (Some age) beside given near is ∙ grind (arith, nat_tests)
   ] refl
 
--- a version that ripens without a newer one ripens then beside one
 ripe_keeps : (policy : Policy) (closed ended m nearest : ℕ) → IsPolicy policy → ripe_by policy closed (alone None) ended ≡ Some m → ripe_by policy closed (alone (Some nearest)) ended ≡ Some m
 ripe_keeps policy closed ended m nearest given is =
     ripe_is policy closed ended (alone (Some nearest)) given ∙ by policy (sym (ripe_is policy closed ended (alone None) given) ∙ is) where
