@@ -1,11 +1,7 @@
 -- Which keys the versions have, once a file has its next version: two came, and all others stayed.
-use Rattle.ele_core.proofs.Words.{◌≡◌, ℕ, ◌<◌, ◌==◌, Bool, true, false, cond, not, ◌&&◌, ◌||◌, List, Option, Some, None, refl, ◌∙◌, and-false, arith, or-false, unwrap_or, option_and_then, AllByRecursion, option_map_or, false≢true, nat_tests, Cell, IsSound, NewKeys, Rows, world_of, IsQueued, is_entry, is_new, gained_moment, own_moment, new_keys, Key, has_key, rows_of, all-found, Policy, IsPolicy, FileRow, VersionRow, with_version, ripe_at, is_moment, near_moment, newest_of, is_marked, World, is_live, is_open, may_grow, next_of, policy_of, MayGrow, touches, next_before, next_after, newest_before, newest_was, newest_is, others_after, []}
+use Rattle.ele_core.proofs.Words.{◌≡◌, ℕ, ◌<◌, ◌==◌, Bool, true, false, cond, not, ◌&&◌, ◌||◌, List, Option, Some, None, refl, ◌∙◌, and-false, arith, or-false, unwrap_or, option_and_then, AllByRecursion, option_map_or, false≢true, nat_tests, Cell, IsSound, NewKeys, Rows, world_of, IsQueued, is_entry, is_new, gained_moment, own_moment, new_keys, Key, has_key, IfSome, rows_of, all-found, Policy, IsLawful, FileRow, VersionRow, with_version, ripe_at, is_moment, near_moment, newest_of, is_marked, World, is_live, is_open, may_grow, next_of, policy_of, MayGrow, touches, next_before, next_after, newest_before, newest_was, newest_is, others_after, []}
 use Rattle.ele_core.proofs.Following.{follows}
-use Rattle.ele_world.proofs.Words.{ripe_keeps}
-
--- the policy that a file has is one
-pub policy_is : (files : List FileRow) (file : ℕ) (policy : Policy) → AllByRecursion (λ row. IsPolicy row.policy) files → policy_of files file ≡ Some policy → IsPolicy policy
-policy_is files file policy all is = grind (arith, nat_tests, all-found)
+use Rattle.ele_world.proofs.Views.{policy_is}
 
 -- ---- what the newest version gets
 
@@ -14,9 +10,9 @@ record IsGained (m : ℕ) (was came is : Option ℕ) : Type 0 where
   is_now : is_moment m is ≡ (is_moment m came || is_moment m was)
   wasnt : is_moment m came ≡ true → is_moment m was ≡ false
 
-gained : (marks : ℕ → Option ℕ → Bool) (policy : Option Policy) (now closed m : ℕ) (ended : Option ℕ) → ((p : Policy) → policy ≡ Some p → IsPolicy p)
+gained : (marks : ℕ → Option ℕ → Bool) (policy : Option Policy) (now closed m : ℕ) (ended : Option ℕ) → IfSome policy IsLawful
     → IsGained m (option_and_then (near_moment marks policy None closed) ended) (gained_moment marks policy now closed ended) (near_moment marks policy (Some now) closed (unwrap_or ended now))
-gained marks policy now closed m x5 given = grind (arith, nat_tests, or-false, ripe_keeps, false≢true)
+gained marks policy now closed m x5 given = grind (arith, nat_tests, or-false, false≢true)
 
 module _ (w : World) (file opened : ℕ) (cells : List Cell) (k : MayGrow w file) where
   abbrev next : ℕ
@@ -35,7 +31,7 @@ module _ (w : World) (file opened : ℕ) (cells : List Cell) (k : MayGrow w file
   newest_gains row m is = rw (newest_was w file opened cells k row is, newest_is w file opened cells k row is) (by (is_open w.handles file row.number)) where
     by : (b : Bool) → IsGained m (cond b None (option_and_then (near_moment (is_marked w.groups file) (policy_of w.files file) None row.closed) row.ended)) (cond b None (gained_moment (is_marked w.groups file) (policy_of w.files file) w.now row.closed row.ended)) (cond b None (near_moment (is_marked w.groups file) (policy_of w.files file) (Some w.now) row.closed (unwrap_or row.ended w.now)))
     by true = record { is_now = refl; wasnt = λ h. refl }
-    by false = gained (is_marked w.groups file) (policy_of w.files file) w.now row.closed m row.ended (λ p. policy_is w.files file p k.policies)
+    by false = gained (is_marked w.groups file) (policy_of w.files file) w.now row.closed m row.ended (policy_is w.files file k.policies)
 
   -- ---- the queue
 

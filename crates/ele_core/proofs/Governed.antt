@@ -1,5 +1,5 @@
 -- The keys and the book, once a file has another policy.
-use Rattle.ele_core.proofs.Words.{rows_of, ◌≡◌, ℕ, ◌<◌, ◌==◌, Bool, true, false, cond, not, ◌&&◌, ◌||◌, List, ◌∷◌, Option, Some, refl, sym, subst, arith, filter, map, AllByRecursion, filter_map, list_any, option_map_or, nat_tests, world_of, IsSound, IsQueued, is_under, key_under, unread_under, told_by, IsBooked, Rows, Key, has_key, is_key, Held, changed_at, found_passes, any-found, Kind, Policy, IsPolicy, is_kind, kind_of, Usage, Book, sums_of, only_at, plus, Fits, IsWithin, GroupRow, Stamps, VersionRow, PutUnder, after_change, is_moment, is_version_of, stamps_of, file_usage, usage_of, usages, Bounded, World, is_version, next_of, policy_of, in_order_of, ripe_at_near, put_under_keeps, usage_same, usages_fit, [], IsWellFormed, cons_option}
+use Rattle.ele_core.proofs.Words.{rows_of, ◌≡◌, ℕ, ◌<◌, ◌==◌, Bool, true, false, cond, not, ◌&&◌, ◌||◌, List, ◌∷◌, Option, Some, refl, sym, subst, arith, filter, map, AllByRecursion, filter_map, list_any, option_map_or, nat_tests, world_of, IsSound, IsQueued, is_under, key_under, unread_under, told_by, IsBooked, Rows, Key, has_key, is_key, Held, changed_at, found_passes, any-found, Kind, Policy, IsLawful, is_kind, kind_of, Usage, Book, sums_of, only_at, plus, Fits, IsWithin, GroupRow, Stamps, VersionRow, PutUnder, after_change, is_moment, is_version_of, stamps_of, file_usage, usage_of, usages, Bounded, World, is_version, next_of, policy_of, in_order_of, ripe_at_near, put_under_keeps, usage_same, usages_fit, [], IsWellFormed, cons_option}
 use Rattle.ele_core.proofs.Booked.{booked, plus-cancel, same_kind}
 use Rattle.ele_core.proofs.Following.{follows}
 use Rattle.ele_world.proofs.PolicyUsage.{file_within, policy_usage}
@@ -37,7 +37,7 @@ module _ (groups : List GroupRow) (h : Held) (file : ℕ) (policy other : Policy
 
 -- ---- the queue
 
-module _ (w : World) (file : ℕ) (was policy : Policy) (k : IsWellFormed w) (filed : policy_of w.files file ≡ Some was) (there : 0 < next_of w.files file) (given : IsPolicy policy) where
+module _ (w : World) (file : ℕ) (was policy : Policy) (k : IsWellFormed w) (filed : policy_of w.files file ≡ Some was) (there : 0 < next_of w.files file) (given : IsLawful policy) where
   abbrev h : Held
   h = rows_of w
 
@@ -57,7 +57,7 @@ module _ (w : World) (file : ℕ) (was policy : Policy) (k : IsWellFormed w) (fi
     pub ungoverned_in : ((j : Key) → has_key j between ≡ (not (is_under w.groups h file policy was j) && has_key j queue)) → IsQueued w between
     ungoverned_in stays j = grind (arith, nat_tests, had)
 
-module _ (rows : Rows) (file : ℕ) (was policy : Policy) (between after : List Key) (sound : IsSound rows) (filed : policy_of rows.files.files file ≡ Some was) (there : 0 < next_of rows.files.files file) (given : IsPolicy policy) where
+module _ (rows : Rows) (file : ℕ) (was policy : Policy) (between after : List Key) (sound : IsSound rows) (filed : policy_of rows.files.files file ≡ Some was) (there : 0 < next_of rows.files.files file) (given : IsLawful policy) where
   pub governed_queue : ((j : Key) → has_key j between ≡ (is_under rows.groups rows.files file policy was j || has_key j rows.queue)) → ((j : Key) → has_key j after ≡ (not (is_under rows.groups rows.files file was policy j) && has_key j between)) → IsQueued (after_change (world_of rows) (PutUnder file policy)) after
   governed_queue = governed_in (world_of rows) file was policy sound.formed filed there given rows.queue between sound.tracked.queue after
 
@@ -72,25 +72,26 @@ kinds_apart x0 x1 other = grind (arith, nat_tests)
 fits_at : (w : World) → AllByRecursion Fits (usages w) → (k : Kind) → Fits (usage_of w k)
 fits_at w all x2 = grind (arith, nat_tests)
 
-module _ (rows : Rows) (file : ℕ) (was policy : Policy) (sound : IsSound rows) (filed : policy_of rows.files.files file ≡ Some was) (given : IsPolicy policy) where
+module _ (rows : Rows) (file : ℕ) (was : Policy) (sound : IsSound rows) (filed : policy_of rows.files.files file ≡ Some was) where
   abbrev uses : Usage
   uses = file_usage rows.files.versions rows.files.drafts file
 
-  abbrev now : World
-  now = after_change (world_of rows) (PutUnder file policy)
-
   -- the kind that the file leaves has what it uses
   pub uses_within : IsWithin uses (sums_of rows.book (kind_of was))
-  uses_within = subst (IsWithin uses) (sym (booked rows sound.tracked (kind_of was))) (file_within (world_of rows) file was policy sound.formed filed)
+  uses_within = subst (IsWithin uses) (sym (booked rows sound.tracked (kind_of was))) (file_within (world_of rows) file was was sound.formed filed)
 
-  -- and the one to which it comes has room for it
-  pub uses_fit : (kind_of was ≡ kind_of policy → ⊥) → Fits (plus (sums_of rows.book (kind_of policy)) uses)
-  uses_fit other =
-      let formed = put_under_keeps (world_of rows) file policy given sound.formed in
-      let moves = policy_usage (world_of rows) file was policy sound.formed filed (kind_of policy) in
-      grind (arith, nat_tests, moves, kinds_apart, same_kind, booked rows sound.tracked (kind_of policy), fits_at now (usages_fit now formed (formed.holds Bounded)) (kind_of policy))
+  module _ (policy : Policy) (given : IsLawful policy) where
+    abbrev now : World
+    now = after_change (world_of rows) (PutUnder file policy)
 
-  -- once it has moved the book follows
-  pub governed_book : (book : Book) → ((k : Kind) → plus (sums_of book k) (only_at (kind_of was) uses k) ≡ plus (sums_of rows.book k) (only_at (kind_of policy) uses k)) → IsBooked (changed_at rows.files 0 (PutUnder file policy ∷ [])) book
-  governed_book book moved k =
-      grind (arith, nat_tests, plus-cancel (sums_of book k) (usage_of now k) (only_at (kind_of was) uses k), moved k, booked rows sound.tracked k, policy_usage (world_of rows) file was policy sound.formed filed k, usage_same (told_by (changed_at rows.files 0 (PutUnder file policy ∷ []))) now refl refl refl k)
+    -- and the one to which it comes has room for it
+    pub uses_fit : (kind_of was ≡ kind_of policy → ⊥) → Fits (plus (sums_of rows.book (kind_of policy)) uses)
+    uses_fit other =
+        let formed = put_under_keeps (world_of rows) file policy given sound.formed in
+        let moves = policy_usage (world_of rows) file was policy sound.formed filed (kind_of policy) in
+        grind (arith, nat_tests, moves, kinds_apart, same_kind, booked rows sound.tracked (kind_of policy), fits_at now (usages_fit now formed (formed.holds Bounded)) (kind_of policy))
+
+    -- once it has moved the book follows
+    pub governed_book : (book : Book) → ((k : Kind) → plus (sums_of book k) (only_at (kind_of was) uses k) ≡ plus (sums_of rows.book k) (only_at (kind_of policy) uses k)) → IsBooked (changed_at rows.files 0 (PutUnder file policy ∷ [])) book
+    governed_book book moved k =
+        grind (arith, nat_tests, plus-cancel (sums_of book k) (usage_of now k) (only_at (kind_of was) uses k), moved k, booked rows sound.tracked k, policy_usage (world_of rows) file was policy sound.formed filed k, usage_same (told_by (changed_at rows.files 0 (PutUnder file policy ∷ []))) now refl refl refl k)

@@ -63,6 +63,7 @@ use ele_groups::Groups;
 use ele_names::Names;
 use ele_policy::Interval;
 use ele_usage::UsageBook;
+use ele_world::laws::step_keeps_well_formed;
 pub use ele_world::{
     ByteList, Cell, Counts, DeadName, DeadNameList, DirId, DirectoryRow, DraftRow, Event, FileId,
     FileRow, FileStat, Flat, GroupList, GroupRow, Handle, HandleRow, Key, KeyList, Kind, Ladder,
@@ -189,6 +190,7 @@ impl Core {
         ensures read { IfOk result (λ reply. IsRead event.now reply self.new.rows_read) }
     {
         self.rows.meter = Meter::new();
+        step_keeps_well_formed();
         answer(&mut self.rows, event)
     }
 

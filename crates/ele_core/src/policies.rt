@@ -3,6 +3,7 @@ ghost use Rattle.std.specs.Prelude.{◌≡◌, ◌<◌, ◌&&◌, Some, IfOk, On
 ghost use Rattle.std.specs.List.{filter_map};
 ghost use Rattle.ele_due.specs.declared.key.Key.{Key};
 ghost use Rattle.ele_due.specs.HasKey.{has_key};
+ghost use Rattle.ele_policy.specs.Lawful.{IsLawful};
 ghost use Rattle.ele_policy.specs.Policy.{IsPolicy};
 ghost use Rattle.ele_world.specs.Change.{PutUnder, after_change};
 ghost use Rattle.ele_world.specs.Step.{step};
@@ -96,7 +97,7 @@ fn keys_under(
 fn put_under(rows: &mut Rows, file: FileId, policy: Policy) -> Result<(), NoMemory>
     requires sound { IsSound rows.old }
     requires there { 0 < next_of rows.old.files.files file }
-    requires valid { IsPolicy policy }
+    requires lawful { IsLawful policy }
     ensures ok { OnOk result
         (world_of rows.new ≡ after_change (world_of rows.old) (PutUnder file policy)) }
     ensures err { OnErr result (world_of rows.new ≡ world_of rows.old) }

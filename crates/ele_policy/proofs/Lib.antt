@@ -1,7 +1,7 @@
--- for the crates above: from when on a policy lets a version go, and that it goes as before beside fewer
-pub mod Waits
+-- from when on a policy lets a version go, and that it goes as before beside fewer
+mod Waits
 -- the earliest of moments
-pub mod Earliest
+mod Earliest
 -- spans lie in wider ones
 mod Nesting
 -- ladders in their fields

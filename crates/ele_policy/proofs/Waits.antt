@@ -1,5 +1,5 @@
 -- A policy lets a version go from one age on, which the nearest newer closing tells.
-use Rattle.std.proofs.Common.{◌≡◌, ℕ, ◌+◌, ◌-◌, ◌≤◌, ◌==◌, ◌&&◌, ◌||◌, Bool, true, false, cond, List, [], ◌∷◌, ◌++◌, Option, Some, None, refl, ap, sym, subst, ◌∙◌, arith, zero, suc}
+use Rattle.std.proofs.Common.{◌≡◌, ℕ, ◌+◌, ◌-◌, ◌≤◌, ◌==◌, ◌&&◌, ◌||◌, Bool, true, false, cond, List, [], ◌∷◌, ◌++◌, Option, Some, None, refl, ap, sym, subst, ◌∙◌, arith, rules, zero, suc}
 use Rattle.std.specs.Prelude.{nat_le, find, slice_get, option_and_then, IfSome, IfNone}
 use Rattle.std.specs.List.{list_any}
 use Rattle.std.specs.Option.{option_map, option_map_or}
@@ -10,6 +10,7 @@ use Rattle.ele_lists.specs.Lists.{AllLater}
 use Rattle.ele_moment.specs.Last.{last_moment}
 use Rattle.ele_policy.specs.declared.policy.Policy.{Policy}
 use Rattle.ele_policy.specs.declared.policy.Policy.TheVariants.{One, All, Safe, Landmarks}
+use Rattle.ele_policy.specs.Lawful.{PoliciesAreLawful}
 use Rattle.ele_policy.specs.Ladder.{Rung, ground, climbs, level_of, rung_at, shares}
 use Rattle.ele_policy.specs.Policy.{IsPolicy}
 use Rattle.ele_policy.specs.Ripe.{Beside, IsNearest, alone, lets_go, is_due_by, candidates, earliest_of, ripe_by}
@@ -126,7 +127,6 @@ ripe_is policy closed ended beside given =
           earliest_same (λ at. nat_le ended at && nat_le age (at - ended)) (nat_le (ended + age)) (λ at fits. grind (arith, nat_tests)) (candidates policy ended)
           ∙ earliest_from (ended + age) (candidates policy ended) (may_wait policy closed ended age beside.newer is)
 
--- and from it on the version is due
 pub due_from : (policy : Policy) (closed ended at : ℕ) (beside : Beside) → IsPolicy policy → at ≤ last_moment → is_due_by policy closed beside ended at ≡ option_map_or (λ m. nat_le m at) (ripe_by policy closed beside ended) false
 due_from policy closed ended at beside given fits =
     ap (λ b. nat_le ended at && b) (lets_go_from policy closed beside (at - ended) given)
@@ -138,13 +138,11 @@ due_from policy closed ended at beside given fits =
 
 -- ---- other versions beside it
 
--- a version that is let go itself may be missing: one that has been ended as long goes as before
-pub lets_go_without : (policy : Policy) (live : Bool) (xs : List ℕ) (gone : ℕ) (ys : List ℕ) (closed age gone_age : ℕ) → IsPolicy policy → gone_age ≤ age → lets_go policy gone (record { newer = ys; live = live }) gone_age ≡ true → lets_go policy closed (record { newer = xs ++ gone ∷ ys; live = live }) age ≡ lets_go policy closed (record { newer = xs ++ ys; live = live }) age
+lets_go_without : (policy : Policy) (live : Bool) (xs : List ℕ) (gone : ℕ) (ys : List ℕ) (closed age gone_age : ℕ) → IsPolicy policy → gone_age ≤ age → lets_go policy gone (record { newer = ys; live = live }) gone_age ≡ true → lets_go policy closed (record { newer = xs ++ gone ∷ ys; live = live }) age ≡ lets_go policy closed (record { newer = xs ++ ys; live = live }) age
 lets_go_without (Landmarks rungs) live xs gone ys closed age gone_age given longer goes = grind (arith, nat_tests, any-without, any-weaker, shares_on, stays (has_newer gone ys) (newer_on gone ys) rungs gone_age age given.climbing longer goes)
 lets_go_without policy live xs gone ys closed age gone_age given longer goes = grind arith
 
--- and one that goes beside fewer goes beside more
-pub lets_go_fewer : (policy : Policy) (live : Bool) (xs : List ℕ) (more : ℕ) (ys : List ℕ) (closed age : ℕ) → lets_go policy closed (record { newer = xs ++ ys; live = live }) age ≡ true → lets_go policy closed (record { newer = xs ++ more ∷ ys; live = live }) age ≡ true
+lets_go_fewer : (policy : Policy) (live : Bool) (xs : List ℕ) (more : ℕ) (ys : List ℕ) (closed age : ℕ) → lets_go policy closed (record { newer = xs ++ ys; live = live }) age ≡ true → lets_go policy closed (record { newer = xs ++ more ∷ ys; live = live }) age ≡ true
 lets_go_fewer policy live xs more ys closed age goes = grind (arith, nat_tests, any-with)
 
 -- ---- told by the nearest newer closing alone
@@ -166,7 +164,6 @@ nearest_tells policy closed nearest beside is = by policy nearest beside.newer i
       (λ rung. grind (arith, nat_tests, nearest_decides rung closed x more later)))
   by policy nearest newer later first = grind arith
 
--- and so is the ripe moment
 pub ripe_nearest : (policy : Policy) (closed ended : ℕ) (nearest : Option ℕ) (beside : Beside) → IsPolicy policy → IsNearest closed nearest beside → ripe_by policy closed beside ended ≡ ripe_by policy closed (alone nearest) ended
 ripe_nearest policy closed ended nearest beside given is = grind (arith, ripe_is policy closed ended beside given, ripe_is policy closed ended (alone nearest) given, nearest_tells policy closed nearest beside is)
 
@@ -198,8 +195,7 @@ ripe_never policy closed ended nearest r given told = subst (NeverDue policy clo
     | false ↦ λ late beside near at fits. due_nearest policy closed ended at nearest (Some age) beside given near is ∙ grind (arith, nat_tests)
   ] refl
 
--- a version that ripens without a newer one ripens then beside one
-pub ripe_keeps : (policy : Policy) (closed ended m nearest : ℕ) → IsPolicy policy → ripe_by policy closed (alone None) ended ≡ Some m → ripe_by policy closed (alone (Some nearest)) ended ≡ Some m
+ripe_keeps : (policy : Policy) (closed ended m nearest : ℕ) → IsPolicy policy → ripe_by policy closed (alone None) ended ≡ Some m → ripe_by policy closed (alone (Some nearest)) ended ≡ Some m
 ripe_keeps policy closed ended m nearest given is =
     ripe_is policy closed ended (alone (Some nearest)) given ∙ by policy (sym (ripe_is policy closed ended (alone None) given) ∙ is) where
       none : (rungs : List Rung) → find (has_newer closed []) rungs ≡ None
@@ -209,3 +205,8 @@ ripe_keeps policy closed ended m nearest given is =
       by : (policy : Policy) → ripe_after policy closed ended [] ≡ Some m → ripe_after policy closed ended (nearest ∷ []) ≡ Some m
       by (Landmarks rungs) h = absurd (let no = none rungs in cc)
       by policy h = grind arith
+
+-- ---- so every policy is lawful
+
+pub policies_are_lawful : PoliciesAreLawful
+policies_are_lawful policy given = search (rules, due_from, ripe_nearest, ripe_keeps, lets_go_without, lets_go_fewer)

@@ -2,6 +2,7 @@ pub mod Interval
 pub mod Ladder
 pub mod Policy
 pub mod Ripe
+pub mod Lawful
 pub mod LetsGoFrom
 pub mod SharesNest
 pub mod Places

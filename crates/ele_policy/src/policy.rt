@@ -1,6 +1,7 @@
 //! The policies of files, and their kinds.
 //! A contract sees both as plain data.
 ghost use Rattle.std.specs.Prelude.{◌≡◌};
+ghost use Rattle.ele_policy.specs.Lawful.{IsLawful};
 ghost use Rattle.ele_policy.specs.Policy.{kind_of, IsPolicy};
 
 use crate::interval::Interval;
@@ -45,8 +46,8 @@ impl Policy {
         }
     }
 
-    /// Says of the policy that its numbers are such as can be given.
-    pub fn is_given(&self)
+    // Says of the policy that its numbers are such as can be given.
+    fn is_policy(&self)
         ensures { IsPolicy self.now }
     {
         match self {
@@ -58,5 +59,14 @@ impl Policy {
                 ladder.pairs();
             }
         }
+    }
+
+    /// Says of the policy that its numbers are such as can be given, and that it is lawful.
+    #[tactic(auto, using(crate::proofs::Waits::policies_are_lawful))]
+    pub fn is_given(&self)
+        ensures given { IsPolicy self.now }
+        ensures lawful { IsLawful self.now }
+    {
+        self.is_policy();
     }
 }

@@ -2,8 +2,9 @@
 use Rattle.ele_world.proofs.Basics.{nat_tests, arith, ◌≡◌, ℕ, true, false, not, List, Some, None, Ok, is_some, AllByRecursion, false≢true, all-weaker, last_has, rules, ◌<◌, [], ◌∷◌, refl, find, nat_le, list_any, all-found, found_passes}
 use Rattle.ele_world.proofs.Basics.{length-remove_first, list_any-insert_before, insert_before}
 use Rattle.ele_world.proofs.Words.{is_named, last_target, may_return, nameless, IsThere, IsDirectoryThere, IsNameRow, IsHoused, Names, Homes, IsWellFormed, World, NameRow, Target, Key, new_draft, EndDraft, ShutHandle, after_changes, first_due, plan}
-use Rattle.ele_world.proofs.Words.{version_meant, live_target, parent_now, Counted, Directories, Versions, Drafts, next_of, is_draft, is_draft_after, Event, Undelete, OpenWrite, OpenRead, Close, Revert, CleanOne, Read, DraftRow, VersionRow}
+use Rattle.ele_world.proofs.Words.{version_meant, live_target, parent_now, IsLawful, default_of, DirectoryRow, Counted, Directories, Versions, Drafts, next_of, is_draft, is_draft_after, Event, MakeDir, Create, Undelete, OpenWrite, OpenRead, Close, Revert, CleanOne, Read, DraftRow, VersionRow}
 use Rattle.ele_time_path.specs.declared.tagged.Tag.TheVariants as tag
+use Rattle.ele_policy.specs.Ripe.{ripe_by}
 use Rattle.ele_lists.proofs.Cuts.{any-found}
 use Rattle.ele_world.proofs.May.{HasRoom, MayName, MayAdd, MayRevive, MayAppend, MayTake, MayPlan}
 use Rattle.ele_world.proofs.DueRows.{first_is_due, due_has_ended, due_is_unread}
@@ -47,9 +48,17 @@ reverts w file number row k there meant room = grind (arith, nat_tests, k.holds 
 pub may_name : (w : World) (path : List (List ℕ)) (at : ℕ × List ℕ) → IsWellFormed w → parent_now w.names path ≡ Ok at → is_some (live_target w.names at.0 at.1) ≡ false → nat_le w.limits.names w.made.names ≡ false → MayName w at.0 at.1
 may_name w path at k found free names = grind (arith, nat_tests, parent_home w path)
 
+-- a directory's default is lawful, and so is the default of none
+pub default_is : (rows : List DirectoryRow) (id : ℕ) → AllByRecursion (λ row. IsLawful row.default) rows → IsLawful (default_of rows id)
+unfolding ripe_by
+default_is [] id all = grind (arith, nat_tests)
+default_is (row ∷ rows) id all = grind (arith, nat_tests, default_is rows id all.1)
+
 -- ---- each event
 
 pub allowed : (w : World) (event : Event) → IsWellFormed w → MayPlan event w (plan w event)
+allowed w (MakeDir path) k = search (rules, k.holds Directories, may_name, default_is)
+allowed w (Create path) k = search (rules, k.holds Directories, may_name, default_is)
 allowed w (Undelete path) k = search (rules, may_add, may_name, may_revive)
 allowed w (OpenWrite path) k = search (rules, k.holds Names, file_there, begun)
 allowed w (OpenRead tagged) k = λ row found handles. (record { next = refl; room = grind (arith, nat_tests); drafted = tt; held = meant_held w row.file row (is_at w tagged row found) }, tt)

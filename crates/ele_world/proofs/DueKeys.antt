@@ -1,7 +1,7 @@
 -- The scan, one row after another.
 use Rattle.ele_world.proofs.Basics.{nat_tests, arith, ◌≡◌, ℕ, ◌+◌, ◌<◌, ◌≤◌, ◌||◌, Bool, true, false, cond, List, [], ◌∷◌, length, get_or, take, Option, Some, None}
 use Rattle.ele_world.proofs.Basics.{refl, fold, filter, nat_le, option_and_then, filter_map, cons_option, take_more, filter_map-append, fold-append, insert_key, filter-both}
-use Rattle.ele_world.proofs.Words.{Key, last_moment, Policy, IsPolicy, VersionRow, view_of, is_version_of, is_newer, closings, is_protected, is_marked, is_newer_of, IsDueFromRipe, in_order, key_cmp, key_of, World, is_live, is_open, policy_of}
+use Rattle.ele_world.proofs.Words.{Key, last_moment, Policy, IsLawful, VersionRow, view_of, is_version_of, is_newer, closings, is_protected, is_marked, is_newer_of, IsDueFromRipe, in_order, key_cmp, key_of, World, is_live, is_open, policy_of}
 use Rattle.ele_policy.specs.Ripe.{ripe_by}
 use Rattle.ele_world.specs.Due.{is_due_at, ripe_of}
 use Rattle.ele_world.specs.Scan.{due_key}
@@ -40,7 +40,7 @@ module _ (w : World) (row : VersionRow) where
     ripe-unended policy filed end = grind (arith, nat_tests, unended, protected_is)
 
     -- of one whose file and end are known
-    pub ripe-told : (policy : Policy) (ended : ℕ) (ripe : Option ℕ) → policy_of w.files row.file ≡ Some policy → IsPolicy policy → row.ended ≡ Some ended
+    pub ripe-told : (policy : Policy) (ended : ℕ) (ripe : Option ℕ) → policy_of w.files row.file ≡ Some policy → IsLawful policy → row.ended ≡ Some ended
         → ((live : Bool) → ripe ≡ ripe_by policy row.closed (record { newer = closings (filter (is_newer_of row.file row.number) w.versions); live = live }) ended) → IsRipeOf w row ripe
     unfolding ripe_of
     ripe-told policy ended ripe filed given end is = grind (arith, nat_tests, is (is_live w row.file), filter-both (is_newer row) (is_version_of row.file) w.versions, free_ripe (view_of w row.file) row policy ended, protected_is w row, due_from_ripe_of w row)

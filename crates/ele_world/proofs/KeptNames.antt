@@ -1,7 +1,7 @@
 -- The clock, policies and the making of a file keep a world well formed.
 use Rattle.ele_world.proofs.Basics.{◌≡◌, ℕ, ◌+◌, ◌≤◌, false, List, [], ◌∷◌, ◌++◌, length-append, sym, subst, arith, is_some, AllByRecursion, nat_tests, find-append, list_any-append, all-push, all-weaker, all-update_first, later-push}
 use Rattle.ele_world.proofs.Basics.{later-update_first, length-update_first, list_any-update_first}
-use Rattle.ele_world.proofs.Words.{last_moment, Policy, governed_by, put_under, after_change, Time, Govern, MakeFile, PutUnder, live_target, IsPolicy, IsHoused, IsFile, IsNameRow, AreApart, IsVersion, IsDraft, Part, Files, Names, Versions, Drafts}
+use Rattle.ele_world.proofs.Words.{last_moment, Policy, governed_by, put_under, after_change, Time, Govern, MakeFile, PutUnder, live_target, IsLawful, IsHoused, IsFile, IsNameRow, AreApart, IsVersion, IsDraft, Part, Files, Names, Versions, Drafts}
 use Rattle.ele_world.proofs.Words.{Readers, Current, Holds, IsWellFormed, World, root, is_directory, is_file, next_of, FileRow, NameRow, File}
 use Rattle.ele_world.proofs.Readers.{read_on}
 use Rattle.ele_world.proofs.Created.{new_file, new_name, first_version, created, made_is}
@@ -19,10 +19,10 @@ time_keeps w to fits le k = record { holds = λ part. grind (arith, nat_tests, k
 
 -- ---- a directory or a file has another policy
 
-pub govern_keeps : (w : World) (directory : ℕ) (policy : Policy) → IsPolicy policy → IsWellFormed w → IsWellFormed (after_change w (Govern directory policy))
+pub govern_keeps : (w : World) (directory : ℕ) (policy : Policy) → IsLawful policy → IsWellFormed w → IsWellFormed (after_change w (Govern directory policy))
 govern_keeps w directory policy is k = record { holds = λ part. grind (arith, nat_tests, k.holds part, list_any-update_first (is_directory directory) (is_directory root) (governed_by policy) w.directories, all-update_first (is_directory directory), later-update_first (is_directory directory), length-update_first (is_directory directory) (governed_by policy) w.directories, all-weaker (IsHoused w.directories w.names), list_any-update_first (is_directory directory)) }
 
-pub put_under_keeps : (w : World) (file : ℕ) (policy : Policy) → IsPolicy policy → IsWellFormed w → IsWellFormed (after_change w (PutUnder file policy))
+pub put_under_keeps : (w : World) (file : ℕ) (policy : Policy) → IsLawful policy → IsWellFormed w → IsWellFormed (after_change w (PutUnder file policy))
 put_under_keeps w file policy is k = record { holds = by } where
   by : (part : Part) → Holds (after_change w (PutUnder file policy)) part
   by Files = grind (arith, nat_tests, k.holds Files, all-update_first (is_file file) (IsFile w.made.files w.made.versions) (IsFile w.made.files w.made.versions) (put_under policy) w.files, later-update_first (is_file file))

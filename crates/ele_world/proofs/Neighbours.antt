@@ -2,22 +2,23 @@
 -- held neighbour tell.
 use Rattle.ele_world.proofs.Basics.{◌≡◌, ℕ, ◌+◌, ◌≤◌, ◌==◌, ◌&&◌, ◌||◌, Bool, true, false, not, cond, List, [], ◌∷◌, Option, Some, None, refl, arith, filter, slice_get, find, option_and_then, IfSome, AllByRecursion, list_any, option_map_or}
 use Rattle.ele_world.proofs.Basics.{nat_tests, slice_get-map, find-cut, find-filter_both, AllLater, update_first, all-weaker, not_found}
-use Rattle.ele_world.proofs.Words.{never_due, ripe_nearest, Policy, IsPolicy, IsNearest, is_due_by, alone, candidates, earliest_of, FileRow, VersionRow, ended_at, ripe_at, FileView, view_of, beside, ripe_in, covers_moment, is_marked, near_moment}
+use Rattle.ele_world.proofs.Words.{Policy, IsLawful, IsNearest, is_due_by, alone, candidates, earliest_of, FileRow, VersionRow, ended_at, ripe_at, FileView, view_of, beside, ripe_in, covers_moment, is_marked, near_moment}
 use Rattle.ele_world.proofs.Words.{next_closing, moment_under, free_moment, ArePlaced, AreVersions, IsVersion, Versions, IsWellFormed, World, is_open, is_version, next_of, policy_of}
 use Rattle.ele_policy.specs.Ripe.{ripe_by}
 use Rattle.ele_world.specs.Due.{ripe_of}
 use Rattle.ele_world.proofs.GroupMarks.{marks_tell}
 use Rattle.ele_world.proofs.Readers.{numbers_are}
 use Rattle.ele_world.proofs.RipeAt.{ripe_at_is}
+use Rattle.ele_world.proofs.RipeMoments.{never_due}
 use Rattle.ele_world.proofs.Views.{IsLife, policies_of, lives_in, view_in, nearest_of}
 
--- what ripe moments rest on: the policies are policies, and each file's versions stand in order
+-- what ripe moments rest on: the policies are lawful, and each file's versions stand in order
 pub record AreInOrder (files : List FileRow) (versions : List VersionRow) : Type 0 where
-  pub policies : AllByRecursion (λ row. IsPolicy row.policy) files
+  pub policies : AllByRecursion (λ row. IsLawful row.policy) files
   pub lives : AllByRecursion IsLife versions
   pub placed : AllLater ArePlaced versions
 
-pub versions_in_order : (files : List FileRow) (now : ℕ) (versions : List VersionRow) → AllByRecursion (λ row. IsPolicy row.policy) files → AreVersions files now versions → AreInOrder files versions
+pub versions_in_order : (files : List FileRow) (now : ℕ) (versions : List VersionRow) → AllByRecursion (λ row. IsLawful row.policy) files → AreVersions files now versions → AreInOrder files versions
 versions_in_order files now versions policies are = record { policies = policies; lives = lives_in files now versions are.each; placed = are.placed }
 
 pub in_order_of : (w : World) → IsWellFormed w → AreInOrder w.files w.versions
@@ -35,17 +36,17 @@ moment_if marked b policy nearest row ended = cond b None (option_and_then (near
 abbrev marked_in : FileView → ℕ → Option ℕ → Bool
 marked_in v closed ended = list_any (covers_moment closed ended) v.marks
 
-ripe_in_near : (v : FileView) (row : VersionRow) (nearest : Option ℕ) → IfSome v.policy IsPolicy → IsNearest row.closed nearest (beside v row) → ripe_in v row ≡ moment_if (marked_in v) (list_any (λ number. number == row.number) v.pinned) v.policy nearest row row.ended
+ripe_in_near : (v : FileView) (row : VersionRow) (nearest : Option ℕ) → IfSome v.policy IsLawful → IsNearest row.closed nearest (beside v row) → ripe_in v row ≡ moment_if (marked_in v) (list_any (λ number. number == row.number) v.pinned) v.policy nearest row row.ended
 unfolding ripe_by
 ripe_in_near v row nearest governed near = by (list_any (λ number. number == row.number) v.pinned) v.policy row.ended governed where
   due : Bool → Option Policy → Option ℕ → ℕ → Bool
   due b p e at = not b && option_map_or (λ policy. option_map_or (λ ended. is_due_by policy row.closed (beside v row) ended at) e false) p false
 
-  marked : (m : Bool) (policy : Policy) (ended : ℕ) → IsPolicy policy → earliest_of (due m (Some policy) (Some ended)) (candidates policy ended) ≡ cond m None (ripe_by policy row.closed (alone nearest) ended)
+  marked : (m : Bool) (policy : Policy) (ended : ℕ) → IsLawful policy → earliest_of (due m (Some policy) (Some ended)) (candidates policy ended) ≡ cond m None (ripe_by policy row.closed (alone nearest) ended)
   marked true policy ended given = never_due (candidates policy ended)
-  marked false policy ended given = ripe_nearest policy row.closed ended nearest (beside v row) given near
+  marked false policy ended given = given.ripe_nearest row.closed ended nearest (beside v row) near
 
-  by : (b : Bool) (p : Option Policy) (e : Option ℕ) → IfSome p IsPolicy
+  by : (b : Bool) (p : Option Policy) (e : Option ℕ) → IfSome p IsLawful
       → option_and_then (λ policy. option_and_then (λ ended. earliest_of (due (b || marked_in v row.closed e) p e) (candidates policy ended)) e) p ≡ moment_if (marked_in v) b p nearest row e
   by true (Some policy) (Some ended) given = never_due (candidates policy ended)
   by false (Some policy) (Some ended) given = marked (marked_in v row.closed (Some ended)) policy ended given

@@ -3,13 +3,14 @@
 use Rattle.ele_world.proofs.Basics.{rules, ◌≡◌, ◌==◌, ℕ, Bool, true, false, not, ◌||◌, List, [], ◌∷◌, arith, AllByRecursion, list_any, false≢true, not-true, nat_tests, update_first, remove_first, filter-passes, all-push, all-weaker, all-both}
 use Rattle.ele_world.proofs.Basics.{all-update_first, all-remove_first, found_passes, list_any-update_first, list_any-insert_before, list_any-remove_first, any-found, remove_first-key}
 use Rattle.ele_world.proofs.Words.{Cell, Policy, Take, MakeFile, PutUnder, EndFileName, EndDraft, DropIdle, ShutHandle, StartDraft, after_change, is_idle, numbered_on, put_under, with_file, with_name, with_version, without_file, is_version_of}
-use Rattle.ele_world.proofs.Words.{HasNoIdle, NoIdleStays, run_of, IsEvent, plan, step, Files, Current, IsWellFormed, World, is_file, is_draft, has_draft, Event, Close, CleanOne, Read, DraftRow, FileRow, File}
+use Rattle.ele_world.proofs.Words.{HasNoIdle, NoIdleStays, run_of, plan, step, Files, Current, IsWellFormed, World, is_file, is_draft, has_draft, Event, Close, CleanOne, Read, DraftRow, FileRow, File}
 use Rattle.ele_lists.proofs.Cuts.{any-found as first_passing}
 use Rattle.ele_world.proofs.Allowed.{takes}
 use Rattle.ele_world.proofs.Dropped.{dropped}
 use Rattle.ele_world.proofs.Keeps.{change_keeps}
 use Rattle.ele_world.proofs.KeptDrafts.{same_file, end_keeps, shut_keeps}
 use Rattle.ele_world.proofs.Outcomes.{AfterAll, in_all}
+use Rattle.ele_world.proofs.May.{IsLawfulEvent}
 use Rattle.ele_world.proofs.StepKeeps.{step_keeps}
 
 -- the file has a held version or a draft
@@ -94,6 +95,6 @@ tidy w event k all = search (rules, made, grown, nameless, begun, edited, same_f
 pub no_idle_stays : NoIdleStays
 no_idle_stays w event k none = grind (arith, nat_tests, all-weaker, is_idle, has_rows, busy_is, step, in_all, AreBusy, plan, tidy)
 
-pub runs_have_none : (w : World) (events : List Event) → AllByRecursion IsEvent events → IsWellFormed w → HasNoIdle w → HasNoIdle (run_of w events)
+pub runs_have_none : (w : World) (events : List Event) → AllByRecursion IsLawfulEvent events → IsWellFormed w → HasNoIdle w → HasNoIdle (run_of w events)
 runs_have_none w [] are k none = none
 runs_have_none w (event ∷ events) are k none = runs_have_none ((step w event).1) events are.1 (step_keeps w event are.0 k) (no_idle_stays w event k none)

@@ -1,6 +1,6 @@
 -- The law of the order of removal. Whichever due row is taken out, every other row is due as before, at each moment at which it was due.
 use Rattle.ele_world.proofs.Basics.{◌≡◌, ℕ, Bool, true, not, List, ◌∷◌, ◌++◌, Some, refl, ap, subst, ◌∙◌, filter, arith, ◌⊎◌, inl, inr, IfSome, nat_tests, AllLater, sym, find, AllByRecursion, filter-append, all-weaker, all-append, all-around, later-around, filter-same_all, remove_first, find-cut, remove_first-at}
-use Rattle.ele_world.proofs.Words.{IsPolicy, lets_go_without, lets_go_fewer, VersionRow, FileView, is_newer, closings, due_in, ArePlaced, view_of, is_version, is_version_of, RemovalOrder, Take, after_change, IsWellFormed, World}
+use Rattle.ele_world.proofs.Words.{IsLawful, VersionRow, FileView, is_newer, closings, due_in, ArePlaced, view_of, is_version, is_version_of, RemovalOrder, Take, after_change, IsWellFormed, World}
 use Rattle.ele_world.proofs.Views.{IsLife, Precedes, newer_is, newer_before, newer_without, newer_behind, precedes, view_is, lives_of, placed_of, own_rows, other_rows}
 use Rattle.std.proofs.lemmas.List.{map-append}
 use Rattle.ele_world.specs.Due.{is_due_at}
@@ -13,15 +13,15 @@ with_rows v rows = record v { rows = rows }
 closings-append : (xs ys : List VersionRow) → closings (xs ++ ys) ≡ closings xs ++ closings ys
 closings-append = map-append (λ (row : VersionRow). row.closed)
 
-module _ (v : FileView) (xs : List VersionRow) (row : VersionRow) (ys : List VersionRow) (placed : AllLater Precedes (xs ++ row ∷ ys)) (life : IsLife row) (governed : IfSome v.policy IsPolicy) where
+module _ (v : FileView) (xs : List VersionRow) (row : VersionRow) (ys : List VersionRow) (placed : AllLater Precedes (xs ++ row ∷ ys)) (life : IsLife row) (governed : IfSome v.policy IsLawful) where
   -- on whichever side of the row it stands
   pub others_stay : (x : VersionRow) (at : ℕ) → Precedes x row ⊎ Precedes row x → due_in (with_rows v (xs ++ row ∷ ys)) row at ≡ true → due_in (with_rows v (xs ++ row ∷ ys)) x at ≡ due_in (with_rows v (xs ++ ys)) x at
-  others_stay x at (inl before) due = grind (arith, nat_tests, newer_before x xs row ys placed before, newer_without x xs row ys placed before, closings-append (filter (is_newer x) xs) (row ∷ ys), closings-append (filter (is_newer x) xs) ys, newer_is xs row ys placed, lets_go_without)
+  others_stay x at (inl before) due = grind (arith, nat_tests, newer_before x xs row ys placed before, newer_without x xs row ys placed before, closings-append (filter (is_newer x) xs) (row ∷ ys), closings-append (filter (is_newer x) xs) ys, newer_is xs row ys placed)
   others_stay x at (inr after) due = grind (arith, newer_behind x xs row ys after)
 
   -- and none is due without the row that wasn't with it
   pub no_more_due : (x : VersionRow) (at : ℕ) → Precedes x row ⊎ Precedes row x → due_in (with_rows v (xs ++ ys)) x at ≡ true → due_in (with_rows v (xs ++ row ∷ ys)) x at ≡ true
-  no_more_due x at (inl before) due = grind (arith, nat_tests, newer_before x xs row ys placed before, newer_without x xs row ys placed before, closings-append (filter (is_newer x) xs) (row ∷ ys), closings-append (filter (is_newer x) xs) ys, lets_go_fewer, due)
+  no_more_due x at (inl before) due = grind (arith, nat_tests, newer_before x xs row ys placed before, newer_without x xs row ys placed before, closings-append (filter (is_newer x) xs) (row ∷ ys), closings-append (filter (is_newer x) xs) ys, due)
   no_more_due x at (inr after) due = grind (arith, newer_behind x xs row ys after, due)
 
 -- ---- from one file to all

@@ -1,10 +1,10 @@
 -- The ripe moment of a version that is found by its number, and the scan as the moments that have come.
 use Rattle.ele_world.proofs.Basics.{◌≡◌, ℕ, ◌≤◌, Bool, true, false, ◌&&◌, List, [], ◌∷◌, Option, Some, None, refl, ap, ◌∙◌, arith, find, nat_le, option_and_then, AllByRecursion, filter_map, list_any, option_map_or, nat_tests, AllLater, found_passes, find-filter_both}
-use Rattle.ele_world.proofs.Words.{Key, has_key, is_key, is_ripe_by, last_moment, earliest_same, VersionRow, ripe_at, is_moment, FileView, view_of, is_version_of, is_numbered, due_in, ripe_in, IsDueFromRipe, ArePlaced, IsWellFormed, World, is_version}
+use Rattle.ele_world.proofs.Words.{Key, has_key, is_key, is_ripe_by, last_moment, VersionRow, ripe_at, is_moment, FileView, view_of, is_version_of, is_numbered, due_in, ripe_in, IsDueFromRipe, ArePlaced, IsWellFormed, World, is_version}
 use Rattle.ele_world.specs.Due.{is_due, ripe_of}
 use Rattle.ele_world.specs.FileView.{ripe_numbered}
 use Rattle.ele_world.specs.Scan.{due_key}
-use Rattle.ele_world.proofs.RipeMoments.{ripens}
+use Rattle.ele_world.proofs.RipeMoments.{earliest_same, ripens}
 use Rattle.ele_world.proofs.Views.{now_of, placed_of}
 
 pub ripe_at_is : (w : World) (file number : ℕ) → ripe_at w file number ≡ option_and_then (ripe_of w) (find (is_version file number) w.versions)

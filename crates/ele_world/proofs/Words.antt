@@ -7,9 +7,8 @@ pub use Rattle.ele_due.specs.HasKey.{has_key}
 pub use Rattle.ele_due.specs.Key.{is_key, is_ripe_by}
 pub use Rattle.ele_due.specs.declared.key.Key.{Key}
 pub use Rattle.ele_moment.specs.Last.{last_moment}
-pub use Rattle.ele_policy.proofs.Earliest.{earliest_same, never_due}
-pub use Rattle.ele_policy.proofs.Waits.{due_from, lets_go_fewer, lets_go_without, ripe_keeps, ripe_nearest}
-pub use Rattle.ele_policy.specs.Policy.{IsPolicy, is_kind, kind_of}
+pub use Rattle.ele_policy.specs.Lawful.{IsLawful, PoliciesAreLawful}
+pub use Rattle.ele_policy.specs.Policy.{is_kind, kind_of}
 pub use Rattle.ele_policy.specs.Ripe.{Beside, IsNearest, alone, candidates, earliest_of, is_due_by, lets_go}
 pub use Rattle.ele_policy.specs.declared.policy.Kind.{Kind}
 pub use Rattle.ele_policy.specs.declared.policy.Policy.{Policy}
@@ -44,7 +43,7 @@ pub use Rattle.ele_world.specs.OnlyDueLeave.{StaysOrWasDue}
 pub use Rattle.ele_world.specs.OpenStays.{OpenStays}
 pub use Rattle.ele_world.specs.Pass.{HasRemoved, IsCleaned, IsFinished}
 pub use Rattle.ele_world.specs.Plan.{IfFound, Make, Need, Plan, Tell, Unless, When, outcome, refused}
-pub use Rattle.ele_world.specs.ReadsAsClosed.{ReadsRow}
+pub use Rattle.ele_world.specs.ReadsAsClosed.{ReadsAsClosed, ReadsRow}
 pub use Rattle.ele_world.specs.RemovalOrder.{LeavesDue, RemovalOrder}
 pub use Rattle.ele_world.specs.RenameLeads.{LeadsInstead, RenameLeads}
 pub use Rattle.ele_world.specs.Restorable.{last_target, may_return, name_cmp, nameless, newest_rows, returning, returning_name}

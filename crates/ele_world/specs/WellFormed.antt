@@ -6,7 +6,7 @@ use Rattle.ele_content.specs.declared.cell.Cell.{Cell}
 use Rattle.ele_content.specs.Content.{content_of, longest_content, fill_slots}
 use Rattle.ele_moment.specs.Last.{last_moment}
 pub use Rattle.ele_lists.specs.Lists.{AllLater}
-use Rattle.ele_policy.specs.Policy.{IsPolicy}
+use Rattle.ele_policy.specs.Lawful.{IsLawful}
 use Rattle.ele_world.specs.Bounds.{Bounds, AreBounds}
 use Rattle.ele_world.specs.declared.limits.Counts.{Counts}
 use Rattle.ele_world.specs.declared.rows.DirectoryRow.{DirectoryRow}
@@ -36,22 +36,22 @@ pub record AreCounted (made : Counts) (limits : Bounds) (files names versions dr
   pub name_rows : names ≤ made.names
   pub version_rows : versions ≤ made.versions
 
--- the root is there, and each directory has a policy; their numbers rise, and were given; they are counted but for the root
+-- the root is there, and each directory has a lawful policy; their numbers rise, and were given; they are counted but for the root
 pub record AreDirectories (made limit : ℕ) (rows : List DirectoryRow) : Type 0 where
   pub rooted : list_any (is_directory root) rows ≡ true
-  pub policies : AllByRecursion (λ row. IsPolicy row.default) rows
+  pub policies : AllByRecursion (λ row. IsLawful row.default) rows
   pub placed : AllLater (λ earlier later. earlier.id < later.id) rows
   pub given : AllByRecursion (λ row. row.id ≤ made) rows
   pub counted : length rows ≤ made + 1
   pub few : made ≤ limit
 
--- the file's number was given, and its next version's is from 2 on and not past so many versions made
+-- the file's number was given, its next version's is from 2 on and not past so many versions made, and its policy is lawful
 pub record IsFile (files versions : ℕ) (row : FileRow) : Type 0 where
   pub numbered : 1 ≤ row.id
   pub given : row.id ≤ files
   pub first : 2 ≤ row.next
   pub next : row.next ≤ versions + 1
-  pub policy : IsPolicy row.policy
+  pub policy : IsLawful row.policy
 
 pub record AreFiles (files versions : ℕ) (rows : List FileRow) : Type 0 where
   pub each : AllByRecursion (IsFile files versions) rows

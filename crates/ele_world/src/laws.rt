@@ -24,6 +24,8 @@ ghost use Rattle.ele_world.specs.UnlinkEnds.{UnlinkEnds};
 ghost use Rattle.ele_world.specs.RipeMoments.{DueFromRipe, RipeIsAnswered};
 ghost use Rattle.ele_world.specs.UsageFits.{UsageFits};
 
+use ele_policy::laws::policies_are_lawful;
+
 /// The fresh world is well formed.
 #[tactic(auto, using(crate::proofs::StepKeeps::fresh_is))]
 pub fn fresh_is_well_formed()
@@ -31,16 +33,20 @@ pub fn fresh_is_well_formed()
 {}
 
 /// An event leaves a well-formed world well formed.
-#[tactic(auto, using(crate::proofs::StepKeeps::step_keeps))]
+#[tactic(auto, using(crate::proofs::StepKeeps::step_keeps, crate::proofs::StepKeeps::lawful_event))]
 pub fn step_keeps_well_formed()
     ensures { StepKeepsWellFormed }
-{}
+{
+    policies_are_lawful();
+}
 
 /// After any list of events the world is well formed.
-#[tactic(auto, using(crate::proofs::StepKeeps::run_keeps, crate::proofs::Words::fresh_world, crate::proofs::StepKeeps::fresh_is))]
+#[tactic(auto, using(crate::proofs::StepKeeps::run_keeps, crate::proofs::Words::fresh_world, crate::proofs::StepKeeps::fresh_is, crate::proofs::StepKeeps::lawful_events))]
 pub fn always_well_formed()
     ensures { AlwaysWellFormed }
-{}
+{
+    policies_are_lawful();
+}
 
 /// An event that is refused changes nothing.
 #[tactic(auto, using(crate::proofs::Outcomes::refused_stays))]
@@ -101,10 +107,12 @@ pub fn no_idle_stays()
 {}
 
 /// After any list of events there is none.
-#[tactic(auto, using(crate::proofs::NoIdle::runs_have_none, crate::proofs::Words::fresh_world, crate::proofs::StepKeeps::fresh_is))]
+#[tactic(auto, using(crate::proofs::NoIdle::runs_have_none, crate::proofs::Words::fresh_world, crate::proofs::StepKeeps::fresh_is, crate::proofs::StepKeeps::lawful_events))]
 pub fn no_idle_stays_in_runs()
     ensures { NoIdleStaysInRuns }
-{}
+{
+    policies_are_lawful();
+}
 
 /// A close that tells of a version has made it of all that was written.
 #[tactic(auto, using(crate::proofs::Closes::close_keeps))]
@@ -120,7 +128,10 @@ pub fn only_due_leave()
 /// The same of every run.
 pub fn only_due_leave_in_runs()
     ensures { OnlyDueLeaveInRuns }
-{}
+{
+    only_due_leave();
+    always_well_formed();
+}
 
 /// A held version's opened, closed and cells never change, and its end is set at most once.
 pub fn held_stays()
@@ -130,7 +141,10 @@ pub fn held_stays()
 /// The same of every run.
 pub fn held_stays_in_runs()
     ensures { HeldStaysInRuns }
-{}
+{
+    held_stays();
+    always_well_formed();
+}
 
 /// A version that a handle reads never leaves.
 #[tactic(auto, using(crate::proofs::OpenStays::open_stays))]
@@ -153,13 +167,17 @@ pub fn revert_keeps()
 #[tactic(auto, using(crate::proofs::OneLife::one_life))]
 pub fn one_life()
     ensures { OneLife }
-{}
+{
+    policies_are_lawful();
+}
 
 /// A read of a held version gives the bytes that it had when it closed, whatever has happened since.
-#[tactic(auto, using(crate::proofs::ReadsBack::reads_as_closed, crate::proofs::Words::run_of, crate::proofs::Words::fresh_world, crate::proofs::StepKeeps::run_keeps, crate::proofs::StepKeeps::fresh_is))]
+#[tactic(auto, using(crate::proofs::ReadsBack::reads_as_closed))]
 pub fn reads_as_closed()
     ensures { ReadsAsClosed }
-{}
+{
+    policies_are_lawful();
+}
 
 /// An undisturbed finished pass leaves exactly the versions that the scan at its start kept.
 #[tactic(auto, using(crate::proofs::PassEnds::pass_leaves_kept))]
@@ -168,10 +186,12 @@ pub fn pass_leaves_kept()
 {}
 
 /// The same of every run.
-#[tactic(auto, using(crate::proofs::PassEnds::pass_leaves_kept, crate::proofs::Words::run_of, crate::proofs::Words::fresh_world, crate::proofs::StepKeeps::run_keeps, crate::proofs::StepKeeps::fresh_is))]
 pub fn pass_leaves_kept_in_runs()
     ensures { PassLeavesKeptInRuns }
-{}
+{
+    pass_leaves_kept();
+    always_well_formed();
+}
 
 /// What the files of each kind of policy use in a well-formed world fits in 64 bits.
 pub fn usage_fits()

@@ -7,9 +7,9 @@ returns-clause-tracked c =
     let rows = c.args.rows.now in
     let filed = sym c.policy_of.ensures ∙ c.in-Some.is in
     rw c.put_under.ensures (record {
-      queue = governed_queue rows c.args.file c.in-Some.was c.args.policy c.put_all.new.queue c.take_all.new.queue c.requires.sound filed c.requires.there c.requires.valid
+      queue = governed_queue rows c.args.file c.in-Some.was c.args.policy c.put_all.new.queue c.take_all.new.queue c.requires.sound filed c.requires.there c.requires.lawful
           (λ j. c.in_ok-put_all.ensures.ok j ∙ ap (λ b. b || has_key j rows.queue) (ap (has_key j) c.deref.ensures.value ∙ c.in_ok-come.ensures j))
           (λ j. c.take_all.ensures j ∙ ap (λ b. not b && has_key j c.put_all.new.queue) (ap (has_key j) c.deref-2.ensures.value ∙ c.in_ok-gone.ensures j));
-      book = governed_book rows c.args.file c.in-Some.was c.args.policy c.requires.sound filed c.requires.valid c.move_file.new.self (rw (c.kind.ensures, c.kind-2.ensures, c.in_ok-usage.ensures) at c.move_file.ensures.each);
+      book = governed_book rows c.args.file c.in-Some.was c.requires.sound filed c.args.policy c.requires.lawful c.move_file.new.self (rw (c.kind.ensures, c.kind-2.ensures, c.in_ok-usage.ensures) at c.move_file.ensures.each);
       bounds = c.requires.sound.tracked.bounds;
     })

@@ -1,7 +1,4 @@
-use Rattle.ele_world.proofs.Words.{run_of, fresh_world}
-use Rattle.ele_world.proofs.StepKeeps.{fresh_is, run_keeps}
-use Rattle.ele_world.proofs.Stays.{held_stays}
 use Rattle.ele_world.proofs.laws.held_stays_in_runs.Goals as goal
 
 pub returns : goal.returns
-returns c = λ limits events event bounds are is. held_stays (run_of (fresh_world limits) events) event (run_keeps (fresh_world limits) events are (fresh_is limits bounds))
+returns c = λ limits events event bounds are is. c.held_stays.ensures _ event (c.always_well_formed.ensures limits events bounds are)

@@ -1,0 +1,31 @@
+-- What every policy keeps, so that the due versions of a file can be removed one by one, and each be found by a key.
+use Rattle.std.specs.Prelude.{◌≡◌, ℕ, ◌≤◌, nat_le, Bool, true, false, List, ◌∷◌, ◌++◌, Option, Some, None}
+use Rattle.std.specs.Option.{option_map_or}
+use Rattle.ele_moment.specs.Last.{last_moment}
+use Rattle.ele_policy.specs.declared.policy.Policy.{Policy}
+use Rattle.ele_policy.specs.Policy.{IsPolicy}
+use Rattle.ele_policy.specs.Ripe.{Beside, IsNearest, alone, is_due_by, lets_go, ripe_by}
+
+pub record IsLawful (policy : Policy) : Type 0 where
+  -- its numbers are such as can be given
+  pub given : IsPolicy policy
+  -- a version is due by it from its ripe moment on, and never without one
+  pub due_from : (closed ended at : ℕ) (beside : Beside) → at ≤ last_moment
+      → is_due_by policy closed beside ended at ≡ option_map_or (λ m. nat_le m at) (ripe_by policy closed beside ended) false
+  -- the nearest newer closing alone tells the ripe moment
+  pub ripe_nearest : (closed ended : ℕ) (nearest : Option ℕ) (beside : Beside) → IsNearest closed nearest beside
+      → ripe_by policy closed beside ended ≡ ripe_by policy closed (alone nearest) ended
+  -- a version that ripens with no newer one ripens then beside one
+  pub ripe_keeps : (closed ended m nearest : ℕ) → ripe_by policy closed (alone None) ended ≡ Some m
+      → ripe_by policy closed (alone (Some nearest)) ended ≡ Some m
+  -- one that is let go itself may be missing: an older one that has been ended as long goes as before
+  pub lets_go_without : (live : Bool) (xs : List ℕ) (gone : ℕ) (ys : List ℕ) (closed age gone_age : ℕ) → gone_age ≤ age
+      → lets_go policy gone (record { newer = ys; live = live }) gone_age ≡ true
+      → lets_go policy closed (record { newer = xs ++ gone ∷ ys; live = live }) age ≡ lets_go policy closed (record { newer = xs ++ ys; live = live }) age
+  -- and one that goes beside fewer goes beside more
+  pub lets_go_fewer : (live : Bool) (xs : List ℕ) (more : ℕ) (ys : List ℕ) (closed age : ℕ)
+      → lets_go policy closed (record { newer = xs ++ ys; live = live }) age ≡ true
+      → lets_go policy closed (record { newer = xs ++ more ∷ ys; live = live }) age ≡ true
+
+abbrev pub PoliciesAreLawful : Type 0
+PoliciesAreLawful = (policy : Policy) → IsPolicy policy → IsLawful policy
