@@ -1,5 +1,5 @@
 -- The command in front of words.
-use Rattle.ele_script.proofs.Basics.{nat_tests, arith, ◌≡◌, ℕ, List, [], ◌∷◌, ◌++◌, length, map, refl, sym, ap, ◌∙◌, Option, Some, None, Result, Ok, Err, ◌⊎◌, inl, inr, subst, IfOk, IfErr, bytes_decides}
+use Rattle.ele_script.proofs.Basics.{nat_tests, arith, ◌≡◌, ℕ, List, [], ◌∷◌, ◌++◌, map, refl, ap, ◌∙◌, Option, Some, None, Result, Ok, Err, ◌⊎◌, inl, inr, subst, IfOk, IfErr, bytes_decides}
 use Rattle.ele_script.proofs.Prelude.{Command, LineFault, Syntax, NoMemory, Line, SpellsWords, command_words, kinds_behind, TakesMemory, behind, commands, find_command, named, IsFaultOfKinds, miscounted, bad_word, ReadsLine, FitsCommand}
 use Rattle.ele_script.proofs.Prelude.{IsFaultOfWords, no_command, of_word}
 use Rattle.std.proofs.Common.{IfSome}

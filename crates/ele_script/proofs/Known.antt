@@ -1,6 +1,6 @@
 -- What a writer holds and what is held for it, piece after piece.
 use Rattle.ele_script.proofs.Lines.{lines_here}
-use Rattle.ele_script.proofs.Basics.{◌∷◌, get_or, drop, length, flat_map, ◌<◌, ◌≤◌, ◌+◌, ◌≡◌, ℕ, List, [], ◌++◌, Option, Result, Ok, Err, refl, append_assoc, append-nil, at_drop_all, ◌∙◌, Appends-trans, Appends, OnOk, OnErr, IsErr}
+use Rattle.ele_script.proofs.Basics.{get_or, drop, length, flat_map, ◌<◌, ◌≤◌, ◌+◌, ◌≡◌, ℕ, List, [], ◌++◌, Option, Result, Ok, Err, refl, append_assoc, append-nil, at_drop_all, ◌∙◌, Appends-trans, Appends, OnOk, OnErr, IsErr}
 use Rattle.ele_script.proofs.Prelude.{Outlet, outlet, Takes, TakesFront, Puts, HandsOver}
 use Rattle.ele_script.specs.Front.{AppendsFront}
 

@@ -1,9 +1,7 @@
 -- Words of numbers and moments: each one number or one moment.
 use Rattle.ele_script.proofs.Basics.{◌≡◌, ℕ, ◌≤◌, List, length, sym, ap, ◌∙◌, arith, inl, inr, Option, Some, decimal_injective, nat_tests}
-use Rattle.ele_script.proofs.Prelude.{SpellsNumber, SpellsMoment, SpellsTimestamp, IsTimestamp, IsWorth, timestamp_text}
+use Rattle.ele_script.proofs.Prelude.{SpellsNumber, SpellsMoment, SpellsTimestamp}
 use Rattle.std.proofs.lemmas.Int.{ints}
-use Rattle.ele_moment.specs.declared.timestamp.Fields.{Fields}
-use Rattle.ele_moment.specs.ReadFields.{fields_of}
 use Rattle.ele_moment.specs.Spelled.{last_moment}
 use Rattle.ele_moment.proofs.Timestamps.{fields_again}
 use Rattle.ele_moment.proofs.Moments.{short_number}

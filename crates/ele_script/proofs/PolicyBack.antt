@@ -1,5 +1,5 @@
 -- The words by which policies are printed spell them.
-use Rattle.ele_script.proofs.Basics.{◌≡◌, ℕ, ◌<◌, ◌≤◌, ◌==◌, ◌&&◌, Bool, true, false, List, [], ◌∷◌, length, map, refl, ap, ◌∙◌, arith, inr, length-append, AllZip, join_with_byte, slice_split, decimal, nat_tests, All-append, All-cons}
+use Rattle.ele_script.proofs.Basics.{◌≡◌, ℕ, ◌<◌, ◌≤◌, ◌==◌, true, false, List, [], ◌∷◌, length, map, refl, ap, ◌∙◌, arith, inr, length-append, AllZip, join_with_byte, slice_split, decimal, nat_tests, All-append, All-cons}
 use Rattle.ele_script.proofs.Basics.{slice_split_none, slice_split_at}
 use Rattle.ele_script.proofs.Prelude.{SpellsNumber, One, KeepAll, Safe, Landmarks, Rung, IsLadder, climbs, ground, is_above, SpellsPair, SpellsPairs, pair_word}
 use Rattle.std.specs.Prelude.{All}

@@ -1,7 +1,7 @@
 -- The words of a line, cut off one after another.
-use Rattle.ele_script.proofs.Basics.{◌≡◌, ◌≢◌, ℕ, zero, suc, ◌+◌, ◌<◌, ◌≤◌, ◌==◌, not, cond, ◌&&◌, Bool, true, false, List, [], ◌∷◌, ◌++◌, length, take, drop, get_or, Some, None, refl, sym, ap, ◌∙◌, arith, append_assoc, length-append, map, Bor}
-use Rattle.ele_script.proofs.Basics.{◌⊎◌, nat_lt, subst, list_all, position, ltb-false, lt-ltb, eqb-true, nat_tests, map-append, length-map, length-take-le, drop_more, take-append-drop, position-Some, length-slice_split}
-use Rattle.ele_script.proofs.Prelude.{Command, Syntax, command_words, kinds_behind, IsFaultOfWords, IsFirstFault, words_of, is_plain, is_worded, ends_word}
+use Rattle.ele_script.proofs.Basics.{◌≡◌, ◌≢◌, ℕ, zero, suc, ◌+◌, ◌<◌, ◌≤◌, ◌==◌, ◌&&◌, Bool, true, false, List, [], ◌∷◌, ◌++◌, length, take, drop, get_or, Some, None, refl, sym, ap, ◌∙◌, arith, append_assoc, length-append, map, Bor}
+use Rattle.ele_script.proofs.Basics.{◌⊎◌, nat_lt, subst, list_all, position, ltb-false, lt-ltb, nat_tests, map-append, length-map, length-take-le, drop_more, take-append-drop, position-Some, length-slice_split}
+use Rattle.ele_script.proofs.Prelude.{Syntax, IsFirstFault, words_of, is_plain, is_worded, ends_word}
 use Rattle.std.proofs.Math.Bool.{and-false}
 use Rattle.std.proofs.lemmas.List.Folds.{list_all-append, list_all_at}
 use Rattle.std.proofs.lemmas.List.Sums.{prefix_len_passes}

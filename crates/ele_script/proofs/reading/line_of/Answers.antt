@@ -1,5 +1,5 @@
 use Rattle.ele_script.proofs.Basics.{sym, inr}
-use Rattle.ele_script.proofs.Commands.{spelled_words, unfit_words, faults_of_words, memory_of_words}
+use Rattle.ele_script.proofs.Commands.{unfit_words, faults_of_words}
 use Rattle.ele_script.proofs.reading.line_of.Goals as goal
 
 pub returns-in_default-clause-fault : goal.returns-in_default-clause-fault

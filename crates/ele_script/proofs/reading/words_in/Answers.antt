@@ -1,5 +1,5 @@
-use Rattle.ele_script.proofs.Basics.{Bor, List, ℕ, length, drop, ap, sym, ◌∙◌, arith, inl, inr, eqb-true}
-use Rattle.ele_script.proofs.Words.{cut_more, cut_last, cut_worded, cut_some, cut_unplain, cut_empty, cut_none, unworded}
+use Rattle.ele_script.proofs.Basics.{List, ℕ, drop, ap, sym, ◌∙◌, arith}
+use Rattle.ele_script.proofs.Words.{cut_more, cut_last, cut_worded}
 use Rattle.ele_script.proofs.reading.words_in.Goals as goal
 
 pub words-preserved : goal.words-preserved
