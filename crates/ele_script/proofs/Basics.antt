@@ -5,7 +5,7 @@ pub use Rattle.std.proofs.KnownBytes.{Appends-kept, Appends-nil, Appends-trans}
 pub use Rattle.std.proofs.lemmas.Bool.{eqb-true, false≢true, lt-ltb, ltb-false}
 pub use Rattle.std.proofs.lemmas.Bool.Decides.{nat_tests}
 pub use Rattle.std.proofs.lemmas.Fmt.{decimal_digit, decimal_injective, decimal_is_IsNumeral, digits_decimal}
-pub use Rattle.std.proofs.lemmas.List.{append-nil, drop_more, length-map, length-take-le, map-append, take-append-drop, take_all}
+pub use Rattle.std.proofs.lemmas.List.{append-nil, at_drop_all, drop_more, length-map, length-take-le, map-append, take-append-drop, take_all}
 pub use Rattle.std.proofs.lemmas.List.Elements.{All-append, All-cons, All-head, All-nil, All-tail}
 pub use Rattle.std.proofs.lemmas.List.Quantifiers.{position-Some}
 pub use Rattle.std.proofs.lemmas.List.Splits.{length-slice_split, slice_split_at, slice_split_none}

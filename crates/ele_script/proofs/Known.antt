@@ -1,7 +1,6 @@
 -- What a writer holds and what is held for it, piece after piece.
 use Rattle.ele_script.proofs.Lines.{lines_here}
-use Rattle.ele_script.proofs.Basics.{get_or, drop, length, flat_map, ◌<◌, ◌+◌}
-use Rattle.ele_script.proofs.Basics.{◌≡◌, ℕ, List, [], ◌++◌, Option, Result, Ok, Err, refl, append_assoc, append-nil, Appends-trans, Appends, OnOk, OnErr, IsErr}
+use Rattle.ele_script.proofs.Basics.{get_or, drop, length, flat_map, ◌<◌, ◌≤◌, ◌+◌, ◌≡◌, ℕ, List, [], ◌++◌, Option, Result, Ok, Err, refl, append_assoc, append-nil, at_drop_all, ◌∙◌, Appends-trans, Appends, OnOk, OnErr, IsErr}
 use Rattle.ele_script.proofs.Prelude.{Outlet, outlet, Takes, TakesFront, Puts, HandsOver}
 use Rattle.ele_script.specs.Front.{AppendsFront}
 
@@ -60,6 +59,10 @@ list_more line xs i x lt is s p = sent_more _ s (lines_here line xs i x lt is) p
 
 pub list_err : {A B E : Type 0} {a b c : Outlet} {whole : List ℕ} (line : A → List ℕ) (xs : List A) (i : ℕ) (x : A) (r : Result B E) → i < length xs → x ≡ get_or xs i x → HasSent a b whole (flat_map line (drop i xs)) → IsErr r → TakesFront b c (line x) → Puts a c whole r
 list_err line xs i x r lt is s bad p = sent_err _ r s (lines_here line xs i x lt is) bad p
+
+-- at the end of a list, all is put
+pub list_done : {A : Type 0} {a b : Outlet} {whole : List ℕ} (line : A → List ℕ) (xs : List A) (i : ℕ) → length xs ≤ i → HasSent a b whole (flat_map line (drop i xs)) → Takes a b whole
+list_done {A} line xs i le s = rw (s.parts ∙ at_drop_all (λ (ys : List A). s.sent ++ flat_map line ys) xs i le ∙ append-nil s.sent) s.written
 
 -- what was held was handed over, and the bytes behind it straight to the writer
 pub puts_direct : {A E : Type 0} (a b c : Option (List ℕ)) (held left bytes : List ℕ) (r : Result A E)

@@ -1,6 +1,5 @@
 -- The bytes of a line, word after word.
-use Rattle.ele_script.proofs.Basics.{nat_tests, arith, ◌==◌, true, ◌≡◌, ℕ, ◌+◌, ◌<◌, List, [], ◌∷◌, ◌++◌, length, map, take, drop, get_or, ◌/◌, ◌%◌, refl, sym, ap, ◌∙◌, append_assoc, codes, decimal, decimal_digit, drop_more}
-use Rattle.ele_script.proofs.Basics.{append-nil, take-append-drop, join_with_byte, flat_map, IsFirstAndRest, encode_lower, lower_digits}
+use Rattle.ele_script.proofs.Basics.{nat_tests, arith, ◌==◌, true, ◌≡◌, ℕ, ◌+◌, ◌<◌, List, [], ◌∷◌, ◌++◌, length, map, take, drop, get_or, ◌/◌, ◌%◌, refl, sym, ap, ◌∙◌, append_assoc, codes, decimal, decimal_digit, drop_more, append-nil, take-append-drop, join_with_byte, flat_map, IsFirstAndRest, encode_lower, lower_digits}
 use Rattle.ele_script.proofs.Prelude.{Rung, line_text, pair_word, bytes_text, kind_words, usage_line, usage_lines, numbers_word, group_line}
 use Rattle.ele_usage.specs.declared.usage.Usage.{Usage}
 use Rattle.ele_world.specs.declared.rows.GroupRow.{GroupRow}

@@ -38,6 +38,19 @@ fn two<'l>(words: &[&'l [u8]]) -> Result<(&'l [u8], &'l [u8]), LineFault>
     Ok((*first, *second))
 }
 
+/// The only three words.
+fn three<'l>(words: &[&'l [u8]]) -> Result<(&'l [u8], &'l [u8], &'l [u8]), LineFault>
+    ensures found { IfOk result
+        (λ all. map (λ word. word.now) words.now ≡ all.0.now ∷ all.1.now ∷ all.2.now ∷ []) }
+    ensures miscounted { IfErr result
+        (λ fault. (fault ≡ LineFault.Syntax) × (length words.now ≢ 3)) }
+{
+    let [first, second, third] = words else {
+        return Err(LineFault::Syntax);
+    };
+    Ok((*first, *second, *third))
+}
+
 /// No word.
 pub(crate) fn nothing(words: &[&[u8]]) -> Result<(), LineFault>
     ensures { Reads [] (λ _. []) (map (λ word. word.now) words.now) result }
@@ -173,9 +186,7 @@ pub(crate) fn two_numbers_and_bytes(
         (λ all. value.Number all.0 ∷ value.Number all.1 ∷ value.Bytes all.2 ∷ [])
         (map (λ word. word.now) words.now) result }
 {
-    let [first, second, third] = words else {
-        return Err(LineFault::Syntax);
-    };
+    let (first, second, third) = three(words)?;
     let first = word::number(first)?;
     let second = word::number(second)?;
     Ok((first, second, word::bytes(alloc, third)?))

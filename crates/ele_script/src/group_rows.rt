@@ -36,7 +36,6 @@ impl Row for GroupRow {
 }
 
 /// Puts a space and the numbers of files, with a comma between each two, or `-` for none.
-#[tactic(auto, using(crate::proofs::Known::list_more))]
 fn put_members<W: Write>(
     members: &[FileId],
     output: &mut Output,
@@ -56,7 +55,6 @@ fn put_members<W: Write>(
 }
 
 /// Puts a space and moments, with a comma between each two, or `-` for none.
-#[tactic(auto, using(crate::proofs::Known::list_more))]
 fn put_marks<W: Write>(
     marks: &[Moment],
     output: &mut Output,

@@ -21,7 +21,6 @@ pub(crate) trait Row {
 }
 
 /// Puts how many rows there are, and the line of each.
-#[tactic(auto, using(crate::proofs::Known::puts_err, crate::proofs::Known::list_more))]
 pub(crate) fn put_rows<T: Row, W: Write>(
     first: &[u8],
     rows: &[T],

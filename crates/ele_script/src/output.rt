@@ -114,7 +114,6 @@ pub(crate) fn put_line<W: Write>(
 }
 
 /// Puts words with a space between each two.
-#[tactic(auto, using(crate::proofs::Known::puts_err, crate::proofs::Lines::joined_are))]
 pub(crate) fn put_words<W: Write>(
     first: &[u8],
     words: &[&[u8]],

@@ -126,7 +126,6 @@ fn put_ladder<W: Write>(
 }
 
 /// Puts pairs with a comma between each two.
-#[tactic(auto, using(crate::proofs::Known::puts_err))]
 fn put_pairs<W: Write>(
     pairs: &[(u64, u64)],
     output: &mut Output,
@@ -147,7 +146,6 @@ fn put_pairs<W: Write>(
 }
 
 /// Puts what stands before a pair, and the pair.
-#[tactic(auto, using(crate::proofs::Known::puts_err, crate::proofs::Known::puts_then))]
 fn put_pair<W: Write>(
     before: &[u8],
     pair: &(u64, u64),

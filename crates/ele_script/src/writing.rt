@@ -13,7 +13,6 @@ use std::io::Write;
 
 /// Writes the lines of a reply, or of the stop that came in its place. At a fault the writer took a
 /// front of them.
-#[tactic(auto, using(crate::proofs::Known::err_over))]
 pub fn write_reply<W: Write>(reply: &Result<Reply, Stop>, writer: &mut W) -> Result<(), WriteFault>
     ensures ok { OnOk result
         (WritesAnswer reply.now (W.contents writer.old) (W.contents writer.new)) }

@@ -11,3 +11,11 @@ pub returns : goal.returns
 returns g c =
     puts_then _ _ c.put_number_word-2.result refl c.in_ok-put.ensures (puts_then _ _ c.put_number_word-2.result refl c.in_ok-put_number_word.ensures (
     puts_then _ _ c.put_number_word-2.result refl c.in_ok-put-2.ensures (c.put_number_word-2.ensures)))
+
+pub returns-in_err-put : goal.returns-in_err-put
+returns-in_err-put g c = puts_err _ c.from_residual.result refl c.from_residual.ensures.0 c.in_err-put.ensures
+
+pub returns-in_err-put_number_word : goal.returns-in_err-put_number_word
+returns-in_err-put_number_word g c =
+    puts_then _ _ c.from_residual-in_err-put_number_word.result refl c.in_ok-put.ensures (
+    puts_err _ c.from_residual-in_err-put_number_word.result refl c.from_residual-in_err-put_number_word.ensures.0 c.in_err-put_number_word.ensures)
