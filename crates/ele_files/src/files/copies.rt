@@ -48,7 +48,6 @@ impl Files {
     }
 
     /// A copy of the drafts' rows, by file.
-    #[tactic(auto, using(std::proofs::lemmas::Bool::Decides::nat_tests, crate::proofs::Stock::draft_lives, crate::proofs::Rows::draft_found, crate::proofs::Copies::draft_next))]
     pub fn draft_rows(&self) -> Result<ListOf<DraftRow>, NoMemory>
         ensures { IfOk result (λ rows. rows ≡ self.now.drafts) }
     {
@@ -88,7 +87,6 @@ impl Files {
 }
 
 /// The cells that the map shows, with bytes of their own.
-#[tactic(auto, using(std::proofs::lemmas::Bool::Decides::nat_tests, crate::proofs::Copies::cell_next))]
 fn copy_cells(alloc: Global, store: &BlockStore, map: &BlockMap) -> Result<ListOf<Cell>, NoMemory>
     requires laws { StockLaws }
     requires lives { LivesIn store.now map.now }
