@@ -74,7 +74,6 @@ fn put_marks<W: Write>(
 }
 
 /// Puts what stands before a number, and the number.
-#[tactic(auto, using(crate::proofs::Known::puts_err, crate::proofs::Known::puts_then))]
 fn put_listed<W: Write>(
     before: &[u8],
     number: u64,

@@ -98,7 +98,6 @@ pub fn put<W: Write>(writer: &mut W, bytes: &[u8]) -> Result<(), WriteFault>
 }
 
 /// Puts words with a space between each two, and a line feed.
-#[tactic(auto, using(crate::proofs::Known::puts_err, crate::proofs::Known::puts_then))]
 pub(crate) fn put_line<W: Write>(
     first: &[u8],
     words: &[&[u8]],

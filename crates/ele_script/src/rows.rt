@@ -64,7 +64,6 @@ pub(crate) fn put_directory<W: Write>(
 }
 
 /// Puts the line of these words and a policy.
-#[tactic(auto, using(crate::proofs::Known::puts_err, crate::proofs::Lines::last_word, crate::proofs::Known::puts_then))]
 fn put_with_policy<W: Write>(
     first: &[u8],
     words: &[&[u8]],
