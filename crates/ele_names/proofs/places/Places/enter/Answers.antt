@@ -1,4 +1,5 @@
 use Rattle.ele_names.proofs.Lemmas.{refl, arith, index_insert}
+use Rattle.ele_names.proofs.Words.{index_undo, nat_tests}
 use Rattle.ele_names.proofs.places.Places.enter.Goals as goal
 
 pub returns-clause-ok : goal.returns-clause-ok
@@ -6,3 +7,6 @@ returns-clause-ok c = λ names at its fresh placed. record {
   named = rw c.enter_target.ensures.named (index_insert c.args.serial c.args.self.now.by_name c.insert.new.self c.args.row.now placed.named (fresh c.args.serial (omega arith)) (rw (c.birth_of-birth.ensures.value, ← its) at c.in_ok-insert.ensures.ok));
   chained = c.in_default.ensures.ok at c.args.row.now refl fresh placed.chained;
 }
+
+pub returns-in-Err-clause-err : goal.returns-in-Err-clause-err
+returns-in-Err-clause-err c = grind (arith, nat_tests, index_undo)
