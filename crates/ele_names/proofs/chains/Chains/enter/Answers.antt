@@ -1,5 +1,6 @@
-use Rattle.ele_names.proofs.Lemmas.{◌≡◌, cond, Some, append_assoc, nat_eq, option_and_then, option_map_or, slice_get, slice_got, ap, sym, ◌∙◌, cut_kept, own_pushed, same_seen, set_seen}
+use Rattle.ele_names.proofs.Lemmas.{◌≡◌, arith, cond, Some, append_assoc, nat_eq, option_and_then, option_map_or, slice_get, slice_got, ap, sym, ◌∙◌, cut_kept, own_pushed, same_seen, set_seen}
 use Rattle.ele_names.proofs.chains.Chains.enter.Goals as goal
+use Rattle.std.proofs.lemmas.Grind.{elements}
 
 pub returns-clause-ok : goal.returns-clause-ok
 returns-clause-ok c =
@@ -15,3 +16,6 @@ returns-clause-ok c =
       own = rw c.in_ok-push.ensures.items (own_pushed resized.items c.newest-newest.result c.args.number (sym resized.ok.0 ∙ c.in_ok-resize.ensures.len)) ∙ ap (λ o. Some o) (c.newest-newest.ensures ∙ known.newest group);
       older = λ s o lt is. rw (c.in_ok-push.ensures.items, c.in_ok-resize.ensures.items, append_assoc) (cut_kept c.know.new.self.older.items _ c.args.number s o lt (rw known.older is));
     }
+
+pub returns-in_err-push-clause-err : goal.returns-in_err-push-clause-err
+returns-in_err-push-clause-err c = grind (arith, elements)

@@ -1,4 +1,4 @@
-use Rattle.ele_names.proofs.Lemmas.{sym, ◌∙◌, value_at, names_of, kept_without, others_stay, is_newest, none_of_file, its_file}
+use Rattle.ele_names.proofs.Lemmas.{sym, arith, fewer, nat_tests, ◌∙◌, value_at, names_of, kept_without, others_stay, is_newest, none_of_file, its_file}
 use Rattle.ele_names.proofs.names.Names.drop_one.Goals as goal
 
 pub returns-in_default-clause-none : goal.returns-in_default-clause-none
@@ -16,3 +16,6 @@ pub returns-clause-others : goal.returns-clause-others
 returns-clause-others c = rw (← c.self.view_is, c.take.ensures.entries)
     (others_stay c.self.inside c.self.invariant c.in-Some.serial c.in-Some-take.row (sym c.take.ensures.row ∙ c.in-Some-take.is) c.args.file
     (its_file c.self.inside c.self.invariant c.args.file _ (rw c.file.view_is at c.newest.ensures) c.in-Some.serial c.in-Some.is c.in-Some-take.row (sym c.take.ensures.row ∙ c.in-Some-take.is)))
+
+pub returns-clause-fewer : goal.returns-clause-fewer
+returns-clause-fewer c = grind (arith, nat_tests, fewer)
