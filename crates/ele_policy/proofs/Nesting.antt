@@ -1,5 +1,5 @@
 -- A span of a rung lies in one span of each higher rung; the nearest moment shares a span if any later one does.
-use Rattle.std.proofs.Common.{◌≡◌, ℕ, ◌≤◌, ◌<◌, ◌*◌, ◌/◌, ◌%◌, ◌&&◌, Bool, true, false, List, ◌∷◌, refl, ap, sym, ◌∙◌, arith, eq-eqb, zero, suc}
+use Rattle.std.proofs.Common.{◌≡◌, ℕ, ◌≤◌, ◌<◌, ◌*◌, ◌/◌, ◌%◌, true, List, ◌∷◌, ap, sym, ◌∙◌, arith, eq-eqb, zero, suc}
 use Rattle.std.specs.List.{list_any}
 use Rattle.std.proofs.Math.Nat.{div-div-eq-div-mul, div-add-mod, div-mul-le_self, div-zero}
 use Rattle.std.proofs.lemmas.Nat.{le-div}

@@ -27,5 +27,6 @@ pub record IsLawful (policy : Policy) : Type 0 where
       → lets_go policy closed (record { newer = xs ++ ys; live = live }) age ≡ true
       → lets_go policy closed (record { newer = xs ++ more ∷ ys; live = live }) age ≡ true
 
+-- every policy that can be given is so
 abbrev pub PoliciesAreLawful : Type 0
 PoliciesAreLawful = (policy : Policy) → IsPolicy policy → IsLawful policy
