@@ -121,9 +121,9 @@ pub fn run<R: Read, W: Write>(
     ensures no_memory { IsErrOf result ShellFault.NoMemory
         → (reader.new ≡ reader.old) × (writer.new ≡ writer.old) }
 {
-    let mut keeper = Keeper::new(alloc, limits)?;
     let Ok(mut piece) = vec![in alloc; 0u8; PIECE] else {
         return Err(ShellFault::NoMemory);
     };
+    let mut keeper = Keeper::new(alloc, limits)?;
     run_pieces(&mut keeper, reader, writer, piece.as_mut_slice())
 }

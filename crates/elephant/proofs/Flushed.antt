@@ -3,7 +3,7 @@ use Rattle.std.proofs.Common.{ℕ, List, Option, Result, Ok, Err}
 use Rattle.std.specs.Prelude.{IfOk}
 use Rattle.std.specs.Io.KnownBytes.{Keeps}
 use Rattle.std.proofs.KnownBytes.{Appends-kept}
-use Rattle.ele_shell.specs.Running.{RanToTheEnd, RanToAReadFault, RanPastABound}
+use Rattle.ele_shell.specs.Running.{RanToTheEnd}
 use Rattle.ele_shell.specs.RunState.{RunState}
 use Rattle.ele_shell.specs.declared.fault.ShellFault.{ShellFault}
 
@@ -25,37 +25,3 @@ to_the_end start input rest old mid new (Ok n) ran kept =
       written = Appends-kept old mid new ran.text ran.written kept;
     }
 to_the_end start input rest old mid new (Err fault) ran kept = tt
-
-pub to_a_read_fault : (start : RunState) (input rest old mid new : Option (List ℕ)) → RanToAReadFault start input rest old mid → Keeps mid new → RanToAReadFault start input rest old new
-to_a_read_fault start input rest old mid new ran kept =
-    record {
-      given = ran.given;
-      lines = ran.lines;
-      part = ran.part;
-      text = ran.text;
-      state = ran.state;
-      taken = ran.taken;
-      are = ran.are;
-      few_lines = ran.few_lines;
-      few_bytes = ran.few_bytes;
-      blocks = ran.blocks;
-      written = Appends-kept old mid new ran.text ran.written kept;
-    }
-
-pub past_a_bound : (start : RunState) (input rest old mid new : Option (List ℕ)) → RanPastABound start input rest old mid → Keeps mid new → RanPastABound start input rest old new
-past_a_bound start input rest old mid new ran kept =
-    record {
-      given = ran.given;
-      byte = ran.byte;
-      lines = ran.lines;
-      part = ran.part;
-      text = ran.text;
-      state = ran.state;
-      taken = ran.taken;
-      are = ran.are;
-      few_lines = ran.few_lines;
-      few_bytes = ran.few_bytes;
-      most = ran.most;
-      blocks = ran.blocks;
-      written = Appends-kept old mid new ran.text ran.written kept;
-    }

@@ -8,7 +8,7 @@ use clap::{Arg, ArgMatches, Command, Error};
 use ele_moment::read_number;
 use ele_world::Limits;
 use std::alloc::{AllocError, Global};
-use std::io;
+use std::{io, mem};
 
 /// What the words ask for.
 #[derive(Debug, Drop)]
@@ -28,7 +28,7 @@ const BAD_EVENTS: &str =
 
 const NO_WORDS: &str = "error: the words can't be read as text\n";
 
-const VERSION: &str = "0.1.0, proved with rattle-kit-13b logic dac8208d650f15bf";
+const VERSION: &str = "0.1.0, proved with rattle-kit-13f logic dac8208d650f15bf";
 
 const EXAMPLE: &str = "Example: elephant run < script
 
@@ -111,7 +111,12 @@ pub fn words(alloc: Global, words: &[String]) -> Asked {
         return Asked::NoMemory;
     };
     match command.try_get_matches_from(words) {
-        Ok(matches) => understood(alloc, &matches),
+        Ok(matches) => {
+            let asked = understood(alloc, &matches);
+            // The words are kept for as long as the program runs.
+            mem::forget(matches);
+            asked
+        }
         Err(error) => refused(alloc, &error),
     }
 }

@@ -1,8 +1,8 @@
 //! What the program does with what its words ask for, over a reader and two writers.
 //! A contract sees the limits of a run, and what the run read and wrote.
-ghost use Rattle.std.specs.Prelude.{◌≡◌, ℕ, IfOk, IsErrOf};
+ghost use Rattle.std.specs.Prelude.{◌≡◌, ℕ, IfOk};
 ghost use Rattle.ele_world.specs.Bounds.{Bounds};
-ghost use Rattle.ele_shell.specs.Running.{RanToTheEnd, RanToAReadFault, RanPastABound};
+ghost use Rattle.ele_shell.specs.Running.{RanToTheEnd};
 ghost use Rattle.ele_shell.specs.RunState.{fresh};
 ghost use Rattle.elephant.specs.Status.{status_of, MayEndWith};
 
@@ -19,15 +19,9 @@ fn run_script<R: Read, W: Write>(
     reader: &mut R,
     writer: &mut W,
 ) -> Result<u64, ShellFault>
-    ensures ok { IfOk result (λ lines. RanToTheEnd (fresh limits) lines
+    ensures { IfOk result (λ lines. RanToTheEnd (fresh limits) lines
         (R.remaining reader.old) (R.remaining reader.new)
         (W.contents writer.old) (W.contents writer.new)) }
-    ensures read_fault { IsErrOf result ShellFault.ReadFault → RanToAReadFault (fresh limits)
-        (R.remaining reader.old) (R.remaining reader.new)
-        (W.contents writer.old) (W.contents writer.new) }
-    ensures too_many_lines { IsErrOf result ShellFault.TooManyLines → RanPastABound (fresh limits)
-        (R.remaining reader.old) (R.remaining reader.new)
-        (W.contents writer.old) (W.contents writer.new) }
 {
     let ran = run(alloc, reader, writer, limits);
     match writer.flush() {

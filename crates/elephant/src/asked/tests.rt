@@ -92,7 +92,7 @@ fn the_version_has_the_kits_line(rt: HostRuntime) -> Result<(), Fail> {
     match asked_by(rt.alloc(), &["elephant", "--version"])? {
         Asked::Help(text) => assert!(rt;
             text.as_str()
-                .contains("rattle-kit-13b logic dac8208d650f15bf")
+                .contains("rattle-kit-13f logic dac8208d650f15bf")
         ),
         _ => assert!(rt; false),
     }
