@@ -1,5 +1,5 @@
-use Rattle.ele_core.proofs.Words.{◌||◌, ◌&&◌, not, ap, sym, ◌∙◌, has_key}
-use Rattle.ele_core.proofs.Governed.{governed_book, governed_queue}
+use Rattle.ele_core.proofs.Words.{◌||◌, ◌&&◌, not, ap, arith, nat_tests, sym, ◌∙◌, has_key}
+use Rattle.ele_core.proofs.Governed.{governed_book, governed_queue, ungoverned_queue}
 use Rattle.ele_core.proofs.policies.put_under.Goals as goal
 
 pub returns-clause-tracked : goal.returns-clause-tracked
@@ -13,3 +13,6 @@ returns-clause-tracked c =
       book = governed_book rows c.args.file c.in-Some.was c.requires.sound filed c.args.policy c.requires.lawful c.move_file.new.self (rw (c.kind.ensures, c.kind-2.ensures, c.in_ok-usage.ensures) at c.move_file.ensures.each);
       bounds = c.requires.sound.tracked.bounds;
     })
+
+pub returns-in_err-put_all-clause-tracked : goal.returns-in_err-put_all-clause-tracked
+returns-in_err-put_all-clause-tracked c = grind (arith, nat_tests, ungoverned_queue)
