@@ -9,6 +9,7 @@ pub use Rattle.std.proofs.lemmas.List.{append-nil, at_drop_all, drop_more, lengt
 pub use Rattle.std.proofs.lemmas.List.Elements.{All-append, All-cons, All-head, All-nil, All-tail}
 pub use Rattle.std.proofs.lemmas.List.Quantifiers.{position-Some}
 pub use Rattle.std.proofs.lemmas.List.Splits.{length-slice_split, slice_split_at, slice_split_none}
+pub use Rattle.std.proofs.lemmas.Option.{same_Some}
 pub use Rattle.std.proofs.lemmas.Result.{err_from_is_err_and}
 pub use Rattle.std.specs.Cmp.Lexicographic.{bytes_decides}
 pub use Rattle.std.specs.Fmt.{decimal}

@@ -1,5 +1,5 @@
 -- The command in front of words.
-use Rattle.ele_script.proofs.Basics.{nat_tests, arith, ◌≡◌, ℕ, List, [], ◌∷◌, ◌++◌, map, refl, ap, ◌∙◌, Option, Some, None, Result, Ok, Err, ◌⊎◌, inl, inr, subst, IfOk, IfErr, bytes_decides}
+use Rattle.ele_script.proofs.Basics.{nat_tests, arith, ◌≡◌, ℕ, List, [], ◌∷◌, ◌++◌, map, refl, ap, ◌∙◌, Some, None, Result, Ok, Err, ◌⊎◌, inl, inr, subst, IfOk, IfErr, bytes_decides, same_Some}
 use Rattle.ele_script.proofs.Prelude.{Command, LineFault, Syntax, NoMemory, Line, SpellsWords, command_words, kinds_behind, TakesMemory, behind, commands, find_command, named, IsFaultOfKinds, miscounted, bad_word, ReadsLine, FitsCommand}
 use Rattle.ele_script.proofs.Prelude.{IsFaultOfWords, no_command, of_word}
 use Rattle.std.proofs.Common.{IfSome}
@@ -25,9 +25,6 @@ words_are : (words : List (List ℕ)) → IfSome (command_of words) (λ x. words
 unfolding command_of
 words_are words = found_is commands words
 
-some_is : {A : Type 0} {x y : A} → ◌≡◌ {A = Option A} (Some x) (Some y) → x ≡ y
-some_is h = cc
-
 -- what words fit is what is found in front of them
 fits_found : (words : List (List ℕ)) (command : Command) (arguments : List (List ℕ)) → FitsCommand words command arguments → command_of words ≡ Some (command, arguments)
 fits_found words command arguments fits = ap command_of fits.are ∙ command_of-words command arguments
@@ -38,7 +35,7 @@ no_command_fits words none command arguments fits = let some = fits_found words 
 
 -- the faults behind the command are those of the words
 fault_of_words : (words : List (List ℕ)) (command : Command) (arguments : List (List ℕ)) (fault : LineFault) → command_of words ≡ Some (command, arguments) → words ≡ command_words command ++ arguments → IsFaultOfKinds (kinds_behind command) arguments fault → IsFaultOfWords words fault
-fault_of_words words command arguments fault found are (miscounted number is) = no_command (λ c xs fits. grind (arith, number, fits_found words c xs fits, fits.count, some_is)) is
+fault_of_words words command arguments fault found are (miscounted number is) = no_command (λ c xs fits. grind (arith, number, fits_found words c xs fits, fits.count, same_Some)) is
 fault_of_words words command arguments fault found are (bad_word count first) =
     of_word command arguments (record { are = are; count = count }) first
 
@@ -68,4 +65,4 @@ faults_of_words words command arguments (Err fault) found h =
 
 -- words are one command's, with one rest behind it
 pub one_fit : (words : List (List ℕ)) (c d : Command) (xs ys : List (List ℕ)) → words ≡ command_words c ++ xs → words ≡ command_words d ++ ys → (c ≡ d) × (xs ≡ ys)
-one_fit words c d xs ys a b = grind (arith, nat_tests, some_is, command_of-words)
+one_fit words c d xs ys a b = grind (arith, nat_tests, same_Some, command_of-words)

@@ -1,6 +1,6 @@
 -- What is true of lines: each asks for one thing, or has a first fault, and not both.
-use Rattle.ele_script.proofs.Basics.{nat_tests, ◌≡◌, ◌≢◌, ℕ, ◌≤◌, true, true≢false, List, [], ◌∷◌, length, refl, sym, ap, ◌∙◌, arith, ◌⊎◌, inl, inr, Option, Some, None, Result, Ok, Err, IfOk, IfErr}
-use Rattle.ele_script.proofs.Prelude.{OneMeaning, Line, Command, LineFault, NoMemory, WordKind, Value, Moment, Name, Path, Timed, Bytes, word_kind, kinds_behind, words_of, is_worded, SpellsValues, SpellsWords, SpellsLine, Spells}
+use Rattle.ele_script.proofs.Basics.{nat_tests, ◌≡◌, ◌≢◌, ℕ, ◌≤◌, true, true≢false, List, [], ◌∷◌, length, refl, sym, ap, ◌∙◌, arith, ◌⊎◌, inl, inr, Option, Some, None, Result, Ok, Err, IfOk, IfErr, same_Some}
+use Rattle.ele_script.proofs.Prelude.{OneMeaning, Line, Command, LineFault, NoMemory, WordKind, Value, Moment, Name, Path, Timed, Bytes, word_kind, kinds_behind, longest_line, words_of, is_worded, SpellsValues, SpellsWords, SpellsLine, Spells}
 use Rattle.ele_script.proofs.Prelude.{IsFirstWordFault, IsFaultOfWords, no_command, of_word, IsFirstFault, too_long, not_worded, of_words, IsEventFault, of_line, no_event}
 use Rattle.ele_world.specs.declared.event.Event.{Event}
 use Rattle.ele_world.specs.declared.event.Event.TheVariants as event
@@ -53,9 +53,6 @@ line_of (Groups, []) = Some (asks.Event event.GroupsAll)
 line_of (Pass, Number budget ∷ []) = Some (asks.Pass budget)
 line_of _ = None
 
-some_is : {A : Type 0} {x y : A} → ◌≡◌ {A = Option A} (Some x) (Some y) → x ≡ y
-some_is h = cc
-
 tails : {A : Type 0} {x y : A} {xs ys : List A} → x ∷ xs ≡ y ∷ ys → xs ≡ ys
 tails h = cc
 
@@ -79,7 +76,7 @@ module _ (law : OneMeaning) where
 
   -- a line asks for one thing
   one_line : (line : List ℕ) (a b : Line) → SpellsLine line a → SpellsLine line b → a ≡ b
-  one_line line a b h k = grind (arith, nat_tests, one_fit, one_list, parts_is, some_is)
+  one_line line a b h k = grind (arith, nat_tests, one_fit, one_list, parts_is, same_Some)
 
   -- words that stand for values of their kinds have no fault
   no_first : (words : List (List ℕ)) (values : List Value) (fault : LineFault) → SpellsValues words values → IsFirstWordFault (kinds_of values) words fault → ⊥
@@ -132,7 +129,7 @@ module _ (law : OneMeaning) where
   only_refused line (Err other) found (inr is) fault bad = inl (ap Err (one_fault line other fault is bad))
 
 -- the faults of the words of a line are the line's
-pub fault_of_line : (line : List ℕ) (words : List (List ℕ)) (r : Result Line LineFault) → length line ≤ 8192 → is_worded line ≡ true → words ≡ words_of line → IfErr r (λ fault. (fault ≡ NoMemory) ⊎ IsFaultOfWords words fault) → IfErr r (λ fault. (fault ≡ NoMemory) ⊎ IsFirstFault line fault)
+pub fault_of_line : (line : List ℕ) (words : List (List ℕ)) (r : Result Line LineFault) → length line ≤ longest_line → is_worded line ≡ true → words ≡ words_of line → IfErr r (λ fault. (fault ≡ NoMemory) ⊎ IsFaultOfWords words fault) → IfErr r (λ fault. (fault ≡ NoMemory) ⊎ IsFirstFault line fault)
 fault_of_line line words (Ok asked) short worded are h = tt
 fault_of_line line words (Err fault) short worded are (inl memory) = inl memory
 fault_of_line line words (Err fault) short worded are (inr bad) = inr (of_words short worded (rw are at bad))

@@ -1,5 +1,5 @@
 -- Words of numbers and moments: each one number or one moment.
-use Rattle.ele_script.proofs.Basics.{◌≡◌, ℕ, ◌≤◌, List, length, sym, ap, ◌∙◌, arith, inl, inr, Option, Some, decimal_injective, nat_tests}
+use Rattle.ele_script.proofs.Basics.{◌≡◌, ℕ, ◌≤◌, List, length, sym, ap, ◌∙◌, arith, inl, inr, decimal_injective, nat_tests, same_Some}
 use Rattle.ele_script.proofs.Prelude.{SpellsNumber, SpellsMoment, SpellsTimestamp}
 use Rattle.std.proofs.lemmas.Int.{ints}
 use Rattle.ele_moment.specs.Spelled.{last_moment}
@@ -10,11 +10,8 @@ use Rattle.ele_moment.proofs.Moments.{short_number}
 pub one_number : (word : List ℕ) (m n : ℕ) → SpellsNumber word m → SpellsNumber word n → m ≡ n
 one_number word m n a b = decimal_injective m n a.fits b.fits (sym a.digits ∙ b.digits)
 
-some_is : {A : Type 0} {x y : A} → ◌≡◌ {A = Option A} (Some x) (Some y) → x ≡ y
-some_is h = cc
-
 one_timestamp : (word : List ℕ) (m n : ℕ) → SpellsTimestamp word m → SpellsTimestamp word n → m ≡ n
-one_timestamp word m n a b = grind (arith, nat_tests, some_is, fields_again, ints)
+one_timestamp word m n a b = grind (arith, nat_tests, same_Some, fields_again, ints)
 
 no_both : {P : Type 0} (word : List ℕ) (m n : ℕ) → m ≤ last_moment → SpellsNumber word m → SpellsTimestamp word n → P
 no_both word m n le a b =

@@ -1,5 +1,5 @@
 -- Words of pairs: each one pair, cut at its slash.
-use Rattle.ele_script.proofs.Basics.{nat_tests, ◌≡◌, ℕ, zero, suc, ◌+◌, ◌<◌, ◌≤◌, ◌==◌, Bool, false, List, [], ◌∷◌, ◌++◌, length, take, drop, refl, sym, ap, ◌∙◌, arith, length-append, Option, Some, None, IfNone, get_or, AllZip, position}
+use Rattle.ele_script.proofs.Basics.{nat_tests, ◌≡◌, ℕ, zero, suc, ◌+◌, ◌<◌, ◌≤◌, ◌==◌, Bool, false, List, [], ◌∷◌, ◌++◌, length, take, drop, refl, sym, ap, ◌∙◌, arith, length-append, Option, Some, None, IfNone, get_or, AllZip, position, same_Some}
 use Rattle.ele_script.proofs.Basics.{position_or_len, slice_split, decimal, AllDigits, digits_value, eqb-true, lt-ltb, digits_decimal, drop_more, take-append-drop, position-Some, All-nil, All-cons, All-head, All-tail}
 use Rattle.ele_script.proofs.Prelude.{SpellsNumber, Rung, Keeps, SpellsPair, parts_of}
 use Rattle.std.specs.Prelude.{All}
@@ -29,13 +29,10 @@ slash_behind (c ∷ front) rest none = grind (arith, All-head, slash_behind fron
 slash_at : (word : List ℕ) (pair : Rung) → (is : SpellsPair word pair) → position is_slash word ≡ Some (length is.age)
 slash_at word pair is = grind (arith, nat_tests, slash_behind, number_unmarked, lt-ltb, length-append)
 
-some_is : {A : Type 0} {x y : A} → ◌≡◌ {A = Option A} (Some x) (Some y) → x ≡ y
-some_is h = cc
-
 -- in front of the first slash stands the age, and behind it the width
 pub parts_at : (word : List ℕ) (pair : Rung) (at : ℕ) → SpellsPair word pair → position is_slash word ≡ Some at → SpellsNumber (take at word) pair.0 × SpellsNumber (drop 1 (drop at word)) pair.1
 parts_at word pair at is found =
-    let place : at ≡ length is.age = some_is (sym found ∙ slash_at word pair is) in
+    let place : at ≡ length is.age = same_Some _ _ (sym found ∙ slash_at word pair is) in
     let age : take at word ≡ is.age = rw (place, is.are) (take-append_seam is.age (47 ∷ is.width)) in
     let width : drop 1 (drop at word) ≡ is.width = rw (place, is.are, drop-append_seam is.age (47 ∷ is.width)) refl in
     (rw age is.age_is, rw width is.width_is)

@@ -1,5 +1,5 @@
 -- The words by which policies are printed spell them.
-use Rattle.ele_script.proofs.Basics.{◌≡◌, ℕ, ◌<◌, ◌≤◌, ◌==◌, true, false, List, [], ◌∷◌, length, map, refl, ap, ◌∙◌, arith, inr, length-append, AllZip, join_with_byte, slice_split, decimal, nat_tests, All-append, All-cons}
+use Rattle.ele_script.proofs.Basics.{◌≡◌, ℕ, ◌<◌, ◌≤◌, ◌==◌, true, false, List, [], ◌∷◌, length, map, refl, ap, ◌∙◌, arith, length-append, AllZip, join_with_byte, slice_split, decimal, nat_tests, All-append, All-cons}
 use Rattle.ele_script.proofs.Basics.{slice_split_none, slice_split_at}
 use Rattle.ele_script.proofs.Prelude.{SpellsNumber, One, KeepAll, Safe, Landmarks, Rung, IsLadder, climbs, ground, is_above, SpellsPair, SpellsPairs, pair_word}
 use Rattle.std.specs.Prelude.{All}
@@ -61,4 +61,4 @@ pub policy_back : PolicyBack
 policy_back One is = refl
 policy_back KeepAll is = refl
 policy_back (Safe seconds) is = (record { digits = decimal seconds; are = refl; number = spelled seconds is.fits }, is)
-policy_back (Landmarks rungs) is = inr (record { text = join_with_byte 44 (map pair_word rungs); are = refl; spelled = joined_pairs rungs is }, is)
+policy_back (Landmarks rungs) is = (record { text = join_with_byte 44 (map pair_word rungs); are = refl; spelled = joined_pairs rungs is }, is)

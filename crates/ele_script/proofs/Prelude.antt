@@ -11,12 +11,12 @@ pub use Rattle.ele_script.specs.LineFault.{fault_of_path, fault_of_path_at}
 pub use Rattle.ele_script.specs.Memory.{TakesMemory}
 pub use Rattle.ele_script.specs.Outlet.{HandsOver, Outlet, Puts, Takes, TakesFront, outlet}
 pub use Rattle.ele_script.specs.PathWord.{IsSourceFault, IsTaggedWordFault, begins_path, of_handle}
-pub use Rattle.ele_script.specs.PolicyWord.{IsLadderWord, IsPolicyFault, IsPolicyForm, IsSafeWord, SpellsPair, SpellsPairs, SpellsPolicy, all, formless, ladder, no_interval, no_ladder, one, parts_of, safe, standard}
+pub use Rattle.ele_script.specs.PolicyWord.{IsLadderWord, IsPolicyFault, IsPolicyForm, IsSafeWord, SpellsPair, SpellsPairs, SpellsPolicy, all, formless, ladder, no_interval, no_ladder, one, parts_of, safe}
 pub use Rattle.ele_script.specs.Printed.{bytes_text, group_line, kind_words, line_text, numbers_word, pair_word, usage_line, usage_lines}
 pub use Rattle.ele_script.specs.Reads.{IsFaultOfKinds, IsRefused, ReadsLine, bad_word, miscounted}
 pub use Rattle.ele_script.specs.Spells.{Spells, SpellsLine, SpellsValues, SpellsWords, line_parts}
 pub use Rattle.ele_script.specs.Value.{Bytes, BytesWord, Moment, MomentWord, Name, NameWord, NumberWord, Path, PathWord, PolicyWord, SourceWord, SpellsBytes, SpellsSource, SpellsValue, TaggedWord, Timed, TimedWord, Value, WordKind, word_kind}
-pub use Rattle.ele_script.specs.Words.{ends_word, is_plain, is_worded, words_of}
+pub use Rattle.ele_script.specs.Words.{ends_word, longest_line, is_plain, is_worded, words_of}
 pub use Rattle.ele_script.specs.declared.command.Command.{Command}
 pub use Rattle.ele_script.specs.declared.fault.LineFault.{LineFault}
 pub use Rattle.ele_script.specs.declared.fault.LineFault.TheVariants.{BadLadder, BadMoment, NoMemory, Syntax}

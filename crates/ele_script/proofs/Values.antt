@@ -1,5 +1,5 @@
 -- Words and what they stand for: each one value of a kind.
-use Rattle.ele_script.proofs.Basics.{nat_tests, arith, ◌≡◌, ℕ, List, refl, sym, ap, subst, ◌∙◌, Option, Some, None, Ok, Err, Result, codes, IfErr, ok_or, decode_of, option_map}
+use Rattle.ele_script.proofs.Basics.{nat_tests, arith, ◌≡◌, ℕ, List, refl, sym, ap, subst, ◌∙◌, Option, Some, None, Ok, Err, Result, codes, IfErr, ok_or, decode_of, option_map, same_Some}
 use Rattle.ele_script.proofs.Prelude.{SpellsMoment, OneMeaning, LineFault, BadMoment, WordKind, NumberWord, MomentWord, NameWord, PathWord, TaggedWord, TimedWord, SourceWord, BytesWord}
 use Rattle.ele_script.proofs.Prelude.{PolicyWord, Value, Moment, Name, Path, Timed, Bytes, word_kind, SpellsBytes, SpellsValue, fault_of_path, fault_of_path_at, IsOfKind, IsWordFault}
 use Rattle.std.specs.Result.{result_ok}
@@ -7,9 +7,6 @@ use Rattle.ele_script.proofs.Moments.{one_number, one_moment}
 use Rattle.ele_script.proofs.PathWords.{one_tagged, one_timed, one_source, faultless_tagged, faultless_source, one_tagged_word, one_source_fault}
 use Rattle.ele_script.proofs.Policies.{one_policy, faultless_policy, one_policy_fault}
 use Rattle.ele_script.specs.Value.{Number, Tagged, Source, Policy}
-
-some_is : {A : Type 0} {x y : A} → ◌≡◌ {A = Option A} (Some x) (Some y) → x ≡ y
-some_is h = cc
 
 absurd_ok : {A E : Type 0} {x : A} {e : E} → ◌≡◌ {A = Result A E} (Err e) (Ok x) → ⊥
 absurd_ok h = cc
@@ -52,7 +49,7 @@ module _ (law : OneMeaning) where
   one_word_fault NumberWord word a b x y = x.0 ∙ sym y.0
   one_word_fault MomentWord word a b x y = x.0 ∙ sym y.0
   one_word_fault NameWord word a b x y = x.0 ∙ sym y.0
-  one_word_fault PathWord word a b x y = some_is (sym x ∙ y)
+  one_word_fault PathWord word a b x y = same_Some _ _ (sym x ∙ y)
   one_word_fault TaggedWord word a b x y = one_tagged_word law word a b x y
   one_word_fault TimedWord word a b x y = x.2 ∙ ap fault_of_path_at (law.one_at_fault word x.0 y.0 x.1 y.1) ∙ sym y.2
   one_word_fault SourceWord word a b x y = one_source_fault law word a b x y

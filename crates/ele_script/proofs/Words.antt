@@ -1,7 +1,7 @@
 -- The words of a line, cut off one after another.
 use Rattle.ele_script.proofs.Basics.{◌≡◌, ◌≢◌, ℕ, zero, suc, ◌+◌, ◌<◌, ◌≤◌, ◌==◌, ◌&&◌, Bool, true, false, List, [], ◌∷◌, ◌++◌, length, take, drop, get_or, Some, None, refl, sym, ap, ◌∙◌, arith, append_assoc, length-append, map, Bor}
 use Rattle.ele_script.proofs.Basics.{◌⊎◌, nat_lt, subst, list_all, position, ltb-false, lt-ltb, nat_tests, map-append, length-map, length-take-le, drop_more, take-append-drop, position-Some, length-slice_split}
-use Rattle.ele_script.proofs.Prelude.{Syntax, IsFirstFault, words_of, is_plain, is_worded, ends_word}
+use Rattle.ele_script.proofs.Prelude.{Syntax, IsFirstFault, longest_line, words_of, is_plain, is_worded, ends_word}
 use Rattle.std.proofs.Math.Bool.{and-false}
 use Rattle.std.proofs.lemmas.List.Folds.{list_all-append, list_all_at}
 use Rattle.std.proofs.lemmas.List.Sums.{prefix_len_passes}
@@ -121,5 +121,5 @@ pub unworded : (line : List ℕ) → list_all is_plain line ≡ false → is_wor
 unworded line broken = ap (λ b. b && list_all (λ word. nat_lt 0 (length word)) (words_of line)) broken
 
 -- a line that isn't worded, or has more than four words, is at fault
-pub unfit_line : (line : List ℕ) → length line ≤ 8192 → (is_worded line ≡ false) ⊎ (4 < length (words_of line)) → IsFirstFault line Syntax
+pub unfit_line : (line : List ℕ) → length line ≤ longest_line → (is_worded line ≡ false) ⊎ (4 < length (words_of line)) → IsFirstFault line Syntax
 unfit_line line short x2 = grind (arith, nat_tests, length-append)

@@ -10,7 +10,7 @@ use Rattle.ele_script.specs.Value.{WordKind, NumberWord, MomentWord, NameWord, P
 use Rattle.ele_script.specs.PolicyWord.{IsPolicyFault}
 use Rattle.ele_script.specs.PathWord.{IsTaggedWordFault, IsTimedWordFault, IsSourceFault}
 use Rattle.ele_script.specs.Command.{command_words, kinds_behind}
-use Rattle.ele_script.specs.Words.{words_of, is_worded}
+use Rattle.ele_script.specs.Words.{longest_line, words_of, is_worded}
 use Rattle.ele_script.specs.Spells.{SpellsLine}
 use Rattle.ele_script.specs.declared.reading.Line.{Line}
 use Rattle.ele_script.specs.declared.reading.Line.TheVariants as asks
@@ -50,9 +50,9 @@ pub data IsFaultOfWords (words : List (List ℕ)) (fault : LineFault) : Type 0 w
 
 -- the first fault of a line: its length, its bytes and spaces, its command and number of words, its first bad word
 pub data IsFirstFault (line : List ℕ) (fault : LineFault) : Type 0 where
-  too_long : 8192 < length line → fault ≡ LineTooLong → IsFirstFault line fault
-  not_worded : length line ≤ 8192 → is_worded line ≡ false → fault ≡ Syntax → IsFirstFault line fault
-  of_words : length line ≤ 8192 → is_worded line ≡ true → IsFaultOfWords (words_of line) fault → IsFirstFault line fault
+  too_long : longest_line < length line → fault ≡ LineTooLong → IsFirstFault line fault
+  not_worded : length line ≤ longest_line → is_worded line ≡ false → fault ≡ Syntax → IsFirstFault line fault
+  of_words : length line ≤ longest_line → is_worded line ≡ true → IsFaultOfWords (words_of line) fault → IsFirstFault line fault
 
 -- why a line is no event: its first fault, or it asks for something else
 pub data IsEventFault (line : List ℕ) (fault : LineFault) : Type 0 where

@@ -1,5 +1,5 @@
 -- Which words are a policy, and what is wrong with a word that is none.
-use Rattle.std.specs.Prelude.{◌≡◌, ℕ, ◌==◌, List, [], ◌∷◌, ◌++◌, codes, ◌⊎◌}
+use Rattle.std.specs.Prelude.{◌≡◌, ℕ, ◌==◌, List, [], ◌∷◌, ◌++◌, codes}
 use Rattle.std.specs.List.{AllZip, slice_split}
 use Rattle.ele_moment.specs.Number.{SpellsNumber}
 use Rattle.ele_policy.specs.declared.policy.Policy.{Policy}
@@ -38,24 +38,18 @@ pub record IsLadderWord (word : List ℕ) (pairs : List Rung) : Type 0 where
   pub are : word ≡ codes "landmarks:" ++ text
   pub spelled : SpellsPairs text pairs
 
--- one version an hour from a day on, one a day from a week on, and one a week from 30 days on
-abbrev pub standard_ladder : List Rung
-standard_ladder = (86400, 3600) ∷ (604800, 86400) ∷ (2592000, 604800) ∷ []
-
--- `one`, `all`, `safe:` and the seconds of an interval, `landmarks` for the standard ladder, or `landmarks:` and the pairs of one
+-- `one`, `all`, `safe:` and the seconds of an interval, or `landmarks:` and the pairs of a ladder
 abbrev pub SpellsPolicy : List ℕ → Policy → Type 0
 SpellsPolicy word One = word ≡ codes "one"
 SpellsPolicy word All = word ≡ codes "all"
 SpellsPolicy word (Safe seconds) = IsSafeWord word seconds × IsInterval seconds
-SpellsPolicy word (Landmarks rungs) =
-    ((word ≡ codes "landmarks") × (rungs ≡ standard_ladder)) ⊎ (IsLadderWord word rungs × IsLadder rungs)
+SpellsPolicy word (Landmarks rungs) = IsLadderWord word rungs × IsLadder rungs
 
 -- the word has the form of a policy, whatever its numbers
 pub data IsPolicyForm (word : List ℕ) : Type 0 where
   one : word ≡ codes "one" → IsPolicyForm word
   all : word ≡ codes "all" → IsPolicyForm word
   safe : (seconds : ℕ) → IsSafeWord word seconds → IsPolicyForm word
-  standard : word ≡ codes "landmarks" → IsPolicyForm word
   ladder : (pairs : List Rung) → IsLadderWord word pairs → IsPolicyForm word
 
 -- the word has no such form, or its number is no interval, or its pairs are no ladder

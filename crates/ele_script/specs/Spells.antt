@@ -8,7 +8,7 @@ use Rattle.ele_script.specs.declared.reading.Line.{Line}
 use Rattle.ele_script.specs.declared.reading.Line.TheVariants as asks
 use Rattle.ele_script.specs.Value.{Value, Number, Moment, Name, Path, Tagged, Timed, Source, Bytes, Policy, SpellsValue}
 use Rattle.ele_script.specs.Command.{command_words}
-use Rattle.ele_script.specs.Words.{words_of, is_worded}
+use Rattle.ele_script.specs.Words.{longest_line, words_of, is_worded}
 
 -- the command of an event, and the values of the words behind it
 abbrev pub parts_of : Event → Command × List Value
@@ -64,7 +64,7 @@ pub record SpellsWords (words : List (List ℕ)) (asked : Line) : Type 0 where
 
 -- the line is what it asks for, in text
 pub record SpellsLine (line : List ℕ) (asked : Line) : Type 0 where
-  pub short : length line ≤ 8192
+  pub short : length line ≤ longest_line
   pub worded : is_worded line ≡ true
   pub words : SpellsWords (words_of line) asked
 

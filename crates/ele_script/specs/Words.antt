@@ -1,6 +1,10 @@
--- The words of a line.
+-- The words of a line, and how long it may be.
 use Rattle.std.specs.Prelude.{ℕ, ◌==◌, ◌&&◌, not, nat_le, nat_lt, Bool, List, length}
 use Rattle.std.specs.List.{slice_split, list_all}
+
+-- the most bytes of a line, without its line feed
+abbrev pub longest_line : ℕ
+longest_line = 8192
 
 -- what stands between the spaces of a line
 abbrev pub words_of : List ℕ → List (List ℕ)

@@ -13,7 +13,7 @@ use ele_time_path::{Path, PathAt, TaggedPath};
 use ele_world::{ByteList, Source};
 use std::alloc::Global;
 
-/// The only word.
+// The only word.
 fn one<'l>(words: &[&'l [u8]]) -> Result<&'l [u8], LineFault>
     ensures found { IfOk result (λ word. map (λ word. word.now) words.now ≡ word.now ∷ []) }
     ensures miscounted { IfErr result
@@ -25,7 +25,7 @@ fn one<'l>(words: &[&'l [u8]]) -> Result<&'l [u8], LineFault>
     Ok(*word)
 }
 
-/// The only two words.
+// The only two words.
 fn two<'l>(words: &[&'l [u8]]) -> Result<(&'l [u8], &'l [u8]), LineFault>
     ensures found { IfOk result
         (λ both. map (λ word. word.now) words.now ≡ both.0.now ∷ both.1.now ∷ []) }
@@ -38,7 +38,7 @@ fn two<'l>(words: &[&'l [u8]]) -> Result<(&'l [u8], &'l [u8]), LineFault>
     Ok((*first, *second))
 }
 
-/// The only three words.
+// The only three words.
 fn three<'l>(words: &[&'l [u8]]) -> Result<(&'l [u8], &'l [u8], &'l [u8]), LineFault>
     ensures found { IfOk result
         (λ all. map (λ word. word.now) words.now ≡ all.0.now ∷ all.1.now ∷ all.2.now ∷ []) }
@@ -119,7 +119,8 @@ pub(crate) fn source(alloc: Global, words: &[&[u8]]) -> Result<Source, LineFault
 
 /// Two numbers.
 pub(crate) fn two_numbers(words: &[&[u8]]) -> Result<(u64, u64), LineFault>
-    ensures { Reads (NumberWord ∷ NumberWord ∷ []) (λ both. value.Number both.0 ∷ value.Number both.1 ∷ [])
+    ensures { Reads (NumberWord ∷ NumberWord ∷ [])
+        (λ both. value.Number both.0 ∷ value.Number both.1 ∷ [])
         (map (λ word. word.now) words.now) result }
 {
     let (first, second) = two(words)?;
@@ -129,7 +130,8 @@ pub(crate) fn two_numbers(words: &[&[u8]]) -> Result<(u64, u64), LineFault>
 
 /// Two paths.
 pub(crate) fn two_paths(alloc: Global, words: &[&[u8]]) -> Result<(Path, Path), LineFault>
-    ensures { Reads (PathWord ∷ PathWord ∷ []) (λ both. value.Path both.0 ∷ value.Path both.1 ∷ [])
+    ensures { Reads (PathWord ∷ PathWord ∷ [])
+        (λ both. value.Path both.0 ∷ value.Path both.1 ∷ [])
         (map (λ word. word.now) words.now) result }
 {
     let (first, second) = two(words)?;
@@ -139,7 +141,8 @@ pub(crate) fn two_paths(alloc: Global, words: &[&[u8]]) -> Result<(Path, Path), 
 
 /// A path and a number.
 pub(crate) fn path_and_number(alloc: Global, words: &[&[u8]]) -> Result<(Path, u64), LineFault>
-    ensures { Reads (PathWord ∷ NumberWord ∷ []) (λ both. value.Path both.0 ∷ value.Number both.1 ∷ [])
+    ensures { Reads (PathWord ∷ NumberWord ∷ [])
+        (λ both. value.Path both.0 ∷ value.Number both.1 ∷ [])
         (map (λ word. word.now) words.now) result }
 {
     let (first, second) = two(words)?;
@@ -149,7 +152,8 @@ pub(crate) fn path_and_number(alloc: Global, words: &[&[u8]]) -> Result<(Path, u
 
 /// A path and a policy.
 pub(crate) fn path_and_policy(alloc: Global, words: &[&[u8]]) -> Result<(Path, Policy), LineFault>
-    ensures { Reads (PathWord ∷ PolicyWord ∷ []) (λ both. value.Path both.0 ∷ value.Policy both.1 ∷ [])
+    ensures { Reads (PathWord ∷ PolicyWord ∷ [])
+        (λ both. value.Path both.0 ∷ value.Policy both.1 ∷ [])
         (map (λ word. word.now) words.now) result }
 {
     let (first, second) = two(words)?;
@@ -159,7 +163,8 @@ pub(crate) fn path_and_policy(alloc: Global, words: &[&[u8]]) -> Result<(Path, P
 
 /// A name and a path.
 pub(crate) fn name_and_path(alloc: Global, words: &[&[u8]]) -> Result<(Name, Path), LineFault>
-    ensures { Reads (NameWord ∷ PathWord ∷ []) (λ both. value.Name both.0 ∷ value.Path both.1 ∷ [])
+    ensures { Reads (NameWord ∷ PathWord ∷ [])
+        (λ both. value.Name both.0 ∷ value.Path both.1 ∷ [])
         (map (λ word. word.now) words.now) result }
 {
     let (first, second) = two(words)?;
@@ -169,7 +174,8 @@ pub(crate) fn name_and_path(alloc: Global, words: &[&[u8]]) -> Result<(Name, Pat
 
 /// A name and a moment.
 pub(crate) fn name_and_moment(words: &[&[u8]]) -> Result<(Name, Moment), LineFault>
-    ensures { Reads (NameWord ∷ MomentWord ∷ []) (λ both. value.Name both.0 ∷ value.Moment both.1 ∷ [])
+    ensures { Reads (NameWord ∷ MomentWord ∷ [])
+        (λ both. value.Name both.0 ∷ value.Moment both.1 ∷ [])
         (map (λ word. word.now) words.now) result }
 {
     let (first, second) = two(words)?;

@@ -41,8 +41,8 @@ pub(crate) enum Command {
     Pass,
 }
 
-/// The words that name each command, of which the second may be missing; those that come often stand
-/// in front, since a word is looked for from the first row on.
+/// The words that name each command, of which the second may be missing; those that come often
+/// stand in front, since a word is looked for from the first row on.
 static COMMANDS: [(&str, &str, Command); 33] = [
     ("write", "", Command::Write),
     ("read", "", Command::Read),
@@ -88,7 +88,7 @@ pub(crate) fn read_command<'w, 'l>(words: &'w [&'l [u8]]) -> Option<(Command, &'
     find_command(&COMMANDS, words)
 }
 
-/// The first command of a table whose name stands in front of the words.
+// The first command of a table whose name stands in front of the words.
 fn find_command<'w, 'l>(
     table: &[(&str, &str, Command)],
     words: &'w [&'l [u8]],
@@ -106,7 +106,7 @@ fn find_command<'w, 'l>(
     None
 }
 
-/// What stands behind a name of one word or of two.
+// What stands behind a name of one word or of two.
 fn behind<'w, 'l>(words: &'w [&'l [u8]], first: &str, second: &str) -> Option<&'w [&'l [u8]]>
     ensures { option_map (λ rest. map (λ word. word.now) rest.now) result
         ≡ behind (name_of first.now second.now) (map (λ word. word.now) words.now) }
@@ -118,7 +118,7 @@ fn behind<'w, 'l>(words: &'w [&'l [u8]], first: &str, second: &str) -> Option<&'
     behind_word(rest, second)
 }
 
-/// What stands behind a word.
+// What stands behind a word.
 fn behind_word<'w, 'l>(words: &'w [&'l [u8]], name: &str) -> Option<&'w [&'l [u8]]>
     ensures { option_map (λ rest. map (λ word. word.now) rest.now) result
         ≡ behind (name.now ∷ []) (map (λ word. word.now) words.now) }

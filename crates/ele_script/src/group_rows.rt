@@ -1,5 +1,5 @@
-//! Putting what is told of groups. A contract sees a group as itself, and the output with its writer
-//! as an outlet.
+//! Putting what is told of groups. A contract sees a group as itself, and the output with its
+//! writer as an outlet.
 ghost use Rattle.std.specs.Prelude.{◌++◌, ◌∷◌, [], decimal};
 ghost use Rattle.ele_script.specs.Outlet.{outlet, Puts};
 ghost use Rattle.ele_script.specs.Printed.{numbers_word, group_line, groups_text};
@@ -12,6 +12,7 @@ use ele_moment::{FileId, Moment};
 use ele_world::GroupRow;
 use std::io::Write;
 
+/// Puts how many groups there are, and the line of each.
 pub(crate) fn put_groups<W: Write>(
     groups: &[GroupRow],
     output: &mut Output,
@@ -35,7 +36,7 @@ impl Row for GroupRow {
     }
 }
 
-/// Puts a space and the numbers of files, with a comma between each two, or `-` for none.
+// Puts a space and the numbers of files, with a comma between each two, or `-` for none.
 fn put_members<W: Write>(
     members: &[FileId],
     output: &mut Output,
@@ -54,7 +55,7 @@ fn put_members<W: Write>(
     Ok(())
 }
 
-/// Puts a space and moments, with a comma between each two, or `-` for none.
+// Puts a space and moments, with a comma between each two, or `-` for none.
 fn put_marks<W: Write>(
     marks: &[Moment],
     output: &mut Output,
@@ -73,7 +74,7 @@ fn put_marks<W: Write>(
     Ok(())
 }
 
-/// Puts what stands before a number, and the number.
+// Puts what stands before a number, and the number.
 fn put_listed<W: Write>(
     before: &[u8],
     number: u64,

@@ -20,5 +20,5 @@ mod writing;
 pub use fault::{LineFault, WriteFault};
 pub use output::{Output, put};
 pub use putting::{put_answer, put_fault, put_pass, put_reply, put_stop};
-pub use reading::{Line, read_event, read_line};
-pub use writing::{write_fault, write_pass, write_reply};
+pub use reading::{LONGEST_LINE, Line, read_event, read_line};
+pub use writing::{write_fault, write_named, write_pass, write_reply};

@@ -60,7 +60,7 @@ impl Output {
         self.put_behind(bytes, writer)
     }
 
-    /// Hands the bytes over before it puts others, which it holds if there is room for them.
+    // Hands the bytes over before it puts others, which it holds if there is room for them.
     fn put_behind<W: Write>(&mut self, bytes: &[u8], writer: &mut W) -> Result<(), WriteFault>
         ensures { Puts (outlet (W.contents writer.old) self.old)
             (outlet (W.contents writer.new) self.new) bytes.now result }
@@ -130,7 +130,7 @@ pub(crate) fn put_words<W: Write>(
     Ok(())
 }
 
-/// Puts a space and a word.
+// Puts a space and a word.
 fn put_word<W: Write>(word: &[u8], output: &mut Output, writer: &mut W) -> Result<(), WriteFault>
     ensures { Puts (outlet (W.contents writer.old) output.old)
         (outlet (W.contents writer.new) output.new) (32 ∷ word.now) result }

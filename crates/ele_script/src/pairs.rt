@@ -19,7 +19,7 @@ pub(crate) fn ladder_pairs(word: &[u8]) -> Option<ArrayVec<(u64, u64), MOST_PAIR
     read_pairs(word.strip_prefix(b"landmarks:")?)
 }
 
-/// The first pairs of a text, if it is pairs with a comma between each two.
+// The first pairs of a text, if it is pairs with a comma between each two.
 fn read_pairs(text: &[u8]) -> Option<ArrayVec<(u64, u64), MOST_PAIRS>>
     ensures some { IfSome result (λ pairs. KeepsPairs text.now pairs.items) }
     ensures none { IfNone result ((pairs : List Rung) → ¬ SpellsPairs text.now pairs) }
@@ -37,7 +37,7 @@ fn read_pairs(text: &[u8]) -> Option<ArrayVec<(u64, u64), MOST_PAIRS>>
     Some(pairs)
 }
 
-/// Two numbers with a slash between them.
+// Two numbers with a slash between them.
 fn read_pair(word: &[u8]) -> Option<(u64, u64)>
     ensures some { IfSome result (SpellsPair word.now) }
     ensures none { IfNone result ((pair : Rung) → ¬ SpellsPair word.now pair) }
@@ -46,7 +46,7 @@ fn read_pair(word: &[u8]) -> Option<(u64, u64)>
     Some((read_number(age)?, read_number(behind.split_at(1).1)?))
 }
 
-/// Where the first slash stands.
+// Where the first slash stands.
 fn slash_in(word: &[u8]) -> Option<usize>
     ensures { result ≡ position (λ byte. byte == 47) word.now }
 {

@@ -35,8 +35,8 @@ pub fn put_reply<W: Write>(
     }
 }
 
-/// Puts the line that tells a bad line's fault. At a fault of the writer it took a front of all that
-/// was put.
+/// Puts the line that tells a bad line's fault. At a fault of the writer it took a front of all
+/// that was put.
 pub fn put_fault<W: Write>(
     fault: LineFault,
     output: &mut Output,
@@ -98,6 +98,7 @@ pub fn put_answer<W: Write>(
     }
 }
 
+// Puts the line of a moment, with its date and time.
 fn put_now<W: Write>(
     seconds: u64,
     stamp: &[u8],
@@ -113,6 +114,7 @@ fn put_now<W: Write>(
     put_line(b"ok now", &[digits, stamp], output, writer)
 }
 
+// Puts the line of a closing, with the version that it made, if it made one.
 fn put_closed<W: Write>(
     made: Option<VersionNo>,
     output: &mut Output,
@@ -127,6 +129,7 @@ fn put_closed<W: Write>(
     }
 }
 
+/// Puts a line of a first word and a number.
 pub(crate) fn put_number<W: Write>(
     first: &[u8],
     number: u64,
@@ -141,6 +144,7 @@ pub(crate) fn put_number<W: Write>(
     put_line(first, &[digits.format(number).as_bytes()], output, writer)
 }
 
+// Puts a line of a first word and a key.
 fn put_key<W: Write>(
     first: &[u8],
     key: Key,
@@ -160,6 +164,7 @@ fn put_key<W: Write>(
     put_line(first, &[ripe, file, number], output, writer)
 }
 
+// Puts how many keys there are, and the line of each.
 fn put_keys<W: Write>(keys: &[Key], output: &mut Output, writer: &mut W) -> Result<(), WriteFault>
     ensures { Puts (outlet (W.contents writer.old) output.old)
         (outlet (W.contents writer.new) output.new) (due_text keys.now) result }
@@ -175,6 +180,7 @@ impl Row for Key {
     }
 }
 
+// Puts how many names may come back, and the line of each.
 fn put_dead_names<W: Write>(
     names: &[DeadName],
     output: &mut Output,
@@ -199,7 +205,7 @@ impl Row for DeadName {
     }
 }
 
-/// Puts the line of a name that stood for a target of this kind and number.
+// Puts the line of a name that stood for a target of this kind and number.
 fn put_target<W: Write>(
     dead: &DeadName,
     kind: &[u8],
@@ -224,7 +230,7 @@ fn put_target<W: Write>(
     )
 }
 
-/// Puts bytes, which stay in the line of the reply however many they are.
+// Puts bytes, which stay in the line of the reply however many they are.
 fn put_bytes<W: Write>(bytes: &[u8], output: &mut Output, writer: &mut W) -> Result<(), WriteFault>
     ensures { Puts (outlet (W.contents writer.old) output.old)
         (outlet (W.contents writer.new) output.new) (bytes_text bytes.now) result }
@@ -235,7 +241,7 @@ fn put_bytes<W: Write>(bytes: &[u8], output: &mut Output, writer: &mut W) -> Res
     put_digits(bytes, output, writer)
 }
 
-/// Puts some bytes, as their number and their digits.
+// Puts some bytes, as their number and their digits.
 fn put_digits<W: Write>(bytes: &[u8], output: &mut Output, writer: &mut W) -> Result<(), WriteFault>
     ensures { Puts (outlet (W.contents writer.old) output.old)
         (outlet (W.contents writer.new) output.new)
@@ -250,7 +256,7 @@ fn put_digits<W: Write>(bytes: &[u8], output: &mut Output, writer: &mut W) -> Re
     output.put(b"\n", writer)
 }
 
-/// Puts two digits for each byte.
+// Puts two digits for each byte.
 fn put_hexadecimal<W: Write>(
     bytes: &[u8],
     output: &mut Output,
@@ -268,7 +274,7 @@ fn put_hexadecimal<W: Write>(
     Ok(())
 }
 
-/// Puts two digits for each byte of a few hundred.
+// Puts two digits for each byte of a few hundred.
 fn put_piece<W: Write>(piece: &[u8], output: &mut Output, writer: &mut W) -> Result<(), WriteFault>
     requires { length piece.now ≤ PIECE }
     ensures { Puts (outlet (W.contents writer.old) output.old)
@@ -282,6 +288,7 @@ fn put_piece<W: Write>(piece: &[u8], output: &mut Output, writer: &mut W) -> Res
     }
 }
 
+// Puts what the files of each kind of policy use.
 fn put_usages<W: Write>(
     usages: &[Usage; 4],
     output: &mut Output,
@@ -298,7 +305,7 @@ fn put_usages<W: Write>(
     put_usage(b"landmarks", landmarks, output, writer)
 }
 
-/// Puts the line of what the files of a kind of policy use.
+// Puts the line of what the files of a kind of policy use.
 fn put_usage<W: Write>(
     kind: &[u8],
     usage: Usage,
@@ -342,8 +349,8 @@ pub(crate) fn put_named<W: Write>(
     put_line(first, &[number, name.as_bytes()], output, writer)
 }
 
-/// Puts the line of a stop that came in a reply's place. At a fault of the writer it took a front of
-/// all that was put.
+/// Puts the line of a stop that came in a reply's place. At a fault of the writer it took a front
+/// of all that was put.
 pub fn put_stop<W: Write>(stop: Stop, output: &mut Output, writer: &mut W) -> Result<(), WriteFault>
     ensures { Puts (outlet (W.contents writer.old) output.old)
         (outlet (W.contents writer.new) output.new) (stop_text stop) result }
@@ -351,7 +358,7 @@ pub fn put_stop<W: Write>(stop: Stop, output: &mut Output, writer: &mut W) -> Re
     put_named(b"stop", stop.number(), stop.name(), output, writer)
 }
 
-/// Puts the line of a pass that a stop ended, with how many versions it removed.
+// Puts the line of a pass that a stop ended, with how many versions it removed.
 fn put_stopped<W: Write>(
     stop: Stop,
     removed: u64,

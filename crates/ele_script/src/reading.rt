@@ -28,8 +28,8 @@ pub enum Line {
     Pass(u64),
 }
 
-/// The most bytes of a line.
-const MOST_BYTES: usize = 8192;
+/// The most bytes of a line, without its line feed.
+pub const LONGEST_LINE: usize = 8192;
 
 /// The most words of a line that asks for something.
 const MOST_WORDS: usize = 4;
@@ -52,7 +52,7 @@ pub fn read_line(alloc: Global, line: &[u8]) -> Result<Line, LineFault>
 {
     // Told for the proof: as a path, a word means one thing.
     one_meaning();
-    if line.len() > MOST_BYTES {
+    if line.len() > LONGEST_LINE {
         return Err(LineFault::LineTooLong);
     }
     let Some(words) = words_in(line) else {
@@ -78,7 +78,7 @@ pub fn read_event(alloc: Global, line: &[u8]) -> Result<Event, LineFault>
     event_in(asked)
 }
 
-/// The event that was asked for.
+// The event that was asked for.
 fn event_in(asked: Result<Line, LineFault>) -> Result<Event, LineFault>
     ensures { result ≡ event_of asked }
 {
@@ -89,8 +89,8 @@ fn event_in(asked: Result<Line, LineFault>) -> Result<Event, LineFault>
     }
 }
 
-/// The words of a line, if it is plain words with one space between each two, and no more than a
-/// command may have.
+// The words of a line, if it is plain words with one space between each two, and no more than a
+// command may have.
 #[tactic(auto, using(crate::proofs::Words::cut_some, crate::proofs::Words::cut_unplain, crate::proofs::Words::cut_empty, crate::proofs::Words::cut_none, crate::proofs::Words::unworded))]
 fn words_in(line: &[u8]) -> Option<ArrayVec<&[u8], MOST_WORDS>>
     ensures found { IfSome result
@@ -125,7 +125,7 @@ fn words_in(line: &[u8]) -> Option<ArrayVec<&[u8], MOST_WORDS>>
     Some(words)
 }
 
-/// Where the first byte stands that is in no word.
+// Where the first byte stands that is in no word.
 fn word_end(text: &[u8]) -> Option<usize>
     ensures { result ≡ position ends_word text.now }
 {
@@ -133,7 +133,7 @@ fn word_end(text: &[u8]) -> Option<usize>
         .position(|byte| !(*byte > b' ' && *byte <= b'~'))
 }
 
-/// What words ask for.
+// What words ask for.
 #[tactic(auto, using(crate::proofs::Commands::spelled_words, crate::proofs::Commands::memory_of_words))]
 fn line_of(alloc: Global, words: &[&[u8]]) -> Result<Line, LineFault>
     ensures found { IfOk result (SpellsWords (map (λ word. word.now) words.now)) }
@@ -149,8 +149,8 @@ fn line_of(alloc: Global, words: &[&[u8]]) -> Result<Line, LineFault>
     line_behind(alloc, command, behind)
 }
 
-/// What the words behind a command make of it. Each arm makes its line at once, so that no event is
-/// moved on its way.
+// What the words behind a command make of it. Each arm makes its line at once, so that no event is
+// moved on its way.
 fn line_behind(alloc: Global, command: Command, words: &[&[u8]]) -> Result<Line, LineFault>
     ensures { ReadsLine command (map (λ word. word.now) words.now) result }
 {

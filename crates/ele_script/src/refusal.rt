@@ -32,7 +32,7 @@ pub(crate) fn put_refusal<W: Write>(
     }
 }
 
-/// Puts the line of a refusal that tells one thing more.
+// Puts the line of a refusal that tells one thing more.
 fn put_detail<W: Write>(
     why: &Refusal,
     detail: &[u8],
@@ -49,7 +49,7 @@ fn put_detail<W: Write>(
     put_three(number, why.name().as_bytes(), detail, output, writer)
 }
 
-/// Puts the line of a refusal that tells no more.
+// Puts the line of a refusal that tells no more.
 fn put_undetailed<W: Write>(
     why: &Refusal,
     output: &mut Output,
@@ -63,7 +63,7 @@ fn put_undetailed<W: Write>(
     put_named(b"no", why.number(), why.name(), output, writer)
 }
 
-/// Puts the line of a refusal of these three words.
+// Puts the line of a refusal of these three words.
 fn put_three<'w, W: Write>(
     number: &'w [u8],
     name: &'w [u8],

@@ -63,7 +63,7 @@ pub(crate) fn put_directory<W: Write>(
     )
 }
 
-/// Puts the line of these words and a policy.
+// Puts the line of these words and a policy.
 fn put_with_policy<W: Write>(
     first: &[u8],
     words: &[&[u8]],
@@ -80,7 +80,7 @@ fn put_with_policy<W: Write>(
     put_policy(policy, output, writer)
 }
 
-/// Puts a policy as the last word of a line.
+// Puts a policy as the last word of a line.
 fn put_policy<W: Write>(
     policy: &Policy,
     output: &mut Output,
@@ -98,7 +98,7 @@ fn put_policy<W: Write>(
     }
 }
 
-/// Puts `safe:` and so many seconds as the last word of a line.
+// Puts `safe:` and so many seconds as the last word of a line.
 fn put_safe<W: Write>(seconds: u64, output: &mut Output, writer: &mut W) -> Result<(), WriteFault>
     ensures { Puts (outlet (W.contents writer.old) output.old)
         (outlet (W.contents writer.new) output.new)
@@ -109,7 +109,7 @@ fn put_safe<W: Write>(seconds: u64, output: &mut Output, writer: &mut W) -> Resu
     put_line(digits.format(seconds).as_bytes(), &[], output, writer)
 }
 
-/// Puts `landmarks:` and the pairs of a ladder as the last word of a line.
+// Puts `landmarks:` and the pairs of a ladder as the last word of a line.
 fn put_ladder<W: Write>(
     ladder: &Ladder,
     output: &mut Output,
@@ -124,7 +124,7 @@ fn put_ladder<W: Write>(
     output.put(b"\n", writer)
 }
 
-/// Puts pairs with a comma between each two.
+// Puts pairs with a comma between each two.
 fn put_pairs<W: Write>(
     pairs: &[(u64, u64)],
     output: &mut Output,
@@ -144,7 +144,7 @@ fn put_pairs<W: Write>(
     Ok(())
 }
 
-/// Puts what stands before a pair, and the pair.
+// Puts what stands before a pair, and the pair.
 fn put_pair<W: Write>(
     before: &[u8],
     pair: &(u64, u64),
@@ -173,7 +173,7 @@ pub(crate) fn put_number_word<W: Write>(
     output.put(digits.format(number).as_bytes(), writer)
 }
 
-/// An end in text.
+// An end in text.
 fn end_digits<'d>(ended: Option<Moment>, digits: &'d mut Buffer) -> &'d [u8]
     ensures { result.now ≡ end_word ended }
 {
@@ -183,6 +183,7 @@ fn end_digits<'d>(ended: Option<Moment>, digits: &'d mut Buffer) -> &'d [u8]
     }
 }
 
+/// Puts how many versions there are, and the line of each.
 pub(crate) fn put_versions<W: Write>(
     versions: &[Stamps],
     output: &mut Output,
@@ -217,6 +218,7 @@ impl Row for Stamps {
     }
 }
 
+/// Puts how many names there are, and the line of each.
 pub(crate) fn put_names<W: Write>(
     names: &[(Name, Target)],
     output: &mut Output,
@@ -242,7 +244,7 @@ impl Row for (Name, Target) {
     }
 }
 
-/// Puts the line of a name that stands for a target of this kind and number.
+// Puts the line of a name that stands for a target of this kind and number.
 fn put_named_target<W: Write>(
     name: &[u8],
     kind: &[u8],

@@ -88,7 +88,7 @@ pub(crate) fn source(alloc: Global, word: &[u8]) -> Result<Source, LineFault>
     Ok(Source::Of(Handle(number(word)?)))
 }
 
-/// Whether a slash stands in front.
+// Whether a slash stands in front.
 fn begins_path(word: &[u8]) -> bool
     ensures { result ≡ begins_path word.now }
 {
@@ -128,9 +128,6 @@ pub(crate) fn policy(word: &[u8]) -> Result<Policy, LineFault>
     if word == b"all".as_slice() {
         return Ok(Policy::All);
     }
-    if word == b"landmarks".as_slice() {
-        return Ok(Policy::Landmarks(Ladder::standard()));
-    }
     if let Some(seconds) = safe_number(word) {
         return Ok(Policy::Safe(Interval::new(seconds)?));
     }
@@ -140,7 +137,7 @@ pub(crate) fn policy(word: &[u8]) -> Result<Policy, LineFault>
     Ok(Policy::Landmarks(Ladder::new(pairs.as_slice())?))
 }
 
-/// The number behind `safe:`.
+// The number behind `safe:`.
 fn safe_number(word: &[u8]) -> Option<u64>
     ensures some { IfSome result (IsSafeWord word.now) }
     ensures none { IfNone result ((seconds : ℕ) → ¬ IsSafeWord word.now seconds) }

@@ -1,13 +1,13 @@
 //! Writing answers whole. A contract sees an answer as itself, and a writer as the bytes that it is
 //! known to hold.
-ghost use Rattle.std.specs.Prelude.{OnOk, OnErr};
+ghost use Rattle.std.specs.Prelude.{◌∷◌, [], OnOk, OnErr, decimal};
 ghost use Rattle.std.specs.Io.KnownBytes.{Appends};
 ghost use Rattle.ele_script.specs.Front.{AppendsFront};
-ghost use Rattle.ele_script.specs.Printed.{pass_text, bad_text, WritesAnswer, WritesAnswerFront};
+ghost use Rattle.ele_script.specs.Printed.{line_text, pass_text, bad_text, WritesAnswer, WritesAnswerFront};
 
 use crate::fault::{LineFault, WriteFault};
 use crate::output::Output;
-use crate::putting::{put_fault, put_pass, put_reply};
+use crate::putting::{put_fault, put_named, put_pass, put_reply};
 use ele_world::{PassEnd, Reply, Stop};
 use std::io::Write;
 
@@ -49,5 +49,24 @@ pub fn write_pass<W: Write>(end: &PassEnd, writer: &mut W) -> Result<(), WriteFa
 {
     let mut output = Output::new();
     put_pass(end, &mut output, writer)?;
+    output.hand_over(writer)
+}
+
+/// Writes a line of a first word, a number and a name. At a fault of the writer it took a front of
+/// that line.
+#[tactic(auto, using(crate::proofs::Known::err_over))]
+pub fn write_named<W: Write>(
+    first: &[u8],
+    number: u8,
+    name: &str,
+    writer: &mut W,
+) -> Result<(), WriteFault>
+    ensures ok { OnOk result (Appends (W.contents writer.old) (W.contents writer.new)
+        (line_text (first.now ∷ decimal number ∷ name.now ∷ []))) }
+    ensures err { OnErr result (AppendsFront (W.contents writer.old) (W.contents writer.new)
+        (line_text (first.now ∷ decimal number ∷ name.now ∷ []))) }
+{
+    let mut output = Output::new();
+    put_named(first, number, name, &mut output, writer)?;
     output.hand_over(writer)
 }

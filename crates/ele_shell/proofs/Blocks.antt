@@ -13,7 +13,7 @@ use Rattle.ele_script.specs.declared.fault.LineFault.TheVariants as fault
 use Rattle.ele_script.specs.declared.reading.Line.TheVariants as asks
 use Rattle.ele_shell.specs.Answer as answer
 use Rattle.ele_world.specs.declared.pass.PassEnd.{PassEnd}
-use Rattle.ele_shell.specs.Written.{Finishes}
+use Rattle.ele_shell.specs.Written.{WritesLast}
 use Rattle.ele_shell.proofs.Joins.{front_behind}
 
 may_answer : (before after : RunState) (line : List ℕ) (event : Event) (r : Result Reply Stop)
@@ -68,7 +68,7 @@ block_of_answer before after (byte ∷ bytes) old new r some puts = record { blo
 
 -- what is held fails to be handed over, with a last block behind it
 pub finishes_front : {E : Type 0} (n : ℕ) (buffer a b c : Option (List ℕ)) (held left : List ℕ) (r : Result ℕ E) → IsErr r
-    → Takes (outlet a held) (outlet b left) (cut_block buffer) → AppendsFront b c left → Finishes n buffer (outlet a held) c r
+    → Takes (outlet a held) (outlet b left) (cut_block buffer) → AppendsFront b c left → WritesLast n buffer (outlet a held) c r
 finishes_front n buffer a b c held left (Ok x) is p q = absurd cc
 finishes_front n buffer a b c held left (Err x) is p q =
     rw p.parts (front_behind a b c p.sent left p.written q)

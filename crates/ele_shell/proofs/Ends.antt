@@ -1,7 +1,7 @@
 -- How a run ends.
 use Rattle.ele_shell.proofs.Basics.{◌≡◌, ℕ, ◌+◌, ◌≤◌, List, [], ◌∷◌, ◌++◌, length, take, get_or, min, ◌-◌, Option, Some, None, Result, Ok, Err, refl, sym, ap, subst, ◌∙◌, arith, append_assoc, inl, inr, append-nil, length-take, nat_tests}
 use Rattle.ele_shell.proofs.Basics.{flat_map-append, cases_order, leb_tells, IfOk, AllByRecursion, Consumes, Keeps, Appends, IsAtEnd, Consumes-trans, Consumes-kept, Appends-trans}
-use Rattle.ele_shell.proofs.Words.{AppendsFront, outlet, cut_block, cut_count, most_lines, line_unless_long, longest_line, IsUnbroken, line_text, lines_text, line_count, AreBlocks, AnswersSome, RunState}
+use Rattle.ele_shell.proofs.Words.{AppendsFront, outlet, cut_block, cut_count, most_lines, line_unless_long, longest_line, IsUnbroken, whole_line, whole_lines, line_count, AreBlocks, AnswersSome, RunState}
 use Rattle.ele_shell.specs.declared.fault.ShellFault.{ShellFault}
 use Rattle.ele_shell.specs.declared.fault.ShellFault.TheVariants.{ReadFault, WriteFault, TooManyLines, NoMemory}
 use Rattle.ele_shell.specs.Running.{Runs, RanToTheEnd, RanPastABound, RanToAWriteFault}
@@ -21,7 +21,7 @@ known_more None rest given taken = ([], tt)
 
 -- the writer failed in the blocks of these lines, whatever comes behind them
 fails_in : (start state : RunState) (given part text : List ℕ) (lines : List (List ℕ)) (input rest old new : Option (List ℕ))
-    → given ≡ lines_text lines ++ part → AllByRecursion IsUnbroken lines → AreBlocks start lines text state → Consumes input rest given
+    → given ≡ whole_lines lines ++ part → AllByRecursion IsUnbroken lines → AreBlocks start lines text state → Consumes input rest given
     → AppendsFront old new text → RanToAWriteFault start input old new
 fails_in start state given part text lines input rest old new e whole blocks taken front =
     let more = known_more input rest given taken in
@@ -30,7 +30,7 @@ fails_in start state given part text lines input rest old new e whole blocks tak
       rest = part ++ more.0;
       text = text;
       state = state;
-      input_is = subst (λ (xs : List ℕ). Keeps input (Some xs)) (ap (λ (w : List ℕ). w ++ more.0) e ∙ append_assoc (lines_text lines) part more.0) more.1;
+      input_is = subst (λ (xs : List ℕ). Keeps input (Some xs)) (ap (λ (w : List ℕ). w ++ more.0) e ∙ append_assoc (whole_lines lines) part more.0) more.1;
       whole = whole;
       blocks = blocks;
       written = inl front;
@@ -154,8 +154,8 @@ module _ {start state : RunState} {n : ℕ} {room : ℕ} {buffer input mid old s
       → AnswersSome state after ran.part piece (outlet so_far held) (outlet new left) → RanToAWriteFault start input old new
   ends_in_piece after rest new piece left took did =
       fails_in start after (ran.given ++ piece) did.rest (ran.text ++ did.text) (ran.lines ++ did.lines) input rest old new
-      (ap (λ (w : List ℕ). w ++ piece) ran.are.parts ∙ append_assoc (lines_text ran.lines) ran.part piece ∙ ap (λ (w : List ℕ). lines_text ran.lines ++ w) did.parts
-      ∙ sym (append_assoc (lines_text ran.lines) (lines_text did.lines) did.rest) ∙ ap (λ (w : List ℕ). w ++ did.rest) (sym (flat_map-append line_text ran.lines did.lines)))
+      (ap (λ (w : List ℕ). w ++ piece) ran.are.parts ∙ append_assoc (whole_lines ran.lines) ran.part piece ∙ ap (λ (w : List ℕ). whole_lines ran.lines ++ w) did.parts
+      ∙ sym (append_assoc (whole_lines ran.lines) (whole_lines did.lines) did.rest) ∙ ap (λ (w : List ℕ). w ++ did.rest) (sym (flat_map-append whole_line ran.lines did.lines)))
       (all_both IsUnbroken ran.lines did.lines ran.are.whole did.whole)
       (blocks_append start state after ran.lines did.lines ran.text did.text ran.blocks did.blocks)
       (Consumes-trans input mid rest ran.given piece ran.taken took)

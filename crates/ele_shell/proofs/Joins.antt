@@ -1,6 +1,6 @@
 -- Lines and their blocks, and then more of them.
 use Rattle.ele_shell.proofs.Basics.{Option, Appends, Appends-nil, Appends-trans, append-nil, ◌≡◌, ℕ, List, [], ◌∷◌, ◌++◌, sym, ap, ◌∙◌, append_assoc, flat_map-append, AllByRecursion}
-use Rattle.ele_shell.proofs.Words.{Outlet, outlet, Takes, TakesFront, AppendsFront, IsUnbroken, AreLines, line_text, lines_text, AreBlocks, RunState}
+use Rattle.ele_shell.proofs.Words.{Outlet, outlet, Takes, TakesFront, AppendsFront, IsUnbroken, AreLines, whole_line, whole_lines, AreBlocks, RunState}
 
 -- what was put at first, and then more
 pub takes_nil : (a : Outlet) → Takes a a []
@@ -31,11 +31,11 @@ all_both P (x ∷ a) b h g = (h.0, all_both P a b h.1 g)
 
 -- these lines stand before those of the rest
 pub lines_before : (input rest : List ℕ) (before after : List (List ℕ)) (last : List ℕ)
-    → input ≡ lines_text before ++ rest → AllByRecursion IsUnbroken before → AreLines rest after last → AreLines input (before ++ after) last
+    → input ≡ whole_lines before ++ rest → AllByRecursion IsUnbroken before → AreLines rest after last → AreLines input (before ++ after) last
 lines_before input rest before after last e whole h =
     record {
-      parts = e ∙ ap (λ (xs : List ℕ). lines_text before ++ xs) h.parts ∙ sym (append_assoc (lines_text before) (lines_text after) last)
-          ∙ ap (λ (xs : List ℕ). xs ++ last) (sym (flat_map-append line_text before after));
+      parts = e ∙ ap (λ (xs : List ℕ). whole_lines before ++ xs) h.parts ∙ sym (append_assoc (whole_lines before) (whole_lines after) last)
+          ∙ ap (λ (xs : List ℕ). xs ++ last) (sym (flat_map-append whole_line before after));
       whole = all_both IsUnbroken before after whole h.whole;
       cut = h.cut;
     }

@@ -1,7 +1,7 @@
 -- A piece that was answered so far.
 use Rattle.ele_shell.proofs.Basics.{◌≢◌, ◌≡◌, ℕ, ◌+◌, ◌<◌, ◌≤◌, ◌⊎◌, List, [], ◌∷◌, ◌++◌, length, take, drop, get_or, Option, Some, None, Result, Ok, Err, refl, sym, ap, subst, ◌∙◌, arith, append_assoc, length-append, inl, inr, true, ◌==◌, zero}
 use Rattle.ele_shell.proofs.Basics.{nat_tests, suc, IsErr, take-append-drop, drop_more, length-drop, lt-leb, eq-eqb, eqb-true, leb_tells, AllByRecursion}
-use Rattle.ele_shell.proofs.Words.{Outlet, Takes, TakesFront, IsBlock, line_unless_long, longest_line, IsUnbroken, line_text, lines_text, AreBlocks, Answers, AnswersAll, AnswersSome, RunState, PutsBlock}
+use Rattle.ele_shell.proofs.Words.{Outlet, Takes, TakesFront, IsBlock, line_unless_long, longest_line, IsUnbroken, whole_line, whole_lines, AreBlocks, Answers, AnswersAll, AnswersSome, RunState, PutsBlock}
 use Rattle.std.specs.Option.{option_and_then}
 use Rattle.memchr.specs.Find.{IsFirstByte, is_byte}
 use Rattle.ele_script.specs.declared.fault.WriteFault.{WriteFault}
@@ -13,7 +13,7 @@ pub record HasAnswered (before state : RunState) (part piece left : List ℕ) (b
   pub lines : List (List ℕ)
   pub begun : List ℕ
   pub text : List ℕ
-  pub parts : part ++ piece ≡ lines_text lines ++ (begun ++ left)
+  pub parts : part ++ piece ≡ whole_lines lines ++ (begun ++ left)
   pub whole : AllByRecursion IsUnbroken lines
   pub unbroken : IsUnbroken begun
   pub counted : n + length lines ≡ count
@@ -65,17 +65,17 @@ cut_at left at h =
     sym (take-append-drop at left)
     ∙ ap (λ (w : List ℕ). take at left ++ w) (drop_more left at 0 h.0.high ∙ ap (λ (b : ℕ). b ∷ drop (at + 1) left) (eqb-true (get_or left at 0) 10 h.1))
 
-line_parts : (begun line behind : List ℕ) → begun ++ (line ++ 10 ∷ behind) ≡ line_text (begun ++ line) ++ behind
+line_parts : (begun line behind : List ℕ) → begun ++ (line ++ 10 ∷ behind) ≡ whole_line (begun ++ line) ++ behind
 line_parts begun line behind = sym (append_assoc begun line (10 ∷ behind)) ∙ sym (append_assoc (begun ++ line) (10 ∷ []) behind)
 
 module _ {before between : RunState} {part piece left : List ℕ} {buffer : Option (List ℕ)} {n count : ℕ} {old mid : Outlet} (done : HasAnswered before between part piece left buffer n count old mid) where
   -- where the next line feed stands
-  parts_at : (at : ℕ) → IsFirstByte (is_byte 10) left (Some at) → part ++ piece ≡ lines_text (done.lines ++ (done.begun ++ take at left) ∷ []) ++ drop (at + 1) left
+  parts_at : (at : ℕ) → IsFirstByte (is_byte 10) left (Some at) → part ++ piece ≡ whole_lines (done.lines ++ (done.begun ++ take at left) ∷ []) ++ drop (at + 1) left
   parts_at at h =
       let line = done.begun ++ take at left in
-      done.parts ∙ ap (λ (w : List ℕ). lines_text done.lines ++ (done.begun ++ w)) (cut_at left at h)
-      ∙ ap (λ (w : List ℕ). lines_text done.lines ++ w) (line_parts done.begun (take at left) (drop (at + 1) left))
-      ∙ sym (append_assoc (lines_text done.lines) (line_text line) (drop (at + 1) left))
+      done.parts ∙ ap (λ (w : List ℕ). whole_lines done.lines ++ (done.begun ++ w)) (cut_at left at h)
+      ∙ ap (λ (w : List ℕ). whole_lines done.lines ++ w) (line_parts done.begun (take at left) (drop (at + 1) left))
+      ∙ sym (append_assoc (whole_lines done.lines) (whole_line line) (drop (at + 1) left))
       ∙ ap (λ (w : List ℕ). w ++ drop (at + 1) left) (sym (joined_push done.lines line))
 
   whole_at : (at : ℕ) → IsFirstByte (is_byte 10) left (Some at) → AllByRecursion IsUnbroken (done.lines ++ (done.begun ++ take at left) ∷ [])
@@ -101,7 +101,7 @@ module _ {before between : RunState} {part piece left : List ℕ} {buffer : Opti
         lines = done.lines ++ (done.begun ++ take at left) ∷ [];
         begun = [];
         text = done.text ++ wrote.block;
-        parts = parts_at at h ∙ ap (λ (w : List ℕ). lines_text (done.lines ++ (done.begun ++ take at left) ∷ []) ++ w) (sym f);
+        parts = parts_at at h ∙ ap (λ (w : List ℕ). whole_lines (done.lines ++ (done.begun ++ take at left) ∷ []) ++ w) (sym f);
         whole = whole_at at h;
         unbroken = tt;
         counted = omega (arith, done.counted, length-append done.lines ((done.begun ++ take at left) ∷ []));

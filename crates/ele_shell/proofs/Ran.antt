@@ -1,7 +1,7 @@
 -- A run so far, and how it goes on.
 use Rattle.ele_shell.proofs.Basics.{◌≡◌, ℕ, ◌+◌, ◌≤◌, ◌⊎◌, List, [], ◌∷◌, ◌++◌, length, Option, Some, refl, sym, ap, subst, ◌∙◌, arith, append_assoc, length-append, inl, inr, append-nil, flat_map-append, flat_map-cons, AllByRecursion}
 use Rattle.ele_shell.proofs.Basics.{Consumes, Appends, Consumes-nil, Consumes-trans, Appends-nil}
-use Rattle.ele_shell.proofs.Words.{outlet, Takes, IsBlock, most_lines, most_bytes, line_unless_long, AreLines, line_text, lines_text, line_count, AreBlocks, AnswersAll, RunState}
+use Rattle.ele_shell.proofs.Words.{outlet, Takes, IsBlock, most_lines, most_bytes, line_unless_long, AreLines, whole_line, whole_lines, line_count, AreBlocks, AnswersAll, RunState}
 use Rattle.ele_shell.proofs.Joins.{lines_before, blocks_append, takes_nil, takes_then, takes_over}
 
 -- n whole lines were read and a part of one more, and their blocks put, up to this state; there is room for so many bytes more
@@ -55,8 +55,8 @@ blocks_push start between after (first ∷ lines) line text block (own, rest, mi
   ap (λ (t : List ℕ). t ++ block) parts ∙ append_assoc own rest block,
 )
 
-pub joined_push : (lines : List (List ℕ)) (line : List ℕ) → lines_text (lines ++ line ∷ []) ≡ lines_text lines ++ line_text line
-joined_push lines line = flat_map-append line_text lines (line ∷ []) ∙ ap (λ (xs : List ℕ). lines_text lines ++ xs) (flat_map-cons line_text line [] ∙ append-nil (line_text line))
+pub joined_push : (lines : List (List ℕ)) (line : List ℕ) → whole_lines (lines ++ line ∷ []) ≡ whole_lines lines ++ whole_line line
+joined_push lines line = flat_map-append whole_line lines (line ∷ []) ∙ ap (λ (xs : List ℕ). whole_lines lines ++ xs) (flat_map-cons whole_line line [] ∙ append-nil (whole_line line))
 
 -- what is held is handed over
 pub has_run_over : {start state : RunState} {n room : ℕ} {buffer input rest old known new : Option (List ℕ)} {held left : List ℕ}
@@ -112,7 +112,7 @@ has_run_on {start} {between} {after} {n} {ended} {room} {left} {buffer} {buffer'
       part = did.last;
       text = ran.text ++ did.text;
       are = lines_before (ran.given ++ piece) (ran.part ++ piece) ran.lines did.lines did.last
-          (ap (λ (w : List ℕ). w ++ piece) ran.are.parts ∙ append_assoc (lines_text ran.lines) ran.part piece) ran.are.whole did.are;
+          (ap (λ (w : List ℕ). w ++ piece) ran.are.parts ∙ append_assoc (whole_lines ran.lines) ran.part piece) ran.are.whole did.are;
       count = omega (arith, ran.count, did.counted, length-append ran.lines did.lines);
       few = few;
       within = omega (arith, few_whole (ran.lines ++ did.lines) did.last few, ran.count, did.counted, length-append ran.lines did.lines);

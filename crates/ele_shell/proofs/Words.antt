@@ -1,10 +1,11 @@
 -- The words of this crate and of those below that proofs here use, in one place.
 pub use Rattle.ele_script.specs.Front.{AppendsFront}
 pub use Rattle.ele_script.specs.Outlet.{Outlet, Puts, Takes, TakesFront, outlet}
+pub use Rattle.ele_script.specs.Words.{longest_line}
 pub use Rattle.ele_shell.specs.Block.{IsBlock, MayAnswer, MayReply, as_read, as_run, cut_block, cut_count}
 pub use Rattle.ele_shell.specs.Bounds.{most_bytes, most_lines}
-pub use Rattle.ele_shell.specs.LineLength.{line_unless_long, longest_line}
-pub use Rattle.ele_shell.specs.Lines.{AreLines, IsUnbroken, line_count, line_text, lines_text}
+pub use Rattle.ele_shell.specs.LineLength.{line_unless_long}
+pub use Rattle.ele_shell.specs.Lines.{AreLines, IsUnbroken, line_count, whole_line, whole_lines}
 pub use Rattle.ele_shell.specs.Output.{AreBlocks}
 pub use Rattle.ele_shell.specs.Pass.{Fills, MayPass, Removes}
 pub use Rattle.ele_shell.specs.Piece.{Answers, AnswersAll, AnswersSome}

@@ -7,16 +7,16 @@ abbrev pub IsUnbroken : List ℕ → Type 0
 IsUnbroken line = AllByRecursion (λ b. b ≢ 10) line
 
 -- a line, and its line feed
-abbrev pub line_text : List ℕ → List ℕ
-line_text line = line ++ 10 ∷ []
+abbrev pub whole_line : List ℕ → List ℕ
+whole_line line = line ++ 10 ∷ []
 
 -- whole lines, each with its line feed
-abbrev pub lines_text : List (List ℕ) → List ℕ
-lines_text lines = flat_map line_text lines
+abbrev pub whole_lines : List (List ℕ) → List ℕ
+whole_lines lines = flat_map whole_line lines
 
 -- the input is these whole lines, and then a last one without its line feed, which may be empty
 pub record AreLines (input : List ℕ) (lines : List (List ℕ)) (last : List ℕ) : Type 0 where
-  pub parts : input ≡ lines_text lines ++ last
+  pub parts : input ≡ whole_lines lines ++ last
   pub whole : AllByRecursion IsUnbroken lines
   pub cut : IsUnbroken last
 

@@ -4,7 +4,7 @@ use Rattle.std.specs.List.{AllByRecursion}
 use Rattle.ele_script.specs.declared.fault.WriteFault.{WriteFault}
 use Rattle.ele_script.specs.Outlet.{Outlet, Takes, TakesFront}
 use Rattle.ele_shell.specs.LineLength.{line_unless_long}
-use Rattle.ele_shell.specs.Lines.{IsUnbroken, AreLines, lines_text}
+use Rattle.ele_shell.specs.Lines.{IsUnbroken, AreLines, whole_lines}
 use Rattle.ele_shell.specs.Output.{AreBlocks}
 use Rattle.ele_shell.specs.RunState.{RunState}
 
@@ -25,7 +25,7 @@ pub record AnswersSome (before after : RunState) (part piece : List ℕ) (old ne
   pub lines : List (List ℕ)
   pub rest : List ℕ
   pub text : List ℕ
-  pub parts : part ++ piece ≡ lines_text lines ++ rest
+  pub parts : part ++ piece ≡ whole_lines lines ++ rest
   pub whole : AllByRecursion IsUnbroken lines
   pub blocks : AreBlocks before lines text after
   pub put : TakesFront old new text

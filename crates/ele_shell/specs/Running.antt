@@ -8,7 +8,7 @@ use Rattle.ele_shell.specs.declared.fault.ShellFault.TheVariants.{ReadFault, Wri
 use Rattle.ele_shell.specs.Block.{cut_block}
 use Rattle.ele_shell.specs.Bounds.{most_lines, most_bytes}
 use Rattle.ele_shell.specs.LineLength.{line_unless_long}
-use Rattle.ele_shell.specs.Lines.{IsUnbroken, AreLines, lines_text, line_count}
+use Rattle.ele_shell.specs.Lines.{IsUnbroken, AreLines, whole_lines, line_count}
 use Rattle.ele_shell.specs.Output.{AreBlocks, IsOutput}
 use Rattle.ele_shell.specs.RunState.{RunState}
 
@@ -68,7 +68,7 @@ pub record RanToAWriteFault (start : RunState) (input old new : Option (List ℕ
   pub rest : List ℕ
   pub text : List ℕ
   pub state : RunState
-  pub input_is : Keeps input (Some (lines_text lines ++ rest))
+  pub input_is : Keeps input (Some (whole_lines lines ++ rest))
   pub whole : AllByRecursion IsUnbroken lines
   pub blocks : AreBlocks start lines text state
   pub written : AppendsFront old new text ⊎ (IsUnbroken rest × AppendsFront old new (text ++ cut_block (line_unless_long rest)))

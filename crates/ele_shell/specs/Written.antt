@@ -35,6 +35,6 @@ pub record PutsBlock {A E : Type 0} (before : RunState) (line : Option (List ℕ
 
 -- all that was to be written and the block of a last line were written, or at an error a front of these; the line counts
 -- unless it is empty
-abbrev pub Finishes : {E : Type 0} → ℕ → Option (List ℕ) → Outlet → Option (List ℕ) → Result ℕ E → Type 0
-Finishes n buffer old new (Ok count) = (count ≡ n + cut_count buffer) × Appends old.known new (old.held ++ cut_block buffer)
-Finishes n buffer old new (Err fault) = AppendsFront old.known new (old.held ++ cut_block buffer)
+abbrev pub WritesLast : {E : Type 0} → ℕ → Option (List ℕ) → Outlet → Option (List ℕ) → Result ℕ E → Type 0
+WritesLast n buffer old new (Ok count) = (count ≡ n + cut_count buffer) × Appends old.known new (old.held ++ cut_block buffer)
+WritesLast n buffer old new (Err fault) = AppendsFront old.known new (old.held ++ cut_block buffer)

@@ -52,8 +52,8 @@ impl Keeper {
         })
     }
 
-    /// Answers a line that is neither empty nor too long, and puts the answer behind the others. At a fault the writer took
-    /// a front of all.
+    /// Answers a line that is neither empty nor too long, and puts the answer behind the others. At
+    /// a fault the writer took a front of all.
     pub(crate) fn put_answer<W: Write>(
         &mut self,
         line: &[u8],
@@ -74,8 +74,8 @@ impl Keeper {
         }
     }
 
-    /// Puts the reply to an event, or the stop in its place, which leaves the world and the count. The reply isn't moved,
-    /// since it has room for the largest.
+    // Puts the reply to an event, or the stop in its place, which leaves the world and the count.
+    // The reply isn't moved, since it has room for the largest.
     fn put_reply<W: Write>(
         &mut self,
         event: &Event,
@@ -98,7 +98,7 @@ impl Keeper {
         }
     }
 
-    /// Whether as many replies were given as may be.
+    // Whether as many replies were given as may be.
     fn is_full(&self) -> bool
         ensures full { IsTrue result ↔ (self.now.replies ≡ self.now.most) }
         ensures room { IsFalse result → self.now.replies < self.now.most }
@@ -106,8 +106,8 @@ impl Keeper {
         self.replies == self.most
     }
 
-    /// Cleans until nothing is due, or so many versions are removed. A stop ends it, and what was
-    /// removed stays removed.
+    // Cleans until nothing is due, or so many versions are removed. A stop ends it, and what was
+    // removed stays removed.
     fn pass(&mut self, budget: u64) -> PassEnd
         ensures { MayPass self.old budget result self.new }
     {
@@ -121,7 +121,8 @@ impl Keeper {
         PassEnd::Budget(budget)
     }
 
-    /// Answers a clean event with whether it removed a version. A stop leaves the world and the count.
+    // Answers a clean event with whether it removed a version. A stop leaves the world and the
+    // count.
     fn clean(&mut self) -> Result<bool, Stop>
         ensures { MayClean self.old result self.new }
     {
@@ -138,7 +139,7 @@ impl Keeper {
     }
 }
 
-/// Whether the reply tells of a version that was removed.
+// Whether the reply tells of a version that was removed.
 fn is_removed(reply: &Reply) -> bool
     ensures { result ≡ is_removed reply.now }
 {

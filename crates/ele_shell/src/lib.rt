@@ -1,5 +1,6 @@
 //! Running of scripts: bytes in, text out.
-//! A contract sees the bytes that the reader gives and those that the writer takes, where these are known.
+//! A contract sees the bytes that the reader gives and those that the writer takes, where these are
+//! known.
 #![tactic(auto)]
 
 mod fault;

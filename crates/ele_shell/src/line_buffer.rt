@@ -5,10 +5,8 @@ ghost use Rattle.std.specs.Option.{option_map, option_and_then};
 ghost use Rattle.ele_shell.specs.LineLength.{line_unless_long};
 
 use arrayvec::ArrayVec;
+use ele_script::LONGEST_LINE;
 use std::marker::Model;
-
-/// A line has at most so many bytes before its line feed.
-const LONGEST_LINE: usize = 8192;
 
 /// A line without its line feed. Of one that is too long only that is kept.
 #[derive(Drop)]
@@ -46,7 +44,8 @@ impl LineBuffer {
 
     /// Puts bytes at the end.
     pub(crate) fn extend(&mut self, bytes: &[u8])
-        ensures { self.new ≡ option_and_then (λ line. line_unless_long (line ++ bytes.now)) self.old }
+        ensures { self.new
+            ≡ option_and_then (λ line. line_unless_long (line ++ bytes.now)) self.old }
     {
         if self.bytes.try_extend_from_slice(bytes).is_err() {
             self.is_too_long = true;

@@ -7,7 +7,7 @@ ghost use Rattle.ele_script.specs.Outlet.{outlet, Puts};
 ghost use Rattle.ele_shell.specs.Block.{cut_block, cut_count};
 ghost use Rattle.ele_shell.specs.LineLength.{line_unless_long};
 ghost use Rattle.ele_shell.specs.Piece.{AnswersPiece};
-ghost use Rattle.ele_shell.specs.Written.{PutsBlock, Finishes};
+ghost use Rattle.ele_shell.specs.Written.{PutsBlock, WritesLast};
 
 use crate::keeper::Keeper;
 use crate::line_buffer::{LineBuffer, kept_line};
@@ -15,7 +15,7 @@ use ele_script::{LineFault, Output, WriteFault, put_fault};
 use memchr::memchr;
 use std::io::Write;
 
-/// Answers a whole line, and puts its block.
+// Answers a whole line, and puts its block.
 fn put_block<W: Write>(
     line: Option<&[u8]>,
     keeper: &mut Keeper,
@@ -33,7 +33,7 @@ fn put_block<W: Write>(
     }
 }
 
-/// Answers the line that ends with these bytes, and begins a new one.
+// Answers the line that ends with these bytes, and begins a new one.
 fn put_whole<W: Write>(
     end: &[u8],
     buffer: &mut LineBuffer,
@@ -56,14 +56,15 @@ fn put_whole<W: Write>(
     Ok(())
 }
 
-/// Where the first line feed stands.
+// Where the first line feed stands.
 fn line_end(bytes: &[u8]) -> Option<usize>
     ensures { IsFirstByte (is_byte 10) bytes.now result }
 {
     memchr(b'\n', bytes)
 }
 
-/// Answers the lines that end in the piece, keeps what is behind them, and tells how many lines have ended by then.
+/// Answers the lines that end in the piece, keeps what is behind them, and tells how many lines
+/// have ended by then.
 pub(crate) fn answer_piece<W: Write>(
     piece: &[u8],
     lines: u64,
@@ -88,7 +89,8 @@ pub(crate) fn answer_piece<W: Write>(
     Ok(ended)
 }
 
-/// Puts the block of a last line without its line feed, which is never run, and tells by how much that line counts.
+// Puts the block of a last line without its line feed, which is never run, and tells by how much
+// that line counts.
 fn put_cut<W: Write>(
     line: Option<&[u8]>,
     output: &mut Output,
@@ -108,8 +110,8 @@ fn put_cut<W: Write>(
     Ok(1)
 }
 
-/// Writes all that is held and the block of a last line without its line feed, and tells how many lines there were: a last
-/// one counts unless it is empty.
+/// Writes all that is held and the block of a last line without its line feed, and tells how many
+/// lines there were: a last one counts unless it is empty.
 pub(crate) fn finish<W: Write>(
     lines: u64,
     buffer: &LineBuffer,
@@ -117,7 +119,7 @@ pub(crate) fn finish<W: Write>(
     writer: &mut W,
 ) -> Result<u64, WriteFault>
     requires { lines + 1 < 2 ^ 64 }
-    ensures { Finishes lines buffer.now (outlet (W.contents writer.old) output.old)
+    ensures { WritesLast lines buffer.now (outlet (W.contents writer.old) output.old)
         (W.contents writer.new) result }
 {
     let cut = put_cut(buffer.line(), output, writer)?;

@@ -6,8 +6,8 @@ ghost use Rattle.ele_shell.specs.Taken.{TakesPiece};
 use crate::fault::ShellFault;
 use std::io::{ErrorKind, Read};
 
-/// Reads what the reader has, at most so many bytes, into the front of the piece, and tells how many these are: none only
-/// at the end of the input. What is only interrupted is tried again.
+/// Reads what the reader has, at most so many bytes, into the front of the piece, and tells how
+/// many these are: none only at the end of the input. What is only interrupted is tried again.
 pub(crate) fn read_piece<R: Read>(
     reader: &mut R,
     piece: &mut [u8],

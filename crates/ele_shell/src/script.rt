@@ -23,7 +23,7 @@ const MOST_BYTES: u64 = 8_589_934_592;
 /// So many bytes are read at a time, at most.
 const PIECE: usize = 65_536;
 
-/// How many bytes may still come, or lines if these are fewer, as each line has a byte at least.
+// How many bytes may still come, or lines if these are fewer, as each line has a byte at least.
 fn left_of(room: u64, lines: u64) -> u64
     requires { lines ≤ MOST_LINES }
     ensures { result ≡ min room (MOST_LINES - lines) }
@@ -32,7 +32,8 @@ fn left_of(room: u64, lines: u64) -> u64
     if room < left { room } else { left }
 }
 
-/// How many bytes are asked for where so many may come: one, to see whether there is more, where none may.
+// How many bytes are asked for where so many may come: one, to see whether there is more, where
+// none may.
 fn most_of(left: u64) -> usize
     ensures some { 1 ≤ result }
     ensures piece { result ≤ PIECE }
@@ -48,8 +49,9 @@ fn most_of(left: u64) -> usize
     PIECE
 }
 
-/// Reads pieces and answers their lines until the input ends, a bound is passed, or the reader or the writer fails. No piece
-/// is longer than what may still come, so that nothing is read behind the byte that passes a bound.
+// Reads pieces and answers their lines until the input ends, a bound is passed, or the reader or
+// the writer fails. No piece is longer than what may still come, so that nothing is read behind the
+// byte that passes a bound.
 fn run_pieces<R: Read, W: Write>(
     keeper: &mut Keeper,
     reader: &mut R,
@@ -86,21 +88,21 @@ fn run_pieces<R: Read, W: Write>(
     }
 }
 
-/// Runs the script that the reader gives: answers each whole line at the writer, and answers how many lines there were, a
-/// last one without its line feed counted. An empty line gets no reply, a line of more than 8,192 bytes only that it is too
-/// long, and a last line without its line feed is never run. The core stands in `alloc`, and the pieces
-/// that are read. The writer is not flushed.
+/// Runs the script that the reader gives: answers each whole line at the writer, and answers how
+/// many lines there were, a last one without its line feed counted. An empty line gets no reply, a
+/// line of more than 8,192 bytes only that it is too long, and a last line without its line feed is
+/// never run. The core stands in `alloc`, and the pieces that are read. The writer is not flushed.
 ///
 /// Before it reads on it has handed the answers to all whole lines that it was given to the writer.
 ///
 /// At an error the reader and the writer have got as far as they have:
-/// - NoMemory: there was no memory to begin with, and nothing is read or written. Later want of memory is told in the
-///   line's reply, and the run goes on.
-/// - ReadFault: the reader failed; the replies to the whole lines before are written. What is only interrupted is read
-///   again.
+/// - NoMemory: there was no memory to begin with, and nothing is read or written. Later want of
+///   memory is told in the line's reply, and the run goes on.
+/// - ReadFault: the reader failed; the replies to the whole lines before are written. What is only
+///   interrupted is read again.
 /// - WriteFault: the writer failed, or took no byte of some.
-/// - TooManyLines: a byte stands behind the 1,000,000th line feed, or behind 8,589,934,592 bytes; the replies to the whole
-///   lines before are written.
+/// - TooManyLines: a byte stands behind the 1,000,000th line feed, or behind 8,589,934,592 bytes;
+///   the replies to the whole lines before are written.
 pub fn run<R: Read, W: Write>(
     alloc: Global,
     reader: &mut R,

@@ -5,11 +5,11 @@ use Rattle.ele_script.proofs.Words.{unfit_line}
 use Rattle.ele_script.proofs.reading.read_line.Goals as goal
 
 pub returns-in_default-clause-only : goal.returns-in_default-clause-only
-returns-in_default-clause-only c = λ asked h. absurd (spelled_faultless c.one_meaning.ensures _ asked Syntax h (unfit_line c.args.line.now c.if-line-gt-MOST_BYTES.false (c.in_default.ensures.none refl)))
+returns-in_default-clause-only c = λ asked h. absurd (spelled_faultless c.one_meaning.ensures _ asked Syntax h (unfit_line c.args.line.now c.if-line-gt-LONGEST_LINE.false (c.in_default.ensures.none refl)))
 
 pub returns-clause-fault : goal.returns-clause-fault
 returns-clause-fault c =
-    fault_of_line c.args.line.now (map (λ word. word.now) c.as_slice.result.now) c.line_of.result c.if-line-gt-MOST_BYTES.false (c.in-Some.ensures.worded refl) (ap (λ words. map (λ word. word.now) words) c.as_slice.ensures.value ∙ c.in-Some.ensures.found) c.line_of.ensures.fault
+    fault_of_line c.args.line.now (map (λ word. word.now) c.as_slice.result.now) c.line_of.result c.if-line-gt-LONGEST_LINE.false (c.in-Some.ensures.worded refl) (ap (λ words. map (λ word. word.now) words) c.as_slice.ensures.value ∙ c.in-Some.ensures.found) c.line_of.ensures.fault
 
 pub returns-clause-only : goal.returns-clause-only
 returns-clause-only c = only_read c.one_meaning.ensures c.args.line.now c.line_of.result (search rules) (returns-clause-fault c)

@@ -11,10 +11,10 @@ returns-in_err-new-clause-fault c =
 pub returns-in_default-ladder_pairs-clause-fault :
     goal.returns-in_default-ladder_pairs-clause-fault
 returns-in_default-ladder_pairs-clause-fault c =
-    formless_word c.args.word.now (sym (rw c.as_slice.ensures at c.eq.ensures) ∙ c.if-eq.false) (sym (rw c.as_slice-2.ensures at c.eq-2.ensures) ∙ c.if-eq-2.false) (sym (rw c.as_slice-3.ensures at c.eq-3.ensures) ∙ c.if-eq-3.false)
+    formless_word c.args.word.now (sym (rw c.as_slice.ensures at c.eq.ensures) ∙ c.if-eq.false) (sym (rw c.as_slice-2.ensures at c.eq-2.ensures) ∙ c.if-eq-2.false)
     c.in_default.ensures.none c.in_default-ladder_pairs.ensures.none
 
 pub returns-in_err-new-2-clause-fault : goal.returns-in_err-new-2-clause-fault
 returns-in_err-new-2-clause-fault c =
     let p = err_from_is_err_and c.from_residual-in_err-new-2.result c.from_residual-in_err-new-2.ensures.1 in
-    rw (p.1, p.2) (refused_ladder c.args.word.now _ c.in-Some-ladder_pairs.ensures.some (λ is. false≢true (c.in_err-new-2.ensures.valid.1 (rw c.as_slice-4.ensures.value is))))
+    rw (p.1, p.2) (refused_ladder c.args.word.now _ c.in-Some-ladder_pairs.ensures.some (λ is. false≢true (c.in_err-new-2.ensures.valid.1 (rw c.as_slice-3.ensures.value is))))
