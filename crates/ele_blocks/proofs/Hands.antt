@@ -16,10 +16,6 @@ hands_then a b c was now was2 now2 h k = grind (arith, nat_tests)
 pub hands_with : (s t : Store) (was now was2 now2 z : ℕ → ℕ) → Hands s t was now → ((q : ℕ) → was2 q ≡ was q + z q) → ((q : ℕ) → now2 q ≡ now q + z q) → Hands s t was2 now2
 hands_with s t was now was2 now2 z h e f = grind (arith, e, f)
 
--- nothing changes
-pub hands_none : (s : Store) → Hands s s (λ q. 0) (λ q. 0)
-hands_none s = record { leaves = λ q. refl; blocks = λ id. refl; same = λ q lt. refl; shows = λ q lt there. record { cells = refl; there = there } }
-
 module _ (s t : Store) (leaf : ℕ) (there : 0 < owners s.leaves leaf) where
   -- where its slots and all blocks stay
   alone : (was now : List ℕ) (place : Option (Counted (List Slot))) → t.blocks ≡ s.blocks → Sets s.leaves t.leaves leaf place → value_of place ≡ value_of (place_at s.leaves leaf) → Trades s.leaves t.leaves was now → Hands s t (λ q. times q was) (λ q. times q now)

@@ -11,7 +11,7 @@ abbrev pub AreThere : Store → List Slot → Type 0
 AreThere s slots = (id : ℕ) → 0 < times id (ids_of slots) → 0 < owners_at s id
 
 -- the slots show what they showed, and their blocks stand
-pub record ShowsSame (s t : Store) (slots : List Slot) : Type 0 where
+pub record KeepsSlots (s t : Store) (slots : List Slot) : Type 0 where
   pub cells : map (cell_of t) slots ≡ map (cell_of s) slots
   pub there : AreThere t slots
 
@@ -21,4 +21,4 @@ pub record Hands (s t : Store) (was now : ℕ → ℕ) : Type 0 where
   pub leaves : (leaf : ℕ) → owners t.leaves leaf + was leaf ≡ owners s.leaves leaf + now leaf
   pub blocks : (id : ℕ) → owners_at t id + backing s.leaves id ≡ owners_at s id + backing t.leaves id
   pub same : (leaf : ℕ) → was leaf < owners s.leaves leaf → leaf_at t leaf ≡ leaf_at s leaf
-  pub shows : (leaf : ℕ) → was leaf < owners s.leaves leaf → AreThere s (leaf_at s leaf) → ShowsSame s t (leaf_at s leaf)
+  pub shows : (leaf : ℕ) → was leaf < owners s.leaves leaf → AreThere s (leaf_at s leaf) → KeepsSlots s t (leaf_at s leaf)

@@ -6,10 +6,9 @@ ghost use Rattle.ele_blocks.specs.Layout.{slot_by};
 
 use crate::slot::Slot;
 use crate::store::BlockId;
-use ele_lists::put;
 use ele_moment::VersionNo;
 
-/// Puts the item in its place, or behind the last where there is room.
+// Puts the item in its place, or behind the last where there is room.
 #[tactic(auto, using(crate::proofs::LaidOvers::laid_set))]
 fn place<T: Copy>(items: &mut Vec<T>, at: usize, item: T)
     requires within { at ≤ length items.old.items }
@@ -20,7 +19,7 @@ fn place<T: Copy>(items: &mut Vec<T>, at: usize, item: T)
     if at < items.len() {
         items[at] = item;
     } else {
-        put(items, item);
+        items.push_reserved(item);
     }
 }
 

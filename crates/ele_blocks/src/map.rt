@@ -1,5 +1,6 @@
 //! A block map: one content of at most 1,048,576 bytes, cut into slots of 512 bytes, which stand in
-//! leaves of 16. A contract sees its length and leaves, and through a store the cells of the content.
+//! leaves of 16. A contract sees its length and leaves, and through a store the cells of the
+//! content.
 ghost use Rattle.std.specs.Prelude.{◌≡◌, ◌<◌, ◌≤◌, ◌-◌, ◌*◌, ◌/◌, [], ◌∷◌, OnOk, OnErr, IfOk, IfSome, Some, drop, slice_get, take, vec_len};
 ghost use Rattle.std.specs.Option.{option_map};
 ghost use Rattle.ele_content.specs.Content.{content_of, slot_bytes, slot_count};
@@ -12,14 +13,11 @@ ghost use Rattle.ele_blocks.specs.Store.{bytes_at, owners_at, leaf_at};
 mod change;
 
 use crate::leaf::LEAF;
-use crate::slot::Slot;
+use crate::slot::{SLOT, Slot};
 use crate::store::{BlockId, BlockStore};
 use ele_moment::{NoMemory, VersionNo};
 use std::alloc::Global;
 use std::marker::Model;
-
-/// How many bytes a slot holds.
-const SLOT: usize = 512;
 
 /// One content, as the leaves of its slots. They stand in a store, of which the map owns a share:
 /// whoever makes a map gives it up in that store, or leaves and blocks stay there.
@@ -83,7 +81,7 @@ impl BlockMap {
         Some((cell.writer, cell.block))
     }
 
-    /// A slot of the map.
+    // A slot of the map.
     #[tactic(auto, using(crate::proofs::Cited::length_take, crate::proofs::Cited::length_drop, crate::proofs::Cited::slots_count, crate::proofs::Cited::slot_found, crate::proofs::Cited::slots_of, crate::proofs::Cited::slot_owned, crate::proofs::Cited::its_bytes))]
     fn slot_at(&self, store: &BlockStore, slot: usize) -> Slot
         requires lives { LivesIn store.now self.now }
@@ -97,7 +95,7 @@ impl BlockMap {
         store.leaf(leaf)[slot % LEAF]
     }
 
-    /// The leaf that holds the slot.
+    // The leaf that holds the slot.
     #[tactic(auto, using(crate::proofs::Lemmas::leaf_owned, crate::proofs::Lemmas::Layout, crate::proofs::Lemmas::leaf_is))]
     fn leaf_of(&self, store: &BlockStore, slot: usize) -> usize
         requires lives { LivesIn store.now self.now }
@@ -141,8 +139,8 @@ impl BlockMap {
         Ok(all)
     }
 
-    /// Ends the map: each of its leaves has an owner fewer, and those without owners leave, with the
-    /// blocks that no other leaf names.
+    /// Ends the map: each of its leaves has an owner fewer, and those without owners leave, with
+    /// the blocks that no other leaf names.
     pub fn give_up(self, store: &mut BlockStore)
         requires { LivesIn store.old self }
         ensures { Moves store.old store.new (self ∷ []) [] }
@@ -150,7 +148,7 @@ impl BlockMap {
         store.release_leaves(&self.leaves);
     }
 
-    /// The bytes of a slot; none past the last.
+    // The bytes of a slot; none past the last.
     #[tactic(auto, using(crate::proofs::Cited::drop_all, crate::proofs::Cited::length_content, crate::proofs::Cited::take_nil))]
     fn bytes_at<'a>(&self, store: &'a BlockStore, slot: usize) -> &'a [u8]
         requires { LivesIn store.now self.now }

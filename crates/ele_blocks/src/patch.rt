@@ -4,11 +4,12 @@ ghost use Rattle.std.specs.Prelude.{◌≡◌, ℕ, ◌<◌, ◌+◌, ◌^◌, I
 ghost use Rattle.ele_content.specs.Content.{content_after_write, slot_bytes};
 ghost use Rattle.ele_blocks.specs.Pieces.{pieces};
 
+use crate::slot::SLOT;
 use ele_lists::ByteList;
 use ele_moment::NoMemory;
 use std::alloc::Global;
 
-/// The bytes over older ones from the offset on, with zeros before them where the older ones end.
+// The bytes over older ones from the offset on, with zeros before them where the older ones end.
 fn spliced(alloc: Global, old: &[u8], offset: usize, bytes: &[u8]) -> Result<Vec<u8>, NoMemory>
     requires { offset + length bytes.now < 2 ^ 64 }
     ensures { IfOk result (λ new. new.items ≡ content_after_write old.now offset bytes.now) }
@@ -38,10 +39,10 @@ pub fn patched(
     ensures { (content : List ℕ) → old.now ≡ slot_bytes content slot → IfOk result (λ new.
         new ≡ slot_bytes (content_after_write content offset bytes.now) slot) }
 {
-    let at = 512 * slot;
-    let start = offset.saturating_sub(at).min(512);
+    let at = SLOT * slot;
+    let start = offset.saturating_sub(at).min(SLOT);
     let from = at.saturating_sub(offset).min(bytes.len());
-    let past = (at + 512).saturating_sub(offset).min(bytes.len());
+    let past = (at + SLOT).saturating_sub(offset).min(bytes.len());
     let new = spliced(alloc, old, start, &bytes[from..past])?;
     Ok(ByteList::from_vec(new))
 }
@@ -51,11 +52,11 @@ pub fn patched(
 pub fn pieces(alloc: Global, all: &[u8]) -> Result<Vec<ByteList>, NoMemory>
     ensures { IfOk result (λ cut. cut.items ≡ pieces all.now) }
 {
-    let count = all.len().div_ceil(512);
+    let count = all.len().div_ceil(SLOT);
     let mut cut = Vec::with_capacity(alloc, count)?;
     let mut rest = all;
     for _ in 0..count {
-        let (piece, more) = rest.split_at(rest.len().min(512));
+        let (piece, more) = rest.split_at(rest.len().min(SLOT));
         cut.push(ByteList::from_vec(Vec::from_slice(alloc, piece)?))?;
         rest = more;
     }

@@ -5,7 +5,6 @@ ghost use Rattle.std.specs.Prelude.{◌≡◌, ◌<◌, ◌≤◌, ◌+◌, ◌^
 ghost use Rattle.slab.specs.Slab.{HasRoomFor};
 ghost use Rattle.ele_blocks.specs.Shared.{place_at, value_at, owners, Sets, Adds, Owned, shared, released, leaving};
 
-use ele_lists::put;
 use slab::Slab;
 use std::alloc::{AllocError, Global};
 use std::marker::Model;
@@ -132,6 +131,13 @@ impl<T: Drop> Shared<T> {
         self.values.len()
     }
 
+    /// Each value that stands has an owner; this says so and does nothing.
+    pub fn are_owned(&self)
+        ensures { Owned self.now.slots }
+    {
+        let _ = &self.values;
+    }
+
     /// Gives the value one owner more.
     #[tactic(auto, using(crate::proofs::Cited::is_counted, crate::proofs::Cited::get_or_default_zero, crate::proofs::Cited::owners_counted, crate::proofs::Cited::owned_more, crate::proofs::Cited::sets_more))]
     pub fn share(&mut self, id: usize)
@@ -158,7 +164,7 @@ impl<T: Drop> Shared<T> {
     }
 }
 
-/// Keeps each of the values with one owner where there is room.
+// Keeps each of the values with one owner where there is room.
 fn put_each<T: Drop>(store: &mut Shared<T>, ids: &mut Vec<usize>, values: Vec<T>)
     requires room { HasRoomFor store.old (vec_len values) }
     requires room_ids { vec_len ids.old + vec_len values ≤ vec_capacity ids.old }
@@ -167,6 +173,6 @@ fn put_each<T: Drop>(store: &mut Shared<T>, ids: &mut Vec<usize>, values: Vec<T>
     ensures values { map (value_at store.new.slots) ids.new.items ≡ map Some values.items }
 {
     for value in values {
-        put(ids, store.put_reserved(value));
+        ids.push_reserved(store.put_reserved(value));
     }
 }

@@ -122,7 +122,7 @@ impl BlockStore {
         ensures named { (maps : List Layout) → Owes self.now maps
             → result ≡ different nat_eq (blocks_of self.now maps) }
     {
-        let _leaves = self.leaves.len();
+        self.leaves.are_owned();
         self.blocks.len() as u64
     }
 

@@ -103,7 +103,10 @@ fn remove(rows: &mut Rows, key: &Key)
     ensures read { rows.new.meter ≡ 1 }
 {
     let before = blocks(&rows.files);
-    let Some(bytes) = rows.files.remove(key.file, key.number, &mut rows.meter) else {
+    let Some(bytes) = rows
+        .files
+        .remove_version(key.file, key.number, &mut rows.meter)
+    else {
         unreachable!()
     };
     // No other key changes, so that a clean takes no memory and can't be stopped.

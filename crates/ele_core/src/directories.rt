@@ -9,7 +9,6 @@ ghost use Rattle.ele_core.specs.Inside.{world_of, IsTracked, IsSound};
 
 use crate::lookups::default_of;
 use crate::rows::{Rows, are_names_full};
-use ele_lists::put;
 use ele_names::{parent_now, placed_now};
 use ele_world::{DirId, DirectoryRow, Name, NoMemory, Path, Refusal, Reply, Target, Which};
 
@@ -32,7 +31,7 @@ fn add_directory(rows: &mut Rows, directory: DirId, name: Name) -> Result<DirId,
     rows.directories.reserve(1)?;
     rows.names
         .add(directory, name, Target::Directory(id), rows.moment)?;
-    put(&mut rows.directories, DirectoryRow { id, default });
+    rows.directories.push_reserved(DirectoryRow { id, default });
     rows.made.directories += 1;
     rows.made.names += 1;
     Ok(id)

@@ -95,7 +95,8 @@ impl DueQueue {
     /// The first key in order. None where the queue is empty.
     pub fn first(&self) -> Option<Key>
         ensures value { result ≡ slice_get self.now 0 }
-        // Of any list that has just the keys that are ripe by a moment it is the first, if it is ripe.
+        // Of any list that has just the keys that are ripe by a moment it is the first, if it is
+        // ripe.
         ensures ripe { (moment : ℕ) (ripe : List Key)
             → ((k : Key) → has_key k ripe ≡ (is_ripe_by moment k && has_key k self.now))
             → slice_get (in_order ripe) 0 ≡ if_ripe moment result }

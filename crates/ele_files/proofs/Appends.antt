@@ -1,5 +1,5 @@
 -- A file's next version is appended: the first one of a new file, or a held one that comes again.
-use Rattle.ele_files.proofs.Words.{AllByRecursion, AllLater, AllSessions, Append, Bool, Draft, File, FileRow, GotFile, HasAppended, Held, IsDraftKept, IsFileKept, IsLocal, IsRowOf, IsRowPast, IsStocked, Keeps, Layout, List, LogRow, None, Some, StockLaws, Store, VersionRow, World, [], after_change, all-both, all_found, all-map, all-push, all-weaker, ap, append_nil, arith, bucket_changes, empty_layout, ended_at, ended_rows, false, file_row, find, find-at, flat_map, flat_map-append, held_in, insert_before, is_file, is_id, is_live, is_version, is_version_after, later-push, local-after, local-insert_before, local-update_first, map, map-all, map-append, named_live, nat_tests, next_of, next_of-numbered_other, next_of-push, next_row, not_found, numbered_on, refl, row_in, row_stock, rows_in, rows_of, shown, stock_of, subst, sym, true, update_first, update_first-at, with_file, with_name, with_rows, ℕ, ◌++◌, ◌+◌, ◌-◌, ◌<◌, ◌∙◌, ◌∷◌, ◌≡◌, ◌≢◌, Became, HeldRows, IsPast, IsSome, LivesIn, Moves, Stays, cells_of_version, get_or, is_numbered, list_any, position, set}
+use Rattle.ele_files.proofs.Words.{AllByRecursion, AllLater, AllSessions, Append, Bool, Draft, File, FileRow, GotFile, HasAppended, Held, IsDraftKept, IsFileKept, IsLocal, IsRowOf, IsRowPast, IsStocked, Keeps, Layout, List, LogRow, None, Some, StockLaws, Store, VersionRow, World, [], after_change, all-both, all_found, all-map, all-push, all-weaker, ap, append_nil, arith, bucket_changes, empty_layout, ended_at, ended_rows, false, file_row, find, find-at, flat_map, flat_map-append, held_in, insert_before, is_file, is_id, is_live, is_version, is_version_after, later-push, local-after, local-insert_before, local-update_first, map, map-all, map-append, named_live, nat_tests, next_of, next_of-numbered_other, next_of-push, next_row, not_found, numbered_on, refl, row_in, row_stock, rows_in, rows_of, shown, stock_of, subst, sym, true, update_first, update_first-at, with_file, with_name, with_rows, ℕ, ◌++◌, ◌+◌, ◌-◌, ◌<◌, ◌∙◌, ◌∷◌, ◌≡◌, ◌≢◌, Became, HeldRows, IsPast, IsSome, LivesIn, Moves, Stays, cells_of_version, get_or, has_number, list_any, position, set}
 use Rattle.ele_files.proofs.Endings.{closed_kept, of_rows, its_kept, its_past}
 use Rattle.ele_files.proofs.Exchanges.{after, rise_over, files_over, rows_over, IsReached, reached}
 use Rattle.ele_files.proofs.Rows.{its_id, next_found, file_of, tagged, own_version, ended_shown, undrafted, no_file, version_none, version_of}
@@ -126,15 +126,15 @@ module _ (s : Store) (files : List File) (a : AllSessions) (kept : Keeps s files
     k = record f { log = these }
 
     -- and its row
-    pub not_lost : None ≡ find (is_numbered number) these.rows → ⊥
+    pub not_lost : None ≡ find (has_number number) these.rows → ⊥
     not_lost none = grind (arith, some, none, rows_stay, version_of s file number files kept.rise f at.found)
 
-    module _ (row : LogRow) (held : Some row ≡ find (is_numbered number) these.rows) where
-      its_row : find (is_numbered number) f.log.rows ≡ Some row
+    module _ (row : LogRow) (held : Some row ≡ find (has_number number) these.rows) where
+      its_row : find (has_number number) f.log.rows ≡ Some row
       its_row = rw (← rows_stay) (sym held)
 
       pub lives : LivesIn s row.cells
-      lives = row_lives s files a kept file (is_numbered number) f row at.found its_row
+      lives = row_lives s files a kept file (has_number number) f row at.found its_row
 
       module _ (t : Store) (moves : Moves s t [] (row.cells ∷ [])) (alone : list_any (world.is_draft file) (held_in s files a).drafts ≡ false) (now : ℕ) (live : Bool) (m : Layout) (same : m ≡ row.cells) (l : File) (appended : HasAppended k l now (next_row f.next now now live m)) (past : AllByRecursion (IsPast now) (held_in s files a).versions) where
         abbrev again : LogRow
@@ -145,11 +145,11 @@ module _ (s : Store) (files : List File) (a : AllSessions) (kept : Keeps s files
 
         came : Stays s t (stock_of files a.drafts) (row_stock f.id again ∷ stock_of files a.drafts)
         came =
-            let below = (all_found (is_numbered number) (IsRowOf f.next) f.log.rows row its_row (its_kept s files a kept file i f place is).rows).number in
-            row_copied s t files a kept file f at.found (is_numbered number) row its_row moves (f.next + 1) (omega (arith, below)) (row_stock f.id again ∷ stock_of files a.drafts) (record { sums = λ x. refl })
+            let below = (all_found (has_number number) (IsRowOf f.next) f.log.rows row its_row (its_kept s files a kept file i f place is).rows).number in
+            row_copied s t files a kept file f at.found (has_number number) row its_row moves (f.next + 1) (omega (arith, below)) (row_stock f.id again ∷ stock_of files a.drafts) (record { sums = λ x. refl })
 
         cells : cells_of_version (held_in s files a) file number ≡ shown t row.cells
-        cells = rw (version_of s file number files kept.rise f at.found, its_row) (sym (row_same s t files a kept file f at.found (is_numbered number) row its_row came.shows))
+        cells = rw (version_of s file number files kept.rise f at.found, its_row) (sym (row_same s t files a kept file f at.found (has_number number) row its_row came.shows))
 
         pub restored : IsRestored t (held_in s files a) file number now live f.next (set files i l) a
         restored = record {

@@ -1,5 +1,5 @@
 -- The rows of a file when its next version closes, and the file at its place.
-use Rattle.ele_files.proofs.Words.{AllByRecursion, AllLater, AreInOrder, Bool, CanEndAt, EndsInTime, File, HasAppended, HasRows, IsFileKept, IsRowOf, IsRowPast, IsSomeAnd, Layout, List, LogRow, None, Option, Precedes, Some, [], all-append, all-both, all_found, all-update_first, all-weaker, ap, arith, ended_by, ended_rows, false, find, is_numbered, is_some, last_of, later-push, later-update_first, nat_tests, next_row, refl, update_first, update_last, ℕ, ◌+◌, ◌-◌, ◌∙◌, ◌∷◌, ◌≡◌, bucket_changes, AllSessions, HeldRows, IsPast, Keeps, Store, file_row, get_or, held_in, is_id, map-all, position, set, ◌<◌, current_ended, ended_at, flat_map, is_version, local-update_first, map, row_in, rows_in, stock_of}
+use Rattle.ele_files.proofs.Words.{AllByRecursion, AllLater, AreInOrder, Bool, CanEndAt, EndsInTime, File, HasAppended, HasRows, IsFileKept, IsRowOf, IsRowPast, IsSomeAnd, Layout, List, LogRow, None, Option, Precedes, Some, [], all-append, all-both, all_found, all-update_first, all-weaker, ap, arith, ended_by, ended_rows, false, find, has_number, is_some, last_of, later-push, later-update_first, nat_tests, next_row, refl, update_first, update_last, ℕ, ◌+◌, ◌-◌, ◌∙◌, ◌∷◌, ◌≡◌, bucket_changes, AllSessions, HeldRows, IsPast, Keeps, Store, file_row, get_or, held_in, is_id, map-all, position, set, ◌<◌, current_ended, ended_at, flat_map, is_version, local-update_first, map, row_in, rows_in, stock_of}
 use Rattle.ele_inode_log.specs.Rows.{ended_at as log_ended_at}
 use Rattle.ele_files.proofs.Exchanges.{rows_same, same_keeps, same_shows, IsReached, reached, after, keeps_over, drafts_over}
 use Rattle.ele_files.proofs.Stock.{IsSeen, over, rows_ended}
@@ -8,19 +8,19 @@ use Rattle.ele_files.proofs.Rows.{tagged, file_of, file_past, own_version, ended
 -- a row without an end is the last
 pub record IsLastRow (rows : List LogRow) (number now : ℕ) (row : LogRow) : Type 0 where
   pub last : last_of rows ≡ Some row
-  pub ended : update_last (log_ended_at now) rows ≡ update_first (is_numbered number) (ended_by now) rows
+  pub ended : update_last (log_ended_at now) rows ≡ update_first (has_number number) (ended_by now) rows
 
 not_some : (o : Option ℕ) (P : ℕ → Type 0) → o ≡ None → IsSomeAnd o P → ⊥
 not_some o P e h = rw e at h
 
-pub last_row : (rows : List LogRow) (number now : ℕ) (row : LogRow) → AllLater Precedes rows → find (is_numbered number) rows ≡ Some row → row.ended ≡ None → IsLastRow rows number now row
+pub last_row : (rows : List LogRow) (number now : ℕ) (row : LogRow) → AllLater Precedes rows → find (has_number number) rows ≡ Some row → row.ended ≡ None → IsLastRow rows number now row
 last_row [] number now row order found endless = absurd cc
 last_row (x ∷ []) number now row order found endless = record { last = grind (arith, nat_tests, found); ended = grind (arith, nat_tests, found, endless) }
 last_row (x ∷ y ∷ rows) number now row order found endless = grind (arith, nat_tests, not_some, last_row (y ∷ rows) number now row order.1)
 
-pub can_end : (rows : List LogRow) (number now : ℕ) (row : LogRow) → AllByRecursion (IsRowPast now) rows → AllLater Precedes rows → find (is_numbered number) rows ≡ Some row → row.ended ≡ None → IsSomeAnd (last_of rows) (CanEndAt now)
+pub can_end : (rows : List LogRow) (number now : ℕ) (row : LogRow) → AllByRecursion (IsRowPast now) rows → AllLater Precedes rows → find (has_number number) rows ≡ Some row → row.ended ≡ None → IsSomeAnd (last_of rows) (CanEndAt now)
 can_end rows number now row past order found endless =
-    rw (last_row rows number now row order found endless).last (record { no_end = endless; closed = (all_found (is_numbered number) (IsRowPast now) rows row found past).closed })
+    rw (last_row rows number now row order found endless).last (record { no_end = endless; closed = (all_found (has_number number) (IsRowPast now) rows row found past).closed })
 
 pub no_end : (o : Option ℕ) → is_some o ≡ false → o ≡ None
 no_end o h = grind arith
@@ -31,19 +31,19 @@ module _ (next now : ℕ) (new : LogRow) (number : new.number ≡ next) (closed 
   none_behind x [] is later known = tt
   none_behind x (y ∷ rows) is later known = absurd (let a = later.0.number in let b = known.0.number in omega arith)
 
-  pub all_precede : (rows : List LogRow) → AllLater Precedes rows → AllByRecursion (IsRowOf next) rows → AllByRecursion (IsRowPast now) rows → AllByRecursion (λ row. Precedes row new) (update_first (is_numbered (next - 1)) (ended_by now) rows)
+  pub all_precede : (rows : List LogRow) → AllLater Precedes rows → AllByRecursion (IsRowOf next) rows → AllByRecursion (IsRowPast now) rows → AllByRecursion (λ row. Precedes row new) (update_first (has_number (next - 1)) (ended_by now) rows)
   all_precede [] order known past = tt
   all_precede (x ∷ rows) order known past = grind (arith, nat_tests, none_behind, all_precede rows order.1 known.1 past.1)
 
 -- a file whose version before the next one ends
 module _ (f : File) (now : ℕ) (kept : IsFileKept f) (past : AllByRecursion (IsRowPast now) f.log.rows) where
   pub of_rows : AllByRecursion (IsRowOf f.next) (ended_rows f now)
-  of_rows = all-update_first (is_numbered (f.next - 1)) (IsRowOf f.next) (IsRowOf f.next) (ended_by now) f.log.rows (λ row h. record { first = h.first; number = h.number; open_end = λ endless. absurd cc }) (λ row h. h) kept.rows
+  of_rows = all-update_first (has_number (f.next - 1)) (IsRowOf f.next) (IsRowOf f.next) (ended_by now) f.log.rows (λ row h. record { first = h.first; number = h.number; open_end = λ endless. absurd cc }) (λ row h. h) kept.rows
 
   pub ended_order : AreInOrder (ended_rows f now)
   ended_order = record {
-    ends = all-update_first (is_numbered (f.next - 1)) (λ row. EndsInTime row × IsRowPast now row) EndsInTime (ended_by now) f.log.rows (λ row h. let e = h.0 in let p = h.1.closed in grind (arith, e, p)) (λ row h. h.0) (all-both EndsInTime (IsRowPast now) f.log.rows kept.order.ends past);
-    order = later-update_first (is_numbered (f.next - 1)) Precedes (ended_by now) f.log.rows (λ x y h. record { number = h.number; ended = let e = h.ended in grind (arith, e) }) (λ x y h. record { number = h.number; ended = h.ended }) kept.order.order;
+    ends = all-update_first (has_number (f.next - 1)) (λ row. EndsInTime row × IsRowPast now row) EndsInTime (ended_by now) f.log.rows (λ row h. let e = h.0 in let p = h.1.closed in grind (arith, e, p)) (λ row h. h.0) (all-both EndsInTime (IsRowPast now) f.log.rows kept.order.ends past);
+    order = later-update_first (has_number (f.next - 1)) Precedes (ended_by now) f.log.rows (λ x y h. record { number = h.number; ended = let e = h.ended in grind (arith, e) }) (λ x y h. record { number = h.number; ended = h.ended }) kept.order.order;
   }
 
   pub ended_kept : (g : File) → HasRows f g (ended_rows f now) → IsFileKept g

@@ -1,5 +1,5 @@
 -- One file has other rows, as many or one fewer, or another policy.
-use Rattle.ele_files.proofs.Words.{find_position, AllByRecursion, AllLater, AllSessions, Bool, Draft, EndsInTime, File, FileRow, HeldRows, IsDraftKept, IsFileKept, IsRowOf, IsStocked, Keeps, List, LivesIn, LogRow, Moves, None, Precedes, Some, Stays, Store, VersionRow, [], all_found, all_not_found, all-remove_first, all-update_first, all-weaker, ap, arith, bucket_changes, content_of, file_row, filter, find, flat_map, get_or, held_in, is_file, is_id, is_numbered, is_other, is_version, later-remove_first, later-update_first, length, local-remove_first, map, nat_tests, option_map, position, refl, remove_first, remove_first-map, remove_first_unfound, row_in, row_stock, rows_in, set, set-first, stock_of, sym, update_first, update_first-map, update_first_same, without, ℕ, ◌<◌, ◌∙◌, ◌∷◌, ◌≡◌, remove_first-key, later-weaker, Policy, PutUnder, changed_at, file_stock, next_of}
+use Rattle.ele_files.proofs.Words.{find_position, AllByRecursion, AllLater, AllSessions, Bool, Draft, EndsInTime, File, FileRow, HeldRows, IsDraftKept, IsFileKept, IsRowOf, IsStocked, Keeps, List, LivesIn, LogRow, Moves, None, Precedes, Some, Stays, Store, VersionRow, [], all_found, all_not_found, all-remove_first, all-update_first, all-weaker, ap, arith, bucket_changes, content_of, file_row, filter, find, flat_map, get_or, held_in, is_file, is_id, has_number, is_other, is_version, later-remove_first, later-update_first, length, local-remove_first, map, nat_tests, option_map, position, refl, remove_first, remove_first-map, remove_first_unfound, row_in, row_stock, rows_in, set, set-first, stock_of, sym, update_first, update_first-map, update_first_same, without, ℕ, ◌<◌, ◌∙◌, ◌∷◌, ◌≡◌, remove_first-key, later-weaker, Policy, PutUnder, changed_at, file_stock, next_of}
 use Rattle.ele_files.proofs.Rows.{file_row_found, file_of, tagged, its_id, own_version, same_number, version_of}
 use Rattle.ele_files.proofs.Stock.{over, rows_stay, row_apart, row_lives, IsSeen, held_stays}
 use Rattle.ele_world.specs.Change as world
@@ -71,43 +71,43 @@ module _ (s : Store) (files : List File) (a : AllSessions) (kept : Keeps s files
   its_kept : IsFileKept f
   its_kept = all_found (is_id id) IsFileKept files f at.found kept.files_kept
 
-  left : these.rows ≡ remove_first (is_numbered number) f.log.rows
+  left : these.rows ≡ remove_first (has_number number) f.log.rows
   left = rows ∙ sym (remove_first-key (λ (row : LogRow). row.number) number f.log.rows (later-weaker Precedes (λ (x y : LogRow). x.number < y.number) f.log.rows (λ x y p. p.number) its_kept.order.order))
 
   left_kept : IsFileKept g
   left_kept = record {
     next = its_kept.next;
-    rows = rw left (all-remove_first (is_numbered number) (IsRowOf f.next) f.log.rows its_kept.rows);
-    order = rw left (record { ends = all-remove_first (is_numbered number) EndsInTime f.log.rows its_kept.order.ends; order = later-remove_first (is_numbered number) Precedes f.log.rows its_kept.order.order });
+    rows = rw left (all-remove_first (has_number number) (IsRowOf f.next) f.log.rows its_kept.rows);
+    order = rw left (record { ends = all-remove_first (has_number number) EndsInTime f.log.rows its_kept.order.ends; order = later-remove_first (has_number number) Precedes f.log.rows its_kept.order.order });
   }
 
   versions_leave : remove_first (is_version id number) (flat_map (rows_in s) files) ≡ flat_map (rows_in s) (after files id f g at.found)
-  versions_leave = bucket_changes (λ (x : File). x.id) (rows_in s) file_of (tagged s) id (remove_first (is_version id number)) (local-remove_first file_of id (is_version id number) (own_version id number)) (over g) files f kept.rise at.found (ap (map (row_in s f.id)) left ∙ sym (remove_first-map (row_in s f.id) (is_version id number) (is_numbered number) (same_number s f.id id number (its_id files id f at.found)) f.log.rows))
+  versions_leave = bucket_changes (λ (x : File). x.id) (rows_in s) file_of (tagged s) id (remove_first (is_version id number)) (local-remove_first file_of id (is_version id number) (own_version id number)) (over g) files f kept.rise at.found (ap (map (row_in s f.id)) left ∙ sym (remove_first-map (row_in s f.id) (is_version id number) (has_number number) (same_number s f.id id number (its_id files id f at.found)) f.log.rows))
 
   leaves : held_in s (after files id f g at.found) a ≡ without (held_in s files a) id number
   leaves = rw (versions_leave, rows_same files id f g at.found refl) refl
 
-  found_row : find (is_version id number) (flat_map (rows_in s) files) ≡ option_map (row_in s f.id) (find (is_numbered number) f.log.rows)
+  found_row : find (is_version id number) (flat_map (rows_in s) files) ≡ option_map (row_in s f.id) (find (has_number number) f.log.rows)
   found_row = version_of s id number files kept.rise f at.found
 
   -- the number isn't held
-  pub unheld : find (is_numbered number) f.log.rows ≡ None → IsSeen s (set files i g) a (without (held_in s files a) id number) × (find (is_version id number) (flat_map (rows_in s) files) ≡ None)
+  pub unheld : find (has_number number) f.log.rows ≡ None → IsSeen s (set files i g) a (without (held_in s files a) id number) × (find (is_version id number) (flat_map (rows_in s) files) ≡ None)
   unheld none = (
     rw (at.changed g refl refl) (record {
-      keeps = same_keeps files id f g at.found s a kept refl (left ∙ remove_first_unfound (is_numbered number) f.log.rows (all_not_found (is_numbered number) f.log.rows none)) its_kept;
+      keeps = same_keeps files id f g at.found s a kept refl (left ∙ remove_first_unfound (has_number number) f.log.rows (all_not_found (has_number number) f.log.rows none)) its_kept;
       shows = leaves;
     }),
     found_row ∙ ap (option_map (row_in s f.id)) none,
   )
 
   -- its row has left, and the map the store
-  module _ (row : LogRow) (held : find (is_numbered number) f.log.rows ≡ Some row) where
+  module _ (row : LogRow) (held : find (has_number number) f.log.rows ≡ Some row) where
     pub lives : LivesIn s row.cells
-    lives = row_lives s files a kept id (is_numbered number) f row at.found held
+    lives = row_lives s files a kept id (has_number number) f row at.found held
 
     module _ (t : Store) (moves : Moves s t (row.cells ∷ []) []) where
       stays : Stays s t (stock_of (after files id f g at.found) a.drafts) (stock_of (after files id f g at.found) a.drafts)
-      stays = kept.laws.gone s t (stock_of files a.drafts) (row_stock f.id row) (stock_of (after files id f g at.found) a.drafts) kept.stocked (row_apart files a.drafts id f g at.found (is_numbered number) row held left) moves
+      stays = kept.laws.gone s t (stock_of files a.drafts) (row_stock f.id row) (stock_of (after files id f g at.found) a.drafts) kept.stocked (row_apart files a.drafts id f g at.found (has_number number) row held left) moves
 
       pub gone : IsSeen t (set files i g) a (without (held_in s files a) id number) × (option_map (λ (r : VersionRow). length (content_of r.cells)) (find (is_version id number) (flat_map (rows_in s) files)) ≡ Some row.cells.size)
       gone = (

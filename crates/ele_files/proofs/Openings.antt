@@ -1,5 +1,5 @@
 -- A handle that writes a file comes, and with the file's first handle a draft.
-use Rattle.ele_files.proofs.Words.{Held, AllSessions, Bool, Draft, File, IsDraftKept, IsFileKept, IsRowOf, Keeps, Layout, List, LivesIn, LogRow, MatchBool, Moves, None, OnErr, OnOk, Opens, Option, Result, Some, Stays, Store, Tagged, [], all_found, all-insert_before, ap, arith, draft_in, draft_stock, empty_layout, false, file_row, find, first_draft, flat_map, handle_in, held_in, insert_before, insert_before-map, is_draft, is_draft_after, is_id, is_numbered, is_version, length, length-append, length-map, list_any, map, map-append, nat_tests, new_draft, next_of, opened_by, option_map_or, refl, row_stock, rows_in, shown, stock_of, sum_by, sym, true, ℕ, ◌+◌, ◌-◌, ◌∙◌, ◌∷◌, ◌≡◌}
+use Rattle.ele_files.proofs.Words.{Held, AllSessions, Bool, Draft, File, IsDraftKept, IsFileKept, IsRowOf, Keeps, Layout, List, LivesIn, LogRow, MatchBool, Moves, None, OnErr, OnOk, Opens, Option, Result, Some, Stays, Store, Tagged, [], all_found, all-insert_before, ap, arith, draft_in, draft_stock, empty_layout, false, file_row, find, first_draft, flat_map, handle_in, held_in, insert_before, insert_before-map, is_draft, is_draft_after, is_id, has_number, is_version, length, length-append, length-map, list_any, map, map-append, nat_tests, new_draft, next_of, opened_by, option_map_or, refl, row_stock, rows_in, shown, stock_of, sum_by, sym, true, ℕ, ◌+◌, ◌-◌, ◌∙◌, ◌∷◌, ◌≡◌}
 use Rattle.ele_files.proofs.Stock.{row_copied, row_same, IsSeen, held_stays, draft_begun, row_lives}
 use Rattle.ele_files.proofs.Rows.{its_id, next_found, version_of, any_draft}
 use Rattle.ele_sessions.specs.Opening as opening
@@ -11,7 +11,7 @@ abbrev pub cells_of : Option LogRow → Layout
 cells_of row = option_map_or (λ row. row.cells) row empty_layout
 
 abbrev pub last_row : File → Option LogRow
-last_row f = find (is_numbered (f.next - 1)) f.log.rows
+last_row f = find (has_number (f.next - 1)) f.log.rows
 
 abbrev pub first_map : File → Layout
 first_map f = cells_of (last_row f)
@@ -72,7 +72,7 @@ module _ (s : Store) (files : List File) (a : AllSessions) (kept : Keeps s files
             }
         of_row (Some row) e =
             let its : first_map f ≡ row.cells = ap cells_of e in
-            let is : LogRow → Bool = is_numbered (f.next - 1) in
+            let is : LogRow → Bool = has_number (f.next - 1) in
             let below = (all_found is (IsRowOf f.next) f.log.rows row e file_kept.rows).number in
             let id : f.id ≡ file = its_id files file f found in
             let same_tag : record (row_stock f.id row) { below = f.next + 1 } ≡ draft_stock new = rw (id, its) refl in

@@ -1,5 +1,5 @@
 -- What the rows show of the files, drafts and handles behind them.
-use Rattle.ele_files.proofs.Words.{AllByRecursion, AllLater, Draft, File, IsPast, IsRowPast, List, LogRow, NoHandle, None, Option, Refusal, Result, Some, Store, VersionRow, [], all-any, all_found, all-map, all-none, all-weaker, any-map, ap, arith, draft_in, ended_at, ended_by, ended_rows, eqb, false, file_or_fault, file_row, find, find-buckets, find-map, find-none, flat_map, flat_map-all, found_passes, handle_in, is_file, is_handle, is_id, is_numbered, is_open, is_version, list_any, map, map-all, nat_tests, next_of, ok_or, option_and_then, option_map, option_map_or, position, reads_by, reads_in, refl, remove_first, remove_first-map, row_in, rows_in, sym, true, update_first, update_first-map, ℕ, ◌-◌, ◌<◌, ◌∙◌, ◌∷◌, ◌≡◌, ◌≢◌}
+use Rattle.ele_files.proofs.Words.{AllByRecursion, AllLater, Draft, File, IsPast, IsRowPast, List, LogRow, NoHandle, None, Option, Refusal, Result, Some, Store, VersionRow, [], all-any, all_found, all-map, all-none, all-weaker, any-map, ap, arith, draft_in, ended_at, ended_by, ended_rows, eqb, false, file_or_fault, file_row, find, find-buckets, find-map, find-none, flat_map, flat_map-all, found_passes, handle_in, is_file, is_handle, is_id, has_number, is_open, is_version, list_any, map, map-all, nat_tests, next_of, ok_or, option_and_then, option_map, option_map_or, position, reads_by, reads_in, refl, remove_first, remove_first-map, row_in, rows_in, sym, true, update_first, update_first-map, ℕ, ◌-◌, ◌<◌, ◌∙◌, ◌∷◌, ◌≡◌, ◌≢◌}
 use Rattle.ele_files.specs.Held.{handle_file}
 use Rattle.ele_sessions.specs.Sessions as sessions
 use Rattle.ele_sessions.specs.declared.entries.OpenHandle.{OpenHandle}
@@ -34,12 +34,12 @@ pub own_version : (file number : ℕ) (row : VersionRow) → is_version file num
 own_version file number row h = grind (arith, nat_tests)
 
 -- a file's row is its version of that number
-pub same_number : (s : Store) (id file number : ℕ) → id ≡ file → (row : LogRow) → is_version file number (row_in s id row) ≡ is_numbered number row
+pub same_number : (s : Store) (id file number : ℕ) → id ≡ file → (row : LogRow) → is_version file number (row_in s id row) ≡ has_number number row
 same_number s id file number is row = let e : eqb id file ≡ true = grind (arith, nat_tests) in rw e refl
 
 -- so the row that ends is that version
 pub ended_shown : (s : Store) (f : File) (now file : ℕ) → f.id ≡ file → map (row_in s f.id) (ended_rows f now) ≡ update_first (is_version file (f.next - 1)) (ended_at now) (rows_in s f)
-ended_shown s f now file is = sym (update_first-map (row_in s f.id) (is_version file (f.next - 1)) (is_numbered (f.next - 1)) (same_number s f.id file (f.next - 1) is) (ended_at now) (ended_by now) (λ row. refl) f.log.rows)
+ended_shown s f now file is = sym (update_first-map (row_in s f.id) (is_version file (f.next - 1)) (has_number (f.next - 1)) (same_number s f.id file (f.next - 1) is) (ended_at now) (ended_by now) (λ row. refl) f.log.rows)
 
 -- each row of a file is past where its versions are
 pub file_past : (s : Store) (files : List File) (id : ℕ) (f : File) (now : ℕ) → find (is_id id) files ≡ Some f → AllByRecursion (IsPast now) (flat_map (rows_in s) files) → AllByRecursion (IsRowPast now) f.log.rows
@@ -55,7 +55,7 @@ module _ (s : Store) (file number : ℕ) (files : List File) (rise : AllLater (�
   pub version_none : find (is_id file) files ≡ None → version ≡ None
   version_none none = found_in ∙ ap (option_and_then (λ f. find (is_version file number) (rows_in s f))) none
 
-  pub version_of : (f : File) → find (is_id file) files ≡ Some f → version ≡ option_map (row_in s f.id) (find (is_numbered number) f.log.rows)
+  pub version_of : (f : File) → find (is_id file) files ≡ Some f → version ≡ option_map (row_in s f.id) (find (has_number number) f.log.rows)
   version_of f found = grind (arith, nat_tests, found_in, find-map, found_passes)
 
 -- ---- drafts and handles

@@ -1,5 +1,5 @@
 -- What is told of versions and drafts, as the log of their file shows it: the version that a tag means, the newest, the next closing.
-use Rattle.ele_files.proofs.Words.{AllByRecursion, AllSessions, Bool, Err, File, Keeps, List, LivesIn, LogRow, None, Ok, Option, Refusal, Some, Stamps, Store, Tag, VersionRow, [], all_found, ap, arith, eqb, false≢true, file_row, filter, filter-buckets, find, find-filter, find-map, flat_map, found_passes, had_closed, had_life, has_closed_by, held_or_forgotten, is_before, is_id, is_numbered, is_version, is_version_of, last_number, last_passing, lives_at, map, nat_tests, option_map, option_map_or, refl, result_map_both, row_in, row_living, row_meant, row_numbered, rows_in, stamps_in, stamps_of, sym, told_or_forgotten, true, version_living, version_meant, version_numbered, ℕ, ◌-◌, ◌∙◌, ◌∷◌, ◌≡◌, Bor, Draft, Layout, cells_of_version, draft_in, held_in, is_some, is_some-copied, list_any, option_copied, shown, IsFileKept, IsRowOf, all-weaker, filter-all, is_after, is_newer_of, newest_of, next_closing}
+use Rattle.ele_files.proofs.Words.{AllByRecursion, AllSessions, Bool, Err, File, Keeps, List, LivesIn, LogRow, None, Ok, Option, Refusal, Some, Stamps, Store, Tag, VersionRow, [], all_found, ap, arith, eqb, false≢true, file_row, filter, filter-buckets, find, find-filter, find-map, flat_map, found_passes, had_closed, had_life, has_closed_by, held_or_forgotten, is_before, is_id, has_number, is_version, is_version_of, last_number, last_passing, lives_at, map, nat_tests, option_map, option_map_or, refl, result_map_both, row_in, row_living, row_meant, row_numbered, rows_in, stamps_in, stamps_of, sym, told_or_forgotten, true, version_living, version_meant, version_numbered, ℕ, ◌-◌, ◌∙◌, ◌∷◌, ◌≡◌, Bor, Draft, Layout, cells_of_version, draft_in, held_in, is_some, is_some-copied, list_any, option_copied, shown, IsFileKept, IsRowOf, all-weaker, filter-all, is_after, is_newer_of, newest_of, next_closing}
 use Rattle.ele_files.proofs.Rows.{file_of, next_found, tagged, version_of, any_draft}
 use Rattle.ele_files.proofs.Stock.{logs_live, row_lives}
 use Rattle.ele_world.specs.World.{is_draft}
@@ -67,8 +67,8 @@ module _ (s : Store) (files : List File) (a : AllSessions) (kept : Keeps s files
     told q r x2 is = grind (arith, nat_tests, row_lives)
 
     numbered_shown : (number : ℕ) → result_map_both stamps_of (λ (refusal : Refusal). refusal) (version_numbered versions file number) ≡ row_numbered f number
-    numbered_shown number = rw (find_shown (is_version file number) (is_numbered number) (λ row e. grind (arith, nat_tests)) (λ row. rw own refl), last_shown (world.is_before file number) (is_before number) (λ row e. grind (arith, nat_tests)) (λ row. rw own refl))
-        (told (is_numbered number) (is_before number) (find (is_numbered number) f.log.rows) refl)
+    numbered_shown number = rw (find_shown (is_version file number) (has_number number) (λ row e. grind (arith, nat_tests)) (λ row. rw own refl), last_shown (world.is_before file number) (is_before number) (λ row e. grind (arith, nat_tests)) (λ row. rw own refl))
+        (told (has_number number) (is_before number) (find (has_number number) f.log.rows) refl)
 
     living_shown : (moment : ℕ) → result_map_both stamps_of (λ (refusal : Refusal). refusal) (version_living versions file moment) ≡ row_living f moment
     living_shown moment = rw (find_shown (had_life file moment) (lives_at moment) (λ row e. grind (arith, nat_tests)) (λ row. rw own refl), last_shown (had_closed file moment) (has_closed_by moment) (λ row e. grind (arith, nat_tests)) (λ row. rw own refl))
@@ -92,13 +92,13 @@ module _ (s : Store) (files : List File) (a : AllSessions) (kept : Keeps s files
       each (row ∷ rows) all = rw (kept.laws.long s row.cells all.0, each rows all.1) refl
 
     -- the stamps and the cells of a version
-    pub stamps_shown : (number : ℕ) (o : Option LogRow) → find (is_numbered number) f.log.rows ≡ o → option_map stamps_of (find (is_version file number) versions) ≡ option_map stamps_in o
+    pub stamps_shown : (number : ℕ) (o : Option LogRow) → find (has_number number) f.log.rows ≡ o → option_map stamps_of (find (is_version file number) versions) ≡ option_map stamps_in o
     stamps_shown number o is = rw (version_of s file number files kept.rise f found, is) (grind (arith, nat_tests, row_lives))
 
-    pub cells_none : (number : ℕ) → find (is_numbered number) f.log.rows ≡ None → cells_of_version (held_in s files a) file number ≡ []
+    pub cells_none : (number : ℕ) → find (has_number number) f.log.rows ≡ None → cells_of_version (held_in s files a) file number ≡ []
     cells_none number none = rw (version_of s file number files kept.rise f found, none) refl
 
-    pub cells_some : (number : ℕ) (row : LogRow) → find (is_numbered number) f.log.rows ≡ Some row → cells_of_version (held_in s files a) file number ≡ shown s row.cells
+    pub cells_some : (number : ℕ) (row : LogRow) → find (has_number number) f.log.rows ≡ Some row → cells_of_version (held_in s files a) file number ≡ shown s row.cells
     cells_some number row is = rw (version_of s file number files kept.rise f found, is) refl
 
     -- all rows are before the next number

@@ -18,7 +18,7 @@ pub use Rattle.ele_files.specs.Inside.{IsDraftKept, IsFileKept, IsRowOf, Keeps, 
 pub use Rattle.ele_files.specs.Meant.{row_living, row_meant, row_numbered, stamps_in, told_or_forgotten}
 pub use Rattle.ele_files.specs.Met.{Counts, Meets, is_key, log_bytes, log_places}
 pub use Rattle.ele_files.specs.declared.file.File.{File}
-pub use Rattle.ele_inode_log.specs.Rows.{AreInOrder, CanEndAt, EndsInTime, HeldRows, Precedes, has_closed_by, is_after, is_before, is_numbered, is_other, last_of, lives_at, update_last}
+pub use Rattle.ele_inode_log.specs.Rows.{AreInOrder, CanEndAt, EndsInTime, HeldRows, Precedes, has_closed_by, is_after, is_before, has_number, is_other, last_of, lives_at, update_last}
 pub use Rattle.ele_inode_log.specs.declared.row.VersionRow.{VersionRow as LogRow}
 pub use Rattle.ele_lists.proofs.Alls.{all-append, all-flat_map, all-got, all-left, all-map, all-place as all_place, all-right, all-split, flat_map-all, later-weaker, map-all}
 pub use Rattle.ele_lists.proofs.Buckets.{IsLocal, bucket_changes, filter-buckets, find-buckets, local-after, local-insert_before, local-remove_first, local-update_first}

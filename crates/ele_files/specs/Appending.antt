@@ -5,7 +5,7 @@ use Rattle.ele_blocks.specs.Owes.{Moves}
 use Rattle.ele_blocks.specs.Store.{Store}
 use Rattle.ele_files.specs.declared.file.File.{File}
 use Rattle.ele_inode_log.specs.declared.row.VersionRow as log
-use Rattle.ele_inode_log.specs.Rows.{is_numbered}
+use Rattle.ele_inode_log.specs.Rows.{has_number}
 use Rattle.ele_lists.specs.Lists.{update_first}
 use Rattle.ele_sessions.specs.declared.closing.Closing.{Closing}
 use Rattle.ele_sessions.specs.declared.closing.Closing.TheVariants.{Changed}
@@ -21,7 +21,7 @@ ended_by now row = record row { ended = Some (unwrap_or row.ended now) }
 
 -- the rows, of which that before the next one has ended
 abbrev pub ended_rows : File → ℕ → List log.VersionRow
-ended_rows f now = update_first (is_numbered (f.next - 1)) (ended_by now) f.log.rows
+ended_rows f now = update_first (has_number (f.next - 1)) (ended_by now) f.log.rows
 
 -- the version that closes at that moment, and ends at once where the file isn't live
 abbrev pub next_row : ℕ → ℕ → ℕ → Bool → Layout → log.VersionRow

@@ -3,7 +3,7 @@ use Rattle.std.specs.Prelude.{ℕ, ◌-◌, ◌&&◌, nat_lt, Option, Result, Ok
 use Rattle.std.specs.Option.{option_map, option_map_or}
 use Rattle.ele_files.specs.declared.file.File.{File}
 use Rattle.ele_inode_log.specs.declared.row.VersionRow as log
-use Rattle.ele_inode_log.specs.Rows.{is_numbered, is_before, has_closed_by, lives_at}
+use Rattle.ele_inode_log.specs.Rows.{has_number, is_before, has_closed_by, lives_at}
 use Rattle.ele_lists.specs.Last.{last_passing}
 use Rattle.ele_time_path.specs.declared.tagged.Tag.{Tag}
 use Rattle.ele_time_path.specs.declared.tagged.Tag.TheVariants as tag
@@ -28,7 +28,7 @@ told_or_forgotten found before =
 
 abbrev pub row_numbered : File → ℕ → Result Stamps Refusal
 row_numbered f number =
-    told_or_forgotten (find (is_numbered number) f.log.rows) (last_passing (is_before number) f.log.rows)
+    told_or_forgotten (find (has_number number) f.log.rows) (last_passing (is_before number) f.log.rows)
 
 abbrev pub row_living : File → ℕ → Result Stamps Refusal
 row_living f moment =

@@ -7,7 +7,7 @@ ghost use Rattle.ele_content.specs.Content.{content_of};
 ghost use Rattle.ele_content.specs.Place.{different, is_place};
 ghost use Rattle.ele_files.specs.Held.{Held, GotFile, changed_at, opened_by, without};
 ghost use Rattle.ele_files.specs.Inside.{is_id};
-ghost use Rattle.ele_inode_log.specs.Rows.{is_numbered};
+ghost use Rattle.ele_inode_log.specs.Rows.{has_number};
 ghost use Rattle.ele_lists.specs.Lists.{AllLater};
 ghost use Rattle.ele_sessions.specs.Changes.{write_refusal_of, truncate_refusal_of};
 ghost use Rattle.ele_world.specs.Change.{OpenHandle};
@@ -31,7 +31,6 @@ use crate::file::File;
 use ele_blocks::laws::stocks;
 use ele_blocks::{BlockMap, BlockStore};
 use ele_inode_log::{InodeLog, Meter};
-use ele_lists::put;
 use ele_moment::{FileId, Handle, Moment, NoMemory, VersionNo};
 use ele_policy::Policy;
 use ele_sessions::Sessions;
@@ -59,7 +58,7 @@ impl Model for Files {
     ghost invariant = { IsKept };
 }
 
-/// The place of the file of that number.
+// The place of the file of that number.
 fn place_of(files: &[BoxedFile], id: FileId) -> Option<usize>
     requires { AllLater (λ x y. x.id < y.id) files.now }
     ensures { result ≡ position (is_id id) files.now }
@@ -70,7 +69,7 @@ fn place_of(files: &[BoxedFile], id: FileId) -> Option<usize>
     }
 }
 
-/// The file of that number.
+// The file of that number.
 #[tactic(auto, using(std::proofs::lemmas::Bool::Decides::nat_tests, crate::proofs::Rows::no_file, crate::proofs::Words::find_position))]
 fn file_of(files: &[BoxedFile], id: FileId) -> Option<&File>
     requires { AllLater (λ x y. x.id < y.id) files.now }
@@ -80,12 +79,12 @@ fn file_of(files: &[BoxedFile], id: FileId) -> Option<&File>
     Some(files[at].get())
 }
 
-/// The map that a new draft of the file begins with: that of the version before the next one, or the
-/// empty one where that version isn't held.
+// The map that a new draft of the file begins with: that of the version before the next one, or the
+// empty one where that version isn't held.
 fn first_map<'a>(file: &'a File, empty: &'a BlockMap, meter: &mut Meter) -> &'a BlockMap
     requires { meter.old < 2 ^ 63 }
     ensures map { result.now ≡ option_map_or (λ row. row.cells)
-        (find (is_numbered (file.now.next - 1)) file.now.log.rows) empty.now }
+        (find (has_number (file.now.next - 1)) file.now.log.rows) empty.now }
     ensures read { meter.new ≤ meter.old + 1 }
 {
     match file.log.get(file.next.before(), meter) {
@@ -97,7 +96,8 @@ fn first_map<'a>(file: &'a File, empty: &'a BlockMap, meter: &mut Meter) -> &'a 
 impl Files {
     /// No files; this takes no memory.
     pub fn new(alloc: Global) -> Files
-        ensures { result ≡ record { files = []; versions = []; drafts = []; handles = []; opened = 0 } }
+        ensures { result
+            ≡ record { files = []; versions = []; drafts = []; handles = []; opened = 0 } }
     {
         // The laws hold by themselves; from here on they stand in the invariant.
         stocks();
@@ -128,12 +128,13 @@ impl Files {
         let empty = BlockMap::new(self.alloc);
         let _first = file.append(now, now, true, empty, &mut Meter::new());
         let boxed = BoxedFile::new(self.alloc, file)?;
-        put(&mut self.files, boxed);
+        self.files.push_reserved(boxed);
         Ok(())
     }
 
-    /// A handle that writes the file. It joins the file's draft, or where there is none it starts one
-    /// with the content of the version before the next. Where memory is refused, all is as it was.
+    /// A handle that writes the file, which is there. It joins the file's draft, or where there is
+    /// none it starts one with the content of the version before the next. Where memory is refused,
+    /// all is as it was.
     #[tactic(auto, using(std::proofs::lemmas::Bool::Decides::nat_tests, crate::proofs::Rows::next_found, crate::proofs::Openings::maps_seen, crate::proofs::Openings::first_lives))]
     pub fn open_write(
         &mut self,
@@ -173,7 +174,12 @@ impl Files {
 
     /// Takes out the version, and answers how many bytes it had; none where it isn't held.
     #[tactic(auto, using(std::proofs::lemmas::Bool::Decides::nat_tests, crate::proofs::Rows::version_none, crate::proofs::Rows::no_file, crate::proofs::Words::remove_first_unfound, crate::proofs::Words::all_not_found))]
-    pub fn remove(&mut self, file: FileId, number: VersionNo, meter: &mut Meter) -> Option<u64>
+    pub fn remove_version(
+        &mut self,
+        file: FileId,
+        number: VersionNo,
+        meter: &mut Meter,
+    ) -> Option<u64>
         requires { meter.old < 2 ^ 62 }
         ensures value { result ≡ option_map (λ row. length (content_of row.cells))
             (find (is_version file number) self.old.versions) }

@@ -22,7 +22,7 @@ pub fn stamps_of(row: &VersionRow) -> Stamps
     }
 }
 
-/// Whether the row ended after the moment, or has no end.
+// Whether the row ended after the moment, or has no end.
 fn ends_after(row: &VersionRow, moment: Moment) -> bool
     ensures { result ≡ ends_after moment row.now }
 {
@@ -33,7 +33,8 @@ fn ends_after(row: &VersionRow, moment: Moment) -> bool
 }
 
 impl File {
-    /// The version of that number. Refused: `Forgotten`, with the last number that is held from before it.
+    // The version of that number. Refused: `Forgotten`, with the last number that is held from
+    // before it.
     fn numbered(&self, number: VersionNo, meter: &mut Meter) -> Result<Stamps, Refusal>
         requires { meter.old < 2 ^ 62 }
         ensures value { result ≡ row_numbered self.now number }
@@ -46,8 +47,8 @@ impl File {
         Err(Refusal::Forgotten(before.map(|row| row.number)))
     }
 
-    /// The version that lived at the moment. Refused: `Forgotten`, with the number of the last one that is held of those that had
-    /// closed by then.
+    /// The version that lived at the moment. Refused: `Forgotten`, with the number of the last one
+    /// that is held of those that had closed by then.
     pub fn living(&self, moment: Moment, meter: &mut Meter) -> Result<Stamps, Refusal>
         requires { meter.old < 2 ^ 62 }
         ensures value { result ≡ row_living self.now moment }
@@ -63,8 +64,8 @@ impl File {
         }
     }
 
-    /// The version that the tag means; without one it is the version before the next. Refused: `NoVersion` for a number that
-    /// no version got, `Forgotten`.
+    /// The version that the tag means; without one it is the version before the next. Refused:
+    /// `NoVersion` for a number that no version got, `Forgotten`.
     pub fn meant(&self, tag: Tag, meter: &mut Meter) -> Result<Stamps, Refusal>
         requires { meter.old < 2 ^ 62 }
         ensures value { result ≡ row_meant self.now tag }

@@ -12,8 +12,8 @@ pub record HeldRows : Type 0 where
   pub spare : ℕ
 
 -- the row has that number
-abbrev pub is_numbered : ℕ → VersionRow → Bool
-is_numbered number row = row.number == number
+abbrev pub has_number : ℕ → VersionRow → Bool
+has_number number row = row.number == number
 
 -- the row has another number
 abbrev pub is_other : ℕ → VersionRow → Bool

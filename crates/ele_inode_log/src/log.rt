@@ -3,7 +3,7 @@
 ghost use Rattle.std.specs.Prelude.{◌≡◌, ◌<◌, ◌≤◌, ◌+◌, ◌==◌, ◌^◌, [], ◌∷◌, ◌++◌, OnOk, OnErr, IfErr, IsOk, IsTrue, ◌↔◌, All, IsSomeAnd, find, filter, length, is_some, if◌then◌else◌};
 ghost use Rattle.std.specs.Option.{ForSome, option_copied, option_map};
 ghost use Rattle.std.specs.List.{list_any};
-ghost use Rattle.ele_inode_log.specs.Rows.{HeldRows, AreInOrder, Precedes, EndsInTime, CanEndAt, last_of, update_last, is_numbered, is_other, is_after, is_before, has_closed_by, ends_after, lives_at, ended_at};
+ghost use Rattle.ele_inode_log.specs.Rows.{HeldRows, AreInOrder, Precedes, EndsInTime, CanEndAt, last_of, update_last, has_number, is_other, is_after, is_before, has_closed_by, ends_after, lives_at, ended_at};
 ghost use Rattle.ele_lists.specs.Last.{last_passing, passing};
 
 use crate::meter::Meter;
@@ -14,8 +14,9 @@ use std::alloc::Global;
 use std::marker::Model;
 
 /// The held versions of one file. Numbers rise, a version has ended when the next one closes, and
-/// only the last may have no end. Each row that a call reads or removes adds one to the call's
-/// meter, and no call reads a row without one; a search compares numbers or closings on its way.
+/// only the last may have no end. Each row that a call finds and reads or removes adds one to the
+/// call's meter, and no call without a meter finds one. On its way a search compares numbers or
+/// closings of rows, which no meter counts.
 #[derive(Debug, Drop)]
 pub struct InodeLog {
     rows: Chunks<VersionRow>,
@@ -100,7 +101,7 @@ impl InodeLog {
     #[tactic(auto, using(crate::proofs::Order::numbers_rise))]
     pub fn get(&self, number: VersionNo, meter: &mut Meter) -> Option<&VersionRow>
         requires { meter.old < 2 ^ 63 }
-        ensures row { option_copied result ≡ find (is_numbered number) self.now.rows }
+        ensures row { option_copied result ≡ find (has_number number) self.now.rows }
         ensures read { meter.new ≡ meter.old + (if is_some result then 1 else 0) }
     {
         counted(self.rows.get(number.0), meter)
@@ -129,7 +130,7 @@ impl InodeLog {
     #[tactic(auto, using(crate::proofs::Order::numbers_rise, crate::proofs::Order::in_order_removed, crate::proofs::Order::remove_first_key))]
     pub fn remove(&mut self, number: VersionNo, meter: &mut Meter) -> Option<VersionRow>
         requires { meter.old < 2 ^ 63 }
-        ensures row { result ≡ find (is_numbered number) self.old.rows }
+        ensures row { result ≡ find (has_number number) self.old.rows }
         ensures rows { self.new.rows ≡ filter (is_other number) self.old.rows }
         ensures room { 1 ≤ self.old.spare → 1 ≤ self.new.spare }
         ensures read { meter.new ≡ meter.old + (if is_some result then 1 else 0) }
@@ -171,7 +172,7 @@ impl InodeLog {
     }
 }
 
-/// The number of the row, if the moment is before its end.
+// The number of the row, if the moment is before its end.
 fn number_at(row: Option<&VersionRow>, moment: Moment) -> Option<VersionNo>
     ensures { result ≡ option_map (λ row. row.number)
         (passing (ends_after moment) (option_copied row.entry)) }
@@ -183,7 +184,7 @@ fn number_at(row: Option<&VersionRow>, moment: Moment) -> Option<VersionNo>
     }
 }
 
-/// The row, if there is one, counted as read.
+// The row, if there is one, counted as read.
 fn counted<'a>(row: Option<&'a VersionRow>, meter: &mut Meter) -> Option<&'a VersionRow>
     requires { meter.old < 2 ^ 63 }
     ensures row { option_copied result ≡ option_copied row.entry }

@@ -2,7 +2,7 @@
 pub use Rattle.ele_lists.specs.Chunks.{AreFilled, IsPlaceOf, IsSeam, Sinks, before_place, behind_place, ends_before, flat, last_room, room_of, rows_at}
 pub use Rattle.ele_lists.specs.Ends.{last_of, update_last}
 pub use Rattle.ele_lists.specs.Index.{IsLastOf, entry_cmp, has, is_entry}
-pub use Rattle.ele_lists.specs.Keys.{Rises, has_key, is_behind}
+pub use Rattle.ele_lists.specs.Keys.{Rises, stands_by, is_behind}
 pub use Rattle.ele_lists.specs.Last.{last_passing, passing}
 pub use Rattle.ele_lists.specs.Lists.{AllLater, insert_before, remove_first, update_first}
 pub use Rattle.ele_lists.specs.Serial.{IsIndexOf, is_placed, value_at}

@@ -1,5 +1,5 @@
 -- Rows of rising keys: what a binary search by a key finds (`place_of`), and that rising keys are parted at any key.
-use Rattle.ele_lists.proofs.Basics.{AllLater, Bool, IsNonDecreasingBy, IsPartitionPoint, IsPartitionedBy, IsPartitionedBy-ltb, List, None, Rises, Sinks, Some, [], arith, false, filter, get_or, has_key, is_behind, leb, length, ltb, nat_tests, not, position, position_or_len_is, refl, remove_first, suc, true, unwrap_or, ℕ, ◌<◌, ◌∷◌, ◌≡◌, ◌≢◌, ◌≤◌}
+use Rattle.ele_lists.proofs.Basics.{AllLater, Bool, IsNonDecreasingBy, IsPartitionPoint, IsPartitionedBy, IsPartitionedBy-ltb, List, None, Rises, Sinks, Some, [], arith, false, filter, get_or, stands_by, is_behind, leb, length, ltb, nat_tests, not, position, position_or_len_is, refl, remove_first, suc, true, unwrap_or, ℕ, ◌<◌, ◌∷◌, ◌≡◌, ◌≢◌, ◌≤◌}
 use Rattle.ele_lists.proofs.Alls.{later-place, later-weaker}
 use Rattle.ele_lists.proofs.Edits.{all-weaker}
 use Rattle.ele_lists.proofs.Filters.{filter-all}
@@ -19,9 +19,9 @@ module _ {X : Type 0} (key : X → ℕ) where
   rises-le xs rises = λ i j d le lt. grind (arith, later-place (λ x y. key x < key y) xs i j d rises)
 
   -- a row of the key stands at its place
-  pub place-there : (xs : List X) (this i : ℕ) (x : X) → Rises key xs → i < length xs → ((d : X) → x ≡ get_or xs i d) → key x ≡ this → position (has_key key this) xs ≡ Some i
+  pub place-there : (xs : List X) (this i : ℕ) (x : X) → Rises key xs → i < length xs → ((d : X) → x ≡ get_or xs i d) → key x ≡ this → position (stands_by key this) xs ≡ Some i
   place-there xs this i x rises lt is same =
-      position-is (has_key key this) xs i x lt (λ k less. grind (arith, nat_tests, later-place (λ x y. key x < key y) xs k i x rises less lt, is x)) (grind (arith, nat_tests, is x))
+      position-is (stands_by key this) xs i x lt (λ k less. grind (arith, nat_tests, later-place (λ x y. key x < key y) xs k i x rises less lt, is x)) (grind (arith, nat_tests, is x))
 
   pub rises-parted : (xs : List X) (this : ℕ) → Rises key xs → IsPartitionedBy (λ x. ltb (key x) this) xs
   rises-parted xs this rises = IsPartitionedBy-ltb key xs this (rises-le xs rises)
@@ -35,23 +35,23 @@ module _ {X : Type 0} (key : X → ℕ) where
 
     -- a row stands there
     module _ (x : X) (rises : Rises key xs) (lt : i < length xs) (is : (d : X) → x ≡ get_or xs i d) where
-      pub place-found : key x ≡ this → position (has_key key this) xs ≡ Some i
-      place-found same = position-is (has_key key this) xs i x lt (λ k less. grind (arith, nat_tests, below k x less)) (grind (arith, nat_tests, is x))
+      pub place-found : key x ≡ this → position (stands_by key this) xs ≡ Some i
+      place-found same = position-is (stands_by key this) xs i x lt (λ k less. grind (arith, nat_tests, below k x less)) (grind (arith, nat_tests, is x))
 
       module _ (other : key x ≢ this) where
         above : (k : ℕ) (d : X) → i ≤ k → k < length xs → this < key (get_or xs k d)
         above k d le within = grind (arith, later-place (λ x y. key x < key y) xs i k d rises, least i d, is d)
 
-        pub place-missing : position (has_key key this) xs ≡ None
-        place-missing = position-none (has_key key this) xs (λ k d within. grind (arith, nat_tests, below k d, above k d))
+        pub place-missing : position (stands_by key this) xs ≡ None
+        place-missing = position-none (stands_by key this) xs (λ k d within. grind (arith, nat_tests, below k d, above k d))
 
         pub place-gap : unwrap_or (position (is_behind key this) xs) (length xs) ≡ i
         place-gap = grind (arith, position-is (is_behind key this) xs i x lt (λ k less. grind (arith, nat_tests, below k x less)) (grind (arith, nat_tests, above i x)))
 
     -- or none does
     module _ (past : length xs ≤ i) where
-      pub end-missing : position (has_key key this) xs ≡ None
-      end-missing = position-none (has_key key this) xs (λ k d within. grind (arith, nat_tests, below k d))
+      pub end-missing : position (stands_by key this) xs ≡ None
+      end-missing = position-none (stands_by key this) xs (λ k d within. grind (arith, nat_tests, below k d))
 
       pub end-gap : i ≤ length xs → unwrap_or (position (is_behind key this) xs) (length xs) ≡ i
       end-gap within = grind (arith, position-none (is_behind key this) xs (λ k d lt. grind (arith, nat_tests, below k d)))
@@ -65,6 +65,6 @@ module _ {X : Type 0} (key : X → ℕ) (this : ℕ) (xs : List X) (rises : Rise
   behind_sinks = later-weaker (λ x y. key x < key y) (Sinks (λ x. leb (key x) this)) xs (λ x y lt h. grind (arith, nat_tests, lt, h)) rises
 
 -- the others, where the row of a key is taken out
-pub remove_first-key : {X : Type 0} (key : X → ℕ) (this : ℕ) (xs : List X) → Rises key xs → remove_first (has_key key this) xs ≡ filter (λ x. not (has_key key this x)) xs
+pub remove_first-key : {X : Type 0} (key : X → ℕ) (this : ℕ) (xs : List X) → Rises key xs → remove_first (stands_by key this) xs ≡ filter (λ x. not (stands_by key this x)) xs
 remove_first-key key this [] rises = refl
-remove_first-key key this (x ∷ xs) rises = grind (arith, nat_tests, filter-all, has_key, all-weaker, remove_first-key key this xs)
+remove_first-key key this (x ∷ xs) rises = grind (arith, nat_tests, filter-all, stands_by, all-weaker, remove_first-key key this xs)

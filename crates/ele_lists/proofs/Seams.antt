@@ -1,5 +1,5 @@
 -- Chunks as one list: a place in them, a search's seam, and a row more, less or changed (for the functions of src/seam.rt).
-use Rattle.ele_lists.proofs.Basics.{AllByRecursion, AllLater, AllWithin, AreFilled, Bool, Global, IsPartitionPoint, IsPartitionedBy, IsPlaceOf, IsSeam, List, Rises, Sinks, Some, Vec, [], ap, append-nil, append_assoc, arith, before_place, behind_place, drop, drop_all, ends_before, false, find, flat, get_or, get_or-set_same, has_key, last_of, last_room, length, length-set, length-take, ltb, nat_tests, option_and_then, option_map_or, position, position-Some, refl, remove, room_of, rows_at, set, slice_get, slice_get-get_or, slice_get_past, slice_get_read, slice_get_within, suc, sym, take, take-append-drop, take_all, true, update_last, zero, ℕ, ◌++◌, ◌-◌, ◌<◌, ◌∙◌, ◌∷◌, ◌≡◌, ◌≢◌, ◌≤◌}
+use Rattle.ele_lists.proofs.Basics.{AllByRecursion, AllLater, AllWithin, AreFilled, Bool, Global, IsPartitionPoint, IsPartitionedBy, IsPlaceOf, IsSeam, List, Rises, Sinks, Some, Vec, [], ap, append-nil, append_assoc, arith, before_place, behind_place, drop, drop_all, ends_before, false, find, flat, get_or, get_or-set_same, stands_by, last_of, last_room, length, length-set, length-take, ltb, nat_tests, option_and_then, option_map_or, position, position-Some, refl, remove, room_of, rows_at, set, slice_get, slice_get-get_or, slice_get_past, slice_get_read, slice_get_within, suc, sym, take, take-append-drop, take_all, true, update_last, zero, ℕ, ◌++◌, ◌-◌, ◌<◌, ◌∙◌, ◌∷◌, ◌≡◌, ◌≢◌, ◌≤◌}
 use Rattle.ele_lists.proofs.Alls.{all-append, all-left, all-right, all-got, later-around, later-left, later-right, later-place}
 use Rattle.ele_lists.proofs.Cuts.{find-at, remove_first-at}
 use Rattle.ele_lists.proofs.Edits.{all-weaker, length-remove_first}
@@ -200,25 +200,25 @@ module _ {X : Type 0} where
     abbrev below : X → Bool
     below x = ltb (key x) this
 
-    lesser : (xs : List X) → AllByRecursion (λ x. below x ≡ true) xs → AllByRecursion (λ x. has_key key this x ≡ false) xs
-    lesser xs all = all-weaker (λ x. below x ≡ true) (λ x. has_key key this x ≡ false) xs (λ x h. grind (arith, nat_tests, h)) all
+    lesser : (xs : List X) → AllByRecursion (λ x. below x ≡ true) xs → AllByRecursion (λ x. stands_by key this x ≡ false) xs
+    lesser xs all = all-weaker (λ x. below x ≡ true) (λ x. stands_by key this x ≡ false) xs (λ x h. grind (arith, nat_tests, h)) all
 
     -- a row of the key, of which there is none before it
     module _ (cs : List (Vec X Global)) (i j : ℕ) (x : X) (is : slice_get (rows_at cs i) j ≡ Some x) (same : key x ≡ this) where
       whole : flat cs ≡ before_place cs i j ++ x ∷ behind_place cs i (suc j)
       whole = place_split cs i j ∙ ap (λ xs. before_place cs i j ++ xs) (behind_more cs i j x is)
 
-      first : AllByRecursion (λ y. has_key key this y ≡ false) (before_place cs i j) → IsPlaceOf (has_key key this) cs i j
+      first : AllByRecursion (λ y. stands_by key this y ≡ false) (before_place cs i j) → IsPlaceOf (stands_by key this) cs i j
       first none =
-          let p = has_key key this in
+          let p = stands_by key this in
           let found : find p (flat cs) ≡ Some x = grind (arith, nat_tests, whole, find-at p (before_place cs i j) x (behind_place cs i (suc j)) none) in
           record { within = slice_get_within (rows_at cs i) j x is; found = found ∙ sym is; rest = grind (arith, nat_tests, whole, remove_first-at p (before_place cs i j) x (behind_place cs i (suc j)) none); shorter = length-remove_first p (flat cs) x found }
 
       -- as keys rise
-      key_there : Rises key (flat cs) → IsPlaceOf (has_key key this) cs i j
+      key_there : Rises key (flat cs) → IsPlaceOf (stands_by key this) cs i j
       key_there rises =
           let less = (later-around (λ y z. key y < key z) (before_place cs i j) x (behind_place cs i (suc j)) (rw (← whole) rises)).0 in
-          first (all-weaker (λ y. key y < key x) (λ y. has_key key this y ≡ false) (before_place cs i j) (λ y lt. grind (arith, nat_tests, lt, same)) less)
+          first (all-weaker (λ y. key y < key x) (λ y. stands_by key this y ≡ false) (before_place cs i j) (λ y lt. grind (arith, nat_tests, lt, same)) less)
 
     -- keys rise in each chunk
     pub chunk_rises : (cs : List (Vec X Global)) (i : ℕ) (here : Vec X Global) → Rises key (flat cs) → slice_get cs i ≡ Some here → Rises key here.items
@@ -227,24 +227,24 @@ module _ {X : Type 0} where
         rw (rows-here cs i here is) at (later-left R (rows_at cs i) (flat (drop (suc i) cs)) (later-right R (flat (take i cs)) (rows_at cs i ++ flat (drop (suc i) cs)) (rw (← flat_split cs i) rises)))
 
     -- a row of the key that is the first of its chunk
-    pub dense_found : (cs : List (Vec X Global)) (i j : ℕ) (here : Vec X Global) → Rises key (flat cs) → slice_get cs i ≡ Some here → position (has_key key this) here.items ≡ Some j → IsPlaceOf (has_key key this) cs i j
+    pub dense_found : (cs : List (Vec X Global)) (i j : ℕ) (here : Vec X Global) → Rises key (flat cs) → slice_get cs i ≡ Some here → position (stands_by key this) here.items ≡ Some j → IsPlaceOf (stands_by key this) cs i j
     dense_found cs i j here rises is at = by here.items refl where
-      by : (xs : List X) → here.items ≡ xs → IsPlaceOf (has_key key this) cs i j
+      by : (xs : List X) → here.items ≡ xs → IsPlaceOf (stands_by key this) cs i j
       by [] e = absurd (grind (arith, nat_tests))
       by (d ∷ xs) e =
-          let stands = position-Some (has_key key this) here.items j d at in
+          let stands = position-Some (stands_by key this) here.items j d at in
           key_there cs i j (get_or here.items j d) (grind (arith, rows-here cs i here is, slice_get-get_or here.items j d)) (grind (arith, nat_tests, stands.1)) rises
 
     module _ (cs : List (Vec X Global)) (i j : ℕ) (seam : IsSeam below cs i j) where
-      pub key_found : (x : X) → slice_get (rows_at cs i) j ≡ Some x → key x ≡ this → IsPlaceOf (has_key key this) cs i j
+      pub key_found : (x : X) → slice_get (rows_at cs i) j ≡ Some x → key x ≡ this → IsPlaceOf (stands_by key this) cs i j
       key_found x is same = first cs i j x is same (lesser (before_place cs i j) seam.passes)
 
-      pub key_missing : Rises key (flat cs) → ((x : X) → slice_get (rows_at cs i) j ≡ Some x → key x ≢ this) → AllByRecursion (λ x. has_key key this x ≡ false) (flat cs)
+      pub key_missing : Rises key (flat cs) → ((x : X) → slice_get (rows_at cs i) j ≡ Some x → key x ≢ this) → AllByRecursion (λ x. stands_by key this x ≡ false) (flat cs)
       key_missing rises other =
           let whole = place_split cs i j in
           let both : Rises key (before_place cs i j ++ behind_place cs i j) = rw (← whole) rises in
           rw whole (all-append _ (before_place cs i j) (behind_place cs i j) (lesser (before_place cs i j) seam.passes) (by (behind_place cs i j) (later-right (λ x y. key x < key y) (before_place cs i j) (behind_place cs i j) both) seam.fails (λ x is. other x (sym (first_behind cs i j seam.within) ∙ is))))
         where
-          by : (xs : List X) → Rises key xs → AllByRecursion (λ x. below x ≡ false) xs → ((x : X) → slice_get xs 0 ≡ Some x → key x ≢ this) → AllByRecursion (λ x. has_key key this x ≡ false) xs
+          by : (xs : List X) → Rises key xs → AllByRecursion (λ x. below x ≡ false) xs → ((x : X) → slice_get xs 0 ≡ Some x → key x ≢ this) → AllByRecursion (λ x. stands_by key this x ≡ false) xs
           by [] rises fails other = tt
-          by (x ∷ xs) rises fails other = grind (arith, nat_tests, other x refl, all-weaker (λ y. key x < key y) (λ y. has_key key this y ≡ false) xs)
+          by (x ∷ xs) rises fails other = grind (arith, nat_tests, other x refl, all-weaker (λ y. key x < key y) (λ y. stands_by key this y ≡ false) xs)

@@ -24,6 +24,10 @@ module _ {X : Type 0} where
   abbrev pub AreFilled : List (Vec X Global) → Type 0
   AreFilled chunks = AllByRecursion (λ chunk. 0 < length chunk.items) chunks
 
+  -- none has room for more than 64
+  abbrev pub AreShort : List (Vec X Global) → Type 0
+  AreShort chunks = AllByRecursion (λ chunk. vec_capacity chunk ≤ 64) chunks
+
   -- for how many more rows a chunk has room
   abbrev pub room_of : Vec X Global → ℕ
   room_of chunk = vec_capacity chunk - vec_len chunk
@@ -68,10 +72,11 @@ module _ {X : Type 0} where
     pub chunks : vec_len new ≡ vec_len old
     pub room : last_room old.items ≤ last_room new.items
 
-  -- a chunk without rows, with room for one
+  -- a chunk without rows, with room for one, and for 64 at most
   pub record IsFresh (chunk : Vec X Global) : Type 0 where
     pub empty : chunk.items ≡ []
     pub room : 1 ≤ room_of chunk
+    pub short : vec_capacity chunk ≤ 64
 
   -- there is room in the last chunk, and in the next one where the list of chunks has room for it
   abbrev pub spaced_of : Vec (Vec X Global) Global → Option (Vec X Global) → ℕ → Spaced X
@@ -80,8 +85,10 @@ module _ {X : Type 0} where
     spare = min (2 ^ 64 - 1 - count) (last_room chunks.items + min (vec_capacity chunks - vec_len chunks) (option_map_or room_of fresh 0));
   }
 
-  -- each chunk has rows, the one kept beside them has none and room, and the rows are counted
+  -- each chunk has rows, the one kept beside them has none and room, none is long, and the rows are
+  -- counted
   pub record IsSpaced (chunks : List (Vec X Global)) (beside : Option (Vec X Global)) (counted : ℕ) : Type 0 where
     pub filled : AreFilled chunks
+    pub short : AreShort chunks
     pub fresh : ForSome beside IsFresh
     pub count : counted ≡ length (flat chunks)

@@ -7,8 +7,8 @@ abbrev pub Rises : {X : Type 0} → (X → ℕ) → List X → Type 0
 Rises key xs = AllLater (λ x y. key x < key y) xs
 
 -- the row has that key
-abbrev pub has_key : {X : Type 0} → (X → ℕ) → ℕ → X → Bool
-has_key key this row = key row == this
+abbrev pub stands_by : {X : Type 0} → (X → ℕ) → ℕ → X → Bool
+stands_by key this row = key row == this
 
 -- the row has a greater key
 abbrev pub is_behind : {X : Type 0} → (X → ℕ) → ℕ → X → Bool

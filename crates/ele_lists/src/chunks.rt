@@ -1,15 +1,14 @@
 //! A list in chunks, with room behind it that can be taken in advance.
 //! A contract sees its rows, and for how many more there is room.
-ghost use Rattle.std.specs.Prelude.{◌≡◌, ◌<◌, ◌≤◌, [], ◌∷◌, ◌++◌, OnOk, IsOk, not, find, reverse, length};
+ghost use Rattle.std.specs.Prelude.{◌≡◌, ◌<◌, ◌≤◌, ◌/◌, [], ◌∷◌, ◌++◌, OnOk, IsOk, not, find, reverse, length, max, min};
 ghost use Rattle.std.specs.Option.{option_copied};
 ghost use Rattle.ele_lists.specs.Lists.{remove_first, AllLater};
 ghost use Rattle.ele_lists.specs.Ends.{last_of, update_last};
-ghost use Rattle.ele_lists.specs.Keys.{Rises, has_key};
+ghost use Rattle.ele_lists.specs.Keys.{Rises, stands_by};
 ghost use Rattle.ele_lists.specs.Chunks.{Sinks};
 
 use crate::cut::{Change, Cut};
 use crate::keyed::Keyed;
-use crate::room::put;
 use crate::seam::{
     change_last, find_key, last_has_room, last_row, push_last, row_at, row_before, seek, take_out,
 };
@@ -18,17 +17,17 @@ use std::marker::Model;
 
 /// How many rows a chunk has room for at most: enough that a million rows make few chunks, and few
 /// enough that a removal moves little.
-pub(crate) const LONGEST: usize = 64;
+pub(crate) const LONGEST_CHUNK: usize = 64;
 
 /// And at least: most lists stay short, and each takes no more than it needs.
-const SHORTEST: usize = 4;
+const SHORTEST_CHUNK: usize = 4;
 
-/// How many rows the next chunk has room for where there are so many: an eighth of them, within the
-/// bounds.
+// How many rows the next chunk has room for where there are so many: an eighth of them, within the
+// bounds.
 fn next_room(count: usize) -> usize
-    ensures { 1 ≤ result }
+    ensures { result ≡ max 4 (min 64 (count / 8)) }
 {
-    (count / 8).clamp(SHORTEST, LONGEST)
+    (count / 8).clamp(SHORTEST_CHUNK, LONGEST_CHUNK)
 }
 
 /// Rows in chunks, each chunk in a block of memory of its own: a removal moves the rows of one
@@ -71,9 +70,11 @@ impl<T: Drop> Chunks<T> {
         self.count
     }
 
-    /// Makes room for one row at least. Where memory is refused, the rows stay.
+    /// Makes room for one row at least, and where there was none for 64 at most. Where memory is
+    /// refused, the rows stay.
     pub fn reserve(&mut self) -> Result<(), AllocError>
         ensures ok { OnOk result (1 ≤ self.new.spare) }
+        ensures few { self.old.spare ≡ 0 → self.new.spare ≤ 64 }
         ensures ready { 1 ≤ self.old.spare → IsOk result }
         ensures rows { self.new.rows ≡ self.old.rows }
     {
@@ -103,8 +104,8 @@ impl<T: Drop> Chunks<T> {
             return;
         }
         if let Some(mut chunk) = self.fresh.take() {
-            put(&mut chunk, row);
-            put(&mut self.chunks, chunk);
+            chunk.push_reserved(row);
+            self.chunks.push_reserved(chunk);
         }
     }
 
@@ -147,7 +148,7 @@ impl<T: Keyed + Drop> Chunks<T> {
     /// The row of that key.
     pub fn get(&self, key: u64) -> Option<&T>
         requires { Rises T.key self.now.rows }
-        ensures { option_copied result ≡ find (has_key T.key key) self.now.rows }
+        ensures { option_copied result ≡ find (stands_by T.key key) self.now.rows }
     {
         let (chunk, place) = find_key(&self.chunks, key)?;
         row_at(&self.chunks, chunk, place)
@@ -156,8 +157,8 @@ impl<T: Keyed + Drop> Chunks<T> {
     /// Takes out the row of that key. There is room for as many rows as before, or more.
     pub fn remove(&mut self, key: u64) -> Option<T>
         requires { Rises T.key self.old.rows }
-        ensures row { result ≡ find (has_key T.key key) self.old.rows }
-        ensures rows { self.new.rows ≡ remove_first (has_key T.key key) self.old.rows }
+        ensures row { result ≡ find (stands_by T.key key) self.old.rows }
+        ensures rows { self.new.rows ≡ remove_first (stands_by T.key key) self.old.rows }
         ensures room { 1 ≤ self.old.spare → 1 ≤ self.new.spare }
     {
         let (chunk, place) = find_key(&self.chunks, key)?;

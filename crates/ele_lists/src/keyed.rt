@@ -3,7 +3,7 @@
 ghost use Rattle.std.specs.Prelude.{◌≡◌, Some, None, IfOk, IfErr, IfSome, length};
 ghost use Rattle.std.specs.List.{position};
 ghost use Rattle.std.specs.Option.{unwrap_or};
-ghost use Rattle.ele_lists.specs.Keys.{Rises, has_key, is_behind};
+ghost use Rattle.ele_lists.specs.Keys.{Rises, stands_by, is_behind};
 
 use crate::cut::Cut;
 
@@ -22,8 +22,8 @@ pub trait Keyed {
 /// of a greater key, or at the end where there is none.
 pub fn place_of<T: Keyed>(rows: &[T], key: u64) -> Result<usize, usize>
     requires { Rises T.key rows.now }
-    ensures found { IfOk result (λ at. position (has_key T.key key) rows.now ≡ Some at) }
-    ensures missing { IfErr result (λ at. position (has_key T.key key) rows.now ≡ None) }
+    ensures found { IfOk result (λ at. position (stands_by T.key key) rows.now ≡ Some at) }
+    ensures missing { IfErr result (λ at. position (stands_by T.key key) rows.now ≡ None) }
     ensures gap { IfErr result (λ at. unwrap_or (position (is_behind T.key key) rows.now)
         (length rows.now) ≡ at) }
 {
@@ -37,11 +37,12 @@ pub fn place_of<T: Keyed>(rows: &[T], key: u64) -> Result<usize, usize>
     }
 }
 
-/// The place of the row of that key, if no number between the first row's key and this one is missing.
-/// Rows that are numbered as they are made stand so until one leaves, and this look spares the search.
+/// The place of the row of that key, if no number between the first row's key and this one is
+/// missing. Rows that are numbered as they are made stand so until one leaves, and this look spares
+/// the search.
 pub(crate) fn place_if_dense<T: Keyed>(rows: &[T], key: u64) -> Option<usize>
     requires { Rises T.key rows.now }
-    ensures { IfSome result (λ at. position (has_key T.key key) rows.now ≡ Some at) }
+    ensures { IfSome result (λ at. position (stands_by T.key key) rows.now ≡ Some at) }
 {
     let first = rows.first()?.key();
     let at = usize::try_from(key.checked_sub(first)?).ok()?;

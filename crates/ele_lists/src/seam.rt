@@ -5,13 +5,12 @@ ghost use Rattle.std.specs.Option.{option_copied};
 ghost use Rattle.std.specs.List.{AllByRecursion};
 ghost use Rattle.ele_lists.specs.Lists.{AllLater};
 ghost use Rattle.ele_lists.specs.Ends.{last_of, update_last};
-ghost use Rattle.ele_lists.specs.Keys.{Rises, has_key};
-ghost use Rattle.ele_lists.specs.Chunks.{IsPlaceOf, flat, AreFilled, rows_at, before_place, behind_place, last_room, room_of, ends_before, Sinks, IsSeam, KeepsRoom};
+ghost use Rattle.ele_lists.specs.Keys.{Rises, stands_by};
+ghost use Rattle.ele_lists.specs.Chunks.{IsPlaceOf, flat, AreFilled, AreShort, rows_at, before_place, behind_place, last_room, room_of, ends_before, Sinks, IsSeam, KeepsRoom};
 
-use crate::chunks::LONGEST;
+use crate::chunks::LONGEST_CHUNK;
 use crate::cut::{Change, Cut};
 use crate::keyed::{BeforeKey, Keyed, place_if_dense};
-use crate::room::put;
 
 /// Whether the last chunk has room for one row more.
 #[tactic(auto, using(crate::proofs::Steps::last_has_room_steps))]
@@ -29,11 +28,13 @@ pub fn last_has_room<T>(chunks: &[Vec<T>]) -> bool
 pub fn push_last<T>(chunks: &mut [Vec<T>], row: T)
     requires room { 1 ≤ last_room chunks.old }
     requires filled { AreFilled chunks.old }
+    requires short { AreShort chunks.old }
     ensures rows { flat chunks.new ≡ flat chunks.old ++ row ∷ [] }
     ensures filled { AreFilled chunks.new }
+    ensures short { AreShort chunks.new }
 {
     let last = chunks.len() - 1;
-    put(&mut chunks[last], row);
+    chunks[last].push_reserved(row);
 }
 
 /// The last row.
@@ -45,7 +46,7 @@ pub fn last_row<T>(chunks: &[Vec<T>]) -> Option<&T>
     chunks.last()?.last()
 }
 
-/// Changes the last of the chunk's rows.
+// Changes the last of the chunk's rows.
 #[tactic(auto, using(crate::proofs::Steps::change_end_steps))]
 fn change_end<T, C: Change<T>>(rows: &mut Vec<T>, change: &C)
     requires { 0 < vec_len rows.old }
@@ -60,9 +61,11 @@ fn change_end<T, C: Change<T>>(rows: &mut Vec<T>, change: &C)
 /// Changes the last row, if there is one.
 #[tactic(auto, using(crate::proofs::Steps::seam_change_last_steps))]
 pub fn change_last<T, C: Change<T>>(chunks: &mut [Vec<T>], change: &C)
-    requires { AreFilled chunks.old }
+    requires filled { AreFilled chunks.old }
+    requires short { AreShort chunks.old }
     ensures rows { flat chunks.new ≡ update_last (C.changed change.now) (flat chunks.old) }
     ensures filled { AreFilled chunks.new }
+    ensures short { AreShort chunks.new }
     ensures room { last_room chunks.new ≡ last_room chunks.old }
 {
     if chunks.is_empty() {
@@ -94,7 +97,7 @@ pub fn row_before<T>(chunks: &[Vec<T>], chunk: usize, place: usize) -> Option<&T
     }
 }
 
-/// Whether all rows of the chunk come before the cut.
+// Whether all rows of the chunk come before the cut.
 #[tactic(auto, using(crate::proofs::Steps::ends_before_steps))]
 fn ends_before<T, C: Cut<T>>(chunk: &[T], cut: &C) -> bool
     ensures { result ≡ ends_before (C.before cut.now) chunk.now }
@@ -123,9 +126,9 @@ pub fn seek<T, C: Cut<T>>(chunks: &[Vec<T>], cut: &C) -> (usize, usize)
 pub fn find_key<T: Keyed>(chunks: &[Vec<T>], key: u64) -> Option<(usize, usize)>
     requires filled { AreFilled chunks.now }
     requires rises { Rises T.key (flat chunks.now) }
-    ensures found { IfSome result (λ at. IsPlaceOf (has_key T.key key) chunks.now at.0 at.1) }
+    ensures found { IfSome result (λ at. IsPlaceOf (stands_by T.key key) chunks.now at.0 at.1) }
     ensures missing { IfNone result
-        (AllByRecursion (λ row. has_key T.key key row ≡ false) (flat chunks.now)) }
+        (AllByRecursion (λ row. stands_by T.key key row ≡ false) (flat chunks.now)) }
 {
     if let Some(at) = find_dense(chunks, key) {
         return Some(at);
@@ -139,26 +142,26 @@ pub fn find_key<T: Keyed>(chunks: &[Vec<T>], key: u64) -> Option<(usize, usize)>
     }
 }
 
-/// The place of the row of that key, if one look finds it: rows that are numbered as they are made
-/// stand where their numbers tell until one among them leaves.
+// The place of the row of that key, if one look finds it: rows that are numbered as they are made
+// stand where their numbers tell until one among them leaves.
 fn find_dense<T: Keyed>(chunks: &[Vec<T>], key: u64) -> Option<(usize, usize)>
     requires { Rises T.key (flat chunks.now) }
-    ensures { IfSome result (λ at. IsPlaceOf (has_key T.key key) chunks.now at.0 at.1) }
+    ensures { IfSome result (λ at. IsPlaceOf (stands_by T.key key) chunks.now at.0 at.1) }
 {
     let chunk = likely_chunk(chunks, key)?;
     let place = place_if_dense(chunks.get(chunk)?, key)?;
     Some((chunk, place))
 }
 
-/// The first chunk, if the key is in it, or the one that the key tells, counted from the last, if no
-/// key is missing and the chunks between have as many rows as they may.
+// The first chunk, if the key is in it, or the one that the key tells, counted from the last, if no
+// key is missing and the chunks between have as many rows as they may.
 fn likely_chunk<T: Keyed>(chunks: &[Vec<T>], key: u64) -> Option<usize> {
     if key <= chunks.first()?.last()?.key() {
         return Some(0);
     }
     let last = chunks.len() - 1;
     let before = chunks[last].first()?.key().saturating_sub(key);
-    last.checked_sub(usize::try_from(before.div_ceil(LONGEST as u64)).ok()?)
+    last.checked_sub(usize::try_from(before.div_ceil(LONGEST_CHUNK as u64)).ok()?)
 }
 
 /// Takes out the row at the place, and hands back its chunk if that was the last row there.
@@ -166,6 +169,7 @@ fn likely_chunk<T: Keyed>(chunks: &[Vec<T>], key: u64) -> Option<usize> {
 pub fn take_out<T>(chunks: &mut Vec<Vec<T>>, chunk: usize, place: usize) -> (T, Option<Vec<T>>)
     requires place { place < length (rows_at chunks.old.items chunk) }
     requires filled { AreFilled chunks.old.items }
+    requires short { AreShort chunks.old.items }
     ensures row { slice_get (rows_at chunks.old.items chunk) place ≡ Some result.0 }
     ensures rows { flat chunks.new.items ≡ before_place chunks.old.items chunk place
         ++ behind_place chunks.old.items chunk (suc place) }
@@ -173,6 +177,8 @@ pub fn take_out<T>(chunks: &mut Vec<Vec<T>>, chunk: usize, place: usize) -> (T, 
     ensures kept { IfNone result.1 (KeepsRoom chunks.old chunks.new) }
     ensures emptied { IfSome result.1 (λ emptied. emptied.items ≡ []) }
     ensures room { IfSome result.1 (λ emptied. 1 ≤ room_of emptied) }
+    ensures few { IfSome result.1 (λ emptied. vec_capacity emptied ≤ 64) }
+    ensures short { AreShort chunks.new.items }
     ensures shorter { OnSome result.1 (vec_len chunks.new + 1 ≡ vec_len chunks.old) }
     ensures capacity { vec_capacity chunks.new ≡ vec_capacity chunks.old }
 {

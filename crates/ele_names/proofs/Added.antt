@@ -1,11 +1,11 @@
 -- A row at the end of the others.
-use Rattle.ele_names.proofs.Words.{◌≡◌, ℕ, false, ◌+◌, ◌≤◌, ◌<◌, ◌^◌, cond, List, [], ◌∷◌, ◌++◌, length, Some, None, Option, refl, sym, ap, ◌∙◌, arith, AllByRecursion, IsStrictlySortedBy, option_map_or, nat_cmp, is_at, insert_entry, keys_of, values_of, nat_tests, map-append, value_at, is_placed, index_same, nat_cmp_total, lookup-insert_entry, sorted-insert_entry, all-push, all-weaker, later-push, pushed, not_yet, Directory, File, last_moment, Target, NameRow, Lives, Places, Table, AreCounted, AreNumbered, IsKept, IsTable, rows_of, ArePlaced, AreListed, KeepsPlaces, names_of, number_in, is_of, live_of, Follows, is_none, append-nil, Leaves, target_eq, true}
+use Rattle.ele_names.proofs.Words.{◌≡◌, ℕ, false, ◌+◌, ◌≤◌, ◌<◌, ◌^◌, cond, List, [], ◌∷◌, ◌++◌, length, Some, None, Option, refl, sym, ap, ◌∙◌, arith, AllByRecursion, IsStrictlySortedBy, option_map_or, nat_cmp, is_at, insert_entry, keys_of, values_of, nat_tests, map-append, value_at, is_placed, index_same, nat_cmp_total, lookup-insert_entry, sorted-insert_entry, all-push, all-weaker, later-push, pushed, not_yet, Directory, File, last_moment, Target, NameRow, Lives, Places, Table, AreCounted, AreNumbered, IsKept, IsTable, rows_of, AreIndexed, AreListed, KeepsPlaces, names_of, number_in, is_of, live_of, Follows, is_none, append-nil, Leaves, target_eq, true}
 use Rattle.ele_names.proofs.Chained.{chained_same}
 use Rattle.ele_names.proofs.Live.{leaves_without, target_with, numbered_same}
 use Rattle.ele_names.proofs.Apart.{row_known}
 
 -- the places are of whatever has the same rows
-pub placed_same : (names : List (ℕ × List ℕ)) (at to : ℕ → Option NameRow) (places : Places) → ((s : ℕ) → to s ≡ at s) → ArePlaced names at places → ArePlaced names to places
+pub placed_same : (names : List (ℕ × List ℕ)) (at to : ℕ → Option NameRow) (places : Places) → ((s : ℕ) → to s ≡ at s) → AreIndexed names at places → AreIndexed names to places
 placed_same names at to places same placed = record {
   named = index_same at to places.by_name places.by_name placed.named (λ q r s. refl) (λ q r s. ap (λ o. option_map_or (λ row. is_placed nat_cmp (number_in names row) row.birth q r) o false) (sym (same s)));
   chained = chained_same is_of at to places.of_file (λ g s. ap (λ o. option_map_or (is_of g) o false) (same s)) placed.chained;
@@ -13,7 +13,7 @@ placed_same names at to places same placed = record {
 
 -- a row that comes and goes again leaves the places as they were
 pub placed_back : (names : List (ℕ × List ℕ)) (es : List (ℕ × NameRow)) (n : ℕ) (row : NameRow) → value_at es n ≡ None → (places : Places)
-    → ArePlaced names (λ s. cond (is_at (nat_cmp n) s) None (cond (is_at (nat_cmp n) s) (Some row) (value_at es s))) places → ArePlaced names (value_at es) places
+    → AreIndexed names (λ s. cond (is_at (nat_cmp n) s) None (cond (is_at (nat_cmp n) s) (Some row) (value_at es s))) places → AreIndexed names (value_at es) places
 placed_back names es n row fresh places placed = placed_same names _ (value_at es) places (λ s. grind (arith, nat_tests, fresh)) placed
 
 -- counts by target, from those of files and of directories
@@ -26,7 +26,7 @@ pub live_none : (places : Places) → ((f : ℕ) → live_of places (File f) ≡
 live_none places files directories (File f) = files f
 live_none places files directories (Directory d) = directories d
 
-pub table_new : (names : List (ℕ × List ℕ)) (t : Table) → t.rows.entries ≡ [] → ArePlaced names (λ _. None) t.places → IsTable names t
+pub table_new : (names : List (ℕ × List ℕ)) (t : Table) → t.rows.entries ≡ [] → AreIndexed names (λ _. None) t.places → IsTable names t
 unfolding IsStrictlySortedBy
 table_new names t is placed = grind (arith, nat_tests, placed_same, value_at)
 
@@ -56,7 +56,7 @@ module _ (names : List (ℕ × List ℕ)) (table : Table) (kept : IsTable names 
   fresh s le = not_yet s es (all-weaker (λ k. k < made) (λ k. k < s) (keys_of es) (λ k h. omega (arith, le, h)) below)
 
   -- with places that say the same
-  pub table_same : (t : Table) → t.rows.entries ≡ es → ArePlaced names (value_at es) t.places → IsTable names t
+  pub table_same : (t : Table) → t.rows.entries ≡ es → AreIndexed names (value_at es) t.places → IsTable names t
   table_same t is placed = grind (arith, nat_tests)
 
   module _ (row : NameRow) where
@@ -65,7 +65,7 @@ module _ (names : List (ℕ × List ℕ)) (table : Table) (kept : IsTable names 
 
     pub table_pushed : (t : Table) → t.rows.entries ≡ insert_entry nat_cmp es made row
         → made + 1 < 2 ^ 64 → row.birth ≤ last_moment → number_in names row < length names → AllByRecursion (λ earlier. Follows earlier row) (rows_of table)
-        → ArePlaced names (λ s. cond (is_at (nat_cmp made) s) (Some row) (value_at es s)) t.places
+        → AreIndexed names (λ s. cond (is_at (nat_cmp made) s) (Some row) (value_at es s)) t.places
         → IsTable names t
     table_pushed t is fits born known follows placed = record {
       rising = rw is (sorted-insert_entry nat_cmp_total es made row kept.rising);
@@ -103,7 +103,7 @@ module _ (table : Table) (lives : Lives) (kept : IsKept table lives) where
 
     -- with places that say the same
     pub kept_placed : (t : Table) → t.rows.entries ≡ table.rows.entries
-        → (((s : ℕ) → made ≤ s → value_at table.rows.entries s ≡ None) → ArePlaced (names_of lives) (value_at table.rows.entries) table.places → ArePlaced (names_of lives) (value_at table.rows.entries) t.places)
+        → (((s : ℕ) → made ≤ s → value_at table.rows.entries s ≡ None) → AreIndexed (names_of lives) (value_at table.rows.entries) table.places → AreIndexed (names_of lives) (value_at table.rows.entries) t.places)
         → ((target : Target) → live_of t.places target ≡ live_of table.places target) → IsKept t lives
     kept_placed t is placed live = let now = placed not_there kept.is_table.placed in grind (arith, nat_tests, table_same, names_of)
 
@@ -113,7 +113,7 @@ module _ (table : Table) (lives : Lives) (kept : IsKept table lives) where
 
       pub kept_pushed : (t : Table) (new : Lives) → names_of new ≡ names_of lives → AreListed new → t.rows.entries ≡ insert_entry nat_cmp table.rows.entries made row
           → made + 1 < 2 ^ 64 → row.birth ≤ last_moment → number_in (names_of lives) row < length (names_of lives) → AllByRecursion (λ earlier. Follows earlier row) (rows_of table) → is_none row.death ≡ true
-          → (((s : ℕ) → made ≤ s → value_at table.rows.entries s ≡ None) → ArePlaced (names_of lives) (value_at table.rows.entries) table.places → ArePlaced (names_of lives) pushed_at t.places)
+          → (((s : ℕ) → made ≤ s → value_at table.rows.entries s ≡ None) → AreIndexed (names_of lives) (value_at table.rows.entries) table.places → AreIndexed (names_of lives) pushed_at t.places)
           → ((was now : List NameRow) → Leaves row now was → AreCounted was lives → AreCounted now new)
           → ((at : ℕ → Option NameRow) → at made ≡ None → AreNumbered at lives → AreNumbered (λ s. cond (is_at (nat_cmp made) s) (Some row) (at s)) new)
           → ((target : Target) → live_of t.places target ≡ live_of table.places target + cond (target_eq row.target target) 1 0)

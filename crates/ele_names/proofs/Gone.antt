@@ -1,5 +1,5 @@
 -- A row between others that dies, or leaves.
-use Rattle.ele_names.proofs.Words.{◌≡◌, ℕ, ◌-◌, ◌≤◌, ◌<◌, ◌^◌, true, false, cond, not, List, [], ◌∷◌, ◌++◌, length, filter, Some, None, Option, is_none, refl, sym, subst, ap, ◌∙◌, arith, length_append, nat_cmp, is_at, insert_entry, keys_of, values_of, remove_entry, option_map_or, nat_tests, true≢false, nat_cmp_total, map-append, update_first, value_at, all-append, all-around, all-mid, all-exchange, later-around, later-without, later-exchange, update_first-at, all-weaker, lookup-insert_entry, filter-all, index_change, IsSplitAt, split_at, all_keys_without, all_from_each, found_key, last_moment, NameRow, Target, is_named, is_live_name, is_target_file, live_target, live_at, Live, Lives, place_in, Inside, Table, AreCounted, AreNumbered, Leaves, IsKept, rows_of, ArePlaced, AreListed, names_of, number_in, Follows, dies, IsLast, IsLastBelow, is_member, is_of, is_live_of, live_of, newest_in, target_eq, AreChained, same_from_push, filter-append}
+use Rattle.ele_names.proofs.Words.{◌≡◌, ℕ, ◌-◌, ◌≤◌, ◌<◌, ◌^◌, true, false, cond, not, List, [], ◌∷◌, ◌++◌, length, filter, Some, None, Option, is_none, refl, sym, subst, ap, ◌∙◌, arith, length_append, nat_cmp, is_at, insert_entry, keys_of, values_of, remove_entry, option_map_or, nat_tests, true≢false, nat_cmp_total, map-append, update_first, value_at, all-append, all-around, all-mid, all-exchange, later-around, later-without, later-exchange, update_first-at, all-weaker, lookup-insert_entry, filter-all, index_change, IsSplitAt, split_at, all_keys_without, all_from_each, found_key, last_moment, NameRow, Target, is_named, is_live_name, is_target_file, live_target, live_at, Live, Lives, place_in, Inside, Table, AreCounted, AreNumbered, Leaves, IsKept, rows_of, AreIndexed, AreListed, names_of, number_in, Follows, dies, IsLast, IsLastBelow, is_member, is_of, is_live_of, live_of, newest_in, target_eq, AreChained, same_from_push, filter-append}
 use Rattle.ele_names.proofs.Added.{placed_same}
 use Rattle.ele_names.proofs.Apart.{named_and_live, named_dead, named_live, same_name, row_known}
 use Rattle.ele_names.proofs.Chained.{chained_same}
@@ -76,7 +76,7 @@ module _ (a : Inside) (kept : IsKept a.table a.lives) where
           (named_live d n row named live)))
 
     pub kept_without : (t : Table) (lives : Lives) → names_of lives ≡ names → AreListed lives → t.rows.entries ≡ remove_entry (is_at (nat_cmp s)) es
-        → (ArePlaced names (value_at es) a.table.places → ArePlaced names (λ k. cond (is_at (nat_cmp s) k) None (value_at es k)) t.places)
+        → (AreIndexed names (value_at es) a.table.places → AreIndexed names (λ k. cond (is_at (nat_cmp s) k) None (value_at es k)) t.places)
         → ((was now : List NameRow) → Leaves row was now → AreCounted was a.lives → AreCounted now lives)
         → ((at to : ℕ → Option NameRow) (serial : ℕ) → at serial ≡ Some row → ((s : ℕ) → is_at (nat_cmp serial) s ≡ false → to s ≡ at s) → AreNumbered at a.lives → AreNumbered to lives)
         → ((target : Target) → live_of t.places target ≡ live_of a.table.places target - cond (is_live_of target row) 1 0)

@@ -19,7 +19,7 @@ pub use Rattle.ele_names.specs.Counted.{AreCounted, AreNumbered, Leaves, live_at
 pub use Rattle.ele_names.specs.Kept.{IsKept, IsTable, is_born_by, rows_of}
 pub use Rattle.ele_names.specs.Listed.{by_name, name_cmp}
 pub use Rattle.ele_names.specs.Numbered.{entries_from}
-pub use Rattle.ele_names.specs.Placed.{AreListed, ArePlaced, KeepsPlaces, is_of, live_of, name_eq, names_of, number_in, place_in}
+pub use Rattle.ele_names.specs.Placed.{AreListed, AreIndexed, KeepsPlaces, is_of, live_of, name_eq, names_of, number_in, place_in}
 pub use Rattle.ele_names.specs.Rows.{Follows, born_row, dies}
 pub use Rattle.ele_names.specs.Stops.{StopsAtPlace}
 pub use Rattle.ele_names.specs.Targets.{is_live_of, target_eq}

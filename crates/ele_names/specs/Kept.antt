@@ -13,7 +13,7 @@ use Rattle.ele_world.specs.NameRows.{is_named}
 use Rattle.ele_names.specs.declared.lives.Lives.{Lives}
 use Rattle.ele_names.specs.declared.table.Table.{Table}
 use Rattle.ele_names.specs.Rows.{Follows}
-use Rattle.ele_names.specs.Placed.{AreListed, ArePlaced, live_of, names_of, number_in}
+use Rattle.ele_names.specs.Placed.{AreListed, AreIndexed, live_of, names_of, number_in}
 use Rattle.ele_names.specs.Targets.{is_live_of}
 use Rattle.ele_names.specs.Counted.{AreCounted, AreNumbered}
 
@@ -32,7 +32,7 @@ pub record IsTable (names : List (ℕ × List ℕ)) (table : Table) : Type 0 whe
   pub born : AllByRecursion (λ row. row.birth ≤ last_moment) (rows_of table)
   pub apart : AllLater Follows (rows_of table)
   pub known : AllByRecursion (λ row. number_in names row < length names) (rows_of table)
-  pub placed : ArePlaced names (value_at table.rows.entries) table.places
+  pub placed : AreIndexed names (value_at table.rows.entries) table.places
 
 -- and the live rows are known and counted
 pub record IsKept (table : Table) (lives : Lives) : Type 0 where

@@ -49,6 +49,6 @@ live_of places (File file) = live_in places.of_file file
 live_of places (Directory directory) = counted nat_eq places.of_directory directory
 
 -- the rows of each name are found by their births, and those of each file are a chain
-pub record ArePlaced (names : List (ℕ × List ℕ)) (at : ℕ → Option NameRow) (places : Places) : Type 0 where
+pub record AreIndexed (names : List (ℕ × List ℕ)) (at : ℕ → Option NameRow) (places : Places) : Type 0 where
   pub named : IsIndexOf nat_cmp (number_in names) (λ row. row.birth) at places.by_name
   pub chained : AreChained is_of at places.of_file

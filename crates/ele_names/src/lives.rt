@@ -1,5 +1,5 @@
-//! The names ever given, their live rows, and how many of these each directory has.
-//! A contract sees the names by number, and what the rest is of: a list of rows, and the row of each serial number.
+//! The names ever given, their live rows, and how many of these each directory has. A contract sees
+//! the names by number, and what the rest is of: a list of rows, and the row of each serial number.
 ghost use Rattle.std.specs.Prelude.{◌≡◌, ℕ, ◌<◌, ◌+◌, ◌^◌, true, false, [], List, Option, Some, None, cond, length, slice_get, IfSome, IfNone, IfOk, is_none};
 ghost use Rattle.std.specs.Ordering.{nat_cmp};
 ghost use Rattle.std.specs.BTreeMap.{is_at};
@@ -22,8 +22,8 @@ pub struct Live<T> {
     pub target: T,
 }
 
-/// The names, hashed: a walk along a path looks for each of its names here. A name keeps its number,
-/// which is its place among them, for good.
+/// The names, hashed: a walk along a path looks for each of its names here. A name keeps its
+/// number, which is its place among them, for good.
 #[derive(Drop)]
 pub struct Lives {
     pub by_name: IndexMap<(DirId, Name), Option<Live<Target>>>,
@@ -48,7 +48,8 @@ impl Lives {
     /// The number of the name, if it was ever given.
     #[tactic(auto, using(crate::proofs::Numbers::unnumbered))]
     pub fn number(&self, directory: DirId, name: &Name) -> Option<u64>
-        ensures some { IfSome result (λ number. (number ≡ place_in (names_of self.now) directory name.now)
+        ensures some { IfSome result (λ number.
+            (number ≡ place_in (names_of self.now) directory name.now)
             × (number < length (names_of self.now))) }
         ensures none { IfNone result (place_in (names_of self.now) directory name.now
             ≡ length (names_of self.now)) }
@@ -68,11 +69,13 @@ impl Lives {
     /// The number of the name; one that was never given gets the next.
     #[tactic(auto, using(crate::proofs::Words::nat_tests, crate::proofs::Given::listed_told))]
     pub fn number_or_next(&mut self, directory: DirId, name: Name) -> Result<u64, NoMemory>
-        ensures number { IfOk result (λ number. (number ≡ place_in (names_of self.new) directory name)
+        ensures number { IfOk result (λ number.
+            (number ≡ place_in (names_of self.new) directory name)
             × (number < length (names_of self.new))) }
         ensures places { KeepsPlaces (names_of self.old) (names_of self.new) }
         ensures listed { AreListed self.old → AreListed self.new }
-        ensures counted { (rows : List NameRow) → AreCounted rows self.old → AreCounted rows self.new }
+        ensures counted { (rows : List NameRow)
+            → AreCounted rows self.old → AreCounted rows self.new }
         ensures numbered { (at : ℕ → Option NameRow)
             → AreNumbered at self.old → AreNumbered at self.new }
     {

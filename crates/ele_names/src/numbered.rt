@@ -15,8 +15,8 @@ use ele_world::NameRow;
 use std::alloc::Global;
 use std::marker::Model;
 
-/// Rows by serial number, each at the place of its number. A row that leaves leaves its place empty;
-/// only `pop` gives empty places back.
+/// Rows by serial number, each at the place of its number. A row that leaves leaves its place
+/// empty; only `pop` gives empty places back.
 #[derive(Drop)]
 pub struct Numbered {
     places: Vec<Option<NameRow>>,

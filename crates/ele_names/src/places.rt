@@ -1,5 +1,6 @@
-//! Where each row stands, by the number of its name and among those of its file, and how many live rows each file and directory has.
-//! A contract sees what the places are of, a row for each serial number that has one, and the counts.
+//! Where each row stands, by the number of its name and among those of its file, and how many live
+//! rows each file and directory has. A contract sees what the places are of, a row for each serial
+//! number that has one, and the counts.
 ghost use Rattle.std.specs.Prelude.{◌≡◌, ◌≤◌, ◌<◌, ◌+◌, ◌-◌, ◌^◌, ℕ, List, Option, cond, Some, None, OnOk, OnErr, false, true, is_none};
 ghost use Rattle.std.specs.Ordering.{nat_cmp};
 ghost use Rattle.std.specs.BTreeMap.{is_at};
@@ -7,7 +8,7 @@ ghost use Rattle.ele_moment.specs.Last.{last_moment};
 ghost use Rattle.ele_world.specs.declared.rows.NameRow.{NameRow};
 ghost use Rattle.ele_world.specs.declared.rows.Target.{Target};
 ghost use Rattle.ele_names.specs.Chained.{AreChained, is_member};
-ghost use Rattle.ele_names.specs.Placed.{ArePlaced, is_of, live_of, number_in};
+ghost use Rattle.ele_names.specs.Placed.{AreIndexed, is_of, live_of, number_in};
 ghost use Rattle.ele_names.specs.Targets.{is_live_of, target_eq};
 
 use crate::chains::Chains;
@@ -29,7 +30,7 @@ impl Places {
     /// No row anywhere.
     #[tactic(auto, using(crate::proofs::Added::live_none))]
     pub fn new(alloc: Global) -> Places
-        ensures placed { (names : List (ℕ × List ℕ)) → ArePlaced names (λ _. None) result }
+        ensures placed { (names : List (ℕ × List ℕ)) → AreIndexed names (λ _. None) result }
         ensures live { (t : Target) → live_of result t ≡ 0 }
     {
         Places {
@@ -56,12 +57,13 @@ impl Places {
         requires { live_of self.old row.now.target + 1 < 2 ^ 64 }
         ensures ok { OnOk result ((names : List (ℕ × List ℕ)) (at : ℕ → Option NameRow)
             → number_in names row.now ≡ number → ((s : ℕ) → serial ≤ s → at s ≡ None)
-            → ArePlaced names at self.old
-            → ArePlaced names (λ s. cond (is_at (nat_cmp serial) s) (Some row.now) (at s)) self.new) }
+            → AreIndexed names at self.old
+            → AreIndexed names (λ s. cond (is_at (nat_cmp serial) s) (Some row.now) (at s))
+            self.new) }
         ensures err { OnErr result ((names : List (ℕ × List ℕ)) (at : ℕ → Option NameRow)
             → number_in names row.now ≡ number → ((s : ℕ) → serial ≤ s → at s ≡ None)
-            → ArePlaced names at self.old
-            → ArePlaced names at self.new) }
+            → AreIndexed names at self.old
+            → AreIndexed names at self.new) }
         ensures born { row.now.birth ≤ last_moment }
         ensures counted { OnOk result ((t : Target) → live_of self.new t
             ≡ live_of self.old t + cond (target_eq row.now.target t) 1 0) }
@@ -84,7 +86,8 @@ impl Places {
         ensures ok { OnOk result ((at : ℕ → Option NameRow) (row : NameRow)
             → row.target ≡ target → ((s : ℕ) → serial ≤ s → at s ≡ None)
             → AreChained is_of at self.old.of_file
-            → AreChained is_of (λ s. cond (is_at (nat_cmp serial) s) (Some row) (at s)) self.new.of_file) }
+            → AreChained is_of (λ s. cond (is_at (nat_cmp serial) s) (Some row) (at s))
+            self.new.of_file) }
         ensures err { OnErr result ((at : ℕ → Option NameRow)
             → ((s : ℕ) → serial ≤ s → at s ≡ None)
             → AreChained is_of at self.old.of_file → AreChained is_of at self.new.of_file) }
@@ -110,8 +113,8 @@ impl Places {
         ensures placed { (names : List (ℕ × List ℕ)) (at : ℕ → Option NameRow)
             → number_in names row.now ≡ number → at serial ≡ Some row.now
             → ((f s : ℕ) → is_of f row.now ≡ true → serial < s → is_member is_of at f s ≡ false)
-            → ArePlaced names at self.old
-            → ArePlaced names (λ s. cond (is_at (nat_cmp serial) s) None (at s)) self.new }
+            → AreIndexed names at self.old
+            → AreIndexed names (λ s. cond (is_at (nat_cmp serial) s) None (at s)) self.new }
         ensures live { (t : Target) → live_of self.new t
             ≡ live_of self.old t - cond (is_live_of t row.now) 1 0 }
     {

@@ -15,7 +15,8 @@ use ele_world::{Refusal, Target};
 /// The directory from which each path starts.
 const ROOT: DirId = DirId(0);
 
-/// What the path names. `NoEntry` where a name isn't there, `NotDirectory` where one is behind a file.
+/// What the path names. `NoEntry` where a name isn't there, `NotDirectory` where one is behind a
+/// file.
 pub fn resolve_now(names: &Names, path: &Path) -> Result<Target, Refusal>
     ensures { result ≡ walk_now names.now path.now }
 {
@@ -52,8 +53,9 @@ pub fn parent_now(names: &Names, path: &Path) -> Result<(DirId, Name), Refusal>
     }
 }
 
-/// The directory that the path's last name stands in, that name, and what it stands for, by one walk
-/// where `parent_now` and then `resolve_now` take two. It refuses as the first of them that refuses.
+/// The directory that the path's last name stands in, that name, and what it stands for, by one
+/// walk where `parent_now` and then `resolve_now` take two. It refuses as the first of them that
+/// refuses.
 #[tactic(auto, using(crate::proofs::Leads::leads_to, std::proofs::Common::inr, crate::proofs::Leads::stops_at))]
 pub fn placed_now(names: &Names, path: &Path) -> Result<(DirId, Name, Target), Refusal>
     ensures place { IfOk result (λ found. parent_now names.now path.now ≡ Ok (found.0, found.1)) }
@@ -68,8 +70,8 @@ pub fn placed_now(names: &Names, path: &Path) -> Result<(DirId, Name, Target), R
     }
 }
 
-/// Whether the path's last name stands in the target or below it: whether the walk of the names before
-/// the last comes through that directory. Nothing stands in a file. It takes no memory.
+/// Whether the path's last name stands in the target or below it: whether the walk of the names
+/// before the last comes through that directory. Nothing stands in a file. It takes no memory.
 pub fn stands_in(names: &Names, target: Target, path: &Path) -> bool
     ensures { result ≡ stands_in names.now target path.now }
 {

@@ -34,14 +34,14 @@ impl Interval {
     /// A day, which is 86400 seconds.
     pub const DAY: Interval = Interval { seconds: 86400 };
 
-    const LONGEST: u64 = 253402300799;
+    const MOST_SECONDS: u64 = 253402300799;
 
     /// The interval of that many seconds. `BadLadder` for 0 and for more than 253402300799.
     pub fn new(seconds: u64) -> Result<Interval, BadLadder>
         ensures valid { IsOk result ↔ IsInterval seconds }
         ensures value { IfOk result (λ interval. interval ≡ seconds) }
     {
-        if seconds == 0 || seconds > Self::LONGEST {
+        if seconds == 0 || seconds > Self::MOST_SECONDS {
             return Err(BadLadder);
         }
         Ok(Interval { seconds })

@@ -11,12 +11,13 @@ use crate::interval::BadLadder;
 use ele_moment::Moment;
 use std::marker::Model;
 
-/// One to eight pairs of an age and a width, in seconds. The ages rise from at least 1, each width is at least 1 and divides
-/// the next, and no number exceeds 253402300799. From an age on, one version is kept of each span of the width beside it. It
-/// is kept in place, so that it takes no memory.
+/// One to eight pairs of an age and a width, in seconds. The ages rise from at least 1, each width
+/// is at least 1 and divides the next, and no number exceeds 253402300799. From an age on, one
+/// version is kept of each span of the width beside it. It is kept in place, so that it takes no
+/// memory.
 #[derive(Clone, Copy, Debug)]
 pub struct Ladder {
-    rungs: [(u64, u64); Ladder::LONGEST],
+    rungs: [(u64, u64); Ladder::MOST_PAIRS],
     count: usize,
 }
 
@@ -94,7 +95,7 @@ fn place_shared(rungs: &[(u64, u64)], a: Moment, b: Moment) -> Option<usize>
 
 impl Ladder {
     // Rungs of the longest ladder.
-    const LONGEST: usize = 8;
+    const MOST_PAIRS: usize = 8;
 
     const LAST: u64 = 253402300799;
 
@@ -103,10 +104,10 @@ impl Ladder {
         ensures valid { IsOk result ↔ IsLadder pairs.now }
         ensures value { IfOk result (λ ladder. ladder ≡ pairs.now) }
     {
-        if pairs.is_empty() || pairs.len() > Ladder::LONGEST || !climbs(pairs) {
+        if pairs.is_empty() || pairs.len() > Ladder::MOST_PAIRS || !climbs(pairs) {
             return Err(BadLadder);
         }
-        let mut rungs = [(0, 0); Ladder::LONGEST];
+        let mut rungs = [(0, 0); Ladder::MOST_PAIRS];
         rungs[..pairs.len()].copy_from_slice(pairs);
         Ok(Ladder {
             rungs,
@@ -118,7 +119,7 @@ impl Ladder {
     pub fn standard() -> Ladder
         ensures { result ≡ (86400, 3600) ∷ (604800, 86400) ∷ (2592000, 604800) ∷ [] }
     {
-        let mut rungs = [(0, 0); Ladder::LONGEST];
+        let mut rungs = [(0, 0); Ladder::MOST_PAIRS];
         rungs[0] = (86400, 3600);
         rungs[1] = (604800, 86400);
         rungs[2] = (2592000, 604800);
@@ -159,7 +160,8 @@ impl Ladder {
 
     /// The age of the lowest rung of which some newer closing lies in the span of the closing.
     pub fn shared_age(&self, closed: Moment, newer: &[Moment]) -> Option<u64>
-        ensures { result ≡ option_map (λ rung. rung.0) (find (has_newer closed newer.now) self.now) }
+        ensures { result
+            ≡ option_map (λ rung. rung.0) (find (has_newer closed newer.now) self.now) }
     {
         let rung = self
             .pairs()
@@ -172,7 +174,8 @@ impl Ladder {
 impl PartialEq for Ladder {
     ghost eq = { pointwise (λ x y. nat_eq x.0 y.0 && nat_eq x.1 y.1) };
 
-    ghost laws = { partial_equiv_from_equiv (lists_equiv (and_equiv (on_equiv (λ t. t.0) nat_eq_equiv) (on_equiv (λ t. t.1) nat_eq_equiv))) };
+    ghost laws = { partial_equiv_from_equiv (lists_equiv
+        (and_equiv (on_equiv (λ t. t.0) nat_eq_equiv) (on_equiv (λ t. t.1) nat_eq_equiv))) };
 
     fn eq(&self, other: &Ladder) -> bool {
         self.pairs() == other.pairs()

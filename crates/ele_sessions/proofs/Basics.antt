@@ -6,7 +6,7 @@ pub use Rattle.ele_lists.proofs.Keys.{remove_first-key}
 pub use Rattle.ele_lists.proofs.Places.{find-none, find-position}
 pub use Rattle.ele_lists.proofs.ShownAt.{any-missing, any-shown, find-missing, find-shown, insert-shown, remove-place, remove-shown, rises-map, set-shown}
 pub use Rattle.ele_lists.proofs.Sums.{any-count, sum_by-around, sum_by-remove_first, sum_by-same}
-pub use Rattle.ele_lists.specs.Keys.{has_key, is_behind}
+pub use Rattle.ele_lists.specs.Keys.{stands_by, is_behind}
 pub use Rattle.ele_lists.specs.Lists.{insert_before, remove_first, update_first}
 pub use Rattle.ele_lists.specs.Tally.{counted}
 pub use Rattle.ele_lists.specs.declared.tally.Tally.{Tally}

@@ -2,7 +2,7 @@
 use Rattle.std.specs.Prelude.{◌≡◌, ℕ, List, Some, None, map, length}
 use Rattle.std.specs.List.{position}
 use Rattle.std.specs.Option.{unwrap_or}
-use Rattle.ele_lists.specs.Keys.{has_key, is_behind}
+use Rattle.ele_lists.specs.Keys.{stands_by, is_behind}
 use Rattle.ele_sessions.specs.declared.draft.Draft.{Draft as Fields}
 use Rattle.ele_sessions.specs.declared.entries.Entry.{Entry}
 use Rattle.ele_sessions.specs.declared.entries.OpenHandle.{OpenHandle}
@@ -32,9 +32,9 @@ number_in handle = handle.number
 
 -- the first element of this key stands there
 abbrev pub IsAt : {X : Type 0} → (X → ℕ) → ℕ → List X → ℕ → Type 0
-IsAt key this xs i = position (has_key key this) xs ≡ Some i
+IsAt key this xs i = position (stands_by key this) xs ≡ Some i
 
 -- no element has this key, and it would stand at that place
 pub record IsGap {X : Type 0} (key : X → ℕ) (this : ℕ) (xs : List X) (i : ℕ) : Type 0 where
-  pub missing : position (has_key key this) xs ≡ None
+  pub missing : position (stands_by key this) xs ≡ None
   pub gap : unwrap_or (position (is_behind key this) xs) (length xs) ≡ i

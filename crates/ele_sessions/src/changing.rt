@@ -15,7 +15,8 @@ use crate::entries::{Entry, place_of};
 use ele_blocks::BlockStore;
 use ele_moment::{FileId, NoMemory};
 
-/// Writes the bytes into the file's draft. Where memory is refused, drafts and store are as they were.
+/// Writes the bytes into the file's draft. Where memory is refused, drafts and store are as they
+/// were.
 pub fn write_draft(
     drafts: &mut Vec<Entry>,
     store: &mut BlockStore,

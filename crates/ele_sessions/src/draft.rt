@@ -18,7 +18,8 @@ pub struct Draft {
 }
 
 impl Draft {
-    /// Writes the bytes, and marks the draft. Where memory is refused, draft and store are as they were.
+    /// Writes the bytes, and marks the draft. Where memory is refused, draft and store are as they
+    /// were.
     pub fn write(
         &mut self,
         store: &mut BlockStore,

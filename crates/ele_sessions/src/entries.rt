@@ -12,7 +12,7 @@ ghost use Rattle.ele_lists.specs.Lists.{remove_first};
 use crate::draft::Draft;
 use crate::fault::SessionFault;
 use crate::reads::Reads;
-use ele_lists::{Keyed, Tally, put};
+use ele_lists::{Keyed, Tally};
 use ele_moment::{FileId, Handle};
 
 /// A file's draft. It lies apart, so that few bytes move when another draft comes or goes.
@@ -72,7 +72,7 @@ pub fn enter(handles: &mut Vec<OpenHandle>, counts: &mut Tally<Reads>, handle: &
     ensures counts { (what : Reads) → counted reads_eq counts.new what
         ≡ counted reads_eq counts.old what + (if reads_eq handle.now.reads what then 1 else 0) }
 {
-    put(handles, *handle);
+    handles.push_reserved(*handle);
     counts.add(handle.reads);
 }
 
@@ -101,7 +101,7 @@ pub fn reads_by(handles: &[OpenHandle], number: Handle) -> Option<Reads>
     Some(handles[at].reads)
 }
 
-/// The file that a handle writes that reads this. Faults: `NotWriter`.
+// The file that a handle writes that reads this. Faults: `NotWriter`.
 fn file_written(reads: Reads) -> Result<FileId, SessionFault>
     ensures { result ≡ file_written (Some reads) }
 {

@@ -12,7 +12,7 @@ use crate::entries::{Entry, place_of};
 use ele_blocks::BlockMap;
 use ele_moment::FileId;
 
-/// What the draft comes to when its last writer closes.
+// What the draft comes to when its last writer closes.
 fn ending(entry: &Entry) -> Closing
     ensures { result ≡ (ending (draft_in entry.now)).0 }
 {

@@ -24,8 +24,8 @@ pub struct Coming {
     pub opened: Moment,
 }
 
-/// A draft with a copy of the map, at its place. All memory is had before the copy is made, so that
-/// no blocks are lost where some is refused: then drafts and store are as they were.
+// A draft with a copy of the map, at its place. All memory is had before the copy is made, so that
+// no blocks are lost where some is refused: then drafts and store are as they were.
 fn start(
     alloc: Global,
     drafts: &mut Vec<Entry>,

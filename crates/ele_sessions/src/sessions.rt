@@ -27,17 +27,17 @@ use std::alloc::Global;
 use std::marker::Model;
 
 /// How many bytes a content may have.
-const LONGEST: u64 = 1_048_576;
+const LONGEST_CONTENT: u64 = 1_048_576;
 
-/// Whether a content may end so many bytes behind the offset.
+// Whether a content may end so many bytes behind the offset.
 fn fits(offset: u64, len: usize) -> bool
     ensures { result ≡ not (nat_lt longest_content (offset + len)) }
 {
-    offset <= LONGEST && len as u64 <= LONGEST - offset
+    offset <= LONGEST_CONTENT && len as u64 <= LONGEST_CONTENT - offset
 }
 
-/// Drafts and handles of all files. Whoever ends them closes each handle and keeps or gives up the map
-/// that comes out, or its blocks stay in the store.
+/// Drafts and handles of all files. Whoever ends them closes each handle and keeps or gives up the
+/// map that comes out, or its blocks stay in the store.
 #[derive(Drop)]
 pub struct Sessions {
     drafts: Vec<Entry>,
@@ -73,9 +73,9 @@ impl Sessions {
         }
     }
 
-    /// A handle that writes the file. It joins the file's draft, or where there is none it starts one,
-    /// which is to be the version of that number, is opened at that moment, and has a copy of the map.
-    /// Where memory is refused, sessions and store are as they were.
+    /// A handle that writes the file. It joins the file's draft, or where there is none it starts
+    /// one, which is to be the version of that number, is opened at that moment, and has a copy of
+    /// the map. Where memory is refused, sessions and store are as they were.
     #[tactic(auto, using(crate::proofs::Found::rises_in))]
     pub fn open_write(
         &mut self,
@@ -133,10 +133,10 @@ impl Sessions {
     }
 
     /// Writes the bytes from the offset on into the draft under the handle; zeros fill it up to the
-    /// offset where it ends before. Even equal bytes mark the draft changed. No bytes change nothing,
-    /// whatever the offset. Faults, in this order: `NoHandle` where no open handle has that number,
-    /// `NotWriter` where it reads a version, `TooBig` where the bytes would end past 1,048,576,
-    /// `NoMemory`. A fault leaves all as it was.
+    /// offset where it ends before. Even equal bytes mark the draft changed. No bytes change
+    /// nothing, whatever the offset. Faults, in this order: `NoHandle` where no open handle has
+    /// that number, `NotWriter` where it reads a version, `TooBig` where the bytes would end past
+    /// 1,048,576, `NoMemory`. A fault leaves all as it was.
     #[tactic(auto, using(crate::proofs::Found::rises_in))]
     pub fn write(
         &mut self,
@@ -169,9 +169,9 @@ impl Sessions {
     }
 
     /// Makes the content of the draft under the handle so many bytes long, and marks it changed;
-    /// where it has that length, nothing is changed. Faults, in this order: `NoHandle` where no open
-    /// handle has that number, `NotWriter` where it reads a version, `TooBig` for more than 1,048,576
-    /// bytes, `NoMemory`. A fault leaves all as it was.
+    /// where it has that length, nothing is changed. Faults, in this order: `NoHandle` where no
+    /// open handle has that number, `NotWriter` where it reads a version, `TooBig` for more than
+    /// 1,048,576 bytes, `NoMemory`. A fault leaves all as it was.
     #[tactic(auto, using(crate::proofs::Found::rises_in))]
     pub fn truncate(
         &mut self,
@@ -192,7 +192,7 @@ impl Sessions {
         ensures err { OnErr result (Stays store.old store.new self.old self.new) }
     {
         let file = file_by(&self.handles, handle)?;
-        if size > LONGEST {
+        if size > LONGEST_CONTENT {
             return Err(SessionFault::TooBig);
         }
         truncate_draft(&mut self.drafts, store, file, size)?;
@@ -200,8 +200,8 @@ impl Sessions {
     }
 
     /// Closes the handle; none where no open handle has that number. With the last handle of a file
-    /// its draft goes, and its map comes out: whoever takes it gives it up or keeps it. A handle that
-    /// read a version just goes.
+    /// its draft goes, and its map comes out: whoever takes it gives it up or keeps it. A handle
+    /// that read a version just goes.
     #[tactic(auto, using(crate::proofs::Found::rises_in))]
     pub fn close(&mut self, handle: Handle) -> Option<(Closing, Option<BlockMap>)>
         ensures answer { result ≡ closing self.old handle }

@@ -12,8 +12,8 @@ pub enum PathFault {
     /// A piece between the slashes is no name.
     #[error("not a name")]
     BadName,
-    /// The word does not begin with a slash, has an empty piece, or has more than 32 pieces; or what
-    /// stands behind `#` is no number.
+    /// The word does not begin with a slash, has an empty piece, or has more than 32 pieces; or
+    /// what stands behind `#` is no number.
     #[error("not a path")]
     BadPath,
     /// What stands behind `@` is no moment.

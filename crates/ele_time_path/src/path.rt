@@ -65,7 +65,7 @@ impl Path {
     }
 }
 
-/// The names that a text has between its slashes.
+// The names that a text has between its slashes.
 fn read_names(alloc: Global, text: &[u8]) -> Result<Vec<Name>, PathFault>
     ensures found { IfOk result (λ names. names.items ≡ pieces_of text.now) }
     ensures are { IfOk result (λ names. IsPath names.items) }
@@ -80,7 +80,7 @@ fn read_names(alloc: Global, text: &[u8]) -> Result<Vec<Name>, PathFault>
     Ok(names)
 }
 
-/// The name that a piece is, behind so many others.
+// The name that a piece is, behind so many others.
 fn read_piece(before: usize, piece: &[u8]) -> Result<Name, PathFault>
     ensures found { IfOk result (λ name. name ≡ piece.now) }
     ensures is { OnOk result (IsName piece.now) }

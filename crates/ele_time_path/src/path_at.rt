@@ -1,4 +1,5 @@
-//! Paths at a moment. A contract sees one as the record of its path, a list of names, and its moment.
+//! Paths at a moment. A contract sees one as the record of its path, a list of names, and its
+//! moment.
 ghost use Rattle.std.specs.Prelude.{◌≡◌, ◌⊎◌, ℕ, IsTrue, Option, Ok, Err, IfOk, IfErr};
 ghost use Rattle.ele_time_path.specs.Begins.{is_tag_text};
 ghost use Rattle.ele_time_path.specs.Tagged.{SpellsTag};
@@ -19,7 +20,8 @@ pub struct PathAt {
 }
 
 impl PathAt {
-    /// The path and the moment that a word spells: a path, then nothing for now, or `@` and a moment.
+    /// The path and the moment that a word spells: a path, then nothing for now, or `@` and a
+    /// moment.
     ///
     /// The word is cut at its first `@` or `#`. A fault of the path is told first, as `Path::read`
     /// tells it. Behind a path it is `BadMoment` where no moment stands behind `@`, and `Numbered`

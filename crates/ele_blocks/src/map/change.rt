@@ -11,14 +11,16 @@ ghost use Rattle.ele_blocks.specs.Renewed.{IsReplaced};
 
 use crate::laid::lay_leaves;
 use crate::leaf::LEAF;
-use crate::map::{BlockMap, SLOT};
+use crate::map::BlockMap;
 use crate::patch::{patched, pieces};
+use crate::slot::SLOT;
 use crate::store::BlockStore;
 use crate::store::leaves::Stage;
 use ele_lists::ByteList;
 use ele_moment::{NoMemory, VersionNo};
 
-/// New bytes for slots: how many slots before are kept, the first that is new, and the bytes of each.
+/// New bytes for slots: how many slots before are kept, the first that is new, and the bytes of
+/// each.
 #[derive(Debug, Drop)]
 struct Change {
     writer: VersionNo,
@@ -35,8 +37,8 @@ struct Run {
     to: usize,
 }
 
-/// The leaves that a change meets from the first slot on, which ends in the leaf before `past`; where
-/// nothing that is kept stands behind them, all leaves behind go too.
+// The leaves that a change meets from the first slot on, which ends in the leaf before `past`;
+// where nothing that is kept stands behind them, all leaves behind go too.
 fn run_of(first: usize, past: usize, kept: usize, leaves: usize) -> Run
     requires order { first ≤ kept }
     requires within { kept ≤ 16 * leaves }
@@ -60,11 +62,11 @@ fn run_of(first: usize, past: usize, kept: usize, leaves: usize) -> Run
 }
 
 impl BlockMap {
-    /// Writes bytes from the offset on; zeros fill the content up to the offset where it ends before.
-    /// Each slot that meets what is filled or written gets a new block and the writer; every other
-    /// slot stays, and so does every other map, also one that shared the blocks which are replaced.
-    /// No bytes within the content change nothing. Where memory is refused, map and store are as
-    /// they were; the store refuses room for more than 2^32 leaves.
+    /// Writes bytes from the offset on; zeros fill the content up to the offset where it ends
+    /// before. Each slot that meets what is filled or written gets a new block and the writer;
+    /// every other slot stays, and so does every other map, also one that shared the blocks which
+    /// are replaced. No bytes within the content change nothing. Where memory is refused, map and
+    /// store are as they were; the store refuses room for more than 2^32 leaves.
     #[tactic(auto, using(crate::proofs::Cited::reach, crate::proofs::Cited::write_change, crate::proofs::Cited::written_nothing))]
     pub fn write(
         &mut self,
@@ -101,7 +103,8 @@ impl BlockMap {
         Ok(())
     }
 
-    /// The bytes of the slots from the first up to where a write of the bytes ends, after this write.
+    // The bytes of the slots from the first up to where a write of the bytes ends, after this
+    // write.
     #[tactic(auto, using(crate::proofs::Lemmas::piece_more))]
     fn patches(
         &self,
@@ -128,9 +131,9 @@ impl BlockMap {
     }
 
     /// Makes the content so many bytes long. A longer one is filled with zeros, and each slot that
-    /// they meet gets a new block and the writer; a shorter one loses its last slots, and a slot that
-    /// is cut gets a new block and the writer. Every other slot stays, and so does every other map.
-    /// Where memory is refused, map and store are as they were.
+    /// they meet gets a new block and the writer; a shorter one loses its last slots, and a slot
+    /// that is cut gets a new block and the writer. Every other slot stays, and so does every other
+    /// map. Where memory is refused, map and store are as they were.
     pub fn truncate(
         &mut self,
         store: &mut BlockStore,
@@ -153,7 +156,7 @@ impl BlockMap {
         Ok(())
     }
 
-    /// Cuts the content to fewer bytes. Where memory is refused, map and store are as they were.
+    // Cuts the content to fewer bytes. Where memory is refused, map and store are as they were.
     fn cut(
         &mut self,
         store: &mut BlockStore,
@@ -181,9 +184,9 @@ impl BlockMap {
         Ok(())
     }
 
-    /// Keeps the first slots, and lays new blocks over them. New leaves stand in place of those that
-    /// this meets, since other maps may own them.
-    /// Where memory is refused, map and store are as they were.
+    // Keeps the first slots, and lays new blocks over them. New leaves stand in place of those that
+    // this meets, since other maps may own them.
+    // Where memory is refused, map and store are as they were.
     fn replace(&mut self, store: &mut BlockStore, change: Change, size: u64) -> Result<(), NoMemory>
         requires lives { LivesIn store.old self.old }
         requires within { change.first ≤ change.kept }

@@ -15,7 +15,7 @@ use crate::shared::Shared;
 use crate::slot::Slot;
 use crate::store::BlockStore;
 use crate::store::shares::share_all;
-use ele_lists::{ByteList, put};
+use ele_lists::ByteList;
 use ele_moment::{NoMemory, VersionNo};
 use std::alloc::Global;
 
@@ -31,7 +31,7 @@ pub(crate) struct Stage {
     pub staged: Vec<ByteList>,
 }
 
-/// Makes room for so many leaves more, each with a number of 32 bits.
+// Makes room for so many leaves more, each with a number of 32 bits.
 fn reserve_leaves(leaves: &mut Shared<Leaf>, more: usize) -> Result<(), NoMemory>
     ensures room { OnOk result (HasRoomFor leaves.new more) }
     ensures numbers { OnOk result (leaves.new.capacity ≤ 2 ^ 32) }
@@ -44,7 +44,7 @@ fn reserve_leaves(leaves: &mut Shared<Leaf>, more: usize) -> Result<(), NoMemory
     Ok(())
 }
 
-/// Keeps the slots as new leaves where there is room, and adds their numbers.
+// Keeps the slots as new leaves where there is room, and adds their numbers.
 #[tactic(auto, using(crate::proofs::Cited::chunk_next, crate::proofs::Cited::puts_more, crate::proofs::Cited::length_drop, crate::proofs::Cited::length_append, crate::proofs::Cited::backing_put))]
 fn put_leaves(leaves: &mut Shared<Leaf>, ids: &mut Vec<u32>, slots: &[Slot])
     requires room { HasRoomFor leaves.old (leaf_count (length slots.now)) }
@@ -59,14 +59,14 @@ fn put_leaves(leaves: &mut Shared<Leaf>, ids: &mut Vec<u32>, slots: &[Slot])
     let mut rest = slots;
     for _ in 0..slots.len().div_ceil(LEAF) {
         let (part, more) = rest.split_at(rest.len().min(LEAF));
-        put(ids, leaves.put_reserved(Leaf::new(part)) as u32);
+        ids.push_reserved(leaves.put_reserved(Leaf::new(part)) as u32);
         rest = more;
     }
 }
 
-/// New blocks for what is staged, and the window with their slots laid over it. The block of every
-/// other slot has one owner more.
-/// Where memory is refused, the blocks are as they were.
+// New blocks for what is staged, and the window with their slots laid over it. The block of every
+// other slot has one owner more.
+// Where memory is refused, the blocks are as they were.
 fn lay_stage(
     blocks: &mut Shared<ByteList>,
     alloc: Global,
@@ -120,7 +120,7 @@ impl BlockStore {
         Ok(slots)
     }
 
-    /// Gives a leaf one owner more.
+    // Gives a leaf one owner more.
     fn share_leaf(&mut self, leaf: usize)
         requires there { 0 < owners self.old.leaves leaf }
         requires few { owners self.old.leaves leaf < 2 ^ 63 }
@@ -140,7 +140,7 @@ impl BlockStore {
         }
     }
 
-    /// Takes one owner from a leaf, which leaves with its last, and then releases its blocks.
+    // Takes one owner from a leaf, which leaves with its last, and then releases its blocks.
     fn release_leaf(&mut self, leaf: usize)
         requires there { 0 < owners self.old.leaves leaf }
         requires backed { AreBacked self.old (leaf_at self.old leaf) }
@@ -162,8 +162,8 @@ impl BlockStore {
         }
     }
 
-    /// New leaves and blocks in place of these leaves, each of which loses an owner. Every block is in
-    /// the new leaves under its number, so it has one owner more while the old leaf stands.
+    /// New leaves and blocks in place of these leaves, each of which loses an owner. Every block is
+    /// in the new leaves under its number, so it has one owner more while the old leaf stands.
     /// Where memory is refused, the store is as it was; so it is where a block has 2^62 owners, and
     /// where there would be room for more than 2^32 leaves.
     pub(crate) fn renew(&mut self, was: &[u32], stage: Stage) -> Result<Vec<u32>, NoMemory>

@@ -14,7 +14,7 @@ use ele_lists::ByteList;
 /// How many owners a block may have that is to get more.
 const CROWD: u64 = 1 << 62;
 
-/// Gives a block one owner more.
+// Gives a block one owner more.
 fn share_one(blocks: &mut Shared<ByteList>, id: BlockId)
     requires there { 0 < owners blocks.old.slots id }
     requires few { owners blocks.old.slots id < 2 ^ 63 }

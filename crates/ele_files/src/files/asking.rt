@@ -24,7 +24,7 @@ pub fn reads_in(reads: ele_sessions::Reads) -> Reads
     }
 }
 
-/// The file that a handle writes that reads this. Refused: `NotWriter`, where that is a version.
+// The file that a handle writes that reads this. Refused: `NotWriter`, where that is a version.
 fn file_written(reads: Reads) -> Result<FileId, Refusal>
     ensures { result ≡ file_written (Ok reads) }
 {

@@ -15,7 +15,7 @@ use ele_inode_log::Meter;
 use ele_moment::{FileId, Handle, Moment, NoMemory, VersionNo};
 use ele_sessions::Closing;
 
-/// When the draft was opened that the closing makes a version; none where it makes none.
+// When the draft was opened that the closing makes a version; none where it makes none.
 fn opening_of(closing: Option<Closing>) -> Option<Moment>
     ensures { result ≡ opening_of closing }
 {
@@ -28,7 +28,7 @@ fn opening_of(closing: Option<Closing>) -> Option<Moment>
     }
 }
 
-/// The map of a draft that goes.
+// The map of a draft that goes.
 fn map_of(closed: Option<(Closing, Option<BlockMap>)>) -> Option<BlockMap>
     ensures { result ≡ option_and_then (λ answer. answer.1) closed }
 {
@@ -38,7 +38,7 @@ fn map_of(closed: Option<(Closing, Option<BlockMap>)>) -> Option<BlockMap>
     }
 }
 
-/// Gives up the map, if there is one.
+// Gives up the map, if there is one.
 fn give_up(store: &mut BlockStore, map: Option<BlockMap>)
     requires { ForSome map (λ map. LivesIn store.old map) }
     ensures { IsGivenUp store.old store.new map }
@@ -49,17 +49,18 @@ fn give_up(store: &mut BlockStore, map: Option<BlockMap>)
 }
 
 impl Files {
-    /// When the draft was opened that is to become a version as the handle closes: that of the file which it writes, where no
-    /// other handle does and the draft was changed. None where closing it makes no version, as that of a handle that reads one.
+    /// When the draft was opened that is to become a version as the handle closes: that of the file
+    /// which it writes, where no other handle does and the draft was changed. None where closing it
+    /// makes no version, as that of a handle that reads one.
     pub fn changed_draft(&self, handle: Handle) -> Option<Moment>
         ensures { result ≡ opening_by self.now handle }
     {
         opening_of(self.sessions.peek_close(handle))
     }
 
-    /// The handle goes, and no version is made: while others write the file its draft stays, and with
-    /// the last handle it vanishes. Of a handle that reads a version nothing stays behind. A number
-    /// that no open handle has does nothing.
+    /// The handle goes, and no version is made: while others write the file its draft stays, and
+    /// with the last handle it vanishes. Of a handle that reads a version nothing stays behind. A
+    /// number that no open handle has does nothing.
     pub fn leave(&mut self, handle: Handle)
         ensures { self.new ≡ left_by self.old handle }
     {
@@ -67,10 +68,10 @@ impl Files {
         give_up(&mut self.store, map);
     }
 
-    /// The last handle of a changed draft goes, which was opened then: the draft becomes its file's
-    /// next version, and the version before that ends. The caller tells whether the file is live;
-    /// where it isn't, the new version ends at once. The answer is its number. Where memory is
-    /// refused, all is as it was.
+    /// The handle goes, which is the last of a changed draft that was opened then, of a file that
+    /// is there: the draft becomes the file's next version, and the version before that ends. The
+    /// caller tells whether the file is live; where it isn't, the new version ends at once. The
+    /// answer is its number. Where memory is refused, all is as it was.
     #[tactic(auto, using(std::proofs::lemmas::Bool::Decides::nat_tests, crate::proofs::Closes::not_missing))]
     pub fn finish(
         &mut self,

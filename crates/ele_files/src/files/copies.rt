@@ -86,7 +86,7 @@ impl Files {
     }
 }
 
-/// The cells that the map shows, with bytes of their own.
+// The cells that the map shows, with bytes of their own.
 fn copy_cells(alloc: Global, store: &BlockStore, map: &BlockMap) -> Result<ListOf<Cell>, NoMemory>
     requires laws { StockLaws }
     requires lives { LivesIn store.now map.now }
@@ -112,7 +112,7 @@ pub fn next_row(file: &File, behind: VersionNo) -> Option<&LogRow>
     file.log.next_held(behind, &mut meter)
 }
 
-/// Adds copies of the file's rows.
+// Adds copies of the file's rows.
 #[tactic(auto, using(std::proofs::lemmas::Bool::Decides::nat_tests, crate::proofs::Copies::log_all, crate::proofs::Words::all_found, crate::proofs::Copies::log_fewer, crate::proofs::Words::filter_none, crate::proofs::Words::all_not_found, crate::proofs::Words::append_nil))]
 fn copy_log(
     alloc: Global,

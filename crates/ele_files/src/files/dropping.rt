@@ -9,7 +9,7 @@ use crate::boxed::BoxedFile;
 use crate::files::{Files, file_of, place_of};
 use ele_moment::FileId;
 
-/// The file at that place goes.
+// The file at that place goes.
 fn take_out(files: &mut Vec<BoxedFile>, at: usize)
     requires { at < vec_len files.old }
     ensures { files.new.items ≡ remove files.old.items at }
@@ -18,7 +18,7 @@ fn take_out(files: &mut Vec<BoxedFile>, at: usize)
 }
 
 impl Files {
-    /// Whether a version of the file is held.
+    // Whether a version of the file is held.
     #[tactic(auto, using(std::proofs::lemmas::Bool::Decides::nat_tests, crate::proofs::Drops::any_held, crate::proofs::Drops::unheld))]
     fn has_version(&self, file: FileId) -> bool
         ensures { result ≡ list_any (is_version_of file) self.now.versions }
@@ -36,7 +36,8 @@ impl Files {
         !self.has_version(file) && !self.has_draft(file)
     }
 
-    /// Takes out the row of a file of which nothing is held. A number that no file has does nothing.
+    /// Takes out the row of a file of which nothing is held. A number that no file has does
+    /// nothing.
     #[tactic(auto, using(std::proofs::lemmas::Bool::Decides::nat_tests, crate::proofs::Drops::rows_left, crate::proofs::Words::remove_first_none))]
     pub fn drop_file(&mut self, file: FileId)
         requires { is_bare self.old file ≡ true }

@@ -12,7 +12,8 @@ use ele_moment::{FileId, Moment, VersionNo};
 use ele_world::Stamps;
 
 impl Files {
-    /// When the file's next held version behind the number closed; none where there is none. It reads at most one row.
+    /// When the file's next held version behind the number closed; none where there is none. It
+    /// reads at most one row.
     #[tactic(auto, using(std::proofs::lemmas::Bool::Decides::nat_tests, crate::proofs::Tagged::closing_none, crate::proofs::Tagged::closing_shown))]
     pub fn next_closing(&self, file: FileId, number: VersionNo, meter: &mut Meter) -> Option<Moment>
         requires meter { meter.old < 2 ^ 60 }

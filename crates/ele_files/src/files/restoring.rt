@@ -12,8 +12,8 @@ use ele_inode_log::Meter;
 use ele_moment::{FileId, Moment, NoMemory, VersionNo};
 
 impl Files {
-    /// The version before the file's next one ends now, unless it has ended or isn't held. This takes
-    /// no memory.
+    /// The version before the file's next one ends now, unless it has ended or isn't held. This
+    /// takes no memory.
     #[tactic(auto, using(std::proofs::lemmas::Bool::Decides::nat_tests, crate::proofs::Words::update_first_unfound, crate::proofs::Words::all_not_found, crate::proofs::Rows::version_none, crate::proofs::Rows::no_file))]
     pub fn end_current(&mut self, file: FileId, now: Moment, meter: &mut Meter)
         requires past { AllByRecursion (IsPast now) self.old.versions }
@@ -27,10 +27,10 @@ impl Files {
         }
     }
 
-    /// The held version of that number comes again as the file's next version, which opens and closes
-    /// now, and the version before that ends. No draft of the file is there. The caller tells whether
-    /// the file is live; where it isn't, the new version ends at once. The answer is its number. Where
-    /// memory is refused, all is as it was.
+    /// The held version of that number comes again as the file's next version, which opens and
+    /// closes now, and the version before that ends. No draft of the file is there. The caller
+    /// tells whether the file is live; where it isn't, the new version ends at once. The answer is
+    /// its number. Where memory is refused, all is as it was.
     #[tactic(auto, using(std::proofs::lemmas::Bool::Decides::nat_tests, crate::proofs::Openings::maps_seen, crate::proofs::Appends::lives, crate::proofs::Appends::not_missing, crate::proofs::Appends::not_lost))]
     pub fn restore(
         &mut self,

@@ -1,5 +1,5 @@
-//! What one file uses.
-//! A contract sees sums over the file's versions, and how many different places these and its draft have.
+//! What one file uses. A contract sees sums over the file's versions, and how many different places
+//! these and its draft have.
 ghost use Rattle.std.specs.Prelude.{◌≡◌, ℕ, ◌<◌, ◌≤◌, ◌^◌, [], IfOk, OnOk, filter, length};
 ghost use Rattle.std.specs.List.{AllByRecursion};
 ghost use Rattle.ele_blocks.specs.Layout.{shown};
@@ -21,7 +21,7 @@ use ele_moment::{FileId, NoMemory, VersionNo};
 use ele_world::Usage;
 use std::collections::HashSet;
 
-/// Meets the slots of the map.
+// Meets the slots of the map.
 fn meet(met: &mut HashSet<(usize, u64)>, store: &BlockStore, map: &BlockMap) -> Result<(), NoMemory>
     requires laws { StockLaws }
     requires lives { LivesIn store.now map.now }
@@ -38,7 +38,7 @@ fn meet(met: &mut HashSet<(usize, u64)>, store: &BlockStore, map: &BlockMap) -> 
     Ok(())
 }
 
-/// Meets the slots of all versions in the file's log.
+// Meets the slots of all versions in the file's log.
 #[tactic(auto, using(std::proofs::lemmas::Bool::Decides::nat_tests, crate::proofs::Copies::log_all, crate::proofs::Words::all_found, crate::proofs::Copies::log_fewer))]
 fn meet_log(
     met: &mut HashSet<(usize, u64)>,
@@ -59,7 +59,7 @@ fn meet_log(
     Ok(())
 }
 
-/// How many bytes the versions in the file's log have.
+// How many bytes the versions in the file's log have.
 #[tactic(auto, using(std::proofs::lemmas::Bool::Decides::nat_tests, crate::proofs::Copies::log_all, crate::proofs::Copies::log_fewer, crate::proofs::Copies::bytes_next, crate::proofs::Words::filter_none, crate::proofs::Words::all_not_found))]
 fn log_bytes(file: &File) -> u64
     requires kept { IsFileKept file.now }
@@ -76,7 +76,7 @@ fn log_bytes(file: &File) -> u64
 }
 
 impl Files {
-    /// How many versions of the file are held.
+    // How many versions of the file are held.
     #[tactic(auto, using(std::proofs::lemmas::Bool::Decides::nat_tests, crate::proofs::Copies::own_count, crate::proofs::Tagged::none_shown))]
     fn versions_of(&self, file: FileId) -> u64
         ensures { result ≡ length (filter (is_version_of file) self.now.versions) }
@@ -87,7 +87,7 @@ impl Files {
         }
     }
 
-    /// How many bytes the file's versions have.
+    // How many bytes the file's versions have.
     #[tactic(auto, using(std::proofs::lemmas::Bool::Decides::nat_tests, crate::proofs::Words::all_found, crate::proofs::Copies::own_few, crate::proofs::Copies::own_bytes, crate::proofs::Tagged::none_shown))]
     fn bytes_of(&self, file: FileId) -> u64
         requires few { length self.now.versions ≤ 2 ^ 40 }
@@ -99,7 +99,7 @@ impl Files {
         }
     }
 
-    /// Meets the slots of the file's versions.
+    // Meets the slots of the file's versions.
     #[tactic(auto, using(std::proofs::lemmas::Bool::Decides::nat_tests, crate::proofs::Words::all_found, crate::proofs::Stock::logs_live))]
     fn meet_versions(&self, met: &mut HashSet<(usize, u64)>, file: FileId) -> Result<(), NoMemory>
         ensures { OnOk result (Meets file met.old.keys met.new.keys
@@ -111,22 +111,21 @@ impl Files {
         }
     }
 
-    /// Meets the slots of the file's draft, if it has one.
+    // Meets the slots of the file's draft, if it has one.
     #[tactic(auto, using(std::proofs::lemmas::Bool::Decides::nat_tests, crate::proofs::Stock::draft_lives))]
     fn meet_draft(&self, met: &mut HashSet<(usize, u64)>, file: FileId) -> Result<(), NoMemory>
         ensures { OnOk result (Meets file met.old.keys met.new.keys
             (places [] (filter (is_draft file) self.now.drafts))) }
     {
-        // This tells that drafts rise by file, so that a file has one at most.
-        let _open = self.sessions.drafts_open();
         match self.sessions.draft(file) {
             Some(map) => meet(met, &self.store, map),
             None => Ok(()),
         }
     }
 
-    /// What the file uses: one file, its held versions and their bytes, and how many different blocks these and its draft have.
-    /// NoMemory where the blocks can't be counted for want of memory. It looks at each slot of each of its versions.
+    /// What the file uses: one file, its held versions and their bytes, and how many different
+    /// blocks these and its draft have. NoMemory where the blocks can't be counted for want of
+    /// memory. It looks at each slot of each of its versions.
     pub fn usage_of(&self, file: FileId) -> Result<Usage, NoMemory>
         requires few { length self.now.versions ≤ 2 ^ 40 }
         ensures { IfOk result

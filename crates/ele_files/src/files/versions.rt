@@ -36,8 +36,9 @@ impl Files {
         Some(stamps_of(row))
     }
 
-    /// The file's version that the tag means; without one it is that before the next. Refused: `NoVersion` for a number that no
-    /// version got, and `Forgotten` where it isn't held any more, with the last number that is held from before it.
+    /// The file's version that the tag means; without one it is that before the next. Refused:
+    /// `NoVersion` for a number that no version got, and `Forgotten` where it isn't held any more,
+    /// with the last number that is held from before it.
     #[tactic(auto, using(std::proofs::lemmas::Bool::Decides::nat_tests, crate::proofs::Rows::next_found, crate::proofs::Tagged::meant_shown))]
     pub fn version_meant(
         &self,
@@ -113,7 +114,7 @@ impl Files {
     }
 }
 
-/// What is told of all rows of the file's log.
+// What is told of all rows of the file's log.
 #[tactic(auto, using(std::proofs::lemmas::Bool::Decides::nat_tests, crate::proofs::Copies::log_all, crate::proofs::Copies::log_fewer, crate::proofs::Copies::told_next, crate::proofs::Words::filter_none, crate::proofs::Words::all_not_found, crate::proofs::Words::append_nil))]
 fn log_stamps(alloc: Global, file: &File) -> Result<Vec<Stamps>, NoMemory>
     requires { IsFileKept file.now }

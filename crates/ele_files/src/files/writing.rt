@@ -32,8 +32,8 @@ impl Files {
     }
 
     /// Makes the draft under the handle so many bytes long; one of that length stays. Faults, in
-    /// this order: `NoHandle`, `NotWriter` where it reads a version, `TooBig` for more than 1,048,576
-    /// bytes, `NoMemory`; a fault leaves all as it was.
+    /// this order: `NoHandle`, `NotWriter` where it reads a version, `TooBig` for more than
+    /// 1,048,576 bytes, `NoMemory`; a fault leaves all as it was.
     #[tactic(auto, using(std::proofs::lemmas::Bool::Decides::nat_tests, crate::proofs::Stock::draft_lives, crate::proofs::Rows::fault_shown, crate::proofs::Rows::handle_file_shown, crate::proofs::Drafts::length_is, crate::proofs::Rows::draft_found, crate::proofs::Drafts::cut))]
     pub fn truncate(&mut self, handle: Handle, size: u64) -> Result<(), SessionFault>
         ensures refused { ForSome

@@ -63,8 +63,9 @@ impl Sessions {
     /// The map of the file's draft; none where no handle writes the file.
     #[tactic(auto, using(crate::proofs::Found::rises_in))]
     pub fn draft(&self, file: FileId) -> Option<&BlockMap>
-        ensures { option_copied result
+        ensures map { option_copied result
             ≡ option_map (λ draft. draft.layout) (draft_of self.now file) }
+        ensures orderly { AreOrderly self.now }
     {
         let Ok(at) = place_of(&self.drafts, file) else {
             return None;
@@ -74,8 +75,8 @@ impl Sessions {
         Some(&draft.map)
     }
 
-    /// The file of a draft, when the draft was opened, and whether it was changed, by the file's place
-    /// among those with drafts; none past the last one.
+    /// The file of a draft, when the draft was opened, and whether it was changed, by the file's
+    /// place among those with drafts; none past the last one.
     pub fn draft_at(&self, place: usize) -> Option<(FileId, Moment, bool)>
         ensures { result ≡ option_map (λ draft. (draft.file, draft.opened, draft.changed))
             (slice_get self.now.drafts place) }

@@ -7,7 +7,7 @@ loop-value-preserved g c =
     let size = ap length step.0 in
     let was = rw step.0 at c.loop-value.invariant.puts in
     record {
-      puts = rw c.put.ensures.items (puts_more _ _ _ _ _ _ _ _ was c.put_reserved.ensures.vacant c.put_reserved.ensures.sets);
+      puts = rw c.push_reserved.ensures.items (puts_more _ _ _ _ _ _ _ _ was c.put_reserved.ensures.vacant c.put_reserved.ensures.sets);
       left = omega (arith, step, size);
       room = c.put_reserved.ensures.room _ (omega (arith, step));
       room_ids = omega (arith, step);

@@ -9,4 +9,4 @@ unreachable-requires c =
     cc
 
 pub follow_blocks-requires-clause-fits : goal.follow_blocks-requires-clause-fits
-follow_blocks-requires-clause-fits c = removed_fits c.args.rows.now c.take_version.new.book c.remove.new.self c.args.key.now.file c.in-Some.bytes c.requires.sound c.take_version.ensures
+follow_blocks-requires-clause-fits c = removed_fits c.args.rows.now c.take_version.new.book c.remove_version.new.self c.args.key.now.file c.in-Some.bytes c.requires.sound c.take_version.ensures

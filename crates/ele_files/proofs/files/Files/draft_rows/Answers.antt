@@ -7,7 +7,7 @@ unreachable-requires c = grind (arith, elements)
 
 pub unreachable-requires-in_default-draft : goal.unreachable-requires-in_default-draft
 unreachable-requires-in_default-draft c =
-    draft_there c.self.inside.store c.self.inside.sessions.drafts c.drafts_open.ensures.orderly.drafts_rise c.loop-place.place c.in-Some.draft c.in-Some.ensures c.in_default-draft.ensures
+    draft_there c.self.inside.store c.self.inside.sessions.drafts c.drafts_open.ensures.orderly.drafts_rise c.loop-place.place c.in-Some.draft c.in-Some.ensures c.in_default-draft.ensures.map
 
 pub copy_cells-requires-clause-lives : goal.copy_cells-requires-clause-lives
 copy_cells-requires-clause-lives c = grind (arith, nat_tests, draft_lives)

@@ -1,6 +1,6 @@
 use Rattle.ele_files.proofs.Lemmas.{sym, gone, lives}
 use Rattle.ele_files.proofs.Exchanges.{unheld}
-use Rattle.ele_files.proofs.files.Files.remove.Goals as goal
+use Rattle.ele_files.proofs.files.Files.remove_version.Goals as goal
 
 pub invariant_of-self : goal.invariant_of-self
 invariant_of-self c = (unheld _ _ _ c.self.invariant c.args.file c.args.number _ _ (rw c.deref.ensures.value at c.in_ok-at.ensures) (rw (← c.get_mut.ensures.value) at c.index_mut.ensures.value) c.remove.new.self c.remove.ensures.rows (sym c.in_err-row.ensures.row)).0.keeps
