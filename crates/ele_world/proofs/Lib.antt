@@ -62,3 +62,17 @@ pub mod NoIdle
 pub mod ReadsBack
 pub mod Known
 pub mod OneLife
+pub mod AnyDueLeave
+pub mod IdleLeave
+pub mod Filters
+pub mod Lagging
+pub mod CleanLags
+pub mod LiveNames
+pub mod BothSteps
+pub mod Behind
+pub mod BothNames
+pub mod BothDrafts
+pub mod MadeMoments
+pub mod BothVersions
+pub mod EventLags
+pub mod RunsLag

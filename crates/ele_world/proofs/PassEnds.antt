@@ -29,7 +29,7 @@ cleaned_keeps_kept (suc n) w k = grind (arith, nat_tests, cleaned_keeps_kept n (
 
 -- ---- where the scan is empty nothing is due
 
-nothing_due : (w : World) → IsWellFormed w → first_due w ≡ None → kept_rows w ≡ w.versions
+pub nothing_due : (w : World) → IsWellFormed w → first_due w ≡ None → kept_rows w ≡ w.versions
 unfolding due_key
 nothing_due w k h = filter-all (λ row. not (is_due_at w row w.now)) w.versions (all-weaker (λ row. IfSome (due_key w row) (IsFirst (first_due w))) (λ row. not (is_due_at w row w.now) ≡ true) w.versions no_key (first_of_rows w)) where
   no_key : (row : VersionRow) → IfSome (due_key w row) (IsFirst (first_due w)) → not (is_due_at w row w.now) ≡ true

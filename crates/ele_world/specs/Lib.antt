@@ -48,3 +48,10 @@ pub mod CleanKeepsKeys
 pub mod Pass
 pub mod NewPlaces
 pub mod Whole
+pub mod AnyDueLeave
+pub mod IdleLeave
+pub mod Less
+pub mod Lags
+pub mod PlainEvents
+pub mod EventLags
+pub mod Schedule

@@ -13,6 +13,7 @@ mod reply;
 mod returning;
 mod rows;
 mod scan;
+pub mod schedule;
 mod sums;
 
 pub use ele_content::Cell;

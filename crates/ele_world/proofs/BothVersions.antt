@@ -1,0 +1,143 @@
+-- A new file and a file's next version, in a world and in one that lags behind it.
+use Rattle.ele_world.proofs.Basics.{◌≡◌, ◌==◌, ◌<◌, ◌-◌, ◌+◌, ℕ, Bool, true, false, cond, not, ◌&&◌, ◌||◌, List, [], ◌∷◌, None, Some, Option, refl, ap, sym, subst, ◌∙◌, arith, nat_tests, filter, list_any, nat_le, IfSome, option_map_or, unwrap_or, option_and_then, update_first, AllLater}
+use Rattle.ele_world.proofs.Basics.{later-weaker, list_any-append, list_any-insert_before, list_any-update_first, false≢true, all-weaker, not_found}
+use Rattle.ele_world.proofs.Words.{Append, Cell, Change, Files, IsLawful, IsWellFormed, MakeFile, Policy, VersionRow, Versions, World, after_change, ended_at, is_file, is_live_name_of, is_marked, is_open, is_version, is_version_after, near_moment, newest_of, next_of, next_version, numbered_on, policy_of, ripe_at, with_end, with_version, ArePlaced}
+use Rattle.ele_policy.specs.Ripe.{alone, ripe_by}
+use Rattle.ele_world.specs.Due.{ripe_of}
+use Rattle.ele_world.specs.Less.{less}
+use Rattle.ele_world.proofs.AnyDueLeave.{remains}
+use Rattle.ele_world.proofs.AppendMoments.{MayGrow, may_grow, newest_is, newest_was, next_before, others_after}
+use Rattle.ele_world.proofs.Behind.{Behind, KeepsBehind, apart_from, change_on, new_there, unripe_there}
+use Rattle.ele_world.proofs.CleanLags.{parts_same}
+use Rattle.ele_world.proofs.Created.{created, made_is, new_file, new_name, first_version, versions_before}
+use Rattle.ele_world.proofs.Files.{next_of-given, next_of-numbered_le, next_of-push}
+use Rattle.ele_world.proofs.Filters.{filter-push, insert_before-filter, update_first-filter}
+use Rattle.ele_world.proofs.KeptVersions.{behind_too, ended_versions}
+use Rattle.ele_world.proofs.Lagging.{stays_name, stays_file, live_same, next_same}
+use Rattle.ele_world.proofs.MadeMoments.{moment_stays}
+use Rattle.ele_world.proofs.RipeAt.{is_due_is, ripe_at_is}
+use Rattle.ele_world.proofs.Views.{policies_of, policy_is}
+
+-- a version that is due with no newer one beside it is so from the same moment on beside one
+near_keeps : (policy : Policy) (closed ended nearest at : ℕ) → IsLawful policy → (o : Option ℕ) → ripe_by policy closed (alone None) ended ≡ o → option_map_or (λ m. nat_le m at) o false ≡ true → ripe_by policy closed (alone (Some nearest)) ended ≡ o
+near_keeps policy closed ended nearest at is None e due = absurd (false≢true due)
+near_keeps policy closed ended nearest at is (Some m) e due = is.ripe_keeps closed ended m nearest e
+
+beside_one : (read : Bool) (marked : ℕ → Option ℕ → Bool) (policy : Option Policy) (closed now : ℕ) (ended : Option ℕ) → IfSome policy IsLawful
+    → option_map_or (λ m. nat_le m now) (cond read None (option_and_then (near_moment marked policy None closed) ended)) false ≡ true
+    → cond read None (near_moment marked policy (Some now) closed (unwrap_or ended now)) ≡ cond read None (option_and_then (near_moment marked policy None closed) ended)
+beside_one true marked policy closed now ended given due = absurd (false≢true due)
+beside_one false marked policy closed now None given due = absurd (false≢true due)
+beside_one false marked None closed now (Some ended) given due = grind (arith, nat_tests, due, false≢true)
+beside_one false marked (Some policy) closed now (Some ended) given due = grind (arith, nat_tests, due, false≢true, near_keeps policy closed ended now now given (ripe_by policy closed (alone None) ended) refl)
+
+module _ (gone : ℕ → ℕ → Bool) (dropped : ℕ → Bool) (u v : World) (b : Behind gone dropped u v) where
+  abbrev behind : World
+  behind = less gone dropped v
+
+  -- ---- a new file
+
+  module _ (directory : ℕ) (name : List ℕ) (policy : Policy) (formed : IsWellFormed behind) where
+    abbrev id : ℕ
+    id = v.made.files + 1
+
+    abbrev c : Change
+    c = MakeFile directory name (v.made.files + 1) policy
+
+    unmade : next_of v.files id ≡ 0
+    unmade = grind (arith, nat_tests, next_of-given v.made.files v.made.versions v.files id (b.formed.holds Files).each)
+
+    fresh : dropped id ≡ false
+    fresh = new_there gone dropped u v b id unmade
+
+    -- no version of it is held
+    unheld_yet : (number : ℕ) → gone id number ≡ false
+    unheld_yet number = unripe_there gone dropped u v b id number (ripe_at_is v id number ∙ ap (option_and_then (ripe_of v)) (not_found (is_version id number) v.versions
+        (all-weaker (λ (row : VersionRow). row.file < v.made.files + 1) (λ row. is_version id number row ≡ false) v.versions (λ row less. grind (arith, nat_tests, less)) (versions_before v b.formed))))
+
+    made_same : created behind directory name id policy ≡ less gone dropped (created v directory name id policy)
+    made_same =
+        let w : World = created v directory name id policy in
+        parts_same w _ _ _ _ _ _ (filter-push (stays_file dropped) v.files (new_file id policy) (ap not fresh)) (filter-push (stays_name dropped) v.names (new_name v directory name id) (ap not fresh)) (filter-push (remains gone) v.versions (first_version v id) (ap not (unheld_yet 1)))
+
+    pub make_both : IsWellFormed (after_change v c) → Behind gone dropped (after_change u c) (after_change v c)
+    make_both then =
+        let is = made_is v directory name policy b.formed in
+        change_on gone dropped u v b c (made_is behind directory name policy formed ∙ made_same ∙ ap (less gone dropped) (sym is)) then (subst (KeepsBehind gone dropped v) (sym is) (record {
+          time = omega arith;
+          ripe = λ f n named. moment_stays v directory name policy b.formed f n;
+          emptied = λ f dead e. let other = apart_from gone dropped u v b id f fresh dead in record {
+            there = rw (next_of-push v.files (new_file id policy) f e.there) e.there;
+            nameless = list_any-append (is_live_name_of f) v.names (new_name v directory name id ∷ []) ∙ grind (arith, nat_tests, e.nameless, other);
+            undrafted = e.undrafted;
+            unheld = λ number held. e.unheld number (grind (arith, nat_tests, list_any-append (is_version f number) v.versions (first_version v id ∷ []), held, other));
+          };
+          groups = refl;
+        }))
+
+  -- ---- a file's next version
+
+  module _ (file opened : ℕ) (cells : List Cell) (there : 0 < next_of v.files file) (stays : dropped file ≡ false) where
+    abbrev next : ℕ
+    next = next_of v.files file
+
+    abbrev appended : World
+    appended = with_version v file opened cells
+
+    may : MayGrow v file
+    may = may_grow v file b.formed there
+
+    -- what is in the list is left out as before it came in
+    files_on : update_first (is_file file) numbered_on behind.files ≡ filter (stays_file dropped) (update_first (is_file file) numbered_on v.files)
+    files_on = update_first-filter (stays_file dropped) (is_file file) true numbered_on v.files (λ row. refl) (λ row is. grind (arith, nat_tests, is, stays))
+
+    ended_on : (number : ℕ) → update_first (is_version file number) (ended_at v.now) behind.versions ≡ filter (remains gone) (update_first (is_version file number) (ended_at v.now) v.versions)
+    ended_on number = update_first-filter (remains gone) (is_version file number) (not (gone file number)) (ended_at v.now) v.versions (λ row. refl) (λ row is. grind (arith, nat_tests, is))
+
+    next_stays : gone file next ≡ false
+    next_stays = unripe_there gone dropped u v b file next (next_before v file opened cells may)
+
+    rising : AllLater (λ x z. is_version_after file next x ≡ true → is_version_after file next z ≡ true) (with_end v file)
+    rising = later-weaker ArePlaced (λ x z. is_version_after file next x ≡ true → is_version_after file next z ≡ true) (with_end v file) (λ x z placed is. behind_too file next x z is placed) (ended_versions v file (b.formed.holds Versions)).placed
+
+    versions_on : (with_version behind file opened cells).versions ≡ filter (remains gone) appended.versions
+    versions_on = rw (next_same dropped file stays v.files, live_same dropped file stays v.names, ended_on (next - 1)) (insert_before-filter (remains gone) (is_version_after file next) (next_version v file opened cells) (with_end v file) (ap not next_stays) rising)
+
+    appended_same : with_version behind file opened cells ≡ less gone dropped appended
+    appended_same = parts_same appended _ _ behind.names behind.names _ _ files_on refl versions_on
+
+    -- ---- what was due stays due
+
+    -- the newest of the file, which has another one beside it now
+    newest_stays : (row : VersionRow) → newest_of v.versions file ≡ Some row → gone file row.number ≡ true → ripe_at appended file row.number ≡ ripe_at v file row.number
+    newest_stays row is named =
+        let was = newest_was v file opened cells may row is in
+        newest_is v file opened cells may row is
+        ∙ beside_one (is_open v.handles file row.number) (is_marked v.groups file) (policy_of v.files file) row.closed v.now row.ended (policy_is v.files file (policies_of v b.formed)) (rw was at (sym (is_due_is v file row.number b.formed) ∙ b.due file row.number named))
+        ∙ sym was
+
+    ripe_stays : (f n : ℕ) → gone f n ≡ true → ripe_at appended f n ≡ ripe_at v f n
+    ripe_stays f n named = by (newest_of v.versions file) refl ((f == file) && ((n == next) || option_map_or (λ (row : VersionRow). n == row.number) (newest_of v.versions file) false)) refl where
+      its : (o : Option VersionRow) → newest_of v.versions file ≡ o → f ≡ file → (l : Bool) → (n == next) ≡ l → (l || option_map_or (λ (row : VersionRow). n == row.number) o false) ≡ true → ripe_at appended f n ≡ ripe_at v f n
+      its o e own true is so = let same : n ≡ next = grind (arith, nat_tests, is) in absurd (false≢true (sym next_stays ∙ (rw (own, same) at named)))
+      its None e own false is so = absurd (false≢true so)
+      its (Some row) e own false is so = let same : n ≡ row.number = grind (arith, nat_tests, so) in rw (own, same) (newest_stays row e (rw (own, same) at named))
+
+      by : (o : Option VersionRow) → newest_of v.versions file ≡ o → (l : Bool) → ((f == file) && ((n == next) || option_map_or (λ (row : VersionRow). n == row.number) (newest_of v.versions file) false)) ≡ l → ripe_at appended f n ≡ ripe_at v f n
+      by o e false fails = others_after v file opened cells may f n fails
+      by o e true so = its o e (grind (arith, nat_tests, so)) (n == next) refl (grind (arith, nat_tests, so, e))
+
+    held_before : (f n : ℕ) → dropped f ≡ true → list_any (is_version f n) appended.versions ≡ true → list_any (is_version f n) v.versions ≡ true
+    held_before f n dead held =
+        let other = apart_from gone dropped u v b file f stays dead in
+        let inserted = list_any-insert_before (is_version_after file next) (is_version f n) (next_version v file opened cells) (with_end v file) in
+        let ended = list_any-update_first (is_version file (next - 1)) (is_version f n) (ended_at v.now) v.versions (λ row is. refl) in
+        grind (arith, nat_tests, other, inserted, ended, held)
+
+    pub append_both : let c = Append file opened cells in IsWellFormed (after_change v c) → Behind gone dropped (after_change u c) (after_change v c)
+    append_both formed = change_on gone dropped u v b (Append file opened cells) appended_same formed (record {
+      time = omega arith;
+      ripe = ripe_stays;
+      emptied = λ f dead e. record { there = omega (arith, e.there, next_of-numbered_le v.files file f); nameless = e.nameless; undrafted = e.undrafted; unheld = λ n held. e.unheld n (held_before f n dead held) };
+      groups = refl;
+    })

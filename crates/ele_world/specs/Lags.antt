@@ -1,0 +1,26 @@
+-- A world that lags behind another: due versions of the other have gone, and files of which nothing else was left. It keeps what
+-- the other keeps, and after a clean of it alone it still lags.
+use Rattle.std.specs.Prelude.{◌≡◌, ℕ, Bool, true, None, []}
+use Rattle.ele_world.specs.AnyDueLeave.{AreDue}
+use Rattle.ele_world.specs.Due.{kept_rows}
+use Rattle.ele_world.specs.Less.{less, IsEmptied}
+use Rattle.ele_world.specs.Scan.{first_due}
+use Rattle.ele_world.specs.Step.{clean_step}
+use Rattle.ele_world.specs.WellFormed.{IsWellFormed}
+use Rattle.ele_world.specs.World.{World}
+
+-- the first world is the second without such versions and such files; there are no groups
+pub record Lags (u v : World) : Type 0 where
+  pub gone : ℕ → ℕ → Bool
+  pub dropped : ℕ → Bool
+  pub is : u ≡ less gone dropped v
+  pub due : AreDue v gone
+  pub emptied : (file : ℕ) → dropped file ≡ true → IsEmptied gone v file
+  pub ungrouped : v.groups ≡ []
+
+-- where nothing is due in the first its versions are those that the second keeps
+abbrev pub LagsKeeps : Type 0
+LagsKeeps = (u v : World) → IsWellFormed u → IsWellFormed v → Lags u v → first_due u ≡ None → u.versions ≡ kept_rows v
+
+abbrev pub CleanLags : Type 0
+CleanLags = (u v : World) → IsWellFormed u → IsWellFormed v → Lags u v → Lags ((clean_step u).1) v

@@ -1,0 +1,23 @@
+-- The events of which it doesn't matter when versions are cleaned that are due.
+use Rattle.std.specs.Prelude.{Bool, true, false}
+use Rattle.ele_world.specs.declared.event.Event.{Event}
+use Rattle.ele_world.specs.declared.event.Event.TheVariants.{Undelete, Revert, OpenRead, SetPolicy, GroupMake, GroupDrop, GroupAdd, GroupRemove, Mark, Unmark, CleanOne}
+
+abbrev pub is_clean : Event → Bool
+is_clean CleanOne = true
+is_clean event = false
+
+-- no clean, and none that takes up a version of the past, or lets one go later than before
+abbrev pub is_plain : Event → Bool
+is_plain CleanOne = false
+is_plain (Undelete path) = false
+is_plain (Revert path number) = false
+is_plain (OpenRead tagged) = false
+is_plain (SetPolicy path policy) = false
+is_plain (GroupMake name) = false
+is_plain (GroupDrop name) = false
+is_plain (GroupAdd name path) = false
+is_plain (GroupRemove name path) = false
+is_plain (Mark name mark) = false
+is_plain (Unmark name mark) = false
+is_plain event = true

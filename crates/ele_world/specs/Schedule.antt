@@ -1,0 +1,26 @@
+-- What is forgotten doesn't depend on when it is cleaned: however clean events stand in a run, a finished pass at its end leaves
+-- what the scan keeps of the run without them, and the events that neither clean nor ask are answered as there.
+use Rattle.std.specs.Prelude.{◌≡◌, ℕ, true, not, ◌||◌, List, [], ◌∷◌, filter, if◌then◌else◌}
+use Rattle.std.specs.List.{AllByRecursion}
+use Rattle.ele_world.specs.declared.event.Event.{Event}
+use Rattle.ele_world.specs.declared.reply.Reply.{Reply}
+use Rattle.ele_world.specs.Bounds.{Bounds, AreBounds}
+use Rattle.ele_world.specs.Due.{kept_rows}
+use Rattle.ele_world.specs.NothingChanges.{asks}
+use Rattle.ele_world.specs.PlainEvents.{is_clean, is_plain}
+use Rattle.ele_world.specs.Run.{run_of, IsEvent, IsPass}
+use Rattle.ele_world.specs.Step.{step}
+use Rattle.ele_world.specs.World.{World, fresh_world}
+
+-- the replies to the events that neither clean nor ask
+abbrev pub change_replies : World → List Event → List Reply
+change_replies w [] = []
+change_replies w (event ∷ events) =
+    let rest = change_replies ((step w event).1) events in if is_clean event || asks event then rest else (step w event).0 ∷ rest
+
+abbrev pub Schedule : Type 0
+Schedule =
+    (limits : Bounds) (events : List Event) → AreBounds limits → AllByRecursion (λ event. IsEvent event × ((is_clean event || is_plain event) ≡ true)) events
+    → let w = fresh_world limits in let others = filter (λ event. not (is_clean event)) events in
+    (change_replies w events ≡ change_replies w others)
+    × ((removed : ℕ) (after : World) → IsPass (run_of w events) removed after → after.versions ≡ kept_rows (run_of w others))

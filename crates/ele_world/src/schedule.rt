@@ -1,0 +1,46 @@
+//! What is removed doesn't depend on the order in which it is removed, nor on when: each law is the contract of a function that
+//! does nothing.
+ghost use Rattle.ele_world.specs.AnyDueLeave.{AnyDueLeave};
+ghost use Rattle.ele_world.specs.EventLags.{EventLags};
+ghost use Rattle.ele_world.specs.IdleLeave.{IdleLeave};
+ghost use Rattle.ele_world.specs.Lags.{CleanLags, LagsKeeps};
+ghost use Rattle.ele_world.specs.Schedule.{Schedule};
+
+use ele_policy::laws::policies_are_lawful;
+
+/// Whichever due versions are removed, the due versions afterwards are the others that were due, those kept are those kept
+/// before, and the world is well formed: so every order of removal ends in the same rows.
+pub fn any_due_leave()
+    ensures { AnyDueLeave }
+{}
+
+/// The same where the files of which nothing is left are dropped too; then each file has something left.
+pub fn idle_leave()
+    ensures { IdleLeave }
+{}
+
+/// A world that lags behind another and has nothing due has the versions that the other keeps.
+pub fn lags_keeps()
+    ensures { LagsKeeps }
+{}
+
+/// After a clean of it alone it still lags.
+pub fn clean_lags()
+    ensures { CleanLags }
+{}
+
+/// After an event made in both it still lags, and where the event doesn't only ask it is answered alike: any event but a clean,
+/// and but those that take up versions of the past or let versions go later than before.
+pub fn event_lags()
+    ensures { EventLags }
+{
+    policies_are_lawful();
+}
+
+/// However clean events stand in such a run, a finished pass at its end leaves exactly what the scan keeps of the run without
+/// them, and the events that neither clean nor ask are answered as there.
+pub fn schedule()
+    ensures { Schedule }
+{
+    policies_are_lawful();
+}
