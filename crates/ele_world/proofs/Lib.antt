@@ -62,3 +62,8 @@ pub mod NoIdle
 pub mod ReadsBack
 pub mod Known
 pub mod OneLife
+pub mod Past
+pub mod NameRowsKept
+pub mod OtherNames
+pub mod Rising
+pub mod Lives

@@ -48,3 +48,8 @@ pub mod CleanKeepsKeys
 pub mod Pass
 pub mod NewPlaces
 pub mod Whole
+pub mod PastStays
+pub mod NameRowsStay
+pub mod LifeStays
+pub mod OtherNamesStay
+pub mod NumbersRise
