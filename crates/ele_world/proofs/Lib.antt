@@ -67,3 +67,6 @@ pub mod NameRowsKept
 pub mod OtherNames
 pub mod Rising
 pub mod Lives
+pub mod Restores
+pub mod ScanOrder
+pub mod DifferentPlaces

@@ -53,3 +53,7 @@ pub mod NameRowsStay
 pub mod LifeStays
 pub mod OtherNamesStay
 pub mod NumbersRise
+pub mod UndeleteTakes
+pub mod RestorableLists
+pub mod ScanLists
+pub mod CountsPlaces

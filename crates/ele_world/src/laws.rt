@@ -24,6 +24,7 @@ ghost use Rattle.ele_world.specs.UnlinkEnds.{UnlinkEnds};
 ghost use Rattle.ele_world.specs.RipeMoments.{DueFromRipe, RipeIsAnswered};
 ghost use Rattle.ele_world.specs.UsageFits.{UsageFits};
 
+pub mod lists;
 pub mod past;
 
 use ele_policy::laws::policies_are_lawful;
