@@ -70,3 +70,7 @@ pub mod Lives
 pub mod Restores
 pub mod ScanOrder
 pub mod DifferentPlaces
+pub mod Governs
+pub mod Written
+pub mod Numbered
+pub mod Tells

@@ -57,3 +57,15 @@ pub mod UndeleteTakes
 pub mod RestorableLists
 pub mod ScanLists
 pub mod CountsPlaces
+pub mod PolicyGoverns
+pub mod DefaultGoverns
+pub mod MarkMarks
+pub mod DraftBegins
+pub mod WriteLays
+pub mod TruncateFits
+pub mod HandleReads
+pub mod HandleStays
+pub mod Answered
+pub mod NumberMeans
+pub mod CloseTells
+pub mod UndeleteRevives

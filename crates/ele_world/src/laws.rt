@@ -24,6 +24,7 @@ ghost use Rattle.ele_world.specs.UnlinkEnds.{UnlinkEnds};
 ghost use Rattle.ele_world.specs.RipeMoments.{DueFromRipe, RipeIsAnswered};
 ghost use Rattle.ele_world.specs.UsageFits.{UsageFits};
 
+pub mod effects;
 pub mod lists;
 pub mod past;
 
