@@ -74,3 +74,4 @@ pub mod Governs
 pub mod Written
 pub mod Numbered
 pub mod Tells
+pub mod GroupsChanged

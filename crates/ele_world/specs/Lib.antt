@@ -69,3 +69,7 @@ pub mod Answered
 pub mod NumberMeans
 pub mod CloseTells
 pub mod UndeleteRevives
+pub mod GroupChanges
+pub mod GroupsCome
+pub mod MembersChange
+pub mod MarkGoes
