@@ -76,3 +76,16 @@ pub mod MadeMoments
 pub mod BothVersions
 pub mod EventLags
 pub mod RunsLag
+pub mod Past
+pub mod NameRowsKept
+pub mod OtherNames
+pub mod Rising
+pub mod Lives
+pub mod Restores
+pub mod ScanOrder
+pub mod DifferentPlaces
+pub mod Governs
+pub mod Written
+pub mod Numbered
+pub mod Tells
+pub mod GroupsChanged

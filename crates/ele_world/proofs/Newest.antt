@@ -7,13 +7,13 @@ use Rattle.std.specs.List.Sorted.{IsStrictlySortedBy}
 use Rattle.ele_world.specs.Restorable.{restorable}
 use Rattle.ele_world.proofs.Listed.{all_sorted, inserted_found}
 
-abbrev Key : Type 0
+abbrev pub Key : Type 0
 Key = ℕ × List ℕ
 
-abbrev Entry : Type 0
+abbrev pub Entry : Type 0
 Entry = Key × NameRow
 
-abbrev key_of : NameRow → Key
+abbrev pub key_of : NameRow → Key
 key_of row = (row.directory, row.name)
 
 abbrev more : List Entry → NameRow → List Entry
@@ -35,7 +35,7 @@ restorable_values w = filter_map-map (returning w) (λ (e : Entry). e.1) (newest
 
 -- ---- the order of names
 
-name_total : IsTotalOrder name_cmp
+pub name_total : IsTotalOrder name_cmp
 name_total = then_total (on_total (λ (k : Key). k.0) nat_cmp_total) (on_total (λ (k : Key). k.1) nat_list_cmp_total)
 
 name_exact : CmpEqualImpliesEq name_cmp
@@ -43,15 +43,15 @@ name_exact = exact_pairs nat_cmp (slice_cmp nat_cmp) exact_unsigned exact_bytes
 
 -- ---- the newest rows
 
-abbrev IsOwn : Entry → Type 0
+abbrev pub IsOwn : Entry → Type 0
 IsOwn e = e.0 ≡ key_of e.1
 
 -- each at its own name
-newest_own : (rows : List NameRow) (newest : List Entry) → AllByRecursion IsOwn newest → AllByRecursion IsOwn (fold more newest rows)
+pub newest_own : (rows : List NameRow) (newest : List Entry) → AllByRecursion IsOwn newest → AllByRecursion IsOwn (fold more newest rows)
 newest_own [] newest own = own
 newest_own (row ∷ rows) newest own = newest_own rows (more newest row) (all-insert_entry IsOwn name_cmp newest (key_of row) row refl (λ e alike. sym (name_exact (key_of row) e.0 alike)) own)
 
-sorted_rows : (rows : List NameRow) → IsStrictlySortedBy name_cmp (keys_of (newest_rows rows))
+pub sorted_rows : (rows : List NameRow) → IsStrictlySortedBy name_cmp (keys_of (newest_rows rows))
 sorted_rows rows = all_sorted name_total key_of (λ row. row) rows
 
 -- and a name has its last row
@@ -59,9 +59,12 @@ last_same : (d : ℕ) (n : List ℕ) (rows : List NameRow) → last_passing (λ 
 last_same d n [] = refl
 last_same d n (row ∷ rows) = grind (arith, nat_tests, unsigned_tied row.directory d, is_eq-slice_cmp row.name n, last_same d n rows)
 
+pub newest_last : (rows : List NameRow) (d : ℕ) (n : List ℕ) → lookup (is_at (name_cmp (d, n))) (newest_rows rows) ≡ last_passing (is_named d n) rows
+newest_last rows d n = rw (inserted_found name_total key_of (λ row. row) (d, n) rows [], last_same d n rows) (grind (arith, nat_tests))
+
 -- ---- those that are dead, with what they stood for
 
-abbrev is_dead : NameRow → Bool
+abbrev pub is_dead : NameRow → Bool
 is_dead row = is_some row.death
 
 abbrev dead_of : List Entry → List Entry

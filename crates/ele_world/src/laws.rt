@@ -24,6 +24,11 @@ ghost use Rattle.ele_world.specs.UnlinkEnds.{UnlinkEnds};
 ghost use Rattle.ele_world.specs.RipeMoments.{DueFromRipe, RipeIsAnswered};
 ghost use Rattle.ele_world.specs.UsageFits.{UsageFits};
 
+pub mod effects;
+pub mod groups;
+pub mod lists;
+pub mod past;
+
 use ele_policy::laws::policies_are_lawful;
 
 /// The fresh world is well formed.

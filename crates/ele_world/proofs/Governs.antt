@@ -1,0 +1,69 @@
+-- What a policy event, a default event and a mark change, and that nothing else changes.
+use Rattle.ele_world.proofs.Basics.{nat_tests, arith, ◌≡◌, ℕ, ◌==◌, Bool, true, false, List, [], ◌∷◌, map, Ok, refl, option_map_or, list_any, update_first, find-update_other, list_any-update_first, all-found}
+use Rattle.ele_world.proofs.Words.{World, Policy, FileRow, DirectoryRow, IsWellFormed, Names, Homes, Directories, Directory, IsDirectoryThere, Govern, PutUnder, AddMark, after_change, directory_in, directory_now, file_now, governed_by, has_directory, has_member, is_directory, is_file, is_group, is_member, members_of, marks, put_under, root, walk_now, GroupRow}
+use Rattle.ele_world.specs.DefaultGoverns.{GovernsDirectory, DefaultGoverns}
+use Rattle.ele_world.specs.MarkMarks.{MarksMoment, MarkMarks}
+use Rattle.ele_world.specs.PolicyGoverns.{GovernsFile, PolicyGoverns}
+use Rattle.ele_lists.proofs.Cuts.{any-found as first_passing}
+use Rattle.ele_world.proofs.Elements.{find-updated, find-update_still}
+use Rattle.ele_world.proofs.Files.{next_of-put_under}
+use Rattle.ele_world.proofs.MarksChanged.{marked_more}
+use Rattle.ele_world.proofs.Outcomes.{in_all}
+use Rattle.ele_world.proofs.Walks.{file_there, live_row, walk_to}
+
+map-update_first : {X Y : Type 0} (see : X → Y) (p : X → Bool) (f : X → X) (xs : List X) → ((x : X) → see (f x) ≡ see x) → map see (update_first p f xs) ≡ map see xs
+map-update_first see p f [] same = refl
+map-update_first see p f (x ∷ xs) same = grind (arith, nat_tests, map-update_first see p f xs same)
+
+-- ---- a policy
+
+governs : (w : World) (path : List (List ℕ)) (policy : Policy) → IsWellFormed w → (file : ℕ) → file_now w.names path ≡ Ok file → GovernsFile w path policy (after_change w (PutUnder file policy))
+governs w path policy k file named = record {
+  file = file;
+  named = named;
+  governs = grind (arith, nat_tests, file_there w.files w.now w.names path file (k.holds Names).each named, find-updated (is_file file) (put_under policy) w.files);
+  next = next_of-put_under w.files file file policy;
+  others = λ other apart. find-update_other (is_file file) (is_file other) (put_under policy) w.files (λ row is. grind (arith, nat_tests, is, apart));
+  files = map-update_first (λ (row : FileRow). row.id) (is_file file) (put_under policy) w.files (λ row. refl);
+  rest = refl;
+}
+
+pub policy_governs : PolicyGoverns
+policy_governs w path policy k = grind (arith, nat_tests, in_all, governs w path policy k)
+
+-- ---- a default
+
+directory_there : (w : World) (path : List (List ℕ)) (directory : ℕ) → IsWellFormed w → directory_now w.names path ≡ Ok directory → has_directory w.directories directory ≡ true
+directory_there w path directory k named =
+    walk_to (IsDirectoryThere w.directories) w.names (λ home name target. grind (arith, nat_tests, k.holds Homes, live_row, all-found)) (Directory root) (Directory directory) path (k.holds Directories).rooted (leads (walk_now w.names path) named) where
+      leads : (r : _) → directory_in r ≡ Ok directory → r ≡ Ok (Directory directory)
+      leads r h = grind (arith, nat_tests)
+
+gives : (w : World) (path : List (List ℕ)) (policy : Policy) → IsWellFormed w → (directory : ℕ) → directory_now w.names path ≡ Ok directory → GovernsDirectory w path policy (after_change w (Govern directory policy))
+gives w path policy k directory named = record {
+  directory = directory;
+  named = named;
+  governs = grind (arith, nat_tests, first_passing (is_directory directory) w.directories (directory_there w path directory k named), find-updated (is_directory directory) (governed_by policy) w.directories);
+  others = λ other apart. find-update_other (is_directory directory) (is_directory other) (governed_by policy) w.directories (λ row is. grind (arith, nat_tests, is, apart));
+  directories = map-update_first (λ (row : DirectoryRow). row.id) (is_directory directory) (governed_by policy) w.directories (λ row. refl);
+  rest = refl;
+}
+
+pub default_governs : DefaultGoverns
+default_governs w path policy k = grind (arith, nat_tests, in_all, gives w path policy k)
+
+-- ---- a mark
+
+has-members : (rows : List GroupRow) (name : List ℕ) (file : ℕ) → list_any (λ member. member == file) (members_of rows name) ≡ has_member rows name file
+has-members rows name file = grind (arith, nat_tests)
+
+marks_moment : (w : World) (name : List ℕ) (mark : ℕ) → MarksMoment w name mark (after_change w (AddMark name mark))
+marks_moment w name mark = record {
+  marked = λ file closed ended. grind (arith, nat_tests, marked_more w.groups name file closed ended mark, has-members w.groups name file);
+  groups = λ other. list_any-update_first (is_group name) (is_group other) (marks mark) w.groups (λ row is. refl);
+  members = λ other file. find-update_still (is_group name) (is_group other) (λ found. option_map_or (is_member file) found false) (marks mark) w.groups (λ row. refl) (λ row. refl);
+  rest = refl;
+}
+
+pub mark_marks : MarkMarks
+mark_marks w name mark k = grind (arith, nat_tests, in_all, marks_moment w name mark)

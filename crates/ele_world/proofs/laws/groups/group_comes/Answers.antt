@@ -1,0 +1,5 @@
+use Rattle.ele_world.proofs.GroupsChanged.{a_group_comes}
+use Rattle.ele_world.proofs.laws.groups.group_comes.Goals as goal
+
+pub returns : goal.returns
+returns c = λ w name k done. a_group_comes w name k done

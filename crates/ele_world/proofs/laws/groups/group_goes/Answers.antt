@@ -1,0 +1,5 @@
+use Rattle.ele_world.proofs.GroupsChanged.{a_group_goes}
+use Rattle.ele_world.proofs.laws.groups.group_goes.Goals as goal
+
+pub returns : goal.returns
+returns c = λ w name k done. a_group_goes w name k done

@@ -1,0 +1,5 @@
+use Rattle.ele_world.proofs.GroupsChanged.{mark_goes}
+use Rattle.ele_world.proofs.laws.groups.mark_goes.Goals as goal
+
+pub returns : goal.returns
+returns c = λ w name mark k done. mark_goes w name mark k done

@@ -1,0 +1,5 @@
+use Rattle.ele_world.proofs.GroupsChanged.{member_goes}
+use Rattle.ele_world.proofs.laws.groups.member_goes.Goals as goal
+
+pub returns : goal.returns
+returns c = λ w name path file k named done. member_goes w name path file k named done

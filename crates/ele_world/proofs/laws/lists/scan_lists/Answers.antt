@@ -1,0 +1,5 @@
+use Rattle.ele_world.proofs.ScanOrder.{scan_lists}
+use Rattle.ele_world.proofs.laws.lists.scan_lists.Goals as goal
+
+pub returns : goal.returns
+returns c = λ w k. scan_lists w k

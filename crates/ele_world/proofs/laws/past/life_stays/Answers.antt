@@ -1,0 +1,5 @@
+use Rattle.ele_world.proofs.Lives.{life_stays}
+use Rattle.ele_world.proofs.laws.past.life_stays.Goals as goal
+
+pub returns : goal.returns
+returns c = λ w event k. life_stays w event k

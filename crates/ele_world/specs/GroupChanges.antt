@@ -1,0 +1,20 @@
+-- What a change of one group leaves: every other group is what it was, and but for groups and counts nothing has changed.
+use Rattle.std.specs.Prelude.{◌≡◌, ℕ, Bool, false, List, Option, Some}
+use Rattle.std.specs.Str.{bytes_eq}
+use Rattle.ele_world.specs.declared.rows.GroupRow.{GroupRow}
+use Rattle.ele_world.specs.GroupRows.{group_named, has_mark, is_member}
+use Rattle.ele_world.specs.World.{World}
+
+pub record ChangesGroup (before : World) (name : List ℕ) (is : Option GroupRow → Type 0) (after : World) : Type 0 where
+  pub named : is (group_named after.groups name)
+  pub others : (other : List ℕ) → bytes_eq name other ≡ false → group_named after.groups other ≡ group_named before.groups other
+  pub rest : after ≡ record before { groups = after.groups; made = after.made }
+
+-- the group that was there has just these files and marks
+pub record IsGroupOf (was : Option GroupRow) (members marks : GroupRow → ℕ → Bool) (is : Option GroupRow) : Type 0 where
+  pub row : GroupRow
+  pub later : GroupRow
+  pub found : was ≡ Some row
+  pub changed : is ≡ Some later
+  pub member : (file : ℕ) → is_member file later ≡ members row file
+  pub mark : (moment : ℕ) → has_mark moment later ≡ marks row moment

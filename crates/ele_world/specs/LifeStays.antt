@@ -1,0 +1,17 @@
+-- A version's life stays: while it is held, it lived at each moment before now after an event as before it.
+use Rattle.std.specs.Prelude.{◌≡◌, ℕ, ◌<◌, Some, find}
+use Rattle.std.specs.List.{AllByRecursion}
+use Rattle.ele_world.specs.declared.event.Event.{Event}
+use Rattle.ele_world.specs.declared.rows.VersionRow.{VersionRow}
+use Rattle.ele_world.specs.Step.{step}
+use Rattle.ele_world.specs.Tagged.{lives_at}
+use Rattle.ele_world.specs.WellFormed.{IsWellFormed}
+use Rattle.ele_world.specs.World.{World, is_version}
+
+abbrev pub LivesAsBefore : World → Event → VersionRow → Type 0
+LivesAsBefore w event row =
+    (later : VersionRow) (moment : ℕ) → find (is_version row.file row.number) ((step w event).1).versions ≡ Some later → moment < w.now
+    → lives_at moment later ≡ lives_at moment row
+
+abbrev pub LifeStays : Type 0
+LifeStays = (w : World) (event : Event) → IsWellFormed w → AllByRecursion (LivesAsBefore w event) w.versions

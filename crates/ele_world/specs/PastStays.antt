@@ -1,0 +1,27 @@
+-- What a name stood for at a moment before now stays so after any event, unless it was a file that has gone, with all its names.
+use Rattle.std.specs.Prelude.{◌≡◌, ◌⊎◌, ℕ, ◌<◌, true, false, List, Some, None, find}
+use Rattle.ele_world.specs.declared.event.Event.{Event}
+use Rattle.ele_world.specs.declared.rows.Target.TheVariants.{File}
+use Rattle.ele_world.specs.Change.{is_idle}
+use Rattle.ele_world.specs.NameRows.{target_at}
+use Rattle.ele_world.specs.Step.{step}
+use Rattle.ele_world.specs.WellFormed.{IsWellFormed}
+use Rattle.ele_world.specs.World.{World, is_file, is_live}
+
+-- the name stood for a file without a live name, of which nothing is left after the event, and stands for nothing any more
+pub record WentWithFile (before after : World) (moment directory : ℕ) (name : List ℕ) : Type 0 where
+  pub file : ℕ
+  pub stood : target_at before.names moment directory name ≡ Some (File file)
+  pub nameless : is_live before file ≡ false
+  pub idle : is_idle after file ≡ true
+  pub gone : find (is_file file) after.files ≡ None
+  pub nothing : target_at after.names moment directory name ≡ None
+
+abbrev pub StoodAsBefore : World → World → ℕ → ℕ → List ℕ → Type 0
+StoodAsBefore before after moment directory name =
+    (target_at after.names moment directory name ≡ target_at before.names moment directory name) ⊎ WentWithFile before after moment directory name
+
+abbrev pub PastStays : Type 0
+PastStays =
+    (w : World) (event : Event) (moment directory : ℕ) (name : List ℕ) → IsWellFormed w → moment < w.now
+    → StoodAsBefore w ((step w event).1) moment directory name

@@ -1,0 +1,18 @@
+-- The list of restorable names has each name once, in order, and a name with a target just where its newest row is dead, stood for
+-- that target, and the target may have a name again.
+use Rattle.std.specs.Prelude.{◌≡◌, ℕ, List, map, find}
+use Rattle.std.specs.List.Sorted.{IsStrictlySortedBy}
+use Rattle.std.specs.Option.{option_map}
+use Rattle.ele_lists.specs.Last.{passing}
+use Rattle.ele_world.specs.NameRows.{last_dead}
+use Rattle.ele_world.specs.Restorable.{name_cmp, may_return, restorable}
+use Rattle.ele_world.specs.UndeleteTakes.{is_dead_name}
+use Rattle.ele_world.specs.World.{World}
+
+pub record ListsRestorable (w : World) : Type 0 where
+  pub in_order : IsStrictlySortedBy name_cmp (map (λ dead. (dead.directory, dead.name)) (restorable w))
+  pub each : (directory : ℕ) (name : List ℕ)
+      → option_map (λ dead. dead.target) (find (is_dead_name directory name) (restorable w)) ≡ passing (may_return w) (last_dead w.names directory name)
+
+abbrev pub RestorableLists : Type 0
+RestorableLists = (w : World) → ListsRestorable w

@@ -1,0 +1,29 @@
+-- A name is listed as restorable just where an undelete of a path to it isn't refused as `Exists`, `NoEntry` or `NotRestorable`.
+use Rattle.std.specs.Prelude.{◌≡◌, ℕ, ◌==◌, ◌&&◌, Bool, true, false, not, List, Ok}
+use Rattle.std.specs.List.{list_any}
+use Rattle.std.specs.Str.{bytes_eq}
+use Rattle.ele_world.specs.declared.event.Event.TheVariants.{Undelete}
+use Rattle.ele_world.specs.declared.refusal.Refusal.TheVariants.{Exists, NoEntry, NotRestorable}
+use Rattle.ele_world.specs.declared.reply.Reply.{Reply}
+use Rattle.ele_world.specs.declared.reply.Reply.TheVariants.{Refused}
+use Rattle.ele_world.specs.declared.rows.DeadName.{DeadName}
+use Rattle.ele_world.specs.Restorable.{restorable}
+use Rattle.ele_world.specs.Step.{step}
+use Rattle.ele_world.specs.Walk.{parent_now}
+use Rattle.ele_world.specs.WellFormed.{IsWellFormed}
+use Rattle.ele_world.specs.World.{World}
+
+abbrev pub is_dead_name : ℕ → List ℕ → DeadName → Bool
+is_dead_name directory name dead = (dead.directory == directory) && bytes_eq dead.name name
+
+-- the name is taken, or it last stood for nothing that may come back
+abbrev pub cannot_return : Reply → Bool
+cannot_return (Refused Exists) = true
+cannot_return (Refused NoEntry) = true
+cannot_return (Refused NotRestorable) = true
+cannot_return reply = false
+
+abbrev pub UndeleteTakes : Type 0
+UndeleteTakes =
+    (w : World) (path : List (List ℕ)) (at : ℕ × List ℕ) → IsWellFormed w → parent_now w.names path ≡ Ok at
+    → list_any (is_dead_name at.0 at.1) (restorable w) ≡ not (cannot_return ((step w (Undelete path)).0))

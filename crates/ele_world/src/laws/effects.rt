@@ -1,0 +1,76 @@
+//! What single events leave: each law is the contract of a function that does nothing.
+ghost use Rattle.ele_world.specs.CloseTells.{CloseTells, CloseLeaves};
+ghost use Rattle.ele_world.specs.DefaultGoverns.{DefaultGoverns};
+ghost use Rattle.ele_world.specs.DraftBegins.{DraftBegins};
+ghost use Rattle.ele_world.specs.HandleReads.{HandleReads};
+ghost use Rattle.ele_world.specs.HandleStays.{HandleStays};
+ghost use Rattle.ele_world.specs.MarkMarks.{MarkMarks};
+ghost use Rattle.ele_world.specs.NumberMeans.{NumberMeans};
+ghost use Rattle.ele_world.specs.PolicyGoverns.{PolicyGoverns};
+ghost use Rattle.ele_world.specs.TruncateFits.{TruncateFits};
+ghost use Rattle.ele_world.specs.UndeleteRevives.{UndeleteRevives};
+ghost use Rattle.ele_world.specs.WriteLays.{WriteLays};
+
+/// After a policy event the file at its path has the policy, every other file its own, and nothing else has changed.
+pub fn policy_governs()
+    ensures { PolicyGoverns }
+{}
+
+/// After a default event the directory at its path gives the policy, every other one its own, and nothing else has changed.
+pub fn default_governs()
+    ensures { DefaultGoverns }
+{}
+
+/// After a mark what was current then of the group's files is marked, beside what was marked before, and nothing else.
+#[tactic(auto, using(crate::proofs::Governs::mark_marks))]
+pub fn mark_marks()
+    ensures { MarkMarks }
+{}
+
+/// The first handle that writes a file reads the content of its current version, a later one that of the file's draft.
+#[tactic(auto, using(crate::proofs::Written::draft_begins))]
+pub fn draft_begins()
+    ensures { DraftBegins }
+{}
+
+/// After a write the file's draft has what it had with the bytes laid over it, and nothing else has changed.
+pub fn write_lays()
+    ensures { WriteLays }
+{}
+
+/// After a truncate the file's draft has as many bytes as told, and nothing else has changed.
+pub fn truncate_fits()
+    ensures { TruncateFits }
+{}
+
+/// A handle that is opened for reading reads the version that was meant.
+#[tactic(auto, using(crate::proofs::Written::handle_reads))]
+pub fn handle_reads()
+    ensures { HandleReads }
+{}
+
+/// A handle reads what it read until it is closed.
+pub fn handle_stays()
+    ensures { HandleStays }
+{}
+
+/// A number reads, tells and opens one version, and no other.
+#[tactic(auto, using(crate::proofs::Numbered::number_means))]
+pub fn number_means()
+    ensures { NumberMeans }
+{}
+
+/// The close of a handle that writes makes a version just where the draft was changed and no other handle writes it.
+pub fn close_tells()
+    ensures { CloseTells }
+{}
+
+/// A close that tells of no version has changed none.
+pub fn close_leaves()
+    ensures { CloseLeaves }
+{}
+
+/// An undelete makes a version only of a file without a live name and without a draft.
+pub fn undelete_revives()
+    ensures { UndeleteRevives }
+{}
