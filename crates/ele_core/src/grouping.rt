@@ -23,9 +23,7 @@ fn add_group(rows: &mut Rows, name: &Name) -> Result<(), NoMemory>
     ensures err { OnErr result (world_of rows.new ≡ world_of rows.old) }
     ensures tracked { IsTracked rows.new }
 {
-    if let Err(_refused) = rows.groups.make(name) {
-        return Err(NoMemory);
-    }
+    rows.groups.add_group(name)?;
     rows.made.groups += 1;
     Ok(())
 }
@@ -66,9 +64,7 @@ fn take_group(rows: &mut Rows, name: &Name) -> Result<(), NoMemory>
     };
     let come = keys_at(rows, &Some(left), &members, &marks)?;
     put_all(&mut rows.queue, &come)?;
-    if let Err(_fault) = rows.groups.drop_group(name) {
-        unreachable!()
-    }
+    rows.groups.take_group(name);
     Ok(())
 }
 
@@ -101,9 +97,7 @@ fn add_member(rows: &mut Rows, name: &Name, file: FileId) -> Result<(), NoMemory
 {
     let marks = rows.groups.marks(name)?;
     let gone = keys_at(rows, &None, &[file], &marks)?;
-    if let Err(_refused) = rows.groups.add(name, file) {
-        return Err(NoMemory);
-    }
+    rows.groups.add_member(name, file)?;
     take_all(&mut rows.queue, &gone);
     rows.made.members += 1;
     Ok(())
@@ -152,9 +146,7 @@ fn take_member(rows: &mut Rows, name: &Name, file: FileId) -> Result<(), NoMemor
     };
     let come = keys_at(rows, &Some(left), &[file], &marks)?;
     put_all(&mut rows.queue, &come)?;
-    if let Err(_fault) = rows.groups.remove(name, file) {
-        unreachable!()
-    }
+    rows.groups.take_member(name, file);
     Ok(())
 }
 
@@ -194,9 +186,7 @@ fn add_mark(rows: &mut Rows, name: &Name, mark: Moment) -> Result<(), NoMemory>
 {
     let members = rows.groups.members(name)?;
     let gone = keys_at(rows, &None, &members, &[mark])?;
-    if let Err(_refused) = rows.groups.mark(name, mark) {
-        return Err(NoMemory);
-    }
+    rows.groups.add_mark(name, mark)?;
     take_all(&mut rows.queue, &gone);
     rows.made.marks += 1;
     Ok(())
@@ -244,9 +234,7 @@ fn take_mark(rows: &mut Rows, name: &Name, mark: Moment) -> Result<(), NoMemory>
     };
     let come = keys_at(rows, &Some(left), &members, &[mark])?;
     put_all(&mut rows.queue, &come)?;
-    if let Err(_fault) = rows.groups.unmark(name, mark) {
-        unreachable!()
-    }
+    rows.groups.take_mark(name, mark);
     Ok(())
 }
 

@@ -1,9 +1,7 @@
 -- Whether a mark covers, those of the group left out.
-use Rattle.ele_groups.proofs.Basics.{◌≡◌, ℕ, ◌<◌, ◌^◌, ◌==◌, Bool, true, false, ◌&&◌, not, List, [], ◌∷◌, Option, None, refl, ◌∙◌, arith, list_any, AllByRecursion, IsStrictlySortedBy, keys_of, values_of, option_map_or, nat_cmp, false≢true, nat_tests, Index, has, value_at, all-weaker, not_yet}
-use Rattle.ele_groups.proofs.Words.{GroupRow, covers_moment, is_group, is_left_out, has_covering_without, Except, has_covering_but, is_marked_row, ArePlaced}
-use Rattle.ele_groups.proofs.Changed.{any_value, no_value}
-use Rattle.ele_groups.proofs.Named.{none_any}
-use Rattle.ele_groups.proofs.Placed.{stands}
+use Rattle.ele_groups.proofs.Basics.{◌≡◌, ℕ, Bool, true, false, ◌&&◌, not, List, [], ◌∷◌, Option, None, refl, arith, list_any, AllByRecursion, values_of, option_map_or, bytes_eq, nat_tests, false≢true}
+use Rattle.ele_groups.proofs.Words.{GroupRow, Memberships, AreKept, Except, covers_moment, has, has_covering_but, has_covering_without, is_group, is_left_out, is_marked_row, names_of, row_at}
+use Rattle.ele_groups.proofs.Named.{Entries, any_value, no_value, none_any, same_name}
 
 -- the whole group is left out
 pub left_out : (name : List ℕ) (closed : ℕ) (ended : Option ℕ) (row : GroupRow) → is_group name row ≡ true → false ≡ has_covering_without name None closed ended row
@@ -12,30 +10,26 @@ left_out name closed ended row is = none row.marks where
   none [] = refl
   none (x ∷ xs) = grind (arith, nat_tests, is, none xs)
 
-module _ (except : Option Except) (file closed : ℕ) (ended : Option ℕ) (es : List (ℕ × GroupRow)) where
+module _ (except : Option Except) (file closed : ℕ) (ended : Option ℕ) (es : Entries) where
   abbrev covering : GroupRow → Bool
   covering = has_covering_but except closed ended
 
   abbrev passes : GroupRow → Bool
   passes = is_marked_row except file closed ended
 
-  -- each group that has the file and covers is among these entries
-  abbrev pub AreLeft : List (ℕ × ℕ × ℕ) → Type 0
-  AreLeft xs = (s : ℕ) → s < 2 ^ 64 → option_map_or passes (value_at es s) false ≡ true → list_any (λ e. e.2 == s) xs ≡ true
+  -- the group of the name, if there is one, doesn't cover
+  abbrev pub IsIdle : List ℕ → Type 0
+  IsIdle name = option_map_or covering (row_at es name) false ≡ false
 
-  -- one of them was looked at and doesn't cover
-  pub left_next : (e : ℕ × ℕ × ℕ) (xs : List (ℕ × ℕ × ℕ)) → AreLeft (e ∷ xs) → option_map_or covering (value_at es e.2) false ≡ false → AreLeft xs
-  left_next e xs left fails = grind (arith, nat_tests, list_any, false≢true, value_at)
+  idle : (name : List ℕ) (names : List (List ℕ)) → AllByRecursion IsIdle names → list_any (λ other. bytes_eq other name) names ≡ true → IsIdle name
+  idle name [] all h = absurd (false≢true h)
+  idle name (x ∷ xs) all h = grind (arith, nat_tests, same_name x name, all, idle name xs all.1)
 
-  -- none is left
-  pub none_left : IsStrictlySortedBy nat_cmp (keys_of es) → AllByRecursion (λ s. s < 2 ^ 64) (keys_of es) → AreLeft [] → list_any passes (values_of es) ≡ false
-  none_left rising fits left = grind (arith, nat_tests, none_any passes (values_of es), no_value passes es rising, false≢true, not_yet, all-weaker)
+  module _ (memberships : Memberships) (kept : AreKept es memberships) where
+    -- none of the file's groups covers
+    pub none_covers : AllByRecursion IsIdle (names_of memberships file) → list_any passes (values_of es) ≡ false
+    none_covers all = none_any passes (values_of es) (no_value passes es kept.apart (λ n. grind (arith, nat_tests, option_map_or, kept.placed.each file n, idle n (names_of memberships file) all)))
 
-  module _ (places : Index ℕ) (placed : ArePlaced (value_at es) places) where
-    -- at first all entries of the file are
-    pub all_left : (xs : List (ℕ × ℕ × ℕ)) → ((r s : ℕ) → r < 2 ^ 64 → s < 2 ^ 64 → has nat_cmp places file r s ≡ true → list_any (λ e. e.2 == s) xs ≡ true) → AreLeft xs
-    all_left xs all = λ s fits holds. all s s fits fits (stands (value_at es) places placed file s ∙ grind (arith, nat_tests))
-
-    -- one of them covers
-    pub covers_at_one : (e : ℕ × ℕ × ℕ) → has nat_cmp places file e.1 e.2 ≡ true → option_map_or covering (value_at es e.2) false ≡ true → list_any passes (values_of es) ≡ true
-    covers_at_one e there holds = grind (arith, nat_tests, any_value passes es e.2)
+    -- one of them does
+    pub one_covers : (name : List ℕ) → has memberships file name ≡ true → option_map_or covering (row_at es name) false ≡ true → list_any passes (values_of es) ≡ true
+    one_covers name there holds = grind (arith, nat_tests, option_map_or, kept.placed.each file name, any_value passes es name)

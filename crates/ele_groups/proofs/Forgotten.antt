@@ -1,7 +1,7 @@
 -- A file taken out of the groups that have it.
-use Rattle.ele_groups.proofs.Basics.{nat_tests, ◌≡◌, ℕ, ◌==◌, ◌<◌, true, false, not, List, [], ◌∷◌, length, refl, ap, arith, filter, is_at, list_any, AllByRecursion, values_of, false≢true, value_at}
-use Rattle.ele_groups.proofs.Words.{GroupRow, forgets, forgotten, is_member, changed_at, has_file}
-use Rattle.ele_groups.proofs.Changed.{Entries}
+use Rattle.ele_groups.proofs.Basics.{nat_tests, ◌≡◌, ℕ, ◌==◌, ◌<◌, true, false, not, List, [], ◌∷◌, length, refl, ap, arith, filter, list_any, AllByRecursion, values_of, false≢true}
+use Rattle.ele_groups.proofs.Words.{GroupRow, forgets, forgotten, is_member, changed_at, has_file, row_at}
+use Rattle.ele_groups.proofs.Named.{Entries}
 
 module _ (file : ℕ) where
   all_others : (xs : List ℕ) → list_any (λ member. member == file) xs ≡ false → filter (λ member. not (member == file)) xs ≡ xs
@@ -20,13 +20,13 @@ module _ (file : ℕ) where
   forgets_again : (row : GroupRow) → forgets file (forgets file row) ≡ forgets file row
   forgets_again row = ap (λ (l : List ℕ). record row { members = l }) (all_others (filter (λ member. not (member == file)) row.members) (none_left row.members))
 
-  module _ (s : ℕ) where
+  module _ (name : List ℕ) where
     -- one group forgets it first
-    pub forgotten_first : (es : Entries) → forgotten file (values_of (changed_at s (forgets file) es)) ≡ forgotten file (values_of es)
+    pub forgotten_first : (es : Entries) → forgotten file (values_of (changed_at name (forgets file) es)) ≡ forgotten file (values_of es)
     forgotten_first [] = refl
-    forgotten_first (e ∷ es) = grind (arith, nat_tests, is_at, forgets_again, forgotten_first es)
+    forgotten_first (e ∷ es) = grind (arith, nat_tests, forgets_again, forgotten_first es)
 
     -- and then fewer have it
-    pub fewer_have : (es : Entries) → has_file file (value_at es s) ≡ true → length (filter (is_member file) (values_of (changed_at s (forgets file) es))) < length (filter (is_member file) (values_of es))
+    pub fewer_have : (es : Entries) → has_file file (row_at es name) ≡ true → length (filter (is_member file) (values_of (changed_at name (forgets file) es))) < length (filter (is_member file) (values_of es))
     fewer_have [] here = absurd (false≢true here)
-    fewer_have (e ∷ es) here = grind (arith, nat_tests, is_at, none_left, fewer_have es)
+    fewer_have (e ∷ es) here = grind (arith, nat_tests, none_left, fewer_have es)

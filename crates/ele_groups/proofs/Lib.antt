@@ -2,8 +2,9 @@ pub mod Basics
 pub mod Words
 mod Apart
 mod Times
-mod Covered
-mod Changed
-mod Placed
 mod Named
+mod Placed
+mod Kept
+mod Members
+mod Covered
 mod Forgotten

@@ -1,10 +1,8 @@
 //! All groups.
 //! A contract sees them as the list of their rows in order of making.
 ghost use Rattle.std.specs.Prelude.{◌≡◌, ◌<◌, [], Some, None, false, length, filter, slice_get, IsTrue, IfSome, IfNone, IfOk, IfErr, OnOk, OnErr};
-ghost use Rattle.std.specs.HashMap.{get};
 ghost use Rattle.std.specs.Map.{values_of};
 ghost use Rattle.std.specs.Option.{option_copied};
-ghost use Rattle.std.specs.Str.{bytes_eq};
 ghost use Rattle.ele_world.specs.GroupRows.{group_named, has_group, has_member, is_marked_at, is_member, with_group, without_group, with_member, without_member, with_mark, without_mark, forgotten, is_marked};
 ghost use Rattle.ele_world.specs.GroupsAsked.{members_of, marks_of, is_marked_without};
 ghost use Rattle.ele_groups.specs.Faults.{make_fault, drop_fault, add_fault, remove_fault, mark_fault, unmark_fault, Fails, answer_of};
@@ -13,24 +11,21 @@ ghost use Rattle.ele_groups.specs.Rows.{row_of};
 use crate::covering::covers;
 use crate::fault::GroupFault;
 use crate::group::Group;
-use crate::places::{last_by, leave, stands_at};
+use crate::memberships::Memberships;
 use crate::rows::{add_to, mark_at, remove_from, unmark_at};
 use crate::span::{Except, Span};
-use ele_lists::{Index, ListOf};
+use ele_lists::ListOf;
 use ele_moment::{FileId, Moment, Name, NoMemory};
 use ele_world::GroupRow;
+use indexmap::IndexMap;
 use std::alloc::Global;
-use std::collections::{BTreeMap, HashMap};
 use std::marker::Model;
 
-/// All groups, each with a serial number in order of making; the number of each name, and the numbers
-/// of each file's groups.
+/// All groups by name, in order of making, and the names of each file's groups.
 #[derive(Drop)]
 pub struct Groups {
-    rows: BTreeMap<u64, Group>,
-    made: u64,
-    serials: HashMap<Name, u64>,
-    places: Index<FileId>,
+    rows: IndexMap<Name, Group>,
+    memberships: Memberships,
     alloc: Global,
 }
 
@@ -38,15 +33,13 @@ impl Model for Groups {
     ghost use Rattle.std.specs.Prelude.{List};
     ghost use Rattle.std.specs.Map.{values_of};
     ghost use Rattle.ele_world.specs.declared.rows.GroupRow.{GroupRow};
-    ghost use Rattle.std.specs.HashMap.{get};
-    ghost use Rattle.std.specs.Str.{bytes_eq};
     ghost use Rattle.ele_groups.specs.Kept.{AreKept};
 
     ghost Value = { List GroupRow };
 
     ghost view = { λ groups. values_of groups.rows.entries };
 
-    ghost invariant = { λ groups. AreKept groups.rows.entries groups.made (λ name. get bytes_eq groups.serials name) groups.places };
+    ghost invariant = { λ groups. AreKept groups.rows.entries groups.memberships };
 }
 
 impl Groups {
@@ -55,16 +48,13 @@ impl Groups {
         ensures { result ≡ [] }
     {
         Groups {
-            rows: BTreeMap::new(alloc),
-            made: 0,
-            serials: HashMap::new(alloc),
-            places: Index::new(alloc),
+            rows: IndexMap::new(alloc),
+            memberships: Memberships::new(alloc),
             alloc,
         }
     }
 
-    /// Makes a group, which has no file and no mark. `NoMemory` where there is no room for it, or no
-    /// serial number: 2^64 groups were made then.
+    /// Makes a group, which has no file and no mark.
     pub fn make(&mut self, name: &Name) -> Result<(), GroupFault>
         ensures allowed { OnOk result (make_fault self.old name.now ≡ None) }
         ensures made { OnOk result (self.new ≡ with_group name.now self.old) }
@@ -74,7 +64,7 @@ impl Groups {
         if self.has_group(name) {
             return Err(GroupFault::GroupExists);
         }
-        match self.insert_group(name) {
+        match self.add_group(name) {
             Ok(()) => Ok(()),
             Err(NoMemory) => Err(GroupFault::NoMemory),
         }
@@ -106,7 +96,7 @@ impl Groups {
         if self.is_member(name, file) {
             return Err(GroupFault::AlreadyMember);
         }
-        match self.insert_member(name, file) {
+        match self.add_member(name, file) {
             Ok(()) => Ok(()),
             Err(NoMemory) => Err(GroupFault::NoMemory),
         }
@@ -141,7 +131,7 @@ impl Groups {
         if self.has_mark(name, moment) {
             return Err(GroupFault::MarkExists);
         }
-        match self.insert_mark(name, moment) {
+        match self.add_mark(name, moment) {
             Ok(()) => Ok(()),
             Err(NoMemory) => Err(GroupFault::NoMemory),
         }
@@ -181,7 +171,7 @@ impl Groups {
             ended,
             except,
         };
-        covers(&self.rows, &self.places, file, &span)
+        covers(&self.rows, &self.memberships, file, &span)
     }
 
     /// Whether one has, that mark of that group left out, or the whole group where no mark is named.
@@ -201,24 +191,21 @@ impl Groups {
             ended,
             except,
         };
-        covers(&self.rows, &self.places, file, &span)
+        covers(&self.rows, &self.memberships, file, &span)
     }
 
     /// Whether there is a group of that name.
     pub fn has_group(&self, name: &Name) -> bool
         ensures { result ≡ has_group self.now name.now }
     {
-        self.serials.contains_key(name)
+        self.rows.contains_key(name)
     }
 
     /// Whether the group of that name has the file.
     pub fn is_member(&self, name: &Name, file: FileId) -> bool
         ensures { result ≡ has_member self.now name.now file }
     {
-        match serial_of(&self.serials, name) {
-            Some(serial) => stands_at(&self.places, file, serial),
-            None => false,
-        }
+        self.memberships.has(file, name)
     }
 
     /// Whether the group of that name was marked at the moment.
@@ -238,14 +225,13 @@ impl Groups {
         self.rows.len()
     }
 
-    /// The name, the files and the marks of the group at that place in order of making. It passes over
-    /// the groups before it.
+    /// The name, the files and the marks of the group at that place in order of making.
     pub fn group(&self, place: usize) -> Option<(&Name, &[FileId], &[Moment])>
         ensures some { IfSome result (λ group. slice_get self.now place
             ≡ Some (row_of group.0.now group.1.now group.2.now)) }
         ensures none { IfNone result (slice_get self.now place ≡ None) }
     {
-        let group = self.rows.values().nth(place)?;
+        let (_, group) = self.rows.get_index(place)?;
         Some((group.name(), group.members(), group.marks()))
     }
 
@@ -284,108 +270,82 @@ impl Groups {
     fn named(&self, name: &Name) -> Option<&Group>
         ensures { option_copied result ≡ group_named self.now name.now }
     {
-        let serial = serial_of(&self.serials, name)?;
-        self.rows.get(&serial)
+        self.rows.get(name)
     }
 
-    // This and the five below make the changes, once no fault stands against them.
-    fn insert_group(&mut self, name: &Name) -> Result<(), NoMemory>
+    /// Makes a group of a name that none has. It has no file and no mark.
+    pub fn add_group(&mut self, name: &Name) -> Result<(), NoMemory>
         requires { has_group self.old name.now ≡ false }
         ensures ok { OnOk result (self.new ≡ with_group name.now self.old) }
         ensures err { OnErr result (self.new ≡ self.old) }
     {
-        let serial = self.made;
-        let Some(made) = serial.checked_add(1) else {
-            return Err(NoMemory);
-        };
-        self.serials.reserve(1)?;
-        if let Err(_refused) = self.rows.insert(serial, Group::new(*name, self.alloc)) {
-            return Err(NoMemory);
-        }
-        if let Err(_refused) = self.serials.insert(*name, serial) {
-            unreachable!()
-        }
-        self.made = made;
+        self.rows.insert(*name, Group::new(*name, self.alloc))?;
         Ok(())
     }
 
-    fn take_group(&mut self, name: &Name)
+    /// Drops the group of that name with its marks, if there is one. It takes no memory.
+    pub fn take_group(&mut self, name: &Name)
         ensures { self.new ≡ without_group name.now self.old }
     {
-        let Some(serial) = self.serials.remove(name) else {
-            return;
-        };
-        let Some(group) = self.rows.remove(&serial) else {
-            unreachable!()
-        };
-        leave(&mut self.places, group.members(), serial);
+        if let Some(group) = self.rows.shift_remove(name) {
+            self.memberships.leave(group.members(), name);
+        }
     }
 
-    // The place comes first: it can be taken back without memory.
-    fn insert_member(&mut self, name: &Name, file: FileId) -> Result<(), NoMemory>
+    /// Adds a file to the group of that name, if there is one, behind the files that it has.
+    // The name comes first: it can be taken back without memory.
+    pub fn add_member(&mut self, name: &Name, file: FileId) -> Result<(), NoMemory>
         requires { has_member self.old name.now file ≡ false }
         ensures ok { OnOk result (self.new ≡ with_member name.now file self.old) }
         ensures err { OnErr result (self.new ≡ self.old) }
     {
-        let Some(serial) = serial_of(&self.serials, name) else {
+        if !self.has_group(name) {
             return Ok(());
-        };
-        self.places.insert(file, serial, serial)?;
-        if let Err(_refused) = add_to(&mut self.rows, serial, file) {
-            self.places.remove(file, serial, serial);
+        }
+        self.memberships.insert(file, *name)?;
+        if let Err(_refused) = add_to(&mut self.rows, name, file) {
+            self.memberships.remove(file, name);
             return Err(NoMemory);
         }
         Ok(())
     }
 
-    fn take_member(&mut self, name: &Name, file: FileId)
+    /// Takes the file out of the group of that name, if it is there. It takes no memory.
+    pub fn take_member(&mut self, name: &Name, file: FileId)
         ensures { self.new ≡ without_member name.now file self.old }
     {
-        if let Some(serial) = serial_of(&self.serials, name) {
-            remove_from(&mut self.rows, serial, file);
-            self.places.remove(file, serial, serial);
-        }
+        remove_from(&mut self.rows, name, file);
+        self.memberships.remove(file, name);
     }
 
-    fn insert_mark(&mut self, name: &Name, moment: Moment) -> Result<(), NoMemory>
+    /// Marks the group of that name, if there is one, behind the marks that it has.
+    pub fn add_mark(&mut self, name: &Name, moment: Moment) -> Result<(), NoMemory>
         requires { is_marked_at self.old name.now moment ≡ false }
         ensures ok { OnOk result (self.new ≡ with_mark name.now moment self.old) }
         ensures err { OnErr result (self.new ≡ self.old) }
     {
-        match serial_of(&self.serials, name) {
-            Some(serial) => mark_at(&mut self.rows, serial, moment),
-            None => Ok(()),
-        }
+        mark_at(&mut self.rows, name, moment)
     }
 
-    fn take_mark(&mut self, name: &Name, moment: Moment)
+    /// Takes the mark out of the group of that name, if it is there. It takes no memory.
+    pub fn take_mark(&mut self, name: &Name, moment: Moment)
         ensures { self.new ≡ without_mark name.now moment self.old }
     {
-        if let Some(serial) = serial_of(&self.serials, name) {
-            unmark_at(&mut self.rows, serial, moment);
-        }
+        unmark_at(&mut self.rows, name, moment);
     }
 
     // Takes the file out of one group that has it, and answers whether one had.
-    #[tactic(auto, using(crate::proofs::Basics::nat_tests, crate::proofs::Forgotten::fewer_have))]
     fn forget_one(&mut self, file: FileId) -> bool
         ensures others { forgotten file self.new ≡ forgotten file self.old }
         ensures fewer { IsTrue result
             → length (filter (is_member file) self.new) < length (filter (is_member file) self.old) }
         ensures none { result ≡ false → forgotten file self.new ≡ self.new }
     {
-        let Some(serial) = last_by(&self.places, file, u64::MAX) else {
+        let Some(name) = self.memberships.of(file).first().copied() else {
             return false;
         };
-        remove_from(&mut self.rows, serial, file);
-        self.places.remove(file, serial, serial);
+        remove_from(&mut self.rows, &name, file);
+        self.memberships.remove(file, &name);
         true
     }
-}
-
-// The serial number of the group of that name.
-fn serial_of(serials: &HashMap<Name, u64>, name: &Name) -> Option<u64>
-    ensures { result ≡ get bytes_eq serials.now name.now }
-{
-    serials.get(name).copied()
 }

@@ -7,7 +7,7 @@ mod fault;
 mod group;
 mod groups;
 mod marks;
-mod places;
+mod memberships;
 mod rows;
 mod span;
 mod taken;

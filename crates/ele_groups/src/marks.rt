@@ -6,7 +6,6 @@ ghost use Rattle.ele_lists.specs.Lists.{remove_first};
 ghost use Rattle.ele_world.specs.GroupRows.{covers_moment};
 
 use crate::taken::take_out;
-use ele_lists::put;
 use ele_moment::{Moment, NoMemory};
 use std::alloc::Global;
 use std::collections::BTreeSet;
@@ -63,7 +62,7 @@ impl Marks {
     {
         self.made.reserve(1)?;
         let _new = self.times.insert(mark.seconds())?;
-        put(&mut self.made, mark);
+        self.made.push_reserved(mark);
         Ok(())
     }
 

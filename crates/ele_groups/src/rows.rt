@@ -1,60 +1,62 @@
-//! Changes of the group of one serial number.
-//! A contract sees the groups as their rows by serial number.
+//! Changes of the group of one name.
+//! A contract sees the groups as their rows, each under its name.
 ghost use Rattle.std.specs.Prelude.{◌≡◌, ◌==◌, ◌&&◌, not, ℕ, false, OnOk, OnErr};
+ghost use Rattle.std.specs.List.{IsDistinct};
+ghost use Rattle.std.specs.Map.{keys_of};
 ghost use Rattle.std.specs.Option.{option_map_or};
-ghost use Rattle.ele_lists.specs.Serial.{value_at};
+ghost use Rattle.std.specs.Str.{bytes_eq};
 ghost use Rattle.ele_world.specs.GroupRows.{has_mark, adds, removes, forgets, marks, unmarks};
-ghost use Rattle.ele_groups.specs.Kept.{changed_at, has_file};
+ghost use Rattle.ele_groups.specs.Kept.{changed_at, has_file, row_at};
 
 use crate::group::Group;
-use ele_moment::{FileId, Moment, NoMemory};
-use std::collections::BTreeMap;
+use ele_moment::{FileId, Moment, Name, NoMemory};
+use indexmap::IndexMap;
 
 /// Adds the file to the group.
 #[tactic(auto, using(crate::proofs::Basics::nat_tests, crate::proofs::Basics::set_value_same))]
-pub fn add_to(rows: &mut BTreeMap<u64, Group>, serial: u64, file: FileId) -> Result<(), NoMemory>
-    requires { has_file file (value_at rows.old.entries serial) ≡ false }
+pub fn add_to(rows: &mut IndexMap<Name, Group>, name: &Name, file: FileId) -> Result<(), NoMemory>
+    requires { has_file file (row_at rows.old.entries name.now) ≡ false }
     ensures ok { OnOk result
-        (rows.new.entries ≡ changed_at serial (adds file) rows.old.entries) }
+        (rows.new.entries ≡ changed_at name.now (adds file) rows.old.entries) }
     ensures err { OnErr result (rows.new.entries ≡ rows.old.entries) }
 {
-    match rows.get_mut(&serial) {
+    match rows.get_mut(name) {
         Some(group) => group.add(file),
         None => Ok(()),
     }
 }
 
 /// Takes the file out of the group. It takes no memory.
-pub fn remove_from(rows: &mut BTreeMap<u64, Group>, serial: u64, file: FileId)
-    ensures removes { rows.new.entries ≡ changed_at serial (removes file) rows.old.entries }
-    ensures forgets { rows.new.entries ≡ changed_at serial (forgets file) rows.old.entries }
-    ensures members { (other : ℕ) → has_file other (value_at rows.new.entries serial)
-        ≡ (has_file other (value_at rows.old.entries serial) && not (file == other)) }
+pub fn remove_from(rows: &mut IndexMap<Name, Group>, name: &Name, file: FileId)
+    ensures removes { rows.new.entries ≡ changed_at name.now (removes file) rows.old.entries }
+    ensures forgets { rows.new.entries ≡ changed_at name.now (forgets file) rows.old.entries }
+    ensures members { (other : ℕ) → has_file other (row_at rows.new.entries name.now)
+        ≡ (has_file other (row_at rows.old.entries name.now) && not (file == other)) }
 {
-    if let Some(group) = rows.get_mut(&serial) {
+    if let Some(group) = rows.get_mut(name) {
         group.remove(file);
     }
 }
 
 /// Adds the mark to the group.
 #[tactic(auto, using(crate::proofs::Basics::nat_tests, crate::proofs::Basics::set_value_same))]
-pub fn mark_at(rows: &mut BTreeMap<u64, Group>, serial: u64, mark: Moment) -> Result<(), NoMemory>
-    requires { option_map_or (has_mark mark) (value_at rows.old.entries serial) false ≡ false }
+pub fn mark_at(rows: &mut IndexMap<Name, Group>, name: &Name, mark: Moment) -> Result<(), NoMemory>
+    requires { option_map_or (has_mark mark) (row_at rows.old.entries name.now) false ≡ false }
     ensures ok { OnOk result
-        (rows.new.entries ≡ changed_at serial (marks mark) rows.old.entries) }
+        (rows.new.entries ≡ changed_at name.now (marks mark) rows.old.entries) }
     ensures err { OnErr result (rows.new.entries ≡ rows.old.entries) }
 {
-    match rows.get_mut(&serial) {
+    match rows.get_mut(name) {
         Some(group) => group.mark(mark),
         None => Ok(()),
     }
 }
 
 /// Takes the mark out of the group. It takes no memory.
-pub fn unmark_at(rows: &mut BTreeMap<u64, Group>, serial: u64, mark: Moment)
-    ensures { rows.new.entries ≡ changed_at serial (unmarks mark) rows.old.entries }
+pub fn unmark_at(rows: &mut IndexMap<Name, Group>, name: &Name, mark: Moment)
+    ensures { rows.new.entries ≡ changed_at name.now (unmarks mark) rows.old.entries }
 {
-    if let Some(group) = rows.get_mut(&serial) {
+    if let Some(group) = rows.get_mut(name) {
         group.unmark(mark);
     }
 }

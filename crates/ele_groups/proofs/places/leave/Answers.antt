@@ -1,6 +1,0 @@
-use Rattle.ele_groups.proofs.Basics.{nat_tests, arith, take, take_more}
-use Rattle.ele_groups.proofs.Placed.{left_more}
-use Rattle.ele_groups.proofs.places.leave.Goals as goal
-
-pub loop-file-preserved : goal.loop-file-preserved
-loop-file-preserved c = grind (arith, nat_tests, take_more c.args.files.now c.loop-file.file-index c.file-item.result c.loop-file-test.true, left_more c.file-item.result c.args.serial (take c.loop-file.file-index c.args.files.now) c.args.places.now c.loop-file.places c.remove.new.self c.loop-file.invariant c.remove.ensures)
