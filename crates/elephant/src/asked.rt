@@ -1,7 +1,8 @@
 //! What the program's words ask for.
-//! A contract sees the limits of a run.
+//! A contract sees the limits of a run, and that words which were refused ask for none.
 ghost use Rattle.std.specs.Prelude.{◌≡◌, ◌≤◌, ◌↔◌, IsSome, IfSome};
 ghost use Rattle.ele_world.specs.Bounds.{largest_bounds};
+ghost use Rattle.elephant.specs.Asked.{IsEvents, IsAsked, IsRefusal};
 
 use clap::error::ErrorKind;
 use clap::{Arg, ArgMatches, Command, Error};
@@ -13,7 +14,8 @@ use std::{io, mem};
 /// What the words ask for.
 #[derive(Debug, Drop)]
 pub enum Asked {
-    /// A run of the script on standard input, under these limits.
+    /// A run of the script on standard input, under these limits: from 1 to 1,000,000,000 events,
+    /// and else the largest.
     Run(Limits),
     /// The help or the version, which end with status 0.
     Help(String),
@@ -23,20 +25,21 @@ pub enum Asked {
     NoMemory,
 }
 
-const BAD_EVENTS: &str =
-    "error: --events takes a number from 1 to 1000000000, without a zero in front\n\nFor more information, try 'elephant run --help'.\n";
+const BAD_EVENTS: &str = "error: --events takes a number from 1 to 1000000000, \
+    without a zero in front\n\nFor more information, try 'elephant run --help'.\n";
 
 const NO_WORDS: &str = "error: the words can't be read as text\n";
 
-const VERSION: &str = "0.1.0, proved with rattle-kit-13f logic dac8208d650f15bf";
+const VERSION: &str = "0.1.0";
 
 const EXAMPLE: &str = "Example: elephant run < script
 
 docs/SCRIPT.md tells the language of scripts.";
 
-const RUN: &str =
-    "Runs the script on standard input. A line is answered as it comes: whatever whole lines have come are answered before more is read";
+const RUN: &str = "Runs the script on standard input. A line is answered as it comes: \
+    whatever whole lines have come are answered before more is read";
 
+// The words that the program understands.
 fn command<'a>(alloc: Global) -> Result<Command<'a>, AllocError> {
     let events = Arg::new(alloc, "events")
         .long("events")
@@ -53,48 +56,68 @@ fn command<'a>(alloc: Global) -> Result<Command<'a>, AllocError> {
         .subcommand(run)
 }
 
-/// The largest limits but for that of events; none where that is above its largest.
+// The largest limits but for that of events; none where that is above its largest.
 fn limits_of(events: u64) -> Option<Limits>
     ensures found { IsSome result ↔ (events ≤ 1000000000) }
     ensures limits { IfSome result (λ limits. limits ≡ record largest_bounds { events = events }) }
 {
+    let largest = Limits::largest();
     Limits::new([
-        events, 100_000, 10_000, 200_000, 1_000_000, 1_000_000, 1_000, 100_000, 10_000,
+        events,
+        largest.files(),
+        largest.directories(),
+        largest.names(),
+        largest.versions(),
+        largest.handles(),
+        largest.groups(),
+        largest.members(),
+        largest.marks(),
     ])
 }
 
-/// A refusal of words in these.
-fn not_understood(alloc: Global, text: &str) -> Asked {
+// A refusal of words in these.
+fn not_understood(alloc: Global, text: &str) -> Asked
+    ensures { IsRefusal result }
+{
     match String::from_str(alloc, text) {
         Ok(text) => Asked::NotUnderstood(text),
         Err(_) => Asked::NoMemory,
     }
 }
 
-/// What a run asks for with so many events.
-fn run_with(alloc: Global, events: u64) -> Asked {
+// What a run asks for with so many events.
+fn run_with(alloc: Global, events: u64) -> Asked
+    ensures run { IsEvents events
+        → result ≡ Asked.Run (record largest_bounds { events = events }) }
+    ensures refused { ¬ IsEvents events → IsRefusal result }
+    ensures asked { IsAsked result }
+{
     match limits_of(events) {
         Some(limits) if events > 0 => Asked::Run(limits),
         _ => not_understood(alloc, BAD_EVENTS),
     }
 }
 
-/// What words that were understood ask for.
-fn understood(alloc: Global, matches: &ArgMatches) -> Asked {
-    let Some(run) = matches.subcommand_matches("run") else {
-        return Asked::NoMemory;
-    };
-    let Some(events) = run.get_str("events") else {
-        return Asked::NoMemory;
-    };
-    match read_number(events.as_bytes()) {
+// How many events a run may answer. The option has a default, so that its word is missing nowhere.
+fn events_in(matches: &ArgMatches) -> Option<u64> {
+    let run = matches.subcommand_matches("run")?;
+    read_number(run.get_str("events")?.as_bytes())
+}
+
+// What words that were understood ask for.
+fn understood(alloc: Global, matches: &ArgMatches) -> Asked
+    ensures { IsAsked result }
+{
+    match events_in(matches) {
         Some(events) => run_with(alloc, events),
         None => not_understood(alloc, BAD_EVENTS),
     }
 }
 
-/// What words ask for that were refused, or that ask for help.
-fn refused(alloc: Global, error: &Error) -> Asked {
+// What words ask for that were refused, or that ask for help.
+fn refused(alloc: Global, error: &Error) -> Asked
+    ensures { IsAsked result }
+{
     if error.kind() == ErrorKind::OutOfMemory {
         return Asked::NoMemory;
     }
@@ -106,7 +129,9 @@ fn refused(alloc: Global, error: &Error) -> Asked {
 }
 
 /// What the program's words ask for, its name first.
-pub fn words(alloc: Global, words: &[String]) -> Asked {
+pub fn words(alloc: Global, words: &[String]) -> Asked
+    ensures { IsAsked result }
+{
     let Ok(command) = command(alloc) else {
         return Asked::NoMemory;
     };
@@ -122,7 +147,9 @@ pub fn words(alloc: Global, words: &[String]) -> Asked {
 }
 
 /// What is asked for where the words can't be had.
-pub fn no_words(alloc: Global, why: io::ErrorKind) -> Asked {
+pub fn no_words(alloc: Global, why: io::ErrorKind) -> Asked
+    ensures { IsRefusal result }
+{
     match why {
         io::ErrorKind::OutOfMemory => Asked::NoMemory,
         _ => not_understood(alloc, NO_WORDS),

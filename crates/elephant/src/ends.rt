@@ -1,38 +1,63 @@
 //! What the program does with what its words ask for, over a reader and two writers.
-//! A contract sees the limits of a run, and what the run read and wrote.
-ghost use Rattle.std.specs.Prelude.{◌≡◌, ℕ, IfOk};
-ghost use Rattle.ele_world.specs.Bounds.{Bounds};
-ghost use Rattle.ele_shell.specs.Running.{RanToTheEnd};
+//! A contract sees how a run ended, what the ends hold then, and the status.
+ghost use Rattle.std.specs.Prelude.{◌≡◌, Err, is_ok, if◌then◌else◌};
+ghost use Rattle.std.specs.Result.{result_err};
 ghost use Rattle.ele_shell.specs.RunState.{fresh};
-ghost use Rattle.elephant.specs.Status.{status_of, MayEndWith};
+ghost use Rattle.elephant.specs.Status.{fault_status, status_of};
+ghost use Rattle.elephant.specs.Ends.{HasRun, HasHelped, Tells, EndsWith};
 
 use crate::asked::Asked;
+use ele_script::{put, write_named};
 use ele_shell::{ShellFault, run};
 use ele_world::Limits;
 use std::alloc::Global;
+use std::io;
 use std::io::{Read, Write};
 
-/// Runs the script that the reader gives under these limits, and flushes what it wrote, however it ended.
+// How it ended if its writer was flushed behind it.
+fn after_flush<T: Drop>(
+    ended: Result<T, ShellFault>,
+    flushed: &io::Result<()>,
+) -> Result<T, ShellFault>
+    ensures { result ≡ (if is_ok flushed.now then ended else Err ShellFault.WriteFault) }
+{
+    if flushed.is_ok() {
+        ended
+    } else {
+        Err(ShellFault::WriteFault)
+    }
+}
+
+// Runs the script that the reader gives under these limits, and flushes what it wrote, however it
+// ended.
 fn run_script<R: Read, W: Write>(
     alloc: Global,
     limits: Limits,
     reader: &mut R,
     writer: &mut W,
 ) -> Result<u64, ShellFault>
-    ensures { IfOk result (λ lines. RanToTheEnd (fresh limits) lines
-        (R.remaining reader.old) (R.remaining reader.new)
-        (W.contents writer.old) (W.contents writer.new)) }
+    ensures { HasRun (fresh limits) (R.remaining reader.old) (R.remaining reader.new)
+        (W.contents writer.old) (W.contents writer.new) (result_err result) }
 {
     let ran = run(alloc, reader, writer, limits);
-    match writer.flush() {
-        Ok(()) => ran,
-        Err(_) => Err(ShellFault::WriteFault),
-    }
+    let flushed = writer.flush();
+    after_flush(ran, &flushed)
 }
 
-/// The status that the program ends with after a fault: 3 without memory, else 1.
-pub fn status(fault: ShellFault) -> u8
-    ensures { result ≡ status_of fault }
+// Writes help, and flushes it.
+fn write_help<W: Write>(text: &str, writer: &mut W) -> Result<(), ShellFault>
+    ensures { HasHelped text.now (W.contents writer.old) (W.contents writer.new)
+        (result_err result) }
+{
+    let written = put(writer, text.as_bytes());
+    let flushed = writer.flush();
+    written?;
+    after_flush(Ok(()), &flushed)
+}
+
+// The status that the program ends with after a fault: 3 without memory, else 1.
+fn status(fault: ShellFault) -> u8
+    ensures { result ≡ fault_status fault }
 {
     match fault {
         ShellFault::ReadFault | ShellFault::WriteFault | ShellFault::TooManyLines => 1,
@@ -40,19 +65,21 @@ pub fn status(fault: ShellFault) -> u8
     }
 }
 
-/// Tells a fault as its number and its name, and the status that it ends with.
-fn tell<E: Write>(fault: ShellFault, errors: &mut E) -> u8
-    ensures { result ≡ status_of fault }
+// Tells the fault as its number and its name, if there is one, and the status to end with.
+fn tell<E: Write>(fault: Option<ShellFault>, errors: &mut E) -> u8
+    ensures status { result ≡ status_of fault }
+    ensures told { Tells fault (E.contents errors.old) (E.contents errors.new) }
 {
-    let number = fault.number();
-    let name = fault.name();
-    let _ = write!(errors, "elephant: {number} {name}\n");
+    let Some(fault) = fault else {
+        return 0;
+    };
+    let _ = write_named(b"elephant:", fault.number(), fault.name(), errors);
     let _ = errors.flush();
     status(fault)
 }
 
-/// Does what was asked for: answers at the writer, and tells faults and words that weren't understood at the other. The
-/// result is the status that the program ends with.
+/// Does what was asked for: answers at the writer, and tells faults and words that weren't
+/// understood at the other. The result is the status that the program ends with.
 pub fn answer<R: Read, W: Write, E: Write>(
     alloc: Global,
     asked: &Asked,
@@ -60,26 +87,19 @@ pub fn answer<R: Read, W: Write, E: Write>(
     writer: &mut W,
     errors: &mut E,
 ) -> u8
-    ensures status { MayEndWith asked.now result }
-    ensures run { (limits : Bounds) → asked.now ≡ Asked.Run limits → result ≡ 0
-        → (lines : ℕ) × RanToTheEnd (fresh limits) lines
-        (R.remaining reader.old) (R.remaining reader.new)
-        (W.contents writer.old) (W.contents writer.new) }
+    ensures { EndsWith asked.now (R.remaining reader.old) (R.remaining reader.new)
+        (W.contents writer.old) (W.contents writer.new)
+        (E.contents errors.old) (E.contents errors.new) result }
 {
     match asked {
-        Asked::Run(limits) => match run_script(alloc, *limits, reader, writer) {
-            Ok(_) => 0,
-            Err(fault) => tell(fault, errors),
-        },
-        Asked::Help(text) => match writer.write_all(text.as_bytes()) {
-            Ok(()) => 0,
-            Err(_) => tell(ShellFault::WriteFault, errors),
-        },
+        Asked::Run(limits) => tell(run_script(alloc, *limits, reader, writer).err(), errors),
+        Asked::Help(text) => tell(write_help(text.as_str(), writer).err(), errors),
         Asked::NotUnderstood(text) => {
-            let _ = errors.write_all(text.as_bytes());
+            let _ = put(errors, text.as_bytes());
+            let _ = errors.flush();
             2
         }
-        Asked::NoMemory => tell(ShellFault::NoMemory, errors),
+        Asked::NoMemory => tell(Some(ShellFault::NoMemory), errors),
     }
 }
 

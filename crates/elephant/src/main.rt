@@ -1,5 +1,8 @@
-//! The program `elephant`: `elephant run` reads a script from standard input and writes its answers to standard output.
+//! The program `elephant`: `elephant run` reads a script from standard input and writes its answers
+//! to standard output.
 #![tactic(auto)]
+
+ghost use Rattle.elephant.specs.Asked.{IsAsked};
 
 mod asked;
 mod ends;
@@ -8,8 +11,10 @@ use asked::{Asked, no_words, words};
 use ends::answer;
 use std::process::ExitCode;
 
-/// What the program's words ask for.
-fn asked_for(rt: &HostRuntime) -> Asked {
+// What the program's words ask for.
+fn asked_for(rt: &HostRuntime) -> Asked
+    ensures { IsAsked result }
+{
     match std::env::args(rt) {
         Ok(arguments) => match arguments.collect::<Vec<String>>(rt.alloc()) {
             Ok(arguments) => words(rt.alloc(), arguments.as_slice()),

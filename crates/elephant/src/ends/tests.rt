@@ -1,6 +1,5 @@
 //! What the program writes, and how it ends.
 use super::*;
-use std::io;
 use std::io::{Error, ErrorKind};
 use std::test::Fail;
 
@@ -49,6 +48,18 @@ fn make_late(alloc: Global, fails: bool) -> Late {
 }
 
 #[test]
+fn an_empty_script_ends_well(rt: HostRuntime) {
+    let mut writer = make_late(rt.alloc(), false);
+    let mut errors = Vec::<u8>::new(rt.alloc());
+    let asked = Asked::Run(Limits::largest());
+    let mut reader = b"".as_slice();
+    let status = answer(rt.alloc(), &asked, &mut reader, &mut writer, &mut errors);
+    assert_eq!(rt; status, 0);
+    assert!(rt; errors.is_empty());
+    assert!(rt; writer.taken.is_empty());
+}
+
+#[test]
 fn a_run_that_ends_early_is_flushed_and_told(rt: HostRuntime) -> Result<(), Fail> {
     let mut writer = make_late(rt.alloc(), false);
     let mut errors = Vec::<u8>::new(rt.alloc());
@@ -70,6 +81,21 @@ fn a_flush_that_fails_is_told(rt: HostRuntime) -> Result<(), Fail> {
     let status = answer(rt.alloc(), &asked, &mut reader, &mut writer, &mut errors);
     assert_eq!(rt; status, 1);
     assert_eq!(rt; errors.as_slice(), b"elephant: 35 WriteFault\n".as_slice());
+    assert_eq!(rt; writer.taken.as_slice(), b"ok file 1\n".as_slice());
+    Ok(())
+}
+
+#[test]
+fn help_is_written_and_flushed(rt: HostRuntime) -> Result<(), Fail> {
+    let mut writer = make_late(rt.alloc(), false);
+    let mut errors = Vec::<u8>::new(rt.alloc());
+    let asked = Asked::Help(String::from_str(rt.alloc(), "so")?);
+    let mut reader = b"".as_slice();
+    let status = answer(rt.alloc(), &asked, &mut reader, &mut writer, &mut errors);
+    assert_eq!(rt; status, 0);
+    assert_eq!(rt; writer.taken.as_slice(), b"so".as_slice());
+    assert_eq!(rt; writer.flushed, 2);
+    assert!(rt; errors.is_empty());
     Ok(())
 }
 

@@ -1,5 +1,11 @@
-use Rattle.elephant.proofs.Flushed.{to_the_end}
+use Rattle.std.specs.Prelude.{is_ok}
+use Rattle.std.proofs.KnownBytes.{Keeps-refl}
+use Rattle.elephant.proofs.Flushed.{has_run, run_flushed}
 use Rattle.elephant.proofs.ends.run_script.Goals as goal
 
-pub returns-in-Ok : goal.returns-in-Ok
-returns-in-Ok g c = to_the_end _ _ _ _ _ _ c.run-ran.result c.run-ran.ensures.ok c.flush.ensures.bytes
+pub returns : goal.returns
+returns g c =
+    let ran = c.run-ran.ensures in
+    run_flushed _ _ _ _ _ _ c.run-ran.result (is_ok c.flush-flushed.result) c.after_flush.result
+    (has_run _ _ _ _ _ c.run-ran.result ran.ok ran.read_fault ran.too_many_lines ran.write_fault (λ is. let same = ran.no_memory is in (rw same.0 (Keeps-refl _), rw same.1 (Keeps-refl _))))
+    c.flush-flushed.ensures.bytes c.after_flush.ensures

@@ -1,0 +1,24 @@
+-- What the program's words may ask for.
+use Rattle.std.specs.Prelude.{◌≡◌, ℕ, ◌≤◌}
+use Rattle.ele_world.specs.Bounds.{largest_bounds}
+use Rattle.elephant.specs.declared.asked.Asked.{Asked}
+use Rattle.elephant.specs.declared.asked.Asked.TheVariants.{Run, Help, NotUnderstood, NoMemory}
+
+-- so many events may be answered: from 1 to 1,000,000,000
+pub record IsEvents (events : ℕ) : Type 0 where
+  pub some : 1 ≤ events
+  pub within : events ≤ 1000000000
+
+-- a run is under the largest limits, but for that of events
+abbrev pub IsAsked : Asked → Type 0
+IsAsked (Run limits) = IsEvents limits.events × (limits ≡ record largest_bounds { events = limits.events })
+IsAsked (Help text) = Unit {0}
+IsAsked (NotUnderstood text) = Unit {0}
+IsAsked NoMemory = Unit {0}
+
+-- no run and no help: words that weren't understood, or no memory to tell them
+abbrev pub IsRefusal : Asked → Type 0
+IsRefusal (Run limits) = ⊥
+IsRefusal (Help text) = ⊥
+IsRefusal (NotUnderstood text) = Unit {0}
+IsRefusal NoMemory = Unit {0}

@@ -1,0 +1,56 @@
+-- How the program ends: what its reader and its two writers hold then, and with which status.
+use Rattle.std.specs.Prelude.{◌≡◌, ℕ, List, [], ◌∷◌, codes, decimal, string_bytes, Option, Some, None}
+use Rattle.std.specs.Io.KnownBytes.{Appends, Keeps}
+use Rattle.ele_script.specs.Front.{AppendsFront}
+use Rattle.ele_script.specs.Printed.{line_text}
+use Rattle.ele_shell.specs.Fault.{number_of, name_of}
+use Rattle.ele_shell.specs.RunState.{RunState, fresh}
+use Rattle.ele_shell.specs.Running.{RanToTheEnd, RanToAReadFault, RanPastABound, RanToAWriteFault}
+use Rattle.ele_shell.specs.declared.fault.ShellFault.{ShellFault}
+use Rattle.ele_shell.specs.declared.fault.ShellFault.TheVariants.{ReadFault, WriteFault, TooManyLines, NoMemory}
+use Rattle.elephant.specs.Status.{status_of}
+use Rattle.elephant.specs.declared.asked.Asked.{Asked}
+use Rattle.elephant.specs.declared.asked.Asked.TheVariants as asked
+
+-- a run, by the fault that ended it: without one all was read and answered; without memory nothing was read or written
+abbrev pub HasRun : RunState → Option (List ℕ) → Option (List ℕ) → Option (List ℕ) → Option (List ℕ) → Option ShellFault → Type 0
+HasRun start input rest old new None = (lines : ℕ) × RanToTheEnd start lines input rest old new
+HasRun start input rest old new (Some ReadFault) = RanToAReadFault start input rest old new
+HasRun start input rest old new (Some TooManyLines) = RanPastABound start input rest old new
+HasRun start input rest old new (Some WriteFault) = RanToAWriteFault start input old new
+HasRun start input rest old new (Some NoMemory) = Keeps input rest × Keeps old new
+
+-- help, by the fault that ended it: all of it was written, or a front
+abbrev pub HasHelped : List ℕ → Option (List ℕ) → Option (List ℕ) → Option ShellFault → Type 0
+HasHelped text old new None = Appends old new text
+HasHelped text old new (Some WriteFault) = AppendsFront old new text
+HasHelped text old new (Some ReadFault) = ⊥
+HasHelped text old new (Some TooManyLines) = ⊥
+HasHelped text old new (Some NoMemory) = ⊥
+
+-- the line that tells a fault
+abbrev pub fault_line : ShellFault → List ℕ
+fault_line fault = line_text (codes "elephant:" ∷ decimal (number_of fault) ∷ name_of fault ∷ [])
+
+-- the line of the fault was written, or a front of it; nothing where there is none
+abbrev pub Tells : Option ShellFault → Option (List ℕ) → Option (List ℕ) → Type 0
+Tells None before after = Keeps before after
+Tells (Some fault) before after = AppendsFront before after (fault_line fault)
+
+-- something was done up to a fault, or to its end; the status is that of the fault, which was told
+pub record Ends (Done : Option ShellFault → Type 0) (before after : Option (List ℕ)) (status : ℕ) : Type 0 where
+  pub fault : Option ShellFault
+  pub done : Done fault
+  pub status_is : status ≡ status_of fault
+  pub told : Tells fault before after
+
+-- by what was asked for; words that weren't understood are told with status 2
+abbrev pub EndsWith : Asked → Option (List ℕ) → Option (List ℕ) → Option (List ℕ) → Option (List ℕ) → Option (List ℕ) → Option (List ℕ) → ℕ → Type 0
+EndsWith (asked.Run limits) input rest old new before after status =
+    Ends (HasRun (fresh limits) input rest old new) before after status
+EndsWith (asked.Help text) input rest old new before after status =
+    Keeps input rest × Ends (HasHelped (string_bytes text) old new) before after status
+EndsWith (asked.NotUnderstood text) input rest old new before after status =
+    Keeps input rest × Keeps old new × AppendsFront before after (string_bytes text) × (status ≡ 2)
+EndsWith asked.NoMemory input rest old new before after status =
+    Keeps input rest × Keeps old new × AppendsFront before after (fault_line NoMemory) × (status ≡ 3)
