@@ -1,5 +1,6 @@
 pub mod Basics
 pub mod Words
+pub mod Formed
 pub mod Elements
 pub mod Readers
 pub mod Files

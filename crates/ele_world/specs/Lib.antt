@@ -20,6 +20,7 @@ pub mod Restorable
 pub mod Plan
 pub mod Step
 pub mod WellFormed
+pub mod Parts
 pub mod Run
 pub mod AlwaysWellFormed
 pub mod NothingChanges
