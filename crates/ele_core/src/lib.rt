@@ -204,7 +204,6 @@ impl Core {
     }
 
     /// The moment that it is. The world is well formed and its limits are within theirs, so the laws of `ele_world` hold.
-    #[tactic(auto, using(crate::proofs::Words::well_formed))]
     pub fn now(&self) -> Moment
         ensures value { result ≡ self.now.world.now }
         ensures formed { IsWellFormed self.now.world }

@@ -6,22 +6,28 @@ ghost use Rattle.ele_world.specs.NumbersRise.{NumbersRise};
 ghost use Rattle.ele_world.specs.OtherNamesStay.{OtherNamesStay};
 ghost use Rattle.ele_world.specs.PastStays.{PastStays};
 
+use ele_policy::laws::policies_are_lawful;
+
 /// What a name stood for at a moment before now stays so, unless it was a file that has gone.
-#[tactic(auto, using(crate::proofs::Past::past_stays))]
 pub fn past_stays()
     ensures { PastStays }
-{}
+{
+    policies_are_lawful();
+}
 
 /// Name rows stay in their order, but for those of a file that has gone: a birth never changes, and a death is set once, to now.
-#[tactic(auto, using(crate::proofs::NameRowsKept::name_rows_stay))]
 pub fn name_rows_stay()
     ensures { NameRowsStay }
-{}
+{
+    policies_are_lawful();
+}
 
 /// A held version lived at each moment before now after an event as before it.
 pub fn life_stays()
     ensures { LifeStays }
-{}
+{
+    policies_are_lawful();
+}
 
 /// The names that an event doesn't name stand for what they stood for.
 #[tactic(auto, using(crate::proofs::OtherNames::other_names_stay))]
@@ -30,7 +36,8 @@ pub fn other_names_stay()
 {}
 
 /// The time never goes back, and no number is given twice.
-#[tactic(auto, using(crate::proofs::Rising::numbers_rise))]
 pub fn numbers_rise()
     ensures { NumbersRise }
-{}
+{
+    policies_are_lawful();
+}
