@@ -90,3 +90,5 @@ pub mod Written
 pub mod Numbered
 pub mod Tells
 pub mod GroupsChanged
+pub mod ReadsStill
+pub mod Writing

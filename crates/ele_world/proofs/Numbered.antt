@@ -5,14 +5,13 @@ use Rattle.ele_time_path.specs.declared.tagged.Tag.TheVariants as tag
 use Rattle.ele_world.specs.declared.refusal.Refusal.TheVariants.{NoVersion}
 use Rattle.ele_lists.proofs.Cuts.{any-found as first_passing}
 use Rattle.ele_world.specs.Answered.{AnswersVersion, Refuses}
-use Rattle.ele_world.specs.NumberMeans.{IsGreatestBelow, MeansNumber, NumberMeans}
+use Rattle.ele_world.specs.NumberMeans.{IsGreatestBelow, MeansNumber}
 use Rattle.ele_world.specs.Tagged.{is_before}
 use Rattle.ele_world.proofs.Versions.{IsFound, all_found}
 use Rattle.ele_world.proofs.Written.{handle_reads}
 use Rattle.ele_world.proofs.Walks.{file_of}
-use Rattle.ele_time_path.specs.declared.tagged.Tag.TheVariants as tags
 
-all_held : (w : World) → HasParts w → AllByRecursion (λ row. is_held w row.file row.number ≡ true) w.versions
+pub all_held : (w : World) → HasParts w → AllByRecursion (λ row. is_held w row.file row.number ≡ true) w.versions
 all_held w k = all-weaker (IsFound w.versions) (λ row. is_held w row.file row.number ≡ true) w.versions (λ row found. any-found (is_version row.file row.number) (is_version row.file row.number) w.versions row found (grind (arith, nat_tests))) (all_found w.versions (k.holds Versions).placed)
 
 -- ---- the last number below is the greatest
@@ -88,5 +87,5 @@ module _ (w : World) (path : List (List ℕ)) (file number : ℕ) (k : HasParts 
     never = λ out. refuses NoVersion (grind (arith, nat_tests, out));
   }
 
-pub number_means : (w : World) (path : List (List ℕ)) (file number : ℕ) → HasParts w → file_now w.names path ≡ Ok file → MeansNumber w (record { path = path; tag = tags.Number number }) file number
+pub number_means : (w : World) (path : List (List ℕ)) (file number : ℕ) → HasParts w → file_now w.names path ≡ Ok file → MeansNumber w (record { path = path; tag = tag.Number number }) file number
 number_means w path file number k named = means w path file number k named

@@ -81,3 +81,5 @@ pub mod GroupChanges
 pub mod GroupsCome
 pub mod MembersChange
 pub mod MarkGoes
+pub mod ReadsPast
+pub mod DraftsWritten

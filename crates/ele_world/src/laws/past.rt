@@ -1,10 +1,12 @@
 //! What stays of the past, of other names, and of all that was counted, whatever the event: each law is the contract of a function
 //! that does nothing.
+ghost use Rattle.ele_world.specs.DraftsWritten.{DraftsWritten, DraftsWrittenInRuns};
 ghost use Rattle.ele_world.specs.LifeStays.{LifeStays};
 ghost use Rattle.ele_world.specs.NameRowsStay.{NameRowsStay};
 ghost use Rattle.ele_world.specs.NumbersRise.{NumbersRise};
 ghost use Rattle.ele_world.specs.OtherNamesStay.{OtherNamesStay};
 ghost use Rattle.ele_world.specs.PastStays.{PastStays};
+ghost use Rattle.ele_world.specs.ReadsPast.{ReadsPast};
 
 use ele_policy::laws::policies_are_lawful;
 
@@ -38,6 +40,28 @@ pub fn other_names_stay()
 /// The time never goes back, and no number is given twice.
 pub fn numbers_rise()
     ensures { NumbersRise }
+{
+    policies_are_lawful();
+}
+
+/// What a path reads at a moment before now is after an event the same bytes, or refused as `Forgotten` or `NoEntry`.
+pub fn reads_past()
+    ensures { ReadsPast }
+{
+    policies_are_lawful();
+}
+
+/// An event leaves each draft a handle that writes it.
+pub fn drafts_written()
+    ensures { DraftsWritten }
+{
+    policies_are_lawful();
+}
+
+/// After any list of events each draft has one.
+#[tactic(auto, using(crate::proofs::Writing::runs_have_writers, crate::proofs::StepKeeps::fresh_is, crate::proofs::Formed::in_parts, crate::proofs::Words::fresh_world))]
+pub fn drafts_written_in_runs()
+    ensures { DraftsWrittenInRuns }
 {
     policies_are_lawful();
 }
