@@ -1,5 +1,5 @@
 -- What closing a handle leaves, as the step of the world has it.
-use Rattle.ele_core.proofs.Words.{◌≡◌, ◌<◌, ◌^◌, ◌||◌, ℕ, List, Bool, true, false, cond, ◌∷◌, length, is_some, Option, Some, None, Ok, refl, ap, sym, ◌∙◌, arith, find, false≢true, AllByRecursion, option_map, option_map_or, nat_tests, content_of, IsSound, NewKeys, IsQueued, is_new, new_keys, Rows, Key, has_key, cells_of_draft, is_live, may_grow, finishing, last_draft, leaving, left_by, opening_by, IsPast, Held, rows_of, with_rows, found_passes, all-found, all-weaker, Close, Closed, DraftRow, FileRow, Draft, EndDraft, ShutHandle, DropIdle, after_change, after_changes, has_other_writer, step, Counted, Drafts, Files, Handles, Versions, IsWellFormed, dropped, all_keep, drafts-removed, World, file_by, file_written, has_draft, is_draft, next_of, reads_by, is_moment, in_order_of, open_still, shut_others, has_row, []}
+use Rattle.ele_core.proofs.Words.{◌≡◌, ◌<◌, ◌^◌, ◌||◌, ℕ, List, Bool, true, false, cond, ◌∷◌, length, is_some, Option, Some, None, Ok, refl, ap, sym, ◌∙◌, arith, find, false≢true, AllByRecursion, option_map, option_map_or, nat_tests, content_of, IsSound, NewKeys, IsQueued, is_new, new_keys, Rows, Key, has_key, cells_of_draft, is_live, may_grow, finishing, last_draft, leaving, left_by, opening_by, IsPast, Held, rows_of, with_rows, found_passes, all-found, all-weaker, Close, Closed, DraftRow, FileRow, Draft, EndDraft, ShutHandle, DropIdle, after_change, after_changes, has_other_writer, step, Counted, Drafts, Files, Handles, Versions, HasParts, dropped, all_keep, drafts-removed, World, file_by, file_written, has_draft, is_draft, next_of, reads_by, is_moment, in_order_of, open_still, shut_others, has_row, []}
 use Rattle.ele_core.proofs.Appended.{appended_queue}
 use Rattle.ele_world.proofs.Others.{other_drafts}
 use Rattle.ele_world.specs.declared.rows.HandleRow.{HandleRow}
@@ -15,7 +15,7 @@ module _ (w : World) (handle file : ℕ) (reads : reads_by w.handles handle ≡ 
   abbrev pub over : World
   over = after_changes w (ShutHandle handle ∷ EndDraft file ∷ [])
 
-  over_queue : IsWellFormed w → (queue : List Key) → IsQueued w queue → IsQueued over queue
+  over_queue : HasParts w → (queue : List Key) → IsQueued w queue → IsQueued over queue
   over_queue formed queue queued k = queued k ∙ ap (is_moment k.ripe) (sym (shut_others w handle (Draft file) reads (in_order_of w formed) k.file k.number refl))
 
   -- the same keys come
@@ -41,11 +41,11 @@ module _ (w : World) (handle file : ℕ) (reads : reads_by w.handles handle ≡ 
     pub drafted : is_some (find (is_draft file) w.drafts) ≡ true
     drafted = rw is_final.found refl
 
-    pub file_there : IsWellFormed w → 0 < next_of w.files file
+    pub file_there : HasParts w → 0 < next_of w.files file
     file_there formed = grind (arith, nat_tests, is_final, all-found, found_passes, formed.holds Drafts)
 
     -- the keys that come with it are those of all versions
-    pub finished_queue : (formed : IsWellFormed w) (queue after : List Key) (live : Bool) (keys : NewKeys) → IsQueued w queue → live ≡ is_live w file → keys ≡ new_keys w.groups (rows_of w) file w.now live → ((j : Key) → has_key j after ≡ (is_new keys j || has_key j queue))
+    pub finished_queue : (formed : HasParts w) (queue after : List Key) (live : Bool) (keys : NewKeys) → IsQueued w queue → live ≡ is_live w file → keys ≡ new_keys w.groups (rows_of w) file w.now live → ((j : Key) → has_key j after ≡ (is_new keys j || has_key j queue))
         → IsQueued (after_changes w (finishing (rows_of w) handle file opened)) after
     finished_queue formed queue after live keys queued lives are =
         let kept = all_keep (Close handle) w w (ShutHandle handle ∷ EndDraft file ∷ []) tt (tt, (is_final.alone, tt)) formed in
@@ -57,23 +57,23 @@ module _ (w : World) (handle file : ℕ) (reads : reads_by w.handles handle ≡ 
   goes = is_some (last_draft (rows_of w) handle file)
 
   -- the file that the handle writes has a draft
-  drafted_by : IsWellFormed w → has_draft w file ≡ true
+  drafted_by : HasParts w → has_draft w file ≡ true
   drafted_by formed = grind (arith, nat_tests, has_row w handle (Draft file) reads, all-found, formed.holds Handles)
 
   abbrev shut : World
   shut = after_changes w (ShutHandle handle ∷ [])
 
   -- so it stays where the draft does
-  stays : IsWellFormed w → after_change shut (DropIdle file) ≡ shut
+  stays : HasParts w → after_change shut (DropIdle file) ≡ shut
   stays formed = dropped (λ v. v ≡ shut) shut file (λ idle. absurd (false≢true (sym idle.undrafted ∙ drafted_by formed))) (λ busy. refl)
 
-  pub left_step : IsWellFormed w → opening_by (rows_of w) handle ≡ None → step w (Close handle) ≡ (Closed None, after_change (after_changes w (leaving handle file goes)) (DropIdle file))
+  pub left_step : HasParts w → opening_by (rows_of w) handle ≡ None → step w (Close handle) ≡ (Closed None, after_change (after_changes w (leaving handle file goes)) (DropIdle file))
   left_step formed opens = grind (arith, nat_tests, opens, writes_file w.handles handle file reads, stays formed)
 
   -- and a well-formed world stays so, before the drop too
-  pub left_keeps : IsWellFormed w → IsWellFormed (after_changes w (leaving handle file goes))
+  pub left_keeps : HasParts w → HasParts (after_changes w (leaving handle file goes))
   left_keeps formed = by (has_other_writer w handle file) refl (find (is_draft file) w.drafts) where
-    by : (b : Bool) → has_other_writer w handle file ≡ b → (o : Option DraftRow) → IsWellFormed (after_changes w (leaving handle file (is_some (cond b None o))))
+    by : (b : Bool) → has_other_writer w handle file ≡ b → (o : Option DraftRow) → HasParts (after_changes w (leaving handle file (is_some (cond b None o))))
     by true other o = all_keep (Close handle) w w (ShutHandle handle ∷ []) tt (tt, tt) formed
     by false alone None = all_keep (Close handle) w w (ShutHandle handle ∷ []) tt (tt, tt) formed
     by false alone (Some draft) = all_keep (Close handle) w w (ShutHandle handle ∷ EndDraft file ∷ []) tt (tt, (alone, tt)) formed
@@ -91,7 +91,7 @@ module _ (w : World) (handle file : ℕ) (reads : reads_by w.handles handle ≡ 
   leaves = grind (arith, nat_tests, reads, drafts-removed file w.drafts)
 
   -- the keys stay, whoever writes
-  pub left_queue : IsWellFormed w → (queue : List Key) → IsQueued w queue → IsQueued (after_changes w (leaving handle file goes)) queue
+  pub left_queue : HasParts w → (queue : List Key) → IsQueued w queue → IsQueued (after_changes w (leaving handle file goes)) queue
   left_queue formed queue queued k = grind (arith, nat_tests, shut_others w handle (Draft file) reads (in_order_of w formed) k.file k.number refl, queued k)
 
 -- ---- what is told of the file and of the draft

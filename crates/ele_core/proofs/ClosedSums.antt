@@ -1,5 +1,5 @@
 -- What the book of usage has, once a handle is closed.
-use Rattle.ele_core.proofs.Words.{None, left_by, opening_by, with_rows, Closed, Close, DropIdle, IsBooked, after_change, step, nat_tests, ◌≡◌, ℕ, ◌+◌, ◌-◌, ◌≤◌, ◌<◌, ◌^◌, cond, List, length, Ok, refl, sym, arith, content_of, longest_content, world_of, IsSound, IsTracked, told_by, blocks_of, one_version, IsOwed, Rows, finishing, Held, cells_of_draft, rows_after, insert_before, update_first, remove_first, DraftRow, is_draft, all-found, length-update_first, length-insert_before, Kind, Book, sums_of, nothing, plus, Fits, VersionRow, ended_at, next_version, with_end, is_file_of, bytes_in, Drafts, ChangesOnly, Draft, World, reads_by, is_version, is_version_after, next_of, drafts-removed, versions-finished, kinds-numbered, files-numbered, sum_by-insert_before, sum_by-update_same, Bool, Usage, usage_of, subst, ap, ◌∙◌, IsQueued, IsWellFormed}
+use Rattle.ele_core.proofs.Words.{None, left_by, opening_by, with_rows, Closed, Close, DropIdle, IsBooked, after_change, step, nat_tests, ◌≡◌, ℕ, ◌+◌, ◌-◌, ◌≤◌, ◌<◌, ◌^◌, cond, List, length, Ok, refl, sym, arith, content_of, longest_content, world_of, IsSound, IsTracked, told_by, blocks_of, one_version, IsOwed, Rows, finishing, Held, cells_of_draft, rows_after, insert_before, update_first, remove_first, DraftRow, is_draft, all-found, length-update_first, length-insert_before, Kind, Book, sums_of, nothing, plus, Fits, VersionRow, ended_at, next_version, with_end, is_file_of, bytes_in, Drafts, ChangesOnly, Draft, World, reads_by, is_version, is_version_after, next_of, drafts-removed, versions-finished, kinds-numbered, files-numbered, sum_by-insert_before, sum_by-update_same, Bool, Usage, usage_of, subst, ap, ◌∙◌, IsQueued, HasParts}
 use Rattle.ele_core.proofs.Booked.{few, few_blocks, owed, drafts_owed, and_nothing, size, bytes_are}
 use Rattle.ele_core.proofs.ClosedSteps.{leaves, left_keeps, left_queue, left_step, left_world}
 use Rattle.ele_world.proofs.Others.{other_drafts}
@@ -53,7 +53,7 @@ module _ (rows : Rows) (handle file : ℕ) (sound : IsSound rows) (reads : reads
 
   pub left_sound : (book : Book) → IsBooked (left_by rows.files handle) book → IsSound (record rows { files = left_by rows.files handle; book = book })
   left_sound book booked = record {
-    formed = subst IsWellFormed (sym (left_world (world_of rows) handle file reads)) (left_keeps (world_of rows) handle file reads sound.formed);
+    formed = subst HasParts (sym (left_world (world_of rows) handle file reads)) (left_keeps (world_of rows) handle file reads sound.formed);
     tracked = record { queue = subst (λ (v : World). IsQueued v rows.queue) (sym (left_world (world_of rows) handle file reads)) (left_queue (world_of rows) handle file reads sound.formed rows.queue sound.tracked.queue); book = booked; bounds = sound.tracked.bounds };
   }
 

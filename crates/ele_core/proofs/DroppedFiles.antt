@@ -1,5 +1,5 @@
 -- What the drop of a file leaves of the rows, the keys and the book.
-use Rattle.ele_core.proofs.Words.{subst, ◌≡◌, IsQueued, is_moment, ℕ, ◌==◌, ◌<◌, true, not, filter, List, ◌∷◌, Some, None, refl, ap, sym, ◌∙◌, arith, find, AllByRecursion, nat_tests, world_of, IsSound, told_by, IsBooked, Rows, rows_of, remove_first-unfound, all-weaker, filter-all, Kind, Policy, kind_of, Book, sums_of, only_at, plus, IsWithin, DropIdle, is_idle, without_file, after_change, forgotten, usage_of, IsGroup, Groups, IsWellFormed, World, is_file, next_of, policy_of, GroupRow, File, dropped, usage_same, []}
+use Rattle.ele_core.proofs.Words.{subst, ◌≡◌, IsQueued, is_moment, ℕ, ◌==◌, ◌<◌, true, not, filter, List, ◌∷◌, Some, None, refl, ap, sym, ◌∙◌, arith, find, AllByRecursion, nat_tests, world_of, IsSound, told_by, IsBooked, Rows, rows_of, remove_first-unfound, all-weaker, filter-all, Kind, Policy, kind_of, Book, sums_of, only_at, plus, IsWithin, DropIdle, is_idle, without_file, after_change, forgotten, usage_of, IsGroup, Groups, HasParts, World, is_file, next_of, policy_of, GroupRow, File, dropped, usage_same, []}
 use Rattle.ele_core.proofs.Booked.{booked, plus-cancel, same_kind}
 use Rattle.ele_core.proofs.NewNames.{other_target, unnamed}
 use Rattle.ele_lists.proofs.Edits.{all-not_found}
@@ -8,7 +8,7 @@ use Rattle.ele_world.proofs.DropUsage.{one_file, dropped_at}
 
 -- ---- a file that isn't there
 
-module _ (w : World) (file : ℕ) (k : IsWellFormed w) (none : policy_of w.files file ≡ None) where
+module _ (w : World) (file : ℕ) (k : HasParts w) (none : policy_of w.files file ≡ None) where
   no_row : find (is_file file) w.files ≡ None
   no_row = grind (arith, nat_tests)
 

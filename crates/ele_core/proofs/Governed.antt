@@ -1,5 +1,5 @@
 -- The keys and the book, once a file has another policy.
-use Rattle.ele_core.proofs.Words.{rows_of, ◌≡◌, ℕ, ◌<◌, ◌==◌, Bool, true, false, cond, not, ◌&&◌, ◌||◌, List, ◌∷◌, Option, Some, refl, sym, subst, arith, filter, map, AllByRecursion, filter_map, list_any, option_map_or, nat_tests, world_of, IsSound, IsQueued, is_under, key_under, unread_under, told_by, IsBooked, Rows, Key, has_key, is_key, Held, changed_at, found_passes, any-found, Kind, Policy, IsLawful, is_kind, kind_of, Usage, Book, sums_of, only_at, plus, Fits, IsWithin, GroupRow, Stamps, VersionRow, PutUnder, after_change, is_moment, is_version_of, stamps_of, file_usage, usage_of, usages, Bounded, World, is_version, next_of, policy_of, in_order_of, ripe_at_near, put_under_keeps, usage_same, usages_fit, [], IsWellFormed, cons_option}
+use Rattle.ele_core.proofs.Words.{rows_of, ◌≡◌, ℕ, ◌<◌, ◌==◌, Bool, true, false, cond, not, ◌&&◌, ◌||◌, List, ◌∷◌, Option, Some, refl, sym, subst, arith, filter, map, AllByRecursion, filter_map, list_any, option_map_or, nat_tests, world_of, IsSound, IsQueued, is_under, key_under, unread_under, told_by, IsBooked, Rows, Key, has_key, is_key, Held, changed_at, found_passes, any-found, Kind, Policy, IsLawful, is_kind, kind_of, Usage, Book, sums_of, only_at, plus, Fits, IsWithin, GroupRow, Stamps, VersionRow, PutUnder, after_change, is_moment, is_version_of, stamps_of, file_usage, usage_of, usages, Bounded, World, is_version, next_of, policy_of, in_order_of, ripe_at_near, put_under_keeps, usage_same, usages_fit, [], HasParts, cons_option}
 use Rattle.ele_core.proofs.Booked.{booked, plus-cancel, same_kind}
 use Rattle.ele_core.proofs.Following.{follows}
 use Rattle.ele_world.proofs.PolicyUsage.{file_within, policy_usage}
@@ -37,7 +37,7 @@ module _ (groups : List GroupRow) (h : Held) (file : ℕ) (policy other : Policy
 
 -- ---- the queue
 
-module _ (w : World) (file : ℕ) (was policy : Policy) (k : IsWellFormed w) (filed : policy_of w.files file ≡ Some was) (there : 0 < next_of w.files file) (given : IsLawful policy) where
+module _ (w : World) (file : ℕ) (was policy : Policy) (k : HasParts w) (filed : policy_of w.files file ≡ Some was) (there : 0 < next_of w.files file) (given : IsLawful policy) where
   abbrev h : Held
   h = rows_of w
 
@@ -87,7 +87,7 @@ module _ (rows : Rows) (file : ℕ) (was : Policy) (sound : IsSound rows) (filed
     -- and the one to which it comes has room for it
     pub uses_fit : (kind_of was ≡ kind_of policy → ⊥) → Fits (plus (sums_of rows.book (kind_of policy)) uses)
     uses_fit other =
-        let formed = put_under_keeps (world_of rows) file policy given sound.formed in
+        let formed = put_under_keeps (world_of rows) file policy given.given sound.formed in
         let moves = policy_usage (world_of rows) file was policy sound.formed filed (kind_of policy) in
         grind (arith, nat_tests, moves, kinds_apart, same_kind, booked rows sound.tracked (kind_of policy), fits_at now (usages_fit now formed (formed.holds Bounded)) (kind_of policy))
 

@@ -1,8 +1,8 @@
 -- A new file brings no key.
-use Rattle.ele_core.proofs.Words.{◌≡◌, ℕ, ◌+◌, Bool, cond, List, ◌∷◌, Option, Some, None, refl, ap, sym, ◌∙◌, arith, append-nil, subst, find, option_and_then, option_or, filter-append, find-append, list_any-append, nat_tests, IsQueued, IsSound, Rows, world_of, all-found, Policy, VersionRow, MakeFile, after_change, ripe_at, is_moment, view_of, IsWellFormed, World, is_version, created, made_is, new_file, new_name, first_version, versions_before, ripe_at_is, unended, []}
+use Rattle.ele_core.proofs.Words.{◌≡◌, ℕ, ◌+◌, Bool, cond, List, ◌∷◌, Option, Some, None, refl, ap, sym, ◌∙◌, arith, append-nil, subst, find, option_and_then, option_or, filter-append, find-append, list_any-append, nat_tests, IsQueued, IsSound, Rows, world_of, all-found, Policy, VersionRow, MakeFile, after_change, ripe_at, is_moment, view_of, HasParts, World, is_version, created, made_is, new_file, new_name, first_version, versions_before, ripe_at_is, unended, []}
 use Rattle.ele_world.specs.Due.{ripe_of}
 
-module _ (w : World) (directory : ℕ) (name : List ℕ) (policy : Policy) (k : IsWellFormed w) where
+module _ (w : World) (directory : ℕ) (name : List ℕ) (policy : Policy) (k : HasParts w) where
   abbrev id : ℕ
   id = w.made.files + 1
 

@@ -1,5 +1,5 @@
 -- The keys of versions that were current at marks: which keys these are, and that the queue follows where marks come and go.
-use Rattle.ele_core.proofs.Words.{◌≡◌, ℕ, ◌+◌, ◌<◌, ◌==◌, ◌++◌, length, get_or, take, and-false, and_assoc, append_assoc, Bool, true, false, cond, not, ◌&&◌, ◌||◌, List, ◌∷◌, Option, Some, None, refl, ap, sym, ◌∙◌, arith, find, filter_map, list_any, cons_option, AllByRecursion, option_map, option_map_or, or-false, take_more, filter_map-append, nat_tests, IsSound, Rows, world_of, IsQueued, key_at, keys_at, marked_but, moment_but, Left, Key, has_key, is_key, Held, rows_of, all-found, found_passes, AllLater, is_moment, moment_under, covers_moment, had_life, lives_at, stamps_of, ArePlaced, IsWellFormed, World, is_open, is_version, policy_of, GroupRow, Stamps, VersionRow, AddMark, AddMember, DropGroup, RemoveMark, RemoveMember, after_change, mark_comes, mark_goes, marks_of, member_comes, member_goes, members_of, group_goes, MarksCome, MarksGo, is_covered, is_touched, in_order_of, ripe_at_near, any-filter_map, placed_of, [], option_and_then}
+use Rattle.ele_core.proofs.Words.{◌≡◌, ℕ, ◌+◌, ◌<◌, ◌==◌, ◌++◌, length, get_or, take, and-false, and_assoc, append_assoc, Bool, true, false, cond, not, ◌&&◌, ◌||◌, List, ◌∷◌, Option, Some, None, refl, ap, sym, ◌∙◌, arith, find, filter_map, list_any, cons_option, AllByRecursion, option_map, option_map_or, or-false, take_more, filter_map-append, nat_tests, IsSound, Rows, world_of, IsQueued, key_at, keys_at, marked_but, moment_but, Left, Key, has_key, is_key, Held, rows_of, all-found, found_passes, AllLater, is_moment, moment_under, covers_moment, had_life, lives_at, stamps_of, ArePlaced, HasParts, World, is_open, is_version, policy_of, GroupRow, Stamps, VersionRow, AddMark, AddMember, DropGroup, RemoveMark, RemoveMember, after_change, mark_comes, mark_goes, marks_of, member_comes, member_goes, members_of, group_goes, MarksCome, MarksGo, is_covered, is_touched, in_order_of, ripe_at_near, any-filter_map, placed_of, [], option_and_then}
 use Rattle.ele_core.proofs.Following.{follows}
 use Rattle.ele_world.specs.GroupRows.{has_member, is_marked_at}
 use Rattle.ele_world.proofs.SlotPlaces.{list_any-flat_map}
@@ -107,7 +107,7 @@ module _ (left : Option Left) (groups : List GroupRow) (h : Held) (placed : AllL
 
 -- ---- the queue
 
-module _ (w v : World) (formed : IsWellFormed w) (files marks : List ℕ) (queue : List Key) (queued : IsQueued w queue) where
+module _ (w v : World) (formed : HasParts w) (files marks : List ℕ) (queue : List Key) (queued : IsQueued w queue) where
   abbrev touched : ℕ → ℕ → Bool
   touched = is_touched files marks w.versions
 

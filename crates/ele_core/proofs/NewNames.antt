@@ -1,5 +1,5 @@
 -- Names that come, move and go.
-use Rattle.ele_core.proofs.Words.{AllByRecursion, AreApart, File, FileRow, Files, IsNameRow, IsQueued, IsSound, IsThere, IsWellFormed, List, NameRow, Names, Ok, Rows, Some, Target, World, [], all-both, all-weaker, ap, apart_from_new, append-nil, arith, bytes_eq-Decides, dies, false, false≢true, filter, filter-all, filter-append, in_order_of, is_live_name, is_moment, is_some, is_target_file, last_names, live_target, moments_stay, nat_tests, next_of, not, parent_now, refl, sym, true, update_first, walk_now, world_of, ℕ, ◌++◌, ◌+◌, ◌∙◌, ◌∷◌, ◌≡◌}
+use Rattle.ele_core.proofs.Words.{AllByRecursion, AreApart, File, FileRow, Files, IsNameRow, IsQueued, IsSound, IsThere, HasParts, List, NameRow, Names, Ok, Rows, Some, Target, World, [], all-both, all-weaker, ap, apart_from_new, append-nil, arith, bytes_eq-Decides, dies, false, false≢true, filter, filter-all, filter-append, in_order_of, is_live_name, is_moment, is_some, is_target_file, last_names, live_target, moments_stay, nat_tests, next_of, not, parent_now, refl, sym, true, update_first, walk_now, world_of, ℕ, ◌++◌, ◌+◌, ◌∙◌, ◌∷◌, ◌≡◌}
 use Rattle.ele_lists.proofs.Cuts.{update_first-front}
 use Rattle.ele_names.specs.Rows.{Follows, born_row}
 use Rattle.ele_world.proofs.Files.{next_of-given}
@@ -16,7 +16,7 @@ follows_new rows directory name target sound free =
 pub other_target : (files : List FileRow) (file : ℕ) (target : Target) → next_of files file ≡ 0 → IsThere files target → not (is_target_file file target) ≡ true
 other_target files file x2 none there = grind (arith, nat_tests)
 
-pub unnamed : (w : World) (file : ℕ) → IsWellFormed w → next_of w.files file ≡ 0 → filter (λ row. not (is_target_file file row.target)) w.names ≡ w.names
+pub unnamed : (w : World) (file : ℕ) → HasParts w → next_of w.files file ≡ 0 → filter (λ row. not (is_target_file file row.target)) w.names ≡ w.names
 unnamed w file k none = filter-all (λ row. not (is_target_file file row.target)) w.names (all-weaker (IsNameRow w.files w.now) (λ row. not (is_target_file file row.target) ≡ true) w.names (λ row h. other_target w.files file row.target none h.there) (k.holds Names).each)
 
 -- nor was one of the new file, so its name alone goes

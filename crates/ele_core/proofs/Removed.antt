@@ -1,5 +1,5 @@
 -- A clean event takes the row of the first key, and that key.
-use Rattle.ele_core.proofs.Words.{nat_tests, ◌≡◌, ℕ, ◌+◌, Bool, true, List, length, Some, None, sym, subst, ◌∙◌, arith, find, option_map, content_of, world_of, IsSound, IsQueued, IsRekeyed, told_by, blocks_of, one_version, of_file, IsOwed, Rows, Key, Held, without, remove_first, length-remove_first, Kind, Book, sums_of, plus, Fits, IsWithin, VersionRow, first_due, Take, after_change, IsWellFormed, CleanOne, is_file_of, bytes_in, usage_of, ChangesOnly, World, is_version, takes, change_keeps, IsDueKey, sum_by-remove_first, usage_changes, changes_removed}
+use Rattle.ele_core.proofs.Words.{nat_tests, ◌≡◌, ℕ, ◌+◌, Bool, true, List, length, Some, None, sym, subst, ◌∙◌, arith, find, option_map, content_of, world_of, IsSound, IsQueued, IsRekeyed, told_by, blocks_of, one_version, of_file, IsOwed, Rows, Key, Held, without, remove_first, length-remove_first, Kind, Book, sums_of, plus, Fits, IsWithin, VersionRow, first_due, Take, after_change, HasParts, CleanOne, is_file_of, bytes_in, usage_of, ChangesOnly, World, is_version, takes, change_keeps, IsDueKey, sum_by-remove_first, usage_changes, changes_removed}
 use Rattle.ele_core.proofs.Booked.{few, owed, and_none, size, bytes_are}
 use Rattle.ele_core.proofs.Following.{entry_follows}
 use Rattle.ele_world.proofs.CleanKeepsKeys.{take_keeps_keys}
@@ -13,8 +13,8 @@ removed_queue rows key queue sound first taken =
     entry_follows w (after_change w (Take key.file key.number)) rows.queue queue sound.tracked.queue key.file key.number one.others (rw (one.was, one.gone) taken)
 
 -- a well-formed world stays so
-pub removed_keeps : (rows : Rows) (key : Key) (v : World) → IsSound rows → first_due (world_of rows) ≡ Some key → v ≡ after_change (world_of rows) (Take key.file key.number) → IsWellFormed v
-removed_keeps rows key v sound first is = let w = world_of rows in subst IsWellFormed (sym is) (change_keeps CleanOne w w (Take key.file key.number) tt (takes w key sound.formed first) sound.formed)
+pub removed_keeps : (rows : Rows) (key : Key) (v : World) → IsSound rows → first_due (world_of rows) ≡ Some key → v ≡ after_change (world_of rows) (Take key.file key.number) → HasParts v
+removed_keeps rows key v sound first is = let w = world_of rows in subst HasParts (sym is) (change_keeps CleanOne w w (Take key.file key.number) tt (takes w key sound.formed first) sound.formed)
 
 -- ---- the book
 

@@ -4,7 +4,7 @@ use Rattle.ele_core.specs.State.{State}
 use Rattle.ele_core.specs.Queued.{IsQueued}
 use Rattle.ele_core.specs.Tracked.{IsBooked}
 use Rattle.ele_world.specs.Bounds.{AreBounds}
-use Rattle.ele_world.specs.WellFormed.{IsWellFormed}
+use Rattle.ele_world.specs.Parts.{HasParts}
 use Rattle.ele_world.specs.World.{World}
 
 abbrev pub world_of : Rows → World
@@ -31,5 +31,5 @@ pub record IsTracked (rows : Rows) : Type 0 where
   pub bounds : AreBounds rows.limits
 
 pub record IsSound (rows : Rows) : Type 0 where
-  pub formed : IsWellFormed (world_of rows)
+  pub formed : HasParts (world_of rows)
   pub tracked : IsTracked rows

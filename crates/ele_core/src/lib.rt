@@ -62,8 +62,8 @@ use ele_files::{Files, Meter};
 use ele_groups::Groups;
 use ele_names::Names;
 use ele_policy::Interval;
+use ele_policy::laws::policies_are_lawful;
 use ele_usage::UsageBook;
-use ele_world::laws::step_keeps_well_formed;
 pub use ele_world::{
     ByteList, Cell, Counts, DeadName, DeadNameList, DirId, DirectoryRow, DraftRow, Event, FileId,
     FileRow, FileStat, Flat, GroupList, GroupRow, Handle, HandleRow, Key, KeyList, Kind, Ladder,
@@ -147,6 +147,7 @@ impl Core {
         ensures { IfOk result (λ core. core.world ≡ fresh_world limits) }
     {
         limits.are_within();
+        policies_are_lawful();
         let mut directories = Vec::new(alloc);
         directories.push(DirectoryRow {
             id: ROOT,
@@ -190,7 +191,6 @@ impl Core {
         ensures read { IfOk result (λ reply. IsRead event.now reply self.new.rows_read) }
     {
         self.rows.meter = Meter::new();
-        step_keeps_well_formed();
         answer(&mut self.rows, event)
     }
 

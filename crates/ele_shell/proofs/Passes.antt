@@ -45,7 +45,7 @@ finishes s t u budget n r lt c =
     let none : first_due t.world ≡ None = (grind (arith, c.due)) in
     let same : u.world ≡ t.world = c.world ∙ nothing_due t.world none in
     record {
-      pass = record { each = r.cleaned.each; after_is = same ∙ r.cleaned.after_is; last = ap first_due same ∙ none };
+      pass = record { cleaned = record { each = r.cleaned.each; after_is = same ∙ r.cleaned.after_is }; last = ap first_due same ∙ none };
       within = lt;
       below = omega (arith, c.below, r.replies, r.most);
       replies = omega (arith, c.replies, r.replies);

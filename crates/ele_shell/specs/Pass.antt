@@ -3,8 +3,7 @@ use Rattle.std.specs.Prelude.{◌≡◌, ℕ, ◌+◌, ◌<◌}
 use Rattle.ele_world.specs.declared.pass.PassEnd.{PassEnd}
 use Rattle.ele_world.specs.declared.pass.PassEnd.TheVariants.{Finished, Budget, Stopped}
 use Rattle.ele_world.specs.declared.refusal.Stop.TheVariants.{NoMemory, HistoryFull}
-use Rattle.ele_world.specs.Pass.{IsCleaned}
-use Rattle.ele_world.specs.Run.{IsPass}
+use Rattle.ele_world.specs.Pass.{IsCleaned, IsPass}
 use Rattle.ele_shell.specs.RunState.{RunState}
 
 -- so many clean events were answered, each while fewer replies were given than may be, and each removed a version

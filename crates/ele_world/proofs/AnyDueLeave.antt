@@ -3,14 +3,15 @@ use Rattle.ele_world.proofs.Basics.{◌≡◌, ℕ, Bool, true, false, not, cond
 use Rattle.ele_world.proofs.Basics.{all-any, all-append, all-both, all-filter, all-right, all-weaker, filter-both, filter-same_all, filter-swap, later-around, remove_first-at}
 use Rattle.ele_lists.proofs.Alls.{all-left}
 use Rattle.ele_lists.proofs.Cuts.{find-at}
-use Rattle.ele_world.proofs.Words.{VersionRow, ArePlaced, Take, after_change, IsWellFormed, World, is_version}
-use Rattle.ele_world.specs.AnyDueLeave.{AreDue, AnyDueLeave}
+use Rattle.ele_world.proofs.Words.{VersionRow, ArePlaced, Take, after_change, HasParts, World, is_version}
+use Rattle.ele_world.specs.AnyDueLeave.{AreDue, LeavesOthersDue, without_versions}
 use Rattle.ele_world.specs.Due.{is_due, is_due_at}
 use Rattle.ele_world.proofs.DueRows.{due_has_ended, due_is_unread}
 use Rattle.ele_world.proofs.KeptVersions.{take_keeps}
 use Rattle.ele_world.proofs.RemovalOrder.{IsBeside, stays, sides}
 use Rattle.ele_world.proofs.Versions.{IsFound, all_found, apart}
 use Rattle.ele_world.proofs.Views.{placed_of}
+use Rattle.ele_world.proofs.Formed.{well_formed}
 
 -- the world with these versions
 abbrev pub with_rows : World → List VersionRow → World
@@ -22,7 +23,7 @@ IsDueAs w v row = is_due_at v row w.now ≡ is_due_at w row w.now
 
 -- ---- one due row goes
 
-module _ (w : World) (before : List VersionRow) (row : VersionRow) (behind : List VersionRow) (k : IsWellFormed w) (whole : w.versions ≡ before ++ row ∷ behind) (due : is_due_at w row w.now ≡ true) where
+module _ (w : World) (before : List VersionRow) (row : VersionRow) (behind : List VersionRow) (k : HasParts w) (whole : w.versions ≡ before ++ row ∷ behind) (due : is_due_at w row w.now ≡ true) where
   abbrev own : VersionRow → Bool
   own = is_version row.file row.number
 
@@ -38,8 +39,8 @@ module _ (w : World) (before : List VersionRow) (row : VersionRow) (behind : Lis
   taken : after_change w (Take row.file row.number) ≡ with_rows w (before ++ behind)
   taken = ap (with_rows w) (ap (remove_first own) whole ∙ remove_first-at own before row behind none_before is_own)
 
-  due_goes : IsWellFormed (with_rows w (before ++ behind))
-  due_goes = subst IsWellFormed taken (take_keeps w row.file row.number (λ x is. grind (arith, nat_tests, found, due_has_ended w row w.now due)) (due_is_unread w row w.now due) k)
+  due_goes : HasParts (with_rows w (before ++ behind))
+  due_goes = subst HasParts taken (take_keeps w row.file row.number (λ x is. grind (arith, nat_tests, found, due_has_ended w row w.now due)) (due_is_unread w row w.now due) k)
 
   others_same : AllByRecursion (IsDueAs w (with_rows w (before ++ behind))) (before ++ behind)
   others_same = all-weaker (IsBeside row) (IsDueAs w (with_rows w (before ++ behind))) (before ++ behind) (stays w before row behind k whole w.now due) (sides w before row behind k whole)
@@ -55,7 +56,7 @@ remains gone row = not (gone row.file row.number)
 
 -- with these versions alone the world is well formed, and each is due as in the world with all
 pub record StaysDue (w : World) (rows : List VersionRow) : Type 0 where
-  pub formed : IsWellFormed (with_rows w rows)
+  pub formed : HasParts (with_rows w rows)
   pub same : AllByRecursion (IsDueAs w (with_rows w rows)) rows
 
 module _ (gone : ℕ → ℕ → Bool) where
@@ -63,9 +64,9 @@ module _ (gone : ℕ → ℕ → Bool) where
   left rows = filter (remains gone) rows
 
   -- behind those that are looked at already
-  go : (w : World) (before rows : List VersionRow) → IsWellFormed w → w.versions ≡ before ++ rows → AllByRecursion (IsDueIf gone w) rows → StaysDue w (before ++ left rows)
+  go : (w : World) (before rows : List VersionRow) → HasParts w → w.versions ≡ before ++ rows → AllByRecursion (IsDueIf gone w) rows → StaysDue w (before ++ left rows)
   go w before [] k whole due = record {
-    formed = subst (λ rows. IsWellFormed (with_rows w rows)) whole k;
+    formed = subst (λ rows. HasParts (with_rows w rows)) whole k;
     same = subst (λ rows. AllByRecursion (IsDueAs w (with_rows w rows)) rows) whole (all-any (IsDueAs w w) w.versions (λ row. refl));
   }
   go w before (row ∷ rows) k whole due = elim (gone row.file row.number) as (λ b. gone row.file row.number ≡ b → StaysDue w (before ++ cond (not b) (row ∷ left rows) (left rows))) [
@@ -85,7 +86,7 @@ module _ (gone : ℕ → ℕ → Bool) where
 
 -- ---- the law
 
-module _ (w : World) (gone : ℕ → ℕ → Bool) (k : IsWellFormed w) (due : AreDue w gone) where
+module _ (w : World) (gone : ℕ → ℕ → Bool) (k : HasParts w) (due : AreDue w gone) where
   abbrev now : VersionRow → Bool
   now row = is_due_at w row w.now
 
@@ -108,9 +109,9 @@ module _ (w : World) (gone : ℕ → ℕ → Bool) (k : IsWellFormed w) (due : A
       ∙ filter-both (λ row. not (now row)) (remains gone) w.versions
       ∙ filter-same_all (λ row. remains gone row && not (now row)) (λ row. not (now row)) w.versions (all-weaker (IsDueIf gone w) (λ row. (remains gone row && not (now row)) ≡ not (now row)) w.versions (λ row named. grind (arith, nat_tests, named)) rows_due)
 
-pub any_due_leave : AnyDueLeave
+pub any_due_leave : (w : World) (gone : ℕ → ℕ → Bool) → HasParts w → AreDue w gone → LeavesOthersDue w gone (without_versions gone w)
 any_due_leave w gone k due = record {
-  well_formed = (stays_due w gone k due).formed;
+  well_formed = well_formed (without_versions gone w) (stays_due w gone k due).formed;
   due = filter-same_all (then w gone k due) (now w gone k due) (rows w gone k due) (stays_due w gone k due).same ∙ filter-swap (now w gone k due) (remains gone) w.versions;
   kept = kept_stay w gone k due;
 }

@@ -4,7 +4,7 @@ use Rattle.ele_world.proofs.Basics.{◌≡◌, ℕ, ◌+◌, ◌-◌, ◌<◌, �
 use Rattle.ele_world.proofs.Basics.{nat_tests, last_passing, last_has, AllLater, insert_before, update_first, later-weaker, all-both, all-insert_before, all-update_first, all-weaker, all-found, found_passes, not_found, find-insert_before}
 use Rattle.ele_world.proofs.Basics.{list_any-update_first, any-found, find-inserted, find-update_other}
 use Rattle.ele_world.proofs.Words.{Cell, IsLawful, VersionRow, ended_at, next_version, with_end, with_version, ripe_of, ripe_at, is_marked, is_newer_of, is_version_of, near_moment, newest_of, next_closing, ArePlaced, AreHeldRead, AreVersions}
-use Rattle.ele_world.proofs.Words.{IsVersion, Readers, Versions, IsWellFormed, World, is_file, is_live, is_open, is_version, is_version_after, next_of, policy_of}
+use Rattle.ele_world.proofs.Words.{IsVersion, Readers, Versions, HasParts, World, is_file, is_live, is_open, is_version, is_version_after, next_of, policy_of}
 use Rattle.ele_lists.proofs.Cuts.{any-found as first_passing}
 use Rattle.ele_world.proofs.Closes.{new_found, none_next}
 use Rattle.ele_world.proofs.Files.{policies-numbered}
@@ -59,7 +59,7 @@ pub record MayGrow (w : World) (file : ℕ) : Type 0 where
   pub readers : AreHeldRead w.versions w.handles
   pub policies : AllByRecursion (λ row. IsLawful row.policy) w.files
 
-pub may_grow : (w : World) (file : ℕ) → IsWellFormed w → 0 < next_of w.files file → MayGrow w file
+pub may_grow : (w : World) (file : ℕ) → HasParts w → 0 < next_of w.files file → MayGrow w file
 may_grow w file k there = record { there = there; versions = k.holds Versions; readers = k.holds Readers; policies = policies_of w k }
 
 -- the next version of the file and its newest held one

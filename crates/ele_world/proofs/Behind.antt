@@ -1,7 +1,7 @@
 -- A change made in a world and in one that lags behind it, with the same versions and files missing before and after.
 use Rattle.ele_world.proofs.Basics.{◌≡◌, ◌==◌, ◌≤◌, ℕ, Bool, true, false, not, List, [], ◌∷◌, ◌++◌, None, Option, refl, ap, sym, ◌∙◌, arith, nat_tests, nat_le, list_any, option_map_or, AllByRecursion}
 use Rattle.ele_world.proofs.Basics.{all-split, false≢true, list_any-append, is_none}
-use Rattle.ele_world.proofs.Words.{Change, IsWellFormed, NameRow, Target, File, Directory, World, after_change, has_draft, is_live, is_live_name_of, ripe_at, next_of}
+use Rattle.ele_world.proofs.Words.{Change, HasParts, NameRow, Target, File, Directory, World, after_change, has_draft, is_live, is_live_name_of, ripe_at, next_of}
 use Rattle.ele_world.specs.AnyDueLeave.{AreDue}
 use Rattle.ele_world.specs.Lags.{Lags}
 use Rattle.ele_world.specs.Less.{less, is_dropped, IsEmptied}
@@ -12,7 +12,7 @@ use Rattle.ele_world.proofs.RipeAt.{is_due_is}
 -- the first is the second without these versions and files
 pub record Behind (gone : ℕ → ℕ → Bool) (dropped : ℕ → Bool) (u v : World) : Type 0 where
   pub is : u ≡ less gone dropped v
-  pub formed : IsWellFormed v
+  pub formed : HasParts v
   pub due : AreDue v gone
   pub emptied : (file : ℕ) → dropped file ≡ true → IsEmptied gone v file
   pub ungrouped : v.groups ≡ []
@@ -31,7 +31,7 @@ module _ (gone : ℕ → ℕ → Bool) (dropped : ℕ → Bool) (u v : World) (b
   pub lagging : Lags u v
   lagging = record { gone = gone; dropped = dropped; is = b.is; due = b.due; emptied = b.emptied; ungrouped = b.ungrouped }
 
-  pub change_on : (change : Change) → after_change (less gone dropped v) change ≡ less gone dropped (after_change v change) → IsWellFormed (after_change v change) → KeepsBehind gone dropped v (after_change v change) → Behind gone dropped (after_change u change) (after_change v change)
+  pub change_on : (change : Change) → after_change (less gone dropped v) change ≡ less gone dropped (after_change v change) → HasParts (after_change v change) → KeepsBehind gone dropped v (after_change v change) → Behind gone dropped (after_change u change) (after_change v change)
   change_on change same formed keeps = record {
     is = ap (λ (w : World). after_change w change) b.is ∙ same;
     formed = formed;

@@ -2,7 +2,7 @@
 use Rattle.ele_world.proofs.Basics.{◌≡◌, ◌<◌, ◌-◌, ℕ, Bool, true, false, not, List, [], refl, ap, sym, ◌∙◌, arith, nat_tests, list_any, remove_first, insert_before, update_first}
 use Rattle.ele_world.proofs.Basics.{all-filter, all-none, all-remove_first, list_any-insert_before, list_any-update_first, false≢true, filter-swap}
 use Rattle.ele_lists.proofs.Filters.{find-filter}
-use Rattle.ele_world.proofs.Words.{Cell, Change, Draft, DraftRow, DropIdle, EndDraft, HandleRow, IsWellFormed, NameRow, OpenHandle, ShutHandle, StartDraft, TruncateDraft, VersionRow, World, WriteDraft, after_change, changed_by, current_cells, fitted_by, has_draft, is_draft, is_draft_after, is_file, is_handle, is_idle, is_live, is_open, is_target_file, is_version, is_version_of, new_draft, next_of, reads_version, ripe_at, without_file}
+use Rattle.ele_world.proofs.Words.{Cell, Change, Draft, DraftRow, DropIdle, EndDraft, HandleRow, HasParts, NameRow, OpenHandle, ShutHandle, StartDraft, TruncateDraft, VersionRow, World, WriteDraft, after_change, changed_by, current_cells, fitted_by, has_draft, is_draft, is_draft_after, is_file, is_handle, is_idle, is_live, is_open, is_target_file, is_version, is_version_of, new_draft, next_of, reads_version, ripe_at, without_file}
 use Rattle.ele_world.specs.Less.{less}
 use Rattle.ele_world.specs.Lags.{Lags}
 use Rattle.ele_world.proofs.AnyDueLeave.{remains}
@@ -44,7 +44,7 @@ module _ (gone : ℕ → ℕ → Bool) (dropped : ℕ → Bool) (u v : World) (b
       let stays = unripe_there gone dropped u v b file n (no_moment v 0 [] file (has_current v file b.formed live)) in
       rw (next_same dropped file there v.files, find-filter (is_version file n) (remains gone) v.versions (λ row is. grind (arith, nat_tests, is, stays))) refl
 
-  pub start_both : (file : ℕ) → is_live v file ≡ true → let c = StartDraft file in IsWellFormed (after_change v c) → Behind gone dropped (after_change u c) (after_change v c)
+  pub start_both : (file : ℕ) → is_live v file ≡ true → let c = StartDraft file in HasParts (after_change v c) → Behind gone dropped (after_change u c) (after_change v c)
   start_both file live formed =
       let c = StartDraft file in
       let there = live_there gone dropped u v b file live in
@@ -52,21 +52,21 @@ module _ (gone : ℕ → ℕ → Bool) (dropped : ℕ → Bool) (u v : World) (b
       (ap (λ (cells : List Cell). let w : World = record behind { drafts = insert_before (is_draft_after file) (record { file = file; opened = v.now; cells = cells; changed = false }) v.drafts } in w) (current_there file live)) formed
       (keeps_drafts (insert_before (is_draft_after file) (new_draft v file) v.drafts) (λ f is none. list_any-insert_before (is_draft_after file) (is_draft f) (new_draft v file) v.drafts ∙ grind (arith, nat_tests, none, apart_from gone dropped u v b file f there is)))
 
-  pub write_both : (file offset : ℕ) (bytes : List ℕ) → has_draft v file ≡ true → let c = WriteDraft file offset bytes in IsWellFormed (after_change v c) → Behind gone dropped (after_change u c) (after_change v c)
+  pub write_both : (file offset : ℕ) (bytes : List ℕ) → has_draft v file ≡ true → let c = WriteDraft file offset bytes in HasParts (after_change v c) → Behind gone dropped (after_change u c) (after_change v c)
   write_both file offset bytes drafted formed =
       let c = WriteDraft file offset bytes in
       change_on gone dropped u v b c
       (ap (λ (n : ℕ). let w : World = record behind { drafts = update_first (is_draft file) (changed_by n offset bytes) v.drafts } in w) (next_same dropped file (drafted_there gone dropped u v b file drafted) v.files)) formed
       (keeps_drafts (update_first (is_draft file) (changed_by (next_of v.files file) offset bytes) v.drafts) (λ f is none. list_any-update_first (is_draft file) (is_draft f) (changed_by (next_of v.files file) offset bytes) v.drafts (λ row own. refl) ∙ none))
 
-  pub truncate_both : (file size : ℕ) → has_draft v file ≡ true → let c = TruncateDraft file size in IsWellFormed (after_change v c) → Behind gone dropped (after_change u c) (after_change v c)
+  pub truncate_both : (file size : ℕ) → has_draft v file ≡ true → let c = TruncateDraft file size in HasParts (after_change v c) → Behind gone dropped (after_change u c) (after_change v c)
   truncate_both file size drafted formed =
       let c = TruncateDraft file size in
       change_on gone dropped u v b c
       (ap (λ (n : ℕ). let w : World = record behind { drafts = update_first (is_draft file) (fitted_by n size) v.drafts } in w) (next_same dropped file (drafted_there gone dropped u v b file drafted) v.files)) formed
       (keeps_drafts (update_first (is_draft file) (fitted_by (next_of v.files file) size) v.drafts) (λ f is none. list_any-update_first (is_draft file) (is_draft f) (fitted_by (next_of v.files file) size) v.drafts (λ row own. rw (same_file (next_of v.files file) size row) refl) ∙ none))
 
-  pub end_draft_both : (file : ℕ) → let c = EndDraft file in IsWellFormed (after_change v c) → Behind gone dropped (after_change u c) (after_change v c)
+  pub end_draft_both : (file : ℕ) → let c = EndDraft file in HasParts (after_change v c) → Behind gone dropped (after_change u c) (after_change v c)
   end_draft_both file formed = change_on gone dropped u v b (EndDraft file) refl formed (keeps_drafts (remove_first (is_draft file) v.drafts) (λ f is none. still_none (is_draft file) (is_draft f) v.drafts none))
 
   -- ---- handles
@@ -80,7 +80,7 @@ module _ (gone : ℕ → ℕ → Bool) (dropped : ℕ → Bool) (u v : World) (b
     groups = groups;
   }
 
-  pub open_both : (number file : ℕ) → let c = OpenHandle number (Draft file) in IsWellFormed (after_change v c) → Behind gone dropped (after_change u c) (after_change v c)
+  pub open_both : (number file : ℕ) → let c = OpenHandle number (Draft file) in HasParts (after_change v c) → Behind gone dropped (after_change u c) (after_change v c)
   open_both number file formed =
       let c = OpenHandle number (Draft file) in
       change_on gone dropped u v b c refl formed (keeps_handles (after_change v c) refl refl refl refl refl refl (λ f n named. opened_others v number (Draft file) (in_order_of v b.formed) f n refl))
@@ -92,7 +92,7 @@ module _ (gone : ℕ → ℕ → Bool) (dropped : ℕ → Bool) (u v : World) (b
     by false e = refl
     by true e = absurd (false≢true (sym (unripe_there gone dropped u v b file number (read_moment v file number (in_order_of v b.formed) e)) ∙ named))
 
-  pub shut_both : (number : ℕ) → let c = ShutHandle number in IsWellFormed (after_change v c) → Behind gone dropped (after_change u c) (after_change v c)
+  pub shut_both : (number : ℕ) → let c = ShutHandle number in HasParts (after_change v c) → Behind gone dropped (after_change u c) (after_change v c)
   shut_both number formed =
       let c = ShutHandle number in
       let ordered = in_order_of v b.formed in

@@ -1,7 +1,7 @@
 -- Changes of the clock, of directories and of names, in a world and in one that lags behind it.
 use Rattle.ele_world.proofs.Basics.{◌≡◌, ◌==◌, ◌≤◌, ◌-◌, ℕ, Bool, true, false, cond, not, ◌&&◌, List, [], ◌∷◌, ◌++◌, refl, ap, sym, ◌∙◌, arith, nat_tests, filter, list_any}
 use Rattle.ele_world.proofs.Basics.{all-weaker, list_any-append, list_any-update_fails, list_any-update_first, false≢true, update_first}
-use Rattle.ele_world.proofs.Words.{AddName, Change, EndFileName, EndName, Govern, IsWellFormed, MakeDirectory, MoveName, NameRow, Policy, Target, Directory, Time, World, after_change, born_row, dies, ended_at, is_live, is_live_name, is_live_name_of, is_target_file, is_version, next_of, ripe_at, with_end}
+use Rattle.ele_world.proofs.Words.{AddName, Change, EndFileName, EndName, Govern, HasParts, MakeDirectory, MoveName, NameRow, Policy, Target, Directory, Time, World, after_change, born_row, dies, ended_at, is_live, is_live_name, is_live_name_of, is_target_file, is_version, next_of, ripe_at, with_end}
 use Rattle.ele_world.specs.Less.{less, is_dropped}
 use Rattle.ele_world.proofs.AnyDueLeave.{remains}
 use Rattle.ele_world.proofs.Behind.{Behind, KeepsBehind, change_on, live_there, names_live, unripe_there}
@@ -19,7 +19,7 @@ module _ (gone : ℕ → ℕ → Bool) (dropped : ℕ → Bool) (u v : World) (b
 
   -- ---- the clock, and a directory's policy
 
-  pub time_both : (to : ℕ) → v.now ≤ to → IsWellFormed (after_change v (Time to)) → Behind gone dropped (after_change u (Time to)) (after_change v (Time to))
+  pub time_both : (to : ℕ) → v.now ≤ to → HasParts (after_change v (Time to)) → Behind gone dropped (after_change u (Time to)) (after_change v (Time to))
   time_both to le formed = change_on gone dropped u v b (Time to) refl formed (record {
     time = le;
     ripe = λ file number named. moments_stay v (after_change v (Time to)) (in_order_of v b.formed) refl refl refl refl file number;
@@ -37,7 +37,7 @@ module _ (gone : ℕ → ℕ → Bool) (dropped : ℕ → Bool) (u v : World) (b
     groups = groups;
   }
 
-  pub govern_both : (directory : ℕ) (policy : Policy) → IsWellFormed (after_change v (Govern directory policy)) → Behind gone dropped (after_change u (Govern directory policy)) (after_change v (Govern directory policy))
+  pub govern_both : (directory : ℕ) (policy : Policy) → HasParts (after_change v (Govern directory policy)) → Behind gone dropped (after_change u (Govern directory policy)) (after_change v (Govern directory policy))
   govern_both directory policy formed = change_on gone dropped u v b (Govern directory policy) refl formed (keeps_names (after_change v (Govern directory policy)) refl refl refl refl refl refl (λ file is none. none))
 
   -- ---- the names that are left after a name more, and after the end of one
@@ -65,28 +65,28 @@ module _ (gone : ℕ → ℕ → Bool) (dropped : ℕ → Bool) (u v : World) (b
 
   -- ---- names come, go and move
 
-  pub directory_both : (directory : ℕ) (name : List ℕ) (id : ℕ) (policy : Policy) → let c = MakeDirectory directory name id policy in IsWellFormed (after_change v c) → Behind gone dropped (after_change u c) (after_change v c)
+  pub directory_both : (directory : ℕ) (name : List ℕ) (id : ℕ) (policy : Policy) → let c = MakeDirectory directory name id policy in HasParts (after_change v c) → Behind gone dropped (after_change u c) (after_change v c)
   directory_both directory name id policy formed =
       let c = MakeDirectory directory name id policy in
       change_on gone dropped u v b c
       (ap (λ (names : List NameRow). let w : World = record (after_change behind c) { names = names } in w) (name_more v.names directory name (Directory id) refl)) formed
       (keeps_names (after_change v c) refl refl refl refl refl refl (λ file is none. nameless_more v.names directory name (Directory id) file refl is none))
 
-  pub end_both : (directory : ℕ) (name : List ℕ) → let c = EndName directory name in IsWellFormed (after_change v c) → Behind gone dropped (after_change u c) (after_change v c)
+  pub end_both : (directory : ℕ) (name : List ℕ) → let c = EndName directory name in HasParts (after_change v c) → Behind gone dropped (after_change u c) (after_change v c)
   end_both directory name formed =
       let c = EndName directory name in
       change_on gone dropped u v b c
       (ap (λ (names : List NameRow). let w : World = record (after_change behind c) { names = names } in w) (name_end directory name)) formed
       (keeps_names (after_change v c) refl refl refl refl refl refl (λ file is none. nameless_end directory name file none))
 
-  pub add_both : (directory : ℕ) (name : List ℕ) (target : Target) → is_dropped dropped target ≡ false → let c = AddName directory name target in IsWellFormed (after_change v c) → Behind gone dropped (after_change u c) (after_change v c)
+  pub add_both : (directory : ℕ) (name : List ℕ) (target : Target) → is_dropped dropped target ≡ false → let c = AddName directory name target in HasParts (after_change v c) → Behind gone dropped (after_change u c) (after_change v c)
   add_both directory name target stays formed =
       let c = AddName directory name target in
       change_on gone dropped u v b c
       (ap (λ (names : List NameRow). let w : World = record (after_change behind c) { names = names } in w) (name_more v.names directory name target stays)) formed
       (keeps_names (after_change v c) refl refl refl refl refl refl (λ file is none. nameless_more v.names directory name target file stays is none))
 
-  pub move_both : (from : ℕ) (old : List ℕ) (to : ℕ) (new : List ℕ) (target : Target) → is_dropped dropped target ≡ false → let c = MoveName from old to new target in IsWellFormed (after_change v c) → Behind gone dropped (after_change u c) (after_change v c)
+  pub move_both : (from : ℕ) (old : List ℕ) (to : ℕ) (new : List ℕ) (target : Target) → is_dropped dropped target ≡ false → let c = MoveName from old to new target in HasParts (after_change v c) → Behind gone dropped (after_change u c) (after_change v c)
   move_both from old to new target stays formed =
       let c = MoveName from old to new target in
       let names = update_first (is_live_name from old) (dies v.now) v.names in
@@ -131,7 +131,7 @@ module _ (gone : ℕ → ℕ → Bool) (dropped : ℕ → Bool) (u v : World) (b
       by true = refl
       by false = list_any-update_first (is_version file (next_of v.files file - 1)) (is_version f n) (ended_at v.now) v.versions (λ row is. refl)
 
-    pub end_file_both : IsWellFormed (after_change v c) → Behind gone dropped (after_change u c) (after_change v c)
+    pub end_file_both : HasParts (after_change v c) → Behind gone dropped (after_change u c) (after_change v c)
     end_file_both formed = change_on gone dropped u v b c (parts_same v behind.files behind.files _ _ _ _ refl (name_end directory name) same_versions) formed (record {
       time = omega arith;
       ripe = ripe_stays;

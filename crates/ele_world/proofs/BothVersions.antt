@@ -1,7 +1,7 @@
 -- A new file and a file's next version, in a world and in one that lags behind it.
 use Rattle.ele_world.proofs.Basics.{◌≡◌, ◌==◌, ◌<◌, ◌-◌, ◌+◌, ℕ, Bool, true, false, cond, not, ◌&&◌, ◌||◌, List, [], ◌∷◌, None, Some, Option, refl, ap, sym, subst, ◌∙◌, arith, nat_tests, filter, list_any, nat_le, IfSome, option_map_or, unwrap_or, option_and_then, update_first, AllLater}
 use Rattle.ele_world.proofs.Basics.{later-weaker, list_any-append, list_any-insert_before, list_any-update_first, false≢true, all-weaker, not_found}
-use Rattle.ele_world.proofs.Words.{Append, Cell, Change, Files, IsLawful, IsWellFormed, MakeFile, Policy, VersionRow, Versions, World, after_change, ended_at, is_file, is_live_name_of, is_marked, is_open, is_version, is_version_after, near_moment, newest_of, next_of, next_version, numbered_on, policy_of, ripe_at, with_end, with_version, ArePlaced}
+use Rattle.ele_world.proofs.Words.{Append, Cell, Change, Files, IsLawful, HasParts, MakeFile, Policy, VersionRow, Versions, World, after_change, ended_at, is_file, is_live_name_of, is_marked, is_open, is_version, is_version_after, near_moment, newest_of, next_of, next_version, numbered_on, policy_of, ripe_at, with_end, with_version, ArePlaced}
 use Rattle.ele_policy.specs.Ripe.{alone, ripe_by}
 use Rattle.ele_world.specs.Due.{ripe_of}
 use Rattle.ele_world.specs.Less.{less}
@@ -37,7 +37,7 @@ module _ (gone : ℕ → ℕ → Bool) (dropped : ℕ → Bool) (u v : World) (b
 
   -- ---- a new file
 
-  module _ (directory : ℕ) (name : List ℕ) (policy : Policy) (formed : IsWellFormed behind) where
+  module _ (directory : ℕ) (name : List ℕ) (policy : Policy) (formed : HasParts behind) where
     abbrev id : ℕ
     id = v.made.files + 1
 
@@ -60,7 +60,7 @@ module _ (gone : ℕ → ℕ → Bool) (dropped : ℕ → Bool) (u v : World) (b
         let w : World = created v directory name id policy in
         parts_same w _ _ _ _ _ _ (filter-push (stays_file dropped) v.files (new_file id policy) (ap not fresh)) (filter-push (stays_name dropped) v.names (new_name v directory name id) (ap not fresh)) (filter-push (remains gone) v.versions (first_version v id) (ap not (unheld_yet 1)))
 
-    pub make_both : IsWellFormed (after_change v c) → Behind gone dropped (after_change u c) (after_change v c)
+    pub make_both : HasParts (after_change v c) → Behind gone dropped (after_change u c) (after_change v c)
     make_both then =
         let is = made_is v directory name policy b.formed in
         change_on gone dropped u v b c (made_is behind directory name policy formed ∙ made_same ∙ ap (less gone dropped) (sym is)) then (subst (KeepsBehind gone dropped v) (sym is) (record {
@@ -134,7 +134,7 @@ module _ (gone : ℕ → ℕ → Bool) (dropped : ℕ → Bool) (u v : World) (b
         let ended = list_any-update_first (is_version file (next - 1)) (is_version f n) (ended_at v.now) v.versions (λ row is. refl) in
         grind (arith, nat_tests, other, inserted, ended, held)
 
-    pub append_both : let c = Append file opened cells in IsWellFormed (after_change v c) → Behind gone dropped (after_change u c) (after_change v c)
+    pub append_both : let c = Append file opened cells in HasParts (after_change v c) → Behind gone dropped (after_change u c) (after_change v c)
     append_both formed = change_on gone dropped u v b (Append file opened cells) appended_same formed (record {
       time = omega arith;
       ripe = ripe_stays;

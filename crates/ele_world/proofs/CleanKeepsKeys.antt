@@ -2,7 +2,7 @@
 -- stays so without it, and before that moment nothing is due, neither with it nor without.
 use Rattle.ele_world.proofs.Basics.{◌≡◌, ℕ, ◌≤◌, Bool, true, false, List, ◌∷◌, ◌++◌, Option, Some, None, IfSome, refl, ap, subst, ◌∙◌, option_map_or, arith, find, nat_le}
 use Rattle.ele_world.proofs.Basics.{AllByRecursion, nat_tests, all-weaker, all-both, all-found, not_found, all-append, all-around, find-cut, find-without}
-use Rattle.ele_world.proofs.Words.{Key, last_moment, VersionRow, ripe_at, view_of, TakesOneKey, CleanKeepsKeys, first_due, Take, after_change, IsWellFormed, World, is_version}
+use Rattle.ele_world.proofs.Words.{Key, last_moment, VersionRow, ripe_at, view_of, TakesOneKey, first_due, Take, after_change, HasParts, World, is_version, clean_step}
 use Rattle.ele_world.specs.Due.{is_due_at, ripe_of}
 use Rattle.ele_world.specs.Scan.{due_key}
 use Rattle.ele_world.proofs.DropViews.{ripe_at_dropped}
@@ -16,7 +16,7 @@ use Rattle.ele_world.proofs.Views.{now_of, placed_of}
 abbrev IsLater : World → ℕ → VersionRow → Type 0
 IsLater w first row = IfSome (ripe_of w row) (λ m. first ≤ m)
 
-all_later : (w : World) (k : IsWellFormed w) (key : Key) → first_due w ≡ Some key → key.ripe ≤ w.now → AllByRecursion (IsLater w key.ripe) w.versions
+all_later : (w : World) (k : HasParts w) (key : Key) → first_due w ≡ Some key → key.ripe ≤ w.now → AllByRecursion (IsLater w key.ripe) w.versions
 unfolding due_key
 all_later w k key first come = all-weaker (λ row. IfSome (due_key w row) (IsFirst (first_due w))) (IsLater w key.ripe) w.versions one (first_of_rows w) where
   one : (row : VersionRow) → IfSome (due_key w row) (IsFirst (first_due w)) → IsLater w key.ripe row
@@ -27,7 +27,7 @@ all_later w k key first come = all-weaker (λ row. IfSome (due_key w row) (IsFir
 settled : (now then : Bool) (ripe : Option ℕ) (first at : ℕ) → (nat_le first at ≡ true → then ≡ now) → (then ≡ true → now ≡ true) → now ≡ option_map_or (λ m. nat_le m at) ripe false → IfSome ripe (λ m. first ≤ m) → then ≡ now
 settled now then ripe first at same fewer from late = grind (arith, nat_tests)
 
-module _ (w : World) (before : List VersionRow) (row : VersionRow) (behind : List VersionRow) (k : IsWellFormed w) (whole : w.versions ≡ before ++ row ∷ behind) (first : ℕ) (own : ripe_of w row ≡ Some first) (later : AllByRecursion (IsLater w first) w.versions) where
+module _ (w : World) (before : List VersionRow) (row : VersionRow) (behind : List VersionRow) (k : HasParts w) (whole : w.versions ≡ before ++ row ∷ behind) (first : ℕ) (own : ripe_of w row ≡ Some first) (later : AllByRecursion (IsLater w first) w.versions) where
   abbrev without_row : World
   without_row = rest w before row behind k whole
 
@@ -48,7 +48,7 @@ module _ (w : World) (before : List VersionRow) (row : VersionRow) (behind : Lis
   gone = grind (arith, nat_tests, ripe_at_is without_row row.file row.number, not_found (is_version row.file row.number), all-weaker (IsBeside row), sides w before row behind k whole)
 
 -- the version goes, whether its file then goes or not
-pub take_keeps_keys : (w : World) (key : Key) → IsWellFormed w → first_due w ≡ Some key → TakesOneKey w key (after_change w (Take key.file key.number))
+pub take_keeps_keys : (w : World) (key : Key) → HasParts w → first_due w ≡ Some key → TakesOneKey w key (after_change w (Take key.file key.number))
 take_keeps_keys w key k first =
     let due = first_is_due w key (placed_of w k) first in
     let at = find-cut (is_version key.file key.number) w.versions due.row due.found in
@@ -61,5 +61,5 @@ take_keeps_keys w key k first =
       others = λ file number apart. others w at.before due.row at.behind k at.whole key.ripe due.ripe later file number (grind (arith, nat_tests));
     })
 
-pub clean_keeps_keys : CleanKeepsKeys
+pub clean_keeps_keys : (w : World) (key : Key) → HasParts w → first_due w ≡ Some key → TakesOneKey w key ((clean_step w).1)
 clean_keeps_keys w key k first = grind (arith, first, take_keeps_keys w key k first, ripe_at_dropped (after_change w (Take key.file key.number)) key.file)

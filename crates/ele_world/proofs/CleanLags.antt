@@ -2,7 +2,7 @@
 use Rattle.ele_world.proofs.Basics.{◌≡◌, ◌==◌, ◌<◌, ℕ, Bool, true, false, not, ◌&&◌, ◌||◌, List, [], None, Some, Option, refl, ap, sym, subst, ◌∙◌, arith, nat_tests, filter, find, remove_first}
 use Rattle.ele_world.proofs.Basics.{all-found, all-none, all-weaker, list_any-filter, filter-both, filter-passes, filter-same, found_passes, later-filter, remove_first-key}
 use Rattle.ele_lists.proofs.Filters.{find-filter}
-use Rattle.ele_world.proofs.Words.{DropIdle, FileRow, Files, IsWellFormed, Key, NameRow, Take, Target, VersionRow, World, after_change, clean_step, first_due, forgotten, is_file, is_target_file, is_version, is_version_of, without_file, is_held, next_of, Versions, GroupRow, IsVersion}
+use Rattle.ele_world.proofs.Words.{DropIdle, FileRow, Files, HasParts, Key, NameRow, Take, Target, VersionRow, World, after_change, clean_step, first_due, forgotten, is_file, is_target_file, is_version, is_version_of, without_file, is_held, next_of, Versions, GroupRow, IsVersion}
 use Rattle.ele_world.specs.AnyDueLeave.{AreDue}
 use Rattle.ele_world.specs.Due.{is_due, is_due_at}
 use Rattle.ele_world.specs.Lags.{Lags, CleanLags}
@@ -29,7 +29,7 @@ parts_same w f g n m r s files names versions = ap (λ x. with_parts w x n r) fi
 abbrev pub with_dropped : ℕ → (ℕ → Bool) → ℕ → Bool
 with_dropped file dropped other = dropped other || (other == file)
 
-module _ (gone : ℕ → ℕ → Bool) (dropped : ℕ → Bool) (v : World) (k : IsWellFormed v) (file : ℕ) where
+module _ (gone : ℕ → ℕ → Bool) (dropped : ℕ → Bool) (v : World) (k : HasParts v) (file : ℕ) where
   abbrev u : World
   u = less gone dropped v
 
@@ -82,7 +82,7 @@ module _ (gone : ℕ → ℕ → Bool) (dropped : ℕ → Bool) (v : World) (k :
 abbrev pub with_gone : ℕ → ℕ → (ℕ → ℕ → Bool) → ℕ → ℕ → Bool
 with_gone file number gone f n = gone f n || ((f == file) && (n == number))
 
-module _ (gone : ℕ → ℕ → Bool) (dropped : ℕ → Bool) (v : World) (k : IsWellFormed v) (due : AreDue v gone) (emptied : (file : ℕ) → dropped file ≡ true → IsEmptied gone v file) (formed : IsWellFormed (less gone dropped v)) (key : Key) (is : first_due (less gone dropped v) ≡ Some key) where
+module _ (gone : ℕ → ℕ → Bool) (dropped : ℕ → Bool) (v : World) (k : HasParts v) (due : AreDue v gone) (emptied : (file : ℕ) → dropped file ≡ true → IsEmptied gone v file) (formed : HasParts (less gone dropped v)) (key : Key) (is : first_due (less gone dropped v) ≡ Some key) where
   abbrev behind : World
   behind = less gone dropped v
 
@@ -147,8 +147,8 @@ module _ (gone : ℕ → ℕ → Bool) (dropped : ℕ → Bool) (v : World) (k :
   pub removed_lags : v.groups ≡ [] → Lags ((clean_of behind (Some key)).1) v
   removed_lags none = subst (λ (x : World). Lags (after_change x (DropIdle key.file)) v) (sym take_less) (drop_lags gone_then dropped v k key.file none due_more emptied_more file_there file_stays)
 
-pub clean_lags : CleanLags
+pub clean_lags : (u v : World) → HasParts u → HasParts v → Lags u v → Lags ((clean_step u).1) v
 clean_lags u v formed k lags = subst (λ (x : World). Lags ((clean_step x).1) v) (sym lags.is) (by (first_due (less lags.gone lags.dropped v)) refl) where
   by : (o : Option Key) → first_due (less lags.gone lags.dropped v) ≡ o → Lags ((clean_of (less lags.gone lags.dropped v) o).1) v
   by None e = record { gone = lags.gone; dropped = lags.dropped; is = refl; due = lags.due; emptied = lags.emptied; ungrouped = lags.ungrouped }
-  by (Some key) e = removed_lags lags.gone lags.dropped v k lags.due lags.emptied (subst IsWellFormed lags.is formed) key e lags.ungrouped
+  by (Some key) e = removed_lags lags.gone lags.dropped v k lags.due lags.emptied (subst HasParts lags.is formed) key e lags.ungrouped

@@ -1,7 +1,7 @@
 -- A close that tells of a version has made it of all that was written, and a revert of the version that was named.
 use Rattle.ele_world.proofs.Basics.{◌≡◌, ℕ, ◌-◌, false, List, [], ◌∷◌, Some, arith, find, Ok, AllByRecursion, nat_tests, all-update_first, find-inserted, refl}
-use Rattle.ele_world.proofs.Words.{after_changes, ShutHandle, EndDraft, Append, DraftRow, is_draft, ended_at, next_version, with_end, with_version, KeepsDraft, draft_read, step, IsVersion, Versions, IsWellFormed, World, next_of, is_version}
-use Rattle.ele_world.proofs.Words.{is_version_after, reads_by, Close, FileRow, Reads, VersionRow, after_change, file_now, version_meant, CopiesVersion, RevertKeeps, Names}
+use Rattle.ele_world.proofs.Words.{after_changes, ShutHandle, EndDraft, Append, DraftRow, is_draft, ended_at, next_version, with_end, with_version, KeepsDraft, draft_read, step, IsVersion, Versions, HasParts, World, next_of, is_version, Revert}
+use Rattle.ele_world.proofs.Words.{is_version_after, reads_by, Close, FileRow, Reads, VersionRow, after_change, file_now, version_meant, CopiesVersion, Names}
 use Rattle.ele_world.specs.declared.reply.Reply.TheVariants as reply
 use Rattle.ele_time_path.specs.declared.tagged.Tag.TheVariants as tag
 use Rattle.ele_world.proofs.Outcomes.{in_all}
@@ -17,15 +17,15 @@ module _ (w : World) (file : ℕ) (each : AllByRecursion (IsVersion w.files w.no
   new_found opened cells = find-inserted (is_version_after file (next_of w.files file)) (is_version file (next_of w.files file)) (next_version w file opened cells) (with_end w file) (grind (arith, nat_tests))
       (grind (arith, nat_tests, all-update_first (is_version file (next_of w.files file - 1)) (IsVersion w.files w.now) (λ row. is_version file (next_of w.files file) row ≡ false) (ended_at w.now) w.versions, none_next w.files w.now file))
 
-keeps : (w : World) (handle file : ℕ) (read : Reads) (draft : DraftRow) → IsWellFormed w → reads_by w.handles handle ≡ Ok read → draft_read read ≡ Some file → find (is_draft file) w.drafts ≡ Some draft → KeepsDraft w handle (next_of w.files file) (after_changes w (ShutHandle handle ∷ EndDraft file ∷ Append file draft.opened draft.cells ∷ []))
+keeps : (w : World) (handle file : ℕ) (read : Reads) (draft : DraftRow) → HasParts w → reads_by w.handles handle ≡ Ok read → draft_read read ≡ Some file → find (is_draft file) w.drafts ≡ Some draft → KeepsDraft w handle (next_of w.files file) (after_changes w (ShutHandle handle ∷ EndDraft file ∷ Append file draft.opened draft.cells ∷ []))
 keeps w handle file read draft k reads its drafted = record { file = file; draft = draft; written = grind (arith, nat_tests); drafted = drafted; kept = grind (arith, nat_tests, new_found w file (k.holds Versions).each draft.opened draft.cells) }
 
-pub close_keeps : (w : World) (handle number : ℕ) → IsWellFormed w → (step w (Close handle)).0 ≡ reply.Closed (Some number) → KeepsDraft w handle number ((step w (Close handle)).1)
+pub close_keeps : (w : World) (handle number : ℕ) → HasParts w → (step w (Close handle)).0 ≡ reply.Closed (Some number) → KeepsDraft w handle number ((step w (Close handle)).1)
 close_keeps w handle number k = grind (arith, nat_tests, in_all, keeps w handle)
 
 -- ---- a revert
 
-copies : (w : World) (path : List (List ℕ)) (number file : ℕ) (row : VersionRow) → IsWellFormed w → file_now w.names path ≡ Ok file → version_meant w.files w.versions file (tag.Number number) ≡ Ok row → CopiesVersion w path number (next_of w.files file) (after_change w (Append file w.now row.cells))
+copies : (w : World) (path : List (List ℕ)) (number file : ℕ) (row : VersionRow) → HasParts w → file_now w.names path ≡ Ok file → version_meant w.files w.versions file (tag.Number number) ≡ Ok row → CopiesVersion w path number (next_of w.files file) (after_change w (Append file w.now row.cells))
 copies w path number file row k named meant = record {
   file = file;
   was = row;
@@ -39,5 +39,5 @@ copies w path number file row k named meant = record {
   closed = refl;
 }
 
-pub revert_keeps : RevertKeeps
+pub revert_keeps : (w : World) (path : List (List ℕ)) (number made : ℕ) → HasParts w → (step w (Revert path number)).0 ≡ reply.Version made → CopiesVersion w path number made ((step w (Revert path number)).1)
 revert_keeps w path number made k = grind (arith, nat_tests, in_all, copies w path number)

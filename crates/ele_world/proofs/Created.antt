@@ -1,6 +1,6 @@
 -- What the making of a file comes to: a row behind the files, the names and the versions.
 use Rattle.ele_world.proofs.Basics.{◌≡◌, ℕ, ◌+◌, ◌<◌, true, List, [], ◌∷◌, ◌++◌, None, arith, AllByRecursion, nat_tests, list_any-append, all-weaker, append-nil, update_first-at, update_first-unfound, insert_before-skip}
-use Rattle.ele_world.proofs.Words.{Policy, with_name, after_change, MakeFile, Files, Versions, IsWellFormed, World, is_live, is_file, is_version_after, numbered_on, FileRow, NameRow, File, VersionRow}
+use Rattle.ele_world.proofs.Words.{Policy, with_name, after_change, MakeFile, Files, Versions, HasParts, World, is_live, is_file, is_version_after, numbered_on, FileRow, NameRow, File, VersionRow}
 use Rattle.ele_world.proofs.Files.{next_of-given, next_of-new}
 
 -- ---- a file is made
@@ -27,10 +27,10 @@ pub named_live : (w : World) (directory : ℕ) (name : List ℕ) (id : ℕ) → 
 named_live w directory name id = grind (arith, nat_tests, list_any-append)
 
 -- each version is of a file before
-pub versions_before : (w : World) → IsWellFormed w → AllByRecursion (λ row. row.file < w.made.files + 1) w.versions
+pub versions_before : (w : World) → HasParts w → AllByRecursion (λ row. row.file < w.made.files + 1) w.versions
 versions_before w k = grind (arith, nat_tests, k.holds Files, k.holds Versions, all-weaker, next_of-given)
 
-module _ (w : World) (directory : ℕ) (name : List ℕ) (policy : Policy) (k : IsWellFormed w) where
+module _ (w : World) (directory : ℕ) (name : List ℕ) (policy : Policy) (k : HasParts w) where
   abbrev id : ℕ
   id = w.made.files + 1
 

@@ -1,6 +1,6 @@
 -- A live file has a current version, which ends with its last name.
 use Rattle.ele_world.proofs.Basics.{◌≡◌, ℕ, ◌-◌, true, Some, None, arith, find, all-found, found_passes, false≢true, nat_tests}
-use Rattle.ele_world.proofs.Words.{VersionRow, Versions, Current, IsWellFormed, World, next_of, is_live, is_version, current_of, ended_at, with_end}
+use Rattle.ele_world.proofs.Words.{VersionRow, Versions, Current, HasParts, World, next_of, is_live, is_version, current_of, ended_at, with_end}
 use Rattle.ele_world.proofs.Versions.{all_found}
 use Rattle.ele_lists.proofs.Cuts.{any-found as first_passing}
 use Rattle.ele_world.proofs.Elements.{find-updated}
@@ -12,7 +12,7 @@ pub record HasCurrent (w : World) (file : ℕ) : Type 0 where
   pub own : row.file ≡ file
   pub no_end : row.ended ≡ None
 
-pub has_current : (w : World) (file : ℕ) → IsWellFormed w → is_live w file ≡ true → HasCurrent w file
+pub has_current : (w : World) (file : ℕ) → HasParts w → is_live w file ≡ true → HasCurrent w file
 has_current w file k live = grind (arith, nat_tests, k.holds Versions, k.holds Current, first_passing, found_passes, all-found, all_found, false≢true)
 
 -- it is found as before once it ends

@@ -2,7 +2,7 @@
 use Rattle.ele_world.proofs.Basics.{◌≡◌, ◌==◌, ℕ, Bool, true, false, not, List, refl, arith, AllByRecursion, list_any, nat_tests, remove_first, all-none, find-remove_first, list_any-filter, filter, all-filter, filter-passes, later-filter, all-weaker}
 use Rattle.ele_world.proofs.Basics.{all-both, all-remove_first, later-remove_first, length-remove_first-le, any-filtered, length-split}
 use Rattle.ele_world.proofs.Words.{DropIdle, is_idle, without_file, after_change, is_version_of, World, is_file, next_of, policy_of, is_live, has_draft, is_draft, is_target_file, DraftRow, FileRow, NameRow, VersionRow, IsNameRow, AreApart, AreOthers}
-use Rattle.ele_world.proofs.Words.{IsVersion, IsDraft, Part, Names, Versions, Drafts, Current, Holds, IsWellFormed, IsOfLive, Ended, Groups, is_live_name_of}
+use Rattle.ele_world.proofs.Words.{IsVersion, IsDraft, Part, Names, Versions, Drafts, Current, Holds, HasParts, IsOfLive, Ended, Groups, is_live_name_of}
 use Rattle.ele_world.proofs.KeptGroups.{groups_forgotten}
 
 -- nothing is left of the file
@@ -57,7 +57,7 @@ module _ (w : World) (file : ℕ) (idle : IsIdle w file) where
   abbrev names : List NameRow
   names = filter keep w.names
 
-  drop_file_keeps : IsWellFormed w → IsWellFormed (without_file w file)
+  drop_file_keeps : HasParts w → HasParts (without_file w file)
   drop_file_keeps k = record { holds = by } where
     by : (part : Part) → Holds (without_file w file) part
     by Names = grind (arith, nat_tests, k.holds Names, all-weaker (λ row. (keep row ≡ true) × IsNameRow w.files w.now row) (IsNameRow files w.now) names, next_of-removed, all-both (λ row. keep row ≡ true) (IsNameRow w.files w.now) names, filter-passes keep w.names, all-filter (IsNameRow w.files w.now) keep w.names, later-filter AreApart AreApart keep w.names)
@@ -68,5 +68,5 @@ module _ (w : World) (file : ℕ) (idle : IsIdle w file) where
     by Groups = groups_forgotten w.made.groups w.files files w.now file w.groups (λ other apart h. rw (next_of-removed w.files file other apart) h) (k.holds Groups)
     by part = grind (arith, nat_tests, k.holds part, length-remove_first-le (is_file file) w.files, length-split keep w.names, all-remove_first, later-remove_first, all-weaker, all-filter, list_any-filter, later-filter AreOthers AreOthers keep w.names)
 
-pub drop_keeps : (w : World) (file : ℕ) → IsWellFormed w → IsWellFormed (after_change w (DropIdle file))
-drop_keeps w file k = dropped IsWellFormed w file (λ idle. drop_file_keeps w file idle k) (λ busy. k)
+pub drop_keeps : (w : World) (file : ℕ) → HasParts w → HasParts (after_change w (DropIdle file))
+drop_keeps w file k = dropped HasParts w file (λ idle. drop_file_keeps w file idle k) (λ busy. k)

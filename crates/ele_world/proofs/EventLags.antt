@@ -1,6 +1,6 @@
 -- The law of an event made in both worlds: its plan is the same, and each change keeps what is missing.
 use Rattle.ele_world.proofs.Basics.{◌≡◌, ◌<◌, ℕ, Bool, true, false, cond, List, [], ◌∷◌, None, Some, Option, Result, Ok, Err, refl, ap, sym, subst, ◌∙◌, arith, nat_tests, find, list_any, option_map_or, all-found, any-found, found_passes, false≢true, filter, ◌+◌}
-use Rattle.ele_world.proofs.Words.{Append, AddName, Change, Clock, Close, Create, Directory, Draft, DraftRow, Drafts, DropIdle, EndDraft, EndFileName, EndName, Event, File, Govern, Handles, IsDraft, IsHandle, IsWellFormed, Link, MakeDir, MakeDirectory, MakeFile, MoveName, OpenHandle, OpenWrite, Refusal, RemoveDir, Rename, Reply, SetDefault, ShutHandle, StartDraft, Target, Tick, Time, Truncate, TruncateDraft, Unlink, World, Write, WriteDraft}
+use Rattle.ele_world.proofs.Words.{Append, AddName, Change, Clock, Close, Create, Directory, Draft, DraftRow, Drafts, DropIdle, EndDraft, EndFileName, EndName, Event, File, Govern, Handles, IsDraft, IsHandle, HasParts, Link, MakeDir, MakeDirectory, MakeFile, MoveName, OpenHandle, OpenWrite, Refusal, RemoveDir, Rename, Reply, SetDefault, ShutHandle, StartDraft, Target, Tick, Time, Truncate, TruncateDraft, Unlink, World, Write, WriteDraft, IsEvent}
 use Rattle.ele_world.proofs.Words.{after_change, after_changes, asks, draft_read, default_of, is_live_in, live_target, stands_in, walk, file_by, has_draft, is_draft, is_handle, next_of, outcome, plan, reads_by}
 use Rattle.ele_world.specs.EventLags.{LagsAfter}
 use Rattle.ele_world.specs.Lags.{Lags}
@@ -17,7 +17,7 @@ use Rattle.ele_world.proofs.BothVersions.{append_both, make_both}
 use Rattle.ele_world.proofs.Keeps.{change_keeps}
 use Rattle.ele_world.proofs.Lagging.{next_same, stays_name}
 use Rattle.ele_world.proofs.LiveNames.{names_in_stay, stands_stays, target_stays, walk_stays}
-use Rattle.ele_world.proofs.May.{IsLawfulEvent, May}
+use Rattle.ele_world.proofs.May.{May}
 use Rattle.ele_world.proofs.Outcomes.{InAll, asking_stays}
 use Rattle.ele_world.proofs.Walks.{file_live, target_live}
 
@@ -35,10 +35,10 @@ test_same true a b c same = refl
 test_same false a b c same = same
 
 -- a handle's file that is written has a draft
-written_drafted : (v : World) (handle file : ℕ) → IsWellFormed v → file_by v.handles handle ≡ Ok file → has_draft v file ≡ true
+written_drafted : (v : World) (handle file : ℕ) → HasParts v → file_by v.handles handle ≡ Ok file → has_draft v file ≡ true
 written_drafted v handle file k is = grind (arith, nat_tests, all-found (is_handle handle) (IsHandle v.made.handles v.drafts) v.handles, (k.holds Handles).each, is)
 
-module _ (gone : ℕ → ℕ → Bool) (dropped : ℕ → Bool) (v : World) (b : Behind gone dropped (less gone dropped v) v) (formed : IsWellFormed (less gone dropped v)) where
+module _ (gone : ℕ → ℕ → Bool) (dropped : ℕ → Bool) (v : World) (b : Behind gone dropped (less gone dropped v) v) (formed : HasParts (less gone dropped v)) where
   abbrev behind : World
   behind = less gone dropped v
 
@@ -55,7 +55,7 @@ module _ (gone : ℕ → ℕ → Bool) (dropped : ℕ → Bool) (v : World) (b :
   }
 
   -- a change that may be made
-  one : (event : Event) → IsLawfulEvent event → (change : Change) → May event v v change → (IsWellFormed (after_change v change) → Behind gone dropped (after_change behind change) (after_change v change)) → Lags (after_change behind change) (after_change v change)
+  one : (event : Event) → IsEvent event → (change : Change) → May event v v change → (HasParts (after_change v change) → Behind gone dropped (after_change behind change) (after_change v change)) → Lags (after_change behind change) (after_change v change)
   one event is change may both = lagging gone dropped (after_change behind change) (after_change v change) (both (change_keeps event v v change is may b.formed))
 
   target_there : (target : Target) (directory : ℕ) (name : List ℕ) → live_target v.names directory name ≡ Some target → is_dropped dropped target ≡ false
@@ -84,7 +84,7 @@ module _ (gone : ℕ → ℕ → Bool) (dropped : ℕ → Bool) (v : World) (b :
   close_same : (handle : ℕ) → outcome behind (plan behind (Close handle)) ≡ outcome behind (plan v (Close handle))
   close_same handle = found_same behind (reads_by v.handles handle) _ _ (λ read found. some_same (draft_read read) _ _ _ (λ file writes. test_same (has_other_writer v handle file) _ _ _ (some_same (find (is_draft file) v.drafts) _ _ _ (λ draft drafted. rw (next_same dropped file (draft_there file draft drafted) v.files) refl))))
 
-  module _ (handle : ℕ) (is : IsLawfulEvent (Close handle)) where
+  module _ (handle : ℕ) (is : IsEvent (Close handle)) where
     abbrev c : Change
     c = ShutHandle handle
 
@@ -119,7 +119,7 @@ module _ (gone : ℕ → ℕ → Bool) (dropped : ℕ → Bool) (v : World) (b :
 
   -- ---- the events
 
-  names_lag : (event : Event) → IsLawfulEvent event → is_plain event ≡ true → asks event ≡ false → LagsAfter behind v event
+  names_lag : (event : Event) → IsEvent event → is_plain event ≡ true → asks event ≡ false → LagsAfter behind v event
   names_lag (Clock to) is plain changes = by_plan (Clock to) refl (λ no. let may = (allowed v (Clock to) b.formed no).0 in one (Clock to) is (Time to) may (time_both gone dropped behind v b to may.0))
   names_lag (Tick seconds) is plain changes = by_plan (Tick seconds) refl (λ no. let may = (allowed v (Tick seconds) b.formed no).0 in one (Tick seconds) is (Time (v.now + seconds)) may (time_both gone dropped behind v b (v.now + seconds) may.0))
   names_lag (MakeDir path) is plain changes = by_plan (MakeDir path) (simp (walks, targets)) (λ at found free directories names.
@@ -171,11 +171,11 @@ module _ (gone : ℕ → ℕ → Bool) (dropped : ℕ → Bool) (v : World) (b :
 asking_lags : (u v : World) (event : Event) → asks event ≡ true → Lags u v → LagsAfter u v event
 asking_lags u v event is lags = record { lags = rw (asking_stays u event is, asking_stays v event is) lags; reply = λ no. absurd (false≢true (sym no ∙ is)) }
 
-pub event_lags : (u v : World) (event : Event) → IsLawfulEvent event → is_plain event ≡ true → IsWellFormed u → IsWellFormed v → Lags u v → LagsAfter u v event
+pub event_lags : (u v : World) (event : Event) → IsEvent event → is_plain event ≡ true → HasParts u → HasParts v → Lags u v → LagsAfter u v event
 event_lags u v event is plain formed k lags = by (asks event) refl where
   b : Behind lags.gone lags.dropped (less lags.gone lags.dropped v) v
   b = record { is = refl; formed = k; due = lags.due; emptied = lags.emptied; ungrouped = lags.ungrouped }
 
   by : (l : Bool) → asks event ≡ l → LagsAfter u v event
   by true e = asking_lags u v event e lags
-  by false e = subst (λ (w : World). LagsAfter w v event) (sym lags.is) (names_lag lags.gone lags.dropped v b (subst IsWellFormed lags.is formed) event is plain e)
+  by false e = subst (λ (w : World). LagsAfter w v event) (sym lags.is) (names_lag lags.gone lags.dropped v b (subst HasParts lags.is formed) event is plain e)

@@ -1,6 +1,6 @@
 -- What a policy event, a default event and a mark change, and that nothing else changes.
 use Rattle.ele_world.proofs.Basics.{nat_tests, arith, ◌≡◌, ℕ, ◌==◌, Bool, true, false, List, [], ◌∷◌, map, Ok, refl, option_map_or, list_any, update_first, find-update_other, list_any-update_first, all-found}
-use Rattle.ele_world.proofs.Words.{World, Policy, FileRow, DirectoryRow, IsWellFormed, Names, Homes, Directories, Directory, IsDirectoryThere, Govern, PutUnder, AddMark, after_change, directory_in, directory_now, file_now, governed_by, has_directory, has_member, is_directory, is_file, is_group, is_member, members_of, marks, put_under, root, walk_now, GroupRow}
+use Rattle.ele_world.proofs.Words.{World, Policy, FileRow, DirectoryRow, HasParts, Names, Homes, Directories, Directory, IsDirectoryThere, Govern, PutUnder, AddMark, after_change, directory_in, directory_now, file_now, governed_by, has_directory, has_member, is_directory, is_file, is_group, is_member, members_of, marks, put_under, root, walk_now, GroupRow, step}
 use Rattle.ele_world.specs.DefaultGoverns.{GovernsDirectory, DefaultGoverns}
 use Rattle.ele_world.specs.MarkMarks.{MarksMoment, MarkMarks}
 use Rattle.ele_world.specs.PolicyGoverns.{GovernsFile, PolicyGoverns}
@@ -10,6 +10,8 @@ use Rattle.ele_world.proofs.Files.{next_of-put_under}
 use Rattle.ele_world.proofs.MarksChanged.{marked_more}
 use Rattle.ele_world.proofs.Outcomes.{in_all}
 use Rattle.ele_world.proofs.Walks.{file_there, live_row, walk_to}
+use Rattle.ele_world.specs.declared.reply.Reply.TheVariants as told
+use Rattle.ele_world.specs.declared.event.Event.TheVariants as asked
 
 map-update_first : {X Y : Type 0} (see : X → Y) (p : X → Bool) (f : X → X) (xs : List X) → ((x : X) → see (f x) ≡ see x) → map see (update_first p f xs) ≡ map see xs
 map-update_first see p f [] same = refl
@@ -17,7 +19,7 @@ map-update_first see p f (x ∷ xs) same = grind (arith, nat_tests, map-update_f
 
 -- ---- a policy
 
-governs : (w : World) (path : List (List ℕ)) (policy : Policy) → IsWellFormed w → (file : ℕ) → file_now w.names path ≡ Ok file → GovernsFile w path policy (after_change w (PutUnder file policy))
+governs : (w : World) (path : List (List ℕ)) (policy : Policy) → HasParts w → (file : ℕ) → file_now w.names path ≡ Ok file → GovernsFile w path policy (after_change w (PutUnder file policy))
 governs w path policy k file named = record {
   file = file;
   named = named;
@@ -28,18 +30,18 @@ governs w path policy k file named = record {
   rest = refl;
 }
 
-pub policy_governs : PolicyGoverns
+pub policy_governs : (w : World) (path : List (List ℕ)) (policy : Policy) → HasParts w → (step w (asked.SetPolicy path policy)).0 ≡ told.Done → GovernsFile w path policy ((step w (asked.SetPolicy path policy)).1)
 policy_governs w path policy k = grind (arith, nat_tests, in_all, governs w path policy k)
 
 -- ---- a default
 
-directory_there : (w : World) (path : List (List ℕ)) (directory : ℕ) → IsWellFormed w → directory_now w.names path ≡ Ok directory → has_directory w.directories directory ≡ true
+directory_there : (w : World) (path : List (List ℕ)) (directory : ℕ) → HasParts w → directory_now w.names path ≡ Ok directory → has_directory w.directories directory ≡ true
 directory_there w path directory k named =
     walk_to (IsDirectoryThere w.directories) w.names (λ home name target. grind (arith, nat_tests, k.holds Homes, live_row, all-found)) (Directory root) (Directory directory) path (k.holds Directories).rooted (leads (walk_now w.names path) named) where
       leads : (r : _) → directory_in r ≡ Ok directory → r ≡ Ok (Directory directory)
       leads r h = grind (arith, nat_tests)
 
-gives : (w : World) (path : List (List ℕ)) (policy : Policy) → IsWellFormed w → (directory : ℕ) → directory_now w.names path ≡ Ok directory → GovernsDirectory w path policy (after_change w (Govern directory policy))
+gives : (w : World) (path : List (List ℕ)) (policy : Policy) → HasParts w → (directory : ℕ) → directory_now w.names path ≡ Ok directory → GovernsDirectory w path policy (after_change w (Govern directory policy))
 gives w path policy k directory named = record {
   directory = directory;
   named = named;
@@ -49,7 +51,7 @@ gives w path policy k directory named = record {
   rest = refl;
 }
 
-pub default_governs : DefaultGoverns
+pub default_governs : (w : World) (path : List (List ℕ)) (policy : Policy) → HasParts w → (step w (asked.SetDefault path policy)).0 ≡ told.Done → GovernsDirectory w path policy ((step w (asked.SetDefault path policy)).1)
 default_governs w path policy k = grind (arith, nat_tests, in_all, gives w path policy k)
 
 -- ---- a mark
@@ -65,5 +67,5 @@ marks_moment w name mark = record {
   rest = refl;
 }
 
-pub mark_marks : MarkMarks
+pub mark_marks : (w : World) (name : List ℕ) (mark : ℕ) → HasParts w → (step w (asked.Mark name mark)).0 ≡ told.Done → MarksMoment w name mark ((step w (asked.Mark name mark)).1)
 mark_marks w name mark k = grind (arith, nat_tests, in_all, marks_moment w name mark)

@@ -1,7 +1,7 @@
 -- Which ripe moments change where marks of groups come and go: those of versions that they cover, and no other.
 use Rattle.ele_world.proofs.Basics.{◌≡◌, ℕ, true, false, cond, List, [], ◌∷◌, Option, Some, None, ◌||◌, arith, ◌&&◌, ◌==◌, Bool, find, list_any, option_map_or, bytes_eq, false≢true, nat_tests, AllLater, all-found}
 use Rattle.ele_world.proofs.Words.{DropGroup, AddMember, RemoveMember, AddMark, RemoveMark, after_change, ripe_at, covers_moment, group_named, has_mark, has_member, is_group, is_marked, is_marked_at, is_member, with_mark, with_member, without_group}
-use Rattle.ele_world.proofs.Words.{without_mark, without_member, is_marked_without, members_of, marks_of, moment_under, Groups, IsGroup, IsWellFormed, World, is_open, is_version, policy_of, Counts, GroupRow, VersionRow}
+use Rattle.ele_world.proofs.Words.{without_mark, without_member, is_marked_without, members_of, marks_of, moment_under, Groups, IsGroup, HasParts, World, is_open, is_version, policy_of, Counts, GroupRow, VersionRow}
 use Rattle.ele_world.proofs.MarksChanged.{grouped_fewer, grouped_still, joined_fewer, joined_more, joined_still, marked_fewer, marked_more, marked_still, touches}
 use Rattle.ele_world.proofs.Neighbours.{IfHeld, in_order_of, moment_none, moment_same, ripe_at_near}
 
@@ -26,7 +26,7 @@ pub record MarksGo (w v : World) (name : List ℕ) (left : Option ℕ) (files ma
   pub own : (file number : ℕ) → is_touched files marks w.versions file number ≡ true
       → ripe_at v file number ≡ cond (is_open w.handles file number) None (moment_under (is_marked_without w.groups name left file) (policy_of w.files file) w.versions file number)
 
-module _ (w : World) (k : IsWellFormed w) where
+module _ (w : World) (k : HasParts w) where
   -- the world in which the groups alone are others
   module _ (groups : List GroupRow) (made : Counts) where
     abbrev regrouped : World
@@ -57,21 +57,21 @@ module _ (w : World) (k : IsWellFormed w) where
 
 -- ---- each change of groups
 
-pub mark_comes : (w : World) (name : List ℕ) (mark : ℕ) → IsWellFormed w → MarksCome w (after_change w (AddMark name mark)) (members_of w.groups name) (mark ∷ [])
+pub mark_comes : (w : World) (name : List ℕ) (mark : ℕ) → HasParts w → MarksCome w (after_change w (AddMark name mark)) (members_of w.groups name) (mark ∷ [])
 mark_comes w name mark k = comes w k (with_mark name mark w.groups) (after_change w (AddMark name mark)).made (members_of w.groups name) (mark ∷ []) (λ file closed ended. marked_more w.groups name file closed ended mark)
 
-pub member_comes : (w : World) (name : List ℕ) (file : ℕ) → IsWellFormed w → MarksCome w (after_change w (AddMember name file)) (file ∷ []) (marks_of w.groups name)
+pub member_comes : (w : World) (name : List ℕ) (file : ℕ) → HasParts w → MarksCome w (after_change w (AddMember name file)) (file ∷ []) (marks_of w.groups name)
 member_comes w name member k = comes w k (with_member name member w.groups) (after_change w (AddMember name member)).made (member ∷ []) (marks_of w.groups name) (λ file closed ended. joined_more w.groups name file closed ended member)
 
-pub mark_goes : (w : World) (name : List ℕ) (mark : ℕ) → IsWellFormed w → is_marked_at w.groups name mark ≡ true → MarksGo w (after_change w (RemoveMark name mark)) name (Some mark) (members_of w.groups name) (mark ∷ [])
+pub mark_goes : (w : World) (name : List ℕ) (mark : ℕ) → HasParts w → is_marked_at w.groups name mark ≡ true → MarksGo w (after_change w (RemoveMark name mark)) name (Some mark) (members_of w.groups name) (mark ∷ [])
 mark_goes w name mark k has =
     let group = group_there w k (has_mark mark) name has in
     goes w k (without_mark name mark w.groups) w.made (members_of w.groups name) (mark ∷ []) name (Some mark)
     (λ file closed ended. marked_fewer w.groups name file closed ended mark has)
     (λ file closed ended touched. marked_still w.groups name file closed ended (named w k) mark group.0 group.1 group.2.once)
 
-pub member_goes : (w : World) (name : List ℕ) (file : ℕ) → IsWellFormed w → has_member w.groups name file ≡ true → MarksGo w (after_change w (RemoveMember name file)) name None (file ∷ []) (marks_of w.groups name)
+pub member_goes : (w : World) (name : List ℕ) (file : ℕ) → HasParts w → has_member w.groups name file ≡ true → MarksGo w (after_change w (RemoveMember name file)) name None (file ∷ []) (marks_of w.groups name)
 member_goes w name member k has = grind (arith, nat_tests, goes w k (without_member name member w.groups) w.made (member ∷ []) (marks_of w.groups name) name None, group_there w k (is_member member) name has, joined_fewer, joined_still, named w k)
 
-pub group_goes : (w : World) (name : List ℕ) → IsWellFormed w → MarksGo w (after_change w (DropGroup name)) name None (members_of w.groups name) (marks_of w.groups name)
+pub group_goes : (w : World) (name : List ℕ) → HasParts w → MarksGo w (after_change w (DropGroup name)) name None (members_of w.groups name) (marks_of w.groups name)
 group_goes w name k = grind (arith, nat_tests, goes, without_group, members_of, marks_of, grouped_fewer, grouped_still, named)

@@ -1,6 +1,6 @@
 -- What the events of groups make of the group that they name, and that they leave every other one.
 use Rattle.ele_world.proofs.Basics.{nat_tests, arith, ◌≡◌, ℕ, ◌==◌, ◌&&◌, ◌||◌, not, Bool, false, List, [], ◌∷◌, Some, None, Ok, refl, subst, AllLater, list_any, bytes_eq, bytes_eq-Decides, all-found, all-weaker, all-none, find-append, find-remove_first, find-update_other, list_any-append, not_found, update_first, remove_first}
-use Rattle.ele_world.proofs.Words.{World, GroupRow, IsWellFormed, IsGroup, Groups, AddMember, MakeGroup, RemoveMark, RemoveMember, adds, after_change, file_now, group_named, has_group, has_mark, is_group, is_member, new_group, removes, unmarks, plan, step, Done, GroupAdd, GroupDrop, GroupMake, GroupRemove, Unmark}
+use Rattle.ele_world.proofs.Words.{World, GroupRow, HasParts, IsGroup, Groups, AddMember, MakeGroup, RemoveMark, RemoveMember, adds, after_change, file_now, group_named, has_group, has_mark, is_group, is_member, new_group, removes, unmarks, plan, step, Done, GroupAdd, GroupDrop, GroupMake, GroupRemove, Unmark}
 use Rattle.ele_world.specs.GroupChanges.{ChangesGroup, IsGroupOf}
 use Rattle.ele_world.specs.GroupsCome.{GroupComes, GroupGoes}
 use Rattle.ele_world.specs.MarkGoes.{MarkGoes}
@@ -8,6 +8,8 @@ use Rattle.ele_world.specs.MembersChange.{MemberComes, MemberGoes}
 use Rattle.ele_lists.proofs.Cuts.{any-found as first_passing}
 use Rattle.ele_world.proofs.Elements.{any_none, find-updated}
 use Rattle.ele_world.proofs.Outcomes.{in_all}
+use Rattle.ele_world.specs.declared.reply.Reply.TheVariants as told
+use Rattle.ele_world.specs.declared.event.Event.TheVariants as asked
 
 -- ---- one group is changed
 
@@ -39,21 +41,21 @@ none_named name (x ∷ xs) named = grind (arith, nat_tests, not_found, all-weake
 
 -- ---- members and marks
 
-group_is : (w : World) (name : List ℕ) (row : GroupRow) → IsWellFormed w → group_named w.groups name ≡ Some row → IsGroup w.files w.now row
+group_is : (w : World) (name : List ℕ) (row : GroupRow) → HasParts w → group_named w.groups name ≡ Some row → IsGroup w.files w.now row
 group_is w name row k found = all-found (is_group name) (IsGroup w.files w.now) w.groups row found (k.holds Groups).each
 
 comes : (w : World) (name : List ℕ) (file : ℕ) → not (has_group w.groups name) ≡ false → ChangesGroup w name (IsGroupOf (group_named w.groups name) (λ row other. is_member other row || (file == other)) (λ row mark. has_mark mark row)) (after_change w (AddMember name file))
 comes w name file there = changed w (after_change w (AddMember name file)) name (adds file) (λ row other. is_member other row || (file == other)) (λ row mark. has_mark mark row) (row_of w name there) refl (λ row. refl) (λ row found. (λ other. grind (arith, list_any-append (λ member. member == other) row.members (file ∷ [])), λ mark. refl)) refl
 
-goes : (w : World) (name : List ℕ) (file : ℕ) → IsWellFormed w → not (has_group w.groups name) ≡ false → ChangesGroup w name (IsGroupOf (group_named w.groups name) (λ row other. is_member other row && not (file == other)) (λ row mark. has_mark mark row)) (after_change w (RemoveMember name file))
+goes : (w : World) (name : List ℕ) (file : ℕ) → HasParts w → not (has_group w.groups name) ≡ false → ChangesGroup w name (IsGroupOf (group_named w.groups name) (λ row other. is_member other row && not (file == other)) (λ row mark. has_mark mark row)) (after_change w (RemoveMember name file))
 goes w name file k there = changed w (after_change w (RemoveMember name file)) name (removes file) (λ row other. is_member other row && not (file == other)) (λ row mark. has_mark mark row) (row_of w name there) refl (λ row. refl) (λ row found. (λ other. removed_has file other row.members (group_is w name row k found).apart, λ mark. refl)) refl
 
-unmarked : (w : World) (name : List ℕ) (mark : ℕ) → IsWellFormed w → not (has_group w.groups name) ≡ false → ChangesGroup w name (IsGroupOf (group_named w.groups name) (λ row file. is_member file row) (λ row other. has_mark other row && not (mark == other))) (after_change w (RemoveMark name mark))
+unmarked : (w : World) (name : List ℕ) (mark : ℕ) → HasParts w → not (has_group w.groups name) ≡ false → ChangesGroup w name (IsGroupOf (group_named w.groups name) (λ row file. is_member file row) (λ row other. has_mark other row && not (mark == other))) (after_change w (RemoveMark name mark))
 unmarked w name mark k there = changed w (after_change w (RemoveMark name mark)) name (unmarks mark) (λ row file. is_member file row) (λ row other. has_mark other row && not (mark == other)) (row_of w name there) refl (λ row. refl) (λ row found. (λ file. refl, λ other. removed_has mark other row.marks (group_is w name row k found).once)) refl
 
 -- ---- each event
 
-module _ (w : World) (name : List ℕ) (k : IsWellFormed w) where
+module _ (w : World) (name : List ℕ) (k : HasParts w) where
   abbrev Comes : ℕ → World → Type 0
   Comes file v = ChangesGroup w name (IsGroupOf (group_named w.groups name) (λ row other. is_member other row || (file == other)) (λ row mark. has_mark mark row)) v
 
@@ -90,17 +92,20 @@ module _ (w : World) (name : List ℕ) (k : IsWellFormed w) where
     rest = refl;
   })
 
-pub member_comes : MemberComes
+pub member_comes : (w : World) (name : List ℕ) (path : List (List ℕ)) (file : ℕ) → HasParts w → file_now w.names path ≡ Ok file → (step w (asked.GroupAdd name path)).0 ≡ told.Done
+    → ChangesGroup w name (IsGroupOf (group_named w.groups name) (λ row other. is_member other row || (file == other)) (λ row mark. has_mark mark row)) ((step w (asked.GroupAdd name path)).1)
 member_comes w name path file k = file_comes w name k path file
 
-pub member_goes : MemberGoes
+pub member_goes : (w : World) (name : List ℕ) (path : List (List ℕ)) (file : ℕ) → HasParts w → file_now w.names path ≡ Ok file → (step w (asked.GroupRemove name path)).0 ≡ told.Done
+    → ChangesGroup w name (IsGroupOf (group_named w.groups name) (λ row other. is_member other row && not (file == other)) (λ row mark. has_mark mark row)) ((step w (asked.GroupRemove name path)).1)
 member_goes w name path file k = file_goes w name k path file
 
-pub mark_goes : MarkGoes
+pub mark_goes : (w : World) (name : List ℕ) (mark : ℕ) → HasParts w → (step w (asked.Unmark name mark)).0 ≡ told.Done
+    → ChangesGroup w name (IsGroupOf (group_named w.groups name) (λ row file. is_member file row) (λ row other. has_mark other row && not (mark == other))) ((step w (asked.Unmark name mark)).1)
 mark_goes w name mark k = mark_leaves w name k mark
 
-pub a_group_comes : GroupComes
+pub a_group_comes : (w : World) (name : List ℕ) → HasParts w → (step w (asked.GroupMake name)).0 ≡ told.Done → ChangesGroup w name (λ is. is ≡ Some (record { name = name; members = []; marks = [] })) ((step w (asked.GroupMake name)).1)
 a_group_comes w name k = group_comes w name k
 
-pub a_group_goes : GroupGoes
+pub a_group_goes : (w : World) (name : List ℕ) → HasParts w → (step w (asked.GroupDrop name)).0 ≡ told.Done → ChangesGroup w name (λ is. is ≡ None) ((step w (asked.GroupDrop name)).1)
 a_group_goes w name k = group_goes w name k

@@ -1,7 +1,7 @@
 -- The directories that names stand in.
 use Rattle.ele_world.proofs.Basics.{◌≡◌, ℕ, ◌≤◌, Bool, true, ◌==◌, ◌||◌, List, [], ◌∷◌, ◌++◌, Ok, refl, arith, AllByRecursion, list_any, false≢true, nat_tests, list_any-append, all-push, all-weaker, all-found, found_passes, list_any-update_first}
 use Rattle.ele_world.proofs.Basics.{any-found, update_first}
-use Rattle.ele_world.proofs.Words.{is_name_of_directory, dies, parent_now, has_directory, is_directory, is_reached, IsDirectoryThere, IsHoused, Directories, Homes, IsWellFormed, AreHoused, IsOfLive, World, root, DirectoryRow, NameRow, Target, File}
+use Rattle.ele_world.proofs.Words.{is_name_of_directory, dies, parent_now, has_directory, is_directory, is_reached, IsDirectoryThere, IsHoused, Directories, Homes, HasParts, AreHoused, IsOfLive, World, root, DirectoryRow, NameRow, Target, File}
 use Rattle.ele_world.proofs.Words.{Directory, VersionRow}
 use Rattle.ele_lists.proofs.Cuts.{any-found as first_passing}
 use Rattle.ele_world.proofs.Walks.{live_row, parent_is, walk_to}
@@ -22,7 +22,7 @@ abbrev IsHome : List DirectoryRow → List NameRow → Target → Type 0
 IsHome directories names (File file) = Unit {0}
 IsHome directories names (Directory directory) = (has_directory directories directory ≡ true) × (is_reached names directory ≡ true)
 
-pub parent_home : (w : World) (path : List (List ℕ)) (at : ℕ × List ℕ) → IsWellFormed w → parent_now w.names path ≡ Ok at → (has_directory w.directories at.0 ≡ true) × (is_reached w.names at.0 ≡ true)
+pub parent_home : (w : World) (path : List (List ℕ)) (at : ℕ × List ℕ) → HasParts w → parent_now w.names path ≡ Ok at → (has_directory w.directories at.0 ≡ true) × (is_reached w.names at.0 ≡ true)
 parent_home w path at k found =
     let parent = parent_is w.names path at found in
     walk_to (IsHome w.directories w.names) w.names (λ directory name target. grind (arith, nat_tests, k.holds Homes, live_row, all-found, still_none, found_passes, any-found)) (Directory root) (Directory at.0) parent.front ((k.holds Directories).rooted, refl) parent.leads

@@ -1,6 +1,6 @@
 -- Each change that may be made keeps a world well formed, and so do all changes of a plan.
 use Rattle.ele_world.proofs.Basics.{nat_tests, arith, ◌≡◌, List, [], ◌∷◌, refl}
-use Rattle.ele_world.proofs.Words.{Change, Revive, Append, Take, WriteDraft, TruncateDraft, EndDraft, after_change, after_changes, Plan, outcome, IsWellFormed, World, Event}
+use Rattle.ele_world.proofs.Words.{Change, Revive, Append, Take, WriteDraft, TruncateDraft, EndDraft, after_change, after_changes, Plan, outcome, IsEvent, HasParts, World, Event}
 use Rattle.ele_world.proofs.KeptDrafts.{start_keeps, write_keeps, truncate_keeps, end_keeps, open_keeps, shut_keeps}
 use Rattle.ele_world.proofs.KeptDirectories.{make_directory_keeps, end_name_keeps, add_name_keeps, end_file_name_keeps, move_name_keeps}
 use Rattle.ele_world.proofs.KeptNames.{time_keeps, govern_keeps, put_under_keeps, make_keeps}
@@ -8,10 +8,10 @@ use Rattle.ele_world.proofs.Dropped.{drop_keeps}
 use Rattle.ele_world.proofs.KeptGroups.{make_group_keeps, drop_group_keeps, add_member_keeps, remove_member_keeps, add_mark_keeps, remove_mark_keeps}
 use Rattle.ele_world.proofs.KeptRevived.{revive_keeps}
 use Rattle.ele_world.proofs.KeptVersions.{append_keeps, take_keeps}
-use Rattle.ele_world.proofs.May.{IsLawfulEvent, May, MayAll, MayPlan}
+use Rattle.ele_world.proofs.May.{May, MayAll, MayPlan}
 use Rattle.ele_world.proofs.Outcomes.{outcome_of}
 
-pub change_keeps : (event : Event) (first w : World) (change : Change) → IsLawfulEvent event → May event first w change → IsWellFormed w → IsWellFormed (after_change w change)
+pub change_keeps : (event : Event) (first w : World) (change : Change) → IsEvent event → May event first w change → HasParts w → HasParts (after_change w change)
 change_keeps event first w (Take file number) is may k = take_keeps w file number (λ row found. grind (arith, nat_tests)) may.unread k
 change_keeps event first w (Append file opened cells) is may k = append_keeps w file opened cells may k
 change_keeps event first w (Revive directory name file) is may k = revive_keeps w directory name file may k
@@ -20,7 +20,7 @@ change_keeps event first w (TruncateDraft file size) is may k = truncate_keeps w
 change_keeps event first w (EndDraft file) is may k = end_keeps w file may k
 change_keeps event first w change is may k = grind (arith, nat_tests, time_keeps, govern_keeps, make_directory_keeps, end_name_keeps, add_name_keeps, move_name_keeps, end_file_name_keeps, make_keeps, put_under_keeps, start_keeps, open_keeps, shut_keeps, drop_keeps, make_group_keeps, drop_group_keeps, add_member_keeps, remove_member_keeps, add_mark_keeps, remove_mark_keeps)
 
-pub all_keep : (event : Event) (first w : World) (changes : List Change) → IsLawfulEvent event → MayAll event first w changes → IsWellFormed w → IsWellFormed (after_changes w changes)
+pub all_keep : (event : Event) (first w : World) (changes : List Change) → IsEvent event → MayAll event first w changes → HasParts w → HasParts (after_changes w changes)
 all_keep event first w [] is may k = k
 all_keep event first w (change ∷ changes) is may k = all_keep event first (after_change w change) changes is may.1 (change_keeps event first w change is may.0 k)
 

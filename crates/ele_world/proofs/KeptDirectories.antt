@@ -2,7 +2,7 @@
 use Rattle.ele_world.proofs.Basics.{rules, ◌≡◌, ℕ, Bool, true, false, List, [], ◌∷◌, ◌++◌, length-append, Option, Some, None, refl, arith, AllByRecursion, list_any, nat_tests, list_any-append, update_first, all-any, all-push, all-weaker, all-both}
 use Rattle.ele_world.proofs.Basics.{all-none, all-update_first, later-push, length-update_first, list_any-update_found, list_any-update_fails, ◌-◌, cond, ◌==◌, length, false≢true, list_any-update_first, find, later-weaker, all-found, and-false}
 use Rattle.ele_world.proofs.Basics.{found_passes, any-found}
-use Rattle.ele_world.proofs.Words.{Policy, after_change, MakeDirectory, EndName, without_name, born_row, dies, is_live_in, is_live_name, live_target, has_directory, is_reached, IsHoused, Part, Directories, Names, Homes, Current, Holds, IsWellFormed}
+use Rattle.ele_world.proofs.Words.{Policy, after_change, MakeDirectory, EndName, without_name, born_row, dies, is_live_in, is_live_name, live_target, has_directory, is_reached, IsHoused, Part, Directories, Names, Homes, Current, Holds, HasParts}
 use Rattle.ele_world.proofs.Words.{Tree, Ended, HaveEnded, IsOfLive, World, NameRow, Target, Directory, ended_at, with_end, AddName, EndFileName, File, is_live_directory, Versions, Readers, IsVersion, next_of, is_live, is_version, MoveName}
 use Rattle.ele_world.proofs.Words.{is_target_directory, IsNameRow, IsDirectoryThere, AreOthers, IsThere, is_live_name_of}
 use Rattle.ele_world.proofs.Homes.{named_housed, HasName, named_more, named_end, directory_given, ended_more, any_less, homes_more}
@@ -16,7 +16,7 @@ use Rattle.ele_world.proofs.Elements.{none_left}
 
 -- ---- a directory is made
 
-pub make_directory_keeps : (w : World) (directory : ℕ) (name : List ℕ) (id : ℕ) (policy : Policy) → MayMakeDirectory w directory name id policy → IsWellFormed w → IsWellFormed (after_change w (MakeDirectory directory name id policy))
+pub make_directory_keeps : (w : World) (directory : ℕ) (name : List ℕ) (id : ℕ) (policy : Policy) → MayMakeDirectory w directory name id policy → HasParts w → HasParts (after_change w (MakeDirectory directory name id policy))
 make_directory_keeps w directory name id policy may k = record { holds = by } where
   there : has_directory (w.directories ++ record { id = id; default = policy } ∷ []) id ≡ true
   there = grind (arith, nat_tests, list_any-append)
@@ -34,7 +34,7 @@ HoldsWith Q w Ended = Q
 HoldsWith Q w part = Holds w part
 
 -- with the ends each part holds
-pub with_ends : (w : World) → ((part : Part) → HoldsWith (HaveEnded w) w part) → IsWellFormed w
+pub with_ends : (w : World) → ((part : Part) → HoldsWith (HaveEnded w) w part) → HasParts w
 with_ends w holds = search (rules)
 
 module _ (w : World) (directory : ℕ) (name : List ℕ) (empty : (id : ℕ) → live_target w.names directory name ≡ Some (Directory id) → list_any (is_live_in id) w.names ≡ false) where
@@ -57,12 +57,12 @@ module _ (w : World) (directory : ℕ) (name : List ℕ) (empty : (id : ℕ) →
   reached_still id spared h = grind (arith, nat_tests, list_any-update_found)
 
   -- all but that the name's file may have a version without an end
-  pub end_name_holds : (Q : Type 0) → Q → IsWellFormed w → (part : Part) → HoldsWith Q (without_name w directory name) part
+  pub end_name_holds : (Q : Type 0) → Q → HasParts w → (part : Part) → HoldsWith Q (without_name w directory name) part
   end_name_holds Q ends k Homes = grind (arith, nat_tests, k.holds Homes, all-update_first p (IsHoused w.directories after) (IsHoused w.directories after) (dies w.now) w.names, all-weaker (λ row. (row.death ≡ None → IsSpared (live_target w.names directory name) row.directory) × IsHoused w.directories w.names row) (IsHoused w.directories after) w.names, reached_still, all-both (λ row. row.death ≡ None → IsSpared (live_target w.names directory name) row.directory) (IsHoused w.directories w.names) w.names, all_spared (live_target w.names directory name) refl, named_end w.now p w.directories w.names)
   end_name_holds Q ends k Ended = ends
   end_name_holds Q ends k part = grind (arith, nat_tests, k.holds part, length-update_first p (dies w.now) w.names, names_end w.now w.names directory name w.files, tree_end w.now w.names directory name, list_any-update_fails)
 
-pub end_name_keeps : (w : World) (directory : ℕ) (name : List ℕ) → MayEnd w directory name → IsWellFormed w → IsWellFormed (after_change w (EndName directory name))
+pub end_name_keeps : (w : World) (directory : ℕ) (name : List ℕ) → MayEnd w directory name → HasParts w → HasParts (after_change w (EndName directory name))
 end_name_keeps w directory name may k = with_ends (without_name w directory name) (end_name_holds w directory name empty (HaveEnded (without_name w directory name)) ends k) where
   empty : (id : ℕ) → live_target w.names directory name ≡ Some (Directory id) → list_any (is_live_in id) w.names ≡ false
   empty id stands = grind (arith, nat_tests, may.stands, may.empty)
@@ -72,7 +72,7 @@ end_name_keeps w directory name may k = with_ends (without_name w directory name
 
 -- ---- a name more
 
-pub add_name_keeps : (w : World) (directory : ℕ) (name : List ℕ) (target : Target) → MayAdd w directory name target → IsWellFormed w → IsWellFormed (after_change w (AddName directory name target))
+pub add_name_keeps : (w : World) (directory : ℕ) (name : List ℕ) (target : Target) → MayAdd w directory name target → HasParts w → HasParts (after_change w (AddName directory name target))
 add_name_keeps w directory name target may k = record { holds = λ part. grind (arith, nat_tests, k.holds part, names_more w.files w.now w.names directory name target may.named.free may.there, homes_more w.directories w.names (born_row directory name target w.now) may.named.home may.named.reached may.housed, counted_more w (length (w.names ++ born_row directory name target w.now ∷ [])) k may.named.room, length-append, tree_more, (λ (id : ℕ). all-none (is_live_directory id) w.names), any_less, ended_more, may.more, false≢true) }
 
 -- ---- the end of a file's name
@@ -82,7 +82,7 @@ abbrev EndBeside : ℕ → World → Type 0
 EndBeside file w = AllByRecursion (λ row. (row.file == file) ≡ false → IsOfLive w.names row) w.versions
 
 -- the last version of a file without a live name ends
-with_end_keeps : (w : World) (file : ℕ) → is_live w file ≡ false → ((part : Part) → HoldsWith (EndBeside file w) w part) → IsWellFormed (record w { versions = with_end w file })
+with_end_keeps : (w : World) (file : ℕ) → is_live w file ≡ false → ((part : Part) → HoldsWith (EndBeside file w) w part) → HasParts (record w { versions = with_end w file })
 with_end_keeps w file dead holds = record { holds = by } where
   last : ℕ
   last = next_of w.files file - 1
@@ -93,7 +93,7 @@ with_end_keeps w file dead holds = record { holds = by } where
   by Ended = grind (arith, nat_tests, holds Ended, holds Versions, all-weaker (λ row. ((row.file ≡ file → IsEndedBy w.now row) × IsVersion w.files w.now row) × ((row.file == file) ≡ false → IsOfLive w.names row)) (IsOfLive w.names) (with_end w file), all-both (λ row. (row.file ≡ file → IsEndedBy w.now row) × IsVersion w.files w.now row) (λ row. (row.file == file) ≡ false → IsOfLive w.names row) (with_end w file), ended_own w file, all-update_first (is_version file last) (λ row. (row.file == file) ≡ false → IsOfLive w.names row) (λ row. (row.file == file) ≡ false → IsOfLive w.names row) (ended_at w.now) w.versions)
   by part = grind (arith, nat_tests, holds part, length-update_first (is_version file last) (ended_at w.now) w.versions, ended_versions w file)
 
-module _ (w : World) (directory : ℕ) (name : List ℕ) (file : ℕ) (leads : live_target w.names directory name ≡ Some (File file)) (k : IsWellFormed w) where
+module _ (w : World) (directory : ℕ) (name : List ℕ) (file : ℕ) (leads : live_target w.names directory name ≡ Some (File file)) (k : HasParts w) where
   abbrev ended : World
   ended = without_name w directory name
 
@@ -104,15 +104,15 @@ module _ (w : World) (directory : ℕ) (name : List ℕ) (file : ℕ) (leads : l
   beside : EndBeside file ended
   beside = grind (arith, nat_tests, k.holds Ended, all-weaker (IsOfLive w.names), live_still w.now w.names directory name (File file) leads)
 
-  pub end_file_name_keeps : IsWellFormed (after_change w (EndFileName directory name file))
+  pub end_file_name_keeps : HasParts (after_change w (EndFileName directory name file))
   end_file_name_keeps = by (is_live ended file) refl where
-    by : (b : Bool) → is_live ended file ≡ b → IsWellFormed (record ended { versions = cond b w.versions (with_end ended file) })
+    by : (b : Bool) → is_live ended file ≡ b → HasParts (record ended { versions = cond b w.versions (with_end ended file) })
     by true e = with_ends ended (end_name_holds w directory name no_directory (HaveEnded ended) (all-weaker _ (IsOfLive ended.names) w.versions (λ row h. grind (arith, nat_tests)) beside) k)
     by false e = with_end_keeps ended file e (end_name_holds w directory name no_directory (EndBeside file ended) beside k)
 
 -- ---- a name moves
 
-module _ (w : World) (from : ℕ) (old : List ℕ) (to : ℕ) (new : List ℕ) (target : Target) (may : MayMove w from old to new target) (k : IsWellFormed w) where
+module _ (w : World) (from : ℕ) (old : List ℕ) (to : ℕ) (new : List ℕ) (target : Target) (may : MayMove w from old to new target) (k : HasParts w) where
   abbrev dying : NameRow → Bool
   dying = is_live_name from old
 
@@ -137,7 +137,7 @@ module _ (w : World) (from : ℕ) (old : List ℕ) (to : ℕ) (new : List ℕ) (
   reached : (id : ℕ) → is_reached w.names id ≡ true → is_reached (remaining ++ renamed ∷ []) id ≡ true
   reached id h = grind (arith, nat_tests, list_any-append, list_any-update_found)
 
-  pub move_name_keeps : IsWellFormed (after_change w (MoveName from old to new target))
+  pub move_name_keeps : HasParts (after_change w (MoveName from old to new target))
   move_name_keeps = record { holds = by } where
     by : (part : Part) → Holds (after_change w (MoveName from old to new target)) part
     by Names = names_more w.files w.now remaining to new target (free_still w.now w.names from old to new may.named.free) there (names_end w.now w.names from old w.files (k.holds Names))

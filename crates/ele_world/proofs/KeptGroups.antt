@@ -1,7 +1,7 @@
 -- Changes of groups keep a world well formed, and groups stay what they are beside other changes.
 use Rattle.ele_world.proofs.Basics.{nat_tests, ◌≡◌, ℕ, ◌<◌, ◌≤◌, ◌==◌, Bool, false, not, List, [], ◌∷◌, length-append, Some, arith, filter, find, AllByRecursion, bytes_eq, length-map, update_first, all-map, later-filter, later-map, all-none}
 use Rattle.ele_world.proofs.Basics.{all-push, all-remove_first, all-weaker, later-push, later-remove_first, later-update_first, length-remove_first-le, length-update_first}
-use Rattle.ele_world.proofs.Words.{AddMark, AddMember, DropGroup, MakeGroup, RemoveMark, RemoveMember, after_change, adds, forgets, forgotten, is_group, marks, new_group, removes, unmarks, AreGroups, Groups, IsGroup, IsWellFormed, World, next_of}
+use Rattle.ele_world.proofs.Words.{AddMark, AddMember, DropGroup, MakeGroup, RemoveMark, RemoveMember, after_change, adds, forgets, forgotten, is_group, marks, new_group, removes, unmarks, AreGroups, Groups, IsGroup, HasParts, World, next_of}
 use Rattle.ele_world.proofs.Words.{FileRow, GroupRow}
 use Rattle.ele_world.proofs.May.{MayGroup, MayJoin, MayMark}
 
@@ -33,27 +33,27 @@ all-update_found p P f [] changes all = tt
 all-update_found p P f (x ∷ xs) changes all = grind (arith, nat_tests, all-update_found p P f xs)
 
 -- a group that keeps its name changes to a group
-groups_edited : (w : World) (name : List ℕ) (f : GroupRow → GroupRow) → ((row : GroupRow) → (f row).name ≡ row.name) → ((row : GroupRow) → find (is_group name) w.groups ≡ Some row → IsGroup w.files w.now row → IsGroup w.files w.now (f row)) → IsWellFormed w → AreGroups w.made.groups w.files w.now (update_first (is_group name) f w.groups)
+groups_edited : (w : World) (name : List ℕ) (f : GroupRow → GroupRow) → ((row : GroupRow) → (f row).name ≡ row.name) → ((row : GroupRow) → find (is_group name) w.groups ≡ Some row → IsGroup w.files w.now row → IsGroup w.files w.now (f row)) → HasParts w → AreGroups w.made.groups w.files w.now (update_first (is_group name) f w.groups)
 groups_edited w name f same edits k = grind (arith, nat_tests, k.holds Groups, all-update_found, later-update_first, length-update_first)
 
-pub make_group_keeps : (w : World) (name : List ℕ) → MayGroup w name → IsWellFormed w → IsWellFormed (after_change w (MakeGroup name))
+pub make_group_keeps : (w : World) (name : List ℕ) → MayGroup w name → HasParts w → HasParts (after_change w (MakeGroup name))
 make_group_keeps w name may k = record { holds = λ part. grind (arith, nat_tests, k.holds part, all-push (IsGroup w.files w.now) w.groups (new_group name), later-push AreNamedApart w.groups (new_group name), all-none (is_group name) w.groups may.free, length-append) }
 
-pub drop_group_keeps : (w : World) (name : List ℕ) → IsWellFormed w → IsWellFormed (after_change w (DropGroup name))
+pub drop_group_keeps : (w : World) (name : List ℕ) → HasParts w → HasParts (after_change w (DropGroup name))
 drop_group_keeps w name k = record { holds = λ part. grind (arith, nat_tests, k.holds part, all-remove_first, later-remove_first, length-remove_first-le) }
 
 -- ---- its files
 
-pub add_member_keeps : (w : World) (name : List ℕ) (file : ℕ) → MayJoin w name file → IsWellFormed w → IsWellFormed (after_change w (AddMember name file))
+pub add_member_keeps : (w : World) (name : List ℕ) (file : ℕ) → MayJoin w name file → HasParts w → HasParts (after_change w (AddMember name file))
 add_member_keeps w name file may k = record { holds = λ part. grind (arith, nat_tests, k.holds part, groups_edited w name (adds file), all-push, later-push AreTwo, all-none (λ member. member == file)) }
 
-pub remove_member_keeps : (w : World) (name : List ℕ) (file : ℕ) → IsWellFormed w → IsWellFormed (after_change w (RemoveMember name file))
+pub remove_member_keeps : (w : World) (name : List ℕ) (file : ℕ) → HasParts w → HasParts (after_change w (RemoveMember name file))
 remove_member_keeps w name file k = record { holds = λ part. grind (arith, nat_tests, k.holds part, groups_edited w name (removes file), all-remove_first, later-remove_first) }
 
 -- ---- its marks
 
-pub add_mark_keeps : (w : World) (name : List ℕ) (mark : ℕ) → MayMark w name mark → IsWellFormed w → IsWellFormed (after_change w (AddMark name mark))
+pub add_mark_keeps : (w : World) (name : List ℕ) (mark : ℕ) → MayMark w name mark → HasParts w → HasParts (after_change w (AddMark name mark))
 add_mark_keeps w name mark may k = record { holds = λ part. grind (arith, nat_tests, k.holds part, groups_edited w name (marks mark), all-push, later-push AreTwo, all-none (λ made. made == mark)) }
 
-pub remove_mark_keeps : (w : World) (name : List ℕ) (mark : ℕ) → IsWellFormed w → IsWellFormed (after_change w (RemoveMark name mark))
+pub remove_mark_keeps : (w : World) (name : List ℕ) (mark : ℕ) → HasParts w → HasParts (after_change w (RemoveMark name mark))
 remove_mark_keeps w name mark k = record { holds = λ part. grind (arith, nat_tests, k.holds part, groups_edited w name (unmarks mark), all-remove_first, later-remove_first) }

@@ -2,7 +2,7 @@
 use Rattle.ele_world.proofs.Basics.{◌≡◌, ◌≢◌, ℕ, ◌+◌, ◌-◌, Bool, true, false, List, Some, arith, ◌==◌, find, is_none, list_any, AllByRecursion, false≢true, nat_tests, remove_first, update_first, all-none, AllLater, all-weaker, all-both, found_passes}
 use Rattle.ele_world.proofs.Basics.{all-update_first, all-remove_first, all-insert_before, later-update_first, later-remove_first, later-insert_before, length-update_first, length-insert_before, length-remove_first-le, list_any-update_first}
 use Rattle.ele_world.proofs.Basics.{list_any-insert_before, list_any-remove_first}
-use Rattle.ele_world.proofs.Words.{Cell, numbered_on, ended_at, next_version, with_end, with_version, after_change, Take, IsFile, IsNameRow, IsVersion, ArePlaced, IsDraft, is_current, IsHeldRead, Part, Versions, Readers, Current, Holds, IsWellFormed}
+use Rattle.ele_world.proofs.Words.{Cell, numbered_on, ended_at, next_version, with_end, with_version, after_change, Take, IsFile, IsNameRow, IsVersion, ArePlaced, IsDraft, is_current, IsHeldRead, Part, Versions, Readers, Current, Holds, HasParts}
 use Rattle.ele_world.proofs.Words.{AreVersions, IsOfLive, World, next_of, is_file, is_live, is_open, is_version, is_version_after, reads_version, Reads, FileRow, VersionRow}
 use Rattle.ele_world.proofs.Readers.{read_on}
 use Rattle.ele_world.proofs.Files.{next_of-numbered_on, next_of-numbered_other, next_of-numbered_le}
@@ -57,7 +57,7 @@ module _ (w : World) (file opened : ℕ) (cells : List Cell) (may : MayAppend w 
   abbrev p : VersionRow → Bool
   p = is_version file (next - 1)
 
-  pub append_completes : ((part : Part) → HoldsBeside file w part) → IsWellFormed (with_version w file opened cells)
+  pub append_completes : ((part : Part) → HoldsBeside file w part) → HasParts (with_version w file opened cells)
   append_completes holds = record { holds = by } where
     by : (part : Part) → Holds (with_version w file opened cells) part
     by Versions = record {
@@ -69,12 +69,12 @@ module _ (w : World) (file opened : ℕ) (cells : List Cell) (may : MayAppend w 
     by Current = λ other live. grind (arith, nat_tests, holds Current other, next_is, list_any-insert_before, next_of-numbered_other w.files file other, current_ended file other (next_of w.files file - 1) (next_of w.files other) w.now w.versions)
     by part = grind (arith, nat_tests, holds part, length-update_first (is_file file) numbered_on w.files, length-update_first p (ended_at w.now) w.versions, length-insert_before (is_version_after file next) new (with_end w file), all-update_first (is_file file) (IsFile w.made.files w.made.versions) (IsFile w.made.files (w.made.versions + 1)) numbered_on w.files, later-update_first (is_file file), all-weaker (IsNameRow w.files w.now) (IsNameRow files w.now) w.names, next_of-numbered_le, all-weaker (IsDraft w.files w.now) (IsDraft files w.now) w.drafts, written_more, all-insert_before (is_version_after file next) (IsOfLive w.names) new (with_end w file), all-update_first p (IsOfLive w.names) (IsOfLive w.names) (ended_at w.now) w.versions, groups_on w.made.groups w.files files w.now w.now w.groups)
 
-  pub append_keeps : IsWellFormed w → IsWellFormed (with_version w file opened cells)
+  pub append_keeps : HasParts w → HasParts (with_version w file opened cells)
   append_keeps k = append_completes (λ part. grind (arith, k.holds part))
 
 -- ---- a version that has ended goes
 
-pub take_keeps : (w : World) (file number : ℕ) → ((row : VersionRow) → find (is_version file number) w.versions ≡ Some row → is_none row.ended ≡ false) → is_open w.handles file number ≡ false → IsWellFormed w → IsWellFormed (after_change w (Take file number))
+pub take_keeps : (w : World) (file number : ℕ) → ((row : VersionRow) → find (is_version file number) w.versions ≡ Some row → is_none row.ended ≡ false) → is_open w.handles file number ≡ false → HasParts w → HasParts (after_change w (Take file number))
 take_keeps w file number ended unread k = record { holds = λ part. grind (arith, nat_tests, k.holds part, length-remove_first-le (is_version file number) w.versions, all-remove_first, later-remove_first, all-weaker (λ row. (reads_version file number row.reads ≡ false) × IsHeldRead w.versions row.reads) (λ row. IsHeldRead (remove_first (is_version file number) w.versions) row.reads) w.handles, still, all-both (λ row. reads_version file number row.reads ≡ false) (λ row. IsHeldRead w.versions row.reads) w.handles, all-none (λ row. reads_version file number row.reads) w.handles unread, list_any-remove_first) } where
   -- a handle reads another version, and that is still held
   still : (reads : Reads) → reads_version file number reads ≡ false → IsHeldRead w.versions reads → IsHeldRead (remove_first (is_version file number) w.versions) reads

@@ -1,7 +1,7 @@
 -- What a history knows of versions: those that are held, and those that were removed as they last stood; at each moment that a name
 -- covers a version of its file lived. A change keeps that.
 use Rattle.ele_world.proofs.Basics.{◌≡◌, ℕ, ◌-◌, ◌<◌, ◌≤◌, true, false, List, [], Option, Some, None, refl, ap, sym, subst, ◌∙◌, arith, find, AllByRecursion, option_or, false≢true, nat_tests, all-found, find-insert_before, find-inserted, not_found, remove_first, all-not_found, all-remove_first, all-weaker, found_passes, AllLater, ◌++◌, ◌∷◌, list_any, cases_lt, update_first, all-filter, all-both, all-push}
-use Rattle.ele_world.proofs.Words.{Cell, current_cells, Change, Time, EndFileName, Revive, MakeFile, Append, Take, DropIdle, after_change, ended_at, next_version, with_end, with_file, with_name, with_version, covers, lives_at, ArePlaced, IsVersion, Versions, IsWellFormed, World, is_live, is_version, is_version_after, next_of, Event, NameRow, File, VersionRow, MakeDirectory, EndName, AddName, MoveName, born_row, dies, is_live_name, IsNameRow, Names, is_live_name_of, Target, Directory}
+use Rattle.ele_world.proofs.Words.{Cell, current_cells, Change, Time, EndFileName, Revive, MakeFile, Append, Take, DropIdle, after_change, ended_at, next_version, with_end, with_file, with_name, with_version, covers, lives_at, ArePlaced, IsVersion, Versions, HasParts, World, is_live, is_version, is_version_after, next_of, Event, NameRow, File, VersionRow, MakeDirectory, EndName, AddName, MoveName, born_row, dies, is_live_name, IsNameRow, Names, is_live_name_of, Target, Directory}
 use Rattle.ele_world.proofs.Dropped.{dropped, dropped_versions, stays_named}
 use Rattle.ele_world.proofs.May.{May}
 use Rattle.ele_world.proofs.Moves.{IsBehind, IsPast, change_past, Moves, row_of, found_updated, Same, Ended, Taken, change_moves}
@@ -50,13 +50,13 @@ pub record IsHeldRow (w : World) (file number : ℕ) (row : VersionRow) : Type 0
   pub numbered : row.number ≡ number
   pub is : IsVersion w.files w.now row
 
-pub held_row : (w : World) (file number : ℕ) (row : VersionRow) → IsWellFormed w → row_of w file number ≡ Some row → IsHeldRow w file number row
+pub held_row : (w : World) (file number : ℕ) (row : VersionRow) → HasParts w → row_of w file number ≡ Some row → IsHeldRow w file number row
 held_row w file number row k found = grind (arith, nat_tests, k.holds Versions, found_passes, all-found)
 
-found_past : (w : World) (file number : ℕ) (row : VersionRow) → IsWellFormed w → row_of w file number ≡ Some row → IsPast w file number
+found_past : (w : World) (file number : ℕ) (row : VersionRow) → HasParts w → row_of w file number ≡ Some row → IsPast w file number
 found_past w file number row k found = grind (arith, nat_tests, held_row w file number row k found, held_past w row k)
 
-known_past : (w : World) (known : Known) (file number : ℕ) (row : VersionRow) → IsWellFormed w → AreKnown w known → known file number ≡ Some row → IsPast w file number
+known_past : (w : World) (known : Known) (file number : ℕ) (row : VersionRow) → HasParts w → AreKnown w known → known file number ≡ Some row → IsPast w file number
 known_past w known file number row k s is = grind (arith, nat_tests, s.gone file number row, found_past w file number)
 
 -- ---- what becomes of a version
@@ -124,7 +124,7 @@ counted_live : (rows : List NameRow) → AllByRecursion (λ name. (file : ℕ) �
 counted_live [] = tt
 counted_live (row ∷ rows) = grind (arith, nat_tests, all-weaker, counted_live rows)
 
-current_covers : (w : World) (known : Known) → IsWellFormed w → ((file number : ℕ) (row : VersionRow) → row_of w file number ≡ Some row → known file number ≡ Some row)
+current_covers : (w : World) (known : Known) → HasParts w → ((file number : ℕ) (row : VersionRow) → row_of w file number ≡ Some row → known file number ≡ Some row)
     → AllByRecursion (CoveredFrom w.now (HadLife known)) w.names
 current_covers w known k held = grind (arith, nat_tests, all-weaker (λ name. IsNameRow w.files w.now name × ((file : ℕ) → is_live_name_of file name ≡ true → is_live w file ≡ true)) (CoveredFrom w.now (HadLife known)) w.names, one, all-both (IsNameRow w.files w.now), (k.holds Names).each, counted_live w.names) where
   life : (file moment : ℕ) → w.now ≤ moment → is_live w file ≡ true → HadLife known file moment
@@ -156,8 +156,8 @@ data Turned (w : World) (known was is : Option VersionRow) : Type 0 where
 pub record IsTurn (event : Event) (first w : World) (change : Change) (before : Known) : Type 0 where
   pub placed : AllLater ArePlaced first.versions
   pub first_held : (file number : ℕ) (row : VersionRow) → row_of first file number ≡ Some row → before file number ≡ Some row
-  pub formed : IsWellFormed w
-  pub formed_after : IsWellFormed (after_change w change)
+  pub formed : HasParts w
+  pub formed_after : HasParts (after_change w change)
   pub may : May event first w change
   pub known : AreKnown w (known_in w before)
 

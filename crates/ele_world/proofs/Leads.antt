@@ -1,7 +1,7 @@
 -- After a create, a mkdir or an undelete its path leads to what is made, or to what the name last stood for.
 use Rattle.ele_world.proofs.Basics.{◌≡◌, ℕ, ◌+◌, false, List, Some, Ok, ap, subst, arith, is_some, nat_tests, find-append, all-weaker, not_found, ◌≤◌, refl, list_any-append}
-use Rattle.ele_world.proofs.Words.{after_change, MakeFile, Policy, LeadsToNew, plan, step, live_target, file_at, parent_now, Files, IsWellFormed, World, default_of, next_of, current_of, Create, File, MakeDirectory, LeadsToDirectory, is_live_in}
-use Rattle.ele_world.proofs.Words.{directory_in, Directories, Homes, is_directory, MakeDir, Directory, AddName, Revive, current_cells, next_version, with_name, last_target, LeadsAgain, HasNameAgain, HasVersionAgain, Versions, Undelete, UndeleteLeads}
+use Rattle.ele_world.proofs.Words.{after_change, MakeFile, Policy, LeadsToNew, plan, step, live_target, file_at, parent_now, Files, HasParts, World, default_of, next_of, current_of, Create, File, MakeDirectory, LeadsToDirectory, is_live_in, Done}
+use Rattle.ele_world.proofs.Words.{directory_in, Directories, Homes, is_directory, MakeDir, Directory, AddName, Revive, current_cells, next_version, with_name, last_target, LeadsAgain, HasNameAgain, HasVersionAgain, Versions, Undelete}
 use Rattle.ele_world.proofs.Words.{Target}
 use Rattle.ele_world.specs.declared.reply.Reply.TheVariants as reply
 use Rattle.ele_world.proofs.Created.{new_file, made_is, versions_before, named_live}
@@ -17,17 +17,17 @@ use Rattle.ele_world.proofs.May.{MayRevive}
 
 -- ---- a create
 
-module _ (w : World) (path : List (List ℕ)) (at : ℕ × List ℕ) (k : IsWellFormed w) where
+module _ (w : World) (path : List (List ℕ)) (at : ℕ × List ℕ) (k : HasParts w) where
   file_leads : parent_now w.names path ≡ Ok at → is_some (live_target w.names at.0 at.1) ≡ false → LeadsToNew path (w.made.files + 1) (after_change w (MakeFile at.0 at.1 (w.made.files + 1) (default_of w.directories at.0)))
   file_leads found free = rw (made_is w at.0 at.1 (default_of w.directories at.0) k) (record { named = ap file_at (new_leads w.names path at (File (w.made.files + 1)) w.now found free); empty = grind (arith, nat_tests, not_found, all-weaker, versions_before w k, find-append, next_of-new w.made.files w.made.versions w.files (new_file (w.made.files + 1) (default_of w.directories at.0)), k.holds Files) })
 
-pub create_leads : (w : World) (path : List (List ℕ)) (file : ℕ) → IsWellFormed w → (step w (Create path)).0 ≡ reply.File file → LeadsToNew path file ((step w (Create path)).1)
+pub create_leads : (w : World) (path : List (List ℕ)) (file : ℕ) → HasParts w → (step w (Create path)).0 ≡ reply.File file → LeadsToNew path file ((step w (Create path)).1)
 create_leads w path file k = in_all w (λ answer. answer.0 ≡ reply.File file → LeadsToNew path file (answer.1)) (plan w (Create path)) (λ refusal e. absurd cc)
     (λ at found free files names versions e. let same : w.made.files + 1 ≡ file = cc in subst (λ n. LeadsToNew path n (after_change w (MakeFile at.0 at.1 (w.made.files + 1) (default_of w.directories at.0)))) same (file_leads w path at k found free))
 
 -- ---- a mkdir
 
-module _ (w : World) (path : List (List ℕ)) (at : ℕ × List ℕ) (k : IsWellFormed w) where
+module _ (w : World) (path : List (List ℕ)) (at : ℕ × List ℕ) (k : HasParts w) where
   abbrev id : ℕ
   id = w.made.directories + 1
 
@@ -44,12 +44,12 @@ module _ (w : World) (path : List (List ℕ)) (at : ℕ × List ℕ) (k : IsWell
     policy = grind (arith, nat_tests, find-append, not_found (is_directory id) w.directories, all-weaker (λ row. row.id ≤ w.made.directories) (λ row. is_directory id row ≡ false) w.directories, k.holds Directories);
   }
 
-pub make_dir_leads : (w : World) (path : List (List ℕ)) (id : ℕ) → IsWellFormed w → (step w (MakeDir path)).0 ≡ reply.Directory id → LeadsToDirectory w path id ((step w (MakeDir path)).1)
+pub make_dir_leads : (w : World) (path : List (List ℕ)) (id : ℕ) → HasParts w → (step w (MakeDir path)).0 ≡ reply.Directory id → LeadsToDirectory w path id ((step w (MakeDir path)).1)
 make_dir_leads w path id k = grind (arith, nat_tests, in_all, id, plan, after_change, default_of, leads_to)
 
 -- ---- an undelete
 
-module _ (w : World) (path : List (List ℕ)) (at : ℕ × List ℕ) (k : IsWellFormed w) (found : parent_now w.names path ≡ Ok at) (free : is_some (live_target w.names at.0 at.1) ≡ false) where
+module _ (w : World) (path : List (List ℕ)) (at : ℕ × List ℕ) (k : HasParts w) (found : parent_now w.names path ≡ Ok at) (free : is_some (live_target w.names at.0 at.1) ≡ false) where
   named_again : (lost : Target) (after : World) → after.names ≡ (with_name w at.0 at.1 lost).names → last_target w.names at.0 at.1 ≡ Ok lost → LeadsAgain w path lost after
   named_again lost after names last = record { home = at; stands = found; lost = grind (arith, nat_tests); leads = rw names (new_leads w.names path at lost w.now found free) }
 
@@ -66,7 +66,9 @@ module _ (w : World) (path : List (List ℕ)) (at : ℕ × List ℕ) (k : IsWell
     version_again : (number : ℕ) → next_of w.files file ≡ number → last_target w.names at.0 at.1 ≡ Ok (File file) → HasVersionAgain w path number revived
     version_again number same last = grind (arith, nat_tests, named_again (File file) revived refl last, current_is, named_live w at.0 at.1 file)
 
-pub undelete_leads : UndeleteLeads
+pub undelete_leads : (w : World) (path : List (List ℕ)) → HasParts w
+    → ((step w (Undelete path)).0 ≡ Done → HasNameAgain w path ((step w (Undelete path)).1))
+    × ((number : ℕ) → (step w (Undelete path)).0 ≡ reply.Version number → HasVersionAgain w path number ((step w (Undelete path)).1))
 undelete_leads w path k = (
   grind (arith, nat_tests, in_all, name_again w path),
   λ number. in_all w (λ answer. answer.0 ≡ reply.Version number → HasVersionAgain w path number (answer.1)) (plan w (Undelete path)) (λ refusal e. absurd cc)

@@ -1,5 +1,6 @@
 pub mod Basics
 pub mod Words
+pub mod Formed
 pub mod Elements
 pub mod Readers
 pub mod Files
@@ -89,3 +90,5 @@ pub mod Written
 pub mod Numbered
 pub mod Tells
 pub mod GroupsChanged
+pub mod ReadsStill
+pub mod Writing

@@ -1,6 +1,6 @@
 -- A held version's life before now stays: an event may end it, and then now.
-use Rattle.ele_world.proofs.Basics.{nat_tests, arith, ◌≡◌, ℕ, ◌<◌, ◌≤◌, List, [], ◌∷◌, Option, Some, None, find, AllLater, all-weaker, all-both}
-use Rattle.ele_world.proofs.Words.{World, Event, Change, Time, VersionRow, IsWellFormed, ArePlaced, IsVersion, Versions, after_change, after_changes, ended_at, is_version, lives_at, plan}
+use Rattle.ele_world.proofs.Basics.{AllByRecursion, nat_tests, arith, ◌≡◌, ℕ, ◌<◌, ◌≤◌, List, [], ◌∷◌, Option, Some, None, find, AllLater, all-weaker, all-both}
+use Rattle.ele_world.proofs.Words.{World, Event, Change, Time, VersionRow, HasParts, ArePlaced, IsVersion, Versions, after_change, after_changes, ended_at, is_version, lives_at, plan}
 use Rattle.ele_world.specs.LifeStays.{LivesAsBefore, LifeStays}
 use Rattle.ele_world.proofs.Allowed.{allowed}
 use Rattle.ele_world.proofs.Keeps.{reached}
@@ -35,10 +35,10 @@ follow event first w row (change ∷ changes) placed may past le was =
     follow event first v row changes placed may.1 (change_past event first w change row.file row.number may.0 past) (omega arith)
     (moved event first first.now w.now w.versions row (find (is_version row.file row.number) w.versions) (find (is_version row.file row.number) v.versions) le was (change_moves event first row.file row.number w change placed may.0 past))
 
-lives : (w : World) (event : Event) (row : VersionRow) → IsWellFormed w → IsVersion w.files w.now row → IsFound w.versions row → LivesAsBefore w event row
+lives : (w : World) (event : Event) (row : VersionRow) → HasParts w → IsVersion w.files w.now row → IsFound w.versions row → LivesAsBefore w event row
 lives w event row k is found =
     let by = reached event w (plan w event) (allowed w event k) in
     rw by.is (follow event w w row by.changes (k.holds Versions).placed by.may (held_past w row k is) (omega arith) (λ later moment same less. grind (arith, found, same)))
 
-pub life_stays : LifeStays
+pub life_stays : (w : World) (event : Event) → HasParts w → AllByRecursion (LivesAsBefore w event) w.versions
 life_stays w event k = all-weaker (λ row. IsVersion w.files w.now row × IsFound w.versions row) (LivesAsBefore w event) w.versions (λ row is. lives w event row k is.0 is.1) (all-both (IsVersion w.files w.now) (IsFound w.versions) w.versions (k.holds Versions).each (all_found w.versions (k.holds Versions).placed))

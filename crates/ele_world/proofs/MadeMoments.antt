@@ -1,11 +1,11 @@
 -- A new file changes no ripe moment: its first version has no end.
 use Rattle.ele_world.proofs.Basics.{◌≡◌, ℕ, ◌+◌, Bool, cond, List, [], ◌∷◌, Option, Some, None, refl, ap, sym, ◌∙◌, arith, append-nil, find, option_and_then, option_or, filter-append, find-append, list_any-append, nat_tests, all-found}
-use Rattle.ele_world.proofs.Words.{Policy, VersionRow, ripe_at, view_of, IsWellFormed, World, is_version}
+use Rattle.ele_world.proofs.Words.{Policy, VersionRow, ripe_at, view_of, HasParts, World, is_version}
 use Rattle.ele_world.specs.Due.{ripe_of}
 use Rattle.ele_world.proofs.Created.{created, new_file, new_name, first_version, versions_before}
 use Rattle.ele_world.proofs.RipeAt.{ripe_at_is, unended}
 
-module _ (w : World) (directory : ℕ) (name : List ℕ) (policy : Policy) (k : IsWellFormed w) where
+module _ (w : World) (directory : ℕ) (name : List ℕ) (policy : Policy) (k : HasParts w) where
   abbrev id : ℕ
   id = w.made.files + 1
 

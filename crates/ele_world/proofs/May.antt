@@ -1,8 +1,8 @@
 -- What each change needs, so that it leaves a well-formed world, and takes only what was due.
 use Rattle.ele_world.proofs.Basics.{◌≡◌, ℕ, ◌+◌, ◌<◌, ◌≤◌, true, false, List, [], ◌∷◌, length, Some, is_some, is_none, find, list_any}
 use Rattle.ele_world.proofs.Words.{Cell, longest_content, last_moment, Policy, Change, Time, Govern, MakeDirectory, EndName, AddName, MoveName, EndFileName, Revive, MakeFile, PutUnder, Append, Take, StartDraft, WriteDraft, TruncateDraft, EndDraft}
-use Rattle.ele_world.proofs.Words.{OpenHandle, MakeGroup, AddMember, AddMark, after_change, is_due_at, has_group, has_member, is_marked_at, is_live_in, is_live_directory, Plan, IsEvent, live_target, IsLawful, IsThere, IsDirectoryThere, has_directory}
-use Rattle.ele_world.proofs.Words.{is_reached, IsContent, AreWrittenBy, IsReadable, IsHeldRead, World, next_of, is_version, is_live, current_of, is_open, has_draft, is_writer, Event, CleanOne, SetDefault, SetPolicy, Reads, Target, File, Directory, VersionRow}
+use Rattle.ele_world.proofs.Words.{OpenHandle, MakeGroup, AddMember, AddMark, after_change, is_due_at, has_group, has_member, is_marked_at, is_live_in, is_live_directory, Plan, IsEvent, live_target, IsPolicy, IsThere, IsDirectoryThere, has_directory}
+use Rattle.ele_world.proofs.Words.{is_reached, IsContent, AreWrittenBy, IsReadable, IsHeldRead, World, next_of, is_version, is_live, current_of, is_open, has_draft, is_writer, Event, CleanOne, Reads, Target, File, Directory, VersionRow}
 use Rattle.ele_world.proofs.Outcomes.{InAll}
 
 abbrev pub HasRoom : World → Type 0
@@ -19,7 +19,7 @@ pub record MayMakeDirectory (w : World) (directory : ℕ) (name : List ℕ) (id 
   pub next : id ≡ w.made.directories + 1
   pub directories : w.made.directories < w.limits.directories
   pub named : MayName w directory name
-  pub valid : IsLawful policy
+  pub valid : IsPolicy policy
 
 -- the name is of a directory that has no live name in it
 pub record MayEnd (w : World) (directory : ℕ) (name : List ℕ) : Type 0 where
@@ -56,7 +56,7 @@ pub record MayMake (w : World) (directory : ℕ) (name : List ℕ) (id : ℕ) (p
   pub files : w.made.files < w.limits.files
   pub named : MayName w directory name
   pub room : HasRoom w
-  pub valid : IsLawful policy
+  pub valid : IsPolicy policy
 
 pub record MayAppend (w : World) (file opened : ℕ) (cells : List Cell) : Type 0 where
   pub there : 0 < next_of w.files file
@@ -103,16 +103,10 @@ pub record MayMark (w : World) (name : List ℕ) (mark : ℕ) : Type 0 where
   pub room : w.made.marks < w.limits.marks
   pub free : is_marked_at w.groups name mark ≡ false
 
--- what the types of an event say, of one whose policy is lawful
-abbrev pub IsLawfulEvent : Event → Type 0
-IsLawfulEvent (SetPolicy path policy) = IsLawful policy
-IsLawfulEvent (SetDefault path policy) = IsLawful policy
-IsLawfulEvent event = IsEvent event
-
 -- the change, by an event and from the world before the event's first change
 abbrev pub May : Event → World → World → Change → Type 0
-May event first w (Time to) = (w.now ≤ to) × (IsLawfulEvent event → to ≤ last_moment)
-May event first w (Govern directory policy) = IsLawfulEvent event → IsLawful policy
+May event first w (Time to) = (w.now ≤ to) × (IsEvent event → to ≤ last_moment)
+May event first w (Govern directory policy) = IsEvent event → IsPolicy policy
 May event first w (MakeDirectory directory name id policy) = MayMakeDirectory w directory name id policy
 May event first w (EndName directory name) = MayEnd w directory name
 May event first w (AddName directory name target) = MayAdd w directory name target
@@ -120,7 +114,7 @@ May event first w (MoveName from old to new target) = MayMove w from old to new 
 May event first w (EndFileName directory name file) = live_target w.names directory name ≡ Some (File file)
 May event first w (Revive directory name file) = MayRevive w directory name file
 May event first w (MakeFile directory name id policy) = MayMake w directory name id policy
-May event first w (PutUnder file policy) = IsLawfulEvent event → IsLawful policy
+May event first w (PutUnder file policy) = IsEvent event → IsPolicy policy
 May event first w (Append file opened cells) = MayAppend w file opened cells
 May event first w (Take file number) = MayTake event first w file number
 May event first w (StartDraft file) = MayStart w file

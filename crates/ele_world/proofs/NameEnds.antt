@@ -1,8 +1,8 @@
 -- Where a name has died its path leads nowhere: so after a rmdir, an unlink and a rename, by which, as by a link, a new path leads.
 use Rattle.ele_world.proofs.Basics.{◌≡◌, ℕ, false, ◌==◌, ◌&&◌, List, [], ◌∷◌, ◌++◌, Some, None, Ok, Err, refl, ap, ◌∙◌, arith, bytes_eq, false≢true, nat_tests, bytes_eq-Decides, update_first, AllLater, later-weaker, find-update_other}
 use Rattle.ele_world.proofs.Basics.{find-update_none, sym, is_some, find-append}
-use Rattle.ele_world.proofs.Words.{dies, step, is_live_name, live_target, walk, walk_now, parent_now, AreApart, Names, IsWellFormed, World, root, RemoveDir, NoEntry, Done, NameRow, Target, File, Directory, after_change, EndFileName, LinkLeads}
-use Rattle.ele_world.proofs.Words.{EndsName, UnlinkEnds, file_now, MoveName, born_row, LeadsInstead, RenameLeads, comes_through, stands_in}
+use Rattle.ele_world.proofs.Words.{dies, step, is_live_name, live_target, walk, walk_now, parent_now, AreApart, Names, HasParts, World, root, RemoveDir, NoEntry, Done, NameRow, Target, File, Directory, after_change, EndFileName, LeadsToSame, Link, Rename, Unlink}
+use Rattle.ele_world.proofs.Words.{EndsName, file_now, MoveName, born_row, LeadsInstead, comes_through, stands_in}
 use Rattle.ele_world.proofs.NameParts.{still_none, free_still}
 use Rattle.ele_world.proofs.Outcomes.{in_all}
 use Rattle.ele_world.proofs.Walks.{parent_is, file_of, last_names, new_leads, target_live, walk-push, IsParent, live_target-push, named_leads}
@@ -33,26 +33,26 @@ module _ (rows after : List NameRow) (at : ℕ × List ℕ) (nowhere : live_targ
   path_ends path found = let parent = parent_is rows path at found in ap (walk_now after) parent.whole ∙ ends_along (Directory root) parent.front parent.leads
 
 -- the path whose last name dies
-pub dead_path : (w : World) (path : List (List ℕ)) (at : ℕ × List ℕ) → IsWellFormed w → parent_now w.names path ≡ Ok at → walk_now (update_first (is_live_name at.0 at.1) (dies w.now) w.names) path ≡ Err NoEntry
+pub dead_path : (w : World) (path : List (List ℕ)) (at : ℕ × List ℕ) → HasParts w → parent_now w.names path ≡ Ok at → walk_now (update_first (is_live_name at.0 at.1) (dies w.now) w.names) path ≡ Err NoEntry
 dead_path w path at k = path_ends w.names (update_first (is_live_name at.0 at.1) (dies w.now) w.names) at (gone w.names at.0 at.1 w.now (k.holds Names).lives) (λ e m target not edge. other_stays w.names at.0 at.1 w.now e m not ∙ edge) path
 
-pub remove_dir_ends : (w : World) (path : List (List ℕ)) → IsWellFormed w → (step w (RemoveDir path)).0 ≡ Done → walk_now ((step w (RemoveDir path)).1).names path ≡ Err NoEntry
+pub remove_dir_ends : (w : World) (path : List (List ℕ)) → HasParts w → (step w (RemoveDir path)).0 ≡ Done → walk_now ((step w (RemoveDir path)).1).names path ≡ Err NoEntry
 remove_dir_ends w path k = grind (arith, nat_tests, in_all, dead_path)
 
 -- ---- a link
 
-pub link_leads : LinkLeads
+pub link_leads : (w : World) (from to : List (List ℕ)) → HasParts w → (step w (Link from to)).0 ≡ Done → LeadsToSame w from to ((step w (Link from to)).1)
 link_leads w from to k = grind (arith, nat_tests, in_all, new_leads, walk-push, file_of)
 
 -- ---- an unlink
 
-ends : (w : World) (path : List (List ℕ)) → IsWellFormed w → (at : ℕ × List ℕ) → parent_now w.names path ≡ Ok at → (file : ℕ) → file_now w.names path ≡ Ok file → EndsName w path (after_change w (EndFileName at.0 at.1 file))
+ends : (w : World) (path : List (List ℕ)) → HasParts w → (at : ℕ × List ℕ) → parent_now w.names path ≡ Ok at → (file : ℕ) → file_now w.names path ≡ Ok file → EndsName w path (after_change w (EndFileName at.0 at.1 file))
 ends w path k at found file leads =
     let named = last_names w.names path at (File file) found (file_of (walk_now w.names path) file leads) in
     let current = has_current w file k (target_live w.names at.0 at.1 (File file) named) in
     record { file = file; was = leads; gone = dead_path w path at k found; ended = grind (arith, nat_tests, last_ends w file current, current.no_end); stays = λ live. rw live refl }
 
-pub unlink_ends : UnlinkEnds
+pub unlink_ends : (w : World) (path : List (List ℕ)) → HasParts w → (step w (Unlink path)).0 ≡ Done → EndsName w path ((step w (Unlink path)).1)
 unlink_ends w path k = grind (arith, nat_tests, in_all, ends w path k)
 
 -- ---- a walk that doesn't come to what is moved leads where it did
@@ -79,7 +79,7 @@ module _ (rows : List NameRow) where
 
 -- ---- the law
 
-module _ (w : World) (from to : List (List ℕ)) (k : IsWellFormed w) (old : ℕ × List ℕ) (found : parent_now w.names from ≡ Ok old) (moved : Target) (leads : walk_now w.names from ≡ Ok moved) (at : ℕ × List ℕ) (home : parent_now w.names to ≡ Ok at) (apart : stands_in w.names moved to ≡ false) (free : is_some (live_target w.names at.0 at.1) ≡ false) where
+module _ (w : World) (from to : List (List ℕ)) (k : HasParts w) (old : ℕ × List ℕ) (found : parent_now w.names from ≡ Ok old) (moved : Target) (leads : walk_now w.names from ≡ Ok moved) (at : ℕ × List ℕ) (home : parent_now w.names to ≡ Ok at) (apart : stands_in w.names moved to ≡ false) (free : is_some (live_target w.names at.0 at.1) ≡ false) where
   abbrev remaining : List NameRow
   remaining = update_first (is_live_name old.0 old.1) (dies w.now) w.names
 
@@ -109,5 +109,5 @@ module _ (w : World) (from to : List (List ℕ)) (k : IsWellFormed w) (old : ℕ
     versions = refl;
   }
 
-pub rename_leads : RenameLeads
+pub rename_leads : (w : World) (from to : List (List ℕ)) → HasParts w → (step w (Rename from to)).0 ≡ Done → LeadsInstead w from to ((step w (Rename from to)).1)
 rename_leads w from to k = grind (arith, nat_tests, leads_instead w from to k)

@@ -1,7 +1,7 @@
 -- A name more, and the end of one, in the parts of a well-formed world that speak of names.
 use Rattle.ele_world.proofs.Basics.{◌≡◌, ℕ, ◌≤◌, Bool, true, false, List, [], ◌∷◌, ◌++◌, Some, arith, ◌+◌, ◌<◌, length, is_some, is_none, AllByRecursion, list_any, false≢true, nat_tests, bytes_eq-Decides, update_first, all-any, all-push, all-weaker}
 use Rattle.ele_world.proofs.Basics.{all-both, all-update_first, all-not_found, later-push, later-update_first, not_found, later-update_found, list_any-update_found, AllLater}
-use Rattle.ele_world.proofs.Words.{born_row, dies, is_live_directory, live_target, is_live_name, IsThere, IsNameRow, AreApart, AreNames, AreOthers, AreCounted, Counted, IsWellFormed, FileRow, NameRow, Target, File, Directory, World, is_target_file}
+use Rattle.ele_world.proofs.Words.{born_row, dies, is_live_directory, live_target, is_live_name, IsThere, IsNameRow, AreApart, AreNames, AreOthers, AreCounted, Counted, HasParts, FileRow, NameRow, Target, File, Directory, World, is_target_file}
 use Rattle.ele_world.proofs.Words.{is_live_name_of}
 
 -- ---- a name more
@@ -26,7 +26,7 @@ pub tree_more : (now : ℕ) (names : List NameRow) (directory : ℕ) (name : Lis
 tree_more now names directory name target none tree = grind (arith, nat_tests, later-push, false≢true, all-any, all-weaker)
 
 -- so many name rows, at most one more than there were
-pub counted_more : (w : World) (rows : ℕ) → IsWellFormed w → w.made.names < w.limits.names → rows ≤ length w.names + 1 → AreCounted (record w.made { names = w.made.names + 1 }) w.limits (length w.files) rows (length w.versions) (length w.drafts)
+pub counted_more : (w : World) (rows : ℕ) → HasParts w → w.made.names < w.limits.names → rows ≤ length w.names + 1 → AreCounted (record w.made { names = w.made.names + 1 }) w.limits (length w.files) rows (length w.versions) (length w.drafts)
 counted_more w rows k room le = grind (arith, nat_tests, k.holds Counted)
 
 -- ---- the end of a name

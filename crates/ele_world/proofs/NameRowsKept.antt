@@ -1,6 +1,6 @@
 -- Name rows after an event: those before, in their order, but for those of a file that goes, and new ones behind.
 use Rattle.ele_world.proofs.Basics.{rules, nat_tests, arith, ◌≡◌, ℕ, ◌<◌, true, List, [], ◌∷◌, ◌++◌, ◌==◌, ◌&&◌, not, None, refl, inl, filter, list_any, AllByRecursion, AllLater, update_first, remove_first, all-push, all-weaker, filter-all, filter-same_all, list_any-append, list_any-update_first}
-use Rattle.ele_world.proofs.Words.{World, Event, Close, CleanOne, Revert, Read, NameRow, FileRow, Target, File, IsWellFormed, Names, Files, DropIdle, EndDraft, ShutHandle, Take, Append, after_change, after_changes, MakeFile, PutUnder, Revive, Policy, numbered_on, put_under, IsThere, IsNameRow, born_row, dies, is_file, is_live_name, next_of, plan}
+use Rattle.ele_world.proofs.Words.{World, Event, Close, CleanOne, Revert, Read, NameRow, FileRow, Target, File, HasParts, Names, Files, DropIdle, EndDraft, ShutHandle, Take, Append, after_change, after_changes, MakeFile, PutUnder, Revive, Policy, numbered_on, put_under, IsThere, IsNameRow, born_row, dies, is_file, is_live_name, next_of, plan, step}
 use Rattle.ele_world.specs.NameRowsStay.{AreStillRows, is_there, NameRowsStay}
 use Rattle.ele_world.proofs.Dropped.{dropped, stays_named}
 use Rattle.ele_world.proofs.Elements.{any_none}
@@ -32,7 +32,7 @@ file_there (x ∷ xs) file h = grind (arith, nat_tests, file_there xs file)
 target_there : (files : List FileRow) (target : Target) → IsThere files target → is_there files target ≡ true
 target_there files target h = grind (arith, nat_tests, file_there)
 
-all_there : (w : World) → IsWellFormed w → AreThere w.files w.names
+all_there : (w : World) → HasParts w → AreThere w.files w.names
 all_there w k = all-weaker (IsNameRow w.files w.now) (λ row. is_there w.files row.target ≡ true) w.names (λ row is. target_there w.files row.target is.there) (k.holds Names).each
 
 more_there : (files more : List FileRow) (names : List NameRow) → ((file : ℕ) → list_any (is_file file) files ≡ true → list_any (is_file file) more ≡ true) → AreThere files names → AreThere more names
@@ -51,7 +51,7 @@ others_there files file names placed there = filter-same_all (λ row. is_there (
 
 -- ---- each event
 
-module _ (w : World) (k : IsWellFormed w) where
+module _ (w : World) (k : HasParts w) where
   abbrev Still : World → Type 0
   Still v = AreStillRows w.now (filter (λ row. is_there v.files row.target) w.names) v.names
 
@@ -106,5 +106,5 @@ module _ (w : World) (k : IsWellFormed w) where
   still (Read source) = grind (arith, nat_tests, same, unchanged)
   still event = search (rules, made, revived, put, same, numbered, born, died, unchanged)
 
-pub name_rows_stay : NameRowsStay
+pub name_rows_stay : (w : World) (event : Event) → HasParts w → let after = (step w event).1 in AreStillRows w.now (filter (λ row. is_there after.files row.target) w.names) after.names
 name_rows_stay w event k = in_all w (λ answer. AreStillRows w.now (filter (λ row. is_there (answer.1).files row.target) w.names) (answer.1).names) (plan w event) (λ refusal. same w k w refl (unchanged w.now w.names)) (still w k event)

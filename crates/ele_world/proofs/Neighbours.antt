@@ -3,7 +3,7 @@
 use Rattle.ele_world.proofs.Basics.{◌≡◌, ℕ, ◌+◌, ◌≤◌, ◌==◌, ◌&&◌, ◌||◌, Bool, true, false, not, cond, List, [], ◌∷◌, Option, Some, None, refl, arith, filter, slice_get, find, option_and_then, IfSome, AllByRecursion, list_any, option_map_or}
 use Rattle.ele_world.proofs.Basics.{nat_tests, slice_get-map, find-cut, find-filter_both, AllLater, update_first, all-weaker, not_found}
 use Rattle.ele_world.proofs.Words.{Policy, IsLawful, IsNearest, is_due_by, alone, candidates, earliest_of, FileRow, VersionRow, ended_at, ripe_at, FileView, view_of, beside, ripe_in, covers_moment, is_marked, near_moment}
-use Rattle.ele_world.proofs.Words.{next_closing, moment_under, free_moment, ArePlaced, AreVersions, IsVersion, Versions, IsWellFormed, World, is_open, is_version, next_of, policy_of}
+use Rattle.ele_world.proofs.Words.{next_closing, moment_under, free_moment, ArePlaced, AreVersions, IsVersion, Versions, HasParts, World, is_open, is_version, next_of, policy_of}
 use Rattle.ele_policy.specs.Ripe.{ripe_by}
 use Rattle.ele_world.specs.Due.{ripe_of}
 use Rattle.ele_world.proofs.GroupMarks.{marks_tell}
@@ -21,7 +21,7 @@ pub record AreInOrder (files : List FileRow) (versions : List VersionRow) : Type
 pub versions_in_order : (files : List FileRow) (now : ℕ) (versions : List VersionRow) → AllByRecursion (λ row. IsLawful row.policy) files → AreVersions files now versions → AreInOrder files versions
 versions_in_order files now versions policies are = record { policies = policies; lives = lives_in files now versions are.each; placed = are.placed }
 
-pub in_order_of : (w : World) → IsWellFormed w → AreInOrder w.files w.versions
+pub in_order_of : (w : World) → HasParts w → AreInOrder w.files w.versions
 in_order_of w k = versions_in_order w.files w.now w.versions (policies_of w k) (k.holds Versions)
 
 slice_get-filter : {X : Type 0} (p : X → Bool) (xs : List X) → slice_get (filter p xs) 0 ≡ find p xs

@@ -2,15 +2,14 @@
 -- each file has a version or a draft.
 use Rattle.ele_world.proofs.Basics.{rules, ◌≡◌, ◌==◌, ℕ, Bool, true, false, not, ◌||◌, List, [], ◌∷◌, arith, AllByRecursion, list_any, false≢true, not-true, nat_tests, update_first, remove_first, filter-passes, all-push, all-weaker, all-both}
 use Rattle.ele_world.proofs.Basics.{all-update_first, all-remove_first, found_passes, list_any-update_first, list_any-insert_before, list_any-remove_first, any-found, remove_first-key}
-use Rattle.ele_world.proofs.Words.{Cell, Policy, Take, MakeFile, PutUnder, EndFileName, EndDraft, DropIdle, ShutHandle, StartDraft, after_change, is_idle, numbered_on, put_under, with_file, with_name, with_version, without_file, is_version_of}
-use Rattle.ele_world.proofs.Words.{HasNoIdle, NoIdleStays, run_of, plan, step, Files, Current, IsWellFormed, World, is_file, is_draft, has_draft, Event, Close, CleanOne, Read, DraftRow, FileRow, File}
+use Rattle.ele_world.proofs.Words.{Cell, Policy, Take, MakeFile, PutUnder, EndFileName, EndDraft, DropIdle, ShutHandle, StartDraft, after_change, is_idle, numbered_on, put_under, with_file, with_name, with_version, without_file, is_version_of, IsEvent}
+use Rattle.ele_world.proofs.Words.{HasNoIdle, run_of, plan, step, Files, Current, HasParts, World, is_file, is_draft, has_draft, Event, Close, CleanOne, Read, DraftRow, FileRow, File}
 use Rattle.ele_lists.proofs.Cuts.{any-found as first_passing}
 use Rattle.ele_world.proofs.Allowed.{takes}
 use Rattle.ele_world.proofs.Dropped.{dropped}
 use Rattle.ele_world.proofs.Keeps.{change_keeps}
 use Rattle.ele_world.proofs.KeptDrafts.{same_file, end_keeps, shut_keeps}
 use Rattle.ele_world.proofs.Outcomes.{AfterAll, in_all}
-use Rattle.ele_world.proofs.May.{IsLawfulEvent}
 use Rattle.ele_world.proofs.StepKeeps.{step_keeps}
 
 -- the file has a held version or a draft
@@ -58,10 +57,10 @@ ended : (w : World) (file : ℕ) → AreBusy w → AreBusyBut (after_change w (E
 ended w file = grind (arith, nat_tests, all-weaker, list_any-remove_first, found_passes)
 
 -- a live file has its current version
-busy_is : (w : World) (file : ℕ) → IsWellFormed w → is_idle w file ≡ false → has_rows w file ≡ true
+busy_is : (w : World) (file : ℕ) → HasParts w → is_idle w file ≡ false → has_rows w file ≡ true
 busy_is w file k = grind (arith, nat_tests, k.holds Current, first_passing, any-found, found_passes, false≢true)
 
-idle_gone : (w : World) (file : ℕ) → IsWellFormed w → AreBusyBut w file → AreBusy (after_change w (DropIdle file))
+idle_gone : (w : World) (file : ℕ) → HasParts w → AreBusyBut w file → AreBusy (after_change w (DropIdle file))
 idle_gone w file k but = dropped AreBusy w file (λ idle. gone) (λ busy. grind (arith, nat_tests, busy_is w file k, all-weaker (λ row. (row.id == file) ≡ false → has_rows w row.id ≡ true) (λ row. has_rows w row.id ≡ true) w.files)) where
   others : AllByRecursion (λ row. not (row.id == file) ≡ true) (remove_first (is_file file) w.files)
   others = rw (remove_first-key (λ (row : FileRow). row.id) file w.files (k.holds Files).placed) (filter-passes (λ (row : FileRow). not (row.id == file)) w.files)
@@ -72,7 +71,7 @@ idle_gone w file k but = dropped AreBusy w file (λ idle. gone) (λ busy. grind 
 
 -- ---- each event
 
-tidy : (w : World) (event : Event) → IsWellFormed w → AreBusy w → AfterAll w (λ answer. AreBusy (answer.1)) (plan w event)
+tidy : (w : World) (event : Event) → HasParts w → AreBusy w → AfterAll w (λ answer. AreBusy (answer.1)) (plan w event)
 tidy w (Close handle) k all = λ read found. (
   λ none. all,
   λ file writes. (
@@ -92,9 +91,9 @@ tidy w CleanOne k all = (λ none. all, λ key first. idle_gone (after_change w (
 tidy w (Read source) k all = grind (arith, nat_tests)
 tidy w event k all = search (rules, made, grown, nameless, begun, edited, same_file, put)
 
-pub no_idle_stays : NoIdleStays
+pub no_idle_stays : (w : World) (event : Event) → HasParts w → HasNoIdle w → HasNoIdle ((step w event).1)
 no_idle_stays w event k none = grind (arith, nat_tests, all-weaker, is_idle, has_rows, busy_is, step, in_all, AreBusy, plan, tidy)
 
-pub runs_have_none : (w : World) (events : List Event) → AllByRecursion IsLawfulEvent events → IsWellFormed w → HasNoIdle w → HasNoIdle (run_of w events)
+pub runs_have_none : (w : World) (events : List Event) → AllByRecursion IsEvent events → HasParts w → HasNoIdle w → HasNoIdle (run_of w events)
 runs_have_none w [] are k none = none
 runs_have_none w (event ∷ events) are k none = runs_have_none ((step w event).1) events are.1 (step_keeps w event are.0 k) (no_idle_stays w event k none)

@@ -1,17 +1,17 @@
 -- What a number reads, tells and opens, and which number is told where it was removed.
 use Rattle.ele_world.proofs.Basics.{nat_tests, arith, ◌≡◌, ℕ, ◌<◌, ◌≤◌, true, List, [], ◌∷◌, Option, Some, None, Ok, Err, Result, refl, find, AllByRecursion, AllLater, all-found, all-weaker, any-found, found_passes, last_has, last_passing, option_map}
-use Rattle.ele_world.proofs.Words.{World, TaggedPath, VersionRow, IsWellFormed, ArePlaced, IsVersion, Versions, File, Forgotten, file_now, is_version, last_number, version_at, version_meant, walk_now, is_held, Refusal}
+use Rattle.ele_world.proofs.Words.{World, TaggedPath, VersionRow, HasParts, ArePlaced, IsVersion, Versions, File, Forgotten, file_now, is_version, last_number, version_at, version_meant, walk_now, is_held, Refusal}
 use Rattle.ele_time_path.specs.declared.tagged.Tag.TheVariants as tag
 use Rattle.ele_world.specs.declared.refusal.Refusal.TheVariants.{NoVersion}
 use Rattle.ele_lists.proofs.Cuts.{any-found as first_passing}
 use Rattle.ele_world.specs.Answered.{AnswersVersion, Refuses}
-use Rattle.ele_world.specs.NumberMeans.{IsGreatestBelow, MeansNumber, NumberMeans}
+use Rattle.ele_world.specs.NumberMeans.{IsGreatestBelow, MeansNumber}
 use Rattle.ele_world.specs.Tagged.{is_before}
 use Rattle.ele_world.proofs.Versions.{IsFound, all_found}
 use Rattle.ele_world.proofs.Written.{handle_reads}
 use Rattle.ele_world.proofs.Walks.{file_of}
 
-all_held : (w : World) → IsWellFormed w → AllByRecursion (λ row. is_held w row.file row.number ≡ true) w.versions
+pub all_held : (w : World) → HasParts w → AllByRecursion (λ row. is_held w row.file row.number ≡ true) w.versions
 all_held w k = all-weaker (IsFound w.versions) (λ row. is_held w row.file row.number ≡ true) w.versions (λ row found. any-found (is_version row.file row.number) (is_version row.file row.number) w.versions row found (grind (arith, nat_tests))) (all_found w.versions (k.holds Versions).placed)
 
 -- ---- the last number below is the greatest
@@ -33,7 +33,7 @@ module _ (file number : ℕ) where
   all_below [] placed = tt
   all_below (x ∷ xs) placed = (first_below x xs (last_passing (is_before file number) xs) refl placed.0, all-weaker (Below xs) (Below (x ∷ xs)) xs (λ y below is. grind (arith, nat_tests, below is)) (all_below xs placed.1))
 
-  greatest_below : (w : World) → IsWellFormed w → IsGreatestBelow w file number (last_number (is_before file number) w.versions)
+  greatest_below : (w : World) → HasParts w → IsGreatestBelow w file number (last_number (is_before file number) w.versions)
   greatest_below w k = record {
     held = λ other is. held other (last_passing (is_before file number) w.versions) refl is;
     greatest = λ other held less. up other less (first_passing (is_version file other) w.versions held);
@@ -54,7 +54,7 @@ module _ (file number : ℕ) where
 
 -- ---- what is answered
 
-module _ (w : World) (path : List (List ℕ)) (file number : ℕ) (k : IsWellFormed w) (named : file_now w.names path ≡ Ok file) where
+module _ (w : World) (path : List (List ℕ)) (file number : ℕ) (k : HasParts w) (named : file_now w.names path ≡ Ok file) where
   abbrev t : TaggedPath
   t = record { path = path; tag = tag.Number number }
 
@@ -87,5 +87,5 @@ module _ (w : World) (path : List (List ℕ)) (file number : ℕ) (k : IsWellFor
     never = λ out. refuses NoVersion (grind (arith, nat_tests, out));
   }
 
-pub number_means : NumberMeans
+pub number_means : (w : World) (path : List (List ℕ)) (file number : ℕ) → HasParts w → file_now w.names path ≡ Ok file → MeansNumber w (record { path = path; tag = tag.Number number }) file number
 number_means w path file number k named = means w path file number k named

@@ -1,14 +1,15 @@
 -- In a run one version of a file lived at each moment that a name of the file covers.
 use Rattle.ele_world.proofs.Basics.{◌≡◌, ℕ, true, false, List, [], ◌∷◌, Option, Some, None, subst, sym, arith, find, Ok, Err, AllByRecursion, option_or, false≢true, cases_lt, nat_tests, all-found, all-not_found, all-weaker, found_passes, any-found, AllLater}
-use Rattle.ele_world.proofs.Words.{Bounds, AreBounds, Change, after_change, after_changes, last_stood, HasOneLife, OneLife, run_of, PoliciesAreLawful, plan, step, had_closed, had_life, last_number, lives_at, version_living, ArePlaced, Versions, IsWellFormed, World, fresh_world, is_held, is_version, Event, Forgotten, VersionRow}
+use Rattle.ele_world.proofs.Words.{Bounds, AreBounds, Change, after_change, after_changes, last_stood, HasOneLife, OneLife, run_of, PoliciesAreLawful, plan, step, had_closed, had_life, last_number, lives_at, version_living, ArePlaced, Versions, HasParts, World, fresh_world, is_held, is_version, Event, Forgotten, VersionRow, IsEvent}
 use Rattle.ele_lists.proofs.Cuts.{any-found as first_passing}
 use Rattle.ele_world.proofs.Allowed.{allowed}
 use Rattle.ele_world.proofs.Keeps.{change_keeps, reached}
 use Rattle.ele_world.proofs.Known.{change_known, Known, known_in, HadLife, AreKnown, or_none}
 use Rattle.ele_world.proofs.Moves.{row_of}
-use Rattle.ele_world.proofs.May.{IsLawfulEvent, MayAll}
-use Rattle.ele_world.proofs.StepKeeps.{fresh_is, lawful_events, step_keeps, run_keeps}
+use Rattle.ele_world.proofs.May.{MayAll}
+use Rattle.ele_world.proofs.StepKeeps.{fresh_is, step_keeps, run_has}
 use Rattle.ele_world.proofs.Versions.{all_found}
+use Rattle.ele_world.proofs.Formed.{in_parts}
 
 -- ---- events
 
@@ -21,7 +22,7 @@ known_rest o p q = grind (arith, nat_tests)
 
 all_known : (event : Event) (first w : World) (changes : List Change) (before : Known) → AllLater ArePlaced first.versions
     → ((file number : ℕ) (row : VersionRow) → row_of first file number ≡ Some row → before file number ≡ Some row)
-    → IsLawfulEvent event → IsWellFormed w → MayAll event first w changes → AreKnown w (known_in w before) → AreKnown (after_changes w changes) (known_in (after_changes w changes) before)
+    → IsEvent event → HasParts w → MayAll event first w changes → AreKnown w (known_in w before) → AreKnown (after_changes w changes) (known_in (after_changes w changes) before)
 all_known event first w [] before placed first_held is k may s = s
 all_known event first w (change ∷ changes) before placed first_held is k may s =
     let k' = change_keeps event first w change is may.0 k in
@@ -33,7 +34,7 @@ all_known event first w (change ∷ changes) before placed first_held is k may s
 abbrev known_after : World → List Event → Known → Known
 known_after w events before file number = option_or (last_stood w events file number) (before file number)
 
-run_known : (w : World) (events : List Event) (before : Known) → AllByRecursion IsLawfulEvent events → IsWellFormed w → AreKnown w (known_in w before) → AreKnown (run_of w events) (known_after w events before)
+run_known : (w : World) (events : List Event) (before : Known) → AllByRecursion IsEvent events → HasParts w → AreKnown w (known_in w before) → AreKnown (run_of w events) (known_after w events before)
 run_known w [] before are k s = s
 run_known w (event ∷ events) before are k s =
     let by = reached event w (plan w event) (allowed w event k) in
@@ -43,14 +44,14 @@ run_known w (event ∷ events) before are k s =
     let then : AreKnown v (known_in v known) = rw by.is (all_known event w w by.changes known (k.holds Versions).placed s.held are.0 k by.may again) in
     subst (AreKnown (run_of v events)) (λ i file number. sym (known_rest (last_stood v events file number) (row_of w file number) (before file number)) i) (run_known v events known are.1 (step_keeps w event are.0 k) then)
 
-ever_known : (limits : Bounds) (events : List Event) → AreBounds limits → AllByRecursion IsLawfulEvent events → AreKnown (run_of (fresh_world limits) events) (last_stood (fresh_world limits) events)
-ever_known limits events bounds are =
+ever_known : PoliciesAreLawful → (limits : Bounds) (events : List Event) → AreBounds limits → AllByRecursion IsEvent events → AreKnown (run_of (fresh_world limits) events) (last_stood (fresh_world limits) events)
+ever_known law limits events bounds are =
     let first = fresh_world limits in
-    subst (AreKnown (run_of first events)) (λ i file number. sym (or_none (last_stood first events file number)) i) (run_known first events (λ file number. None) are (fresh_is limits bounds) (grind (arith, nat_tests)))
+    subst (AreKnown (run_of first events)) (λ i file number. sym (or_none (last_stood first events file number)) i) (run_known first events (λ file number. None) are (in_parts law first (fresh_is limits bounds)) (grind (arith, nat_tests)))
 
 -- ---- one life
 
-module _ (first : World) (events : List Event) (k : IsWellFormed (run_of first events)) (s : AreKnown (run_of first events) (last_stood first events)) (file moment : ℕ) (life : HadLife (last_stood first events) file moment) where
+module _ (first : World) (events : List Event) (k : HasParts (run_of first events)) (s : AreKnown (run_of first events) (last_stood first events)) (file moment : ℕ) (life : HadLife (last_stood first events) file moment) where
   abbrev w : World
   w = run_of first events
 
@@ -73,4 +74,4 @@ module _ (first : World) (events : List Event) (k : IsWellFormed (run_of first e
   has_one_life = record { row = life.row; stood = life.stood; lived = life.lived; only = only; held = held_reads; gone = gone_forgotten }
 
 pub one_life : PoliciesAreLawful → OneLife
-one_life law limits events bounds are = grind (arith, nat_tests, lawful_events law events are, fresh_world, run_keeps, fresh_is, ever_known, all-weaker, last_stood, run_of, has_one_life)
+one_life law limits events bounds are = grind (arith, nat_tests, fresh_world, run_has law limits events bounds are, ever_known law limits events bounds are, all-weaker, last_stood, run_of, has_one_life)

@@ -1,6 +1,6 @@
 -- A pass, one clean event after another: where nothing disturbs it it removes the due versions, and no others.
 use Rattle.ele_world.proofs.Basics.{nat_tests, arith, ◌≡◌, ℕ, suc, zero, true, not, List, Option, Some, None, refl, ap, ◌∙◌, IfSome, all-weaker, find-cut, filter-all, ◌+◌, ◌<◌, length, add-one, IsSome, cases_lt, length-remove_first, length-split}
-use Rattle.ele_world.proofs.Words.{CleanOne, Key, VersionRow, is_due_at, kept_rows, after_cleans, IsPass, first_due, Take, after_change, clean_step, IsWellFormed, World, is_version, IsCleaned, HasRemoved, IsFinished}
+use Rattle.ele_world.proofs.Words.{CleanOne, Key, VersionRow, is_due_at, kept_rows, after_cleans, IsPass, first_due, Take, after_change, clean_step, HasParts, World, is_version, IsCleaned, HasRemoved, IsFinished}
 use Rattle.ele_world.specs.Scan.{due_key}
 use Rattle.ele_world.proofs.Cleans.{clean_of}
 use Rattle.ele_world.proofs.DropViews.{dropped_sees, kept_same}
@@ -12,7 +12,7 @@ use Rattle.ele_world.proofs.Views.{now_of, placed_of}
 use Rattle.ele_world.proofs.Dropped.{dropped_versions}
 
 -- a clean leaves what is kept
-clean_keeps_kept : (w : World) → IsWellFormed w → kept_rows ((clean_step w).1) ≡ kept_rows w
+clean_keeps_kept : (w : World) → HasParts w → kept_rows ((clean_step w).1) ≡ kept_rows w
 clean_keeps_kept w k = by (first_due w) refl where
   by : (o : Option Key) → first_due w ≡ o → kept_rows ((clean_of w o).1) ≡ kept_rows w
   by None e = refl
@@ -23,20 +23,20 @@ clean_keeps_kept w k = by (first_due w) refl where
       ∙ ap kept_rows (taken w key.file key.number due.row due.found)
       ∙ (removal_order w at.before due.row at.behind k at.whole due.due).kept
 
-pub cleaned_keeps_kept : (n : ℕ) (w : World) → IsWellFormed w → (kept_rows (after_cleans n w) ≡ kept_rows w) × IsWellFormed (after_cleans n w)
+pub cleaned_keeps_kept : (n : ℕ) (w : World) → HasParts w → (kept_rows (after_cleans n w) ≡ kept_rows w) × HasParts (after_cleans n w)
 cleaned_keeps_kept zero w k = (refl, k)
 cleaned_keeps_kept (suc n) w k = grind (arith, nat_tests, cleaned_keeps_kept n ((clean_step w).1) (step_keeps w CleanOne tt k), step_keeps w CleanOne tt k, clean_keeps_kept w k)
 
 -- ---- where the scan is empty nothing is due
 
-pub nothing_due : (w : World) → IsWellFormed w → first_due w ≡ None → kept_rows w ≡ w.versions
+pub nothing_due : (w : World) → HasParts w → first_due w ≡ None → kept_rows w ≡ w.versions
 unfolding due_key
 nothing_due w k h = filter-all (λ row. not (is_due_at w row w.now)) w.versions (all-weaker (λ row. IfSome (due_key w row) (IsFirst (first_due w))) (λ row. not (is_due_at w row w.now) ≡ true) w.versions no_key (first_of_rows w)) where
   no_key : (row : VersionRow) → IfSome (due_key w row) (IsFirst (first_due w)) → not (is_due_at w row w.now) ≡ true
   no_key row none = grind (arith, nat_tests, h, ripens w k row w.now, now_of w k)
 
 -- what a pass leaves
-pub pass_leaves_kept : (w : World) (removed : ℕ) (after : World) → IsWellFormed w → IsPass w removed after → after.versions ≡ kept_rows w
+pub pass_leaves_kept : (w : World) (removed : ℕ) (after : World) → HasParts w → IsPass w removed after → after.versions ≡ kept_rows w
 pass_leaves_kept w removed after k pass = grind (arith, nat_tests, cleaned_keeps_kept removed w k, nothing_due (after_cleans removed w))
 
 -- ---- how many go, and how it ends
@@ -54,26 +54,26 @@ pub cleaned_more : (w : World) (n : ℕ) (v : World) → IsCleaned w n v → IsS
 cleaned_more w n v so_far some = grind (arith, nat_tests, cases_lt, after_cleans-end, add-one)
 
 -- one version goes
-clean_removes : (w : World) → IsWellFormed w → IsSome (first_due w) → length ((clean_step w).1).versions + 1 ≡ length w.versions
+clean_removes : (w : World) → HasParts w → IsSome (first_due w) → length ((clean_step w).1).versions + 1 ≡ length w.versions
 clean_removes w keeps some = by (first_due w) refl some where
   by : (o : Option Key) → first_due w ≡ o → IsSome o → length ((clean_of w o).1).versions + 1 ≡ length w.versions
   by None e h = absurd cc
   by (Some key) e h = grind (arith, nat_tests, first_is_due w key (placed_of w keeps) e, placed_of w keeps, dropped_versions (after_change w (Take key.file key.number)) key.file, length-remove_first (is_version key.file key.number) w.versions)
 
 -- and so many by so many events
-cleaned_removes : (n : ℕ) (w : World) → IsWellFormed w → ((k : ℕ) → k < n → IsSome (first_due (after_cleans k w))) → length (after_cleans n w).versions + n ≡ length w.versions
+cleaned_removes : (n : ℕ) (w : World) → HasParts w → ((k : ℕ) → k < n → IsSome (first_due (after_cleans k w))) → length (after_cleans n w).versions + n ≡ length w.versions
 cleaned_removes zero w keeps each = omega arith
 cleaned_removes (suc n) w keeps each =
     omega (arith, clean_removes w keeps (each 0 (omega arith)), cleaned_removes n ((clean_step w).1) (step_keeps w CleanOne tt keeps) (λ k h. each (suc k) (omega arith)))
 
 -- the end, when the budget is spent
-pub budget_ends : (w : World) (n : ℕ) (v : World) → IsWellFormed w → IsCleaned w n v → HasRemoved w n v
+pub budget_ends : (w : World) (n : ℕ) (v : World) → HasParts w → IsCleaned w n v → HasRemoved w n v
 budget_ends w n v keeps so_far = grind (arith, nat_tests, cleaned_removes, cleaned_keeps_kept)
 
 -- the end, when nothing is due any more
-pub pass_finishes : (w : World) (n : ℕ) (v : World) (budget : ℕ) → IsWellFormed w → IsCleaned w n v → first_due v ≡ None → n < budget → IsFinished w budget n v
+pub pass_finishes : (w : World) (n : ℕ) (v : World) (budget : ℕ) → HasParts w → IsCleaned w n v → first_due v ≡ None → n < budget → IsFinished w budget n v
 pass_finishes w n v budget keeps so_far none below =
-    let pass : IsPass w n v = record { each = so_far.each; after_is = so_far.after_is; last = none } in
+    let pass : IsPass w n v = record { cleaned = so_far; last = none } in
     let left = pass_leaves_kept w n v keeps pass in
     record {
       pass = pass;

@@ -1,6 +1,6 @@
 -- What name rows say of a moment before now stays so after an event, but for those of a file that goes.
 use Rattle.ele_world.proofs.Basics.{nat_tests, arith, ◌≡◌, ℕ, ◌<◌, Bool, true, false, List, [], ◌∷◌, ◌++◌, ◌&&◌, Option, Some, None, refl, ap, sym, ◌∙◌, ◌⊎◌, inl, inr, find, filter, option_map, AllByRecursion, AllLater, update_first, remove_first, list_any, find-append, not_found, all-not_found, all-filter, all-weaker, bytes_eq-Decides}
-use Rattle.ele_world.proofs.Words.{World, Event, Close, CleanOne, Read, NameRow, FileRow, Target, File, IsWellFormed, Files, Names, AreApart, DropIdle, EndDraft, ShutHandle, Take, after_change, without_file, is_file, is_live_name, is_live_name_of, is_named, covers, target_at, dies, plan}
+use Rattle.ele_world.proofs.Words.{World, Event, Close, CleanOne, Read, NameRow, FileRow, Target, File, HasParts, Files, Names, AreApart, DropIdle, EndDraft, ShutHandle, Take, after_change, without_file, is_file, is_live_name, is_live_name_of, is_named, covers, target_at, dies, plan, step}
 use Rattle.ele_world.specs.PastStays.{StoodAsBefore, PastStays}
 use Rattle.ele_world.proofs.Dropped.{IsIdle, dropped, stays_named}
 use Rattle.ele_world.proofs.Outcomes.{AfterAll, in_all}
@@ -46,7 +46,7 @@ module _ (moment d : ℕ) (n : List ℕ) where
 
 -- ---- each event
 
-module _ (w : World) (moment d : ℕ) (n : List ℕ) (k : IsWellFormed w) (before : moment < w.now) where
+module _ (w : World) (moment d : ℕ) (n : List ℕ) (k : HasParts w) (before : moment < w.now) where
   abbrev Stood : World → Type 0
   Stood v = StoodAsBefore w v moment d n
 
@@ -75,5 +75,5 @@ module _ (w : World) (moment d : ℕ) (n : List ℕ) (k : IsWellFormed w) (befor
   past (Read source) = grind (arith, nat_tests)
   past event = grind (arith, nat_tests, born moment d n, died moment d n)
 
-pub past_stays : PastStays
+pub past_stays : (w : World) (event : Event) (moment directory : ℕ) (name : List ℕ) → HasParts w → moment < w.now → StoodAsBefore w ((step w event).1) moment directory name
 past_stays w event moment d n k before = in_all w (λ answer. StoodAsBefore w (answer.1) moment d n) (plan w event) (λ refusal. inl refl) (past w moment d n k before event)

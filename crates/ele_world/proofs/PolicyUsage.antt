@@ -1,13 +1,13 @@
 -- What the files of each kind use where a file gets another policy: what it uses goes from the one kind to the other.
 use Rattle.ele_world.proofs.Basics.{nat_tests, ◌≡◌, ◌==◌, ℕ, ◌+◌, false, cond, List, length, Some, refl, arith, filter, find, length-filter, update_first, sum_by-update_first, sum_by-found}
-use Rattle.ele_world.proofs.Words.{Kind, Policy, kind_of, is_kind, only_at, plus, IsWithin, PutUnder, put_under, after_change, FileRow, file_usage, is_of, is_file_of, IsWellFormed, World, is_file, policy_of}
+use Rattle.ele_world.proofs.Words.{Kind, Policy, kind_of, is_kind, only_at, plus, IsWithin, PutUnder, put_under, after_change, FileRow, file_usage, is_of, is_file_of, HasParts, World, is_file, policy_of}
 use Rattle.ele_world.specs.Usage.{usage_of}
 use Rattle.ele_world.proofs.Elements.{find-updated}
 use Rattle.ele_world.proofs.Files.{policy_of-put_other}
 use Rattle.ele_world.proofs.Splits.{file_moves, passing_split}
 use Rattle.ele_world.proofs.Usages.{only_at_is}
 
-module _ (w : World) (file : ℕ) (was policy : Policy) (k : IsWellFormed w) (filed : policy_of w.files file ≡ Some was) where
+module _ (w : World) (file : ℕ) (was policy : Policy) (k : HasParts w) (filed : policy_of w.files file ≡ Some was) where
   abbrev files : List FileRow
   files = update_first (is_file file) (put_under policy) w.files
 

@@ -1,15 +1,15 @@
 -- A version that is held has the cells that it had when it closed.
 use Rattle.ele_world.proofs.Basics.{nat_tests, arith, ◌≡◌, ℕ, List, [], ◌∷◌, Option, IfSome, refl, find, Ok, AllByRecursion, all-found, all-weaker, all-both, AllLater}
-use Rattle.ele_world.proofs.Words.{Cell, content_of, TaggedPath, Change, after_change, after_changes, PoliciesAreLawful, ReadsAsClosed, ReadsRow, fresh_world, run_of, plan, step, version_at, ArePlaced, IsVersion, Versions, Readers, IsWellFormed, World, is_version, reads_by, Event, Read, Tagged, Of, Bytes, Version, VersionRow}
+use Rattle.ele_world.proofs.Words.{Cell, content_of, TaggedPath, Change, after_change, after_changes, PoliciesAreLawful, ReadsAsClosed, ReadsRow, fresh_world, run_of, plan, step, version_at, ArePlaced, IsVersion, Versions, Readers, HasParts, World, is_version, reads_by, Event, Read, Tagged, Of, Bytes, Version, VersionRow, IsEvent}
 use Rattle.ele_world.proofs.Allowed.{allowed}
 use Rattle.ele_world.proofs.Keeps.{reached}
-use Rattle.ele_world.proofs.May.{IsLawfulEvent, MayAll}
+use Rattle.ele_world.proofs.May.{MayAll}
 use Rattle.ele_lists.proofs.Cuts.{any-found}
 use Rattle.ele_world.proofs.Meant.{is_at}
 use Rattle.ele_world.proofs.OpenStays.{has_row}
 use Rattle.ele_world.proofs.Moves.{IsPast, change_past, Moves, change_moves}
 use Rattle.ele_world.proofs.Stays.{held_past}
-use Rattle.ele_world.proofs.StepKeeps.{fresh_is, lawful_events, step_keeps, run_keeps}
+use Rattle.ele_world.proofs.StepKeeps.{step_keeps, run_keeps, run_has}
 use Rattle.ele_world.proofs.Versions.{IsFound, all_found}
 
 -- ---- its cells stay
@@ -30,7 +30,7 @@ module _ (event : Event) (first : World) (placed : AllLater ArePlaced first.vers
   all_fixed w [] may fixed = fixed
   all_fixed w (change ∷ changes) may fixed = grind (arith, nat_tests, all_fixed (after_change w change) changes may.1, change_past event first w change file number may.0 fixed.past, moved w.now w.versions, change_moves event first file number w change placed may.0 fixed.past)
 
-run_fixed : (w : World) (events : List Event) (file number : ℕ) (cells : List Cell) → AllByRecursion IsLawfulEvent events → IsWellFormed w → IsFixed w file number cells → IsFixed (run_of w events) file number cells
+run_fixed : (w : World) (events : List Event) (file number : ℕ) (cells : List Cell) → AllByRecursion IsEvent events → HasParts w → IsFixed w file number cells → IsFixed (run_of w events) file number cells
 run_fixed w [] file number cells are k fixed = fixed
 run_fixed w (event ∷ events) file number cells are k fixed =
     let by = reached event w (plan w event) (allowed w event k) in
@@ -39,14 +39,14 @@ run_fixed w (event ∷ events) file number cells are k fixed =
 
 -- ---- what is read
 
-module _ (w : World) (k : IsWellFormed w) (row : VersionRow) (fixed : IsFixed w row.file row.number row.cells) where
+module _ (w : World) (k : HasParts w) (row : VersionRow) (fixed : IsFixed w row.file row.number row.cells) where
   tagged_reads : (tagged : TaggedPath) (held : VersionRow) → version_at w tagged ≡ Ok held → held.file ≡ row.file → held.number ≡ row.number → (step w (Read (Tagged tagged))).0 ≡ Bytes (content_of row.cells)
   tagged_reads tagged held meant own number = grind (arith, nat_tests, k.holds Versions, is_at, all-found, all_found, fixed.same)
 
   handle_reads : (handle : ℕ) → reads_by w.handles handle ≡ Ok (Version row.file row.number) → (step w (Read (Of handle))).0 ≡ Bytes (content_of row.cells)
   handle_reads handle reads = grind (arith, nat_tests, k.holds Readers, has_row, any-found, all-found, fixed.same)
 
-reads_after : (w : World) (events : List Event) → AllByRecursion IsLawfulEvent events → IsWellFormed w → AllByRecursion (ReadsRow (run_of w events)) w.versions
+reads_after : (w : World) (events : List Event) → AllByRecursion IsEvent events → HasParts w → AllByRecursion (ReadsRow (run_of w events)) w.versions
 reads_after w events are k = all-weaker (λ row. IsVersion w.files w.now row × IsFound w.versions row) (ReadsRow (run_of w events)) w.versions
     (λ row h.
     let then = run_keeps w events are k in
@@ -55,4 +55,4 @@ reads_after w events are k = all-weaker (λ row. IsVersion w.files w.now row × 
     (all-both (IsVersion w.files w.now) (IsFound w.versions) w.versions (k.holds Versions).each (all_found w.versions (k.holds Versions).placed))
 
 pub reads_as_closed : PoliciesAreLawful → ReadsAsClosed
-reads_as_closed law limits before after bounds are then = reads_after (run_of (fresh_world limits) before) after (lawful_events law after then) (run_keeps (fresh_world limits) before (lawful_events law before are) (fresh_is limits bounds))
+reads_as_closed law limits before after bounds are then = reads_after (run_of (fresh_world limits) before) after then (run_has law limits before bounds are)

@@ -1,6 +1,6 @@
 -- The law of the order of removal. Whichever due row is taken out, every other row is due as before, at each moment at which it was due.
 use Rattle.ele_world.proofs.Basics.{◌≡◌, ℕ, Bool, true, not, List, ◌∷◌, ◌++◌, Some, refl, ap, subst, ◌∙◌, filter, arith, ◌⊎◌, inl, inr, IfSome, nat_tests, AllLater, sym, find, AllByRecursion, filter-append, all-weaker, all-append, all-around, later-around, filter-same_all, remove_first, find-cut, remove_first-at}
-use Rattle.ele_world.proofs.Words.{IsLawful, VersionRow, FileView, is_newer, closings, due_in, ArePlaced, view_of, is_version, is_version_of, RemovalOrder, Take, after_change, IsWellFormed, World}
+use Rattle.ele_world.proofs.Words.{IsLawful, VersionRow, FileView, is_newer, closings, due_in, ArePlaced, view_of, is_version, is_version_of, Take, after_change, HasParts, World, LeavesDue}
 use Rattle.ele_world.proofs.Views.{IsLife, Precedes, newer_is, newer_before, newer_without, newer_behind, precedes, view_is, lives_of, placed_of, own_rows, other_rows}
 use Rattle.std.proofs.lemmas.List.{map-append}
 use Rattle.ele_world.specs.Due.{is_due_at}
@@ -30,7 +30,7 @@ module _ (v : FileView) (xs : List VersionRow) (row : VersionRow) (ys : List Ver
 abbrev pub IsBeside : VersionRow → VersionRow → Type 0
 IsBeside row x = x.file ≡ row.file → Precedes x row ⊎ Precedes row x
 
-module _ (w : World) (before : List VersionRow) (row : VersionRow) (behind : List VersionRow) (k : IsWellFormed w) (whole : w.versions ≡ before ++ row ∷ behind) where
+module _ (w : World) (before : List VersionRow) (row : VersionRow) (behind : List VersionRow) (k : HasParts w) (whole : w.versions ≡ before ++ row ∷ behind) where
   abbrev pub rest : World
   rest = record w { versions = before ++ behind }
 
@@ -66,7 +66,8 @@ module _ (w : World) (before : List VersionRow) (row : VersionRow) (behind : Lis
   pub sides : AllByRecursion (IsBeside row) (before ++ behind)
   sides = grind (arith, nat_tests, whole, later-around ArePlaced before row behind, placed_of w k, all-append, all-weaker, precedes)
 
-pub removal_order : RemovalOrder
+pub removal_order : (w : World) (before : List VersionRow) (row : VersionRow) (behind : List VersionRow) → HasParts w → w.versions ≡ before ++ row ∷ behind
+    → is_due_at w row w.now ≡ true → LeavesDue w row (record w { versions = before ++ behind })
 removal_order w before row behind k is due =
     let now = λ (x : VersionRow). is_due_at w x w.now in
     let then = λ (x : VersionRow). is_due_at (rest w before row behind k is) x w.now in

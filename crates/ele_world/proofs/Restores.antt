@@ -1,6 +1,6 @@
 -- The list of restorable names is in order and has a name just where it may come back, and an undelete takes just these.
 use Rattle.ele_world.proofs.Basics.{nat_tests, arith, ◌≡◌, ℕ, ◌==◌, ◌&&◌, ◌||◌, not, Bool, true, false, List, [], ◌∷◌, map, Option, Some, None, Ok, refl, ap, sym, subst, cons_option, ◌∙◌, find, is_none, is_some, AllByRecursion, AllLater, filter_map, list_any, keys_of, lookup, is_at, option_map, passing, bytes_eq, bytes_eq-Decides, later-weaker, unsigned_tied, is_eq-slice_cmp, Less, eq_by_cmp_equiv, IsDistinct-from_sorted}
-use Rattle.ele_world.proofs.Words.{World, DeadName, NameRow, Target, Names, AreApart, is_live_name, is_named, last_dead, live_target, may_return, name_cmp, newest_rows, parent_now, returning, plan, outcome, Undelete}
+use Rattle.ele_world.proofs.Words.{World, DeadName, NameRow, Target, Names, AreApart, is_live_name, is_named, last_dead, live_target, may_return, name_cmp, newest_rows, parent_now, returning, plan, outcome, Undelete, HasParts, step}
 use Rattle.std.specs.List.Sorted.{IsStrictlySortedBy}
 use Rattle.std.proofs.lemmas.Map.{lookup-none}
 use Rattle.std.proofs.lemmas.Map.Entries.{none_past_head}
@@ -9,6 +9,7 @@ use Rattle.ele_world.specs.Restorable.{restorable}
 use Rattle.ele_world.specs.RestorableLists.{RestorableLists}
 use Rattle.ele_world.specs.UndeleteTakes.{is_dead_name, cannot_return, UndeleteTakes}
 use Rattle.ele_world.proofs.Newest.{Key, Entry, IsOwn, key_of, is_dead, name_total, newest_last, newest_own, sorted_rows}
+use Rattle.ele_world.specs.declared.event.Event.TheVariants as asked
 
 -- ---- the list
 
@@ -88,7 +89,7 @@ none_lost rows d n apart live =
 answer : (w : World) (path : List (List ℕ)) (at : ℕ × List ℕ) → parent_now w.names path ≡ Ok at → cannot_return ((outcome w (plan w (Undelete path))).0) ≡ (is_some (live_target w.names at.0 at.1) || not (is_some (passing (may_return w) (last_dead w.names at.0 at.1))))
 answer w path at stands = rw stands (grind (arith, nat_tests))
 
-pub undelete_takes : UndeleteTakes
+pub undelete_takes : (w : World) (path : List (List ℕ)) (at : ℕ × List ℕ) → HasParts w → parent_now w.names path ≡ Ok at → list_any (is_dead_name at.0 at.1) (restorable w) ≡ not (cannot_return ((step w (asked.Undelete path)).0))
 undelete_takes w path at k stands =
     any_is_some (is_dead_name at.0 at.1) (λ (dead : DeadName). dead.target) (restorable w)
     ∙ ap is_some ((restorable_lists w).each at.0 at.1)

@@ -1,6 +1,6 @@
 -- The ripe moment of a version that is found by its number, and the scan as the moments that have come.
 use Rattle.ele_world.proofs.Basics.{◌≡◌, ℕ, ◌≤◌, Bool, true, false, ◌&&◌, List, [], ◌∷◌, Option, Some, None, refl, ap, ◌∙◌, arith, find, nat_le, option_and_then, AllByRecursion, filter_map, list_any, option_map_or, nat_tests, AllLater, found_passes, find-filter_both}
-use Rattle.ele_world.proofs.Words.{Key, has_key, is_key, is_ripe_by, last_moment, VersionRow, ripe_at, is_moment, FileView, view_of, is_version_of, is_numbered, due_in, ripe_in, IsDueFromRipe, ArePlaced, IsWellFormed, World, is_version}
+use Rattle.ele_world.proofs.Words.{Key, has_key, is_key, is_ripe_by, last_moment, VersionRow, ripe_at, is_moment, FileView, view_of, is_version_of, is_numbered, due_in, ripe_in, IsDueFromRipe, ArePlaced, HasParts, World, is_version}
 use Rattle.ele_world.specs.Due.{is_due, ripe_of}
 use Rattle.ele_world.specs.FileView.{ripe_numbered}
 use Rattle.ele_world.specs.Scan.{due_key}
@@ -19,7 +19,7 @@ pub unended : (v : FileView) (row : VersionRow) → row.ended ≡ None → ripe_
 unended v row none = grind (arith, nat_tests)
 
 -- a version is due from it on
-pub is_due_is : (w : World) (file number : ℕ) → IsWellFormed w → is_due w file number ≡ option_map_or (λ m. nat_le m w.now) (ripe_at w file number) false
+pub is_due_is : (w : World) (file number : ℕ) → HasParts w → is_due w file number ≡ option_map_or (λ m. nat_le m w.now) (ripe_at w file number) false
 unfolding is_due
 is_due_is w file number k = grind (arith, nat_tests, ripe_at_is, ripens w k, now_of)
 
@@ -50,7 +50,7 @@ unfolding due_key
 has_due_key w k row fits from = grind (arith, nat_tests)
 
 -- the due rows have just the keys whose moment has come
-pub scan_members : (w : World) → IsWellFormed w → (k : Key) → has_key k (filter_map (due_key w) w.versions) ≡ (is_ripe_by w.now k && is_moment k.ripe (ripe_at w k.file k.number))
+pub scan_members : (w : World) → HasParts w → (k : Key) → has_key k (filter_map (due_key w) w.versions) ≡ (is_ripe_by w.now k && is_moment k.ripe (ripe_at w k.file k.number))
 scan_members w formed k =
     let rows = any-numbered k.file k.number (λ row. is_ripe_by w.now k && is_moment k.ripe (ripe_of w row)) (λ row. option_map_or (is_key k) (due_key w row) false) (λ row. has_due_key w k row (now_of w formed) (ripens w formed row)) w.versions (placed_of w formed) in
     grind (arith, nat_tests, any-filter_map (is_key k) (due_key w) w.versions, rows, ripe_at_is)

@@ -1,6 +1,6 @@
 -- A held version is due from its ripe moment on, which its next held version tells.
-use Rattle.ele_world.proofs.Basics.{◌≡◌, ℕ, ◌≤◌, ◌&&◌, Bool, true, false, not, List, [], ◌∷◌, nat_tests, Option, Some, None, refl, sym, subst, ◌∙◌, nat_le, option_and_then, IfSome, option_map_or, all-split, all-any, arith}
-use Rattle.ele_world.proofs.Words.{Policy, is_due_by, candidates, earliest_of, last_moment, IsLawful, VersionRow, FileView, view_of, beside, is_protected, ripe_in, IsDueFromRipe, DueFromRipe, RipeIsAnswer, RipeIsAnswered, IsWellFormed, World, policy_of}
+use Rattle.ele_world.proofs.Basics.{AllByRecursion, ◌≡◌, ℕ, ◌≤◌, ◌&&◌, Bool, true, false, not, List, [], ◌∷◌, nat_tests, Option, Some, None, refl, sym, subst, ◌∙◌, nat_le, option_and_then, IfSome, option_map_or, all-split, all-any, arith}
+use Rattle.ele_world.proofs.Words.{Policy, is_due_by, candidates, earliest_of, last_moment, IsLawful, VersionRow, FileView, view_of, beside, is_protected, ripe_in, IsDueFromRipe, RipeIsAnswer, HasParts, World, policy_of}
 use Rattle.ele_policy.specs.Ripe.{ripe_by}
 use Rattle.ele_world.specs.Due.{is_due_at, ripe_of}
 use Rattle.ele_world.proofs.Views.{view_is, nearest_of}
@@ -39,10 +39,10 @@ due_from_ripe_of w row governed at fits = by (is_protected v row at) v.policy ro
   by true p e given = rw (never_ripe v row p e) refl
   by false p e given = grind arith
 
-pub ripens : (w : World) → IsWellFormed w → (row : VersionRow) → IsDueFromRipe w row
+pub ripens : (w : World) → HasParts w → (row : VersionRow) → IsDueFromRipe w row
 ripens w k row = due_from_ripe_of w row (view_is w k row.file).governed
 
-pub due_from_ripe : DueFromRipe
+pub due_from_ripe : (w : World) → HasParts w → AllByRecursion (IsDueFromRipe w) w.versions
 due_from_ripe w k = all-any (IsDueFromRipe w) w.versions (ripens w k)
 
 pub protected_ripe : (v : FileView) (row : VersionRow) → is_protected v row 0 ≡ true → ripe_in v row ≡ None
@@ -53,7 +53,7 @@ pub free_ripe : (v : FileView) (row : VersionRow) (policy : Policy) (ended : ℕ
 unfolding ripe_by
 free_ripe v row policy ended free filed ends = subst (λ b. ripe_if b v row v.policy row.ended ≡ ripe_by policy row.closed (beside v row) ended) (sym free) (rw (filed, ends) refl)
 
-pub ripe_is_answered : RipeIsAnswered
+pub ripe_is_answered : (w : World) → HasParts w → AllByRecursion (RipeIsAnswer w) w.versions
 unfolding ripe_of
 ripe_is_answered w k = all-split (RipeIsAnswer w) w.versions (λ before row behind whole policy ended answer filed ends free is.
     let v = view_of w row.file in

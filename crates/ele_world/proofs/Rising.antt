@@ -1,6 +1,6 @@
 -- The time, the counts and the files' numbers rise with each event.
 use Rattle.ele_world.proofs.Basics.{arith, ◌≡◌, ℕ, ◌+◌, ◌<◌, ◌≤◌, true, false, List, [], ◌∷◌, ◌++◌, refl, ◌⊎◌, inl, AllLater, list_any, update_first, remove_first, list_any-append, list_any-update_first, nat_tests}
-use Rattle.ele_world.proofs.Words.{World, Event, Close, CleanOne, Create, Undelete, Revert, SetPolicy, default_of, Read, FileRow, Policy, IsWellFormed, Files, DropIdle, EndDraft, ShutHandle, Take, MakeFile, after_change, is_file, next_of, numbered_on, put_under, plan, Counts, without_file}
+use Rattle.ele_world.proofs.Words.{World, Event, Close, CleanOne, Create, Undelete, Revert, SetPolicy, default_of, Read, FileRow, Policy, HasParts, Files, DropIdle, EndDraft, ShutHandle, Take, MakeFile, after_change, is_file, next_of, numbered_on, put_under, plan, Counts, without_file, step}
 use Rattle.ele_world.specs.NumbersRise.{CountsOn, GoesOn, NumbersRise}
 use Rattle.ele_world.proofs.Dropped.{dropped, next_of-removed}
 use Rattle.ele_world.proofs.Files.{next_of-numbered_le, next_of-put_under, next_of-push}
@@ -46,7 +46,7 @@ one_less made file files placed = record {
 
 -- ---- each event
 
-module _ (w : World) (k : IsWellFormed w) where
+module _ (w : World) (k : HasParts w) where
   on : (v : World) → w.now ≤ v.now → CountsOn w.made v.made → v.limits ≡ w.limits → AreOn w.made.files w.files v.files → GoesOn w v
   on v now made limits files = record { now = now; made = made; limits = limits; next = files.next; fresh = files.fresh }
 
@@ -80,5 +80,5 @@ module _ (w : World) (k : IsWellFormed w) where
   goes (Read source) = grind (arith, nat_tests, same)
   goes event = grind (arith, nat_tests, same)
 
-pub numbers_rise : NumbersRise
+pub numbers_rise : (w : World) (event : Event) → HasParts w → GoesOn w ((step w event).1)
 numbers_rise w event k = in_all w (λ answer. GoesOn w (answer.1)) (plan w event) (λ refusal. same w k w (omega arith) (counts_stay w.made) refl refl) (goes w k event)

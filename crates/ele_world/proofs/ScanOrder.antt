@@ -1,11 +1,11 @@
 -- The scan is in order, and has a key just where its version is due from then on.
 use Rattle.ele_world.proofs.Basics.{nat_tests, arith, ◌≡◌, ℕ, ◌==◌, ◌&&◌, ◌||◌, ◌∙◌, Bool, true, false, List, [], ◌∷◌, Option, Some, None, refl, cond, cons_option, option_map, find, fold, AllByRecursion, AllLater, all-weaker, not_found, filter_map, insert_key, option_map_or, IsTotalOrder, nat_cmp_total, then_total, on_total, Less}
-use Rattle.ele_world.proofs.Words.{World, Key, VersionRow, ArePlaced, Versions, has_key, is_key, is_version, key_cmp, key_of}
+use Rattle.ele_world.proofs.Words.{World, Key, VersionRow, ArePlaced, Versions, has_key, is_key, is_version, key_cmp, key_of, HasParts}
 use Rattle.std.proofs.Math.Bool.{or-false}
 use Rattle.std.specs.List.Sorted.{IsStrictlySortedBy}
 use Rattle.ele_world.specs.Due.{is_due_at, ripe_of}
 use Rattle.ele_world.specs.Scan.{due_key, scan}
-use Rattle.ele_world.specs.ScanLists.{is_due_from, ScanLists}
+use Rattle.ele_world.specs.ScanLists.{is_due_from, ListsDue}
 
 -- ---- keys in order
 
@@ -59,6 +59,6 @@ module _ (w : World) (key : Key) where
     by true is = rw (none_behind row rows is placed.0) (or-false (is_due_from w key row))
     by false is = refl
 
-pub scan_lists : ScanLists
+pub scan_lists : (w : World) → HasParts w → ListsDue w
 unfolding scan IsStrictlySortedBy
 scan_lists w k = record { in_order = folded_up (filter_map (due_key w) w.versions) [] tt; each = λ key. has-folded key (filter_map (due_key w) w.versions) [] ∙ keyed w key w.versions (k.holds Versions).placed }

@@ -1,6 +1,6 @@
 -- What an event does to the versions that are held before it.
 use Rattle.ele_world.proofs.Basics.{nat_tests, ◌≡◌, ℕ, true, List, [], ◌∷◌, Option, Some, None, arith, ◌⊎◌, find, AllByRecursion, all-weaker, all-both, any-found, found_passes, AllLater}
-use Rattle.ele_world.proofs.Words.{Change, after_change, after_changes, is_due_at, IsSameVersion, StaysSame, StaysOrWasDue, plan, step, ArePlaced, IsVersion, Files, Versions, IsWellFormed, World, is_version, Event, CleanOne, VersionRow}
+use Rattle.ele_world.proofs.Words.{Change, after_change, after_changes, is_due_at, IsSameVersion, StaysSame, StaysOrWasDue, plan, step, ArePlaced, IsVersion, Files, Versions, HasParts, World, is_version, Event, CleanOne, VersionRow}
 use Rattle.ele_world.proofs.DueRows.{due_is_unmarked, due_is_unread}
 use Rattle.ele_world.proofs.Allowed.{allowed}
 use Rattle.ele_world.proofs.Files.{next_of-given}
@@ -27,16 +27,16 @@ follow event first w row [] found placed may past was = was
 follow event first w row (change ∷ changes) found placed may past was = grind (arith, nat_tests, follow event first (after_change w change) row changes found placed may.1 (change_past event first w change row.file row.number may.0 past), change_past event first w change row.file row.number may.0 past, moved event first w.now w.versions row, change_moves event first row.file row.number w change placed may.0 past)
 
 -- the number of a version that is held was given
-pub held_past : (w : World) (row : VersionRow) → IsWellFormed w → IsVersion w.files w.now row → IsPast w row.file row.number
+pub held_past : (w : World) (row : VersionRow) → HasParts w → IsVersion w.files w.now row → IsPast w row.file row.number
 held_past w row k is = grind (arith, nat_tests, k.holds Files, next_of-given, all_behind)
 
 -- ---- both laws
 
-each_row : (w : World) (event : Event) (Q : VersionRow → Type 0) → IsWellFormed w → ((row : VersionRow) → StillOrDue event w row (find (is_version row.file row.number) ((step w event).1).versions) → Q row) → AllByRecursion Q w.versions
+each_row : (w : World) (event : Event) (Q : VersionRow → Type 0) → HasParts w → ((row : VersionRow) → StillOrDue event w row (find (is_version row.file row.number) ((step w event).1).versions) → Q row) → AllByRecursion Q w.versions
 each_row w event Q k then = grind (arith, nat_tests, k.holds Versions, all-weaker (λ row. IsVersion w.files w.now row × IsFound w.versions row) Q w.versions, reached event w (plan w event) (allowed w event k), allowed w event k, follow event w w, held_past w, all-both (IsVersion w.files w.now) (IsFound w.versions) w.versions, all_found w.versions)
 
-pub only_due_leave : (w : World) (event : Event) → IsWellFormed w → AllByRecursion (StaysOrWasDue w event) w.versions
+pub only_due_leave : (w : World) (event : Event) → HasParts w → AllByRecursion (StaysOrWasDue w event) w.versions
 only_due_leave w event k = grind (arith, nat_tests, each_row w event (StaysOrWasDue w event) k, (λ (row : VersionRow). any-found (is_version row.file row.number) (is_version row.file row.number) ((step w event).1).versions), found_passes, due_is_unread w, due_is_unmarked w)
 
-pub held_stays : (w : World) (event : Event) → IsWellFormed w → AllByRecursion (StaysSame w event) w.versions
+pub held_stays : (w : World) (event : Event) → HasParts w → AllByRecursion (StaysSame w event) w.versions
 held_stays w event k = grind (arith, nat_tests, each_row w event (StaysSame w event) k)

@@ -2,7 +2,7 @@
 use Rattle.ele_world.proofs.Basics.{◌≡◌, ℕ, ◌+◌, ◌*◌, ◌^◌, ◌<◌, ◌≤◌, false, cond, List, [], ◌∷◌, ◌++◌, ◌==◌, length, refl, arith}
 use Rattle.ele_world.proofs.Basics.{AllByRecursion, flat_map, nat_tests, append-nil, length-append, flat_map-cons, filter-append, all-weaker, update_first, remove_first, filter-none, length-split}
 use Rattle.ele_world.proofs.Words.{Kind, Policy, kind_of, is_kind, Usage, only_at, nothing, plus, Fits, Cell, Place, is_place, different, slots_few, VersionRow, DraftRow, is_of, is_file_of, places_from, places, bytes_in, usages}
-use Rattle.ele_world.proofs.Words.{whole, part, ChangesOnly, World, is_draft, is_version, FileRow, IsContent, IsFile, IsVersion, IsDraft, Counted, Files, Versions, Drafts, IsWellFormed, longest_content, AreBounds}
+use Rattle.ele_world.proofs.Words.{whole, part, ChangesOnly, World, is_draft, is_version, FileRow, IsContent, IsFile, IsVersion, IsDraft, Counted, Files, Versions, Drafts, HasParts, longest_content, AreBounds}
 use Rattle.ele_policy.specs.declared.policy.Kind.TheVariants as kinds
 use Rattle.ele_world.specs.Usage.{usage_of}
 use Rattle.ele_world.proofs.Created.{new_file, created, versions_before}
@@ -32,7 +32,7 @@ kind_added given versions [] row k id all new = grind (arith, nat_tests)
 kind_added given versions (x ∷ xs) row k id all new = grind (arith, nat_tests, kind_added given versions xs row k id all.1 new)
 
 -- a new file with its first version, which is empty
-pub created_usage : (w : World) (directory : ℕ) (name : List ℕ) (policy : Policy) → IsWellFormed w → (k : Kind) → usage_of (created w directory name (w.made.files + 1) policy) k ≡ plus (usage_of w k) (cond (is_kind k (kind_of policy)) (record { files = 1; versions = 1; bytes = 0; blocks = 0 }) nothing)
+pub created_usage : (w : World) (directory : ℕ) (name : List ℕ) (policy : Policy) → HasParts w → (k : Kind) → usage_of (created w directory name (w.made.files + 1) policy) k ≡ plus (usage_of w k) (cond (is_kind k (kind_of policy)) (record { files = 1; versions = 1; bytes = 0; blocks = 0 }) nothing)
 unfolding usage_of
 created_usage w directory name policy keeps k =
     let id = w.made.files + 1 in
@@ -83,13 +83,13 @@ bytes_short : (files : List FileRow) (now : ℕ) (rows : List VersionRow) → Al
 bytes_short files now [] all = omega arith
 bytes_short files now (x ∷ xs) all = let here = all.0.content.short in omega (arith, here, bytes_in-cons x xs, bytes_short files now xs all.1)
 
-pub whole_files : (w : World) → IsWellFormed w → AreBounds w.limits → length w.files ≤ 100000
+pub whole_files : (w : World) → HasParts w → AreBounds w.limits → length w.files ≤ 100000
 whole_files w keeps bounds = let most = bounds.files in let rows = (keeps.holds Counted).file_rows in let made = (keeps.holds Counted).files_made in omega arith
 
-pub whole_versions : (w : World) → IsWellFormed w → AreBounds w.limits → (whole w).versions ≤ 1000000
+pub whole_versions : (w : World) → HasParts w → AreBounds w.limits → (whole w).versions ≤ 1000000
 whole_versions w keeps bounds = let most = bounds.versions in let rows = (keeps.holds Counted).version_rows in let made = (keeps.holds Counted).versions_made in omega arith
 
-pub whole_bytes : (w : World) → IsWellFormed w → AreBounds w.limits → (whole w).bytes ≤ 1048576000000
+pub whole_bytes : (w : World) → HasParts w → AreBounds w.limits → (whole w).bytes ≤ 1048576000000
 whole_bytes w keeps bounds = omega (arith, bytes_short w.files w.now w.versions (keeps.holds Versions).each, whole_versions w keeps bounds)
 
 -- ---- the blocks are few
@@ -106,7 +106,7 @@ rows_few : {R : Type 0} (file_of : R → ℕ) (cells_of : R → List Cell) (rows
 rows_few file_of cells_of [] all = omega arith
 rows_few file_of cells_of (x ∷ xs) all = grind (arith, nat_tests, flat_map-cons, length-append, length-places_from, slots_few, rows_few file_of cells_of xs all.1)
 
-pub whole_blocks : (w : World) → IsWellFormed w → AreBounds w.limits → (whole w).blocks < 2 ^ 64
+pub whole_blocks : (w : World) → HasParts w → AreBounds w.limits → (whole w).blocks < 2 ^ 64
 whole_blocks w keeps bounds =
     let versions = rows_few (λ (row : VersionRow). row.file) (λ row. row.cells) w.versions (all-weaker (IsVersion w.files w.now) (λ row. IsContent row.cells) w.versions (λ row h. h.content) (keeps.holds Versions).each) in
     let drafts = rows_few (λ (row : DraftRow). row.file) (λ row. row.cells) w.drafts (all-weaker (IsDraft w.files w.now) (λ row. IsContent row.cells) w.drafts (λ row h. h.content) (keeps.holds Drafts).each) in
@@ -114,7 +114,7 @@ whole_blocks w keeps bounds =
     omega (arith, different_few (places w.versions w.drafts), all, versions, drafts, bounds.versions, keeps.holds Counted)
 
 -- the sums of a well-formed world
-pub usages_fit : (w : World) → IsWellFormed w → AreBounds w.limits → AllByRecursion Fits (usages w)
+pub usages_fit : (w : World) → HasParts w → AreBounds w.limits → AllByRecursion Fits (usages w)
 usages_fit w keeps bounds = (fits kinds.One, (fits kinds.All, (fits kinds.Safe, (fits kinds.Landmarks, tt)))) where
   fits : (k : Kind) → Fits (usage_of w k)
   fits k = grind (arith, nat_tests, within_files, whole_files, within_versions, whole_versions, within_bytes, whole_bytes, within_blocks, whole_blocks)

@@ -1,7 +1,8 @@
 -- A file's rows in a well-formed world, and which are newer than one of them, by its place.
 use Rattle.ele_world.proofs.Basics.{all-found, ◌≡◌, ℕ, ◌<◌, ◌≤◌, false, List, [], ◌∷◌, ◌++◌, Some, filter, arith, slice_get, IfSome, AllByRecursion, filter-append, IfSome_then, nat_tests, AllLater, all-weaker, all-filter, all-map, all-right}
 use Rattle.ele_world.proofs.Basics.{later-right, later-filter, later-around, filter-all, filter-none}
-use Rattle.ele_world.proofs.Words.{is_file, last_moment, IsLawful, IsNearest, FileRow, VersionRow, FileView, view_of, is_version_of, is_newer, closings, beside, Now, Files, Versions, IsFile, IsVersion, ArePlaced, IsWellFormed, World, policy_of}
+use Rattle.ele_world.proofs.Words.{is_file, last_moment, IsLawful, IsNearest, FileRow, VersionRow, FileView, view_of, is_version_of, is_newer, closings, beside, Now, Files, Versions, IsFile, IsVersion, ArePlaced, HasParts, World, policy_of, Law}
+use Rattle.ele_world.proofs.Formed.{law_of}
 
 -- the version didn't end before it closed
 abbrev pub IsLife : VersionRow → Type 0
@@ -25,20 +26,20 @@ pub record IsView (v : FileView) : Type 0 where
 
 -- ---- what a well-formed world says of its rows
 
-pub now_of : (w : World) → IsWellFormed w → w.now ≤ last_moment
+pub now_of : (w : World) → HasParts w → w.now ≤ last_moment
 now_of w k = k.holds Now
 
 pub lives_in : (files : List FileRow) (now : ℕ) (rows : List VersionRow) → AllByRecursion (IsVersion files now) rows → AllByRecursion IsLife rows
 lives_in files now rows = all-weaker (IsVersion files now) IsLife rows (λ row is. IfSome_then row.ended is.ended (λ ended life. life.0))
 
-pub lives_of : (w : World) → IsWellFormed w → AllByRecursion IsLife w.versions
+pub lives_of : (w : World) → HasParts w → AllByRecursion IsLife w.versions
 lives_of w k = lives_in w.files w.now w.versions (k.holds Versions).each
 
-pub placed_of : (w : World) → IsWellFormed w → AllLater ArePlaced w.versions
+pub placed_of : (w : World) → HasParts w → AllLater ArePlaced w.versions
 placed_of w k = (k.holds Versions).placed
 
-pub policies_of : (w : World) → IsWellFormed w → AllByRecursion (λ row. IsLawful row.policy) w.files
-policies_of w k = all-weaker (IsFile w.made.files w.made.versions) (λ row. IsLawful row.policy) w.files (λ row is. is.policy) (k.holds Files).each
+pub policies_of : (w : World) → HasParts w → AllByRecursion (λ row. IsLawful row.policy) w.files
+policies_of w k = all-weaker (IsFile w.made.files w.made.versions) (λ row. IsLawful row.policy) w.files (λ row is. law_of (k.holds Law) row.policy is.policy) (k.holds Files).each
 
 pub policy_is : (files : List FileRow) (file : ℕ) → AllByRecursion (λ row. IsLawful row.policy) files → IfSome (policy_of files file) IsLawful
 policy_is files file all = grind (arith, nat_tests, all-found (is_file file) (λ row. IsLawful row.policy) files)
@@ -47,7 +48,7 @@ policy_is files file all = grind (arith, nat_tests, all-found (is_file file) (λ
 pub view_in : (w : World) (file : ℕ) → AllByRecursion (λ row. IsLawful row.policy) w.files → AllByRecursion IsLife w.versions → AllLater ArePlaced w.versions → IsView (view_of w file)
 view_in w file policies lives placed = grind (arith, nat_tests, policy_is w.files file policies, all-filter IsLife (is_version_of file) w.versions lives, later-filter ArePlaced Precedes (is_version_of file) w.versions, precedes)
 
-pub view_is : (w : World) → IsWellFormed w → (file : ℕ) → IsView (view_of w file)
+pub view_is : (w : World) → HasParts w → (file : ℕ) → IsView (view_of w file)
 view_is w k file = view_in w file (policies_of w k) (lives_of w k) (placed_of w k)
 
 -- ---- the newer rows

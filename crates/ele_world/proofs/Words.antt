@@ -8,7 +8,7 @@ pub use Rattle.ele_due.specs.Key.{is_key, is_ripe_by}
 pub use Rattle.ele_due.specs.declared.key.Key.{Key}
 pub use Rattle.ele_moment.specs.Last.{last_moment}
 pub use Rattle.ele_policy.specs.Lawful.{IsLawful, PoliciesAreLawful}
-pub use Rattle.ele_policy.specs.Policy.{is_kind, kind_of}
+pub use Rattle.ele_policy.specs.Policy.{IsPolicy, is_kind, kind_of}
 pub use Rattle.ele_policy.specs.Ripe.{Beside, IsNearest, alone, candidates, earliest_of, is_due_by, lets_go}
 pub use Rattle.ele_policy.specs.declared.policy.Kind.{Kind}
 pub use Rattle.ele_policy.specs.declared.policy.Policy.{Policy}
@@ -30,7 +30,7 @@ pub use Rattle.ele_world.specs.FileView.{FileView, beside, closings, due_in, is_
 pub use Rattle.ele_world.specs.GroupRows.{adds, covers_moment, forgets, forgotten, group_named, has_covering, has_group, has_mark, has_member, is_group, is_marked, is_marked_at, is_member, marks, marks_over, new_group, removes, unmarks, with_mark, with_member, without_group, without_mark, without_member}
 pub use Rattle.ele_world.specs.GroupsAsked.{has_covering_without, is_marked_without, marks_of, members_of}
 pub use Rattle.ele_world.specs.HeldStays.{IsSameVersion, StaysSame}
-pub use Rattle.ele_world.specs.LinkLeads.{LinkLeads}
+pub use Rattle.ele_world.specs.LinkLeads.{LeadsToSame}
 pub use Rattle.ele_world.specs.MakeDirLeads.{LeadsToDirectory}
 pub use Rattle.ele_world.specs.MarkedStays.{IsMarkedHeld, MarkedStays}
 pub use Rattle.ele_world.specs.NameRows.{born_row, covers, dies, is_live_directory, is_live_in, is_name_of_directory, is_named, is_target_directory, last_dead, target_at}
@@ -41,7 +41,7 @@ pub use Rattle.ele_world.specs.NothingChanges.{asks}
 pub use Rattle.ele_world.specs.OneLife.{HasOneLife, NamesOneLife, OneLife}
 pub use Rattle.ele_world.specs.OnlyDueLeave.{StaysOrWasDue}
 pub use Rattle.ele_world.specs.OpenStays.{OpenStays}
-pub use Rattle.ele_world.specs.Pass.{HasRemoved, IsCleaned, IsFinished}
+pub use Rattle.ele_world.specs.Pass.{HasRemoved, IsCleaned, IsFinished, IsPass, after_cleans}
 pub use Rattle.ele_world.specs.Plan.{IfFound, Make, Need, Plan, Tell, Unless, When, outcome, refused}
 pub use Rattle.ele_world.specs.ReadsAsClosed.{ReadsAsClosed, ReadsRow}
 pub use Rattle.ele_world.specs.RemovalOrder.{LeavesDue, RemovalOrder}
@@ -49,7 +49,7 @@ pub use Rattle.ele_world.specs.RenameLeads.{LeadsInstead, RenameLeads}
 pub use Rattle.ele_world.specs.Restorable.{last_target, may_return, name_cmp, nameless, newest_rows, returning, returning_name}
 pub use Rattle.ele_world.specs.RevertKeeps.{CopiesVersion, RevertKeeps}
 pub use Rattle.ele_world.specs.RipeMoments.{DueFromRipe, IsDueFromRipe, RipeIsAnswer, RipeIsAnswered}
-pub use Rattle.ele_world.specs.Run.{IsEvent, IsPass, after_cleans, run_of}
+pub use Rattle.ele_world.specs.Run.{IsEvent, run_of}
 pub use Rattle.ele_world.specs.Scan.{due_key, first_due, in_order, key_cmp, key_of}
 pub use Rattle.ele_world.specs.Step.{clean_step, draft_read, plan, step}
 pub use Rattle.ele_world.specs.Tagged.{had_closed, had_life, held_or_forgotten, last_number, lives_at, version_at, version_found, version_living, version_meant, version_numbered, walk_meant}
@@ -58,7 +58,8 @@ pub use Rattle.ele_world.specs.UndeleteLeads.{HasNameAgain, HasVersionAgain, Lea
 pub use Rattle.ele_world.specs.UnlinkEnds.{EndsName, UnlinkEnds}
 pub use Rattle.ele_world.specs.Usage.{bytes_in, is_file_of, is_of, places, places_from, usages}
 pub use Rattle.ele_world.specs.Walk.{comes_through, directory_in, directory_now, file_at, file_now, is_live_name, live_target, parent_now, stands_in, walk, walk_now}
-pub use Rattle.ele_world.specs.WellFormed.{AreApart, AreCounted, AreGroups, AreHeldRead, AreHoused, AreNames, AreOthers, ArePlaced, AreVersions, AreWrittenBy, Bounded, Counted, Current, Directories, Drafts, Ended, Files, Groups, Handles, HaveCurrent, HaveEnded, Holds, Homes, IsContent, IsDirectoryThere, IsDraft, IsFile, IsGroup, IsHandle, IsHeldRead, IsHoused, IsNameRow, IsOfLive, IsReadable, IsThere, IsVersion, IsWellFormed, Names, Now, Part, Readers, Tree, Versions, has_directory, is_current, is_reached}
+pub use Rattle.ele_world.specs.Parts.{Bounded, Counted, Current, Directories, Drafts, Ended, Files, Groups, Handles, HasParts, Holds, Homes, Law, Names, Now, Part, PolicyLaw, Readers, Tree, Versions}
+pub use Rattle.ele_world.specs.WellFormed.{AreApart, AreCounted, AreGroups, AreHeldRead, AreHoused, AreNames, AreOthers, ArePlaced, AreVersions, AreWrittenBy, HaveCurrent, HaveEnded, IsContent, IsDirectoryThere, IsDraft, IsFile, IsGroup, IsHandle, IsHeldRead, IsHoused, IsNameRow, IsOfLive, IsReadable, IsThere, IsVersion, IsWellFormed, has_directory, is_current, is_reached}
 pub use Rattle.ele_world.specs.Whole.{ChangesOnly, part, whole}
 pub use Rattle.ele_world.specs.World.{World, current_of, default_of, file_by, file_written, fresh_world, has_draft, is_directory, is_draft, is_draft_after, is_file, is_handle, is_held, is_live, is_live_name_of, is_open, is_target_file, is_version, is_version_after, is_writer, next_of, policy_of, reads_by, reads_version, root, writes}
 pub use Rattle.ele_world.specs.declared.event.Event.{Event}

@@ -130,7 +130,7 @@ with_version w file opened cells = record w {
 
 -- ---- drafts
 
--- the cells of the file's current version
+-- the cells of the file's current version, which is held wherever a draft begins or a file comes back; so that of none never shows
 abbrev pub current_cells : World → ℕ → List Cell
 current_cells w file = option_map_or (λ row. row.cells) (current_of w file) []
 

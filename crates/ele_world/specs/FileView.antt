@@ -51,7 +51,7 @@ closings rows = map (λ row. row.closed) rows
 abbrev pub beside : FileView → VersionRow → Beside
 beside v row = record { newer = closings (filter (is_newer row) v.rows); live = v.live }
 
--- the version is open, as a handle reads it, or marked: it was current at one of the marks
+-- the version is open, as a handle reads it, or marked: it was current at one of the marks; so it is at each moment alike
 abbrev pub is_protected : FileView → VersionRow → ℕ → Bool
 is_protected v row at = list_any (λ number. number == row.number) v.pinned || list_any (covers_moment row.closed row.ended) v.marks
 

@@ -1,5 +1,5 @@
--- What is asked of groups that no promise of the core cites: the files and the marks of one, and what marks cover where some
--- are left out.
+-- What is asked of groups beside the core's promises: the files and the marks of one, and what marks cover where some are left
+-- out. No public clause that a reader of the core needs cites this module: `ele_groups` answers it.
 use Rattle.std.specs.Prelude.{ℕ, ◌==◌, ◌&&◌, not, Bool, true, List, [], Option}
 use Rattle.std.specs.List.{list_any}
 use Rattle.std.specs.Option.{option_map_or}

@@ -1,13 +1,11 @@
 -- A held version's opened, closed and cells never change, and its end is set at most once.
-use Rattle.std.specs.Prelude.{◌≡◌, ℕ, List, Some, find}
+use Rattle.std.specs.Prelude.{◌≡◌, ℕ, Some, find}
 use Rattle.std.specs.List.{AllByRecursion}
 use Rattle.ele_world.specs.declared.event.Event.{Event}
 use Rattle.ele_world.specs.declared.rows.VersionRow.{VersionRow}
-use Rattle.ele_world.specs.Bounds.{Bounds, AreBounds}
-use Rattle.ele_world.specs.Run.{run_of, IsEvent}
 use Rattle.ele_world.specs.Step.{step}
 use Rattle.ele_world.specs.WellFormed.{IsWellFormed}
-use Rattle.ele_world.specs.World.{World, fresh_world, is_version}
+use Rattle.ele_world.specs.World.{World, is_version}
 
 -- the version is what it was; only an end may have come
 pub record IsSameVersion (before after : VersionRow) : Type 0 where
@@ -23,8 +21,3 @@ StaysSame w event row =
 
 abbrev pub HeldStays : Type 0
 HeldStays = (w : World) (event : Event) → IsWellFormed w → AllByRecursion (StaysSame w event) w.versions
-
-abbrev pub HeldStaysInRuns : Type 0
-HeldStaysInRuns =
-    (limits : Bounds) (events : List Event) (event : Event) → AreBounds limits → AllByRecursion IsEvent events → IsEvent event
-    → let w = run_of (fresh_world limits) events in AllByRecursion (StaysSame w event) w.versions

@@ -20,6 +20,7 @@ pub mod Restorable
 pub mod Plan
 pub mod Step
 pub mod WellFormed
+pub mod Parts
 pub mod Run
 pub mod AlwaysWellFormed
 pub mod NothingChanges
@@ -80,3 +81,5 @@ pub mod GroupChanges
 pub mod GroupsCome
 pub mod MembersChange
 pub mod MarkGoes
+pub mod ReadsPast
+pub mod DraftsWritten

@@ -1,4 +1,5 @@
--- The held versions next to one of a file, and the ripe moment that they tell.
+-- The held versions next to one of a file, and the ripe moment that they tell. No public clause that a reader of the core needs
+-- cites this module: `ele_files` finds such neighbours.
 use Rattle.std.specs.Prelude.{ℕ, ◌==◌, nat_lt, Bool, false, ◌&&◌, List, Option, Some, None, find, option_and_then, if◌then◌else◌}
 use Rattle.std.specs.Option.{option_map, option_map_or}
 use Rattle.ele_lists.specs.Last.{last_passing}

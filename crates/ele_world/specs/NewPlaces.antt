@@ -1,4 +1,4 @@
--- Places that rows add to others.
+-- Places that rows add to others. No public clause cites this module.
 use Rattle.std.specs.Prelude.{ℕ, ◌==◌, Bool, false, not, List, length, filter, slice_get}
 use Rattle.std.specs.List.{list_any}
 use Rattle.std.specs.Option.{option_map_or}

@@ -1,16 +1,14 @@
 -- A version leaves only by a clean event in whose world it was due, and so neither open nor marked.
-use Rattle.std.specs.Prelude.{◌≡◌, ◌⊎◌, true, false, List}
+use Rattle.std.specs.Prelude.{◌≡◌, ◌⊎◌, true, false}
 use Rattle.std.specs.List.{AllByRecursion}
 use Rattle.ele_world.specs.declared.event.Event.{Event}
 use Rattle.ele_world.specs.declared.event.Event.TheVariants.{CleanOne}
 use Rattle.ele_world.specs.declared.rows.VersionRow.{VersionRow}
-use Rattle.ele_world.specs.Bounds.{Bounds, AreBounds}
 use Rattle.ele_world.specs.Due.{is_due_at}
 use Rattle.ele_world.specs.GroupRows.{is_marked}
-use Rattle.ele_world.specs.Run.{run_of, IsEvent}
 use Rattle.ele_world.specs.Step.{step}
 use Rattle.ele_world.specs.WellFormed.{IsWellFormed}
-use Rattle.ele_world.specs.World.{World, fresh_world, is_held, is_open}
+use Rattle.ele_world.specs.World.{World, is_held, is_open}
 
 -- it leaves by a clean; it is due, no handle reads it, and no mark of a group that has its file covers it
 pub record LeavesAsDue (w : World) (event : Event) (row : VersionRow) : Type 0 where
@@ -25,8 +23,3 @@ StaysOrWasDue w event row = (is_held ((step w event).1) row.file row.number ≡ 
 
 abbrev pub OnlyDueLeave : Type 0
 OnlyDueLeave = (w : World) (event : Event) → IsWellFormed w → AllByRecursion (StaysOrWasDue w event) w.versions
-
-abbrev pub OnlyDueLeaveInRuns : Type 0
-OnlyDueLeaveInRuns =
-    (limits : Bounds) (events : List Event) (event : Event) → AreBounds limits → AllByRecursion IsEvent events → IsEvent event
-    → let w = run_of (fresh_world limits) events in AllByRecursion (StaysOrWasDue w event) w.versions

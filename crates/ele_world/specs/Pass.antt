@@ -1,16 +1,26 @@
--- How a pass with a budget ends.
-use Rattle.std.specs.Prelude.{◌≡◌, ℕ, ◌+◌, ◌<◌, length, filter, IsSome}
+-- Passes, and how one with a budget ends.
+use Rattle.std.specs.Prelude.{◌≡◌, ℕ, suc, zero, ◌+◌, ◌<◌, length, filter, None, IsSome}
 use Rattle.ele_world.specs.declared.pass.PassEnd.{PassEnd}
 use Rattle.ele_world.specs.declared.pass.PassEnd.TheVariants.{Finished, Budget, Stopped}
 use Rattle.ele_world.specs.Due.{is_due_at, kept_rows}
-use Rattle.ele_world.specs.Run.{after_cleans, IsPass}
 use Rattle.ele_world.specs.Scan.{first_due}
+use Rattle.ele_world.specs.Step.{clean_step}
 use Rattle.ele_world.specs.World.{World}
+
+-- the world after so many clean events
+abbrev pub after_cleans : ℕ → World → World
+after_cleans zero w = w
+after_cleans (suc n) w = after_cleans n ((clean_step w).1)
 
 -- the world after so many clean events, each of which removed a version
 pub record IsCleaned (w : World) (removed : ℕ) (after : World) : Type 0 where
   pub each : (k : ℕ) → k < removed → IsSome (first_due (after_cleans k w))
   pub after_is : after ≡ after_cleans removed w
+
+-- a pass: clean events in a row until the reply that nothing is due
+pub record IsPass (w : World) (removed : ℕ) (after : World) : Type 0 where
+  pub cleaned : IsCleaned w removed after
+  pub last : first_due after ≡ None
 
 -- so many versions have gone, each of which was due as the pass began: those that weren't due are as they were
 pub record HasRemoved (w : World) (removed : ℕ) (after : World) : Type 0 where

@@ -38,11 +38,11 @@ versions_made w = w.made.versions + length w.drafts
 abbrev pub has_other_writer : World → ℕ → ℕ → Bool
 has_other_writer w handle file = list_any (is_writer file) (remove_first (is_handle handle) w.handles)
 
--- the cells of the file's draft
+-- the cells of the file's draft; it is there wherever a handle writes it, so that of none never shows
 abbrev pub draft_cells : World → ℕ → List Cell
 draft_cells w file = option_map_or (λ row. row.cells) (find (is_draft file) w.drafts) []
 
--- the cells of the version, which is held
+-- the cells of the version, which is held wherever a handle reads it; so that of none never shows
 abbrev pub version_cells : World → ℕ → ℕ → List Cell
 version_cells w file number = option_map_or (λ row. row.cells) (find (is_version file number) w.versions) []
 
@@ -146,7 +146,7 @@ plan w (Truncate handle size) =
     Unless (nat_lt longest_content size) TooBig
     (Make Done (TruncateDraft file size ∷ [])))
 -- the handle goes; with a file's last writer a changed draft becomes the next version, and any other vanishes, and with it a
--- file of which nothing else is left
+-- file of which nothing else is left; a writer's draft is there, so the answer without one is never given
 plan w (Close handle) =
     Need (reads_by w.handles handle) (λ read.
     IfFound (draft_read read) (Make (Closed None) (ShutHandle handle ∷ [])) (λ file.

@@ -1,4 +1,4 @@
--- What is true of every world of a run, in parts: each takes only what it speaks of.
+-- What is true of every world of a run: its fifteen parts, each of only what it speaks of, and at the end all together.
 use Rattle.std.specs.Prelude.{◌≡◌, ℕ, ◌+◌, ◌==◌, ◌<◌, ◌≤◌, ◌&&◌, ◌||◌, Bool, true, false, List, length, IfSome, Some, None, is_none}
 use Rattle.std.specs.List.{list_any, AllByRecursion}
 use Rattle.std.specs.Str.{bytes_eq}
@@ -6,7 +6,7 @@ use Rattle.ele_content.specs.declared.cell.Cell.{Cell}
 use Rattle.ele_content.specs.Content.{content_of, longest_content, fill_slots}
 use Rattle.ele_moment.specs.Last.{last_moment}
 pub use Rattle.ele_lists.specs.Lists.{AllLater}
-use Rattle.ele_policy.specs.Lawful.{IsLawful}
+use Rattle.ele_policy.specs.Policy.{IsPolicy}
 use Rattle.ele_world.specs.Bounds.{Bounds, AreBounds}
 use Rattle.ele_world.specs.declared.limits.Counts.{Counts}
 use Rattle.ele_world.specs.declared.rows.DirectoryRow.{DirectoryRow}
@@ -36,28 +36,28 @@ pub record AreCounted (made : Counts) (limits : Bounds) (files names versions dr
   pub name_rows : names ≤ made.names
   pub version_rows : versions ≤ made.versions
 
--- the root is there, and each directory has a lawful policy; their numbers rise, and were given; they are counted but for the root
+-- the root is there, and each directory has a policy that can be given; their numbers rise, and were given; they are counted but for the root
 pub record AreDirectories (made limit : ℕ) (rows : List DirectoryRow) : Type 0 where
   pub rooted : list_any (is_directory root) rows ≡ true
-  pub policies : AllByRecursion (λ row. IsLawful row.default) rows
+  pub policies : AllByRecursion (λ row. IsPolicy row.default) rows
   pub placed : AllLater (λ earlier later. earlier.id < later.id) rows
   pub given : AllByRecursion (λ row. row.id ≤ made) rows
   pub counted : length rows ≤ made + 1
   pub few : made ≤ limit
 
--- the file's number was given, its next version's is from 2 on and not past so many versions made, and its policy is lawful
+-- the file's number was given, its next version's is from 2 on and not past so many versions made, and its policy can be given
 pub record IsFile (files versions : ℕ) (row : FileRow) : Type 0 where
   pub numbered : 1 ≤ row.id
   pub given : row.id ≤ files
   pub first : 2 ≤ row.next
   pub next : row.next ≤ versions + 1
-  pub policy : IsLawful row.policy
+  pub policy : IsPolicy row.policy
 
 pub record AreFiles (files versions : ℕ) (rows : List FileRow) : Type 0 where
   pub each : AllByRecursion (IsFile files versions) rows
   pub placed : AllLater (λ earlier later. earlier.id < later.id) rows
 
--- a file that is there
+-- a file that is there; that a directory is there `homes` says
 abbrev pub IsThere : List FileRow → Target → Type 0
 IsThere files (File file) = 0 < next_of files file
 IsThere files (Directory directory) = Unit {0}
@@ -84,7 +84,7 @@ has_directory rows id = list_any (is_directory id) rows
 abbrev pub is_reached : List NameRow → ℕ → Bool
 is_reached names id = (id == root) || list_any (is_live_directory id) names
 
--- a directory that is there
+-- a directory that is there; that a file is there `names` says
 abbrev pub IsDirectoryThere : List DirectoryRow → Target → Type 0
 IsDirectoryThere directories (File file) = Unit {0}
 IsDirectoryThere directories (Directory directory) = has_directory directories directory ≡ true
@@ -147,12 +147,12 @@ pub record AreDrafts (files : List FileRow) (now : ℕ) (rows : List DraftRow) :
   pub each : AllByRecursion (IsDraft files now) rows
   pub placed : AllLater (λ earlier later. earlier.file < later.file) rows
 
--- a draft that is read is there
+-- a draft that is read is there; that a version that is read is held `readers` says
 abbrev pub IsReadable : List DraftRow → Reads → Type 0
 IsReadable drafts (Draft file) = list_any (is_draft file) drafts ≡ true
 IsReadable drafts (Version file number) = Unit {0}
 
--- a version that is read is held
+-- a version that is read is held; that a draft that is read is there `handles` says
 abbrev pub IsHeldRead : List VersionRow → Reads → Type 0
 IsHeldRead versions (Draft file) = Unit {0}
 IsHeldRead versions (Version file number) = list_any (is_version file number) versions ≡ true
@@ -200,40 +200,20 @@ pub record AreGroups (made : ℕ) (files : List FileRow) (now : ℕ) (rows : Lis
   pub named : AllLater (λ earlier later. bytes_eq earlier.name later.name ≡ false) rows
   pub counted : length rows ≤ made
 
-pub data Part : Type 0 where
-  Now : Part
-  Bounded : Part
-  Counted : Part
-  Directories : Part
-  Files : Part
-  Names : Part
-  Homes : Part
-  Tree : Part
-  Versions : Part
-  Drafts : Part
-  Handles : Part
-  Readers : Part
-  Current : Part
-  Ended : Part
-  Groups : Part
-
-abbrev pub Holds : World → Part → Type 0
-Holds w Now = w.now ≤ last_moment
-Holds w Bounded = AreBounds w.limits
-Holds w Counted = AreCounted w.made w.limits (length w.files) (length w.names) (length w.versions) (length w.drafts)
-Holds w Directories = AreDirectories w.made.directories w.limits.directories w.directories
-Holds w Files = AreFiles w.made.files w.made.versions w.files
-Holds w Names = AreNames w.files w.now w.names
-Holds w Homes = AreHoused w.directories w.names
-Holds w Tree = AllLater AreOthers w.names
-Holds w Versions = AreVersions w.files w.now w.versions
-Holds w Drafts = AreDrafts w.files w.now w.drafts
-Holds w Handles = AreHandles w.made.handles w.drafts w.handles
-Holds w Readers = AreHeldRead w.versions w.handles
-Holds w Current = HaveCurrent w
-Holds w Ended = HaveEnded w
-Holds w Groups = AreGroups w.made.groups w.files w.now w.groups
-
--- each part holds
+-- what is true of every world of a run
 pub record IsWellFormed (w : World) : Type 0 where
-  pub holds : (part : Part) → Holds w part
+  pub now : w.now ≤ last_moment
+  pub bounded : AreBounds w.limits
+  pub counted : AreCounted w.made w.limits (length w.files) (length w.names) (length w.versions) (length w.drafts)
+  pub directories : AreDirectories w.made.directories w.limits.directories w.directories
+  pub files : AreFiles w.made.files w.made.versions w.files
+  pub names : AreNames w.files w.now w.names
+  pub homes : AreHoused w.directories w.names
+  pub tree : AllLater AreOthers w.names
+  pub versions : AreVersions w.files w.now w.versions
+  pub drafts : AreDrafts w.files w.now w.drafts
+  pub handles : AreHandles w.made.handles w.drafts w.handles
+  pub readers : AreHeldRead w.versions w.handles
+  pub current : HaveCurrent w
+  pub ended : HaveEnded w
+  pub groups : AreGroups w.made.groups w.files w.now w.groups

@@ -1,4 +1,4 @@
--- What all versions and drafts use, and changes of one file's versions and drafts.
+-- What all versions and drafts use, and changes of one file's versions and drafts. No public clause cites this module.
 use Rattle.std.specs.Prelude.{◌≡◌, ℕ, ◌==◌, not, length, filter, if◌then◌else◌}
 use Rattle.ele_content.specs.Place.{is_place, different}
 use Rattle.ele_policy.specs.declared.policy.Kind.{Kind}

@@ -45,7 +45,8 @@ fresh_world limits = record {
 abbrev pub is_directory : ℕ → DirectoryRow → Bool
 is_directory id row = row.id == id
 
--- the policy that files get that are made in the directory
+-- the policy that files get that are made in the directory; a well-formed world asks it of directories that are there alone, so
+-- that of none never shows
 abbrev pub default_of : List DirectoryRow → ℕ → Policy
 default_of rows id = option_map_or (λ row. row.default) (find (is_directory id) rows) (Safe 86400)
 
@@ -55,11 +56,11 @@ is_file id row = row.id == id
 abbrev pub policy_of : List FileRow → ℕ → Option Policy
 policy_of rows id = option_map (λ row. row.policy) (find (is_file id) rows)
 
--- the policy that governs the file
+-- the policy that governs the file; likewise
 abbrev pub policy_for : List FileRow → ℕ → Policy
 policy_for rows id = option_map_or (λ row. row.policy) (find (is_file id) rows) (Safe 86400)
 
--- the number that the file's next version gets
+-- the number that the file's next version gets; 0 says that there is no such file, and no path leads to one
 abbrev pub next_of : List FileRow → ℕ → ℕ
 next_of rows id = option_map_or (λ row. row.next) (find (is_file id) rows) 0
 

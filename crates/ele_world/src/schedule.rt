@@ -12,22 +12,30 @@ use ele_policy::laws::policies_are_lawful;
 /// before, and the world is well formed: so every order of removal ends in the same rows.
 pub fn any_due_leave()
     ensures { AnyDueLeave }
-{}
+{
+    policies_are_lawful();
+}
 
 /// The same where the files of which nothing is left are dropped too; then each file has something left.
 pub fn idle_leave()
     ensures { IdleLeave }
-{}
+{
+    policies_are_lawful();
+}
 
 /// A world that lags behind another and has nothing due has the versions that the other keeps.
 pub fn lags_keeps()
     ensures { LagsKeeps }
-{}
+{
+    policies_are_lawful();
+}
 
 /// After a clean of it alone it still lags.
 pub fn clean_lags()
     ensures { CleanLags }
-{}
+{
+    policies_are_lawful();
+}
 
 /// After an event made in both it still lags, and where the event doesn't only ask it is answered alike: any event but a clean,
 /// and but those that take up versions of the past or let versions go later than before.

@@ -4,11 +4,14 @@ ghost use Rattle.ele_world.specs.RestorableLists.{RestorableLists};
 ghost use Rattle.ele_world.specs.ScanLists.{ScanLists};
 ghost use Rattle.ele_world.specs.UndeleteTakes.{UndeleteTakes};
 
+use ele_policy::laws::policies_are_lawful;
+
 /// A name is listed as restorable just where an undelete of a path to it isn't refused as `Exists`, `NoEntry` or `NotRestorable`.
-#[tactic(auto, using(crate::proofs::Restores::undelete_takes))]
 pub fn undelete_takes()
     ensures { UndeleteTakes }
-{}
+{
+    policies_are_lawful();
+}
 
 /// The list of restorable names has each name once, in order, and just those whose newest row is dead and may come back.
 pub fn restorable_lists()
@@ -18,7 +21,9 @@ pub fn restorable_lists()
 /// The scan has each key once, in order, and just those of held versions that are due.
 pub fn scan_lists()
     ensures { ScanLists }
-{}
+{
+    policies_are_lawful();
+}
 
 /// The blocks of usage are as many as there are different places.
 #[tactic(auto, using(crate::proofs::DifferentPlaces::counts_places))]

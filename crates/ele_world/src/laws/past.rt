@@ -1,27 +1,35 @@
 //! What stays of the past, of other names, and of all that was counted, whatever the event: each law is the contract of a function
 //! that does nothing.
+ghost use Rattle.ele_world.specs.DraftsWritten.{DraftsWritten, DraftsWrittenInRuns};
 ghost use Rattle.ele_world.specs.LifeStays.{LifeStays};
 ghost use Rattle.ele_world.specs.NameRowsStay.{NameRowsStay};
 ghost use Rattle.ele_world.specs.NumbersRise.{NumbersRise};
 ghost use Rattle.ele_world.specs.OtherNamesStay.{OtherNamesStay};
 ghost use Rattle.ele_world.specs.PastStays.{PastStays};
+ghost use Rattle.ele_world.specs.ReadsPast.{ReadsPast};
+
+use ele_policy::laws::policies_are_lawful;
 
 /// What a name stood for at a moment before now stays so, unless it was a file that has gone.
-#[tactic(auto, using(crate::proofs::Past::past_stays))]
 pub fn past_stays()
     ensures { PastStays }
-{}
+{
+    policies_are_lawful();
+}
 
 /// Name rows stay in their order, but for those of a file that has gone: a birth never changes, and a death is set once, to now.
-#[tactic(auto, using(crate::proofs::NameRowsKept::name_rows_stay))]
 pub fn name_rows_stay()
     ensures { NameRowsStay }
-{}
+{
+    policies_are_lawful();
+}
 
 /// A held version lived at each moment before now after an event as before it.
 pub fn life_stays()
     ensures { LifeStays }
-{}
+{
+    policies_are_lawful();
+}
 
 /// The names that an event doesn't name stand for what they stood for.
 #[tactic(auto, using(crate::proofs::OtherNames::other_names_stay))]
@@ -30,7 +38,30 @@ pub fn other_names_stay()
 {}
 
 /// The time never goes back, and no number is given twice.
-#[tactic(auto, using(crate::proofs::Rising::numbers_rise))]
 pub fn numbers_rise()
     ensures { NumbersRise }
-{}
+{
+    policies_are_lawful();
+}
+
+/// What a path reads at a moment before now is after an event the same bytes, or refused as `Forgotten` or `NoEntry`.
+pub fn reads_past()
+    ensures { ReadsPast }
+{
+    policies_are_lawful();
+}
+
+/// An event leaves each draft a handle that writes it.
+pub fn drafts_written()
+    ensures { DraftsWritten }
+{
+    policies_are_lawful();
+}
+
+/// After any list of events each draft has one.
+#[tactic(auto, using(crate::proofs::Writing::runs_have_writers, crate::proofs::StepKeeps::fresh_is, crate::proofs::Formed::in_parts, crate::proofs::Words::fresh_world))]
+pub fn drafts_written_in_runs()
+    ensures { DraftsWrittenInRuns }
+{
+    policies_are_lawful();
+}

@@ -1,5 +1,6 @@
+use Rattle.ele_world.proofs.Formed.{in_parts}
 use Rattle.ele_world.proofs.Stays.{held_stays}
 use Rattle.ele_world.proofs.laws.held_stays.Goals as goal
 
 pub returns : goal.returns
-returns c = λ w event k. held_stays w event k
+returns c = λ w event k. held_stays w event (in_parts c.policies_are_lawful.ensures w k)

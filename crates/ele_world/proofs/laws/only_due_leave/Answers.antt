@@ -1,5 +1,6 @@
+use Rattle.ele_world.proofs.Formed.{in_parts}
 use Rattle.ele_world.proofs.Stays.{only_due_leave}
 use Rattle.ele_world.proofs.laws.only_due_leave.Goals as goal
 
 pub returns : goal.returns
-returns c = λ w event k. only_due_leave w event k
+returns c = λ w event k. only_due_leave w event (in_parts c.policies_are_lawful.ensures w k)

@@ -1,5 +1,6 @@
+use Rattle.ele_world.proofs.Formed.{in_parts}
 use Rattle.ele_world.proofs.RemovalOrder.{removal_order}
 use Rattle.ele_world.proofs.laws.removal_order.Goals as goal
 
 pub returns : goal.returns
-returns c = λ w before row behind k is due. removal_order w before row behind k is due
+returns c = λ w before row behind k. removal_order w before row behind (in_parts c.policies_are_lawful.ensures w k)

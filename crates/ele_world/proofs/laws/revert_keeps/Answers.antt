@@ -1,5 +1,6 @@
+use Rattle.ele_world.proofs.Formed.{in_parts}
 use Rattle.ele_world.proofs.Closes.{revert_keeps}
 use Rattle.ele_world.proofs.laws.revert_keeps.Goals as goal
 
 pub returns : goal.returns
-returns c = λ w path number made k told. revert_keeps w path number made k told
+returns c = λ w path number made k. revert_keeps w path number made (in_parts c.policies_are_lawful.ensures w k)

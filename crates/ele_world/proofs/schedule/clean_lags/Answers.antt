@@ -1,5 +1,6 @@
+use Rattle.ele_world.proofs.Formed.{in_parts}
 use Rattle.ele_world.proofs.CleanLags.{clean_lags}
 use Rattle.ele_world.proofs.schedule.clean_lags.Goals as goal
 
 pub returns : goal.returns
-returns c = λ u v formed k lags. clean_lags u v formed k lags
+returns c = λ u v formed k. clean_lags u v (in_parts c.policies_are_lawful.ensures u formed) (in_parts c.policies_are_lawful.ensures v k)

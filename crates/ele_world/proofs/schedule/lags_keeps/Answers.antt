@@ -1,5 +1,6 @@
+use Rattle.ele_world.proofs.Formed.{in_parts}
 use Rattle.ele_world.proofs.Lagging.{lags_keeps}
 use Rattle.ele_world.proofs.schedule.lags_keeps.Goals as goal
 
 pub returns : goal.returns
-returns c = λ u v formed k lags none. lags_keeps u v formed k lags none
+returns c = λ u v formed k. lags_keeps u v (in_parts c.policies_are_lawful.ensures u formed) (in_parts c.policies_are_lawful.ensures v k)

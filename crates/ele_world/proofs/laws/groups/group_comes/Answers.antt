@@ -1,5 +1,6 @@
+use Rattle.ele_world.proofs.Formed.{in_parts}
 use Rattle.ele_world.proofs.GroupsChanged.{a_group_comes}
 use Rattle.ele_world.proofs.laws.groups.group_comes.Goals as goal
 
 pub returns : goal.returns
-returns c = λ w name k done. a_group_comes w name k done
+returns c = λ w name k. a_group_comes w name (in_parts c.policies_are_lawful.ensures w k)

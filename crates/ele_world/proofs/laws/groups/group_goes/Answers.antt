@@ -1,5 +1,6 @@
+use Rattle.ele_world.proofs.Formed.{in_parts}
 use Rattle.ele_world.proofs.GroupsChanged.{a_group_goes}
 use Rattle.ele_world.proofs.laws.groups.group_goes.Goals as goal
 
 pub returns : goal.returns
-returns c = λ w name k done. a_group_goes w name k done
+returns c = λ w name k. a_group_goes w name (in_parts c.policies_are_lawful.ensures w k)

@@ -1,5 +1,6 @@
+use Rattle.ele_world.proofs.Formed.{in_parts}
 use Rattle.ele_world.proofs.GroupsChanged.{mark_goes}
 use Rattle.ele_world.proofs.laws.groups.mark_goes.Goals as goal
 
 pub returns : goal.returns
-returns c = λ w name mark k done. mark_goes w name mark k done
+returns c = λ w name mark k. mark_goes w name mark (in_parts c.policies_are_lawful.ensures w k)

@@ -1,5 +1,6 @@
+use Rattle.ele_world.proofs.Formed.{in_parts}
 use Rattle.ele_world.proofs.GroupsChanged.{member_goes}
 use Rattle.ele_world.proofs.laws.groups.member_goes.Goals as goal
 
 pub returns : goal.returns
-returns c = λ w name path file k named done. member_goes w name path file k named done
+returns c = λ w name path file k. member_goes w name path file (in_parts c.policies_are_lawful.ensures w k)

@@ -1,5 +1,6 @@
+use Rattle.ele_world.proofs.Formed.{in_parts}
 use Rattle.ele_world.proofs.Lives.{life_stays}
 use Rattle.ele_world.proofs.laws.past.life_stays.Goals as goal
 
 pub returns : goal.returns
-returns c = λ w event k. life_stays w event k
+returns c = λ w event k. life_stays w event (in_parts c.policies_are_lawful.ensures w k)

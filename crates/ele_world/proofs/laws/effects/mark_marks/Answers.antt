@@ -1,0 +1,6 @@
+use Rattle.ele_world.proofs.Formed.{in_parts}
+use Rattle.ele_world.proofs.Governs.{mark_marks}
+use Rattle.ele_world.proofs.laws.effects.mark_marks.Goals as goal
+
+pub returns : goal.returns
+returns c = λ w name mark k. mark_marks w name mark (in_parts c.policies_are_lawful.ensures w k)

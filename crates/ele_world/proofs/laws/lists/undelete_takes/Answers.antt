@@ -1,0 +1,6 @@
+use Rattle.ele_world.proofs.Formed.{in_parts}
+use Rattle.ele_world.proofs.Restores.{undelete_takes}
+use Rattle.ele_world.proofs.laws.lists.undelete_takes.Goals as goal
+
+pub returns : goal.returns
+returns c = λ w path at k. undelete_takes w path at (in_parts c.policies_are_lawful.ensures w k)

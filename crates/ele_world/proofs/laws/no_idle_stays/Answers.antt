@@ -1,0 +1,6 @@
+use Rattle.ele_world.proofs.Formed.{in_parts}
+use Rattle.ele_world.proofs.NoIdle.{no_idle_stays}
+use Rattle.ele_world.proofs.laws.no_idle_stays.Goals as goal
+
+pub returns : goal.returns
+returns c = λ w event k. no_idle_stays w event (in_parts c.policies_are_lawful.ensures w k)

@@ -1,0 +1,25 @@
+-- What a path reads at a moment before now never turns into something else: after any event it reads the same bytes, or is refused,
+-- as `Forgotten` once the version was removed, or as `NoEntry` once the file has gone.
+use Rattle.std.specs.Prelude.{◌≡◌, ◌⊎◌, ℕ, ◌<◌, List, Option}
+use Rattle.ele_time_path.specs.declared.tagged.Tag.TheVariants.{At}
+use Rattle.ele_world.specs.declared.event.Event.{Event}
+use Rattle.ele_world.specs.declared.event.Event.TheVariants.{Read}
+use Rattle.ele_world.specs.declared.event.Source.TheVariants.{Tagged}
+use Rattle.ele_world.specs.declared.refusal.Refusal.TheVariants.{Forgotten, NoEntry}
+use Rattle.ele_world.specs.declared.reply.Reply.{Reply}
+use Rattle.ele_world.specs.declared.reply.Reply.TheVariants.{Bytes, Refused}
+use Rattle.ele_world.specs.Run.{IsEvent}
+use Rattle.ele_world.specs.Step.{step}
+use Rattle.ele_world.specs.WellFormed.{IsWellFormed}
+use Rattle.ele_world.specs.World.{World}
+
+-- what the path reads that is read at the moment
+abbrev pub read_at : World → List (List ℕ) → ℕ → Reply
+read_at w path moment = (step w (Read (Tagged (record { path = path; tag = At moment })))).0
+
+abbrev pub ReadsPast : Type 0
+ReadsPast =
+    (w : World) (event : Event) (path : List (List ℕ)) (moment : ℕ) (bytes : List ℕ) → IsWellFormed w → IsEvent event → moment < w.now
+    → read_at w path moment ≡ Bytes bytes
+    → let after = read_at ((step w event).1) path moment in
+    (after ≡ Bytes bytes) ⊎ (((before : Option ℕ) × (after ≡ Refused (Forgotten before))) ⊎ (after ≡ Refused NoEntry))
