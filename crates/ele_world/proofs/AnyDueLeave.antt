@@ -7,11 +7,11 @@ use Rattle.ele_world.proofs.Words.{VersionRow, ArePlaced, Take, after_change, Ha
 use Rattle.ele_world.specs.AnyDueLeave.{AreDue, LeavesOthersDue, without_versions}
 use Rattle.ele_world.specs.Due.{is_due, is_due_at}
 use Rattle.ele_world.proofs.DueRows.{due_has_ended, due_is_unread}
+use Rattle.ele_world.proofs.Formed.{well_formed}
 use Rattle.ele_world.proofs.KeptVersions.{take_keeps}
 use Rattle.ele_world.proofs.RemovalOrder.{IsBeside, stays, sides}
 use Rattle.ele_world.proofs.Versions.{IsFound, all_found, apart}
 use Rattle.ele_world.proofs.Views.{placed_of}
-use Rattle.ele_world.proofs.Formed.{well_formed}
 
 -- the world with these versions
 abbrev pub with_rows : World → List VersionRow → World
@@ -111,7 +111,7 @@ module _ (w : World) (gone : ℕ → ℕ → Bool) (k : HasParts w) (due : AreDu
 
 pub any_due_leave : (w : World) (gone : ℕ → ℕ → Bool) → HasParts w → AreDue w gone → LeavesOthersDue w gone (without_versions gone w)
 any_due_leave w gone k due = record {
-  well_formed = well_formed (without_versions gone w) (stays_due w gone k due).formed;
+  well_formed = well_formed (with_rows w (rows w gone k due)) (stays_due w gone k due).formed;
   due = filter-same_all (then w gone k due) (now w gone k due) (rows w gone k due) (stays_due w gone k due).same ∙ filter-swap (now w gone k due) (remains gone) w.versions;
   kept = kept_stay w gone k due;
 }

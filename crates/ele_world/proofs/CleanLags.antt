@@ -5,7 +5,7 @@ use Rattle.ele_lists.proofs.Filters.{find-filter}
 use Rattle.ele_world.proofs.Words.{DropIdle, FileRow, Files, HasParts, Key, NameRow, Take, Target, VersionRow, World, after_change, clean_step, first_due, forgotten, is_file, is_target_file, is_version, is_version_of, without_file, is_held, next_of, Versions, GroupRow, IsVersion}
 use Rattle.ele_world.specs.AnyDueLeave.{AreDue}
 use Rattle.ele_world.specs.Due.{is_due, is_due_at}
-use Rattle.ele_world.specs.Lags.{Lags, CleanLags}
+use Rattle.ele_world.specs.Lags.{Lags}
 use Rattle.ele_world.specs.Less.{less, is_dropped, IsEmptied}
 use Rattle.ele_world.proofs.AnyDueLeave.{remains}
 use Rattle.ele_world.proofs.Cleans.{clean_of}

@@ -1,5 +1,5 @@
 -- The law of any due versions where the files go with them of which nothing is left, one after the other.
-use Rattle.ele_world.proofs.Basics.{Bool, ℕ, ◌≡◌, ◌==◌, true, false, not, List, [], ◌∷◌, refl, sym, ◌∙◌, arith, nat_tests, map, list_any, remove_first, AllByRecursion, false≢true, all-both, all-remove_first, all-weaker, filter-passes, remove_first-key, filter-same_all, subst}
+use Rattle.ele_world.proofs.Basics.{◌≡◌, ◌==◌, true, false, not, List, [], ◌∷◌, refl, sym, ◌∙◌, arith, nat_tests, map, list_any, remove_first, AllByRecursion, false≢true, all-both, all-remove_first, all-weaker, filter-passes, remove_first-key, filter-same_all, subst, ℕ, Bool}
 use Rattle.ele_world.proofs.Words.{DropIdle, after_change, after_changes, is_idle, without_file, kept_rows, is_file, FileRow, HasNoIdle, Files, HasParts, World}
 use Rattle.ele_world.specs.AnyDueLeave.{AreDue, LeavesOthersDue, without_versions}
 use Rattle.ele_world.specs.Due.{due_rows}
@@ -54,8 +54,8 @@ pub idle_leave : (w : World) (gone : ℕ → ℕ → Bool) → HasParts w → Ar
 idle_leave w gone k due =
     let v = without_versions gone w in
     let left = any_due_leave w gone k due in
-    let k' = (stays_due w gone k due).formed in
-    let same = all_dropped v v.files k' in (
+    let parts : HasParts v = (stays_due w gone k due).formed in
+    let same = all_dropped v v.files parts in (
       record { well_formed = well_formed (without_idle v) same.2; due = same.0 ∙ left.due; kept = same.1 ∙ left.kept },
-      all_gone v v.files k' (all-weaker (λ row. list_any (is_file row.id) v.files ≡ true) (IsToGo v v.files) v.files (λ row h idle. h) (each_among v.files)),
+      all_gone v v.files parts (all-weaker (λ row. list_any (is_file row.id) v.files ≡ true) (IsToGo v v.files) v.files (λ row h idle. h) (each_among v.files)),
     )

@@ -1,7 +1,7 @@
 -- A world that lags: its files that are there are seen as in the other, so the same of its versions are due.
-use Rattle.ele_world.proofs.Basics.{None, ◌≡◌, ℕ, Bool, true, false, not, List, refl, ap, sym, ◌∙◌, arith, nat_tests, filter, list_any, AllByRecursion, all-both, all-filter, all-weaker, filter-passes, list_any-filter, any-found}
+use Rattle.ele_world.proofs.Basics.{◌≡◌, ℕ, None, Bool, true, false, not, List, refl, ap, sym, ◌∙◌, arith, nat_tests, filter, list_any, AllByRecursion, all-both, all-filter, all-weaker, filter-passes, list_any-filter, any-found}
 use Rattle.ele_lists.proofs.Filters.{find-filter}
-use Rattle.ele_world.proofs.Words.{FileRow, NameRow, VersionRow, kept_rows, view_of, is_file, is_version, is_live_name_of, next_of, policy_of, HasParts, World, first_due}
+use Rattle.ele_world.proofs.Words.{FileRow, NameRow, VersionRow, first_due, kept_rows, view_of, is_file, is_version, is_live_name_of, next_of, policy_of, HasParts, World}
 use Rattle.ele_world.specs.AnyDueLeave.{AreDue, without_versions}
 use Rattle.ele_world.specs.Due.{is_due_at}
 use Rattle.ele_world.specs.Lags.{Lags}
@@ -76,6 +76,7 @@ module _ (gone : ℕ → ℕ → Bool) (dropped : ℕ → Bool) (v : World) (k :
   pub due_lags : AllByRecursion (λ row. is_due_at u row u.now ≡ is_due_at v row v.now) u.versions
   due_lags = all-weaker (λ row. ((at : ℕ) → is_due_at u row at ≡ is_due_at whole row at) × IsDueAs v whole row) (λ row. is_due_at u row u.now ≡ is_due_at v row v.now) whole.versions (λ row h. h.0 v.now ∙ h.1) (all-both _ _ whole.versions (due_same whole u sees) (stays_due v gone k due).same)
 
-pub lags_keeps : (u v : World) → HasParts u → HasParts v → Lags u v → first_due u ≡ None → u.versions ≡ kept_rows v
-lags_keeps u v formed k lags none =
-    sym (nothing_due u formed none) ∙ ap kept_rows lags.is ∙ kept_lags lags.gone lags.dropped v k lags.due lags.emptied
+pub lags_keeps : (u v : World) → HasParts u → HasParts v → Lags u v → (kept_rows u ≡ kept_rows v) × (first_due u ≡ None → u.versions ≡ kept_rows v)
+lags_keeps u v formed k lags =
+    let same = ap kept_rows lags.is ∙ kept_lags lags.gone lags.dropped v k lags.due lags.emptied in
+    (same, λ none. sym (nothing_due u formed none) ∙ same)

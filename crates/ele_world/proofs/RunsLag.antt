@@ -1,16 +1,15 @@
 -- The law of the schedule: along a run the world that is cleaned lags behind the one that isn't.
-use Rattle.ele_world.proofs.Basics.{◌≡◌, ◌||◌, ℕ, true, false, not, List, [], ◌∷◌, refl, ap, subst, ◌∙◌, arith, nat_tests, filter, cond, AllByRecursion, false≢true}
-use Rattle.ele_world.proofs.Words.{CleanOne, Event, IsPass, HasParts, World, asks, kept_rows, run_of, step, AreBounds, Bounds, fresh_world, Reply, IsEvent}
+use Rattle.ele_world.proofs.Basics.{◌≡◌, ◌||◌, ℕ, true, false, not, List, [], ◌∷◌, refl, sym, subst, ◌∙◌, all-any, filter-all, arith, nat_tests, filter, cond, AllByRecursion, false≢true}
+use Rattle.ele_world.proofs.Words.{CleanOne, Event, IsEvent, IsPass, HasParts, World, asks, kept_rows, run_of, step, Reply, Target, File, Directory}
 use Rattle.ele_world.specs.Lags.{Lags}
+use Rattle.ele_world.specs.Less.{less, is_dropped}
 use Rattle.ele_world.specs.PlainEvents.{is_clean, is_plain}
 use Rattle.ele_world.specs.Schedule.{change_replies}
-use Rattle.ele_world.proofs.CleanLags.{clean_lags}
+use Rattle.ele_world.proofs.CleanLags.{clean_lags, parts_same}
 use Rattle.ele_world.proofs.EventLags.{event_lags}
-use Rattle.ele_world.proofs.Lagging.{kept_lags}
+use Rattle.ele_world.proofs.Lagging.{lags_keeps}
 use Rattle.ele_world.proofs.PassEnds.{pass_leaves_kept}
-use Rattle.ele_world.proofs.StepKeeps.{fresh_is, step_keeps}
-use Rattle.ele_policy.specs.Lawful.{PoliciesAreLawful}
-use Rattle.ele_world.proofs.Formed.{in_parts}
+use Rattle.ele_world.proofs.StepKeeps.{step_keeps}
 
 abbrev IsOfRun : Event → Type 0
 IsOfRun event = IsEvent event × ((is_clean event || is_plain event) ≡ true)
@@ -50,16 +49,23 @@ runs_lag u v (event ∷ events) are formed k lags =
     ] refl
 
 -- a world lags behind itself
-itself : (limits : Bounds) → Lags (fresh_world limits) (fresh_world limits)
-itself limits = record { gone = λ file number. false; dropped = λ file. false; is = refl; due = λ file number no. absurd (false≢true no); emptied = λ file no. absurd (false≢true no); ungrouped = refl }
+stays_for : (target : Target) → not (is_dropped (λ file. false) target) ≡ true
+stays_for (File file) = refl
+stays_for (Directory id) = refl
 
-pub schedule : PoliciesAreLawful → (limits : Bounds) (events : List Event) → AreBounds limits → AllByRecursion IsOfRun events
-    → (change_replies (fresh_world limits) events ≡ change_replies (fresh_world limits) (others events))
-    × ((removed : ℕ) (after : World) → IsPass (run_of (fresh_world limits) events) removed after → after.versions ≡ kept_rows (run_of (fresh_world limits) (others events)))
-schedule law limits events bounds are =
-    let w = fresh_world limits in
-    let k = in_parts law w (fresh_is limits bounds) in
-    let runs = runs_lag w w events are k k (itself limits) in (
+itself : (w : World) → w.groups ≡ [] → Lags w w
+itself w none = record { gone = λ file number. false; dropped = λ file. false; is = sym same; due = λ file number no. absurd (false≢true no); emptied = λ file no. absurd (false≢true no); ungrouped = none } where
+  same : less (λ file number. false) (λ file. false) w ≡ w
+  same = parts_same w _ w.files _ w.names _ w.versions
+      (filter-all (λ row. true) w.files (all-any (λ row. true ≡ true) w.files (λ row. refl)))
+      (filter-all (λ row. not (is_dropped (λ file. false) row.target)) w.names (all-any (λ row. not (is_dropped (λ file. false) row.target) ≡ true) w.names (λ row. stays_for row.target)))
+      (filter-all (λ row. true) w.versions (all-any (λ row. true ≡ true) w.versions (λ row. refl)))
+
+pub schedule : (w : World) (events : List Event) → HasParts w → w.groups ≡ [] → AllByRecursion IsOfRun events
+    → (change_replies w events ≡ change_replies w (others events))
+    × ((removed : ℕ) (after : World) → IsPass (run_of w events) removed after → after.versions ≡ kept_rows (run_of w (others events)))
+schedule w events k none are =
+    let runs = runs_lag w w events are k k (itself w none) in (
       runs.same,
-      λ removed after pass. pass_leaves_kept (run_of w events) removed after runs.formed pass ∙ ap kept_rows runs.lags.is ∙ kept_lags runs.lags.gone runs.lags.dropped (run_of w (others events)) runs.other runs.lags.due runs.lags.emptied,
+      λ removed after pass. pass_leaves_kept (run_of w events) removed after runs.formed pass ∙ (lags_keeps (run_of w events) (run_of w (others events)) runs.formed runs.other runs.lags).0,
     )

@@ -18,9 +18,11 @@ pub record Lags (u v : World) : Type 0 where
   pub emptied : (file : ℕ) → dropped file ≡ true → IsEmptied gone v file
   pub ungrouped : v.groups ≡ []
 
--- where nothing is due in the first its versions are those that the second keeps
+-- what the first keeps is what the second keeps; so where nothing is due in the first, its versions are those
 abbrev pub LagsKeeps : Type 0
-LagsKeeps = (u v : World) → IsWellFormed u → IsWellFormed v → Lags u v → first_due u ≡ None → u.versions ≡ kept_rows v
+LagsKeeps =
+    (u v : World) → IsWellFormed u → IsWellFormed v → Lags u v
+    → (kept_rows u ≡ kept_rows v) × (first_due u ≡ None → u.versions ≡ kept_rows v)
 
 abbrev pub CleanLags : Type 0
 CleanLags = (u v : World) → IsWellFormed u → IsWellFormed v → Lags u v → Lags ((clean_step u).1) v

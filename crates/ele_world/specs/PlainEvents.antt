@@ -7,7 +7,7 @@ abbrev pub is_clean : Event → Bool
 is_clean CleanOne = true
 is_clean event = false
 
--- no clean, and none that takes up a version of the past, or lets one go later than before
+-- neither a clean, nor one that takes up a version of the past, nor one by which due versions may come to be held back
 abbrev pub is_plain : Event → Bool
 is_plain CleanOne = false
 is_plain (Undelete path) = false

@@ -4,13 +4,14 @@ use Rattle.std.specs.Prelude.{◌≡◌, ℕ, true, not, ◌||◌, List, [], ◌
 use Rattle.std.specs.List.{AllByRecursion}
 use Rattle.ele_world.specs.declared.event.Event.{Event}
 use Rattle.ele_world.specs.declared.reply.Reply.{Reply}
-use Rattle.ele_world.specs.Bounds.{Bounds, AreBounds}
 use Rattle.ele_world.specs.Due.{kept_rows}
 use Rattle.ele_world.specs.NothingChanges.{asks}
+use Rattle.ele_world.specs.Pass.{IsPass}
 use Rattle.ele_world.specs.PlainEvents.{is_clean, is_plain}
-use Rattle.ele_world.specs.Run.{run_of, IsEvent, IsPass}
+use Rattle.ele_world.specs.Run.{run_of, IsEvent}
 use Rattle.ele_world.specs.Step.{step}
-use Rattle.ele_world.specs.World.{World, fresh_world}
+use Rattle.ele_world.specs.WellFormed.{IsWellFormed}
+use Rattle.ele_world.specs.World.{World}
 
 -- the replies to the events that neither clean nor ask
 abbrev pub change_replies : World → List Event → List Reply
@@ -18,9 +19,11 @@ change_replies w [] = []
 change_replies w (event ∷ events) =
     let rest = change_replies ((step w event).1) events in if is_clean event || asks event then rest else (step w event).0 ∷ rest
 
+-- from any well-formed world without groups, as the fresh one is
 abbrev pub Schedule : Type 0
 Schedule =
-    (limits : Bounds) (events : List Event) → AreBounds limits → AllByRecursion (λ event. IsEvent event × ((is_clean event || is_plain event) ≡ true)) events
-    → let w = fresh_world limits in let others = filter (λ event. not (is_clean event)) events in
+    (w : World) (events : List Event) → IsWellFormed w → w.groups ≡ []
+    → AllByRecursion (λ event. IsEvent event × ((is_clean event || is_plain event) ≡ true)) events
+    → let others = filter (λ event. not (is_clean event)) events in
     (change_replies w events ≡ change_replies w others)
     × ((removed : ℕ) (after : World) → IsPass (run_of w events) removed after → after.versions ≡ kept_rows (run_of w others))

@@ -23,7 +23,7 @@ pub fn idle_leave()
     policies_are_lawful();
 }
 
-/// A world that lags behind another and has nothing due has the versions that the other keeps.
+/// A world that lags behind another keeps what the other keeps; once nothing is due in it, it has those versions alone.
 pub fn lags_keeps()
     ensures { LagsKeeps }
 {
@@ -38,15 +38,15 @@ pub fn clean_lags()
 }
 
 /// After an event made in both it still lags, and where the event doesn't only ask it is answered alike: any event but a clean,
-/// and but those that take up versions of the past or let versions go later than before.
+/// those that take up a version of the past, and those by which due versions may come to be held back.
 pub fn event_lags()
     ensures { EventLags }
 {
     policies_are_lawful();
 }
 
-/// However clean events stand in such a run, a finished pass at its end leaves exactly what the scan keeps of the run without
-/// them, and the events that neither clean nor ask are answered as there.
+/// However clean events stand in a run of such events, from any well-formed world without groups, a finished pass at its end
+/// leaves exactly what the scan keeps of the run without them, and the events that neither clean nor ask are answered as there.
 pub fn schedule()
     ensures { Schedule }
 {

@@ -1,5 +1,6 @@
+use Rattle.ele_world.proofs.Formed.{in_parts}
 use Rattle.ele_world.proofs.RunsLag.{schedule}
 use Rattle.ele_world.proofs.schedule.schedule.Goals as goal
 
 pub returns : goal.returns
-returns c = λ limits events bounds are. schedule c.policies_are_lawful.ensures limits events bounds are
+returns c = λ w events k. schedule w events (in_parts c.policies_are_lawful.ensures w k)
