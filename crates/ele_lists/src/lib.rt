@@ -16,5 +16,5 @@ pub use cut::{Change, Cut};
 pub use index::Index;
 pub use keyed::{BeforeKey, BehindKey, Keyed, place_of};
 pub use list::{ByteList, ListOf};
-pub use room::{put, put_at};
+pub use room::put_at;
 pub use tally::Tally;

@@ -1,20 +1,7 @@
-//! Changes of vectors where there is room, so that none can be refused.
+//! A change of a vector where there is room, so that it can't be refused.
 //! A contract sees a vector as its items, its length and the room behind it.
-ghost use Rattle.std.specs.Prelude.{◌≡◌, ◌<◌, ◌≤◌, ◌+◌, [], ◌∷◌, ◌++◌, vec_len, vec_capacity};
+ghost use Rattle.std.specs.Prelude.{◌≡◌, ◌<◌, ◌≤◌, vec_len, vec_capacity};
 ghost use Rattle.std.specs.List.{insert};
-
-/// Adds an item at the end, where there is room.
-pub fn put<T>(items: &mut Vec<T>, item: T)
-    requires { vec_len items.old < vec_capacity items.old }
-    ensures items { items.new.items ≡ items.old.items ++ item ∷ [] }
-    ensures len { vec_len items.new ≡ vec_len items.old + 1 }
-    ensures room { vec_capacity items.old ≤ vec_capacity items.new }
-{
-    match items.push(item) {
-        Ok(()) => {}
-        Err(_back) => unreachable!(),
-    }
-}
 
 /// Adds an item at a place, where there is room.
 pub fn put_at<T>(items: &mut Vec<T>, at: usize, item: T)
