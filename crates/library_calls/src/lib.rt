@@ -5,6 +5,8 @@
 #[cfg(test)]
 mod cores;
 #[cfg(test)]
+mod crowd;
+#[cfg(test)]
 mod ends;
 #[cfg(test)]
 mod groups;

@@ -69,27 +69,36 @@ fn a_version_is_found_while_it_is_held(rt: HostRuntime) -> Result<(), Fail> {
     let mut log = InodeLog::new(rt.alloc());
     let mut meter = Meter::new();
     log.reserve()?;
-    assert!(rt; log.append(version(rt.alloc(), 1, moment(3)?)).is_ok());
-    assert_eq!(rt; log.at(moment(3)?, &mut meter), Some(VersionNo(1)));
+    assert!(rt; log.append(version(rt.alloc(), 1, moment(0)?)).is_ok());
+    log.end_last(moment(5)?);
+    assert!(rt; log.append(version(rt.alloc(), 2, moment(5)?)).is_ok());
+    assert_eq!(rt; log.at(moment(4)?, &mut meter), Some(VersionNo(1)));
+    assert_eq!(rt; log.at(moment(5)?, &mut meter), Some(VersionNo(2)));
+    let before = meter.rows();
     let row = log.remove(VersionNo(1), &mut meter);
     assert_eq!(rt; row.map(|row| row.number), Some(VersionNo(1)));
-    assert_eq!(rt; log.at(moment(3)?, &mut meter), None);
+    assert_eq!(rt; (before, meter.rows()), (2, 3));
     Ok(())
 }
 
 #[test]
-fn a_draft_that_was_written_and_cut_is_changed(rt: HostRuntime) -> Result<(), Fail> {
+fn a_draft_that_was_written_and_cut_is_changed_beside_a_reader(
+    rt: HostRuntime,
+) -> Result<(), Fail> {
     let mut store = BlockStore::new(rt.alloc());
     let map = BlockMap::new(rt.alloc());
     let mut sessions = Sessions::new(rt.alloc());
     let handle = sessions.open_write(&mut store, FileId(1), VersionNo(2), Moment::START, &map)?;
     assert_eq!(rt; handle, Handle(1));
+    assert_eq!(rt; sessions.open_read(FileId(1), VersionNo(1))?, Handle(2));
     sessions.write(&mut store, handle, 0, b"a")?;
     sessions.truncate(&mut store, handle, 0)?;
     assert_eq!(rt;
         sessions.peek_close(handle),
         Some(Closing::Changed(FileId(1), Moment::START))
     );
+    assert!(rt; sessions.pins(FileId(1), VersionNo(1)));
+    assert!(rt; !sessions.pins(FileId(1), VersionNo(2)));
     Ok(())
 }
 
@@ -105,6 +114,12 @@ fn a_key_is_ripe_from_its_moment_on(rt: HostRuntime) -> Result<(), Fail> {
     assert_eq!(rt; queue.until(moment(4)?)?.len(), 0);
     assert_eq!(rt; queue.until(moment(5)?)?.as_slice(), [key].as_slice());
     Ok(())
+}
+
+#[test]
+fn moments_end_with_the_year_9999(rt: HostRuntime) {
+    assert!(rt; Moment::new(253_402_300_799).is_some());
+    assert!(rt; Moment::new(253_402_300_800).is_none());
 }
 
 #[test]

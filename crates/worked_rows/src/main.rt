@@ -7,7 +7,7 @@ use ele_world::Limits;
 use std::fs;
 
 /// The scripts under the largest limits, each NAME.script with its NAME.output.
-const ROWS: [&str; 98] = [
+const ROWS: [&str; 104] = [
     "first_run",
     "empty_script",
     "write_of_no_bytes",
@@ -43,6 +43,7 @@ const ROWS: [&str; 98] = [
     "a_whole_file_is_shared",
     "zeros_fill_up_to_a_write",
     "truncate_to_the_longest_content",
+    "a_write_fills_two_thousand_slots",
     "a_draft_is_read",
     "many_versions_of_a_file",
     "passes_and_their_budgets",
@@ -66,6 +67,7 @@ const ROWS: [&str; 98] = [
     "reverts_and_drafts",
     "landmarks_let_one_of_a_span_go",
     "landmarks_level_by_level",
+    "landmarks_level_by_level_cleaned_often",
     "a_reader_keeps_a_version_of_a_span",
     "refused_ladders_and_the_longest_content",
     "a_policy_changes_what_is_due",
@@ -106,6 +108,10 @@ const ROWS: [&str; 98] = [
     "a_group_of_three_files",
     "a_file_in_a_thousand_groups",
     "usage_after_a_change_of_policy",
+    "a_mark_among_files_cleaned_once",
+    "a_mark_among_files_cleaned_often",
+    "a_reader_and_a_lost_file_cleaned_once",
+    "a_reader_and_a_lost_file_cleaned_often",
 ];
 
 /// Scripts under limits of their own: events, files, directories, names, versions, handles, groups, members, marks.
