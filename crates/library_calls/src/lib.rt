@@ -19,6 +19,8 @@ mod names;
 #[cfg(test)]
 mod pieces;
 #[cfg(test)]
+mod reads;
+#[cfg(test)]
 mod rooms;
 #[cfg(test)]
 mod runs;
