@@ -13,6 +13,8 @@ mod groups;
 #[cfg(test)]
 mod lines;
 #[cfg(test)]
+mod maps;
+#[cfg(test)]
 mod million;
 #[cfg(test)]
 mod names;
