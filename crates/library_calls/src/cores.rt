@@ -1,7 +1,15 @@
 //! The calls of a core that no script reaches. What they answer is in their contracts; here it is that they find memory.
-use ele_core::Core;
+use ele_core::{ByteList, Core, Event, FileId, Handle, PassEnd, Reply};
+use ele_script::read_event;
 use ele_world::Limits;
+use std::alloc::Global;
 use std::test::Fail;
+
+/// What the core replies to the line's event.
+pub fn reply_to(alloc: Global, core: &mut Core, line: &str) -> Result<Reply, Fail> {
+    let event = read_event(alloc, line.as_bytes())?;
+    Ok(core.apply(&event)?)
+}
 
 /// Whether a core finds memory for what it is asked.
 fn finds_memory(core: &Core) -> bool {
@@ -12,9 +20,41 @@ fn finds_memory(core: &Core) -> bool {
             .is_ok_and(|flat| flat.due().is_ok() && flat.restorable().is_ok())
 }
 
+/// What a fresh core answers that makes a file and is cleaned, and whether it finds memory for what
+/// it is asked.
+fn clean_and_ask(alloc: Global, core: &mut Core) -> Result<(Reply, PassEnd, bool), Fail> {
+    let reply = reply_to(alloc, core, "create /f")?;
+    let end = core.clean_pass(3);
+    Ok((reply, end, finds_memory(core)))
+}
+
 #[test]
-fn a_fresh_core_is_asked_and_copied(rt: HostRuntime) -> Result<(), Fail> {
-    let core = Core::new(rt.alloc(), Limits::largest())?;
-    assert!(rt; finds_memory(&core));
+fn a_core_is_cleaned_and_asked_and_copied(rt: HostRuntime) -> Result<(), Fail> {
+    let mut core = Core::new(rt.alloc(), Limits::largest())?;
+    let told = clean_and_ask(rt.alloc(), &mut core)?;
+    assert_eq!(rt; told, (Reply::File(FileId(1)), PassEnd::Finished(0), true));
+    Ok(())
+}
+
+/// As many bytes as a content may have, no slot of which is as the next.
+fn longest(alloc: Global) -> Result<ByteList, Fail> {
+    let bytes: Vec<u8> = (0..1_048_576u32).map(|at| (at % 251) as u8).collect(alloc)?;
+    Ok(ByteList::from_vec(bytes))
+}
+
+/// Writes such a content into a new file, and tells what is answered and read.
+fn write_longest(alloc: Global, core: &mut Core) -> Result<[Reply; 2], Fail> {
+    reply_to(alloc, core, "create /f")?;
+    reply_to(alloc, core, "open write /f")?;
+    let write = Event::Write(Handle(1), 0, longest(alloc)?);
+    let written = core.apply(&write)?;
+    Ok([written, reply_to(alloc, core, "read 1")?])
+}
+
+#[test]
+fn the_longest_content_is_written_at_once(rt: HostRuntime) -> Result<(), Fail> {
+    let wanted = [Reply::Done, Reply::Bytes(longest(rt.alloc())?)];
+    let mut core = Core::new(rt.alloc(), Limits::largest())?;
+    assert!(rt; write_longest(rt.alloc(), &mut core)? == wanted);
     Ok(())
 }

@@ -6,7 +6,8 @@ use std::io::{Error, ErrorKind, Read, Write};
 /// So often in a row an end is interrupted before it gives or takes a byte.
 const INTERRUPTIONS: u8 = 100;
 
-/// A reader that gives a byte at a time, is interrupted before each, and ends in a failure where `fails` says so.
+/// A reader that gives a byte at a time, is interrupted before each, and ends in a failure where
+/// `fails` says so. Asked again it would tell of no failure, but that it is at its end.
 #[derive(Drop)]
 pub struct SlowReader<'a> {
     rest: &'a [u8],
@@ -32,11 +33,11 @@ impl Read for SlowReader<'_> {
         }
         self.interrupted = 0;
         let Some((byte, rest)) = self.rest.split_first() else {
-            return if self.fails {
-                Err(Error::from(ErrorKind::Other))
-            } else {
-                Ok(0)
-            };
+            if self.fails {
+                self.fails = false;
+                return Err(Error::from(ErrorKind::Other));
+            }
+            return Ok(0);
         };
         let Some(slot) = buf.first_mut() else {
             return Ok(0);

@@ -13,11 +13,15 @@ mod groups;
 #[cfg(test)]
 mod lines;
 #[cfg(test)]
+mod maps;
+#[cfg(test)]
 mod million;
 #[cfg(test)]
 mod names;
 #[cfg(test)]
 mod pieces;
+#[cfg(test)]
+mod reads;
 #[cfg(test)]
 mod rooms;
 #[cfg(test)]

@@ -1,29 +1,40 @@
-//! Names and paths, called with ample memory. Paths without tags are read by the stored scripts.
+//! Names and paths, called with ample memory.
+use crate::rooms::moment;
 use ele_moment::{FileId, Moment, Name, VersionNo};
 use ele_names::Names;
-use ele_time_path::{PathFault, Tag, TaggedPath};
+use ele_time_path::{Path, PathFault, Tag, TaggedPath};
 use ele_world::{DirId, Target};
 use std::test::Fail;
 
 #[test]
-fn a_name_is_listed_from_its_birth_on(rt: HostRuntime) -> Result<(), Fail> {
+fn a_name_lives_from_its_birth_to_its_death(rt: HostRuntime) -> Result<(), Fail> {
     let root = DirId(0);
     let file = Target::File(FileId(1));
     let name = Name::new(b"f")?;
     let mut names = Names::new(rt.alloc());
     names.add(root, name, file, Moment::START)?;
     assert_eq!(rt; names.list(root, Moment::START)?.len(), 1);
-    assert!(rt; names.at(root, &name, Moment::START) == Some(file));
-    assert!(rt; names.dead()?.is_empty());
+    names.kill(root, &name, moment(3)?);
+    assert!(rt; names.at(root, &name, moment(2)?) == Some(file));
+    assert!(rt; names.at(root, &name, moment(3)?).is_none());
+    assert!(rt; names.last_dead(root, &name) == Some(file));
+    assert_eq!(rt; names.dead()?.len(), 1);
+    Ok(())
+}
+
+#[test]
+fn a_path_is_its_names(rt: HostRuntime) -> Result<(), Fail> {
+    let path = Path::read(rt.alloc(), b"/a/b")?;
+    let names = [Name::new(b"a")?, Name::new(b"b")?];
+    assert_eq!(rt; path.names(), names.as_slice());
     Ok(())
 }
 
 #[test]
 fn a_tag_stands_behind_a_path(rt: HostRuntime) -> Result<(), Fail> {
-    let moment = Moment::new(5).ok_or("past the last moment")?;
-    let then = TaggedPath::read(rt.alloc(), b"/a/b@5")?;
-    assert_eq!(rt; then.path().names().len(), 2);
-    assert!(rt; then.tag() == Tag::At(moment));
+    let then = TaggedPath::read(rt.alloc(), b"/a@5")?;
+    assert_eq!(rt; then.path().names().len(), 1);
+    assert!(rt; then.tag() == Tag::At(moment(5)?));
     let third = TaggedPath::read(rt.alloc(), b"/a#3")?;
     assert!(rt; third.tag() == Tag::Number(VersionNo(3)));
     let now = TaggedPath::read(rt.alloc(), b"/")?;
