@@ -1,6 +1,5 @@
 pub mod State
 pub mod Reads
-pub mod Ready
 pub mod Stopped
 pub mod Queued
 pub mod Tracked

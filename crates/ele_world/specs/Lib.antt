@@ -22,6 +22,7 @@ pub mod Step
 pub mod WellFormed
 pub mod Parts
 pub mod Run
+pub mod Ready
 pub mod AlwaysWellFormed
 pub mod NothingChanges
 pub mod CreateLeads

@@ -14,6 +14,7 @@ mod returning;
 mod rows;
 mod scan;
 pub mod schedule;
+mod stepping;
 mod sums;
 
 pub use ele_content::Cell;
@@ -34,3 +35,4 @@ pub use rows::{
     DeadName, DirectoryRow, DraftRow, FileRow, FileStat, GroupRow, HandleRow, NameRow, Reads,
     Stamps, Target, VersionRow,
 };
+pub use stepping::Stepping;

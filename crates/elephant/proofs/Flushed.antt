@@ -7,12 +7,12 @@ use Rattle.std.proofs.KnownBytes.{Appends-kept, Appends-nil, Keeps-trans}
 use Rattle.std.proofs.lemmas.List.{append-nil}
 use Rattle.ele_script.specs.Front.{AppendsFront}
 use Rattle.ele_script.specs.Printed.{line_text}
-use Rattle.ele_shell.specs.Fault.{number_of, name_of}
-use Rattle.ele_shell.specs.Lines.{whole_lines}
-use Rattle.ele_shell.specs.RunState.{RunState}
-use Rattle.ele_shell.specs.Running.{RanToTheEnd, RanToAReadFault, RanPastABound, RanToAWriteFault}
-use Rattle.ele_shell.specs.declared.fault.ShellFault.{ShellFault}
-use Rattle.ele_shell.specs.declared.fault.ShellFault.TheVariants.{ReadFault, WriteFault, TooManyLines, NoMemory}
+use Rattle.ele_runs.specs.Fault.{number_of, name_of}
+use Rattle.ele_runs.specs.Lines.{whole_lines}
+use Rattle.ele_runs.specs.RunState.{RunState}
+use Rattle.ele_runs.specs.Running.{RanToTheEnd, RanToAReadFault, RanPastABound, RanToAWriteFault}
+use Rattle.ele_runs.specs.declared.fault.ShellFault.{ShellFault}
+use Rattle.ele_runs.specs.declared.fault.ShellFault.TheVariants.{ReadFault, WriteFault, TooManyLines, NoMemory}
 use Rattle.elephant.specs.Ends.{HasRun, HasHelped, fault_line}
 
 -- what a run says of each of its ends

@@ -3,11 +3,11 @@ use Rattle.std.specs.Prelude.{◌≡◌, ℕ, List, [], ◌∷◌, codes, decima
 use Rattle.std.specs.Io.KnownBytes.{Appends, Keeps}
 use Rattle.ele_script.specs.Front.{AppendsFront}
 use Rattle.ele_script.specs.Printed.{line_text}
-use Rattle.ele_shell.specs.Fault.{number_of, name_of}
-use Rattle.ele_shell.specs.RunState.{RunState, fresh}
-use Rattle.ele_shell.specs.Running.{RanToTheEnd, RanToAReadFault, RanPastABound, RanToAWriteFault}
-use Rattle.ele_shell.specs.declared.fault.ShellFault.{ShellFault}
-use Rattle.ele_shell.specs.declared.fault.ShellFault.TheVariants.{ReadFault, WriteFault, TooManyLines, NoMemory}
+use Rattle.ele_runs.specs.Fault.{number_of, name_of}
+use Rattle.ele_runs.specs.RunState.{RunState, fresh}
+use Rattle.ele_runs.specs.Running.{RanToTheEnd, RanToAReadFault, RanPastABound, RanToAWriteFault}
+use Rattle.ele_runs.specs.declared.fault.ShellFault.{ShellFault}
+use Rattle.ele_runs.specs.declared.fault.ShellFault.TheVariants.{ReadFault, WriteFault, TooManyLines, NoMemory}
 use Rattle.elephant.specs.Status.{status_of}
 use Rattle.elephant.specs.declared.asked.Asked.{Asked}
 use Rattle.elephant.specs.declared.asked.Asked.TheVariants as asked

@@ -1,0 +1,167 @@
+-- How a run ends.
+use Rattle.ele_runs.proofs.Basics.{◌≡◌, ℕ, ◌+◌, ◌≤◌, List, [], ◌∷◌, ◌++◌, length, take, get_or, min, ◌-◌, Option, Some, None, Result, Ok, Err, refl, sym, ap, subst, ◌∙◌, arith, append_assoc, inl, inr, append-nil, length-take, nat_tests}
+use Rattle.ele_runs.proofs.Basics.{flat_map-append, cases_order, leb_tells, IfOk, AllByRecursion, Consumes, Keeps, Appends, IsAtEnd, Consumes-trans, Consumes-kept, Appends-trans}
+use Rattle.ele_runs.proofs.Words.{AppendsFront, outlet, cut_block, cut_count, most_lines, line_unless_long, longest_line, IsUnbroken, whole_line, whole_lines, line_count, AreBlocks, AnswersSome, RunState}
+use Rattle.ele_runs.specs.declared.fault.ShellFault.{ShellFault}
+use Rattle.ele_runs.specs.declared.fault.ShellFault.TheVariants.{ReadFault, WriteFault, TooManyLines, NoMemory}
+use Rattle.ele_runs.specs.Running.{Runs, RanToTheEnd, RanPastABound, RanToAWriteFault}
+use Rattle.ele_runs.specs.Taken.{TakesPiece}
+use Rattle.ele_runs.proofs.Joins.{blocks_append, front_behind, front_then, all_both}
+use Rattle.ele_runs.proofs.Ran.{HasRun, written_all, few_whole}
+
+-- what was read is all, where nothing is left
+whole_input : (input rest : Option (List ℕ)) (given : List ℕ) → Consumes input rest given → IsAtEnd rest → Keeps input (Some given)
+whole_input input rest given taken at_end = grind (arith, append-nil)
+
+-- the input goes on in some way behind what was read
+known_more : (input rest : Option (List ℕ)) (given : List ℕ) → Consumes input rest given → (more : List ℕ) × Keeps input (Some (given ++ more))
+known_more (Some xs) (Some ys) given taken = (ys, sym taken)
+known_more input None given taken = ([], grind arith)
+known_more None rest given taken = ([], tt)
+
+-- the writer failed in the blocks of these lines, whatever comes behind them
+fails_in : (start state : RunState) (given part text : List ℕ) (lines : List (List ℕ)) (input rest old new : Option (List ℕ))
+    → given ≡ whole_lines lines ++ part → AllByRecursion IsUnbroken lines → AreBlocks start lines text state → Consumes input rest given
+    → AppendsFront old new text → RanToAWriteFault start input old new
+fails_in start state given part text lines input rest old new e whole blocks taken front =
+    let more = known_more input rest given taken in
+    record {
+      lines = lines;
+      rest = part ++ more.0;
+      text = text;
+      state = state;
+      input_is = subst (λ (xs : List ℕ). Keeps input (Some xs)) (ap (λ (w : List ℕ). w ++ more.0) e ∙ append_assoc (whole_lines lines) part more.0) more.1;
+      whole = whole;
+      blocks = blocks;
+      written = inl front;
+    }
+
+-- a last line counts as its block does
+counts_cut : (lines : List (List ℕ)) (last : List ℕ) → line_count lines last ≡ length lines + cut_count (line_unless_long last)
+counts_cut lines last = grind (arith, nat_tests)
+
+none_behind : (lines : List (List ℕ)) (part : List ℕ) → length lines ≡ most_lines → line_count lines part ≤ most_lines → part ≡ []
+none_behind lines part all few = grind arith
+
+-- nothing was read, so the input ends
+pub nothing_read : (mid rest : Option (List ℕ)) (most count : ℕ) (piece : List ℕ) → TakesPiece mid rest most piece (Ok count) → count ≡ 0
+    → Consumes mid rest [] × IsAtEnd rest
+nothing_read mid rest most count piece took none = (subst (λ (m : ℕ). Consumes mid rest (take m piece)) none took.1, took.2 none)
+
+pub length_taken : (count : ℕ) (piece : List ℕ) → count ≤ length piece → length (take count piece) ≡ count
+length_taken count piece le = omega (arith, length-take count piece, le)
+
+one_byte : (piece : List ℕ) (count : ℕ) → 1 ≤ length piece → count ≡ 1 → take count piece ≡ get_or piece 0 0 ∷ []
+one_byte piece count some one = grind arith
+
+module _ {start state : RunState} {n : ℕ} {room : ℕ} {buffer input mid old so_far : Option (List ℕ)} {held : List ℕ} (ran : HasRun start n state room buffer input mid old so_far held) where
+  -- the writer failed as it was handed what is held
+  pub ends_over : (new : Option (List ℕ)) → AppendsFront so_far new held → RanToAWriteFault start input old new
+  ends_over new front =
+      fails_in start state ran.given ran.part ran.text ran.lines input mid old new ran.are.parts ran.are.whole ran.blocks ran.taken
+      (rw ran.put.parts (front_behind old so_far new ran.put.sent held ran.put.written front))
+
+  -- the reader failed
+  pub ends_read : (rest : Option (List ℕ)) (most : ℕ) (piece : List ℕ) (fault : ShellFault) → held ≡ [] → TakesPiece mid rest most piece (Err fault)
+      → Runs start input rest old so_far (Err fault)
+  ends_read rest most piece ReadFault none keeps = record {
+    given = ran.given;
+    lines = ran.lines;
+    part = ran.part;
+    text = ran.text;
+    state = state;
+    taken = Consumes-kept input mid rest ran.given ran.taken keeps;
+    are = ran.are;
+    few_lines = few_whole ran.lines ran.part ran.few;
+    few_bytes = omega (arith, ran.size);
+    blocks = ran.blocks;
+    written = written_all ran none;
+  }
+  ends_read rest most piece fault none h = absurd h
+
+  -- a byte stands behind as much as a script may be
+  pub ends_past : (rest : Option (List ℕ)) (piece : List ℕ) (count : ℕ) → held ≡ [] → min room (most_lines - n) ≡ 0 → 1 ≤ length piece → count ≡ 1
+      → Consumes mid rest (take count piece) → RanPastABound start input rest old so_far
+  ends_past rest piece count none full some one took = record {
+    given = ran.given;
+    byte = get_or piece 0 0;
+    lines = ran.lines;
+    part = ran.part;
+    text = ran.text;
+    state = state;
+    taken = Consumes-trans input mid rest ran.given (get_or piece 0 0 ∷ []) ran.taken (subst (Consumes mid rest) (one_byte piece count some one) took);
+    are = ran.are;
+    few_lines = few_whole ran.lines ran.part ran.few;
+    few_bytes = omega (arith, ran.size);
+    most = elim (cases_order room 0) [
+      | inl e ↦ inr (omega (arith, ran.size, e))
+      | inr (inl lt) ↦ absurd (omega (arith, lt))
+      | inr (inr gt) ↦
+          let all : length ran.lines ≡ most_lines = omega (arith, full, gt, ran.count, few_whole ran.lines ran.part ran.few) in
+          inl (all, none_behind ran.lines ran.part all ran.few)
+    ];
+    blocks = ran.blocks;
+    written = written_all ran none;
+  }
+
+  -- the input ends
+  pub ends_all : (rest new : Option (List ℕ)) (count : ℕ) → held ≡ [] → Consumes mid rest [] → IsAtEnd rest
+      → (count ≡ n + cut_count buffer) × Appends so_far new (held ++ cut_block buffer) → RanToTheEnd start count input rest old new
+  ends_all rest new count none took at_end done =
+      let counted : count ≡ line_count ran.lines ran.part =
+      done.0 ∙ ap (λ (b : Option (List ℕ)). n + cut_count b) ran.keeps ∙ ap (λ (m : ℕ). m + cut_count (line_unless_long ran.part)) (sym ran.count)
+      ∙ sym (counts_cut ran.lines ran.part) in
+      record {
+        given = ran.given;
+        lines = ran.lines;
+        last = ran.part;
+        text = ran.text ++ cut_block (line_unless_long ran.part);
+        taken = subst (Consumes input rest) (append-nil ran.given) (Consumes-trans input mid rest ran.given [] ran.taken took);
+        at_end = at_end;
+        are = ran.are;
+        count = counted;
+        few_lines = subst (λ (m : ℕ). m ≤ most_lines) (sym counted) ran.few;
+        few_bytes = omega (arith, ran.size);
+        output = record { blocks = ran.text; state = state; are = ran.blocks; text_is = refl };
+        written = Appends-trans old so_far new ran.text (cut_block (line_unless_long ran.part)) (written_all ran none)
+            (subst (Appends so_far new) (cut_is none) done.1);
+      }
+    where
+      cut_is : held ≡ [] → held ++ cut_block buffer ≡ cut_block (line_unless_long ran.part)
+      cut_is e = ap (λ (w : List ℕ). w ++ cut_block buffer) e ∙ ap cut_block ran.keeps
+
+  -- the writer failed in the block of a last line without its line feed
+  pub ends_in_cut : (rest new : Option (List ℕ)) → held ≡ [] → Consumes mid rest [] → IsAtEnd rest
+      → AppendsFront so_far new (held ++ cut_block buffer) → RanToAWriteFault start input old new
+  ends_in_cut rest new none took at_end front = record {
+    lines = ran.lines;
+    rest = ran.part;
+    text = ran.text;
+    state = state;
+    input_is = subst (λ (xs : List ℕ). Keeps input (Some xs)) ran.are.parts
+        (whole_input input rest ran.given (subst (Consumes input rest) (append-nil ran.given) (Consumes-trans input mid rest ran.given [] ran.taken took)) at_end);
+    whole = ran.are.whole;
+    blocks = ran.blocks;
+    written = inr (
+      ran.are.cut,
+      front_behind old so_far new ran.text (cut_block (line_unless_long ran.part)) (written_all ran none)
+          (subst (AppendsFront so_far new) (ap (λ (w : List ℕ). w ++ cut_block buffer) none ∙ ap cut_block ran.keeps) front),
+    );
+  }
+
+  -- the writer failed in the blocks of the lines of a piece
+  pub ends_in_piece : (after : RunState) (rest new : Option (List ℕ)) (piece left : List ℕ) → Consumes mid rest piece
+      → AnswersSome state after ran.part piece (outlet so_far held) (outlet new left) → RanToAWriteFault start input old new
+  ends_in_piece after rest new piece left took did =
+      fails_in start after (ran.given ++ piece) did.rest (ran.text ++ did.text) (ran.lines ++ did.lines) input rest old new
+      (ap (λ (w : List ℕ). w ++ piece) ran.are.parts ∙ append_assoc (whole_lines ran.lines) ran.part piece ∙ ap (λ (w : List ℕ). whole_lines ran.lines ++ w) did.parts
+      ∙ sym (append_assoc (whole_lines ran.lines) (whole_lines did.lines) did.rest) ∙ ap (λ (w : List ℕ). w ++ did.rest) (sym (flat_map-append whole_line ran.lines did.lines)))
+      (all_both IsUnbroken ran.lines did.lines ran.are.whole did.whole)
+      (blocks_append start state after ran.lines did.lines ran.text did.text ran.blocks did.blocks)
+      (Consumes-trans input mid rest ran.given piece ran.taken took)
+      (front_then (outlet old []) (outlet so_far held) (outlet new left) ran.text did.text ran.put did.put)
+
+-- what a run has done at each end
+pub ran_to_the_end : (start : RunState) (input rest old new : Option (List ℕ)) (r : Result ℕ ShellFault) → Runs start input rest old new r
+    → IfOk r (λ n. RanToTheEnd start n input rest old new)
+ran_to_the_end start input rest old new r h = grind arith

@@ -1,0 +1,153 @@
+-- A piece that was answered so far.
+use Rattle.ele_runs.proofs.Basics.{◌≢◌, ◌≡◌, ℕ, ◌+◌, ◌<◌, ◌≤◌, ◌⊎◌, List, [], ◌∷◌, ◌++◌, length, take, drop, get_or, Option, Some, None, Result, Ok, Err, refl, sym, ap, subst, ◌∙◌, arith, append_assoc, length-append, inl, inr, true, ◌==◌, zero}
+use Rattle.ele_runs.proofs.Basics.{nat_tests, suc, IsErr, take-append-drop, drop_more, length-drop, lt-leb, eq-eqb, eqb-true, leb_tells, AllByRecursion}
+use Rattle.ele_runs.proofs.Words.{Outlet, Takes, TakesFront, IsBlock, line_unless_long, longest_line, IsUnbroken, whole_line, whole_lines, AreBlocks, Answers, AnswersAll, AnswersSome, RunState, PutsBlock}
+use Rattle.std.specs.Option.{option_and_then}
+use Rattle.memchr.specs.Find.{IsFirstByte, is_byte}
+use Rattle.ele_script.specs.declared.fault.WriteFault.{WriteFault}
+use Rattle.ele_runs.proofs.Ran.{blocks_push, joined_push}
+use Rattle.ele_runs.proofs.Joins.{takes_nil, takes_then, front_then, all_both}
+
+-- these lines of a piece were answered, and so much of it is left; a line that began before is only the first
+pub record HasAnswered (before state : RunState) (part piece left : List ℕ) (buffer : Option (List ℕ)) (n count : ℕ) (old new : Outlet) : Type 0 where
+  pub lines : List (List ℕ)
+  pub begun : List ℕ
+  pub text : List ℕ
+  pub parts : part ++ piece ≡ whole_lines lines ++ (begun ++ left)
+  pub whole : AllByRecursion IsUnbroken lines
+  pub unbroken : IsUnbroken begun
+  pub counted : n + length lines ≡ count
+  pub few : length lines + length left ≤ length piece
+  pub first : (begun ≡ []) ⊎ (lines ≡ [])
+  pub keeps : buffer ≡ line_unless_long begun
+  pub blocks : AreBlocks before lines text state
+  pub put : Takes old new text
+
+-- nothing was answered yet
+pub answered_none : (before : RunState) (part piece : List ℕ) (buffer : Option (List ℕ)) (n : ℕ) (old : Outlet)
+    → IsUnbroken part → buffer ≡ line_unless_long part → HasAnswered before before part piece piece buffer n n old old
+answered_none before part piece buffer n old whole keeps =
+    record {
+      lines = [];
+      begun = part;
+      text = [];
+      parts = refl;
+      whole = tt;
+      unbroken = whole;
+      counted = omega arith;
+      few = omega arith;
+      first = inr refl;
+      keeps = keeps;
+      blocks = (refl, refl);
+      put = takes_nil old;
+    }
+
+-- no line feed stands in what is searched in vain
+pub none_found : (xs : List ℕ) → IsFirstByte (is_byte 10) xs None → IsUnbroken xs
+none_found [] h = tt
+none_found (x ∷ xs) h =
+    (λ e. h 0 (omega arith) (omega arith) (eq-eqb x 10 e), none_found xs (λ k low high is. h (suc k) (omega arith) (omega (arith, high)) is))
+
+-- nor before the first that is found
+unbroken_before : (xs : List ℕ) (n : ℕ) → ((k : ℕ) → k < n → (get_or xs k 0 == 10) ≡ true → ⊥) → IsUnbroken (take n xs)
+unbroken_before xs zero h = tt
+unbroken_before [] (suc n) h = tt
+unbroken_before (x ∷ xs) (suc n) h =
+    (λ e. h 0 (omega arith) (eq-eqb x 10 e), unbroken_before xs n (λ k lt is. h (suc k) (omega (arith, lt)) is))
+
+-- what is too long stays too long
+pub kept_more : (line bytes : List ℕ) → option_and_then (λ line. line_unless_long (line ++ bytes)) (line_unless_long line) ≡ line_unless_long (line ++ bytes)
+kept_more line bytes = grind (arith, nat_tests, length-append)
+
+-- a line feed is found at this place
+cut_at : (left : List ℕ) (at : ℕ) → IsFirstByte (is_byte 10) left (Some at) → left ≡ take at left ++ 10 ∷ drop (at + 1) left
+cut_at left at h =
+    sym (take-append-drop at left)
+    ∙ ap (λ (w : List ℕ). take at left ++ w) (drop_more left at 0 h.0.high ∙ ap (λ (b : ℕ). b ∷ drop (at + 1) left) (eqb-true (get_or left at 0) 10 h.1))
+
+line_parts : (begun line behind : List ℕ) → begun ++ (line ++ 10 ∷ behind) ≡ whole_line (begun ++ line) ++ behind
+line_parts begun line behind = sym (append_assoc begun line (10 ∷ behind)) ∙ sym (append_assoc (begun ++ line) (10 ∷ []) behind)
+
+module _ {before between : RunState} {part piece left : List ℕ} {buffer : Option (List ℕ)} {n count : ℕ} {old mid : Outlet} (done : HasAnswered before between part piece left buffer n count old mid) where
+  -- where the next line feed stands
+  parts_at : (at : ℕ) → IsFirstByte (is_byte 10) left (Some at) → part ++ piece ≡ whole_lines (done.lines ++ (done.begun ++ take at left) ∷ []) ++ drop (at + 1) left
+  parts_at at h =
+      let line = done.begun ++ take at left in
+      done.parts ∙ ap (λ (w : List ℕ). whole_lines done.lines ++ (done.begun ++ w)) (cut_at left at h)
+      ∙ ap (λ (w : List ℕ). whole_lines done.lines ++ w) (line_parts done.begun (take at left) (drop (at + 1) left))
+      ∙ sym (append_assoc (whole_lines done.lines) (whole_line line) (drop (at + 1) left))
+      ∙ ap (λ (w : List ℕ). w ++ drop (at + 1) left) (sym (joined_push done.lines line))
+
+  whole_at : (at : ℕ) → IsFirstByte (is_byte 10) left (Some at) → AllByRecursion IsUnbroken (done.lines ++ (done.begun ++ take at left) ∷ [])
+  whole_at at h =
+      all_both IsUnbroken done.lines ((done.begun ++ take at left) ∷ []) done.whole
+      (all_both (λ b. b ≢ 10) done.begun (take at left) done.unbroken (unbroken_before left at (λ k lt is. h.0.before k (omega arith) lt is)), tt)
+
+  block_at : {A E : Type 0} (at : ℕ) (line : List ℕ) (after : RunState) (new : Outlet) (r : Result A E) → line ≡ take at left
+      → (wrote : PutsBlock between (option_and_then (λ l. line_unless_long (l ++ line)) buffer) after mid new r) → IsBlock between (line_unless_long (done.begun ++ take at left)) wrote.block after
+  block_at at line after new r e wrote =
+      subst (λ (l : Option (List ℕ)). IsBlock between l wrote.block after)
+      (ap (λ (l : List ℕ). option_and_then (λ (b : List ℕ). line_unless_long (b ++ l)) buffer) e ∙ ap (option_and_then (λ (b : List ℕ). line_unless_long (b ++ take at left))) done.keeps ∙ kept_more done.begun (take at left))
+      wrote.is
+
+  -- one line more is answered
+  pub answered_more : {A E : Type 0} {after : RunState} {new : Outlet} {buffer' : Option (List ℕ)} (at : ℕ) (line left' : List ℕ) (r : Result A E) → IsFirstByte (is_byte 10) left (Some at)
+      → line ≡ take at left → left' ≡ drop (at + 1) left
+      → (wrote : PutsBlock between (option_and_then (λ l. line_unless_long (l ++ line)) buffer) after mid new r) → Takes mid new wrote.block → buffer' ≡ Some []
+      → HasAnswered before after part piece left' buffer' n (count + 1) old new
+  answered_more {A} {E} {after} {new} {buffer'} at line left' r h e f wrote put begun =
+      let is = block_at at line after new r e wrote in
+      record {
+        lines = done.lines ++ (done.begun ++ take at left) ∷ [];
+        begun = [];
+        text = done.text ++ wrote.block;
+        parts = parts_at at h ∙ ap (λ (w : List ℕ). whole_lines (done.lines ++ (done.begun ++ take at left) ∷ []) ++ w) (sym f);
+        whole = whole_at at h;
+        unbroken = tt;
+        counted = omega (arith, done.counted, length-append done.lines ((done.begun ++ take at left) ∷ []));
+        few = omega (arith, done.few, length-append done.lines ((done.begun ++ take at left) ∷ []), ap length f, length-drop (at + 1) left, h.0.high);
+        first = inl refl;
+        keeps = begun;
+        blocks = blocks_push before between after done.lines (done.begun ++ take at left) done.text wrote.block done.blocks is;
+        put = takes_then old mid new done.text wrote.block done.put put;
+      }
+
+  -- the writer failed in the block of one line more
+  pub answered_some : {A E : Type 0} {after : RunState} {new : Outlet} (at : ℕ) (line : List ℕ) (r : Result A E) → IsFirstByte (is_byte 10) left (Some at)
+      → line ≡ take at left → (wrote : PutsBlock between (option_and_then (λ l. line_unless_long (l ++ line)) buffer) after mid new r) → TakesFront mid new wrote.block → AnswersSome before after part piece old new
+  answered_some {A} {E} {after} {new} at line r h e wrote put =
+      let is = block_at at line after new r e wrote in
+      record {
+        lines = done.lines ++ (done.begun ++ take at left) ∷ [];
+        rest = drop (at + 1) left;
+        text = done.text ++ wrote.block;
+        parts = parts_at at h;
+        whole = whole_at at h;
+        blocks = blocks_push before between after done.lines (done.begun ++ take at left) done.text wrote.block done.blocks is;
+        put = record { front = front_then old mid new done.text wrote.block done.put put };
+      }
+
+  -- no line feed is left
+  pub answered_all : {buffer' : Option (List ℕ)} → IsFirstByte (is_byte 10) left None → buffer' ≡ option_and_then (λ l. line_unless_long (l ++ left)) buffer
+      → AnswersAll before between part piece buffer' n count old mid
+  answered_all {buffer'} h pushed =
+      record {
+        lines = done.lines;
+        last = done.begun ++ left;
+        text = done.text;
+        are = record { parts = done.parts; whole = done.whole; cut = all_both (λ b. b ≢ 10) done.begun left done.unbroken (none_found left h) };
+        counted = done.counted;
+        few = few_of done.begun done.first;
+        keeps = pushed ∙ ap (option_and_then (λ (b : List ℕ). line_unless_long (b ++ left))) done.keeps ∙ kept_more done.begun left;
+        blocks = done.blocks;
+        put = done.put;
+      }
+    where
+      few_of : (begun : List ℕ) → (begun ≡ []) ⊎ (done.lines ≡ []) → (length done.lines + length (begun ++ left) ≤ length piece) ⊎ (done.lines ≡ [])
+      few_of begun (inl e) = inl (rw e done.few)
+      few_of begun (inr e) = inr e
+
+-- an error is the writer's
+pub answers_err : (before after : RunState) (part piece : List ℕ) (buffer : Option (List ℕ)) (n : ℕ) (old new : Outlet) (r : Result ℕ WriteFault)
+    → IsErr r → AnswersSome before after part piece old new → Answers before after part piece buffer n old new r
+answers_err before after part piece buffer n old new r is h = grind arith

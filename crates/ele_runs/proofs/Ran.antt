@@ -1,0 +1,124 @@
+-- A run so far, and how it goes on.
+use Rattle.ele_runs.proofs.Basics.{◌≡◌, ℕ, ◌+◌, ◌≤◌, ◌⊎◌, List, [], ◌∷◌, ◌++◌, length, Option, Some, refl, sym, ap, subst, ◌∙◌, arith, append_assoc, length-append, inl, inr, append-nil, flat_map-append, flat_map-cons, AllByRecursion}
+use Rattle.ele_runs.proofs.Basics.{Consumes, Appends, Consumes-nil, Consumes-trans, Appends-nil}
+use Rattle.ele_runs.proofs.Words.{outlet, Takes, IsBlock, most_lines, most_bytes, line_unless_long, AreLines, whole_line, whole_lines, line_count, AreBlocks, AnswersAll, RunState}
+use Rattle.ele_runs.proofs.Joins.{lines_before, blocks_append, takes_nil, takes_then, takes_over}
+
+-- n whole lines were read and a part of one more, and their blocks put, up to this state; there is room for so many bytes more
+pub record HasRun (start : RunState) (n : ℕ) (state : RunState) (room : ℕ) (buffer input rest old new : Option (List ℕ)) (held : List ℕ) : Type 0 where
+  pub given : List ℕ
+  pub lines : List (List ℕ)
+  pub part : List ℕ
+  pub text : List ℕ
+  pub are : AreLines given lines part
+  pub count : length lines ≡ n
+  pub few : line_count lines part ≤ most_lines
+  pub within : n ≤ most_lines
+  pub size : length given + room ≡ most_bytes
+  pub keeps : buffer ≡ line_unless_long part
+  pub blocks : AreBlocks start lines text state
+  pub taken : Consumes input rest given
+  pub put : Takes (outlet old []) (outlet new held) text
+
+-- a run that begins
+pub has_run_none : (start : RunState) (buffer input old : Option (List ℕ)) (held : List ℕ) → buffer ≡ Some [] → held ≡ []
+    → HasRun start 0 start most_bytes buffer input input old old held
+has_run_none start buffer input old held clear none =
+    record {
+      given = [];
+      lines = [];
+      part = [];
+      text = [];
+      are = record { parts = refl; whole = tt; cut = tt };
+      count = refl;
+      few = omega arith;
+      within = omega arith;
+      size = refl;
+      keeps = clear;
+      blocks = (refl, refl);
+      taken = Consumes-nil input;
+      put = rw none (takes_nil (outlet old []));
+    }
+
+-- the blocks of some lines, and then that of one more
+pub blocks_push : (start between after : RunState) (lines : List (List ℕ)) (line text block : List ℕ)
+    → AreBlocks start lines text between → IsBlock between (line_unless_long line) block after → AreBlocks start (lines ++ line ∷ []) (text ++ block) after
+blocks_push start between after [] line text block are is =
+    let from_start : IsBlock start (line_unless_long line) block after = subst (λ (s : RunState). IsBlock s (line_unless_long line) block after) are.1 is in
+    (block, [], after, from_start, (refl, refl), ap (λ (t : List ℕ). t ++ block) are.0 ∙ sym (append-nil block))
+blocks_push start between after (first ∷ lines) line text block (own, rest, mid, is_first, more, parts) is = (
+  own,
+  rest ++ block,
+  mid,
+  is_first,
+  blocks_push mid between after lines line rest block more is,
+  ap (λ (t : List ℕ). t ++ block) parts ∙ append_assoc own rest block,
+)
+
+pub joined_push : (lines : List (List ℕ)) (line : List ℕ) → whole_lines (lines ++ line ∷ []) ≡ whole_lines lines ++ whole_line line
+joined_push lines line = flat_map-append whole_line lines (line ∷ []) ∙ ap (λ (xs : List ℕ). whole_lines lines ++ xs) (flat_map-cons whole_line line [] ∙ append-nil (whole_line line))
+
+-- what is held is handed over
+pub has_run_over : {start state : RunState} {n room : ℕ} {buffer input rest old known new : Option (List ℕ)} {held left : List ℕ}
+    → HasRun start n state room buffer input rest old known held → left ≡ [] → Appends known new held → HasRun start n state room buffer input rest old new left
+has_run_over {start} {state} {n} {room} {buffer} {input} {rest} {old} {known} {new} {held} {left} ran none over =
+    record {
+      given = ran.given;
+      lines = ran.lines;
+      part = ran.part;
+      text = ran.text;
+      are = ran.are;
+      count = ran.count;
+      few = ran.few;
+      within = ran.within;
+      size = ran.size;
+      keeps = ran.keeps;
+      blocks = ran.blocks;
+      taken = ran.taken;
+      put = record {
+        sent = ran.text;
+        parts = sym (append-nil ran.text) ∙ ap (λ (w : List ℕ). ran.text ++ w) (sym none);
+        written = takes_over old known new held ran.text ran.put over;
+      };
+    }
+
+-- then all that was put is written
+pub written_all : {start state : RunState} {n room : ℕ} {buffer input rest old new : Option (List ℕ)} {held : List ℕ}
+    → (ran : HasRun start n state room buffer input rest old new held) → held ≡ [] → Appends old new ran.text
+written_all {start} {state} {n} {room} {buffer} {input} {rest} {old} {new} {held} ran none =
+    takes_over old new new held ran.text ran.put (rw none (Appends-nil new))
+
+-- a line counts at most once
+count_below : (lines : List (List ℕ)) (last : List ℕ) → line_count lines last ≤ length lines + length last
+count_below lines last = grind arith
+
+count_more : (before after : List (List ℕ)) (last : List ℕ) (most size : ℕ) → length before + size ≤ most → 1 ≤ size
+    → (length after + length last ≤ size) ⊎ (after ≡ []) → line_count (before ++ after) last ≤ most
+count_more before after last most size fits some few = grind (arith, append-nil, length-append, count_below (before ++ after) last)
+
+pub few_whole : (lines : List (List ℕ)) (part : List ℕ) → line_count lines part ≤ most_lines → length lines ≤ most_lines
+few_whole lines part few = grind arith
+
+-- a piece more is read and answered
+pub has_run_on : {start between after : RunState} {n ended room left : ℕ} {buffer buffer' input mid rest old so_far new : Option (List ℕ)} {held held' piece : List ℕ}
+    → (ran : HasRun start n between room buffer input mid old so_far held) → n + length piece ≤ most_lines → 1 ≤ length piece → length piece + left ≡ room
+    → Consumes mid rest piece → AnswersAll between after ran.part piece buffer' n ended (outlet so_far held) (outlet new held')
+    → HasRun start ended after left buffer' input rest old new held'
+has_run_on {start} {between} {after} {n} {ended} {room} {left} {buffer} {buffer'} {input} {mid} {rest} {old} {so_far} {new} {held} {held'} {piece} ran fits some fewer taken did =
+    let few = count_more ran.lines did.lines did.last most_lines (length piece) (omega (arith, fits, ran.count)) some did.few in
+    record {
+      given = ran.given ++ piece;
+      lines = ran.lines ++ did.lines;
+      part = did.last;
+      text = ran.text ++ did.text;
+      are = lines_before (ran.given ++ piece) (ran.part ++ piece) ran.lines did.lines did.last
+          (ap (λ (w : List ℕ). w ++ piece) ran.are.parts ∙ append_assoc (whole_lines ran.lines) ran.part piece) ran.are.whole did.are;
+      count = omega (arith, ran.count, did.counted, length-append ran.lines did.lines);
+      few = few;
+      within = omega (arith, few_whole (ran.lines ++ did.lines) did.last few, ran.count, did.counted, length-append ran.lines did.lines);
+      size = omega (arith, ran.size, fewer, length-append ran.given piece);
+      keeps = did.keeps;
+      blocks = blocks_append start between after ran.lines did.lines ran.text did.text ran.blocks did.blocks;
+      taken = Consumes-trans input mid rest ran.given piece ran.taken taken;
+      put = takes_then (outlet old []) (outlet so_far held) (outlet new held') ran.text did.text ran.put did.put;
+    }

@@ -1,0 +1,9 @@
+use Rattle.ele_runs.proofs.Basics.{refl}
+use Rattle.ele_runs.proofs.Blocks.{block_of_answer}
+use Rattle.ele_runs.proofs.lines.put_block.Goals as goal
+
+pub returns-in-None : goal.returns-in-None
+returns-in-None g c = rw c.in-None.is (record { block = _; is = (refl, refl); put = c.put_fault.ensures })
+
+pub returns-in-Some : goal.returns-in-Some
+returns-in-Some g c = rw (c.in-Some.is, ← c.in-Some.line-is) (block_of_answer _ _ _ _ _ _ c.in-Some.len_at_least c.put_answer.ensures)

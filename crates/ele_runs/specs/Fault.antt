@@ -1,0 +1,19 @@
+-- The numbers and the names of what ends a run early.
+use Rattle.std.specs.Prelude.{ℕ, List, codes}
+use Rattle.ele_world.specs.Answers.{stop_answer}
+use Rattle.ele_world.specs.declared.refusal.Stop.TheVariants as stop
+use Rattle.ele_script.specs.LineFault.{write_fault_answer}
+use Rattle.ele_runs.specs.declared.fault.ShellFault.{ShellFault}
+use Rattle.ele_runs.specs.declared.fault.ShellFault.TheVariants.{ReadFault, WriteFault, TooManyLines, NoMemory}
+
+abbrev pub answer_of : ShellFault → ℕ × List ℕ
+answer_of NoMemory = stop_answer stop.NoMemory
+answer_of ReadFault = (34, codes "ReadFault")
+answer_of WriteFault = write_fault_answer
+answer_of TooManyLines = (36, codes "TooManyLines")
+
+abbrev pub number_of : ShellFault → ℕ
+number_of fault = (answer_of fault).0
+
+abbrev pub name_of : ShellFault → List ℕ
+name_of fault = (answer_of fault).1

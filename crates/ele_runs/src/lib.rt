@@ -1,0 +1,14 @@
+//! Running of scripts over whatever steps: bytes in, text out.
+//! A contract sees the bytes that the reader gives and those that the writer takes, where these are
+//! known.
+#![tactic(auto)]
+
+mod fault;
+mod keeper;
+mod line_buffer;
+mod lines;
+mod reading;
+mod script;
+
+pub use fault::ShellFault;
+pub use script::run_over;

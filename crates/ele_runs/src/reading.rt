@@ -1,0 +1,31 @@
+//! Reading in pieces.
+//! A contract sees the bytes that are taken from the reader.
+ghost use Rattle.std.specs.Prelude.{◌<◌, ◌≤◌, length};
+ghost use Rattle.ele_runs.specs.Taken.{TakesPiece};
+
+use crate::fault::ShellFault;
+use std::io::{ErrorKind, Read};
+
+/// Reads what the reader has, at most so many bytes, into the front of the piece, and tells how
+/// many these are: none only at the end of the input. What is only interrupted is tried again.
+pub(crate) fn read_piece<R: Read>(
+    reader: &mut R,
+    piece: &mut [u8],
+    most: usize,
+) -> Result<usize, ShellFault>
+    requires some { 0 < most }
+    requires room { most ≤ length piece.old }
+    ensures { TakesPiece (R.remaining reader.old) (R.remaining reader.new) most piece.new result }
+{
+    'tries: for _ in 0..u64::MAX {
+        match reader.read(&mut piece[..most]) {
+            Ok(count) => return Ok(count),
+            Err(e) => {
+                if e.kind() != ErrorKind::Interrupted {
+                    return Err(ShellFault::ReadFault);
+                }
+            }
+        }
+    }
+    Err(ShellFault::ReadFault)
+}

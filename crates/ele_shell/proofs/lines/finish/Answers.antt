@@ -1,6 +1,0 @@
-use Rattle.ele_shell.proofs.Blocks.{finishes_front}
-use Rattle.ele_shell.proofs.lines.finish.Goals as goal
-
-pub returns-in_err-hand_over : goal.returns-in_err-hand_over
-returns-in_err-hand_over g c =
-    finishes_front _ _ _ _ _ _ _ c.from_residual-in_err-hand_over.result c.from_residual-in_err-hand_over.ensures.0 (rw c.line.ensures at c.in_ok-cut.ensures.put) c.in_err-hand_over.ensures

@@ -1,6 +1,0 @@
-use Rattle.ele_shell.proofs.Basics.{Keeps}
-use Rattle.ele_shell.proofs.reading.read_piece.Given as goal
-
--- a read that was interrupted took nothing
-abbrev pub invariant-tries : goal.invariant-tries
-invariant-tries g l = Keeps (g.R.Read.remaining l.fn.reader) (g.R.Read.remaining l.reader)
