@@ -1,5 +1,5 @@
 -- The answer to a line that is run, and its block.
-use Rattle.ele_runs.proofs.Basics.{◌≡◌, ◌≢◌, Bool, true, false, ℕ, ◌≤◌, List, [], ◌∷◌, ◌++◌, length, Option, Some, Result, Ok, Err, ◌⊎◌, inl, inr, refl, sym, ap, ◌∙◌, append_assoc, arith, IsErr, Appends-trans}
+use Rattle.ele_runs.proofs.Basics.{◌≡◌, ◌≢◌, Bool, true, false, ℕ, ◌<◌, ◌≤◌, List, [], ◌∷◌, ◌++◌, length, Option, Some, Result, Ok, Err, ◌⊎◌, inl, inr, refl, sym, ap, ◌∙◌, append_assoc, arith, IsErr, Appends-trans}
 use Rattle.ele_runs.proofs.Words.{Reply, Stop, HistoryFull, AppendsFront, Outlet, outlet, Takes, Puts, MayReply, MayAnswer, as_read, as_run, cut_block, MayPass, RunState, PutsReply, PutsAnswer, PutsBlock}
 use Rattle.ele_world.specs.declared.event.Event.{Event}
 use Rattle.ele_world.specs.declared.refusal.Stop.TheVariants.{NoMemory}
@@ -14,7 +14,7 @@ use Rattle.ele_script.specs.declared.reading.Line.TheVariants as asks
 use Rattle.ele_runs.specs.Answer as answer
 use Rattle.ele_world.specs.declared.pass.PassEnd.{PassEnd}
 use Rattle.ele_runs.specs.Written.{WritesLast}
-use Rattle.ele_runs.proofs.Joins.{front_behind}
+use Rattle.ele_runs.proofs.Joins.{front_behind, takes_nil}
 
 may_answer : (before after : RunState) (line : List ℕ) (event : Event) (r : Result Reply Stop)
     → Spells line event → MayReply before event r after → MayAnswer before line (answer.Reply r) after
@@ -65,6 +65,12 @@ pub block_of_answer : {A E : Type 0} (before after : RunState) (line : List ℕ)
     → 1 ≤ length line → PutsAnswer before line after old new r → PutsBlock before (Some line) after old new r
 block_of_answer before after [] old new r some puts = absurd (omega (arith, some))
 block_of_answer before after (byte ∷ bytes) old new r some puts = record { block = puts.text; is = (puts.said, puts.may, puts.is); put = puts.put }
+
+-- an empty line has no block
+pub block_of_empty : {A E : Type 0} (value : A) (state : RunState) (line : List ℕ) (held : Outlet)
+    → length line < 1 → PutsBlock {A} {E} state (Some line) state held held (Ok value)
+block_of_empty value state [] held few = record { block = []; is = (refl, refl); put = takes_nil held }
+block_of_empty value state (byte ∷ bytes) held few = absurd (omega (arith, few))
 
 -- what is held fails to be handed over, with a last block behind it
 pub finishes_front : {E : Type 0} (n : ℕ) (buffer a b c : Option (List ℕ)) (held left : List ℕ) (r : Result ℕ E) → IsErr r
