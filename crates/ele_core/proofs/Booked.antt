@@ -1,5 +1,5 @@
 -- The book of usage, as the files change.
-use Rattle.ele_core.proofs.Words.{nat_tests, ◌≡◌, ℕ, ◌+◌, ◌-◌, ◌<◌, ◌≤◌, ◌^◌, Bool, true, cond, List, ◌∷◌, length, Some, Ok, refl, ◌∙◌, arith, sum_by, world_of, IsSound, IsTracked, told_by, blocks_of, only_blocks, IsOwed, IsBooked, Rows, content_of, Held, rows_after, rows_of, opened_by, written_by, fitted, sum_by-map, Kind, Policy, kind_of, is_kind, Usage, Book, sums_of, only_at, nothing, plus, Fits, usage_of, is_file_of, bytes_in, ChangesOnly, World, VersionRow, MakeFile, created, made_is, policy_of, file_by, usage_changes, usage_same, within_files, within_versions, within_bytes, within_blocks, whole_files, whole_versions, whole_bytes, created_usage, only_at_is, []}
+use Rattle.ele_core.proofs.Words.{nat_tests, ◌≡◌, ℕ, ◌+◌, ◌-◌, ◌<◌, ◌≤◌, ◌^◌, Bool, true, cond, List, ◌∷◌, length, Some, Ok, refl, ◌∙◌, arith, sum_by, world_of, IsSound, IsTracked, held_world, blocks_of, only_blocks, IsOwed, IsBooked, Rows, content_of, Held, rows_after, rows_of, opened_by, written_by, fitted, sum_by-map, Kind, Policy, kind_of, is_kind, Usage, Book, sums_of, only_at, nothing, plus, Fits, usage_of, is_file_of, bytes_in, ChangesOnly, World, VersionRow, MakeFile, created, made_is, policy_of, file_by, usage_changes, usage_same, within_files, within_versions, within_bytes, within_blocks, whole_files, whole_versions, whole_bytes, created_usage, only_at_is, []}
 use Rattle.ele_world.proofs.Others.{drafts-opened, drafts-updated, other_drafts}
 
 -- what a kind may use, but for its blocks
@@ -9,7 +9,7 @@ pub record IsFew (u : Usage) : Type 0 where
   pub bytes : u.bytes ≤ 1048576000000
 
 pub booked : (rows : Rows) → IsTracked rows → (k : Kind) → sums_of rows.book k ≡ usage_of (world_of rows) k
-booked rows tracked k = tracked.book k ∙ usage_same (world_of rows) (told_by rows.files) refl refl refl k
+booked rows tracked k = tracked.book k ∙ usage_same (world_of rows) (held_world rows.files) refl refl refl k
 
 pub few : (rows : Rows) → IsSound rows → (k : Kind) → IsFew (sums_of rows.book k)
 few rows sound k =
@@ -23,7 +23,7 @@ few rows sound k =
     })
 
 pub few_blocks : (rows : Rows) → IsTracked rows → (k : Kind) → (sums_of rows.book k).blocks ≤ blocks_of rows.files
-few_blocks rows tracked k = rw (tracked.book k) (within_blocks (told_by rows.files) k)
+few_blocks rows tracked k = rw (tracked.book k) (within_blocks (held_world rows.files) k)
 
 pub fits : (rows : Rows) → IsSound rows → (k : Kind) → Fits (record (sums_of rows.book k) { blocks = 0 })
 fits rows sound k = grind (arith, nat_tests, few rows sound k)
@@ -45,12 +45,12 @@ pub plus-cancel : (a b x : Usage) → plus a x ≡ plus b x → a ≡ b
 plus-cancel a b x e = grind (arith, nat_tests)
 
 -- where so many versions and bytes came and went, and the book has them
-pub owed : (file : ℕ) (h now : Held) (book : Book) (came_versions came_bytes gone_versions gone_bytes : ℕ) → ChangesOnly file (told_by h) (told_by now)
+pub owed : (file : ℕ) (h now : Held) (book : Book) (came_versions came_bytes gone_versions gone_bytes : ℕ) → ChangesOnly file (held_world h) (held_world now)
     → length now.versions + gone_versions ≡ length h.versions + came_versions
     → bytes_in now.versions + gone_bytes ≡ bytes_in h.versions + came_bytes
-    → ((k : Kind) → plus (sums_of book k) (cond (is_file_of now.files k file) (some_versions gone_versions gone_bytes) nothing) ≡ plus (usage_of (told_by h) k) (cond (is_file_of now.files k file) (some_versions came_versions came_bytes) nothing))
+    → ((k : Kind) → plus (sums_of book k) (cond (is_file_of now.files k file) (some_versions gone_versions gone_bytes) nothing) ≡ plus (usage_of (held_world h) k) (cond (is_file_of now.files k file) (some_versions came_versions came_bytes) nothing))
     → IsOwed now book file (blocks_of h)
-owed file h now book cv cb gv gb changes versions bytes known k = grind (arith, nat_tests, changes.kinds k file, usage_changes file (told_by h) (told_by now) changes k, known k)
+owed file h now book cv cb gv gb changes versions bytes known k = grind (arith, nat_tests, changes.kinds k file, usage_changes file (held_world h) (held_world now) changes k, known k)
 
 -- a change of the file's draft alone
 changes_drafts : (file : ℕ) (w v : World) → v.files ≡ w.files → v.versions ≡ w.versions → other_drafts file v.drafts ≡ other_drafts file w.drafts → ChangesOnly file w v
@@ -59,7 +59,7 @@ changes_drafts file w v files versions drafts = grind (arith, nat_tests)
 -- where files, versions and the drafts of other files are the same
 pub drafts_owed : (rows : Rows) (file : ℕ) (now : Held) (before : ℕ) → IsTracked rows → before ≡ blocks_of rows.files → now.files ≡ rows.files.files → now.versions ≡ rows.files.versions → other_drafts file now.drafts ≡ other_drafts file rows.files.drafts → IsOwed now rows.book file before
 drafts_owed rows file now before tracked is files versions drafts =
-    rw is (owed file rows.files now rows.book 0 0 0 0 (changes_drafts file (told_by rows.files) (told_by now) files versions drafts) (rw versions refl) (rw versions refl) (λ k. rw (tracked.book k) refl))
+    rw is (owed file rows.files now rows.book 0 0 0 0 (changes_drafts file (held_world rows.files) (held_world now) files versions drafts) (rw versions refl) (rw versions refl) (λ k. rw (tracked.book k) refl))
 
 -- a handle is opened, whether the file has a draft or not
 pub opened_owed : (rows : Rows) (file : ℕ) (now : Held) (before : ℕ) → IsTracked rows → before ≡ blocks_of rows.files → now ≡ opened_by rows.files file rows.moment → IsOwed now rows.book file before
@@ -83,7 +83,7 @@ pub made_book : (rows : Rows) (directory : ℕ) (name : List ℕ) (policy : Poli
 made_book rows directory name policy now book sound after added k =
     let w = world_of rows in
     let made = created w directory name (rows.made.files + 1) policy in
-    grind (arith, nat_tests, added k, only_at_is, booked rows sound.tracked k, created_usage w directory name policy sound.formed k, usage_same (told_by (rows_of made)) made refl refl refl k, made_is w directory name policy sound.formed)
+    grind (arith, nat_tests, added k, only_at_is, booked rows sound.tracked k, created_usage w directory name policy sound.formed k, usage_same (held_world (rows_of made)) made refl refl refl k, made_is w directory name policy sound.formed)
 
 -- ---- blocks that are shifted
 

@@ -1,5 +1,5 @@
 -- What the book of usage has, once a handle is closed.
-use Rattle.ele_core.proofs.Words.{None, left_by, opening_by, with_rows, Closed, Close, DropIdle, IsBooked, after_change, step, nat_tests, ◌≡◌, ℕ, ◌+◌, ◌-◌, ◌≤◌, ◌<◌, ◌^◌, cond, List, length, Ok, refl, sym, arith, content_of, longest_content, world_of, IsSound, IsTracked, told_by, blocks_of, one_version, IsOwed, Rows, finishing, Held, cells_of_draft, rows_after, insert_before, update_first, remove_first, DraftRow, is_draft, all-found, length-update_first, length-insert_before, Kind, Book, sums_of, nothing, plus, Fits, VersionRow, ended_at, next_version, with_end, is_file_of, bytes_in, Drafts, ChangesOnly, Draft, World, reads_by, is_version, is_version_after, next_of, drafts-removed, versions-finished, kinds-numbered, files-numbered, sum_by-insert_before, sum_by-update_same, Bool, Usage, usage_of, subst, ap, ◌∙◌, IsQueued, HasParts}
+use Rattle.ele_core.proofs.Words.{None, left_by, opening_by, with_rows, Closed, Close, DropIdle, IsBooked, after_change, step, nat_tests, ◌≡◌, ℕ, ◌+◌, ◌-◌, ◌≤◌, ◌<◌, ◌^◌, cond, List, length, Ok, refl, sym, arith, content_of, longest_content, world_of, IsSound, IsTracked, held_world, blocks_of, one_version, IsOwed, Rows, finishing, Held, cells_of_draft, rows_after, insert_before, update_first, remove_first, DraftRow, is_draft, all-found, length-update_first, length-insert_before, Kind, Book, sums_of, nothing, plus, Fits, VersionRow, ended_at, next_version, with_end, is_file_of, bytes_in, Drafts, ChangesOnly, Draft, World, reads_by, is_version, is_version_after, next_of, drafts-removed, versions-finished, kinds-numbered, files-numbered, sum_by-insert_before, sum_by-update_same, Bool, Usage, usage_of, subst, ap, ◌∙◌, IsQueued, HasParts}
 use Rattle.ele_core.proofs.Booked.{few, few_blocks, owed, drafts_owed, and_nothing, size, bytes_are}
 use Rattle.ele_core.proofs.ClosedSteps.{leaves, left_keeps, left_queue, left_step, left_world}
 use Rattle.ele_world.proofs.Others.{other_drafts}
@@ -25,7 +25,7 @@ module _ (rows : Rows) (file : ℕ) (new : VersionRow) (drafts : List DraftRow) 
   abbrev now : Held
   now = record { files = update_first (is_file file) numbered_on w.files; versions = insert_before (is_version_after file next) new (with_end w file); drafts = drafts; handles = handles; opened = rows.files.opened }
 
-  changes : ChangesOnly file (told_by rows.files) (told_by now)
+  changes : ChangesOnly file (held_world rows.files) (held_world now)
   changes = record { kinds = λ k id. kinds-numbered w.files file k id; files = λ k. files-numbered w.files file k; versions = versions-finished file next (next - 1) rows.moment new w.versions own; drafts = others }
 
   more_versions : length now.versions ≡ length w.versions + 1
@@ -38,7 +38,7 @@ module _ (rows : Rows) (file : ℕ) (new : VersionRow) (drafts : List DraftRow) 
   pub version_owed : IsTracked rows → (after : Held) (book : Book) (bytes before : ℕ) → after ≡ now → bytes ≡ length (content_of new.cells) → before ≡ blocks_of rows.files → HasAdded after file rows.book book bytes → IsOwed after book file before
   version_owed tracked after book bytes before is long same added =
       rw (is, same) (owed file rows.files now book 1 (length (content_of new.cells)) 0 0 changes (omega (arith, more_versions)) (omega (arith, more_bytes))
-      (λ k. ends (sums_of book k) (sums_of rows.book k) (usage_of (told_by rows.files) k) (is_file_of now.files k file) (length (content_of new.cells)) (rw (is, long) at added k) (tracked.book k)))
+      (λ k. ends (sums_of book k) (sums_of rows.book k) (usage_of (held_world rows.files) k) (is_file_of now.files k file) (length (content_of new.cells)) (rw (is, long) at added k) (tracked.book k)))
 
 -- it has as many bytes as the draft that goes
 pub finished_owed : (rows : Rows) (handle file opened : ℕ) → IsTracked rows → (after : Held) (book : Book) (bytes before : ℕ) → after ≡ rows_after (world_of rows) rows.files (finishing rows.files handle file opened) → bytes ≡ length (content_of (cells_of_draft rows.files file)) → before ≡ blocks_of rows.files → HasAdded after file rows.book book bytes

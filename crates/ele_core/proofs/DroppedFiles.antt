@@ -1,5 +1,5 @@
 -- What the drop of a file leaves of the rows, the keys and the book.
-use Rattle.ele_core.proofs.Words.{subst, ◌≡◌, IsQueued, is_moment, ℕ, ◌==◌, ◌<◌, true, not, filter, List, ◌∷◌, Some, None, refl, ap, sym, ◌∙◌, arith, find, AllByRecursion, nat_tests, world_of, IsSound, told_by, IsBooked, Rows, rows_of, remove_first-unfound, all-weaker, filter-all, Kind, Policy, kind_of, Book, sums_of, only_at, plus, IsWithin, DropIdle, is_idle, without_file, after_change, forgotten, usage_of, IsGroup, Groups, HasParts, World, is_file, next_of, policy_of, GroupRow, File, dropped, usage_same, []}
+use Rattle.ele_core.proofs.Words.{subst, ◌≡◌, IsQueued, is_moment, ℕ, ◌==◌, ◌<◌, true, not, filter, List, ◌∷◌, Some, None, refl, ap, sym, ◌∙◌, arith, find, AllByRecursion, nat_tests, world_of, IsSound, held_world, IsBooked, Rows, rows_of, remove_first-unfound, all-weaker, filter-all, Kind, Policy, kind_of, Book, sums_of, only_at, plus, IsWithin, DropIdle, is_idle, without_file, after_change, forgotten, usage_of, IsGroup, Groups, HasParts, World, is_file, next_of, policy_of, GroupRow, File, dropped, usage_same, []}
 use Rattle.ele_core.proofs.Booked.{booked, plus-cancel, same_kind}
 use Rattle.ele_core.proofs.NewNames.{other_target, unnamed}
 use Rattle.ele_lists.proofs.Edits.{all-not_found}
@@ -49,4 +49,4 @@ module _ (rows : Rows) (file : ℕ) (policy : Policy) (sound : IsSound rows) (fi
   pub dropped_book : (book : Book) → ((k : Kind) → plus (sums_of book k) (only_at (kind_of policy) one_file k) ≡ sums_of rows.book k) → IsBooked (rows_of (without_file (world_of rows) file)) book
   dropped_book book taken k =
       let after = without_file (world_of rows) file in
-      grind (arith, nat_tests, plus-cancel (sums_of book k) (usage_of after k) (only_at (kind_of policy) one_file k), taken k, booked rows sound.tracked k, dropped_at (world_of rows) file policy filed idle k, usage_same (told_by (rows_of after)) after refl refl refl k)
+      grind (arith, nat_tests, plus-cancel (sums_of book k) (usage_of after k) (only_at (kind_of policy) one_file k), taken k, booked rows sound.tracked k, dropped_at (world_of rows) file policy filed idle k, usage_same (held_world (rows_of after)) after refl refl refl k)

@@ -1,5 +1,5 @@
 -- At first there is no key and no usage.
-use Rattle.ele_core.proofs.Words.{◌≡◌, List, refl, sym, IsQueued, told_by, IsBooked, Key, Held, Kind, Book, sums_of, nothing, World, []}
+use Rattle.ele_core.proofs.Words.{◌≡◌, List, refl, sym, IsQueued, held_world, IsBooked, Key, Held, Kind, Book, sums_of, nothing, World, []}
 use Rattle.ele_world.specs.FileView.{ripe_numbered}
 use Rattle.ele_world.specs.Usage.{usage_of}
 
@@ -10,7 +10,7 @@ pub no_keys : (w : World) (h : Held) (queue : List Key) → h ≡ no_files → q
 unfolding ripe_numbered
 no_keys w h queue files keys k = rw (files, keys) refl
 
-unused : (k : Kind) → usage_of (told_by no_files) k ≡ nothing
+unused : (k : Kind) → usage_of (held_world no_files) k ≡ nothing
 unfolding usage_of
 unused k = refl
 

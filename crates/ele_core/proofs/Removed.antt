@@ -1,5 +1,5 @@
 -- A clean event takes the row of the first key, and that key.
-use Rattle.ele_core.proofs.Words.{nat_tests, ◌≡◌, ℕ, ◌+◌, Bool, true, List, length, Some, None, sym, subst, ◌∙◌, arith, find, option_map, content_of, world_of, IsSound, IsQueued, IsRekeyed, told_by, blocks_of, one_version, of_file, IsOwed, Rows, Key, Held, without, remove_first, length-remove_first, Kind, Book, sums_of, plus, Fits, IsWithin, VersionRow, first_due, Take, after_change, HasParts, CleanOne, is_file_of, bytes_in, usage_of, ChangesOnly, World, is_version, takes, change_keeps, IsDueKey, sum_by-remove_first, usage_changes, changes_removed}
+use Rattle.ele_core.proofs.Words.{nat_tests, ◌≡◌, ℕ, ◌+◌, Bool, true, List, length, Some, None, sym, subst, ◌∙◌, arith, find, option_map, content_of, world_of, IsSound, IsQueued, IsRekeyed, held_world, blocks_of, one_version, of_file, IsOwed, Rows, Key, Held, without, remove_first, length-remove_first, Kind, Book, sums_of, plus, Fits, IsWithin, VersionRow, first_due, Take, after_change, HasParts, CleanOne, is_file_of, bytes_in, usage_of, ChangesOnly, World, is_version, takes, change_keeps, IsDueKey, sum_by-remove_first, usage_changes, changes_removed}
 use Rattle.ele_core.proofs.Booked.{few, owed, and_none, size, bytes_are}
 use Rattle.ele_core.proofs.Following.{entry_follows}
 use Rattle.ele_world.proofs.CleanKeepsKeys.{take_keeps_keys}
@@ -24,15 +24,15 @@ bytes-removed p xs row e = omega (arith, bytes_are (remove_first p xs), bytes_ar
 -- the version is in what its kind uses
 pub removed_within : (rows : Rows) (file number : ℕ) (row : VersionRow) (now : Held) → IsSound rows → find (is_version file number) rows.files.versions ≡ Some row → now ≡ without rows.files file number → (k : Kind) → is_file_of now.files k file ≡ true → IsWithin (one_version (length (content_of row.cells))) (sums_of rows.book k)
 removed_within rows file number row now sound found after k of =
-    let w = told_by rows.files in
-    grind (arith, nat_tests, usage_changes file w (told_by (without rows.files file number)) (changes_removed file number w) k, length-remove_first (is_version file number) rows.files.versions row found, bytes-removed (is_version file number) rows.files.versions row found, sound.tracked.book k)
+    let w = held_world rows.files in
+    grind (arith, nat_tests, usage_changes file w (held_world (without rows.files file number)) (changes_removed file number w) k, length-remove_first (is_version file number) rows.files.versions row found, bytes-removed (is_version file number) rows.files.versions row found, sound.tracked.book k)
 
 pub removed_owed : (rows : Rows) (file number before : ℕ) (row : VersionRow) (now : Held) (book : Book) → IsSound rows → find (is_version file number) rows.files.versions ≡ Some row → before ≡ blocks_of rows.files → now ≡ without rows.files file number → ((k : Kind) → plus (sums_of book k) (of_file now file (one_version (length (content_of row.cells))) k) ≡ sums_of rows.book k) → IsOwed now book file before
 removed_owed rows file number before row now book sound found is after taken =
-    let w = told_by rows.files in
+    let w = held_world rows.files in
     subst (IsOwed now book file) (sym is)
     (owed file rows.files now book 0 0 1 (length (content_of row.cells))
-    (subst (λ (h : Held). ChangesOnly file w (told_by h)) (sym after) (changes_removed file number w))
+    (subst (λ (h : Held). ChangesOnly file w (held_world h)) (sym after) (changes_removed file number w))
     (rw after (omega (arith, length-remove_first (is_version file number) rows.files.versions row found)))
     (rw after (omega (arith, bytes-removed (is_version file number) rows.files.versions row found)))
     (λ k. taken k ∙ sound.tracked.book k ∙ sym (and_none (usage_of w k) (is_file_of now.files k file))))

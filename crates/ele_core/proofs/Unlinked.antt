@@ -1,12 +1,12 @@
 -- What the end of a file's name leaves of the keys and of the book.
-use Rattle.ele_core.proofs.Words.{◌≡◌, ℕ, ◌-◌, ◌<◌, true, false, List, Some, None, sym, ◌∙◌, arith, find, count_by, nat_tests, IsQueued, IsRekeyed, end_moment, told_by, IsBooked, IsSound, Rows, world_of, Key, Held, current_ended, all-found, found_passes, any-count, count-update_first, Book, EndFileName, after_change, with_end, without_name, is_live_name, live_target, Names, World, is_live, is_live_name_of, is_version, next_of, NameRow, File, ended_moment, no_moment, other_moments, target_live}
+use Rattle.ele_core.proofs.Words.{◌≡◌, ℕ, ◌-◌, ◌<◌, true, false, List, Some, None, sym, ◌∙◌, arith, find, count_by, nat_tests, IsQueued, IsRekeyed, end_moment, held_world, IsBooked, IsSound, Rows, world_of, Key, Held, current_ended, all-found, found_passes, any-count, count-update_first, Book, EndFileName, after_change, with_end, without_name, is_live_name, live_target, Names, World, is_live, is_live_name_of, is_version, next_of, NameRow, File, ended_moment, no_moment, other_moments, target_live}
 use Rattle.ele_core.proofs.Following.{entry_follows}
 use Rattle.ele_world.proofs.Currents.{HasCurrent, has_current}
 use Rattle.ele_world.proofs.EndUsage.{usage_ended}
 
 -- an end that is set changes nothing of the book
 pub ended_book : (h : Held) (file now : ℕ) (book : Book) → IsBooked h book → IsBooked (current_ended h file now) book
-ended_book h file now book booked k = booked k ∙ sym (usage_ended (told_by h) (is_version file (next_of h.files file - 1)) now k)
+ended_book h file now book booked k = booked k ∙ sym (usage_ended (held_world h) (is_version file (next_of h.files file - 1)) now k)
 
 module _ (rows : Rows) (directory : ℕ) (name : List ℕ) (file : ℕ) (sound : IsSound rows) (stands : live_target rows.names directory name ≡ Some (File file)) where
   abbrev w : World

@@ -2,7 +2,7 @@
 pub use Rattle.ele_content.specs.declared.cell.Cell.{Cell}
 pub use Rattle.ele_core.specs.Inside.{IsSound, IsTracked, world_of}
 pub use Rattle.ele_core.specs.Queued.{IsQueued, IsRekeyed, end_moment, former_moment, gained_moment, is_entry, is_new, is_under, key_at, key_under, keys_at, marked_but, moment_but, new_keys, own_moment, unread_under}
-pub use Rattle.ele_core.specs.Tracked.{IsBooked, IsOwed, blocks_of, of_file, one_version, only_blocks, told, told_by}
+pub use Rattle.ele_core.specs.Tracked.{IsBooked, IsOwed, blocks_of, held_world, of_file, one_version, only_blocks}
 pub use Rattle.ele_core.specs.declared.keys.NewKeys.{NewKeys}
 pub use Rattle.ele_core.specs.declared.marking.Left.{Left}
 pub use Rattle.ele_core.specs.declared.rows.Rows.{Rows}

@@ -14,11 +14,11 @@ use Rattle.ele_world.specs.Usage.{is_file_of, places, usage_of}
 use Rattle.ele_world.specs.World.{World, fresh_world}
 
 -- the world of these rows alone
-abbrev pub told : List FileRow → List VersionRow → List DraftRow → World
-told files versions drafts = record (fresh_world largest_bounds) { files = files; versions = versions; drafts = drafts }
+abbrev pub rows_world : List FileRow → List VersionRow → List DraftRow → World
+rows_world files versions drafts = record (fresh_world largest_bounds) { files = files; versions = versions; drafts = drafts }
 
-abbrev pub told_by : Held → World
-told_by h = told h.files h.versions h.drafts
+abbrev pub held_world : Held → World
+held_world h = rows_world h.files h.versions h.drafts
 
 abbrev pub blocks_of : Held → ℕ
 blocks_of h = different is_place (places h.versions h.drafts)
@@ -39,8 +39,8 @@ own h file n k = of_file h file (only_blocks n) k
 
 -- the book has what was used when there were so many blocks, and the file alone has changed since
 abbrev pub IsOwed : Held → Book → ℕ → ℕ → Type 0
-IsOwed h book file before = (k : Kind) → plus (usage_of (told_by h) k) (own h file before k) ≡ plus (sums_of book k) (own h file (blocks_of h) k)
+IsOwed h book file before = (k : Kind) → plus (usage_of (held_world h) k) (own h file before k) ≡ plus (sums_of book k) (own h file (blocks_of h) k)
 
 -- the book has what the files of each kind use
 abbrev pub IsBooked : Held → Book → Type 0
-IsBooked h book = (k : Kind) → sums_of book k ≡ usage_of (told_by h) k
+IsBooked h book = (k : Kind) → sums_of book k ≡ usage_of (held_world h) k

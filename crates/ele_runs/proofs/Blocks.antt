@@ -68,7 +68,7 @@ block_of_answer before after (byte ∷ bytes) old new r some puts = record { blo
 
 -- an empty line has no block
 pub block_of_empty : {A E : Type 0} (value : A) (state : RunState) (line : List ℕ) (held : Outlet)
-    → length line < 1 → PutsBlock {A} {E} state (Some line) state held held (Ok value)
+    → length line < 1 → PutsBlock {A = A} {E = E} state (Some line) state held held (Ok value)
 block_of_empty value state [] held few = record { block = []; is = (refl, refl); put = takes_nil held }
 block_of_empty value state (byte ∷ bytes) held few = absurd (omega (arith, few))
 
