@@ -1,5 +1,5 @@
 -- The answer to a line that is run, and its block.
-use Rattle.ele_runs.proofs.Basics.{◌≡◌, ◌≢◌, Bool, true, false, ℕ, ◌<◌, ◌≤◌, List, [], ◌∷◌, ◌++◌, length, Option, Some, Result, Ok, Err, ◌⊎◌, inl, inr, refl, sym, ap, ◌∙◌, append_assoc, arith, IsErr, Appends-trans}
+use Rattle.ele_runs.proofs.Basics.{◌≡◌, ◌≢◌, Bool, true, false, ℕ, ◌<◌, ◌≤◌, List, [], ◌∷◌, length, Option, Some, Result, Ok, Err, ◌⊎◌, inl, inr, refl, arith, IsErr}
 use Rattle.ele_runs.proofs.Words.{Reply, Stop, HistoryFull, AppendsFront, Outlet, outlet, Takes, Puts, MayReply, MayAnswer, as_read, as_run, cut_block, MayPass, RunState, PutsReply, PutsAnswer, PutsBlock}
 use Rattle.ele_world.specs.declared.event.Event.{Event}
 use Rattle.ele_world.specs.declared.refusal.Stop.TheVariants.{NoMemory}

@@ -1,13 +1,13 @@
 -- How a run ends.
 use Rattle.ele_runs.proofs.Basics.{◌≡◌, ℕ, ◌+◌, ◌≤◌, List, [], ◌∷◌, ◌++◌, length, take, get_or, min, ◌-◌, Option, Some, None, Result, Ok, Err, refl, sym, ap, subst, ◌∙◌, arith, append_assoc, inl, inr, append-nil, length-take, nat_tests}
-use Rattle.ele_runs.proofs.Basics.{flat_map-append, cases_order, leb_tells, IfOk, AllByRecursion, Consumes, Keeps, Appends, IsAtEnd, Consumes-trans, Consumes-kept, Appends-trans}
-use Rattle.ele_runs.proofs.Words.{AppendsFront, outlet, cut_block, cut_count, most_lines, line_unless_long, longest_line, IsUnbroken, whole_line, whole_lines, line_count, AreBlocks, AnswersSome, RunState}
+use Rattle.ele_runs.proofs.Basics.{flat_map-append, cases_order, IfOk, AllByRecursion, Consumes, Keeps, Appends, IsAtEnd, Consumes-trans, Consumes-kept, Appends-trans}
+use Rattle.ele_runs.proofs.Words.{AppendsFront, outlet, cut_block, cut_count, most_lines, line_unless_long, IsUnbroken, whole_line, whole_lines, line_count, AreBlocks, AnswersSome, RunState}
 use Rattle.ele_runs.specs.declared.fault.ShellFault.{ShellFault}
-use Rattle.ele_runs.specs.declared.fault.ShellFault.TheVariants.{ReadFault, WriteFault, TooManyLines, NoMemory}
+use Rattle.ele_runs.specs.declared.fault.ShellFault.TheVariants.{ReadFault}
 use Rattle.ele_runs.specs.Running.{Runs, RanToTheEnd, RanPastABound, RanToAWriteFault}
 use Rattle.ele_runs.specs.Taken.{TakesPiece}
 use Rattle.ele_runs.proofs.Joins.{blocks_append, front_behind, front_then, all_both}
-use Rattle.ele_runs.proofs.Ran.{HasRun, written_all, few_whole}
+use Rattle.ele_runs.proofs.Ran.{RanSoFar, written_all, few_whole}
 
 -- what was read is all, where nothing is left
 whole_input : (input rest : Option (List ℕ)) (given : List ℕ) → Consumes input rest given → IsAtEnd rest → Keeps input (Some given)
@@ -54,7 +54,7 @@ length_taken count piece le = omega (arith, length-take count piece, le)
 one_byte : (piece : List ℕ) (count : ℕ) → 1 ≤ length piece → count ≡ 1 → take count piece ≡ get_or piece 0 0 ∷ []
 one_byte piece count some one = grind arith
 
-module _ {start state : RunState} {n : ℕ} {room : ℕ} {buffer input mid old so_far : Option (List ℕ)} {held : List ℕ} (ran : HasRun start n state room buffer input mid old so_far held) where
+module _ {start state : RunState} {n : ℕ} {room : ℕ} {buffer input mid old so_far : Option (List ℕ)} {held : List ℕ} (ran : RanSoFar start n state room buffer input mid old so_far held) where
   -- the writer failed as it was handed what is held
   pub ends_over : (new : Option (List ℕ)) → AppendsFront so_far new held → RanToAWriteFault start input old new
   ends_over new front =

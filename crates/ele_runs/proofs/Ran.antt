@@ -1,11 +1,11 @@
 -- A run so far, and how it goes on.
-use Rattle.ele_runs.proofs.Basics.{◌≡◌, ℕ, ◌+◌, ◌≤◌, ◌⊎◌, List, [], ◌∷◌, ◌++◌, length, Option, Some, refl, sym, ap, subst, ◌∙◌, arith, append_assoc, length-append, inl, inr, append-nil, flat_map-append, flat_map-cons, AllByRecursion}
+use Rattle.ele_runs.proofs.Basics.{◌≡◌, ℕ, ◌+◌, ◌≤◌, ◌⊎◌, List, [], ◌∷◌, ◌++◌, length, Option, Some, refl, sym, ap, subst, ◌∙◌, arith, append_assoc, length-append, append-nil, flat_map-append, flat_map-cons}
 use Rattle.ele_runs.proofs.Basics.{Consumes, Appends, Consumes-nil, Consumes-trans, Appends-nil}
 use Rattle.ele_runs.proofs.Words.{outlet, Takes, IsBlock, most_lines, most_bytes, line_unless_long, AreLines, whole_line, whole_lines, line_count, AreBlocks, AnswersAll, RunState}
 use Rattle.ele_runs.proofs.Joins.{lines_before, blocks_append, takes_nil, takes_then, takes_over}
 
 -- n whole lines were read and a part of one more, and their blocks put, up to this state; there is room for so many bytes more
-pub record HasRun (start : RunState) (n : ℕ) (state : RunState) (room : ℕ) (buffer input rest old new : Option (List ℕ)) (held : List ℕ) : Type 0 where
+pub record RanSoFar (start : RunState) (n : ℕ) (state : RunState) (room : ℕ) (buffer input rest old new : Option (List ℕ)) (held : List ℕ) : Type 0 where
   pub given : List ℕ
   pub lines : List (List ℕ)
   pub part : List ℕ
@@ -21,9 +21,9 @@ pub record HasRun (start : RunState) (n : ℕ) (state : RunState) (room : ℕ) (
   pub put : Takes (outlet old []) (outlet new held) text
 
 -- a run that begins
-pub has_run_none : (start : RunState) (buffer input old : Option (List ℕ)) (held : List ℕ) → buffer ≡ Some [] → held ≡ []
-    → HasRun start 0 start most_bytes buffer input input old old held
-has_run_none start buffer input old held clear none =
+pub ran_none : (start : RunState) (buffer input old : Option (List ℕ)) (held : List ℕ) → buffer ≡ Some [] → held ≡ []
+    → RanSoFar start 0 start most_bytes buffer input input old old held
+ran_none start buffer input old held clear none =
     record {
       given = [];
       lines = [];
@@ -59,9 +59,9 @@ pub joined_push : (lines : List (List ℕ)) (line : List ℕ) → whole_lines (l
 joined_push lines line = flat_map-append whole_line lines (line ∷ []) ∙ ap (λ (xs : List ℕ). whole_lines lines ++ xs) (flat_map-cons whole_line line [] ∙ append-nil (whole_line line))
 
 -- what is held is handed over
-pub has_run_over : {start state : RunState} {n room : ℕ} {buffer input rest old known new : Option (List ℕ)} {held left : List ℕ}
-    → HasRun start n state room buffer input rest old known held → left ≡ [] → Appends known new held → HasRun start n state room buffer input rest old new left
-has_run_over {start} {state} {n} {room} {buffer} {input} {rest} {old} {known} {new} {held} {left} ran none over =
+pub ran_over : {start state : RunState} {n room : ℕ} {buffer input rest old known new : Option (List ℕ)} {held left : List ℕ}
+    → RanSoFar start n state room buffer input rest old known held → left ≡ [] → Appends known new held → RanSoFar start n state room buffer input rest old new left
+ran_over {start} {state} {n} {room} {buffer} {input} {rest} {old} {known} {new} {held} {left} ran none over =
     record {
       given = ran.given;
       lines = ran.lines;
@@ -84,7 +84,7 @@ has_run_over {start} {state} {n} {room} {buffer} {input} {rest} {old} {known} {n
 
 -- then all that was put is written
 pub written_all : {start state : RunState} {n room : ℕ} {buffer input rest old new : Option (List ℕ)} {held : List ℕ}
-    → (ran : HasRun start n state room buffer input rest old new held) → held ≡ [] → Appends old new ran.text
+    → (ran : RanSoFar start n state room buffer input rest old new held) → held ≡ [] → Appends old new ran.text
 written_all {start} {state} {n} {room} {buffer} {input} {rest} {old} {new} {held} ran none =
     takes_over old new new held ran.text ran.put (rw none (Appends-nil new))
 
@@ -100,11 +100,11 @@ pub few_whole : (lines : List (List ℕ)) (part : List ℕ) → line_count lines
 few_whole lines part few = grind arith
 
 -- a piece more is read and answered
-pub has_run_on : {start between after : RunState} {n ended room left : ℕ} {buffer buffer' input mid rest old so_far new : Option (List ℕ)} {held held' piece : List ℕ}
-    → (ran : HasRun start n between room buffer input mid old so_far held) → n + length piece ≤ most_lines → 1 ≤ length piece → length piece + left ≡ room
+pub ran_on : {start between after : RunState} {n ended room left : ℕ} {buffer buffer' input mid rest old so_far new : Option (List ℕ)} {held held' piece : List ℕ}
+    → (ran : RanSoFar start n between room buffer input mid old so_far held) → n + length piece ≤ most_lines → 1 ≤ length piece → length piece + left ≡ room
     → Consumes mid rest piece → AnswersAll between after ran.part piece buffer' n ended (outlet so_far held) (outlet new held')
-    → HasRun start ended after left buffer' input rest old new held'
-has_run_on {start} {between} {after} {n} {ended} {room} {left} {buffer} {buffer'} {input} {mid} {rest} {old} {so_far} {new} {held} {held'} {piece} ran fits some fewer taken did =
+    → RanSoFar start ended after left buffer' input rest old new held'
+ran_on {start} {between} {after} {n} {ended} {room} {left} {buffer} {buffer'} {input} {mid} {rest} {old} {so_far} {new} {held} {held'} {piece} ran fits some fewer taken did =
     let few = count_more ran.lines did.lines did.last most_lines (length piece) (omega (arith, fits, ran.count)) some did.few in
     record {
       given = ran.given ++ piece;

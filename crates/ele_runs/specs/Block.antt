@@ -1,10 +1,7 @@
 -- The block of one line: what is written for it.
-use Rattle.std.specs.Prelude.{◌≡◌, ℕ, ◌+◌, ◌<◌, List, [], ◌∷◌, Option, Some, None, Result, Ok, Err, false}
+use Rattle.std.specs.Prelude.{◌≡◌, ℕ, List, [], ◌∷◌, Option, Some, None, Ok, Err, false}
 use Rattle.ele_world.specs.declared.event.Event.{Event}
-use Rattle.ele_world.specs.declared.reply.Reply.{Reply}
-use Rattle.ele_world.specs.declared.refusal.Stop.{Stop}
 use Rattle.ele_world.specs.declared.refusal.Stop.TheVariants.{NoMemory, HistoryFull}
-use Rattle.ele_world.specs.Step.{step}
 use Rattle.ele_world.specs.Ready.{takes_no_memory}
 use Rattle.ele_script.specs.declared.fault.LineFault.TheVariants.{Syntax, LineTooLong}
 use Rattle.ele_script.specs.FirstFault.{IsFirstFault}
@@ -16,16 +13,8 @@ use Rattle.ele_script.specs.declared.reading.Line.TheVariants as asks
 use Rattle.ele_runs.specs.Answer.{Answer}
 use Rattle.ele_runs.specs.Answer as answer
 use Rattle.ele_runs.specs.Pass.{MayPass}
+use Rattle.ele_runs.specs.Reply.{MayReply}
 use Rattle.ele_runs.specs.RunState.{RunState}
-
--- an event is answered as the world's step answers it, while fewer replies were given than may be; where as many were
--- given it is stopped, and want of memory may stop it anywhere if it takes memory
-abbrev pub MayReply : RunState → Event → Result Reply Stop → RunState → Type 0
-MayReply before event (Ok reply) after =
-    (before.replies < before.most) × ((reply, after.world) ≡ step before.world event)
-    × (after.replies ≡ before.replies + 1) × (after.most ≡ before.most)
-MayReply before event (Err HistoryFull) after = (before.replies ≡ before.most) × (after ≡ before)
-MayReply before event (Err NoMemory) after = (takes_no_memory event ≡ false) × (after ≡ before)
 
 -- a line takes memory: its command takes a path or bytes, or the event that it spells takes memory
 pub data LineTakesMemory (line : List ℕ) : Type 0 where

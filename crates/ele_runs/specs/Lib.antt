@@ -7,7 +7,9 @@ pub mod LineLength
 pub mod Lines
 pub mod Output
 pub mod Pass
+pub mod PassIsOfWorld
 pub mod Piece
+pub mod Reply
 pub mod Running
 pub mod RunState
 pub mod Taken

@@ -8,7 +8,8 @@ use Rattle.ele_script.specs.Front.{AppendsFront}
 use Rattle.ele_script.specs.Outlet.{Outlet, Puts}
 use Rattle.ele_script.specs.Printed.{IsAnswerText}
 use Rattle.ele_runs.specs.Answer.{Answer}
-use Rattle.ele_runs.specs.Block.{MayReply, MayAnswer, IsBlock, IsText, cut_block, cut_count}
+use Rattle.ele_runs.specs.Block.{MayAnswer, IsBlock, IsText, cut_block, cut_count}
+use Rattle.ele_runs.specs.Reply.{MayReply}
 use Rattle.ele_runs.specs.RunState.{RunState}
 
 -- the text of the event's reply was put, or at an error a front of all that was to be written was taken

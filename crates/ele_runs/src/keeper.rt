@@ -120,8 +120,7 @@ impl<C: Stepping> Keeper<C> {
         PassEnd::Budget(budget)
     }
 
-    // Answers a clean event with whether it removed a version. A stop leaves the world and the
-    // count.
+    // Answers a clean event with whether it removed a version.
     fn clean(&mut self) -> Result<bool, Stop>
         ensures { MayClean self.old result self.new }
     {

@@ -7,7 +7,8 @@ mod fault;
 mod keeper;
 mod line_buffer;
 mod lines;
-mod reading;
+pub mod pass_law;
+mod piece;
 mod script;
 
 pub use fault::ShellFault;

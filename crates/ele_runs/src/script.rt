@@ -8,7 +8,7 @@ use crate::fault::ShellFault;
 use crate::keeper::Keeper;
 use crate::line_buffer::LineBuffer;
 use crate::lines::{answer_piece, finish};
-use crate::reading::read_piece;
+use crate::piece::read_piece;
 use ele_script::Output;
 use ele_world::{Limits, Stepping};
 use std::alloc::Global;

@@ -1,18 +1,17 @@
 use Rattle.ele_runs.proofs.Basics.{◌≡◌, arith, refl, subst}
 use Rattle.ele_runs.proofs.Words.{Removes}
-use Rattle.ele_runs.proofs.Passes.{removes_none, removes_more, finishes, stopped}
+use Rattle.ele_runs.proofs.Passes.{removes_more}
 use Rattle.ele_runs.proofs.keeper.Keeper.pass.Goals as goal
 
 pub loop-removed-init : goal.loop-removed-init
-loop-removed-init g c = removes_none c.args.self.now
+loop-removed-init g c = refl
 
 pub returns-in-Ok-false : goal.returns-in-Ok-false
 returns-in-Ok-false g c =
-    finishes _ c.loop-removed.self _ _ _ c.loop-removed.invariant c.loop-removed-test.true (rw c.in-Ok-false.field-0-test at c.in-Ok-false.ensures)
+    (c.loop-removed-test.true, (c.loop-removed.self, c.loop-removed.invariant, rw c.in-Ok-false.field-0-test at c.in-Ok-false.ensures))
 
 pub returns-in-Err : goal.returns-in-Err
-returns-in-Err g c =
-    stopped _ c.loop-removed.self _ _ _ c.in-Err.stop c.loop-removed.invariant c.loop-removed-test.true c.in-Err.ensures
+returns-in-Err g c = (c.loop-removed-test.true, (c.loop-removed.self, c.loop-removed.invariant, c.in-Err.ensures))
 
 pub loop-removed-preserved : goal.loop-removed-preserved
 loop-removed-preserved g c =

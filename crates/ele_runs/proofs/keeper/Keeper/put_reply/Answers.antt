@@ -2,6 +2,7 @@ use Rattle.ele_runs.proofs.Basics.{refl}
 use Rattle.ele_runs.proofs.Words.{HistoryFull}
 use Rattle.ele_world.specs.declared.refusal.Stop.TheVariants.{NoMemory}
 use Rattle.ele_runs.proofs.Blocks.{puts_reply, puts_stop, not_ready}
+use Rattle.ele_runs.proofs.Passes.{answers}
 use Rattle.ele_runs.proofs.keeper.Keeper.put_reply.Goals as goal
 
 pub returns-then-is_full : goal.returns-then-is_full
@@ -13,7 +14,7 @@ returns-in-Ok g c =
     let view = c.self.view_is in
     let room = c.is_full.ensures.room c.if-is_full.false in
     let told = rw c.in-Ok.is at c.apply.ensures.step in
-    puts_reply c.args.self.now _ c.args.event.now c.in-Ok.reply _ _ _ (rw (← view) (rw (← view) at room, told, refl, refl)) c.put_answer.ensures
+    puts_reply c.args.self.now _ c.args.event.now c.in-Ok.reply _ _ _ (rw (← view) (rw (← view) at room, answers _ _ _ _ _ told)) c.put_answer.ensures
 
 pub returns : goal.returns
 returns g c =

@@ -1,5 +1,5 @@
 use Rattle.ele_runs.proofs.Basics.{Keeps}
-use Rattle.ele_runs.proofs.reading.read_piece.Given as goal
+use Rattle.ele_runs.proofs.piece.read_piece.Given as goal
 
 -- a read that was interrupted took nothing
 abbrev pub invariant-tries : goal.invariant-tries
