@@ -4,6 +4,25 @@ ghost use Rattle.ele_world.specs.Bounds.{Bounds, AreBounds, bounds_of, largest_b
 
 use std::marker::Model;
 
+// The largest limits.
+const MOST_EVENTS: u64 = 1_000_000_000;
+
+const MOST_FILES: u64 = 100_000;
+
+const MOST_DIRECTORIES: u64 = 10_000;
+
+const MOST_NAMES: u64 = 200_000;
+
+const MOST_VERSIONS: u64 = 1_000_000;
+
+const MOST_HANDLES: u64 = 1_000_000;
+
+const MOST_GROUPS: u64 = 1_000;
+
+const MOST_MEMBERS: u64 = 100_000;
+
+const MOST_MARKS: u64 = 10_000;
+
 /// How much may ever be made, each limit at most its largest.
 #[derive(Clone, Copy, Debug, PartialEq, Eq)]
 pub struct Limits {
@@ -66,15 +85,15 @@ impl Limits {
             members,
             marks,
         ] = numbers;
-        let is_within = events <= 1_000_000_000
-            && files <= 100_000
-            && directories <= 10_000
-            && names <= 200_000
-            && versions <= 1_000_000
-            && handles <= 1_000_000
-            && groups <= 1_000
-            && members <= 100_000
-            && marks <= 10_000;
+        let is_within = events <= MOST_EVENTS
+            && files <= MOST_FILES
+            && directories <= MOST_DIRECTORIES
+            && names <= MOST_NAMES
+            && versions <= MOST_VERSIONS
+            && handles <= MOST_HANDLES
+            && groups <= MOST_GROUPS
+            && members <= MOST_MEMBERS
+            && marks <= MOST_MARKS;
         if !is_within {
             return None;
         }
@@ -96,16 +115,32 @@ impl Limits {
         ensures { result ≡ largest_bounds }
     {
         Limits {
-            events: 1_000_000_000,
-            files: 100_000,
-            directories: 10_000,
-            names: 200_000,
-            versions: 1_000_000,
-            handles: 1_000_000,
-            groups: 1_000,
-            members: 100_000,
-            marks: 10_000,
+            events: MOST_EVENTS,
+            files: MOST_FILES,
+            directories: MOST_DIRECTORIES,
+            names: MOST_NAMES,
+            versions: MOST_VERSIONS,
+            handles: MOST_HANDLES,
+            groups: MOST_GROUPS,
+            members: MOST_MEMBERS,
+            marks: MOST_MARKS,
         }
+    }
+
+    /// The largest limits, but for how many replies may ever be given; none where these are more
+    /// than 1,000,000,000.
+    pub fn with_events(events: u64) -> Option<Limits>
+        ensures found { IsSome result ↔ (events ≤ largest_bounds.events) }
+        ensures value { IfSome result
+            (λ limits. limits ≡ record largest_bounds { events = events }) }
+    {
+        if events > MOST_EVENTS {
+            return None;
+        }
+        Some(Limits {
+            events,
+            ..Limits::largest()
+        })
     }
 
     /// Says that no limit is above its largest, and changes nothing.
