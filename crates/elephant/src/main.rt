@@ -2,13 +2,10 @@
 //! to standard output.
 #![tactic(auto)]
 
-ghost use Rattle.elephant.specs.Asked.{IsAsked};
+ghost use Rattle.ele_words.specs.Asked.{IsAsked};
 
-mod asked;
-mod ends;
-
-use asked::{Asked, no_words, words};
-use ends::answer;
+use ele_core::Core;
+use ele_words::{Asked, answer, no_words, words};
 use std::process::ExitCode;
 
 // What the program's words ask for.
@@ -29,6 +26,6 @@ fn main(rt: HostRuntime) -> ExitCode {
     let mut input = rt.stdin();
     let mut output = rt.stdout();
     let mut errors = rt.stderr();
-    let status = answer(rt.alloc(), &asked, &mut input, &mut output, &mut errors);
+    let status = answer::<Core, _, _, _>(rt.alloc(), &asked, &mut input, &mut output, &mut errors);
     ExitCode::from(status)
 }

@@ -26,3 +26,5 @@ mod reads;
 mod rooms;
 #[cfg(test)]
 mod runs;
+#[cfg(test)]
+mod statuses;

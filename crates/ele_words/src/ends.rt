@@ -3,13 +3,13 @@
 ghost use Rattle.std.specs.Prelude.{◌≡◌, Err, is_ok, if◌then◌else◌};
 ghost use Rattle.std.specs.Result.{result_err};
 ghost use Rattle.ele_runs.specs.RunState.{fresh};
-ghost use Rattle.elephant.specs.Status.{fault_status, status_of};
-ghost use Rattle.elephant.specs.Ends.{HasRun, HasHelped, Tells, EndsWith};
+ghost use Rattle.ele_words.specs.Status.{fault_status, status_of};
+ghost use Rattle.ele_words.specs.Ends.{HasRun, HasHelped, Tells, EndsWith};
 
 use crate::asked::Asked;
+use ele_runs::{ShellFault, run_over};
 use ele_script::{put, write_named};
-use ele_shell::{ShellFault, run};
-use ele_world::Limits;
+use ele_world::{Limits, Stepping};
 use std::alloc::Global;
 use std::io;
 use std::io::{Read, Write};
@@ -30,7 +30,7 @@ fn after_flush<T: Drop>(
 
 // Runs the script that the reader gives under these limits, and flushes what it wrote, however it
 // ended.
-fn run_script<R: Read, W: Write>(
+fn run_script<C: Stepping, R: Read, W: Write>(
     alloc: Global,
     limits: Limits,
     reader: &mut R,
@@ -39,7 +39,7 @@ fn run_script<R: Read, W: Write>(
     ensures { HasRun (fresh limits) (R.remaining reader.old) (R.remaining reader.new)
         (W.contents writer.old) (W.contents writer.new) (result_err result) }
 {
-    let ran = run(alloc, reader, writer, limits);
+    let ran = run_over::<C, R, W>(alloc, reader, writer, limits);
     let flushed = writer.flush();
     after_flush(ran, &flushed)
 }
@@ -80,7 +80,7 @@ fn tell<E: Write>(fault: Option<ShellFault>, errors: &mut E) -> u8
 
 /// Does what was asked for: answers at the writer, and tells faults and words that weren't
 /// understood at the other. The result is the status that the program ends with.
-pub fn answer<R: Read, W: Write, E: Write>(
+pub fn answer<C: Stepping, R: Read, W: Write, E: Write>(
     alloc: Global,
     asked: &Asked,
     reader: &mut R,
@@ -92,7 +92,10 @@ pub fn answer<R: Read, W: Write, E: Write>(
         (E.contents errors.old) (E.contents errors.new) result }
 {
     match asked {
-        Asked::Run(limits) => tell(run_script(alloc, *limits, reader, writer).err(), errors),
+        Asked::Run(limits) => {
+            let ran = run_script::<C, R, W>(alloc, *limits, reader, writer);
+            tell(ran.err(), errors)
+        }
         Asked::Help(text) => tell(write_help(text.as_str(), writer).err(), errors),
         Asked::NotUnderstood(text) => {
             let _ = put(errors, text.as_bytes());
@@ -102,6 +105,3 @@ pub fn answer<R: Read, W: Write, E: Write>(
         Asked::NoMemory => tell(Some(ShellFault::NoMemory), errors),
     }
 }
-
-#[cfg(test)]
-mod tests;

@@ -1,6 +1,6 @@
 use Rattle.std.specs.Prelude.{is_ok}
-use Rattle.elephant.proofs.Flushed.{help_flushed}
-use Rattle.elephant.proofs.ends.write_help.Goals as goal
+use Rattle.ele_words.proofs.Flushed.{help_flushed}
+use Rattle.ele_words.proofs.ends.write_help.Goals as goal
 
 pub returns : goal.returns
 returns g c =

@@ -1,8 +1,8 @@
 -- What the program's words may ask for.
 use Rattle.std.specs.Prelude.{◌≡◌, ℕ, ◌≤◌}
 use Rattle.ele_world.specs.Bounds.{largest_bounds}
-use Rattle.elephant.specs.declared.asked.Asked.{Asked}
-use Rattle.elephant.specs.declared.asked.Asked.TheVariants.{Run, Help, NotUnderstood, NoMemory}
+use Rattle.ele_words.specs.declared.asked.Asked.{Asked}
+use Rattle.ele_words.specs.declared.asked.Asked.TheVariants.{Run, Help, NotUnderstood, NoMemory}
 
 -- so many events may be answered: from 1 to 1,000,000,000
 pub record IsEvents (events : ℕ) : Type 0 where

@@ -1,7 +1,7 @@
 use Rattle.std.proofs.Common.{refl}
 use Rattle.std.proofs.KnownBytes.{Keeps-refl}
-use Rattle.elephant.proofs.Flushed.{written_flushed}
-use Rattle.elephant.proofs.ends.answer.Goals as goal
+use Rattle.ele_words.proofs.Flushed.{written_flushed}
+use Rattle.ele_words.proofs.ends.answer.Goals as goal
 
 pub returns-in-Run : goal.returns-in-Run
 returns-in-Run g c =

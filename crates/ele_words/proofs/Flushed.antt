@@ -13,7 +13,7 @@ use Rattle.ele_runs.specs.RunState.{RunState}
 use Rattle.ele_runs.specs.Running.{RanToTheEnd, RanToAReadFault, RanPastABound, RanToAWriteFault}
 use Rattle.ele_runs.specs.declared.fault.ShellFault.{ShellFault}
 use Rattle.ele_runs.specs.declared.fault.ShellFault.TheVariants.{ReadFault, WriteFault, TooManyLines, NoMemory}
-use Rattle.elephant.specs.Ends.{HasRun, HasHelped, fault_line}
+use Rattle.ele_words.specs.Ends.{HasRun, HasHelped, fault_line}
 
 -- what a run says of each of its ends
 pub has_run : (start : RunState) (input rest old new : Option (List ℕ)) (r : Result ℕ ShellFault) → IfOk r (λ n. RanToTheEnd start n input rest old new) → (IsErrOf r ReadFault → RanToAReadFault start input rest old new)

@@ -8,9 +8,9 @@ use Rattle.ele_runs.specs.RunState.{RunState, fresh}
 use Rattle.ele_runs.specs.Running.{RanToTheEnd, RanToAReadFault, RanPastABound, RanToAWriteFault}
 use Rattle.ele_runs.specs.declared.fault.ShellFault.{ShellFault}
 use Rattle.ele_runs.specs.declared.fault.ShellFault.TheVariants.{ReadFault, WriteFault, TooManyLines, NoMemory}
-use Rattle.elephant.specs.Status.{status_of}
-use Rattle.elephant.specs.declared.asked.Asked.{Asked}
-use Rattle.elephant.specs.declared.asked.Asked.TheVariants as asked
+use Rattle.ele_words.specs.Status.{status_of}
+use Rattle.ele_words.specs.declared.asked.Asked.{Asked}
+use Rattle.ele_words.specs.declared.asked.Asked.TheVariants as asked
 
 -- a run, by the fault that ended it: without one all was read and answered; without memory nothing was read or written
 abbrev pub HasRun : RunState → Option (List ℕ) → Option (List ℕ) → Option (List ℕ) → Option (List ℕ) → Option ShellFault → Type 0

@@ -1,8 +1,8 @@
 //! What the program's words ask for.
 //! A contract sees the limits of a run, and that words which were refused ask for none.
-ghost use Rattle.std.specs.Prelude.{◌≡◌, ◌≤◌, ◌↔◌, IsSome, IfSome};
+ghost use Rattle.std.specs.Prelude.{◌≡◌};
 ghost use Rattle.ele_world.specs.Bounds.{largest_bounds};
-ghost use Rattle.elephant.specs.Asked.{IsEvents, IsAsked, IsRefusal};
+ghost use Rattle.ele_words.specs.Asked.{IsEvents, IsAsked, IsRefusal};
 
 use clap::error::ErrorKind;
 use clap::{Arg, ArgMatches, Command, Error};
@@ -27,6 +27,9 @@ pub enum Asked {
 
 const BAD_EVENTS: &str = "error: --events takes a number from 1 to 1000000000, \
     without a zero in front\n\nFor more information, try 'elephant run --help'.\n";
+
+const NO_COMMAND: &str =
+    "error: there is no command\n\nFor more information, try 'elephant --help'.\n";
 
 const NO_WORDS: &str = "error: the words can't be read as text\n";
 
@@ -56,25 +59,6 @@ fn command<'a>(alloc: Global) -> Result<Command<'a>, AllocError> {
         .subcommand(run)
 }
 
-// The largest limits but for that of events; none where that is above its largest.
-fn limits_of(events: u64) -> Option<Limits>
-    ensures found { IsSome result ↔ (events ≤ 1000000000) }
-    ensures limits { IfSome result (λ limits. limits ≡ record largest_bounds { events = events }) }
-{
-    let largest = Limits::largest();
-    Limits::new([
-        events,
-        largest.files(),
-        largest.directories(),
-        largest.names(),
-        largest.versions(),
-        largest.handles(),
-        largest.groups(),
-        largest.members(),
-        largest.marks(),
-    ])
-}
-
 // A refusal of words in these.
 fn not_understood(alloc: Global, text: &str) -> Asked
     ensures { IsRefusal result }
@@ -92,15 +76,14 @@ fn run_with(alloc: Global, events: u64) -> Asked
     ensures refused { ¬ IsEvents events → IsRefusal result }
     ensures asked { IsAsked result }
 {
-    match limits_of(events) {
+    match Limits::with_events(events) {
         Some(limits) if events > 0 => Asked::Run(limits),
         _ => not_understood(alloc, BAD_EVENTS),
     }
 }
 
 // How many events a run may answer. The option has a default, so that its word is missing nowhere.
-fn events_in(matches: &ArgMatches) -> Option<u64> {
-    let run = matches.subcommand_matches("run")?;
+fn events_in(run: &ArgMatches) -> Option<u64> {
     read_number(run.get_str("events")?.as_bytes())
 }
 
@@ -108,7 +91,10 @@ fn events_in(matches: &ArgMatches) -> Option<u64> {
 fn understood(alloc: Global, matches: &ArgMatches) -> Asked
     ensures { IsAsked result }
 {
-    match events_in(matches) {
+    let Some(run) = matches.subcommand_matches("run") else {
+        return not_understood(alloc, NO_COMMAND);
+    };
+    match events_in(run) {
         Some(events) => run_with(alloc, events),
         None => not_understood(alloc, BAD_EVENTS),
     }
